@@ -1,0 +1,26 @@
+-- The digest algorithms of the format, and sets of them.
+use Rattle.std.specs.Prelude.{ℕ, Bool, true, false}
+use Rattle.bag_digest.specs.declared.algorithm.Alg.{Alg}
+use Rattle.bag_digest.specs.declared.algorithm.Alg.TheVariants.{Md5, Sha1, Sha256, Sha512}
+use Rattle.bag_digest.specs.declared.algorithm.AlgSet.{AlgSet}
+
+-- the length of a digest in octets
+abbrev pub size_of : Alg → ℕ
+size_of Md5 = 16
+size_of Sha1 = 20
+size_of Sha256 = 32
+size_of Sha512 = 64
+
+abbrev pub is_alg : Alg → Alg → Bool
+is_alg Md5 Md5 = true
+is_alg Sha1 Sha1 = true
+is_alg Sha256 Sha256 = true
+is_alg Sha512 Sha512 = true
+is_alg _ _ = false
+
+-- whether the algorithm is in the set
+abbrev pub has : AlgSet → Alg → Bool
+has set Md5 = set.md5
+has set Sha1 = set.sha1
+has set Sha256 = set.sha256
+has set Sha512 = set.sha512

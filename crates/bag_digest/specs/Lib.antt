@@ -1,0 +1,4 @@
+pub mod Algorithm
+pub mod Hash
+pub mod Device
+pub mod Reading

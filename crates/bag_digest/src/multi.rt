@@ -1,0 +1,209 @@
+//! Several digests of the same octets, taken in pieces.
+ghost use Rattle.std.specs.Prelude.{◌≡◌, ℕ, List, [], ◌++◌, if◌then◌else◌, Bool, ◌↔◌, IsTrue, Some};
+ghost use Rattle.md5.specs.Md5 as MD5;
+ghost use Rattle.md5.specs.Md5.{md5};
+ghost use Rattle.sha1.specs.Sha1 as SHA1;
+ghost use Rattle.sha1.specs.Sha1.{sha1};
+ghost use Rattle.sha2.specs.Hashers.{Holds256, Holds512};
+ghost use Rattle.sha2.specs.Sha256.{sha256};
+ghost use Rattle.sha2.specs.Sha512.{sha512};
+ghost use Rattle.bag_digest.specs.Hash.{HoldsIf};
+
+use crate::algorithm::{Alg, AlgSet};
+use md5::{Digest as _, Md5};
+use sha1::Sha1;
+use sha2::{Digest as _, Sha256, Sha512};
+
+/// The digest of some octets, with its algorithm.
+#[derive(Clone, Copy, Debug, PartialEq, Eq)]
+pub enum Digest {
+    Md5([u8; 16]),
+    Sha1([u8; 20]),
+    Sha256([u8; 32]),
+    Sha512([u8; 64]),
+}
+
+impl Digest {
+    ghost use Rattle.bag_digest.specs.Hash.{alg_of};
+
+    pub fn alg(&self) -> Alg
+        ensures { result ≡ alg_of self.now }
+    {
+        match self {
+            Digest::Md5(_) => Alg::Md5,
+            Digest::Sha1(_) => Alg::Sha1,
+            Digest::Sha256(_) => Alg::Sha256,
+            Digest::Sha512(_) => Alg::Sha512,
+        }
+    }
+}
+
+/// The digests of some octets by each algorithm of a set.
+#[derive(Clone, Copy, Debug)]
+pub struct Digests {
+    md5: Option<[u8; 16]>,
+    sha1: Option<[u8; 20]>,
+    sha256: Option<[u8; 32]>,
+    sha512: Option<[u8; 64]>,
+}
+
+impl Digests {
+    ghost use Rattle.bag_digest.specs.Hash.{digest_in};
+
+    pub fn get(&self, alg: Alg) -> Option<Digest>
+        ensures { result ≡ digest_in self.now alg }
+    {
+        match alg {
+            Alg::Md5 => self.md5.map(Digest::Md5),
+            Alg::Sha1 => self.sha1.map(Digest::Sha1),
+            Alg::Sha256 => self.sha256.map(Digest::Sha256),
+            Alg::Sha512 => self.sha512.map(Digest::Sha512),
+        }
+    }
+}
+
+impl Digests {
+    ghost use Rattle.std.specs.Prelude.{◌↔◌, IsTrue, Some};
+    ghost use Rattle.bag_digest.specs.Hash.{digest_in, alg_of};
+
+    /// Whether the digest by its algorithm is this one.
+    pub fn contains(&self, digest: Digest) -> bool
+        ensures { IsTrue result ↔ (digest_in self.now (alg_of digest) ≡ Some digest) }
+    {
+        match digest {
+            Digest::Md5(octets) => is_octets(self.md5, octets),
+            Digest::Sha1(octets) => is_octets(self.sha1, octets),
+            Digest::Sha256(octets) => is_octets(self.sha256, octets),
+            Digest::Sha512(octets) => is_octets(self.sha512, octets),
+        }
+    }
+}
+
+fn is_octets<const N: usize>(own: Option<[u8; N]>, octets: [u8; N]) -> bool
+    ensures { IsTrue result ↔ (own.entry ≡ Some octets.entry) }
+{
+    match own {
+        Some(own) => own.as_slice() == octets.as_slice(),
+        None => false,
+    }
+}
+
+/// Hashers that take the same octets, piece by piece.
+#[derive(Drop)]
+pub struct Multi {
+    md5: Option<Md5>,
+    sha1: Option<Sha1>,
+    sha256: Option<Sha256>,
+    sha512: Option<Sha512>,
+}
+
+impl Multi {
+    ghost use Rattle.bag_digest.specs.declared.algorithm.AlgSet.{AlgSet};
+    ghost use Rattle.bag_digest.specs.Hash.{Holds, AreDigests};
+
+    /// Hashers of nothing yet, for each algorithm of the set.
+    pub fn new(set: AlgSet) -> Multi
+        ensures { Holds result set [] }
+    {
+        Multi {
+            md5: if set.has(Alg::Md5) {
+                Some(Md5::new())
+            } else {
+                None
+            },
+            sha1: if set.has(Alg::Sha1) {
+                Some(Sha1::new())
+            } else {
+                None
+            },
+            sha256: if set.has(Alg::Sha256) {
+                Some(Sha256::new())
+            } else {
+                None
+            },
+            sha512: if set.has(Alg::Sha512) {
+                Some(Sha512::new())
+            } else {
+                None
+            },
+        }
+    }
+
+    /// Takes the next octets.
+    pub fn update(&mut self, piece: &[u8])
+        ensures { (set : AlgSet) (octets : List ℕ) → Holds self.old set octets
+            → Holds self.new set (octets ++ piece.now) }
+    {
+        if let Some(hasher) = &mut self.md5 {
+            hasher.update(piece);
+        }
+        if let Some(hasher) = &mut self.sha1 {
+            hasher.update(piece);
+        }
+        if let Some(hasher) = &mut self.sha256 {
+            hasher.update(piece);
+        }
+        if let Some(hasher) = &mut self.sha512 {
+            hasher.update(piece);
+        }
+    }
+
+    /// The digest of the joined pieces by each algorithm of the set, and by no other.
+    pub fn finish(self) -> Digests
+        ensures { (set : AlgSet) (octets : List ℕ) → Holds self set octets
+            → AreDigests result set octets }
+    {
+        let Multi {
+            md5,
+            sha1,
+            sha256,
+            sha512,
+        } = self;
+        Digests {
+            md5: finish_md5(md5),
+            sha1: finish_sha1(sha1),
+            sha256: finish_sha256(sha256),
+            sha512: finish_sha512(sha512),
+        }
+    }
+}
+
+fn finish_md5(hasher: Option<Md5>) -> Option<[u8; 16]>
+    ensures { (wanted : Bool) (octets : List ℕ) → HoldsIf MD5.Holds wanted hasher octets
+        → result ≡ (if wanted then Some (md5 octets) else None) }
+{
+    match hasher {
+        Some(hasher) => Some(hasher.finalize()),
+        None => None,
+    }
+}
+
+fn finish_sha1(hasher: Option<Sha1>) -> Option<[u8; 20]>
+    ensures { (wanted : Bool) (octets : List ℕ) → HoldsIf SHA1.Holds wanted hasher octets
+        → result ≡ (if wanted then Some (sha1 octets) else None) }
+{
+    match hasher {
+        Some(hasher) => Some(hasher.finalize()),
+        None => None,
+    }
+}
+
+fn finish_sha256(hasher: Option<Sha256>) -> Option<[u8; 32]>
+    ensures { (wanted : Bool) (octets : List ℕ) → HoldsIf Holds256 wanted hasher octets
+        → result ≡ (if wanted then Some (sha256 octets) else None) }
+{
+    match hasher {
+        Some(hasher) => Some(hasher.finalize()),
+        None => None,
+    }
+}
+
+fn finish_sha512(hasher: Option<Sha512>) -> Option<[u8; 64]>
+    ensures { (wanted : Bool) (octets : List ℕ) → HoldsIf Holds512 wanted hasher octets
+        → result ≡ (if wanted then Some (sha512 octets) else None) }
+{
+    match hasher {
+        Some(hasher) => Some(hasher.finalize()),
+        None => None,
+    }
+}

@@ -1,0 +1,68 @@
+-- The lines of octets: what it is to be their lines, and the one list that is.
+use Rattle.std.specs.Prelude.{◌≡◌, ◌≢◌, ◌==◌, ℕ, Bool, true, false, List, [], ◌∷◌, ◌++◌, if◌then◌else◌}
+use Rattle.std.specs.List.{AllByRecursion, flat_map}
+use Rattle.bag_path.specs.declared.lines.Ending.{Ending}
+use Rattle.bag_path.specs.declared.lines.Ending.TheVariants.{Lf, Cr, CrLf, Nothing}
+
+-- a line without where it lies in memory
+pub record Text : Type 0 where
+  pub text : List ℕ
+  pub ending : Ending
+
+abbrev pub line : List ℕ → Ending → Text
+line text ending = record { text = text; ending = ending }
+
+abbrev pub ending_octets : Ending → List ℕ
+ending_octets Lf = 10 ∷ []
+ending_octets Cr = 13 ∷ []
+ending_octets CrLf = 13 ∷ 10 ∷ []
+ending_octets Nothing = []
+
+-- a line as it stands in the octets
+abbrev pub octets_of : Text → List ℕ
+octets_of line = line.text ++ ending_octets line.ending
+
+abbrev pub joined : List Text → List ℕ
+joined lines = flat_map octets_of lines
+
+-- neither LF nor CR
+abbrev pub IsPlain : ℕ → Type 0
+IsPlain octet = (octet ≢ 10) × (octet ≢ 13)
+
+abbrev pub is_lone_lf : List ℕ → Ending → Bool
+is_lone_lf [] Lf = true
+is_lone_lf _ _ = false
+
+-- What may follow a line: only the last has no ending, and then it has some text; a line ended by CR isn't followed
+-- by an empty one ended by LF.
+abbrev pub MayStand : List ℕ → Ending → List Text → Type 0
+MayStand text Nothing lines = (text ≢ []) × (lines ≡ [])
+MayStand text Cr (next ∷ lines) = is_lone_lf next.text next.ending ≡ false
+MayStand text _ lines = Unit {0}
+
+abbrev pub AreLines : List Text → Type 0
+AreLines [] = Unit {0}
+AreLines (line ∷ lines) = AllByRecursion IsPlain line.text × MayStand line.text line.ending lines × AreLines lines
+
+-- these are the lines of the octets
+pub record HasLines (octets : List ℕ) (lines : List Text) : Type 0 where
+  pub whole : octets ≡ joined lines
+  pub each : AreLines lines
+
+-- CR before lines: with a lone LF it is one ending
+abbrev pub put_cr : List Text → List Text
+put_cr [] = line [] Cr ∷ []
+put_cr (next ∷ lines) = if is_lone_lf next.text next.ending then line [] CrLf ∷ lines else line [] Cr ∷ next ∷ lines
+
+-- an octet of a text before lines goes onto the first
+abbrev pub put_plain : ℕ → List Text → List Text
+put_plain octet [] = line (octet ∷ []) Nothing ∷ []
+put_plain octet (next ∷ lines) = line (octet ∷ next.text) next.ending ∷ lines
+
+-- the lines of the octets, found from their end
+unfoldable pub lines_of : List ℕ → List Text
+lines_of [] = []
+lines_of (octet ∷ octets) =
+    if octet == 10 then line [] Lf ∷ lines_of octets
+    else if octet == 13 then put_cr (lines_of octets)
+    else put_plain octet (lines_of octets)

@@ -1,0 +1,104 @@
+//! Lines of octets.
+ghost use Rattle.std.specs.Prelude.{◌≡◌, ◌+◌, ◌<◌, ◌≤◌, ◌^◌, ◌⊎◌, ◌∷◌, ℕ, List, length, take, slice_index};
+ghost use Rattle.std.specs.List.{All};
+ghost use Rattle.bag_path.specs.Lines.{IsPlain, line, lines_of};
+
+/// How a line ends.
+#[derive(Clone, Copy, Debug, PartialEq, Eq)]
+pub enum Ending {
+    Lf,
+    Cr,
+    CrLf,
+    Nothing,
+}
+
+/// A line, with its number from 1.
+#[derive(Clone, Copy, Debug)]
+pub struct Line<'a> {
+    pub number: usize,
+    pub text: &'a [u8],
+    pub ending: Ending,
+}
+
+/// The lines of octets, in order.
+#[derive(Drop)]
+pub struct Lines<'a> {
+    number: usize,
+    rest: &'a [u8],
+    ghost in_range: { number + length rest.now < 2 ^ 64 },
+}
+
+impl<'a> Lines<'a> {
+    ghost use Rattle.std.specs.Prelude.{◌≡◌};
+    ghost use Rattle.std.specs.List.{enumerate_from};
+    ghost use Rattle.bag_path.specs.Lines.{lines_of};
+    ghost use Rattle.bag_path.specs.LinesLeft.{lines_left};
+
+    pub fn new(octets: &'a [u8]) -> Lines<'a>
+        ensures { lines_left result ≡ enumerate_from 1 (lines_of octets.now) }
+    {
+        Lines {
+            number: 1,
+            rest: octets,
+        }
+    }
+}
+
+impl<'a> Iterator for Lines<'a> {
+    ghost use Rattle.std.specs.Iterator.{YieldsFirstBy, item_count};
+    ghost use Rattle.bag_path.specs.LinesLeft.{lines_left, numbered_text};
+
+    type Item = Line<'a>;
+
+    ghost next_gives = { YieldsFirstBy numbered_text lines_left };
+
+    ghost remaining = { item_count lines_left };
+
+    fn next(&mut self) -> Option<Line<'a>> {
+        if self.rest.is_empty() {
+            return None;
+        }
+        let number = self.number;
+        let (text, ending, rest) = first_line(self.rest);
+        self.rest = rest;
+        self.number += 1;
+        Some(Line {
+            number,
+            text,
+            ending,
+        })
+    }
+}
+
+/// How far the octets have neither LF nor CR.
+fn text_len(octets: &[u8]) -> usize
+    ensures within { result ≤ length octets.now }
+    ensures plain { All IsPlain (take result octets.now) }
+    ensures ending { result < length octets.now → (slice_index octets.now result ≡ 10) ⊎ (slice_index octets.now result ≡ 13) }
+{
+    for (i, octet) in octets.iter().enumerate() {
+        if *octet == b'\n' || *octet == b'\r' {
+            return i;
+        }
+    }
+    octets.len()
+}
+
+/// The first line, and what follows it.
+fn first_line(octets: &[u8]) -> (&[u8], Ending, &[u8])
+    requires { 0 < length octets.now }
+    ensures first { lines_of octets.now ≡ line result.0.now result.1 ∷ lines_of result.2.now }
+    ensures shorter { length result.2.now < length octets.now }
+{
+    let (text, rest) = octets.split_at(text_len(octets));
+    if rest.is_empty() {
+        return (text, Ending::Nothing, rest);
+    }
+    if rest[0] == b'\n' {
+        return (text, Ending::Lf, &rest[1..]);
+    }
+    if rest.len() > 1 && rest[1] == b'\n' {
+        return (text, Ending::CrLf, &rest[2..]);
+    }
+    (text, Ending::Cr, &rest[1..])
+}
