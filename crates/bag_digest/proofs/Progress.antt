@@ -1,34 +1,19 @@
--- How far a source was read and hashed.
-use Rattle.std.proofs.Common.{◌≡◌, ◌≤◌, ◌+◌, ℕ, List, ◌++◌, Option, length, take, arith, length-append, length-take}
+-- How far a source was read.
+use Rattle.std.proofs.Common.{◌≡◌, ◌≤◌, ◌-◌, ℕ, List, ◌++◌, Option, length, arith, length-append}
 use Rattle.std.specs.Io.KnownBytes.{Consumes}
 use Rattle.std.proofs.KnownBytes.{Consumes-trans}
-use Rattle.bag_digest.specs.declared.algorithm.AlgSet.{AlgSet}
-use Rattle.bag_digest.specs.declared.multi.Multi.{Multi}
-use Rattle.bag_digest.specs.Hash.{Holds}
 use Rattle.bag_digest.specs.Reading.{GaveMoreThan}
 
--- these octets came from the source, and went into the hashers
-pub record HasRead (old new : Option (List ℕ)) (multi : Multi) (set : AlgSet) (total limit : ℕ) : Type 0 where
-  pub octets : List ℕ
+-- the source gave these octets so far, of this number and within the limit
+pub record HasGiven (old new : Option (List ℕ)) (total limit : ℕ) (octets : List ℕ) : Type 0 where
   pub gave : Consumes old new octets
-  pub holds : Holds multi set octets
   pub count : total ≡ length octets
   pub within : total ≤ limit
 
--- one piece more
-pub read_on : (old mid new : Option (List ℕ)) (multi next : Multi) (set : AlgSet) (total limit n : ℕ) (buf : List ℕ) → HasRead old mid multi set total limit → Consumes mid new (take n buf) → n ≤ length buf → total + n ≤ limit → ((set : AlgSet) (octets : List ℕ) → Holds multi set octets → Holds next set (octets ++ take n buf)) → HasRead old new next set (total + n) limit
-read_on old mid new multi next set total limit n buf read gave fits within update = record {
-  octets = read.octets ++ take n buf;
-  gave = Consumes-trans old mid new _ _ read.gave gave;
-  holds = update set read.octets read.holds;
-  count = omega (arith, read.count, length-append read.octets (take n buf), length-take n buf);
-  within = within;
-}
-
--- one piece too many
-pub read_past : (old mid new : Option (List ℕ)) (multi : Multi) (set : AlgSet) (total limit n : ℕ) (buf : List ℕ) → HasRead old mid multi set total limit → Consumes mid new (take n buf) → n ≤ length buf → total + n ≡ limit + 1 → GaveMoreThan old new limit
-read_past old mid new multi set total limit n buf read gave fits past = (
-  read.octets ++ take n buf,
-  Consumes-trans old mid new _ _ read.gave gave,
-  omega (arith, read.count, length-append read.octets (take n buf), length-take n buf),
+-- one octet more than was left
+pub given_past : (old mid new : Option (List ℕ)) (total limit : ℕ) (octets : List ℕ) → HasGiven old mid total limit octets → GaveMoreThan mid new (limit - total) → GaveMoreThan old new limit
+given_past old mid new total limit octets given past = (
+  octets ++ past.0,
+  Consumes-trans old mid new _ _ given.gave past.1,
+  omega (arith, given.count, given.within, past.2, length-append octets past.0),
 )

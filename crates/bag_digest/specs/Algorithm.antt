@@ -1,16 +1,24 @@
 -- The digest algorithms of the format, and sets of them.
-use Rattle.std.specs.Prelude.{ℕ, Bool, true, false}
+use Rattle.std.specs.Prelude.{ℕ, List, Bool, true, false, codes}
 use Rattle.bag_digest.specs.declared.algorithm.Alg.{Alg}
 use Rattle.bag_digest.specs.declared.algorithm.Alg.TheVariants.{Md5, Sha1, Sha256, Sha512}
 use Rattle.bag_digest.specs.declared.algorithm.AlgSet.{AlgSet}
 
--- the length of a digest in octets
+-- the name that stands in the names of manifests (RFC 8493 section 2.4)
+abbrev pub name_of : Alg → List ℕ
+name_of Md5 = codes "md5"
+name_of Sha1 = codes "sha1"
+name_of Sha256 = codes "sha256"
+name_of Sha512 = codes "sha512"
+
+-- the length of a digest in octets (RFC 1321 section 3.5, FIPS 180-4 section 1)
 abbrev pub size_of : Alg → ℕ
 size_of Md5 = 16
 size_of Sha1 = 20
 size_of Sha256 = 32
 size_of Sha512 = 64
 
+-- whether they are the same algorithm
 abbrev pub is_alg : Alg → Alg → Bool
 is_alg Md5 Md5 = true
 is_alg Sha1 Sha1 = true

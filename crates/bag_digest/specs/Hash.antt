@@ -11,13 +11,13 @@ use Rattle.sha2.specs.Hashers.{Holds256, Holds512}
 use Rattle.bag_digest.specs.declared.algorithm.Alg.{Alg}
 use Rattle.bag_digest.specs.declared.algorithm.Alg.TheVariants.{Md5, Sha1, Sha256, Sha512}
 use Rattle.bag_digest.specs.declared.algorithm.AlgSet.{AlgSet}
-use Rattle.bag_digest.specs.declared.multi.Digest.{Digest}
-use Rattle.bag_digest.specs.declared.multi.Digest.TheVariants as digest
+use Rattle.bag_digest.specs.declared.digest.Digest.{Digest}
+use Rattle.bag_digest.specs.declared.digest.Digest.TheVariants as digest
 use Rattle.bag_digest.specs.declared.multi.Digests.{Digests}
 use Rattle.bag_digest.specs.declared.multi.Multi.{Multi}
 use Rattle.bag_digest.specs.Algorithm.{has}
 
--- the digest of some octets by an algorithm
+-- the digest of some octets by an algorithm (RFC 1321 section 3, FIPS 180-4 sections 6.1, 6.2 and 6.4)
 abbrev pub hash : Alg → List ℕ → Digest
 hash Md5 octets = digest.Md5 (md5 octets)
 hash Sha1 octets = digest.Sha1 (sha1 octets)

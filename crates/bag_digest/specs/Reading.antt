@@ -5,12 +5,20 @@ use Rattle.bag_digest.specs.declared.algorithm.AlgSet.{AlgSet}
 use Rattle.bag_digest.specs.declared.multi.Digests.{Digests}
 use Rattle.bag_digest.specs.Hash.{AreDigests}
 
--- The source gave some octets and no others are left. There are this many of them, no more than the
--- limit, and these are their digests.
-abbrev pub GaveAll : Option (List ℕ) → Option (List ℕ) → AlgSet → ℕ → ℕ → Digests → Type 0
-GaveAll old new set limit count digests = (octets : List ℕ) × Consumes old new octets × IsAtEnd new
-    × (count ≡ length octets) × (length octets ≤ limit) × AreDigests digests set octets
+-- the source gave these octets and has no others left, and they are within the limit
+pub record GaveAll (old new : Option (List ℕ)) (limit : ℕ) (octets : List ℕ) : Type 0 where
+  pub gave : Consumes old new octets
+  pub none_left : IsAtEnd new
+  pub within : length octets ≤ limit
 
--- The source gave one octet more than the limit, and none after it was taken.
+-- the source gave some octets, within the limit
+abbrev pub GaveWithin : Option (List ℕ) → Option (List ℕ) → ℕ → Type 0
+GaveWithin old new limit = (octets : List ℕ) × Consumes old new octets × (length octets ≤ limit)
+
+-- the source gave one octet more than the limit, and none after it was taken
 abbrev pub GaveMoreThan : Option (List ℕ) → Option (List ℕ) → ℕ → Type 0
 GaveMoreThan old new limit = (octets : List ℕ) × Consumes old new octets × (length octets ≡ limit + 1)
+
+-- the number of these octets, and their digests by the algorithms of the set
+abbrev pub IsCountAndDigests : ℕ × Digests → AlgSet → List ℕ → Type 0
+IsCountAndDigests found set octets = (found.0 ≡ length octets) × AreDigests found.1 set octets

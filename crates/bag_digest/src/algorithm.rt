@@ -1,7 +1,10 @@
 //! The algorithms, and sets of them.
-ghost use Rattle.std.specs.Prelude.{◌≡◌, ◌||◌, ◌==◌, ◌+◌, ◌↔◌, IsTrue, IfSome, IsNone, Contains, false, codes};
+ghost use Rattle.std.specs.Prelude.{◌≡◌, ◌||◌, ◌↔◌, IsTrue, IfSome, Some, false};
 
-/// A digest algorithm.
+/// A digest algorithm that a manifest may be made by: MD5 of RFC 1321, or SHA-1, SHA-256 or SHA-512 of
+/// FIPS 180-4.
+///
+/// The order of the variants is the order in which a bag's algorithms are gone through.
 #[derive(Clone, Copy, Debug, PartialEq, Eq, PartialOrd, Ord)]
 pub enum Alg {
     Md5,
@@ -11,9 +14,40 @@ pub enum Alg {
 }
 
 impl Alg {
-    ghost use Rattle.bag_digest.specs.Algorithm.{size_of};
+    ghost use Rattle.bag_digest.specs.declared.algorithm.Alg.{Alg};
+    ghost use Rattle.bag_digest.specs.Algorithm.{size_of, name_of};
 
-    /// The length of a digest in octets.
+    /// All four algorithms, in order.
+    pub const ALL: [Alg; 4] = [Alg::Md5, Alg::Sha1, Alg::Sha256, Alg::Sha512];
+
+    /// The algorithm of this name, as it stands in the name of a manifest (RFC 8493 section 2.4): `md5`,
+    /// `sha1`, `sha256` or `sha512`. No other spelling is taken, upper case letters aren't either.
+    pub fn from_name(text: &str) -> Option<Alg>
+        ensures found { IfSome result (λ alg. text.now ≡ name_of alg) }
+        ensures each { (alg : Alg) → text.now ≡ name_of alg → result ≡ Some alg }
+    {
+        match text {
+            "md5" => Some(Alg::Md5),
+            "sha1" => Some(Alg::Sha1),
+            "sha256" => Some(Alg::Sha256),
+            "sha512" => Some(Alg::Sha512),
+            _ => None,
+        }
+    }
+
+    /// The name, as it stands in the name of a manifest.
+    pub fn name(self) -> &'static str
+        ensures { result.now ≡ name_of self }
+    {
+        match self {
+            Alg::Md5 => "md5",
+            Alg::Sha1 => "sha1",
+            Alg::Sha256 => "sha256",
+            Alg::Sha512 => "sha512",
+        }
+    }
+
+    /// The length of a digest in octets: half the number of its hex digits.
     pub fn len(self) -> usize
         ensures { result ≡ size_of self }
     {
@@ -36,12 +70,11 @@ pub struct AlgSet {
 }
 
 impl AlgSet {
-    ghost use Rattle.bag_digest.specs.declared.algorithm.Alg.{Alg};
     ghost use Rattle.bag_digest.specs.Algorithm.{has, is_alg};
 
     /// No algorithm.
     pub fn empty() -> AlgSet
-        ensures { (a : Alg) → has result a ≡ false }
+        ensures { (alg : Alg) → has result alg ≡ false }
     {
         AlgSet {
             md5: false,
@@ -51,9 +84,9 @@ impl AlgSet {
         }
     }
 
-    /// This set and one algorithm more.
+    /// This set and one algorithm more, or the same set if it was in it.
     pub fn with(self, alg: Alg) -> AlgSet
-        ensures { (a : Alg) → has result a ≡ (is_alg a alg || has self a) }
+        ensures { (other : Alg) → has result other ≡ (is_alg alg other || has self other) }
     {
         let mut set = self;
         match alg {
@@ -65,6 +98,7 @@ impl AlgSet {
         set
     }
 
+    /// Whether the algorithm is in the set.
     pub fn has(self, alg: Alg) -> bool
         ensures { result ≡ has self alg }
     {
@@ -74,5 +108,12 @@ impl AlgSet {
             Alg::Sha256 => self.sha256,
             Alg::Sha512 => self.sha512,
         }
+    }
+
+    /// Whether no algorithm is in the set.
+    pub fn is_empty(self) -> bool
+        ensures { IsTrue result ↔ ((alg : Alg) → has self alg ≡ false) }
+    {
+        !(self.md5 || self.sha1 || self.sha256 || self.sha512)
     }
 }

@@ -3,10 +3,20 @@
 
 pub use algorithm::{Alg, AlgSet};
 pub use counted::Counted;
-pub use multi::{Digest, Digests, Multi};
-pub use source::{Failed, ReadFault, Source, digest_reader};
+pub use digest::Digest;
+pub use laws::{lower_case_spells_it, one_digest_is_spelled};
+pub use multi::{Digests, Multi};
+pub use reading::{
+    PIECE, ReadFault, SourceFault, digest_reader, digest_through, piece_buffer, read_to_end_within,
+};
+pub use source::{Failed, Source};
 
 mod algorithm;
 mod counted;
+mod digest;
+mod laws;
 mod multi;
+mod reading;
 mod source;
+#[cfg(test)]
+mod tests;

@@ -10,36 +10,13 @@ ghost use Rattle.sha2.specs.Sha512.{sha512};
 ghost use Rattle.bag_digest.specs.Hash.{HoldsIf};
 
 use crate::algorithm::{Alg, AlgSet};
+use crate::digest::Digest;
 use md5::{Digest as _, Md5};
 use sha1::Sha1;
 use sha2::{Digest as _, Sha256, Sha512};
 
-/// The digest of some octets, with its algorithm.
-#[derive(Clone, Copy, Debug, PartialEq, Eq)]
-pub enum Digest {
-    Md5([u8; 16]),
-    Sha1([u8; 20]),
-    Sha256([u8; 32]),
-    Sha512([u8; 64]),
-}
-
-impl Digest {
-    ghost use Rattle.bag_digest.specs.Hash.{alg_of};
-
-    pub fn alg(&self) -> Alg
-        ensures { result ≡ alg_of self.now }
-    {
-        match self {
-            Digest::Md5(_) => Alg::Md5,
-            Digest::Sha1(_) => Alg::Sha1,
-            Digest::Sha256(_) => Alg::Sha256,
-            Digest::Sha512(_) => Alg::Sha512,
-        }
-    }
-}
-
 /// The digests of some octets by each algorithm of a set.
-#[derive(Clone, Copy, Debug)]
+#[derive(Clone, Copy, Debug, PartialEq, Eq)]
 pub struct Digests {
     md5: Option<[u8; 16]>,
     sha1: Option<[u8; 20]>,
@@ -48,8 +25,9 @@ pub struct Digests {
 }
 
 impl Digests {
-    ghost use Rattle.bag_digest.specs.Hash.{digest_in};
+    ghost use Rattle.bag_digest.specs.Hash.{digest_in, alg_of};
 
+    /// The digest by this algorithm, where the algorithm is of the set.
     pub fn get(&self, alg: Alg) -> Option<Digest>
         ensures { result ≡ digest_in self.now alg }
     {
@@ -60,13 +38,8 @@ impl Digests {
             Alg::Sha512 => self.sha512.map(Digest::Sha512),
         }
     }
-}
 
-impl Digests {
-    ghost use Rattle.std.specs.Prelude.{◌↔◌, IsTrue, Some};
-    ghost use Rattle.bag_digest.specs.Hash.{digest_in, alg_of};
-
-    /// Whether the digest by its algorithm is this one.
+    /// Whether this digest is among them: its algorithm is of the set, and its octets are the same.
     pub fn contains(&self, digest: Digest) -> bool
         ensures { IsTrue result ↔ (digest_in self.now (alg_of digest) ≡ Some digest) }
     {
@@ -88,7 +61,8 @@ fn is_octets<const N: usize>(own: Option<[u8; N]>, octets: [u8; N]) -> bool
     }
 }
 
-/// Hashers that take the same octets, piece by piece.
+/// Hashers of the same octets by several algorithms: MD5 (RFC 1321), SHA-1, SHA-256 and SHA-512
+/// (FIPS 180-4). The octets come in pieces, which may be cut anywhere.
 #[derive(Drop)]
 pub struct Multi {
     md5: Option<Md5>,
@@ -101,7 +75,7 @@ impl Multi {
     ghost use Rattle.bag_digest.specs.declared.algorithm.AlgSet.{AlgSet};
     ghost use Rattle.bag_digest.specs.Hash.{Holds, AreDigests};
 
-    /// Hashers of nothing yet, for each algorithm of the set.
+    /// Hashers for the algorithms of the set, which have taken no octets yet.
     pub fn new(set: AlgSet) -> Multi
         ensures { Holds result set [] }
     {
@@ -129,7 +103,7 @@ impl Multi {
         }
     }
 
-    /// Takes the next octets.
+    /// Takes the next octets: they follow those of the earlier pieces.
     pub fn update(&mut self, piece: &[u8])
         ensures { (set : AlgSet) (octets : List ℕ) → Holds self.old set octets
             → Holds self.new set (octets ++ piece.now) }
@@ -148,7 +122,7 @@ impl Multi {
         }
     }
 
-    /// The digest of the joined pieces by each algorithm of the set, and by no other.
+    /// The digests of the joined pieces, by each algorithm of the set and by no other.
     pub fn finish(self) -> Digests
         ensures { (set : AlgSet) (octets : List ℕ) → Holds self set octets
             → AreDigests result set octets }

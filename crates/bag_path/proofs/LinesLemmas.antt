@@ -1,5 +1,5 @@
 -- The lines of octets are one list.
-use Rattle.std.proofs.Common.{◌≡◌, ◌≢◌, ℕ, true, false, List, [], ◌∷◌, ◌++◌, ◌⊎◌, if◌then◌else◌, refl, sym, ap, ◌∙◌, append_assoc, append-nil, arith, subst, inl, inr, length, ◌<◌, ◌-◌, get_or, take, drop}
+use Rattle.std.proofs.Common.{◌≡◌, ◌≢◌, ℕ, true, false, List, [], ◌∷◌, ◌++◌, ◌⊎◌, if◌then◌else◌, refl, sym, ap, ◌∙◌, append_assoc, append-nil, arith, subst, inl, inr, length, ◌<◌, ◌-◌, get_or, take, drop, map}
 use Rattle.std.specs.List.{All, AllByRecursion}
 use Rattle.std.proofs.lemmas.List.Elements.{recursion_from_All}
 use Rattle.std.proofs.lemmas.List.{get_or-drop}
@@ -9,7 +9,7 @@ use Rattle.std.proofs.lemmas.List.Concat.{flat_map-cons}
 use Rattle.std.proofs.lemmas.Bool.Decides.{eqb_tells}
 use Rattle.bag_path.specs.declared.lines.Ending.{Ending}
 use Rattle.bag_path.specs.declared.lines.Ending.TheVariants.{Lf, Cr, CrLf, Nothing}
-use Rattle.bag_path.specs.Lines.{Text, line, ending_octets, octets_of, joined, IsPlain, is_lone_lf, MayStand, AreLines, HasLines, put_cr, put_plain, lines_of}
+use Rattle.bag_path.specs.Lines.{Text, line, ending_octets, octets_of, joined, IsPlain, is_lone_lf, MayStand, AreLines, HasLines, put_cr, put_plain, lines_of, written_lines}
 
 -- a plain octet
 plain_step : (octet : ℕ) (octets : List ℕ) → IsPlain octet → lines_of (octet ∷ octets) ≡ put_plain octet (lines_of octets)
@@ -186,3 +186,16 @@ pub none_left : (octets : List ℕ) → length octets ≡ 0 → lines_of octets 
 unfolding lines_of
 none_left [] e = refl
 none_left (x ∷ octets) e = absurd (omega (arith, e))
+
+-- texts ended by LF are lines
+are_lf_lines : (texts : List (List ℕ)) → AllByRecursion (All IsPlain) texts → AreLines (map (λ text. line text Lf) texts)
+are_lf_lines [] h = tt
+are_lf_lines (text ∷ texts) h = (recursion_from_All IsPlain text h.0, tt, are_lf_lines texts h.1)
+
+joined-lf_lines : (texts : List (List ℕ)) → written_lines texts ≡ joined (map (λ text. line text Lf) texts)
+joined-lf_lines [] = refl
+joined-lf_lines (text ∷ texts) = ap (λ octets. (text ++ 10 ∷ []) ++ octets) (joined-lf_lines texts)
+
+pub lines_of-written_lines : (texts : List (List ℕ)) → All (All IsPlain) texts → lines_of (written_lines texts) ≡ map (λ text. line text Lf) texts
+lines_of-written_lines texts h =
+    ap lines_of (joined-lf_lines texts) ∙ only_lines (map (λ text. line text Lf) texts) (are_lf_lines texts (recursion_from_All (All IsPlain) texts h))

@@ -1,4 +1,5 @@
--- The lines of octets: what it is to be their lines, and the one list that is.
+-- The lines of octets: what it is to be their lines, and the one list that is. A line ends at LF, CR or CR LF (RFC 8493
+-- section 2.3).
 use Rattle.std.specs.Prelude.{◌≡◌, ◌≢◌, ◌==◌, ℕ, Bool, true, false, List, [], ◌∷◌, ◌++◌, if◌then◌else◌}
 use Rattle.std.specs.List.{AllByRecursion, flat_map}
 use Rattle.bag_path.specs.declared.lines.Ending.{Ending}
@@ -48,6 +49,10 @@ AreLines (line ∷ lines) = AllByRecursion IsPlain line.text × MayStand line.te
 pub record HasLines (octets : List ℕ) (lines : List Text) : Type 0 where
   pub whole : octets ≡ joined lines
   pub each : AreLines lines
+
+-- texts as they are written, each ended by LF
+abbrev pub written_lines : List (List ℕ) → List ℕ
+written_lines texts = flat_map (λ text. text ++ 10 ∷ []) texts
 
 -- CR before lines: with a lone LF it is one ending
 abbrev pub put_cr : List Text → List Text

@@ -1,9 +1,24 @@
--- Paths below a bag's base, as bytes of UTF-8.
-use Rattle.std.specs.Prelude.{◌≡◌, ◌==◌, ◌||◌, ℕ, Bool, List, Option, Some, None, length, nat_lt, nat_eq, if◌then◌else◌, codes}
+-- Paths of files below a bag's base directory, as octets (RFC 8493 section 2.1.3; what a segment may be, and the greatest
+-- length, are this project's own).
+use Rattle.std.specs.Prelude.{◌≡◌, ◌≢◌, ◌≤◌, ◌==◌, ◌||◌, ℕ, Bool, List, [], Option, Some, None, All, length, nat_lt, nat_eq, if◌then◌else◌, codes}
 use Rattle.std.specs.List.{list_any, slice_split, starts_with}
-use Rattle.std.specs.Str.{bytes_eq}
+use Rattle.std.specs.Str.{IsUtf8, bytes_eq}
 use Rattle.bag_path.specs.declared.path.PathFault.{PathFault}
 use Rattle.bag_path.specs.declared.path.PathFault.TheVariants.{Empty, TooLong, EmptySegment, DotSegment, Nul, PayloadRoot, Memory}
+
+-- what stands between, before and after the slashes
+abbrev pub segments : List ℕ → List (List ℕ)
+segments path = slice_split (λ octet. octet == 47) path
+
+-- these octets are a path
+pub record IsPath (path : List ℕ) : Type 0 where
+  pub utf8 : IsUtf8 path
+  pub some_octet : path ≢ []
+  pub not_too_long : length path ≤ 4096
+  pub no_empty_segment : All (λ segment. segment ≢ []) (segments path)
+  pub no_dot_segment : All (λ segment. (segment ≢ codes ".") × (segment ≢ codes "..")) (segments path)
+  pub no_nul : All (λ octet. octet ≢ 0) path
+  pub not_payload_root : path ≢ codes "data"
 
 abbrev pub is_empty_segment : List ℕ → Bool
 is_empty_segment segment = length segment == 0
@@ -11,28 +26,26 @@ is_empty_segment segment = length segment == 0
 abbrev pub is_dot_segment : List ℕ → Bool
 is_dot_segment segment = bytes_eq segment (codes ".") || bytes_eq segment (codes "..")
 
-abbrev pub is_data : List ℕ → Bool
-is_data text = bytes_eq text (codes "data")
-
--- whether a part between slashes passes
+-- whether some segment passes
 abbrev pub has_segment : (List ℕ → Bool) → List ℕ → Bool
-has_segment test text = list_any test (slice_split (λ b. b == 47) text)
+has_segment test path = list_any test (segments path)
 
--- the first fault of a text that is no path
+-- the first fault that holds of octets, if one does
 unfoldable pub path_fault : List ℕ → Option PathFault
-path_fault text =
-    if length text == 0 then Some Empty
-    else if nat_lt 4096 (length text) then Some TooLong
-    else if has_segment is_empty_segment text then Some EmptySegment
-    else if has_segment is_dot_segment text then Some DotSegment
-    else if list_any (λ b. b == 0) text then Some Nul
-    else if is_data text then Some PayloadRoot
+path_fault path =
+    if length path == 0 then Some Empty
+    else if nat_lt 4096 (length path) then Some TooLong
+    else if has_segment is_empty_segment path then Some EmptySegment
+    else if has_segment is_dot_segment path then Some DotSegment
+    else if list_any (λ octet. octet == 0) path then Some Nul
+    else if bytes_eq path (codes "data") then Some PayloadRoot
     else None
 
+-- whether it is the path of a payload file
 abbrev pub is_payload : List ℕ → Bool
 is_payload path = starts_with nat_eq path (codes "data/")
 
--- a fault that is answered for a text is its first one, but want of memory may come in its place
+-- a fault that is answered for octets is their first one, but want of memory may come in its place
 abbrev pub Refuses : PathFault → List ℕ → Type 0
-Refuses Memory text = Unit {0}
-Refuses fault text = path_fault text ≡ Some fault
+Refuses Memory path = Unit {0}
+Refuses fault path = path_fault path ≡ Some fault

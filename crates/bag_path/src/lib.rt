@@ -1,16 +1,13 @@
-//! Paths of a bag, their spellings, and the lines of a text.
+//! Paths of a bag, their spellings in tag files, and the lines of a text (RFC 8493 section 2).
 #![tactic(auto)]
-
-ghost use Rattle.std.specs.Prelude.{◌≡◌, ◌↔◌, ℕ, List};
-ghost use Rattle.bag_path.specs.Lines.{HasLines, Text, lines_of};
 
 pub use lines::{Ending, Line, Lines};
 pub use path::{BagPath, PathFault};
+pub use spelling::{Version, escape, unescape};
 
+pub mod laws;
 mod lines;
 mod path;
-
-/// Octets have exactly one list of lines.
-pub fn one_list_of_lines()
-    ensures { (octets : List ℕ) (lines : List Text) → HasLines octets lines ↔ (lines ≡ lines_of octets) }
-{}
+mod spelling;
+#[cfg(test)]
+mod tests;

@@ -1,4 +1,4 @@
-//! Lines of octets.
+//! The lines of octets, as tag files have them (RFC 8493 section 2.3). Octets that aren't UTF-8 have lines too.
 ghost use Rattle.std.specs.Prelude.{◌≡◌, ◌+◌, ◌<◌, ◌≤◌, ◌^◌, ◌⊎◌, ◌∷◌, ℕ, List, length, take, slice_index};
 ghost use Rattle.std.specs.List.{All};
 ghost use Rattle.bag_path.specs.Lines.{IsPlain, line, lines_of};
@@ -6,24 +6,31 @@ ghost use Rattle.bag_path.specs.Lines.{IsPlain, line, lines_of};
 /// How a line ends.
 #[derive(Clone, Copy, Debug, PartialEq, Eq)]
 pub enum Ending {
+    /// A newline.
     Lf,
+    /// A carriage return that no newline follows.
     Cr,
+    /// A carriage return and a newline, which are one ending.
     CrLf,
+    /// The octets end. Only the last line ends so, and it has some text.
     Nothing,
 }
 
-/// A line, with its number from 1.
+/// A line.
 #[derive(Clone, Copy, Debug)]
 pub struct Line<'a> {
-    pub number: usize,
+    /// Its number. The first line has 1.
+    pub number: u64,
+    /// Its octets before the ending.
     pub text: &'a [u8],
+    /// How it ends.
     pub ending: Ending,
 }
 
 /// The lines of octets, in order.
 #[derive(Drop)]
 pub struct Lines<'a> {
-    number: usize,
+    number: u64,
     rest: &'a [u8],
     ghost in_range: { number + length rest.now < 2 ^ 64 },
 }
@@ -34,6 +41,7 @@ impl<'a> Lines<'a> {
     ghost use Rattle.bag_path.specs.Lines.{lines_of};
     ghost use Rattle.bag_path.specs.LinesLeft.{lines_left};
 
+    /// The lines of these octets. No octets have no line.
     pub fn new(octets: &'a [u8]) -> Lines<'a>
         ensures { lines_left result ≡ enumerate_from 1 (lines_of octets.now) }
     {

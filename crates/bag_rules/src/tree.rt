@@ -1,11 +1,12 @@
 //! Trees of files: a bag's base directory as the check sees it.
-ghost use Rattle.std.specs.Prelude.{◌≡◌, ◌<◌, ◌≤◌, ℕ, Bool, List, Option, Contains, IsTrue, OnErr, OnOk, length, slice_get, true};
+ghost use Rattle.std.specs.Prelude.{◌≡◌, ◌<◌, ◌≤◌, ℕ, Bool, List, Option, Some, Contains, IfNone, IfSome, IsTrue, OnErr, OnOk, length, slice_get, true};
 ghost use Rattle.bag_digest.specs.Device.{Rises};
 ghost use Rattle.bag_path.specs.Paths.{is_payload};
 ghost use Rattle.bag_rules.specs.Trees.{AreRising, SameFiles};
 
 use bag_digest::{Failed, Source};
 use bag_path::BagPath;
+use std::cmp::Ordering;
 
 /// The files below one base directory, by path. Reads are in the file that was started last.
 ///
@@ -44,4 +45,25 @@ pub trait Tree: Source {
         ensures counted { Self.faults self.old ≤ Self.faults self.new };
 
     ghost reads_keep: { (a b : Self) → Self.keeps a b → SameFiles paths has_dir body a b };
+}
+
+/// The place of the file with this path, by halves: looks at about as many paths as the number of files has binary digits.
+///
+/// `path` need not be a bag's path; then no file has it.
+pub fn find<T: Tree>(tree: &T, path: &str) -> Option<usize>
+    ensures found { IfSome result (λ i. slice_get (T.paths tree.now) i ≡ Some path.now) }
+    ensures absent { IfNone result (¬ Contains (T.paths tree.now) path.now) }
+    ensures only { IfSome result (λ i. (k : ℕ) → slice_get (T.paths tree.now) k ≡ Some path.now → k ≡ i) }
+{
+    let mut low = 0;
+    let mut high = tree.count();
+    while low < high {
+        let middle = low + (high - low) / 2;
+        match tree.path(middle).as_str().cmp(path) {
+            Ordering::Less => low = middle + 1,
+            Ordering::Equal => return Some(middle),
+            Ordering::Greater => high = middle,
+        }
+    }
+    None
 }

@@ -1,0 +1,18 @@
+//! Laws on the spelling of digests, for callers to rest on. The functions do nothing.
+ghost use Rattle.std.specs.Prelude.{◌≡◌, ℕ, List};
+ghost use Rattle.bag_digest.specs.declared.algorithm.Alg.{Alg};
+ghost use Rattle.bag_digest.specs.declared.digest.Digest.{Digest};
+ghost use Rattle.bag_digest.specs.Hash.{alg_of};
+ghost use Rattle.bag_digest.specs.Spelling.{lower_case_of, SpellsDigest, IsWhole};
+
+/// A text spells at most one digest by an algorithm.
+pub fn one_digest_is_spelled()
+    ensures { (alg : Alg) (text : List ℕ) (a b : Digest)
+        → SpellsDigest alg text a → SpellsDigest alg text b → a ≡ b }
+{}
+
+/// The lower case spelling of a digest spells it, by its own algorithm.
+pub fn lower_case_spells_it()
+    ensures { (digest : Digest)
+        → IsWhole digest → SpellsDigest (alg_of digest) (lower_case_of digest) digest }
+{}

@@ -1,0 +1,50 @@
+//! Laws on the definitions that the contracts of this crate cite. Each function's contract is one law, and its body is empty.
+ghost use Rattle.std.specs.Prelude.{◌≡◌, ◌↔◌, ℕ, List, All, Option, Some, None, Ok, map};
+ghost use Rattle.std.specs.Str.{IsUtf8};
+ghost use Rattle.bag_path.specs.Lines.{HasLines, IsPlain, Text, line, lines_of, written_lines};
+ghost use Rattle.bag_path.specs.Paths.{IsPath, path_fault};
+ghost use Rattle.bag_path.specs.SpellingReading.{spelled, unescaped};
+ghost use Rattle.bag_path.specs.Spellings.{Spells, written};
+ghost use Rattle.bag_path.specs.declared.lines.Ending.TheVariants.{Lf};
+ghost use Rattle.bag_path.specs.declared.spelling.Version.{Version};
+ghost use Rattle.bag_path.specs.declared.spelling.Version.TheVariants.{V1};
+
+/// A text is a path exactly if it has none of the faults.
+pub fn a_path_has_no_fault()
+    ensures { (text : List ℕ) → IsUtf8 text → IsPath text ↔ (path_fault text ≡ None) }
+{}
+
+/// A text spells one list of octets at most.
+pub fn a_text_spells_one_path_at_most()
+    ensures { (version : Version) (path other text : List ℕ) → Spells version path text → Spells version other text → path ≡ other }
+{}
+
+/// The written spelling of a path spells it.
+pub fn what_is_written_spells_its_path()
+    ensures { (path : List ℕ) → Spells V1 path (written path) }
+{}
+
+/// What is written for a path has no LF and no CR, so that it stays on its line.
+pub fn what_is_written_has_no_line_end()
+    ensures { (path : List ℕ) → All IsPlain (written path) }
+{}
+
+/// The octets that are read from a text are those that it spells.
+pub fn what_is_read_is_what_is_spelled()
+    ensures { (version : Version) (path text : List ℕ) → Spells version path text ↔ (spelled version text ≡ Some path) }
+{}
+
+/// What is written for a path is read as that path.
+pub fn what_is_written_is_read_again()
+    ensures { (path : List ℕ) → IsPath path → unescaped V1 (written path) ≡ Ok path }
+{}
+
+/// Octets have exactly one list of lines.
+pub fn octets_have_one_list_of_lines()
+    ensures { (octets : List ℕ) (lines : List Text) → HasLines octets lines ↔ (lines ≡ lines_of octets) }
+{}
+
+/// Texts without LF and CR, written with LF after each, are read as these lines.
+pub fn written_lines_are_read_again()
+    ensures { (texts : List (List ℕ)) → All (All IsPlain) texts → lines_of (written_lines texts) ≡ map (λ text. line text Lf) texts }
+{}

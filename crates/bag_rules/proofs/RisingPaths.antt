@@ -1,0 +1,48 @@
+-- The places of paths in a rising list.
+use Rattle.std.proofs.Common.{◌≡◌, ℕ, ◌<◌, List, Some, slice_get, get_or, length, Contains, refl, sym, ap, ◌∙◌, arith, inl, inr}
+use Rattle.std.specs.Ordering.{nat_cmp, ordering_reverse}
+use Rattle.std.specs.declared.cmp.Ordering.TheVariants.{Less, Equal, Greater}
+use Rattle.std.specs.Cmp.Lexicographic.{slice_cmp}
+use Rattle.std.proofs.lemmas.Bool.{cases_lt}
+use Rattle.std.proofs.lemmas.Cmp.{nat_list_cmp_total, tied_itself}
+use Rattle.std.proofs.lemmas.Option.{same_Some, slice_get_within, get_or_from_slice_get, slice_get_read}
+use Rattle.std.proofs.lemmas.Map.Keys.{Less-from_sorted}
+use Rattle.bag_rules.specs.Trees.{AreRising}
+
+-- a path that is in the list stands at some place
+pub place_of : (paths : List (List ℕ)) (path : List ℕ) → Contains paths path → (k : ℕ) × (slice_get paths k ≡ Some path)
+place_of paths path found = (found.0, slice_get_read paths (length paths) found.0 path refl found.1 (sym found.2))
+
+module _ (paths : List (List ℕ)) (rising : AreRising paths) where
+  -- the path at the lower place is less
+  lesser : (i j : ℕ) (x y : List ℕ) → slice_get paths i ≡ Some x → slice_get paths j ≡ Some y → i < j → slice_cmp nat_cmp x y ≡ Less
+  lesser i j x y p q below =
+      let left : get_or paths i x ≡ x = get_or_from_slice_get paths i x x p in
+      let right : get_or paths j x ≡ y = get_or_from_slice_get paths j y x q in
+      sym (λ t. slice_cmp nat_cmp (left t) (right t)) ∙ Less-from_sorted _ paths i j x rising below (slice_get_within paths j y q)
+
+  -- the lesser path stands at the lower place
+  pub lower : (i j : ℕ) (x y : List ℕ) → slice_get paths i ≡ Some x → slice_get paths j ≡ Some y → slice_cmp nat_cmp x y ≡ Less → i < j
+  lower i j x y p q less = elim (cases_lt i j) [
+    | inl below ↦ below
+    | inr above ↦ elim (cases_lt j i) [
+      | inl past ↦ (let turned : slice_cmp nat_cmp x y ≡ Greater = nat_list_cmp_total.antisymm x y ∙ ap ordering_reverse (lesser j i y x q p past) in absurd (cc))
+      | inr here ↦ (
+          let place : i ≡ j = omega arith in
+          let same : x ≡ y = same_Some x y (sym p ∙ ap (slice_get paths) place ∙ q) in
+          let tied : slice_cmp nat_cmp x y ≡ Equal = ap (slice_cmp nat_cmp x) (sym same) ∙ tied_itself nat_list_cmp_total x in
+          absurd (cc)
+          )
+    ]
+  ]
+
+  -- the greater path stands at the higher place
+  pub higher : (i j : ℕ) (x y : List ℕ) → slice_get paths i ≡ Some x → slice_get paths j ≡ Some y → slice_cmp nat_cmp x y ≡ Greater → j < i
+  higher i j x y p q greater = lower j i y x q p (nat_list_cmp_total.antisymm y x ∙ ap ordering_reverse greater)
+
+  -- a path stands at one place only
+  pub one_place : (i j : ℕ) (path : List ℕ) → slice_get paths i ≡ Some path → slice_get paths j ≡ Some path → i ≡ j
+  one_place i j path p q =
+      let not_below : i < j → ⊥ = λ below. (let less = lesser i j path path p q below in let tied = tied_itself nat_list_cmp_total path in cc) in
+      let not_above : j < i → ⊥ = λ above. (let less = lesser j i path path q p above in let tied = tied_itself nat_list_cmp_total path in cc) in
+      omega (arith, not_below, not_above)

@@ -1,0 +1,9 @@
+pub mod SpanLemmas
+pub mod WordsLemmas
+pub mod Utf8Lemmas
+pub mod NumeralLemmas
+pub mod DeclarationLemmas
+pub mod TagLinesLemmas
+pub mod ListingLemmas
+pub mod ManifestLemmas
+pub mod ManifestTextLemmas

@@ -1,0 +1,6 @@
+use Rattle.bag_tags.specs.WordsReading.{stops}
+use Rattle.bag_tags.proofs.SpanLemmas.{Spans}
+use Rattle.bag_tags.proofs.words.front_len.Given as goal
+
+abbrev pub invariant-loop-i : goal.invariant-loop-i
+invariant-loop-i l = Spans (stops l.stop) l.text l.i

@@ -1,0 +1,10 @@
+pub mod Words
+pub mod WordsReading
+pub mod TagLines
+pub mod Reading
+pub mod Numerals
+pub mod Declarations
+pub mod Names
+pub mod Listings
+pub mod Manifests
+pub mod ManifestView

@@ -1,0 +1,25 @@
+-- How a line is cut: the front of a list up to the first element that passes a test, and what follows.
+use Rattle.std.specs.Prelude.{◌==◌, ℕ, Bool, not, List, [], ◌∷◌, if◌then◌else◌}
+use Rattle.bag_tags.specs.declared.words.Stop.{Stop}
+use Rattle.bag_tags.specs.declared.words.Stop.TheVariants.{Blank, NoBlank, Dot, Colon}
+use Rattle.bag_tags.specs.Words.{is_blank}
+
+unfoldable pub until : (ℕ → Bool) → List ℕ → List ℕ × List ℕ
+until test [] = ([], [])
+until test (x ∷ xs) = if test x then ([], x ∷ xs) else (x ∷ (until test xs).0, (until test xs).1)
+
+abbrev pub is_not_blank : ℕ → Bool
+is_not_blank octet = not (is_blank octet)
+
+abbrev pub is_dot : ℕ → Bool
+is_dot octet = octet == 46
+
+abbrev pub is_colon : ℕ → Bool
+is_colon octet = octet == 58
+
+-- the octets before which a cut is made
+abbrev pub stops : Stop → ℕ → Bool
+stops Blank = is_blank
+stops NoBlank = is_not_blank
+stops Dot = is_dot
+stops Colon = is_colon

@@ -1,0 +1,170 @@
+//! The bag declaration, `bagit.txt` (RFC 8493 section 2.1.1).
+ghost use Rattle.std.specs.Prelude.{◌≡◌, ◌≢◌, ◌↔◌, ℕ, IfOk, IfErr, IsTrue, Ok, MatchOption, List, [], ◌∷◌, ◌++◌, length, map};
+ghost use Rattle.bag_path.specs.Lines.{Text, lines_of};
+ghost use Rattle.bag_tags.specs.declared.declaration.Declaration.{Declaration};
+ghost use Rattle.bag_tags.specs.Declarations.{IsDeclaration, IsDeclarationFault, IsVersion, IsVersionPart, IsEncodingName, HaveNoLabels, version_label, encoding_label, current, written};
+ghost use Rattle.bag_tags.specs.declared.declaration.DeclarationFault.{DeclarationFault};
+
+use crate::number::read_number;
+use crate::words::{Stop, split_at_first};
+use bag_path::Lines;
+use std::alloc::{AllocError, Global};
+use thiserror::Error;
+
+const MARK: &[u8] = b"\xEF\xBB\xBF";
+
+const VERSION_LABEL: &[u8] = b"BagIt-Version: ";
+
+const ENCODING_LABEL: &[u8] = b"Tag-File-Character-Encoding: ";
+
+const CURRENT: &[u8] = b"BagIt-Version: 1.0\nTag-File-Character-Encoding: UTF-8\n";
+
+/// What `bagit.txt` declares: the version of the format, as major and minor number, and whether the tag
+/// files' encoding is UTF-8.
+#[derive(Clone, Copy, Debug, PartialEq, Eq)]
+pub struct Declaration {
+    pub major: u32,
+    pub minor: u32,
+    pub utf8: bool,
+}
+
+/// Why `bagit.txt` can't be read. Where several hold of it, the first in this order is answered.
+#[derive(Clone, Copy, Debug, PartialEq, Eq, Error)]
+pub enum DeclarationFault {
+    /// The file is not UTF-8.
+    #[error("not UTF-8")]
+    NotUtf8,
+    /// The file begins with a byte order mark.
+    #[error("byte order mark")]
+    Mark,
+    /// The file has not exactly two lines.
+    #[error("line count")]
+    LineCount,
+    /// The lines don't begin `BagIt-Version: ` and `Tag-File-Character-Encoding: `.
+    #[error("label")]
+    Label,
+    /// The version is not two numbers of one to nine digits, joined by a dot, without leading zeros.
+    #[error("version")]
+    Version,
+    /// The name of the encoding is not one or more visible ASCII characters.
+    #[error("encoding name")]
+    EncodingName,
+}
+
+/// Reads `bagit.txt`. Any version and any encoding are read: whether they are ones that can be judged is the
+/// caller's question.
+///
+/// # Errors
+///
+/// The first fault, in the order of `DeclarationFault`.
+pub fn read_declaration(octets: &[u8]) -> Result<Declaration, DeclarationFault>
+    ensures read { IfOk result (λ declaration. IsDeclaration octets.now declaration) }
+    ensures only { (declaration : Declaration) → IsDeclaration octets.now declaration → result ≡ Ok declaration }
+    ensures fault { IfErr result (λ fault. IsDeclarationFault octets.now fault) }
+{
+    if str::from_utf8(octets).is_err() {
+        return Err(DeclarationFault::NotUtf8);
+    }
+    if octets.starts_with(MARK) {
+        return Err(DeclarationFault::Mark);
+    }
+    let Some((first, second)) = two_lines(octets) else {
+        return Err(DeclarationFault::LineCount);
+    };
+    let Some((version, encoding)) = after_labels(first, second) else {
+        return Err(DeclarationFault::Label);
+    };
+    let Some((major, minor)) = read_version(version) else {
+        return Err(DeclarationFault::Version);
+    };
+    if !is_encoding_name(encoding) {
+        return Err(DeclarationFault::EncodingName);
+    }
+    Ok(Declaration {
+        major,
+        minor,
+        utf8: encoding.eq_ignore_ascii_case(b"UTF-8"),
+    })
+}
+
+/// Writes the `bagit.txt` of a bag of version 1.0 whose tag files are UTF-8: 54 octets, with LF after each
+/// line.
+///
+/// # Errors
+///
+/// `AllocError` where memory runs out.
+pub fn write_declaration(alloc: Global) -> Result<Vec<u8>, AllocError>
+    ensures octets { IfOk result (λ octets. octets.items ≡ written) }
+    ensures declares { IfOk result (λ octets. IsDeclaration octets.items current) }
+{
+    CURRENT.to_vec(alloc)
+}
+
+/// Octets declare one thing at most.
+pub fn octets_declare_one_thing_at_most()
+    ensures { (octets : List ℕ) (a b : Declaration) → IsDeclaration octets a → IsDeclaration octets b → a ≡ b }
+{}
+
+/// Octets have one first fault at most.
+pub fn octets_have_one_declaration_fault_at_most()
+    ensures { (octets : List ℕ) (a b : DeclarationFault) → IsDeclarationFault octets a → IsDeclarationFault octets b → a ≡ b }
+{}
+
+/// Octets that declare something have no fault.
+pub fn a_declaration_has_no_fault()
+    ensures { (octets : List ℕ) (declaration : Declaration) (fault : DeclarationFault) → IsDeclaration octets declaration → IsDeclarationFault octets fault → ⊥ }
+{}
+
+/// The texts of the lines, where there are exactly two.
+fn two_lines(octets: &[u8]) -> Option<(&[u8], &[u8])>
+    ensures { MatchOption result (length (lines_of octets.now) ≢ 2) (λ pair. map (λ (line : Text). line.text) (lines_of octets.now) ≡ pair.0.now ∷ pair.1.now ∷ []) }
+{
+    let mut lines = Lines::new(octets);
+    let first = lines.next()?;
+    let second = lines.next()?;
+    match lines.next() {
+        None => Some((first.text, second.text)),
+        Some(_) => None,
+    }
+}
+
+/// What follows the labels of the two lines, where they have them.
+fn after_labels<'a>(first: &'a [u8], second: &'a [u8]) -> Option<(&'a [u8], &'a [u8])>
+    ensures { MatchOption result (HaveNoLabels first.now second.now) (λ pair. (first.now ≡ version_label ++ pair.0.now) × (second.now ≡ encoding_label ++ pair.1.now)) }
+{
+    Some((
+        first.strip_prefix(VERSION_LABEL)?,
+        second.strip_prefix(ENCODING_LABEL)?,
+    ))
+}
+
+/// The major and the minor number.
+fn read_version(text: &[u8]) -> Option<(u32, u32)>
+    ensures { MatchOption result ((major minor : ℕ) → IsVersion text.now major minor → ⊥) (λ pair. IsVersion text.now pair.0 pair.1) }
+{
+    let (major, rest) = split_at_first(text, Stop::Dot);
+    let minor = rest.strip_prefix(b".")?;
+    Some((read_part(major)?, read_part(minor)?))
+}
+
+fn read_part(text: &[u8]) -> Option<u32>
+    ensures { MatchOption result ((value : ℕ) → IsVersionPart text.now value → ⊥) (λ value. IsVersionPart text.now value) }
+{
+    if text.len() > 9 {
+        return None;
+    }
+    if text.len() > 1 && text[0] == b'0' {
+        return None;
+    }
+    let value = read_number(text)?;
+    Some(value as u32)
+}
+
+fn is_encoding_name(text: &[u8]) -> bool
+    ensures { IsTrue result ↔ IsEncodingName text.now }
+{
+    !text.is_empty() && text.iter().all(|octet| b'!' <= *octet && *octet <= b'~')
+}
+
+#[cfg(test)]
+mod tests;

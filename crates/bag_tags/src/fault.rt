@@ -1,0 +1,62 @@
+//! Why a text tag file can't be read.
+use bag_path::PathFault;
+use thiserror::Error;
+
+/// Why a line can't be read. Where several hold of a line, the first in this order is answered.
+#[derive(Clone, Copy, Debug, PartialEq, Eq, Error)]
+pub enum LineCause {
+    /// The line is not UTF-8 (RFC 8493 section 2.1.1: the tag files' encoding).
+    #[error("not UTF-8")]
+    NotUtf8,
+    /// A blank, or in `bag-info.txt` a colon, that the line needs isn't there.
+    #[error("separator")]
+    NoSeparator,
+    /// The checksum isn't the hex digits of a digest by the manifest's algorithm.
+    #[error("digest form")]
+    BadDigest,
+    /// The text after the blanks spells no path.
+    #[error("path")]
+    BadPath(PathFault),
+    /// The path is one that this file may not list.
+    #[error("wrong place")]
+    WrongPlace,
+    /// The path stands in an earlier line of the manifest.
+    #[error("twice")]
+    Twice,
+    /// The label is empty, or begins or ends with a blank.
+    #[error("label")]
+    BadLabel,
+    /// A continuation line with no element before it.
+    #[error("nothing to continue")]
+    NothingToContinue,
+    /// The URL has not the form of RFC 3986 section 3.
+    #[error("url")]
+    BadUrl,
+    /// The length is neither `-` nor a number of octets below 2^64.
+    #[error("length")]
+    BadLength,
+}
+
+/// The first faulty line of a file, counted from 1, and why.
+#[derive(Clone, Copy, Debug, PartialEq, Eq, Error)]
+#[error("line {line}: {cause}")]
+pub struct LineFault {
+    pub line: u64,
+    pub cause: LineCause,
+}
+
+/// Why a file wasn't read.
+#[derive(Clone, Copy, Debug, PartialEq, Eq, Error)]
+pub enum TagFault {
+    #[error(transparent)]
+    Line(LineFault),
+    #[error("out of memory")]
+    Memory,
+}
+
+/// Why a line wasn't read.
+#[derive(Clone, Copy, Debug, PartialEq, Eq)]
+pub(crate) enum TagCause {
+    Line(LineCause),
+    Memory,
+}

@@ -1,0 +1,60 @@
+//! What a manifest lists.
+ghost use Rattle.std.specs.Prelude.{◌≡◌, ◌↔◌, IsTrue};
+ghost use Rattle.bag_tags.specs.Names.{NamesTagManifest};
+
+use bag_digest::Digest;
+use bag_path::BagPath;
+use thiserror::Error;
+
+/// Whether a manifest lists payload files (RFC 8493 section 2.1.3) or tag files (section 2.2.1).
+#[derive(Clone, Copy, Debug, PartialEq, Eq)]
+pub enum Kind {
+    Payload,
+    Tag,
+}
+
+impl Kind {
+    ghost use Rattle.std.specs.Prelude.{◌≡◌, ◌↔◌, IsTrue};
+    ghost use Rattle.bag_tags.specs.Listings.{IsInPlace};
+
+    /// Whether a manifest of this kind may list the path.
+    pub fn takes(self, path: &BagPath) -> bool
+        ensures { IsTrue result ↔ IsInPlace self path.now }
+    {
+        match self {
+            Kind::Payload => path.is_payload(),
+            Kind::Tag => !path.is_payload() && !names_tag_manifest(path),
+        }
+    }
+}
+
+/// A listed file.
+#[derive(Debug, Drop)]
+pub struct Pair {
+    pub path: BagPath,
+    pub digest: Digest,
+}
+
+/// Why a pair isn't added to a manifest. Where several hold, the first in this order is answered; `Memory` may come in
+/// place of any other.
+#[derive(Clone, Copy, Debug, PartialEq, Eq, Error)]
+pub enum PushFault {
+    /// The digest is by another algorithm than the manifest's.
+    #[error("a digest by another algorithm")]
+    WrongAlg,
+    /// A manifest of this kind may not list the path.
+    #[error("a path of the wrong place")]
+    WrongPlace,
+    /// The path is listed already.
+    #[error("a path that is listed already")]
+    Twice,
+    /// Memory ran out.
+    #[error("out of memory")]
+    Memory,
+}
+
+fn names_tag_manifest(path: &BagPath) -> bool
+    ensures { IsTrue result ↔ NamesTagManifest path.now }
+{
+    path.as_str().is_empty()
+}

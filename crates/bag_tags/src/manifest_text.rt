@@ -1,0 +1,102 @@
+//! The text of a manifest (RFC 8493 section 2.1.3).
+ghost use Rattle.std.specs.Prelude.{◌≡◌, ◌⊎◌, ℕ, List, IfErr, IfOk, IsErrOf, MatchResult};
+ghost use Rattle.std.specs.Str.{IsUtf8};
+ghost use Rattle.bag_path.specs.Paths.{IsPath};
+ghost use Rattle.bag_path.specs.Spellings.{Spells};
+ghost use Rattle.bag_tags.specs.declared.fault.LineFault.{LineFault};
+ghost use Rattle.bag_tags.specs.declared.listing.Pair.{Pair};
+ghost use Rattle.bag_tags.specs.TagLines.{Causes};
+ghost use Rattle.bag_tags.specs.Manifests.{plain_path, Gives, GivesNothing, PathCause, ManifestText, ManifestFault};
+
+use crate::fault::{LineCause, TagCause, TagFault};
+use crate::listing::{Kind, Pair, PushFault};
+use crate::manifest::Manifest;
+use crate::reading::{TagLines, read_text};
+use crate::words::{Stop, split_at_first, without};
+use bag_digest::{Alg, Digest};
+use bag_path::{BagPath, PathFault, Version, unescape};
+use std::alloc::Global;
+use std::str;
+
+/// The manifest of a text: a line for each file, with its checksum in hex, blanks and its path.
+///
+/// One byte order mark at the front is dropped, and lines of blanks alone are skipped. Of a path's text one leading `*`
+/// and then one leading `./` are dropped, as other tools write them.
+///
+/// # Errors
+///
+/// The first faulty line, counted from 1, with the first cause that holds of it; or `Memory`.
+pub fn read_manifest(
+    alloc: Global,
+    octets: &[u8],
+    alg: Alg,
+    kind: Kind,
+    version: Version,
+) -> Result<Manifest, TagFault>
+    // What is read is what the text lists, and what it lists is read.
+    ensures listed { IfOk result (λ manifest. (manifest.alg ≡ alg) × (manifest.kind ≡ kind)
+        × ManifestText version alg kind octets.now manifest.pairs) }
+    ensures only { (pairs : List Pair) → ManifestText version alg kind octets.now pairs
+        → MatchResult result (λ manifest. manifest.pairs ≡ pairs) (λ fault. fault ≡ TagFault.Memory) }
+    ensures fault { (fault : LineFault) → IsErrOf result (TagFault.Line fault) → ManifestFault version alg kind octets.now fault }
+{
+    let mut manifest = Manifest::new(alloc, alg, kind);
+    read_text(&mut manifest, version, octets)?;
+    Ok(manifest)
+}
+
+impl TagLines for Manifest {
+    ghost use Rattle.bag_tags.specs.Manifests.{AddsPair, RefusesLine};
+
+    ghost leads = { AddsPair };
+
+    ghost refuses = { RefusesLine };
+
+    fn read_line(&mut self, version: Version, _number: u64, text: &[u8]) -> Result<(), TagCause> {
+        let alloc = self.allocator();
+        let Pair { path, digest } = read_pair(alloc, self.alg(), version, text)?;
+        match self.push(path, digest) {
+            Ok(()) => Ok(()),
+            Err(PushFault::WrongPlace) => Err(TagCause::Line(LineCause::WrongPlace)),
+            Err(PushFault::Twice) => Err(TagCause::Line(LineCause::Twice)),
+            Err(PushFault::Memory) => Err(TagCause::Memory),
+            Err(PushFault::WrongAlg) => unreachable!(),
+        }
+    }
+}
+
+/// What a line gives: a path, and its digest.
+fn read_pair(alloc: Global, alg: Alg, version: Version, text: &[u8]) -> Result<Pair, TagCause>
+    ensures ok { IfOk result (λ pair. Gives version alg text.now pair.path pair.digest) }
+    ensures err { IfErr result (Causes (GivesNothing version alg text.now)) }
+{
+    if str::from_utf8(text).is_err() {
+        return Err(TagCause::Line(LineCause::NotUtf8));
+    }
+    let (checksum, rest) = split_at_first(text, Stop::Blank);
+    if rest.is_empty() {
+        return Err(TagCause::Line(LineCause::NoSeparator));
+    }
+    let Some(digest) = Digest::from_hex(alg, checksum) else {
+        return Err(TagCause::Line(LineCause::BadDigest));
+    };
+    let (_blanks, path_text) = split_at_first(rest, Stop::NoBlank);
+    let path = read_path(alloc, version, path_text)?;
+    Ok(Pair { path, digest })
+}
+
+/// The path that the text after the blanks spells.
+fn read_path(alloc: Global, version: Version, text: &[u8]) -> Result<BagPath, TagCause>
+    requires { IsUtf8 text.now }
+    ensures ok { IfOk result (λ path. Spells version path (plain_path text.now) × IsPath path) }
+    ensures err { IfErr result (Causes (PathCause version (plain_path text.now))) }
+{
+    let Ok(text) = str::from_utf8(without(b"./", without(b"*", text))) else {
+        unreachable!();
+    };
+    match unescape(alloc, text, version) {
+        Ok(path) => Ok(path),
+        Err(PathFault::Memory) => Err(TagCause::Memory),
+        Err(fault) => Err(TagCause::Line(LineCause::BadPath(fault))),
+    }
+}

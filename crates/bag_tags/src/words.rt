@@ -1,0 +1,73 @@
+//! The words of a line.
+ghost use Rattle.std.specs.Prelude.{◌≡◌, ◌≤◌, length, take, drop};
+ghost use Rattle.std.specs.List.{starts_with};
+ghost use Rattle.bag_tags.specs.Words.{is_blank, is_blank_line, without};
+ghost use Rattle.bag_tags.specs.WordsReading.{until, stops};
+
+/// The octets before which a text is cut.
+#[derive(Clone, Copy, Debug, PartialEq, Eq)]
+pub(crate) enum Stop {
+    Blank,
+    NoBlank,
+    Dot,
+    Colon,
+}
+
+impl Stop {
+    ghost use Rattle.std.specs.Prelude.{◌≡◌};
+    ghost use Rattle.bag_tags.specs.WordsReading.{stops};
+
+    fn is_at(self, octet: u8) -> bool
+        ensures { result ≡ stops self octet }
+    {
+        match self {
+            Stop::Blank => is_blank(octet),
+            Stop::NoBlank => !is_blank(octet),
+            Stop::Dot => octet == b'.',
+            Stop::Colon => octet == b':',
+        }
+    }
+}
+
+/// The octets before the first one at which the text is cut, and the rest.
+pub(crate) fn split_at_first(text: &[u8], stop: Stop) -> (&[u8], &[u8])
+    ensures { until (stops stop) text.now ≡ (result.0.now, result.1.now) }
+{
+    text.split_at(front_len(text, stop))
+}
+
+fn front_len(text: &[u8], stop: Stop) -> usize
+    ensures within { result ≤ length text.now }
+    ensures front { until (stops stop) text.now ≡ (take result text.now, drop result text.now) }
+{
+    for (i, octet) in text.iter().enumerate() {
+        if stop.is_at(*octet) {
+            return i;
+        }
+    }
+    text.len()
+}
+
+/// Whether an octet is a space or a tab.
+pub(crate) fn is_blank(octet: u8) -> bool
+    ensures { result ≡ is_blank octet }
+{
+    octet == b' ' || octet == b'\t'
+}
+
+/// Whether a line has blanks alone, or nothing.
+pub(crate) fn is_blank_line(text: &[u8]) -> bool
+    ensures { result ≡ is_blank_line text.now }
+{
+    text.iter().all(|octet| is_blank(*octet))
+}
+
+/// The text without this at its front, where it is there.
+pub(crate) fn without<'a>(front: &[u8], text: &'a [u8]) -> &'a [u8]
+    ensures { result.now ≡ without front.now text.now }
+{
+    match text.strip_prefix(front) {
+        Some(rest) => rest,
+        None => text,
+    }
+}
