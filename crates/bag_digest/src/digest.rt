@@ -1,5 +1,5 @@
 //! Digests, each with its algorithm.
-ghost use Rattle.std.specs.Prelude.{◌≡◌, ◌↔◌, ◌*◌, List, ℕ, length, string_bytes, IfOk, IfSome, IfNone, IsSome};
+ghost use Rattle.std.specs.Prelude.{◌≡◌, ◌↔◌, ◌*◌, List, ℕ, length, string_bytes, IfOk, IfSome, IfNone, IsSome, Some};
 ghost use Rattle.std.specs.List.{AllPass};
 ghost use Rattle.hex.specs.Hex.{decode_sized, is_hex_digit, IsBytes};
 ghost use Rattle.bag_digest.specs.Algorithm.{size_of};
@@ -26,6 +26,7 @@ impl Digest {
     /// algorithms, with letters in either case (RFC 8493 section 2.1.3). No other text spells one.
     pub fn from_hex(alg: Alg, text: &[u8]) -> Option<Digest>
         ensures spelled { IfSome result (SpellsDigest alg text.now) }
+        ensures each { (digest : Digest) → SpellsDigest alg text.now digest → result ≡ Some digest }
         ensures none { IfNone result ((digest : Digest) → ¬ SpellsDigest alg text.now digest) }
 
         // In other words, the text has the right number of digits and nothing else.

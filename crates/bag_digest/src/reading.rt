@@ -1,5 +1,5 @@
 //! Sources read to their end: the digests of what they give, or all of it.
-ghost use Rattle.std.specs.Prelude.{◌≡◌, ◌+◌, ◌<◌, ◌≤◌, ℕ, List, Some, length, vec_len, take, IfOk, IsErrOf};
+ghost use Rattle.std.specs.Prelude.{◌≡◌, ◌+◌, ◌<◌, ◌≤◌, ℕ, List, Some, length, min, vec_len, take, IfOk, IsErrOf};
 ghost use Rattle.std.specs.Io.KnownBytes.{Consumes, IsAtEnd, Keeps};
 ghost use Rattle.bag_digest.specs.Device.{Rises};
 ghost use Rattle.bag_digest.specs.Reading.{GaveAll, GaveWithin, GaveMoreThan, IsCountAndDigests};
@@ -194,11 +194,7 @@ pub fn read_to_end_within<S: Source>(
 /// Reads one piece into the front of the buffer, and answers how many octets it read: none is the end.
 ///
 /// Where only so many octets are `left` within a limit, at most one more is read.
-fn read_piece<S: Source>(
-    buffer: &mut [u8],
-    reader: &mut S,
-    left: u64,
-) -> Result<usize, SourceFault>
+fn read_piece<S: Source>(buffer: &mut [u8], reader: &mut S, left: u64) -> Result<usize, SourceFault>
     requires { 0 < length buffer.old }
     ensures bound { IfOk result (λ n. n ≤ length buffer.new) }
     ensures within { IfOk result (λ n. n ≤ left) }
@@ -224,10 +220,7 @@ fn read_piece<S: Source>(
 
 /// How much to read at a time, where this many octets may still come: one more, or the whole buffer.
 fn room_for(len: usize, left: u64) -> usize
-    requires { 0 < len }
-    ensures some { 0 < result }
-    ensures inside { result ≤ len }
-    ensures one_more { result ≤ left + 1 }
+    ensures { result ≡ min len (left + 1) }
 {
     if left < len as u64 {
         left as usize + 1

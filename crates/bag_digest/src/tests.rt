@@ -6,7 +6,7 @@ use std::alloc::{AllocError, Global};
 use std::io::{self, Read};
 use std::test::Fail;
 
-// The test vectors of RFC 1321 section A.5 and of FIPS 180, of no octets and of `abc`.
+// The digests of no octets and of `abc`: RFC 1321 section A.5, and the examples for FIPS 180-4.
 const OF_NOTHING: [&str; 4] = [
     "d41d8cd98f00b204e9800998ecf8427e",
     "da39a3ee5e6b4b0d3255bfef95601890afd80709",
@@ -230,7 +230,11 @@ fn only_the_algorithms_of_the_set(rt: HostRuntime) {
     let mut multi = Multi::new(AlgSet::empty().with(Alg::Md5).with(Alg::Sha512));
     multi.update(b"abc");
     let digests = multi.finish();
-    assert!(rt; digests.get(Alg::Md5).is_some_and(|digest| digests.contains(digest)));
+    assert!(rt;
+        digests
+            .get(Alg::Md5)
+            .is_some_and(|digest| digests.contains(digest))
+    );
     assert!(rt; digests.get(Alg::Sha1).is_none());
     assert!(rt; digests.get(Alg::Sha256).is_none());
     assert!(rt; !digests.contains(Digest::Sha512([0; 64])));
@@ -242,11 +246,26 @@ fn hex_of_digests(rt: HostRuntime) -> Result<(), Fail> {
         0x90, 0x01, 0x50, 0x98, 0x3c, 0xd2, 0x4f, 0xb0, 0xd6, 0x96, 0x3f, 0x7d, 0x28, 0xe1, 0x7f,
         0x72,
     ]);
-    assert_eq!(rt; Digest::from_hex(Alg::Md5, b"900150983cd24fb0d6963f7d28e17f72"), Some(md5));
-    assert_eq!(rt; Digest::from_hex(Alg::Md5, b"900150983CD24FB0D6963F7D28E17F72"), Some(md5));
-    assert_eq!(rt; Digest::from_hex(Alg::Md5, b"900150983cd24fb0d6963f7d28e17f7"), None);
-    assert_eq!(rt; Digest::from_hex(Alg::Md5, b"900150983cd24fb0d6963f7d28e17f7g"), None);
-    assert_eq!(rt; Digest::from_hex(Alg::Md5, b"a9993e364706816aba3e25717850c26c9cd0d89d"), None);
+    assert_eq!(rt;
+        Digest::from_hex(Alg::Md5, b"900150983cd24fb0d6963f7d28e17f72"),
+        Some(md5)
+    );
+    assert_eq!(rt;
+        Digest::from_hex(Alg::Md5, b"900150983CD24FB0D6963F7D28E17F72"),
+        Some(md5)
+    );
+    assert_eq!(rt;
+        Digest::from_hex(Alg::Md5, b"900150983cd24fb0d6963f7d28e17f7"),
+        None
+    );
+    assert_eq!(rt;
+        Digest::from_hex(Alg::Md5, b"900150983cd24fb0d6963f7d28e17f7g"),
+        None
+    );
+    assert_eq!(rt;
+        Digest::from_hex(Alg::Md5, b"a9993e364706816aba3e25717850c26c9cd0d89d"),
+        None
+    );
     for (alg, text) in Alg::ALL.iter().zip(OF_ABC.iter()) {
         let Some(digest) = Digest::from_hex(*alg, text.as_bytes()) else {
             assert!(rt; false, "{text}");
@@ -274,7 +293,10 @@ fn digests_of_longer_messages_as_coreutils_gives_them(rt: HostRuntime) -> Result
             pieces.update(front);
             pieces.update(back);
         }
-        assert!(rt; are(&pieces.finish(), expected), "{len} octets in uneven pieces");
+        assert!(rt;
+            are(&pieces.finish(), expected),
+            "{len} octets in uneven pieces"
+        );
         let mut reader = Counted::new(octets.as_slice());
         let read = digest_through(buffer.as_mut_slice(), &mut reader, all(), 1_000_000)?;
         assert_eq!(rt; read.0, *len as u64);
@@ -290,7 +312,10 @@ fn a_reader_within_and_past_the_limit(rt: HostRuntime) -> Result<(), Fail> {
     assert_eq!(rt; len, 3);
     assert!(rt; are(&digests, &OF_ABC));
     let mut past = Counted::new(b"abc".as_slice());
-    assert_eq!(rt; digest_reader(rt.alloc(), &mut past, all(), 2), Err(ReadFault::TooLarge));
+    assert_eq!(rt;
+        digest_reader(rt.alloc(), &mut past, all(), 2),
+        Err(ReadFault::TooLarge)
+    );
     assert_eq!(rt; past.failures(), 0);
     Ok(())
 }
@@ -327,7 +352,10 @@ fn a_reader_that_fails_in_mid_stream(rt: HostRuntime) {
     let fault = digest_through(&mut buffer, &mut reader, all(), 100);
     assert_eq!(rt; fault, Err(SourceFault::Read));
     assert_eq!(rt; reader.failures(), 1);
-    assert_eq!(rt; digest_reader(rt.alloc(), &mut reader, all(), 100), Err(ReadFault::Read));
+    assert_eq!(rt;
+        digest_reader(rt.alloc(), &mut reader, all(), 100),
+        Err(ReadFault::Read)
+    );
     let again = read_to_end_within(rt.alloc(), &mut buffer, &mut reader, 100);
     assert!(rt; matches!(again, Err(ReadFault::Read)));
     assert_eq!(rt; reader.failures(), 3);

@@ -1,5 +1,5 @@
 //! Laws on the definitions that the contracts of this crate cite. Each function's contract is one law, and its body is empty.
-ghost use Rattle.std.specs.Prelude.{◌≡◌, ◌↔◌, ℕ, List, All, Option, Some, None, Ok, map};
+ghost use Rattle.std.specs.Prelude.{◌≡◌, ◌↔◌, ℕ, List, All, Some, None, Ok, map};
 ghost use Rattle.std.specs.Str.{IsUtf8};
 ghost use Rattle.bag_path.specs.Lines.{HasLines, IsPlain, Text, line, lines_of, written_lines};
 ghost use Rattle.bag_path.specs.Paths.{IsPath, path_fault};
@@ -16,7 +16,8 @@ pub fn a_path_has_no_fault()
 
 /// A text spells one list of octets at most.
 pub fn a_text_spells_one_path_at_most()
-    ensures { (version : Version) (path other text : List ℕ) → Spells version path text → Spells version other text → path ≡ other }
+    ensures { (version : Version) (path other text : List ℕ)
+        → Spells version path text → Spells version other text → path ≡ other }
 {}
 
 /// The written spelling of a path spells it.
@@ -31,7 +32,8 @@ pub fn what_is_written_has_no_line_end()
 
 /// The octets that are read from a text are those that it spells.
 pub fn what_is_read_is_what_is_spelled()
-    ensures { (version : Version) (path text : List ℕ) → Spells version path text ↔ (spelled version text ≡ Some path) }
+    ensures { (version : Version) (path text : List ℕ)
+        → Spells version path text ↔ (spelled version text ≡ Some path) }
 {}
 
 /// What is written for a path is read as that path.
@@ -41,10 +43,12 @@ pub fn what_is_written_is_read_again()
 
 /// Octets have exactly one list of lines.
 pub fn octets_have_one_list_of_lines()
-    ensures { (octets : List ℕ) (lines : List Text) → HasLines octets lines ↔ (lines ≡ lines_of octets) }
+    ensures { (octets : List ℕ) (lines : List Text)
+        → HasLines octets lines ↔ (lines ≡ lines_of octets) }
 {}
 
 /// Texts without LF and CR, written with LF after each, are read as these lines.
 pub fn written_lines_are_read_again()
-    ensures { (texts : List (List ℕ)) → All (All IsPlain) texts → lines_of (written_lines texts) ≡ map (λ text. line text Lf) texts }
+    ensures { (texts : List (List ℕ)) → All (All IsPlain) texts
+        → lines_of (written_lines texts) ≡ map (λ text. line text Lf) texts }
 {}

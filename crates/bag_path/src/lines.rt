@@ -82,7 +82,8 @@ impl<'a> Iterator for Lines<'a> {
 fn text_len(octets: &[u8]) -> usize
     ensures within { result ≤ length octets.now }
     ensures plain { All IsPlain (take result octets.now) }
-    ensures ending { result < length octets.now → (slice_index octets.now result ≡ 10) ⊎ (slice_index octets.now result ≡ 13) }
+    ensures ending { result < length octets.now
+        → (slice_index octets.now result ≡ 10) ⊎ (slice_index octets.now result ≡ 13) }
 {
     for (i, octet) in octets.iter().enumerate() {
         if *octet == b'\n' || *octet == b'\r' {

@@ -12,7 +12,7 @@ use thiserror::Error;
 
 /// Why a text is no path, or spells none. Of the first six that hold the first is answered, but `BadEscape` before them, and
 /// `Memory` may come in place of any.
-#[derive(Clone, Copy, Debug, PartialEq, Eq, Error)]
+#[derive(Clone, Copy, Debug, PartialEq, Eq, PartialOrd, Ord, Error)]
 pub enum PathFault {
     /// The path has no octet.
     #[error("the path is empty")]
@@ -83,7 +83,8 @@ impl BagPath {
     pub fn parse(alloc: Global, text: &str) -> Result<BagPath, PathFault>
         ensures text { IfOk result (λ path. path ≡ text.now) }
         ensures path { IfOk result IsPath }
-        ensures accepted { IsPath text.now → (result ≡ Ok text.now) ⊎ (result ≡ Err PathFault.Memory) }
+        ensures accepted { IsPath text.now
+            → (result ≡ Ok text.now) ⊎ (result ≡ Err PathFault.Memory) }
         ensures fault { IfErr result (λ fault. Refuses fault text.now) }
     {
         if let Some(fault) = fault_of(text) {

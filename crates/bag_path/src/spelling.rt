@@ -1,5 +1,5 @@
 //! Spellings of paths in manifests and in `fetch.txt` (RFC 8493 section 2.1.3).
-ghost use Rattle.std.specs.Prelude.{◌≡◌, ◌⊎◌, ℕ, List, [], ◌∷◌, ◌<◌, ◌++◌, Ok, Err, OnOk, encode_utf8, Some, None, IfOk, IfErr, MatchOption, MatchResult, drop, take, length, string_bytes};
+ghost use Rattle.std.specs.Prelude.{◌≡◌, ◌⊎◌, ◌<◌, ◌∷◌, ◌++◌, ℕ, List, [], Some, None, Ok, Err, OnOk, IfOk, IfErr, MatchOption, take, drop, encode_utf8, string_bytes};
 ghost use Rattle.bag_path.specs.Paths.{IsPath};
 ghost use Rattle.bag_path.specs.SpellingReading.{escaped, spelled, unescaped};
 ghost use Rattle.bag_path.specs.Spellings.{Spells, SpellsNothing, RefusesSpelling, written};
@@ -7,7 +7,7 @@ ghost use Rattle.bag_path.specs.Spellings.{Spells, SpellsNothing, RefusesSpellin
 use crate::path::{BagPath, PathFault};
 use std::alloc::{AllocError, Global};
 
-/// A version of the format, which decides what the escapes in a path are.
+/// A version of the format. It decides which escapes a path has.
 #[derive(Clone, Copy, Debug, PartialEq, Eq)]
 pub enum Version {
     /// BagIt 1.0 (RFC 8493): `%0A` is LF, `%0D` is CR and `%25` is `%`, their hex letters in either case. No other `%` stands.
@@ -22,9 +22,13 @@ pub enum Version {
 /// [`BagPath::parse`] answers it; or `Memory`.
 pub fn unescape(alloc: Global, text: &str, version: Version) -> Result<BagPath, PathFault>
     ensures path { IfOk result (λ path. Spells version path text.now × IsPath path) }
-    ensures accepted { (path : List ℕ) → Spells version path text.now → IsPath path → (result ≡ Ok path) ⊎ (result ≡ Err PathFault.Memory) }
+    ensures accepted { (path : List ℕ) → Spells version path text.now → IsPath path
+        → (result ≡ Ok path) ⊎ (result ≡ Err PathFault.Memory) }
     ensures fault { IfErr result (λ fault. RefusesSpelling fault version text.now) }
-    ensures bad_escape { SpellsNothing version text.now → (result ≡ Err PathFault.BadEscape) ⊎ (result ≡ Err PathFault.Memory) }
+    ensures bad_escape { SpellsNothing version text.now
+        → (result ≡ Err PathFault.BadEscape) ⊎ (result ≡ Err PathFault.Memory) }
+
+    // The same by the function that says how a spelling is read.
     ensures reading { (result ≡ unescaped version text.now) ⊎ (result ≡ Err PathFault.Memory) }
 {
     BagPath::from_string(spelled(alloc, text, version)?)
@@ -32,6 +36,10 @@ pub fn unescape(alloc: Global, text: &str, version: Version) -> Result<BagPath, 
 
 /// The spelling of a path that is written: LF is `%0A`, CR is `%0D`, `%` is `%25`, and nothing else changes (RFC 8493 section
 /// 2.1.3). `unescape` answers the path again.
+///
+/// # Errors
+///
+/// `AllocError` where memory runs out.
 pub fn escape(alloc: Global, path: &BagPath) -> Result<String, AllocError>
     ensures { IfOk result (λ text. string_bytes text ≡ written path.now) }
 {
@@ -57,7 +65,8 @@ fn push_part(text: &mut String, c: char) -> Result<(), AllocError>
 /// The octets that a text spells.
 fn spelled(alloc: Global, text: &str, version: Version) -> Result<String, PathFault>
     ensures octets { IfOk result (λ octets. spelled version text.now ≡ Some (string_bytes octets)) }
-    ensures fault { IfErr result (λ fault. (fault ≡ PathFault.Memory) ⊎ ((fault ≡ PathFault.BadEscape) × (spelled version text.now ≡ None))) }
+    ensures fault { IfErr result (λ fault. (fault ≡ PathFault.Memory)
+        ⊎ ((fault ≡ PathFault.BadEscape) × (spelled version text.now ≡ None))) }
 {
     let mut octets = String::with_capacity(alloc, text.len())?;
     let mut rest = text;
@@ -75,7 +84,8 @@ fn spelled(alloc: Global, text: &str, version: Version) -> Result<String, PathFa
 
 /// The octet that `%` before a text stands for, and what follows its escape.
 fn split_escape(text: &str, version: Version) -> Option<(char, &str)>
-    ensures { MatchOption result (escaped version (take 2 text.now) ≡ None) (λ split. (escaped version (take 2 text.now) ≡ Some split.0) × (split.1.now ≡ drop 2 text.now) × (split.0 < 128)) }
+    ensures { let octet = escaped version (take 2 text.now) in MatchOption result (octet ≡ None)
+        (λ split. (octet ≡ Some split.0) × (split.1.now ≡ drop 2 text.now) × (split.0 < 128)) }
 {
     let octets = text.as_bytes();
     if octets.len() < 2 {

@@ -1,1 +1,4 @@
 pub mod RisingPaths
+pub mod MemoryFiles
+pub mod MemoryShown
+pub mod MemoryAdded

@@ -13,6 +13,9 @@ use Rattle.bag_rules.specs.Trees.{AreRising}
 pub place_of : (paths : List (List ℕ)) (path : List ℕ) → Contains paths path → (k : ℕ) × (slice_get paths k ≡ Some path)
 place_of paths path found = (found.0, slice_get_read paths (length paths) found.0 path refl found.1 (sym found.2))
 
+pub contains_at : (paths : List (List ℕ)) (i : ℕ) (path : List ℕ) → slice_get paths i ≡ Some path → Contains paths path
+contains_at paths i path here = (i, slice_get_within paths i path here, get_or_from_slice_get paths i path path here)
+
 module _ (paths : List (List ℕ)) (rising : AreRising paths) where
   -- the path at the lower place is less
   lesser : (i j : ℕ) (x y : List ℕ) → slice_get paths i ≡ Some x → slice_get paths j ≡ Some y → i < j → slice_cmp nat_cmp x y ≡ Less

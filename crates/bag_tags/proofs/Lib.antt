@@ -3,6 +3,7 @@ pub mod WordsLemmas
 pub mod Utf8Lemmas
 pub mod NumeralLemmas
 pub mod DeclarationLemmas
+pub mod NameLemmas
 pub mod TagLinesLemmas
 pub mod ListingLemmas
 pub mod ManifestLemmas

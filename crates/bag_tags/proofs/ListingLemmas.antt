@@ -1,5 +1,5 @@
 -- The index of a manifest finds its pairs.
-use Rattle.std.proofs.Common.{◌≡◌, ◌⊎◌, ℕ, suc, ◌+◌, ◌||◌, Bool, true, false, List, [], ◌∷◌, ◌++◌, Option, Some, None, if◌then◌else◌, slice_get, length, refl, sym, ap, ◌∙◌, arith, subst, inl, inr, is_some, cond}
+use Rattle.std.proofs.Common.{◌≡◌, ◌⊎◌, ℕ, suc, ◌+◌, ◌||◌, Bool, true, false, List, [], ◌∷◌, ◌++◌, Option, Some, None, if◌then◌else◌, IfSome, slice_get, length, refl, sym, ap, ◌∙◌, arith, subst, inl, inr, is_some, cond}
 use Rattle.std.specs.Option.{option_map}
 use Rattle.std.specs.List.{AllByRecursion}
 use Rattle.std.specs.Str.{bytes_eq}
@@ -106,3 +106,12 @@ none_twice_more (p ∷ pairs) new none absent =
 pub fit_more : (alg : Alg) (kind : Kind) (pairs : List Pair) (new : Pair) → FitEach alg kind pairs → alg_of new.digest ≡ alg → IsInPlace kind new.path → FitEach alg kind (pairs ++ new ∷ [])
 fit_more alg kind [] new fit by place = ((by, place), tt)
 fit_more alg kind (p ∷ pairs) new fit by place = (fit.0, fit_more alg kind pairs new fit.1 by place)
+
+-- a digest that is listed is by the algorithm
+pub listed_fits : (alg : Alg) (kind : Kind) (pairs : List Pair) (path : List ℕ) (o : Option Digest) → FitEach alg kind pairs → o ≡ listed_digest pairs path → IfSome o (λ digest. alg_of digest ≡ alg)
+listed_fits alg kind pairs path None fit e = tt
+listed_fits alg kind [] path (Some d) fit e = cc
+listed_fits alg kind (p ∷ pairs) path (Some d) fit e = elim (cases_Bool (bytes_eq p.path path)) [
+  | inl h ↦ let same : d ≡ p.digest = (let k : Some d ≡ Some p.digest = rw h at e in cc) in ap alg_of same ∙ fit.0.0
+  | inr h ↦ listed_fits alg kind pairs path (Some d) fit.1 (rw h at e)
+]

@@ -1,15 +1,49 @@
--- Names of tag files.
-use Rattle.std.specs.Prelude.{◌≡◌, ◌≢◌, ◌++◌, ◌⊎◌, ◌≤◌, ℕ, List, [], codes}
+-- What the files of a bag are, by their paths: names at the base directory, matched exactly (RFC 8493 section 2).
+use Rattle.std.specs.Prelude.{◌≡◌, ◌≢◌, ◌⊎◌, ℕ, List, [], ◌++◌, codes}
+use Rattle.std.specs.Char.{IsAsciiAlphanumeric}
 use Rattle.std.specs.List.{AllByRecursion}
-use Rattle.std.specs.Char.{IsAsciiDigit, IsAsciiAlphabetic}
+use Rattle.bag_digest.specs.declared.algorithm.Alg.{Alg}
+use Rattle.bag_digest.specs.Algorithm.{name_of}
+use Rattle.bag_tags.specs.declared.name.TagName.{TagName}
+use Rattle.bag_tags.specs.declared.name.TagName.TheVariants.{Declaration, PayloadManifest, TagManifest, UnknownManifest, Info, FetchList, Other}
 
--- an ASCII letter or digit, or `_`
-abbrev pub IsNameOctet : ℕ → Type 0
-IsNameOctet octet = IsAsciiAlphabetic octet ⊎ IsAsciiDigit octet ⊎ (octet ≡ 95)
+-- an ASCII letter, a digit or `_`
+abbrev pub IsWordOctet : ℕ → Type 0
+IsWordOctet octet = IsAsciiAlphanumeric octet ⊎ (octet ≡ 95)
 
--- `tagmanifest-X.txt`, whatever the algorithm
-pub record NamesTagManifest (path : List ℕ) : Type 0 where
-  pub name : List ℕ
-  pub whole : path ≡ codes "tagmanifest-" ++ name ++ codes ".txt"
-  pub some : name ≢ []
-  pub octets : AllByRecursion IsNameOctet name
+-- what may stand for an algorithm in a manifest's name: one or more of these (section 2.4; the underscore is this
+-- project's own)
+abbrev pub IsWord : List ℕ → Type 0
+IsWord word = (word ≢ []) × AllByRecursion IsWordOctet word
+
+-- the names of manifests (sections 2.1.3 and 2.2.1)
+abbrev pub payload_manifest : List ℕ → List ℕ
+payload_manifest word = codes "manifest-" ++ word ++ codes ".txt"
+
+abbrev pub tag_manifest : List ℕ → List ℕ
+tag_manifest word = codes "tagmanifest-" ++ word ++ codes ".txt"
+
+-- a tag manifest's name, whether its algorithm is known or not
+abbrev pub NamesTagManifest : List ℕ → Type 0
+NamesTagManifest path = (word : List ℕ) × IsWord word × (path ≡ tag_manifest word)
+
+-- a manifest's name whose word is that of no known algorithm
+pub record IsUnknownManifest (path word : List ℕ) : Type 0 where
+  pub form : (path ≡ payload_manifest word) ⊎ (path ≡ tag_manifest word)
+  pub is_word : IsWord word
+  pub unknown : (alg : Alg) → word ≢ name_of alg
+
+-- the paths that have a meaning of their own
+abbrev pub IsReserved : List ℕ → TagName → Type 0
+IsReserved path Declaration = path ≡ codes "bagit.txt"  -- section 2.1.1
+IsReserved path (PayloadManifest alg) = path ≡ payload_manifest (name_of alg)  -- section 2.1.3
+IsReserved path (TagManifest alg) = path ≡ tag_manifest (name_of alg)  -- section 2.2.1
+IsReserved path UnknownManifest = (word : List ℕ) × IsUnknownManifest path word  -- sections 2.1.3 and 2.2.1
+IsReserved path Info = path ≡ codes "bag-info.txt"  -- section 2.2.2
+IsReserved path FetchList = path ≡ codes "fetch.txt"  -- section 2.2.3
+IsReserved path Other = ⊥
+
+-- what the path names
+abbrev pub Names : List ℕ → TagName → Type 0
+Names path Other = (name : TagName) → IsReserved path name → ⊥
+Names path name = IsReserved path name

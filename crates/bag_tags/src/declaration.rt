@@ -29,7 +29,7 @@ pub struct Declaration {
 }
 
 /// Why `bagit.txt` can't be read. Where several hold of it, the first in this order is answered.
-#[derive(Clone, Copy, Debug, PartialEq, Eq, Error)]
+#[derive(Clone, Copy, Debug, PartialEq, Eq, PartialOrd, Ord, Error)]
 pub enum DeclarationFault {
     /// The file is not UTF-8.
     #[error("not UTF-8")]

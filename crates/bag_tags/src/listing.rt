@@ -1,13 +1,11 @@
 //! What a manifest lists.
-ghost use Rattle.std.specs.Prelude.{◌≡◌, ◌↔◌, IsTrue};
-ghost use Rattle.bag_tags.specs.Names.{NamesTagManifest};
-
+use crate::name::names_tag_manifest;
 use bag_digest::Digest;
 use bag_path::BagPath;
 use thiserror::Error;
 
 /// Whether a manifest lists payload files (RFC 8493 section 2.1.3) or tag files (section 2.2.1).
-#[derive(Clone, Copy, Debug, PartialEq, Eq)]
+#[derive(Clone, Copy, Debug, PartialEq, Eq, PartialOrd, Ord)]
 pub enum Kind {
     Payload,
     Tag,
@@ -51,10 +49,4 @@ pub enum PushFault {
     /// Memory ran out.
     #[error("out of memory")]
     Memory,
-}
-
-fn names_tag_manifest(path: &BagPath) -> bool
-    ensures { IsTrue result ↔ NamesTagManifest path.now }
-{
-    path.as_str().is_empty()
 }

@@ -34,7 +34,8 @@ impl Model for Manifest {
 }
 
 impl Manifest {
-    ghost use Rattle.std.specs.Prelude.{◌≡◌, IfErr, OnOk, OnErr};
+    ghost use Rattle.std.specs.Prelude.{◌≡◌, IfErr, IfSome, OnOk, OnErr};
+    ghost use Rattle.bag_digest.specs.Hash.{alg_of};
     ghost use Rattle.bag_tags.specs.Listings.{nothing_listed, with_pair, pair, listed_digest, Admits, RefusesPair, NoneTwice};
     ghost use Rattle.bag_tags.specs.ManifestView.{FitEach};
 
@@ -81,7 +82,8 @@ impl Manifest {
 
     /// The digest that is listed for a path, if one is.
     pub fn get(&self, path: &BagPath) -> Option<Digest>
-        ensures { result ≡ listed_digest self.now.pairs path.now }
+        ensures listed { result ≡ listed_digest self.now.pairs path.now }
+        ensures by_alg { IfSome result (λ digest. alg_of digest ≡ self.now.alg) }
     {
         match self.places.get(path) {
             Some(place) => digest_at(&self.pairs, *place),

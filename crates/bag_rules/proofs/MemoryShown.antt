@@ -1,0 +1,169 @@
+-- What the fields of a tree in memory show, once a file was put among them, and what a search finds.
+use Rattle.std.proofs.Common.{◌≡◌, ℕ, ◌+◌, ◌<◌, ◌++◌, ◌-◌, add-zero, take, take-append-drop, true, List, [], ◌∷◌, Option, Some, None, Result, Ok, Err, IfOk, IfErr, All, map, slice_get, get_or, drop, length, refl, sym, ap, subst, ◌∙◌, arith, inl, inr}
+use Rattle.std.specs.Io.KnownBytes.{Consumes, IsAtEnd}
+use Rattle.std.specs.Ordering.{nat_cmp, ordering_reverse, ordering_index, is_lt}
+use Rattle.std.specs.declared.cmp.Ordering.{Ordering}
+use Rattle.std.specs.declared.cmp.Ordering.TheVariants.{Less, Greater}
+use Rattle.std.specs.Cmp.Lexicographic.{slice_cmp}
+use Rattle.std.specs.List.{insert}
+use Rattle.std.specs.List.Sorted.{IsStrictlySortedBy, IsNonDecreasingBy, IsSearchInRange, IsBinarySearchResult}
+use Rattle.std.specs.Map.{values_of}
+use Rattle.std.specs.Option.{ForSome, option_map}
+use Rattle.std.proofs.lemmas.Cmp.{nat_list_cmp_total}
+use Rattle.std.proofs.Math.Seq.{take-append_seam}
+use Rattle.std.proofs.lemmas.List.{drop-drop, get_or-map, length-map}
+use Rattle.std.proofs.lemmas.List.Sorted.{searchable_from_sorted}
+use Rattle.std.proofs.lemmas.Option.{slice_get-map, slice_get_read, slice_get_within, slice_get_cases, same_Some}
+use Rattle.std.proofs.lemmas.Map.Keys.{Less-from_sorted}
+use Rattle.std.proofs.lemmas.Map.Lookups.{exact_bytes}
+use Rattle.std.proofs.lemmas.List.Elements.{All-nil}
+use Rattle.bag_path.specs.Paths.{is_payload}
+use Rattle.bag_rules.specs.declared.memory.File.{File}
+use Rattle.bag_rules.specs.declared.memory.Reading.{Reading}
+use Rattle.bag_rules.specs.declared.memory.MemTree.TheInside.{Inside}
+use Rattle.bag_rules.specs.Trees.{AreRising}
+use Rattle.bag_rules.specs.Memory.{MemFiles, octets_at}
+use Rattle.bag_rules.specs.MemoryInside.{shown_files, paths_of, rest_of, moved_up, view_of, IsGapFor, IsSound}
+use Rattle.bag_rules.proofs.MemoryFiles.{map-insert, slice_get-insert_moved, lookup_at, lookup_in_gap}
+
+-- the paths that are shown are those of the files
+pub paths_are : (files : List File) → paths_of files ≡ map (λ (file : File). file.path) files
+paths_are [] = refl
+paths_are (file ∷ files) = ap (λ paths. file.path ∷ paths) (paths_are files)
+
+-- so are the octets
+pub bodies_are : (files : List File) → values_of (shown_files files) ≡ map (λ (file : File). file.body.items) files
+bodies_are [] = refl
+bodies_are (file ∷ files) = ap (λ bodies. file.body.items ∷ bodies) (bodies_are files)
+
+pub length_shown : (files : List File) → length (paths_of files) ≡ length files
+length_shown files = ap length (paths_are files) ∙ length-map files (λ (file : File). file.path)
+
+-- the path of a file by its place
+pub path_at : (files : List File) (i : ℕ) (file : File) → i < length files → file ≡ get_or files i file → slice_get (paths_of files) i ≡ Some file.path
+path_at files i file within here =
+    ap (λ paths. slice_get paths i) (paths_are files)
+    ∙ slice_get-map (λ (f : File). f.path) files i
+    ∙ ap (option_map (λ (f : File). f.path)) (slice_get_read files (length files) i file refl within here)
+
+-- its octets
+pub body_at : (files : List File) (i : ℕ) (file : File) → i < length files → file ≡ get_or files i file → slice_get (values_of (shown_files files)) i ≡ Some file.body.items
+body_at files i file within here =
+    ap (λ bodies. slice_get bodies i) (bodies_are files)
+    ∙ slice_get-map (λ (f : File). f.body.items) files i
+    ∙ ap (option_map (λ (f : File). f.body.items)) (slice_get_read files (length files) i file refl within here)
+
+-- a place that shows a path is that of a file with this path
+pub file_at : (files : List File) (i : ℕ) (path : List ℕ) → slice_get (paths_of files) i ≡ Some path → (file : File) × (i < length files) × (get_or files i file ≡ file) × (file.path ≡ path)
+file_at files i path here =
+    let within : i < length files = omega (arith, slice_get_within (paths_of files) i path here, length_shown files) in
+    elim (slice_get_cases files i).1 [
+      | inl found ↦ (
+          let shown = path_at files i found.0 within (sym found.3) in
+          (found.0, within, found.3, same_Some _ _ (sym shown ∙ here))
+          )
+      | inr past ↦ absurd (omega (arith, past.0, within))
+    ]
+
+module _ (files : List File) (path : List ℕ) where
+  -- what a search compares
+  abbrev pub against : File → Ordering
+  against file = slice_cmp nat_cmp file.path path
+
+  -- the answers of the comparison rise along files in order
+  answers_rise : AreRising (paths_of files) → IsNonDecreasingBy (λ file. ordering_index (against file)) files
+  answers_rise rising = searchable_from_sorted nat_list_cmp_total (λ (file : File). file.path) files path (λ k d _ next.
+      let paths = map (λ (file : File). file.path) files in
+      let e : List ℕ = [] in
+      let below : k + 1 < length files = omega (arith, next) in
+      let less = Less-from_sorted (slice_cmp nat_cmp) paths k (k + 1) e (subst AreRising (paths_are files) rising) (omega arith) (omega (arith, length-map files (λ (file : File). file.path))) in
+      let left = get_or-map (λ (file : File). file.path) files k d e (omega arith) in
+      let right = get_or-map (λ (file : File). file.path) files (k + 1) d e below in
+      ap is_lt (nat_list_cmp_total.antisymm (get_or files (k + 1) d).path (get_or files k d).path ∙ ap ordering_reverse (sym (λ t. slice_cmp nat_cmp (left t) (right t)) ∙ less)))
+
+  pub search_found : (r : Result ℕ ℕ) → IsSearchInRange r (length files) → IsBinarySearchResult against files r → IfOk r (λ i. slice_get (paths_of files) i ≡ Some path)
+  search_found (Ok i) within equal = elim (slice_get_cases files i).1 [
+    | inl found ↦ path_at files i found.0 within (sym found.3) ∙ ap Some (exact_bytes _ _ (ap against (sym found.3) ∙ equal found.0))
+    | inr past ↦ absurd (omega (arith, past.0, within))
+  ]
+  search_found (Err i) within equal = tt
+
+  pub search_absent : AreRising (paths_of files) → (r : Result ℕ ℕ) → IsSearchInRange r (length files) → IsBinarySearchResult against files r → IfErr r (IsGapFor (paths_of files) path)
+  search_absent rising (Ok i) within parted = tt
+  search_absent rising (Err i) within parted = record {
+    within = omega (arith, within, length_shown files);
+    less_before = λ j other below here.
+        let file = file_at files j other here in
+        let less : slice_cmp nat_cmp other path ≡ Less = ap (λ p. slice_cmp nat_cmp p path) (sym file.3) ∙ ap against (sym file.2) ∙ (parted (answers_rise rising)).0 j file.0 (omega arith) below in
+        nat_list_cmp_total.antisymm path other ∙ ap ordering_reverse less;
+    greater_from = λ j other from here.
+        let file = file_at files j other here in
+        let greater : slice_cmp nat_cmp other path ≡ Greater = ap (λ p. slice_cmp nat_cmp p path) (sym file.3) ∙ ap against (sym file.2) ∙ (parted (answers_rise rising)).1 j file.0 from file.1 in
+        nat_list_cmp_total.antisymm path other ∙ ap ordering_reverse greater;
+  }
+
+-- what is left of the file that is read, once another was put at a place
+module _ (files : List File) (place : ℕ) (file : File) where
+  pub shown_insert : shown_files (insert files place file) ≡ insert (shown_files files) place (file.path, file.body.items)
+  shown_insert = map-insert (λ (f : File). (f.path, f.body.items)) files place file
+
+  body_moved : (r : Reading) → r.place < length files → slice_get (values_of (shown_files (insert files place file))) (moved_up place r).place ≡ slice_get (values_of (shown_files files)) r.place
+  body_moved r within =
+      ap (λ fs. slice_get (values_of fs) (moved_up place r).place) shown_insert
+      ∙ ap (λ bodies. slice_get bodies (moved_up place r).place) (map-insert (λ (f : List ℕ × List ℕ). f.1) (shown_files files) place (file.path, file.body.items))
+      ∙ slice_get-insert_moved (values_of (shown_files files)) place file.body.items r.place (omega (arith, within, ap length (bodies_are files), length-map files (λ (f : File). f.body.items)))
+
+  pub rest_moved : (reading : Option Reading) → ForSome reading (λ r. r.place < length files) → rest_of (insert files place file) (option_map (moved_up place) reading) ≡ rest_of files reading
+  rest_moved None within = refl
+  rest_moved (Some r) within = ap (option_map (drop r.at)) (body_moved r (within r refl))
+
+-- the gap that a search among the same files gave for the same path
+pub same_gap : (files shown : List File) (path text : List ℕ) (i : ℕ) → shown ≡ files → text ≡ path → IsGapFor (paths_of shown) text i → IsGapFor (paths_of files) path i
+same_gap files shown path text i all same gap = subst (λ fs. IsGapFor (paths_of fs) path i) all (subst (λ p. IsGapFor (paths_of shown) p i) same gap)
+
+-- a look-up at what a search found
+pub get_at : (tree : MemFiles) (inside : Inside) (path text : List ℕ) (files : List File) (i : ℕ) (file : File) (octets : List ℕ) → view_of inside ≡ tree → AreRising (paths_of inside.files.items) → text ≡ path → files ≡ inside.files.items → slice_get (paths_of files) i ≡ Some text → file ≡ get_or inside.files.items i file → octets ≡ file.body.items → Some octets ≡ octets_at tree path
+get_at tree inside path text files i file octets view rising same all found here body =
+    let at : slice_get (paths_of inside.files.items) i ≡ Some path = sym (ap (λ fs. slice_get (paths_of fs) i) all) ∙ found ∙ ap Some same in
+    let within : i < length inside.files.items = omega (arith, slice_get_within (paths_of inside.files.items) i path at, length_shown inside.files.items) in
+    ap Some body
+    ∙ sym (body_at inside.files.items i file within here)
+    ∙ sym (lookup_at (shown_files inside.files.items) i path rising at)
+    ∙ ap (λ t. octets_at t path) view
+
+-- and at a gap
+pub get_in_gap : (tree : MemFiles) (inside : Inside) (path text : List ℕ) (files : List File) (i : ℕ) → view_of inside ≡ tree → text ≡ path → files ≡ inside.files.items → IsGapFor (paths_of files) text i → None ≡ octets_at tree path
+get_in_gap tree inside path text files i view same all gap =
+    let at = same_gap inside.files.items files path text i all same gap in
+    sym (lookup_in_gap path [] (shown_files inside.files.items) i at) ∙ ap (λ t. octets_at t path) view
+
+-- nothing is wrong where there are no files
+pub empty_sound : (inside : Inside) → inside.files.items ≡ [] → inside.reading ≡ None → IsSound inside
+unfolding IsStrictlySortedBy
+empty_sound inside no_file none = record {
+  rising = subst (λ fs. AreRising (paths_of fs)) (sym no_file) tt;
+  payload = subst (λ fs. All (λ path. is_payload path ≡ true → inside.has_dir ≡ true) (paths_of fs)) (sym no_file) (All-nil (λ path. is_payload path ≡ true → inside.has_dir ≡ true));
+  reading = subst (λ reading. ForSome reading (λ r. r.place < length inside.files.items)) (sym none) (λ r here. cc);
+}
+
+-- what was copied and what follows it are what stood there
+pub copied : (body buf src : List ℕ) (at n : ℕ) → src ≡ take (at + n - at) (drop at body) → length src ≡ n → drop at body ≡ take n (src ++ drop n buf) ++ drop (at + n) body
+copied body buf src at n e size =
+    sym (take-append-drop n (drop at body))
+    ∙ ap (λ xs. xs ++ drop n (drop at body)) (ap (λ m. take m (drop at body)) (let k : n ≡ at + n - at = omega arith in k) ∙ sym e ∙ sym (ap (λ m. take m (src ++ drop n buf)) (sym size) ∙ take-append_seam src (drop n buf)))
+    ∙ ap (λ xs. take n (src ++ drop n buf) ++ xs) (drop-drop n at body)
+
+-- what is shown of a file that is read
+pub started_is : (tree : MemFiles) (inside : Inside) (reading : Reading) (body : List ℕ) → view_of inside ≡ tree → inside.reading ≡ Some reading → slice_get (values_of (shown_files inside.files.items)) reading.place ≡ Some body → tree.started ≡ Some (drop reading.at body)
+started_is tree inside reading body view at here =
+    ap (λ t. t.started) (sym view)
+    ∙ ap (rest_of inside.files.items) at
+    ∙ ap (option_map (drop reading.at)) here
+
+-- a read of n octets
+pub read_on : (started body : Option (List ℕ)) (octets buf : List ℕ) (at n : ℕ) → started ≡ Some (drop at octets) → body ≡ Some octets → drop at octets ≡ take n buf ++ drop (at + n) octets → (n ≡ 0 → 0 < length buf → drop at octets ≡ []) → Consumes started (option_map (drop (at + n)) body) (take n buf) × (n ≡ 0 → 0 < length buf → IsAtEnd (option_map (drop (at + n)) body))
+read_on started body octets buf at n before here copied end =
+    let after : option_map (drop (at + n)) body ≡ Some (drop (at + n) octets) = ap (option_map (drop (at + n))) here in (
+      subst (λ o. Consumes o (option_map (drop (at + n)) body) (take n buf)) (sym before) (subst (λ o. Consumes (Some (drop at octets)) o (take n buf)) (sym after) copied),
+      λ none room. subst IsAtEnd (sym after) (ap (λ m. drop (at + m) octets) none ∙ ap (λ m. drop m octets) (add-zero at) ∙ end none room),
+    )

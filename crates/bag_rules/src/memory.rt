@@ -1,0 +1,248 @@
+//! A tree of files in memory.
+ghost use Rattle.std.specs.Prelude.{◌≡◌, ◌≢◌, ◌+◌, ◌-◌, ◌^◌, ◌<◌, ◌≤◌, ◌++◌, ◌↔◌, ℕ, [], Contains, IfErr, IfOk, IsErr, IsNone, IsOk, IsTrue, List, OnErr, OnOk, drop, length, max, min, slice_get, take, true};
+ghost use Rattle.std.specs.Io.KnownBytes.{ReadConsumes};
+ghost use Rattle.std.specs.Option.{ForSome, option_copied, option_map};
+ghost use Rattle.bag_digest.specs.Device.{Rises};
+ghost use Rattle.bag_path.specs.Paths.{is_payload};
+ghost use Rattle.bag_rules.specs.Trees.{AreRising, SameFiles};
+ghost use Rattle.bag_rules.specs.MemoryInside.{IsGapFor, moved_up, paths_of};
+
+use crate::tree::Tree;
+use bag_digest::{Failed, Source};
+use bag_path::BagPath;
+use std::alloc::Global;
+use std::marker::Model;
+use thiserror::Error;
+
+#[cfg(test)]
+mod tests;
+
+/// Why a file was not added.
+#[derive(Clone, Copy, Debug, PartialEq, Eq, Error)]
+pub enum AddFault {
+    /// A file with this path is there already.
+    #[error("a file with this path is there already")]
+    Twice,
+    /// Memory ran out.
+    #[error("out of memory")]
+    Memory,
+}
+
+/// A file by its path.
+#[derive(Drop)]
+struct File {
+    path: BagPath,
+    body: Vec<u8>,
+}
+
+/// The place of the file that is read, and how far it was read.
+#[derive(Clone, Copy)]
+struct Reading {
+    place: usize,
+    at: usize,
+}
+
+/// Files in memory, by path. A tree whose octets are all known, and which never fails where a file was started.
+///
+/// It is empty at first; `add` and `set_payload_dir` make it, and nothing takes a file away.
+#[derive(Drop)]
+pub struct MemTree {
+    files: Vec<File>,
+    has_dir: bool,
+    reading: Option<Reading>,
+    failures: u64,
+}
+
+impl Model for MemTree {
+    ghost use Rattle.bag_rules.specs.Memory.{MemFiles};
+
+    ghost Value = { MemFiles };
+
+    ghost use Rattle.bag_rules.specs.MemoryInside.{view_of, IsSound};
+
+    ghost view = { view_of };
+
+    ghost invariant = { IsSound };
+}
+
+impl MemTree {
+    ghost use Rattle.std.specs.Prelude.{Some};
+    ghost use Rattle.bag_rules.specs.Memory.{mem_paths, no_files, octets_at, with_file};
+
+    /// No files, and no payload directory.
+    pub fn new(alloc: Global) -> MemTree
+        ensures { result ≡ no_files }
+    {
+        MemTree {
+            files: Vec::new(alloc),
+            has_dir: false,
+            reading: None,
+            failures: 0,
+        }
+    }
+
+    /// Puts a file at its place in the order of the paths. A payload file brings the payload directory with it.
+    ///
+    /// What is left to read of a started file stays. After a fault the tree is as it was.
+    /// Files that come in rising order cost a look-up by halves each; another one moves all that come after it.
+    pub fn add(&mut self, path: BagPath, body: Vec<u8>) -> Result<(), AddFault>
+        ensures added { OnOk result (self.new ≡ with_file self.old path body.items) }
+        ensures twice { (result ≡ Err AddFault.Twice) ↔ Contains (mem_paths self.old) path }
+        ensures refused { OnErr result (self.new ≡ self.old) }
+
+        // What a look-up finds then, and that the order stays.
+        ensures found { OnOk result (octets_at self.new path ≡ Some body.items) }
+        ensures others { OnOk result ((other : List ℕ) → other ≢ path → octets_at self.new other ≡ octets_at self.old other) }
+        ensures rising { AreRising (mem_paths self.new) }
+    {
+        let place = match search(&self.files, path.as_str()) {
+            Ok(_) => return Err(AddFault::Twice),
+            Err(place) => place,
+        };
+        let is_payload = path.is_payload();
+        let Ok(()) = self.files.insert(place, File { path, body }) else {
+            return Err(AddFault::Memory);
+        };
+        self.has_dir |= is_payload;
+        self.reading = moved_up(self.reading, place);
+        Ok(())
+    }
+
+    /// Puts the payload directory there. It may stay without a file.
+    pub fn set_payload_dir(&mut self)
+        ensures { self.new ≡ record self.old { has_dir = true } }
+    {
+        self.has_dir = true;
+    }
+
+    /// The octets of the file with this path.
+    pub fn get(&self, path: &BagPath) -> Option<&[u8]>
+        ensures { option_copied result ≡ octets_at self.now path.now }
+    {
+        match search(&self.files, path.as_str()) {
+            Ok(i) => Some(self.files[i].body.as_slice()),
+            Err(_) => None,
+        }
+    }
+}
+
+impl Source for MemTree {
+    ghost use Rattle.std.specs.Prelude.{None};
+    ghost use Rattle.bag_rules.specs.Memory.{SameMemFiles, same_itself, same_on};
+
+    ghost remaining = { λ tree. tree.started };
+
+    ghost faults = { λ tree. tree.failures };
+
+    ghost keeps = { SameMemFiles };
+
+    /// Reads on in the file that was started last. It fails, and counts that, where none was started yet, and only there.
+    fn read(&mut self, buf: &mut [u8]) -> Result<usize, Failed>
+        ensures bound { IfOk result (λ n. n ≤ length buf.new) }
+        ensures octets { ReadConsumes self.old.started self.new.started result buf.new }
+        ensures kept { SameMemFiles self.old self.new }
+        ensures failed { OnErr result (Rises self.old.failures self.new.failures) }
+        ensures counted { self.old.failures ≤ self.new.failures }
+
+        // It fails just where nothing was started, and then counts one failure, up to the greatest number.
+        ensures nothing_started { IsErr result ↔ (self.old.started ≡ None) }
+        ensures read { IfOk result (λ n. self.new ≡ record self.old { started = option_map (drop n) self.old.started }) }
+        ensures not_read { OnErr result (self.new ≡ record self.old { failures = min (self.old.failures + 1) (2 ^ 64 - 1) }) }
+    {
+        let Some(reading) = self.reading else {
+            self.failures = self.failures.saturating_add(1);
+            return Err(Failed);
+        };
+        let n = copy_from(&self.files[reading.place].body, reading.at, buf);
+        self.reading = Some(Reading {
+            place: reading.place,
+            at: reading.at + n,
+        });
+        Ok(n)
+    }
+
+    fn failures(&self) -> u64 {
+        self.failures
+    }
+
+    ghost keeps_itself = { same_itself };
+
+    ghost keeps_on = { same_on };
+}
+
+impl Tree for MemTree {
+    ghost use Rattle.bag_rules.specs.Memory.{mem_paths, mem_body, same_files};
+
+    ghost paths = { mem_paths };
+
+    ghost has_dir = { λ tree. tree.has_dir };
+
+    ghost body = { mem_body };
+
+    fn count(&self) -> usize {
+        self.files.len()
+    }
+
+    fn path(&self, i: usize) -> &BagPath {
+        &self.files[i].path
+    }
+
+    fn has_payload_dir(&self) -> bool {
+        self.has_dir
+    }
+
+    /// Goes to the start of a file. It doesn't fail.
+    fn start(&mut self, i: usize) -> Result<(), Failed>
+        requires { i < length (mem_paths self.old) }
+        ensures started { OnOk result (self.new.started ≡ mem_body self.old i) }
+        ensures same { SameFiles mem_paths (λ tree. tree.has_dir) mem_body self.old self.new }
+        ensures failed { OnErr result (Rises self.old.failures self.new.failures) }
+        ensures counted { self.old.failures ≤ self.new.failures }
+
+        ensures ok { IsOk result }
+        ensures only_started { self.new ≡ record self.old { started = mem_body self.old i } }
+    {
+        self.reading = Some(Reading { place: i, at: 0 });
+        Ok(())
+    }
+
+    ghost reads_keep = { same_files };
+}
+
+/// Copies what stands from `at` on to the front of the buffer, as far as both go, and says how far.
+fn copy_from(body: &[u8], at: usize, buf: &mut [u8]) -> usize
+    ensures copied { drop at body.now ≡ take result buf.new ++ drop (at + result) body.now }
+    ensures fits { result ≤ length buf.new }
+    ensures inside { at + result ≤ max at (length body.now) }
+    ensures end { result ≡ 0 → 0 < length buf.new → drop at body.now ≡ [] }
+{
+    if at >= body.len() {
+        return 0;
+    }
+    let n = buf.len().min(body.len() - at);
+    buf[..n].copy_from_slice(&body[at..at + n]);
+    n
+}
+
+/// Where the path is among files in order, or where it would go.
+fn search(files: &[File], path: &str) -> Result<usize, usize>
+    requires { AreRising (paths_of files.now) }
+    ensures found { IfOk result (λ i. slice_get (paths_of files.now) i ≡ Some path.now) }
+    ensures absent { IfErr result (IsGapFor (paths_of files.now) path.now) }
+{
+    files.binary_search_by(|file| file.path.as_str().cmp(path))
+}
+
+/// The same file and the same octet, once a file was put at `place`.
+fn moved_up(reading: Option<Reading>, place: usize) -> Option<Reading>
+    requires { ForSome reading (λ r. r.place < 2 ^ 64 - 1) }
+    ensures { result ≡ option_map (moved_up place) reading }
+{
+    match reading {
+        Some(r) if place <= r.place => Some(Reading {
+            place: r.place + 1,
+            at: r.at,
+        }),
+        _ => reading,
+    }
+}

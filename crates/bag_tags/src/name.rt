@@ -1,0 +1,120 @@
+//! What the files of a bag are, by their names (RFC 8493 section 2).
+ghost use Rattle.std.specs.Prelude.{◌≡◌, ◌↔◌, ◌++◌, ℕ, List, IsTrue, MatchOption, codes};
+ghost use Rattle.bag_tags.specs.declared.name.TagName.{TagName};
+ghost use Rattle.bag_tags.specs.Names.{IsWord, IsWordOctet, IsUnknownManifest, Names, NamesTagManifest};
+
+use bag_digest::Alg;
+use bag_path::BagPath;
+
+/// What a file of a bag is, by its path. All but `Other` stand at the base directory, and their names are
+/// matched exactly.
+#[derive(Clone, Copy, Debug, PartialEq, Eq)]
+pub enum TagName {
+    /// `bagit.txt` (RFC 8493 section 2.1.1).
+    Declaration,
+    /// `manifest-ALG.txt`, where the algorithm is one of the four that are known (RFC 8493 section 2.1.3).
+    PayloadManifest(Alg),
+    /// `tagmanifest-ALG.txt`, where the algorithm is one of the four that are known (RFC 8493 section 2.2.1).
+    TagManifest(Alg),
+    /// `manifest-X.txt` or `tagmanifest-X.txt` where X is one or more ASCII letters, digits or `_`, and
+    /// the name of no algorithm that is known. `unknown_algorithm` gives X.
+    UnknownManifest,
+    /// `bag-info.txt` (RFC 8493 section 2.2.2).
+    Info,
+    /// `fetch.txt` (RFC 8493 section 2.2.3).
+    FetchList,
+    /// Any other file: a payload file, or a tag file whose text has no meaning here.
+    Other,
+}
+
+impl TagName {
+    ghost use Rattle.std.specs.Prelude.{◌≡◌};
+    ghost use Rattle.bag_tags.specs.declared.name.TagName.{TagName};
+    ghost use Rattle.bag_tags.specs.Names.{Names};
+
+    /// What the file at this path is.
+    pub fn of(path: &BagPath) -> TagName
+        ensures named { Names path.now result }
+        ensures only { (name : TagName) → Names path.now name → result ≡ name }
+    {
+        let text = path.as_str();
+        if text == "bagit.txt" {
+            return TagName::Declaration;
+        }
+        if text == "bag-info.txt" {
+            return TagName::Info;
+        }
+        if text == "fetch.txt" {
+            return TagName::FetchList;
+        }
+        if let Some(word) = manifest_word(text, "manifest-") {
+            return match Alg::from_name(word) {
+                Some(alg) => TagName::PayloadManifest(alg),
+                None => TagName::UnknownManifest,
+            };
+        }
+        if let Some(word) = manifest_word(text, "tagmanifest-") {
+            return match Alg::from_name(word) {
+                Some(alg) => TagName::TagManifest(alg),
+                None => TagName::UnknownManifest,
+            };
+        }
+        TagName::Other
+    }
+}
+
+/// The X of `manifest-X.txt` or `tagmanifest-X.txt`, where it is one or more ASCII letters, digits or `_`, and
+/// the name of no algorithm that is known.
+pub fn unknown_algorithm(path: &BagPath) -> Option<&str>
+    ensures { MatchOption result ((word : List ℕ) → IsUnknownManifest path.now word → ⊥) (λ word. IsUnknownManifest path.now word.now) }
+{
+    let text = path.as_str();
+    let word = match manifest_word(text, "manifest-") {
+        Some(word) => word,
+        None => manifest_word(text, "tagmanifest-")?,
+    };
+    match Alg::from_name(word) {
+        Some(_) => None,
+        None => Some(word),
+    }
+}
+
+/// Whether the path is `tagmanifest-X.txt`, where X is one or more ASCII letters, digits or `_`.
+pub(crate) fn names_tag_manifest(path: &BagPath) -> bool
+    ensures { IsTrue result ↔ NamesTagManifest path.now }
+{
+    manifest_word(path.as_str(), "tagmanifest-").is_some()
+}
+
+/// A path names one thing at most.
+pub fn a_path_names_one_thing_at_most()
+    ensures { (path : List ℕ) (a b : TagName) → Names path a → Names path b → a ≡ b }
+{}
+
+/// A path has one word for an unknown algorithm at most.
+pub fn a_path_has_one_unknown_algorithm_at_most()
+    ensures { (path a b : List ℕ) → IsUnknownManifest path a → IsUnknownManifest path b → a ≡ b }
+{}
+
+/// What stands between this front and `.txt`, where they are there and it is a word.
+fn manifest_word<'a>(text: &'a str, front: &str) -> Option<&'a str>
+    ensures { MatchOption result ((word : List ℕ) → IsWord word → text.now ≡ front.now ++ word ++ codes ".txt" → ⊥) (λ word. IsWord word.now × (text.now ≡ front.now ++ word.now ++ codes ".txt")) }
+{
+    let word = text.strip_prefix(front)?.strip_suffix(".txt")?;
+    if is_word(word) { Some(word) } else { None }
+}
+
+fn is_word(text: &str) -> bool
+    ensures { IsTrue result ↔ IsWord text.now }
+{
+    !text.is_empty() && text.as_bytes().iter().all(|octet| is_word_octet(*octet))
+}
+
+fn is_word_octet(octet: u8) -> bool
+    ensures { IsTrue result ↔ IsWordOctet octet }
+{
+    octet.is_ascii_alphanumeric() || octet == b'_'
+}
+
+#[cfg(test)]
+mod tests;
