@@ -2,3 +2,10 @@ pub mod RisingPaths
 pub mod MemoryFiles
 pub mod MemoryShown
 pub mod MemoryAdded
+pub mod FaultLemmas
+pub mod FileLemmas
+pub mod JudgingLemmas
+pub mod LineCount
+pub mod BagLemmas
+pub mod HasLemmas
+pub mod OrderLemmas

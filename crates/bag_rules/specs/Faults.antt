@@ -1,0 +1,37 @@
+-- Lists of faults.
+use Rattle.std.specs.Prelude.{◌≡◌, ◌⊎◌, ◌<◌, ℕ, List, [], ◌∷◌}
+use Rattle.std.specs.List.{AllByRecursion}
+use Rattle.std.specs.List.Sorted.{IsStrictlySortedBy}
+use Rattle.bag_rules.specs.declared.fault.Fault.{Fault}
+use Rattle.bag_rules.specs.declared.fault.Fault.TheVariants.{NoDeclaration, BadDeclaration, NoPayloadDir, NoManifest, BadLine, ManifestNotListed, OxumForm, OxumTwice, Missing, Unlisted, FetchNotListed, FetchLength, OxumWrong, WrongDigest}
+use Rattle.bag_rules.specs.contracts.fault.FaultOrd.TheImpl as order
+
+-- the number of a kind of fault
+abbrev pub number_of : Fault → ℕ
+number_of NoDeclaration = 1
+number_of (BadDeclaration cause) = 2
+number_of NoPayloadDir = 3
+number_of NoManifest = 4
+number_of (BadLine file line cause) = 5
+number_of (ManifestNotListed tag_manifest manifest) = 6
+number_of OxumForm = 7
+number_of OxumTwice = 8
+number_of (Missing manifest path) = 9
+number_of (Unlisted manifest path) = 10
+number_of (FetchNotListed manifest path) = 11
+number_of (FetchLength line path) = 12
+number_of OxumWrong = 13
+number_of (WrongDigest manifest path) = 14
+
+-- the fault is in the list
+abbrev pub Has : List Fault → Fault → Type 0
+Has [] fault = ⊥
+Has (first ∷ faults) fault = (first ≡ fault) ⊎ Has faults fault
+
+-- by number, then by file, line and path; none twice
+abbrev pub AreInOrder : List Fault → Type 0
+AreInOrder faults = IsStrictlySortedBy order.ghosts.cmp faults
+
+-- no fault of a kind with a number up to n
+abbrev pub NoneUpTo : ℕ → List Fault → Type 0
+NoneUpTo n faults = AllByRecursion (λ fault. n < number_of fault) faults

@@ -1,0 +1,46 @@
+//! How a check ends.
+use crate::report::Report;
+use bag_path::BagPath;
+use thiserror::Error;
+
+/// What a check answers.
+#[derive(Debug, Drop)]
+pub enum Outcome {
+    /// The bag was judged: these are its faults.
+    Judged(Report),
+    /// The bag is none that can be judged here, which is not to say that it is invalid.
+    Outside(OutsideCause),
+    /// The bag has a tag file that this program doesn't judge yet: the least such name.
+    NotYet(BagPath),
+}
+
+/// Why a bag can't be judged here.
+#[derive(Debug, Drop)]
+pub enum OutsideCause {
+    /// `bagit.txt` declares another version than 1.0.
+    Version,
+    /// `bagit.txt` declares another encoding of tag files than UTF-8.
+    Encoding,
+    /// A manifest is by another algorithm than md5, sha1, sha256 and sha512: its name, of the least such file.
+    Algorithm(String),
+}
+
+/// Why a check didn't come to an end.
+#[derive(Debug, Drop, Error)]
+pub enum CheckFault {
+    /// The tree failed, and counted it.
+    #[error("the tree failed")]
+    Tree,
+    /// A tag file that has to be read has more than 16,777,216 octets.
+    #[error("a tag file is too large")]
+    TagTooLarge(BagPath),
+    /// The tree has more than 200,000 files, or a manifest or `fetch.txt` more than 100,000 lines.
+    #[error("too many files or lines")]
+    TooMany,
+    /// A file has more than 2^40 octets.
+    #[error("a file is too large")]
+    TooLarge(BagPath),
+    /// Memory ran out.
+    #[error("out of memory")]
+    Memory,
+}

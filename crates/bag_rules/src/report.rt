@@ -1,0 +1,67 @@
+//! What a check finds of a bag.
+ghost use Rattle.std.specs.Prelude.{◌↔◌};
+ghost use Rattle.bag_rules.specs.declared.fault.Fault.{Fault};
+ghost use Rattle.bag_rules.specs.Faults.{Has};
+
+use crate::fault::Fault;
+use std::marker::Model;
+
+#[cfg(test)]
+mod tests;
+
+/// The faults of a bag, in order and each once: by kind of fault, then by file name, line and path.
+#[derive(Debug, Drop)]
+pub struct Report {
+    faults: Vec<Fault>,
+}
+
+impl Model for Report {
+    ghost use Rattle.std.specs.Prelude.{List};
+    ghost use Rattle.bag_rules.specs.declared.fault.Fault.{Fault};
+    ghost use Rattle.bag_rules.specs.Faults.{AreInOrder};
+
+    ghost Value = { List Fault };
+
+    ghost view = { λ report. report.faults.items };
+
+    ghost invariant = { λ report. AreInOrder report.faults.items };
+}
+
+impl Report {
+    ghost use Rattle.std.specs.Prelude.{◌≡◌, ◌↔◌, [], IfOk, IsTrue};
+    ghost use Rattle.bag_rules.specs.declared.fault.Fault.{Fault};
+    ghost use Rattle.std.specs.List.Sorted.{IsNonDecreasingBy};
+    ghost use Rattle.bag_rules.specs.Faults.{Has, AreInOrder, NoneUpTo, number_of};
+
+    /// The report of these faults, whatever their order and however often each stands.
+    pub(crate) fn new(mut faults: Vec<Fault>) -> Report
+        ensures { (fault : Fault) → Has result fault ↔ Has faults.items fault }
+    {
+        faults.sort_unstable();
+        faults.dedup();
+        Report { faults }
+    }
+
+    /// The faults in order.
+    pub fn faults(&self) -> &[Fault]
+        ensures faults { result.now ≡ self.now }
+        ensures in_order { AreInOrder self.now }
+        ensures by_number { IsNonDecreasingBy number_of self.now }
+    {
+        self.faults.as_slice()
+    }
+
+    /// Whether the bag is complete (RFC 8493 section 3): no fault but wrong digests.
+    pub fn is_complete(&self) -> bool
+        ensures { IsTrue result ↔ NoneUpTo 13 self.now }
+    {
+        self.faults.iter().all(|fault| fault.number() > 13)
+    }
+
+    /// Whether the bag is valid (RFC 8493 section 3): no fault.
+    pub fn is_valid(&self) -> bool
+        ensures { IsTrue result ↔ (self.now ≡ []) }
+    {
+        self.faults.is_empty()
+    }
+}

@@ -1,0 +1,29 @@
+# shellcheck shell=bash
+# What the test scripts share. A script sources this file at the top of the repository, calls `expect` for each case, and ends
+# with `finish`.
+
+work=$(mktemp -d)
+trap 'rm -rf -- "$work"' EXIT
+passed=0
+failed=0
+
+# expect NAME STATUS LINES COMMAND..: the command ends with the status, prints the lines (none where LINES is empty) and says
+# nothing on standard error.
+expect() {
+    local name=$1 wanted=$2 lines=$3 status=0
+    shift 3
+    "$@" </dev/null >"$work/printed" 2>"$work/said" || status=$?
+    printf '%s' "${lines:+$lines$'\n'}" >"$work/wanted"
+    if diff -u "$work/wanted" "$work/printed" && diff -u /dev/null "$work/said" && [ "$status" -eq "$wanted" ]; then
+        passed=$((passed + 1))
+    else
+        failed=$((failed + 1))
+        echo "FAILED: $name: status $status, and $wanted is wanted"
+    fi
+}
+
+# finish: the closing line, and the status of the script.
+finish() {
+    echo "$passed passed, $failed failed"
+    [ "$failed" -eq 0 ]
+}

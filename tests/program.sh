@@ -1,0 +1,120 @@
+#!/usr/bin/env bash
+# The program on folders that git can't keep, on other words, and on outputs that take nothing.
+set -u
+cd "$(dirname -- "$0")/.." || exit 1
+. tests/common.bash
+
+# bag WORD..: the program, which is stopped where it hasn't ended after a minute.
+bag() {
+    timeout 60 ./bag "$@"
+}
+
+# new NAME: a folder of this name with a copy of the first bag.
+new() {
+    cp -r examples/first-bag "$work/$1"
+}
+
+# What a build says would be noise in the first case.
+./bag >"$work/printed" || true
+
+expect 'no words' 64 'bag: check' bag
+expect 'a word that is no command' 64 'bag: check' bag verify examples/first-bag
+expect 'a command without its folder' 64 'bag: check' bag check
+expect 'a command with two folders' 64 'bag: check' bag check examples/first-bag examples/first-bag
+
+expect 'a valid bag' 0 valid bag check examples/first-bag
+expect 'a slash at the end' 0 valid bag check examples/first-bag/
+expect 'from another directory' 0 valid env -C examples ../bag check first-bag
+new 'a name  with blanks'
+expect 'blanks in the name' 0 valid bag check "$work/a name  with blanks"
+ln -s "$work/a name  with blanks" "$work/link"
+expect 'a link that leads to the bag' 0 valid bag check "$work/link"
+new changed
+printf abd >"$work/changed/data/a.txt"
+expect 'one changed octet' 1 $'manifest-sha256.txt: digest: data/a.txt\ncomplete, not valid' bag check "$work/changed"
+new empty-directories
+mkdir -p "$work/empty-directories/data/none/at all" "$work/empty-directories/tags"
+expect 'empty directories are no files' 0 valid bag check "$work/empty-directories"
+new unlisted
+mkdir "$work/unlisted/data/k"
+touch "$work/unlisted/data/k0" "$work/unlisted/data/k/x" "$work/unlisted/data/k.txt" "$work/unlisted/data/"$'l\nm%'
+expect 'paths by their octets, and escaped' 1 "manifest-sha256.txt: unlisted: data/k.txt
+manifest-sha256.txt: unlisted: data/k/x
+manifest-sha256.txt: unlisted: data/k0
+manifest-sha256.txt: unlisted: data/l%0Am%25
+not complete" bag check "$work/unlisted"
+
+expect 'no folder' 3 'bag: files' bag check "$work/none"
+expect 'an empty name' 3 'bag: files' bag check ''
+expect 'a file in place of the folder' 3 'bag: files' bag check examples/first-bag/bagit.txt
+new link-to-file
+ln -s a.txt "$work/link-to-file/data/b.txt"
+expect 'a link to a file' 3 'bag: files' bag check "$work/link-to-file"
+new link-to-directory
+ln -s data "$work/link-to-directory/tags"
+expect 'a link to a directory' 3 'bag: files' bag check "$work/link-to-directory"
+new link-to-nothing
+ln -s none "$work/link-to-nothing/data/b.txt"
+expect 'a link that leads nowhere' 3 'bag: files' bag check "$work/link-to-nothing"
+new payload-link
+mv "$work/payload-link/data" "$work/elsewhere"
+ln -s ../elsewhere "$work/payload-link/data"
+expect 'a link in place of the payload directory' 3 'bag: files' bag check "$work/payload-link"
+new fifo
+mkfifo "$work/fifo/data/pipe"
+expect 'a fifo, which is never opened' 3 'bag: files' bag check "$work/fifo"
+new declaration-fifo
+rm "$work/declaration-fifo/bagit.txt"
+mkfifo "$work/declaration-fifo/bagit.txt"
+expect 'a fifo in place of bagit.txt' 3 'bag: files' bag check "$work/declaration-fifo"
+new other-octets
+touch "$work/other-octets/data/"$'\377'
+expect 'a name that is not UTF-8' 3 'bag: files' bag check "$work/other-octets"
+new data-file
+rm -r "$work/data-file/data"
+touch "$work/data-file/data"
+expect 'a plain file named data' 3 'bag: files' bag check "$work/data-file"
+new deep
+name=$(printf 'k%.0s' {1..200})
+(cd "$work/deep/data" && for _ in {1..21}; do mkdir "$name" && cd "$name" || exit; done && touch file)
+expect 'a path of more than 4,096 octets' 3 'bag: files' bag check "$work/deep"
+
+# Root may read everything, so these are run as nobody where this script is run by root.
+nobody() {
+    if [ "$(id -u)" -eq 0 ]; then
+        timeout 60 setpriv --reuid=65534 --regid=65534 --clear-groups "$@"
+    else
+        timeout 60 "$@"
+    fi
+}
+chmod 711 "$work"
+cp crates/bag_cmd/out/bag_cmd "$work/program"
+new locked
+expect 'the same, unlocked' 0 valid nobody "$work/program" check "$work/locked"
+chmod 000 "$work/locked/data/a.txt"
+expect 'a file that may not be read' 3 'bag: files' nobody "$work/program" check "$work/locked"
+chmod 644 "$work/locked/data/a.txt"
+chmod 000 "$work/locked/data"
+expect 'a directory that may not be read' 3 'bag: files' nobody "$work/program" check "$work/locked"
+chmod 000 "$work/locked"
+expect 'a folder that may not be read' 3 'bag: files' nobody "$work/program" check "$work/locked"
+chmod 755 "$work/locked" "$work/locked/data"
+
+new large
+head -c 16777217 /dev/zero | tr '\0' A >"$work/large/bagit.txt"
+expect 'a bagit.txt past the limit' 3 'bag: tag too large' bag check "$work/large"
+truncate -s 16777216 "$work/large/bagit.txt"
+expect 'a bagit.txt at the limit' 1 $'bagit.txt: line count\nnot complete' bag check "$work/large"
+
+# closed COMMAND.. and full COMMAND..: the command where its standard output is closed, and where it takes no octet.
+closed() {
+    "$@" >&-
+}
+full() {
+    "$@" >/dev/full
+}
+expect 'a closed output' 3 '' closed bag check examples/first-bag
+expect 'a closed output, and no words' 3 '' closed bag
+expect 'a full output' 3 '' full bag check examples/first-bag
+expect 'a full output, and a folder that is not there' 3 '' full bag check "$work/none"
+finish

@@ -1,0 +1,54 @@
+#!/usr/bin/env bash
+# The sessions that the documents show: each block marked `console` is run in a directory with the script `bag` and a fresh copy
+# of the examples, and must print what it shows.
+set -u
+cd "$(dirname -- "$0")/.." || exit 1
+. tests/common.bash
+top=$PWD
+
+# What a build says would be noise in the first session.
+./bag >"$work/printed" || true
+
+# An empty directory is none that git kept.
+fresh() {
+    rm -rf "$work/session"
+    mkdir "$work/session"
+    ln -s "$top/bag" "$work/session/bag"
+    cp -r examples "$work/session/examples"
+    find "$work/session/examples" -type d -empty -delete
+}
+
+# session NAME: runs the commands of the block in $work/block.
+session() {
+    local command status=0
+    fresh
+    while IFS= read -r command; do
+        echo "$ $command"
+        # What came before is known by its status alone, for `echo $?`.
+        (cd "$work/session" && timeout 60 bash -c "(exit $status); $command" 2>&1)
+        status=$?
+    done < <(sed -n 's/^\$ //p' "$work/block") >"$work/shown"
+    expect "$1" 0 '' diff -u "$work/block" "$work/shown"
+}
+
+for file in README.md examples/README.md docs/*.md; do
+    mapfile -t lines <"$file"
+    began=0
+    for i in "${!lines[@]}"; do
+        if [ "${lines[i]}" = '```console' ]; then
+            began=$((i + 1))
+            : >"$work/block"
+        elif [ "$began" -gt 0 ] && [ "${lines[i]}" = '```' ]; then
+            session "$file:$began"
+            began=0
+        elif [ "$began" -gt 0 ]; then
+            printf '%s\n' "${lines[i]}" >>"$work/block"
+        fi
+    done
+done
+
+# Each example has its session.
+for folder in examples/*/; do
+    expect "$folder is shown in examples/README.md" 0 '' grep -qF "./bag check ${folder%/}" examples/README.md
+done
+finish
