@@ -11,6 +11,7 @@ use Rattle.bag_tags.specs.declared.declaration.DeclarationFault.{DeclarationFaul
 use Rattle.bag_tags.specs.declared.declaration.DeclarationFault.TheVariants as declaration
 use Rattle.bag_tags.specs.declared.fault.LineCause.{LineCause}
 use Rattle.bag_tags.specs.declared.fault.LineCause.TheVariants as cause
+use Rattle.bag_rules.specs.Bags.{file_of, manifest_file}
 use Rattle.bag_rules.specs.Faults.{number_of}
 use Rattle.bag_rules.specs.declared.fault.ManifestName.{ManifestName}
 use Rattle.bag_rules.specs.declared.fault.LineFile.{LineFile}
@@ -24,20 +25,11 @@ use Rattle.bag_rules.specs.declared.outcome.OutsideCause.TheVariants.{Version, E
 use Rattle.bag_rules.specs.declared.outcome.CheckFault.{CheckFault}
 use Rattle.bag_rules.specs.declared.outcome.CheckFault.TheVariants.{Tree, TagTooLarge, TooMany, TooLarge, Memory}
 
--- PATHS, NUMBERS AND NAMES OF FILES
-
--- a manifest's file name (RFC 8493 sections 2.1.3 and 2.2.1)
-abbrev pub manifest_text : Kind → Alg → List ℕ
-manifest_text Payload alg = codes "manifest-" ++ name_of alg ++ codes ".txt"
-manifest_text Tag alg = codes "tagmanifest-" ++ name_of alg ++ codes ".txt"
-
-abbrev pub name_text : ManifestName → List ℕ
-name_text manifest = manifest_text manifest.kind manifest.alg
-
+-- the file's name
 abbrev pub file_text : LineFile → List ℕ
 file_text Info = codes "bag-info.txt"
 file_text FetchList = codes "fetch.txt"
-file_text (Manifest manifest) = name_text manifest
+file_text (Manifest manifest) = file_of manifest
 
 -- CAUSES
 
@@ -70,15 +62,15 @@ fault_text (fault.BadDeclaration why) = codes "bagit.txt: " ++ declaration_text 
 fault_text fault.NoPayloadDir = codes "no data directory"
 fault_text fault.NoManifest = codes "no payload manifest"
 fault_text (fault.BadLine file line why) = file_text file ++ codes ":" ++ decimal line ++ codes ": " ++ cause_text why
-fault_text (fault.ManifestNotListed tag_manifest manifest) = manifest_text Tag tag_manifest ++ codes ": not listed: " ++ manifest_text Payload manifest
+fault_text (fault.ManifestNotListed tag_manifest manifest) = manifest_file Tag tag_manifest ++ codes ": not listed: " ++ manifest_file Payload manifest
 fault_text fault.OxumForm = codes "bag-info.txt: Payload-Oxum form"
 fault_text fault.OxumTwice = codes "bag-info.txt: Payload-Oxum repeated"
-fault_text (fault.Missing manifest path) = name_text manifest ++ codes ": missing: " ++ written path
-fault_text (fault.Unlisted manifest path) = manifest_text Payload manifest ++ codes ": unlisted: " ++ written path
-fault_text (fault.FetchNotListed manifest path) = codes "fetch.txt: not in " ++ manifest_text Payload manifest ++ codes ": " ++ written path
+fault_text (fault.Missing manifest path) = file_of manifest ++ codes ": missing: " ++ written path
+fault_text (fault.Unlisted manifest path) = manifest_file Payload manifest ++ codes ": unlisted: " ++ written path
+fault_text (fault.FetchNotListed manifest path) = codes "fetch.txt: not in " ++ manifest_file Payload manifest ++ codes ": " ++ written path
 fault_text (fault.FetchLength line path) = codes "fetch.txt:" ++ decimal line ++ codes ": length: " ++ written path
 fault_text fault.OxumWrong = codes "bag-info.txt: Payload-Oxum wrong"
-fault_text (fault.WrongDigest manifest path) = name_text manifest ++ codes ": digest: " ++ written path
+fault_text (fault.WrongDigest manifest path) = file_of manifest ++ codes ": digest: " ++ written path
 
 -- how a list of faults ends: complete is the bag that has wrong digests alone (RFC 8493 section 3)
 abbrev pub is_complete : List Fault → Bool

@@ -1,20 +1,27 @@
 //! `bag check`: what is printed of a check.
-ghost use Rattle.std.specs.Prelude.{◌≡◌, ◌⊎◌, ◌++◌, ◌∷◌, [], OnOk, OnErr, map, true};
+ghost use Rattle.std.specs.Prelude.{◌≡◌, ◌≤◌, ◌⊎◌, ◌++◌, ◌∷◌, [], OnOk, OnErr, map, true};
 ghost use Rattle.bag_digest.specs.Device.{Rises};
+ghost use Rattle.bag_rules.specs.Bags.{Bag, IsBagOf};
+ghost use Rattle.bag_rules.specs.Trees.{SameFiles};
+ghost use Rattle.bag_rules.specs.Validity.{IsValidBy};
 ghost use Rattle.bag_cmd.specs.Printing.{Printed, WroteLines};
-ghost use Rattle.bag_cmd.specs.Answers.{PrintedAnswer};
+ghost use Rattle.bag_cmd.specs.Answers.{IsAnswer, PrintedOf};
 ghost use Rattle.bag_cmd.specs.Texts.{check_lines, check_status, fault_text, verdict_text};
 
 use crate::output::Output;
 use crate::text::{FaultLine, OutsideLine, Spelling, stop_text};
-use bag_digest::Failed;
+use bag_digest::{Alg, Failed};
 use bag_rules::{CheckFault, Outcome, Report, Tree, check};
 use std::alloc::Global;
 use std::io::Write;
 
 /// Checks the bag that a tree holds, prints the answer and answers the status, as [`print_outcome`] does.
 pub fn check_to<T: Tree, W: Write>(alloc: Global, tree: &mut T, out: &mut Output<W>) -> u8
-    ensures { PrintedAnswer W.contents out.old out.new result }
+    // Status 0 is for valid bags alone.
+    ensures valid { result ≡ 0 → (bag : Bag) → IsBagOf T.paths T.has_dir T.body tree.old bag → IsValidBy bag Alg.Sha256 }
+    ensures printed { PrintedOf W.contents out.old out.new result (IsAnswer T.paths T.has_dir T.body T.faults tree.old tree.new) }
+    ensures same { SameFiles T.paths T.has_dir T.body tree.old tree.new }
+    ensures counted { T.faults tree.old ≤ T.faults tree.new }
 {
     let answer = check(alloc, tree);
     print_outcome(&answer, out)

@@ -46,9 +46,9 @@ struct ManifestFile(Kind, Alg);
 
 impl Display for ManifestFile {
     ghost use Rattle.std.specs.Prelude.{Some};
-    ghost use Rattle.bag_cmd.specs.Texts.{manifest_text};
+    ghost use Rattle.bag_rules.specs.Bags.{manifest_file};
 
-    ghost output = { λ file. Some (manifest_text file.0 file.1) };
+    ghost output = { λ file. Some (manifest_file file.0 file.1) };
 
     fn fmt<W: Write>(&self, f: &mut Formatter<W>) -> Result {
         let alg = self.1.name();
