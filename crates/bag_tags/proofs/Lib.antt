@@ -8,3 +8,17 @@ pub mod TagLinesLemmas
 pub mod ListingLemmas
 pub mod ManifestLemmas
 pub mod ManifestTextLemmas
+pub mod OxumLemmas
+pub mod PlainLemmas
+pub mod ValueLemmas
+pub mod TextCutLemmas
+pub mod InfoLineLemmas
+pub mod InfoTextLemmas
+pub mod WritingLemmas
+pub mod InfoWritingLemmas
+pub mod FetchUrlLemmas
+pub mod FetchLineLemmas
+pub mod FetchTextLemmas
+pub mod WrittenPathLemmas
+pub mod FetchWritingLemmas
+pub mod ManifestWritingLemmas

@@ -58,7 +58,7 @@ no_fault : (version : Version) (text p : List ℕ) (fault : PathFault) → Spell
 no_fault version text p fault h is refused =
     let e : None ≡ Some fault = sym (no_fault_if_path p is) ∙ ap path_fault (one_path version p refused.0 text h refused.1) ∙ refused.2 in cc
 
-no_path : (version : Version) (text p : List ℕ) (fault : PathFault) → Spells version p text → IsPath p → SpellsNoPath fault version text → ⊥
+pub no_path : (version : Version) (text p : List ℕ) (fault : PathFault) → Spells version p text → IsPath p → SpellsNoPath fault version text → ⊥
 no_path version text p path.Memory h is refused = refused
 no_path version text p path.BadEscape h is refused = refused p h
 no_path version text p path.Empty h is refused = no_fault version text p path.Empty h is refused

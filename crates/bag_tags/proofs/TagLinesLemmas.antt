@@ -17,9 +17,9 @@ numbered octets = enumerate_from 1 (lines_of (without mark octets))
 
 -- the lines before the rest of all lines lead to this value
 pub record HasLed {A : Type 0} (leads : A → ℕ → List ℕ → A → Type 0) (start : A) (all rest : List (ℕ × Text)) (value : A) : Type 0 where
-  before : List (ℕ × Text)
-  cut : all ≡ before ++ rest
-  lead : Lead leads start before value
+  pub before : List (ℕ × Text)
+  pub cut : all ≡ before ++ rest
+  pub lead : Lead leads start before value
 
 pub none_led : {A : Type 0} (leads : A → ℕ → List ℕ → A → Type 0) (start : A) (all : List (ℕ × Text)) → HasLed leads start all all start
 none_led leads start all = record { before = []; cut = refl; lead = refl }

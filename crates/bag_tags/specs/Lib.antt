@@ -8,3 +8,11 @@ pub mod Names
 pub mod Listings
 pub mod Manifests
 pub mod ManifestView
+pub mod Oxums
+pub mod Infos
+pub mod InfoText
+pub mod InfoReading
+pub mod FetchEntries
+pub mod Fetches
+pub mod FetchText
+pub mod ManifestWriting

@@ -3,18 +3,31 @@
 
 pub use declaration::{Declaration, DeclarationFault, read_declaration, write_declaration};
 pub use fault::{LineCause, LineFault, TagFault};
+pub use fetch::{Fetch, FetchEntry, FetchEntryFault, FetchLine};
+pub use fetch_text::{read_fetch, write_fetch};
+pub use info::{Element, ElementFault, Info};
+pub use info_text::{read_info, write_info};
 pub use listing::{Kind, Pair, PushFault};
 pub use manifest::Manifest;
 pub use manifest_text::read_manifest;
+pub use manifest_writing::write_manifest;
 pub use name::{TagName, unknown_algorithm};
+pub use oxum::Oxum;
 
 mod declaration;
 mod fault;
+mod fetch;
+mod fetch_text;
+mod info;
+mod info_text;
 pub mod laws;
 mod listing;
 mod manifest;
 mod manifest_text;
+mod manifest_writing;
 mod name;
 mod number;
+mod oxum;
 mod reading;
+mod utf8;
 mod words;

@@ -1,10 +1,13 @@
 //! How text tag files are read: line by line, onto a value.
-ghost use Rattle.std.specs.Prelude.{◌≡◌, ℕ, List, IfErr, OnOk};
+ghost use Rattle.std.specs.Prelude.{◌≡◌, ℕ, false, List, IfErr, OnOk};
+ghost use Rattle.std.specs.List.{AllByRecursion};
+ghost use Rattle.bag_path.specs.Lines.{IsPlain};
 ghost use Rattle.bag_path.specs.LinesLeft.{numbered_text};
 ghost use Rattle.bag_path.specs.declared.spelling.Version.{Version};
 ghost use Rattle.bag_tags.specs.declared.fault.LineCause.{LineCause};
 ghost use Rattle.bag_tags.specs.Reading.{LeadsOn, RefusedAt};
 ghost use Rattle.bag_tags.specs.TagLines.{Causes, Faults, IsTextOf, StopsAt};
+ghost use Rattle.bag_tags.specs.Words.{is_blank_line};
 
 use crate::fault::{LineFault, TagCause, TagFault};
 use crate::words::{is_blank_line, without};
@@ -22,6 +25,8 @@ pub(crate) trait TagLines {
 
     /// Adds what a line says. After an `Err` the value is not used again.
     fn read_line(&mut self, version: Version, number: u64, text: &[u8]) -> Result<(), TagCause>
+        requires plain { AllByRecursion IsPlain text.now }
+        requires not_blank { is_blank_line text.now ≡ false }
         ensures ok { OnOk result (leads version self.old number text.now self.new) }
         ensures err { IfErr result (Causes (refuses version self.old text.now)) };
 }
@@ -46,6 +51,7 @@ fn read_numbered<V: TagLines>(
     version: Version,
     line: Line<'_>,
 ) -> Result<(), TagFault>
+    requires { AllByRecursion IsPlain line.text.now }
     ensures ok { OnOk result (LeadsOn (V.leads version) value.old (numbered_text line.entry) value.new) }
     ensures err { IfErr result (Faults (RefusedAt (V.refuses version) value.old (numbered_text line.entry))) }
 {

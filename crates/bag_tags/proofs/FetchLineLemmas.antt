@@ -1,0 +1,159 @@
+-- A line of `fetch.txt` adds one entry, or is refused for one cause.
+use Rattle.std.proofs.Common.{◌≡◌, ◌≢◌, ◌==◌, ◌⊎◌, ◌<◌, ◌^◌, ℕ, Bool, true, false, List, [], ◌∷◌, ◌++◌, Option, Some, None, codes, length, refl, sym, ap, ◌∙◌, subst, inl, inr, arith, append_assoc}
+use Rattle.std.specs.List.{AllByRecursion}
+use Rattle.std.specs.Str.{IsUtf8}
+use Rattle.std.proofs.lemmas.Bool.{cases_Bool, ne_eqb}
+use Rattle.bag_path.specs.declared.spelling.Version.{Version}
+use Rattle.bag_path.specs.declared.path.PathFault.{PathFault}
+use Rattle.bag_path.specs.Paths.{IsPath, is_payload}
+use Rattle.bag_path.specs.Spellings.{Spells}
+use Rattle.bag_path.proofs.SpellsLemmas.{one_path}
+use Rattle.bag_tags.specs.declared.fault.LineCause.{LineCause}
+use Rattle.bag_tags.specs.declared.fault.LineCause.TheVariants.{NotUtf8, NoSeparator, BadDigest, BadPath, WrongPlace, Twice, BadLabel, NothingToContinue, BadUrl, BadLength}
+use Rattle.bag_tags.specs.declared.fetch.FetchLine.{FetchLine}
+use Rattle.bag_tags.specs.Numerals.{IsNumeral}
+use Rattle.bag_tags.specs.Words.{is_blank, IsBlank, IsNotBlank, IsCut}
+use Rattle.bag_tags.specs.WordsReading.{until, is_not_blank}
+use Rattle.bag_tags.specs.FetchEntries.{FetchItem, fetch_item, IsUrl}
+use Rattle.bag_tags.specs.Fetches.{fetch_line}
+use Rattle.bag_tags.specs.FetchText.{AreWords, HasWords, IsLength, GivesEntry, AddsEntry, LacksWord, GivesNoEntry, RefusesEntry}
+use Rattle.bag_tags.proofs.ManifestLemmas.{cut_by, same_rest, no_path}
+use Rattle.bag_tags.proofs.WordsLemmas.{cut_word, cut_some, none_passes, nothing_left}
+use Rattle.bag_tags.specs.declared.fault.TagCause.{TagCause}
+use Rattle.bag_tags.specs.declared.fault.TagCause.TheVariants as tag
+use Rattle.bag_tags.specs.TagLines.{Causes}
+use Rattle.bag_tags.specs.Manifests.{PathCause}
+use Rattle.bag_tags.proofs.TextCutLemmas.{first_of, second_of, blank_below, utf8_before, utf8_after, utf8_after_blanks}
+
+-- cuts of one text
+same_word : (text w b r v c s : List ℕ) → IsCut text w b r → IsCut text v c s → w ≡ v
+same_word text w b r v c s p q = first_of w v (b ++ r) (c ++ s) (sym (cut_word text w b r p) ∙ cut_word text v c s q)
+
+no_cut : (text w b r : List ℕ) → IsCut text w b r → AllByRecursion IsNotBlank text → ⊥
+no_cut text w b r p h =
+    let none : b ++ r ≡ [] = sym (ap (λ (u : List ℕ × List ℕ). u.1) (cut_word text w b r p)) ∙ nothing_left is_blank text h in
+    let k : true ≡ false = sym (ap (λ xs. length xs == 0) none) ∙ cut_some text w b r p in cc
+
+one_words : (text u l p v m q : List ℕ) → AreWords text u l p → AreWords text v m q → (u ≡ v) × (l ≡ m) × (p ≡ q)
+one_words text u l p v m q h k =
+    let rest = same_rest text u h.after_url h.rest v k.after_url k.rest h.url_cut k.url_cut in
+    let cut = subst (λ xs. IsCut xs l h.after_length p) rest h.length_cut in
+    (same_word text u h.after_url h.rest v k.after_url k.rest h.url_cut k.url_cut,
+     same_word k.rest l h.after_length p m k.after_length q cut k.length_cut,
+     same_rest k.rest l h.after_length p m k.after_length q cut k.length_cut)
+
+not_lacking : (text u l p : List ℕ) → AreWords text u l p → LacksWord text → ⊥
+not_lacking text u l p h n = elim n [
+  | inl a ↦ no_cut text u h.after_url h.rest h.url_cut a
+  | inr a ↦ no_cut h.rest l h.after_length p h.length_cut (subst (AllByRecursion IsNotBlank) (same_rest text a.0 a.1.0 a.1.1.0 u h.after_url h.rest a.1.1.1 h.url_cut) a.1.1.2)
+]
+
+-- a text is one length
+dash_no_numeral : (n : ℕ) → IsNumeral (codes "-") n → ⊥
+dash_no_numeral n h = absurd (let d = h.digits.0 in omega arith)
+
+one_length : (text : List ℕ) (a b : Option ℕ) → IsLength text a → IsLength text b → a ≡ b
+one_length text None None h k = refl
+one_length text (Some n) (Some m) h k = ap Some (h.0.value_is ∙ sym k.0.value_is)
+one_length text None (Some m) h k = absurd (dash_no_numeral m (subst (λ t. IsNumeral t m) h k.0))
+one_length text (Some n) None h k = absurd (dash_no_numeral n (subst (λ t. IsNumeral t n) k h.0))
+
+-- a line gives one entry
+pub one_entry : (version : Version) (text : List ℕ) (d e : FetchItem) → GivesEntry version text d → GivesEntry version text e → d ≡ e
+one_entry version text d e h k =
+    let w = one_words text d.url h.length h.path_text e.url k.length k.path_text h.words.words k.words.words in
+    ap (λ u. fetch_item u d.octets d.path) w.0
+    ∙ ap (λ o. fetch_item e.url o d.path) (one_length k.length d.octets e.octets (subst (λ t. IsLength t d.octets) w.1 h.is_length) k.is_length)
+    ∙ ap (λ p. fetch_item e.url e.octets p) (one_path version d.path e.path k.path_text (subst (Spells version d.path) w.2 h.spells) k.spells)
+
+pub fetch_one : (version : Version) (before : List FetchLine) (number : ℕ) (text : List ℕ) (next other : List FetchLine) → AddsEntry version before number text next → AddsEntry version before number text other → next ≡ other
+fetch_one version before number text next other a b = a.adds ∙ ap (λ e. before ++ fetch_line number e ∷ []) (one_entry version text a.entry b.entry a.gives b.gives) ∙ sym b.adds
+
+-- a line that adds an entry is refused for no cause
+pub fetch_apart : (version : Version) (before : List FetchLine) (number : ℕ) (text : List ℕ) (next : List FetchLine) (cause : LineCause) → AddsEntry version before number text next → RefusesEntry version before text cause → ⊥
+fetch_apart version before number text next NotUtf8 a r = r a.gives.words.utf8
+fetch_apart version before number text next NoSeparator a r = not_lacking text a.entry.url a.gives.length a.gives.path_text a.gives.words.words r.1
+fetch_apart version before number text next BadUrl a r =
+    let w = one_words text a.entry.url a.gives.length a.gives.path_text r.0 r.1 r.2 a.gives.words.words r.3.words in
+    r.4 (subst IsUrl w.0 a.gives.is_url)
+fetch_apart version before number text next BadLength a r =
+    let w = one_words text a.entry.url a.gives.length a.gives.path_text r.0 r.1 r.2 a.gives.words.words r.3.words in
+    r.5 a.entry.octets (subst (λ t. IsLength t a.entry.octets) w.1 a.gives.is_length)
+fetch_apart version before number text next (BadPath fault) a r =
+    let w = one_words text a.entry.url a.gives.length a.gives.path_text r.0 r.1 r.2 a.gives.words.words r.3.words in
+    no_path version r.2 a.entry.path fault (subst (Spells version a.entry.path) w.2 a.gives.spells) a.gives.is_path r.5.2
+fetch_apart version before number text next WrongPlace a r = r.2 (ap (λ (e : FetchItem). is_payload e.path) (sym (one_entry version text a.entry r.0 a.gives r.1)) ∙ a.payload)
+fetch_apart version before number text next BadDigest a r = r
+fetch_apart version before number text next Twice a r = r
+fetch_apart version before number text next BadLabel a r = r
+fetch_apart version before number text next NothingToContinue a r = r
+
+-- a line that was cut at its blanks
+empty_after : (xs ys zs : List ℕ) → until is_not_blank xs ≡ (ys, zs) → xs ≡ [] → zs ≡ []
+unfolding until
+empty_after xs ys zs e n = sym (ap (λ (u : List ℕ × List ℕ). u.1) e) ∙ ap (λ xs. (until is_not_blank xs).1) n
+
+empty_word : (xs ys zs : List ℕ) → until is_blank xs ≡ (ys, zs) → xs ≡ [] → zs ≡ []
+unfolding until
+empty_word xs ys zs e n = sym (ap (λ (u : List ℕ × List ℕ). u.1) e) ∙ ap (λ xs. (until is_blank xs).1) n
+
+nothing : (xs : List ℕ) → (length xs == 0) ≡ true → xs ≡ []
+nothing [] h = refl
+nothing (x ∷ xs) h = absurd (let k : (length (x ∷ xs) == 0) ≡ false = ne_eqb (length (x ∷ xs)) 0 (λ e. omega arith) in let b : true ≡ false = sym h ∙ k in cc)
+
+cut_of : (text word rest blanks more : List ℕ) → until is_blank text ≡ (word, rest) → (length rest == 0) ≡ false → until is_not_blank rest ≡ (blanks, more) → IsCut text word blanks more
+cut_of text word rest blanks more e some f = subst (λ (u : List ℕ × List ℕ). IsCut text word u.0 u.1) f (cut_by text word rest e some)
+
+pub words_of : (text url after_url blanks rest len after_len other path : List ℕ) → until is_blank text ≡ (url, after_url) → until is_not_blank after_url ≡ (blanks, rest) → until is_blank rest ≡ (len, after_len) → (length after_len == 0) ≡ false → until is_not_blank after_len ≡ (other, path) → AreWords text url len path
+words_of text url after_url blanks rest len after_len other path e f g some h = elim (cases_Bool (length after_url == 0)) [
+  | inl n ↦ absurd (
+      let none : after_len ≡ [] = empty_word rest len after_len g (empty_after after_url blanks rest f (nothing after_url n)) in
+      let k : true ≡ false = sym (ap (λ xs. length xs == 0) none) ∙ some in cc)
+  | inr n ↦ record {
+      after_url = blanks;
+      rest = rest;
+      after_length = other;
+      url_cut = cut_of text url after_url blanks rest e n f;
+      length_cut = cut_of rest len after_len other path g some h;
+    }
+]
+
+left_of : (text word rest : List ℕ) → until is_blank text ≡ (word, rest) → (length rest == 0) ≡ true → AllByRecursion IsNotBlank text
+left_of text word rest e n = none_passes is_blank text (ap (λ (u : List ℕ × List ℕ). length u.1 == 0) e ∙ n)
+
+pub lacks_of : (text url after_url blanks rest len after_len : List ℕ) → until is_blank text ≡ (url, after_url) → until is_not_blank after_url ≡ (blanks, rest) → until is_blank rest ≡ (len, after_len) → (length after_len == 0) ≡ true → LacksWord text
+lacks_of text url after_url blanks rest len after_len e f g none = elim (cases_Bool (length after_url == 0)) [
+  | inl n ↦ inl (left_of text url after_url e n)
+  | inr n ↦ inr (url, (blanks, (rest, cut_of text url after_url blanks rest e n f, left_of rest len after_len g none)))
+]
+
+-- the words in UTF-8
+cut_utf8 : (text word blanks rest : List ℕ) → IsCut text word blanks rest → IsUtf8 text → IsUtf8 word × IsUtf8 rest
+cut_utf8 text word [] rest h u = absurd (h.some_blank refl)
+cut_utf8 text word (b ∷ blanks) rest h u =
+    let whole = subst IsUtf8 (h.whole ∙ append_assoc word (b ∷ blanks) rest) u in
+    let below : b < 128 = blank_below b h.only_blanks.0 in
+    (utf8_before word (blanks ++ rest) b below whole, utf8_after_blanks blanks rest h.only_blanks.1 (utf8_after word (blanks ++ rest) b below whole))
+
+pub words_utf8 : (text url len path : List ℕ) → AreWords text url len path → IsUtf8 text → IsUtf8 url × IsUtf8 path
+words_utf8 text url len path h u =
+    let first = cut_utf8 text url h.after_url h.rest h.url_cut u in
+    (first.0, (cut_utf8 h.rest len h.after_length path h.length_cut first.1).1)
+
+-- a path's cause is that of its line
+pub path_cause : (version : Version) (text url len path_text : List ℕ) (octets : Option ℕ) (e : TagCause) → HasWords text url len path_text → IsUrl url → IsLength len octets → Causes (PathCause version path_text) e → Causes (GivesNoEntry version text) e
+path_cause version text url len path_text octets tag.Memory w u l h = tt
+path_cause version text url len path_text octets (tag.Line (BadPath fault)) w u l h = (url, len, path_text, w, u, (octets, l, h))
+path_cause version text url len path_text octets (tag.Line NotUtf8) w u l h = absurd h
+path_cause version text url len path_text octets (tag.Line NoSeparator) w u l h = absurd h
+path_cause version text url len path_text octets (tag.Line BadDigest) w u l h = absurd h
+path_cause version text url len path_text octets (tag.Line WrongPlace) w u l h = absurd h
+path_cause version text url len path_text octets (tag.Line Twice) w u l h = absurd h
+path_cause version text url len path_text octets (tag.Line BadLabel) w u l h = absurd h
+path_cause version text url len path_text octets (tag.Line NothingToContinue) w u l h = absurd h
+path_cause version text url len path_text octets (tag.Line BadUrl) w u l h = absurd h
+path_cause version text url len path_text octets (tag.Line BadLength) w u l h = absurd h
+
+-- an entry of the parts that were read
+pub gives_of : (version : Version) (text url len path_text : List ℕ) (octets : Option ℕ) (path : List ℕ) → HasWords text url len path_text → IsUrl url → IsLength len octets → Spells version path path_text → IsPath path → GivesEntry version text (fetch_item url octets path)
+gives_of version text url len path_text octets path w u l s p = record { length = len; path_text = path_text; words = w; is_url = u; is_length = l; spells = s; is_path = p }

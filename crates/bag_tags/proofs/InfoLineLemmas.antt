@@ -1,0 +1,236 @@
+-- A line of `bag-info.txt` adds one thing, or is refused for one cause.
+use Rattle.std.proofs.Common.{◌≡◌, ◌≢◌, ◌==◌, ◌⊎◌, ◌-◌, ℕ, Bool, true, false, List, [], ◌∷◌, ◌++◌, Option, Some, None, option_map, length, get_or, refl, sym, ap, ◌∙◌, subst, inl, inr, append-nil, arith}
+use Rattle.std.specs.List.{AllByRecursion}
+use Rattle.std.specs.Str.{IsUtf8}
+use Rattle.std.proofs.lemmas.Bool.{ne_eqb, cases_Bool}
+use Rattle.std.proofs.lemmas.Bool.Decides.{eqb_tells}
+use Rattle.bag_path.specs.Lines.{IsPlain}
+use Rattle.bag_path.specs.declared.spelling.Version.{Version}
+use Rattle.bag_tags.specs.declared.fault.LineCause.{LineCause}
+use Rattle.bag_tags.specs.declared.fault.LineCause.TheVariants.{NotUtf8, NoSeparator, BadDigest, BadPath, WrongPlace, Twice, BadLabel, NothingToContinue, BadUrl, BadLength}
+use Rattle.bag_tags.specs.Words.{is_blank, IsBlank, IsNotBlank, is_blank_line, begins_blank}
+use Rattle.bag_tags.specs.WordsReading.{until, is_colon, is_not_blank}
+use Rattle.bag_tags.specs.Infos.{MetadataElement, element, continued, IsFit, IsLabel, IsLabelOctet, IsNotColon, IsFurtherLine, IsValue}
+use Rattle.bag_tags.specs.InfoReading.{first_line_of}
+use Rattle.bag_tags.specs.InfoText.{IsIndented, HasColon, HasFirstLine, HasParts, GivesElement, Continues, AddsElement, AddsInfo, LacksSeparator, GivesNoElement, RefusesInfo}
+use Rattle.bag_tags.proofs.WordsLemmas.{until_front, until_here, begins_with}
+use Rattle.bag_tags.proofs.ValueLemmas.{plain_value}
+use Rattle.bag_tags.proofs.TextCutLemmas.{utf8_before, utf8_after, each, all_left, all_right, first_of, second_of, same_tail, whole_of, blanks_of, rest_begins, blanks_cut, blank_line_of, utf8_after_blanks}
+
+-- an indented line that was cut after its blanks
+some_blanks : (blanks text line : List ℕ) → text ≡ blanks ++ line → begins_blank text ≡ true → begins_blank line ≡ false → blanks ≢ []
+some_blanks blanks text line e b n empty = let k : true ≡ false = sym b ∙ ap begins_blank (e ∙ ap (λ xs. xs ++ line) empty) ∙ n in cc
+
+pub indented : (text blanks line : List ℕ) → until is_not_blank text ≡ (blanks, line) → begins_blank text ≡ true → IsIndented text line
+indented text blanks line e b =
+    let whole = whole_of is_not_blank text blanks line e in
+    let begins = rest_begins text blanks line e in
+    record {
+      blanks = blanks;
+      whole = whole;
+      some_blank = some_blanks blanks text line whole b begins;
+      only_blanks = blanks_of text blanks line e;
+      line_begins = begins;
+    }
+
+some_line : (text blanks line : List ℕ) → text ≡ blanks ++ line → AllByRecursion IsBlank blanks → is_blank_line text ≡ false → line ≢ []
+some_line text blanks line e h n empty =
+    let only : text ≡ blanks = e ∙ ap (λ xs. blanks ++ xs) empty ∙ append-nil blanks in
+    let k : true ≡ false = sym (blank_line_of blanks h) ∙ ap is_blank_line (sym only) ∙ n in cc
+
+pub further_line : (text blanks line : List ℕ) → until is_not_blank text ≡ (blanks, line) → AllByRecursion IsPlain text → is_blank_line text ≡ false → IsFurtherLine line
+further_line text blanks line e p n =
+    let whole = whole_of is_not_blank text blanks line e in
+    record {
+      some = some_line text blanks line whole (blanks_of text blanks line e) n;
+      begins = rest_begins text blanks line e;
+      no_line_end = all_right IsPlain blanks line (subst (AllByRecursion IsPlain) whole p);
+    }
+
+pub line_utf8 : (text blanks line : List ℕ) → until is_not_blank text ≡ (blanks, line) → IsUtf8 text → IsUtf8 line
+line_utf8 text blanks line e u = utf8_after_blanks blanks line (blanks_of text blanks line e) (subst IsUtf8 (whole_of is_not_blank text blanks line e) u)
+
+indent_cut : (text line : List ℕ) (h : IsIndented text line) → until is_not_blank text ≡ (h.blanks, line)
+indent_cut text line h = ap (until is_not_blank) h.whole ∙ blanks_cut h.blanks line h.only_blanks h.line_begins
+
+one_line : (text line other : List ℕ) → IsIndented text line → IsIndented text other → line ≡ other
+one_line text line other h k = second_of h.blanks k.blanks line other (sym (indent_cut text line h) ∙ indent_cut text other k)
+
+begins_so : (blanks line : List ℕ) → blanks ≢ [] → AllByRecursion IsBlank blanks → begins_blank (blanks ++ line) ≡ true
+begins_so [] line some h = absurd (some refl)
+begins_so (x ∷ blanks) line some h = h.0
+
+pub indent_begins : (text line : List ℕ) → IsIndented text line → begins_blank text ≡ true
+indent_begins text line h = ap begins_blank h.whole ∙ begins_so h.blanks line h.some_blank h.only_blanks
+
+-- a line that was cut at its first colon
+pub colon_cut : (text label after : List ℕ) → HasColon text label after → until is_colon text ≡ (label, 58 ∷ after)
+colon_cut text label after h = ap (until is_colon) h.whole ∙ until_here is_colon label after 58 (each IsNotColon (λ x. is_colon x ≡ false) (λ x n. ne_eqb x 58 n) label h.first_colon) refl
+
+not_colon : (x : ℕ) → is_colon x ≡ false → IsNotColon x
+not_colon x h e = let k : true ≡ false = sym (ap is_colon e) ∙ h in cc
+
+front_of : (text label rest : List ℕ) → until is_colon text ≡ (label, rest) → AllByRecursion IsNotColon label
+front_of text label rest e = each (λ x. is_colon x ≡ false) IsNotColon not_colon label (subst (λ (u : List ℕ × List ℕ). AllByRecursion (λ x. is_colon x ≡ false) u.0) e (until_front is_colon text))
+
+pub is_58 : (x : ℕ) → is_colon x ≡ true → x ≡ 58
+is_58 x h = elim (eqb_tells x 58) [ inl e ↦ e.1 | inr e ↦ absurd (let k : true ≡ false = sym h ∙ e.0 in cc) ]
+
+pub colon_of : (text label after : List ℕ) (x : ℕ) → until is_colon text ≡ (label, x ∷ after) → HasColon text label after
+colon_of text label after x e =
+    let here : x ≡ 58 = is_58 x (begins_with is_colon text x after (ap (λ (u : List ℕ × List ℕ). u.1) e)) in
+    record {
+      whole = whole_of is_colon text label (x ∷ after) e ∙ ap (λ y. label ++ y ∷ after) here;
+      first_colon = front_of text label (x ∷ after) e;
+    }
+
+same_colon : (text l a m b : List ℕ) → HasColon text l a → HasColon text m b → (l ≡ m) × (a ≡ b)
+same_colon text l a m b h k =
+    let e = sym (colon_cut text l a h) ∙ colon_cut text m b k in
+    (first_of l m (58 ∷ a) (58 ∷ b) e, (same_tail 58 58 a b (second_of l m (58 ∷ a) (58 ∷ b) e)).1)
+
+one_first : (after f g : List ℕ) → HasFirstLine after f → HasFirstLine after g → f ≡ g
+one_first [] f g h k = h ∙ sym k
+one_first (x ∷ after) f g h k = h.1 ∙ sym k.1
+
+pub one_parts : (text l f m g : List ℕ) → HasParts text l f → HasParts text m g → (l ≡ m) × (f ≡ g)
+one_parts text l f m g h k =
+    let s = same_colon text l h.after m k.after h.colon k.colon in
+    (s.0, one_first k.after f g (subst (λ a. HasFirstLine a f) s.1 h.first_line) k.first_line)
+
+-- the first line that was read
+pub parts_of : (text label rest first : List ℕ) → until is_colon text ≡ (label, rest) → Some first ≡ first_line_of rest → HasParts text label first
+parts_of text label [] first e h = absurd (cc)
+parts_of text label (x ∷ []) first e h = let same : first ≡ [] = cc in record { after = []; colon = colon_of text label [] x e; first_line = same }
+parts_of text label (x ∷ y ∷ rest) first e h = elim (cases_Bool (is_blank y)) [
+  | inl b ↦ let k = rw b at h in let same : first ≡ rest = cc in record { after = y ∷ rest; colon = colon_of text label (y ∷ rest) x e; first_line = (b, same) }
+  | inr b ↦ let k = rw b at h in absurd (cc)
+]
+
+-- no separator
+pub lacks_of : (text label rest : List ℕ) → until is_colon text ≡ (label, rest) → None ≡ first_line_of rest → LacksSeparator text
+lacks_of text label [] e h = inl (subst (AllByRecursion IsNotColon) (sym (whole_of is_colon text label [] e ∙ append-nil label)) (front_of text label [] e))
+lacks_of text label (x ∷ []) e h = absurd (cc)
+lacks_of text label (x ∷ y ∷ rest) e h = elim (cases_Bool (is_blank y)) [
+  | inl b ↦ let k = rw b at h in absurd (cc)
+  | inr b ↦ inr (label, (y, (rest, colon_of text label (y ∷ rest) x e, b)))
+]
+
+-- a line that gives an element begins with no blank
+fit_begins : (label rest : List ℕ) → IsFit label → begins_blank (label ++ rest) ≡ false
+fit_begins [] rest h = absurd (h.some refl)
+fit_begins (x ∷ label) rest h = h.begins
+
+pub gives_begins : (text : List ℕ) (e : MetadataElement) → GivesElement text e → begins_blank text ≡ false
+gives_begins text e g = ap begins_blank g.parts.colon.whole ∙ fit_begins e.label (58 ∷ g.parts.after) g.fit
+
+not_both : (text line : List ℕ) (e : MetadataElement) → IsIndented text line → GivesElement text e → ⊥
+not_both text line e h g = let k : true ≡ false = sym (indent_begins text line h) ∙ gives_begins text e g in cc
+
+one_element : (text : List ℕ) (d e : MetadataElement) → GivesElement text d → GivesElement text e → d ≡ e
+one_element text d e h k =
+    let s = one_parts text d.label d.value e.label e.value h.parts k.parts in
+    ap (λ l. element l d.value) s.0 ∙ ap (λ v. element e.label v) s.1
+
+-- the last of a list
+no_last : (xs : List MetadataElement) (x : MetadataElement) → (let l : List MetadataElement = [] in l) ≡ xs ++ x ∷ [] → ⊥
+no_last [] x e = cc
+no_last (y ∷ xs) x e = cc
+
+one_last : (xs ys : List MetadataElement) (x y : MetadataElement) → xs ++ x ∷ [] ≡ ys ++ y ∷ [] → (xs ≡ ys) × (x ≡ y)
+one_last [] [] x y e = let s : x ≡ y = cc in (refl, s)
+one_last [] (z ∷ ys) x y e = absurd (no_last ys y (let t : [] ≡ ys ++ y ∷ [] = cc in t))
+one_last (z ∷ xs) [] x y e = absurd (no_last xs x (let t : [] ≡ xs ++ x ∷ [] = cc in t))
+one_last (z ∷ xs) (w ∷ ys) x y e =
+    let tail : xs ++ x ∷ [] ≡ ys ++ y ∷ [] = cc in
+    let head : z ≡ w = cc in
+    let r = one_last xs ys x y tail in
+    (ap (λ v. v ∷ xs) head ∙ ap (λ vs. w ∷ vs) r.0, r.1)
+
+-- a line leads to one list of elements
+pub info_one : (version : Version) (before : List MetadataElement) (number : ℕ) (text : List ℕ) (next other : List MetadataElement) → AddsInfo version before number text next → AddsInfo version before number text other → next ≡ other
+info_one version before number text next other a b = elim a.1 [
+  | inl c ↦ elim b.1 [
+    | inl d ↦
+        let s = one_last c.earlier d.earlier c.last d.last (sym c.has_last ∙ d.has_last) in
+        c.continues ∙ ap (λ xs. xs ++ continued c.last c.line ∷ []) s.0 ∙ ap (λ x. d.earlier ++ continued x c.line ∷ []) s.1
+        ∙ ap (λ l. d.earlier ++ continued d.last l ∷ []) (one_line text c.line d.line c.indented d.indented) ∙ sym d.continues
+    | inr d ↦ absurd (not_both text c.line d.element c.indented d.gives)
+  ]
+  | inr c ↦ elim b.1 [
+    | inl d ↦ absurd (not_both text d.line c.element d.indented c.gives)
+    | inr d ↦ c.adds ∙ ap (λ x. before ++ x ∷ []) (one_element text c.element d.element c.gives d.gives) ∙ sym d.adds
+  ]
+]
+
+-- a line that gives an element has a separator and a good label
+gives_not_none : (text : List ℕ) (e : MetadataElement) (cause : LineCause) → GivesElement text e → GivesNoElement text cause → ⊥
+gives_not_none text e NoSeparator g n = elim n [
+  | inl h ↦ (all_right IsNotColon e.label (58 ∷ g.parts.after) (subst (AllByRecursion IsNotColon) g.parts.colon.whole h)).0 refl
+  | inr h ↦
+      let s = same_colon text e.label g.parts.after h.0 (h.1.0 ∷ h.1.1.0) g.parts.colon h.1.1.1 in
+      let f = subst (λ a. HasFirstLine a e.value) s.1 g.parts.first_line in
+      let k : true ≡ false = sym f.0 ∙ h.1.1.2 in cc
+]
+gives_not_none text e BadLabel g n = n.1.2 (subst IsFit (one_parts text e.label e.value n.0 n.1.0 g.parts n.1.1).0 g.fit)
+gives_not_none text e NotUtf8 g n = n
+gives_not_none text e BadDigest g n = n
+gives_not_none text e (BadPath fault) g n = n
+gives_not_none text e WrongPlace g n = n
+gives_not_none text e Twice g n = n
+gives_not_none text e NothingToContinue g n = n
+gives_not_none text e BadUrl g n = n
+gives_not_none text e BadLength g n = n
+
+line_apart : (before : List MetadataElement) (text : List ℕ) (next : List MetadataElement) (cause : LineCause) → Continues before text next ⊎ AddsElement before text next → begins_blank text ≡ false → GivesNoElement text cause → ⊥
+line_apart before text next cause a b n = elim a [
+  | inl c ↦ let k : true ≡ false = sym (indent_begins text c.line c.indented) ∙ b in cc
+  | inr c ↦ gives_not_none text c.element cause c.gives n
+]
+
+-- a line that adds something is refused for no cause
+pub info_apart : (version : Version) (before : List MetadataElement) (number : ℕ) (text : List ℕ) (next : List MetadataElement) (cause : LineCause) → AddsInfo version before number text next → RefusesInfo version before text cause → ⊥
+info_apart version before number text next NotUtf8 a r = r a.0
+info_apart version before number text next NothingToContinue a r = elim a.1 [
+  | inl c ↦ no_last c.earlier c.last (sym r.2 ∙ c.has_last)
+  | inr c ↦ let k : true ≡ false = sym r.1 ∙ gives_begins text c.element c.gives in cc
+]
+info_apart version before number text next NoSeparator a r = line_apart before text next NoSeparator a.1 r.1 r.2
+info_apart version before number text next BadLabel a r = line_apart before text next BadLabel a.1 r.1 r.2
+info_apart version before number text next BadDigest a r = r.2
+info_apart version before number text next (BadPath fault) a r = r.2
+info_apart version before number text next WrongPlace a r = r.2
+info_apart version before number text next Twice a r = r.2
+info_apart version before number text next BadUrl a r = r.2
+info_apart version before number text next BadLength a r = r.2
+
+-- the label and the first line of a text
+pub label_utf8 : (text label first : List ℕ) → HasParts text label first → IsUtf8 text → IsUtf8 label
+label_utf8 text label first h u = utf8_before label h.after 58 (omega arith) (subst IsUtf8 h.colon.whole u)
+
+after_utf8 : (after first : List ℕ) → HasFirstLine after first → IsUtf8 after → IsUtf8 first
+after_utf8 [] first h u = subst IsUtf8 (sym h) u
+after_utf8 (x ∷ rest) first h u = subst IsUtf8 (sym h.1) (utf8_after_blanks (x ∷ []) rest (h.0, tt) u)
+
+pub first_utf8 : (text label first : List ℕ) → HasParts text label first → IsUtf8 text → IsUtf8 first
+first_utf8 text label first h u = after_utf8 h.after first h.first_line (utf8_after label h.after 58 (omega arith) (subst IsUtf8 h.colon.whole u))
+
+both : (xs : List ℕ) → AllByRecursion IsNotColon xs → AllByRecursion IsPlain xs → AllByRecursion IsLabelOctet xs
+both [] h k = tt
+both (x ∷ xs) h k = ((h.0, k.0), both xs h.1 k.1)
+
+pub is_label_of : (text label first : List ℕ) → HasParts text label first → AllByRecursion IsPlain text → IsFit label → IsLabel label
+is_label_of text label first h p fit = record {
+  fit = fit;
+  octets = both label h.colon.first_colon (all_left IsPlain label (58 ∷ h.after) (subst (AllByRecursion IsPlain) h.colon.whole p));
+}
+
+after_plain : (after first : List ℕ) → HasFirstLine after first → AllByRecursion IsPlain after → AllByRecursion IsPlain first
+after_plain [] first h p = subst (AllByRecursion IsPlain) (sym h) p
+after_plain (x ∷ rest) first h p = subst (AllByRecursion IsPlain) (sym h.1) p.1
+
+pub is_value_of : (text label first : List ℕ) → HasParts text label first → AllByRecursion IsPlain text → IsValue first
+is_value_of text label first h p = plain_value first (after_plain h.after first h.first_line (all_right IsPlain label (58 ∷ h.after) (subst (AllByRecursion IsPlain) h.colon.whole p)).1)
+
+pub gives_of : (text label first : List ℕ) (e : MetadataElement) → HasParts text label first → e ≡ element label first → IsFit label → GivesElement text e
+gives_of text label first e h same fit = subst (GivesElement text) (sym same) (record { parts = h; fit = fit })

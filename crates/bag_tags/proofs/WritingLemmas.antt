@@ -1,0 +1,68 @@
+-- Texts that are written line by line are read as these lines.
+use Rattle.std.proofs.Common.{◌≡◌, ◌≢◌, ◌==◌, ◌+◌, ◌≤◌, ℕ, Bool, true, false, List, [], ◌∷◌, ◌++◌, map, length, take, drop, nat_eq, if◌then◌else◌, refl, sym, ap, ◌∙◌, subst, inl, inr, arith, append_assoc, append-nil}
+use Rattle.std.specs.List.{AllByRecursion, All, flat_map, enumerate_from, starts_with}
+use Rattle.std.proofs.lemmas.Bool.{ne_eqb, cases_Bool}
+use Rattle.std.proofs.lemmas.Bool.Decides.{eqb_tells}
+use Rattle.std.proofs.lemmas.List.Elements.{All-from_recursion}
+use Rattle.std.proofs.lemmas.List.Concat.{flat_map-cons, flat_map-append}
+use Rattle.std.proofs.Math.Seq.{take-length}
+use Rattle.bag_path.specs.Lines.{Text, line, lines_of, HasLines, IsPlain, written_lines}
+use Rattle.bag_path.specs.declared.lines.Ending.TheVariants.{Lf}
+use Rattle.bag_path.proofs.LinesLemmas.{one_list, lines_of-written_lines}
+use Rattle.bag_tags.specs.Words.{without}
+use Rattle.bag_tags.specs.TagLines.{mark, Lead, IsTextOf}
+
+-- a fact of the pieces so far is one of all, once all were gone through
+pub all_of : {A : Type 0} (xs : List A) (n : ℕ) → n ≡ length xs → take n xs ≡ xs
+all_of xs n e = ap (λ k. take k xs) e ∙ take-length xs
+
+pub facts : {A : Type 0} (P : A → Type 0) (xs : List A) (n : ℕ) → n ≡ length xs → AllByRecursion P (take n xs) → AllByRecursion P xs
+facts P xs n e h = subst (AllByRecursion P) (all_of xs n e) h
+
+-- a line that is ended by LF
+abbrev pub lf_line : List ℕ → Text
+lf_line text = line text Lf
+
+-- the texts as numbered lines
+abbrev pub numbered_texts : ℕ → List (List ℕ) → List (ℕ × Text)
+numbered_texts n texts = enumerate_from n (map lf_line texts)
+
+plain_texts : (texts : List (List ℕ)) → AllByRecursion (AllByRecursion IsPlain) texts → AllByRecursion (All IsPlain) texts
+plain_texts [] h = tt
+plain_texts (t ∷ texts) h = (All-from_recursion IsPlain t h.0, plain_texts texts h.1)
+
+pub has_written_lines : (texts : List (List ℕ)) → AllByRecursion (AllByRecursion IsPlain) texts → HasLines (written_lines texts) (map lf_line texts)
+has_written_lines texts h = (one_list (written_lines texts) (map lf_line texts)).1 (sym (lines_of-written_lines texts (All-from_recursion (All IsPlain) texts (plain_texts texts h))))
+
+-- octets that don't begin with a mark
+pub unmarked : (octets : List ℕ) → starts_with nat_eq octets mark ≡ false → without mark octets ≡ octets
+unmarked octets h = rw h refl
+
+-- written texts are a text of the value to which their lines lead
+pub written_text : {A : Type 0} (leads : A → ℕ → List ℕ → A → Type 0) (start value : A) (texts : List (List ℕ)) → starts_with nat_eq (written_lines texts) mark ≡ false → AllByRecursion (AllByRecursion IsPlain) texts → Lead leads start (numbered_texts 1 texts) value → IsTextOf leads start (written_lines texts) value
+written_text leads start value texts u h l = record {
+  lines = map lf_line texts;
+  has_lines = subst (λ octets. HasLines octets (map lf_line texts)) (sym (unmarked (written_lines texts) u)) (has_written_lines texts h);
+  lead = l;
+}
+
+-- one text more is one line more
+pub lines_cons : (text : List ℕ) (texts : List (List ℕ)) → written_lines (text ∷ texts) ≡ (text ++ 10 ∷ []) ++ written_lines texts
+lines_cons text texts = flat_map-cons (λ t. t ++ 10 ∷ []) text texts
+
+pub lines_append : (xs ys : List (List ℕ)) → written_lines (xs ++ ys) ≡ written_lines xs ++ written_lines ys
+lines_append xs ys = flat_map-append (λ t. t ++ 10 ∷ []) xs ys
+
+pub each_append : {A : Type 0} (P : A → Type 0) (xs ys : List A) → AllByRecursion P xs → AllByRecursion P ys → AllByRecursion P (xs ++ ys)
+each_append P [] ys h k = k
+each_append P (x ∷ xs) ys h k = (h.0, each_append P xs ys h.1 k)
+
+-- a word without a mark, and then an ASCII octet, have none
+pub no_mark : (word rest : List ℕ) (x : ℕ) → x ≢ 187 → x ≢ 191 → x ≢ 239 → starts_with nat_eq word mark ≡ false → starts_with nat_eq (word ++ x ∷ rest) mark ≡ false
+no_mark [] rest x a b c h = rw (ne_eqb 239 x (λ e. c (sym e))) refl
+no_mark (p ∷ []) rest x a b c h = rw (ne_eqb 187 x (λ e. a (sym e))) (elim (cases_Bool (239 == p)) [ inl e ↦ rw e refl | inr e ↦ rw e refl ])
+no_mark (p ∷ q ∷ []) rest x a b c h = rw (ne_eqb 191 x (λ e. b (sym e))) (elim (cases_Bool (239 == p)) [
+  | inl e ↦ rw e (elim (cases_Bool (187 == q)) [ inl f ↦ rw f refl | inr f ↦ rw f refl ])
+  | inr e ↦ rw e refl
+])
+no_mark (p ∷ q ∷ r ∷ word) rest x a b c h = h

@@ -1,0 +1,16 @@
+use Rattle.std.proofs.Common.{◌≡◌, List, length, ap, ◌∙◌, subst, arith}
+use Rattle.std.specs.List.{AllByRecursion}
+use Rattle.bag_tags.specs.declared.listing.Pair.{Pair}
+use Rattle.bag_tags.specs.Manifests.{ManifestText}
+use Rattle.bag_tags.specs.ManifestView.{FitEach}
+use Rattle.bag_tags.specs.ManifestWriting.{written_manifest}
+use Rattle.bag_tags.specs.Listings.{NoneTwice}
+use Rattle.bag_tags.proofs.WritingLemmas.{facts, all_of}
+use Rattle.bag_tags.proofs.ManifestWritingLemmas.{CanBeWritten, manifest_reads}
+use Rattle.bag_tags.proofs.manifest_writing.write_manifest.Goals as goal
+
+pub returns-clause-reads : goal.returns-clause-reads
+returns-clause-reads c =
+    let all : c.loop-pair.pair-index ≡ length c.pairs-pair-items.result.now = omega arith in
+    let good = subst (AllByRecursion CanBeWritten) c.pairs-pair-items.ensures.pairs (facts CanBeWritten _ _ all c.loop-pair.invariant.pairs) in
+    manifest_reads _ _ _ _ (c.loop-pair.invariant.written ∙ ap written_manifest (all_of _ _ all ∙ c.pairs-pair-items.ensures.pairs)) good c.pairs-pair-items.ensures.fit c.pairs-pair-items.ensures.none_twice

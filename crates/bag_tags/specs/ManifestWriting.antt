@@ -1,0 +1,23 @@
+-- A manifest as it is written (RFC 8493 section 2.1.3).
+use Rattle.std.specs.Prelude.{◌==◌, ◌||◌, ◌++◌, ℕ, Bool, false, List, [], ◌∷◌, codes, if◌then◌else◌}
+use Rattle.std.specs.List.{flat_map}
+use Rattle.bag_path.specs.Spellings.{written}
+use Rattle.bag_digest.specs.Spelling.{lower_case_of}
+use Rattle.bag_tags.specs.declared.listing.Pair.{Pair}
+use Rattle.bag_tags.specs.Words.{is_blank}
+
+-- whether a path begins with `*` or a blank, which a reader would drop
+abbrev pub needs_dot : List ℕ → Bool
+needs_dot [] = false
+needs_dot (octet ∷ octets) = octet == 42 || is_blank octet
+
+-- the path's written spelling, in that case after `./` (this project's own)
+abbrev pub written_path : List ℕ → List ℕ
+written_path path = (if needs_dot path then codes "./" else []) ++ written path
+
+-- a line: lower case hex, two spaces, the path and LF
+abbrev pub written_pair : Pair → List ℕ
+written_pair pair = lower_case_of pair.digest ++ codes "  " ++ written_path pair.path ++ 10 ∷ []
+
+abbrev pub written_manifest : List Pair → List ℕ
+written_manifest pairs = flat_map written_pair pairs

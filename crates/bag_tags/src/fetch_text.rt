@@ -1,0 +1,169 @@
+//! The text of `fetch.txt` (RFC 8493 section 2.2.3).
+ghost use Rattle.std.specs.Prelude.{◌≡◌, ◌<◌, ◌^◌, ◌++◌, ℕ, List, Option, IfErr, IfOk, IsErrOf, OnOk, IfSome, IfNone, MatchResult, true};
+ghost use Rattle.std.specs.Str.{IsUtf8};
+ghost use Rattle.bag_path.specs.Paths.{IsPath, is_payload};
+ghost use Rattle.bag_path.specs.Spellings.{Spells};
+ghost use Rattle.bag_path.specs.declared.spelling.Version.TheVariants.{V1};
+ghost use Rattle.bag_tags.specs.declared.fault.LineFault.{LineFault};
+ghost use Rattle.bag_tags.specs.declared.fetch.FetchLine.{FetchLine};
+ghost use Rattle.bag_tags.specs.TagLines.{Causes};
+ghost use Rattle.bag_tags.specs.Manifests.{PathCause};
+ghost use Rattle.bag_tags.specs.FetchEntries.{FetchItem, IsEntry, written_entry, written_length};
+ghost use Rattle.bag_tags.specs.Fetches.{numbered_from, written_fetch, written_line};
+ghost use Rattle.bag_tags.specs.FetchText.{AddsEntry, FetchText, FetchFault, AreWords, IsLength, LacksWord, GivesEntry, GivesNoEntry};
+
+use crate::fault::{LineCause, TagCause, TagFault};
+use crate::fetch::{Fetch, FetchEntry, FetchEntryFault, FetchLine, is_url};
+use crate::number::read_number;
+use crate::reading::{TagLines, read_text};
+use crate::utf8::known_text;
+use crate::words::{Stop, split_at_first};
+use bag_path::{BagPath, PathFault, Version, escape, unescape};
+use std::alloc::{AllocError, Global};
+use std::str;
+
+/// The entries of a text: on each line a url, blanks, a length in octets or `-`, blanks and the path of a payload file.
+///
+/// One byte order mark at the front is dropped, and lines of blanks alone are skipped.
+///
+/// # Errors
+///
+/// The first faulty line, counted from 1, with the first cause that holds of it: it is not UTF-8, it has no blank after the
+/// url or none after the length, its url, its length or its path is bad, the path is not that of a payload file; or `Memory`.
+pub fn read_fetch(alloc: Global, octets: &[u8], version: Version) -> Result<Fetch, TagFault>
+    // What is read is what the text lists, and what it lists is read.
+    ensures listed { IfOk result (λ fetch. FetchText version octets.now fetch) }
+    ensures only { (lines : List FetchLine) → FetchText version octets.now lines
+        → MatchResult result (λ fetch. fetch ≡ lines) (λ fault. fault ≡ TagFault.Memory) }
+    ensures fault { (fault : LineFault) → IsErrOf result (TagFault.Line fault) → FetchFault version octets.now fault }
+{
+    let mut fetch = Fetch::new(alloc);
+    read_text(&mut fetch, version, octets)?;
+    Ok(fetch)
+}
+
+impl TagLines for Fetch {
+    ghost use Rattle.bag_tags.specs.FetchText.{AddsEntry, RefusesEntry};
+
+    ghost leads = { AddsEntry };
+
+    ghost refuses = { RefusesEntry };
+
+    fn read_line(&mut self, version: Version, number: u64, text: &[u8]) -> Result<(), TagCause> {
+        let entry = read_entry(self.allocator(), version, text)?;
+        match self.push_line(number, entry) {
+            Ok(()) => Ok(()),
+            Err(AllocError) => Err(TagCause::Memory),
+        }
+    }
+}
+
+/// The entry that a line gives.
+fn read_entry(alloc: Global, version: Version, text: &[u8]) -> Result<FetchEntry, TagCause>
+    ensures ok { IfOk result (λ entry. GivesEntry version text.now entry × (is_payload entry.path ≡ true)) }
+    ensures err { IfErr result (Causes (GivesNoEntry version text.now)) }
+{
+    if str::from_utf8(text).is_err() {
+        return Err(TagCause::Line(LineCause::NotUtf8));
+    }
+    let Some((url, length, path)) = split_words(text) else {
+        return Err(TagCause::Line(LineCause::NoSeparator));
+    };
+    if !is_url(url) {
+        return Err(TagCause::Line(LineCause::BadUrl));
+    }
+    let Some(length) = read_length(length) else {
+        return Err(TagCause::Line(LineCause::BadLength));
+    };
+    let path = read_path(alloc, version, path)?;
+    match FetchEntry::new(alloc, known_text(url), length, path) {
+        Ok(entry) => Ok(entry),
+        Err(FetchEntryFault::BadUrl) => unreachable!(),
+        Err(FetchEntryFault::NotPayload) => Err(TagCause::Line(LineCause::WrongPlace)),
+        Err(FetchEntryFault::Memory) => Err(TagCause::Memory),
+    }
+}
+
+/// The path that the text after the length spells.
+fn read_path(alloc: Global, version: Version, text: &[u8]) -> Result<BagPath, TagCause>
+    requires { IsUtf8 text.now }
+    ensures ok { IfOk result (λ path. Spells version path text.now × IsPath path) }
+    ensures err { IfErr result (Causes (PathCause version text.now)) }
+{
+    match unescape(alloc, known_text(text), version) {
+        Ok(path) => Ok(path),
+        Err(PathFault::Memory) => Err(TagCause::Memory),
+        Err(fault) => Err(TagCause::Line(LineCause::BadPath(fault))),
+    }
+}
+
+/// The url, the length and the path's text of a line.
+fn split_words(text: &[u8]) -> Option<(&[u8], &[u8], &[u8])>
+    ensures some { IfSome result (λ words. AreWords text.now words.0.now words.1.now words.2.now) }
+    ensures none { IfNone result (LacksWord text.now) }
+{
+    let (url, rest) = split_at_first(text, Stop::Blank);
+    let (_blanks, rest) = split_at_first(rest, Stop::NoBlank);
+    let (length, rest) = split_at_first(rest, Stop::Blank);
+    if rest.is_empty() {
+        return None;
+    }
+    let (_blanks, path) = split_at_first(rest, Stop::NoBlank);
+    Some((url, length, path))
+}
+
+/// The length that a text says: none for `-`.
+fn read_length(text: &[u8]) -> Option<Option<u64>>
+    ensures some { IfSome result (λ length. IsLength text.now length) }
+    ensures none { IfNone result ((length : Option ℕ) → ¬ IsLength text.now length) }
+{
+    if text == b"-".as_slice() {
+        return Some(None);
+    }
+    Some(Some(read_number(text)?))
+}
+
+/// The text of these entries: each url, a space, the length or `-`, a space and the escaped path, with LF at the end.
+/// `read_fetch` reads the same entries again, on the lines from 1 on.
+///
+/// # Errors
+///
+/// `AllocError` where memory runs out.
+pub fn write_fetch(alloc: Global, fetch: &Fetch) -> Result<Vec<u8>, AllocError>
+    ensures written { IfOk result (λ octets. octets.items ≡ written_fetch fetch.now) }
+    ensures reads { IfOk result (λ octets. FetchText V1 octets.items (numbered_from 1 fetch.now)) }
+{
+    let mut octets = Vec::new(alloc);
+    for line in fetch.entries() {
+        write_entry(alloc, &mut octets, &line.entry)?;
+    }
+    Ok(octets)
+}
+
+fn write_entry(alloc: Global, octets: &mut Vec<u8>, entry: &FetchEntry) -> Result<(), AllocError>
+    ensures written { OnOk result (octets.new.items ≡ octets.old.items ++ written_entry entry.now) }
+    ensures is_entry { IsEntry entry.now }
+    ensures fits { OnOk result (IfSome entry.now.octets (λ n. n < 2 ^ 64)) }
+{
+    octets.extend_from_slice(entry.url().as_bytes())?;
+    octets.push(b' ')?;
+    write_length(alloc, octets, entry.length())?;
+    octets.push(b' ')?;
+    octets.extend_from_slice(escape(alloc, entry.path())?.as_bytes())?;
+    octets.push(b'\n')?;
+    Ok(())
+}
+
+fn write_length(alloc: Global, octets: &mut Vec<u8>, length: Option<u64>) -> Result<(), AllocError>
+    ensures written { OnOk result (octets.new.items ≡ octets.old.items ++ written_length length) }
+    ensures fits { IfSome length (λ n. n < 2 ^ 64) }
+{
+    match length {
+        None => octets.push(b'-')?,
+        Some(n) => octets.extend_from_slice(format!(in alloc; "{n}")?.as_bytes())?,
+    }
+    Ok(())
+}
+
+#[cfg(test)]
+mod tests;

@@ -1,0 +1,175 @@
+//! The text of `bag-info.txt` (RFC 8493 section 2.2.2).
+ghost use Rattle.std.specs.Prelude.{◌≡◌, ◌++◌, ℕ, true, false, List, [], IfErr, IfOk, IsErrOf, OnOk, MatchResult, option_map};
+ghost use Rattle.std.specs.List.{AllByRecursion};
+ghost use Rattle.std.specs.Str.{IsUtf8};
+ghost use Rattle.bag_path.specs.Lines.{IsPlain};
+ghost use Rattle.bag_path.specs.declared.spelling.Version.{Version};
+ghost use Rattle.bag_path.specs.declared.spelling.Version.TheVariants.{V1};
+ghost use Rattle.bag_tags.specs.declared.fault.LineFault.{LineFault};
+ghost use Rattle.bag_tags.specs.TagLines.{Causes};
+ghost use Rattle.bag_tags.specs.Words.{begins_blank, is_blank_line};
+ghost use Rattle.bag_tags.specs.Infos.{MetadataElement, IsElement, written_element, written_info, written_octet, written_value};
+ghost use Rattle.bag_tags.specs.InfoReading.{first_line_of};
+ghost use Rattle.bag_tags.specs.InfoText.{Continues, GivesElement, GivesNoElement, InfoText, InfoFault};
+
+use crate::fault::{LineCause, TagCause, TagFault};
+use crate::info::{Element, ElementFault, Info};
+use crate::reading::{TagLines, read_text};
+use crate::utf8::known_text;
+use crate::words::{Stop, is_blank, split_at_first};
+use bag_path::Version;
+use std::alloc::{AllocError, Global};
+use std::str;
+
+/// The elements of a text: each is a line with a label, a colon, a blank and the first line of the value, and then the
+/// indented lines, if there are any, each a further line of the value.
+///
+/// One byte order mark at the front is dropped, and lines of blanks alone are skipped.
+///
+/// # Errors
+///
+/// The first faulty line, counted from 1, with the first cause that holds of it: it is not UTF-8, it is indented and no
+/// element stands before it, it has no separator, its label is bad; or `Memory`.
+pub fn read_info(alloc: Global, octets: &[u8], version: Version) -> Result<Info, TagFault>
+    // What is read is what the text says, and what it says is read.
+    ensures read { IfOk result (λ info. InfoText version octets.now info) }
+    ensures only { (elements : List MetadataElement) → InfoText version octets.now elements
+        → MatchResult result (λ info. info ≡ elements) (λ fault. fault ≡ TagFault.Memory) }
+    ensures fault { (fault : LineFault) → IsErrOf result (TagFault.Line fault) → InfoFault version octets.now fault }
+{
+    let mut info = Info::new(alloc);
+    read_text(&mut info, version, octets)?;
+    Ok(info)
+}
+
+impl TagLines for Info {
+    ghost use Rattle.bag_tags.specs.InfoText.{AddsInfo, RefusesInfo};
+
+    ghost leads = { AddsInfo };
+
+    ghost refuses = { RefusesInfo };
+
+    fn read_line(&mut self, _version: Version, _number: u64, text: &[u8]) -> Result<(), TagCause> {
+        if str::from_utf8(text).is_err() {
+            return Err(TagCause::Line(LineCause::NotUtf8));
+        }
+        if text.len() > 0 && is_blank(text[0]) {
+            return continue_last(self, text);
+        }
+        let element = read_element(self.allocator(), text)?;
+        match self.push(element) {
+            Ok(()) => Ok(()),
+            Err(AllocError) => Err(TagCause::Memory),
+        }
+    }
+}
+
+/// Adds an indented line to the value of the last element.
+fn continue_last(info: &mut Info, text: &[u8]) -> Result<(), TagCause>
+    requires utf8 { IsUtf8 text.now }
+    requires plain { AllByRecursion IsPlain text.now }
+    requires indented { begins_blank text.now ≡ true }
+    requires not_blank { is_blank_line text.now ≡ false }
+    ensures ok { OnOk result (Continues info.old text.now info.new) }
+    ensures err { IfErr result (Causes (λ cause. (cause ≡ LineCause.NothingToContinue) × (info.old ≡ []))) }
+{
+    let Some(last) = info.pop() else {
+        return Err(TagCause::Line(LineCause::NothingToContinue));
+    };
+    let (_blanks, line) = split_at_first(text, Stop::NoBlank);
+    let Ok(last) = last.with_line(known_text(line)) else {
+        return Err(TagCause::Memory);
+    };
+    match info.push(last) {
+        Ok(()) => Ok(()),
+        Err(AllocError) => Err(TagCause::Memory),
+    }
+}
+
+/// The element that a line gives.
+fn read_element(alloc: Global, text: &[u8]) -> Result<Element, TagCause>
+    requires utf8 { IsUtf8 text.now }
+    requires plain { AllByRecursion IsPlain text.now }
+    ensures ok { IfOk result (GivesElement text.now) }
+    ensures err { IfErr result (Causes (GivesNoElement text.now)) }
+{
+    let (label, rest) = split_at_first(text, Stop::Colon);
+    let Some(first) = first_line(rest) else {
+        return Err(TagCause::Line(LineCause::NoSeparator));
+    };
+    match Element::new(alloc, known_text(label), known_text(first)) {
+        Ok(element) => Ok(element),
+        Err(ElementFault::BadLabel) => Err(TagCause::Line(LineCause::BadLabel)),
+        Err(ElementFault::BadValue) => unreachable!(),
+        Err(ElementFault::Memory) => Err(TagCause::Memory),
+    }
+}
+
+/// What follows the colon and one blank, or nothing where the line ends at its colon.
+fn first_line(rest: &[u8]) -> Option<&[u8]>
+    ensures { option_map (λ first. first.now) result ≡ first_line_of rest.now }
+{
+    match rest {
+        [] => None,
+        [_] => Some(&rest[1..]),
+        [_, blank, ..] => {
+            if is_blank(*blank) {
+                Some(&rest[2..])
+            } else {
+                None
+            }
+        }
+    }
+}
+
+/// The text of these elements: each label, a colon, a space and the value, whose further lines are indented by a space, with
+/// LF after each line. Nothing is folded. `read_info` reads the same elements again.
+///
+/// # Errors
+///
+/// `AllocError` where memory runs out.
+pub fn write_info(alloc: Global, info: &Info) -> Result<Vec<u8>, AllocError>
+    ensures written { IfOk result (λ octets. octets.items ≡ written_info info.now) }
+    ensures reads { IfOk result (λ octets. InfoText V1 octets.items info.now) }
+{
+    let mut octets = Vec::new(alloc);
+    for element in info.elements() {
+        write_element(&mut octets, element)?;
+    }
+    Ok(octets)
+}
+
+fn write_element(octets: &mut Vec<u8>, element: &Element) -> Result<(), AllocError>
+    ensures written { OnOk result (octets.new.items ≡ octets.old.items ++ written_element element.now) }
+    ensures is_element { IsElement element.now }
+{
+    octets.extend_from_slice(element.label().as_bytes())?;
+    octets.extend_from_slice(b": ")?;
+    write_value(octets, element.value().as_bytes())?;
+    octets.push(b'\n')?;
+    Ok(())
+}
+
+/// Writes the lines of a value, each after the first indented by a space.
+fn write_value(octets: &mut Vec<u8>, value: &[u8]) -> Result<(), AllocError>
+    ensures { OnOk result (octets.new.items ≡ octets.old.items ++ written_value value.now) }
+{
+    for octet in value {
+        write_octet(octets, *octet)?;
+    }
+    Ok(())
+}
+
+fn write_octet(octets: &mut Vec<u8>, octet: u8) -> Result<(), AllocError>
+    ensures { OnOk result (octets.new.items ≡ octets.old.items ++ written_octet octet) }
+{
+    if octet == b'\n' {
+        octets.extend_from_slice(b"\n ")?;
+        return Ok(());
+    }
+    octets.push(octet)?;
+    Ok(())
+}
+
+#[cfg(test)]
+mod tests;

@@ -1,0 +1,51 @@
+//! `Payload-Oxum`, by which a bag's payload is told at a glance (RFC 8493 section 2.2.2).
+ghost use Rattle.std.specs.Prelude.{◌≡◌, ℕ, List, Some, IfOk, IfSome, string_bytes};
+ghost use Rattle.bag_tags.specs.Oxums.{OxumText, written_oxum};
+ghost use Rattle.bag_tags.specs.declared.oxum.Oxum.{Oxum};
+
+use crate::number::read_number;
+use crate::words::{Stop, is_blank_line, split_at_first};
+use std::alloc::{AllocError, Global};
+
+/// How many octets a payload has, and how many files (streams).
+#[derive(Clone, Copy, Debug, PartialEq, Eq)]
+pub struct Oxum {
+    pub octets: u64,
+    pub streams: u64,
+}
+
+impl Oxum {
+    /// The oxum that the value of an element says: two numbers below 2^64 in ASCII digits, joined by a dot. Blanks at both
+    /// ends and leading zeros are accepted.
+    pub fn parse(text: &str) -> Option<Oxum>
+        ensures read { IfSome result (λ oxum. OxumText text.now oxum.octets oxum.streams) }
+        ensures only { (oxum : Oxum) → OxumText text.now oxum.octets oxum.streams → result ≡ Some oxum }
+    {
+        let (_front, rest) = split_at_first(text.as_bytes(), Stop::NoBlank);
+        let (octets, rest) = split_at_first(rest, Stop::Dot);
+        let rest = rest.strip_prefix(b".")?;
+        let (streams, back) = split_at_first(rest, Stop::Blank);
+        if !is_blank_line(back) {
+            return None;
+        }
+        Some(Oxum {
+            octets: read_number(octets)?,
+            streams: read_number(streams)?,
+        })
+    }
+
+    /// The value that is written for it: the two numbers without leading zeros, joined by a dot.
+    ///
+    /// # Errors
+    ///
+    /// `AllocError` where memory runs out.
+    pub fn to_text(self, alloc: Global) -> Result<String, AllocError>
+        ensures written { IfOk result (λ text. string_bytes text ≡ written_oxum self.octets self.streams) }
+        ensures says { IfOk result (λ text. OxumText (string_bytes text) self.octets self.streams) }
+    {
+        format!(in alloc; "{}.{}", self.octets, self.streams)
+    }
+}
+
+#[cfg(test)]
+mod tests;
