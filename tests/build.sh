@@ -43,8 +43,9 @@ builds() {
     return "$status"
 }
 
-# builds_after COMMAND..: the same of a run of `bag` after the command.
+# builds_after COMMAND..: the same of a run of `bag` after the command, which edits something. Files have coarse times.
 builds_after() {
+    sleep 0.1
     "$@"
     builds "$repository/bag" word
 }
@@ -69,7 +70,7 @@ expect 'an edited list of crates' 7 $'<word>\nbuilds: 1' builds_after touch "$re
 expect 'a source that was removed' 7 $'<word>\nbuilds: 1' builds_after rm "$crate/src/old.rt"
 expect 'a file that no build reads' 7 $'<word>\nbuilds: 0' builds_after touch "$crate/stdout"
 expect 'a built program needs no kit' 7 '<word>' without_kit "$repository/bag" word
-touch "$crate/src/main.rt"
+rm "$crate/out/bag_cmd"
 expect 'no kit' 69 'builds: 0' builds without_kit "$repository/bag" word
 expect 'no kit: one line says what is missing' 0 1 grep -c 'rt.*is not on PATH' "$work/build"
 touch "$repository/broken"

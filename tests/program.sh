@@ -21,6 +21,7 @@ expect 'no words' 64 'bag: check' bag
 expect 'a word that is no command' 64 'bag: check' bag verify examples/first-bag
 expect 'a command without its folder' 64 'bag: check' bag check
 expect 'a command with two folders' 64 'bag: check' bag check examples/first-bag examples/first-bag
+expect 'a word that is not UTF-8' 64 'bag: check' bag check $'\377'
 
 expect 'a valid bag' 0 valid bag check examples/first-bag
 expect 'a slash at the end' 0 valid bag check examples/first-bag/
@@ -90,6 +91,7 @@ nobody() {
 chmod 711 "$work"
 cp crates/bag_cmd/out/bag_cmd "$work/program"
 new locked
+chmod -R a+rX "$work/program" "$work/locked"
 expect 'the same, unlocked' 0 valid nobody "$work/program" check "$work/locked"
 chmod 000 "$work/locked/data/a.txt"
 expect 'a file that may not be read' 3 'bag: files' nobody "$work/program" check "$work/locked"
@@ -105,6 +107,17 @@ head -c 16777217 /dev/zero | tr '\0' A >"$work/large/bagit.txt"
 expect 'a bagit.txt past the limit' 3 'bag: tag too large' bag check "$work/large"
 truncate -s 16777216 "$work/large/bagit.txt"
 expect 'a bagit.txt at the limit' 1 $'bagit.txt: line count\nnot complete' bag check "$work/large"
+cp -r examples/empty-payload "$work/lines"
+mkdir -p "$work/lines/data"
+yes '' | head -n 100000 >"$work/lines/manifest-sha256.txt"
+expect 'a manifest of 100,000 lines' 0 valid bag check "$work/lines"
+echo >>"$work/lines/manifest-sha256.txt"
+expect 'a line more' 3 'bag: too many' bag check "$work/lines"
+mkdir "$work/files"
+(cd "$work/files" && seq 200000 | xargs touch)
+expect 'a folder of 200,000 files' 1 $'no bagit.txt\nnot complete' bag check "$work/files"
+touch "$work/files/200001"
+expect 'a file more' 3 'bag: too many' bag check "$work/files"
 
 # closed COMMAND.. and full COMMAND..: the command where its standard output is closed, and where it takes no octet.
 closed() {

@@ -1,31 +1,31 @@
 #!/usr/bin/env bash
-# The sessions that the documents show: each block marked `console` is run in a directory with the script `bag` and a fresh copy
+# The transcripts that the documents show: each block marked `console` is run in a directory with the script `bag` and a fresh copy
 # of the examples, and must print what it shows.
 set -u
 cd "$(dirname -- "$0")/.." || exit 1
 . tests/common.bash
 top=$PWD
 
-# What a build says would be noise in the first session.
+# What a build says would be noise in the first transcript.
 ./bag >"$work/printed" || true
 
 # An empty directory is none that git kept.
 fresh() {
-    rm -rf "$work/session"
-    mkdir "$work/session"
-    ln -s "$top/bag" "$work/session/bag"
-    cp -r examples "$work/session/examples"
-    find "$work/session/examples" -type d -empty -delete
+    rm -rf "$work/transcript"
+    mkdir "$work/transcript"
+    ln -s "$top/bag" "$work/transcript/bag"
+    cp -r examples "$work/transcript/examples"
+    find "$work/transcript/examples" -type d -empty -delete
 }
 
-# session NAME: runs the commands of the block in $work/block.
-session() {
+# transcript NAME: runs the commands of the block in $work/block.
+transcript() {
     local command status=0
     fresh
     while IFS= read -r command; do
         echo "$ $command"
         # What came before is known by its status alone, for `echo $?`.
-        (cd "$work/session" && timeout 60 bash -c "(exit $status); $command" 2>&1)
+        (cd "$work/transcript" && timeout 60 bash -c "(exit $status); $command" </dev/null 2>&1)
         status=$?
     done < <(sed -n 's/^\$ //p' "$work/block") >"$work/shown"
     expect "$1" 0 '' diff -u "$work/block" "$work/shown"
@@ -39,7 +39,7 @@ for file in README.md examples/README.md docs/*.md; do
             began=$((i + 1))
             : >"$work/block"
         elif [ "$began" -gt 0 ] && [ "${lines[i]}" = '```' ]; then
-            session "$file:$began"
+            transcript "$file:$began"
             began=0
         elif [ "$began" -gt 0 ]; then
             printf '%s\n' "${lines[i]}" >>"$work/block"
@@ -47,7 +47,7 @@ for file in README.md examples/README.md docs/*.md; do
     done
 done
 
-# Each example has its session.
+# Each example has its transcript.
 for folder in examples/*/; do
     expect "$folder is shown in examples/README.md" 0 '' grep -qF "./bag check ${folder%/}" examples/README.md
 done

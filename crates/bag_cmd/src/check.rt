@@ -15,6 +15,9 @@ use bag_rules::{CheckFault, Outcome, Report, Tree, check};
 use std::alloc::Global;
 use std::io::Write;
 
+#[cfg(test)]
+mod tests;
+
 /// Checks the bag that a tree holds, prints the answer and answers the status, as [`print_outcome`] does.
 pub fn check_to<T: Tree, W: Write>(alloc: Global, tree: &mut T, out: &mut Output<W>) -> u8
     // Status 0 is for valid bags alone.

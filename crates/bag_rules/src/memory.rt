@@ -1,9 +1,8 @@
 //! A tree of files in memory.
-ghost use Rattle.std.specs.Prelude.{◌≡◌, ◌≢◌, ◌+◌, ◌-◌, ◌^◌, ◌<◌, ◌≤◌, ◌++◌, ◌↔◌, ℕ, [], Contains, IfErr, IfOk, IsErr, IsNone, IsOk, IsTrue, List, OnErr, OnOk, drop, length, max, min, slice_get, take, true};
+ghost use Rattle.std.specs.Prelude.{◌≡◌, ◌≢◌, ◌+◌, ◌-◌, ◌^◌, ◌<◌, ◌≤◌, ◌++◌, ◌↔◌, ℕ, [], Contains, IfErr, IfOk, IsErr, IsOk, IsSome, List, OnErr, OnOk, drop, length, max, min, slice_get, take, true};
 ghost use Rattle.std.specs.Io.KnownBytes.{ReadConsumes};
 ghost use Rattle.std.specs.Option.{ForSome, option_copied, option_map};
 ghost use Rattle.bag_digest.specs.Device.{Rises};
-ghost use Rattle.bag_path.specs.Paths.{is_payload};
 ghost use Rattle.bag_rules.specs.Trees.{AreRising, SameFiles};
 ghost use Rattle.bag_rules.specs.MemoryInside.{IsGapFor, moved_up, paths_of};
 
@@ -200,6 +199,7 @@ impl Tree for MemTree {
         ensures counted { self.old.failures ≤ self.new.failures }
 
         ensures ok { IsOk result }
+        ensures known { IsSome self.new.started }
         ensures only_started { self.new ≡ record self.old { started = mem_body self.old i } }
     {
         self.reading = Some(Reading { place: i, at: 0 });

@@ -37,10 +37,11 @@ no_cut text w b r p h =
 one_words : (text u l p v m q : List ℕ) → AreWords text u l p → AreWords text v m q → (u ≡ v) × (l ≡ m) × (p ≡ q)
 one_words text u l p v m q h k =
     let rest = same_rest text u h.after_url h.rest v k.after_url k.rest h.url_cut k.url_cut in
-    let cut = subst (λ xs. IsCut xs l h.after_length p) rest h.length_cut in
-    (same_word text u h.after_url h.rest v k.after_url k.rest h.url_cut k.url_cut,
-     same_word k.rest l h.after_length p m k.after_length q cut k.length_cut,
-     same_rest k.rest l h.after_length p m k.after_length q cut k.length_cut)
+    let cut = subst (λ xs. IsCut xs l h.after_length p) rest h.length_cut in (
+      same_word text u h.after_url h.rest v k.after_url k.rest h.url_cut k.url_cut,
+      same_word k.rest l h.after_length p m k.after_length q cut k.length_cut,
+      same_rest k.rest l h.after_length p m k.after_length q cut k.length_cut,
+    )
 
 not_lacking : (text u l p : List ℕ) → AreWords text u l p → LacksWord text → ⊥
 not_lacking text u l p h n = elim n [
@@ -110,12 +111,12 @@ words_of text url after_url blanks rest len after_len other path e f g some h = 
       let none : after_len ≡ [] = empty_word rest len after_len g (empty_after after_url blanks rest f (nothing after_url n)) in
       let k : true ≡ false = sym (ap (λ xs. length xs == 0) none) ∙ some in cc)
   | inr n ↦ record {
-      after_url = blanks;
-      rest = rest;
-      after_length = other;
-      url_cut = cut_of text url after_url blanks rest e n f;
-      length_cut = cut_of rest len after_len other path g some h;
-    }
+    after_url = blanks;
+    rest = rest;
+    after_length = other;
+    url_cut = cut_of text url after_url blanks rest e n f;
+    length_cut = cut_of rest len after_len other path g some h;
+  }
 ]
 
 left_of : (text word rest : List ℕ) → until is_blank text ≡ (word, rest) → (length rest == 0) ≡ true → AllByRecursion IsNotBlank text

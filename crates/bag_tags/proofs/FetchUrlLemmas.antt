@@ -46,8 +46,7 @@ pub url_parts : (url scheme rest : List ℕ) → until is_colon url ≡ (scheme,
 url_parts url scheme rest e h =
     let same : (let u : List ℕ × List ℕ = (scheme, rest) in u) ≡ (h.scheme, 58 ∷ h.rest) = sym e ∙ url_cut url h in
     let some = rest_some h.rest h.some in
-    let long : 1 < length (58 ∷ h.rest) = omega arith in
-    (
+    let long : 1 < length (58 ∷ h.rest) = omega arith in (
       subst IsScheme (sym (first_of scheme h.scheme rest (58 ∷ h.rest) same)) h.is_scheme,
       subst (λ xs. (1 < length xs) × AllByRecursion IsUrlOctet (drop 1 xs)) (sym (second_of scheme h.scheme rest (58 ∷ h.rest) same)) (long, h.no_control),
     )

@@ -97,8 +97,8 @@ text_plain line h =
     (space, tt))
     (path_plain e.path)
   where
-  graphic_space : IsPlain 32
-  graphic_space = (λ e. cc, λ e. cc)
+    graphic_space : IsPlain 32
+    graphic_space = (λ e. cc, λ e. cc)
 
 texts_plain : (lines : List FetchLine) → AllByRecursion CanBeWritten lines → AllByRecursion (AllByRecursion IsPlain) (map line_text lines)
 texts_plain [] h = tt
@@ -167,8 +167,8 @@ gives line n before h =
       adds = refl;
     }
   where
-  regroup : (url len path : List ℕ) → url ++ codes " " ++ len ++ codes " " ++ path ≡ url ++ codes " " ++ (len ++ codes " " ++ path)
-  regroup url len path = simp append_assoc
+    regroup : (url len path : List ℕ) → url ++ codes " " ++ len ++ codes " " ++ path ≡ url ++ codes " " ++ (len ++ codes " " ++ path)
+    regroup url len path = simp append_assoc
 
 not_blank : (line : FetchLine) → CanBeWritten line → is_blank_line (line_text line) ≡ false
 not_blank line h =
@@ -184,7 +184,7 @@ lead_fetch (line ∷ lines) before n h = inr (
     before ++ fetch_line n line.entry ∷ [],
     gives line n before h.0,
     subst (λ after. Lead (AddsEntry V1) (before ++ fetch_line n line.entry ∷ []) (numbered_texts (n + 1) (map line_text lines)) after)
-    (append_assoc before (fetch_line n line.entry ∷ []) (numbered_from (n + 1) lines)) (lead_fetch lines (before ++ fetch_line n line.entry ∷ []) (n + 1) h.1),
+        (append_assoc before (fetch_line n line.entry ∷ []) (numbered_from (n + 1) lines)) (lead_fetch lines (before ++ fetch_line n line.entry ∷ []) (n + 1) h.1),
   ),
 )
 
@@ -196,7 +196,7 @@ fetch_unmarked (line ∷ lines) h =
     let more = 10 ∷ [] ++ written_lines (map line_text lines) in
     ap (λ octets. starts_with nat_eq octets mark)
     (lines_cons (line_text line) (map line_text lines) ∙ append_assoc (line_text line) (10 ∷ []) (written_lines (map line_text lines))
-        ∙ from_scheme e.url u (codes " ") (written_length e.octets) (codes " ") (written e.path) more)
+    ∙ from_scheme e.url u (codes " ") (written_length e.octets) (codes " ") (written e.path) more)
     ∙ scheme_unmarked u.scheme ((58 ∷ u.rest) ++ (codes " " ++ (written_length e.octets ++ (codes " " ++ (written e.path ++ more))))) u.is_scheme
 
 pub fetch_reads : (octets : List ℕ) (lines : List FetchLine) → octets ≡ written_fetch lines → AllByRecursion CanBeWritten lines → FetchText V1 octets (numbered_from 1 lines)

@@ -53,8 +53,8 @@ element_written e v =
     ∙ regroup e.label v.first (written_value (flat_map after_lf v.further))
     ∙ further_written (labelled e.label v.first) v.further v.lines.further_lines
   where
-  regroup : (label first rest : List ℕ) → label ++ codes ": " ++ (first ++ rest) ++ 10 ∷ [] ≡ labelled label first ++ (rest ++ 10 ∷ [])
-  regroup label first rest = simp append_assoc
+    regroup : (label first rest : List ℕ) → label ++ codes ": " ++ (first ++ rest) ++ 10 ∷ [] ≡ labelled label first ++ (rest ++ 10 ∷ [])
+    regroup label first rest = simp append_assoc
 
 pub info_written : (elements : List MetadataElement) (h : AllByRecursion IsElement elements) → written_info elements ≡ written_lines (info_texts elements h)
 unfolding info_texts
@@ -120,8 +120,8 @@ lead_further before label value (line ∷ further) rest n after h u k =
           }),
         ),
         lead_further before label (value ++ after_lf line) further rest (n + 1) after h.1 u.1
-        (λ m. subst (λ v. Lead (AddsInfo V1) (before ++ element label v ∷ []) (numbered_texts m rest) after)
-        (ap (λ xs. value ++ xs) (flat_map-cons after_lf line further) ∙ sym (append_assoc value (after_lf line) (flat_map after_lf further))) (k m)),
+            (λ m. subst (λ v. Lead (AddsInfo V1) (before ++ element label v ∷ []) (numbered_texts m rest) after)
+            (ap (λ xs. value ++ xs) (flat_map-cons after_lf line further) ∙ sym (append_assoc value (after_lf line) (flat_map after_lf further))) (k m)),
       ),
     )
 
@@ -160,7 +160,7 @@ lead_element before e h rest n after k =
           }),
         ),
         lead_further before e.label v.first v.further rest (n + 1) after v.lines.further_lines u.1
-        (λ m. subst (λ value. Lead (AddsInfo V1) (before ++ element e.label value ∷ []) (numbered_texts m rest) after) v.lines.whole (k m)),
+            (λ m. subst (λ value. Lead (AddsInfo V1) (before ++ element e.label value ∷ []) (numbered_texts m rest) after) v.lines.whole (k m)),
       ),
     )
 

@@ -282,8 +282,8 @@ lead_pairs alg kind (p ∷ pairs) before n h fit once = inr (
     listing alg kind (before ++ p ∷ []),
     adds alg kind before pairs p n h.0 fit once,
     subst (λ after. Lead (AddsPair V1) (listing alg kind (before ++ p ∷ [])) (numbered_texts (n + 1) (map pair_text pairs)) (listing alg kind after))
-    (append_assoc before (p ∷ []) pairs)
-    (lead_pairs alg kind pairs (before ++ p ∷ []) (n + 1) h.1 fit.1 (subst NoneTwice (sym (append_assoc before (p ∷ []) pairs)) once)),
+        (append_assoc before (p ∷ []) pairs)
+        (lead_pairs alg kind pairs (before ++ p ∷ []) (n + 1) h.1 fit.1 (subst NoneTwice (sym (append_assoc before (p ∷ []) pairs)) once)),
   ),
 )
 
@@ -293,8 +293,8 @@ pairs_unmarked (p ∷ pairs) h =
     let hex = lower_case_of p.digest in
     ap (λ octets. starts_with nat_eq octets mark)
     (lines_cons (pair_text p) (map pair_text pairs) ∙ append_assoc (pair_text p) (10 ∷ []) (written_lines (map pair_text pairs))
-        ∙ append_assoc (hex ++ codes "  ") (written_path p.path) (10 ∷ written_lines (map pair_text pairs))
-        ∙ append_assoc hex (codes "  ") (written_path p.path ++ 10 ∷ written_lines (map pair_text pairs)))
+    ∙ append_assoc (hex ++ codes "  ") (written_path p.path) (10 ∷ written_lines (map pair_text pairs))
+    ∙ append_assoc hex (codes "  ") (written_path p.path ++ 10 ∷ written_lines (map pair_text pairs)))
     ∙ hex_unmarked hex (codes "  " ++ (written_path p.path ++ 10 ∷ written_lines (map pair_text pairs))) (hex_of_pair p h.0)
 
 pub manifest_reads : (octets : List ℕ) (alg : Alg) (kind : Kind) (pairs : List Pair) → octets ≡ written_manifest pairs → AllByRecursion CanBeWritten pairs → FitEach alg kind pairs → NoneTwice pairs → ManifestText V1 alg kind octets pairs

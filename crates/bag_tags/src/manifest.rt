@@ -148,3 +148,6 @@ fn add(
     let _ = pairs.pop();
     Err(AllocError)
 }
+
+#[cfg(test)]
+mod tests;

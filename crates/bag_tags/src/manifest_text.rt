@@ -100,3 +100,6 @@ fn read_path(alloc: Global, version: Version, text: &[u8]) -> Result<BagPath, Ta
         Err(fault) => Err(TagCause::Line(LineCause::BadPath(fault))),
     }
 }
+
+#[cfg(test)]
+mod tests;

@@ -60,16 +60,31 @@ fn the_first_faulty_line_and_its_first_cause(rt: HostRuntime) {
         (b"http:x\x01 - data/a".as_slice(), LineCause::BadUrl),
         (b"http:x -1 data/a".as_slice(), LineCause::BadLength),
         (b"http:x -- data/a".as_slice(), LineCause::BadLength),
-        (b"http:x 18446744073709551616 data/a".as_slice(), LineCause::BadLength),
+        (
+            b"http:x 18446744073709551616 data/a".as_slice(),
+            LineCause::BadLength,
+        ),
         (b"http:x".as_slice(), LineCause::NoSeparator),
         (b"http:x ".as_slice(), LineCause::NoSeparator),
         (b"http:x 5".as_slice(), LineCause::NoSeparator),
-        (b"http:x 5 ".as_slice(), LineCause::BadPath(PathFault::Empty)),
+        (
+            b"http:x 5 ".as_slice(),
+            LineCause::BadPath(PathFault::Empty),
+        ),
         (b"http:x 5 a".as_slice(), LineCause::WrongPlace),
         (b"http:x 5 *data/a".as_slice(), LineCause::WrongPlace),
-        (b"http:x 5 ./data/a".as_slice(), LineCause::BadPath(PathFault::DotSegment)),
-        (b"http:x 5 data".as_slice(), LineCause::BadPath(PathFault::PayloadRoot)),
-        (b"http:x 5 data/%41".as_slice(), LineCause::BadPath(PathFault::BadEscape)),
+        (
+            b"http:x 5 ./data/a".as_slice(),
+            LineCause::BadPath(PathFault::DotSegment),
+        ),
+        (
+            b"http:x 5 data".as_slice(),
+            LineCause::BadPath(PathFault::PayloadRoot),
+        ),
+        (
+            b"http:x 5 data/%41".as_slice(),
+            LineCause::BadPath(PathFault::BadEscape),
+        ),
         (b"\xFF".as_slice(), LineCause::NotUtf8),
         (b"http:x 5 data/\xFF".as_slice(), LineCause::NotUtf8),
     ] {

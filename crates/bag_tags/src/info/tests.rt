@@ -37,7 +37,10 @@ fn labels_and_values_that_make_none(rt: HostRuntime) {
         ("a", "\r", ElementFault::BadValue),
     ] {
         let answer = Element::new(rt.alloc(), label, value);
-        assert!(rt; matches!(&answer, Err(e) if *e == fault), "{label:?} {value:?}");
+        assert!(rt;
+            matches!(&answer, Err(e) if *e == fault),
+            "{label:?} {value:?}"
+        );
     }
 }
 

@@ -7,11 +7,9 @@ fn says(alloc: Global, text: &[u8], elements: &[(&str, &str)]) -> bool {
         return false;
     };
     info.elements().len() == elements.len()
-        && info
-            .elements()
-            .iter()
-            .zip(elements)
-            .all(|(element, (label, value))| element.label() == *label && element.value() == *value)
+        && info.elements().iter().zip(elements).all(|(element, (label, value))| element.label()
+            == *label
+            && element.value() == *value)
 }
 
 /// The line and the cause for which a text isn't read.
@@ -56,9 +54,21 @@ fn what_a_text_says(rt: HostRuntime) {
     let alloc = rt.alloc();
     assert!(rt; says(alloc, b"", &[]));
     assert!(rt; says(alloc, b"\xEF\xBB\xBF", &[]));
-    assert!(rt; says(alloc, b"\xEF\xBB\xBFPayload-Oxum: 3.2\n", &[("Payload-Oxum", "3.2")]));
+    assert!(rt;
+        says(
+            alloc,
+            b"\xEF\xBB\xBFPayload-Oxum: 3.2\n",
+            &[("Payload-Oxum", "3.2")]
+        )
+    );
     assert!(rt; says(alloc, b"\n \t\nA:\tb: c \r\n\r d\re", &[]) == false);
-    assert!(rt; says(alloc, b"\n \t\nA:\tb: c \r\n\n \r d\r\n", &[("A", "b: c \nd")]));
+    assert!(rt;
+        says(
+            alloc,
+            b"\n \t\nA:\tb: c \r\n\n \r d\r\n",
+            &[("A", "b: c \nd")]
+        )
+    );
     assert!(rt; says(alloc, b"A: \n\t b\n  c ", &[("A", "\nb\nc ")]));
     assert!(rt; says(alloc, b"A:\n b", &[("A", "\nb")]));
     assert!(rt; says(alloc, b"A:   b", &[("A", "  b")]));
@@ -77,8 +87,16 @@ fn the_first_faulty_line_and_its_first_cause(rt: HostRuntime) {
         (b"L : v".as_slice(), 1, LineCause::BadLabel),
         (b": v".as_slice(), 1, LineCause::BadLabel),
         (b":".as_slice(), 1, LineCause::BadLabel),
-        (b"A: b\n\xEF\xBB\xBFC: d\n".as_slice(), 2, LineCause::BadLabel),
-        (b"\xEF\xBB\xBF\xEF\xBB\xBFC: d\n".as_slice(), 1, LineCause::BadLabel),
+        (
+            b"A: b\n\xEF\xBB\xBFC: d\n".as_slice(),
+            2,
+            LineCause::BadLabel,
+        ),
+        (
+            b"\xEF\xBB\xBF\xEF\xBB\xBFC: d\n".as_slice(),
+            1,
+            LineCause::BadLabel,
+        ),
         (b"A: b\n\xFF\n c d".as_slice(), 2, LineCause::NotUtf8),
         (b" \xFF".as_slice(), 1, LineCause::NotUtf8),
     ] {

@@ -31,8 +31,9 @@ fn nothing_of_a_path_is_dropped_when_it_is_read_again(rt: HostRuntime) -> Result
     let paths = ["*a", " b", "\tc", "**", "d\n%", ".e/*", "x "];
     let mut manifest = Manifest::new(rt.alloc(), Alg::Md5, Kind::Tag);
     for path in paths {
-        let digest =
-            Digest::from_hex(Alg::Md5, b"D41D8CD98F00B204E9800998ECF8427E").expect(&rt, "hex");
+        let digest = Digest::from_hex(Alg::Md5, b"D41D8CD98F00B204E9800998ECF8427E").expect(
+            &rt, "hex",
+        );
         manifest.push(BagPath::parse(rt.alloc(), path)?, digest)?;
     }
     let written = write_manifest(rt.alloc(), &manifest)?;

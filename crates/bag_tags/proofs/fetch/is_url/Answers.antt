@@ -4,8 +4,7 @@ use Rattle.bag_tags.proofs.fetch.is_url.Goals as goal
 
 pub returns-then-is_scheme : goal.returns-then-is_scheme
 returns-then-is_scheme c =
-    let scheme = c.is_scheme.ensures.0 c.if-is_scheme.true in
-    (
+    let scheme = c.is_scheme.ensures.0 c.if-is_scheme.true in (
       λ t. url_of _ _ _ c.split_at_first.ensures scheme (c.is_colon_and_more.ensures.0 t),
       λ url. c.is_colon_and_more.ensures.1 (url_parts _ _ _ c.split_at_first.ensures url).1,
     )

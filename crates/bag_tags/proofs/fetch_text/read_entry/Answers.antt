@@ -7,8 +7,7 @@ use Rattle.bag_tags.proofs.fetch_text.read_entry.Goals as goal
 
 pub returns-then-not-is_url-clause-err : goal.returns-then-not-is_url-clause-err
 returns-then-not-is_url-clause-err c =
-    let utf8 : IsUtf8 c.args.text.now = search rules in
-    (
+    let utf8 : IsUtf8 c.args.text.now = search rules in (
       c.in-Some.url.now,
       c.in-Some.length.now,
       c.in-Some.path.now,
@@ -30,8 +29,7 @@ pub returns-in-Err-NotPayload-clause-err : goal.returns-in-Err-NotPayload-clause
 returns-in-Err-NotPayload-clause-err c =
     let utf8 : IsUtf8 c.args.text.now = search rules in
     let words : HasWords c.args.text.now c.in-Some.url.now c.in-Some.length.now c.in-Some.path.now = record { utf8 = utf8; words = c.in-Some.ensures.some } in
-    let refused = rw c.in-Err-NotPayload.field-0-is at c.in-Err-NotPayload.ensures.refused in
-    (
+    let refused = rw c.in-Err-NotPayload.field-0-is at c.in-Err-NotPayload.ensures.refused in (
       _,
       gives_of c.args.version c.args.text.now _ _ _ _ _ words (c.is_url.ensures.0 c.if-not-is_url.false) c.in-Some-read_length.ensures.some c.in_ok-path.ensures.ok.0 c.in_ok-path.ensures.ok.1,
       refused.1,
