@@ -27,6 +27,22 @@ fn a_payload_manifest_in_the_order_of_its_pairs(rt: HostRuntime) -> Result<(), F
 }
 
 #[test]
+fn a_star_and_a_space_at_the_front_of_a_path_are_kept(rt: HostRuntime) -> Result<(), Fail> {
+    let mut manifest = Manifest::new(rt.alloc(), Alg::Sha256, Kind::Tag);
+    for (path, checksum) in [("*x", EMPTY), (" y", ABC)] {
+        let digest = Digest::from_hex(Alg::Sha256, checksum).expect(&rt, "hex");
+        manifest.push(BagPath::parse(rt.alloc(), path)?, digest)?;
+    }
+    let written = write_manifest(rt.alloc(), &manifest)?;
+    assert_eq!(rt; written.len(), 142);
+    assert!(rt;
+        written.as_slice()
+            == b"e3b0c44298fc1c149afbf4c8996fb92427ae41e4649b934ca495991b7852b855  ./*x\nba7816bf8f01cfea414140de5dae2223b00361a396177a9cb410ff61f20015ad  ./ y\n".as_slice()
+    );
+    Ok(())
+}
+
+#[test]
 fn nothing_of_a_path_is_dropped_when_it_is_read_again(rt: HostRuntime) -> Result<(), Fail> {
     let paths = ["*a", " b", "\tc", "**", "d\n%", ".e/*", "x "];
     let mut manifest = Manifest::new(rt.alloc(), Alg::Md5, Kind::Tag);
