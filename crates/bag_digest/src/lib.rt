@@ -15,6 +15,7 @@ pub use source::{Failed, Source};
 mod algorithm;
 mod counted;
 mod digest;
+pub mod examples;
 mod laws;
 mod multi;
 mod reading;

@@ -92,6 +92,7 @@ pub fn digest_through<S: Source>(
         → GaveMoreThan (S.remaining reader.old) (S.remaining reader.new) limit }
     ensures read { IsErrOf result SourceFault.Read
         → Rises (S.faults reader.old) (S.faults reader.new) }
+    ensures unfailed { ¬ IsErrOf result SourceFault.Read → S.faults reader.new ≡ S.faults reader.old }
     ensures read_within { IsErrOf result SourceFault.Read
         → GaveWithin (S.remaining reader.old) (S.remaining reader.new) limit }
     ensures counted { S.faults reader.old ≤ S.faults reader.new }
@@ -132,6 +133,7 @@ pub fn digest_reader<S: Source>(
         → GaveMoreThan (S.remaining reader.old) (S.remaining reader.new) limit }
     ensures read { IsErrOf result ReadFault.Read
         → Rises (S.faults reader.old) (S.faults reader.new) }
+    ensures unfailed { ¬ IsErrOf result ReadFault.Read → S.faults reader.new ≡ S.faults reader.old }
     ensures read_within { IsErrOf result ReadFault.Read
         → GaveWithin (S.remaining reader.old) (S.remaining reader.new) limit }
     ensures memory { IsErrOf result ReadFault.Memory → reader.new ≡ reader.old }
@@ -167,6 +169,7 @@ pub fn read_to_end_within<S: Source>(
         → GaveMoreThan (S.remaining reader.old) (S.remaining reader.new) limit }
     ensures read { IsErrOf result ReadFault.Read
         → Rises (S.faults reader.old) (S.faults reader.new) }
+    ensures unfailed { ¬ IsErrOf result ReadFault.Read → S.faults reader.new ≡ S.faults reader.old }
     ensures read_within { IsErrOf result ReadFault.Read
         → GaveWithin (S.remaining reader.old) (S.remaining reader.new) limit }
     ensures counted { S.faults reader.old ≤ S.faults reader.new }
@@ -205,6 +208,7 @@ fn read_piece<S: Source>(buffer: &mut [u8], reader: &mut S, left: u64) -> Result
         → GaveMoreThan (S.remaining reader.old) (S.remaining reader.new) left }
     ensures read { IsErrOf result SourceFault.Read
         → Rises (S.faults reader.old) (S.faults reader.new) }
+    ensures unfailed { ¬ IsErrOf result SourceFault.Read → S.faults reader.new ≡ S.faults reader.old }
     ensures read_none { IsErrOf result SourceFault.Read
         → Keeps (S.remaining reader.old) (S.remaining reader.new) }
     ensures counted { S.faults reader.old ≤ S.faults reader.new }

@@ -1,5 +1,5 @@
 //! Sources: what gives octets, piece by piece.
-ghost use Rattle.std.specs.Prelude.{◌≡◌, ◌≤◌, ℕ, List, Option, length, OnErr, IfOk};
+ghost use Rattle.std.specs.Prelude.{◌≡◌, ◌≤◌, ℕ, List, Option, length, OnErr, OnOk, IfOk};
 ghost use Rattle.std.specs.Io.KnownBytes.{ReadConsumes};
 ghost use Rattle.bag_digest.specs.Device.{Rises};
 
@@ -31,6 +31,7 @@ pub trait Source {
         ensures octets { ReadConsumes (remaining self.old) (remaining self.new) result buf.new }
         ensures kept { keeps self.old self.new }
         ensures failed { OnErr result (Rises (faults self.old) (faults self.new)) }
+        ensures unfailed { OnOk result (faults self.new ≡ faults self.old) }
         ensures counted { faults self.old ≤ faults self.new };
 
     /// How often the source has failed. The count stays at its greatest number.

@@ -5,6 +5,7 @@ pub use lines::{Ending, Line, Lines};
 pub use path::{BagPath, PathFault};
 pub use spelling::{Version, escape, unescape};
 
+pub mod examples;
 pub mod laws;
 mod lines;
 mod path;

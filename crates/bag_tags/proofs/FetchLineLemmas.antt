@@ -1,10 +1,9 @@
 -- A line of `fetch.txt` adds one entry, or is refused for one cause.
-use Rattle.std.proofs.Common.{◌≡◌, ◌≢◌, ◌==◌, ◌⊎◌, ◌<◌, ◌^◌, ℕ, Bool, true, false, List, [], ◌∷◌, ◌++◌, Option, Some, None, codes, length, refl, sym, ap, ◌∙◌, subst, inl, inr, arith, append_assoc}
+use Rattle.std.proofs.Common.{◌≡◌, ◌==◌, ◌<◌, ℕ, true, false, List, [], ◌∷◌, ◌++◌, Option, Some, None, codes, length, refl, sym, ap, ◌∙◌, subst, inl, inr, arith, append_assoc}
 use Rattle.std.specs.List.{AllByRecursion}
 use Rattle.std.specs.Str.{IsUtf8}
 use Rattle.std.proofs.lemmas.Bool.{cases_Bool, ne_eqb}
 use Rattle.bag_path.specs.declared.spelling.Version.{Version}
-use Rattle.bag_path.specs.declared.path.PathFault.{PathFault}
 use Rattle.bag_path.specs.Paths.{IsPath, is_payload}
 use Rattle.bag_path.specs.Spellings.{Spells}
 use Rattle.bag_path.proofs.SpellsLemmas.{one_path}
@@ -12,29 +11,24 @@ use Rattle.bag_tags.specs.declared.fault.LineCause.{LineCause}
 use Rattle.bag_tags.specs.declared.fault.LineCause.TheVariants.{NotUtf8, NoSeparator, BadDigest, BadPath, WrongPlace, Twice, BadLabel, NothingToContinue, BadUrl, BadLength}
 use Rattle.bag_tags.specs.declared.fetch.FetchLine.{FetchLine}
 use Rattle.bag_tags.specs.Numerals.{IsNumeral}
-use Rattle.bag_tags.specs.Words.{is_blank, IsBlank, IsNotBlank, IsCut}
+use Rattle.bag_tags.specs.Words.{is_blank, IsNotBlank, IsCut}
 use Rattle.bag_tags.specs.WordsReading.{until, is_not_blank}
 use Rattle.bag_tags.specs.FetchEntries.{FetchItem, fetch_item, IsUrl}
 use Rattle.bag_tags.specs.Fetches.{fetch_line}
 use Rattle.bag_tags.specs.FetchText.{AreWords, HasWords, IsLength, GivesEntry, AddsEntry, LacksWord, GivesNoEntry, RefusesEntry}
-use Rattle.bag_tags.proofs.ManifestLemmas.{cut_by, same_rest, no_path}
-use Rattle.bag_tags.proofs.WordsLemmas.{cut_word, cut_some, none_passes, nothing_left}
+use Rattle.bag_tags.proofs.ManifestLemmas.{cut_by, same_rest, no_cut, no_path}
+use Rattle.bag_tags.proofs.WordsLemmas.{cut_word, none_passes}
 use Rattle.bag_tags.specs.declared.fault.TagCause.{TagCause}
 use Rattle.bag_tags.specs.declared.fault.TagCause.TheVariants as tag
 use Rattle.bag_tags.specs.TagLines.{Causes}
 use Rattle.bag_tags.specs.Manifests.{PathCause}
-use Rattle.bag_tags.proofs.TextCutLemmas.{first_of, second_of, blank_below, utf8_before, utf8_after, utf8_after_blanks}
+use Rattle.bag_tags.proofs.TextCutLemmas.{first_of, blank_below, utf8_before, utf8_after, utf8_after_blanks}
 
 -- cuts of one text
 same_word : (text w b r v c s : List ℕ) → IsCut text w b r → IsCut text v c s → w ≡ v
 same_word text w b r v c s p q = first_of w v (b ++ r) (c ++ s) (sym (cut_word text w b r p) ∙ cut_word text v c s q)
 
-no_cut : (text w b r : List ℕ) → IsCut text w b r → AllByRecursion IsNotBlank text → ⊥
-no_cut text w b r p h =
-    let none : b ++ r ≡ [] = sym (ap (λ (u : List ℕ × List ℕ). u.1) (cut_word text w b r p)) ∙ nothing_left is_blank text h in
-    let k : true ≡ false = sym (ap (λ xs. length xs == 0) none) ∙ cut_some text w b r p in cc
-
-one_words : (text u l p v m q : List ℕ) → AreWords text u l p → AreWords text v m q → (u ≡ v) × (l ≡ m) × (p ≡ q)
+pub one_words : (text u l p v m q : List ℕ) → AreWords text u l p → AreWords text v m q → (u ≡ v) × (l ≡ m) × (p ≡ q)
 one_words text u l p v m q h k =
     let rest = same_rest text u h.after_url h.rest v k.after_url k.rest h.url_cut k.url_cut in
     let cut = subst (λ xs. IsCut xs l h.after_length p) rest h.length_cut in (
@@ -43,7 +37,7 @@ one_words text u l p v m q h k =
       same_rest k.rest l h.after_length p m k.after_length q cut k.length_cut,
     )
 
-not_lacking : (text u l p : List ℕ) → AreWords text u l p → LacksWord text → ⊥
+pub not_lacking : (text u l p : List ℕ) → AreWords text u l p → LacksWord text → ⊥
 not_lacking text u l p h n = elim n [
   | inl a ↦ no_cut text u h.after_url h.rest h.url_cut a
   | inr a ↦ no_cut h.rest l h.after_length p h.length_cut (subst (AllByRecursion IsNotBlank) (same_rest text a.0 a.1.0 a.1.1.0 u h.after_url h.rest a.1.1.1 h.url_cut) a.1.1.2)
@@ -129,7 +123,7 @@ lacks_of text url after_url blanks rest len after_len e f g none = elim (cases_B
 ]
 
 -- the words in UTF-8
-cut_utf8 : (text word blanks rest : List ℕ) → IsCut text word blanks rest → IsUtf8 text → IsUtf8 word × IsUtf8 rest
+pub cut_utf8 : (text word blanks rest : List ℕ) → IsCut text word blanks rest → IsUtf8 text → IsUtf8 word × IsUtf8 rest
 cut_utf8 text word [] rest h u = absurd (h.some_blank refl)
 cut_utf8 text word (b ∷ blanks) rest h u =
     let whole = subst IsUtf8 (h.whole ∙ append_assoc word (b ∷ blanks) rest) u in

@@ -1,5 +1,5 @@
 -- A line of `bag-info.txt` adds one thing, or is refused for one cause.
-use Rattle.std.proofs.Common.{◌≡◌, ◌≢◌, ◌==◌, ◌⊎◌, ◌-◌, ℕ, Bool, true, false, List, [], ◌∷◌, ◌++◌, Option, Some, None, option_map, length, get_or, refl, sym, ap, ◌∙◌, subst, inl, inr, append-nil, arith}
+use Rattle.std.proofs.Common.{◌≡◌, ◌≢◌, ◌⊎◌, ℕ, true, false, List, [], ◌∷◌, ◌++◌, Some, None, refl, sym, ap, ◌∙◌, subst, inl, inr, append-nil, arith}
 use Rattle.std.specs.List.{AllByRecursion}
 use Rattle.std.specs.Str.{IsUtf8}
 use Rattle.std.proofs.lemmas.Bool.{ne_eqb, cases_Bool}
@@ -8,7 +8,7 @@ use Rattle.bag_path.specs.Lines.{IsPlain}
 use Rattle.bag_path.specs.declared.spelling.Version.{Version}
 use Rattle.bag_tags.specs.declared.fault.LineCause.{LineCause}
 use Rattle.bag_tags.specs.declared.fault.LineCause.TheVariants.{NotUtf8, NoSeparator, BadDigest, BadPath, WrongPlace, Twice, BadLabel, NothingToContinue, BadUrl, BadLength}
-use Rattle.bag_tags.specs.Words.{is_blank, IsBlank, IsNotBlank, is_blank_line, begins_blank}
+use Rattle.bag_tags.specs.Words.{is_blank, IsBlank, is_blank_line, begins_blank}
 use Rattle.bag_tags.specs.WordsReading.{until, is_colon, is_not_blank}
 use Rattle.bag_tags.specs.Infos.{MetadataElement, element, continued, IsFit, IsLabel, IsLabelOctet, IsNotColon, IsFurtherLine, IsValue}
 use Rattle.bag_tags.specs.InfoReading.{first_line_of}
@@ -163,15 +163,19 @@ info_one version before number text next other a b = elim a.1 [
   ]
 ]
 
--- a line that gives an element has a separator and a good label
-gives_not_none : (text : List ℕ) (e : MetadataElement) (cause : LineCause) → GivesElement text e → GivesNoElement text cause → ⊥
-gives_not_none text e NoSeparator g n = elim n [
-  | inl h ↦ (all_right IsNotColon e.label (58 ∷ g.parts.after) (subst (AllByRecursion IsNotColon) g.parts.colon.whole h)).0 refl
+-- a line with a label and a first line has its separator
+pub not_lacking : (text label first : List ℕ) → HasParts text label first → LacksSeparator text → ⊥
+not_lacking text label first p n = elim n [
+  | inl h ↦ (all_right IsNotColon label (58 ∷ p.after) (subst (AllByRecursion IsNotColon) p.colon.whole h)).0 refl
   | inr h ↦
-      let s = same_colon text e.label g.parts.after h.0 (h.1.0 ∷ h.1.1.0) g.parts.colon h.1.1.1 in
-      let f = subst (λ a. HasFirstLine a e.value) s.1 g.parts.first_line in
+      let s = same_colon text label p.after h.0 (h.1.0 ∷ h.1.1.0) p.colon h.1.1.1 in
+      let f = subst (λ a. HasFirstLine a first) s.1 p.first_line in
       let k : true ≡ false = sym f.0 ∙ h.1.1.2 in cc
 ]
+
+-- a line that gives an element has a separator and a good label
+gives_not_none : (text : List ℕ) (e : MetadataElement) (cause : LineCause) → GivesElement text e → GivesNoElement text cause → ⊥
+gives_not_none text e NoSeparator g n = not_lacking text e.label e.value g.parts n
 gives_not_none text e BadLabel g n = n.1.2 (subst IsFit (one_parts text e.label e.value n.0 n.1.0 g.parts n.1.1).0 g.fit)
 gives_not_none text e NotUtf8 g n = n
 gives_not_none text e BadDigest g n = n

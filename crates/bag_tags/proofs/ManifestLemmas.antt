@@ -1,12 +1,12 @@
 -- A line of a manifest adds one pair, or is refused for one cause.
-use Rattle.std.proofs.Common.{◌≡◌, ◌≢◌, ◌==◌, ◌⊎◌, ℕ, Bool, true, false, List, [], ◌∷◌, ◌++◌, Option, Some, None, refl, sym, ap, ◌∙◌, subst, inl, inr, append_assoc, length, arith, cond}
+use Rattle.std.proofs.Common.{◌≡◌, ◌==◌, ℕ, true, false, List, [], ◌++◌, Some, None, sym, ap, ◌∙◌, subst, length}
 use Rattle.std.specs.List.{AllByRecursion}
 use Rattle.std.specs.Str.{IsUtf8}
 use Rattle.bag_path.specs.declared.spelling.Version.{Version}
 use Rattle.bag_path.specs.declared.path.PathFault.{PathFault}
 use Rattle.bag_path.specs.declared.path.PathFault.TheVariants as path
 use Rattle.bag_path.specs.Paths.{IsPath, path_fault}
-use Rattle.bag_path.specs.Spellings.{Spells, RefusesSpelling}
+use Rattle.bag_path.specs.Spellings.{Spells}
 use Rattle.bag_digest.specs.declared.algorithm.Alg.{Alg}
 use Rattle.bag_digest.specs.declared.digest.Digest.{Digest}
 use Rattle.bag_digest.specs.Spelling.{SpellsDigest}
@@ -14,7 +14,7 @@ use Rattle.bag_tags.specs.declared.fault.LineCause.{LineCause}
 use Rattle.bag_tags.specs.declared.fault.LineCause.TheVariants.{NotUtf8, NoSeparator, BadDigest, BadPath, WrongPlace, Twice, BadLabel, NothingToContinue, BadUrl, BadLength}
 use Rattle.bag_tags.specs.Words.{is_blank, IsNotBlank, IsCut}
 use Rattle.bag_tags.specs.WordsReading.{until, is_not_blank}
-use Rattle.bag_tags.specs.Listings.{Listing, pair, with_pair, IsInPlace, lists_path, Admits}
+use Rattle.bag_tags.specs.Listings.{Listing, pair, with_pair, IsInPlace, lists_path}
 use Rattle.bag_tags.specs.Manifests.{plain_path, HasChecksum, Gives, AddsPair, SpellsNoPath, PathCause, GivesNothing, RefusesLine}
 use Rattle.bag_tags.specs.declared.fault.TagCause.{TagCause}
 use Rattle.bag_tags.specs.declared.fault.TagCause.TheVariants as tag
@@ -25,7 +25,7 @@ use Rattle.bag_digest.proofs.Spelled.{one_digest_spelled}
 use Rattle.bag_tags.proofs.WordsLemmas.{cut_word, cut_blanks, cut_some, cut_at, nothing_left}
 
 -- two cuts of one text
-same_word : (text w b r v c s : List ℕ) → IsCut text w b r → IsCut text v c s → (w ≡ v) × (b ++ r ≡ c ++ s)
+pub same_word : (text w b r v c s : List ℕ) → IsCut text w b r → IsCut text v c s → (w ≡ v) × (b ++ r ≡ c ++ s)
 same_word text w b r v c s p q =
     let e : (let u : List ℕ × List ℕ = (w, b ++ r) in u) ≡ (v, c ++ s) = sym (cut_word text w b r p) ∙ cut_word text v c s q in
     (ap (λ (u : List ℕ × List ℕ). u.0) e, ap (λ (u : List ℕ × List ℕ). u.1) e)
@@ -35,8 +35,14 @@ same_rest text w b r v c s p q =
     let e : (let u : List ℕ × List ℕ = (b, r) in u) ≡ (c, s) = sym (cut_blanks text w b r p) ∙ ap (until is_not_blank) (same_word text w b r v c s p q).1 ∙ cut_blanks text v c s q in
     ap (λ (u : List ℕ × List ℕ). u.1) e
 
+-- a text without blanks has no cut
+pub no_cut : (text w b r : List ℕ) → IsCut text w b r → AllByRecursion IsNotBlank text → ⊥
+no_cut text w b r p h =
+    let none : b ++ r ≡ [] = sym (ap (λ (u : List ℕ × List ℕ). u.1) (cut_word text w b r p)) ∙ nothing_left is_blank text h in
+    let k : true ≡ false = sym (ap (λ xs. length xs == 0) none) ∙ cut_some text w b r p in cc
+
 -- one digest, one path's text
-checksum_one : (alg : Alg) (text : List ℕ) (d e : Digest) (p q : List ℕ) → HasChecksum alg text d p → HasChecksum alg text e q → (d ≡ e) × (p ≡ q)
+pub checksum_one : (alg : Alg) (text : List ℕ) (d e : Digest) (p q : List ℕ) → HasChecksum alg text d p → HasChecksum alg text e q → (d ≡ e) × (p ≡ q)
 checksum_one alg text d e p q h k = (
   one_digest_spelled alg k.checksum d e (subst (λ w. SpellsDigest alg w d) (same_word text h.checksum h.blanks p k.checksum k.blanks q h.cut k.cut).0 h.spells_digest) k.spells_digest,
   same_rest text h.checksum h.blanks p k.checksum k.blanks q h.cut k.cut,
@@ -69,14 +75,9 @@ no_path version text p path.Nul h is refused = no_fault version text p path.Nul 
 no_path version text p path.PayloadRoot h is refused = no_fault version text p path.PayloadRoot h is refused
 
 -- a line that gives something has none of the causes for which it would give nothing
-gives_not_nothing : (version : Version) (alg : Alg) (text p : List ℕ) (d : Digest) (cause : LineCause) → Gives version alg text p d → GivesNothing version alg text cause → ⊥
+pub gives_not_nothing : (version : Version) (alg : Alg) (text p : List ℕ) (d : Digest) (cause : LineCause) → Gives version alg text p d → GivesNothing version alg text cause → ⊥
 gives_not_nothing version alg text p d NotUtf8 g n = n g.checksum.utf8
-gives_not_nothing version alg text p d NoSeparator g n =
-    let c = g.checksum in
-    let e : (let r : List ℕ = [] in r) ≡ c.blanks ++ g.path_text = sym (nothing_left is_blank text n.1) ∙ ap (λ (u : List ℕ × List ℕ). u.1) (cut_word text c.checksum c.blanks g.path_text c.cut) in
-    let some : (length (c.blanks ++ g.path_text) == 0) ≡ false = cut_some text c.checksum c.blanks g.path_text c.cut in
-    let none : (length (c.blanks ++ g.path_text) == 0) ≡ true = ap (λ xs. length xs == 0) (sym e) in
-    let b : true ≡ false = sym none ∙ some in cc
+gives_not_nothing version alg text p d NoSeparator g n = no_cut text g.checksum.checksum g.checksum.blanks g.path_text g.checksum.cut n.1
 gives_not_nothing version alg text p d BadDigest g n =
     let c = g.checksum in
     n.1.4 d (subst (λ w. SpellsDigest alg w d) (same_word text c.checksum c.blanks g.path_text n.1.0 n.1.1 n.1.2 c.cut n.1.3).0 c.spells_digest)

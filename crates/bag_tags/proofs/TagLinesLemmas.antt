@@ -1,5 +1,5 @@
 -- A text tag file is read exactly as its lines lead.
-use Rattle.std.proofs.Common.{◌≡◌, ◌⊎◌, ℕ, Bool, true, false, List, [], ◌∷◌, ◌++◌, refl, sym, ap, ◌∙◌, subst, inl, inr, append_assoc, append-nil}
+use Rattle.std.proofs.Common.{◌≡◌, ℕ, true, false, List, [], ◌∷◌, ◌++◌, refl, sym, ap, ◌∙◌, subst, inl, inr, append_assoc, append-nil}
 use Rattle.std.specs.List.{enumerate_from}
 use Rattle.bag_path.specs.Lines.{Text, HasLines, lines_of}
 use Rattle.bag_path.proofs.LinesLemmas.{one_list}
@@ -127,3 +127,56 @@ text_none leads refuses one start octets value fault t f =
     let s = f.stops in
     let same : t.lines ≡ s.lines = (one_list o t.lines).0 t.has_lines ∙ sym ((one_list o s.lines).0 s.has_lines) in
     lead_none leads one s.before s.after fault.line s.faulty start s.so_far value s.lead s.not_blank f.no_further (subst (λ ls. Lead leads start ls value) (ap (enumerate_from 1) same ∙ s.cut) t.lead)
+
+module _ {A : Type 0} (leads : A → ℕ → List ℕ → A → Type 0) (refuses : A → List ℕ → LineCause → Type 0) (one : (value : A) (n : ℕ) (text : List ℕ) (next other : A) → leads value n text next → leads value n text other → next ≡ other) (one_cause : (value : A) (text : List ℕ) (cause other : LineCause) → refuses value text cause → refuses value text other → cause ≡ other) where
+  -- a numbered line that is refused after a value, and leads nowhere
+  abbrev IsFaulty : A → ℕ × Text → LineCause → Type 0
+  IsFaulty value line cause = (is_blank_line line.1.text ≡ false) × refuses value line.1.text cause × ((next : A) → leads value line.0 line.1.text next → ⊥)
+
+  no_lead : (line : ℕ × Text) (lines : List (ℕ × Text)) (start value : A) (cause : LineCause) → IsFaulty start line cause → Lead leads start (line ∷ lines) value → ⊥
+  no_lead line lines start value cause f h = elim h [
+    | inl e ↦ absurd (let b : true ≡ false = sym e.0 ∙ f.0 in cc)
+    | inr e ↦ f.2 e.1.0 e.1.1
+  ]
+
+  -- the first faulty line among lines is one, for one cause
+  stop_one : (before others after rest : List (ℕ × Text)) (line other : ℕ × Text) (start so_far value : A) (c d : LineCause) → before ++ line ∷ after ≡ others ++ other ∷ rest → Lead leads start before so_far → Lead leads start others value → IsFaulty so_far line c → IsFaulty value other d → (line.0 ≡ other.0) × (c ≡ d)
+  stop_one [] [] after rest line other start so_far value c d e h k f g =
+      let here : line ≡ other = cc in
+      let same : so_far ≡ value = h ∙ sym k in
+      (ap (λ (l : ℕ × Text). l.0) here, one_cause value other.1.text c d (subst (λ (l : ℕ × Text). refuses value l.1.text c) here (subst (λ v. refuses v line.1.text c) same f.1)) g.1)
+  stop_one [] (x ∷ others) after rest line other start so_far value c d e h k f g =
+      let here : line ≡ x = cc in
+      absurd (no_lead x others start value c (subst (λ l. IsFaulty start l c) here (subst (λ v. IsFaulty v line c) h f)) k)
+  stop_one (x ∷ before) [] after rest line other start so_far value c d e h k f g =
+      let here : other ≡ x = cc in
+      absurd (no_lead x before start so_far d (subst (λ l. IsFaulty start l d) here (subst (λ v. IsFaulty v other d) k g)) h)
+  stop_one (x ∷ before) (y ∷ others) after rest line other start so_far value c d e h k f g =
+      let here : x ≡ y = cc in
+      let more : before ++ line ∷ after ≡ others ++ other ∷ rest = cc in
+      elim (subst (λ l. Lead leads start (l ∷ before) so_far) here h) [
+        | inl a ↦ elim k [
+          | inl b ↦ stop_one before others after rest line other start so_far value c d more a.1 b.1 f g
+          | inr b ↦ absurd (let t : true ≡ false = sym a.0 ∙ b.0 in cc)
+        ]
+        | inr a ↦ elim k [
+          | inl b ↦ absurd (let t : true ≡ false = sym b.0 ∙ a.0 in cc)
+          | inr b ↦
+              let same = one start y.0 y.1.text a.1.0 b.1.0 a.1.1 b.1.1 in
+              stop_one before others after rest line other b.1.0 so_far value c d more (subst (λ v. Lead leads v before so_far) same a.1.2) b.1.2 f g
+        ]
+      ]
+
+  abbrev fault_at : ℕ → LineCause → LineFault
+  fault_at line cause = record { line = line; cause = cause }
+
+  -- a text has one first fault at most
+  pub text_one_fault : (start : A) (octets : List ℕ) (fault other : LineFault) → IsFirstFault leads refuses start octets fault → IsFirstFault leads refuses start octets other → fault ≡ other
+  text_one_fault start octets fault other f g =
+      let o = without mark octets in
+      let s = f.stops in
+      let t = g.stops in
+      let same : s.lines ≡ t.lines = (one_list o s.lines).0 s.has_lines ∙ sym ((one_list o t.lines).0 t.has_lines) in
+      let cut = sym s.cut ∙ ap (enumerate_from 1) same ∙ t.cut in
+      let both = stop_one s.before t.before s.after t.after (fault.line, s.faulty) (other.line, t.faulty) start s.so_far t.so_far fault.cause other.cause cut s.lead t.lead (s.not_blank, s.cause, f.no_further) (t.not_blank, t.cause, g.no_further) in
+      ap (λ n. fault_at n fault.cause) both.0 ∙ ap (fault_at other.line) both.1

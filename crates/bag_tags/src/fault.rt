@@ -23,7 +23,7 @@ pub enum LineCause {
     /// The path stands in an earlier line of the manifest.
     #[error("twice")]
     Twice,
-    /// The label is empty, or begins or ends with a blank.
+    /// The label is empty, begins or ends with a blank, or begins with U+FEFF.
     #[error("label")]
     BadLabel,
     /// A continuation line with no element before it.

@@ -1,14 +1,16 @@
 //! Laws on the definitions that the contracts of this crate cite. Each function's contract is one law, and its body is empty.
-ghost use Rattle.std.specs.Prelude.{◌≡◌, ℕ, List};
+ghost use Rattle.std.specs.Prelude.{◌≡◌, ◌⊎◌, ℕ, List};
 ghost use Rattle.bag_digest.specs.declared.algorithm.Alg.{Alg};
 ghost use Rattle.bag_path.specs.declared.spelling.Version.{Version};
+ghost use Rattle.bag_tags.specs.declared.fault.LineFault.{LineFault};
 ghost use Rattle.bag_tags.specs.declared.listing.Kind.{Kind};
 ghost use Rattle.bag_tags.specs.declared.listing.Pair.{Pair};
 ghost use Rattle.bag_tags.specs.declared.fetch.FetchLine.{FetchLine};
-ghost use Rattle.bag_tags.specs.FetchText.{FetchText};
+ghost use Rattle.bag_tags.specs.FetchText.{FetchText, FetchFault};
 ghost use Rattle.bag_tags.specs.Infos.{MetadataElement};
-ghost use Rattle.bag_tags.specs.InfoText.{InfoText};
-ghost use Rattle.bag_tags.specs.Manifests.{ManifestText};
+ghost use Rattle.bag_tags.specs.InfoText.{InfoText, InfoFault};
+ghost use Rattle.bag_tags.specs.Manifests.{ManifestText, ManifestFault};
+ghost use Rattle.bag_tags.specs.Oxums.{OxumText};
 
 pub use crate::declaration::{
     a_declaration_has_no_fault, octets_declare_one_thing_at_most,
@@ -32,4 +34,64 @@ pub fn a_text_says_one_list_of_elements_at_most()
 pub fn a_text_lists_one_list_of_entries_at_most()
     ensures { (version : Version) (octets : List ℕ) (lines others : List FetchLine)
         → FetchText version octets lines → FetchText version octets others → lines ≡ others }
+{}
+
+/// A text with a fault is that of no manifest.
+pub fn a_faulty_manifest_lists_nothing()
+    ensures { (version : Version) (alg : Alg) (kind : Kind) (octets : List ℕ) (pairs : List Pair) (fault : LineFault)
+        → ManifestText version alg kind octets pairs → ManifestFault version alg kind octets fault → ⊥ }
+{}
+
+/// A manifest has one first fault at most.
+pub fn a_manifest_has_one_first_fault_at_most()
+    ensures { (version : Version) (alg : Alg) (kind : Kind) (octets : List ℕ) (fault other : LineFault)
+        → ManifestFault version alg kind octets fault → ManifestFault version alg kind octets other → fault ≡ other }
+{}
+
+/// A text with a fault is that of no `bag-info.txt`.
+pub fn a_faulty_bag_info_says_nothing()
+    ensures { (version : Version) (octets : List ℕ) (elements : List MetadataElement) (fault : LineFault)
+        → InfoText version octets elements → InfoFault version octets fault → ⊥ }
+{}
+
+/// A `bag-info.txt` has one first fault at most.
+pub fn a_bag_info_has_one_first_fault_at_most()
+    ensures { (version : Version) (octets : List ℕ) (fault other : LineFault)
+        → InfoFault version octets fault → InfoFault version octets other → fault ≡ other }
+{}
+
+/// A text with a fault is that of no `fetch.txt`.
+pub fn a_faulty_fetch_list_lists_nothing()
+    ensures { (version : Version) (octets : List ℕ) (lines : List FetchLine) (fault : LineFault)
+        → FetchText version octets lines → FetchFault version octets fault → ⊥ }
+{}
+
+/// A `fetch.txt` has one first fault at most.
+pub fn a_fetch_list_has_one_first_fault_at_most()
+    ensures { (version : Version) (octets : List ℕ) (fault other : LineFault)
+        → FetchFault version octets fault → FetchFault version octets other → fault ≡ other }
+{}
+
+/// A text is the value of a `Payload-Oxum`, or is none.
+pub fn a_text_is_an_oxum_or_is_none()
+    ensures { (text : List ℕ) → ((octets streams : ℕ) × OxumText text octets streams)
+        ⊎ ((octets streams : ℕ) → ¬ OxumText text octets streams) }
+{}
+
+/// A text is that of a manifest, or has a faulty line.
+pub fn a_manifest_has_its_pairs_or_a_faulty_line()
+    ensures { (version : Version) (alg : Alg) (kind : Kind) (octets : List ℕ)
+        → ((pairs : List Pair) × ManifestText version alg kind octets pairs) ⊎ ((fault : LineFault) × ManifestFault version alg kind octets fault) }
+{}
+
+/// A text is that of a `fetch.txt`, or has a faulty line.
+pub fn a_fetch_list_has_its_entries_or_a_faulty_line()
+    ensures { (version : Version) (octets : List ℕ)
+        → ((lines : List FetchLine) × FetchText version octets lines) ⊎ ((fault : LineFault) × FetchFault version octets fault) }
+{}
+
+/// A text is that of a `bag-info.txt`, or has a faulty line.
+pub fn a_bag_info_has_its_elements_or_a_faulty_line()
+    ensures { (version : Version) (octets : List ℕ)
+        → ((elements : List MetadataElement) × InfoText version octets elements) ⊎ ((fault : LineFault) × InfoFault version octets fault) }
 {}

@@ -15,6 +15,7 @@ pub use name::{TagName, unknown_algorithm};
 pub use oxum::Oxum;
 
 mod declaration;
+pub mod examples;
 mod fault;
 mod fetch;
 mod fetch_text;

@@ -1,0 +1,62 @@
+//! Telling cases of the definitions, worked out: each function's contract is one, and its body is empty.
+ghost use Rattle.std.specs.Prelude.{◌≡◌, ℕ, List, [], ◌∷◌, ◌++◌, Some, None, codes, replicate, true, false};
+ghost use Rattle.bag_path.specs.Lines.{HasLines, line};
+ghost use Rattle.bag_path.specs.Paths.{IsPath, path_fault, is_payload};
+ghost use Rattle.bag_path.specs.Spellings.{Spells, SpellsNothing, written};
+ghost use Rattle.bag_path.specs.declared.lines.Ending.TheVariants.{Lf, Cr, CrLf, Nothing};
+ghost use Rattle.bag_path.specs.declared.path.PathFault.TheVariants.{Empty, TooLong, EmptySegment, DotSegment, PayloadRoot};
+ghost use Rattle.bag_path.specs.declared.spelling.Version.TheVariants.{V1};
+
+/// A line ends at LF, CR or CR LF, and the last may end with the octets (RFC 8493 section 2.3).
+pub fn lines_end_at_lf_cr_and_cr_lf()
+    ensures { HasLines (codes "a" ++ 13 ∷ 10 ∷ codes "b" ++ 13 ∷ codes "c" ++ 10 ∷ 10 ∷ codes "d")
+        (line (codes "a") CrLf ∷ line (codes "b") Cr ∷ line (codes "c") Lf ∷ line [] Lf ∷ line (codes "d") Nothing ∷ []) }
+{}
+
+/// No octets have no line.
+pub fn no_octets_have_no_line()
+    ensures { HasLines [] [] }
+{}
+
+/// `%0A` spells LF and `%25` spells `%`, and so they are written (RFC 8493 section 2.1.3).
+pub fn escapes_spell_lf_and_percent()
+    ensures { Spells V1 (codes "data/x" ++ 10 ∷ codes "%y") (codes "data/x%0A%25y")
+        × (written (codes "data/x" ++ 10 ∷ codes "%y") ≡ codes "data/x%0A%25y") }
+{}
+
+/// An escape in lower case is accepted, and is written in upper case (RFC 8493 section 2.1.3).
+pub fn an_escape_in_lower_case_is_written_in_upper_case()
+    ensures { Spells V1 (codes "data/" ++ 10 ∷ []) (codes "data/%0a")
+        × (written (codes "data/" ++ 10 ∷ []) ≡ codes "data/%0A") }
+{}
+
+/// `%` begins no escapes but those of LF, CR and `%` itself (RFC 8493 section 2.1.3).
+pub fn other_escapes_spell_nothing()
+    ensures { SpellsNothing V1 (codes "data/%41") × SpellsNothing V1 (codes "data/%2") × SpellsNothing V1 (codes "100%") }
+{}
+
+/// Segments that are empty, `.` or `..` make no path, nor does the payload directory's own name.
+pub fn paths_that_lead_elsewhere_have_faults()
+    ensures { (path_fault (codes "data/../k") ≡ Some DotSegment)
+        × (path_fault (codes "./k") ≡ Some DotSegment)
+        × (path_fault (codes "data//k") ≡ Some EmptySegment)
+        × (path_fault (codes "/k") ≡ Some EmptySegment)
+        × (path_fault (codes "data/") ≡ Some EmptySegment)
+        × (path_fault (codes "data") ≡ Some PayloadRoot)
+        × (path_fault [] ≡ Some Empty) }
+{}
+
+/// Names that begin or end with dots are no `..`, and a path below no directory is one.
+pub fn common_names_are_paths()
+    ensures { IsPath (codes "k") × IsPath (codes "data/..k/k./...") × IsPath (codes "data.txt") }
+{}
+
+/// A path may have 4,096 octets, and no more.
+pub fn a_path_has_4096_octets_at_most()
+    ensures { IsPath (replicate 4096 97) × (path_fault (replicate 4097 97) ≡ Some TooLong) }
+{}
+
+/// What lies below `data/` is payload, and no other name that begins so (RFC 8493 section 2.1.2).
+pub fn payload_files_lie_below_data()
+    ensures { (is_payload (codes "data/k") ≡ true) × (is_payload (codes "data.txt") ≡ false) × (is_payload (codes "Data/k") ≡ false) }
+{}

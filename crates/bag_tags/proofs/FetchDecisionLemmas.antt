@@ -1,0 +1,124 @@
+-- A text is that of `fetch.txt`, or has a first fault.
+use Rattle.std.proofs.Common.{◌≡◌, ◌≢◌, ◌<◌, ◌^◌, ◌==◌, ◌⊎◌, ◌++◌, ℕ, false, List, [], ◌∷◌, codes, length, drop, Option, Some, None, refl, inl, inr}
+use Rattle.std.specs.Char.{IsAsciiAlphabetic}
+use Rattle.std.specs.List.{AllByRecursion}
+use Rattle.std.specs.Str.{IsUtf8, bytes_eq}
+use Rattle.std.proofs.lemmas.Bool.{cases_Bool}
+use Rattle.std.proofs.lemmas.Slice.Eq.{bytes_eq-Decides}
+use Rattle.bag_path.specs.declared.spelling.Version.{Version}
+use Rattle.bag_path.specs.Paths.{is_payload}
+use Rattle.bag_tags.specs.declared.fault.LineCause.{LineCause}
+use Rattle.bag_tags.specs.declared.fault.LineCause.TheVariants.{NotUtf8, NoSeparator, BadUrl, BadLength, BadPath, WrongPlace}
+use Rattle.bag_tags.specs.declared.fault.LineFault.{LineFault}
+use Rattle.bag_tags.specs.declared.fetch.FetchLine.{FetchLine}
+use Rattle.bag_tags.specs.Numerals.{IsNumeral}
+use Rattle.bag_tags.specs.Words.{is_blank}
+use Rattle.bag_tags.specs.WordsReading.{until, is_not_blank, is_colon}
+use Rattle.bag_tags.specs.FetchEntries.{FetchItem, fetch_item, IsUrl, IsScheme, IsSchemeOctet, IsUrlOctet}
+use Rattle.bag_tags.specs.Fetches.{fetch_line}
+use Rattle.bag_tags.specs.FetchText.{HasWords, IsLength, GivesEntry, AddsEntry, RefusesEntry, FetchText, FetchFault}
+use Rattle.bag_tags.proofs.DecisionLemmas.{Decided, decided_as, decided_by, decided_both, decided_either, decided_not, decided_all, decided_below, decided_equal, decided_letter, decided_digit, decided_true, decided_utf8}
+use Rattle.bag_tags.proofs.FetchLineLemmas.{fetch_apart, words_utf8, gives_of}
+use Rattle.bag_tags.proofs.FetchUrlLemmas.{url_of, url_parts}
+use Rattle.bag_tags.proofs.OxumDecisionLemmas.{numeral_or_none}
+use Rattle.bag_tags.proofs.PathDecisionLemmas.{path_or_fault}
+use Rattle.bag_tags.proofs.TextDecisionLemmas.{value_or_fault}
+use Rattle.bag_tags.proofs.WordsLemmas.{word_of, after_word, after_blanks, cut_at, none_passes}
+
+decided_scheme_octet : (octet : ℕ) → Decided (IsSchemeOctet octet)
+decided_scheme_octet octet =
+    decided_either _ _ (decided_letter octet)
+    (decided_either _ _ (decided_digit octet)
+    (decided_either _ _ (decided_equal octet 43)
+    (decided_either _ _ (decided_equal octet 45) (decided_equal octet 46))))
+
+decided_scheme : (scheme : List ℕ) → Decided (IsScheme scheme)
+decided_scheme [] = inr (λ h. h)
+decided_scheme (octet ∷ octets) = decided_both (IsAsciiAlphabetic octet) (AllByRecursion IsSchemeOctet octets) (decided_letter octet) (decided_all IsSchemeOctet decided_scheme_octet octets)
+
+decided_url_octet : (octet : ℕ) → Decided (IsUrlOctet octet)
+decided_url_octet octet = decided_both (32 < octet) (octet ≢ 127) (decided_below 32 octet) (decided_not (octet ≡ 127) (decided_equal octet 127))
+
+-- a url, by its parts
+abbrev UrlParts : List ℕ → List ℕ → Type 0
+UrlParts scheme rest = IsScheme scheme × ((1 < length rest) × AllByRecursion IsUrlOctet (drop 1 rest))
+
+pub decided_url : (url : List ℕ) → Decided (IsUrl url)
+decided_url url =
+    let scheme = (until is_colon url).0 in
+    let rest = (until is_colon url).1 in
+    decided_as (UrlParts scheme rest) (IsUrl url) (λ h. url_of url scheme rest refl h.0 h.1) (λ h. url_parts url scheme rest refl h)
+    (decided_both _ _ (decided_scheme scheme) (decided_both _ _ (decided_below 1 (length rest)) (decided_all IsUrlOctet decided_url_octet (drop 1 rest))))
+
+-- a text is a length, or is none
+no_length : (text : List ℕ) → ¬ (text ≡ codes "-") → ((n : ℕ) → IsNumeral text n → n < 2 ^ 64 → ⊥) → (octets : Option ℕ) → ¬ IsLength text octets
+no_length text other none None h = other h
+no_length text other none (Some n) h = none n h.0 h.1
+
+pub length_or_none : (text : List ℕ) → ((octets : Option ℕ) × IsLength text octets) ⊎ ((octets : Option ℕ) → ¬ IsLength text octets)
+length_or_none text = elim (decided_by (text ≡ codes "-") (bytes_eq text (codes "-")) (bytes_eq-Decides text (codes "-"))) [
+  | inl dash ↦ inl (None, dash)
+  | inr other ↦ elim (numeral_or_none text) [
+    | inl n ↦ inl (Some n.0, (n.1, n.2))
+    | inr none ↦ inr (no_length text other none)
+  ]
+]
+
+module _ (version : Version) (before : List FetchLine) (number : ℕ) (text : List ℕ) where
+  abbrev EntryOrCause : Type 0
+  EntryOrCause = ((next : List FetchLine) × AddsEntry version before number text next) ⊎ ((cause : LineCause) × RefusesEntry version before text cause)
+
+  -- a line that gives an entry
+  of_entry : (entry : FetchItem) → GivesEntry version text entry → EntryOrCause
+  of_entry entry gives = elim (decided_true (is_payload entry.path)) [
+    | inl payload ↦ inl (before ++ fetch_line number entry ∷ [], record { entry = entry; gives = gives; payload = payload; adds = refl })
+    | inr other ↦ inr (WrongPlace, (entry, gives, other))
+  ]
+
+  -- a line with a url and a length
+  of_length : (url len path_text : List ℕ) (octets : Option ℕ) → HasWords text url len path_text → IsUrl url → IsLength len octets → EntryOrCause
+  of_length url len path_text octets words is_url is_length = elim (path_or_fault version path_text (words_utf8 text url len path_text words.words words.utf8).1) [
+    | inl p ↦ of_entry (fetch_item url octets p.0) (gives_of version text url len path_text octets p.0 words is_url is_length p.1 p.2)
+    | inr f ↦ inr (BadPath f.0, (url, len, path_text, words, is_url, (octets, is_length, f.1)))
+  ]
+
+  -- a line of three words
+  of_words : (url len path_text : List ℕ) → HasWords text url len path_text → EntryOrCause
+  of_words url len path_text words = elim (decided_url url) [
+    | inr none ↦ inr (BadUrl, (url, len, path_text, words, none))
+    | inl is_url ↦ elim (length_or_none len) [
+      | inr none ↦ inr (BadLength, (url, len, path_text, words, is_url, none))
+      | inl l ↦ of_length url len path_text l.0 words is_url l.1
+    ]
+  ]
+
+  -- a line with a blank
+  of_cut : IsUtf8 text → (length (after_word text) == 0) ≡ false → EntryOrCause
+  of_cut utf8 some =
+      let rest = after_blanks (after_word text) in
+      let cut = cut_at text some in
+      elim (cases_Bool (length (after_word rest) == 0)) [
+        | inl none ↦ inr (NoSeparator, (utf8, inr (word_of text, ((until is_not_blank (after_word text)).0, (rest, cut, none_passes is_blank rest none)))))
+        | inr more ↦ of_words (word_of text) (word_of rest) (after_blanks (after_word rest)) (record {
+          utf8 = utf8;
+          words = record {
+            after_url = (until is_not_blank (after_word text)).0;
+            rest = rest;
+            after_length = (until is_not_blank (after_word rest)).0;
+            url_cut = cut;
+            length_cut = cut_at rest more;
+          };
+        })
+      ]
+
+  pub entry_or_cause : EntryOrCause
+  entry_or_cause = elim (decided_utf8 text) [
+    | inr other ↦ inr (NotUtf8, other)
+    | inl utf8 ↦ elim (cases_Bool (length (after_word text) == 0)) [
+      | inl none ↦ inr (NoSeparator, (utf8, inl (none_passes is_blank text none)))
+      | inr some ↦ of_cut utf8 some
+    ]
+  ]
+
+pub entries_or_fault : (version : Version) (octets : List ℕ) → ((lines : List FetchLine) × FetchText version octets lines) ⊎ ((fault : LineFault) × FetchFault version octets fault)
+entries_or_fault version octets = value_or_fault (AddsEntry version) (RefusesEntry version) (fetch_apart version) (entry_or_cause version) [] octets

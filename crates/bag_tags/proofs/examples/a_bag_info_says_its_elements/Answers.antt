@@ -1,0 +1,48 @@
+use Rattle.std.proofs.Common.{List, ℕ, codes, ◌++◌, ◌∷◌, [], refl, inr}
+use Rattle.bag_path.specs.Lines.{lines_of}
+use Rattle.bag_path.specs.declared.spelling.Version.TheVariants.{V1}
+use Rattle.bag_tags.specs.Infos.{MetadataElement, element, IsFit}
+use Rattle.bag_tags.specs.InfoText.{AddsInfo}
+use Rattle.bag_tags.specs.WordsReading.{until}
+use Rattle.bag_tags.proofs.ExampleLines.{text_of, fit, adds_element, adds_line}
+use Rattle.bag_tags.proofs.examples.a_bag_info_says_its_elements.Goals as goal
+
+abbrev first : MetadataElement
+first = element (codes "Note") (codes "one")
+
+abbrev second : MetadataElement
+second = element (codes "Note") (codes "two" ++ 10 ∷ codes "three")
+
+abbrev third : MetadataElement
+third = element (codes "Empty") []
+
+-- the second element after its first line
+abbrev begun : MetadataElement
+begun = element (codes "Note") (codes "two")
+
+abbrev text : List ℕ
+text = codes "Note: one" ++ 10 ∷ codes "Note: two" ++ 10 ∷ 9 ∷ codes " three" ++ 10 ∷ codes "Empty:" ++ 10 ∷ []
+
+note_fit : IsFit (codes "Note")
+note_fit = fit (codes "Note") refl refl refl refl
+
+one : AddsInfo V1 [] 1 (codes "Note: one") (first ∷ [])
+unfolding until
+one = adds_element [] 1 (codes "Note: one") (codes "one") refl refl note_fit
+
+two : AddsInfo V1 (first ∷ []) 2 (codes "Note: two") (first ∷ begun ∷ [])
+unfolding until
+two = adds_element (first ∷ []) 2 (codes "Note: two") (codes "two") refl refl note_fit
+
+three : AddsInfo V1 (first ∷ begun ∷ []) 3 (9 ∷ codes " three") (first ∷ second ∷ [])
+unfolding until
+three = adds_line (first ∷ []) begun 3 (9 ∷ codes " three") refl refl
+
+four : AddsInfo V1 (first ∷ second ∷ []) 4 (codes "Empty:") (first ∷ second ∷ third ∷ [])
+unfolding until
+four = adds_element (first ∷ second ∷ []) 4 (codes "Empty:") [] refl refl (fit (codes "Empty") refl refl refl refl)
+
+pub returns : goal.returns
+unfolding lines_of
+returns c = text_of (AddsInfo V1) [] text (first ∷ second ∷ third ∷ [])
+    (inr (refl, (_, one, inr (refl, (_, two, inr (refl, (_, three, inr (refl, (_, four, refl)))))))))

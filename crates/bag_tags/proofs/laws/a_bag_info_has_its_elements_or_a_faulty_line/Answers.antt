@@ -1,0 +1,5 @@
+use Rattle.bag_tags.proofs.InfoDecisionLemmas.{elements_or_fault}
+use Rattle.bag_tags.proofs.laws.a_bag_info_has_its_elements_or_a_faulty_line.Goals as goal
+
+pub returns : goal.returns
+returns c = elements_or_fault
