@@ -1,18 +1,29 @@
 -- Bags (RFC 8493 section 2), as trees hold them.
-use Rattle.std.specs.Prelude.{◌≡◌, ◌<◌, ◌++◌, ℕ, Bool, true, List, Option, Some, None, length, map, codes}
-use Rattle.std.specs.List.{slice_get}
+use Rattle.std.specs.Prelude.{◌≡◌, ◌<◌, ◌++◌, ◌+◌, ℕ, Bool, List, [], ◌∷◌, Option, Some, length, map, codes}
+use Rattle.std.specs.List.{slice_get, filter}
 use Rattle.std.specs.Option.{option_map}
+use Rattle.std.specs.Str.{bytes_eq}
+use Rattle.std.specs.Char.{to_ascii_lowercase}
 use Rattle.bag_path.specs.declared.spelling.Version.TheVariants.{V1}
+use Rattle.bag_path.specs.Paths.{is_payload}
 use Rattle.bag_digest.specs.declared.algorithm.Alg.{Alg}
 use Rattle.bag_digest.specs.Algorithm.{name_of}
 use Rattle.bag_tags.specs.declared.listing.Kind.{Kind}
 use Rattle.bag_tags.specs.declared.listing.Kind.TheVariants.{Payload, Tag}
 use Rattle.bag_tags.specs.declared.listing.Pair.{Pair}
+use Rattle.bag_tags.specs.declared.fetch.FetchLine.{FetchLine}
+use Rattle.bag_tags.specs.declared.declaration.Declaration.{Declaration}
+use Rattle.bag_tags.specs.Declarations.{IsDeclaration}
+use Rattle.bag_tags.specs.Infos.{MetadataElement}
+use Rattle.bag_tags.specs.InfoText.{InfoText}
+use Rattle.bag_tags.specs.FetchText.{FetchText}
 use Rattle.bag_tags.specs.Manifests.{ManifestText}
 use Rattle.bag_rules.specs.declared.fault.ManifestName.{ManifestName}
+use Rattle.bag_rules.specs.declared.fault.LineFile.{LineFile}
+use Rattle.bag_rules.specs.declared.fault.LineFile.TheVariants.{Info, FetchList, Manifest}
 
--- The files of a base directory by path, each with its octets, and whether the payload directory is there. The paths
--- rise by their bytes, so that a bag has one such list.
+-- The files of a base directory by path, each with its octets, and whether the payload directory is there. The paths of a
+-- tree's bag rise by their bytes, as the tree's do, so that a bag has one such list.
 pub record Bag : Type 0 where
   pub files : List (List ℕ × List ℕ)
   pub has_dir : Bool
@@ -24,22 +35,72 @@ paths_of bag = map (λ (file : List ℕ × List ℕ). file.0) bag.files
 abbrev pub Holds : Bag → List ℕ → List ℕ → Type 0
 Holds bag path octets = (i : ℕ) × (slice_get bag.files i ≡ Some (path, octets))
 
+-- some file has the path
+abbrev pub IsThere : Bag → List ℕ → Type 0
+IsThere bag path = (octets : List ℕ) × Holds bag path octets
+
 -- the tree's files are those of the bag, and their octets are known
 pub record IsBagOf {T : Type 0} (paths : T → List (List ℕ)) (has_dir : T → Bool) (body : T → ℕ → Option (List ℕ)) (tree : T) (bag : Bag) : Type 0 where
   pub same_paths : paths tree ≡ paths_of bag
   pub same_dir : has_dir tree ≡ bag.has_dir
-  pub same_body : (i : ℕ) → body tree i ≡ option_map (λ (file : List ℕ × List ℕ). file.1) (slice_get bag.files i)
+  pub same_body : (i : ℕ) → i < length (paths tree) → body tree i ≡ option_map (λ (file : List ℕ × List ℕ). file.1) (slice_get bag.files i)
+
+-- TAG FILES
+
+-- the declaration (section 2.1.1)
+abbrev pub declaration_file : List ℕ
+declaration_file = codes "bagit.txt"
 
 -- `manifest-ALG.txt` (section 2.1.3), `tagmanifest-ALG.txt` (section 2.2.1)
 abbrev pub manifest_file : Kind → Alg → List ℕ
 manifest_file Payload alg = codes "manifest-" ++ name_of alg ++ codes ".txt"
 manifest_file Tag alg = codes "tagmanifest-" ++ name_of alg ++ codes ".txt"
 
+abbrev pub manifest_name : Kind → Alg → ManifestName
+manifest_name kind alg = record { kind = kind; alg = alg }
+
 abbrev pub file_of : ManifestName → List ℕ
 file_of name = manifest_file name.kind name.alg
+
+-- the tag files that are read line by line (sections 2.2.2, 2.2.3, 2.1.3 and 2.2.1)
+abbrev pub text_file : LineFile → List ℕ
+text_file Info = codes "bag-info.txt"
+text_file FetchList = codes "fetch.txt"
+text_file (Manifest name) = file_of name
+
+-- the bag has the declaration, and it declares this
+abbrev pub Declares : Bag → Declaration → Type 0
+Declares bag declaration = (octets : List ℕ) × Holds bag declaration_file octets × IsDeclaration octets declaration
 
 -- the bag has the manifest, and it lists these pairs
 pub record Lists (bag : Bag) (name : ManifestName) (pairs : List Pair) : Type 0 where
   pub octets : List ℕ
   pub there : Holds bag (file_of name) octets
   pub text : ManifestText V1 name.alg name.kind octets pairs
+
+-- the bag has `bag-info.txt`, and it says these elements
+pub record SaysInfo (bag : Bag) (elements : List MetadataElement) : Type 0 where
+  pub octets : List ℕ
+  pub there : Holds bag (text_file Info) octets
+  pub text : InfoText V1 octets elements
+
+-- the bag has `fetch.txt`, and these are its entries, each with its line number
+pub record ListsFetch (bag : Bag) (lines : List FetchLine) : Type 0 where
+  pub octets : List ℕ
+  pub there : Holds bag (text_file FetchList) octets
+  pub text : FetchText V1 octets lines
+
+-- PAYLOAD
+
+-- the files below `data/` (section 2.1.2)
+abbrev pub payload_of : List (List ℕ × List ℕ) → List (List ℕ × List ℕ)
+payload_of files = filter (λ (file : List ℕ × List ℕ). is_payload file.0) files
+
+-- the number of octets in all of these files
+unfoldable pub octet_count : List (List ℕ × List ℕ) → ℕ
+octet_count [] = 0
+octet_count (file ∷ files) = length file.1 + octet_count files
+
+-- the element is a `Payload-Oxum` (section 2.2.2): labels are compared without regard to ASCII case
+abbrev pub is_oxum : MetadataElement → Bool
+is_oxum element = bytes_eq (map to_ascii_lowercase element.label) (codes "payload-oxum")

@@ -4,6 +4,8 @@ use Rattle.std.specs.List.{AllByRecursion}
 use Rattle.std.specs.List.Sorted.{IsStrictlySortedBy}
 use Rattle.bag_rules.specs.declared.fault.Fault.{Fault}
 use Rattle.bag_rules.specs.declared.fault.Fault.TheVariants.{NoDeclaration, BadDeclaration, NoPayloadDir, NoManifest, BadLine, ManifestNotListed, OxumForm, OxumTwice, Missing, Unlisted, FetchNotListed, FetchLength, OxumWrong, WrongDigest}
+use Rattle.bag_tags.specs.declared.listing.Kind.TheVariants.{Payload, Tag}
+use Rattle.bag_rules.specs.Bags.{file_of, manifest_file, text_file}
 use Rattle.bag_rules.specs.contracts.fault.FaultOrd.TheImpl as order
 
 -- the number of a kind of fault
@@ -23,10 +25,22 @@ number_of (FetchLength line path) = 12
 number_of OxumWrong = 13
 number_of (WrongDigest manifest path) = 14
 
--- the fault is in the list
-abbrev pub Has : List Fault → Fault → Type 0
-Has [] fault = ⊥
-Has (first ∷ faults) fault = (first ≡ fault) ⊎ Has faults fault
+-- By what a report is sorted: the kind, and then the file name, the line, and the path or second file name, as far as the
+-- fault has them. The order is that of the octets; for kind 11 the file name is the manifest's.
+abbrev pub key_of : Fault → List (List ℕ)
+key_of (BadLine file line cause) = (5 ∷ []) ∷ text_file file ∷ (line ∷ []) ∷ []
+key_of (ManifestNotListed tag_manifest manifest) = (6 ∷ []) ∷ manifest_file Tag tag_manifest ∷ manifest_file Payload manifest ∷ []
+key_of (Missing manifest path) = (9 ∷ []) ∷ file_of manifest ∷ path ∷ []
+key_of (Unlisted manifest path) = (10 ∷ []) ∷ manifest_file Payload manifest ∷ path ∷ []
+key_of (FetchNotListed manifest path) = (11 ∷ []) ∷ manifest_file Payload manifest ∷ path ∷ []
+key_of (FetchLength line path) = (12 ∷ []) ∷ (line ∷ []) ∷ path ∷ []
+key_of (WrongDigest manifest path) = (14 ∷ []) ∷ file_of manifest ∷ path ∷ []
+key_of fault = (number_of fault ∷ []) ∷ []
+
+-- it is in the list
+abbrev pub Has : {X : Type 0} → List X → X → Type 0
+Has [] x = ⊥
+Has (first ∷ xs) x = (first ≡ x) ⊎ Has xs x
 
 -- by number, then by file, line and path; none twice
 abbrev pub AreInOrder : List Fault → Type 0

@@ -3,6 +3,12 @@ pub mod Memory
 pub mod MemoryInside
 pub mod Faults
 pub mod Bags
-pub mod FileFaults
+pub mod Broken
+pub mod Verdicts
+pub mod SameVerdicts
 pub mod Validity
+pub mod Limits
+pub mod Reading
+pub mod Form
+pub mod Files
 pub mod Judging

@@ -7,6 +7,7 @@ use Rattle.std.specs.Map.{keys_of, values_of, lookup}
 use Rattle.std.specs.BTreeMap.{insert_entry}
 use Rattle.std.proofs.Common.{◌∙◌, ap}
 use Rattle.bag_path.specs.Paths.{is_payload}
+use Rattle.bag_rules.specs.Bags.{Bag}
 use Rattle.bag_rules.specs.Trees.{SameFiles}
 
 -- The files, each path with its octets, in the order of the paths; whether the payload directory is there;
@@ -39,6 +40,10 @@ with_file tree path octets = record tree {
   files = insert_entry (slice_cmp nat_cmp) tree.files path octets;
   has_dir = tree.has_dir || is_payload path;
 }
+
+-- the bag of these files
+abbrev pub bag_in : MemFiles → Bag
+bag_in tree = record { files = tree.files; has_dir = tree.has_dir }
 
 -- the same files
 abbrev pub SameMemFiles : MemFiles → MemFiles → Type 0

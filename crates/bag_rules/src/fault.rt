@@ -1,7 +1,7 @@
 //! What is wrong with a bag.
 use bag_digest::Alg;
 use bag_path::BagPath;
-use bag_tags::{DeclarationFault, Kind, LineCause};
+use bag_tags::{DeclarationFault, Kind, LineCause, TagName};
 
 /// A manifest, by what it lists and its algorithm. The order is that of the file names.
 #[derive(Clone, Copy, Debug, PartialEq, Eq, PartialOrd, Ord)]
@@ -21,6 +21,26 @@ pub enum LineFile {
     FetchList,
     /// `manifest-ALG.txt` or `tagmanifest-ALG.txt`
     Manifest(ManifestName),
+}
+
+impl LineFile {
+    ghost use Rattle.std.specs.Prelude.{◌≡◌, ◌≢◌, MatchOption};
+    ghost use Rattle.bag_rules.specs.Bags.{text_file};
+    ghost use Rattle.bag_rules.specs.declared.fault.LineFile.{LineFile};
+
+    /// The tag file that has this path, if it is one that is read line by line.
+    pub fn of(path: &BagPath) -> Option<LineFile>
+        ensures { MatchOption result ((file : LineFile) → path.now ≢ text_file file) (λ file. path.now ≡ text_file file) }
+    {
+        let (kind, alg) = match TagName::of(path) {
+            TagName::Info => return Some(LineFile::Info),
+            TagName::FetchList => return Some(LineFile::FetchList),
+            TagName::PayloadManifest(alg) => (Kind::Payload, alg),
+            TagName::TagManifest(alg) => (Kind::Tag, alg),
+            TagName::Declaration | TagName::UnknownManifest | TagName::Other => return None,
+        };
+        Some(LineFile::Manifest(ManifestName { kind, alg }))
+    }
 }
 
 /// What is wrong with a bag, in the order in which a report gives it: by kind of fault, then by file, line and path.
@@ -83,8 +103,8 @@ impl Fault {
     ghost use Rattle.std.specs.Prelude.{◌≡◌};
     ghost use Rattle.bag_rules.specs.Faults.{number_of};
 
-    /// The number of the kind of fault, from 1 to 14: 1 and 2 are the declaration's, 3 to 8 the form's, 9 to 13 those of an
-    /// incomplete bag, and 14 that of a digest.
+    /// The number of the kind of fault, from 1 to 14: 1 and 2 are the declaration's, 3 to 8 the form's and 9 to 14 the files'.
+    /// A bag with one up to 13 is not complete; 14 is a wrong digest.
     pub fn number(&self) -> u8
         ensures { result ≡ number_of self.now }
     {

@@ -9,9 +9,15 @@ pub use report::Report;
 pub use tree::{Tree, find};
 
 mod checking;
+pub mod examples;
 mod fault;
 mod files;
+mod form;
+pub mod laws;
+mod lengths;
+mod listed;
 mod memory;
 mod outcome;
 mod report;
+mod texts;
 mod tree;

@@ -141,6 +141,7 @@ impl Source for MemTree {
         ensures octets { ReadConsumes self.old.started self.new.started result buf.new }
         ensures kept { SameMemFiles self.old self.new }
         ensures failed { OnErr result (Rises self.old.failures self.new.failures) }
+        ensures unfailed { OnOk result (self.new.failures ≡ self.old.failures) }
         ensures counted { self.old.failures ≤ self.new.failures }
 
         // It fails just where nothing was started, and then counts one failure, up to the greatest number.
@@ -196,6 +197,7 @@ impl Tree for MemTree {
         ensures started { OnOk result (self.new.started ≡ mem_body self.old i) }
         ensures same { SameFiles mem_paths (λ tree. tree.has_dir) mem_body self.old self.new }
         ensures failed { OnErr result (Rises self.old.failures self.new.failures) }
+        ensures unfailed { OnOk result (self.new.failures ≡ self.old.failures) }
         ensures counted { self.old.failures ≤ self.new.failures }
 
         ensures ok { IsOk result }

@@ -10,8 +10,6 @@ pub enum Outcome {
     Judged(Report),
     /// The bag is none that can be judged here, which is not to say that it is invalid.
     Outside(OutsideCause),
-    /// The bag has a tag file that this program doesn't judge yet: the least such name.
-    NotYet(BagPath),
 }
 
 /// Why a bag can't be judged here.
@@ -37,7 +35,7 @@ pub enum CheckFault {
     /// The tree has more than 200,000 files, or a manifest or `fetch.txt` more than 100,000 lines.
     #[error("too many files or lines")]
     TooMany,
-    /// A file has more than 2^40 octets.
+    /// A payload file or a listed file has more than 2^40 octets.
     #[error("a file is too large")]
     TooLarge(BagPath),
     /// Memory ran out.

@@ -35,7 +35,8 @@ impl Report {
 
     /// The report of these faults, whatever their order and however often each stands.
     pub(crate) fn new(mut faults: Vec<Fault>) -> Report
-        ensures { (fault : Fault) → Has result fault ↔ Has faults.items fault }
+        ensures same { (fault : Fault) → Has result fault ↔ Has faults.items fault }
+        ensures in_order { AreInOrder result }
     {
         faults.sort_unstable();
         faults.dedup();

@@ -42,6 +42,7 @@ pub trait Tree: Source {
         ensures started { OnOk result (Self.remaining self.new ≡ body self.old i) }
         ensures same { SameFiles paths has_dir body self.old self.new }
         ensures failed { OnErr result (Rises (Self.faults self.old) (Self.faults self.new)) }
+        ensures unfailed { OnOk result (Self.faults self.new ≡ Self.faults self.old) }
         ensures counted { Self.faults self.old ≤ Self.faults self.new };
 
     ghost reads_keep: { (a b : Self) → Self.keeps a b → SameFiles paths has_dir body a b };

@@ -1,11 +1,13 @@
+use Rattle.std.proofs.Common.{arith}
 use Rattle.std.proofs.lemmas.Result.{IfOk-weaker}
-use Rattle.bag_digest.specs.declared.algorithm.Alg.TheVariants.{Sha256}
-use Rattle.bag_rules.proofs.BagLemmas.{octets_at, bag_known, valid_from}
+use Rattle.bag_rules.proofs.DeclaredLemmas.{verdict_means}
+use Rattle.bag_rules.proofs.LimitLemmas.{within_count}
+use Rattle.bag_rules.proofs.TreeLemmas.{rises, same_count}
 use Rattle.bag_rules.proofs.checking.check.Goals as goal
 
-pub returns-clause-valid : goal.returns-clause-valid
-returns-clause-valid g c = IfOk-weaker c.check_declared.result _ _ (λ outcome right clean bag is.
-    let tree = g.T.Tree in
-    let so = right clean (octets_at bag) (bag_known tree.paths tree.has_dir tree.body c.args.tree.now bag is) in
-    valid_from tree.paths tree.has_dir tree.body c.args.tree.now bag Sha256 is so.0 so.1)
-    c.check_declared.ensures.right
+pub returns-clause-meaning : goal.returns-clause-meaning
+returns-clause-meaning g c = λ bag is. IfOk-weaker c.check_declared.result _ _ (λ outcome verdict. verdict_means bag outcome (rises bag is c.count.ensures.rising) verdict) (c.check_declared.ensures.verdict bag is)
+
+pub returns-clause-limits : goal.returns-clause-limits
+returns-clause-limits g c = λ bag is.
+    within_count bag c.check_declared.result (omega (arith, c.if-count-gt-MOST_FILES.false, c.count.ensures.files, same_count bag is)) (c.check_declared.ensures.limits bag is)

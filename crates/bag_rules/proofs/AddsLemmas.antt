@@ -1,0 +1,67 @@
+-- Faults that are added to others.
+use Rattle.std.proofs.Common.{◌≡◌, ◌⊎◌, ◌||◌, ◌==◌, ℕ, Bool, true, false, List, [], ◌∷◌, ◌++◌, refl, sym, ap, ◌∙◌, inl, inr, subst}
+use Rattle.std.specs.List.{list_any}
+use Rattle.bag_rules.specs.declared.fault.Fault.{Fault}
+use Rattle.bag_rules.specs.Bags.{Bag}
+use Rattle.bag_rules.specs.Broken.{BrokenOf}
+use Rattle.bag_rules.specs.Faults.{Has, number_of}
+use Rattle.bag_rules.specs.Reading.{Adds}
+use Rattle.bag_rules.proofs.HasLemmas.{has_push}
+
+pub adds_push : (old new : List Fault) (fault : Fault) → new ≡ old ++ fault ∷ [] → Adds old new (λ f. fault ≡ f)
+adds_push old new fault e f = let r = has_push old fault f in (λ h. r.0 (subst (λ fs. Has fs f) e h), λ h. subst (λ fs. Has fs f) (sym e) (r.1 h))
+
+-- the same faults, said in another way
+pub adds_so : (old new : List Fault) (P Q : Fault → Type 0) → ((f : Fault) → P f → Q f) → ((f : Fault) → Q f → P f) → Adds old new P → Adds old new Q
+adds_so old new P Q there back a f = (
+  λ h. elim ((a f).0 h) [ inl k ↦ inl k | inr p ↦ inr (there f p) ],
+  λ h. elim h [ inl k ↦ (a f).1 (inl k) | inr q ↦ (a f).1 (inr (back f q)) ],
+)
+
+pub adds_none : (faults : List Fault) (P : Fault → Type 0) → ((f : Fault) → P f → ⊥) → Adds faults faults P
+adds_none faults P none f = (λ h. inl h, λ h. elim h [ inl k ↦ k | inr p ↦ absurd (none f p) ])
+
+-- one fault more, which is just what P says
+pub adds_one : (old new : List Fault) (fault : Fault) (P : Fault → Type 0) → new ≡ old ++ fault ∷ [] → P fault → ((f : Fault) → P f → fault ≡ f) → Adds old new P
+adds_one old new fault P e here only = adds_so old new (λ f. fault ≡ f) P (λ f same. subst P same here) only (adds_push old new fault e)
+
+-- faults that are added one after another
+pub adds_on : (old mid new : List Fault) (P Q R : Fault → Type 0) → ((f : Fault) → R f → P f ⊎ Q f) → ((f : Fault) → P f → R f) → ((f : Fault) → Q f → R f) → Adds old mid P → Adds mid new Q → Adds old new R
+adds_on old mid new P Q R split first second a b f = (
+  λ h. elim ((b f).0 h) [
+    | inl m ↦ elim ((a f).0 m) [ inl k ↦ inl k | inr p ↦ inr (first f p) ]
+    | inr q ↦ inr (second f q)
+  ],
+  λ h. elim h [
+    | inl k ↦ (b f).1 (inl ((a f).1 (inl k)))
+    | inr r ↦ elim (split f r) [ inl p ↦ (b f).1 (inl ((a f).1 (inr p))) | inr q ↦ (b f).1 (inr q) ]
+  ],
+)
+
+-- either of two tests
+any_or : (n : ℕ) (xs ys : List ℕ) → list_any (λ kind. kind == n) (xs ++ ys) ≡ (list_any (λ kind. kind == n) xs || list_any (λ kind. kind == n) ys)
+any_or n [] ys = refl
+any_or n (x ∷ xs) ys = ap (λ b. (x == n) || b) (any_or n xs ys) ∙ or_assoc (x == n) (list_any (λ kind. kind == n) xs) (list_any (λ kind. kind == n) ys)
+  where
+    or_assoc : (a b c : Bool) → (a || (b || c)) ≡ ((a || b) || c)
+    or_assoc true b c = refl
+    or_assoc false b c = refl
+
+or_split : (a b : Bool) → (a || b) ≡ true → (a ≡ true) ⊎ (b ≡ true)
+or_split true b h = inl refl
+or_split false b h = inr h
+
+or_first : (a b : Bool) → a ≡ true → (a || b) ≡ true
+or_first a b h = rw h refl
+
+or_second : (a b : Bool) → b ≡ true → (a || b) ≡ true
+or_second true b h = refl
+or_second false b h = h
+
+-- the broken faults of some kinds, and then those of others
+pub adds_kinds : (bag : Bag) (xs ys : List ℕ) (old mid new : List Fault) → Adds old mid (BrokenOf bag xs) → Adds mid new (BrokenOf bag ys) → Adds old new (BrokenOf bag (xs ++ ys))
+adds_kinds bag xs ys old mid new a b = adds_on old mid new (BrokenOf bag xs) (BrokenOf bag ys) (BrokenOf bag (xs ++ ys))
+    (λ f h. elim (or_split (list_any (λ kind. kind == number_of f) xs) (list_any (λ kind. kind == number_of f) ys) (sym (any_or (number_of f) xs ys) ∙ h.1)) [ inl k ↦ inl (h.0, k) | inr k ↦ inr (h.0, k) ])
+    (λ f h. (h.0, any_or (number_of f) xs ys ∙ or_first (list_any (λ kind. kind == number_of f) xs) (list_any (λ kind. kind == number_of f) ys) h.1))
+    (λ f h. (h.0, any_or (number_of f) xs ys ∙ or_second (list_any (λ kind. kind == number_of f) xs) (list_any (λ kind. kind == number_of f) ys) h.1))
+    a b

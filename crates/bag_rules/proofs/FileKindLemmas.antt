@@ -1,0 +1,106 @@
+-- The faults of the files, by what was read, are those that are broken.
+use Rattle.std.proofs.Common.{◌≡◌, ℕ, Bool, true, false, List, [], ◌∷◌, Option, length, refl, sym, inl, inr, subst}
+use Rattle.bag_tags.specs.declared.listing.Kind.TheVariants.{Payload}
+use Rattle.bag_tags.specs.declared.listing.Pair.{Pair}
+use Rattle.bag_tags.specs.Listings.{Listing}
+use Rattle.bag_rules.specs.declared.fault.Fault.{Fault}
+use Rattle.bag_rules.specs.declared.fault.Fault.TheVariants.{NoDeclaration, BadDeclaration, NoPayloadDir, NoManifest, BadLine, ManifestNotListed, OxumForm, OxumTwice, Missing, Unlisted, FetchNotListed, FetchLength, OxumWrong, WrongDigest}
+use Rattle.bag_rules.specs.declared.fault.ManifestName.{ManifestName}
+use Rattle.bag_rules.specs.declared.outcome.CheckFault.{CheckFault}
+use Rattle.bag_rules.specs.declared.texts.Texts.{Texts}
+use Rattle.bag_rules.specs.Bags.{Bag, IsBagOf, Lists, manifest_name}
+use Rattle.bag_rules.specs.Broken.{BrokenOf}
+use Rattle.bag_rules.specs.Faults.{Has}
+use Rattle.bag_rules.specs.Files.{IsFileFault, IsLongRead, IsMissing, IsReadBy}
+use Rattle.bag_rules.specs.Limits.{FileStops, FirstStops, IsChecked, NoneStops, NoneStopsBefore, Stopped}
+use Rattle.bag_rules.specs.Reading.{AreTextsOf, name_in}
+use Rattle.bag_rules.proofs.FrontLemmas.{manifest_listed}
+use Rattle.bag_rules.proofs.LimitLemmas.{stopped_so}
+use Rattle.bag_rules.proofs.TreeLemmas.{is_there, shows}
+
+abbrev listing_by : ManifestName → List Pair → Listing
+listing_by name pairs = record { alg = name.alg; kind = name.kind; pairs = pairs }
+
+module _ (bag : Bag) (texts : Texts) (are : AreTextsOf (length bag.files) bag texts) where
+  -- what was read is what the bag's manifests list
+  pub lists_of_has : (listing : Listing) → Has texts.manifests.items listing → Lists bag (name_in listing) listing.pairs
+  lists_of_has listing has = (manifest_listed bag texts are listing).0 has
+
+  pub has_of_lists : (name : ManifestName) (pairs : List Pair) → Lists bag name pairs → Has texts.manifests.items (listing_by name pairs)
+  has_of_lists name pairs lists = (manifest_listed bag texts are (listing_by name pairs)).1 lists
+
+  -- the files that are read are those that are checked
+  pub checked_of_read : (path : List ℕ) → IsReadBy texts.manifests.items path → IsChecked bag path
+  checked_of_read path (inl payload) = inl payload
+  checked_of_read path (inr listed) = inr (name_in listed.0, (listed.0.pairs, lists_of_has listed.0 listed.1, listed.2))
+
+  pub read_of_checked : (path : List ℕ) → IsChecked bag path → IsReadBy texts.manifests.items path
+  read_of_checked path (inl payload) = inl payload
+  read_of_checked path (inr listed) = inr (listing_by listed.0 listed.1.0, has_of_lists listed.0 listed.1.0 listed.1.1, listed.1.2)
+
+  none_before : (n : ℕ) → NoneStopsBefore n bag (IsLongRead texts.manifests.items) → NoneStopsBefore n bag (FileStops bag)
+  none_before n none i path octets fault below at stops = none i path octets fault below at (read_of_checked path stops.0, stops.1)
+
+  pub none_stops : NoneStops bag (IsLongRead texts.manifests.items) → NoneStops bag (FileStops bag)
+  none_stops = none_before (length bag.files)
+
+  pub first_stops_so : (fault : CheckFault) → Stopped (FirstStops bag (IsLongRead texts.manifests.items)) fault → Stopped (FirstStops bag (FileStops bag)) fault
+  first_stops_so fault = stopped_so (FirstStops bag (IsLongRead texts.manifests.items)) (FirstStops bag (FileStops bag)) fault (λ first. record {
+    place = first.place;
+    path = first.path;
+    octets = first.octets;
+    there = first.there;
+    reason = (checked_of_read first.path first.reason.0, first.reason.1);
+    first = none_before first.place first.first;
+  })
+
+  -- FAULTS OF THE FILES THAT ARE THERE
+
+  pub file_fault_broken : (f : Fault) → IsFileFault bag texts.manifests.items f → BrokenOf bag (10 ∷ 14 ∷ []) f
+  file_fault_broken f (i, (path, (octets, at, (listing, has, inl unlisted)))) =
+      let lists : Lists bag (manifest_name Payload listing.alg) listing.pairs = subst (λ kind. Lists bag (manifest_name kind listing.alg) listing.pairs) unlisted.0 (lists_of_has listing has) in
+      subst (BrokenOf bag (10 ∷ 14 ∷ [])) (sym unlisted.3) ((listing.pairs, lists, unlisted.2, (octets, (i, at)), unlisted.1), refl)
+  file_fault_broken f (i, (path, (octets, at, (listing, has, inr wrong)))) =
+      subst (BrokenOf bag (10 ∷ 14 ∷ [])) (sym wrong.3) ((listing.pairs, lists_of_has listing has, (wrong.0, wrong.1, (octets, (i, at), wrong.2))), refl)
+
+  pub broken_file_fault : (f : Fault) → BrokenOf bag (10 ∷ 14 ∷ []) f → IsFileFault bag texts.manifests.items f
+  broken_file_fault NoDeclaration h = let k : false ≡ true = h.1 in cc
+  broken_file_fault (BadDeclaration _) h = let k : false ≡ true = h.1 in cc
+  broken_file_fault NoPayloadDir h = let k : false ≡ true = h.1 in cc
+  broken_file_fault NoManifest h = let k : false ≡ true = h.1 in cc
+  broken_file_fault (BadLine _ _ _) h = let k : false ≡ true = h.1 in cc
+  broken_file_fault (ManifestNotListed _ _) h = let k : false ≡ true = h.1 in cc
+  broken_file_fault OxumForm h = let k : false ≡ true = h.1 in cc
+  broken_file_fault OxumTwice h = let k : false ≡ true = h.1 in cc
+  broken_file_fault (Missing _ _) h = let k : false ≡ true = h.1 in cc
+  broken_file_fault (Unlisted alg path) ((pairs, lists, unlisted, (octets, (i, at)), payload), kind) =
+      (i, (path, (octets, at, (listing_by (manifest_name Payload alg) pairs, has_of_lists (manifest_name Payload alg) pairs lists, inl (refl, payload, unlisted, refl)))))
+  broken_file_fault (FetchNotListed _ _) h = let k : false ≡ true = h.1 in cc
+  broken_file_fault (FetchLength _ _) h = let k : false ≡ true = h.1 in cc
+  broken_file_fault OxumWrong h = let k : false ≡ true = h.1 in cc
+  broken_file_fault (WrongDigest name path) ((pairs, lists, (digest, some, (octets, (i, at), wrong))), kind) =
+      (i, (path, (octets, at, (listing_by name pairs, has_of_lists name pairs lists, inr (digest, some, wrong, refl)))))
+
+  -- FILES THAT ARE NOT THERE
+
+  module _ {T : Type 0} {paths : T → List (List ℕ)} {has_dir : T → Bool} {body : T → ℕ → Option (List ℕ)} {tree : T} (is : IsBagOf paths has_dir body tree bag) where
+    pub missing_broken : (f : Fault) → IsMissing (paths tree) texts.manifests.items f → BrokenOf bag (9 ∷ []) f
+    missing_broken f (listing, has, (path, (listed, away, e))) =
+        subst (BrokenOf bag (9 ∷ [])) (sym e) ((listing.pairs, lists_of_has listing has, listed, λ there. away (shows bag is path there)), refl)
+
+    pub broken_missing : (f : Fault) → BrokenOf bag (9 ∷ []) f → IsMissing (paths tree) texts.manifests.items f
+    broken_missing NoDeclaration h = let k : false ≡ true = h.1 in cc
+    broken_missing (BadDeclaration _) h = let k : false ≡ true = h.1 in cc
+    broken_missing NoPayloadDir h = let k : false ≡ true = h.1 in cc
+    broken_missing NoManifest h = let k : false ≡ true = h.1 in cc
+    broken_missing (BadLine _ _ _) h = let k : false ≡ true = h.1 in cc
+    broken_missing (ManifestNotListed _ _) h = let k : false ≡ true = h.1 in cc
+    broken_missing OxumForm h = let k : false ≡ true = h.1 in cc
+    broken_missing OxumTwice h = let k : false ≡ true = h.1 in cc
+    broken_missing (Missing name path) ((pairs, lists, listed, away), kind) =
+        (listing_by name pairs, has_of_lists name pairs lists, (path, (listed, (λ there. away (is_there bag is path there)), refl)))
+    broken_missing (Unlisted _ _) h = let k : false ≡ true = h.1 in cc
+    broken_missing (FetchNotListed _ _) h = let k : false ≡ true = h.1 in cc
+    broken_missing (FetchLength _ _) h = let k : false ≡ true = h.1 in cc
+    broken_missing OxumWrong h = let k : false ≡ true = h.1 in cc
+    broken_missing (WrongDigest _ _) h = let k : false ≡ true = h.1 in cc

@@ -1,0 +1,130 @@
+-- The lengths of payload files.
+use Rattle.std.proofs.Common.{◌≡◌, ◌≢◌, ◌↔◌, ◌+◌, ℕ, Bool, true, false, not, List, [], ◌∷◌, ◌++◌, Option, Some, None, IsTrue, nat_eq, length, take, get_or, slice_get, cond, refl, sym, ap, ◌∙◌, inl, inr, subst, arith}
+use Rattle.std.proofs.lemmas.Bool.{cases_Bool}
+use Rattle.std.proofs.lemmas.Bool.Decides.{Decides-eqb}
+use Rattle.std.proofs.lemmas.List.{append-nil, length_push}
+use Rattle.std.proofs.lemmas.List.Elements.{filter_more}
+use Rattle.std.proofs.lemmas.Option.{same_Some, slice_get_within, get_or_from_slice_get}
+use Rattle.bag_path.specs.Paths.{is_payload}
+use Rattle.bag_tags.specs.declared.fetch.FetchLine.{FetchLine}
+use Rattle.bag_tags.specs.declared.oxum.Oxum.{Oxum}
+use Rattle.bag_tags.specs.Infos.{MetadataElement}
+use Rattle.bag_tags.specs.Oxums.{OxumText}
+use Rattle.bag_rules.specs.declared.fault.Fault.{Fault}
+use Rattle.bag_rules.specs.declared.fault.Fault.TheVariants.{FetchLength, OxumWrong}
+use Rattle.bag_rules.specs.declared.texts.Texts.{Texts}
+use Rattle.bag_rules.specs.Bags.{Bag, IsBagOf, is_oxum, octet_count, payload_of}
+use Rattle.bag_rules.specs.Broken.{Broken, BrokenOf}
+use Rattle.bag_rules.specs.Faults.{Has}
+use Rattle.bag_rules.specs.Files.{AreLengths, IsOtherLength, IsOtherOxum}
+use Rattle.bag_rules.specs.Reading.{Adds, AreTextsOf}
+use Rattle.bag_rules.proofs.AddsLemmas.{adds_none, adds_one}
+use Rattle.bag_rules.proofs.FormLemmas.{no_oxum, oxum_in, oxum_of}
+use Rattle.bag_rules.proofs.OxumReading.{oxum}
+use Rattle.bag_rules.proofs.TreeLemmas.{there_at, path_at}
+
+abbrev File : Type 0
+File = List ℕ × List ℕ
+
+-- NUMBERS OF THE PAYLOAD
+
+pub no_octets : 0 ≡ octet_count []
+unfolding octet_count
+no_octets = refl
+
+count_append : (xs : List File) (path octets : List ℕ) → octet_count (xs ++ (path, octets) ∷ []) ≡ octet_count xs + length octets
+unfolding octet_count
+count_append [] path octets = omega arith
+count_append (x ∷ xs) path octets = omega (arith, count_append xs path octets)
+
+one_more : (files : List File) (i : ℕ) (path octets : List ℕ) → slice_get files i ≡ Some (path, octets) → payload_of (take (i + 1) files) ≡ payload_of (take i files) ++ cond (is_payload path) ((path, octets) ∷ []) []
+one_more files i path octets at =
+    let file : File = (path, octets) in
+    let here : get_or files i file ≡ file = get_or_from_slice_get files i file file at in
+    filter_more (λ (f : File). is_payload f.0) files i file (slice_get_within files i file at)
+    ∙ ap (λ (f : File). payload_of (take i files) ++ cond (is_payload f.0) (f ∷ []) []) here
+
+module _ (files : List File) (i : ℕ) (path octets : List ℕ) (at : slice_get files i ≡ Some (path, octets)) where
+  pub payload_more : is_payload path ≡ true → payload_of (take (i + 1) files) ≡ payload_of (take i files) ++ (path, octets) ∷ []
+  payload_more payload = one_more files i path octets at ∙ ap (λ b. payload_of (take i files) ++ cond b ((path, octets) ∷ []) []) payload
+
+  pub payload_same : is_payload path ≡ false → payload_of (take (i + 1) files) ≡ payload_of (take i files)
+  payload_same other = one_more files i path octets at ∙ ap (λ b. payload_of (take i files) ++ cond b ((path, octets) ∷ []) []) other ∙ append-nil (payload_of (take i files))
+
+  pub octets_more : is_payload path ≡ true → octet_count (payload_of (take (i + 1) files)) ≡ octet_count (payload_of (take i files)) + length octets
+  octets_more payload = ap octet_count (payload_more payload) ∙ count_append (payload_of (take i files)) path octets
+
+  pub files_more : is_payload path ≡ true → length (payload_of (take (i + 1) files)) ≡ length (payload_of (take i files)) + 1
+  files_more payload = ap length (payload_more payload) ∙ length_push (payload_of (take i files)) (path, octets)
+
+-- LENGTHS THAT ARE GIVEN
+
+module _ {T : Type 0} {paths : T → List (List ℕ)} {has_dir : T → Bool} {body : T → ℕ → Option (List ℕ)} {tree : T} (bag : Bag) (is : IsBagOf paths has_dir body tree bag) (line : FetchLine) where
+  -- the file is not there
+  pub length_of_none : (faults : List Fault) → ¬ ((k : ℕ) × (slice_get (paths tree) k ≡ Some line.entry.path)) → Adds faults faults (IsOtherLength bag line)
+  length_of_none faults away = adds_none faults (IsOtherLength bag line) (λ f h. away (h.1.1.0, path_at bag is h.1.1.0 line.entry.path h.1.0 h.1.1.2))
+
+  module _ (lengths : List ℕ) (are : AreLengths bag lengths) (payload : is_payload line.entry.path ≡ true) (given i measured : ℕ) (gives : line.entry.octets ≡ Some given) (so : (n : ℕ) → slice_get lengths i ≡ Some n → measured ≡ n) where
+    pub length_right : (faults : List Fault) → ((k : ℕ) → slice_get (paths tree) k ≡ Some line.entry.path → k ≡ i) → measured ≡ given → Adds faults faults (IsOtherLength bag line)
+    length_right faults only right = adds_none faults (IsOtherLength bag line) (λ f h.
+        let octets = h.1.0 in
+        let k = h.1.1.0 in
+        let here : k ≡ i = only k (path_at bag is k line.entry.path octets h.1.1.2) in
+        let long : slice_get lengths i ≡ Some (length octets) = ap (slice_get lengths) (sym here) ∙ are.1 k line.entry.path octets h.1.1.2 payload in
+        let same : given ≡ h.0 = same_Some given h.0 (sym gives ∙ h.1.1.1) in
+        h.1.1.3 (sym (so (length octets) long) ∙ right ∙ same))
+
+    pub length_wrong : (old new : List Fault) → slice_get (paths tree) i ≡ Some line.entry.path → measured ≢ given → new ≡ old ++ FetchLength line.line line.entry.path ∷ [] → Adds old new (IsOtherLength bag line)
+    length_wrong old new found wrong more =
+        let here = there_at bag is i line.entry.path found in
+        let long = so (length here.0) (are.1 i line.entry.path here.0 here.1 payload) in
+        adds_one old new (FetchLength line.line line.entry.path) (IsOtherLength bag line) more
+        (given, (here.0, (i, gives, here.1, (λ e. wrong (long ∙ e)), refl))) (λ f h. sym h.1.1.4)
+
+-- PAYLOAD-OXUM
+
+module _ (element : MetadataElement) (octets streams : ℕ) (text : List ℕ) (o : Option Oxum) (same : text ≡ element.value) (only : (x : Oxum) → OxumText text x.octets x.streams → o ≡ Some x) where
+  of_value : (a b : ℕ) → OxumText element.value a b → o ≡ Some (oxum a b)
+  of_value a b h = only (oxum a b) (subst (λ t. OxumText t a b) (sym same) h)
+
+  -- a value that can't be read says no other numbers
+  pub unread_other : o ≡ None → ¬ IsOtherOxum octets streams element
+  unread_other none h = let k : None ≡ Some (oxum h.1.0 h.1.1.0) = sym none ∙ of_value h.1.0 h.1.1.0 h.1.1.1 in cc
+
+  -- one that says the same number of octets
+  pub other_streams : (x : Oxum) → o ≡ Some x → OxumText text x.octets x.streams → is_oxum element ≡ true → x.octets ≡ octets → IsTrue (not (nat_eq x.streams streams)) ↔ IsOtherOxum octets streams element
+  other_streams x some read is octets_same = (
+    λ h. (is, (x.octets, (x.streams, subst (λ t. OxumText t x.octets x.streams) same read, inr (λ e. let k : false ≡ true = sym (ap not ((Decides-eqb x.streams streams).1 e)) ∙ h in cc)))),
+    λ h.
+        let y = oxum h.1.0 h.1.1.0 in
+        let one : x ≡ y = same_Some x y (sym some ∙ of_value h.1.0 h.1.1.0 h.1.1.1) in
+        elim h.1.1.2 [
+          | inl e ↦ absurd (e (sym (ap (λ (z : Oxum). z.octets) one) ∙ octets_same))
+          | inr e ↦ elim (cases_Bool (nat_eq x.streams streams)) [
+            | inl t ↦ absurd (e (sym (ap (λ (z : Oxum). z.streams) one) ∙ (Decides-eqb x.streams streams).0 t))
+            | inr t ↦ ap not t
+          ]
+        ],
+  )
+
+module _ (bag : Bag) (texts : Texts) (are : AreTextsOf (length bag.files) bag texts) where
+  wrong_kind : (f : Fault) → BrokenOf bag (13 ∷ []) f → (OxumWrong ≡ f) × Broken bag OxumWrong
+  wrong_kind OxumWrong h = (refl, h.0)
+  wrong_kind _ h = absurd (let k : false ≡ true = h.1 in cc)
+
+  pub no_wrong : (faults : List Fault) → texts.info ≡ None → Adds faults faults (BrokenOf bag (13 ∷ []))
+  no_wrong faults none = adds_none faults (BrokenOf bag (13 ∷ [])) (λ f h. let w = (wrong_kind f h).1 in no_oxum bag texts are w.0 none w.1)
+
+  module _ (elements : List MetadataElement) (some : texts.info ≡ Some elements) (octets streams : ℕ) (octets_are : octets ≡ octet_count (payload_of bag.files)) (streams_are : streams ≡ length (payload_of bag.files)) where
+    pub wrong_there : (old new : List Fault) → ((element : MetadataElement) × Has elements element × IsOtherOxum octets streams element) → new ≡ old ++ OxumWrong ∷ [] → Adds old new (BrokenOf bag (13 ∷ []))
+    wrong_there old new h more =
+        let other = h.2.1.1.2 in
+        adds_one old new OxumWrong (BrokenOf bag (13 ∷ [])) more
+        ((h.0, oxum_of bag texts are elements h.0 some h.1 h.2.0, (h.2.1.0, (h.2.1.1.0, h.2.1.1.1, elim other [ inl e ↦ inl (λ k. e (k ∙ sym octets_are)) | inr e ↦ inr (λ k. e (k ∙ sym streams_are)) ]))), refl)
+        (λ f k. (wrong_kind f k).0)
+
+    pub wrong_away : (faults : List Fault) → ((element : MetadataElement) → Has elements element → ¬ IsOtherOxum octets streams element) → Adds faults faults (BrokenOf bag (13 ∷ []))
+    wrong_away faults none = adds_none faults (BrokenOf bag (13 ∷ [])) (λ f h.
+        let w = (wrong_kind f h).1 in
+        none w.0 (oxum_in bag texts are elements w.0 some w.1)
+        (w.1.is_oxum, (w.2.0, (w.2.1.0, w.2.1.1, elim w.2.1.2 [ inl e ↦ inl (λ k. e (k ∙ octets_are)) | inr e ↦ inr (λ k. e (k ∙ streams_are)) ]))))
