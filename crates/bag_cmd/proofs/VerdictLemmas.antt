@@ -1,5 +1,5 @@
 -- What the verdict on a list of faults is.
-use Rattle.std.proofs.Common.{◌≡◌, ◌≢◌, ◌<◌, ◌↔◌, refl, sym, ap, Bool, true, false, List, [], ◌∷◌, nat_lt, codes, IsTrue}
+use Rattle.std.proofs.Common.{◌≡◌, ◌≢◌, ◌<◌, ◌⊎◌, ◌↔◌, refl, ap, arith, inl, inr, ℕ, Bool, List, [], ◌∷◌, Result, Ok, Err, IfOk, nat_lt, codes, IsTrue}
 use Rattle.std.specs.Prelude.{if◌then◌else◌}
 use Rattle.std.specs.Bool.{Decides}
 use Rattle.std.specs.List.{All}
@@ -7,7 +7,12 @@ use Rattle.std.proofs.lemmas.Bool.Decides.{Decides-by_and, Decides-ltb, same_fro
 use Rattle.std.proofs.lemmas.List.Elements.{All-from_recursion, recursion_from_All}
 use Rattle.bag_rules.specs.declared.fault.Fault.{Fault}
 use Rattle.bag_rules.specs.Faults.{number_of, NoneUpTo}
-use Rattle.bag_cmd.specs.Texts.{is_complete, verdict_text}
+use Rattle.bag_rules.specs.declared.outcome.CheckFault.{CheckFault}
+use Rattle.bag_rules.specs.declared.outcome.Outcome.{Outcome}
+use Rattle.bag_rules.specs.declared.outcome.Outcome.TheVariants.{Judged, Outside}
+use Rattle.bag_rules.specs.Bags.{Bag}
+use Rattle.bag_rules.specs.Validity.{IsValid, Means}
+use Rattle.bag_cmd.specs.Texts.{check_status, is_complete, verdict_text}
 
 abbrev IsOfDigests : Fault → Type 0
 IsOfDigests fault = 13 < number_of fault
@@ -26,3 +31,13 @@ pub verdict_where : (faults : List Fault) (b : Bool) → faults ≢ [] → (IsTr
 verdict_where [] b ne h = absurd (ne refl)
 verdict_where (fault ∷ faults) b ne h =
     ap (λ (t : Bool). if t then codes "complete, not valid" else codes "not complete") (is_complete_is (fault ∷ faults) b h)
+
+-- status 0 is that of a valid bag
+pub valid_if_0 : (bag : Bag) (answer : Result Outcome CheckFault) (status : ℕ) {P Q R : Type 0} → status ≡ 0 → ((P × (status ≡ 3)) ⊎ (Q × R × (status ≡ check_status answer))) → IfOk answer (Means bag) → IsValid bag
+valid_if_0 bag (Ok (Judged [])) status zero printed means = means.0.1 refl
+valid_if_0 bag (Ok (Judged (fault ∷ faults))) status zero (inl failed) means = absurd (omega (arith, zero, failed.1))
+valid_if_0 bag (Ok (Judged (fault ∷ faults))) status zero (inr printed) means = absurd (omega (arith, zero, printed.2))
+valid_if_0 bag (Ok (Outside cause)) status zero (inl failed) means = absurd (omega (arith, zero, failed.1))
+valid_if_0 bag (Ok (Outside cause)) status zero (inr printed) means = absurd (omega (arith, zero, printed.2))
+valid_if_0 bag (Err fault) status zero (inl failed) means = absurd (omega (arith, zero, failed.1))
+valid_if_0 bag (Err fault) status zero (inr printed) means = absurd (omega (arith, zero, printed.2))

@@ -3,33 +3,21 @@ use Rattle.std.specs.Prelude.{ℕ, Bool, List, [], ◌∷◌, ◌++◌, Result, 
 use Rattle.std.specs.List.{list_all}
 use Rattle.std.specs.Fmt.{decimal}
 use Rattle.bag_path.specs.Spellings.{written}
-use Rattle.bag_digest.specs.Algorithm.{name_of}
-use Rattle.bag_digest.specs.declared.algorithm.Alg.{Alg}
-use Rattle.bag_tags.specs.declared.listing.Kind.{Kind}
 use Rattle.bag_tags.specs.declared.listing.Kind.TheVariants.{Payload, Tag}
 use Rattle.bag_tags.specs.declared.declaration.DeclarationFault.{DeclarationFault}
 use Rattle.bag_tags.specs.declared.declaration.DeclarationFault.TheVariants as declaration
 use Rattle.bag_tags.specs.declared.fault.LineCause.{LineCause}
 use Rattle.bag_tags.specs.declared.fault.LineCause.TheVariants as cause
-use Rattle.bag_rules.specs.Bags.{file_of, manifest_file}
+use Rattle.bag_rules.specs.Bags.{file_of, manifest_file, text_file}
 use Rattle.bag_rules.specs.Faults.{number_of}
-use Rattle.bag_rules.specs.declared.fault.ManifestName.{ManifestName}
-use Rattle.bag_rules.specs.declared.fault.LineFile.{LineFile}
-use Rattle.bag_rules.specs.declared.fault.LineFile.TheVariants.{Info, FetchList, Manifest}
 use Rattle.bag_rules.specs.declared.fault.Fault.{Fault}
 use Rattle.bag_rules.specs.declared.fault.Fault.TheVariants as fault
 use Rattle.bag_rules.specs.declared.outcome.Outcome.{Outcome}
-use Rattle.bag_rules.specs.declared.outcome.Outcome.TheVariants.{Judged, Outside, NotYet}
+use Rattle.bag_rules.specs.declared.outcome.Outcome.TheVariants.{Judged, Outside}
 use Rattle.bag_rules.specs.declared.outcome.OutsideCause.{OutsideCause}
 use Rattle.bag_rules.specs.declared.outcome.OutsideCause.TheVariants.{Version, Encoding, Algorithm}
 use Rattle.bag_rules.specs.declared.outcome.CheckFault.{CheckFault}
 use Rattle.bag_rules.specs.declared.outcome.CheckFault.TheVariants.{Tree, TagTooLarge, TooMany, TooLarge, Memory}
-
--- the file's name
-abbrev pub file_text : LineFile → List ℕ
-file_text Info = codes "bag-info.txt"
-file_text FetchList = codes "fetch.txt"
-file_text (Manifest manifest) = file_of manifest
 
 -- CAUSES
 
@@ -61,7 +49,7 @@ fault_text fault.NoDeclaration = codes "no bagit.txt"
 fault_text (fault.BadDeclaration why) = codes "bagit.txt: " ++ declaration_text why
 fault_text fault.NoPayloadDir = codes "no data directory"
 fault_text fault.NoManifest = codes "no payload manifest"
-fault_text (fault.BadLine file line why) = file_text file ++ codes ":" ++ decimal line ++ codes ": " ++ cause_text why
+fault_text (fault.BadLine file line why) = text_file file ++ codes ":" ++ decimal line ++ codes ": " ++ cause_text why
 fault_text (fault.ManifestNotListed tag_manifest manifest) = manifest_file Tag tag_manifest ++ codes ": not listed: " ++ manifest_file Payload manifest
 fault_text fault.OxumForm = codes "bag-info.txt: Payload-Oxum form"
 fault_text fault.OxumTwice = codes "bag-info.txt: Payload-Oxum repeated"
@@ -100,7 +88,6 @@ stop_text Memory = codes "bag: memory"
 abbrev pub check_lines : Result Outcome CheckFault → List (List ℕ)
 check_lines (Ok (Judged faults)) = map fault_text faults ++ verdict_text faults ∷ []
 check_lines (Ok (Outside why)) = outside_text why ∷ []
-check_lines (Ok (NotYet name)) = (codes "not yet: " ++ written name) ∷ []
 check_lines (Err fault) = stop_text fault ∷ []
 
 -- its status: 0 valid, 1 not valid, 2 not judged, 3 not come to an end
@@ -108,5 +95,4 @@ abbrev pub check_status : Result Outcome CheckFault → ℕ
 check_status (Ok (Judged [])) = 0
 check_status (Ok (Judged faults)) = 1
 check_status (Ok (Outside why)) = 2
-check_status (Ok (NotYet name)) = 2
 check_status (Err fault) = 3

@@ -3,14 +3,14 @@ ghost use Rattle.std.specs.Prelude.{◌≡◌, ◌≤◌, ◌⊎◌, ◌++◌, �
 ghost use Rattle.bag_digest.specs.Device.{Rises};
 ghost use Rattle.bag_rules.specs.Bags.{Bag, IsBagOf};
 ghost use Rattle.bag_rules.specs.Trees.{SameFiles};
-ghost use Rattle.bag_rules.specs.Validity.{IsValidBy};
+ghost use Rattle.bag_rules.specs.Validity.{IsValid};
 ghost use Rattle.bag_cmd.specs.Printing.{Printed, WroteLines};
 ghost use Rattle.bag_cmd.specs.Answers.{IsAnswer, PrintedOf};
 ghost use Rattle.bag_cmd.specs.Texts.{check_lines, check_status, fault_text, verdict_text};
 
 use crate::output::Output;
-use crate::text::{FaultLine, OutsideLine, Spelling, stop_text};
-use bag_digest::{Alg, Failed};
+use crate::text::{FaultLine, OutsideLine, stop_text};
+use bag_digest::Failed;
 use bag_rules::{CheckFault, Outcome, Report, Tree, check};
 use std::alloc::Global;
 use std::io::Write;
@@ -21,7 +21,7 @@ mod tests;
 /// Checks the bag that a tree holds, prints the answer and answers the status, as [`print_outcome`] does.
 pub fn check_to<T: Tree, W: Write>(alloc: Global, tree: &mut T, out: &mut Output<W>) -> u8
     // Status 0 is for valid bags alone.
-    ensures valid { result ≡ 0 → (bag : Bag) → IsBagOf T.paths T.has_dir T.body tree.old bag → IsValidBy bag Alg.Sha256 }
+    ensures valid { result ≡ 0 → (bag : Bag) → IsBagOf T.paths T.has_dir T.body tree.old bag → IsValid bag }
     ensures printed { PrintedOf W.contents out.old out.new result (IsAnswer T.paths T.has_dir T.body T.faults tree.old tree.new) }
     ensures same { SameFiles T.paths T.has_dir T.body tree.old tree.new }
     ensures counted { T.faults tree.old ≤ T.faults tree.new }
@@ -53,7 +53,6 @@ fn write_outcome<W: Write>(
     match outcome {
         Ok(Outcome::Judged(report)) => write_report(report, out)?,
         Ok(Outcome::Outside(cause)) => out.line(OutsideLine(cause))?,
-        Ok(Outcome::NotYet(name)) => out.line(format_args!("not yet: {}", Spelling(name)))?,
         Err(fault) => out.line(stop_text(fault))?,
     }
     out.flush()
@@ -90,7 +89,7 @@ fn status_of(outcome: &Result<Outcome, CheckFault>) -> u8
     match outcome {
         Ok(Outcome::Judged(report)) if report.is_valid() => 0,
         Ok(Outcome::Judged(_)) => 1,
-        Ok(Outcome::Outside(_) | Outcome::NotYet(_)) => 2,
+        Ok(Outcome::Outside(_)) => 2,
         Err(_) => 3,
     }
 }

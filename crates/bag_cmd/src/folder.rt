@@ -254,6 +254,7 @@ impl<R: Files> Source for FolderTree<R> {
         ensures octets { ReadConsumes None None result buf.new }
         ensures kept { SameShown self.old self.new }
         ensures failed { OnErr result (Rises self.old.failures self.new.failures) }
+        ensures unfailed { OnOk result (self.new.failures ≡ self.old.failures) }
         ensures counted { self.old.failures ≤ self.new.failures }
 
         ensures nothing_open { self.old.is_open ≡ false → IsErr result }
@@ -314,6 +315,7 @@ impl<R: Files> Tree for FolderTree<R> {
         requires { i < length self.old.paths }
         ensures same { SameFiles (λ (tree : Shown). tree.paths) (λ (tree : Shown). tree.has_dir) (λ (tree : Shown) i. None) self.old self.new }
         ensures failed { OnErr result (Rises self.old.failures self.new.failures) }
+        ensures unfailed { OnOk result (self.new.failures ≡ self.old.failures) }
         ensures counted { self.old.failures ≤ self.new.failures }
 
         ensures opened { OnOk result (self.new ≡ record self.old { is_open = true }) }

@@ -13,9 +13,9 @@ use std::io::Write;
 pub struct Output<W> {
     pub writer: W,
     /// How often the writer has failed; the count stays at its greatest value.
-    pub failures: u64,
+    failures: u64,
     /// Whether the writer holds nothing back: no line was written since it was last flushed.
-    pub flushed: bool,
+    flushed: bool,
 }
 
 impl<W: Write> Output<W> {

@@ -164,11 +164,6 @@ fn an_answer_without_a_report_is_one_line(rt: HostRuntime) -> Result<(), Fail> {
             "outside: algorithm sha224\n",
             2,
         ),
-        (
-            Ok(Outcome::NotYet(name.clone()?)),
-            "not yet: tagmanifest-md5.txt\n",
-            2,
-        ),
         (Err(CheckFault::Tree), "bag: files\n", 3),
         (
             Err(CheckFault::TagTooLarge(name.clone()?)),

@@ -65,9 +65,9 @@ struct FileName(LineFile);
 
 impl Display for FileName {
     ghost use Rattle.std.specs.Prelude.{Some};
-    ghost use Rattle.bag_cmd.specs.Texts.{file_text};
+    ghost use Rattle.bag_rules.specs.Bags.{text_file};
 
-    ghost output = { λ file. Some (file_text file.0) };
+    ghost output = { λ file. Some (text_file file.0) };
 
     fn fmt<W: Write>(&self, f: &mut Formatter<W>) -> Result {
         match self.0 {

@@ -215,27 +215,196 @@ not complete\n";
     Ok(())
 }
 
+/// The bag of two files with one tag file more.
+fn bag_with(alloc: Global, name: &str, octets: &[u8]) -> Result<MemTree, Fail> {
+    let mut tree = bag(alloc, &TAG_FILES)?;
+    add(alloc, &mut tree, &[(name, octets)])?;
+    Ok(tree)
+}
+
 #[test]
-fn the_least_file_that_is_not_judged_yet_is_told_before_all_else(
+fn every_payload_manifest_lists_every_payload_file(rt: HostRuntime) -> Result<(), Fail> {
+    let alloc = rt.alloc();
+    let one = b"900150983cd24fb0d6963f7d28e17f72  data/a.txt\n";
+    let text = "manifest-md5.txt: unlisted: data/e.txt\nnot complete\n";
+    let mut tree = bag_with(alloc, "manifest-md5.txt", one)?;
+    prints(&rt, alloc, &mut tree, text, 1);
+    let both = b"900150983cd24fb0d6963f7d28e17f72  data/a.txt\n\
+d41d8cd98f00b204e9800998ecf8427e  data/e.txt\n";
+    let mut tree = bag_with(alloc, "manifest-md5.txt", both)?;
+    prints(&rt, alloc, &mut tree, "valid\n", 0);
+    add(alloc, &mut tree, &[("data/z", b"")])?;
+    let text = "manifest-md5.txt: unlisted: data/z\n\
+manifest-sha256.txt: unlisted: data/z\n\
+not complete\n";
+    prints(&rt, alloc, &mut tree, text, 1);
+    Ok(())
+}
+
+#[test]
+fn each_manifest_has_its_own_digests(rt: HostRuntime) -> Result<(), Fail> {
+    let alloc = rt.alloc();
+    let swapped = b"d41d8cd98f00b204e9800998ecf8427e  data/a.txt\n\
+900150983cd24fb0d6963f7d28e17f72  data/e.txt\n";
+    let mut tree = bag_with(alloc, "manifest-md5.txt", swapped)?;
+    let text = "manifest-md5.txt: digest: data/a.txt\n\
+manifest-md5.txt: digest: data/e.txt\n\
+complete, not valid\n";
+    prints(&rt, alloc, &mut tree, text, 1);
+    Ok(())
+}
+
+#[test]
+fn the_payload_has_the_numbers_of_its_oxum(rt: HostRuntime) -> Result<(), Fail> {
+    let alloc = rt.alloc();
+    let wrong = "bag-info.txt: Payload-Oxum wrong\nnot complete\n";
+    for (info, text, status) in [
+        (b"Payload-Oxum: 3.2".as_slice(), "valid\n", 0),
+        (b"\xef\xbb\xbfPayload-Oxum: 3.2\n", "valid\n", 0),
+        (b"Payload-Oxum: 4.2", wrong, 1),
+        (b"payload-oxum: 3.1", wrong, 1),
+        (
+            b"Payload-Oxum: 3",
+            "bag-info.txt: Payload-Oxum form\nnot complete\n",
+            1,
+        ),
+        (
+            b"Payload-Oxum: 3.2\nPayload-Oxum: 3.2",
+            "bag-info.txt: Payload-Oxum repeated\nnot complete\n",
+            1,
+        ),
+        (
+            b"Payload-Oxums: 9.9\nNote: Payload-Oxum: 8.8\n",
+            "valid\n",
+            0,
+        ),
+    ] {
+        let mut tree = bag_with(alloc, "bag-info.txt", info)?;
+        prints(&rt, alloc, &mut tree, text, status);
+    }
+    Ok(())
+}
+
+#[test]
+fn the_least_manifest_by_another_algorithm_puts_a_bag_outside(rt: HostRuntime) -> Result<(), Fail> {
+    let alloc = rt.alloc();
+    let mut tree = bag_with(alloc, "manifest-sha224.txt", b"")?;
+    add(alloc, &mut tree, &[("tagmanifest-blake2.txt", b"?")])?;
+    prints(&rt, alloc, &mut tree, "outside: algorithm sha224\n", 2);
+    Ok(())
+}
+
+#[test]
+fn a_tag_manifest_lists_the_payload_manifests_with_their_digests(
     rt: HostRuntime,
 ) -> Result<(), Fail> {
     let alloc = rt.alloc();
-    for name in [
-        "bag-info.txt",
-        "fetch.txt",
-        "manifest-md5.txt",
-        "manifest-sha224.txt",
-        "tagmanifest-sha256.txt",
+    for (manifest, text, status) in [
+        (
+            b"".as_slice(),
+            "tagmanifest-sha256.txt: not listed: manifest-sha256.txt\nnot complete\n",
+            1,
+        ),
+        (
+            b"e3b0c44298fc1c149afbf4c8996fb92427ae41e4649b934ca495991b7852b855  data/a.txt\n",
+            "tagmanifest-sha256.txt:1: wrong place\nnot complete\n",
+            1,
+        ),
+        (
+            b"e3b0c44298fc1c149afbf4c8996fb92427ae41e4649b934ca495991b7852b855  manifest-sha256.txt\n",
+            "tagmanifest-sha256.txt: digest: manifest-sha256.txt\ncomplete, not valid\n",
+            1,
+        ),
+        (
+            b"456acbba2b2aa56b7fa3d4e9ac34b9475cc2c2a6694f5c4bd7975db51956fda7  manifest-sha256.txt\n\
+1712ecfb074bf29c4188ad3421032509159a09739fd604f8fe57038b4ddefcc9  bagit.txt\n",
+            "valid\n",
+            0,
+        ),
+        (
+            b"456acbba2b2aa56b7fa3d4e9ac34b9475cc2c2a6694f5c4bd7975db51956fda7  manifest-sha256.txt\n\
+1712ecfb074bf29c4188ad3421032509159a09739fd604f8fe57038b4ddefcc9  note.txt\n",
+            "tagmanifest-sha256.txt: missing: note.txt\nnot complete\n",
+            1,
+        ),
     ] {
-        let mut tree = MemTree::new(alloc);
-        add(
-            alloc,
-            &mut tree,
-            &[(name, b""), ("tagmanifest-zzz.txt", b""), ("bag", b"")],
-        )?;
-        let text = format!(in alloc; "not yet: {name}\n")?;
-        prints(&rt, alloc, &mut tree, text.as_str(), 2);
+        let mut tree = bag_with(alloc, "tagmanifest-sha256.txt", manifest)?;
+        prints(&rt, alloc, &mut tree, text, status);
     }
+    Ok(())
+}
+
+#[test]
+fn what_is_to_be_fetched_is_listed_and_has_its_length(rt: HostRuntime) -> Result<(), Fail> {
+    let alloc = rt.alloc();
+    for (fetch, text, status) in [
+        (
+            b"http://example.org/z - data/z\n".as_slice(),
+            "fetch.txt: not in manifest-sha256.txt: data/z\nnot complete\n",
+            1,
+        ),
+        (
+            b"http://example.org/a 4 data/a.txt\n",
+            "fetch.txt:1: length: data/a.txt\nnot complete\n",
+            1,
+        ),
+        (
+            b"\nhttp://example.org/a 3 data/a.txt\nhttp://example.org/a 2 data/a.txt\n",
+            "fetch.txt:3: length: data/a.txt\nnot complete\n",
+            1,
+        ),
+        (
+            b"http://example.org/a 3 data/a.txt\nhttp://example.org/e - data/e.txt\n",
+            "valid\n",
+            0,
+        ),
+    ] {
+        let mut tree = bag_with(alloc, "fetch.txt", fetch)?;
+        prints(&rt, alloc, &mut tree, text, status);
+    }
+    Ok(())
+}
+
+#[test]
+fn faults_of_fetch_come_by_manifest_and_then_by_path(rt: HostRuntime) -> Result<(), Fail> {
+    let alloc = rt.alloc();
+    let both = b"900150983cd24fb0d6963f7d28e17f72  data/a.txt\n\
+d41d8cd98f00b204e9800998ecf8427e  data/e.txt\n";
+    let mut tree = bag_with(alloc, "manifest-md5.txt", both)?;
+    let fetch = b"http://example.org/z - data/z\n\
+http://example.org/y - data/y\n\
+http://example.org/y - data/y\n";
+    add(alloc, &mut tree, &[("fetch.txt", fetch)])?;
+    let text = "fetch.txt: not in manifest-md5.txt: data/y\n\
+fetch.txt: not in manifest-md5.txt: data/z\n\
+fetch.txt: not in manifest-sha256.txt: data/y\n\
+fetch.txt: not in manifest-sha256.txt: data/z\n\
+not complete\n";
+    prints(&rt, alloc, &mut tree, text, 1);
+    Ok(())
+}
+
+#[test]
+fn each_tag_file_tells_its_first_faulty_line(rt: HostRuntime) -> Result<(), Fail> {
+    let alloc = rt.alloc();
+    let mut tree = bag_with(alloc, "bag-info.txt", b"x\n")?;
+    add(alloc, &mut tree, &[("fetch.txt", b"x\n")])?;
+    let text = "bag-info.txt:1: separator\nfetch.txt:1: separator\nnot complete\n";
+    prints(&rt, alloc, &mut tree, text, 1);
+    Ok(())
+}
+
+#[test]
+fn a_faulty_line_hides_the_faults_of_the_files(rt: HostRuntime) -> Result<(), Fail> {
+    let alloc = rt.alloc();
+    let mut tree = bag_with(alloc, "bag-info.txt", b"Payload-Oxum: 9.9\n x\n:\n")?;
+    add(
+        alloc,
+        &mut tree,
+        &[("data/z", b""), ("tagmanifest-md5.txt", b"?")],
+    )?;
+    let text = "bag-info.txt:3: label\ntagmanifest-md5.txt:1: separator\nnot complete\n";
+    prints(&rt, alloc, &mut tree, text, 1);
     Ok(())
 }
 
@@ -301,6 +470,44 @@ fn a_tree_has_at_most_200_000_files(rt: HostRuntime) -> Result<(), Fail> {
         let path = format!(in alloc; "data/{number:06}")?;
         tree.add(BagPath::parse(alloc, path.as_str())?, Vec::new(alloc))?;
     }
+    prints(&rt, alloc, &mut tree, "bag: too many\n", 3);
+    Ok(())
+}
+
+#[test]
+fn fetch_and_tag_manifests_have_at_most_100_000_lines(rt: HostRuntime) -> Result<(), Fail> {
+    let alloc = rt.alloc();
+    for name in ["fetch.txt", "tagmanifest-md5.txt", "manifest-sha512.txt"] {
+        let mut text = Vec::new(alloc);
+        text.resize(100_001, b'\n')?;
+        let mut tree = bag_with(alloc, name, &text)?;
+        prints(&rt, alloc, &mut tree, "bag: too many\n", 3);
+    }
+    Ok(())
+}
+
+#[test]
+fn the_lines_of_bag_info_are_not_limited(rt: HostRuntime) -> Result<(), Fail> {
+    let alloc = rt.alloc();
+    let mut text = Vec::new(alloc);
+    text.resize(100_001, b'\n')?;
+    let mut tree = bag_with(alloc, "bag-info.txt", &text)?;
+    prints(&rt, alloc, &mut tree, "valid\n", 0);
+    Ok(())
+}
+
+#[test]
+fn limits_of_tag_files_are_met_by_name(rt: HostRuntime) -> Result<(), Fail> {
+    let alloc = rt.alloc();
+    let mut large = Vec::new(alloc);
+    large.resize(16_777_217, b'x')?;
+    let mut long = Vec::new(alloc);
+    long.resize(100_001, b'\n')?;
+    let mut tree = bag_with(alloc, "bag-info.txt", &large)?;
+    add(alloc, &mut tree, &[("fetch.txt", &long)])?;
+    prints(&rt, alloc, &mut tree, "bag: tag too large\n", 3);
+    let mut tree = bag_with(alloc, "fetch.txt", &long)?;
+    add(alloc, &mut tree, &[("tagmanifest-md5.txt", &large)])?;
     prints(&rt, alloc, &mut tree, "bag: too many\n", 3);
     Ok(())
 }
