@@ -1,0 +1,166 @@
+#!/usr/bin/env bash
+# Faults of the machine while the program runs: files that change, calls that fail, little memory, outputs that take a part.
+# Each run ends with its status and one clear line, or with a verdict that the rules allow.
+set -u
+cd "$(dirname -- "$0")/.." || exit 1
+. tests/common.bash
+
+# What a build says would be noise in the first case.
+./bag >"$work/printed" || true
+program=crates/bag_cmd/out/bag_cmd
+
+# big NAME: a bag with a payload file that takes many seconds to read, and no room on the disk, and with data/z after it.
+big() {
+    cp -r examples/first-bag "$work/$1"
+    truncate -s 64G "$work/$1/data/b.bin" && touch "$work/$1/data/z" || return
+    printf '%064d  data/b.bin\n%064d  data/z\n' 0 0 >>"$work/$1/manifest-sha256.txt"
+}
+
+# while_reading FOLDER COMMAND: a check, which is stopped as soon as data/b.bin is open. That file is cut off, and the command
+# changes the folder; then the check goes on.
+while_reading() {
+    local pid status=0
+    ./bag check "$1" &
+    pid=$!
+    for _ in {1..3000}; do
+        [ -z "$(find "/proc/$pid/fd" -lname "$1/data/b.bin" 2>"$work/gone")" ] || break
+        sleep 0.01
+    done
+    kill -STOP "$pid"
+    (cd "$1" && truncate -s 0 data/b.bin && eval "$2")
+    kill -CONT "$pid"
+    timeout 60 tail -s 0.05 --pid="$pid" -f /dev/null || kill "$pid"
+    wait "$pid" || status=$?
+    return "$status"
+}
+
+if big shrinks; then
+    cut_off='manifest-sha256.txt: digest: data/b.bin
+manifest-sha256.txt: digest: data/z
+complete, not valid'
+    expect 'a file that shrinks' 1 "$cut_off" while_reading "$work/shrinks" true
+    big grows
+    expect 'a file that comes after the folder was looked at' 1 "$cut_off" while_reading "$work/grows" 'touch data/y'
+    big vanishes
+    expect 'a file that vanishes' 3 'bag: files' while_reading "$work/vanishes" 'rm data/z'
+    big becomes-directory
+    expect 'a file that becomes a directory' 3 'bag: files' while_reading "$work/becomes-directory" 'rm data/z && mkdir data/z'
+    big moves
+    expect 'a file whose directory moves away' 3 'bag: files' while_reading "$work/moves" 'mv data k'
+    big again
+    expect 'a manifest that changes when it was read' 1 "$cut_off" while_reading "$work/again" 'echo x >manifest-sha256.txt'
+else
+    echo 'skipped: files that change, for want of sparse files'
+fi
+
+# A bag with many faults, whose lines fill no pipe.
+cp -r examples/first-bag "$work/many"
+(cd "$work/many/data" && seq -f "%0150.0f" 5000 | xargs touch)
+many_faults() {
+    sed -n '1,/^not complete$/p' <(seq -f 'manifest-sha256.txt: unlisted: data/%0150.0f' 5000; echo 'not complete')
+}
+expect 'many lines' 1 "$(many_faults)" ./bag check "$work/many"
+full() {
+    "$@" >/dev/full
+}
+expect 'many lines on a full output' 3 '' full ./bag check "$work/many"
+
+# closed_pipe COMMAND..: the output is a pipe whose reader has gone.
+mkfifo "$work/pipe"
+closed_pipe() {
+    local status=0
+    exec 7<>"$work/pipe"
+    exec 8>"$work/pipe"
+    exec 7<&-
+    "$@" >&8 || status=$?
+    exec 8>&-
+    return "$status"
+}
+expect 'a pipe that nobody reads' 3 '' closed_pipe ./bag check examples/first-bag
+expect 'a pipe that nobody reads, and no words' 3 '' closed_pipe ./bag
+expect 'many lines on a pipe that nobody reads' 3 '' closed_pipe ./bag check "$work/many"
+
+# head_of COMMAND..: the reader goes after the first line. The status is the command's.
+head_of() {
+    "$@" | head -n 1
+    return "${PIPESTATUS[0]}"
+}
+expect 'a reader that goes after a line' 3 "$(many_faults | head -n 1)" head_of ./bag check "$work/many"
+
+# small_file COMMAND..: the output is a file that takes a part of it.
+small_file() (
+    trap '' XFSZ
+    ulimit -f 64
+    "$@" >"$work/small"
+)
+expect 'a file that takes a part' 3 '' small_file ./bag check "$work/many"
+
+# short_of_memory FOLDER LINES STATUS: with less memory or more, the check prints these lines, or `bag: memory`. The first limit
+# the least that the program starts with. Both answers must come.
+short_of_memory() {
+    local limit status printed answers=''
+    for limit in $(seq 2000 500 20000) $(seq 22000 2000 64000); do
+        [ "$(ulimit -v "$limit" && "$program" 2>"$work/no start")" = 'bag: check' ] || continue
+        status=0
+        printed=$(ulimit -v "$limit" && exec "$program" check "$1") || status=$?
+        case "$status $printed" in
+        "$3 $2") answers+=v ;;
+        '3 bag: memory') answers+=m ;;
+        *) echo "with $limit KiB: status $status: $printed" ;;
+        esac
+    done
+    [[ $answers == *m*v* ]]
+}
+expect 'little memory, and many lines' 0 '' short_of_memory "$work/many" "$(many_faults)" 1
+cp -r examples/first-bag "$work/large"
+(yes 'Contact-Name: Ada' | head -n 200000; echo 'Payload-Oxum: 3.2') >"$work/large/bag-info.txt"
+expect 'little memory, and a large tag file' 0 '' short_of_memory "$work/large" valid 0
+
+# lines_or_none LINES COMMAND..: the command, which prints all of these lines or nothing.
+lines_or_none() {
+    local printed status=0
+    printed=$("${@:2}") || status=$?
+    [ -z "$printed" ] || [ "$printed" = "$1" ] || echo "$printed"
+    return "$status"
+}
+
+# calls NAME COMMAND..: how often the command makes this call of the system.
+calls() {
+    strace -o "$work/calls" -e "trace=$1" "${@:2}" >"$work/printed_by_calls"
+    grep -c "^$1(" "$work/calls"
+}
+
+# each_call NAME FAULT STATUS LINES: the check of a bag with all tag files, once for each call that it makes, which then fails so.
+# The calls that the program makes before it looks at words are those of its start.
+each_call() {
+    local nth status printed start all
+    start=$(calls "$1" "$program")
+    all=$(calls "$1" "$program" check examples/whole-format)
+    [ "$all" -gt "$start" ] || echo "no such call: $1"
+    for nth in $(seq $((start + 1)) "$all"); do
+        status=0
+        printed=$(strace -o "$work/calls" -e "inject=$1:$2:when=$nth" "$program" check examples/whole-format) || status=$?
+        [ "$status $printed" = "$3 $4" ] || echo "call $nth: status $status: $printed"
+    done
+}
+
+if strace -o "$work/calls" true 2>"$work/no strace"; then
+    expect 'no directory or file that can be opened' 0 '' each_call openat error=EACCES 3 'bag: files'
+    expect 'no handle left' 0 '' each_call openat error=EMFILE 3 'bag: files'
+    expect 'directories and files that vanish' 0 '' each_call openat error=ENOENT 3 'bag: files'
+    expect 'directories that break off' 0 '' each_call getdents64 error=EIO 3 'bag: files'
+    expect 'names without a file' 0 '' each_call statx error=ENOENT 3 'bag: files'
+    expect 'files that break off' 0 '' each_call read error=EIO 3 'bag: files'
+    expect 'reads that are interrupted' 0 '' each_call read error=EINTR 3 'bag: files'
+    expect 'files whose closing fails: they were read' 0 '' each_call close error=EIO 0 valid
+    for error in ENOSPC EPIPE EIO EDQUOT; do
+        expect "writes that fail with $error" 3 '' \
+            strace -o "$work/calls" -e "inject=write:error=$error" "$program" check examples/whole-format
+    done
+    # What the first write couldn't give may be written at the end, but the status stays.
+    expect 'one write that fails' 3 '' lines_or_none valid \
+        strace -o "$work/calls" -e inject=write:error=ENOSPC:when=1 "$program" check examples/whole-format
+else
+    echo 'skipped: calls that fail, for want of strace, or of leave to trace'
+fi
+finish

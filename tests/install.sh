@@ -1,0 +1,102 @@
+#!/usr/bin/env bash
+# The script `install`, into folders of its own, and the manual page.
+set -u
+cd "$(dirname -- "$0")/.." || exit 1
+. tests/common.bash
+top=$PWD
+
+# What a build says would be noise in the first case.
+./bag >"$work/printed" || true
+
+# installed PREFIX: the files below it with their modes.
+installed() {
+    find "$1" -type f -printf '%m %P\n' | LC_ALL=C sort -k 2
+}
+files='755 bin/bag
+644 share/man/man1/bag.1'
+
+prefix=$work/a\ prefix
+expect 'into a new folder' 0 '' ./install "$prefix"
+expect 'the files and their modes' 0 "$files" installed "$prefix"
+expect 'the program from anywhere' 0 valid env -i -C / "$prefix/bin/bag" check "$top/examples/first-bag"
+expect 'by its name' 1 $'no bagit.txt\nnot complete' env -C examples PATH="$prefix/bin" bag check no-declaration
+expect 'without words' 64 'bag: check' env -i "$prefix/bin/bag"
+expect 'the page is that of the repository' 0 '' cmp docs/bag.1 "$prefix/share/man/man1/bag.1"
+expect 'again' 0 '' ./install "$prefix"
+expect 'again: the files and their modes' 0 "$files" installed "$prefix"
+# narrow COMMAND..: with a mask that keeps files from others.
+narrow() (
+    umask 077
+    "$@"
+)
+expect 'where files are kept from others' 0 '' narrow ./install "$work/narrow"
+expect 'where files are kept from others: the modes' 0 "$files" installed "$work/narrow"
+expect 'from another directory, and a folder named from there' 0 '' env -C "$work" "$top/install" named/here
+expect 'the files below it' 0 "$files" installed "$work/named/here"
+
+# refused COMMAND..: what it says is counted, and its status is handed on.
+refused() {
+    local status=0
+    "$@" 2>"$work/refusal" || status=$?
+    wc -l <"$work/refusal"
+    return "$status"
+}
+touch "$work/file"
+expect 'below a file' 1 1 refused ./install "$work/file"
+expect 'two words' 64 1 refused ./install "$work/one" "$work/other"
+expect 'a word that begins like an option' 64 1 refused ./install --help
+expect 'an empty word' 64 1 refused ./install ''
+
+# Tools for manual pages differ from system to system: the one that is there says whether the page is in order.
+page() {
+    MANWIDTH=100 MANPAGER=cat man -l "$prefix/share/man/man1/bag.1" | col -b | tr -s ' \n' '  '
+}
+if command -v mandoc >"$work/tool"; then
+    expect 'the page has no faults' 0 '' mandoc -T lint -W warning docs/bag.1
+elif command -v groff >"$work/tool"; then
+    expect 'the page has no faults' 0 '' groff -man -ww -z -T utf8 docs/bag.1
+else
+    echo 'skipped: faults of the page, for want of mandoc and groff'
+fi
+if [ -n "$(page 2>"$work/no page")" ]; then
+    page >"$work/page"
+    while IFS= read -r text; do
+        expect "the page names: $text" 0 '' grep -qF -- "$text" "$work/page"
+    done <<'TEXTS'
+bag check DIR
+no bagit.txt
+byte order mark
+line count
+encoding name
+no data directory
+no payload manifest
+FILE:LINE: CAUSE
+digest form
+wrong place
+twice
+nothing to continue
+TAGMANIFEST: not listed: MANIFEST
+bag-info.txt: Payload-Oxum form
+bag-info.txt: Payload-Oxum repeated
+MANIFEST: missing: PATH
+MANIFEST: unlisted: PATH
+fetch.txt: not in MANIFEST: PATH
+fetch.txt:LINE: length: PATH
+bag-info.txt: Payload-Oxum wrong
+MANIFEST: digest: PATH
+complete, not valid
+not complete
+outside: version
+outside: encoding
+outside: algorithm NAME
+bag: files
+bag: tag too large
+bag: too many
+bag: too large
+bag: memory
+bag: check
+TEXTS
+else
+    echo 'skipped: texts of the page, for want of man'
+fi
+finish

@@ -1,0 +1,385 @@
+#!/usr/bin/env python3
+"""random_bags.py PROGRAM SEED NUMBER: makes so many small bags, whole and damaged, and compares what `PROGRAM check` prints and
+answers for each with tests/reference.py. The same seed makes the same bags. A bag that is judged otherwise is kept and named.
+"""
+import hashlib
+import os
+import random
+import re
+import shutil
+import subprocess
+import sys
+import tempfile
+
+import reference
+
+ALGORITHMS = ["md5", "sha1", "sha256", "sha512"]
+NAMES = [name.encode() for name in [
+    "a.txt", "b", "A.TXT", "two words", "line\nend", "line end", "line!", "cr\rend", "100%.txt", "%41", "%0A", "tab\tname",
+    "trail ", " lead", "*star", "k/x", "k.txt", "k0", "deep/er/still", "\u00e9", "e\u0301", "\ufeffmark", "\u00a0gap",
+    "back\\slash", ".hidden", "...", "data", "bagit.txt", "tagmanifest-md5.txt"]]
+TAG_NAMES = [name.encode() for name in [
+    "note", "notes/read me", "*star", " lead", "line\nend", "50%", "\u00e9", "datax", "Manifest-md5.txt", "manifest-.txt",
+    "manifest-a-b.txt", "tags/manifest-md5.txt", "manifest-md5.txt~", "BagIt.txt"]]
+OTHER_ALGORITHMS = [b"sha224", b"MD5", b"sha3_256", b"zz", b"_", b"blake2b"]
+BAD_SPELLINGS = [
+    b"", b"data", b"data/", b"/data/a", b"data//a", b"data/./a", b"data/../a", b"..", b".", b"data/a/", b"data/%41", b"data/%2",
+    b"data/%", b"data/%0", b"data/a%0g", b"data/\0", b"././data/a", b"data/" + b"n" * 4092, b"*", b"./", b"**data/a", b"%"]
+OTHER_PLACES = [
+    b"bagit.txt", b"k", b"data/a.txt", b"tagmanifest-md5.txt", b"tagmanifest-other_1.txt", b"tagmanifest-a-b.txt",
+    b"manifest-sha256.txt", b"datax/a", b"Data/a", b"data%25", b"tags/tagmanifest-md5.txt"]
+BAD_URLS = [b"a.txt", b":x", b"http:", b"1a:x", b"a_b:x", b"a:\x01", b"a:\x7f", b"\xef\xbb\xbfa:x", b"\xc3\xa9:x"]
+GOOD_URLS = [
+    b"http://example.org/a", b"A+b-.1:x", b"x::", b"file:%", b"a:\xc2\x85", b"a:\xe2\x80\x83b", b"a:\xc3\xa9"]
+BAD_LENGTHS = [b"x", b"--", b"-1", b"+1", b"1.0", b"18446744073709551616", b"0x1", b"\xd9\xa1"]
+BAD_OXUMS = [
+    b"", b"3", b".", b"3.", b".2", b"3.2.1", b"-3.2", b"3 .2", b"3,2", b"x.y", b"18446744073709551616.1",
+    b"1.99999999999999999999", b"\xd9\xa1.1", b"3.2\n 1", b"0x1.1", b"3.2\xc2\xa0"]
+ELEMENTS = [
+    b"Contact-Name: Ada", b"Contact-Name:\tBen", b"Empty:", b"Empty: ", b"Folded: one\n two\n\t three", b"Late:\n  value",
+    b"\xc3\xa9: x", b"a b: c:d", b"Payload-Oxum-Not: x", b"Spaced:   x  ", b"Gap: one\n\n two"]
+BAD_ELEMENTS = [
+    b"no colon", b"Label:value", b"Label : value", b": value", b":", b"\xef\xbb\xbfLabel: x", b"L\xff: x", b"a:b: c",
+    b"Label:\xc2\xa0x"]
+DECLARATION = b"BagIt-Version: 1.0\nTag-File-Character-Encoding: UTF-8\n"
+DECLARATIONS = [DECLARATION.replace(b"1.0", version) for version in [
+    b"0.97", b"1.1", b"2.0", b"01.0", b"1.00", b"1", b"1.0 ", b" 1.0", b"1.0.0", b"1.1234567890", b"999999999.0", b"1,0", b""]]
+DECLARATIONS += [DECLARATION.replace(b"UTF-8", encoding) for encoding in [
+    b"utf-8", b"Utf-8", b"ISO-8859-1", b"UTF-16", b"UTF8", b"", b"UTF-8 ", b"UTF 8", b"\xc3\xa9", b"UTF\xff8"]]
+DECLARATIONS += [
+    b"", b"\n", b"BagIt-Version: 1.0", b"BagIt-Version: 1.0\n \n", DECLARATION + b"\n", b"\n" + DECLARATION,
+    DECLARATION[:-1], b"\xef\xbb\xbf" + DECLARATION, DECLARATION.lower(), DECLARATION.replace(b": 1", b":1"),
+    DECLARATION.replace(b": 1", b":  1"), DECLARATION.replace(b"1.0", b"0.97").replace(b"UTF-8", b"ISO-8859-1"),
+    b"Tag-File-Character-Encoding: UTF-8\nBagIt-Version: 1.0\n", DECLARATION.replace(b"\n", b"\n\n", 1)]
+OCTETS = [bytes([octet]) for octet in b" \t\r\n%*./:-0129aAfFgd\0\xff\x7f\x85"]
+OCTETS += [b"\xc3\xa9", b"\xef\xbb\xbf", b"\xc2\xa0", b"\xed\xa0\x80"]
+
+
+def sometimes(rng, percent):
+    return rng.randrange(100) < percent
+
+
+def spelled(rng, path):
+    escapes = {b"%": [b"%25"], b"\n": [b"%0A", b"%0a"], b"\r": [b"%0D", b"%0d"]}
+    return re.sub(rb"[%\n\r]", lambda found: rng.choice(escapes[found[0]]), path)
+
+
+def joined(rng, lines):
+    """The lines with endings, a mark at the front and empty lines between them as it falls."""
+    if sometimes(rng, 15):
+        lines = list(lines)
+        for place in range(rng.randrange(3)):
+            lines.insert(place * 2, rng.choice([b"", b" ", b"\t "] * 6 + [b"\x0c"]))
+    endings = rng.choice([[b"\n"]] * 4 + [[b"\r\n"], [b"\r"], [b"\n", b"\r", b"\r\n"]])
+    text = b"".join(line + rng.choice(endings) for line in lines)
+    if sometimes(rng, 15) and lines:
+        text = text.rstrip(b"\r\n")
+    return (b"\xef\xbb\xbf" if sometimes(rng, 10) else b"") + text
+
+
+def content(rng):
+    octets = bytes(rng.randrange(256) for _ in range(rng.randrange(9)))
+    return octets * rng.choice([1, 1, 1, 1, 8000, 16384]) if sometimes(rng, 10) else octets
+
+
+def manifest_line(rng, digest, path):
+    digest = rng.choice([str.lower, str.lower, str.upper, str.capitalize])(digest).encode()
+    before = rng.choice([b"  "] * 4 + [b" ", b"\t", b" \t  ", b" *", b"  ./", b"\t*./"])
+    if path[:1] in (b" ", b"\t", b"*"):
+        before = rng.choice([b"  ./", b" *./"])
+    return digest + before + spelled(rng, path)
+
+
+class Bag:
+    """A bag in memory: the octets of its files, its directories without files, and what no bag can hold."""
+
+    def __init__(self, rng):
+        self.rng = rng
+        self.files, self.directories, self.specials = {b"bagit.txt": DECLARATION}, [b"data"], {}
+        self.lists = {}
+        for name in rng.sample(NAMES, rng.choice([0, 1, 1, 2, 2, 3, 5])):
+            self.files[b"data/" + name] = content(rng)
+        for name in rng.sample(TAG_NAMES, rng.choice([0, 0, 0, 1, 2])):
+            self.files[name] = content(rng)
+        some = rng.sample(ALGORITHMS, rng.choice([1, 1, 1, 2, 2, 3, 4]))
+        payload = self.payload()
+        self.manifests(some, b"manifest-%s.txt", payload)
+        if sometimes(rng, 50):
+            self.info()
+        if sometimes(rng, 35):
+            self.fetch()
+
+    def payload(self):
+        return [path for path in self.files if path.startswith(b"data/")]
+
+    def manifests(self, some, form, paths):
+        made = {}
+        for algorithm in some:
+            lines = []
+            for path in self.rng.sample(paths, len(paths)):
+                digest = hashlib.new(algorithm, self.files[path]).hexdigest()
+                lines.append(manifest_line(self.rng, digest, path))
+            made[form % algorithm.encode()] = joined(self.rng, lines)
+        self.files.update(made)
+
+    def tag_manifests(self):
+        """They list every tag file that is there, sometimes but the payload manifests, and sometimes some."""
+        rng = self.rng
+        tags = [path for path in self.files if not path.startswith((b"data/", b"tagmanifest-"))]
+        if sometimes(rng, 20):
+            tags = rng.sample(tags, rng.randrange(len(tags) + 1))
+        elif sometimes(rng, 30):
+            tags = [path for path in tags if path.startswith(b"manifest-")]
+        self.manifests(rng.sample(ALGORITHMS, rng.choice([0, 0, 1, 1, 2])), b"tagmanifest-%s.txt", tags)
+
+    def oxum(self):
+        """The right one."""
+        paths = self.payload()
+        return b"%d.%d" % (sum(len(self.files[path]) for path in paths), len(paths))
+
+    def info(self):
+        rng = self.rng
+        elements = rng.sample(ELEMENTS, rng.randrange(4))
+        label = rng.choice([b"Payload-Oxum"] * 3 + [b"payload-oxum", b"PAYLOAD-OXUM"])
+        value = rng.choice([b"%s"] * 4 + [b" %s\t", b"%s ", b"00%s", b"%s\x0c", b"\n %s"]) % self.oxum()
+        if sometimes(rng, 15):
+            value = rng.choice(BAD_OXUMS + [b"18446744073709551615.0", b"0.0", b"7." + value[-1:], value[:-1] + b"9"])
+        if sometimes(rng, 70):
+            elements.insert(rng.randrange(len(elements) + 1), label + b": " + value)
+        if sometimes(rng, 5):
+            elements.append(b"Payload-Oxum: " + rng.choice([value, self.oxum(), b"x", b"1.1"]))
+        if sometimes(rng, 12):
+            elements.insert(rng.randrange(len(elements) + 1), rng.choice(BAD_ELEMENTS))
+        if sometimes(rng, 3):
+            elements.insert(0, b" continued")
+        self.files[b"bag-info.txt"] = joined(rng, b"\n".join(elements).split(b"\n") if elements else [])
+
+    def fetch(self):
+        rng = self.rng
+        lines = []
+        paths = self.payload() or [b"data/none"]
+        for _ in range(rng.randrange(4)):
+            path = rng.choice(paths)
+            length = rng.choice([b"-", b"%d" % len(self.files.get(path, b"")), b"%03d" % len(self.files.get(path, b""))])
+            url, gap = rng.choice(GOOD_URLS), rng.choice([b" ", b"  ", b"\t"])
+            spelling = spelled(rng, path)
+            if sometimes(rng, 18):
+                length = rng.choice(BAD_LENGTHS + [b"1", b"2", b"4", b"18446744073709551615"] * 4)
+            if sometimes(rng, 8):
+                url = rng.choice(BAD_URLS)
+            if sometimes(rng, 15):
+                unlisted = [b"*data/a.txt", b"./data/a.txt"] + [b"data/z", b"data/z%0a"] * 9
+                spelling = rng.choice(BAD_SPELLINGS + OTHER_PLACES + unlisted)
+            lines.append(url + gap + length + rng.choice([b" ", b" \t"]) + spelling)
+            if sometimes(rng, 6):
+                line = lines[-1]
+                lines[-1] = rng.choice([url, url + gap, url + gap + length, b" " + line, line + b"\xff", line + b" "])
+        self.files[b"fetch.txt"] = joined(rng, lines)
+
+    def tag_file(self, prefixes):
+        """The path of some tag file whose name begins so, or None."""
+        found = [path for path in self.files if path.startswith(prefixes)]
+        return self.rng.choice(found) if found else None
+
+    def drop_file(self):
+        self.files.pop(self.rng.choice([path for path in self.files if path != b"bagit.txt"] + [b"none"]), None)
+
+    def add_file(self):
+        self.files[b"data/" + self.rng.choice(NAMES)] = content(self.rng)
+
+    def change_file(self):
+        path = self.rng.choice(self.payload() or list(self.files))
+        octets = self.files[path]
+        self.files[path] = self.rng.choice([octets + b"x", octets[:-1], bytes([octets[0] ^ 1]) + octets[1:] if octets else b"y"])
+
+    def rename_file(self):
+        paths = self.payload()
+        if paths:
+            self.files[b"data/" + self.rng.choice(NAMES)] = self.files.pop(self.rng.choice(paths))
+
+    def swap_files(self):
+        paths = self.payload()
+        if len(paths) > 1:
+            one, other = self.rng.sample(paths, 2)
+            self.files[one], self.files[other] = self.files[other], self.files[one]
+
+    def copy_manifest(self):
+        """One manifest gets the name of another, or of none that is known."""
+        path = self.tag_file((b"manifest-", b"tagmanifest-"))
+        if path:
+            name = self.rng.choice(ALGORITHMS).encode() if sometimes(self.rng, 50) else self.rng.choice(OTHER_ALGORITHMS)
+            self.files[self.rng.choice([b"manifest-%s.txt", b"tagmanifest-%s.txt"]) % name] = self.files[path]
+
+    def empty_manifest(self):
+        path = self.tag_file((b"manifest-", b"tagmanifest-"))
+        if path:
+            self.files[path] = b""
+
+    def drop_payload(self):
+        for path in self.payload():
+            del self.files[path]
+
+    def damage_line(self):
+        """One line of a manifest is changed in one way."""
+        path = self.tag_file((b"manifest-", b"tagmanifest-"))
+        lines = self.files[path].splitlines(True) if path else []
+        if lines:
+            place = self.rng.randrange(len(lines))
+            lines[place] = self.damaged(lines[place])
+            self.files[path] = b"".join(lines)
+
+    def damaged(self, line):
+        rng = self.rng
+        digest, _, rest = line.partition(b" ")
+        ways = [
+            lambda: b"",
+            lambda: line.rstrip(b"\r\n") + b"\n" + line,
+            lambda: digest[1:] + b" " + rest,
+            lambda: b"0" + line,
+            lambda: b"g" + line[1:],
+            lambda: (b"1" if line[:1] != b"1" else b"2") + line[1:],
+            lambda: digest + rest.lstrip(),
+            lambda: digest + b"\n",
+            lambda: b" " + line,
+            lambda: line.rstrip(b"\r\n") + b" \n",
+            lambda: line.rstrip(b"\r\n") + b"\xff\n",
+            lambda: digest + rng.choice([b"\xc2\xa0", b"\x0b", b"\x0c", b"\xe2\x80\x83"]) + rest,
+            lambda: digest + b"  data/" + rng.choice(NAMES[:4]) + b"\n",
+        ] + [
+            lambda: digest + b"  " + rng.choice(BAD_SPELLINGS) + b"\n",
+            lambda: digest + b"  " + rng.choice(OTHER_PLACES) + b"\n",
+        ] * 3
+        return rng.choice(ways)()
+
+    def damage_octet(self):
+        """One octet of a tag file is changed, dropped or added."""
+        path = self.tag_file((b"manifest-", b"tagmanifest-", b"bag", b"fetch"))
+        octets = self.files.get(path)
+        if octets:
+            place = self.rng.randrange(len(octets))
+            octet = self.rng.choice(OCTETS + [b""])
+            self.files[path] = octets[:place] + octet + octets[place + self.rng.randrange(2):]
+
+    def declare(self):
+        """Another declaration, or none, or one with another ending."""
+        ended = DECLARATION.replace(b"\n", self.rng.choice([b"\r", b"\r\n"]))
+        declaration = self.rng.choice([self.rng.choice(DECLARATIONS), None, ended])
+        self.files.pop(b"bagit.txt", None)
+        if declaration is not None:
+            self.files[b"bagit.txt"] = declaration
+
+    def drop_payload_directory(self):
+        self.directories = [path for path in self.directories if path != b"data"]
+        for path in self.payload():
+            if sometimes(self.rng, 95):
+                del self.files[path]
+
+    def drop_manifests(self):
+        for path in [path for path in self.files if path.startswith(b"manifest-")]:
+            del self.files[path]
+
+    def put_directory(self):
+        """A directory in the place of a file, or somewhere else."""
+        others = [b"data/empty/er", b"tags", b"manifest-sha256.txt", b"manifest-zz.txt", b"fetch.txt"]
+        path = self.rng.choice(list(self.files) + others)
+        self.files.pop(path, None)
+        self.directories.append(path)
+
+    def put_special(self):
+        path = self.rng.choice([b"data/special", b"special", b"data/\xff", b"manifest-md5.txt"])
+        self.files.pop(path, None)
+        links = [lambda place: os.symlink(b"data", place), lambda place: os.symlink(b"none", place)]
+        self.specials[path] = self.rng.choice([os.mkfifo] + links)
+
+    def write(self, folder):
+        """What can't stand beside what is there already is left out."""
+        os.mkdir(folder)
+        for path in self.directories:
+            os.makedirs(os.path.join(folder, path), exist_ok=True)
+        for path, octets in self.files.items():
+            try:
+                os.makedirs(os.path.dirname(os.path.join(folder, path)), exist_ok=True)
+                with open(os.path.join(folder, path), "xb") as file:
+                    file.write(octets)
+            except (FileExistsError, NotADirectoryError):
+                pass
+        for path, make in self.specials.items():
+            place = os.path.join(folder, path)
+            if os.path.isdir(os.path.dirname(place)) and not os.path.lexists(place):
+                make(place)
+
+
+DAMAGES = [Bag.drop_file] * 4 + [Bag.add_file] * 3 + [Bag.change_file] * 5 + [Bag.rename_file] * 3 + [Bag.swap_files] * 2 + [
+    Bag.copy_manifest] * 2 + [Bag.damage_line] * 8 + [Bag.damage_octet] * 8 + [Bag.declare] * 3 + [
+    Bag.drop_payload_directory, Bag.drop_payload, Bag.drop_manifests, Bag.empty_manifest, Bag.put_directory, Bag.put_special]
+
+
+def made(seed, number):
+    """The bag of this number. Damage done before the tag manifests are written agrees with them."""
+    rng = random.Random(f"{seed} {number}")
+    bag = Bag(rng)
+    damages = [rng.choice(DAMAGES) for _ in range(rng.choice([0, 1, 1, 1, 2, 2, 3, 4]))]
+    early = [sometimes(rng, 50) for _ in damages]
+    for damage, now in zip(damages, early):
+        if now:
+            damage(bag)
+    bag.tag_manifests()
+    for damage, now in zip(damages, early):
+        if not now:
+            damage(bag)
+    return bag
+
+
+def shape(line):
+    """What kind of line it is: a line's number, the paths and the algorithms don't matter."""
+    line = re.sub(r"^((?:tag)?manifest)-\w+\.txt", r"\1", line)
+    line = re.sub(r"^(.*?):\d+: ", r"\1:N: ", line)
+    line = re.sub(r"(not listed|missing|unlisted|digest|length|not in manifest-\w+\.txt): .*", r"\1", line)
+    return re.sub(r"(not in|outside: algorithm) .*", r"\1", line)
+
+
+def shapes():
+    """Every kind of line that is printed where a folder is checked, but for the limits."""
+    manifest = ["not UTF-8", "separator", "digest form", "path", "wrong place", "twice"]
+    causes = {
+        "bag-info.txt": ["not UTF-8", "nothing to continue", "separator", "label"],
+        "fetch.txt": ["not UTF-8", "separator", "url", "length", "path", "wrong place"],
+        "manifest": manifest,
+        "tagmanifest": manifest,
+    }
+    lines = [f"{file}:N: {cause}" for file, some in causes.items() for cause in some]
+    faults = ["not UTF-8", "byte order mark", "line count", "label", "version", "encoding name"]
+    lines += [f"bagit.txt: {fault}" for fault in faults]
+    lines += ["no bagit.txt", "no data directory", "no payload manifest", "tagmanifest: not listed", "manifest: unlisted"]
+    lines += [f"bag-info.txt: Payload-Oxum {word}" for word in ["form", "repeated", "wrong"]]
+    lines += [f"{file}: {word}" for file in ["manifest", "tagmanifest"] for word in ["missing", "digest"]]
+    lines += ["fetch.txt: not in", "fetch.txt:N: length", "outside: version", "outside: encoding", "outside: algorithm"]
+    return lines + ["bag: files", "valid", "complete, not valid", "not complete"]
+
+
+def main(program, seed, number):
+    counts = dict.fromkeys(shapes(), 0)
+    work = tempfile.mkdtemp()
+    folder = os.path.join(work, "bag")
+    for i in range(number):
+        made(seed, i).write(os.fsencode(folder))
+        lines, status = reference.check(os.fsencode(folder))
+        command = [program, "check", folder]
+        ran = subprocess.run(command, stdin=subprocess.DEVNULL, capture_output=True, timeout=60, check=False)
+        wanted = "".join(line + "\n" for line in lines).encode()
+        if (ran.stdout, ran.stderr, ran.returncode) != (wanted, b"", status):
+            print(f"bag {i} of seed {seed}, kept as {folder}:")
+            print(f"the program ({ran.returncode}):\n{(ran.stdout + ran.stderr).decode(errors='replace')}")
+            print(f"the reference ({status}):\n{wanted.decode()}")
+            return 1
+        for line in lines:
+            counts[shape(line)] = counts.get(shape(line), 0) + 1
+        shutil.rmtree(folder)
+    os.rmdir(work)
+    never = [line for line, count in counts.items() if count == 0]
+    print("\n".join([f"{number} bags: all judged alike"] + [f"never printed: {line}" for line in never]))
+    return 1 if never else 0
+
+
+if __name__ == "__main__":
+    sys.exit(main(sys.argv[1], sys.argv[2], int(sys.argv[3])))
