@@ -1,8 +1,12 @@
-//! Makes the text of a tag file in memory and reads it: `bag_bench KIND LINES`, where KIND is `manifest`, `info` or `fetch`, or `none`
-//! for a manifest that is made and not read. The status is 0 where the text reads; `bench/readers.sh` takes the times.
+//! Work whose time the scripts in `bench/` take.
+//!
+//! `bag_bench KIND LINES` makes the text of a tag file in memory and reads it, where KIND is `manifest`, `info` or `fetch`, or `none`
+//! for a manifest that is made and not read. The status is 0 where the text reads.
+//!
+//! `bag_bench ALG PIECES` takes the digest of so many pieces of 65,536 octets.
 #![tactic(auto)]
 
-use bag_digest::Alg;
+use bag_digest::{Alg, AlgSet, Multi, piece_buffer};
 use bag_path::Version;
 use bag_tags::{Kind, read_fetch, read_info, read_manifest};
 use std::alloc::{AllocError, Global};
@@ -24,13 +28,15 @@ fn run<R: Env + AllocGlobal>(rt: &R) -> u8 {
     if words.len() != 2 {
         return 64;
     }
-    let Ok(lines) = words[1].parse::<u32>() else {
+    let Ok(number) = words[1].parse::<u32>() else {
         return 64;
     };
-    match text_of(alloc, words[0].as_str(), lines) {
-        Ok(text) => read(alloc, words[0].as_str(), &text),
-        Err(AllocError) => 3,
-    }
+    let work = words[0].as_str();
+    let status = match Alg::from_name(work) {
+        Some(alg) => hash(alloc, alg, number),
+        None => read(alloc, work, number),
+    };
+    status.unwrap_or(3)
 }
 
 fn words<R: Env + AllocGlobal>(rt: &R, alloc: Global) -> Result<Vec<String>, AllocError> {
@@ -38,6 +44,17 @@ fn words<R: Env + AllocGlobal>(rt: &R, alloc: Global) -> Result<Vec<String>, All
         Ok(words) => words.skip(1).collect(alloc),
         Err(_) => Ok(Vec::new(alloc)),
     }
+}
+
+/// Takes the digest of so many pieces.
+fn hash(alloc: Global, alg: Alg, pieces: u32) -> Result<u8, AllocError> {
+    let buffer = piece_buffer(alloc)?;
+    let mut multi = Multi::new(AlgSet::empty().with(alg));
+    for _ in 0..pieces {
+        multi.update(&buffer);
+    }
+    let digests = multi.finish();
+    Ok(if digests.get(alg).is_some() { 0 } else { 1 })
 }
 
 /// A text of this many lines.
@@ -56,13 +73,14 @@ fn text_of(alloc: Global, kind: &str, lines: u32) -> Result<Vec<u8>, AllocError>
     Ok(text)
 }
 
-/// Reads the text; the status tells whether it reads.
-fn read(alloc: Global, kind: &str, text: &[u8]) -> u8 {
+/// Makes a text and reads it; the status tells whether it reads.
+fn read(alloc: Global, kind: &str, lines: u32) -> Result<u8, AllocError> {
+    let text = text_of(alloc, kind, lines)?;
     let reads = match kind {
-        "manifest" => read_manifest(alloc, text, Alg::Sha256, Kind::Payload, Version::V1).is_ok(),
-        "info" => read_info(alloc, text, Version::V1).is_ok(),
-        "fetch" => read_fetch(alloc, text, Version::V1).is_ok(),
+        "manifest" => read_manifest(alloc, &text, Alg::Sha256, Kind::Payload, Version::V1).is_ok(),
+        "info" => read_info(alloc, &text, Version::V1).is_ok(),
+        "fetch" => read_fetch(alloc, &text, Version::V1).is_ok(),
         _ => true,
     };
-    if reads { 0 } else { 1 }
+    Ok(if reads { 0 } else { 1 })
 }
