@@ -93,7 +93,7 @@ decided_digest (digest_of.Sha512 a) _ = inr (λ e. cc)
 -- FROM COMPLETE TO NO FAULT
 
 -- a text that reads has no faulty line
-reads_well : (bag : Bag) (file : LineFile) (octets : List ℕ) (fault : LineFault) → AreRising (paths_of bag) → Conforms bag → Holds bag (text_file file) octets → ¬ IsFaultyText file octets fault
+reads_well : (bag : Bag) (file : LineFile) (octets : List ℕ) (fault : LineFault) → AreRising (paths_of bag) → Conforms bag → Holds bag (text_file file) octets → ¬ IsFaultyText V1 file octets fault
 reads_well bag Info octets fault rising conforms holds bad =
     let read = conforms.info_reads (octets, holds) in
     none_said V1 octets read.0 fault (subst (λ o. InfoText V1 o read.0) (one_octets bag (text_file Info) read.1.octets octets rising read.1.there holds) read.1.text) bad

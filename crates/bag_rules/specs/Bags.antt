@@ -4,6 +4,7 @@ use Rattle.std.specs.List.{slice_get, filter}
 use Rattle.std.specs.Option.{option_map}
 use Rattle.std.specs.Str.{bytes_eq}
 use Rattle.std.specs.Char.{to_ascii_lowercase}
+use Rattle.bag_path.specs.declared.spelling.Version.{Version}
 use Rattle.bag_path.specs.declared.spelling.Version.TheVariants.{V1}
 use Rattle.bag_path.specs.Paths.{is_payload}
 use Rattle.bag_digest.specs.declared.algorithm.Alg.{Alg}
@@ -47,6 +48,10 @@ pub record IsBagOf {T : Type 0} (paths : T → List (List ℕ)) (has_dir : T →
 
 -- TAG FILES
 
+-- the version by whose rules the tag files of the bag are read: 1.0, so far the only one
+abbrev pub version_of : Bag → Version
+version_of bag = V1
+
 -- the declaration (section 2.1.1)
 abbrev pub declaration_file : List ℕ
 declaration_file = codes "bagit.txt"
@@ -76,19 +81,19 @@ Declares bag declaration = (octets : List ℕ) × Holds bag declaration_file oct
 pub record Lists (bag : Bag) (name : ManifestName) (pairs : List Pair) : Type 0 where
   pub octets : List ℕ
   pub there : Holds bag (file_of name) octets
-  pub text : ManifestText V1 name.alg name.kind octets pairs
+  pub text : ManifestText (version_of bag) name.alg name.kind octets pairs
 
 -- the bag has `bag-info.txt`, and it says these elements
 pub record SaysInfo (bag : Bag) (elements : List MetadataElement) : Type 0 where
   pub octets : List ℕ
   pub there : Holds bag (text_file Info) octets
-  pub text : InfoText V1 octets elements
+  pub text : InfoText (version_of bag) octets elements
 
 -- the bag has `fetch.txt`, and these are its entries, each with its line number
 pub record ListsFetch (bag : Bag) (lines : List FetchLine) : Type 0 where
   pub octets : List ℕ
   pub there : Holds bag (text_file FetchList) octets
-  pub text : FetchText V1 octets lines
+  pub text : FetchText (version_of bag) octets lines
 
 -- PAYLOAD
 

@@ -1,7 +1,7 @@
 -- What is wrong with a bag (RFC 8493 sections 2 and 3): for each fault, what it is for it to be broken.
 use Rattle.std.specs.Prelude.{◌≡◌, ◌≢◌, ◌⊎◌, ◌≤◌, ◌==◌, ℕ, true, false, List, Some, length}
 use Rattle.std.specs.List.{filter, list_any}
-use Rattle.bag_path.specs.declared.spelling.Version.TheVariants.{V1}
+use Rattle.bag_path.specs.declared.spelling.Version.{Version}
 use Rattle.bag_path.specs.Paths.{is_payload}
 use Rattle.bag_digest.specs.declared.algorithm.Alg.{Alg}
 use Rattle.bag_digest.specs.declared.digest.Digest.{Digest}
@@ -22,14 +22,14 @@ use Rattle.bag_rules.specs.declared.fault.Fault.{Fault}
 use Rattle.bag_rules.specs.declared.fault.Fault.TheVariants.{NoDeclaration, BadDeclaration, NoPayloadDir, NoManifest, BadLine, ManifestNotListed, OxumForm, OxumTwice, Missing, Unlisted, FetchNotListed, FetchLength, OxumWrong, WrongDigest}
 use Rattle.bag_rules.specs.declared.fault.LineFile.{LineFile}
 use Rattle.bag_rules.specs.declared.fault.LineFile.TheVariants.{Info, FetchList, Manifest}
-use Rattle.bag_rules.specs.Bags.{Bag, Holds, IsThere, Lists, SaysInfo, ListsFetch, declaration_file, manifest_file, manifest_name, text_file, payload_of, octet_count, is_oxum}
+use Rattle.bag_rules.specs.Bags.{Bag, version_of, Holds, IsThere, Lists, SaysInfo, ListsFetch, declaration_file, manifest_file, manifest_name, text_file, payload_of, octet_count, is_oxum}
 use Rattle.bag_rules.specs.Faults.{Has, number_of}
 
 -- the text of a tag file has this first faulty line
-abbrev pub IsFaultyText : LineFile → List ℕ → LineFault → Type 0
-IsFaultyText Info octets fault = InfoFault V1 octets fault
-IsFaultyText FetchList octets fault = FetchFault V1 octets fault
-IsFaultyText (Manifest name) octets fault = ManifestFault V1 name.alg name.kind octets fault
+abbrev pub IsFaultyText : Version → LineFile → List ℕ → LineFault → Type 0
+IsFaultyText version Info octets fault = InfoFault version octets fault
+IsFaultyText version FetchList octets fault = FetchFault version octets fault
+IsFaultyText version (Manifest name) octets fault = ManifestFault version name.alg name.kind octets fault
 
 abbrev pub line_fault : ℕ → LineCause → LineFault
 line_fault line cause = record { line = line; cause = cause }
@@ -57,7 +57,7 @@ Broken bag NoDeclaration = ¬ IsThere bag declaration_file  -- section 2.1.1
 Broken bag (BadDeclaration cause) = (octets : List ℕ) × Holds bag declaration_file octets × IsDeclarationFault octets cause  -- section 2.1.1
 Broken bag NoPayloadDir = bag.has_dir ≡ false  -- section 2.1.2
 Broken bag NoManifest = (alg : Alg) → ¬ IsThere bag (manifest_file Payload alg)  -- section 2.1.3
-Broken bag (BadLine file line cause) = (octets : List ℕ) × Holds bag (text_file file) octets × IsFaultyText file octets (line_fault line cause)  -- sections 2.1.3, 2.2.1 to 2.2.3
+Broken bag (BadLine file line cause) = (octets : List ℕ) × Holds bag (text_file file) octets × IsFaultyText (version_of bag) file octets (line_fault line cause)  -- sections 2.1.3, 2.2.1 to 2.2.3
 Broken bag (ManifestNotListed tag_manifest manifest) = (pairs : List Pair) × Lists bag (manifest_name Tag tag_manifest) pairs
     × IsThere bag (manifest_file Payload manifest) × (lists_path pairs (manifest_file Payload manifest) ≡ false)  -- section 2.2.1
 Broken bag OxumForm = (element : MetadataElement) × SaysOxum bag element × ((octets streams : ℕ) → ¬ OxumText element.value octets streams)  -- section 2.2.2

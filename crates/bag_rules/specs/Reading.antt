@@ -58,7 +58,7 @@ pub record ReadsOn (path octets : List ℕ) (old new : Texts) : Type 0 where
 
 -- the first faulty line of a tag file's text
 abbrev pub IsFirstBadLine : LineFile → List ℕ → Fault → Type 0
-IsFirstBadLine file octets fault = (line : ℕ) × ((cause : LineCause) × IsFaultyText file octets (line_fault line cause) × (fault ≡ BadLine file line cause))
+IsFirstBadLine file octets fault = (line : ℕ) × ((cause : LineCause) × IsFaultyText V1 file octets (line_fault line cause) × (fault ≡ BadLine file line cause))
 
 abbrev pub IsBadLineOf : List ℕ → List ℕ → Fault → Type 0
 IsBadLineOf path octets fault = (file : LineFile) × (path ≡ text_file file) × IsFirstBadLine file octets fault

@@ -16,17 +16,13 @@ use Rattle.bag_tags.specs.declared.fetch.FetchLine.{FetchLine}
 use Rattle.bag_tags.specs.Words.{is_blank, IsNotBlank, IsCut, is_blank_line, begins_blank}
 use Rattle.bag_tags.specs.TagLines.{mark, Lead}
 use Rattle.bag_tags.specs.FetchEntries.{FetchItem, IsUrl, IsScheme, IsSchemeOctet, IsUrlOctet, IsEntry, written_length, written_entry}
-use Rattle.bag_tags.specs.Fetches.{fetch_line, numbered_from, written_line, written_fetch}
+use Rattle.bag_tags.specs.Fetches.{CanBeFetched, fetch_line, numbered_from, written_line, written_fetch}
 use Rattle.bag_tags.specs.FetchText.{IsLength, AddsEntry, FetchText}
 use Rattle.bag_tags.proofs.NumeralLemmas.{digits_utf8}
 use Rattle.bag_tags.proofs.OxumLemmas.{decimal_numeral}
 use Rattle.bag_tags.proofs.TextCutLemmas.{each, all_both, utf8_one}
 use Rattle.bag_tags.proofs.WritingLemmas.{numbered_texts, written_text, lines_cons}
 use Rattle.bag_tags.proofs.WrittenPathLemmas.{written_utf8, path_plain, payload_begins}
-
--- an entry with a length that fits
-abbrev pub CanBeWritten : FetchLine → Type 0
-CanBeWritten line = IsEntry line.entry × IfSome line.entry.octets (λ n. n < 2 ^ 64)
 
 -- the text of a line
 abbrev entry_text : FetchItem → List ℕ
@@ -84,7 +80,7 @@ begins_graphic [] ys some h = absurd (some refl)
 begins_graphic (x ∷ xs) ys some h = graphic_not_blank x h.0
 
 -- a line without line ends
-text_plain : (line : FetchLine) → CanBeWritten line → AllByRecursion IsPlain (line_text line)
+text_plain : (line : FetchLine) → CanBeFetched line → AllByRecursion IsPlain (line_text line)
 text_plain line h =
     let e = line.entry in
     let space : IsPlain 32 = graphic_space in
@@ -100,7 +96,7 @@ text_plain line h =
     graphic_space : IsPlain 32
     graphic_space = (λ e. cc, λ e. cc)
 
-texts_plain : (lines : List FetchLine) → AllByRecursion CanBeWritten lines → AllByRecursion (AllByRecursion IsPlain) (map line_text lines)
+texts_plain : (lines : List FetchLine) → AllByRecursion CanBeFetched lines → AllByRecursion (AllByRecursion IsPlain) (map line_text lines)
 texts_plain [] h = tt
 texts_plain (line ∷ lines) h = (text_plain line h.0, texts_plain lines h.1)
 
@@ -123,7 +119,7 @@ from_scheme : (url : List ℕ) (h : IsUrl url) (a b c d rest : List ℕ) → url
 from_scheme url h a b c d rest = ap (λ u. u ++ a ++ b ++ c ++ d ++ rest) h.whole ∙ all_right h.scheme (58 ∷ h.rest) a b c d rest
 
 -- the parts of a line
-gives : (line : FetchLine) (n : ℕ) (before : List FetchLine) → CanBeWritten line → AddsEntry V1 before n (line_text line) (before ++ fetch_line n line.entry ∷ [])
+gives : (line : FetchLine) (n : ℕ) (before : List FetchLine) → CanBeFetched line → AddsEntry V1 before n (line_text line) (before ++ fetch_line n line.entry ∷ [])
 gives line n before h =
     let e = line.entry in
     let len = written_length e.octets in
@@ -170,13 +166,13 @@ gives line n before h =
     regroup : (url len path : List ℕ) → url ++ codes " " ++ len ++ codes " " ++ path ≡ url ++ codes " " ++ (len ++ codes " " ++ path)
     regroup url len path = simp append_assoc
 
-not_blank : (line : FetchLine) → CanBeWritten line → is_blank_line (line_text line) ≡ false
+not_blank : (line : FetchLine) → CanBeFetched line → is_blank_line (line_text line) ≡ false
 not_blank line h =
     let e = line.entry in
     ap is_blank_line (sym (append-nil (line_text line)) ∙ from_scheme e.url h.0.url (codes " ") (written_length e.octets) (codes " ") (written e.path) [])
     ∙ scheme_not_blank h.0.url.scheme ((58 ∷ h.0.url.rest) ++ (codes " " ++ (written_length e.octets ++ (codes " " ++ (written e.path ++ []))))) h.0.url.is_scheme
 
-lead_fetch : (lines before : List FetchLine) (n : ℕ) → AllByRecursion CanBeWritten lines → Lead (AddsEntry V1) before (numbered_texts n (map line_text lines)) (before ++ numbered_from n lines)
+lead_fetch : (lines before : List FetchLine) (n : ℕ) → AllByRecursion CanBeFetched lines → Lead (AddsEntry V1) before (numbered_texts n (map line_text lines)) (before ++ numbered_from n lines)
 lead_fetch [] before n h = append-nil before
 lead_fetch (line ∷ lines) before n h = inr (
   not_blank line h.0,
@@ -188,7 +184,7 @@ lead_fetch (line ∷ lines) before n h = inr (
   ),
 )
 
-fetch_unmarked : (lines : List FetchLine) → AllByRecursion CanBeWritten lines → starts_with nat_eq (written_lines (map line_text lines)) mark ≡ false
+fetch_unmarked : (lines : List FetchLine) → AllByRecursion CanBeFetched lines → starts_with nat_eq (written_lines (map line_text lines)) mark ≡ false
 fetch_unmarked [] h = refl
 fetch_unmarked (line ∷ lines) h =
     let e = line.entry in
@@ -199,6 +195,6 @@ fetch_unmarked (line ∷ lines) h =
     ∙ from_scheme e.url u (codes " ") (written_length e.octets) (codes " ") (written e.path) more)
     ∙ scheme_unmarked u.scheme ((58 ∷ u.rest) ++ (codes " " ++ (written_length e.octets ++ (codes " " ++ (written e.path ++ more))))) u.is_scheme
 
-pub fetch_reads : (octets : List ℕ) (lines : List FetchLine) → octets ≡ written_fetch lines → AllByRecursion CanBeWritten lines → FetchText V1 octets (numbered_from 1 lines)
+pub fetch_reads : (octets : List ℕ) (lines : List FetchLine) → octets ≡ written_fetch lines → AllByRecursion CanBeFetched lines → FetchText V1 octets (numbered_from 1 lines)
 fetch_reads octets lines e h = subst (λ text. FetchText V1 text (numbered_from 1 lines)) (sym (e ∙ fetch_written lines))
     (written_text (AddsEntry V1) [] (numbered_from 1 lines) (map line_text lines) (fetch_unmarked lines h) (texts_plain lines h) (lead_fetch lines [] 1 h))

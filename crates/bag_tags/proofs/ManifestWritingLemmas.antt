@@ -29,15 +29,11 @@ use Rattle.bag_tags.specs.TagLines.{mark, Lead}
 use Rattle.bag_tags.specs.Listings.{Listing, lists_path, NoneTwice, nothing_listed}
 use Rattle.bag_tags.specs.ManifestView.{FitEach}
 use Rattle.bag_tags.specs.Manifests.{plain_path, AddsPair, ManifestText}
-use Rattle.bag_tags.specs.ManifestWriting.{needs_dot, written_path, written_pair, written_manifest}
+use Rattle.bag_tags.specs.ManifestWriting.{CanBeWritten, needs_dot, written_path, written_pair, written_manifest}
 use Rattle.bag_tags.proofs.Utf8Lemmas.{IsAscii-from_each}
 use Rattle.bag_tags.proofs.TextCutLemmas.{each, all_both, utf8_one}
 use Rattle.bag_tags.proofs.WritingLemmas.{numbered_texts, written_text, lines_cons}
 use Rattle.bag_tags.proofs.WrittenPathLemmas.{written_utf8, path_plain}
-
--- a path, and a digest that its spelling spells
-abbrev pub CanBeWritten : Pair → Type 0
-CanBeWritten pair = IsPath pair.path × SpellsDigest (alg_of pair.digest) (lower_case_of pair.digest) pair.digest
 
 -- the text of a line
 abbrev pair_text : Pair → List ℕ

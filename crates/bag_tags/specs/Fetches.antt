@@ -1,8 +1,8 @@
 -- What `fetch.txt` lists (RFC 8493 section 2.2.3).
-use Rattle.std.specs.Prelude.{◌+◌, ℕ, List, [], ◌∷◌}
+use Rattle.std.specs.Prelude.{◌<◌, ◌+◌, ◌^◌, ℕ, List, [], ◌∷◌, IfSome}
 use Rattle.std.specs.List.{flat_map}
 use Rattle.bag_tags.specs.declared.fetch.FetchLine.{FetchLine}
-use Rattle.bag_tags.specs.FetchEntries.{FetchItem, written_entry}
+use Rattle.bag_tags.specs.FetchEntries.{FetchItem, IsEntry, written_entry}
 
 -- an entry, and the number of its line
 abbrev pub fetch_line : ℕ → FetchItem → FetchLine
@@ -19,3 +19,7 @@ written_line line = written_entry line.entry
 
 abbrev pub written_fetch : List FetchLine → List ℕ
 written_fetch lines = flat_map written_line lines
+
+-- an entry that can be written, with a length below 2^64 (each value of the Rust types is such)
+abbrev pub CanBeFetched : FetchLine → Type 0
+CanBeFetched line = IsEntry line.entry × IfSome line.entry.octets (λ n. n < 2 ^ 64)

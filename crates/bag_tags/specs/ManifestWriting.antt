@@ -2,7 +2,9 @@
 use Rattle.std.specs.Prelude.{◌==◌, ◌||◌, ◌++◌, ℕ, Bool, false, List, [], ◌∷◌, codes, if◌then◌else◌}
 use Rattle.std.specs.List.{flat_map}
 use Rattle.bag_path.specs.Spellings.{written}
-use Rattle.bag_digest.specs.Spelling.{lower_case_of}
+use Rattle.bag_path.specs.Paths.{IsPath}
+use Rattle.bag_digest.specs.Hash.{alg_of}
+use Rattle.bag_digest.specs.Spelling.{SpellsDigest, lower_case_of}
 use Rattle.bag_tags.specs.declared.listing.Pair.{Pair}
 use Rattle.bag_tags.specs.Words.{is_blank}
 
@@ -21,3 +23,7 @@ written_pair pair = lower_case_of pair.digest ++ codes "  " ++ written_path pair
 
 abbrev pub written_manifest : List Pair → List ℕ
 written_manifest pairs = flat_map written_pair pairs
+
+-- a pair that can be written: a path, and a digest whose spelling spells it (each value of the Rust types is such)
+abbrev pub CanBeWritten : Pair → Type 0
+CanBeWritten pair = IsPath pair.path × SpellsDigest (alg_of pair.digest) (lower_case_of pair.digest) pair.digest

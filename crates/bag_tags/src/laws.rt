@@ -1,15 +1,21 @@
 //! Laws on the definitions that the contracts of this crate cite. Each function's contract is one law, and its body is empty.
 ghost use Rattle.std.specs.Prelude.{◌≡◌, ◌⊎◌, ℕ, List};
+ghost use Rattle.std.specs.List.{AllByRecursion};
 ghost use Rattle.bag_digest.specs.declared.algorithm.Alg.{Alg};
 ghost use Rattle.bag_path.specs.declared.spelling.Version.{Version};
+ghost use Rattle.bag_path.specs.declared.spelling.Version.TheVariants.{V1};
 ghost use Rattle.bag_tags.specs.declared.fault.LineFault.{LineFault};
 ghost use Rattle.bag_tags.specs.declared.listing.Kind.{Kind};
 ghost use Rattle.bag_tags.specs.declared.listing.Pair.{Pair};
 ghost use Rattle.bag_tags.specs.declared.fetch.FetchLine.{FetchLine};
+ghost use Rattle.bag_tags.specs.Fetches.{CanBeFetched, numbered_from, written_fetch};
 ghost use Rattle.bag_tags.specs.FetchText.{FetchText, FetchFault};
-ghost use Rattle.bag_tags.specs.Infos.{MetadataElement};
+ghost use Rattle.bag_tags.specs.Infos.{IsElement, MetadataElement, written_info};
 ghost use Rattle.bag_tags.specs.InfoText.{InfoText, InfoFault};
+ghost use Rattle.bag_tags.specs.Listings.{NoneTwice};
 ghost use Rattle.bag_tags.specs.Manifests.{ManifestText, ManifestFault};
+ghost use Rattle.bag_tags.specs.ManifestView.{FitEach};
+ghost use Rattle.bag_tags.specs.ManifestWriting.{CanBeWritten, written_manifest};
 ghost use Rattle.bag_tags.specs.Oxums.{OxumText};
 
 pub use crate::declaration::{
@@ -94,4 +100,20 @@ pub fn a_fetch_list_has_its_entries_or_a_faulty_line()
 pub fn a_bag_info_has_its_elements_or_a_faulty_line()
     ensures { (version : Version) (octets : List ℕ)
         → ((elements : List MetadataElement) × InfoText version octets elements) ⊎ ((fault : LineFault) × InfoFault version octets fault) }
+{}
+
+/// What is written for pairs that a manifest may list is the text of a manifest that lists them.
+pub fn a_written_manifest_lists_its_pairs()
+    ensures { (alg : Alg) (kind : Kind) (pairs : List Pair) → AllByRecursion CanBeWritten pairs → FitEach alg kind pairs → NoneTwice pairs
+        → ManifestText V1 alg kind (written_manifest pairs) pairs }
+{}
+
+/// What is written for elements is the text of a `bag-info.txt` that says them.
+pub fn a_written_bag_info_says_its_elements()
+    ensures { (elements : List MetadataElement) → AllByRecursion IsElement elements → InfoText V1 (written_info elements) elements }
+{}
+
+/// What is written for entries is the text of a `fetch.txt` that lists them, on lines from 1 on.
+pub fn a_written_fetch_list_lists_its_entries()
+    ensures { (lines : List FetchLine) → AllByRecursion CanBeFetched lines → FetchText V1 (written_fetch lines) (numbered_from 1 lines) }
 {}

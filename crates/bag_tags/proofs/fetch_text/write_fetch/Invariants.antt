@@ -1,11 +1,10 @@
 use Rattle.std.proofs.Common.{◌≡◌, ◌<◌, ◌^◌, take, IfSome}
 use Rattle.std.specs.List.{AllByRecursion}
-use Rattle.bag_tags.specs.Fetches.{written_fetch}
-use Rattle.bag_tags.proofs.FetchWritingLemmas.{CanBeWritten}
+use Rattle.bag_tags.specs.Fetches.{CanBeFetched, written_fetch}
 use Rattle.bag_tags.proofs.fetch_text.write_fetch.Given as goal
 
 abbrev pub invariant-loop-line : goal.invariant-loop-line
 invariant-loop-line l = record {
   written : l.octets.items ≡ written_fetch (take l.line-index l.line-items);
-  entries : AllByRecursion CanBeWritten (take l.line-index l.line-items);
+  entries : AllByRecursion CanBeFetched (take l.line-index l.line-items);
 }

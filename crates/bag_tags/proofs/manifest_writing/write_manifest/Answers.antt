@@ -3,10 +3,10 @@ use Rattle.std.specs.List.{AllByRecursion}
 use Rattle.bag_tags.specs.declared.listing.Pair.{Pair}
 use Rattle.bag_tags.specs.Manifests.{ManifestText}
 use Rattle.bag_tags.specs.ManifestView.{FitEach}
-use Rattle.bag_tags.specs.ManifestWriting.{written_manifest}
+use Rattle.bag_tags.specs.ManifestWriting.{CanBeWritten, written_manifest}
 use Rattle.bag_tags.specs.Listings.{NoneTwice}
 use Rattle.bag_tags.proofs.WritingLemmas.{facts, all_of}
-use Rattle.bag_tags.proofs.ManifestWritingLemmas.{CanBeWritten, manifest_reads}
+use Rattle.bag_tags.proofs.ManifestWritingLemmas.{manifest_reads}
 use Rattle.bag_tags.proofs.manifest_writing.write_manifest.Goals as goal
 
 pub returns-clause-reads : goal.returns-clause-reads

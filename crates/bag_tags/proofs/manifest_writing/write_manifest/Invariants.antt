@@ -1,7 +1,7 @@
 use Rattle.std.proofs.Common.{◌≡◌, take}
 use Rattle.std.specs.List.{AllByRecursion}
 use Rattle.bag_tags.specs.ManifestWriting.{written_manifest}
-use Rattle.bag_tags.proofs.ManifestWritingLemmas.{CanBeWritten}
+use Rattle.bag_tags.specs.ManifestWriting.{CanBeWritten}
 use Rattle.bag_tags.proofs.manifest_writing.write_manifest.Given as goal
 
 abbrev pub invariant-loop-pair : goal.invariant-loop-pair

@@ -1,0 +1,218 @@
+#!/usr/bin/env python3
+"""Hostile bags, each with the lines and the status that docs/FORMAT.md asks for: `hostile.py PROGRAM`.
+
+The numbers in brackets are sections of docs/FORMAT.md.
+"""
+import hashlib
+import os
+import shutil
+import subprocess
+import sys
+import tempfile
+
+DECLARATION = b"BagIt-Version: 1.0\nTag-File-Character-Encoding: UTF-8\n"
+PAYLOAD = {b"data/a.txt": b"abc", b"data/e.txt": b""}
+MARK = b"\xef\xbb\xbf"
+VALID = (["valid"], 0)
+
+
+def line(path, octets, spelling=None):
+    return hashlib.sha256(octets).hexdigest().encode() + b"  " + (spelling or path)
+
+
+def manifest(files=PAYLOAD):
+    return b"".join(line(path, octets) + b"\n" for path, octets in files.items())
+
+
+def not_complete(*lines):
+    return [*lines, "not complete"], 1
+
+
+def unlisted(*paths):
+    return [f"manifest-sha256.txt: unlisted: {path}" for path in paths]
+
+
+def bag(**changes):
+    """The bag of two files, with these files in place of its own or beside them; None takes a file away."""
+    files = {b"bagit.txt": DECLARATION, b"manifest-sha256.txt": manifest(), **PAYLOAD}
+    files.update(changes.pop("files", {}))
+    return {path: octets for path, octets in files.items() if octets is not None}
+
+
+def with_tag(name, octets):
+    return bag(files={name: octets})
+
+
+def cuts_of_declaration():
+    """Sections 3 and 12: the labels end at 15 and 48, the lines at 19 and 54."""
+    for n in range(len(DECLARATION) + 1):
+        if n <= 19:
+            answer = not_complete("bagit.txt: line count")
+        elif n <= 47:
+            answer = not_complete("bagit.txt: label")
+        elif n == 48:
+            answer = not_complete("bagit.txt: encoding name")
+        elif n <= 52:
+            answer = (["outside: encoding"], 2)
+        else:
+            answer = VALID
+        yield f"bagit.txt cut at {n}", with_tag(b"bagit.txt", DECLARATION[:n]), answer
+
+
+def cut_line(number, cut, own, others):
+    """A line that was cut after so many of its 76 octets, where the others of the payload are listed in no line before it [6]."""
+    file = f"manifest-sha256.txt:{number}: "
+    text = own[:cut - 66].decode()
+    if cut <= 64:
+        return not_complete(file + "separator")
+    if cut in (65, 66, 70, 71):
+        return not_complete(file + "path")
+    if cut <= 69:
+        return not_complete(file + "wrong place")
+    if cut <= 75:
+        missing = f"manifest-sha256.txt: missing: {text}"
+        return not_complete(missing, *unlisted(*sorted([own.decode(), *others])))
+    return not_complete(*unlisted(*others)) if others else VALID
+
+
+def cuts_of_manifest():
+    whole = manifest()
+    for n in range(len(whole) + 1):
+        if n == 0:
+            answer = not_complete(*unlisted("data/a.txt", "data/e.txt"))
+        elif n <= 77:
+            answer = cut_line(1, min(n, 76), b"data/a.txt", ["data/e.txt"])
+        else:
+            answer = cut_line(2, min(n - 77, 76), b"data/e.txt", [])
+        yield f"the manifest cut at {n}", with_tag(b"manifest-sha256.txt", whole[:n]), answer
+
+
+def endings_and_marks():
+    a, e = line(b"data/a.txt", b"abc"), line(b"data/e.txt", b"")
+    for name, text in [
+        ("CR", a + b"\r" + e + b"\r"),
+        ("CR LF and none", a + b"\r\n" + e),
+        ("blank lines of each kind", b"\r\n\r\r\n \t\n" + a + b"\n\r\n\r" + e + b"\r\n\n\t"),
+        ("a mark", MARK + a + b"\n" + e),
+        ("a mark on a line of its own", MARK + b"\n" + a + b"\n" + e),
+    ]:
+        yield f"a manifest with {name}", with_tag(b"manifest-sha256.txt", text), VALID
+    twice = not_complete("manifest-sha256.txt:1: digest form")
+    yield "two marks", with_tag(b"manifest-sha256.txt", MARK + MARK + a + b"\n" + e), twice
+    late = not_complete("manifest-sha256.txt:2: digest form")
+    yield "a mark on the second line", with_tag(b"manifest-sha256.txt", a + b"\n" + MARK + e), late
+    info = with_tag(b"bag-info.txt", MARK + b"Payload-Oxum: 3.2\rNote: x\r\n\ty\n")
+    yield "bag-info.txt with a mark and each ending", info, VALID
+    fetch = with_tag(b"fetch.txt", MARK + b"http:x 3 data/a.txt\rhttp:x - data/e.txt")
+    yield "fetch.txt with a mark", fetch, VALID
+
+
+def names():
+    """Names of payload files: blanks at both ends, tabs, line ends, signs, long ones, and others than ASCII [4, 6]."""
+    odd = {
+        b"data/ two  blanks ": b"",
+        b"data/\ttab": b"",
+        b"data/%": b"data/%25",
+        b"data/%0A": b"data/%250A",
+        b"data/line\nfeed": b"data/line%0afeed",
+        b"data/return\r": b"data/return%0D",
+        b"data/*": b"",
+        b"data/.. ": b"",
+        b"data/" + b"x" * 255: b"",
+        b"data/" + "\u00e9\u0301\U0001f4e6".encode(): b"",
+        b"data/" + b"/".join([b"d" * 200] * 15): b"",
+        b"data/\\n": b"",
+        b"data/data": b"",
+        b"data/manifest-md5.txt": b"",
+    }
+    files = {path: path[-3:] for path in odd}
+    text = b"".join(line(path, files[path], spelling or path) + b"\n" for path, spelling in odd.items())
+    whole = {b"bagit.txt": DECLARATION, b"manifest-sha256.txt": text, **files}
+    yield "odd names of payload files", whole, VALID
+    tags = {b"*star": b"1", b" blank": b"2", b"dot.": b"3", b"x/tagmanifest-md5.txt": b"4", b"x/bagit.txt": b"5"}
+    own = {b"manifest-sha256.txt": manifest(), **tags}
+    listed = b"".join(line(path, octets, b"./" + path) + b"\n" for path, octets in own.items())
+    yield "odd names of tag files", bag(files={**tags, b"tagmanifest-sha256.txt": listed}), VALID
+    below = {b"x/manifest-sha224.txt": b"?", b"x/fetch.txt": b"?", b"manifest-.txt": b"?", b"Bagit.txt": b"?"}
+    yield "tag files in folders, and names that are nearly right", bag(files=below), VALID
+
+
+def long_lines():
+    yield "a value of a million octets", with_tag(b"bag-info.txt", b"Note: " + b"x" * 10**6), VALID
+    endless = not_complete("manifest-sha256.txt:1: separator")
+    yield "a line of a million octets without a blank", with_tag(b"manifest-sha256.txt", b"a" * 10**6), endless
+    blanks = line(b"data/a.txt", b"abc").replace(b"  ", b" \t" * 10**5) + b"\n" + line(b"data/e.txt", b"")
+    yield "200,000 blanks before a path", with_tag(b"manifest-sha256.txt", blanks), VALID
+    url = with_tag(b"fetch.txt", b"http:" + b"x" * 10**6 + b" 3 data/a.txt")
+    yield "a url of a million octets", url, VALID
+    path = line(b"", b"") + b"data/" + b"x" * 4092
+    too_long = not_complete("manifest-sha256.txt:3: path")
+    yield "a path of 4,097 octets", with_tag(b"manifest-sha256.txt", manifest() + path), too_long
+
+
+def numerals():
+    zeros = b"0" * 5000
+    yield "an Oxum with 5,000 zeros", with_tag(b"bag-info.txt", b"Payload-Oxum: " + zeros + b"3." + zeros + b"2"), VALID
+    yield "a length with 5,000 zeros", with_tag(b"fetch.txt", b"http:x " + zeros + b"3 data/a.txt"), VALID
+    nines = b"9" * 5000
+    form = not_complete("bag-info.txt: Payload-Oxum form")
+    yield "an Oxum of 5,000 nines", with_tag(b"bag-info.txt", b"Payload-Oxum: " + nines + b".2"), form
+    length = not_complete("fetch.txt:1: length")
+    yield "a length of 5,000 nines", with_tag(b"fetch.txt", b"http:x " + nines + b" data/a.txt"), length
+    largest = not_complete("bag-info.txt: Payload-Oxum wrong")
+    yield "the greatest Oxum", with_tag(b"bag-info.txt", b"Payload-Oxum: 18446744073709551615.2"), largest
+
+
+def limits():
+    """Section 13, from both sides."""
+    many = (["bag: too many"], 3)
+    large = (["bag: tag too large"], 3)
+    lines = manifest() + b"\n" * (100_000 - 2)
+    yield "a manifest of 100,000 lines", with_tag(b"manifest-sha256.txt", lines), VALID
+    yield "a manifest of 100,001 lines", with_tag(b"manifest-sha256.txt", lines + b"\n"), many
+    yield "a fetch.txt of 100,000 lines", with_tag(b"fetch.txt", b"\n" * 100_000), VALID
+    yield "a fetch.txt of 100,001 lines", with_tag(b"fetch.txt", b"\n" * 100_001), many
+    yield "a bag-info.txt of 100,001 lines", with_tag(b"bag-info.txt", b"\n" * 100_001), VALID
+    value = b"Note: " + b"x" * (16_777_216 - 6)
+    yield "a bag-info.txt of 16,777,216 octets", with_tag(b"bag-info.txt", value), VALID
+    yield "a bag-info.txt of 16,777,217 octets", with_tag(b"bag-info.txt", value + b"x"), large
+    yield "another tag file of 16,777,217 octets", with_tag(b"notes.txt", value + b"x"), VALID
+    tags = {b"tags/%d/%d" % (i % 300, i): b"" for i in range(200_000 - 4)}
+    yield "200,000 files", bag(files=tags), VALID
+    yield "200,001 files", bag(files={**tags, b"one-more": b""}), many
+
+
+def payload_directory():
+    empty = {b"bagit.txt": DECLARATION, b"manifest-sha256.txt": b""}
+    yield "no data/", empty, not_complete("no data directory")
+    yield "an empty data/", {**empty, b"data/": None}, VALID
+
+
+def write(folder, files):
+    for path, octets in files.items():
+        name = os.path.join(os.fsencode(folder), path)
+        if octets is None:
+            os.makedirs(name)
+            continue
+        os.makedirs(os.path.dirname(name), exist_ok=True)
+        with open(name, "wb") as file:
+            file.write(octets)
+
+
+def main(program):
+    failed = 0
+    for cases in (cuts_of_declaration, cuts_of_manifest, endings_and_marks, names, long_lines, numerals, payload_directory, limits):
+        for name, files, (lines, status) in cases():
+            folder = tempfile.mkdtemp()
+            write(folder, files)
+            told = subprocess.run([program, "check", folder], capture_output=True, timeout=100)
+            printed = told.stdout.decode().splitlines()
+            if (printed, told.returncode) != (lines, status) or told.stderr:
+                failed += 1
+                print(f"{name}: status {told.returncode}: {printed}, and {lines} is wanted with {status}")
+            shutil.rmtree(folder)
+    return failed
+
+
+if __name__ == "__main__":
+    sys.exit(main(sys.argv[1]) > 0)
