@@ -1,5 +1,5 @@
 //! What is wrong with the bag that a tree holds (RFC 8493 section 3).
-ghost use Rattle.std.specs.Prelude.{◌≡◌, ◌<◌, ◌≤◌, ◌↔◌, ◌∷◌, [], ℕ, List, IfOk, IfErr, IsErrOf, MatchOption, MatchResult, length, string_bytes};
+ghost use Rattle.std.specs.Prelude.{◌≡◌, ◌<◌, ◌≤◌, ◌∷◌, [], IfOk, IfErr, IsErrOf, MatchOption, MatchResult, length, string_bytes};
 ghost use Rattle.bag_digest.specs.Device.{Rises};
 ghost use Rattle.bag_tags.specs.Declarations.{current};
 ghost use Rattle.bag_rules.specs.Bags.{Bag, IsBagOf};

@@ -1,5 +1,5 @@
 //! Telling cases of the definitions, worked out: each function's contract is one, and its body is empty.
-ghost use Rattle.std.specs.Prelude.{◌≡◌, ℕ, true, false, List, [], ◌∷◌, ◌++◌, codes};
+ghost use Rattle.std.specs.Prelude.{true, false, [], ◌∷◌, ◌++◌, codes};
 ghost use Rattle.bag_digest.specs.declared.algorithm.Alg.TheVariants.{Sha256};
 ghost use Rattle.bag_tags.specs.declared.listing.Kind.TheVariants.{Payload};
 ghost use Rattle.bag_tags.specs.Declarations.{written};

@@ -1,5 +1,5 @@
 //! The files of a bag against what its tag files list (RFC 8493 section 3).
-ghost use Rattle.std.specs.Prelude.{◌≡◌, ◌<◌, ◌≤◌, ◌++◌, ◌∷◌, [], ℕ, List, IfOk, IfErr, IsErrOf, MatchResult, OnOk, OnErr, Some, length, slice_get};
+ghost use Rattle.std.specs.Prelude.{◌≡◌, ◌<◌, ◌≤◌, ◌++◌, ◌∷◌, [], ℕ, List, IfOk, IfErr, IsErrOf, MatchResult, OnOk, Some, length, slice_get};
 ghost use Rattle.bag_digest.specs.Algorithm.{has};
 ghost use Rattle.bag_digest.specs.declared.algorithm.Alg.{Alg};
 ghost use Rattle.bag_digest.specs.declared.algorithm.AlgSet.{AlgSet};
@@ -12,7 +12,7 @@ ghost use Rattle.bag_rules.specs.Bags.{Bag, IsBagOf};
 ghost use Rattle.bag_rules.specs.Broken.{BrokenOf};
 ghost use Rattle.bag_rules.specs.Files.{AreLengths, IsFaultBy, IsFaultOfListing, IsFileFault, IsLongRead, IsReadBy, lists_by};
 ghost use Rattle.bag_rules.specs.Limits.{FileStops, FirstStops, IsLongFile, NoneStops, Stopped};
-ghost use Rattle.bag_rules.specs.Reading.{Adds, AreTextsOf, name_in};
+ghost use Rattle.bag_rules.specs.Reading.{Adds, AreTextsOf};
 ghost use Rattle.bag_rules.specs.Trees.{SameFiles};
 ghost use Rattle.bag_rules.specs.declared.outcome.CheckFault.{CheckFault};
 ghost use Rattle.bag_rules.specs.declared.outcome.CheckFault.TheVariants as fault;

@@ -1,13 +1,9 @@
 //! The form of a bag, beside the lines of its tag files (RFC 8493 section 2).
-ghost use Rattle.std.specs.Prelude.{◌≡◌, ◌<◌, ◌↔◌, ◌∷◌, [], ℕ, Bool, List, IfErr, IfOk, IsTrue, OnOk, Contains, length};
-ghost use Rattle.std.specs.List.{filter};
+ghost use Rattle.std.specs.Prelude.{◌≡◌, ◌<◌, ◌↔◌, ◌∷◌, [], IfErr, IsTrue, OnOk, Contains, length};
 ghost use Rattle.bag_digest.specs.declared.algorithm.Alg.{Alg};
 ghost use Rattle.bag_tags.specs.declared.listing.Kind.TheVariants.{Payload};
-ghost use Rattle.bag_tags.specs.Infos.{MetadataElement};
-ghost use Rattle.bag_tags.specs.Oxums.{OxumText};
 ghost use Rattle.bag_rules.specs.Bags.{Bag, IsBagOf, is_oxum, manifest_file};
 ghost use Rattle.bag_rules.specs.Broken.{BrokenOf};
-ghost use Rattle.bag_rules.specs.Faults.{Has};
 ghost use Rattle.bag_rules.specs.Form.{IsBadOxum, IsOxumFault, IsUnlistedBy, IsUnlistedManifest};
 ghost use Rattle.bag_rules.specs.Reading.{Adds, AreTextsOf};
 

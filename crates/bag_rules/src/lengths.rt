@@ -1,5 +1,5 @@
 //! The lengths of the payload files against what the tag files say of them (RFC 8493 sections 2.2.2 and 2.2.3).
-ghost use Rattle.std.specs.Prelude.{◌≡◌, ◌↔◌, ◌∷◌, [], ℕ, List, IfErr, IsTrue, OnOk, Some, length, slice_get};
+ghost use Rattle.std.specs.Prelude.{◌≡◌, ◌↔◌, ◌∷◌, [], ℕ, IfErr, IsTrue, OnOk, Some, length, slice_get};
 ghost use Rattle.bag_rules.specs.Bags.{Bag, IsBagOf, octet_count, payload_of};
 ghost use Rattle.bag_rules.specs.Broken.{BrokenOf};
 ghost use Rattle.bag_rules.specs.Files.{AreLengths, IsOtherLength, IsOtherOxum};

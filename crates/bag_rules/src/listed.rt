@@ -1,5 +1,5 @@
 //! What the tag files list against the files that are there, and against each other (RFC 8493 sections 2.2.3 and 3).
-ghost use Rattle.std.specs.Prelude.{◌≡◌, ◌∷◌, [], ℕ, List, IfErr, OnOk, length};
+ghost use Rattle.std.specs.Prelude.{◌≡◌, ◌∷◌, [], IfErr, OnOk, length};
 ghost use Rattle.bag_rules.specs.Bags.{Bag};
 ghost use Rattle.bag_rules.specs.Broken.{BrokenOf};
 ghost use Rattle.bag_rules.specs.Files.{IsFetchUnlistedBy, IsMissing, IsMissingBy, IsPairMissing};

@@ -1,8 +1,8 @@
 //! The tag files of a bag that are read line by line (RFC 8493 sections 2.1.3 and 2.2).
-ghost use Rattle.std.specs.Prelude.{◌≡◌, ◌<◌, ◌≤◌, ◌↔◌, ◌++◌, ◌∷◌, [], ℕ, List, IfOk, IfErr, IsErrOf, IsTrue, MatchOption, MatchResult, OnOk, Some, length, slice_get};
+ghost use Rattle.std.specs.Prelude.{◌≡◌, ◌<◌, ◌≤◌, ◌↔◌, ◌∷◌, [], ℕ, List, IfOk, IfErr, IsErrOf, IsTrue, MatchResult, OnOk, Some, length, slice_get};
 ghost use Rattle.bag_digest.specs.Device.{Rises};
 ghost use Rattle.bag_path.specs.Lines.{lines_of};
-ghost use Rattle.bag_rules.specs.Bags.{Bag, IsBagOf, text_file};
+ghost use Rattle.bag_rules.specs.Bags.{Bag, IsBagOf};
 ghost use Rattle.bag_rules.specs.Broken.{BrokenOf};
 ghost use Rattle.bag_rules.specs.Limits.{HasCountedLines, IsLongTag, FirstStops, NoneStops, Stopped, TextStops};
 ghost use Rattle.bag_rules.specs.Reading.{Adds, AreTextsOf, IsBadLineOf, ReadsOn, ReadsText, ValueOf, IsFirstBadLine};
