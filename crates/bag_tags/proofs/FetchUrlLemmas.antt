@@ -1,9 +1,8 @@
 -- A url is cut at its first colon.
-use Rattle.std.proofs.Common.{◌≡◌, ◌≢◌, ◌⊎◌, ◌<◌, ℕ, Bool, true, false, List, [], ◌∷◌, ◌++◌, length, drop, refl, sym, ap, ◌∙◌, subst, inl, inr, arith}
+use Rattle.std.proofs.Common.{◌≡◌, ◌≢◌, ◌<◌, ℕ, false, List, [], ◌∷◌, ◌++◌, length, drop, refl, sym, ap, ◌∙◌, subst, arith}
 use Rattle.std.specs.List.{AllByRecursion}
-use Rattle.std.specs.Char.{IsAsciiDigit, IsAsciiAlphabetic}
+use Rattle.std.specs.Char.{IsAsciiAlphabetic}
 use Rattle.std.proofs.lemmas.Bool.{ne_eqb}
-use Rattle.std.proofs.lemmas.Bool.Decides.{nat_tests}
 use Rattle.bag_tags.specs.WordsReading.{until, is_colon}
 use Rattle.bag_tags.specs.FetchEntries.{IsUrl, IsScheme, IsSchemeOctet, IsUrlOctet}
 use Rattle.bag_tags.proofs.WordsLemmas.{until_here, begins_with}

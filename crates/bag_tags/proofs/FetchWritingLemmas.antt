@@ -1,6 +1,6 @@
 -- What is written for entries is read as these entries.
-use Rattle.std.proofs.Common.{◌≡◌, ◌≢◌, ◌<◌, ◌≤◌, ◌^◌, ◌+◌, ◌⊎◌, ℕ, Bool, true, false, List, [], ◌∷◌, ◌++◌, Option, Some, None, IfSome, codes, map, length, nat_eq, refl, sym, ap, ◌∙◌, subst, inl, inr, arith, append_assoc, append-nil}
-use Rattle.std.specs.List.{AllByRecursion, flat_map, starts_with}
+use Rattle.std.proofs.Common.{◌≡◌, ◌≢◌, ◌<◌, ◌^◌, ◌+◌, ℕ, false, List, [], ◌∷◌, ◌++◌, Option, Some, None, IfSome, codes, map, nat_eq, refl, sym, ap, ◌∙◌, subst, inr, arith, append_assoc, append-nil}
+use Rattle.std.specs.List.{AllByRecursion, starts_with}
 use Rattle.std.specs.Char.{IsAsciiDigit, IsAsciiAlphabetic}
 use Rattle.std.specs.Fmt.{decimal}
 use Rattle.std.specs.Str.{IsUtf8}
@@ -13,9 +13,9 @@ use Rattle.bag_path.specs.Spellings.{written}
 use Rattle.bag_path.specs.declared.spelling.Version.TheVariants.{V1}
 use Rattle.bag_path.proofs.SpellsLemmas.{written_spells}
 use Rattle.bag_tags.specs.declared.fetch.FetchLine.{FetchLine}
-use Rattle.bag_tags.specs.Words.{is_blank, IsNotBlank, IsCut, is_blank_line, begins_blank}
+use Rattle.bag_tags.specs.Words.{is_blank, IsNotBlank, is_blank_line, begins_blank}
 use Rattle.bag_tags.specs.TagLines.{mark, Lead}
-use Rattle.bag_tags.specs.FetchEntries.{FetchItem, IsUrl, IsScheme, IsSchemeOctet, IsUrlOctet, IsEntry, written_length, written_entry}
+use Rattle.bag_tags.specs.FetchEntries.{FetchItem, IsUrl, IsScheme, IsSchemeOctet, IsUrlOctet, written_length}
 use Rattle.bag_tags.specs.Fetches.{CanBeFetched, fetch_line, numbered_from, written_line, written_fetch}
 use Rattle.bag_tags.specs.FetchText.{IsLength, AddsEntry, FetchText}
 use Rattle.bag_tags.proofs.NumeralLemmas.{digits_utf8}

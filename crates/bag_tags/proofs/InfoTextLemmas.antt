@@ -1,6 +1,5 @@
 -- The text of `bag-info.txt` says one list of elements, or has one first fault.
-use Rattle.std.proofs.Common.{◌≡◌, ℕ, List, [], Result, Err, refl, subst}
-use Rattle.std.specs.Result.{IsErrOf}
+use Rattle.std.proofs.Common.{◌≡◌, ℕ, List, [], refl, subst}
 use Rattle.bag_path.specs.declared.spelling.Version.{Version}
 use Rattle.bag_tags.specs.declared.fault.LineFault.{LineFault}
 use Rattle.bag_tags.specs.declared.fault.TagFault.{TagFault}

@@ -1,8 +1,8 @@
 -- What is written for elements is read as these elements.
-use Rattle.std.proofs.Common.{◌≡◌, ◌≢◌, ◌==◌, ◌+◌, ◌<◌, ℕ, Bool, true, false, List, [], ◌∷◌, ◌++◌, map, length, nat_eq, codes, if◌then◌else◌, refl, sym, ap, ◌∙◌, subst, inl, inr, arith, append_assoc, append-nil}
+use Rattle.std.proofs.Common.{◌≡◌, ◌≢◌, ◌+◌, ℕ, false, List, [], ◌∷◌, ◌++◌, map, nat_eq, codes, refl, sym, ap, ◌∙◌, subst, inl, inr, arith, append_assoc, append-nil}
 use Rattle.std.specs.List.{AllByRecursion, flat_map, starts_with}
 use Rattle.std.specs.Str.{IsUtf8}
-use Rattle.std.proofs.lemmas.Bool.{ne_eqb, cases_Bool}
+use Rattle.std.proofs.lemmas.Bool.{ne_eqb}
 use Rattle.std.proofs.lemmas.List.Concat.{flat_map-cons, flat_map-append}
 use Rattle.std.proofs.lemmas.Str.{IsUtf8-append}
 use Rattle.bag_path.specs.Lines.{IsPlain, written_lines}
@@ -12,7 +12,7 @@ use Rattle.bag_tags.specs.TagLines.{mark, Lead}
 use Rattle.bag_tags.specs.Infos.{MetadataElement, element, IsFit, IsLabelOctet, IsNotColon, IsElement, IsFurtherLine, IsValue, after_lf, written_octet, written_value, written_element, written_info}
 use Rattle.bag_tags.specs.InfoText.{AddsInfo, InfoText}
 use Rattle.bag_tags.proofs.TextCutLemmas.{utf8_before, utf8_after, utf8_one}
-use Rattle.bag_tags.proofs.WritingLemmas.{lf_line, numbered_texts, written_text, lines_cons, lines_append, each_append, no_mark}
+use Rattle.bag_tags.proofs.WritingLemmas.{numbered_texts, written_text, lines_cons, lines_append, each_append, no_mark}
 
 abbrev indented : List ℕ → List ℕ
 indented text = 32 ∷ text

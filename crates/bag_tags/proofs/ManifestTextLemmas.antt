@@ -1,5 +1,5 @@
 -- The text of a manifest lists one list of pairs, or has one first fault.
-use Rattle.std.proofs.Common.{◌≡◌, ◌⊎◌, ℕ, List, [], ◌∷◌, Result, Err, refl, sym, ap, ◌∙◌, subst, inl, inr}
+use Rattle.std.proofs.Common.{◌≡◌, ℕ, List, [], ◌∷◌, Err, refl, ap, ◌∙◌, subst, inl, inr}
 use Rattle.std.specs.List.{enumerate_from}
 use Rattle.std.specs.Result.{IsErrOf}
 use Rattle.bag_path.specs.Lines.{Text}
@@ -11,7 +11,7 @@ use Rattle.bag_tags.specs.declared.fault.TagFault.TheVariants as fault
 use Rattle.bag_tags.specs.declared.listing.Kind.{Kind}
 use Rattle.bag_tags.specs.declared.listing.Pair.{Pair}
 use Rattle.bag_tags.specs.TagLines.{Lead, IsTextOf, StopsAt, Faults}
-use Rattle.bag_tags.specs.Listings.{Listing, nothing_listed, with_pair, pair}
+use Rattle.bag_tags.specs.Listings.{Listing, nothing_listed}
 use Rattle.bag_tags.specs.Manifests.{AddsPair, RefusesLine, ManifestText, ManifestFault}
 use Rattle.bag_tags.proofs.TagLinesLemmas.{text_one, text_none, first_fault}
 use Rattle.bag_tags.proofs.ManifestLemmas.{adds_one, adds_or_refuses}

@@ -1,5 +1,5 @@
 -- The lines of octets have no line end in their texts.
-use Rattle.std.proofs.Common.{◌≡◌, ◌+◌, ℕ, List, [], ◌∷◌, ◌++◌, refl, sym, ap, ◌∙◌, subst}
+use Rattle.std.proofs.Common.{◌≡◌, ◌+◌, ℕ, List, [], ◌∷◌, ◌++◌, ap, ◌∙◌, subst}
 use Rattle.std.specs.List.{AllByRecursion, enumerate_from}
 use Rattle.bag_path.specs.Lines.{Text, IsPlain, AreLines, lines_of}
 use Rattle.bag_path.proofs.LinesLemmas.{are_lines}

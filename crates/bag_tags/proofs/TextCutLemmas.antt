@@ -1,12 +1,12 @@
 -- Parts of lists and of texts.
-use Rattle.std.proofs.Common.{◌≡◌, ◌≢◌, ◌==◌, ◌<◌, ◌+◌, ◌⊎◌, ℕ, Bool, true, false, not, List, [], ◌∷◌, ◌++◌, length, take, drop, get_or, refl, sym, ap, ◌∙◌, subst, inl, inr, arith, append_assoc, length-append}
+use Rattle.std.proofs.Common.{◌≡◌, ◌<◌, ℕ, Bool, true, false, not, List, [], ◌∷◌, ◌++◌, length, get_or, refl, sym, ap, ◌∙◌, subst, inl, inr, arith, length-append}
 use Rattle.std.proofs.Math.Seq.{take-append_seam, get_or-append_seam}
 use Rattle.std.specs.List.{AllByRecursion}
-use Rattle.std.specs.Str.{IsUtf8, IsAscii}
+use Rattle.std.specs.Str.{IsUtf8}
 use Rattle.std.proofs.lemmas.Bool.{not-false, not_from_true, cases_Bool}
 use Rattle.std.proofs.lemmas.Bool.Decides.{nat_tests}
-use Rattle.std.proofs.lemmas.Str.{IsUtf8-take, IsUtf8-from_ascii, IsUtf8-append, IsCharBoundary-before_ascii}
-use Rattle.bag_tags.specs.Words.{is_blank, IsBlank, IsNotBlank, is_blank_line, begins_blank}
+use Rattle.std.proofs.lemmas.Str.{IsUtf8-take, IsUtf8-from_ascii, IsCharBoundary-before_ascii}
+use Rattle.bag_tags.specs.Words.{is_blank, IsBlank, is_blank_line, begins_blank}
 use Rattle.bag_tags.specs.WordsReading.{until, is_not_blank}
 use Rattle.bag_tags.proofs.WordsLemmas.{until_whole, until_front, until_at, begins_with}
 use Rattle.bag_tags.proofs.Utf8Lemmas.{IsUtf8-rest, IsAscii-from_each}

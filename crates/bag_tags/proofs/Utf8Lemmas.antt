@@ -1,5 +1,5 @@
 -- What follows UTF-8 in UTF-8 is UTF-8.
-use Rattle.std.proofs.Common.{◌≡◌, ◌&&◌, ◌<◌, Bool, true, false, ℕ, zero, suc, List, [], ◌∷◌, ◌++◌, length, take, drop, nat_eq, take-append-drop, refl, sym, ap, ◌∙◌, subst, inl, inr, arith}
+use Rattle.std.proofs.Common.{◌≡◌, ◌&&◌, ◌<◌, Bool, true, false, ℕ, zero, suc, List, [], ◌∷◌, ◌++◌, length, take, drop, nat_eq, take-append-drop, sym, ap, ◌∙◌, subst, inl, inr, arith}
 use Rattle.std.specs.List.{AllByRecursion, AllPass, starts_with}
 use Rattle.std.specs.Str.{IsUtf8, IsAscii, chars}
 use Rattle.std.proofs.lemmas.Bool.{cases_Bool}

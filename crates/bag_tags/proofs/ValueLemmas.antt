@@ -1,14 +1,14 @@
 -- A value is tested octet by octet.
-use Rattle.std.proofs.Common.{◌≡◌, ◌≢◌, ◌==◌, ◌+◌, ◌<◌, ◌≤◌, ◌↔◌, ℕ, Bool, true, false, not, IsTrue, List, [], ◌∷◌, ◌++◌, length, drop, get_or, refl, sym, ap, ◌∙◌, subst, inl, inr, arith, cond, append_assoc, append-nil, length-drop}
+use Rattle.std.proofs.Common.{◌≡◌, ◌≢◌, ◌==◌, ◌+◌, ◌<◌, ◌≤◌, ℕ, Bool, true, false, not, IsTrue, List, [], ◌∷◌, ◌++◌, length, drop, get_or, refl, sym, ap, ◌∙◌, subst, inl, inr, arith, cond, append_assoc, append-nil, length-drop}
 use Rattle.std.specs.List.{AllByRecursion, flat_map}
 use Rattle.std.proofs.lemmas.Bool.{cases_Bool, ne_eqb}
 use Rattle.std.proofs.lemmas.Bool.Decides.{eqb_tells, nat_tests}
 use Rattle.std.proofs.lemmas.List.{drop_more}
 use Rattle.std.proofs.lemmas.List.Concat.{flat_map-cons, flat_map-append}
 use Rattle.bag_path.specs.Lines.{IsPlain}
-use Rattle.bag_tags.specs.Words.{is_blank, begins_blank}
+use Rattle.bag_tags.specs.Words.{is_blank}
 use Rattle.bag_tags.specs.InfoReading.{stops_value}
-use Rattle.bag_tags.specs.Infos.{IsFurtherLine, HasValueLines, IsValue, after_lf}
+use Rattle.bag_tags.specs.Infos.{IsFurtherLine, IsValue, after_lf}
 
 -- whether what is left of a value is good, after an LF or not
 unfoldable pub value_ok : Bool → List ℕ → Bool

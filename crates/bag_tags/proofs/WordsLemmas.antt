@@ -2,7 +2,7 @@
 use Rattle.std.proofs.Common.{◌≡◌, ◌≢◌, ◌==◌, ℕ, Bool, true, false, not, List, [], ◌∷◌, ◌++◌, length, refl, sym, ap, ◌∙◌, inl, inr, arith, append_assoc}
 use Rattle.std.specs.List.{AllByRecursion}
 use Rattle.std.proofs.lemmas.Bool.{not-false, not_from_true, cases_Bool, ne_eqb}
-use Rattle.bag_tags.specs.Words.{is_blank, IsBlank, IsNotBlank, begins_blank, IsCut}
+use Rattle.bag_tags.specs.Words.{is_blank, begins_blank, IsCut}
 use Rattle.bag_tags.specs.WordsReading.{until, is_not_blank}
 
 -- the front up to an element that passes

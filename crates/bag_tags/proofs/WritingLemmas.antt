@@ -1,12 +1,11 @@
 -- Texts that are written line by line are read as these lines.
-use Rattle.std.proofs.Common.{◌≡◌, ◌≢◌, ◌==◌, ◌+◌, ◌≤◌, ℕ, Bool, true, false, List, [], ◌∷◌, ◌++◌, map, length, take, drop, nat_eq, if◌then◌else◌, refl, sym, ap, ◌∙◌, subst, inl, inr, arith, append_assoc, append-nil}
-use Rattle.std.specs.List.{AllByRecursion, All, flat_map, enumerate_from, starts_with}
+use Rattle.std.proofs.Common.{◌≡◌, ◌≢◌, ◌==◌, ℕ, false, List, [], ◌∷◌, ◌++◌, map, length, take, nat_eq, refl, sym, ap, ◌∙◌, subst, inl, inr}
+use Rattle.std.specs.List.{AllByRecursion, All, enumerate_from, starts_with}
 use Rattle.std.proofs.lemmas.Bool.{ne_eqb, cases_Bool}
-use Rattle.std.proofs.lemmas.Bool.Decides.{eqb_tells}
 use Rattle.std.proofs.lemmas.List.Elements.{All-from_recursion}
 use Rattle.std.proofs.lemmas.List.Concat.{flat_map-cons, flat_map-append}
 use Rattle.std.proofs.Math.Seq.{take-length}
-use Rattle.bag_path.specs.Lines.{Text, line, lines_of, HasLines, IsPlain, written_lines}
+use Rattle.bag_path.specs.Lines.{Text, line, HasLines, IsPlain, written_lines}
 use Rattle.bag_path.specs.declared.lines.Ending.TheVariants.{Lf}
 use Rattle.bag_path.proofs.LinesLemmas.{one_list, lines_of-written_lines}
 use Rattle.bag_tags.specs.Words.{without}

@@ -6,7 +6,7 @@ use Rattle.bag_path.specs.Lines.{IsPlain}
 use Rattle.bag_tags.specs.declared.info.ElementFault.{ElementFault}
 use Rattle.bag_tags.specs.declared.info.ElementFault.TheVariants.{BadLabel, BadValue, Memory}
 use Rattle.bag_tags.specs.TagLines.{mark}
-use Rattle.bag_tags.specs.Words.{is_blank, IsNotBlank, begins_blank}
+use Rattle.bag_tags.specs.Words.{IsNotBlank, begins_blank}
 
 -- a metadata element; a line break in its value is one LF (this project's own)
 pub record MetadataElement : Type 0 where

@@ -1,5 +1,5 @@
 -- The text of a manifest (RFC 8493 section 2.1.3).
-use Rattle.std.specs.Prelude.{◌≡◌, ℕ, true, false, List, codes}
+use Rattle.std.specs.Prelude.{◌≡◌, ℕ, true, List, codes}
 use Rattle.std.specs.List.{AllByRecursion}
 use Rattle.std.specs.Str.{IsUtf8}
 use Rattle.bag_path.specs.declared.spelling.Version.{Version}

@@ -1,12 +1,11 @@
 //! Telling cases of the definitions, worked out: each function's contract is one, and its body is empty.
-ghost use Rattle.std.specs.Prelude.{◌≡◌, ℕ, true, false, List, [], ◌∷◌, ◌++◌, Some, None, codes};
+ghost use Rattle.std.specs.Prelude.{ℕ, false, [], ◌∷◌, ◌++◌, Some, None, codes};
 ghost use Rattle.bag_digest.specs.declared.algorithm.Alg.TheVariants.{Md5, Sha256};
 ghost use Rattle.bag_digest.specs.declared.digest.Digest.TheVariants as digest;
 ghost use Rattle.bag_path.specs.declared.path.PathFault.TheVariants as path;
 ghost use Rattle.bag_path.specs.declared.spelling.Version.TheVariants.{V1};
 ghost use Rattle.bag_tags.specs.declared.declaration.DeclarationFault.TheVariants as declaration;
 ghost use Rattle.bag_tags.specs.declared.fault.LineCause.TheVariants as cause;
-ghost use Rattle.bag_tags.specs.declared.fault.LineFault.{LineFault};
 ghost use Rattle.bag_tags.specs.declared.listing.Kind.TheVariants.{Payload, Tag};
 ghost use Rattle.bag_tags.specs.declared.name.TagName.TheVariants as name;
 ghost use Rattle.bag_tags.specs.Declarations.{IsDeclaration, IsDeclarationFault, current};

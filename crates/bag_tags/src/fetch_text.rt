@@ -8,8 +8,8 @@ ghost use Rattle.bag_tags.specs.declared.fault.LineFault.{LineFault};
 ghost use Rattle.bag_tags.specs.declared.fetch.FetchLine.{FetchLine};
 ghost use Rattle.bag_tags.specs.TagLines.{Causes};
 ghost use Rattle.bag_tags.specs.Manifests.{PathCause};
-ghost use Rattle.bag_tags.specs.FetchEntries.{FetchItem, IsEntry, written_entry, written_length};
-ghost use Rattle.bag_tags.specs.Fetches.{numbered_from, written_fetch, written_line};
+ghost use Rattle.bag_tags.specs.FetchEntries.{IsEntry, written_entry, written_length};
+ghost use Rattle.bag_tags.specs.Fetches.{numbered_from, written_fetch};
 ghost use Rattle.bag_tags.specs.FetchText.{AddsEntry, FetchText, FetchFault, AreWords, IsLength, LacksWord, GivesEntry, GivesNoEntry};
 
 use crate::fault::{LineCause, TagCause, TagFault};

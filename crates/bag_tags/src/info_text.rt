@@ -1,5 +1,5 @@
 //! The text of `bag-info.txt` (RFC 8493 section 2.2.2).
-ghost use Rattle.std.specs.Prelude.{◌≡◌, ◌++◌, ℕ, true, false, List, [], IfErr, IfOk, IsErrOf, OnOk, MatchResult, option_map};
+ghost use Rattle.std.specs.Prelude.{◌≡◌, ◌++◌, true, false, List, [], IfErr, IfOk, IsErrOf, OnOk, MatchResult, option_map};
 ghost use Rattle.std.specs.List.{AllByRecursion};
 ghost use Rattle.std.specs.Str.{IsUtf8};
 ghost use Rattle.bag_path.specs.Lines.{IsPlain};

@@ -12,7 +12,7 @@ pub enum Kind {
 }
 
 impl Kind {
-    ghost use Rattle.std.specs.Prelude.{◌≡◌, ◌↔◌, IsTrue};
+    ghost use Rattle.std.specs.Prelude.{◌↔◌, IsTrue};
     ghost use Rattle.bag_tags.specs.Listings.{IsInPlace};
 
     /// Whether a manifest of this kind may list the path.

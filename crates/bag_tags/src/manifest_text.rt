@@ -1,5 +1,5 @@
 //! The text of a manifest (RFC 8493 section 2.1.3).
-ghost use Rattle.std.specs.Prelude.{◌≡◌, ◌⊎◌, ℕ, List, IfErr, IfOk, IsErrOf, MatchResult};
+ghost use Rattle.std.specs.Prelude.{◌≡◌, List, IfErr, IfOk, IsErrOf, MatchResult};
 ghost use Rattle.std.specs.Str.{IsUtf8};
 ghost use Rattle.bag_path.specs.Paths.{IsPath};
 ghost use Rattle.bag_path.specs.Spellings.{Spells};

@@ -1,5 +1,5 @@
 //! Numerals in ASCII digits.
-ghost use Rattle.std.specs.Prelude.{◌≡◌, ◌<◌, ◌^◌, ◌↔◌, ℕ, IsTrue, MatchOption};
+ghost use Rattle.std.specs.Prelude.{◌<◌, ◌^◌, ◌↔◌, ℕ, IsTrue, MatchOption};
 ghost use Rattle.std.specs.Char.{IsAsciiDigit};
 ghost use Rattle.std.specs.List.{AllByRecursion};
 ghost use Rattle.bag_tags.specs.Numerals.{IsNumeral};

@@ -1,5 +1,5 @@
 //! `Payload-Oxum`, by which a bag's payload is told at a glance (RFC 8493 section 2.2.2).
-ghost use Rattle.std.specs.Prelude.{◌≡◌, ℕ, List, Some, IfOk, IfSome, string_bytes};
+ghost use Rattle.std.specs.Prelude.{◌≡◌, Some, IfOk, IfSome, string_bytes};
 ghost use Rattle.bag_tags.specs.Oxums.{OxumText, written_oxum};
 ghost use Rattle.bag_tags.specs.declared.oxum.Oxum.{Oxum};
 

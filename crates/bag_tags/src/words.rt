@@ -1,6 +1,5 @@
 //! The words of a line.
 ghost use Rattle.std.specs.Prelude.{◌≡◌, ◌≤◌, length, take, drop};
-ghost use Rattle.std.specs.List.{starts_with};
 ghost use Rattle.bag_tags.specs.Words.{is_blank, is_blank_line, without};
 ghost use Rattle.bag_tags.specs.WordsReading.{until, stops};
 

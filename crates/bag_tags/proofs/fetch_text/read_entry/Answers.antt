@@ -1,6 +1,5 @@
-use Rattle.std.proofs.Common.{◌≡◌, List, ℕ, true, false, sym, ap, ◌∙◌, subst, rules}
+use Rattle.std.proofs.Common.{◌≡◌, true, false, sym, ◌∙◌, rules}
 use Rattle.std.specs.Str.{IsUtf8}
-use Rattle.bag_path.specs.Paths.{is_payload}
 use Rattle.bag_tags.specs.FetchText.{HasWords}
 use Rattle.bag_tags.proofs.FetchLineLemmas.{words_utf8, gives_of}
 use Rattle.bag_tags.proofs.fetch_text.read_entry.Goals as goal

@@ -1,8 +1,8 @@
-use Rattle.std.proofs.Common.{◌≡◌, List, sym, subst}
+use Rattle.std.proofs.Common.{List, subst}
 use Rattle.std.proofs.lemmas.Result.{err_from_is_err_and}
 use Rattle.bag_tags.specs.declared.fetch.FetchLine.{FetchLine}
 use Rattle.bag_tags.specs.TagLines.{IsTextOf, StopsAt, Faults}
-use Rattle.bag_tags.specs.FetchText.{AddsEntry, RefusesEntry, FetchText}
+use Rattle.bag_tags.specs.FetchText.{AddsEntry, RefusesEntry}
 use Rattle.bag_tags.proofs.ManifestTextLemmas.{fault_of}
 use Rattle.bag_tags.proofs.FetchTextLemmas.{fetch_only, fetch_fault, fetch_faulty}
 use Rattle.bag_tags.proofs.fetch_text.read_fetch.Goals as goal

@@ -1,4 +1,4 @@
-use Rattle.std.proofs.Common.{◌≡◌, ◌<◌, ◌^◌, take, IfSome}
+use Rattle.std.proofs.Common.{◌≡◌, take}
 use Rattle.std.specs.List.{AllByRecursion}
 use Rattle.bag_tags.specs.Fetches.{CanBeFetched, written_fetch}
 use Rattle.bag_tags.proofs.fetch_text.write_fetch.Given as goal

@@ -1,4 +1,4 @@
-use Rattle.std.proofs.Common.{◌≡◌, ◌++◌, ◌∷◌, [], sym, ap, ◌∙◌, subst}
+use Rattle.std.proofs.Common.{◌++◌, ◌∷◌, [], sym, ap, ◌∙◌, subst}
 use Rattle.bag_tags.specs.Infos.{IsFurtherLine, continued}
 use Rattle.bag_tags.proofs.InfoLineLemmas.{indented, further_line, line_utf8}
 use Rattle.bag_tags.proofs.info_text.continue_last.Goals as goal

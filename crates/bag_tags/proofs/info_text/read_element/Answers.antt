@@ -1,4 +1,4 @@
-use Rattle.std.proofs.Common.{◌≡◌, sym, ap, ◌∙◌, subst}
+use Rattle.std.proofs.Common.{sym, ap, ◌∙◌, subst}
 use Rattle.bag_tags.specs.Infos.{MetadataElement, IsFit, IsLabel, IsValue, element}
 use Rattle.bag_tags.proofs.InfoLineLemmas.{parts_of, lacks_of, label_utf8, first_utf8, is_label_of, is_value_of, gives_of}
 use Rattle.bag_tags.proofs.info_text.read_element.Goals as goal

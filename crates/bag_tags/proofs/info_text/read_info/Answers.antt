@@ -1,8 +1,8 @@
-use Rattle.std.proofs.Common.{◌≡◌, List, sym, subst}
+use Rattle.std.proofs.Common.{List, subst}
 use Rattle.std.proofs.lemmas.Result.{err_from_is_err_and}
 use Rattle.bag_tags.specs.Infos.{MetadataElement}
 use Rattle.bag_tags.specs.TagLines.{IsTextOf, StopsAt, Faults}
-use Rattle.bag_tags.specs.InfoText.{AddsInfo, RefusesInfo, InfoText}
+use Rattle.bag_tags.specs.InfoText.{AddsInfo, RefusesInfo}
 use Rattle.bag_tags.proofs.ManifestTextLemmas.{fault_of}
 use Rattle.bag_tags.proofs.InfoTextLemmas.{info_only, info_fault, info_faulty}
 use Rattle.bag_tags.proofs.info_text.read_info.Goals as goal

@@ -1,5 +1,4 @@
-use Rattle.std.proofs.Common.{◌≡◌, List, length, take, sym, ap, ◌∙◌, subst, arith}
-use Rattle.std.specs.List.{AllByRecursion}
+use Rattle.std.proofs.Common.{◌≡◌, List, length, ap, ◌∙◌, subst, arith}
 use Rattle.bag_tags.specs.Infos.{MetadataElement, IsElement, written_info}
 use Rattle.bag_tags.specs.InfoText.{InfoText}
 use Rattle.bag_path.specs.declared.spelling.Version.TheVariants.{V1}

@@ -1,8 +1,7 @@
-use Rattle.std.proofs.Common.{◌≡◌, List, ℕ, Some, sym, ap, ◌∙◌, subst, length, rules}
+use Rattle.std.proofs.Common.{◌≡◌, Some, sym, subst, length, rules}
 use Rattle.std.specs.BTreeMap.{Updates}
 use Rattle.std.specs.Ordering.{nat_cmp}
 use Rattle.std.specs.Cmp.Lexicographic.{slice_cmp}
-use Rattle.bag_tags.specs.declared.listing.Pair.{Pair}
 use Rattle.bag_tags.specs.Listings.{pair}
 use Rattle.bag_tags.specs.ManifestView.{IsIndexOf}
 use Rattle.bag_tags.proofs.ListingLemmas.{index_more}

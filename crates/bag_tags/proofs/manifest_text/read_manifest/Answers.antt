@@ -1,4 +1,4 @@
-use Rattle.std.proofs.Common.{◌≡◌, sym, subst, ◌∙◌, ap}
+use Rattle.std.proofs.Common.{subst}
 use Rattle.std.proofs.lemmas.Result.{err_from_is_err_and}
 use Rattle.bag_tags.specs.TagLines.{IsTextOf, StopsAt, Faults}
 use Rattle.bag_tags.specs.Listings.{Listing, nothing_listed}

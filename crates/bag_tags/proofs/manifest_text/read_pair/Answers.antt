@@ -1,13 +1,10 @@
-use Rattle.std.proofs.Common.{◌≡◌, ◌==◌, ◌++◌, List, ℕ, Bool, true, false, length, sym, subst, ap, ◌∙◌, rules}
+use Rattle.std.proofs.Common.{◌≡◌, ◌==◌, List, ℕ, true, false, length, sym, subst, ap, ◌∙◌, rules}
 use Rattle.std.specs.List.{AllPass}
 use Rattle.std.specs.Str.{IsUtf8}
 use Rattle.std.proofs.lemmas.Result.{err_from_is_err_and}
 use Rattle.hex.specs.Hex.{is_hex_digit}
-use Rattle.bag_digest.specs.declared.digest.Digest.{Digest}
-use Rattle.bag_digest.specs.Spelling.{SpellsDigest}
-use Rattle.bag_tags.specs.Words.{is_blank, IsCut}
+use Rattle.bag_tags.specs.Words.{is_blank}
 use Rattle.bag_tags.specs.WordsReading.{until, is_not_blank}
-use Rattle.bag_tags.specs.Manifests.{HasChecksum}
 use Rattle.bag_tags.proofs.WordsLemmas.{none_passes}
 use Rattle.bag_tags.proofs.Utf8Lemmas.{path_text_utf8}
 use Rattle.bag_tags.proofs.ManifestLemmas.{cut_by, checksum_by, path_cause}

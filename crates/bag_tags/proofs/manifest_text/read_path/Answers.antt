@@ -1,4 +1,4 @@
-use Rattle.std.proofs.Common.{◌≡◌, List, ℕ, sym, subst, codes, ap, ◌∙◌, rules, ◌<◌}
+use Rattle.std.proofs.Common.{sym, subst, codes, ap, ◌∙◌, rules}
 use Rattle.std.specs.Str.{IsUtf8, IsAscii}
 use Rattle.bag_tags.specs.Words.{without}
 use Rattle.bag_tags.proofs.Utf8Lemmas.{without_utf8, IsAscii-from_each}

@@ -1,10 +1,6 @@
-use Rattle.std.proofs.Common.{◌≡◌, List, length, ap, ◌∙◌, subst, arith}
+use Rattle.std.proofs.Common.{◌≡◌, length, ap, ◌∙◌, subst, arith}
 use Rattle.std.specs.List.{AllByRecursion}
-use Rattle.bag_tags.specs.declared.listing.Pair.{Pair}
-use Rattle.bag_tags.specs.Manifests.{ManifestText}
-use Rattle.bag_tags.specs.ManifestView.{FitEach}
 use Rattle.bag_tags.specs.ManifestWriting.{CanBeWritten, written_manifest}
-use Rattle.bag_tags.specs.Listings.{NoneTwice}
 use Rattle.bag_tags.proofs.WritingLemmas.{facts, all_of}
 use Rattle.bag_tags.proofs.ManifestWritingLemmas.{manifest_reads}
 use Rattle.bag_tags.proofs.manifest_writing.write_manifest.Goals as goal

@@ -1,7 +1,7 @@
-use Rattle.std.proofs.Common.{◌≡◌, List, ℕ, sym, ap, ◌∙◌, subst}
+use Rattle.std.proofs.Common.{◌≡◌, sym, ap, ◌∙◌, subst}
 use Rattle.std.specs.List.{enumerate_from}
 use Rattle.std.proofs.lemmas.Result.{err_from_is_err_and}
-use Rattle.bag_path.specs.Lines.{Text, lines_of}
+use Rattle.bag_path.specs.Lines.{lines_of}
 use Rattle.bag_path.specs.LinesLeft.{lines_left}
 use Rattle.bag_tags.proofs.TagLinesLemmas.{HasLed, numbered, none_led, led_on, led_all, refused_at}
 use Rattle.bag_tags.proofs.PlainLemmas.{next_plain}

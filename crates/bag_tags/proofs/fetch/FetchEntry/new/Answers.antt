@@ -1,4 +1,4 @@
-use Rattle.std.proofs.Common.{◌≡◌, sym, ◌∙◌, subst, rules}
+use Rattle.std.proofs.Common.{sym, ◌∙◌, subst, rules}
 use Rattle.std.proofs.lemmas.Str.{IsUtf8-string_bytes}
 use Rattle.bag_tags.specs.FetchEntries.{IsUrl}
 use Rattle.bag_tags.proofs.fetch.FetchEntry.new.Goals as goal

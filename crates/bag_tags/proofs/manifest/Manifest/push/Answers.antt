@@ -1,6 +1,5 @@
-use Rattle.std.proofs.Common.{◌≡◌, List, ℕ, true, false, sym, ap, ◌∙◌, subst, rules}
+use Rattle.std.proofs.Common.{◌≡◌, false, sym, ap, ◌∙◌, subst, rules}
 use Rattle.bag_digest.specs.Hash.{alg_of}
-use Rattle.bag_tags.specs.declared.listing.Pair.{Pair}
 use Rattle.bag_tags.specs.Listings.{Listing, pair, lists_path, IsInPlace, NoneTwice}
 use Rattle.bag_tags.specs.ManifestView.{FitEach}
 use Rattle.bag_tags.proofs.ListingLemmas.{is_listed, none_twice_more, fit_more}

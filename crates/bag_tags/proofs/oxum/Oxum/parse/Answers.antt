@@ -1,4 +1,4 @@
-use Rattle.std.proofs.Common.{◌≡◌, List, ℕ, Some, None, sym, ap, ◌∙◌, rules}
+use Rattle.std.proofs.Common.{Some, sym, ap, ◌∙◌, rules}
 use Rattle.bag_tags.specs.WordsReading.{until, is_not_blank}
 use Rattle.bag_tags.specs.declared.oxum.Oxum.{Oxum}
 use Rattle.bag_tags.proofs.OxumLemmas.{cut_by, no_dot, no_back, no_octets, no_streams, oxum_read, oxum_same}
