@@ -1,5 +1,6 @@
 //! `bag check`: what is printed of a check.
-ghost use Rattle.std.specs.Prelude.{◌≡◌, ◌≤◌, ◌⊎◌, ◌++◌, ◌∷◌, [], OnOk, OnErr, map, true};
+ghost use Rattle.std.specs.Prelude.{◌≡◌, ◌≤◌, ◌⊎◌, ◌++◌, ◌∷◌, [], OnOk, OnErr, map};
+ghost use Rattle.std.specs.Io.Buffered.{writer_buffer};
 ghost use Rattle.bag_digest.specs.Device.{Rises};
 ghost use Rattle.bag_rules.specs.Bags.{Bag, IsBagOf};
 ghost use Rattle.bag_rules.specs.Trees.{SameFiles};
@@ -19,7 +20,7 @@ use std::io::Write;
 mod tests;
 
 /// Checks the bag that a tree holds, prints the answer and answers the status, as [`print_outcome`] does.
-pub fn check_to<T: Tree, W: Write>(alloc: Global, tree: &mut T, out: &mut Output<W>) -> u8
+pub fn check_to<T: Tree, W: Write + Drop>(alloc: Global, tree: &mut T, out: &mut Output<W>) -> u8
     // Status 0 is for valid bags alone.
     ensures valid { result ≡ 0 → (bag : Bag) → IsBagOf T.paths T.has_dir T.body tree.old bag → IsValid bag }
     ensures printed { PrintedOf W.contents out.old out.new result (IsAnswer T.paths T.has_dir T.body T.faults tree.old tree.new) }
@@ -32,7 +33,10 @@ pub fn check_to<T: Tree, W: Write>(alloc: Global, tree: &mut T, out: &mut Output
 
 /// Prints the answer of a check and answers the status: 0 for a valid bag, 1 for one that is not, 2 where the bag can't be
 /// judged, and 3 where the check didn't come to its end or a write failed.
-pub fn print_outcome<W: Write>(outcome: &Result<Outcome, CheckFault>, out: &mut Output<W>) -> u8
+pub fn print_outcome<W: Write + Drop>(
+    outcome: &Result<Outcome, CheckFault>,
+    out: &mut Output<W>,
+) -> u8
     ensures { Printed W.contents out.old out.new result (check_lines outcome.now) (check_status outcome.now) }
 {
     match write_outcome(outcome, out) {
@@ -42,12 +46,12 @@ pub fn print_outcome<W: Write>(outcome: &Result<Outcome, CheckFault>, out: &mut 
 }
 
 /// Writes the lines of an answer, and hands them on.
-fn write_outcome<W: Write>(
+fn write_outcome<W: Write + Drop>(
     outcome: &Result<Outcome, CheckFault>,
     out: &mut Output<W>,
 ) -> Result<(), Failed>
     ensures ok { OnOk result (WroteLines W.contents out.old out.new (check_lines outcome.now)) }
-    ensures flushed { OnOk result (out.new.flushed ≡ true) }
+    ensures handed_on { OnOk result (writer_buffer out.new.writer ≡ []) }
     ensures failed { OnErr result (Rises out.old.failures out.new.failures) }
 {
     match outcome {
@@ -59,7 +63,7 @@ fn write_outcome<W: Write>(
 }
 
 /// Writes a line for each fault, and the verdict.
-fn write_report<W: Write>(report: &Report, out: &mut Output<W>) -> Result<(), Failed>
+fn write_report<W: Write + Drop>(report: &Report, out: &mut Output<W>) -> Result<(), Failed>
     ensures ok { OnOk result (WroteLines W.contents out.old out.new (map fault_text report.now ++ verdict_text report.now ∷ [])) }
     ensures failed { OnErr result (Rises out.old.failures out.new.failures) }
 {

@@ -1,8 +1,9 @@
 //! A folder on disk as a tree of files.
-ghost use Rattle.std.specs.Prelude.{◌≡◌, ◌↔◌, ℕ, List, Contains, ◌+◌, ◌-◌, ◌^◌, ◌++◌, codes, string_bytes, ◌<◌, ◌≤◌, All, IfOk, IsErr, OnErr, OnOk, false, length, min, true};
+ghost use Rattle.std.specs.Prelude.{◌≡◌, ◌↔◌, ◌||◌, ℕ, List, Contains, ◌+◌, ◌-◌, ◌^◌, ◌++◌, None, string_bytes, ◌<◌, ◌≤◌, IfOk, IsErr, IsSome, IsSomeAnd, OnErr, OnOk, OnSome, length, min, slice_get};
 ghost use Rattle.std.specs.List.{list_any};
 ghost use Rattle.bag_path.specs.Paths.{is_payload};
 ghost use Rattle.bag_rules.specs.Trees.{AreRising};
+ghost use Rattle.bag_cmd.specs.Folders.{name_below};
 
 use bag_digest::{Failed, Source};
 use bag_path::{BagPath, PathFault};
@@ -90,7 +91,7 @@ const LONGEST_PATH: usize = 4096;
 pub struct FolderTree<R: Files> {
     rt: R,
     folder: String,
-    // the name of the file that is opened; it has room for each
+    // the name of the file that was sought last; it has room for each
     name: String,
     paths: Vec<BagPath>,
     has_dir: bool,
@@ -99,12 +100,12 @@ pub struct FolderTree<R: Files> {
 }
 
 impl<R: Files> Model for FolderTree<R> {
-    ghost use Rattle.std.specs.Prelude.{is_some};
+    ghost use Rattle.std.specs.Prelude.{option_map, string_bytes};
     ghost use Rattle.bag_cmd.specs.Folders.{Shown, IsListing};
 
     ghost Value = { Shown };
 
-    ghost view = { λ tree. record { paths = tree.paths.items; has_dir = tree.has_dir; is_open = is_some tree.file; failures = tree.failures } };
+    ghost view = { λ tree. record { paths = tree.paths.items; has_dir = tree.has_dir; folder = string_bytes tree.folder; name = string_bytes tree.name; to_read = option_map R.File.remaining tree.file; failures = tree.failures } };
 
     ghost invariant = { λ tree. IsListing tree.paths.items tree.has_dir };
 }
@@ -122,7 +123,8 @@ impl<R: Files + Drop> FolderTree<R> {
     /// [`BagPath::parse`] refuses (longer than 4,096 octets; a plain file named `data` in the folder itself).
     /// `Memory` where memory ran out. No file is opened.
     pub fn open(rt: R, alloc: Global, folder: &str) -> Result<FolderTree<R>, OpenFault>
-        ensures closed { IfOk result (λ tree. tree.is_open ≡ false) }
+        ensures named { IfOk result (λ tree. tree.folder ≡ folder.now) }
+        ensures closed { IfOk result (λ tree. tree.to_read ≡ None) }
         ensures not_failed { IfOk result (λ tree. tree.failures ≡ 0) }
     {
         if folder.is_empty() {
@@ -131,17 +133,27 @@ impl<R: Files + Drop> FolderTree<R> {
         let folder = String::from_str(alloc, folder)?;
         let name = String::with_capacity(alloc, folder.len().saturating_add(1 + LONGEST_PATH))?;
         let found = walk(&rt, alloc, folder.as_str())?;
-        let paths = in_order(found.paths);
-        let has_dir = found.has_dir || has_payload(&paths);
-        Ok(FolderTree {
-            rt,
-            folder,
-            name,
-            paths,
-            has_dir,
-            file: None,
-            failures: 0,
-        })
+        Ok(tree_of(rt, folder, name, found))
+    }
+}
+
+/// The tree of what a walk has found in this folder.
+fn tree_of<R: Files + Drop>(rt: R, folder: String, name: String, found: Found) -> FolderTree<R>
+    ensures paths { (path : List ℕ) → Contains result.paths path ↔ Contains found.paths path }
+    ensures has_dir { result.has_dir ≡ (found.has_dir || list_any is_payload found.paths) }
+    ensures named { result.folder ≡ string_bytes folder }
+    ensures closed { result.to_read ≡ None }
+    ensures not_failed { result.failures ≡ 0 }
+{
+    let has_dir = found.has_dir || has_payload(&found.paths);
+    FolderTree {
+        rt,
+        folder,
+        name,
+        paths: in_order(found.paths),
+        has_dir,
+        file: None,
+        failures: 0,
     }
 }
 
@@ -164,14 +176,17 @@ impl Model for Found {
 }
 
 impl Found {
-    ghost use Rattle.std.specs.Prelude.{string_bytes};
+    ghost use Rattle.std.specs.Prelude.{IfErr, IsErrOf, string_bytes};
     ghost use Rattle.std.specs.Fs.{IsDir, IsFile};
+    ghost use Rattle.bag_path.specs.Paths.{IsPath};
     ghost use Rattle.bag_cmd.specs.Folders.{with_directory, with_file};
 
     /// Takes what stands under this path. A link is neither a file nor a directory here, wherever it leads.
     fn take(&mut self, alloc: Global, path: String, kind: FileType) -> Result<(), OpenFault>
         ensures file { IsFile kind → OnOk result (self.new ≡ with_file self.old (string_bytes path)) }
+        ensures bad_path { IsFile kind → IsErrOf result OpenFault.Files → ¬ IsPath (string_bytes path) }
         ensures directory { IsDir kind → OnOk result (self.new ≡ with_directory self.old (string_bytes path)) }
+        ensures memory { IsDir kind → IfErr result (λ fault. fault ≡ OpenFault.Memory) }
         ensures other { ¬ IsFile kind → ¬ IsDir kind → result ≡ Err OpenFault.Files }
     {
         if kind.is_file() {
@@ -237,10 +252,9 @@ fn in_order(paths: Vec<BagPath>) -> Vec<BagPath>
 }
 
 impl<R: Files> Source for FolderTree<R> {
-    ghost use Rattle.std.specs.Prelude.{None};
     ghost use Rattle.std.specs.Io.KnownBytes.{ReadConsumes};
     ghost use Rattle.bag_digest.specs.Device.{Rises};
-    ghost use Rattle.bag_cmd.specs.Folders.{SameShown, same_itself, same_on};
+    ghost use Rattle.bag_cmd.specs.Folders.{ReadsOpen, SameShown, same_itself, same_on};
 
     ghost remaining = { λ _. None };
 
@@ -257,9 +271,10 @@ impl<R: Files> Source for FolderTree<R> {
         ensures unfailed { OnOk result (self.new.failures ≡ self.old.failures) }
         ensures counted { self.old.failures ≤ self.new.failures }
 
-        ensures nothing_open { self.old.is_open ≡ false → IsErr result }
-        ensures read { OnOk result (self.new ≡ self.old) }
-        ensures not_read { OnErr result (self.new ≡ record self.old { failures = min (self.old.failures + 1) (2 ^ 64 - 1) }) }
+        ensures nothing_open { self.old.to_read ≡ None → IsErr result }
+        ensures reads_on { ReadsOpen self.old.to_read self.new.to_read result buf.new }
+        ensures read { OnOk result (self.new ≡ record self.old { to_read = self.new.to_read }) }
+        ensures not_read { OnErr result (self.new ≡ record self.old { to_read = self.new.to_read; failures = min (self.old.failures + 1) (2 ^ 64 - 1) }) }
     {
         let answer = match &mut self.file {
             Some(file) => file.read(buf).ok(),
@@ -284,7 +299,6 @@ impl<R: Files> Source for FolderTree<R> {
 }
 
 impl<R: Files> Tree for FolderTree<R> {
-    ghost use Rattle.std.specs.Prelude.{None};
     ghost use Rattle.bag_digest.specs.Device.{Rises};
     ghost use Rattle.bag_rules.specs.Trees.{SameFiles};
     ghost use Rattle.bag_cmd.specs.Folders.{Shown, same_files};
@@ -318,8 +332,10 @@ impl<R: Files> Tree for FolderTree<R> {
         ensures unfailed { OnOk result (self.new.failures ≡ self.old.failures) }
         ensures counted { self.old.failures ≤ self.new.failures }
 
-        ensures opened { OnOk result (self.new ≡ record self.old { is_open = true }) }
-        ensures not_opened { OnErr result (self.new ≡ record self.old { is_open = false; failures = min (self.old.failures + 1) (2 ^ 64 - 1) }) }
+        ensures named { OnOk result (IsSomeAnd (slice_get self.old.paths i) (λ path. self.new.name ≡ name_below self.old.folder path)) }
+        ensures open { OnOk result (IsSome self.new.to_read) }
+        ensures opened { OnOk result (self.new ≡ record self.old { name = self.new.name; to_read = self.new.to_read }) }
+        ensures not_opened { OnErr result (self.new ≡ record self.old { name = self.new.name; to_read = None; failures = min (self.old.failures + 1) (2 ^ 64 - 1) }) }
     {
         self.file = None;
         let path = self.paths[i].as_str();
@@ -346,7 +362,9 @@ fn has_payload(paths: &[BagPath]) -> bool
 }
 
 /// The file with this path from the folder, open to be read. `name` is written over, and grows only where it has no room.
-fn opened<R: Files>(rt: &R, name: &mut String, folder: &str, path: &str) -> Option<R::File> {
+fn opened<R: Files>(rt: &R, name: &mut String, folder: &str, path: &str) -> Option<R::File>
+    ensures { OnSome result (string_bytes name.new ≡ name_below folder.now path.now) }
+{
     name.clear();
     spell(name, folder, path).ok()?;
     fs::File::open(rt, name.as_str()).ok()
@@ -354,7 +372,7 @@ fn opened<R: Files>(rt: &R, name: &mut String, folder: &str, path: &str) -> Opti
 
 /// Writes a path below a folder.
 fn spell(name: &mut String, folder: &str, path: &str) -> Result<(), AllocError>
-    ensures { OnOk result (string_bytes name.new ≡ string_bytes name.old ++ (folder.now ++ codes "/" ++ path.now)) }
+    ensures { OnOk result (string_bytes name.new ≡ string_bytes name.old ++ name_below folder.now path.now) }
 {
     name.push_str(folder)?;
     name.push('/')?;

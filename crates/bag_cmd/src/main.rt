@@ -4,7 +4,7 @@
 //! 1 not valid, 2 none that can be judged here, 3 a fault of files or memory, or an output that takes no more, 64 other words.
 #![tactic(auto)]
 
-ghost use Rattle.std.specs.Prelude.{◌∷◌, [], codes, map, string_bytes};
+ghost use Rattle.std.specs.Prelude.{◌∷◌, [], IsErrOf, codes, map, string_bytes};
 ghost use Rattle.bag_cmd.specs.Printing.{Printed};
 ghost use Rattle.bag_cmd.specs.Answers.{PrintedAnswer, NamesCheck};
 
@@ -33,14 +33,17 @@ fn main(rt: HostRuntime) -> ExitCode {
 /// Runs the command that the words name, and answers the status. What is printed is held back until the command has ended or the
 /// buffer is full.
 fn run<R: Files + Env + Print + AllocGlobal>(rt: &R) -> u8 {
-    match BufWriter::new(rt.alloc(), io::writer(rt)) {
-        Ok(writer) => run_words(rt, &mut Output::new(writer)),
-        Err(_) => print_outcome(&Err(CheckFault::Memory), &mut Output::new(io::writer(rt))),
+    if let Ok(writer) = BufWriter::new(rt.alloc(), io::writer(rt)) {
+        return run_words(rt, &mut Output::new(writer));
+    }
+    match BufWriter::with_capacity(rt.alloc(), 0, io::writer(rt)) {
+        Ok(writer) => print_outcome(&Err(CheckFault::Memory), &mut Output::new(writer)),
+        Err(_) => 3,
     }
 }
 
 /// The same, with what is printed going to a writer.
-fn run_words<R: Files + Env + AllocGlobal, W: Write>(rt: &R, out: &mut Output<W>) -> u8 {
+fn run_words<R: Files + Env + AllocGlobal, W: Write + Drop>(rt: &R, out: &mut Output<W>) -> u8 {
     let alloc = rt.alloc();
     match words(rt, alloc) {
         Ok(words) => command(rt, alloc, &words, out),
@@ -58,22 +61,34 @@ fn words<R: Env + AllocGlobal>(rt: &R, alloc: Global) -> Result<Vec<String>, All
 }
 
 /// Runs the command that these words name.
-fn command<R: Files, W: Write>(rt: &R, alloc: Global, words: &[String], out: &mut Output<W>) -> u8
+fn command<R: Files, W: Write + Drop>(
+    rt: &R,
+    alloc: Global,
+    words: &[String],
+    out: &mut Output<W>,
+) -> u8
     ensures check { NamesCheck (map string_bytes words.now) → PrintedAnswer W.contents out.old out.new result }
     ensures usage { ¬ NamesCheck (map string_bytes words.now) → Printed W.contents out.old out.new result (codes "bag: check" ∷ []) 64 }
 {
     if words.len() == 2 && words[0].as_str() == "check" {
-        check_folder(rt, alloc, words[1].as_str(), out)
+        let opened = FolderTree::open(rt, alloc, words[1].as_str());
+        check_folder(alloc, opened, out)
     } else {
         out.print_line("bag: check", 64)
     }
 }
 
-/// `bag check DIR`.
-fn check_folder<R: Files, W: Write>(rt: &R, alloc: Global, folder: &str, out: &mut Output<W>) -> u8
-    ensures { PrintedAnswer W.contents out.old out.new result }
+/// `bag check DIR`, once the folder was opened.
+fn check_folder<R: Files + Drop, W: Write + Drop>(
+    alloc: Global,
+    opened: Result<FolderTree<R>, OpenFault>,
+    out: &mut Output<W>,
+) -> u8
+    ensures answer { PrintedAnswer W.contents out.old out.new result }
+    ensures files { IsErrOf opened OpenFault.Files → Printed W.contents out.old out.new result (codes "bag: files" ∷ []) 3 }
+    ensures memory { IsErrOf opened OpenFault.Memory → Printed W.contents out.old out.new result (codes "bag: memory" ∷ []) 3 }
 {
-    match FolderTree::open(rt, alloc, folder) {
+    match opened {
         Ok(tree) => {
             let mut tree = tree;
             check_to(alloc, &mut tree, out)

@@ -1,34 +1,31 @@
 //! A writer that counts its failures.
-ghost use Rattle.std.specs.Prelude.{◌≡◌, ◌≤◌, ◌++◌, ◌∷◌, [], ℕ, IfSome, OnOk, OnErr, true, false};
+ghost use Rattle.std.specs.Prelude.{◌≡◌, ◌≤◌, ◌++◌, ◌∷◌, ◌+◌, ◌-◌, ◌^◌, [], IfSome, IsErr, IsOk, OnErr, OnOk, min};
+ghost use Rattle.std.specs.Io.Buffered.{writer_buffer, writer_contents};
 ghost use Rattle.std.specs.Io.KnownBytes.{Appends, Keeps};
 ghost use Rattle.bag_digest.specs.Device.{Rises};
 ghost use Rattle.bag_cmd.specs.Printing.{Printed};
 
 use bag_digest::Failed;
 use std::fmt::Display;
-use std::io::Write;
+use std::io::{self, BufWriter, Write};
 
-/// A writer, and what became of what was written to it.
+/// A writer, which holds back what is written until it is flushed or its buffer is full, and how often it has failed.
 #[derive(Drop)]
-pub struct Output<W> {
-    pub writer: W,
-    /// How often the writer has failed; the count stays at its greatest value.
+pub struct Output<W: Write + Drop> {
+    pub writer: BufWriter<W>,
+    /// The count stays at its greatest value.
     failures: u64,
-    /// Whether the writer holds nothing back: no line was written since it was last flushed.
-    flushed: bool,
 }
 
-impl<W: Write> Output<W> {
-    /// A writer to which nothing was written yet.
-    pub fn new(writer: W) -> Self
+impl<W: Write + Drop> Output<W> {
+    /// A writer that hasn't failed yet.
+    pub fn new(writer: BufWriter<W>) -> Self
         ensures writer { result.writer ≡ writer }
         ensures failures { result.failures ≡ 0 }
-        ensures flushed { result.flushed ≡ true }
     {
         Output {
             writer,
             failures: 0,
-            flushed: true,
         }
     }
 
@@ -38,17 +35,13 @@ impl<W: Write> Output<W> {
     ///
     /// The writer failed; a part of the line may be written.
     pub fn line<D: Display + Drop>(&mut self, text: D) -> Result<(), Failed>
-        ensures ok { OnOk result (IfSome (D.output text)
-            (λ octets. Appends (W.contents self.old.writer) (W.contents self.new.writer) (octets ++ 10 ∷ []))) }
-        ensures held { self.new.flushed ≡ false }
+        ensures ok { OnOk result (IfSome (D.output text) (λ octets.
+            Appends (writer_contents W.contents self.old.writer) (writer_contents W.contents self.new.writer) (octets ++ 10 ∷ []))) }
         ensures same { OnOk result (self.new.failures ≡ self.old.failures) }
         ensures failed { OnErr result (Rises self.old.failures self.new.failures) }
     {
-        self.flushed = false;
-        match writeln!(self.writer, "{text}") {
-            Ok(()) => Ok(()),
-            Err(_) => Err(self.fail()),
-        }
+        let written = writeln!(self.writer, "{text}");
+        self.counted(written)
     }
 
     /// Prints one line alone, and hands it on. Answers the status that goes with it, or 3 where the writer failed.
@@ -65,28 +58,27 @@ impl<W: Write> Output<W> {
     ///
     /// The writer failed.
     pub fn flush(&mut self) -> Result<(), Failed>
-        ensures contents { Keeps (W.contents self.old.writer) (W.contents self.new.writer) }
-        ensures flushed { OnOk result (self.new.flushed ≡ true) }
-        ensures held { OnErr result (self.new.flushed ≡ self.old.flushed) }
+        ensures contents { Keeps (writer_contents W.contents self.old.writer) (writer_contents W.contents self.new.writer) }
+        ensures handed_on { OnOk result (writer_buffer self.new.writer ≡ []) }
         ensures same { OnOk result (self.new.failures ≡ self.old.failures) }
         ensures failed { OnErr result (Rises self.old.failures self.new.failures) }
     {
-        match self.writer.flush() {
-            Ok(()) => {
-                self.flushed = true;
-                Ok(())
-            }
-            Err(_) => Err(self.fail()),
-        }
+        let flushed = self.writer.flush();
+        self.counted(flushed)
     }
 
-    /// Counts a failure.
-    fn fail(&mut self) -> Failed
+    /// Whether the writer did what it was asked for. A failure is counted.
+    fn counted(&mut self, answer: io::Result<()>) -> Result<(), Failed>
         ensures writer { self.new.writer ≡ self.old.writer }
-        ensures flushed { self.new.flushed ≡ self.old.flushed }
-        ensures risen { Rises self.old.failures self.new.failures }
+        ensures ok { OnOk answer (IsOk result × (self.new.failures ≡ self.old.failures)) }
+        ensures failed { OnErr answer (IsErr result × (self.new.failures ≡ min (self.old.failures + 1) (2 ^ 64 - 1))) }
     {
-        self.failures = self.failures.saturating_add(1);
-        Failed
+        match answer {
+            Ok(()) => Ok(()),
+            Err(_) => {
+                self.failures = self.failures.saturating_add(1);
+                Err(Failed)
+            }
+        }
     }
 }

@@ -6,8 +6,9 @@ use bag_path::{BagPath, PathFault};
 use bag_rules::{CheckFault, Fault, LineFile, ManifestName, Outcome, OutsideCause};
 use bag_tags::{DeclarationFault, Kind, LineCause};
 use std::alloc::Global;
-use std::io::{self, Write};
+use std::io::{self, BufWriter, Write};
 use std::process::Abort;
+use std::str;
 use std::test::Fail;
 
 const SHA256: ManifestName = ManifestName {
@@ -175,9 +176,10 @@ fn an_answer_without_a_report_is_one_line(rt: HostRuntime) -> Result<(), Fail> {
         (Err(CheckFault::Memory), "bag: memory\n", 3),
     ];
     for (answer, text, status) in &answers {
-        let mut out = Output::new(Vec::new(alloc));
-        assert_eq!(rt; print_outcome(answer, &mut out), *status);
-        assert_eq!(rt; out.writer.as_slice(), text.as_bytes());
+        let mut out = Output::new(BufWriter::new(alloc, Vec::new(alloc))?);
+        let answered = print_outcome(answer, &mut out);
+        let printed = str::from_utf8(out.writer.get_ref().as_slice()).ok();
+        assert_eq!(rt; (answered, printed), (*status, Some(*text)));
     }
     Ok(())
 }
@@ -209,16 +211,22 @@ impl Write for Failing {
 }
 
 #[test]
-fn a_failed_write_or_flush_gives_3(rt: HostRuntime) {
+fn a_failed_write_or_flush_gives_3(rt: HostRuntime) -> Result<(), Fail> {
+    let alloc = rt.alloc();
     let answer = Ok(Outcome::Outside(OutsideCause::Version));
     for (takes, flushes, status) in [(0, true, 3), (16, true, 3), (17, true, 2), (17, false, 3)] {
-        let mut out = Output::new(Failing { takes, flushes });
-        assert_eq!(rt; print_outcome(&answer, &mut out), status, "{takes} octets");
-        let mut out = Output::new(Failing { takes, flushes });
-        assert_eq!(rt;
-            out.print_line("outside: version", 2),
-            status,
-            "{takes} octets"
-        );
+        for held_back in [0, 4, 17, 100] {
+            let failing = Failing { takes, flushes };
+            let mut out = Output::new(BufWriter::with_capacity(alloc, held_back, failing)?);
+            assert_eq!(rt; print_outcome(&answer, &mut out), status, "{takes} octets");
+            let failing = Failing { takes, flushes };
+            let mut out = Output::new(BufWriter::with_capacity(alloc, held_back, failing)?);
+            assert_eq!(rt;
+                out.print_line("outside: version", 2),
+                status,
+                "{takes} octets"
+            );
+        }
     }
+    Ok(())
 }

@@ -1,9 +1,16 @@
-//! Laws on the spelling of digests, for callers to rest on. The functions do nothing.
-ghost use Rattle.std.specs.Prelude.{◌≡◌, ℕ, List};
+//! Laws on the algorithms and on the spelling of digests, for callers to rest on. The functions do nothing.
+ghost use Rattle.std.specs.Prelude.{◌≡◌, ℕ, List, [], ◌∷◌};
 ghost use Rattle.bag_digest.specs.declared.algorithm.Alg.{Alg};
+ghost use Rattle.bag_digest.specs.declared.algorithm.Alg.TheVariants.{Md5, Sha1, Sha256, Sha512};
+ghost use Rattle.bag_digest.specs.declared.algorithm.TheConstants.Alg.{ALL};
 ghost use Rattle.bag_digest.specs.declared.digest.Digest.{Digest};
 ghost use Rattle.bag_digest.specs.Hash.{alg_of};
 ghost use Rattle.bag_digest.specs.Spelling.{lower_case_of, SpellsDigest, IsWhole};
+
+/// `Alg::ALL` has each of the four algorithms once, in their order.
+pub fn all_are_four_in_order()
+    ensures { ALL ≡ Md5 ∷ Sha1 ∷ Sha256 ∷ Sha512 ∷ [] }
+{}
 
 /// A text spells at most one digest by an algorithm.
 pub fn one_digest_is_spelled()

@@ -155,7 +155,8 @@ pub fn digest_reader<S: Source>(
 /// Reads a source to its end through the caller's buffer, and answers all that it gave.
 ///
 /// A source that has more than `limit` octets is left right after the first one past it. The fault is
-/// `Memory` where there was none for what was read; then the source stands somewhere in its octets.
+/// `Memory` where there was none for what was read; then the source stands at most `limit` octets further,
+/// and what it gave is lost.
 pub fn read_to_end_within<S: Source>(
     alloc: Global,
     buffer: &mut [u8],
@@ -171,6 +172,8 @@ pub fn read_to_end_within<S: Source>(
         → Rises (S.faults reader.old) (S.faults reader.new) }
     ensures unfailed { ¬ IsErrOf result ReadFault.Read → S.faults reader.new ≡ S.faults reader.old }
     ensures read_within { IsErrOf result ReadFault.Read
+        → GaveWithin (S.remaining reader.old) (S.remaining reader.new) limit }
+    ensures memory_within { IsErrOf result ReadFault.Memory
         → GaveWithin (S.remaining reader.old) (S.remaining reader.new) limit }
     ensures counted { S.faults reader.old ≤ S.faults reader.new }
     ensures kept { S.keeps reader.old reader.new }

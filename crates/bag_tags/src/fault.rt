@@ -2,7 +2,8 @@
 use bag_path::PathFault;
 use thiserror::Error;
 
-/// Why a line can't be read. Where several hold of a line, the first in this order is answered.
+/// Why a line can't be read. Where several hold of a line, one is answered: `read_manifest`, `read_info` and `read_fetch`
+/// tell in which order they are looked for.
 #[derive(Clone, Copy, Debug, PartialEq, Eq, PartialOrd, Ord, Error)]
 pub enum LineCause {
     /// The line is not UTF-8 (RFC 8493 section 2.1.1: the tag files' encoding).

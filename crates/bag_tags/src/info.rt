@@ -166,6 +166,7 @@ impl Info {
     pub(crate) fn pop(&mut self) -> Option<Element>
         ensures last { IfSome result (λ last. self.old ≡ self.new ++ last ∷ []) }
         ensures none { IfNone result (self.old ≡ []) }
+        ensures unchanged { IfNone result (self.new ≡ self.old) }
     {
         self.elements.pop()
     }

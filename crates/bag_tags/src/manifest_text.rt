@@ -25,7 +25,8 @@ use std::str;
 ///
 /// # Errors
 ///
-/// The first faulty line, counted from 1, with the first cause that holds of it; or `Memory`.
+/// The first faulty line, counted from 1, with the first cause that holds of it: it is not UTF-8, it has no blank after the
+/// checksum, its checksum or its path is bad, the path is in the wrong place, it stands in an earlier line; or `Memory`.
 pub fn read_manifest(
     alloc: Global,
     octets: &[u8],

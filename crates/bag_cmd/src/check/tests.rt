@@ -3,7 +3,9 @@ use crate::output::Output;
 use bag_path::BagPath;
 use bag_rules::MemTree;
 use std::alloc::Global;
+use std::io::BufWriter;
 use std::process::Abort;
+use std::str;
 use std::test::Fail;
 
 const DECLARATION: &[u8] = b"BagIt-Version: 1.0\nTag-File-Character-Encoding: UTF-8\n";
@@ -47,11 +49,13 @@ fn bag_with_manifest(alloc: Global, manifest: &[u8]) -> Result<MemTree, Fail> {
     )
 }
 
-/// Checks the tree, and compares what is printed and the status.
+/// Checks the tree, and compares the status and what is printed.
 fn prints(rt: &impl Abort, alloc: Global, tree: &mut MemTree, text: &str, status: u8) {
-    let mut out = Output::new(Vec::new(alloc));
-    assert_eq!(rt; check_to(alloc, tree, &mut out), status, "{text}");
-    assert_eq!(rt; out.writer.as_slice(), text.as_bytes(), "{text}");
+    let writer = BufWriter::new(alloc, Vec::new(alloc)).expect(rt, "memory");
+    let mut out = Output::new(writer);
+    let answered = check_to(alloc, tree, &mut out);
+    let printed = str::from_utf8(out.writer.get_ref().as_slice()).ok();
+    assert_eq!(rt; (answered, printed), (status, Some(text)));
 }
 
 #[test]

@@ -95,7 +95,7 @@ fn a_folder_that_cannot_be_a_bag_is_refused(rt: HostRuntime) -> Result<(), Fail>
         Some(OpenFault::Files)
     );
     fs::remove_file(&rt, "bag_cmd_test_refused/data")?;
-    assert!(rt; FolderTree::open(&rt, alloc, folder).is_ok());
+    drop(FolderTree::open(&rt, alloc, folder)?);
     fs::remove_dir_all(&rt, folder)?;
     Ok(())
 }

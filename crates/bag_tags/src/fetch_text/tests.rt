@@ -1,33 +1,39 @@
 use super::*;
+use crate::fault::LineFault;
 use std::test::Fail;
 
 /// Whether a text lists these entries, each with its line.
-fn lists(alloc: Global, text: &[u8], entries: &[(u64, &str, Option<u64>, &str)]) -> bool {
-    let Ok(fetch) = read_fetch(alloc, text, Version::V1) else {
-        return false;
-    };
-    fetch.entries().len() == entries.len()
-        && fetch.entries().iter().zip(entries).all(|(read, (line, url, length, path))| {
-            read.line == *line
-                && read.entry.url() == *url
-                && read.entry.length() == *length
-                && read.entry.path().as_str() == *path
-        })
+fn lists(
+    alloc: Global,
+    text: &[u8],
+    entries: &[(u64, &str, Option<u64>, &str)],
+) -> Result<bool, TagFault> {
+    let fetch = read_fetch(alloc, text, Version::V1)?;
+    Ok(
+        fetch.entries().len() == entries.len()
+            && fetch.entries().iter().zip(entries).all(|(read, (line, url, length, path))| {
+                read.line == *line
+                    && read.entry.url() == *url
+                    && read.entry.length() == *length
+                    && read.entry.path().as_str() == *path
+            }),
+    )
 }
 
-/// The line and the cause for which a text isn't read.
-fn fault_of(alloc: Global, text: &[u8]) -> Option<(u64, LineCause)> {
-    match read_fetch(alloc, text, Version::V1) {
-        Err(TagFault::Line(fault)) => Some((fault.line, fault.cause)),
-        _ => None,
-    }
+/// The fault for which a text isn't read.
+fn fault_of(alloc: Global, text: &[u8]) -> Option<TagFault> {
+    read_fetch(alloc, text, Version::V1).err()
+}
+
+fn at(line: u64, cause: LineCause) -> Option<TagFault> {
+    Some(TagFault::Line(LineFault { line, cause }))
 }
 
 #[test]
-fn what_a_text_lists(rt: HostRuntime) {
+fn what_a_text_lists(rt: HostRuntime) -> Result<(), Fail> {
     let alloc = rt.alloc();
-    assert!(rt; lists(alloc, b"", &[]));
-    assert!(rt; lists(alloc, b"http:x - data/a", &[(1, "http:x", None, "data/a")]));
+    assert!(rt; lists(alloc, b"", &[])?);
+    assert!(rt; lists(alloc, b"http:x - data/a", &[(1, "http:x", None, "data/a")])?);
     assert!(rt;
         lists(
             alloc,
@@ -36,7 +42,7 @@ fn what_a_text_lists(rt: HostRuntime) {
                 (1, "http://example.org/a", Some(3), "data/a.txt"),
                 (2, "http://example.org/e", None, "data/e.txt")
             ]
-        )
+        )?
     );
     assert!(rt;
         lists(
@@ -46,8 +52,9 @@ fn what_a_text_lists(rt: HostRuntime) {
                 (3, "http:x", Some(7), "data/a b\n"),
                 (4, "http:x", Some(u64::MAX), "data/a b\n")
             ]
-        )
+        )?
     );
+    Ok(())
 }
 
 #[test]
@@ -88,11 +95,11 @@ fn the_first_faulty_line_and_its_first_cause(rt: HostRuntime) {
         (b"\xFF".as_slice(), LineCause::NotUtf8),
         (b"http:x 5 data/\xFF".as_slice(), LineCause::NotUtf8),
     ] {
-        assert_eq!(rt; fault_of(alloc, text), Some((1, cause)));
+        assert_eq!(rt; fault_of(alloc, text), at(1, cause));
     }
     assert_eq!(rt;
         fault_of(alloc, b"http:x 5 data/a\n\nhttp:x 5 a\nhttp:x"),
-        Some((3, LineCause::WrongPlace))
+        at(3, LineCause::WrongPlace)
     );
 }
 
@@ -120,7 +127,7 @@ fn what_is_written_for_entries(rt: HostRuntime) -> Result<(), Fail> {
                 (1, "http://example.org/e", Some(0), "data/e.txt"),
                 (2, "http:x", None, "data/a\n%")
             ]
-        )
+        )?
     );
     Ok(())
 }

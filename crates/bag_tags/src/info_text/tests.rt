@@ -1,23 +1,16 @@
 use super::*;
+use crate::fault::LineFault;
 use std::test::Fail;
 
 /// Whether a text says these labels and values.
-fn says(alloc: Global, text: &[u8], elements: &[(&str, &str)]) -> bool {
-    let Ok(info) = read_info(alloc, text, Version::V1) else {
-        return false;
-    };
-    info.elements().len() == elements.len()
-        && info.elements().iter().zip(elements).all(|(element, (label, value))| element.label()
-            == *label
-            && element.value() == *value)
-}
-
-/// The line and the cause for which a text isn't read.
-fn fault_of(alloc: Global, text: &[u8]) -> Option<(u64, LineCause)> {
-    match read_info(alloc, text, Version::V1) {
-        Err(TagFault::Line(fault)) => Some((fault.line, fault.cause)),
-        _ => None,
-    }
+fn says(alloc: Global, text: &[u8], elements: &[(&str, &str)]) -> Result<bool, TagFault> {
+    let info = read_info(alloc, text, Version::V1)?;
+    Ok(
+        info.elements().len() == elements.len()
+            && info.elements().iter().zip(elements).all(|(element, (label, value))| element.label()
+                == *label
+                && element.value() == *value),
+    )
 }
 
 #[test]
@@ -30,7 +23,7 @@ fn repeated_labels_folded_values_and_empty_ones_are_read_and_written(
             rt.alloc(),
             text,
             &[("Note", "one"), ("Note", "two\nthree"), ("Empty", "")]
-        )
+        )?
     );
     let info = read_info(rt.alloc(), text, Version::V1)?;
     let written = write_info(rt.alloc(), &info)?;
@@ -43,36 +36,36 @@ fn an_element_is_written_with_each_blank_of_its_value(rt: HostRuntime) -> Result
     let mut info = Info::new(rt.alloc());
     info.push(Element::new(rt.alloc(), "a", " x")?)?;
     assert!(rt; write_info(rt.alloc(), &info)?.as_slice() == b"a:  x\n".as_slice());
-    assert!(rt; says(rt.alloc(), b"a:  x\n", &[("a", " x")]));
+    assert!(rt; says(rt.alloc(), b"a:  x\n", &[("a", " x")])?);
     let none = Info::new(rt.alloc());
     assert_eq!(rt; write_info(rt.alloc(), &none)?.len(), 0);
     Ok(())
 }
 
 #[test]
-fn what_a_text_says(rt: HostRuntime) {
+fn what_a_text_says(rt: HostRuntime) -> Result<(), Fail> {
     let alloc = rt.alloc();
-    assert!(rt; says(alloc, b"", &[]));
-    assert!(rt; says(alloc, b"\xEF\xBB\xBF", &[]));
+    assert!(rt; says(alloc, b"", &[])?);
+    assert!(rt; says(alloc, b"\xEF\xBB\xBF", &[])?);
     assert!(rt;
         says(
             alloc,
             b"\xEF\xBB\xBFPayload-Oxum: 3.2\n",
             &[("Payload-Oxum", "3.2")]
-        )
+        )?
     );
-    assert!(rt; says(alloc, b"\n \t\nA:\tb: c \r\n\r d\re", &[]) == false);
     assert!(rt;
         says(
             alloc,
             b"\n \t\nA:\tb: c \r\n\n \r d\r\n",
             &[("A", "b: c \nd")]
-        )
+        )?
     );
-    assert!(rt; says(alloc, b"A: \n\t b\n  c ", &[("A", "\nb\nc ")]));
-    assert!(rt; says(alloc, b"A:\n b", &[("A", "\nb")]));
-    assert!(rt; says(alloc, b"A:   b", &[("A", "  b")]));
-    assert!(rt; says(alloc, b"a b: c", &[("a b", "c")]));
+    assert!(rt; says(alloc, b"A: \n\t b\n  c ", &[("A", "\nb\nc ")])?);
+    assert!(rt; says(alloc, b"A:\n b", &[("A", "\nb")])?);
+    assert!(rt; says(alloc, b"A:   b", &[("A", "  b")])?);
+    assert!(rt; says(alloc, b"a b: c", &[("a b", "c")])?);
+    Ok(())
 }
 
 #[test]
@@ -99,7 +92,15 @@ fn the_first_faulty_line_and_its_first_cause(rt: HostRuntime) {
         ),
         (b"A: b\n\xFF\n c d".as_slice(), 2, LineCause::NotUtf8),
         (b" \xFF".as_slice(), 1, LineCause::NotUtf8),
+        (
+            b"\n \t\nA:\tb: c \r\n\r d\re".as_slice(),
+            6,
+            LineCause::NoSeparator,
+        ),
     ] {
-        assert_eq!(rt; fault_of(alloc, text), Some((line, cause)));
+        assert_eq!(rt;
+            read_info(alloc, text, Version::V1).err(),
+            Some(TagFault::Line(LineFault { line, cause }))
+        );
     }
 }
