@@ -4,18 +4,22 @@ set -u
 cd "$(dirname -- "$0")/.." || exit 1
 . tests/common.bash
 
-# A repository of one crate. Its stand-in for rt makes a program that prints its words, each on a line of its own.
+# A repository of two crates, and a third that is no part of the program. Its stand-in for rt makes a program that prints its
+# words, each on a line of its own.
 repository="$work/a repository"
 crate=$repository/crates/bag_cmd
-mkdir -p "$crate/src" "$crate/specs" "$crate/proofs" "$work/kit"
-touch "$repository/crates.txt" "$crate/src/main.rt" "$crate/src/old.rt" "$crate/specs/Lib.antt" "$crate/proofs/Lib.antt"
+mkdir -p "$crate/src" "$crate/specs" "$crate/proofs" "$repository/crates/low/src" "$work/kit"
+printf '# Each crate.\nlow: std\nbag_cmd: low\nother: low\n' >"$repository/crates.txt"
+touch "$crate/src/main.rt" "$crate/src/old.rt" "$crate/specs/Lib.antt" "$crate/proofs/Lib.antt"
 cp bag "$repository/bag"
 ln -s "$repository/bag" "$work/link"
 cat >"$work/kit/rt" <<'KIT'
 #!/bin/sh
-echo built >>../../builds
-echo "what the build says" >&2
-[ ! -e ../../broken ] || exit 1
+echo "rt $1 in ${PWD##*/}" >>../../builds
+echo "so far: 3 of 40 functions checked; the verdict comes last"
+echo "what rt says of ${PWD##*/}" >&2
+[ ! -e "../../broken-${PWD##*/}" ] || exit 1
+[ "$1" = run ] || exit 0
 mkdir -p out
 cat >out/bag_cmd.new <<'PROGRAM'
 #!/bin/sh
@@ -29,7 +33,7 @@ exec out/bag_cmd
 KIT
 chmod +x "$work/kit/rt"
 mkdir "$work/tools"
-for tool in sh dirname readlink find date touch; do
+for tool in sh dirname readlink find date touch sed mkdir; do
     ln -s "$(command -v "$tool")" "$work/tools/$tool"
 done
 PATH=$work/kit:$PATH
@@ -39,7 +43,7 @@ builds() {
     local status=0
     : >"$repository/builds"
     "$@" 2>"$work/build" || status=$?
-    echo "builds: $(grep -cs built "$repository/builds")"
+    echo "builds: $(grep -cs '^rt run' "$repository/builds")"
     return "$status"
 }
 
@@ -56,7 +60,9 @@ without_kit() {
 }
 
 expect 'the first run builds' 7 $'<word>\nbuilds: 1' builds "$repository/bag" word
-expect 'what a build says goes to standard error' 0 'what the build says' tail -n 1 "$work/build"
+expect 'each crate is built once, from below' 0 $'rt lib in low\nrt run in bag_cmd' cat "$repository/builds"
+expect 'a build says one line a crate' 0 $'bag: proving low\nbag: proving bag_cmd' cat "$work/build"
+expect 'what rt says is kept' 0 $'what rt says of low\nwhat rt says of bag_cmd' grep '^what' "$crate/out/build.log"
 expect 'the next run builds nothing' 7 $'<word>\nbuilds: 0' builds "$repository/bag" word
 expect 'the next run says nothing of its own' 7 '<word>' "$repository/bag" word
 expect 'words are handed on as they are' 7 $'<two  words>\n<>\n<-x>\n<*>' "$repository/bag" 'two  words' '' -x '*'
@@ -73,8 +79,43 @@ expect 'a built program needs no kit' 7 '<word>' without_kit "$repository/bag" w
 rm "$crate/out/bag_cmd"
 expect 'no kit' 69 'builds: 0' builds without_kit "$repository/bag" word
 expect 'no kit: one line says what is missing' 0 1 grep -c 'rt.*is not on PATH' "$work/build"
-touch "$repository/broken"
-expect 'a build that fails' 70 'builds: 1' builds "$repository/bag" word
-rm "$repository/broken"
+
+# fails_in CRATE: a build that fails in this crate.
+fails_in() {
+    local status=0
+    touch "$repository/broken-$1"
+    builds "$repository/bag" word || status=$?
+    rm "$repository/broken-$1"
+    return "$status"
+}
+expect 'a build that fails in the program' 70 'builds: 1' fails_in bag_cmd
+kept="bag: the program was not built; $crate/out/build.log has what rt said"
+expect 'a build that fails says where to look' 0 "$kept" tail -n 1 "$work/build"
+expect 'what rt said of it is there' 0 $'what rt says of low\nwhat rt says of bag_cmd' grep '^what' "$crate/out/build.log"
+expect 'a build that fails in a crate below' 70 'builds: 0' fails_in low
+expect 'it says where to look' 0 "$kept" tail -n 1 "$work/build"
+expect 'what rt said of it, and nothing of the build before' 0 'what rt says of low' grep '^what' "$crate/out/build.log"
+
+# on_terminal COMMAND..: the command on a terminal. What it writes over is shown line by line, without the blanks at the end.
+on_terminal() {
+    script -qec "$(printf '%q ' "$@")" "$work/typescript" | tr '\r' '\n' | sed 's/ *$//; /^$/d'
+    return "${PIPESTATUS[0]}"
+}
+if [ "$(script -qec true "$work/typescript" 2>&1)" = '' ]; then
+    far='bag: proving low
+bag: proving low: 3 of 40 functions
+bag: proving bag_cmd
+bag: proving bag_cmd: 3 of 40 functions'
+    rm -f "$crate/out/bag_cmd"
+    expect 'a build on a terminal' 7 "$far"$'\n<word>' on_terminal "$repository/bag" word
+    expect 'one line is written over' 0 1 grep -c 'proving' "$work/typescript"
+    expect 'a run on a terminal that builds nothing' 7 '<word>' on_terminal "$repository/bag" word
+    touch "$repository/broken-low"
+    rm "$crate/out/bag_cmd"
+    expect 'a build on a terminal that fails' 70 "$(head -n 2 <<<"$far")"$'\n'"$kept" on_terminal "$repository/bag" word
+    rm "$repository/broken-low"
+else
+    lacking 'a build on a terminal, for want of script'
+fi
 expect 'the build after it' 7 $'<word>\nbuilds: 1' builds "$repository/bag" word
 finish

@@ -1,11 +1,18 @@
 #!/usr/bin/env bash
-# Hostile bags: texts cut at each octet, odd names, endless lines and numbers, and the limits from both sides.
+# Bags in tables: small ones, by each rule, and hostile ones, with texts cut at each octet, odd names, endless lines and numbers,
+# and the limits from both sides.
 set -u
 cd "$(dirname -- "$0")/.." || exit 1
 . tests/common.bash
 
-# What a build says would be noise in the first case.
-./bag >"$work/printed" || true
+build_first
 
-expect 'each hostile bag has the answer that FORMAT.md asks for' 0 '' env TMPDIR="$work" tests/hostile.py crates/bag_cmd/out/bag_cmd
+for kind in small hostile; do
+    case $kind in
+    small) table=small_bags.py number=52 ;;
+    hostile) table=hostile.py number=244 ;;
+    esac
+    expect "each $kind bag has the answer that FORMAT.md asks for" 0 "$number $kind bags: 0 answered otherwise" \
+        env TMPDIR="$work" python3 -B "tests/$table" crates/bag_cmd/out/bag_cmd
+done
 finish

@@ -5,8 +5,7 @@ set -u
 cd "$(dirname -- "$0")/.." || exit 1
 . tests/common.bash
 
-# What a build says would be noise in the first case.
-./bag >"$work/printed" || true
+build_first
 program=crates/bag_cmd/out/bag_cmd
 
 # big NAME: a bag with a payload file that takes many seconds to read, and no room on the disk, and with data/z after it.
@@ -26,6 +25,7 @@ while_reading() {
         [ -z "$(find "/proc/$pid/fd" -lname "$1/data/b.bin" 2>"$work/gone")" ] || break
         sleep 0.01
     done
+    [ -n "$(find "/proc/$pid/fd" -lname "$1/data/b.bin" 2>"$work/gone")" ] || echo 'data/b.bin was never open'
     kill -STOP "$pid"
     (cd "$1" && truncate -s 0 data/b.bin && eval "$2")
     kill -CONT "$pid"
@@ -50,7 +50,7 @@ complete, not valid'
     big again
     expect 'a manifest that changes when it was read' 1 "$cut_off" while_reading "$work/again" 'echo x >manifest-sha256.txt'
 else
-    echo 'skipped: files that change, for want of sparse files'
+    lacking 'files that change, for want of sparse files'
 fi
 
 # A bag with many faults, whose lines fill no pipe.
@@ -130,6 +130,17 @@ calls() {
     grep -c "^$1(" "$work/calls"
 }
 
+# How many calls of the system failed.
+injected=0
+
+# injects FAULT COMMAND..: the command, under strace, which has a call of the system fail; and one did.
+injects() {
+    local status=0
+    strace -o "$work/calls" -e "$@" || status=$?
+    grep -qF '(INJECTED)' "$work/calls" || echo 'no call failed'
+    return "$status"
+}
+
 # each_call NAME FAULT STATUS LINES: the check of a bag with all tag files, once for each call that it makes, which then fails so.
 # The calls that the program makes before it looks at words are those of its start.
 each_call() {
@@ -139,7 +150,8 @@ each_call() {
     [ "$all" -gt "$start" ] || echo "no such call: $1"
     for nth in $(seq $((start + 1)) "$all"); do
         status=0
-        printed=$(strace -o "$work/calls" -e "inject=$1:$2:when=$nth" "$program" check examples/whole-format) || status=$?
+        printed=$(injects "inject=$1:$2:when=$nth" "$program" check examples/whole-format) || status=$?
+        injected=$((injected + 1))
         [ "$status $printed" = "$3 $4" ] || echo "call $nth: status $status: $printed"
     done
 }
@@ -155,12 +167,14 @@ if strace -o "$work/calls" true 2>"$work/no strace"; then
     expect 'files whose closing fails: they were read' 0 '' each_call close error=EIO 0 valid
     for error in ENOSPC EPIPE EIO EDQUOT; do
         expect "writes that fail with $error" 3 '' \
-            strace -o "$work/calls" -e "inject=write:error=$error" "$program" check examples/whole-format
+            injects "inject=write:error=$error" "$program" check examples/whole-format
     done
     # What the first write couldn't give may be written at the end, but the status stays.
     expect 'one write that fails' 3 '' lines_or_none valid \
-        strace -o "$work/calls" -e inject=write:error=ENOSPC:when=1 "$program" check examples/whole-format
+        injects inject=write:error=ENOSPC:when=1 "$program" check examples/whole-format
+    echo "$injected calls of the system failed, one at a time"
+    expect 'calls failed' 0 '' [ "$injected" -gt 20 ]
 else
-    echo 'skipped: calls that fail, for want of strace, or of leave to trace'
+    lacking 'calls that fail, for want of strace, or of leave to trace'
 fi
 finish

@@ -5,8 +5,7 @@ cd "$(dirname -- "$0")/.." || exit 1
 . tests/common.bash
 top=$PWD
 
-# What a build says would be noise in the first case.
-./bag >"$work/printed" || true
+build_first
 
 # installed PREFIX: the files below it with their modes.
 installed() {

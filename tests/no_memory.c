@@ -1,17 +1,37 @@
-/* Has one growth of memory refused: the one whose number, counted from 1, REFUSE gives. How many were asked for is written to
- * the file that ASKED names. To be loaded before a program's own library (LD_PRELOAD). */
+/* Has one growth of memory refused: the one whose number, counted from 1, REFUSE gives; the file that REFUSED names is made then.
+ * How many were asked for is written to the file that ASKED names, where the program ends by itself. To be loaded before a
+ * program's own library (LD_PRELOAD). */
+#include <errno.h>
+#include <fcntl.h>
 #include <stdio.h>
 #include <stdlib.h>
+#include <unistd.h>
 
 void *__libc_malloc(size_t);
 void *__libc_realloc(void *, size_t);
 
 static long asked;
 
+/* Takes no memory, so that it counts for nothing. */
+static void note(const char *variable, long number) {
+    char text[32];
+    const char *name = getenv(variable);
+    int file = name == NULL ? -1 : open(name, O_WRONLY | O_CREAT | O_TRUNC, 0644);
+    int length = snprintf(text, sizeof text, "%ld\n", number);
+    if (file >= 0 && write(file, text, (size_t)length) == length) {
+        close(file);
+    }
+}
+
 static int refused(void) {
     const char *number = getenv("REFUSE");
     asked += 1;
-    return number != NULL && asked == atol(number);
+    if (number == NULL || asked != atol(number)) {
+        return 0;
+    }
+    note("REFUSED", asked);
+    errno = ENOMEM;
+    return 1;
 }
 
 void *malloc(size_t size) {
@@ -23,11 +43,5 @@ void *realloc(void *block, size_t size) {
 }
 
 __attribute__((destructor)) static void tell(void) {
-    const char *name = getenv("ASKED");
-    long count = asked;
-    FILE *file = name == NULL ? NULL : fopen(name, "w");
-    if (file != NULL) {
-        fprintf(file, "%ld\n", count);
-        fclose(file);
-    }
+    note("ASKED", asked);
 }

@@ -4,49 +4,101 @@
 set -u
 cd "$(dirname -- "$0")/.." || exit 1
 . tests/common.bash
-
-# What a build says would be noise in the first case.
-./bag >"$work/printed" || true
+build_first
 program=crates/bag_cmd/out/bag_cmd
+# What was tried: runs of a test or of the program with all growths, and growths that were refused.
+runs=0
+refusals=0
+# Each growth is refused of a test that asks for this many at most; of one that asks for more, a hundred, spread over all.
+most=1000
 
-# refusing NUMBER COMMAND..: the command, of whose growths of memory this one is refused.
+# refusing NUMBER COMMAND..: the command, of whose growths of memory this one is refused (none for 0).
 refusing() {
-    LD_PRELOAD="$work/no_memory.so" REFUSE=$1 ASKED="$work/asked" "${@:2}"
+    rm -f -- "$work/asked" "$work/refused"
+    LD_PRELOAD="$work/no_memory.so" REFUSE=$1 ASKED="$work/asked" REFUSED="$work/refused" "${@:2}"
+}
+
+# count_asked: sets `asked` to the number of growths that the last command asked for. One that the counting didn't reach told none.
+count_asked() {
+    runs=$((runs + 1))
+    asked=0
+    read -r asked <"$work/asked" && [[ $asked =~ ^[0-9]+$ ]]
+} 2>"$work/no count"
+
+# count_refusal NAME NUMBER: the growth of the last command was refused.
+count_refusal() {
+    if [ -e "$work/refused" ]; then
+        refusals=$((refusals + 1))
+    else
+        echo "$1: growth $2 of $asked was never asked for"
+    fi
 }
 
 # each_growth FOLDER: checks the bag once with no growth refused, and then with each of as many.
 each_growth() {
-    local answer status=0 printed number wanted
+    local answer status=0 printed number
     answer=$(refusing 0 "$program" check "$1") || status=$?
     answer="$status $answer"
-    wanted=$(cat "$work/asked")
-    [ "$wanted" -gt 10 ] || echo "only $wanted growths were counted"
-    for number in $(seq "$wanted"); do
+    count_asked || echo "no growths were counted"
+    [ "$asked" -gt 10 ] || echo "only $asked growths were counted"
+    for number in $(seq "$asked"); do
         status=0
         printed=$(refusing "$number" "$program" check "$1") || status=$?
+        count_refusal "$1" "$number"
         case "$status $printed" in
         "$answer" | '3 bag: memory') ;;
-        *) echo "growth $number of $wanted: status $status: $printed" ;;
+        *) echo "growth $number of $asked: status $status: $printed" ;;
         esac
     done
     refusing 1 "$program" check "$1"
 }
 
-# in_each_test PROGRAM: runs each test of a crate, which the gate has built, once with no growth refused, and then with each of as
-# many. It passes, or fails for want of memory: by that answer's name, or by status 3. A test of some hundred thousand growths is
-# run once.
+# list_tests CRATE PROGRAM: keeps the names of the crate's tests. There are as many as the list says, and as the sources have.
+list_tests() {
+    local written
+    written=$(find "crates/$1/src" -name '*.rt' -exec cat {} + | grep -c '^ *#\[test\]$')
+    [ "$written" -gt 0 ] || echo "no test in the sources"
+    "$2" --list >"$work/list" || echo "the list of tests ends with status $?"
+    sed -n 's/: test$//p' "$work/list" >"$work/names"
+    diff <(sed 's/$/: test/' "$work/names" && echo "tests: $written") "$work/list"
+}
+
+# memory SIDE: what was compared on this side, left or right, names want of memory.
+memory() {
+    grep -qE "^ *$1: .*(\b(Memory|AllocError|AllocFailed)\b|bag: memory)" "$work/told"
+}
+
+# failed_write SIDE: what was compared on this side has the status 3, of a write that failed.
+failed_write() {
+    grep -qE "^ *$1: \(3, " "$work/told"
+}
+
+# tells STATUS: a test that ended so failed for want of memory alone: by its error's name, or by what it compared.
+tells() {
+    case $1 in
+    101) grep -qxE 'error: ([A-Za-z]+\()*(Memory|AllocError|AllocFailed)\b.*' "$work/told" ;;
+    134) { memory left && ! memory right; } || { failed_write left && ! failed_write right; } ;;
+    *) false ;;
+    esac
+}
+
+# in_each_test CRATE PROGRAM: runs each test of the crate once with no growth refused, and then with each of as many. It passes,
+# or fails for want of memory.
 in_each_test() {
-    local name number wanted
-    for name in $("$1" --list | sed -n 's/: test$//p'); do
-        apart refusing 0 "$1" "$name" >"$work/told" || echo "$name fails"
-        wanted=$(cat "$work/asked")
-        [ "$wanted" -le 1000 ] || continue
-        for number in $(seq "$wanted"); do
-            apart refusing "$number" "$1" "$name" &>"$work/told" \
-                || grep -qE 'Memory|AllocError|AllocFailed|left: \(3, ' "$work/told" \
-                || { echo "$name: growth $number of $wanted" && cat "$work/told"; }
+    local name number status step
+    list_tests "$1" "$2"
+    while IFS= read -r name; do
+        apart refusing 0 "$2" "$name" &>"$work/told" || { echo "$name fails" && cat "$work/told"; }
+        count_asked || echo "$name: no growths were counted"
+        step=$((asked > most ? asked / 100 : 1))
+        for number in $(seq 1 "$step" "$asked"); do
+            status=0
+            apart refusing "$number" "$2" "$name" &>"$work/told" || status=$?
+            count_refusal "$name" "$number"
+            [ "$status" -eq 0 ] || tells "$status" \
+                || { echo "$name: growth $number of $asked: status $status" && cat "$work/told"; }
         done
-    done
+    done <"$work/names"
 }
 
 # apart COMMAND..: the command, in an empty folder.
@@ -54,19 +106,30 @@ apart() {
     rm -rf -- "$work/apart" && mkdir "$work/apart" && (cd "$work/apart" && "$@")
 }
 
+# more_refusals COMMAND..: the command, in which growths were refused.
+more_refusals() {
+    local before=$refusals
+    "$@"
+    [ "$refusals" -gt "$before" ] || echo "no growth was refused"
+}
+
 if cc -shared -fPIC -O1 -o "$work/no_memory.so" tests/no_memory.c 2>"$work/no cc"; then
-    for bag in whole-format first-bag several-faults oxum-wrong unknown-algorithm listed-twice no-declaration; do
+    bags='whole-format first-bag two-manifests several-faults oxum-wrong oxum-repeated unknown-algorithm listed-twice faulty-lines
+        no-declaration no-manifest manifest-not-listed fetch-not-listed fetch-length'
+    for bag in $bags; do
         expect "want of memory in $bag" 3 'bag: memory' each_growth "examples/$bag"
     done
     for crate in bag_path bag_digest bag_tags bag_rules bag_cmd; do
         tests=$PWD/crates/$crate/out/${crate}_tests
         if [ -x "$tests" ]; then
-            expect "want of memory in the tests of $crate" 0 '' in_each_test "$tests"
+            expect "want of memory in the tests of $crate" 0 '' more_refusals in_each_test "$crate" "$tests"
         else
-            echo "skipped: want of memory in the tests of $crate, which ./test builds"
+            lacking "want of memory in the tests of $crate, whose program ./test builds"
         fi
     done
+    echo "$runs runs with all memory, $refusals with one growth refused"
+    expect 'growths were refused' 0 '' [ "$refusals" -gt 500 ]
 else
-    echo 'skipped: want of memory at each growth, for want of a C compiler'
+    lacking 'want of memory at each growth, for want of a C compiler'
 fi
 finish

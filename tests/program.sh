@@ -14,8 +14,7 @@ new() {
     cp -r examples/first-bag "$work/$1"
 }
 
-# What a build says would be noise in the first case.
-./bag >"$work/printed" || true
+build_first
 
 expect 'no words' 64 'bag: check' bag
 expect 'a word that is no command' 64 'bag: check' bag verify examples/first-bag

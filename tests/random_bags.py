@@ -361,6 +361,7 @@ def main(program, seed, number):
     counts = dict.fromkeys(shapes(), 0)
     work = tempfile.mkdtemp()
     folder = os.path.join(work, "bag")
+    judged = 0
     for i in range(number):
         made(seed, i).write(os.fsencode(folder))
         lines, status = reference.check(os.fsencode(folder))
@@ -372,13 +373,14 @@ def main(program, seed, number):
             print(f"the program ({ran.returncode}):\n{(ran.stdout + ran.stderr).decode(errors='replace')}")
             print(f"the reference ({status}):\n{wanted.decode()}")
             return 1
+        judged += 1
         for line in lines:
             counts[shape(line)] = counts.get(shape(line), 0) + 1
         shutil.rmtree(folder)
     os.rmdir(work)
     never = [line for line, count in counts.items() if count == 0]
-    print("\n".join([f"{number} bags: all judged alike"] + [f"never printed: {line}" for line in never]))
-    return 1 if never else 0
+    print("\n".join([f"{judged} bags: all judged alike"] + [f"never printed: {line}" for line in never]))
+    return 1 if never or judged == 0 else 0
 
 
 if __name__ == "__main__":

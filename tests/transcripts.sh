@@ -6,8 +6,7 @@ cd "$(dirname -- "$0")/.." || exit 1
 . tests/common.bash
 top=$PWD
 
-# What a build says would be noise in the first transcript.
-./bag >"$work/printed" || true
+build_first
 
 # An empty directory is none that git kept.
 fresh() {

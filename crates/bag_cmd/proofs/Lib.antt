@@ -1,3 +1,3 @@
 pub mod Listings
 pub mod VerdictLemmas
-pub mod WordsLemmas
+pub mod WalkLemmas

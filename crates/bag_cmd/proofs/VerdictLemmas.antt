@@ -6,27 +6,28 @@ use Rattle.std.specs.List.{All}
 use Rattle.std.proofs.lemmas.Bool.Decides.{Decides-by_and, Decides-ltb, same_from_decides}
 use Rattle.std.proofs.lemmas.List.Elements.{All-from_recursion, recursion_from_All}
 use Rattle.bag_rules.specs.declared.fault.Fault.{Fault}
-use Rattle.bag_rules.specs.Faults.{number_of, NoneUpTo}
+use Rattle.bag_rules.specs.Faults.{last_of_completeness, number_of, NoneUpTo}
 use Rattle.bag_rules.specs.declared.outcome.CheckFault.{CheckFault}
 use Rattle.bag_rules.specs.declared.outcome.Outcome.{Outcome}
 use Rattle.bag_rules.specs.declared.outcome.Outcome.TheVariants.{Judged, Outside}
 use Rattle.bag_rules.specs.Bags.{Bag}
 use Rattle.bag_rules.specs.Validity.{IsValid, Means}
-use Rattle.bag_cmd.specs.Texts.{check_status, is_complete, verdict_text}
+use Rattle.bag_cmd.specs.CheckTexts.{check_status}
+use Rattle.bag_cmd.specs.VerdictTexts.{is_complete, verdict_text}
 
 abbrev IsOfDigests : Fault → Type 0
-IsOfDigests fault = 13 < number_of fault
+IsOfDigests fault = last_of_completeness < number_of fault
 
 decides_complete : (faults : List Fault) → Decides (is_complete faults) (All IsOfDigests faults)
-decides_complete = Decides-by_and (λ fault. nat_lt 13 (number_of fault)) IsOfDigests is_complete (λ fault. Decides-ltb 13 (number_of fault)) refl (λ _ _. refl)
+decides_complete = Decides-by_and (λ fault. nat_lt last_of_completeness (number_of fault)) IsOfDigests is_complete (λ fault. Decides-ltb last_of_completeness (number_of fault)) refl (λ _ _. refl)
 
-pub is_complete_is : (faults : List Fault) (b : Bool) → (IsTrue b ↔ NoneUpTo 13 faults) → b ≡ is_complete faults
+pub is_complete_is : (faults : List Fault) (b : Bool) → (IsTrue b ↔ NoneUpTo last_of_completeness faults) → b ≡ is_complete faults
 is_complete_is faults b h =
     same_from_decides b (is_complete faults)
     (λ e. All-from_recursion IsOfDigests faults (h.0 e), λ all. h.1 (recursion_from_All IsOfDigests faults all))
     (decides_complete faults)
 
-pub verdict_where : (faults : List Fault) (b : Bool) → faults ≢ [] → (IsTrue b ↔ NoneUpTo 13 faults)
+pub verdict_where : (faults : List Fault) (b : Bool) → faults ≢ [] → (IsTrue b ↔ NoneUpTo last_of_completeness faults)
     → (if b then codes "complete, not valid" else codes "not complete") ≡ verdict_text faults
 verdict_where [] b ne h = absurd (ne refl)
 verdict_where (fault ∷ faults) b ne h =

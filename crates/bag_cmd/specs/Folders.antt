@@ -1,59 +1,89 @@
--- A folder on disk, as what it shows. What its files hold isn't known.
-use Rattle.std.specs.Prelude.{◌≡◌, ◌||◌, ◌++◌, ℕ, Bool, true, All, List, [], ◌∷◌, Option, Some, None, Result, IsErr, codes, refl}
+-- An open folder, as what it shows. What its files hold isn't known.
+use Rattle.std.specs.Prelude.{◌≡◌, ◌+◌, ℕ, Bool, true, All, List, Option, Some, None, Result, IsErr, IsSomeAnd, MatchResult, OnOk, map, min, refl, slice_get}
 use Rattle.std.specs.Io.KnownBytes.{ReadConsumes}
-use Rattle.std.specs.Str.{bytes_eq}
 use Rattle.std.proofs.Common.{◌∙◌}
 use Rattle.bag_path.specs.Paths.{is_payload}
-use Rattle.bag_rules.specs.Trees.{AreRising, SameFiles}
+use Rattle.bag_digest.specs.Device.{greatest_count}
+use Rattle.bag_rules.specs.Trees.{AreRising, KeepsTree, Shown, paths_in}
+use Rattle.bag_cmd.specs.Directories.{IsBelow, IsUnfit, Listing, name_below}
 
--- the paths of its files, whether the payload directory is there, the folder's name and the name of the file that was sought last,
--- what the open file will still give (where one is open, and where that is known), and how often the folder has failed
-pub record Shown : Type 0 where
-  pub paths : List (List ℕ)
-  pub has_dir : Bool
+-- what is shown of files with these paths, whose octets nobody knows
+abbrev pub shown_by : List (List ℕ) → Bool → Shown
+shown_by paths has_payload_dir = record {
+  files = map (λ path. (path, None)) paths;
+  has_payload_dir = has_payload_dir;
+}
+
+-- its files and whether the payload directory is there, the folder's name and the name of the file that was sought last, what the
+-- open file will still give (where one is open, and where that is known), and how often the folder has failed
+pub record FolderShown : Type 0 where
+  pub shown : Shown
   pub folder : List ℕ
   pub name : List ℕ
   pub to_read : Option (Option (List ℕ))
   pub failures : ℕ
-
--- the name of what stands under a path from a folder
-abbrev pub name_below : List ℕ → List ℕ → List ℕ
-name_below folder path = folder ++ (codes "/" ++ path)
-
--- A read consumes what it gives from the open file, which stays open. Where none is open, none is then, and the read fails.
-abbrev pub ReadsOpen : {E : Type 0} → Option (Option (List ℕ)) → Option (Option (List ℕ)) → Result ℕ E → List ℕ → Type 0
-ReadsOpen None None result buf = IsErr result
-ReadsOpen None (Some new) result buf = ⊥
-ReadsOpen (Some old) None result buf = ⊥
-ReadsOpen (Some old) (Some new) result buf = ReadConsumes old new result buf
 
 -- the paths rise, and a payload file has its directory (RFC 8493 section 2.1.2)
 pub record IsListing (paths : List (List ℕ)) (has_dir : Bool) : Type 0 where
   pub rising : AreRising paths
   pub payload : All (λ path. is_payload path ≡ true → has_dir ≡ true) paths
 
--- what a walk has found: the paths of files, whether the payload directory is there, and the directories still to be looked into,
--- each with a slash at its end
-pub record Walked : Type 0 where
-  pub paths : List (List ℕ)
-  pub has_dir : Bool
-  pub left : List (List ℕ)
+-- a folder that was opened under this name: it shows what stands below, where the entries of directories are known; no file is open,
+-- and nothing has failed
+pub record IsOpened (known : Option Listing) (folder : List ℕ) (tree : FolderShown)
+    : Type 0 where
+  pub named : tree.folder ≡ folder
+  pub closed : tree.to_read ≡ None
+  pub not_failed : tree.failures ≡ 0
+  pub shows : (listing : Listing) → known ≡ Some listing
+      → IsBelow listing folder (paths_in tree.shown) tree.shown.has_payload_dir
 
-abbrev pub with_file : Walked → List ℕ → Walked
-with_file walked path = record walked { paths = walked.paths ++ path ∷ [] }
+-- the folder can't be a bag's, where the entries of directories are known
+abbrev pub IsRefused : Option Listing → List ℕ → Type 0
+IsRefused known folder = (listing : Listing) → known ≡ Some listing → IsUnfit listing folder
 
-abbrev pub with_directory : Walked → List ℕ → Walked
-with_directory walked path = record walked { has_dir = walked.has_dir || bytes_eq path (codes "data"); left = walked.left ++ (path ++ codes "/") ∷ [] }
+-- a count of failures after one more
+abbrev pub one_more : ℕ → ℕ
+one_more failures = min (failures + 1) greatest_count
+
+-- A read consumes what it gives from the open file, which stays open. Where none is open, none is then, and the read fails.
+abbrev pub ReadsOpen : {E : Type 0} → Option (Option (List ℕ)) → Option (Option (List ℕ))
+    → Result ℕ E → List ℕ → Type 0
+ReadsOpen None None result buf = IsErr result
+ReadsOpen None (Some new) result buf = ⊥
+ReadsOpen (Some old) None result buf = ⊥
+ReadsOpen (Some old) (Some new) result buf = ReadConsumes old new result buf
+
+-- a read changes what is left to read, and counts its failure
+pub record ReadsFolder {E : Type 0} (old new : FolderShown) (result : Result ℕ E) (buf : List ℕ)
+    : Type 0 where
+  pub reads_on : ReadsOpen old.to_read new.to_read result buf
+  pub changes : MatchResult result (λ _. new ≡ record old { to_read = new.to_read })
+      (λ _. new ≡ record old { to_read = new.to_read; failures = one_more old.failures })
+
+-- A start opens the file at this place by its name below the folder, and counts its failure. No other file stays open.
+pub record StartsFile {E : Type 0} (old new : FolderShown) (i : ℕ) (result : Result (Unit {0}) E)
+    : Type 0 where
+  pub named : OnOk result (IsSomeAnd (slice_get (paths_in old.shown) i)
+      (λ path. new.name ≡ name_below old.folder path))
+  pub changes : MatchResult result
+      (λ _. new ≡ record old { name = new.name; to_read = new.to_read })
+      (λ _. new ≡ record old {
+        name = new.name;
+        to_read = None;
+        failures = one_more old.failures;
+      })
 
 -- the same files
-abbrev pub SameShown : Shown → Shown → Type 0
-SameShown old new = (new.paths ≡ old.paths) × (new.has_dir ≡ old.has_dir)
+abbrev pub SameShown : FolderShown → FolderShown → Type 0
+SameShown old new = new.shown ≡ old.shown
 
-pub same_itself : (a : Shown) → SameShown a a
-same_itself a = (refl, refl)
+pub same_itself : (a : FolderShown) → SameShown a a
+same_itself a = refl
 
-pub same_on : (a b c : Shown) → SameShown a b → SameShown b c → SameShown a c
-same_on a b c p q = (q.0 ∙ p.0, q.1 ∙ p.1)
+pub same_on : (a b c : FolderShown) → SameShown a b → SameShown b c → SameShown a c
+same_on a b c p q = q ∙ p
 
-pub same_files : (a b : Shown) → SameShown a b → SameFiles (λ (tree : Shown). tree.paths) (λ (tree : Shown). tree.has_dir) (λ (tree : Shown) i. None) a b
-same_files a b p = record { same_paths = p.0; same_dir = p.1; same_body = λ i. refl }
+pub keeps_tree : (a b : FolderShown) → SameShown a b
+    → KeepsTree (λ (tree : FolderShown). tree.shown) (λ (tree : FolderShown). ⊥) a b
+keeps_tree a b same = record { same = same; stays_sure = λ never. never }

@@ -1,30 +1,36 @@
 //! The program `bag`: works with bags of the BagIt File Packaging Format 1.0 (RFC 8493).
 //!
 //! `bag check DIR` judges the bag in a folder. What is printed goes to standard output, and the status tells the same: 0 valid,
-//! 1 not valid, 2 none that can be judged here, 3 a fault of files or memory, or an output that takes no more, 64 other words.
+//! 1 not valid, 2 none that can be judged here, 3 a fault of files or memory, or an output that is full or closed, 64 an unknown
+//! command line.
 #![tactic(auto)]
 
-ghost use Rattle.std.specs.Prelude.{◌∷◌, [], IsErrOf, codes, map, string_bytes};
-ghost use Rattle.bag_cmd.specs.Printing.{Printed};
-ghost use Rattle.bag_cmd.specs.Answers.{PrintedAnswer, NamesCheck};
+ghost use Rattle.std.specs.Prelude.{◌≡◌, ◌≢◌};
+ghost use Rattle.bag_cmd.specs.Answers.{Ran};
 
-use bag_rules::CheckFault;
-use check::{check_to, print_outcome};
-use folder::{FolderTree, OpenFault};
+use command::command;
+use folder::Disk;
 use output::Output;
+use status::FAILED;
 use std::alloc::{AllocError, Global};
 use std::env::Env;
-use std::io::{BufWriter, ErrorKind, Write};
+use std::io::{BufWriter, ErrorKind, Printer, Write};
 use std::process::ExitCode;
 use std::rt::Files;
 use std::{env, io};
+use stop::{Stop, print_stop};
 
-mod check;
+mod command;
+mod commands;
 mod folder;
 mod output;
+mod request;
+mod status;
+mod stop;
 #[cfg(test)]
 mod tests;
 mod text;
+mod verdict;
 
 fn main(rt: HostRuntime) -> ExitCode {
     ExitCode::from(run(&rt))
@@ -32,22 +38,28 @@ fn main(rt: HostRuntime) -> ExitCode {
 
 /// Runs the command that the words name, and answers the status. What is printed is held back until the command has ended or the
 /// buffer is full.
-fn run<R: Files + Env + Print + AllocGlobal>(rt: &R) -> u8 {
-    if let Ok(writer) = BufWriter::new(rt.alloc(), io::writer(rt)) {
-        return run_words(rt, &mut Output::new(writer));
-    }
-    match BufWriter::with_capacity(rt.alloc(), 0, io::writer(rt)) {
-        Ok(writer) => print_outcome(&Err(CheckFault::Memory), &mut Output::new(writer)),
-        Err(_) => 3,
+fn run<R: Files + Env + Print + AllocGlobal>(rt: &R) -> u8
+    // Any other status than that of a failure is a command's own.
+    ensures { result ≢ FAILED
+        → (old : _) × (new : _) × Ran ⟦<Printer<'static, R> as Write>⟧.contents old new result }
+{
+    match BufWriter::new(rt.alloc(), io::writer(rt)) {
+        Ok(writer) => run_words(rt, &mut Output::new(writer)),
+        Err(_) => {
+            let mut out = Output::unbuffered(rt.alloc(), io::writer(rt));
+            print_stop(Stop::Memory, &mut out)
+        }
     }
 }
 
 /// The same, with what is printed going to a writer.
-fn run_words<R: Files + Env + AllocGlobal, W: Write + Drop>(rt: &R, out: &mut Output<W>) -> u8 {
+fn run_words<R: Files + Env + AllocGlobal, W: Write + Drop>(rt: &R, out: &mut Output<W>) -> u8
+    ensures { result ≢ FAILED → Ran W.contents out.old out.new result }
+{
     let alloc = rt.alloc();
     match words(rt, alloc) {
-        Ok(words) => command(rt, alloc, &words, out),
-        Err(AllocError) => print_outcome(&Err(CheckFault::Memory), out),
+        Ok(words) => command(rt, &Disk(rt), alloc, words, out),
+        Err(AllocError) => print_stop(Stop::Memory, out),
     }
 }
 
@@ -57,43 +69,5 @@ fn words<R: Env + AllocGlobal>(rt: &R, alloc: Global) -> Result<Vec<String>, All
         Ok(words) => words.skip(1).collect(alloc),
         Err(error) if error.kind() == ErrorKind::OutOfMemory => Err(AllocError),
         Err(_) => Ok(Vec::new(alloc)),
-    }
-}
-
-/// Runs the command that these words name.
-fn command<R: Files, W: Write + Drop>(
-    rt: &R,
-    alloc: Global,
-    words: &[String],
-    out: &mut Output<W>,
-) -> u8
-    ensures check { NamesCheck (map string_bytes words.now) → PrintedAnswer W.contents out.old out.new result }
-    ensures usage { ¬ NamesCheck (map string_bytes words.now) → Printed W.contents out.old out.new result (codes "bag: check" ∷ []) 64 }
-{
-    if words.len() == 2 && words[0].as_str() == "check" {
-        let opened = FolderTree::open(rt, alloc, words[1].as_str());
-        check_folder(alloc, opened, out)
-    } else {
-        out.print_line("bag: check", 64)
-    }
-}
-
-/// `bag check DIR`, once the folder was opened.
-fn check_folder<R: Files + Drop, W: Write + Drop>(
-    alloc: Global,
-    opened: Result<FolderTree<R>, OpenFault>,
-    out: &mut Output<W>,
-) -> u8
-    ensures answer { PrintedAnswer W.contents out.old out.new result }
-    ensures files { IsErrOf opened OpenFault.Files → Printed W.contents out.old out.new result (codes "bag: files" ∷ []) 3 }
-    ensures memory { IsErrOf opened OpenFault.Memory → Printed W.contents out.old out.new result (codes "bag: memory" ∷ []) 3 }
-{
-    match opened {
-        Ok(tree) => {
-            let mut tree = tree;
-            check_to(alloc, &mut tree, out)
-        }
-        Err(OpenFault::Files) => print_outcome(&Err(CheckFault::Tree), out),
-        Err(OpenFault::Memory) => print_outcome(&Err(CheckFault::Memory), out),
     }
 }

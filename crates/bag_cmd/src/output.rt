@@ -1,20 +1,21 @@
 //! A writer that counts its failures.
-ghost use Rattle.std.specs.Prelude.{◌≡◌, ◌≤◌, ◌++◌, ◌∷◌, ◌+◌, ◌-◌, ◌^◌, [], IfSome, IsErr, IsOk, OnErr, OnOk, min};
-ghost use Rattle.std.specs.Io.Buffered.{writer_buffer, writer_contents};
+ghost use Rattle.std.specs.Prelude.{◌≡◌, ◌++◌, ◌∷◌, [], IfSome, OnOk, codes};
+ghost use Rattle.std.specs.Io.Buffered.{writer_buffer, writer_contents, writer_inner};
 ghost use Rattle.std.specs.Io.KnownBytes.{Appends, Keeps};
-ghost use Rattle.bag_digest.specs.Device.{Rises};
+ghost use Rattle.bag_digest.specs.Device.{CountsFailure};
 ghost use Rattle.bag_cmd.specs.Printing.{Printed};
 
-use bag_digest::Failed;
+use crate::status::FAILED;
+use bag_digest::{Failed, Failures};
+use std::alloc::Global;
 use std::fmt::Display;
-use std::io::{self, BufWriter, Write};
+use std::io::{BufWriter, Write};
 
 /// A writer, which holds back what is written until it is flushed or its buffer is full, and how often it has failed.
 #[derive(Drop)]
 pub struct Output<W: Write + Drop> {
     pub writer: BufWriter<W>,
-    /// The count stays at its greatest value.
-    failures: u64,
+    failures: Failures,
 }
 
 impl<W: Write + Drop> Output<W> {
@@ -25,8 +26,17 @@ impl<W: Write + Drop> Output<W> {
     {
         Output {
             writer,
-            failures: 0,
+            failures: Failures::none(),
         }
+    }
+
+    /// The same, which holds nothing back: for standard error, and where there is no memory for a buffer.
+    pub fn unbuffered(alloc: Global, writer: W) -> Self
+        ensures inner { writer_inner result.writer ≡ writer }
+        ensures empty { writer_buffer result.writer ≡ [] }
+        ensures failures { result.failures ≡ 0 }
+    {
+        Output::new(BufWriter::with_capacity(alloc, 0, writer).unwrap())
     }
 
     /// Writes a text and a line feed.
@@ -36,20 +46,20 @@ impl<W: Write + Drop> Output<W> {
     /// The writer failed; a part of the line may be written.
     pub fn line<D: Display + Drop>(&mut self, text: D) -> Result<(), Failed>
         ensures ok { OnOk result (IfSome (D.output text) (λ octets.
-            Appends (writer_contents W.contents self.old.writer) (writer_contents W.contents self.new.writer) (octets ++ 10 ∷ []))) }
-        ensures same { OnOk result (self.new.failures ≡ self.old.failures) }
-        ensures failed { OnErr result (Rises self.old.failures self.new.failures) }
+            Appends (writer_contents W.contents self.old.writer)
+            (writer_contents W.contents self.new.writer) (octets ++ codes "\n"))) }
+        ensures counted { CountsFailure result self.old.failures self.new.failures }
     {
         let written = writeln!(self.writer, "{text}");
-        self.counted(written)
+        self.failures.counted(written)
     }
 
-    /// Prints one line alone, and hands it on. Answers the status that goes with it, or 3 where the writer failed.
+    /// Prints one line alone, and hands it on. Answers the status that goes with it, or [`FAILED`] where the writer failed.
     pub fn print_line(&mut self, line: &str, status: u8) -> u8
         ensures { Printed W.contents self.old self.new result (line.now ∷ []) status }
     {
         let printed = self.line(line).is_ok() && self.flush().is_ok();
-        if printed { status } else { 3 }
+        if printed { status } else { FAILED }
     }
 
     /// Hands on all that the writer holds back.
@@ -58,27 +68,12 @@ impl<W: Write + Drop> Output<W> {
     ///
     /// The writer failed.
     pub fn flush(&mut self) -> Result<(), Failed>
-        ensures contents { Keeps (writer_contents W.contents self.old.writer) (writer_contents W.contents self.new.writer) }
+        ensures contents { Keeps (writer_contents W.contents self.old.writer)
+            (writer_contents W.contents self.new.writer) }
         ensures handed_on { OnOk result (writer_buffer self.new.writer ≡ []) }
-        ensures same { OnOk result (self.new.failures ≡ self.old.failures) }
-        ensures failed { OnErr result (Rises self.old.failures self.new.failures) }
+        ensures counted { CountsFailure result self.old.failures self.new.failures }
     {
         let flushed = self.writer.flush();
-        self.counted(flushed)
-    }
-
-    /// Whether the writer did what it was asked for. A failure is counted.
-    fn counted(&mut self, answer: io::Result<()>) -> Result<(), Failed>
-        ensures writer { self.new.writer ≡ self.old.writer }
-        ensures ok { OnOk answer (IsOk result × (self.new.failures ≡ self.old.failures)) }
-        ensures failed { OnErr answer (IsErr result × (self.new.failures ≡ min (self.old.failures + 1) (2 ^ 64 - 1))) }
-    {
-        match answer {
-            Ok(()) => Ok(()),
-            Err(_) => {
-                self.failures = self.failures.saturating_add(1);
-                Err(Failed)
-            }
-        }
+        self.failures.counted(flushed)
     }
 }

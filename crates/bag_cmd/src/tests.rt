@@ -1,10 +1,11 @@
-use crate::check::print_outcome;
+use crate::commands::check::print_outcome;
 use crate::output::Output;
+use crate::request::Request;
 use crate::text::FaultLine;
 use bag_digest::Alg;
 use bag_path::{BagPath, PathFault};
-use bag_rules::{CheckFault, Fault, LineFile, ManifestName, Outcome, OutsideCause};
-use bag_tags::{DeclarationFault, Kind, LineCause};
+use bag_rules::{CheckFault, Fault, Outcome, OutsideCause};
+use bag_tags::{DeclFault, Kind, LineCause, LineFile, ManifestName};
 use std::alloc::Global;
 use std::io::{self, BufWriter, Write};
 use std::process::Abort;
@@ -120,12 +121,12 @@ fn each_cause_has_its_words(rt: HostRuntime) {
         has_line(&rt, alloc, &fault, line);
     }
     for (cause, line) in [
-        (DeclarationFault::NotUtf8, "bagit.txt: not UTF-8"),
-        (DeclarationFault::Mark, "bagit.txt: byte order mark"),
-        (DeclarationFault::LineCount, "bagit.txt: line count"),
-        (DeclarationFault::Label, "bagit.txt: label"),
-        (DeclarationFault::Version, "bagit.txt: version"),
-        (DeclarationFault::EncodingName, "bagit.txt: encoding name"),
+        (DeclFault::NotUtf8, "bagit.txt: not UTF-8"),
+        (DeclFault::Mark, "bagit.txt: byte order mark"),
+        (DeclFault::LineCount, "bagit.txt: line count"),
+        (DeclFault::Label, "bagit.txt: label"),
+        (DeclFault::Version, "bagit.txt: version"),
+        (DeclFault::EncodingName, "bagit.txt: encoding name"),
     ] {
         has_line(&rt, alloc, &Fault::BadDeclaration(cause), line);
     }
@@ -227,6 +228,31 @@ fn a_failed_write_or_flush_gives_3(rt: HostRuntime) -> Result<(), Fail> {
                 "{takes} octets"
             );
         }
+    }
+    Ok(())
+}
+
+#[test]
+fn only_check_and_a_folder_name_a_command(rt: HostRuntime) -> Result<(), Fail> {
+    let alloc = rt.alloc();
+    for (line, folder) in [
+        ("", None),
+        ("check", None),
+        ("check a", Some("a")),
+        ("check check", Some("check")),
+        ("Check a", None),
+        ("--help a", None),
+        ("check a b", None),
+    ] {
+        let mut words = Vec::new(alloc);
+        for word in line.split_ascii_whitespace() {
+            words.push(String::from_str(alloc, word)?)?;
+        }
+        let asked = match Request::parse(words) {
+            Some(Request::Check { folder }) => Some(folder),
+            None => None,
+        };
+        assert_eq!(rt; asked.as_ref().map(|name| name.as_str()), folder, "{line}");
     }
     Ok(())
 }

@@ -18,6 +18,13 @@ size_of Sha1 = 20
 size_of Sha256 = 32
 size_of Sha512 = 64
 
+-- the place of an algorithm among the four, in the order in which a bag's algorithms are gone through
+abbrev pub place_of : Alg → ℕ
+place_of Md5 = 0
+place_of Sha1 = 1
+place_of Sha256 = 2
+place_of Sha512 = 3
+
 -- whether they are the same algorithm
 abbrev pub is_alg : Alg → Alg → Bool
 is_alg Md5 Md5 = true

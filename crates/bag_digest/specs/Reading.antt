@@ -1,8 +1,12 @@
 -- What a source gave, whether or not it is known beforehand.
-use Rattle.std.specs.Prelude.{◌≡◌, ◌+◌, ◌≤◌, ℕ, List, Option, length}
+use Rattle.std.specs.Prelude.{◌≡◌, ◌+◌, ◌≤◌, ℕ, List, Option, length, take}
 use Rattle.std.specs.Io.KnownBytes.{Consumes, IsAtEnd}
 use Rattle.bag_digest.specs.declared.algorithm.AlgSet.{AlgSet}
 use Rattle.bag_digest.specs.declared.multi.Digests.{Digests}
+use Rattle.bag_digest.specs.declared.reading.SourceFault.{SourceFault}
+use Rattle.bag_digest.specs.declared.reading.SourceFault.TheVariants as source
+use Rattle.bag_digest.specs.declared.reading.ReadFault.{ReadFault}
+use Rattle.bag_digest.specs.declared.reading.ReadFault.TheVariants as read
 use Rattle.bag_digest.specs.Hash.{AreDigests}
 
 -- the source gave these octets and has no others left, and they are within the limit
@@ -19,6 +23,30 @@ GaveWithin old new limit = (octets : List ℕ) × Consumes old new octets × (le
 abbrev pub GaveMoreThan : Option (List ℕ) → Option (List ℕ) → ℕ → Type 0
 GaveMoreThan old new limit = (octets : List ℕ) × Consumes old new octets × (length octets ≡ limit + 1)
 
+-- the source gave one piece, the front of the buffer, of at most this many octets: none only at the end
+pub record GavePiece (old new : Option (List ℕ)) (left n : ℕ) (buffer : List ℕ) : Type 0 where
+  pub gave : Consumes old new (take n buffer)
+  pub bound : n ≤ length buffer
+  pub within : n ≤ left
+  pub end : n ≡ 0 → IsAtEnd new
+
 -- the number of these octets, and their digests by the algorithms of the set
 abbrev pub IsCountAndDigests : ℕ × Digests → AlgSet → List ℕ → Type 0
 IsCountAndDigests found set octets = (found.0 ≡ length octets) × AreDigests found.1 set octets
+
+-- the source was read to its end, and this is the number of its octets with their digests
+abbrev pub GaveDigests : Option (List ℕ) → Option (List ℕ) → ℕ → AlgSet → ℕ × Digests → Type 0
+GaveDigests old new limit set found =
+    (octets : List ℕ) × GaveAll old new limit octets × IsCountAndDigests found set octets
+
+-- What the source gave before a reading ended with a fault: octets within the limit where a read failed or memory ran out,
+-- and else the first octet past it and none after.
+abbrev pub GaveBefore : Option (List ℕ) → Option (List ℕ) → ℕ → ReadFault → Type 0
+GaveBefore old new limit read.Read = GaveWithin old new limit
+GaveBefore old new limit read.TooLarge = GaveMoreThan old new limit
+GaveBefore old new limit read.Memory = GaveWithin old new limit
+
+-- a fault of a source among the faults of a reading that takes memory
+abbrev pub read_fault : SourceFault → ReadFault
+read_fault source.Read = read.Read
+read_fault source.TooLarge = read.TooLarge

@@ -11,9 +11,13 @@ use std::alloc::{AllocError, Global};
 /// The digest of some octets, with its algorithm.
 #[derive(Clone, Copy, Debug, PartialEq, Eq)]
 pub enum Digest {
+    /// By MD5 (RFC 1321).
     Md5([u8; 16]),
+    /// By SHA-1 (FIPS 180-4).
     Sha1([u8; 20]),
+    /// By SHA-256 (FIPS 180-4).
     Sha256([u8; 32]),
+    /// By SHA-512 (FIPS 180-4).
     Sha512([u8; 64]),
 }
 
@@ -42,6 +46,10 @@ impl Digest {
     }
 
     /// The spelling in hex, with lower case letters.
+    ///
+    /// # Errors
+    ///
+    /// `AllocError` where memory runs out.
     pub fn to_hex(&self, alloc: Global) -> Result<String, AllocError>
         ensures lower_case { IfOk result (λ text. string_bytes text ≡ lower_case_of self.now) }
         ensures spells { IfOk result (λ text.
@@ -85,7 +93,8 @@ fn read_hex<const N: usize>(text: &[u8]) -> Option<[u8; N]>
     <[u8; N] as FromHex>::from_hex(text).ok()
 }
 
-// The octets of an array. That they are this many, and octets, is known here and not of a variant's field.
+// The octets of an array. A proof knows of an argument that it has this many elements and that each is an octet; of a
+// variant's field it doesn't. So `Digest::octets` passes its fields through these two.
 fn slice_of<const N: usize>(octets: &[u8; N]) -> &[u8]
     ensures octets { result.now ≡ octets.now }
     ensures size { length octets.now ≡ N }

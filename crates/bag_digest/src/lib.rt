@@ -5,7 +5,7 @@
 pub use algorithm::{Alg, AlgSet};
 pub use counted::Counted;
 pub use digest::Digest;
-pub use laws::{all_are_four_in_order, lower_case_spells_it, one_digest_is_spelled};
+pub use failures::Failures;
 pub use multi::{Digests, Multi};
 pub use reading::{
     PIECE, ReadFault, SourceFault, digest_reader, digest_through, piece_buffer, read_to_end_within,
@@ -16,7 +16,8 @@ mod algorithm;
 mod counted;
 mod digest;
 pub mod examples;
-mod laws;
+mod failures;
+pub mod laws;
 mod multi;
 mod reading;
 mod source;

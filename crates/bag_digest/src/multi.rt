@@ -142,6 +142,8 @@ impl Multi {
     }
 }
 
+// The four differ in the hasher's type, whose trait and specification are the algorithm's own.
+
 fn finish_md5(hasher: Option<Md5>) -> Option<[u8; 16]>
     ensures { (wanted : Bool) (octets : List ℕ) → HoldsIf MD5.Holds wanted hasher octets
         → result ≡ (if wanted then Some (md5 octets) else None) }

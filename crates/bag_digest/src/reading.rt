@@ -1,9 +1,8 @@
 //! Sources read to their end: the digests of what they give, or all of it.
-ghost use Rattle.std.specs.Prelude.{◌≡◌, ◌+◌, ◌<◌, ◌≤◌, ℕ, List, Some, length, min, vec_len, take, IfOk, IsErrOf};
-ghost use Rattle.std.specs.Io.KnownBytes.{Consumes, IsAtEnd, Keeps};
-ghost use Rattle.bag_digest.specs.Device.{Rises};
-ghost use Rattle.bag_digest.specs.Reading.{GaveAll, GaveWithin, GaveMoreThan, IsCountAndDigests};
-ghost use Rattle.bag_digest.specs.Faults.{read_fault};
+ghost use Rattle.std.specs.Prelude.{◌≡◌, ◌+◌, ◌<◌, ◌≤◌, length, min, vec_len, take, IfErr, IfOk, IsErrOf};
+ghost use Rattle.std.specs.Io.KnownBytes.{Consumes, IsAtEnd};
+ghost use Rattle.bag_digest.specs.Device.{UsesSource};
+ghost use Rattle.bag_digest.specs.Reading.{GaveAll, GaveBefore, GaveDigests, GavePiece, read_fault};
 ghost use Rattle.bag_digest.specs.declared.reading.ReadFault.TheVariants.{Memory};
 
 use crate::algorithm::AlgSet;
@@ -78,6 +77,10 @@ fn zeros(alloc: Global, len: usize) -> Result<Vec<u8>, AllocError>
 ///
 /// A source that has more than `limit` octets is left right after the first one past it. So of a failing
 /// read and a source too large, whichever comes first in the stream is answered.
+///
+/// # Errors
+///
+/// `Read` where a read failed; `TooLarge` where the source gave more than `limit` octets.
 pub fn digest_through<S: Source>(
     buffer: &mut [u8],
     reader: &mut S,
@@ -85,25 +88,12 @@ pub fn digest_through<S: Source>(
     limit: u64,
 ) -> Result<(u64, Digests), SourceFault>
     requires { 0 < length buffer.old }
-    ensures digests { IfOk result (λ found. ((octets : List ℕ)
-        × GaveAll (S.remaining reader.old) (S.remaining reader.new) limit octets
-        × IsCountAndDigests found set octets)) }
-    ensures too_large { IsErrOf result SourceFault.TooLarge
-        → GaveMoreThan (S.remaining reader.old) (S.remaining reader.new) limit }
-    ensures read { IsErrOf result SourceFault.Read
-        → Rises (S.faults reader.old) (S.faults reader.new) }
-    ensures unfailed { ¬ IsErrOf result SourceFault.Read → S.faults reader.new ≡ S.faults reader.old }
-    ensures read_within { IsErrOf result SourceFault.Read
-        → GaveWithin (S.remaining reader.old) (S.remaining reader.new) limit }
-    ensures counted { S.faults reader.old ≤ S.faults reader.new }
-    ensures kept { S.keeps reader.old reader.new }
-
-    // The same, where the octets are known.
-    ensures known { IfOk result (λ found. (octets : List ℕ)
-        → S.remaining reader.old ≡ Some octets
-        → (length octets ≤ limit) × IsCountAndDigests found set octets) }
-    ensures known_too_large { IsErrOf result SourceFault.TooLarge → (octets : List ℕ)
-        → S.remaining reader.old ≡ Some octets → limit < length octets }
+    ensures digests { IfOk result
+        (GaveDigests (S.remaining reader.old) (S.remaining reader.new) limit set) }
+    ensures stopped { IfErr result (λ fault.
+        GaveBefore (S.remaining reader.old) (S.remaining reader.new) limit (read_fault fault)) }
+    ensures uses { UsesSource S.failures S.ready S.keeps reader.old reader.new
+        (IsErrOf result SourceFault.Read) }
 {
     let mut multi = Multi::new(set);
     let mut total = 0u64;
@@ -117,35 +107,24 @@ pub fn digest_through<S: Source>(
     }
 }
 
-/// Reads a source to its end as [`digest_through`] does, through a buffer of its own.
+/// Reads a source to its end as [`digest_through`] does, through a buffer of its own of [`PIECE`] octets.
 ///
-/// The fault is `Memory` where there was none for the buffer, and the source wasn't read then.
+/// # Errors
+///
+/// Those of [`digest_through`], and `Memory` where there was none for the buffer: then the source wasn't read.
 pub fn digest_reader<S: Source>(
     alloc: Global,
     reader: &mut S,
     set: AlgSet,
     limit: u64,
 ) -> Result<(u64, Digests), ReadFault>
-    ensures digests { IfOk result (λ found. ((octets : List ℕ)
-        × GaveAll (S.remaining reader.old) (S.remaining reader.new) limit octets
-        × IsCountAndDigests found set octets)) }
-    ensures too_large { IsErrOf result ReadFault.TooLarge
-        → GaveMoreThan (S.remaining reader.old) (S.remaining reader.new) limit }
-    ensures read { IsErrOf result ReadFault.Read
-        → Rises (S.faults reader.old) (S.faults reader.new) }
-    ensures unfailed { ¬ IsErrOf result ReadFault.Read → S.faults reader.new ≡ S.faults reader.old }
-    ensures read_within { IsErrOf result ReadFault.Read
-        → GaveWithin (S.remaining reader.old) (S.remaining reader.new) limit }
-    ensures memory { IsErrOf result ReadFault.Memory → reader.new ≡ reader.old }
-    ensures counted { S.faults reader.old ≤ S.faults reader.new }
-    ensures kept { S.keeps reader.old reader.new }
-
-    // The same, where the octets are known.
-    ensures known { IfOk result (λ found. (octets : List ℕ)
-        → S.remaining reader.old ≡ Some octets
-        → (length octets ≤ limit) × IsCountAndDigests found set octets) }
-    ensures known_too_large { IsErrOf result ReadFault.TooLarge → (octets : List ℕ)
-        → S.remaining reader.old ≡ Some octets → limit < length octets }
+    ensures digests { IfOk result
+        (GaveDigests (S.remaining reader.old) (S.remaining reader.new) limit set) }
+    ensures stopped { IfErr result
+        (GaveBefore (S.remaining reader.old) (S.remaining reader.new) limit) }
+    ensures unread { IsErrOf result ReadFault.Memory → reader.new ≡ reader.old }
+    ensures uses { UsesSource S.failures S.ready S.keeps reader.old reader.new
+        (IsErrOf result ReadFault.Read) }
 {
     let mut buffer = piece_buffer(alloc)?;
     let found = digest_through(buffer.as_mut_slice(), reader, set, limit)?;
@@ -154,9 +133,12 @@ pub fn digest_reader<S: Source>(
 
 /// Reads a source to its end through the caller's buffer, and answers all that it gave.
 ///
-/// A source that has more than `limit` octets is left right after the first one past it. The fault is
-/// `Memory` where there was none for what was read; then the source stands at most `limit` octets further,
-/// and what it gave is lost.
+/// A source that has more than `limit` octets is left right after the first one past it.
+///
+/// # Errors
+///
+/// `Read` where a read failed; `TooLarge` where the source gave more than `limit` octets; `Memory` where there was none
+/// for what was read, which is lost: then the source gave at most `limit` octets.
 pub fn read_to_end_within<S: Source>(
     alloc: Global,
     buffer: &mut [u8],
@@ -166,24 +148,10 @@ pub fn read_to_end_within<S: Source>(
     requires { 0 < length buffer.old }
     ensures octets { IfOk result (λ body.
         GaveAll (S.remaining reader.old) (S.remaining reader.new) limit body.items) }
-    ensures too_large { IsErrOf result ReadFault.TooLarge
-        → GaveMoreThan (S.remaining reader.old) (S.remaining reader.new) limit }
-    ensures read { IsErrOf result ReadFault.Read
-        → Rises (S.faults reader.old) (S.faults reader.new) }
-    ensures unfailed { ¬ IsErrOf result ReadFault.Read → S.faults reader.new ≡ S.faults reader.old }
-    ensures read_within { IsErrOf result ReadFault.Read
-        → GaveWithin (S.remaining reader.old) (S.remaining reader.new) limit }
-    ensures memory_within { IsErrOf result ReadFault.Memory
-        → GaveWithin (S.remaining reader.old) (S.remaining reader.new) limit }
-    ensures counted { S.faults reader.old ≤ S.faults reader.new }
-    ensures kept { S.keeps reader.old reader.new }
-
-    // The same, where the octets are known.
-    ensures known { IfOk result (λ body. (octets : List ℕ)
-        → S.remaining reader.old ≡ Some octets
-        → (length octets ≤ limit) × (body.items ≡ octets)) }
-    ensures known_too_large { IsErrOf result ReadFault.TooLarge → (octets : List ℕ)
-        → S.remaining reader.old ≡ Some octets → limit < length octets }
+    ensures stopped { IfErr result
+        (GaveBefore (S.remaining reader.old) (S.remaining reader.new) limit) }
+    ensures uses { UsesSource S.failures S.ready S.keeps reader.old reader.new
+        (IsErrOf result ReadFault.Read) }
 {
     let mut body = Vec::new(alloc);
     let mut total = 0u64;
@@ -202,20 +170,12 @@ pub fn read_to_end_within<S: Source>(
 /// Where only so many octets are `left` within a limit, at most one more is read.
 fn read_piece<S: Source>(buffer: &mut [u8], reader: &mut S, left: u64) -> Result<usize, SourceFault>
     requires { 0 < length buffer.old }
-    ensures bound { IfOk result (λ n. n ≤ length buffer.new) }
-    ensures within { IfOk result (λ n. n ≤ left) }
-    ensures octets { IfOk result (λ n.
-        Consumes (S.remaining reader.old) (S.remaining reader.new) (take n buffer.new)) }
-    ensures end { IfOk result (λ n. n ≡ 0 → IsAtEnd (S.remaining reader.new)) }
-    ensures too_large { IsErrOf result SourceFault.TooLarge
-        → GaveMoreThan (S.remaining reader.old) (S.remaining reader.new) left }
-    ensures read { IsErrOf result SourceFault.Read
-        → Rises (S.faults reader.old) (S.faults reader.new) }
-    ensures unfailed { ¬ IsErrOf result SourceFault.Read → S.faults reader.new ≡ S.faults reader.old }
-    ensures read_none { IsErrOf result SourceFault.Read
-        → Keeps (S.remaining reader.old) (S.remaining reader.new) }
-    ensures counted { S.faults reader.old ≤ S.faults reader.new }
-    ensures kept { S.keeps reader.old reader.new }
+    ensures piece { IfOk result (λ n.
+        GavePiece (S.remaining reader.old) (S.remaining reader.new) left n buffer.new) }
+    ensures stopped { IfErr result (λ fault.
+        GaveBefore (S.remaining reader.old) (S.remaining reader.new) left (read_fault fault)) }
+    ensures uses { UsesSource S.failures S.ready S.keeps reader.old reader.new
+        (IsErrOf result SourceFault.Read) }
 {
     let room = room_for(buffer.len(), left);
     match reader.read(&mut buffer[..room]) {

@@ -1,5 +1,7 @@
+ghost use Rattle.std.specs.Prelude.{◌≡◌, IfOk, None, true, vec_len};
+
 use crate::{
-    Alg, AlgSet, Counted, Digest, Digests, Multi, PIECE, ReadFault, Source, SourceFault,
+    Alg, AlgSet, Counted, Digest, Digests, Failed, Multi, PIECE, ReadFault, Source, SourceFault,
     digest_reader, digest_through, piece_buffer, read_to_end_within,
 };
 use std::alloc::{AllocError, Global};
@@ -178,6 +180,69 @@ impl Read for Breaking {
         self.left -= 1;
         Ok(1)
     }
+}
+
+// A reader whose answers are these, in turn: how many octets `a` it gives, or an error of this kind.
+#[derive(Drop)]
+struct Scripted {
+    answers: [Result<usize, io::ErrorKind>; 6],
+    next: usize,
+}
+
+impl Read for Scripted {
+    fn read(&mut self, buf: &mut [u8]) -> io::Result<usize> {
+        if self.next >= 6 {
+            return Ok(0);
+        }
+        let answer = self.answers[self.next];
+        self.next += 1;
+        match answer {
+            Ok(n) if n <= buf.len() => {
+                buf[..n].fill(b'a');
+                Ok(n)
+            }
+            Ok(_) => Ok(0),
+            Err(kind) => Err(io::Error::from(kind)),
+        }
+    }
+}
+
+fn zeros(alloc: Global, len: usize) -> Result<Vec<u8>, AllocError>
+    ensures { IfOk result (λ buffer. vec_len buffer ≡ len) }
+{
+    vec![in alloc; 0u8; len]
+}
+
+// A source of so many octets, which it doesn't write.
+#[derive(Drop)]
+struct Blank {
+    left: u64,
+}
+
+impl Source for Blank {
+    ghost remaining = { λ _. None };
+
+    ghost failures = { λ _. 0 };
+
+    ghost ready = { λ _. Unit {0} };
+
+    ghost is_open = { λ _. true };
+
+    ghost keeps = { λ _ _. Unit {0} };
+
+    fn read(&mut self, buf: &mut [u8]) -> Result<usize, Failed> {
+        let n = self.left.min(buf.len() as u64);
+        self.left -= n;
+        Ok(n as usize)
+    }
+
+    fn failures(&self) -> u64 {
+        0
+    }
+
+    ghost keeps_itself = { λ _. tt };
+
+    ghost keeps_on = { λ _ _ _ _ _. tt };
 }
 
 #[test]
@@ -364,4 +429,38 @@ fn a_reader_that_fails_in_mid_stream(rt: HostRuntime) {
     let mut past = Counted::new(Breaking { left: 5 });
     let fault = digest_through(&mut buffer, &mut past, all(), 4);
     assert_eq!(rt; fault, Err(SourceFault::TooLarge));
+}
+
+#[test]
+fn each_error_of_a_reader_is_handed_on_and_counted(rt: HostRuntime) {
+    let answers = [
+        Ok(3),
+        Err(io::ErrorKind::Interrupted),
+        Err(io::ErrorKind::BrokenPipe),
+        Ok(1),
+        Err(io::ErrorKind::Interrupted),
+        Ok(0),
+    ];
+    let mut reader = Counted::new(Scripted { answers, next: 0 });
+    let mut buffer = [0; 4];
+    for (answer, failures) in answers.iter().zip([0, 1, 2, 2, 3, 3].iter()) {
+        assert_eq!(rt; reader.read(&mut buffer).ok(), answer.ok());
+        assert_eq!(rt; reader.failures(), *failures);
+    }
+}
+
+#[test]
+fn two_to_the_fortieth_octets_are_within_that_limit_and_one_more_is_not(
+    rt: HostRuntime,
+) -> Result<(), Fail> {
+    let limit = 1 << 40;
+    let mut buffer = zeros(rt.alloc(), 1 << 26)?;
+    let mut within = Blank { left: limit };
+    let (length, _) = digest_through(buffer.as_mut_slice(), &mut within, AlgSet::empty(), limit)?;
+    assert_eq!(rt; length, 1_099_511_627_776);
+    let mut past = Blank { left: limit + 1 };
+    let fault = digest_through(buffer.as_mut_slice(), &mut past, AlgSet::empty(), limit);
+    assert_eq!(rt; fault, Err(SourceFault::TooLarge));
+    assert_eq!(rt; past.left, 0);
+    Ok(())
 }

@@ -9,32 +9,32 @@ use Rattle.std.proofs.lemmas.List.Concat.{flat_map-cons}
 use Rattle.std.proofs.lemmas.Bool.Decides.{eqb_tells}
 use Rattle.bag_path.specs.declared.lines.Ending.{Ending}
 use Rattle.bag_path.specs.declared.lines.Ending.TheVariants.{Lf, Cr, CrLf, Nothing}
-use Rattle.bag_path.specs.Lines.{Text, line, ending_octets, octets_of, joined, IsPlain, is_lone_lf, MayStand, AreLines, HasLines, put_cr, put_plain, lines_of, written_lines}
+use Rattle.bag_path.specs.Lines.{Text, line, ending_octets, octets_of_line, octets_of_lines, IsPlain, is_lone_lf, MayStand, AreLines, HasLines, lines_with_cr, lines_with_octet, lines_of, written_lines}
 
 -- a plain octet
-plain_step : (octet : ℕ) (octets : List ℕ) → IsPlain octet → lines_of (octet ∷ octets) ≡ put_plain octet (lines_of octets)
+plain_step : (octet : ℕ) (octets : List ℕ) → IsPlain octet → lines_of (octet ∷ octets) ≡ lines_with_octet octet (lines_of octets)
 unfolding lines_of
 plain_step octet octets h = rw (ne_eqb octet 10 h.0, ne_eqb octet 13 h.1) refl
 
 -- a text before lines goes onto the first
 text_step : (text rest : List ℕ) (next : Text) (lines : List Text) → AllByRecursion IsPlain text → lines_of rest ≡ next ∷ lines → lines_of (text ++ rest) ≡ line (text ++ next.text) next.ending ∷ lines
 text_step [] rest next lines h e = e
-text_step (x ∷ text) rest next lines h e = plain_step x (text ++ rest) h.0 ∙ ap (put_plain x) (text_step text rest next lines h.1 e)
+text_step (x ∷ text) rest next lines h e = plain_step x (text ++ rest) h.0 ∙ ap (lines_with_octet x) (text_step text rest next lines h.1 e)
 
 -- a text and nothing else
 last_step : (x : ℕ) (text : List ℕ) → IsPlain x → AllByRecursion IsPlain text → lines_of (x ∷ text) ≡ line (x ∷ text) Nothing ∷ []
 unfolding lines_of
 last_step x [] p h = plain_step x [] p
-last_step x (y ∷ text) p h = plain_step x (y ∷ text) p ∙ ap (put_plain x) (last_step y text h.0 h.1)
+last_step x (y ∷ text) p h = plain_step x (y ∷ text) p ∙ ap (lines_with_octet x) (last_step y text h.0 h.1)
 
 -- an ending, before octets whose lines are known
-ending_step : (ending : Ending) (rest : List ℕ) (lines : List Text) → ending ≢ Nothing → MayStand [] ending lines → lines_of rest ≡ lines → lines_of (ending_octets ending ++ rest) ≡ line [] ending ∷ lines
+ending_step : (text : List ℕ) (ending : Ending) (rest : List ℕ) (lines : List Text) → ending ≢ Nothing → MayStand text ending lines → lines_of rest ≡ lines → lines_of (ending_octets ending ++ rest) ≡ line [] ending ∷ lines
 unfolding lines_of
-ending_step Lf rest lines n h e = ap (λ ls. line [] Lf ∷ ls) e
-ending_step CrLf rest lines n h e = ap (λ ls. line [] CrLf ∷ ls) e
-ending_step Cr rest [] n h e = ap put_cr e
-ending_step Cr rest (next ∷ lines) n h e = ap put_cr e ∙ ap (λ b. if b then line [] CrLf ∷ lines else line [] Cr ∷ next ∷ lines) h
-ending_step Nothing rest lines n h e = absurd (n refl)
+ending_step text Lf rest lines n h e = ap (λ ls. line [] Lf ∷ ls) e
+ending_step text CrLf rest lines n h e = ap (λ ls. line [] CrLf ∷ ls) e
+ending_step text Cr rest [] n h e = ap lines_with_cr e
+ending_step text Cr rest (next ∷ lines) n h e = ap lines_with_cr e ∙ ap (λ b. if b then line [] CrLf ∷ lines else line [] Cr ∷ next ∷ lines) h
+ending_step text Nothing rest lines n h e = absurd (n refl)
 
 -- an octet is LF, CR or plain
 by_octet : (P : ℕ → Type 0) → P 10 → P 13 → ((x : ℕ) → IsPlain x → P x) → (x : ℕ) → P x
@@ -48,38 +48,30 @@ more_text x text Cr [] h = tt
 more_text x text Cr (next ∷ lines) h = h
 more_text x text Nothing lines h = (λ e. cc, h.1)
 
--- and, where it has an ending, one with none
-less_text : (text : List ℕ) (ending : Ending) (lines : List Text) → ending ≢ Nothing → MayStand text ending lines → MayStand [] ending lines
-less_text text Lf lines n h = tt
-less_text text CrLf lines n h = tt
-less_text text Cr [] n h = tt
-less_text text Cr (next ∷ lines) n h = h
-less_text text Nothing lines n h = absurd (n refl)
-
 -- a text with an ending, before octets whose lines are known
 ended_step : (text : List ℕ) (ending : Ending) (rest : List ℕ) (lines : List Text) → AllByRecursion IsPlain text → ending ≢ Nothing → MayStand text ending lines → lines_of rest ≡ lines → lines_of ((text ++ ending_octets ending) ++ rest) ≡ line text ending ∷ lines
 ended_step text ending rest lines p n h e =
     ap lines_of (append_assoc text (ending_octets ending) rest)
-    ∙ text_step text (ending_octets ending ++ rest) (line [] ending) lines p (ending_step ending rest lines n (less_text text ending lines n h) e)
+    ∙ text_step text (ending_octets ending ++ rest) (line [] ending) lines p (ending_step text ending rest lines n h e)
     ∙ ap (λ t. line t ending ∷ lines) (append-nil text)
 
 -- the first line, before octets whose lines are known
-pub first_step : (text : List ℕ) (ending : Ending) (rest : List ℕ) (lines : List Text) → AllByRecursion IsPlain text → MayStand text ending lines → lines_of rest ≡ lines → rest ≡ joined lines → lines_of ((text ++ ending_octets ending) ++ rest) ≡ line text ending ∷ lines
+pub first_step : (text : List ℕ) (ending : Ending) (rest : List ℕ) (lines : List Text) → AllByRecursion IsPlain text → MayStand text ending lines → lines_of rest ≡ lines → rest ≡ octets_of_lines lines → lines_of ((text ++ ending_octets ending) ++ rest) ≡ line text ending ∷ lines
 first_step text Lf rest lines p h e j = ended_step text Lf rest lines p (λ e. cc) h e
 first_step text CrLf rest lines p h e j = ended_step text CrLf rest lines p (λ e. cc) h e
 first_step text Cr rest lines p h e j = ended_step text Cr rest lines p (λ e. cc) h e
 first_step [] Nothing rest lines p h e j = absurd (h.0 refl)
 first_step (x ∷ text) Nothing rest lines p h e j =
-    let nothing : rest ≡ [] = j ∙ ap joined h.1 in
+    let nothing : rest ≡ [] = j ∙ ap octets_of_lines h.1 in
     ap (λ r. lines_of (((x ∷ text) ++ []) ++ r)) nothing
     ∙ ap lines_of (append-nil ((x ∷ text) ++ []) ∙ append-nil (x ∷ text))
     ∙ last_step x text p.0 p.1 ∙ ap (λ ls. line (x ∷ text) Nothing ∷ ls) (sym h.1)
 
 -- no other lines are
-pub only_lines : (lines : List Text) → AreLines lines → lines_of (joined lines) ≡ lines
+pub only_lines : (lines : List Text) → AreLines lines → lines_of (octets_of_lines lines) ≡ lines
 unfolding lines_of
 only_lines [] h = refl
-only_lines (l ∷ lines) h = ap lines_of (flat_map-cons octets_of l lines) ∙ first_step l.text l.ending (joined lines) lines h.0 h.1 (only_lines lines h.2) refl
+only_lines (l ∷ lines) h = ap lines_of (flat_map-cons octets_of_line l lines) ∙ first_step l.text l.ending (octets_of_lines lines) lines h.0 h.1 (only_lines lines h.2) refl
 
 -- whether a line is an empty one ended by LF
 lone : (text : List ℕ) (ending : Ending) → ((is_lone_lf text ending ≡ true) × (text ≡ []) × (ending ≡ Lf)) ⊎ (is_lone_lf text ending ≡ false)
@@ -89,28 +81,28 @@ lone [] CrLf = inr refl
 lone [] Nothing = inr refl
 lone (x ∷ text) ending = inr refl
 
-joined_cr : (lines : List Text) → joined (put_cr lines) ≡ 13 ∷ joined lines
+joined_cr : (lines : List Text) → octets_of_lines (lines_with_cr lines) ≡ 13 ∷ octets_of_lines lines
 joined_cr [] = refl
 joined_cr (next ∷ lines) = elim (lone next.text next.ending) [ inl h ↦ rw (h.0, h.1, h.2) refl | inr h ↦ rw h refl ]
 
-joined_plain : (x : ℕ) (lines : List Text) → joined (put_plain x lines) ≡ x ∷ joined lines
+joined_plain : (x : ℕ) (lines : List Text) → octets_of_lines (lines_with_octet x lines) ≡ x ∷ octets_of_lines lines
 joined_plain x [] = refl
 joined_plain x (next ∷ lines) = refl
 
-pub joined_lines : (octets : List ℕ) → octets ≡ joined (lines_of octets)
+pub joined_lines : (octets : List ℕ) → octets ≡ octets_of_lines (lines_of octets)
 unfolding lines_of
 joined_lines [] = refl
-joined_lines (x ∷ octets) = by_octet (λ x. x ∷ octets ≡ joined (lines_of (x ∷ octets)))
+joined_lines (x ∷ octets) = by_octet (λ x. x ∷ octets ≡ octets_of_lines (lines_of (x ∷ octets)))
     (ap (λ os. 10 ∷ os) (joined_lines octets))
     (ap (λ os. 13 ∷ os) (joined_lines octets) ∙ sym (joined_cr (lines_of octets)))
-    (λ x p. ap (λ os. x ∷ os) (joined_lines octets) ∙ sym (joined_plain x (lines_of octets)) ∙ ap joined (sym (plain_step x octets p)))
+    (λ x p. ap (λ os. x ∷ os) (joined_lines octets) ∙ sym (joined_plain x (lines_of octets)) ∙ ap octets_of_lines (sym (plain_step x octets p)))
     x
 
-lines_cr : (lines : List Text) → AreLines lines → AreLines (put_cr lines)
+lines_cr : (lines : List Text) → AreLines lines → AreLines (lines_with_cr lines)
 lines_cr [] h = (tt, tt, tt)
 lines_cr (next ∷ lines) h = elim (lone next.text next.ending) [ inl e ↦ rw e.0 (tt, tt, h.2) | inr e ↦ rw e (tt, e, h) ]
 
-lines_plain : (x : ℕ) (lines : List Text) → IsPlain x → AreLines lines → AreLines (put_plain x lines)
+lines_plain : (x : ℕ) (lines : List Text) → IsPlain x → AreLines lines → AreLines (lines_with_octet x lines)
 lines_plain x [] p h = ((p, tt), (λ e. cc, refl), tt)
 lines_plain x (next ∷ lines) p h = ((p, h.0), more_text x next.text next.ending lines h.1, h.2)
 
@@ -127,14 +119,14 @@ are_lines (x ∷ octets) = by_octet (λ x. AreLines (lines_of (x ∷ octets)))
 pub one_list : (octets : List ℕ) (lines : List Text) → (HasLines octets lines → lines ≡ lines_of octets) × (lines ≡ lines_of octets → HasLines octets lines)
 one_list octets lines = (
   λ h. sym (only_lines lines h.each) ∙ ap lines_of (sym h.whole),
-  λ e. record { whole = joined_lines octets ∙ ap joined (sym e); each = subst AreLines (sym e) (are_lines octets) },
+  λ e. record { whole = joined_lines octets ∙ ap octets_of_lines (sym e); each = subst AreLines (sym e) (are_lines octets) },
 )
 
-begins_cr : (text : List ℕ) (lines : List Text) → MayStand text Cr (put_cr lines)
+begins_cr : (text : List ℕ) (lines : List Text) → MayStand text Cr (lines_with_cr lines)
 begins_cr text [] = refl
 begins_cr text (next ∷ lines) = elim (lone next.text next.ending) [ inl e ↦ rw e.0 refl | inr e ↦ rw e refl ]
 
-begins_plain : (text : List ℕ) (x : ℕ) (lines : List Text) → MayStand text Cr (put_plain x lines)
+begins_plain : (text : List ℕ) (x : ℕ) (lines : List Text) → MayStand text Cr (lines_with_octet x lines)
 begins_plain text x [] = refl
 begins_plain text x (next ∷ lines) = refl
 
@@ -161,7 +153,7 @@ all_of : (n : ℕ) (rest : List ℕ) → n ≡ length rest → take n rest ≡ r
 all_of n rest e = rw e (take-length rest)
 
 -- where the text ends, LF or CR stands
-pub get_first : (octets rest : List ℕ) (n : ℕ) → rest ≡ drop n octets → (get_or octets n 0 ≡ 10) ⊎ (get_or octets n 0 ≡ 13) → (get_or rest 0 0 ≡ 10 → ⊥) → get_or rest 0 0 ≡ 13
+pub get_first : (octets rest : List ℕ) (n : ℕ) → rest ≡ drop n octets → (get_or octets n 0 ≡ 10) ⊎ (get_or octets n 0 ≡ 13) → get_or rest 0 0 ≢ 10 → get_or rest 0 0 ≡ 13
 get_first octets rest n e h k =
     let same : get_or rest 0 0 ≡ get_or octets n 0 = ap (λ r. get_or r 0 0) e ∙ get_or-drop n octets 0 0 ∙ ap (λ i. get_or octets i 0) (omega arith) in
     elim h [ inl a ↦ absurd (k (same ∙ a)) | inr a ↦ same ∙ a ]
@@ -192,10 +184,10 @@ are_lf_lines : (texts : List (List ℕ)) → AllByRecursion (All IsPlain) texts 
 are_lf_lines [] h = tt
 are_lf_lines (text ∷ texts) h = (recursion_from_All IsPlain text h.0, tt, are_lf_lines texts h.1)
 
-joined-lf_lines : (texts : List (List ℕ)) → written_lines texts ≡ joined (map (λ text. line text Lf) texts)
-joined-lf_lines [] = refl
-joined-lf_lines (text ∷ texts) = ap (λ octets. (text ++ 10 ∷ []) ++ octets) (joined-lf_lines texts)
+octets_of_lines-lf_lines : (texts : List (List ℕ)) → written_lines texts ≡ octets_of_lines (map (λ text. line text Lf) texts)
+octets_of_lines-lf_lines [] = refl
+octets_of_lines-lf_lines (text ∷ texts) = ap (λ octets. (text ++ 10 ∷ []) ++ octets) (octets_of_lines-lf_lines texts)
 
 pub lines_of-written_lines : (texts : List (List ℕ)) → All (All IsPlain) texts → lines_of (written_lines texts) ≡ map (λ text. line text Lf) texts
 lines_of-written_lines texts h =
-    ap lines_of (joined-lf_lines texts) ∙ only_lines (map (λ text. line text Lf) texts) (are_lf_lines texts (recursion_from_All (All IsPlain) texts h))
+    ap lines_of (octets_of_lines-lf_lines texts) ∙ only_lines (map (λ text. line text Lf) texts) (are_lf_lines texts (recursion_from_All (All IsPlain) texts h))

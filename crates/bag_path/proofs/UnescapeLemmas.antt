@@ -2,13 +2,12 @@
 use Rattle.std.proofs.Common.{◌≡◌, ◌⊎◌, ℕ, List, Some, None, Result, Ok, Err, IfOk, IfErr, refl, sym, subst, ap, ◌∙◌, inl, inr}
 use Rattle.bag_path.specs.declared.path.PathFault.{PathFault}
 use Rattle.bag_path.specs.declared.path.PathFault.TheVariants.{Empty, TooLong, EmptySegment, DotSegment, Nul, PayloadRoot, Memory, BadEscape}
-use Rattle.bag_path.specs.declared.spelling.Version.{Version}
-use Rattle.bag_path.specs.declared.spelling.Version.TheVariants.{V1}
+use Rattle.bag_path.specs.declared.version.Version.{Version}
 use Rattle.bag_path.specs.Paths.{IsPath, Refuses, path_fault}
-use Rattle.bag_path.specs.SpellingReading.{spelled, path_or_fault, spelled_path, unescaped}
-use Rattle.bag_path.specs.Spellings.{Spells, SpellsNothing, RefusesSpelling, written}
+use Rattle.bag_path.specs.SpellingReading.{octets_spelled}
+use Rattle.bag_path.specs.Spellings.{Spells, SpellsNothing, RefusesSpelling}
 use Rattle.bag_path.proofs.PathLemmas.{no_fault_if_path, no_bad_escape}
-use Rattle.bag_path.proofs.SpellsLemmas.{spells_if_read, read_if_spells, one_path, nothing_if_none, written_spells}
+use Rattle.bag_path.proofs.SpellsLemmas.{spells_if_read, one_path, nothing_if_none}
 
 -- what is answered for octets that a text spells
 pub record IsAnswer (octets : List ℕ) (answer : Result (List ℕ) PathFault) : Type 0 where
@@ -16,7 +15,7 @@ pub record IsAnswer (octets : List ℕ) (answer : Result (List ℕ) PathFault) :
   pub path : IfOk answer IsPath
   pub fault : IfErr answer (λ fault. Refuses fault octets)
 
-pub answer_path : (version : Version) (text octets : List ℕ) (answer : Result (List ℕ) PathFault) → spelled version text ≡ Some octets → IsAnswer octets answer → IfOk answer (λ path. Spells version path text × IsPath path)
+pub answer_path : (version : Version) (text octets : List ℕ) (answer : Result (List ℕ) PathFault) → octets_spelled version text ≡ Some octets → IsAnswer octets answer → IfOk answer (λ path. Spells version path text × IsPath path)
 answer_path version text octets (Ok path) e h = (spells_if_read version path text (e ∙ ap Some (sym h.text)), h.path)
 answer_path version text octets (Err fault) e h = tt
 
@@ -35,7 +34,7 @@ accepted_octets : (octets : List ℕ) (answer : Result (List ℕ) PathFault) →
 accepted_octets octets (Ok path) p h = inl (ap Ok h.text)
 accepted_octets octets (Err fault) p h = inr (ap Err (refused_path fault octets (no_fault_if_path octets p) h.fault))
 
-pub answer_accepted : (version : Version) (text octets : List ℕ) (answer : Result (List ℕ) PathFault) → spelled version text ≡ Some octets → IsAnswer octets answer → (path : List ℕ) → Spells version path text → IsPath path → (answer ≡ Ok path) ⊎ (answer ≡ Err Memory)
+pub answer_accepted : (version : Version) (text octets : List ℕ) (answer : Result (List ℕ) PathFault) → octets_spelled version text ≡ Some octets → IsAnswer octets answer → (path : List ℕ) → Spells version path text → IsPath path → (answer ≡ Ok path) ⊎ (answer ≡ Err Memory)
 answer_accepted version text octets answer e h path s p =
     let same = one_path version octets path text (spells_if_read version octets text e) s in
     subst (λ path. (answer ≡ Ok path) ⊎ (answer ≡ Err Memory)) same (accepted_octets octets answer (subst IsPath (sym same) p) h)
@@ -50,36 +49,19 @@ refused_spelling version text octets DotSegment s h = (octets, s, h)
 refused_spelling version text octets Nul s h = (octets, s, h)
 refused_spelling version text octets PayloadRoot s h = (octets, s, h)
 
-pub answer_fault : (version : Version) (text octets : List ℕ) (answer : Result (List ℕ) PathFault) → spelled version text ≡ Some octets → IsAnswer octets answer → IfErr answer (λ fault. RefusesSpelling fault version text)
+pub answer_fault : (version : Version) (text octets : List ℕ) (answer : Result (List ℕ) PathFault) → octets_spelled version text ≡ Some octets → IsAnswer octets answer → IfErr answer (λ fault. RefusesSpelling fault version text)
 answer_fault version text octets (Ok path) e h = tt
 answer_fault version text octets (Err fault) e h = refused_spelling version text octets fault (spells_if_read version octets text e) h.fault
 
-pub answer_nothing : (version : Version) (text octets : List ℕ) (answer : Result (List ℕ) PathFault) → spelled version text ≡ Some octets → SpellsNothing version text → (answer ≡ Err BadEscape) ⊎ (answer ≡ Err Memory)
+pub answer_nothing : (version : Version) (text octets : List ℕ) (answer : Result (List ℕ) PathFault) → octets_spelled version text ≡ Some octets → SpellsNothing version text → (answer ≡ Err BadEscape) ⊎ (answer ≡ Err Memory)
 answer_nothing version text octets answer e h = absurd (h octets (spells_if_read version octets text e))
 
 abbrev refusal : PathFault → Result (List ℕ) PathFault
 refusal fault = Err fault
 
-refused_reading : (octets : List ℕ) (fault : PathFault) → Refuses fault octets → (refusal fault ≡ spelled_path (Some octets)) ⊎ (refusal fault ≡ refusal Memory)
-refused_reading octets Memory h = inr refl
-refused_reading octets BadEscape h = inl (rw h refl)
-refused_reading octets Empty h = inl (rw h refl)
-refused_reading octets TooLong h = inl (rw h refl)
-refused_reading octets EmptySegment h = inl (rw h refl)
-refused_reading octets DotSegment h = inl (rw h refl)
-refused_reading octets Nul h = inl (rw h refl)
-refused_reading octets PayloadRoot h = inl (rw h refl)
-
-octets_reading : (octets : List ℕ) (answer : Result (List ℕ) PathFault) → IsAnswer octets answer → (answer ≡ spelled_path (Some octets)) ⊎ (answer ≡ Err Memory)
-octets_reading octets (Ok path) h = let none = no_fault_if_path path h.path in inl (rw (← h.text) (rw none refl))
-octets_reading octets (Err fault) h = refused_reading octets fault h.fault
-
-pub answer_reading : (version : Version) (text octets : List ℕ) (answer : Result (List ℕ) PathFault) → spelled version text ≡ Some octets → IsAnswer octets answer → (answer ≡ unescaped version text) ⊎ (answer ≡ Err Memory)
-answer_reading version text octets answer e h = subst (λ read. (answer ≡ spelled_path read) ⊎ (answer ≡ Err Memory)) (sym e) (octets_reading octets answer h)
-
 -- how reading fails
 abbrev pub FailsBy : PathFault → Version → List ℕ → Type 0
-FailsBy fault version text = (fault ≡ Memory) ⊎ ((fault ≡ BadEscape) × (spelled version text ≡ None))
+FailsBy fault version text = (fault ≡ Memory) ⊎ ((fault ≡ BadEscape) × (octets_spelled version text ≡ None))
 
 pub failed_accepted : (version : Version) (text : List ℕ) (fault : PathFault) → FailsBy fault version text → (path : List ℕ) → Spells version path text → IsPath path → (refusal fault ≡ Ok path) ⊎ (refusal fault ≡ Err Memory)
 failed_accepted version text fault (inl e) path s p = inr (ap Err e)
@@ -88,9 +70,3 @@ failed_accepted version text fault (inr e) path s p = absurd (nothing_if_none ve
 pub failed_fault : (version : Version) (text : List ℕ) (fault : PathFault) → FailsBy fault version text → RefusesSpelling fault version text
 failed_fault version text fault (inl e) = subst (λ fault. RefusesSpelling fault version text) (sym e) tt
 failed_fault version text fault (inr e) = subst (λ fault. RefusesSpelling fault version text) (sym e.0) (nothing_if_none version text e.1)
-
--- what is written is read again
-pub written_again : (path : List ℕ) → IsPath path → unescaped V1 (written path) ≡ Ok path
-written_again path p =
-    ap spelled_path (read_if_spells V1 path (written path) (written_spells path))
-    ∙ ap (path_or_fault path) (no_fault_if_path path p)

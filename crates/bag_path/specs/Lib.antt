@@ -1,5 +1,6 @@
 pub mod Lines
 pub mod LinesLeft
+pub mod Octets
 pub mod Paths
 pub mod SpellingReading
 pub mod Spellings

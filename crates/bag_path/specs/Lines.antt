@@ -4,6 +4,7 @@ use Rattle.std.specs.Prelude.{◌≡◌, ◌≢◌, ◌==◌, ℕ, Bool, true, f
 use Rattle.std.specs.List.{AllByRecursion, flat_map}
 use Rattle.bag_path.specs.declared.lines.Ending.{Ending}
 use Rattle.bag_path.specs.declared.lines.Ending.TheVariants.{Lf, Cr, CrLf, Nothing}
+use Rattle.bag_path.specs.Octets.{lf, cr}
 
 -- a line without where it lies in memory
 pub record Text : Type 0 where
@@ -14,21 +15,21 @@ abbrev pub line : List ℕ → Ending → Text
 line text ending = record { text = text; ending = ending }
 
 abbrev pub ending_octets : Ending → List ℕ
-ending_octets Lf = 10 ∷ []
-ending_octets Cr = 13 ∷ []
-ending_octets CrLf = 13 ∷ 10 ∷ []
+ending_octets Lf = lf ∷ []
+ending_octets Cr = cr ∷ []
+ending_octets CrLf = cr ∷ lf ∷ []
 ending_octets Nothing = []
 
 -- a line as it stands in the octets
-abbrev pub octets_of : Text → List ℕ
-octets_of line = line.text ++ ending_octets line.ending
+abbrev pub octets_of_line : Text → List ℕ
+octets_of_line line = line.text ++ ending_octets line.ending
 
-abbrev pub joined : List Text → List ℕ
-joined lines = flat_map octets_of lines
+abbrev pub octets_of_lines : List Text → List ℕ
+octets_of_lines lines = flat_map octets_of_line lines
 
 -- neither LF nor CR
 abbrev pub IsPlain : ℕ → Type 0
-IsPlain octet = (octet ≢ 10) × (octet ≢ 13)
+IsPlain octet = (octet ≢ lf) × (octet ≢ cr)
 
 abbrev pub is_lone_lf : List ℕ → Ending → Bool
 is_lone_lf [] Lf = true
@@ -43,31 +44,34 @@ MayStand text _ lines = Unit {0}
 
 abbrev pub AreLines : List Text → Type 0
 AreLines [] = Unit {0}
-AreLines (line ∷ lines) = AllByRecursion IsPlain line.text × MayStand line.text line.ending lines × AreLines lines
+AreLines (line ∷ lines) =
+    AllByRecursion IsPlain line.text × MayStand line.text line.ending lines × AreLines lines
 
 -- these are the lines of the octets
 pub record HasLines (octets : List ℕ) (lines : List Text) : Type 0 where
-  pub whole : octets ≡ joined lines
+  pub whole : octets ≡ octets_of_lines lines
   pub each : AreLines lines
 
 -- texts as they are written, each ended by LF
 abbrev pub written_lines : List (List ℕ) → List ℕ
-written_lines texts = flat_map (λ text. text ++ 10 ∷ []) texts
+written_lines texts = flat_map (λ text. text ++ lf ∷ []) texts
 
 -- CR before lines: with a lone LF it is one ending
-abbrev pub put_cr : List Text → List Text
-put_cr [] = line [] Cr ∷ []
-put_cr (next ∷ lines) = if is_lone_lf next.text next.ending then line [] CrLf ∷ lines else line [] Cr ∷ next ∷ lines
+abbrev pub lines_with_cr : List Text → List Text
+lines_with_cr [] = line [] Cr ∷ []
+lines_with_cr (next ∷ lines) =
+    if is_lone_lf next.text next.ending then line [] CrLf ∷ lines
+    else line [] Cr ∷ next ∷ lines
 
 -- an octet of a text before lines goes onto the first
-abbrev pub put_plain : ℕ → List Text → List Text
-put_plain octet [] = line (octet ∷ []) Nothing ∷ []
-put_plain octet (next ∷ lines) = line (octet ∷ next.text) next.ending ∷ lines
+abbrev pub lines_with_octet : ℕ → List Text → List Text
+lines_with_octet octet [] = line (octet ∷ []) Nothing ∷ []
+lines_with_octet octet (next ∷ lines) = line (octet ∷ next.text) next.ending ∷ lines
 
 -- the lines of the octets, found from their end
 unfoldable pub lines_of : List ℕ → List Text
 lines_of [] = []
 lines_of (octet ∷ octets) =
-    if octet == 10 then line [] Lf ∷ lines_of octets
-    else if octet == 13 then put_cr (lines_of octets)
-    else put_plain octet (lines_of octets)
+    if octet == lf then line [] Lf ∷ lines_of octets
+    else if octet == cr then lines_with_cr (lines_of octets)
+    else lines_with_octet octet (lines_of octets)

@@ -1,45 +1,32 @@
 -- Reading the spelling of a path, as functions on lists. A law ties them to what a spelling is.
-use Rattle.std.specs.Prelude.{◌==◌, ◌||◌, ℕ, zero, suc, List, [], ◌∷◌, Option, Some, None, Result, Ok, Err, take, if◌then◌else◌, codes}
+use Rattle.std.specs.Prelude.{◌==◌, ◌||◌, ℕ, zero, suc, List, [], ◌∷◌, Option, Some, None, take, if◌then◌else◌, codes}
 use Rattle.std.specs.Str.{bytes_eq}
-use Rattle.bag_path.specs.declared.path.PathFault.{PathFault}
-use Rattle.bag_path.specs.declared.path.PathFault.TheVariants.{BadEscape}
-use Rattle.bag_path.specs.declared.spelling.Version.{Version}
-use Rattle.bag_path.specs.declared.spelling.Version.TheVariants.{V1}
-use Rattle.bag_path.specs.Paths.{path_fault}
+use Rattle.bag_path.specs.declared.version.Version.{Version}
+use Rattle.bag_path.specs.declared.version.Version.TheVariants.{V1}
+use Rattle.bag_path.specs.Octets.{lf, cr, percent}
 
 -- the octet that `%` and a code stand for
-abbrev pub escaped : Version → List ℕ → Option ℕ
-escaped V1 code =
-    if bytes_eq code (codes "25") then Some 37
-    else if bytes_eq code (codes "0A") || bytes_eq code (codes "0a") then Some 10
-    else if bytes_eq code (codes "0D") || bytes_eq code (codes "0d") then Some 13
+abbrev pub octet_of_escape : Version → List ℕ → Option ℕ
+octet_of_escape V1 code =
+    if bytes_eq code (codes "25") then Some percent
+    else if bytes_eq code (codes "0A") || bytes_eq code (codes "0a") then Some lf
+    else if bytes_eq code (codes "0D") || bytes_eq code (codes "0d") then Some cr
     else None
 
-abbrev pub put_first : Option ℕ → Option (List ℕ) → Option (List ℕ)
-put_first (Some octet) (Some octets) = Some (octet ∷ octets)
-put_first _ _ = None
+abbrev pub octets_with_first : Option ℕ → Option (List ℕ) → Option (List ℕ)
+octets_with_first (Some octet) (Some octets) = Some (octet ∷ octets)
+octets_with_first _ _ = None
 
 -- the octets that a text spells, from the place after this many octets, which an escape took
-unfoldable pub spelled_after : ℕ → Version → List ℕ → Option (List ℕ)
-spelled_after taken version [] = Some []
-spelled_after (suc taken) version (octet ∷ text) = spelled_after taken version text
-spelled_after zero version (octet ∷ text) =
-    if octet == 37 then put_first (escaped version (take 2 text)) (spelled_after 2 version text)
-    else put_first (Some octet) (spelled_after 0 version text)
+unfoldable pub octets_spelled_after : ℕ → Version → List ℕ → Option (List ℕ)
+octets_spelled_after taken version [] = Some []
+octets_spelled_after (suc taken) version (octet ∷ text) = octets_spelled_after taken version text
+octets_spelled_after zero version (octet ∷ text) =
+    if octet == percent
+    then octets_with_first (octet_of_escape version (take 2 text))
+    (octets_spelled_after 2 version text)
+    else octets_with_first (Some octet) (octets_spelled_after 0 version text)
 
 -- the octets that a text spells, if it spells any
-abbrev pub spelled : Version → List ℕ → Option (List ℕ)
-spelled version text = spelled_after 0 version text
-
--- octets as a path, or their first fault
-abbrev pub path_or_fault : List ℕ → Option PathFault → Result (List ℕ) PathFault
-path_or_fault octets None = Ok octets
-path_or_fault octets (Some fault) = Err fault
-
-abbrev pub spelled_path : Option (List ℕ) → Result (List ℕ) PathFault
-spelled_path None = Err BadEscape
-spelled_path (Some octets) = path_or_fault octets (path_fault octets)
-
--- the path that a text spells, or its fault
-abbrev pub unescaped : Version → List ℕ → Result (List ℕ) PathFault
-unescaped version text = spelled_path (spelled version text)
+abbrev pub octets_spelled : Version → List ℕ → Option (List ℕ)
+octets_spelled version text = octets_spelled_after 0 version text

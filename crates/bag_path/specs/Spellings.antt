@@ -3,28 +3,30 @@ use Rattle.std.specs.Prelude.{◌≡◌, ◌≢◌, ◌⊎◌, ◌==◌, ℕ, Li
 use Rattle.std.specs.List.{flat_map}
 use Rattle.bag_path.specs.declared.path.PathFault.{PathFault}
 use Rattle.bag_path.specs.declared.path.PathFault.TheVariants.{Memory, BadEscape}
-use Rattle.bag_path.specs.declared.spelling.Version.{Version}
-use Rattle.bag_path.specs.declared.spelling.Version.TheVariants.{V1}
+use Rattle.bag_path.specs.declared.version.Version.{Version}
+use Rattle.bag_path.specs.declared.version.Version.TheVariants.{V1}
+use Rattle.bag_path.specs.Octets.{lf, cr, percent}
 use Rattle.bag_path.specs.Paths.{Refuses}
 
 -- an escape of LF or CR, its letter in either case
 abbrev pub IsLineEscape : List ℕ → ℕ → Type 0
 IsLineEscape part octet =
-    ((octet ≡ 10) × ((part ≡ codes "%0A") ⊎ (part ≡ codes "%0a")))
-    ⊎ ((octet ≡ 13) × ((part ≡ codes "%0D") ⊎ (part ≡ codes "%0d")))
+    ((octet ≡ lf) × ((part ≡ codes "%0A") ⊎ (part ≡ codes "%0a")))
+    ⊎ ((octet ≡ cr) × ((part ≡ codes "%0D") ⊎ (part ≡ codes "%0d")))
 
 -- The part stands for the octet, where this rest follows it (what follows matters to no part of version 1.0).
 abbrev pub StandsFor : Version → List ℕ → ℕ → List ℕ → Type 0
 StandsFor V1 part octet rest =
-    ((octet ≢ 37) × (part ≡ octet ∷ []))
-    ⊎ ((octet ≡ 37) × (part ≡ codes "%25"))
+    ((octet ≢ percent) × (part ≡ octet ∷ []))
+    ⊎ ((octet ≡ percent) × (part ≡ codes "%25"))
     ⊎ IsLineEscape part octet
 
 -- The text is a joining of parts that stand for the octets of the path, one for each and in order.
 abbrev pub Spells : Version → List ℕ → List ℕ → Type 0
 Spells version [] text = text ≡ []
 Spells version (octet ∷ path) text =
-    (part rest : List ℕ) × (text ≡ part ++ rest) × StandsFor version part octet rest × Spells version path rest
+    (part rest : List ℕ)
+    × (text ≡ part ++ rest) × StandsFor version part octet rest × Spells version path rest
 
 -- the text spells no octets
 abbrev pub SpellsNothing : Version → List ℕ → Type 0
@@ -33,14 +35,14 @@ SpellsNothing version text = (path : List ℕ) → ¬ Spells version path text
 -- the part that is written for an octet
 abbrev pub written_part : ℕ → List ℕ
 written_part octet =
-    if octet == 37 then codes "%25"
-    else if octet == 10 then codes "%0A"
-    else if octet == 13 then codes "%0D"
+    if octet == percent then codes "%25"
+    else if octet == lf then codes "%0A"
+    else if octet == cr then codes "%0D"
     else octet ∷ []
 
 -- the spelling that is written
-abbrev pub written : List ℕ → List ℕ
-written path = flat_map written_part path
+abbrev pub written_spelling : List ℕ → List ℕ
+written_spelling path = flat_map written_part path
 
 -- A fault that is answered for a text: it spells no octets, or it spells some, and this is their first fault; but want of
 -- memory may come in its place.

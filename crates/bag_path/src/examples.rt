@@ -1,16 +1,18 @@
 //! Telling cases of the definitions, worked out: each function's contract is one, and its body is empty.
-ghost use Rattle.std.specs.Prelude.{◌≡◌, ℕ, List, [], ◌∷◌, ◌++◌, Some, None, codes, replicate, true, false};
+ghost use Rattle.std.specs.Prelude.{◌≡◌, ℕ, [], ◌∷◌, ◌++◌, Some, codes, replicate, true, false};
 ghost use Rattle.bag_path.specs.Lines.{HasLines, line};
+ghost use Rattle.bag_path.specs.Octets.{lf, cr};
 ghost use Rattle.bag_path.specs.Paths.{IsPath, path_fault, is_payload};
-ghost use Rattle.bag_path.specs.Spellings.{Spells, SpellsNothing, written};
+ghost use Rattle.bag_path.specs.Spellings.{Spells, SpellsNothing, written_spelling};
 ghost use Rattle.bag_path.specs.declared.lines.Ending.TheVariants.{Lf, Cr, CrLf, Nothing};
 ghost use Rattle.bag_path.specs.declared.path.PathFault.TheVariants.{Empty, TooLong, EmptySegment, DotSegment, PayloadRoot};
-ghost use Rattle.bag_path.specs.declared.spelling.Version.TheVariants.{V1};
+ghost use Rattle.bag_path.specs.declared.version.Version.TheVariants.{V1};
 
 /// A line ends at LF, CR or CR LF, and the last may end with the octets (RFC 8493 section 2.3).
 pub fn lines_end_at_lf_cr_and_cr_lf()
-    ensures { HasLines (codes "a" ++ 13 ∷ 10 ∷ codes "b" ++ 13 ∷ codes "c" ++ 10 ∷ 10 ∷ codes "d")
-        (line (codes "a") CrLf ∷ line (codes "b") Cr ∷ line (codes "c") Lf ∷ line [] Lf ∷ line (codes "d") Nothing ∷ []) }
+    ensures { HasLines (codes "a" ++ cr ∷ lf ∷ codes "b" ++ cr ∷ codes "c" ++ lf ∷ lf ∷ codes "d")
+        (line (codes "a") CrLf ∷ line (codes "b") Cr ∷ line (codes "c") Lf ∷ line [] Lf
+        ∷ line (codes "d") Nothing ∷ []) }
 {}
 
 /// No octets have no line.
@@ -20,19 +22,21 @@ pub fn no_octets_have_no_line()
 
 /// `%0A` spells LF and `%25` spells `%`, and so they are written (RFC 8493 section 2.1.3).
 pub fn escapes_spell_lf_and_percent()
-    ensures { Spells V1 (codes "data/x" ++ 10 ∷ codes "%y") (codes "data/x%0A%25y")
-        × (written (codes "data/x" ++ 10 ∷ codes "%y") ≡ codes "data/x%0A%25y") }
+    ensures { Spells V1 (codes "data/x" ++ lf ∷ codes "%y") (codes "data/x%0A%25y")
+        × (written_spelling (codes "data/x" ++ lf ∷ codes "%y") ≡ codes "data/x%0A%25y") }
 {}
 
 /// An escape in lower case is accepted, and is written in upper case (RFC 8493 section 2.1.3).
 pub fn an_escape_in_lower_case_is_written_in_upper_case()
-    ensures { Spells V1 (codes "data/" ++ 10 ∷ []) (codes "data/%0a")
-        × (written (codes "data/" ++ 10 ∷ []) ≡ codes "data/%0A") }
+    ensures { Spells V1 (codes "data/" ++ lf ∷ []) (codes "data/%0a")
+        × (written_spelling (codes "data/" ++ lf ∷ []) ≡ codes "data/%0A") }
 {}
 
 /// `%` begins no escapes but those of LF, CR and `%` itself (RFC 8493 section 2.1.3).
 pub fn other_escapes_spell_nothing()
-    ensures { SpellsNothing V1 (codes "data/%41") × SpellsNothing V1 (codes "data/%2") × SpellsNothing V1 (codes "100%") }
+    ensures { SpellsNothing V1 (codes "data/%41")
+        × SpellsNothing V1 (codes "data/%2")
+        × SpellsNothing V1 (codes "100%") }
 {}
 
 /// Segments that are empty, `.` or `..` make no path, nor does the payload directory's own name.
@@ -53,10 +57,13 @@ pub fn common_names_are_paths()
 
 /// A path may have 4,096 octets, and no more.
 pub fn a_path_has_4096_octets_at_most()
-    ensures { IsPath (replicate 4096 97) × (path_fault (replicate 4097 97) ≡ Some TooLong) }
+    ensures { let letter : ℕ = 97 in IsPath (replicate 4096 letter)
+        × (path_fault (replicate 4097 letter) ≡ Some TooLong) }
 {}
 
 /// What lies below `data/` is payload, and no other name that begins so (RFC 8493 section 2.1.2).
 pub fn payload_files_lie_below_data()
-    ensures { (is_payload (codes "data/k") ≡ true) × (is_payload (codes "data.txt") ≡ false) × (is_payload (codes "Data/k") ≡ false) }
+    ensures { (is_payload (codes "data/k") ≡ true)
+        × (is_payload (codes "data.txt") ≡ false)
+        × (is_payload (codes "Data/k") ≡ false) }
 {}

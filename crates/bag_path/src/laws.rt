@@ -1,13 +1,13 @@
 //! Laws on the definitions that the contracts of this crate cite. Each function's contract is one law, and its body is empty.
-ghost use Rattle.std.specs.Prelude.{◌≡◌, ◌↔◌, ℕ, List, All, Some, None, Ok, map};
+ghost use Rattle.std.specs.Prelude.{◌≡◌, ◌↔◌, ℕ, List, All, Some, None, map};
 ghost use Rattle.std.specs.Str.{IsUtf8};
 ghost use Rattle.bag_path.specs.Lines.{HasLines, IsPlain, Text, line, lines_of, written_lines};
 ghost use Rattle.bag_path.specs.Paths.{IsPath, path_fault};
-ghost use Rattle.bag_path.specs.SpellingReading.{spelled, unescaped};
-ghost use Rattle.bag_path.specs.Spellings.{Spells, written};
+ghost use Rattle.bag_path.specs.SpellingReading.{octets_spelled};
+ghost use Rattle.bag_path.specs.Spellings.{Spells, written_spelling};
 ghost use Rattle.bag_path.specs.declared.lines.Ending.TheVariants.{Lf};
-ghost use Rattle.bag_path.specs.declared.spelling.Version.{Version};
-ghost use Rattle.bag_path.specs.declared.spelling.Version.TheVariants.{V1};
+ghost use Rattle.bag_path.specs.declared.version.Version.{Version};
+ghost use Rattle.bag_path.specs.declared.version.Version.TheVariants.{V1};
 
 /// A text is a path exactly if it has none of the faults.
 pub fn a_path_has_no_fault()
@@ -22,23 +22,23 @@ pub fn a_text_spells_one_path_at_most()
 
 /// The written spelling of a path spells it.
 pub fn what_is_written_spells_its_path()
-    ensures { (path : List ℕ) → Spells V1 path (written path) }
+    ensures { (path : List ℕ) → Spells V1 path (written_spelling path) }
 {}
 
 /// What is written for a path has no LF and no CR, so that it stays on its line.
 pub fn what_is_written_has_no_line_end()
-    ensures { (path : List ℕ) → All IsPlain (written path) }
+    ensures { (path : List ℕ) → All IsPlain (written_spelling path) }
 {}
 
 /// The octets that are read from a text are those that it spells.
 pub fn what_is_read_is_what_is_spelled()
     ensures { (version : Version) (path text : List ℕ)
-        → Spells version path text ↔ (spelled version text ≡ Some path) }
+        → Spells version path text ↔ (octets_spelled version text ≡ Some path) }
 {}
 
-/// What is written for a path is read as that path.
+/// What is written for a path is read as the octets of that path.
 pub fn what_is_written_is_read_again()
-    ensures { (path : List ℕ) → IsPath path → unescaped V1 (written path) ≡ Ok path }
+    ensures { (path : List ℕ) → octets_spelled V1 (written_spelling path) ≡ Some path }
 {}
 
 /// Octets have exactly one list of lines.

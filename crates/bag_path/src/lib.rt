@@ -2,8 +2,9 @@
 #![tactic(auto)]
 
 pub use lines::{Ending, Line, Lines};
-pub use path::{BagPath, PathFault};
-pub use spelling::{Version, escape, unescape};
+pub use path::{BagPath, LONGEST_PATH, PathFault};
+pub use spelling::{Spelling, escape, unescape};
+pub use version::Version;
 
 pub mod examples;
 pub mod laws;
@@ -12,3 +13,4 @@ mod path;
 mod spelling;
 #[cfg(test)]
 mod tests;
+mod version;

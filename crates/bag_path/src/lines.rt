@@ -1,7 +1,8 @@
 //! The lines of octets, as tag files have them (RFC 8493 section 2.3). Octets that aren't UTF-8 have lines too.
-ghost use Rattle.std.specs.Prelude.{◌≡◌, ◌+◌, ◌<◌, ◌≤◌, ◌^◌, ◌⊎◌, ◌∷◌, ℕ, List, length, take, slice_index};
+ghost use Rattle.std.specs.Prelude.{◌≡◌, ◌+◌, ◌<◌, ◌≤◌, ◌^◌, ◌⊎◌, ◌∷◌, length, take, slice_index};
 ghost use Rattle.std.specs.List.{All};
 ghost use Rattle.bag_path.specs.Lines.{IsPlain, line, lines_of};
+ghost use Rattle.bag_path.specs.Octets.{lf, cr};
 
 /// How a line ends.
 #[derive(Clone, Copy, Debug, PartialEq, Eq)]
@@ -83,7 +84,7 @@ fn text_len(octets: &[u8]) -> usize
     ensures within { result ≤ length octets.now }
     ensures plain { All IsPlain (take result octets.now) }
     ensures ending { result < length octets.now
-        → (slice_index octets.now result ≡ 10) ⊎ (slice_index octets.now result ≡ 13) }
+        → (slice_index octets.now result ≡ lf) ⊎ (slice_index octets.now result ≡ cr) }
 {
     for (i, octet) in octets.iter().enumerate() {
         if *octet == b'\n' || *octet == b'\r' {

@@ -1,6 +1,7 @@
 //! Paths of files in a bag (RFC 8493 section 2.1.3).
-ghost use Rattle.std.specs.Prelude.{◌≡◌, ◌==◌, Bool, Some};
+ghost use Rattle.std.specs.Prelude.{◌≡◌, ◌==◌, Some};
 ghost use Rattle.std.specs.List.{list_any};
+ghost use Rattle.bag_path.specs.Octets.{nul};
 ghost use Rattle.bag_path.specs.Paths.{path_fault, has_segment, is_empty_segment, is_dot_segment};
 
 use std::alloc::{AllocError, Global};
@@ -10,6 +11,9 @@ use std::marker::Model;
 use std::rc::RcStr;
 use thiserror::Error;
 
+/// The greatest length of a path in octets. It is this project's own: the RFC sets none.
+pub const LONGEST_PATH: usize = 4096;
+
 /// Why a text is no path, or spells none. Of the first six that hold the first is answered, but `BadEscape` before them, and
 /// `Memory` may come in place of any.
 #[derive(Clone, Copy, Debug, PartialEq, Eq, PartialOrd, Ord, Error)]
@@ -17,7 +21,7 @@ pub enum PathFault {
     /// The path has no octet.
     #[error("the path is empty")]
     Empty,
-    /// The path has more than 4,096 octets.
+    /// The path has more than [`LONGEST_PATH`] octets.
     #[error("the path has more than 4,096 octets")]
     TooLong,
     /// Nothing stands between two slashes, before the first or after the last.
@@ -198,7 +202,7 @@ fn fault_of(text: &str) -> Option<PathFault>
     if text.is_empty() {
         return Some(PathFault::Empty);
     }
-    if text.len() > 4096 {
+    if text.len() > LONGEST_PATH {
         return Some(PathFault::TooLong);
     }
     if has_empty_segment(text) {
@@ -232,7 +236,7 @@ fn has_dot_segment(text: &str) -> bool
 }
 
 fn has_nul(text: &str) -> bool
-    ensures { result ≡ list_any (λ b. b == 0) text.now }
+    ensures { result ≡ list_any (λ octet. octet == nul) text.now }
 {
     text.as_bytes().iter().any(|b| *b == 0)
 }

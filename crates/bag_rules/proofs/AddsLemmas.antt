@@ -1,11 +1,6 @@
 -- Faults that are added to others.
 use Rattle.std.proofs.Common.{◌≡◌, ◌⊎◌, ◌||◌, ◌==◌, ℕ, Bool, true, false, List, [], ◌∷◌, ◌++◌, refl, sym, ap, ◌∙◌, inl, inr, subst}
-use Rattle.std.specs.List.{list_any}
-use Rattle.bag_rules.specs.declared.fault.Fault.{Fault}
-use Rattle.bag_rules.specs.Bags.{Bag}
-use Rattle.bag_rules.specs.Broken.{BrokenOf}
-use Rattle.bag_rules.specs.Faults.{Has, number_of}
-use Rattle.bag_rules.specs.Reading.{Adds}
+use Rattle.bag_rules.proofs.Words.{Adds, Bag, Fault, Has, HasFaultOf, list_any, number_of}
 use Rattle.bag_rules.proofs.HasLemmas.{has_push}
 
 pub adds_push : (old new : List Fault) (fault : Fault) → new ≡ old ++ fault ∷ [] → Adds old new (λ f. fault ≡ f)
@@ -38,6 +33,10 @@ adds_on old mid new P Q R split first second a b f = (
   ],
 )
 
+-- the same kinds, in another order
+pub adds_of : (bag : Bag) (xs ys : List ℕ) (old new : List Fault) → ((f : Fault) → list_any (λ kind. kind == number_of f) xs ≡ list_any (λ kind. kind == number_of f) ys) → Adds old new (HasFaultOf bag xs) → Adds old new (HasFaultOf bag ys)
+adds_of bag xs ys old new same a = adds_so old new (HasFaultOf bag xs) (HasFaultOf bag ys) (λ f h. (h.0, sym (same f) ∙ h.1)) (λ f h. (h.0, same f ∙ h.1)) a
+
 -- either of two tests
 any_or : (n : ℕ) (xs ys : List ℕ) → list_any (λ kind. kind == n) (xs ++ ys) ≡ (list_any (λ kind. kind == n) xs || list_any (λ kind. kind == n) ys)
 any_or n [] ys = refl
@@ -59,8 +58,8 @@ or_second true b h = refl
 or_second false b h = h
 
 -- the broken faults of some kinds, and then those of others
-pub adds_kinds : (bag : Bag) (xs ys : List ℕ) (old mid new : List Fault) → Adds old mid (BrokenOf bag xs) → Adds mid new (BrokenOf bag ys) → Adds old new (BrokenOf bag (xs ++ ys))
-adds_kinds bag xs ys old mid new a b = adds_on old mid new (BrokenOf bag xs) (BrokenOf bag ys) (BrokenOf bag (xs ++ ys))
+pub adds_kinds : (bag : Bag) (xs ys : List ℕ) (old mid new : List Fault) → Adds old mid (HasFaultOf bag xs) → Adds mid new (HasFaultOf bag ys) → Adds old new (HasFaultOf bag (xs ++ ys))
+adds_kinds bag xs ys old mid new a b = adds_on old mid new (HasFaultOf bag xs) (HasFaultOf bag ys) (HasFaultOf bag (xs ++ ys))
     (λ f h. elim (or_split (list_any (λ kind. kind == number_of f) xs) (list_any (λ kind. kind == number_of f) ys) (sym (any_or (number_of f) xs ys) ∙ h.1)) [ inl k ↦ inl (h.0, k) | inr k ↦ inr (h.0, k) ])
     (λ f h. (h.0, any_or (number_of f) xs ys ∙ or_first (list_any (λ kind. kind == number_of f) xs) (list_any (λ kind. kind == number_of f) ys) h.1))
     (λ f h. (h.0, any_or (number_of f) xs ys ∙ or_second (list_any (λ kind. kind == number_of f) xs) (list_any (λ kind. kind == number_of f) ys) h.1))

@@ -1,9 +1,6 @@
 -- What `any` says of a list.
 use Rattle.std.proofs.Common.{◌≡◌, ◌<◌, ℕ, Bool, true, false, List, length, sym, subst, arith}
-use Rattle.std.specs.Bool.{MatchBool}
-use Rattle.std.specs.List.{AllWithin, HoldsAt}
-use Rattle.std.proofs.lemmas.Option.{slice_get_within, get_or_from_slice_get}
-use Rattle.bag_rules.specs.Faults.{Has}
+use Rattle.bag_rules.proofs.Words.{AllWithin, get_or_from_slice_get, Has, HoldsAt, MatchBool, slice_get_within}
 use Rattle.bag_rules.proofs.HasLemmas.{has_at, place_of_has, stands}
 
 -- some member has P, or none has

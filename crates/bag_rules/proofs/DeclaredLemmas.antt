@@ -1,66 +1,34 @@
 -- A check from the declaration on.
-use Rattle.std.proofs.Common.{◌≡◌, ◌<◌, ◌≤◌, ◌^◌, ◌∙◌, ℕ, List, [], ◌∷◌, Some, Result, Ok, Err, MatchResult, IfErr, length, slice_get, refl, ap, subst, inl, inr, arith}
-use Rattle.std.proofs.lemmas.Option.{slice_get_within}
-use Rattle.bag_tags.specs.declared.declaration.Declaration.{Declaration}
-use Rattle.bag_tags.specs.declared.declaration.DeclarationFault.{DeclarationFault}
-use Rattle.bag_tags.specs.Declarations.{IsDeclaration, IsDeclarationFault, current}
-use Rattle.bag_tags.specs.Names.{IsUnknownManifest}
-use Rattle.bag_tags.proofs.DeclarationLemmas.{excludes, one_fault, one_declaration}
-use Rattle.bag_rules.specs.declared.fault.Fault.{Fault}
-use Rattle.bag_rules.specs.declared.fault.Fault.TheVariants.{NoDeclaration, BadDeclaration, NoPayloadDir, NoManifest, BadLine, ManifestNotListed, OxumForm, OxumTwice, Missing, Unlisted, FetchNotListed, FetchLength, OxumWrong, WrongDigest}
-use Rattle.bag_rules.specs.declared.outcome.CheckFault.{CheckFault}
-use Rattle.bag_rules.specs.declared.outcome.CheckFault.TheVariants.{Memory}
-use Rattle.bag_rules.specs.declared.outcome.Outcome.{Outcome}
-use Rattle.bag_rules.specs.declared.outcome.Outcome.TheVariants.{Judged, Outside}
-use Rattle.bag_rules.specs.declared.outcome.OutsideCause.{OutsideCause}
-use Rattle.bag_rules.specs.declared.outcome.OutsideCause.TheVariants.{Version, Encoding, Algorithm}
-use Rattle.bag_rules.specs.Bags.{Bag, Holds, IsThere, Declares, declaration_file, paths_of}
-use Rattle.bag_rules.specs.Broken.{Broken}
-use Rattle.bag_rules.specs.Judging.{HasFaults, MatchOutside, NoneUnknown, IsFirstUnknownOf}
-use Rattle.bag_rules.specs.Limits.{Stopped, NoneStops, FirstStops, DeclarationStops, ProfileStops, WorkStops, IsLongTag}
-use Rattle.bag_rules.specs.Trees.{AreRising}
-use Rattle.bag_rules.specs.Validity.{Means}
-use Rattle.bag_rules.specs.Verdicts.{IsVerdict, IsFirstUnknown, IsInProfile, IsOutside, tier_of}
-use Rattle.bag_rules.proofs.LimitLemmas.{none_first, stopped_memory, stopped_so}
+use Rattle.std.proofs.Common.{◌≡◌, ◌<◌, ◌≤◌, ◌^◌, ◌∙◌, ◌==◌, ◌&&◌, if◌then◌else◌, ℕ, Bool, true, false, None, List, [], ◌∷◌, Some, Result, Ok, Err, MatchResult, Global, String, string_bytes, length, slice_get, refl, ap, subst, inl, inr, arith}
+use Rattle.bag_rules.proofs.Words.{Algorithm, and_parts, AreRising, BadDeclaration, BadLine, Bag, CheckFault, current, Declaration, declaration_file, DeclarationStops, Declares, DeclFault, Encoding, Ended, ended_by, eqb-true, excludes, Fault, FetchLength, FetchNotListed, FirstStops, HasFault, Holds, IsDeclaration, IsDeclarationFault, IsFirstUnknown, IsFirstUnknownOf, IsInProfile, IsJudged, IsLongTag, IsOutside, IsProfile, IsThere, IsUnknownManifest, IsVerdict, Judged, Known, ManifestNotListed, MatchOutside, Means, Missing, NoDeclaration, NoManifest, NoneStops, NoneUnknown, NoPayloadDir, one_declaration, one_fault, Outcome, Outside, OutsideCause, OxumForm, OxumTwice, OxumWrong, ProfileStops, slice_get_within, Stopped, tier_of, Unlisted, V1, WorkStops, WrongDigest}
+use Rattle.bag_path.specs.declared.version.Version as format
+use Rattle.bag_tags.specs.Declarations.{version_of}
+use Rattle.bag_rules.specs.declared.outcome.OutsideCause.TheVariants.{Version}
+use Rattle.bag_rules.specs.Bags.{paths_of}
+use Rattle.bag_rules.proofs.LimitLemmas.{none_first, stopped_so}
+use Rattle.bag_rules.proofs.OneVerdictLemmas.{lone}
 use Rattle.bag_rules.proofs.RisingPaths.{higher}
 use Rattle.bag_rules.proofs.TreeLemmas.{file_of_path, one_file, one_octets, shown_at}
 use Rattle.bag_rules.proofs.ValidityLemmas.{complete_exactly, valid_exactly}
 use Rattle.bag_rules.proofs.VerdictLemmas.{judged_by_declaration}
 
--- an answer of one fault of the declaration is the verdict
-one_fault_is : (bag : Bag) (own : Fault) (outcome : Outcome) → Broken bag own → tier_of own ≡ 1 → ((fault : Fault) → tier_of fault < 2 → Broken bag fault → own ≡ fault) → HasFaults outcome (own ∷ []) → IsVerdict bag outcome
-one_fault_is bag own (Judged report) broken first only has = judged_by_declaration bag own report broken first only has.0 has.1
-one_fault_is bag own (Outside cause) broken first only has = absurd has
+-- the report of one fault of the declaration is the verdict
+one_fault_is : (bag : Bag) (own : Fault) → HasFault bag own → tier_of own ≡ 1 → ((fault : Fault) → tier_of fault < 2 → HasFault bag fault → own ≡ fault) → IsJudged bag (own ∷ [])
+one_fault_is bag own broken first only = judged_by_declaration bag own (own ∷ []) broken first only (lone own) (λ fault. (λ h. h, λ h. h))
 
 -- no fault but those of the declaration is below the second tier
-only_declaration : (bag : Bag) (own fault : Fault) → tier_of fault < 2 → ((fault ≡ NoDeclaration) → Broken bag NoDeclaration → own ≡ NoDeclaration) → ((cause : DeclarationFault) → Broken bag (BadDeclaration cause) → own ≡ BadDeclaration cause) → Broken bag fault → own ≡ fault
+only_declaration : (bag : Bag) (own fault : Fault) → tier_of fault < 2 → ((fault ≡ NoDeclaration) → HasFault bag NoDeclaration → own ≡ NoDeclaration) → ((cause : DeclFault) → HasFault bag (BadDeclaration cause) → own ≡ BadDeclaration cause) → HasFault bag fault → own ≡ fault
 only_declaration bag own NoDeclaration below none bad broken = none refl broken
 only_declaration bag own (BadDeclaration cause) below none bad broken = bad cause broken
-only_declaration bag own NoPayloadDir below none bad broken = absurd (omega (arith, below))
-only_declaration bag own NoManifest below none bad broken = absurd (omega (arith, below))
-only_declaration bag own (BadLine file line cause) below none bad broken = absurd (omega (arith, below))
-only_declaration bag own (ManifestNotListed tag_manifest manifest) below none bad broken = absurd (omega (arith, below))
-only_declaration bag own OxumForm below none bad broken = absurd (omega (arith, below))
-only_declaration bag own OxumTwice below none bad broken = absurd (omega (arith, below))
-only_declaration bag own (Missing manifest path) below none bad broken = absurd (omega (arith, below))
-only_declaration bag own (Unlisted manifest path) below none bad broken = absurd (omega (arith, below))
-only_declaration bag own (FetchNotListed manifest path) below none bad broken = absurd (omega (arith, below))
-only_declaration bag own (FetchLength line path) below none bad broken = absurd (omega (arith, below))
-only_declaration bag own OxumWrong below none bad broken = absurd (omega (arith, below))
-only_declaration bag own (WrongDigest manifest path) below none bad broken = absurd (omega (arith, below))
+only_declaration bag own _ below none bad broken = absurd (omega (arith, below))
 
-pub none_verdict : (bag : Bag) (outcome : Outcome) → ¬ IsThere bag declaration_file → HasFaults outcome (NoDeclaration ∷ []) → IsVerdict bag outcome
-none_verdict bag outcome absent = one_fault_is bag NoDeclaration outcome absent refl (λ fault below broken. only_declaration bag NoDeclaration fault below (λ e b. refl) (λ cause b. absurd (absent (b.0, b.1))) broken)
+none_verdict : (bag : Bag) → ¬ IsThere bag declaration_file → IsJudged bag (NoDeclaration ∷ [])
+none_verdict bag absent = one_fault_is bag NoDeclaration absent refl (λ fault below broken. only_declaration bag NoDeclaration fault below (λ e b. refl) (λ cause b. absurd (absent (b.0, b.1))) broken)
 
-pub bad_verdict : (bag : Bag) (octets : List ℕ) (cause : DeclarationFault) (outcome : Outcome) → AreRising (paths_of bag) → Holds bag declaration_file octets → IsDeclarationFault octets cause → HasFaults outcome (BadDeclaration cause ∷ []) → IsVerdict bag outcome
-bad_verdict bag octets cause outcome rising holds bad = one_fault_is bag (BadDeclaration cause) outcome (octets, holds, bad) refl
+bad_verdict : (bag : Bag) (octets : List ℕ) (cause : DeclFault) → AreRising (paths_of bag) → Holds bag declaration_file octets → IsDeclarationFault octets cause → IsJudged bag (BadDeclaration cause ∷ [])
+bad_verdict bag octets cause rising holds bad = one_fault_is bag (BadDeclaration cause) (octets, holds, bad) refl
     (λ fault below broken. only_declaration bag (BadDeclaration cause) fault below (λ e b. absurd (b (octets, holds)))
     (λ other b. ap BadDeclaration (one_fault octets cause other bad (subst (λ o. IsDeclarationFault o other) (one_octets bag declaration_file b.0 octets rising b.1 holds) b.2))) broken)
-
--- an answer of memory says nothing, and any other says that no limit was met
-pub none_stopped : (r : Result Outcome CheckFault) (P : CheckFault → Type 0) → ((fault : CheckFault) → ¬ P fault) → IfErr r (λ fault. fault ≡ Memory) → MatchResult r (λ outcome. (fault : CheckFault) → ¬ P fault) (Stopped P)
-none_stopped (Ok outcome) P none memory = none
-none_stopped (Err fault) P none memory = stopped_memory P fault memory
 
 -- the declaration is there once
 pub first_declaration : (bag : Bag) (i : ℕ) (octets : List ℕ) (fault : CheckFault) → AreRising (paths_of bag) → slice_get bag.files i ≡ Some (declaration_file, octets) → IsLongTag declaration_file octets fault → FirstStops bag DeclarationStops fault
@@ -84,42 +52,55 @@ short_declaration bag octets rising holds short i path other fault below here st
     let same : other ≡ octets = one_octets bag declaration_file other octets rising (i, here ∙ ap (λ p. Some (p, other)) stops.0) holds in
     omega (arith, short, stops.1.0, ap length same)
 
--- a bag out of the profile has no further limits
-pub out_of_profile : (bag : Bag) (fault : CheckFault) → NoneStops bag DeclarationStops → ¬ IsInProfile bag → ¬ WorkStops bag fault
-out_of_profile bag fault none out (inl first) = none_first bag DeclarationStops fault none first
-out_of_profile bag fault none out (inr rest) = out rest.1
-
 -- the octets of the declaration decide the profile
-pub not_declared : (bag : Bag) → ¬ IsThere bag declaration_file → ¬ IsInProfile bag
+not_declared : (bag : Bag) → ¬ IsThere bag declaration_file → ¬ IsInProfile bag
 not_declared bag absent profile = absent (profile.declared.0, profile.declared.1)
 
 declares_current : (bag : Bag) (octets : List ℕ) → AreRising (paths_of bag) → Holds bag declaration_file octets → IsInProfile bag → IsDeclaration octets current
 declares_current bag octets rising holds profile = subst (λ o. IsDeclaration o current) (one_octets bag declaration_file profile.declared.0 octets rising profile.declared.1 holds) profile.declared.2
 
-pub bad_out : (bag : Bag) (octets : List ℕ) (cause : DeclarationFault) → AreRising (paths_of bag) → Holds bag declaration_file octets → IsDeclarationFault octets cause → ¬ IsInProfile bag
+bad_out : (bag : Bag) (octets : List ℕ) (cause : DeclFault) → AreRising (paths_of bag) → Holds bag declaration_file octets → IsDeclarationFault octets cause → ¬ IsInProfile bag
 bad_out bag octets cause rising holds bad profile = excludes octets current cause (declares_current bag octets rising holds profile) bad
 
+-- WHAT THE DECLARATION AND THE NAMES OF THE MANIFESTS SAY
+
+pub no_declaration : (bag : Bag) → ¬ IsThere bag declaration_file → IsProfile bag (ended_by NoDeclaration)
+no_declaration bag absent = (none_verdict bag absent, not_declared bag absent)
+
+pub bad_declaration : (bag : Bag) (octets : List ℕ) (cause : DeclFault) → AreRising (paths_of bag) → Holds bag declaration_file octets → IsDeclarationFault octets cause → IsProfile bag (ended_by (BadDeclaration cause))
+bad_declaration bag octets cause rising holds bad = (bad_verdict bag octets cause rising holds bad, bad_out bag octets cause rising holds bad)
+
+-- version 1.0 and UTF-8
+is_known : (test : Bool) (version : format.Version) → (if test then Some V1 else None) ≡ Some version → test ≡ true
+is_known true version e = refl
+is_known false version e = cc
+
+pub is_current : (declaration : Declaration) (version : format.Version) → version_of declaration ≡ Some version → declaration.utf8 ≡ true → declaration ≡ current
+is_current declaration version known utf8 =
+    let both = and_parts (declaration.major == 1) (declaration.minor == 0) (is_known (declaration.major == 1 && declaration.minor == 0) version known) in
+    ap (λ n. (let d : Declaration = record declaration { major = n } in d)) (eqb-true declaration.major 1 both.0)
+    ∙ ap (λ n. (let d : Declaration = record { major = 1; minor = n; utf8 = declaration.utf8 } in d)) (eqb-true declaration.minor 0 both.1)
+    ∙ ap (λ b. (let d : Declaration = record { major = 1; minor = 0; utf8 = b } in d)) utf8
+
 -- another version, or another encoding
-pub outside_verdict : (bag : Bag) (declaration : Declaration) (cause : OutsideCause) → Declares bag declaration → MatchOutside cause declaration → IsOutside bag cause
+outside_verdict : (bag : Bag) (declaration : Declaration) (cause : OutsideCause) → Declares bag declaration → MatchOutside cause declaration → IsOutside bag cause
 outside_verdict bag declaration Version declares other = (declaration, declares, other)
-outside_verdict bag declaration Encoding declares other = (declaration, declares, other.0, other.1, other.2)
+outside_verdict bag declaration Encoding declares other = (declaration, declares, other.0, other.1)
 outside_verdict bag declaration (Algorithm name) declares other = absurd other
 
 not_current : (cause : OutsideCause) → MatchOutside cause current → ⊥
-not_current Version other = other (refl, refl)
-not_current Encoding other = cc
+not_current Version other = let clash : Some V1 ≡ None = other in cc
+not_current Encoding other = let clash : true ≡ false = other.1 in cc
 not_current (Algorithm name) other = other
 
-pub other_out : (bag : Bag) (octets : List ℕ) (declaration : Declaration) (cause : OutsideCause) → AreRising (paths_of bag) → Holds bag declaration_file octets → IsDeclaration octets declaration → MatchOutside cause declaration → ¬ IsInProfile bag
-other_out bag octets declaration cause rising holds declares other profile =
-    not_current cause (subst (λ d. MatchOutside cause d) (one_declaration octets declaration current declares (declares_current bag octets rising holds profile)) other)
-
--- an algorithm that isn't known
-pub unknown_out : (bag : Bag) (path word octets : List ℕ) → Holds bag path octets → IsUnknownManifest path word → ¬ IsInProfile bag
-unknown_out bag path word octets holds unknown profile = profile.known path word (octets, holds) unknown
+pub other_declaration : (bag : Bag) (declaration : Declaration) (cause : OutsideCause) → AreRising (paths_of bag) → Declares bag declaration → MatchOutside cause declaration → IsProfile bag (Ended (Outside cause))
+other_declaration bag declaration cause rising declares other = (
+  outside_verdict bag declaration cause declares other,
+  λ profile. not_current cause (subst (λ d. MatchOutside cause d) (one_declaration declares.0 declaration current declares.2 (declares_current bag declares.0 rising declares.1 profile)) other),
+)
 
 -- the first unknown algorithm among the paths is that of the bag
-pub first_unknown : (bag : Bag) (word : List ℕ) → AreRising (paths_of bag) → IsFirstUnknownOf (paths_of bag) word → IsFirstUnknown bag word
+first_unknown : (bag : Bag) (word : List ℕ) → AreRising (paths_of bag) → IsFirstUnknownOf (paths_of bag) word → IsFirstUnknown bag word
 first_unknown bag word rising of =
     let file = file_of_path bag of.place of.path of.there in
     record {
@@ -131,14 +112,28 @@ first_unknown bag word rising of =
           of.before there.1.0 other another (higher (paths_of bag) rising of.place there.1.0 of.path other of.there at greater) at unknown);
     }
 
--- a bag that declares version 1.0 and UTF-8, and whose algorithms are known
-pub in_profile : (bag : Bag) → Declares bag current → NoneUnknown (paths_of bag) (length (paths_of bag)) → IsInProfile bag
-in_profile bag declares none = record {
-  declared = declares;
-  known = λ path word there unknown. (let at = shown_at bag there.1.0 path there.0 there.1.1 in none there.1.0 path word (slice_get_within (paths_of bag) there.1.0 path at) at unknown);
-}
+pub unknown_algorithm : (bag : Bag) (name : String Global) → AreRising (paths_of bag) → Declares bag current → IsFirstUnknownOf (paths_of bag) (string_bytes name) → IsProfile bag (Ended (Outside (Algorithm name)))
+unknown_algorithm bag name rising declares of =
+    let first = first_unknown bag (string_bytes name) rising of in
+    ((declares, first), λ profile. profile.known first.path (string_bytes name) first.there first.unknown)
 
--- in the profile the rest of the work decides
+-- a bag that declares version 1.0 and UTF-8, and whose algorithms are known
+pub known_algorithms : (bag : Bag) (version : format.Version) → Declares bag current → version_of current ≡ Some version → NoneUnknown (paths_of bag) (length (paths_of bag)) → IsProfile bag (Known version)
+known_algorithms bag version declares known none = (
+  record {
+    declared = declares;
+    known = λ path word there unknown. (let at = shown_at bag there.1.0 path there.0 there.1.1 in none there.1.0 path word (slice_get_within (paths_of bag) there.1.0 path at) at unknown);
+  },
+  (let is : Some V1 ≡ Some version = known in cc),
+)
+
+-- THE WHOLE
+
+-- out of the profile only the declaration has a limit, and in it the rest of the work decides
+pub ended_stops : (bag : Bag) (outcome : Outcome) → NoneStops bag DeclarationStops → IsProfile bag (Ended outcome) → (fault : CheckFault) → ¬ WorkStops bag fault
+ended_stops bag outcome none out fault (inl first) = none_first bag DeclarationStops fault none first
+ended_stops bag outcome none out fault (inr rest) = out.1 rest.1
+
 pub profile_stopped : (bag : Bag) (r : Result Outcome CheckFault) → NoneStops bag DeclarationStops → IsInProfile bag → MatchResult r (λ outcome. (fault : CheckFault) → ¬ ProfileStops bag fault) (Stopped (ProfileStops bag))
     → MatchResult r (λ outcome. (fault : CheckFault) → ¬ WorkStops bag fault) (Stopped (WorkStops bag))
 profile_stopped bag (Ok outcome) none profile rest = λ fault stops. elim stops [ inl first ↦ none_first bag DeclarationStops fault none first | inr later ↦ rest fault later.2 ]

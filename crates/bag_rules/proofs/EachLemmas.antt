@@ -1,11 +1,6 @@
 -- Faults that are added item by item.
 use Rattle.std.proofs.Common.{◌≡◌, ◌<◌, ◌+◌, ℕ, List, [], ◌∷◌, ◌++◌, Some, length, take, slice_get, get_or, refl, sym, ap, ◌∙◌, inl, inr, subst}
-use Rattle.std.proofs.Math.Seq.{take-length}
-use Rattle.std.proofs.lemmas.List.{take_more}
-use Rattle.std.proofs.lemmas.Option.{slice_get_within, get_or_from_slice_get}
-use Rattle.bag_rules.specs.declared.fault.Fault.{Fault}
-use Rattle.bag_rules.specs.Faults.{Has}
-use Rattle.bag_rules.specs.Reading.{Adds}
+use Rattle.bag_rules.proofs.Words.{Adds, Fault, get_or_from_slice_get, Has, slice_get_within, take-length, take_more}
 use Rattle.bag_rules.proofs.HasLemmas.{has_push}
 use Rattle.bag_rules.proofs.AddsLemmas.{adds_none, adds_on}
 

@@ -1,19 +1,6 @@
 -- The entries of `fetch.txt` against the manifests and the files.
 use Rattle.std.proofs.Common.{◌≡◌, ◌≢◌, true, false, List, [], ◌∷◌, ◌++◌, Option, Some, None, length, refl, sym, ap, ◌∙◌, subst, is_some}
-use Rattle.std.proofs.lemmas.Option.{same_Some}
-use Rattle.bag_digest.specs.declared.digest.Digest.{Digest}
-use Rattle.bag_tags.specs.declared.fetch.FetchLine.{FetchLine}
-use Rattle.bag_tags.specs.declared.listing.Kind.{Kind}
-use Rattle.bag_tags.specs.declared.listing.Kind.TheVariants.{Payload, Tag}
-use Rattle.bag_tags.specs.Listings.{Listing, lists_path, listed_digest}
-use Rattle.bag_rules.specs.declared.fault.Fault.{Fault}
-use Rattle.bag_rules.specs.declared.fault.Fault.TheVariants.{FetchNotListed, FetchLength}
-use Rattle.bag_rules.specs.declared.texts.Texts.{Texts}
-use Rattle.bag_rules.specs.Bags.{Bag, Lists, manifest_name}
-use Rattle.bag_rules.specs.Broken.{Broken, BrokenOf, HasEntry}
-use Rattle.bag_rules.specs.Faults.{Has}
-use Rattle.bag_rules.specs.Files.{IsFetchUnlistedBy, IsOtherLength}
-use Rattle.bag_rules.specs.Reading.{Adds, AreTextsOf}
+use Rattle.bag_rules.proofs.Words.{Adds, AreTextsOf, Bag, Digest, Fault, FetchLength, FetchLine, FetchNotListed, Has, HasEntry, HasFault, HasFaultOf, IsFetchUnlistedBy, IsOtherLength, Kind, listed_digest, Listing, Lists, lists_path, manifest_name, Payload, same_Some, Tag, Texts}
 use Rattle.bag_rules.proofs.AddsLemmas.{adds_so, adds_none, adds_one}
 use Rattle.bag_rules.proofs.EachLemmas.{OfSome}
 use Rattle.bag_rules.proofs.ListedLemmas.{listed_or_not}
@@ -55,27 +42,27 @@ module _ (bag : Bag) (texts : Texts) (are : AreTextsOf (length bag.files) bag te
   entry_of lines line some h = record { lines = lines; lists = (fetch_listed bag texts are lines).0 some; has = h }
 
   -- without a list nothing is added
-  not_unlisted : (f : Fault) → texts.fetch ≡ None → BrokenOf bag (11 ∷ []) f → ⊥
+  not_unlisted : (f : Fault) → texts.fetch ≡ None → HasFaultOf bag (11 ∷ []) f → ⊥
   not_unlisted (FetchNotListed manifest path) none h = no_entry h.0.3.0 none h.0.3.1
   not_unlisted _ none h = absurd (let k : false ≡ true = h.1 in cc)
 
-  not_longer : (f : Fault) → texts.fetch ≡ None → BrokenOf bag (12 ∷ []) f → ⊥
+  not_longer : (f : Fault) → texts.fetch ≡ None → HasFaultOf bag (12 ∷ []) f → ⊥
   not_longer (FetchLength number path) none h = no_entry h.0.0 none h.0.1
   not_longer _ none h = absurd (let k : false ≡ true = h.1 in cc)
 
-  pub none_unlisted : (faults : List Fault) → texts.fetch ≡ None → Adds faults faults (BrokenOf bag (11 ∷ []))
-  none_unlisted faults none = adds_none faults (BrokenOf bag (11 ∷ [])) (λ f h. not_unlisted f none h)
+  pub none_unlisted : (faults : List Fault) → texts.fetch ≡ None → Adds faults faults (HasFaultOf bag (11 ∷ []))
+  none_unlisted faults none = adds_none faults (HasFaultOf bag (11 ∷ [])) (λ f h. not_unlisted f none h)
 
-  pub none_longer : (faults : List Fault) → texts.fetch ≡ None → Adds faults faults (BrokenOf bag (12 ∷ []))
-  none_longer faults none = adds_none faults (BrokenOf bag (12 ∷ [])) (λ f h. not_longer f none h)
+  pub none_longer : (faults : List Fault) → texts.fetch ≡ None → Adds faults faults (HasFaultOf bag (12 ∷ []))
+  none_longer faults none = adds_none faults (HasFaultOf bag (12 ∷ [])) (λ f h. not_longer f none h)
 
   -- entries that payload manifests don't list
-  unlisted_there : (lines : List FetchLine) → texts.fetch ≡ Some lines → (listing : Listing) (line : FetchLine) → Has texts.manifests.items listing → listing.kind ≡ Payload → Has lines line → lists_path listing.pairs line.entry.path ≡ false → Broken bag (FetchNotListed listing.alg line.entry.path)
+  unlisted_there : (lines : List FetchLine) → texts.fetch ≡ Some lines → (listing : Listing) (line : FetchLine) → Has texts.manifests.items listing → listing.kind ≡ Payload → Has lines line → lists_path listing.pairs line.entry.path ≡ false → HasFault bag (FetchNotListed listing.alg line.entry.path)
   unlisted_there lines some listing line has payload has_line unlisted =
       let lists = (manifest_listed bag texts are listing).0 has in
       (listing.pairs, subst (λ k. Lists bag (manifest_name k listing.alg) listing.pairs) payload lists, unlisted, (line, entry_of lines line some has_line, refl))
 
-  unlisted_back : (lines : List FetchLine) → texts.fetch ≡ Some lines → (f : Fault) → BrokenOf bag (11 ∷ []) f → OfSome texts.manifests.items (λ (listing : Listing). IsFetchUnlistedBy listing lines) f
+  unlisted_back : (lines : List FetchLine) → texts.fetch ≡ Some lines → (f : Fault) → HasFaultOf bag (11 ∷ []) f → OfSome texts.manifests.items (λ (listing : Listing). IsFetchUnlistedBy listing lines) f
   unlisted_back lines some (FetchNotListed manifest path) h =
       let listing : Listing = record { alg = manifest; kind = Payload; pairs = h.0.0 } in
       let line = h.0.3.0 in
@@ -83,14 +70,14 @@ module _ (bag : Bag) (texts : Texts) (are : AreTextsOf (length bag.files) bag te
       (listing, (manifest_listed bag texts are listing).1 h.0.1, (refl, (line, entry_in lines line some h.0.3.1, subst (λ p. lists_path h.0.0 p ≡ false) (sym same) h.0.2, ap (λ p. FetchNotListed manifest p) (sym same))))
   unlisted_back lines some _ h = absurd (let k : false ≡ true = h.1 in cc)
 
-  pub all_unlisted : (lines : List FetchLine) (old new : List Fault) → texts.fetch ≡ Some lines → Adds old new (OfSome texts.manifests.items (λ (listing : Listing). IsFetchUnlistedBy listing lines)) → Adds old new (BrokenOf bag (11 ∷ []))
-  all_unlisted lines old new some a = adds_so old new (OfSome texts.manifests.items (λ (listing : Listing). IsFetchUnlistedBy listing lines)) (BrokenOf bag (11 ∷ []))
-      (λ f h. subst (λ g. BrokenOf bag (11 ∷ []) g) (sym h.2.1.3) (unlisted_there lines some h.0 h.2.1.0 h.1 h.2.0 h.2.1.1 h.2.1.2, refl))
+  pub all_unlisted : (lines : List FetchLine) (old new : List Fault) → texts.fetch ≡ Some lines → Adds old new (OfSome texts.manifests.items (λ (listing : Listing). IsFetchUnlistedBy listing lines)) → Adds old new (HasFaultOf bag (11 ∷ []))
+  all_unlisted lines old new some a = adds_so old new (OfSome texts.manifests.items (λ (listing : Listing). IsFetchUnlistedBy listing lines)) (HasFaultOf bag (11 ∷ []))
+      (λ f h. subst (λ g. HasFaultOf bag (11 ∷ []) g) (sym h.2.1.3) (unlisted_there lines some h.0 h.2.1.0 h.1 h.2.0 h.2.1.1 h.2.1.2, refl))
       (unlisted_back lines some)
       a
 
   -- entries that give files another length
-  longer_back : (lines : List FetchLine) → texts.fetch ≡ Some lines → (f : Fault) → BrokenOf bag (12 ∷ []) f → OfSome lines (λ (line : FetchLine). IsOtherLength bag line) f
+  longer_back : (lines : List FetchLine) → texts.fetch ≡ Some lines → (f : Fault) → HasFaultOf bag (12 ∷ []) f → OfSome lines (λ (line : FetchLine). IsOtherLength bag line) f
   longer_back lines some (FetchLength number path) h =
       let line = h.0.0 in
       let given = h.0.4.0 in
@@ -99,11 +86,11 @@ module _ (bag : Bag) (texts : Texts) (are : AreTextsOf (length bag.files) bag te
       (line, entry_in lines line some h.0.1, (given, (octets, (holds.0, h.0.4.1, holds.1 ∙ ap (λ p. Some (p, octets)) (sym h.0.3), h.0.4.2.2, ap (λ n. FetchLength n path) (sym h.0.2) ∙ ap (λ p. FetchLength line.line p) (sym h.0.3)))))
   longer_back lines some _ h = absurd (let k : false ≡ true = h.1 in cc)
 
-  longer_there : (lines : List FetchLine) → texts.fetch ≡ Some lines → (f : Fault) → OfSome lines (λ (line : FetchLine). IsOtherLength bag line) f → BrokenOf bag (12 ∷ []) f
+  longer_there : (lines : List FetchLine) → texts.fetch ≡ Some lines → (f : Fault) → OfSome lines (λ (line : FetchLine). IsOtherLength bag line) f → HasFaultOf bag (12 ∷ []) f
   longer_there lines some f h =
       let line = h.0 in
       let other = h.2.1.1 in
-      subst (λ g. BrokenOf bag (12 ∷ []) g) (sym other.4) ((line, entry_of lines line some h.1, refl, refl, (h.2.0, other.1, (h.2.1.0, (other.0, other.2), other.3))), refl)
+      subst (λ g. HasFaultOf bag (12 ∷ []) g) (sym other.4) ((line, entry_of lines line some h.1, refl, refl, (h.2.0, other.1, (h.2.1.0, (other.0, other.2), other.3))), refl)
 
-  pub all_longer : (lines : List FetchLine) (old new : List Fault) → texts.fetch ≡ Some lines → Adds old new (OfSome lines (λ (line : FetchLine). IsOtherLength bag line)) → Adds old new (BrokenOf bag (12 ∷ []))
-  all_longer lines old new some a = adds_so old new (OfSome lines (λ (line : FetchLine). IsOtherLength bag line)) (BrokenOf bag (12 ∷ [])) (longer_there lines some) (longer_back lines some) a
+  pub all_longer : (lines : List FetchLine) (old new : List Fault) → texts.fetch ≡ Some lines → Adds old new (OfSome lines (λ (line : FetchLine). IsOtherLength bag line)) → Adds old new (HasFaultOf bag (12 ∷ []))
+  all_longer lines old new some a = adds_so old new (OfSome lines (λ (line : FetchLine). IsOtherLength bag line)) (HasFaultOf bag (12 ∷ [])) (longer_there lines some) (longer_back lines some) a

@@ -1,21 +1,6 @@
 -- The faults of a file by the manifests.
 use Rattle.std.proofs.Common.{◌≡◌, ◌≢◌, ◌⊎◌, ◌↔◌, ◌||◌, ◌&&◌, ℕ, Bool, true, false, List, [], ◌∷◌, ◌++◌, Some, None, if◌then◌else◌, refl, sym, ap, ◌∙◌, inl, inr, subst}
-use Rattle.std.proofs.lemmas.Bool.{false≢true, cases_Bool, or_cases, and_parts, and_right}
-use Rattle.bag_path.specs.Paths.{is_payload}
-use Rattle.bag_digest.specs.declared.algorithm.Alg.{Alg}
-use Rattle.bag_digest.specs.declared.algorithm.Alg.TheVariants.{Md5, Sha1, Sha256, Sha512}
-use Rattle.bag_digest.specs.declared.algorithm.AlgSet.{AlgSet}
-use Rattle.bag_digest.specs.declared.digest.Digest.{Digest}
-use Rattle.bag_digest.specs.declared.multi.Digests.{Digests}
-use Rattle.bag_digest.specs.Algorithm.{has, is_alg}
-use Rattle.bag_digest.specs.Hash.{hash, alg_of, digest_in, AreDigests}
-use Rattle.bag_tags.specs.declared.listing.Kind.TheVariants.{Payload}
-use Rattle.bag_tags.specs.Listings.{Listing, lists_path, listed_digest}
-use Rattle.bag_rules.specs.declared.fault.Fault.{Fault}
-use Rattle.bag_rules.specs.declared.fault.Fault.TheVariants.{Unlisted, WrongDigest}
-use Rattle.bag_rules.specs.Faults.{Has}
-use Rattle.bag_rules.specs.Files.{IsFaultBy, IsFaultOfListing, IsReadBy, IsUnlistedIn, lists_by}
-use Rattle.bag_rules.specs.Reading.{Adds, name_in}
+use Rattle.bag_rules.proofs.Words.{Adds, Alg, alg_of, AlgSet, and_parts, and_right, AreDigests, cases_Bool, Digest, digest_in, Digests, false≢true, Fault, Has, has, hash, is_alg, is_payload, IsFaultBy, IsFaultOfListing, IsReadBy, IsUnlistedIn, listed_digest, Listing, lists_by, lists_path, Md5, name_in, or_cases, Payload, Sha1, Sha256, Sha512, Unlisted, WrongDigest}
 use Rattle.bag_rules.proofs.AddsLemmas.{adds_none, adds_on, adds_one}
 use Rattle.bag_rules.proofs.HasLemmas.{has_push}
 use Rattle.bag_rules.proofs.ListedLemmas.{none_listed, some_listed}
@@ -160,8 +145,8 @@ adds_unlisted old new listing path digests none kind payload e =
 -- THE FAULTS BY SEVERAL
 
 -- the digest that was taken is the file's
-taken : (digests : Digests) (set : AlgSet) (listings : List Listing) (listing : Listing) (path octets : List ℕ) → AreDigests digests set octets → ((alg : Alg) → has set alg ≡ lists_by listings path alg) → Has listings listing → lists_path listing.pairs path ≡ true → digest_in digests listing.alg ≡ Some (hash listing.alg octets)
-taken digests set listings listing path octets are lists has listed = are listing.alg ∙ ap (λ b. if b then Some (hash listing.alg octets) else None) (lists listing.alg ∙ lists_here listings listing path has listed)
+taken : (digests : Digests) (set : AlgSet) (listings : List Listing) (listing : Listing) (path octets : List ℕ) → AreDigests digests set octets → ((alg : Alg) → lists_by listings path alg ≡ true → has set alg ≡ true) → Has listings listing → lists_path listing.pairs path ≡ true → digest_in digests listing.alg ≡ Some (hash listing.alg octets)
+taken digests set listings listing path octets are lists has listed = are listing.alg ∙ ap (λ b. if b then Some (hash listing.alg octets) else None) (lists listing.alg (lists_here listings listing path has listed))
 
 -- so a digest isn't among them just where it isn't the file's
 taken_so : (digests : Digests) (digest : Digest) (alg : Alg) (octets : List ℕ) → digest_in digests alg ≡ Some (hash alg octets) → alg_of digest ≡ alg → (digest_in digests (alg_of digest) ≡ Some digest) ↔ (hash alg octets ≡ digest)
@@ -171,7 +156,7 @@ taken_so digests digest alg octets found by = (
 )
 
 -- the faults by one manifest more
-pub faults_more : (old mid new : List Fault) (before listings : List Listing) (listing : Listing) (path octets : List ℕ) (digests : Digests) (set : AlgSet) → AreDigests digests set octets → ((alg : Alg) → has set alg ≡ lists_by listings path alg) → Has listings listing → ((digest : Digest) → listed_digest listing.pairs path ≡ Some digest → alg_of digest ≡ listing.alg) → Adds old mid (IsFaultBy before path octets) → Adds mid new (IsFaultOfListing listing path digests) → Adds old new (IsFaultBy (before ++ listing ∷ []) path octets)
+pub faults_more : (old mid new : List Fault) (before listings : List Listing) (listing : Listing) (path octets : List ℕ) (digests : Digests) (set : AlgSet) → AreDigests digests set octets → ((alg : Alg) → lists_by listings path alg ≡ true → has set alg ≡ true) → Has listings listing → ((digest : Digest) → listed_digest listing.pairs path ≡ Some digest → alg_of digest ≡ listing.alg) → Adds old mid (IsFaultBy before path octets) → Adds mid new (IsFaultOfListing listing path digests) → Adds old new (IsFaultBy (before ++ listing ∷ []) path octets)
 faults_more old mid new before listings listing path octets digests set are lists has by =
     let so = λ (digest : Digest) (some : listed_digest listing.pairs path ≡ Some digest). taken_so digests digest listing.alg octets (taken digests set listings listing path octets are lists has (some_listed listing.pairs path digest some)) (by digest some) in
     adds_on old mid new (IsFaultBy before path octets) (IsFaultOfListing listing path digests) (IsFaultBy (before ++ listing ∷ []) path octets)

@@ -1,19 +1,6 @@
 -- The faults of the files, by what was read, are those that are broken.
 use Rattle.std.proofs.Common.{◌≡◌, ℕ, Bool, true, false, List, [], ◌∷◌, Option, length, refl, sym, inl, inr, subst}
-use Rattle.bag_tags.specs.declared.listing.Kind.TheVariants.{Payload}
-use Rattle.bag_tags.specs.declared.listing.Pair.{Pair}
-use Rattle.bag_tags.specs.Listings.{Listing}
-use Rattle.bag_rules.specs.declared.fault.Fault.{Fault}
-use Rattle.bag_rules.specs.declared.fault.Fault.TheVariants.{NoDeclaration, BadDeclaration, NoPayloadDir, NoManifest, BadLine, ManifestNotListed, OxumForm, OxumTwice, Missing, Unlisted, FetchNotListed, FetchLength, OxumWrong, WrongDigest}
-use Rattle.bag_rules.specs.declared.fault.ManifestName.{ManifestName}
-use Rattle.bag_rules.specs.declared.outcome.CheckFault.{CheckFault}
-use Rattle.bag_rules.specs.declared.texts.Texts.{Texts}
-use Rattle.bag_rules.specs.Bags.{Bag, IsBagOf, Lists, manifest_name}
-use Rattle.bag_rules.specs.Broken.{BrokenOf}
-use Rattle.bag_rules.specs.Faults.{Has}
-use Rattle.bag_rules.specs.Files.{IsFileFault, IsLongRead, IsMissing, IsReadBy}
-use Rattle.bag_rules.specs.Limits.{FileStops, FirstStops, IsChecked, NoneStops, NoneStopsBefore, Stopped}
-use Rattle.bag_rules.specs.Reading.{AreTextsOf, name_in}
+use Rattle.bag_rules.proofs.Words.{AreTextsOf, BadDeclaration, BadLine, Bag, CheckFault, Fault, FetchLength, FetchNotListed, FileStops, FirstStops, Has, HasFaultOf, IsBagOf, IsChecked, IsFileFault, IsLongRead, IsMissing, IsReadBy, Listing, Lists, manifest_name, ManifestName, ManifestNotListed, Missing, name_in, NoDeclaration, NoManifest, NoneStops, NoneStopsBefore, NoPayloadDir, OxumForm, OxumTwice, OxumWrong, Pair, paths_in, Payload, Shown, Stopped, Texts, Unlisted, WrongDigest}
 use Rattle.bag_rules.proofs.FrontLemmas.{manifest_listed}
 use Rattle.bag_rules.proofs.LimitLemmas.{stopped_so}
 use Rattle.bag_rules.proofs.TreeLemmas.{is_there, shows}
@@ -56,51 +43,28 @@ module _ (bag : Bag) (texts : Texts) (are : AreTextsOf (length bag.files) bag te
 
   -- FAULTS OF THE FILES THAT ARE THERE
 
-  pub file_fault_broken : (f : Fault) → IsFileFault bag texts.manifests.items f → BrokenOf bag (10 ∷ 14 ∷ []) f
+  pub file_fault_broken : (f : Fault) → IsFileFault bag texts.manifests.items f → HasFaultOf bag (10 ∷ 14 ∷ []) f
   file_fault_broken f (i, (path, (octets, at, (listing, has, inl unlisted)))) =
       let lists : Lists bag (manifest_name Payload listing.alg) listing.pairs = subst (λ kind. Lists bag (manifest_name kind listing.alg) listing.pairs) unlisted.0 (lists_of_has listing has) in
-      subst (BrokenOf bag (10 ∷ 14 ∷ [])) (sym unlisted.3) ((listing.pairs, lists, unlisted.2, (octets, (i, at)), unlisted.1), refl)
+      subst (HasFaultOf bag (10 ∷ 14 ∷ [])) (sym unlisted.3) ((listing.pairs, lists, unlisted.2, (octets, (i, at)), unlisted.1), refl)
   file_fault_broken f (i, (path, (octets, at, (listing, has, inr wrong)))) =
-      subst (BrokenOf bag (10 ∷ 14 ∷ [])) (sym wrong.3) ((listing.pairs, lists_of_has listing has, (wrong.0, wrong.1, (octets, (i, at), wrong.2))), refl)
+      subst (HasFaultOf bag (10 ∷ 14 ∷ [])) (sym wrong.3) ((listing.pairs, lists_of_has listing has, (wrong.0, wrong.1, (octets, (i, at), wrong.2))), refl)
 
-  pub broken_file_fault : (f : Fault) → BrokenOf bag (10 ∷ 14 ∷ []) f → IsFileFault bag texts.manifests.items f
-  broken_file_fault NoDeclaration h = let k : false ≡ true = h.1 in cc
-  broken_file_fault (BadDeclaration _) h = let k : false ≡ true = h.1 in cc
-  broken_file_fault NoPayloadDir h = let k : false ≡ true = h.1 in cc
-  broken_file_fault NoManifest h = let k : false ≡ true = h.1 in cc
-  broken_file_fault (BadLine _ _ _) h = let k : false ≡ true = h.1 in cc
-  broken_file_fault (ManifestNotListed _ _) h = let k : false ≡ true = h.1 in cc
-  broken_file_fault OxumForm h = let k : false ≡ true = h.1 in cc
-  broken_file_fault OxumTwice h = let k : false ≡ true = h.1 in cc
-  broken_file_fault (Missing _ _) h = let k : false ≡ true = h.1 in cc
+  pub broken_file_fault : (f : Fault) → HasFaultOf bag (10 ∷ 14 ∷ []) f → IsFileFault bag texts.manifests.items f
   broken_file_fault (Unlisted alg path) ((pairs, lists, unlisted, (octets, (i, at)), payload), kind) =
       (i, (path, (octets, at, (listing_by (manifest_name Payload alg) pairs, has_of_lists (manifest_name Payload alg) pairs lists, inl (refl, payload, unlisted, refl)))))
-  broken_file_fault (FetchNotListed _ _) h = let k : false ≡ true = h.1 in cc
-  broken_file_fault (FetchLength _ _) h = let k : false ≡ true = h.1 in cc
-  broken_file_fault OxumWrong h = let k : false ≡ true = h.1 in cc
   broken_file_fault (WrongDigest name path) ((pairs, lists, (digest, some, (octets, (i, at), wrong))), kind) =
       (i, (path, (octets, at, (listing_by name pairs, has_of_lists name pairs lists, inr (digest, some, wrong, refl)))))
+  broken_file_fault _ h = absurd (let k : false ≡ true = h.1 in cc)
 
   -- FILES THAT ARE NOT THERE
 
-  module _ {T : Type 0} {paths : T → List (List ℕ)} {has_dir : T → Bool} {body : T → ℕ → Option (List ℕ)} {tree : T} (is : IsBagOf paths has_dir body tree bag) where
-    pub missing_broken : (f : Fault) → IsMissing (paths tree) texts.manifests.items f → BrokenOf bag (9 ∷ []) f
+  module _ {shown : Shown} (is : IsBagOf shown bag) where
+    pub missing_broken : (f : Fault) → IsMissing (paths_in shown) texts.manifests.items f → HasFaultOf bag (9 ∷ []) f
     missing_broken f (listing, has, (path, (listed, away, e))) =
-        subst (BrokenOf bag (9 ∷ [])) (sym e) ((listing.pairs, lists_of_has listing has, listed, λ there. away (shows bag is path there)), refl)
+        subst (HasFaultOf bag (9 ∷ [])) (sym e) ((listing.pairs, lists_of_has listing has, listed, λ there. away (shows bag is path there)), refl)
 
-    pub broken_missing : (f : Fault) → BrokenOf bag (9 ∷ []) f → IsMissing (paths tree) texts.manifests.items f
-    broken_missing NoDeclaration h = let k : false ≡ true = h.1 in cc
-    broken_missing (BadDeclaration _) h = let k : false ≡ true = h.1 in cc
-    broken_missing NoPayloadDir h = let k : false ≡ true = h.1 in cc
-    broken_missing NoManifest h = let k : false ≡ true = h.1 in cc
-    broken_missing (BadLine _ _ _) h = let k : false ≡ true = h.1 in cc
-    broken_missing (ManifestNotListed _ _) h = let k : false ≡ true = h.1 in cc
-    broken_missing OxumForm h = let k : false ≡ true = h.1 in cc
-    broken_missing OxumTwice h = let k : false ≡ true = h.1 in cc
+    pub broken_missing : (f : Fault) → HasFaultOf bag (9 ∷ []) f → IsMissing (paths_in shown) texts.manifests.items f
     broken_missing (Missing name path) ((pairs, lists, listed, away), kind) =
         (listing_by name pairs, has_of_lists name pairs lists, (path, (listed, (λ there. away (is_there bag is path there)), refl)))
-    broken_missing (Unlisted _ _) h = let k : false ≡ true = h.1 in cc
-    broken_missing (FetchNotListed _ _) h = let k : false ≡ true = h.1 in cc
-    broken_missing (FetchLength _ _) h = let k : false ≡ true = h.1 in cc
-    broken_missing OxumWrong h = let k : false ≡ true = h.1 in cc
-    broken_missing (WrongDigest _ _) h = let k : false ≡ true = h.1 in cc
+    broken_missing _ h = absurd (let k : false ≡ true = h.1 in cc)

@@ -1,14 +1,6 @@
 -- The files of a bag, one after another.
 use Rattle.std.proofs.Common.{◌≡◌, ◌<◌, ◌+◌, ℕ, zero, suc, true, List, [], ◌∷◌, ◌++◌, Some, length, slice_get, refl, sym, ap, ◌∙◌, inl, inr, subst, arith}
-use Rattle.std.proofs.lemmas.Bool.{cases_lt}
-use Rattle.std.proofs.lemmas.List.{length_push}
-use Rattle.std.proofs.lemmas.Option.{slice_get_within}
-use Rattle.bag_path.specs.Paths.{is_payload}
-use Rattle.bag_tags.specs.Listings.{Listing}
-use Rattle.bag_rules.specs.declared.fault.Fault.{Fault}
-use Rattle.bag_rules.specs.Bags.{Bag}
-use Rattle.bag_rules.specs.Files.{AreLengths, IsFaultBy, IsFileFault}
-use Rattle.bag_rules.specs.Reading.{Adds}
+use Rattle.bag_rules.proofs.Words.{Adds, AreLengths, Bag, cases_lt, Fault, is_payload, IsFaultBy, IsFileFault, length_push, Listing, slice_get_within}
 use Rattle.bag_rules.proofs.AddsLemmas.{adds_none, adds_on}
 use Rattle.bag_rules.proofs.PlaceLemmas.{same_file}
 
@@ -49,12 +41,12 @@ pub record AreLengthsBefore (n : ℕ) (bag : Bag) (lengths : List ℕ) : Type 0 
   pub count : length lengths ≡ n
   pub each : (i : ℕ) (path octets : List ℕ) → i < n → slice_get bag.files i ≡ Some (path, octets) → is_payload path ≡ true → slice_get lengths i ≡ Some (length octets)
 
-push_before : {X : Type 0} (xs : List X) (new : X) (i : ℕ) → i < length xs → slice_get (xs ++ new ∷ []) i ≡ slice_get xs i
+pub push_before : {X : Type 0} (xs : List X) (new : X) (i : ℕ) → i < length xs → slice_get (xs ++ new ∷ []) i ≡ slice_get xs i
 push_before [] new i h = absurd (omega (arith, h))
 push_before (x ∷ xs) new zero h = refl
 push_before (x ∷ xs) new (suc i) h = push_before xs new i (omega (arith, h))
 
-push_at : {X : Type 0} (xs : List X) (new : X) → slice_get (xs ++ new ∷ []) (length xs) ≡ Some new
+pub push_at : {X : Type 0} (xs : List X) (new : X) → slice_get (xs ++ new ∷ []) (length xs) ≡ Some new
 push_at [] new = refl
 push_at (x ∷ xs) new = push_at xs new
 

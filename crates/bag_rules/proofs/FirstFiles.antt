@@ -1,11 +1,6 @@
 -- The first n files of a bag, and one more.
-use Rattle.std.proofs.Common.{◌≡◌, ◌≢◌, ◌⊎◌, ◌↔◌, ◌<◌, ◌+◌, ℕ, zero, suc, Bool, List, [], ◌∷◌, Option, Some, None, slice_get, take, sym, ap, ◌∙◌, inl, inr, subst, arith}
-use Rattle.std.proofs.lemmas.Bool.{cases_lt}
-use Rattle.std.proofs.lemmas.Option.{some_pair_parts}
-use Rattle.bag_rules.specs.declared.fault.LineFile.{LineFile}
-use Rattle.bag_rules.specs.Bags.{Bag, Holds, IsBagOf, text_file}
-use Rattle.bag_rules.specs.Reading.{front}
-use Rattle.bag_rules.specs.Trees.{AreRising}
+use Rattle.std.proofs.Common.{◌≡◌, ◌≢◌, ◌⊎◌, ◌↔◌, ◌<◌, ◌+◌, ℕ, zero, suc, List, [], ◌∷◌, Option, Some, None, slice_get, take, sym, ap, ◌∙◌, inl, inr, subst, arith}
+use Rattle.bag_rules.proofs.Words.{AreRising, Bag, cases_lt, front, Holds, IsBagOf, LineFile, paths_in, Shown, some_pair_parts, text_file}
 use Rattle.bag_rules.proofs.RisingPaths.{one_place}
 use Rattle.bag_rules.proofs.TreeLemmas.{path_at}
 
@@ -39,8 +34,8 @@ module _ (bag : Bag) (n : ℕ) where
   holds_before path octets i h e = (i, to_front bag.files n i (path, octets) h e)
 
 -- a tree's bag has each path once
-pub once_at : {T : Type 0} {paths : T → List (List ℕ)} {has_dir : T → Bool} {body : T → ℕ → Option (List ℕ)} {tree : T} (bag : Bag) → IsBagOf paths has_dir body tree bag → AreRising (paths tree) → (n : ℕ) (path octets : List ℕ) → slice_get bag.files n ≡ Some (path, octets) → (i : ℕ) (other : List ℕ) → slice_get bag.files i ≡ Some (path, other) → i ≡ n
-once_at {T} {paths} {has_dir} {body} {tree} bag is rising n path octets there i other e = one_place (paths tree) rising i n path (path_at bag is i path other e) (path_at bag is n path octets there)
+pub once_at : {shown : Shown} (bag : Bag) → IsBagOf shown bag → AreRising (paths_in shown) → (n : ℕ) (path octets : List ℕ) → slice_get bag.files n ≡ Some (path, octets) → (i : ℕ) (other : List ℕ) → slice_get bag.files i ≡ Some (path, other) → i ≡ n
+once_at {shown} bag is rising n path octets there i other e = one_place (paths_in shown) rising i n path (path_at bag is i path other e) (path_at bag is n path octets there)
 
 -- one file more, whose path no file before it has
 module _ (bag : Bag) (n : ℕ) (path octets : List ℕ) (there : slice_get bag.files n ≡ Some (path, octets)) (once : (i : ℕ) (other : List ℕ) → slice_get bag.files i ≡ Some (path, other) → i ≡ n) where

@@ -1,20 +1,6 @@
 -- What a file or an element adds to the faults of the form.
 use Rattle.std.proofs.Common.{◌≡◌, ◌≢◌, ◌↔◌, ◌≤◌, ℕ, true, false, List, [], ◌∷◌, ◌++◌, Option, Some, None, Contains, is_some, length, refl, sym, ap, ◌∙◌, inl, inr, subst}
-use Rattle.std.specs.List.{filter}
-use Rattle.std.proofs.lemmas.Option.{same_Some}
-use Rattle.bag_digest.specs.declared.algorithm.Alg.{Alg}
-use Rattle.bag_digest.specs.declared.digest.Digest.{Digest}
-use Rattle.bag_tags.specs.declared.listing.Kind.TheVariants.{Payload, Tag}
-use Rattle.bag_tags.specs.Infos.{MetadataElement}
-use Rattle.bag_tags.specs.Listings.{Listing, lists_path, listed_digest}
-use Rattle.bag_rules.specs.declared.fault.Fault.{Fault}
-use Rattle.bag_rules.specs.declared.fault.Fault.TheVariants.{NoPayloadDir, NoManifest, ManifestNotListed, OxumForm, OxumTwice}
-use Rattle.bag_rules.specs.declared.texts.Texts.{Texts}
-use Rattle.bag_rules.specs.Bags.{Bag, IsThere, Lists, is_oxum, manifest_file, manifest_name}
-use Rattle.bag_rules.specs.Broken.{BrokenOf, SaysOxum}
-use Rattle.bag_rules.specs.Faults.{Has}
-use Rattle.bag_rules.specs.Form.{IsBadOxum, IsOxumFault, IsUnlistedBy, IsUnlistedManifest}
-use Rattle.bag_rules.specs.Reading.{Adds, AreTextsOf}
+use Rattle.bag_rules.proofs.Words.{Adds, Alg, AreTextsOf, Bag, Digest, Fault, filter, Has, HasFaultOf, is_oxum, IsBadOxum, IsOxumFault, IsThere, IsUnlistedBy, IsUnlistedManifest, listed_digest, Listing, Lists, lists_path, manifest_file, manifest_name, ManifestNotListed, MetadataElement, NoManifest, NoPayloadDir, OxumForm, OxumTwice, Payload, same_Some, SaysOxum, Tag, Texts}
 use Rattle.bag_rules.proofs.AddsLemmas.{adds_so, adds_none, adds_one, adds_on}
 use Rattle.bag_rules.proofs.EachLemmas.{OfSome}
 use Rattle.bag_rules.proofs.FrontLemmas.{info_said, manifest_listed}
@@ -49,40 +35,40 @@ unlisted_by_none path listings faults other = adds_none faults (IsUnlistedBy lis
 
 -- the payload directory
 module _ (bag : Bag) where
-  dir_kind : (f : Fault) → BrokenOf bag (3 ∷ []) f → (NoPayloadDir ≡ f) × (bag.has_dir ≡ false)
+  dir_kind : (f : Fault) → HasFaultOf bag (3 ∷ []) f → (NoPayloadDir ≡ f) × (bag.has_payload_dir ≡ false)
   dir_kind NoPayloadDir h = (refl, h.0)
   dir_kind _ h = absurd (let k : false ≡ true = h.1 in cc)
 
-  pub dir_there : (faults : List Fault) → bag.has_dir ≡ true → Adds faults faults (BrokenOf bag (3 ∷ []))
-  dir_there faults there = adds_none faults (BrokenOf bag (3 ∷ [])) (λ f h. let k : true ≡ false = sym there ∙ (dir_kind f h).1 in cc)
+  pub dir_there : (faults : List Fault) → bag.has_payload_dir ≡ true → Adds faults faults (HasFaultOf bag (3 ∷ []))
+  dir_there faults there = adds_none faults (HasFaultOf bag (3 ∷ [])) (λ f h. let k : true ≡ false = sym there ∙ (dir_kind f h).1 in cc)
 
-  pub dir_away : (old new : List Fault) → bag.has_dir ≡ false → new ≡ old ++ NoPayloadDir ∷ [] → Adds old new (BrokenOf bag (3 ∷ []))
-  dir_away old new away more = adds_one old new NoPayloadDir (BrokenOf bag (3 ∷ [])) more (away, refl) (λ f h. (dir_kind f h).0)
+  pub dir_away : (old new : List Fault) → bag.has_payload_dir ≡ false → new ≡ old ++ NoPayloadDir ∷ [] → Adds old new (HasFaultOf bag (3 ∷ []))
+  dir_away old new away more = adds_one old new NoPayloadDir (HasFaultOf bag (3 ∷ [])) more (away, refl) (λ f h. (dir_kind f h).0)
 
   -- some payload manifest
-  manifest_kind : (f : Fault) → BrokenOf bag (4 ∷ []) f → (NoManifest ≡ f) × ((alg : Alg) → ¬ IsThere bag (manifest_file Payload alg))
+  manifest_kind : (f : Fault) → HasFaultOf bag (4 ∷ []) f → (NoManifest ≡ f) × ((alg : Alg) → ¬ IsThere bag (manifest_file Payload alg))
   manifest_kind NoManifest h = (refl, h.0)
   manifest_kind _ h = absurd (let k : false ≡ true = h.1 in cc)
 
-  pub manifest_there : (faults : List Fault) (alg : Alg) → IsThere bag (manifest_file Payload alg) → Adds faults faults (BrokenOf bag (4 ∷ []))
-  manifest_there faults alg there = adds_none faults (BrokenOf bag (4 ∷ [])) (λ f h. (manifest_kind f h).1 alg there)
+  pub manifest_there : (faults : List Fault) (alg : Alg) → IsThere bag (manifest_file Payload alg) → Adds faults faults (HasFaultOf bag (4 ∷ []))
+  manifest_there faults alg there = adds_none faults (HasFaultOf bag (4 ∷ [])) (λ f h. (manifest_kind f h).1 alg there)
 
-  pub manifest_away : (old new : List Fault) → ((alg : Alg) → ¬ IsThere bag (manifest_file Payload alg)) → new ≡ old ++ NoManifest ∷ [] → Adds old new (BrokenOf bag (4 ∷ []))
-  manifest_away old new away more = adds_one old new NoManifest (BrokenOf bag (4 ∷ [])) more (away, refl) (λ f h. (manifest_kind f h).0)
+  pub manifest_away : (old new : List Fault) → ((alg : Alg) → ¬ IsThere bag (manifest_file Payload alg)) → new ≡ old ++ NoManifest ∷ [] → Adds old new (HasFaultOf bag (4 ∷ []))
+  manifest_away old new away more = adds_one old new NoManifest (HasFaultOf bag (4 ∷ [])) more (away, refl) (λ f h. (manifest_kind f h).0)
 
 module _ (bag : Bag) (texts : Texts) (are : AreTextsOf (length bag.files) bag texts) where
   -- payload manifests that a tag manifest doesn't list
-  unlisted_there : (paths : List (List ℕ)) → ((path : List ℕ) → Contains paths path → IsThere bag path) → (f : Fault) → IsUnlistedManifest paths texts.manifests.items f → BrokenOf bag (6 ∷ []) f
+  unlisted_there : (paths : List (List ℕ)) → ((path : List ℕ) → Contains paths path → IsThere bag path) → (f : Fault) → IsUnlistedManifest paths texts.manifests.items f → HasFaultOf bag (6 ∷ []) f
   unlisted_there paths there f h =
       let path = h.1.0 in
       let alg = h.1.2.0 in
       let listing = h.1.2.1.0 in
       let by = h.1.2.1 in
       let lists = subst (λ k. Lists bag (manifest_name k listing.alg) listing.pairs) by.3 ((manifest_listed bag texts are listing).0 by.2) in
-      subst (λ g. BrokenOf bag (6 ∷ []) g) (sym by.5)
+      subst (λ g. HasFaultOf bag (6 ∷ []) g) (sym by.5)
       ((listing.pairs, lists, subst (λ p. IsThere bag p) by.1 (there path (contains_at paths h.0 path h.1.1)), subst (λ p. lists_path listing.pairs p ≡ false) by.1 by.4), refl)
 
-  unlisted_back : (paths : List (List ℕ)) → ((path : List ℕ) → IsThere bag path → Contains paths path) → (f : Fault) → BrokenOf bag (6 ∷ []) f → IsUnlistedManifest paths texts.manifests.items f
+  unlisted_back : (paths : List (List ℕ)) → ((path : List ℕ) → IsThere bag path → Contains paths path) → (f : Fault) → HasFaultOf bag (6 ∷ []) f → IsUnlistedManifest paths texts.manifests.items f
   unlisted_back paths shown (ManifestNotListed tag_manifest manifest) h =
       let listing : Listing = record { alg = tag_manifest; kind = Tag; pairs = h.0.0 } in
       let path = manifest_file Payload manifest in
@@ -90,8 +76,8 @@ module _ (bag : Bag) (texts : Texts) (are : AreTextsOf (length bag.files) bag te
       (place.0, (path, place.1, (manifest, (listing, refl, (manifest_listed bag texts are listing).1 h.0.1, refl, h.0.3, refl))))
   unlisted_back paths shown _ h = absurd (let k : false ≡ true = h.1 in cc)
 
-  pub all_unlisted : (paths : List (List ℕ)) (old new : List Fault) → ((path : List ℕ) → Contains paths path ↔ IsThere bag path) → Adds old new (IsUnlistedManifest paths texts.manifests.items) → Adds old new (BrokenOf bag (6 ∷ []))
-  all_unlisted paths old new same a = adds_so old new (IsUnlistedManifest paths texts.manifests.items) (BrokenOf bag (6 ∷ []))
+  pub all_unlisted : (paths : List (List ℕ)) (old new : List Fault) → ((path : List ℕ) → Contains paths path ↔ IsThere bag path) → Adds old new (IsUnlistedManifest paths texts.manifests.items) → Adds old new (HasFaultOf bag (6 ∷ []))
+  all_unlisted paths old new same a = adds_so old new (IsUnlistedManifest paths texts.manifests.items) (HasFaultOf bag (6 ∷ []))
       (unlisted_there paths (λ path. (same path).0)) (unlisted_back paths (λ path. (same path).1)) a
 
   -- `Payload-Oxum`
@@ -104,27 +90,27 @@ module _ (bag : Bag) (texts : Texts) (are : AreTextsOf (length bag.files) bag te
   pub oxum_of : (elements : List MetadataElement) (element : MetadataElement) → texts.info ≡ Some elements → Has elements element → is_oxum element ≡ true → SaysOxum bag element
   oxum_of elements element some has is = record { elements = elements; says = (info_said bag texts are elements).0 some; has = has; is_oxum = is }
 
-  oxum_none : (f : Fault) → texts.info ≡ None → BrokenOf bag (7 ∷ 8 ∷ []) f → ⊥
+  oxum_none : (f : Fault) → texts.info ≡ None → HasFaultOf bag (7 ∷ 8 ∷ []) f → ⊥
   oxum_none OxumForm none h = no_oxum h.0.0 none h.0.1
   oxum_none OxumTwice none h = let k : None ≡ Some h.0.0 = sym none ∙ (info_said bag texts are h.0.0).1 h.0.1 in cc
   oxum_none _ none h = absurd (let k : false ≡ true = h.1 in cc)
 
-  pub no_oxum_fault : (faults : List Fault) → texts.info ≡ None → Adds faults faults (BrokenOf bag (7 ∷ 8 ∷ []))
-  no_oxum_fault faults none = adds_none faults (BrokenOf bag (7 ∷ 8 ∷ [])) (λ f h. oxum_none f none h)
+  pub no_oxum_fault : (faults : List Fault) → texts.info ≡ None → Adds faults faults (HasFaultOf bag (7 ∷ 8 ∷ []))
+  no_oxum_fault faults none = adds_none faults (HasFaultOf bag (7 ∷ 8 ∷ [])) (λ f h. oxum_none f none h)
 
-  oxum_there : (elements : List MetadataElement) → texts.info ≡ Some elements → (f : Fault) → IsOxumFault elements f → BrokenOf bag (7 ∷ 8 ∷ []) f
-  oxum_there elements some f (inl h) = subst (λ g. BrokenOf bag (7 ∷ 8 ∷ []) g) (sym h.3) ((h.0, oxum_of elements h.0 some h.1 h.2.0, h.2.1), refl)
-  oxum_there elements some f (inr h) = subst (λ g. BrokenOf bag (7 ∷ 8 ∷ []) g) (sym h.1) ((elements, (info_said bag texts are elements).0 some, h.0), refl)
+  oxum_there : (elements : List MetadataElement) → texts.info ≡ Some elements → (f : Fault) → IsOxumFault elements f → HasFaultOf bag (7 ∷ 8 ∷ []) f
+  oxum_there elements some f (inl h) = subst (λ g. HasFaultOf bag (7 ∷ 8 ∷ []) g) (sym h.3) ((h.0, oxum_of elements h.0 some h.1 h.2.0, h.2.1), refl)
+  oxum_there elements some f (inr h) = subst (λ g. HasFaultOf bag (7 ∷ 8 ∷ []) g) (sym h.1) ((elements, (info_said bag texts are elements).0 some, h.0), refl)
 
-  oxum_back : (elements : List MetadataElement) → texts.info ≡ Some elements → (f : Fault) → BrokenOf bag (7 ∷ 8 ∷ []) f → IsOxumFault elements f
+  oxum_back : (elements : List MetadataElement) → texts.info ≡ Some elements → (f : Fault) → HasFaultOf bag (7 ∷ 8 ∷ []) f → IsOxumFault elements f
   oxum_back elements some OxumForm h = inl (h.0.0, oxum_in elements h.0.0 some h.0.1, (h.0.1.is_oxum, h.0.2), refl)
   oxum_back elements some OxumTwice h =
       let same : elements ≡ h.0.0 = same_Some elements h.0.0 (sym some ∙ (info_said bag texts are h.0.0).1 h.0.1) in
       inr (subst (λ (es : List MetadataElement). 2 ≤ length (filter is_oxum es)) (sym same) h.0.2, refl)
   oxum_back elements some _ h = absurd (let k : false ≡ true = h.1 in cc)
 
-  pub all_oxum : (elements : List MetadataElement) (old new : List Fault) → texts.info ≡ Some elements → Adds old new (IsOxumFault elements) → Adds old new (BrokenOf bag (7 ∷ 8 ∷ []))
-  all_oxum elements old new some a = adds_so old new (IsOxumFault elements) (BrokenOf bag (7 ∷ 8 ∷ [])) (oxum_there elements some) (oxum_back elements some) a
+  pub all_oxum : (elements : List MetadataElement) (old new : List Fault) → texts.info ≡ Some elements → Adds old new (IsOxumFault elements) → Adds old new (HasFaultOf bag (7 ∷ 8 ∷ []))
+  all_oxum elements old new some a = adds_so old new (IsOxumFault elements) (HasFaultOf bag (7 ∷ 8 ∷ [])) (oxum_there elements some) (oxum_back elements some) a
 
 -- one that can't be read, and then a second one
 abbrev pub IsFormFault : List MetadataElement → Fault → Type 0

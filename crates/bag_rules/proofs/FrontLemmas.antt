@@ -1,13 +1,6 @@
 -- A bag by all of its files.
 use Rattle.std.proofs.Common.{◌≡◌, ◌↔◌, List, Some, length, sym, ap, subst}
-use Rattle.std.proofs.Math.Seq.{take-length}
-use Rattle.bag_tags.specs.declared.fetch.FetchLine.{FetchLine}
-use Rattle.bag_tags.specs.Infos.{MetadataElement}
-use Rattle.bag_tags.specs.Listings.{Listing}
-use Rattle.bag_rules.specs.declared.texts.Texts.{Texts}
-use Rattle.bag_rules.specs.Bags.{Bag, Lists, SaysInfo, ListsFetch}
-use Rattle.bag_rules.specs.Faults.{Has}
-use Rattle.bag_rules.specs.Reading.{AreTextsOf, front, name_in}
+use Rattle.bag_rules.proofs.Words.{AreTextsOf, Bag, FetchLine, front, Has, Listing, Lists, ListsFetch, MetadataElement, name_in, SaysInfo, take-length, Texts}
 
 -- the front of as many files as there are is the bag
 pub whole_front : (bag : Bag) → front (length bag.files) bag ≡ bag

@@ -2,7 +2,7 @@
 use native.Mathlib.Omega.{arith}
 use Rattle.std.proofs.Common.{◌≡◌, ◌⊎◌, ◌↔◌, ◌<◌, ℕ, List, [], ◌∷◌, ◌++◌, Some, length, slice_get, inl, inr, zero, suc, refl, ap}
 use Rattle.std.specs.List.{Contains}
-use Rattle.bag_rules.specs.Faults.{Has}
+use Rattle.bag_rules.proofs.Words.{Has}
 
 pub has_from_contains : {X : Type 0} (xs : List X) (x : X) → Contains xs x → Has xs x
 has_from_contains [] x (k, below, is) = grind arith

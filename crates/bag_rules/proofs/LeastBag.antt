@@ -2,34 +2,10 @@
 use Rattle.std.proofs.Common.{◌≡◌, ◌⊎◌, ℕ, zero, suc, Bool, true, false, List, [], ◌∷◌, Some, None, codes, refl, sym, ap, ◌∙◌, subst, inl, inr}
 use Rattle.std.specs.List.{slice_get}
 use Rattle.bag_path.specs.Lines.{lines_of}
-use Rattle.bag_path.specs.Paths.{is_payload}
-use Rattle.bag_path.specs.declared.spelling.Version.TheVariants.{V1}
-use Rattle.bag_digest.specs.declared.algorithm.Alg.{Alg}
-use Rattle.bag_digest.specs.declared.algorithm.Alg.TheVariants.{Sha256}
-use Rattle.bag_tags.specs.declared.declaration.DeclarationFault.{DeclarationFault}
-use Rattle.bag_tags.specs.declared.listing.Kind.{Kind}
-use Rattle.bag_tags.specs.declared.listing.Kind.TheVariants.{Payload, Tag}
-use Rattle.bag_tags.specs.declared.listing.Pair.{Pair}
-use Rattle.bag_tags.specs.Declarations.{IsDeclarationFault, current, written}
-use Rattle.bag_tags.specs.Listings.{nothing_listed, lists_path, listed_digest}
-use Rattle.bag_tags.specs.Manifests.{AddsPair, ManifestText}
-use Rattle.bag_tags.specs.Names.{payload_manifest, tag_manifest}
-use Rattle.bag_tags.proofs.DeclarationLemmas.{written_declares, excludes}
-use Rattle.bag_tags.proofs.ExampleLemmas.{other_text, differ_at}
-use Rattle.bag_tags.proofs.ExampleLines.{text_of}
-use Rattle.bag_tags.proofs.ManifestFaultLemmas.{none_listed}
-use Rattle.bag_tags.proofs.ManifestTextLemmas.{one_list_of_pairs}
-use Rattle.bag_tags.proofs.NameLemmas.{payload_known}
-use Rattle.bag_rules.specs.declared.fault.Fault.{Fault}
-use Rattle.bag_rules.specs.declared.fault.Fault.TheVariants.{NoDeclaration, BadDeclaration, NoPayloadDir, NoManifest, BadLine, ManifestNotListed, OxumForm, OxumTwice, Missing, Unlisted, FetchNotListed, FetchLength, OxumWrong, WrongDigest}
-use Rattle.bag_rules.specs.declared.fault.LineFile.TheVariants.{Info, FetchList, Manifest}
-use Rattle.bag_rules.specs.declared.fault.ManifestName.{ManifestName}
-use Rattle.bag_rules.specs.Bags.{Bag, Holds, Lists, manifest_file}
-use Rattle.bag_rules.specs.Broken.{Broken}
-use Rattle.bag_rules.specs.Verdicts.{IsInProfile}
+use Rattle.bag_rules.proofs.Words.{AddsPair, Alg, BadDeclaration, BadLine, Bag, current, DeclFault, differ_at, excludes, Fault, FetchLength, FetchList, FetchNotListed, HasFault, Holds, Info, is_payload, IsDeclarationFault, IsInProfile, Kind, listed_digest, Lists, lists_path, Manifest, manifest_file, ManifestName, ManifestNotListed, ManifestText, Missing, NoDeclaration, NoManifest, no_pairs, NoPayloadDir, nothing_listed, one_list_of_pairs, other_text, OxumForm, OxumTwice, OxumWrong, Pair, Payload, payload_known, payload_manifest, Sha256, Tag, tag_manifest, text_of, Unlisted, V1, written_declaration, written_declares, WrongDigest}
 
 abbrev pub least_bag : Bool → Bag
-least_bag has_dir = record { files = (codes "bagit.txt", written) ∷ (codes "manifest-sha256.txt", []) ∷ []; has_dir = has_dir }
+least_bag has_payload_dir = record { files = (codes "bagit.txt", written_declaration) ∷ (codes "manifest-sha256.txt", []) ∷ []; has_payload_dir = has_payload_dir }
 
 -- the files of a list of two
 abbrev pub IsOne : List ℕ → List ℕ → List ℕ → List ℕ → Type 0
@@ -51,12 +27,12 @@ nothing : (alg : Alg) (kind : Kind) → ManifestText V1 alg kind [] []
 unfolding lines_of
 nothing alg kind = text_of (AddsPair V1) (nothing_listed alg kind) [] (nothing_listed alg kind) refl
 
-module _ (has_dir : Bool) where
+module _ (has_payload_dir : Bool) where
   abbrev bag : Bag
-  bag = least_bag has_dir
+  bag = least_bag has_payload_dir
 
-  held : (path octets : List ℕ) → Holds bag path octets → IsOne path octets (codes "bagit.txt") written ⊎ IsOne path octets (codes "manifest-sha256.txt") []
-  held path octets h = one_of_two (codes "bagit.txt") written (codes "manifest-sha256.txt") [] (path, octets) h.0 h.1
+  held : (path octets : List ℕ) → Holds bag path octets → IsOne path octets (codes "bagit.txt") written_declaration ⊎ IsOne path octets (codes "manifest-sha256.txt") []
+  held path octets h = one_of_two (codes "bagit.txt") written_declaration (codes "manifest-sha256.txt") [] (path, octets) h.0 h.1
 
   no_info : (octets : List ℕ) → ¬ Holds bag (codes "bag-info.txt") octets
   no_info octets h = elim (held (codes "bag-info.txt") octets h) [
@@ -87,22 +63,22 @@ module _ (has_dir : Bool) where
   lists_nothing : (name : ManifestName) (pairs : List Pair) → Lists bag name pairs → pairs ≡ []
   lists_nothing name pairs h = one_list_of_pairs V1 name.alg name.kind [] pairs [] (subst (λ octets. ManifestText V1 name.alg name.kind octets pairs) (empty name.kind name.alg h.octets h.there) h.text) (nothing name.alg name.kind)
 
-  declared_well : (octets : List ℕ) (cause : DeclarationFault) → Holds bag (codes "bagit.txt") octets → ¬ IsDeclarationFault octets cause
+  declared_well : (octets : List ℕ) (cause : DeclFault) → Holds bag (codes "bagit.txt") octets → ¬ IsDeclarationFault octets cause
   declared_well octets cause h f = elim (held (codes "bagit.txt") octets h) [
-    | inl e ↦ excludes written current cause written_declares (subst (λ o. IsDeclarationFault o cause) e.1 f)
+    | inl e ↦ excludes written_declaration current cause written_declares (subst (λ o. IsDeclarationFault o cause) e.1 f)
     | inr e ↦ other_text (codes "bagit.txt") (codes "manifest-sha256.txt") refl e.0
   ]
 
   -- only the payload directory can be wanting
-  pub only_fault : (fault : Fault) → Broken bag fault → (NoPayloadDir ≡ fault) × (has_dir ≡ false)
-  only_fault NoDeclaration h = absurd (h (written, (0, refl)))
+  pub only_fault : (fault : Fault) → HasFault bag fault → (NoPayloadDir ≡ fault) × (has_payload_dir ≡ false)
+  only_fault NoDeclaration h = absurd (h (written_declaration, (0, refl)))
   only_fault (BadDeclaration cause) h = absurd (declared_well h.0 cause h.1 h.2)
   only_fault NoPayloadDir h = (refl, h)
   only_fault NoManifest h = absurd (h Sha256 ([], (1, refl)))
   only_fault (BadLine Info line cause) h = absurd (no_info h.0 h.1)
   only_fault (BadLine FetchList line cause) h = absurd (no_fetch h.0 h.1)
   only_fault (BadLine (Manifest name) line cause) h =
-      absurd (none_listed V1 name.alg name.kind h.0 [] _ (subst (λ octets. ManifestText V1 name.alg name.kind octets []) (sym (empty name.kind name.alg h.0 h.1)) (nothing name.alg name.kind)) h.2)
+      absurd (no_pairs V1 name.alg name.kind h.0 [] _ (subst (λ octets. ManifestText V1 name.alg name.kind octets []) (sym (empty name.kind name.alg h.0 h.1)) (nothing name.alg name.kind)) h.2)
   only_fault (ManifestNotListed tag_manifest manifest) h = absurd (no_tag_manifest tag_manifest h.1.octets h.1.there)
   only_fault OxumForm h = absurd (no_info h.1.says.octets h.1.says.there)
   only_fault OxumTwice h = absurd (no_info h.1.octets h.1.there)
@@ -118,7 +94,7 @@ module _ (has_dir : Bool) where
 
   pub in_profile : IsInProfile bag
   in_profile = record {
-    declared = (written, (0, refl), written_declares);
+    declared = (written_declaration, (0, refl), written_declares);
     known = λ path word there unknown. elim (held path there.0 there.1) [
       | inl e ↦ elim unknown.form [
         | inl f ↦ differ_at 0 (codes "bagit.txt") (payload_manifest word) refl (sym e.0 ∙ f)

@@ -1,23 +1,7 @@
 -- The lengths of payload files.
 use Rattle.std.proofs.Common.{◌≡◌, ◌≢◌, ◌↔◌, ◌+◌, ℕ, Bool, true, false, not, List, [], ◌∷◌, ◌++◌, Option, Some, None, IsTrue, nat_eq, length, take, get_or, slice_get, cond, refl, sym, ap, ◌∙◌, inl, inr, subst, arith}
-use Rattle.std.proofs.lemmas.Bool.{cases_Bool}
-use Rattle.std.proofs.lemmas.Bool.Decides.{Decides-eqb}
-use Rattle.std.proofs.lemmas.List.{append-nil, length_push}
-use Rattle.std.proofs.lemmas.List.Elements.{filter_more}
-use Rattle.std.proofs.lemmas.Option.{same_Some, slice_get_within, get_or_from_slice_get}
-use Rattle.bag_path.specs.Paths.{is_payload}
-use Rattle.bag_tags.specs.declared.fetch.FetchLine.{FetchLine}
-use Rattle.bag_tags.specs.declared.oxum.Oxum.{Oxum}
-use Rattle.bag_tags.specs.Infos.{MetadataElement}
-use Rattle.bag_tags.specs.Oxums.{OxumText}
-use Rattle.bag_rules.specs.declared.fault.Fault.{Fault}
-use Rattle.bag_rules.specs.declared.fault.Fault.TheVariants.{FetchLength, OxumWrong}
-use Rattle.bag_rules.specs.declared.texts.Texts.{Texts}
-use Rattle.bag_rules.specs.Bags.{Bag, IsBagOf, is_oxum, octet_count, payload_of}
-use Rattle.bag_rules.specs.Broken.{Broken, BrokenOf}
-use Rattle.bag_rules.specs.Faults.{Has}
-use Rattle.bag_rules.specs.Files.{AreLengths, IsOtherLength, IsOtherOxum}
-use Rattle.bag_rules.specs.Reading.{Adds, AreTextsOf}
+use Rattle.bag_rules.proofs.Words.{Adds, append-nil, AreLengths, AreTextsOf, Bag, cases_Bool, Decides-eqb, Fault, FetchLength, FetchLine, filter_more, get_or_from_slice_get, Has, HasFault, HasFaultOf, is_oxum, is_payload, IsBagOf, IsOtherLength, IsOtherOxum, length_push, MetadataElement, Oxum, OxumText, OxumWrong, paths_in, payload_of, same_Some, Shown, slice_get_within, Texts}
+use Rattle.bag_rules.specs.Bags.{octet_count}
 use Rattle.bag_rules.proofs.AddsLemmas.{adds_none, adds_one}
 use Rattle.bag_rules.proofs.FormLemmas.{no_oxum, oxum_in, oxum_of}
 use Rattle.bag_rules.proofs.OxumReading.{oxum}
@@ -59,13 +43,13 @@ module _ (files : List File) (i : ℕ) (path octets : List ℕ) (at : slice_get 
 
 -- LENGTHS THAT ARE GIVEN
 
-module _ {T : Type 0} {paths : T → List (List ℕ)} {has_dir : T → Bool} {body : T → ℕ → Option (List ℕ)} {tree : T} (bag : Bag) (is : IsBagOf paths has_dir body tree bag) (line : FetchLine) where
+module _ {shown : Shown} (bag : Bag) (is : IsBagOf shown bag) (line : FetchLine) where
   -- the file is not there
-  pub length_of_none : (faults : List Fault) → ¬ ((k : ℕ) × (slice_get (paths tree) k ≡ Some line.entry.path)) → Adds faults faults (IsOtherLength bag line)
+  pub length_of_none : (faults : List Fault) → ¬ ((k : ℕ) × (slice_get (paths_in shown) k ≡ Some line.entry.path)) → Adds faults faults (IsOtherLength bag line)
   length_of_none faults away = adds_none faults (IsOtherLength bag line) (λ f h. away (h.1.1.0, path_at bag is h.1.1.0 line.entry.path h.1.0 h.1.1.2))
 
   module _ (lengths : List ℕ) (are : AreLengths bag lengths) (payload : is_payload line.entry.path ≡ true) (given i measured : ℕ) (gives : line.entry.octets ≡ Some given) (so : (n : ℕ) → slice_get lengths i ≡ Some n → measured ≡ n) where
-    pub length_right : (faults : List Fault) → ((k : ℕ) → slice_get (paths tree) k ≡ Some line.entry.path → k ≡ i) → measured ≡ given → Adds faults faults (IsOtherLength bag line)
+    pub length_right : (faults : List Fault) → ((k : ℕ) → slice_get (paths_in shown) k ≡ Some line.entry.path → k ≡ i) → measured ≡ given → Adds faults faults (IsOtherLength bag line)
     length_right faults only right = adds_none faults (IsOtherLength bag line) (λ f h.
         let octets = h.1.0 in
         let k = h.1.1.0 in
@@ -74,7 +58,7 @@ module _ {T : Type 0} {paths : T → List (List ℕ)} {has_dir : T → Bool} {bo
         let same : given ≡ h.0 = same_Some given h.0 (sym gives ∙ h.1.1.1) in
         h.1.1.3 (sym (so (length octets) long) ∙ right ∙ same))
 
-    pub length_wrong : (old new : List Fault) → slice_get (paths tree) i ≡ Some line.entry.path → measured ≢ given → new ≡ old ++ FetchLength line.line line.entry.path ∷ [] → Adds old new (IsOtherLength bag line)
+    pub length_wrong : (old new : List Fault) → slice_get (paths_in shown) i ≡ Some line.entry.path → measured ≢ given → new ≡ old ++ FetchLength line.line line.entry.path ∷ [] → Adds old new (IsOtherLength bag line)
     length_wrong old new found wrong more =
         let here = there_at bag is i line.entry.path found in
         let long = so (length here.0) (are.1 i line.entry.path here.0 here.1 payload) in
@@ -108,23 +92,23 @@ module _ (element : MetadataElement) (octets streams : ℕ) (text : List ℕ) (o
   )
 
 module _ (bag : Bag) (texts : Texts) (are : AreTextsOf (length bag.files) bag texts) where
-  wrong_kind : (f : Fault) → BrokenOf bag (13 ∷ []) f → (OxumWrong ≡ f) × Broken bag OxumWrong
+  wrong_kind : (f : Fault) → HasFaultOf bag (13 ∷ []) f → (OxumWrong ≡ f) × HasFault bag OxumWrong
   wrong_kind OxumWrong h = (refl, h.0)
   wrong_kind _ h = absurd (let k : false ≡ true = h.1 in cc)
 
-  pub no_wrong : (faults : List Fault) → texts.info ≡ None → Adds faults faults (BrokenOf bag (13 ∷ []))
-  no_wrong faults none = adds_none faults (BrokenOf bag (13 ∷ [])) (λ f h. let w = (wrong_kind f h).1 in no_oxum bag texts are w.0 none w.1)
+  pub no_wrong : (faults : List Fault) → texts.info ≡ None → Adds faults faults (HasFaultOf bag (13 ∷ []))
+  no_wrong faults none = adds_none faults (HasFaultOf bag (13 ∷ [])) (λ f h. let w = (wrong_kind f h).1 in no_oxum bag texts are w.0 none w.1)
 
   module _ (elements : List MetadataElement) (some : texts.info ≡ Some elements) (octets streams : ℕ) (octets_are : octets ≡ octet_count (payload_of bag.files)) (streams_are : streams ≡ length (payload_of bag.files)) where
-    pub wrong_there : (old new : List Fault) → ((element : MetadataElement) × Has elements element × IsOtherOxum octets streams element) → new ≡ old ++ OxumWrong ∷ [] → Adds old new (BrokenOf bag (13 ∷ []))
+    pub wrong_there : (old new : List Fault) → ((element : MetadataElement) × Has elements element × IsOtherOxum octets streams element) → new ≡ old ++ OxumWrong ∷ [] → Adds old new (HasFaultOf bag (13 ∷ []))
     wrong_there old new h more =
         let other = h.2.1.1.2 in
-        adds_one old new OxumWrong (BrokenOf bag (13 ∷ [])) more
+        adds_one old new OxumWrong (HasFaultOf bag (13 ∷ [])) more
         ((h.0, oxum_of bag texts are elements h.0 some h.1 h.2.0, (h.2.1.0, (h.2.1.1.0, h.2.1.1.1, elim other [ inl e ↦ inl (λ k. e (k ∙ sym octets_are)) | inr e ↦ inr (λ k. e (k ∙ sym streams_are)) ]))), refl)
         (λ f k. (wrong_kind f k).0)
 
-    pub wrong_away : (faults : List Fault) → ((element : MetadataElement) → Has elements element → ¬ IsOtherOxum octets streams element) → Adds faults faults (BrokenOf bag (13 ∷ []))
-    wrong_away faults none = adds_none faults (BrokenOf bag (13 ∷ [])) (λ f h.
+    pub wrong_away : (faults : List Fault) → ((element : MetadataElement) → Has elements element → ¬ IsOtherOxum octets streams element) → Adds faults faults (HasFaultOf bag (13 ∷ []))
+    wrong_away faults none = adds_none faults (HasFaultOf bag (13 ∷ [])) (λ f h.
         let w = (wrong_kind f h).1 in
         none w.0 (oxum_in bag texts are elements w.0 some w.1)
         (w.1.is_oxum, (w.2.0, (w.2.1.0, w.2.1.1, elim w.2.1.2 [ inl e ↦ inl (λ k. e (k ∙ octets_are)) | inr e ↦ inr (λ k. e (k ∙ streams_are)) ]))))

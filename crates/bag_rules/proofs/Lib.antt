@@ -1,3 +1,4 @@
+pub mod Words
 pub mod RisingPaths
 pub mod MemoryFiles
 pub mod MemoryShown
@@ -9,11 +10,11 @@ pub mod FaultLemmas
 pub mod AddsLemmas
 pub mod ListedLemmas
 pub mod TreeLemmas
+pub mod TreeUses
 pub mod PlaceLemmas
 pub mod VerdictLemmas
 pub mod LimitLemmas
 pub mod DeclaredLemmas
-pub mod TextFiles
 pub mod LineFaults
 pub mod TextsRead
 pub mod TextStops
@@ -21,6 +22,7 @@ pub mod FirstFiles
 pub mod TextsMore
 pub mod FileFaultLemmas
 pub mod FileReadLemmas
+pub mod KeptLemmas
 pub mod FileKindLemmas
 pub mod EachLemmas
 pub mod FrontLemmas

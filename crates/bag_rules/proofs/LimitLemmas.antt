@@ -1,12 +1,7 @@
 -- Which limit is met first.
 use Rattle.std.proofs.Common.{◌≡◌, ◌≤◌, ◌+◌, ◌∙◌, ℕ, List, Some, Result, Ok, Err, MatchResult, length, slice_get, sym, ap, subst, inl, inr, arith}
-use Rattle.std.proofs.lemmas.Bool.{cases_lt}
-use Rattle.std.proofs.lemmas.Option.{slice_get_within}
-use Rattle.bag_rules.specs.declared.outcome.CheckFault.{CheckFault}
-use Rattle.bag_rules.specs.declared.outcome.CheckFault.TheVariants.{Tree, TagTooLarge, TooMany, TooLarge, Memory}
-use Rattle.bag_rules.specs.declared.outcome.Outcome.{Outcome}
-use Rattle.bag_rules.specs.Bags.{Bag}
-use Rattle.bag_rules.specs.Limits.{Stopped, NoneStops, NoneStopsBefore, FirstStops, WorkStops, Stops}
+use Rattle.bag_rules.proofs.Words.{Bag, cases_lt, CheckFault, FirstStops, NoneStops, NoneStopsBefore, Outcome, slice_get_within, Stopped, Stops, TagTooLarge, TooLarge, TooMany, Tree, WorkStops}
+use Rattle.bag_rules.specs.declared.outcome.CheckFault.TheVariants.{Memory}
 use Rattle.bag_rules.proofs.PlaceLemmas.{same_file}
 
 -- what stops the work for another reason

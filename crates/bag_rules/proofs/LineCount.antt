@@ -1,8 +1,6 @@
 -- How many lines a text has.
 use Rattle.std.proofs.Common.{◌≡◌, ◌<◌, ◌+◌, ◌↔◌, ℕ, List, [], ◌∷◌, Option, Some, None, IsTrue, is_some, length, slice_get, refl, sym, ◌∙◌, arith}
-use Rattle.std.specs.List.{enumerate_from}
-use Rattle.std.specs.Option.{option_map}
-use Rattle.std.proofs.lemmas.Option.{slice_get_within}
+use Rattle.bag_rules.proofs.Words.{enumerate_from, option_map, slice_get_within}
 use Rattle.bag_rules.proofs.HasLemmas.{stands}
 
 length-enumerate : {X : Type 0} (n : ℕ) (xs : List X) → length (enumerate_from n xs) ≡ length xs

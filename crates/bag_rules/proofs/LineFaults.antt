@@ -1,14 +1,7 @@
 -- What the reading of one tag file's text adds.
 use Rattle.std.proofs.Common.{◌≡◌, ◌↔◌, ℕ, List, Option, Some, None, Result, MatchResult, IfOk, IsErrOf, refl, sym, ap, ◌∙◌, subst}
-use Rattle.bag_tags.specs.declared.fault.LineCause.{LineCause}
-use Rattle.bag_tags.specs.declared.fault.LineFault.{LineFault}
-use Rattle.bag_tags.specs.declared.fault.TagFault.{TagFault}
-use Rattle.bag_tags.specs.declared.fault.TagFault.TheVariants.{Line, Memory}
-use Rattle.bag_rules.specs.declared.fault.Fault.{Fault}
-use Rattle.bag_rules.specs.declared.fault.Fault.TheVariants.{BadLine}
-use Rattle.bag_rules.specs.declared.fault.LineFile.{LineFile}
-use Rattle.bag_rules.specs.Broken.{line_fault}
-use Rattle.bag_rules.specs.Reading.{Adds, ValueOf}
+use Rattle.bag_rules.proofs.Words.{Adds, BadLine, Fault, Line, line_fault, LineCause, LineFault, LineFile, TagFault, ValueOf}
+use Rattle.bag_tags.specs.declared.fault.TagFault.TheVariants.{Memory}
 use Rattle.bag_rules.proofs.AddsLemmas.{adds_none, adds_one}
 
 -- a reader's answer: what it read is what the text says, and its fault is the text's first

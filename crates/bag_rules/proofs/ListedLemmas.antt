@@ -1,10 +1,6 @@
 -- What a manifest lists.
 use Rattle.std.proofs.Common.{◌≡◌, true, false, ℕ, List, [], ◌∷◌, Option, Some, None, is_some, refl, inl, inr}
-use Rattle.std.specs.Str.{bytes_eq}
-use Rattle.std.proofs.lemmas.Bool.{cases_Bool}
-use Rattle.bag_digest.specs.declared.digest.Digest.{Digest}
-use Rattle.bag_tags.specs.declared.listing.Pair.{Pair}
-use Rattle.bag_tags.specs.Listings.{lists_path, listed_digest}
+use Rattle.bag_rules.proofs.Words.{bytes_eq, cases_Bool, Digest, listed_digest, lists_path, Pair}
 
 pub none_listed : (pairs : List Pair) (path : List ℕ) → listed_digest pairs path ≡ None → lists_path pairs path ≡ false
 none_listed [] path e = refl

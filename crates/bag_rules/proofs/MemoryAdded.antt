@@ -1,25 +1,7 @@
 -- A tree in memory once a file was put among its files.
 use Rattle.std.proofs.Common.{◌≡◌, ◌≢◌, ℕ, ◌+◌, ◌||◌, true, List, Option, Some, All, length, refl, sym, ap, subst, ◌∙◌, arith, inl, inr, nat_le, ◌<◌, None}
-use Rattle.std.specs.Ordering.{nat_cmp}
-use Rattle.std.specs.Cmp.Lexicographic.{slice_cmp}
-use Rattle.std.specs.List.{insert}
-use Rattle.std.specs.Map.{keys_of}
-use Rattle.std.specs.Str.{bytes_eq}
-use Rattle.std.specs.BTreeMap.{insert_entry}
-use Rattle.std.specs.Option.{ForSome, option_map}
-use Rattle.std.proofs.lemmas.Bool.{or_left, or_right, cases_Bool, cond-true, cond-false}
-use Rattle.std.proofs.lemmas.List.Edits.{length-insert}
-use Rattle.std.proofs.lemmas.Option.{same_Some}
-use Rattle.std.proofs.lemmas.Slice.Eq.{bytes_eq-Decides}
-use Rattle.std.proofs.lemmas.Map.Views.{All-keys-insert_entry}
-use Rattle.std.proofs.lemmas.List.Elements.{All-weaker}
-use Rattle.bag_path.specs.Paths.{is_payload}
-use Rattle.bag_rules.specs.declared.memory.File.{File}
-use Rattle.bag_rules.specs.declared.memory.Reading.{Reading}
-use Rattle.bag_rules.specs.declared.memory.MemTree.TheInside.{Inside}
-use Rattle.bag_rules.specs.Trees.{AreRising}
-use Rattle.bag_rules.specs.Memory.{MemFiles, octets_at, with_file}
-use Rattle.bag_rules.specs.MemoryInside.{shown_files, paths_of, rest_of, moved_up, view_of, IsGapFor, IsSound}
+use Rattle.bag_rules.proofs.Words.{All-keys-insert_entry, All-weaker, AreRising, bytes_eq, bytes_eq-Decides, cases_Bool, cond-false, cond-true, File, ForSome, insert, insert_entry, Inside, is_payload, IsGapFor, IsSound, keys_of, length-insert, MemFiles, moved_up, nat_cmp, octets_at, option_map, or_left, or_right, Reading, rest_of, same_Some, shown_files, slice_cmp, view_of, with_file}
+use Rattle.bag_rules.specs.MemoryInside.{paths_of}
 use Rattle.bag_rules.proofs.MemoryFiles.{put_in_gap, rising_put, lookup_put}
 use Rattle.bag_rules.proofs.MemoryShown.{length_shown, shown_insert, rest_moved}
 
@@ -27,7 +9,7 @@ use Rattle.bag_rules.proofs.MemoryShown.{length_shown, shown_insert, rest_moved}
 pub record HasAdded (old new : Inside) (place : ℕ) (file : File) : Type 0 where
   pub gap : IsGapFor (paths_of old.files.items) file.path place
   pub files : new.files.items ≡ insert old.files.items place file
-  pub has_dir : new.has_dir ≡ (old.has_dir || is_payload file.path)
+  pub has_payload_dir : new.has_payload_dir ≡ (old.has_payload_dir || is_payload file.path)
   pub reading : new.reading ≡ option_map (moved_up place) old.reading
   pub failures : new.failures ≡ old.failures
 
@@ -56,7 +38,7 @@ module _ (old new : Inside) (place : ℕ) (file : File) (sound : IsSound old) (a
   pub view_added : view_of new ≡ with_file (view_of old) file.path file.body.items
   view_added = λ t. record {
     files = files_are t;
-    has_dir = added.has_dir t;
+    has_payload_dir = added.has_payload_dir t;
     started = rest_is t;
     failures = added.failures t;
   }
@@ -64,11 +46,11 @@ module _ (old new : Inside) (place : ℕ) (file : File) (sound : IsSound old) (a
   rising_is : AreRising (paths_of new.files.items)
   rising_is = subst (λ fs. AreRising (keys_of fs)) (sym files_are) (rising_put file.path file.body.items (shown_files old.files.items) sound.rising)
 
-  payload_is : All (λ path. is_payload path ≡ true → new.has_dir ≡ true) (paths_of new.files.items)
-  payload_is = subst (λ fs. All (λ path. is_payload path ≡ true → new.has_dir ≡ true) (keys_of fs)) (sym files_are) (
-      All-keys-insert_entry (slice_cmp nat_cmp) file.path file.body.items (λ path. is_payload path ≡ true → new.has_dir ≡ true) (shown_files old.files.items)
-      (All-weaker (λ path. is_payload path ≡ true → old.has_dir ≡ true) (λ path. is_payload path ≡ true → new.has_dir ≡ true) (λ path before h. added.has_dir ∙ or_left old.has_dir (is_payload file.path) (before h)) (paths_of old.files.items) sound.payload)
-      (λ h. added.has_dir ∙ or_right old.has_dir (is_payload file.path) h)
+  payload_is : All (λ path. is_payload path ≡ true → new.has_payload_dir ≡ true) (paths_of new.files.items)
+  payload_is = subst (λ fs. All (λ path. is_payload path ≡ true → new.has_payload_dir ≡ true) (keys_of fs)) (sym files_are) (
+      All-keys-insert_entry (slice_cmp nat_cmp) file.path file.body.items (λ path. is_payload path ≡ true → new.has_payload_dir ≡ true) (shown_files old.files.items)
+      (All-weaker (λ path. is_payload path ≡ true → old.has_payload_dir ≡ true) (λ path. is_payload path ≡ true → new.has_payload_dir ≡ true) (λ path before h. added.has_payload_dir ∙ or_left old.has_payload_dir (is_payload file.path) (before h)) (paths_of old.files.items) sound.payload)
+      (λ h. added.has_payload_dir ∙ or_right old.has_payload_dir (is_payload file.path) h)
       )
 
   reading_is : ForSome new.reading (λ r. r.place < length new.files.items)

@@ -1,25 +1,7 @@
 -- Files by path in rising order: what is there once a file was put in its place, and what a look-up finds.
 use Rattle.std.proofs.Common.{◌≡◌, ℕ, zero, suc, ◌+◌, ◌<◌, ◌≤◌, true, cond, List, [], ◌∷◌, Option, Some, None, Contains, map, slice_get, length, refl, sym, ap, subst, ◌∙◌, arith, inl, inr, nat_le, add-one, if◌then◌else◌}
-use Rattle.std.specs.Ordering.{nat_cmp, ordering_reverse, match_ordering}
-use Rattle.std.specs.declared.cmp.Ordering.{Ordering}
-use Rattle.std.specs.declared.cmp.Ordering.TheVariants.{Less, Equal, Greater}
-use Rattle.std.specs.Cmp.Lexicographic.{slice_cmp}
-use Rattle.std.specs.Str.{bytes_eq}
-use Rattle.std.specs.List.{insert, IsDistinct, AllByRecursion}
+use Rattle.bag_rules.proofs.Words.{AllByRecursion, AreRising, bytes_eq, bytes_eq-Decides, cases_Bool, cases_lt, cond-false, cond-true, Equal, exact_bytes, Greater, insert, insert_entry, is_eq-slice_cmp, IsDistinct, IsDistinct-from_sorted, IsGapFor, keys_of, leb-false, leb-true, Less, lookup, lookup_from_place, match_ordering, nat_cmp, nat_list_cmp_total, nat_list_eq_equiv, option_map, Ordering, ordering_reverse, place_from_lookup, same_Some, slice_cmp, slice_get-map, tied_itself, values_of}
 use Rattle.std.specs.List.Sorted.{IsStrictlySortedBy}
-use Rattle.std.specs.Map.{keys_of, values_of, lookup}
-use Rattle.std.specs.BTreeMap.{insert_entry}
-use Rattle.std.specs.Option.{option_map}
-use Rattle.std.proofs.lemmas.Bool.{leb-true, leb-false, cases_lt, cases_Bool, cond-true, cond-false}
-use Rattle.std.proofs.lemmas.Cmp.{nat_list_cmp_total, nat_list_eq_equiv, tied_itself}
-use Rattle.std.proofs.lemmas.Option.{same_Some, slice_get-map}
-use Rattle.std.proofs.lemmas.Slice.Eq.{bytes_eq-Decides}
-use Rattle.std.proofs.lemmas.Map.Entries.{lookup_from_place, place_from_lookup}
-use Rattle.std.proofs.lemmas.Map.Keys.{IsDistinct-from_sorted}
-use Rattle.std.proofs.lemmas.Map.Lookups.{exact_bytes}
-use Rattle.std.proofs.lemmas.Map.Text.{is_eq-slice_cmp}
-use Rattle.bag_rules.specs.Trees.{AreRising}
-use Rattle.bag_rules.specs.MemoryInside.{IsGapFor}
 use Rattle.bag_rules.proofs.RisingPaths.{place_of, contains_at}
 
 abbrev Files : Type 0

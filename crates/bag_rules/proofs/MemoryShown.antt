@@ -1,29 +1,9 @@
 -- What the fields of a tree in memory show, once a file was put among them, and what a search finds.
-use Rattle.std.proofs.Common.{◌≡◌, ℕ, ◌+◌, ◌<◌, ◌++◌, ◌-◌, add-zero, take, take-append-drop, true, List, [], ◌∷◌, Option, Some, None, Result, Ok, Err, IfOk, IfErr, All, map, slice_get, get_or, drop, length, refl, sym, ap, subst, ◌∙◌, arith, inl, inr}
-use Rattle.std.specs.Io.KnownBytes.{Consumes, IsAtEnd}
-use Rattle.std.specs.Ordering.{nat_cmp, ordering_reverse, ordering_index, is_lt}
-use Rattle.std.specs.declared.cmp.Ordering.{Ordering}
-use Rattle.std.specs.declared.cmp.Ordering.TheVariants.{Less, Greater}
-use Rattle.std.specs.Cmp.Lexicographic.{slice_cmp}
-use Rattle.std.specs.List.{insert}
-use Rattle.std.specs.List.Sorted.{IsStrictlySortedBy, IsNonDecreasingBy, IsSearchInRange, IsBinarySearchResult}
-use Rattle.std.specs.Map.{values_of}
-use Rattle.std.specs.Option.{ForSome, option_map}
-use Rattle.std.proofs.lemmas.Cmp.{nat_list_cmp_total}
-use Rattle.std.proofs.Math.Seq.{take-append_seam}
-use Rattle.std.proofs.lemmas.List.{drop-drop, get_or-map, length-map}
-use Rattle.std.proofs.lemmas.List.Sorted.{searchable_from_sorted}
-use Rattle.std.proofs.lemmas.Option.{slice_get-map, slice_get_read, slice_get_within, slice_get_cases, same_Some}
-use Rattle.std.proofs.lemmas.Map.Keys.{Less-from_sorted}
-use Rattle.std.proofs.lemmas.Map.Lookups.{exact_bytes}
-use Rattle.std.proofs.lemmas.List.Elements.{All-nil}
-use Rattle.bag_path.specs.Paths.{is_payload}
-use Rattle.bag_rules.specs.declared.memory.File.{File}
-use Rattle.bag_rules.specs.declared.memory.Reading.{Reading}
-use Rattle.bag_rules.specs.declared.memory.MemTree.TheInside.{Inside}
-use Rattle.bag_rules.specs.Trees.{AreRising}
-use Rattle.bag_rules.specs.Memory.{MemFiles, octets_at}
-use Rattle.bag_rules.specs.MemoryInside.{shown_files, paths_of, rest_of, moved_up, view_of, IsGapFor, IsSound}
+use Rattle.std.proofs.Common.{◌≡◌, ℕ, zero, suc, ◌+◌, ◌<◌, ◌++◌, ◌-◌, add-zero, take, take-append-drop, true, List, [], ◌∷◌, Option, Some, None, Result, Ok, Err, IfOk, IfErr, All, map, slice_get, get_or, drop, is_some, length, refl, sym, ap, subst, ◌∙◌, arith, inl, inr}
+use Rattle.bag_rules.proofs.Words.{All-nil, AreRising, Consumes, drop-drop, exact_bytes, File, ForSome, get_or-map, Greater, insert, Inside, is_lt, is_payload, IsAtEnd, IsBinarySearchResult, IsGapFor, IsNonDecreasingBy, IsSearchInRange, IsSound, length-map, Less, Less-from_sorted, mem_octets, mem_paths, mem_shown, MemFiles, moved_up, nat_cmp, nat_list_cmp_total, no_files, octets_at, octets_in, option_map, Ordering, ordering_index, ordering_reverse, paths_in, Reading, rest_of, same_Some, searchable_from_sorted, shown_files, slice_cmp, slice_get-map, slice_get_cases, slice_get_read, slice_get_within, take-append_seam, values_of, view_of}
+use Rattle.std.specs.List.Sorted.{IsStrictlySortedBy}
+use Rattle.bag_rules.specs.MemoryInside.{paths_of}
+use Rattle.bag_rules.proofs.TreeLemmas.{all_paths}
 use Rattle.bag_rules.proofs.MemoryFiles.{map-insert, slice_get-insert_moved, lookup_at, lookup_in_gap}
 
 -- the paths that are shown are those of the files
@@ -102,6 +82,40 @@ module _ (files : List File) (path : List ℕ) where
         nat_list_cmp_total.antisymm path other ∙ ap ordering_reverse greater;
   }
 
+-- the paths that the tree shows
+pub shown_is : (tree : MemFiles) (inside : Inside) → view_of inside ≡ tree → paths_in (mem_shown tree) ≡ paths_of inside.files.items
+shown_is tree inside view = all_paths tree.files ∙ ap mem_paths (sym view)
+
+-- and the octets
+known_at : (files : List (List ℕ × List ℕ)) (i : ℕ) → octets_in (mem_shown (record no_files { files = files })) i ≡ slice_get (values_of files) i
+known_at [] i = refl
+known_at (file ∷ files) zero = refl
+known_at (file ∷ files) (suc i) = known_at files i
+
+pub octets_are : (tree : MemFiles) (i : ℕ) → octets_in (mem_shown tree) i ≡ mem_octets tree i
+octets_are tree i = known_at tree.files i
+
+-- a file that was started is there
+not_dropped : (o : Option (List ℕ)) → option_map (drop 0) o ≡ o
+not_dropped None = refl
+not_dropped (Some xs) = refl
+
+some_at : {X : Type 0} (xs : List X) (i : ℕ) → i < length xs → is_some (slice_get xs i) ≡ true
+some_at [] i h = absurd (omega (arith, h))
+some_at (x ∷ xs) zero h = refl
+some_at (x ∷ xs) (suc i) h = some_at xs i (omega (arith, h))
+
+pub started_from : (tree : MemFiles) (inside : Inside) (i : ℕ) → view_of inside ≡ tree → option_map (drop 0) (slice_get (values_of (shown_files inside.files.items)) i) ≡ octets_in (mem_shown tree) i
+started_from tree inside i view = not_dropped _ ∙ ap (λ t. mem_octets t i) view ∙ sym (octets_are tree i)
+
+pub started_there : (tree : MemFiles) (inside : Inside) (i : ℕ) → view_of inside ≡ tree → i < length (paths_in (mem_shown tree)) → is_some (option_map (drop 0) (slice_get (values_of (shown_files inside.files.items)) i)) ≡ true
+started_there tree inside i view below =
+    let files = inside.files.items in
+    let paths = ap length (shown_is tree inside view) in
+    let bodies = ap length (bodies_are files) in
+    ap is_some (not_dropped (slice_get (values_of (shown_files files)) i))
+    ∙ some_at (values_of (shown_files files)) i (omega (arith, below, paths, length_shown files, bodies, length-map files (λ (file : File). file.body.items)))
+
 -- what is left of the file that is read, once another was put at a place
 module _ (files : List File) (place : ℕ) (file : File) where
   pub shown_insert : shown_files (insert files place file) ≡ insert (shown_files files) place (file.path, file.body.items)
@@ -142,7 +156,7 @@ pub empty_sound : (inside : Inside) → inside.files.items ≡ [] → inside.rea
 unfolding IsStrictlySortedBy
 empty_sound inside no_file none = record {
   rising = subst (λ fs. AreRising (paths_of fs)) (sym no_file) tt;
-  payload = subst (λ fs. All (λ path. is_payload path ≡ true → inside.has_dir ≡ true) (paths_of fs)) (sym no_file) (All-nil (λ path. is_payload path ≡ true → inside.has_dir ≡ true));
+  payload = subst (λ fs. All (λ path. is_payload path ≡ true → inside.has_payload_dir ≡ true) (paths_of fs)) (sym no_file) (All-nil (λ path. is_payload path ≡ true → inside.has_payload_dir ≡ true));
   reading = subst (λ reading. ForSome reading (λ r. r.place < length inside.files.items)) (sym none) (λ r here. cc);
 }
 
@@ -160,7 +174,19 @@ started_is tree inside reading body view at here =
     ∙ ap (rest_of inside.files.items) at
     ∙ ap (option_map (drop reading.at)) here
 
--- a read of n octets
+-- the tree after a read of n octets
+read_further : (at n : ℕ) (o : Option (List ℕ)) → option_map (drop (at + n)) o ≡ option_map (drop n) (option_map (drop at) o)
+read_further at n None = refl
+read_further at n (Some octets) = ap Some (sym (drop-drop n at octets))
+
+pub read_view : (tree : MemFiles) (inside : Inside) (reading : Reading) (n : ℕ) → view_of inside ≡ tree → inside.reading ≡ Some reading
+    → view_of (record inside { reading = Some (record { place = reading.place; at = reading.at + n }) }) ≡ record tree { started = option_map (drop n) tree.started }
+read_view tree inside reading n view at =
+    let rest = read_further reading.at n (slice_get (values_of (shown_files inside.files.items)) reading.place) ∙ ap (λ r. option_map (drop n) (rest_of inside.files.items r)) (sym at) in
+    ap (λ started. (let t : MemFiles = record (view_of inside) { started = started } in t)) rest
+    ∙ ap (λ (t : MemFiles). (let s : MemFiles = record t { started = option_map (drop n) t.started } in s)) view
+
+-- what a read of n octets gives
 pub read_on : (started body : Option (List ℕ)) (octets buf : List ℕ) (at n : ℕ) → started ≡ Some (drop at octets) → body ≡ Some octets → drop at octets ≡ take n buf ++ drop (at + n) octets → (n ≡ 0 → 0 < length buf → drop at octets ≡ []) → Consumes started (option_map (drop (at + n)) body) (take n buf) × (n ≡ 0 → 0 < length buf → IsAtEnd (option_map (drop (at + n)) body))
 read_on started body octets buf at n before here copied end =
     let after : option_map (drop (at + n)) body ≡ Some (drop (at + n) octets) = ap (option_map (drop (at + n))) here in (

@@ -1,16 +1,6 @@
 -- The files that a manifest lists and that are not there.
 use Rattle.std.proofs.Common.{◌≡◌, ◌||◌, ℕ, Bool, true, false, List, [], ◌∷◌, ◌++◌, Contains, refl, sym, ap, ◌∙◌, inl, inr, subst}
-use Rattle.std.specs.Str.{bytes_eq}
-use Rattle.std.proofs.lemmas.Bool.{cases_Bool}
-use Rattle.std.proofs.lemmas.Slice.Eq.{bytes_eq-Decides}
-use Rattle.bag_tags.specs.declared.listing.Pair.{Pair}
-use Rattle.bag_tags.specs.Listings.{Listing, lists_path}
-use Rattle.bag_rules.specs.declared.fault.Fault.{Fault}
-use Rattle.bag_rules.specs.declared.fault.Fault.TheVariants.{Missing}
-use Rattle.bag_rules.specs.declared.fault.ManifestName.{ManifestName}
-use Rattle.bag_rules.specs.Faults.{Has}
-use Rattle.bag_rules.specs.Files.{IsMissingBy, IsPairMissing}
-use Rattle.bag_rules.specs.Reading.{Adds, name_in}
+use Rattle.bag_rules.proofs.Words.{Adds, bytes_eq, bytes_eq-Decides, cases_Bool, Fault, Has, IsMissingBy, IsPairMissing, Listing, lists_path, ManifestName, Missing, name_in, Pair}
 use Rattle.bag_rules.proofs.AddsLemmas.{adds_so, adds_one}
 use Rattle.bag_rules.proofs.EachLemmas.{OfSome}
 

@@ -2,53 +2,31 @@
 use Rattle.std.proofs.Common.{◌≡◌, ◌≢◌, ◌⊎◌, ◌||◌, ◌<◌, ◌++◌, ℕ, zero, suc, Bool, true, false, List, [], ◌∷◌, Some, codes, refl, sym, ap, ◌∙◌, subst, inl, inr, arith}
 use Rattle.std.specs.List.{slice_get}
 use Rattle.std.specs.List.Sorted.{IsStrictlySortedBy}
-use Rattle.std.specs.Str.{bytes_eq}
-use Rattle.std.proofs.lemmas.Bool.{cases_Bool}
-use Rattle.std.proofs.lemmas.Slice.Eq.{bytes_eq-Decides}
+use Rattle.bag_rules.proofs.Words.{adds_pair, AddsPair, AreRising, ascii_path, Bag, bytes_eq, bytes_eq-Decides, cases_Bool, Digest, digits_of_abc, Fault, HasFault, hash, is_payload, IsInProfile, IsJudged, IsThere, listed_digest, Listing, lists_path, leads_on, ManifestText, NoneBelow, nothing_listed, other_text, Pair, pair, Payload, Sha256, sha256_of_abc, SpellsDigest, text_of, tier_of, V1, with_pair, word_of, written_declaration, WrongDigest}
 use Rattle.bag_path.specs.Lines.{lines_of}
-use Rattle.bag_path.specs.Paths.{path_fault, is_payload}
-use Rattle.bag_path.specs.SpellingReading.{spelled_after}
-use Rattle.bag_path.specs.declared.spelling.Version.TheVariants.{V1}
-use Rattle.bag_path.proofs.AsciiLemmas.{ascii_path}
-use Rattle.bag_digest.specs.declared.algorithm.Alg.TheVariants.{Sha256}
-use Rattle.bag_digest.specs.declared.digest.Digest.{Digest}
+use Rattle.bag_path.specs.Paths.{path_fault}
+use Rattle.bag_path.specs.SpellingReading.{octets_spelled_after}
 use Rattle.bag_digest.specs.declared.digest.Digest.TheVariants as digest
-use Rattle.bag_digest.specs.Hash.{hash}
-use Rattle.bag_digest.specs.Spelling.{SpellsDigest}
-use Rattle.bag_digest.proofs.Published.{sha256_of_abc, digits_of_abc}
-use Rattle.bag_tags.specs.declared.listing.Kind.TheVariants.{Payload}
-use Rattle.bag_tags.specs.declared.listing.Pair.{Pair}
-use Rattle.bag_tags.specs.Declarations.{written}
-use Rattle.bag_tags.specs.Listings.{Listing, nothing_listed, pair, with_pair, lists_path, listed_digest}
-use Rattle.bag_tags.specs.Manifests.{AddsPair, ManifestText}
 use Rattle.bag_tags.specs.WordsReading.{until}
-use Rattle.bag_tags.proofs.ExampleLines.{text_of, adds_pair}
-use Rattle.bag_tags.proofs.ExampleLemmas.{other_text}
-use Rattle.bag_tags.proofs.WordsLemmas.{word_of}
-use Rattle.bag_rules.specs.declared.fault.Fault.{Fault}
-use Rattle.bag_rules.specs.declared.fault.Fault.TheVariants.{WrongDigest}
-use Rattle.bag_rules.specs.Bags.{Bag, IsThere, paths_of}
-use Rattle.bag_rules.specs.Broken.{Broken}
-use Rattle.bag_rules.specs.Trees.{AreRising}
-use Rattle.bag_rules.specs.Verdicts.{IsInProfile, IsJudged, NoneBelow, tier_of}
+use Rattle.bag_rules.specs.Bags.{paths_of}
 use Rattle.bag_rules.proofs.LeastBag.{IsOne, this_file, one_of_two}
 use Rattle.bag_rules.proofs.OneManifest.{IsFile, HasOneManifest, by_sha256, left_fault}
 
 -- VERDICTS
 
-pub judged_none : (bag : Bag) → ((fault : Fault) → ¬ Broken bag fault) → IsInProfile bag → IsJudged bag []
+pub judged_none : (bag : Bag) → ((fault : Fault) → ¬ HasFault bag fault) → IsInProfile bag → IsJudged bag []
 unfolding IsStrictlySortedBy
 judged_none bag none profile = record { in_order = tt; exact = λ fault. (λ h. absurd h, λ h. none fault h.0); in_profile = λ below. profile }
 
 -- the one fault that is broken
-pub judged_one : (bag : Bag) (fault : Fault) → Broken bag fault → ((other : Fault) → Broken bag other → fault ≡ other) → IsInProfile bag → IsJudged bag (fault ∷ [])
+pub judged_one : (bag : Bag) (fault : Fault) → HasFault bag fault → ((other : Fault) → HasFault bag other → fault ≡ other) → IsInProfile bag → IsJudged bag (fault ∷ [])
 unfolding IsStrictlySortedBy
 judged_one bag fault broken only profile =
     let none_below : NoneBelow (tier_of fault) bag = λ other less b. omega (arith, subst (λ f. tier_of f < tier_of fault) (sym (only other b)) less) in
     record {
       in_order = (tt, tt);
       exact = λ other. (
-        λ h. elim h [ inl e ↦ subst (λ f. Broken bag f × NoneBelow (tier_of f) bag) e (broken, none_below) | inr n ↦ absurd n ],
+        λ h. elim h [ inl e ↦ subst (λ f. HasFault bag f × NoneBelow (tier_of f) bag) e (broken, none_below) | inr n ↦ absurd n ],
         λ h. inl (only other h.0),
       );
       in_profile = λ below. profile;
@@ -82,12 +60,12 @@ unfolding until
 gives_digest = digits_of_abc
 
 adds : AddsPair V1 nothing 1 text one
-unfolding until spelled_after path_fault
-adds = adds_pair nothing text of_abc refl refl gives_digest path refl (ascii_path path refl refl) 1 refl refl
+unfolding until octets_spelled_after path_fault
+adds = adds_pair nothing text of_abc refl gives_digest path refl (ascii_path path refl refl) 1 refl refl
 
 pub lists_one : ManifestText V1 Sha256 Payload manifest_octets listed
 unfolding lines_of
-lists_one = text_of (AddsPair V1) nothing manifest_octets one (inr (refl, (one, adds, refl)))
+lists_one = text_of (AddsPair V1) nothing manifest_octets one (one, leads_on (AddsPair V1) _ _ _ refl refl adds, refl)
 
 pub lists_none : ManifestText V1 Sha256 Payload [] []
 unfolding lines_of
@@ -109,10 +87,10 @@ listed_is other found e = elim (cases_Bool (bytes_eq path other)) [
 -- BAGS
 
 abbrev pub with_file : List ℕ → List ℕ → Bag
-with_file manifest content = record { files = (codes "bagit.txt", written) ∷ (codes "data/a.txt", content) ∷ (codes "manifest-sha256.txt", manifest) ∷ []; has_dir = true }
+with_file manifest content = record { files = (codes "bagit.txt", written_declaration) ∷ (codes "data/a.txt", content) ∷ (codes "manifest-sha256.txt", manifest) ∷ []; has_payload_dir = true }
 
 abbrev pub without_file : List ℕ → Bag
-without_file manifest = record { files = (codes "bagit.txt", written) ∷ (codes "manifest-sha256.txt", manifest) ∷ []; has_dir = true }
+without_file manifest = record { files = (codes "bagit.txt", written_declaration) ∷ (codes "manifest-sha256.txt", manifest) ∷ []; has_payload_dir = true }
 
 one_of_three : (a b c d x y : List ℕ) (file : List ℕ × List ℕ) (i : ℕ) → slice_get {X = List ℕ × List ℕ} ((a, b) ∷ (c, d) ∷ (x, y) ∷ []) i ≡ Some file → IsOne file.0 file.1 a b ⊎ (IsOne file.0 file.1 c d ⊎ IsOne file.0 file.1 x y)
 one_of_three a b c d x y file zero e = inl (this_file file a b e)
@@ -120,27 +98,27 @@ one_of_three a b c d x y file (suc i) e = inr (one_of_two c d x y file i e)
 
 pub has_file : (manifest content : List ℕ) (pairs : List Pair) → ManifestText V1 Sha256 Payload manifest pairs → HasOneManifest (with_file manifest content) manifest content pairs
 has_file manifest content pairs lists = record {
-  held = λ at octets h. elim (one_of_three (codes "bagit.txt") written path content (codes "manifest-sha256.txt") manifest (at, octets) h.0 h.1) [
+  held = λ at octets h. elim (one_of_three (codes "bagit.txt") written_declaration path content (codes "manifest-sha256.txt") manifest (at, octets) h.0 h.1) [
     | inl e ↦ inl e
     | inr e ↦ elim e [ inl e ↦ inr (inr e) | inr e ↦ inr (inl e) ]
   ];
   declared = (0, refl);
   there = (2, refl);
-  has_dir = refl;
+  has_payload_dir = refl;
   text = lists;
 }
 
 pub has_no_file : (manifest : List ℕ) (pairs : List Pair) → ManifestText V1 Sha256 Payload manifest pairs → HasOneManifest (without_file manifest) manifest [] pairs
 has_no_file manifest pairs lists = record {
-  held = λ at octets h. elim (one_of_two (codes "bagit.txt") written (codes "manifest-sha256.txt") manifest (at, octets) h.0 h.1) [ inl e ↦ inl e | inr e ↦ inr (inl e) ];
+  held = λ at octets h. elim (one_of_two (codes "bagit.txt") written_declaration (codes "manifest-sha256.txt") manifest (at, octets) h.0 h.1) [ inl e ↦ inl e | inr e ↦ inr (inl e) ];
   declared = (0, refl);
   there = (1, refl);
-  has_dir = refl;
+  has_payload_dir = refl;
   text = lists;
 }
 
 pub no_file : (manifest : List ℕ) → ¬ IsThere (without_file manifest) path
-no_file manifest h = elim (one_of_two (codes "bagit.txt") written (codes "manifest-sha256.txt") manifest (path, h.0) h.1.0 h.1.1) [
+no_file manifest h = elim (one_of_two (codes "bagit.txt") written_declaration (codes "manifest-sha256.txt") manifest (path, h.0) h.1.0 h.1.1) [
   | inl e ↦ other_text path (codes "bagit.txt") refl e.0
   | inr e ↦ other_text path (codes "manifest-sha256.txt") refl e.0
 ]
@@ -164,7 +142,7 @@ payload_only manifest content other octets f payload = elim f [
 ]
 
 -- where the file is listed, only its digest can be wrong
-pub only_digest : (content : List ℕ) (fault : Fault) → Broken (with_file manifest_octets content) fault → (WrongDigest by_sha256 path ≡ fault) × (hash Sha256 content ≢ of_abc)
+pub only_digest : (content : List ℕ) (fault : Fault) → HasFault (with_file manifest_octets content) fault → (WrongDigest by_sha256 path ≡ fault) × (hash Sha256 content ≢ of_abc)
 only_digest content fault b =
     let bag = with_file manifest_octets content in
     let has = has_file manifest_octets content listed lists_one in

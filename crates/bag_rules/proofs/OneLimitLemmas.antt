@@ -1,9 +1,6 @@
 -- A check meets one limit first at most.
 use Rattle.std.proofs.Common.{◌≡◌, ◌∙◌, ℕ, List, Some, slice_get, sym, ap, subst, inl, inr, arith}
-use Rattle.std.proofs.lemmas.Bool.{cases_lt}
-use Rattle.bag_rules.specs.declared.outcome.CheckFault.{CheckFault}
-use Rattle.bag_rules.specs.Bags.{Bag}
-use Rattle.bag_rules.specs.Limits.{FirstStops, DeclarationStops, TextStops, FileStops, ProfileStops, WorkStops, Stops}
+use Rattle.bag_rules.proofs.Words.{Bag, cases_lt, CheckFault, DeclarationStops, FileStops, FirstStops, ProfileStops, Stops, TextStops, WorkStops}
 use Rattle.bag_rules.proofs.LimitLemmas.{none_first}
 
 abbrev File : Type 0

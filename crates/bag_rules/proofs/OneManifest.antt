@@ -1,45 +1,20 @@
 -- Bags with a declaration, a payload directory, one payload manifest by SHA-256, and one payload file at most: what can be
 -- wrong with them.
 use Rattle.std.proofs.Common.{◌≡◌, ◌≢◌, ◌⊎◌, ℕ, true, false, List, Some, codes, nat_eq, get_or, refl, sym, ap, ◌∙◌, subst, inl, inr}
-use Rattle.bag_path.specs.Paths.{is_payload}
-use Rattle.bag_path.specs.declared.spelling.Version.TheVariants.{V1}
-use Rattle.bag_digest.specs.declared.algorithm.Alg.{Alg}
-use Rattle.bag_digest.specs.declared.algorithm.Alg.TheVariants.{Md5, Sha1, Sha256, Sha512}
-use Rattle.bag_digest.specs.declared.digest.Digest.{Digest}
-use Rattle.bag_digest.specs.Hash.{hash}
-use Rattle.bag_tags.specs.declared.fault.LineCause.{LineCause}
-use Rattle.bag_tags.specs.declared.listing.Kind.{Kind}
-use Rattle.bag_tags.specs.declared.listing.Kind.TheVariants.{Payload, Tag}
-use Rattle.bag_tags.specs.declared.listing.Pair.{Pair}
-use Rattle.bag_tags.specs.Declarations.{IsDeclarationFault, current, written}
-use Rattle.bag_tags.specs.Listings.{lists_path, listed_digest}
-use Rattle.bag_tags.specs.Manifests.{ManifestText, ManifestFault}
-use Rattle.bag_tags.specs.Names.{payload_manifest, tag_manifest}
-use Rattle.bag_tags.proofs.DeclarationLemmas.{written_declares, excludes}
-use Rattle.bag_tags.proofs.ExampleLemmas.{other_text, differ_at}
-use Rattle.bag_tags.proofs.ManifestFaultLemmas.{none_listed}
-use Rattle.bag_tags.proofs.ManifestTextLemmas.{one_list_of_pairs}
-use Rattle.bag_tags.proofs.NameLemmas.{payload_known}
-use Rattle.bag_rules.specs.declared.fault.Fault.{Fault}
-use Rattle.bag_rules.specs.declared.fault.Fault.TheVariants.{NoDeclaration, BadDeclaration, NoPayloadDir, NoManifest, BadLine, ManifestNotListed, OxumForm, OxumTwice, Missing, Unlisted, FetchNotListed, FetchLength, OxumWrong, WrongDigest}
-use Rattle.bag_rules.specs.declared.fault.LineFile.TheVariants.{Info, FetchList, Manifest}
-use Rattle.bag_rules.specs.declared.fault.ManifestName.{ManifestName}
-use Rattle.bag_rules.specs.Bags.{Bag, Holds, IsThere, Lists, manifest_file, manifest_name}
-use Rattle.bag_rules.specs.Broken.{Broken, line_fault}
-use Rattle.bag_rules.specs.Verdicts.{IsInProfile}
+use Rattle.bag_rules.proofs.Words.{Alg, BadDeclaration, BadLine, Bag, current, differ_at, Digest, excludes, Fault, FetchLength, FetchList, FetchNotListed, HasFault, hash, Holds, Info, is_payload, IsDeclarationFault, IsInProfile, IsThere, Kind, line_fault, LineCause, listed_digest, Lists, lists_path, Manifest, manifest_file, manifest_name, ManifestFault, ManifestName, ManifestNotListed, ManifestText, Md5, Missing, NoDeclaration, NoManifest, no_pairs, NoPayloadDir, one_list_of_pairs, other_text, OxumForm, OxumTwice, OxumWrong, Pair, Payload, payload_known, payload_manifest, Sha1, Sha256, Sha512, Tag, tag_manifest, Unlisted, V1, written_declaration, written_declares, WrongDigest}
 
 -- the files that are there, by what each is
 abbrev pub IsFile : List ℕ → List ℕ → List ℕ → List ℕ → Type 0
 IsFile manifest content path octets =
-    ((path ≡ codes "bagit.txt") × (octets ≡ written))
+    ((path ≡ codes "bagit.txt") × (octets ≡ written_declaration))
     ⊎ ((path ≡ codes "manifest-sha256.txt") × (octets ≡ manifest))
     ⊎ ((path ≡ codes "data/a.txt") × (octets ≡ content))
 
 pub record HasOneManifest (bag : Bag) (manifest content : List ℕ) (pairs : List Pair) : Type 0 where
   pub held : (path octets : List ℕ) → Holds bag path octets → IsFile manifest content path octets
-  pub declared : Holds bag (codes "bagit.txt") written
+  pub declared : Holds bag (codes "bagit.txt") written_declaration
   pub there : Holds bag (codes "manifest-sha256.txt") manifest
-  pub has_dir : bag.has_dir ≡ true
+  pub has_payload_dir : bag.has_payload_dir ≡ true
   pub text : ManifestText V1 Sha256 Payload manifest pairs
 
 abbrev pub by_sha256 : ManifestName
@@ -99,20 +74,20 @@ module _ (bag : Bag) (manifest content : List ℕ) (pairs : List Pair) (h : HasO
   no_bad_line : (name : ManifestName) (octets : List ℕ) (line : ℕ) (cause : LineCause) → Holds bag (manifest_file name.kind name.alg) octets → ¬ ManifestFault V1 name.alg name.kind octets (line_fault line cause)
   no_bad_line name octets line cause held fault =
       let one = the_one name octets held in
-      none_listed V1 Sha256 Payload manifest pairs (line_fault line cause) h.text
+      no_pairs V1 Sha256 Payload manifest pairs (line_fault line cause) h.text
       (subst (λ (n : ManifestName). ManifestFault V1 n.alg n.kind manifest (line_fault line cause)) one.0 (subst (λ o. ManifestFault V1 name.alg name.kind o (line_fault line cause)) one.1 fault))
 
   -- what can be wrong
   abbrev pub IsLeft : Fault → Type 0
   IsLeft fault = IsMissing bag pairs fault ⊎ IsUnlisted bag pairs fault ⊎ IsWrong bag pairs fault
 
-  pub left_fault : (fault : Fault) → Broken bag fault → IsLeft fault
-  left_fault NoDeclaration b = absurd (b (written, h.declared))
+  pub left_fault : (fault : Fault) → HasFault bag fault → IsLeft fault
+  left_fault NoDeclaration b = absurd (b (written_declaration, h.declared))
   left_fault (BadDeclaration cause) b = absurd (elim (h.held (codes "bagit.txt") b.0 b.1) [
-    | inl e ↦ excludes written current cause written_declares (subst (λ o. IsDeclarationFault o cause) e.1 b.2)
+    | inl e ↦ excludes written_declaration current cause written_declares (subst (λ o. IsDeclarationFault o cause) e.1 b.2)
     | inr e ↦ elim e [ inl e ↦ other_text (codes "bagit.txt") (codes "manifest-sha256.txt") refl e.0 | inr e ↦ other_text (codes "bagit.txt") (codes "data/a.txt") refl e.0 ]
   ])
-  left_fault NoPayloadDir b = absurd (let e : true ≡ false = sym h.has_dir ∙ b in cc)
+  left_fault NoPayloadDir b = absurd (let e : true ≡ false = sym h.has_payload_dir ∙ b in cc)
   left_fault NoManifest b = absurd (b Sha256 (manifest, h.there))
   left_fault (BadLine Info line cause) b = absurd (no_info b.0 b.1)
   left_fault (BadLine FetchList line cause) b = absurd (no_fetch b.0 b.1)
@@ -148,7 +123,7 @@ module _ (bag : Bag) (manifest content : List ℕ) (pairs : List Pair) (h : HasO
 
   pub profile : IsInProfile bag
   profile = record {
-    declared = (written, h.declared, written_declares);
+    declared = (written_declaration, h.declared, written_declares);
     known = λ path word there unknown. elim (h.held path there.0 there.1) [
       | inl e ↦ elim unknown.form [
         | inl f ↦ differ_at 0 (codes "bagit.txt") (payload_manifest word) refl (sym e.0 ∙ f)

@@ -1,28 +1,13 @@
 -- A bag has one verdict at most, and its files stand in one order.
-use Rattle.std.proofs.Common.{◌≡◌, ◌≢◌, ◌↔◌, ◌∙◌, ℕ, Bool, true, false, List, refl, sym, ap, subst, string_bytes}
-use Rattle.std.specs.Cmp.Lexicographic.{slice_cmp}
-use Rattle.std.specs.Ordering.{nat_cmp, ordering_reverse}
-use Rattle.std.specs.declared.cmp.Ordering.{Ordering}
-use Rattle.std.specs.declared.cmp.Ordering.TheVariants.{Less, Equal, Greater}
-use Rattle.std.proofs.lemmas.Cmp.{nat_list_cmp_total}
-use Rattle.std.proofs.lemmas.Map.Lookups.{exact_bytes}
-use Rattle.bag_tags.specs.declared.declaration.Declaration.{Declaration}
-use Rattle.bag_tags.specs.Declarations.{IsDeclaration, current}
-use Rattle.bag_tags.specs.Names.{IsUnknownManifest}
+use Rattle.std.proofs.Common.{◌≡◌, ◌≢◌, ◌↔◌, ◌∙◌, ℕ, Bool, true, false, List, [], ◌∷◌, Some, None, is_some, refl, sym, ap, subst, string_bytes}
+use Rattle.bag_rules.proofs.Words.{Algorithm, AreInOrder, AreRising, Bag, current, Declaration, declaration_file, Declares, Encoding, Equal, exact_bytes, Fault, Greater, Has, Holds, IsDeclaration, IsFirstUnknown, IsInProfile, IsJudged, IsOutside, IsUnknownManifest, IsVerdict, Judged, Less, nat_cmp, nat_list_cmp_total, one_word, Ordering, ordering_reverse, Outcome, Outside, OutsideCause, SameCause, SameVerdict, slice_cmp, V1}
+use Rattle.std.specs.List.Sorted.{IsStrictlySortedBy}
+use Rattle.bag_tags.specs.Declarations.{version_of}
 use Rattle.bag_tags.proofs.DeclarationLemmas as declarations
-use Rattle.bag_tags.proofs.NameLemmas.{one_word}
 use Rattle.bag_rules.specs.contracts.fault.FaultOrd.TheImpl as order
 use Rattle.bag_rules.specs.contracts.fault.FaultOrd.TheImpl.Laws as laws
-use Rattle.bag_rules.specs.declared.fault.Fault.{Fault}
-use Rattle.bag_rules.specs.declared.outcome.Outcome.{Outcome}
-use Rattle.bag_rules.specs.declared.outcome.Outcome.TheVariants.{Judged, Outside}
-use Rattle.bag_rules.specs.declared.outcome.OutsideCause.{OutsideCause}
-use Rattle.bag_rules.specs.declared.outcome.OutsideCause.TheVariants.{Version, Encoding, Algorithm}
-use Rattle.bag_rules.specs.Bags.{Bag, Holds, Declares, declaration_file, paths_of}
-use Rattle.bag_rules.specs.Faults.{Has}
-use Rattle.bag_rules.specs.SameVerdicts.{SameCause, SameVerdict}
-use Rattle.bag_rules.specs.Trees.{AreRising}
-use Rattle.bag_rules.specs.Verdicts.{IsJudged, IsInProfile, IsFirstUnknown, IsOutside, IsVerdict}
+use Rattle.bag_rules.specs.declared.outcome.OutsideCause.TheVariants.{Version}
+use Rattle.bag_rules.specs.Bags.{paths_of}
 use Rattle.bag_rules.proofs.HasLemmas.{has_at, place_of_has}
 use Rattle.bag_rules.proofs.SameListLemmas.{asymmetric, same_list, sorted_by_key}
 use Rattle.bag_rules.proofs.TreeLemmas.{one_octets}
@@ -40,16 +25,16 @@ has_holds : (bag : Bag) (file : File) → Holds bag file.0 file.1 → Has bag.fi
 has_holds bag file holds = has_at bag.files holds.0 file holds.1
 
 abbrev bag_of : List File → Bool → Bag
-bag_of files has_dir = record { files = files; has_dir = has_dir }
+bag_of files has_payload_dir = record { files = files; has_payload_dir = has_payload_dir }
 
-pub same_bag : (a b : Bag) → AreRising (paths_of a) → AreRising (paths_of b) → ((path octets : List ℕ) → Holds a path octets ↔ Holds b path octets) → a.has_dir ≡ b.has_dir → a ≡ b
+pub same_bag : (a b : Bag) → AreRising (paths_of a) → AreRising (paths_of b) → ((path octets : List ℕ) → Holds a path octets ↔ Holds b path octets) → a.has_payload_dir ≡ b.has_payload_dir → a ≡ b
 same_bag a b rising rises same dir =
     let key : File → List ℕ = λ file. file.0 in
     let files = same_list (λ (x y : File). slice_cmp nat_cmp x.0 y.0) (λ x y. asymmetric nat_list_cmp_total x.0 y.0) a.files b.files
     (sorted_by_key (λ (file : File). file.0) (slice_cmp nat_cmp) a.files rising) (sorted_by_key (λ (file : File). file.0) (slice_cmp nat_cmp) b.files rises)
     (λ file has. has_holds b file ((same file.0 file.1).0 (holds_has a file has)))
     (λ file has. has_holds a file ((same file.0 file.1).1 (holds_has b file has))) in
-    ap (λ fs. bag_of fs a.has_dir) files ∙ ap (bag_of b.files) dir
+    ap (λ fs. bag_of fs a.has_payload_dir) files ∙ ap (bag_of b.files) dir
 
 -- VERDICTS
 
@@ -64,18 +49,19 @@ one_declared bag d e rising p q = declarations.one_declaration q.0 d e (subst (�
 
 -- what declares this format's version and UTF-8 isn't of another
 not_version : (bag : Bag) → AreRising (paths_of bag) → Declares bag current → IsOutside bag Version → ⊥
-not_version bag rising declares other = let e = one_declared bag current other.0 rising declares other.1 in other.2 (ap (λ (d : Declaration). d.major) (sym e), ap (λ (d : Declaration). d.minor) (sym e))
+not_version bag rising declares other = let clash : Some V1 ≡ None = ap version_of (one_declared bag current other.0 rising declares other.1) ∙ other.2 in cc
 
 not_encoding : (bag : Bag) → AreRising (paths_of bag) → Declares bag current → IsOutside bag Encoding → ⊥
 not_encoding bag rising declares other =
     let e = one_declared bag current other.0 rising declares other.1 in
-    let clash : true ≡ false = ap (λ (d : Declaration). d.utf8) e ∙ other.4 in
+    let clash : true ≡ false = ap (λ (d : Declaration). d.utf8) e ∙ other.3 in
     cc
 
 not_both : (bag : Bag) → AreRising (paths_of bag) → IsOutside bag Version → IsOutside bag Encoding → ⊥
 not_both bag rising v n =
     let e = one_declared bag v.0 n.0 rising v.1 n.1 in
-    v.2 (ap (λ (d : Declaration). d.major) e ∙ n.2, ap (λ (d : Declaration). d.minor) e ∙ n.3)
+    let clash : false ≡ true = ap is_some (sym v.2 ∙ ap version_of e) ∙ n.2 in
+    cc
 
 -- a bag that can't be judged declares something, so it is judged only in the profile
 declares_some : (bag : Bag) (cause : OutsideCause) → IsOutside bag cause → (declaration : Declaration) × Declares bag declaration
@@ -114,6 +100,14 @@ one_cause bag Encoding (Algorithm name) rising p q = absurd (not_encoding bag ri
 one_cause bag (Algorithm name) Version rising p q = absurd (not_version bag rising p.0 q)
 one_cause bag (Algorithm name) Encoding rising p q = absurd (not_encoding bag rising p.0 q)
 one_cause bag (Algorithm name) (Algorithm other) rising p q = one_unknown bag (string_bytes name) (string_bytes other) p.1 q.1
+
+-- a report of one fault
+pub lone : (fault : Fault) → AreInOrder (fault ∷ [])
+unfolding IsStrictlySortedBy
+lone fault = (tt, tt)
+
+pub lone_report : (fault : Fault) (report : List Fault) → AreInOrder report → ((f : Fault) → Has report f ↔ Has (fault ∷ []) f) → report ≡ fault ∷ []
+lone_report fault report in_order same = same_list order.ghosts.cmp (asymmetric laws.lawful.total) report (fault ∷ []) in_order (lone fault) (λ f h. (same f).0 h) (λ f h. (same f).1 h)
 
 pub one_verdict : (bag : Bag) (a b : Outcome) → AreRising (paths_of bag) → IsVerdict bag a → IsVerdict bag b → SameVerdict a b
 one_verdict bag (Judged faults) (Judged others) rising p q = one_list bag faults others p q

@@ -1,7 +1,6 @@
 -- Whether a value can be read as `Payload-Oxum`.
 use Rattle.std.proofs.Common.{◌≡◌, ℕ, List, Bool, Option, Some, None, IsTrue, IfSome, is_some, not, true, false, refl, sym, ap, ◌∙◌, subst}
-use Rattle.bag_tags.specs.declared.oxum.Oxum.{Oxum}
-use Rattle.bag_tags.specs.Oxums.{OxumText}
+use Rattle.bag_rules.proofs.Words.{Oxum, OxumText}
 
 abbrev pub oxum : ℕ → ℕ → Oxum
 oxum octets streams = record { octets = octets; streams = streams }

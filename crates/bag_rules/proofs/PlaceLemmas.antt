@@ -1,6 +1,6 @@
 -- What stands at a place of a list.
 use Rattle.std.proofs.Common.{◌≡◌, ℕ, List, Option, Some, sym, ◌∙◌}
-use Rattle.std.proofs.lemmas.Option.{some_pair_parts}
+use Rattle.bag_rules.proofs.Words.{some_pair_parts}
 
 -- one thing stands at a place
 pub path_here : {X : Type 0} (o : Option X) (own other : X) → o ≡ Some own → o ≡ Some other → own ≡ other

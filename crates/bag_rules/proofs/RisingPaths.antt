@@ -1,13 +1,6 @@
 -- The places of paths in a rising list.
 use Rattle.std.proofs.Common.{◌≡◌, ℕ, ◌<◌, List, Some, slice_get, get_or, length, Contains, refl, sym, ap, ◌∙◌, arith, inl, inr}
-use Rattle.std.specs.Ordering.{nat_cmp, ordering_reverse}
-use Rattle.std.specs.declared.cmp.Ordering.TheVariants.{Less, Equal, Greater}
-use Rattle.std.specs.Cmp.Lexicographic.{slice_cmp}
-use Rattle.std.proofs.lemmas.Bool.{cases_lt}
-use Rattle.std.proofs.lemmas.Cmp.{nat_list_cmp_total, tied_itself}
-use Rattle.std.proofs.lemmas.Option.{same_Some, slice_get_within, get_or_from_slice_get, slice_get_read}
-use Rattle.std.proofs.lemmas.Map.Keys.{Less-from_sorted}
-use Rattle.bag_rules.specs.Trees.{AreRising}
+use Rattle.bag_rules.proofs.Words.{AreRising, cases_lt, Equal, get_or_from_slice_get, Greater, Less, Less-from_sorted, nat_cmp, nat_list_cmp_total, ordering_reverse, same_Some, slice_cmp, slice_get_read, slice_get_within, tied_itself}
 
 -- a path that is in the list stands at some place
 pub place_of : (paths : List (List ℕ)) (path : List ℕ) → Contains paths path → (k : ℕ) × (slice_get paths k ≡ Some path)

@@ -1,12 +1,7 @@
 -- Two sorted lists with the same members are the same.
 use Rattle.std.proofs.Common.{◌≡◌, List, [], ◌∷◌, map, refl, sym, ap, subst, inl, inr, ◌∙◌}
-use Rattle.std.specs.Cmp.{IsTotalOrder}
-use Rattle.std.specs.List.{AllByRecursion}
+use Rattle.bag_rules.proofs.Words.{AllByRecursion, Greater, Has, IsTotalOrder, Less, Ordering, ordering_reverse}
 use Rattle.std.specs.List.Sorted.{IsStrictlySortedBy}
-use Rattle.std.specs.Ordering.{ordering_reverse}
-use Rattle.std.specs.declared.cmp.Ordering.{Ordering}
-use Rattle.std.specs.declared.cmp.Ordering.TheVariants.{Less, Greater}
-use Rattle.bag_rules.specs.Faults.{Has}
 
 -- of two, one is less at most
 abbrev pub IsAsymmetric : {X : Type 0} → (X → X → Ordering) → Type 0

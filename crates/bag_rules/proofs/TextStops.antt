@@ -1,13 +1,8 @@
 -- What stops the reading of a tag file.
 use Rattle.std.proofs.Common.{◌≡◌, ◌<◌, ◌≤◌, ◌^◌, ℕ, List, length, Result, Ok, Err, IfErr, MatchResult, inl, inr, subst, arith}
-use Rattle.bag_path.specs.Lines.{lines_of}
-use Rattle.bag_rules.specs.declared.fault.LineFile.{LineFile}
-use Rattle.bag_rules.specs.declared.outcome.CheckFault.{CheckFault}
+use Rattle.bag_rules.proofs.Words.{CheckFault, HasCountedLines, IsLongTag, LineFile, lines_of, one_file, Stopped, text_file, TextStops}
 use Rattle.bag_rules.specs.declared.outcome.CheckFault.TheVariants.{Memory}
-use Rattle.bag_rules.specs.Bags.{text_file}
-use Rattle.bag_rules.specs.Limits.{HasCountedLines, IsLongTag, Stopped, TextStops}
 use Rattle.bag_rules.proofs.LimitLemmas.{stopped_memory}
-use Rattle.bag_rules.proofs.TextFiles.{one_file}
 
 -- done, or memory ran out
 pub done_or_memory : {V X : Type 0} (r : Result V CheckFault) (stops : CheckFault → Type 0) → IfErr r (λ fault. fault ≡ Memory) → X → MatchResult r (λ done. X) (Stopped stops)

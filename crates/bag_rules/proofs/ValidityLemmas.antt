@@ -1,47 +1,8 @@
 -- A complete bag has no fault but wrong digests, and a bag with no other fault is complete.
 use Rattle.std.proofs.Common.{◌≡◌, ◌≢◌, ◌⊎◌, ◌↔◌, ◌<◌, ◌≤◌, ℕ, Bool, true, false, List, [], ◌∷◌, Some, length, slice_get, zero, suc, refl, sym, ap, subst, inl, inr, arith}
-use Rattle.std.specs.List.{filter}
-use Rattle.std.specs.Option.{ForSome}
-use Rattle.std.specs.Str.{bytes_eq}
-use Rattle.std.proofs.lemmas.Bool.{cases_lt, cases_Bool}
-use Rattle.std.proofs.lemmas.Slice.Eq.{bytes_eq-Decides}
-use Rattle.bag_path.specs.declared.spelling.Version.TheVariants.{V1}
-use Rattle.bag_digest.specs.declared.algorithm.Alg.{Alg}
-use Rattle.bag_digest.specs.declared.algorithm.Alg.TheVariants.{Md5, Sha1, Sha256, Sha512}
-use Rattle.bag_digest.specs.declared.digest.Digest.{Digest}
+use Rattle.bag_rules.proofs.Words.{Alg, AreRising, BadDeclaration, BadLine, Bag, bytes_eq, bytes_eq-Decides, cases_Bool, cases_lt, Conforms, current, Decided, decided_as, decided_by, decided_equal, Declares, Digest, elements_or_fault, entries_or_fault, Fault, FetchLength, FetchLine, FetchList, FetchNotListed, FetchText, file_of, filter, ForSome, Has, HasEntry, HasFault, hash, Holds, Info, InfoText, is_oxum, IsComplete, IsFaultyText, IsJudged, IsThere, IsValid, line_fault, LineFault, LineFile, Lists, lists_path, ListsFetch, Manifest, manifest_file, ManifestName, ManifestNotListed, ManifestText, Md5, MetadataElement, Missing, NoDeclaration, NoManifest, no_elements, no_entries, no_pairs, NoneBelow, NoneUpTo, NoPayloadDir, number_of, octet_count, oxum_one, oxum_or_none, OxumForm, OxumText, OxumTwice, OxumWrong, Pair, pairs_or_fault, Payload, payload_of, SaysInfo, SaysOxum, Sha1, Sha256, Sha512, text_file, tier_of, Unlisted, V1, WrongDigest}
 use Rattle.bag_digest.specs.declared.digest.Digest.TheVariants as digest_of
-use Rattle.bag_digest.specs.Hash.{hash}
-use Rattle.bag_tags.specs.declared.fault.LineFault.{LineFault}
-use Rattle.bag_tags.specs.declared.fetch.FetchLine.{FetchLine}
-use Rattle.bag_tags.specs.declared.listing.Kind.TheVariants.{Payload}
-use Rattle.bag_tags.specs.declared.listing.Pair.{Pair}
-use Rattle.bag_tags.specs.Declarations.{current}
-use Rattle.bag_tags.specs.FetchText.{FetchText}
-use Rattle.bag_tags.specs.Infos.{MetadataElement}
-use Rattle.bag_tags.specs.InfoText.{InfoText}
-use Rattle.bag_tags.specs.Listings.{lists_path}
-use Rattle.bag_tags.specs.Manifests.{ManifestText}
-use Rattle.bag_tags.specs.Oxums.{OxumText}
-use Rattle.bag_tags.proofs.DecisionLemmas.{Decided, decided_as, decided_by, decided_equal}
-use Rattle.bag_tags.proofs.FetchDecisionLemmas.{entries_or_fault}
-use Rattle.bag_tags.proofs.FetchFaultLemmas as fetch_faults
-use Rattle.bag_tags.proofs.InfoDecisionLemmas.{elements_or_fault}
-use Rattle.bag_tags.proofs.InfoFaultLemmas.{none_said}
-use Rattle.bag_tags.proofs.ManifestDecisionLemmas.{pairs_or_fault}
-use Rattle.bag_tags.proofs.ManifestFaultLemmas as manifest_faults
-use Rattle.bag_tags.proofs.OxumDecisionLemmas.{oxum_or_none}
-use Rattle.bag_tags.proofs.OxumLemmas.{oxum_one}
-use Rattle.bag_rules.specs.declared.fault.Fault.{Fault}
-use Rattle.bag_rules.specs.declared.fault.Fault.TheVariants.{NoDeclaration, BadDeclaration, NoPayloadDir, NoManifest, BadLine, ManifestNotListed, OxumForm, OxumTwice, Missing, Unlisted, FetchNotListed, FetchLength, OxumWrong, WrongDigest}
-use Rattle.bag_rules.specs.declared.fault.LineFile.{LineFile}
-use Rattle.bag_rules.specs.declared.fault.LineFile.TheVariants.{Info, FetchList, Manifest}
-use Rattle.bag_rules.specs.declared.fault.ManifestName.{ManifestName}
-use Rattle.bag_rules.specs.Bags.{Bag, Holds, IsThere, Declares, Lists, SaysInfo, ListsFetch, file_of, manifest_file, text_file, paths_of, payload_of, octet_count, is_oxum}
-use Rattle.bag_rules.specs.Broken.{Broken, IsFaultyText, line_fault, SaysOxum, HasEntry}
-use Rattle.bag_rules.specs.Faults.{Has, number_of, NoneUpTo}
-use Rattle.bag_rules.specs.Trees.{AreRising}
-use Rattle.bag_rules.specs.Validity.{Conforms, IsComplete, IsValid}
-use Rattle.bag_rules.specs.Verdicts.{IsJudged, NoneBelow, tier_of}
+use Rattle.bag_rules.specs.Bags.{paths_of}
 use Rattle.bag_rules.proofs.TreeLemmas.{one_octets}
 use Rattle.bag_rules.proofs.VerdictLemmas.{declared_none}
 
@@ -96,23 +57,23 @@ decided_digest (digest_of.Sha512 a) _ = inr (λ e. cc)
 reads_well : (bag : Bag) (file : LineFile) (octets : List ℕ) (fault : LineFault) → AreRising (paths_of bag) → Conforms bag → Holds bag (text_file file) octets → ¬ IsFaultyText V1 file octets fault
 reads_well bag Info octets fault rising conforms holds bad =
     let read = conforms.info_reads (octets, holds) in
-    none_said V1 octets read.0 fault (subst (λ o. InfoText V1 o read.0) (one_octets bag (text_file Info) read.1.octets octets rising read.1.there holds) read.1.text) bad
+    no_elements V1 octets read.0 fault (subst (λ o. InfoText V1 o read.0) (one_octets bag (text_file Info) read.1.octets octets rising read.1.there holds) read.1.text) bad
 reads_well bag FetchList octets fault rising conforms holds bad =
     let read = conforms.fetch_reads (octets, holds) in
-    fetch_faults.none_listed V1 octets read.0 fault (subst (λ o. FetchText V1 o read.0) (one_octets bag (text_file FetchList) read.1.octets octets rising read.1.there holds) read.1.text) bad
+    no_entries V1 octets read.0 fault (subst (λ o. FetchText V1 o read.0) (one_octets bag (text_file FetchList) read.1.octets octets rising read.1.there holds) read.1.text) bad
 reads_well bag (Manifest name) octets fault rising conforms holds bad =
     let read = conforms.manifests_read name (octets, holds) in
-    manifest_faults.none_listed V1 name.alg name.kind octets read.0 fault
+    no_pairs V1 name.alg name.kind octets read.0 fault
     (subst (λ o. ManifestText V1 name.alg name.kind o read.0) (one_octets bag (file_of name) read.1.octets octets rising read.1.there holds) read.1.text) bad
 
 other_payload : (o p s t : ℕ) → o ≡ p → s ≡ t → (o ≢ p) ⊎ (s ≢ t) → ⊥
 other_payload o p s t e f (inl n) = n e
 other_payload o p s t e f (inr n) = n f
 
-pub complete_none : (bag : Bag) → AreRising (paths_of bag) → IsComplete bag → (fault : Fault) → number_of fault ≤ 13 → ¬ Broken bag fault
+pub complete_none : (bag : Bag) → AreRising (paths_of bag) → IsComplete bag → (fault : Fault) → number_of fault ≤ 13 → ¬ HasFault bag fault
 complete_none bag rising complete NoDeclaration upto broken = declared_none bag current rising complete.conforms.declared NoDeclaration (omega arith) broken
 complete_none bag rising complete (BadDeclaration cause) upto broken = declared_none bag current rising complete.conforms.declared (BadDeclaration cause) (omega arith) broken
-complete_none bag rising complete NoPayloadDir upto broken = no_clash bag.has_dir complete.conforms.has_dir broken
+complete_none bag rising complete NoPayloadDir upto broken = no_clash bag.has_payload_dir complete.conforms.has_payload_dir broken
 complete_none bag rising complete NoManifest upto broken = broken complete.conforms.has_manifest.0 complete.conforms.has_manifest.1
 complete_none bag rising complete (BadLine file line cause) upto broken = reads_well bag file broken.0 (line_fault line cause) rising complete.conforms broken.1 broken.2
 complete_none bag rising complete (ManifestNotListed tag_manifest manifest) upto broken =
@@ -136,7 +97,7 @@ complete_none bag rising complete OxumWrong upto broken =
     other_payload _ _ _ _ same.0 same.1 broken.2.1.2
 complete_none bag rising complete (WrongDigest manifest path) upto broken = absurd (omega (arith, upto))
 
-pub valid_none : (bag : Bag) → AreRising (paths_of bag) → IsValid bag → (fault : Fault) → ¬ Broken bag fault
+pub valid_none : (bag : Bag) → AreRising (paths_of bag) → IsValid bag → (fault : Fault) → ¬ HasFault bag fault
 valid_none bag rising valid (WrongDigest manifest path) broken =
     broken.2.2.2 (valid.verified manifest broken.0 path broken.2.0 broken.2.2.0 broken.1 broken.2.1 broken.2.2.1)
 valid_none bag rising valid fault broken = complete_none bag rising valid.complete fault (omega arith) broken
@@ -144,12 +105,12 @@ valid_none bag rising valid fault broken = complete_none bag rising valid.comple
 -- FROM NO FAULT TO COMPLETE
 
 -- a bag that has no fault up to the 13th kind is complete
-module _ (bag : Bag) (none : (fault : Fault) → number_of fault ≤ 13 → ¬ Broken bag fault) where
+module _ (bag : Bag) (none : (fault : Fault) → number_of fault ≤ 13 → ¬ HasFault bag fault) where
   listed : (pairs : List Pair) (path : List ℕ) → ((lists_path pairs path ≡ false) → ⊥) → lists_path pairs path ≡ true
   listed pairs path not_false = elim (cases_Bool (lists_path pairs path)) [ inl t ↦ t | inr f ↦ absurd (not_false f) ]
 
-  has_dir : bag.has_dir ≡ true
-  has_dir = elim (cases_Bool bag.has_dir) [ inl t ↦ t | inr f ↦ absurd (none NoPayloadDir (omega arith) f) ]
+  has_payload_dir : bag.has_payload_dir ≡ true
+  has_payload_dir = elim (cases_Bool bag.has_payload_dir) [ inl t ↦ t | inr f ↦ absurd (none NoPayloadDir (omega arith) f) ]
 
   no_alg : ¬ IsThere bag (manifest_file Payload Md5) → ¬ IsThere bag (manifest_file Payload Sha1) → ¬ IsThere bag (manifest_file Payload Sha256) → ¬ IsThere bag (manifest_file Payload Sha512)
       → (alg : Alg) → ¬ IsThere bag (manifest_file Payload alg)
@@ -230,7 +191,7 @@ module _ (bag : Bag) (none : (fault : Fault) → number_of fault ≤ 13 → ¬ B
   none_complete declared = record {
     conforms = record {
       declared = declared;
-      has_dir = has_dir;
+      has_payload_dir = has_payload_dir;
       has_manifest = has_manifest;
       manifests_read = manifests_read;
       info_reads = info_reads;
@@ -248,7 +209,7 @@ module _ (bag : Bag) (none : (fault : Fault) → number_of fault ≤ 13 → ¬ B
   }
 
   -- no digest is wrong
-  pub none_valid : IsComplete bag → ((manifest : ManifestName) (path : List ℕ) → ¬ Broken bag (WrongDigest manifest path)) → IsValid bag
+  pub none_valid : IsComplete bag → ((manifest : ManifestName) (path : List ℕ) → ¬ HasFault bag (WrongDigest manifest path)) → IsValid bag
   none_valid complete right = record {
     complete = complete;
     verified = λ name pairs path digest octets lists is holds. elim (decided_digest (hash name.alg octets) digest) [
@@ -276,7 +237,7 @@ each_above n (first ∷ faults) each = (each first (inl refl), each_above n faul
 module _ (bag : Bag) (faults : List Fault) (judged : IsJudged bag faults) where
   module _ (only : NoneUpTo 13 faults) where
     -- no fault of a lower tier, so none of this tier
-    step : (tier : ℕ) → NoneBelow tier bag → (fault : Fault) → tier_of fault ≤ tier → number_of fault ≤ 13 → ¬ Broken bag fault
+    step : (tier : ℕ) → NoneBelow tier bag → (fault : Fault) → tier_of fault ≤ tier → number_of fault ≤ 13 → ¬ HasFault bag fault
     step tier none fault at_most upto broken =
         let has = (judged.exact fault).1 (broken, λ other below. none other (omega (arith, below, at_most))) in
         let above = above_each 13 faults fault only has in
@@ -290,13 +251,13 @@ module _ (bag : Bag) (faults : List Fault) (judged : IsJudged bag faults) where
     below_3 : NoneBelow 3 bag
     below_3 fault below broken = step 2 below_2 fault (omega (arith, below)) (let n = (number_by_tier fault).0 below in omega (arith, n)) broken
 
-    only_digests : (fault : Fault) → number_of fault ≤ 13 → ¬ Broken bag fault
+    only_digests : (fault : Fault) → number_of fault ≤ 13 → ¬ HasFault bag fault
     only_digests fault upto broken = step 3 below_3 fault (number_by_tier fault).2 upto broken
 
     pub complete_of : IsComplete bag
     complete_of = none_complete bag only_digests (judged.in_profile below_2).declared
 
-  pub none_broken : ((fault : Fault) → ¬ Broken bag fault) → faults ≡ []
+  pub none_broken : ((fault : Fault) → ¬ HasFault bag fault) → faults ≡ []
   none_broken none = empty faults (λ fault has. none fault ((judged.exact fault).0 has).0)
     where
       empty : (fs : List Fault) → ((fault : Fault) → ¬ Has fs fault) → fs ≡ []

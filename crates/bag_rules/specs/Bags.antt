@@ -1,11 +1,10 @@
 -- Bags (RFC 8493 section 2), as trees hold them.
-use Rattle.std.specs.Prelude.{◌≡◌, ◌<◌, ◌++◌, ◌+◌, ℕ, Bool, List, [], ◌∷◌, Option, Some, length, map, codes}
+use Rattle.std.specs.Prelude.{◌≡◌, ◌+◌, ℕ, Bool, List, [], ◌∷◌, Some, length, map, codes}
 use Rattle.std.specs.List.{slice_get, filter}
-use Rattle.std.specs.Option.{option_map}
 use Rattle.std.specs.Str.{bytes_eq}
 use Rattle.std.specs.Char.{to_ascii_lowercase}
-use Rattle.bag_path.specs.declared.spelling.Version.{Version}
-use Rattle.bag_path.specs.declared.spelling.Version.TheVariants.{V1}
+use Rattle.bag_path.specs.declared.version.Version.{Version}
+use Rattle.bag_path.specs.declared.version.Version.TheVariants.{V1}
 use Rattle.bag_path.specs.Paths.{is_payload}
 use Rattle.bag_digest.specs.declared.algorithm.Alg.{Alg}
 use Rattle.bag_digest.specs.Algorithm.{name_of}
@@ -19,15 +18,17 @@ use Rattle.bag_tags.specs.Infos.{MetadataElement}
 use Rattle.bag_tags.specs.InfoText.{InfoText}
 use Rattle.bag_tags.specs.FetchText.{FetchText}
 use Rattle.bag_tags.specs.Manifests.{ManifestText}
-use Rattle.bag_rules.specs.declared.fault.ManifestName.{ManifestName}
-use Rattle.bag_rules.specs.declared.fault.LineFile.{LineFile}
-use Rattle.bag_rules.specs.declared.fault.LineFile.TheVariants.{Info, FetchList, Manifest}
+use Rattle.bag_tags.specs.Names.{file_of, text_file}
+use Rattle.bag_tags.specs.declared.name.ManifestName.{ManifestName}
+use Rattle.bag_tags.specs.declared.name.LineFile.{LineFile}
+use Rattle.bag_tags.specs.declared.name.LineFile.TheVariants.{Info, FetchList, Manifest}
+use Rattle.bag_rules.specs.Trees.{Shown}
 
 -- The files of a base directory by path, each with its octets, and whether the payload directory is there. The paths of a
 -- tree's bag rise by their bytes, as the tree's do, so that a bag has one such list.
 pub record Bag : Type 0 where
   pub files : List (List ℕ × List ℕ)
-  pub has_dir : Bool
+  pub has_payload_dir : Bool
 
 abbrev pub paths_of : Bag → List (List ℕ)
 paths_of bag = map (λ (file : List ℕ × List ℕ). file.0) bag.files
@@ -40,11 +41,16 @@ Holds bag path octets = (i : ℕ) × (slice_get bag.files i ≡ Some (path, octe
 abbrev pub IsThere : Bag → List ℕ → Type 0
 IsThere bag path = (octets : List ℕ) × Holds bag path octets
 
--- the tree's files are those of the bag, and their octets are known
-pub record IsBagOf {T : Type 0} (paths : T → List (List ℕ)) (has_dir : T → Bool) (body : T → ℕ → Option (List ℕ)) (tree : T) (bag : Bag) : Type 0 where
-  pub same_paths : paths tree ≡ paths_of bag
-  pub same_dir : has_dir tree ≡ bag.has_dir
-  pub same_body : (i : ℕ) → i < length (paths tree) → body tree i ≡ option_map (λ (file : List ℕ × List ℕ). file.1) (slice_get bag.files i)
+-- what a tree of these files shows, each of them known
+abbrev pub shown_of : Bag → Shown
+shown_of bag = record {
+  files = map (λ (file : List ℕ × List ℕ). (file.0, Some file.1)) bag.files;
+  has_payload_dir = bag.has_payload_dir;
+}
+
+-- the files that are shown are those of the bag, and their octets are known
+abbrev pub IsBagOf : Shown → Bag → Type 0
+IsBagOf shown bag = shown ≡ shown_of bag
 
 -- TAG FILES
 
@@ -56,26 +62,10 @@ version_of bag = V1
 abbrev pub declaration_file : List ℕ
 declaration_file = codes "bagit.txt"
 
--- `manifest-ALG.txt` (section 2.1.3), `tagmanifest-ALG.txt` (section 2.2.1)
-abbrev pub manifest_file : Kind → Alg → List ℕ
-manifest_file Payload alg = codes "manifest-" ++ name_of alg ++ codes ".txt"
-manifest_file Tag alg = codes "tagmanifest-" ++ name_of alg ++ codes ".txt"
-
-abbrev pub manifest_name : Kind → Alg → ManifestName
-manifest_name kind alg = record { kind = kind; alg = alg }
-
-abbrev pub file_of : ManifestName → List ℕ
-file_of name = manifest_file name.kind name.alg
-
--- the tag files that are read line by line (sections 2.2.2, 2.2.3, 2.1.3 and 2.2.1)
-abbrev pub text_file : LineFile → List ℕ
-text_file Info = codes "bag-info.txt"
-text_file FetchList = codes "fetch.txt"
-text_file (Manifest name) = file_of name
-
 -- the bag has the declaration, and it declares this
 abbrev pub Declares : Bag → Declaration → Type 0
-Declares bag declaration = (octets : List ℕ) × Holds bag declaration_file octets × IsDeclaration octets declaration
+Declares bag declaration = (octets : List ℕ) × Holds bag declaration_file octets
+    × IsDeclaration octets declaration
 
 -- the bag has the manifest, and it lists these pairs
 pub record Lists (bag : Bag) (name : ManifestName) (pairs : List Pair) : Type 0 where
@@ -105,7 +95,3 @@ payload_of files = filter (λ (file : List ℕ × List ℕ). is_payload file.0) 
 unfoldable pub octet_count : List (List ℕ × List ℕ) → ℕ
 octet_count [] = 0
 octet_count (file ∷ files) = length file.1 + octet_count files
-
--- the element is a `Payload-Oxum` (section 2.2.2): labels are compared without regard to ASCII case
-abbrev pub is_oxum : MetadataElement → Bool
-is_oxum element = bytes_eq (map to_ascii_lowercase element.label) (codes "payload-oxum")

@@ -5,7 +5,7 @@ use Rattle.std.specs.List.Sorted.{IsStrictlySortedBy}
 use Rattle.bag_rules.specs.declared.fault.Fault.{Fault}
 use Rattle.bag_rules.specs.declared.fault.Fault.TheVariants.{NoDeclaration, BadDeclaration, NoPayloadDir, NoManifest, BadLine, ManifestNotListed, OxumForm, OxumTwice, Missing, Unlisted, FetchNotListed, FetchLength, OxumWrong, WrongDigest}
 use Rattle.bag_tags.specs.declared.listing.Kind.TheVariants.{Payload, Tag}
-use Rattle.bag_rules.specs.Bags.{file_of, manifest_file, text_file}
+use Rattle.bag_tags.specs.Names.{file_of, manifest_file, text_file}
 use Rattle.bag_rules.specs.contracts.fault.FaultOrd.TheImpl as order
 
 -- the number of a kind of fault
@@ -25,11 +25,50 @@ number_of (FetchLength line path) = 12
 number_of OxumWrong = 13
 number_of (WrongDigest manifest path) = 14
 
+-- KINDS OF FAULTS, by their numbers
+
+-- those of the form, and those of the files
+abbrev pub kinds_of_form : List ℕ
+kinds_of_form = 3 ∷ 4 ∷ 5 ∷ 6 ∷ 7 ∷ 8 ∷ []
+
+abbrev pub kinds_of_files : List ℕ
+kinds_of_files = 9 ∷ 10 ∷ 11 ∷ 12 ∷ 13 ∷ 14 ∷ []
+
+-- the last kinds of the declaration, of the form, and of those with which a bag is not complete
+abbrev pub last_of_declaration : ℕ
+last_of_declaration = 2
+
+abbrev pub last_of_form : ℕ
+last_of_form = 8
+
+abbrev pub last_of_completeness : ℕ
+last_of_completeness = 13
+
+-- those of the form that a line has, and those that it hasn't
+abbrev pub kind_of_lines : List ℕ
+kind_of_lines = 5 ∷ []
+
+abbrev pub kinds_beside_lines : List ℕ
+kinds_beside_lines = 3 ∷ 4 ∷ 6 ∷ 7 ∷ 8 ∷ []
+
+abbrev pub kinds_of_oxum_form : List ℕ
+kinds_of_oxum_form = 7 ∷ 8 ∷ []
+
+abbrev pub kind_of_unlisted_entries : List ℕ
+kind_of_unlisted_entries = 11 ∷ []
+
+abbrev pub kind_of_lengths : List ℕ
+kind_of_lengths = 12 ∷ []
+
+abbrev pub kind_of_oxum : List ℕ
+kind_of_oxum = 13 ∷ []
+
 -- By what a report is sorted: the kind, and then the file name, the line, and the path or second file name, as far as the
 -- fault has them. The order is that of the octets; for kind 11 the file name is the manifest's.
 abbrev pub key_of : Fault → List (List ℕ)
 key_of (BadLine file line cause) = (5 ∷ []) ∷ text_file file ∷ (line ∷ []) ∷ []
-key_of (ManifestNotListed tag_manifest manifest) = (6 ∷ []) ∷ manifest_file Tag tag_manifest ∷ manifest_file Payload manifest ∷ []
+key_of (ManifestNotListed tag_manifest manifest) =
+    (6 ∷ []) ∷ manifest_file Tag tag_manifest ∷ manifest_file Payload manifest ∷ []
 key_of (Missing manifest path) = (9 ∷ []) ∷ file_of manifest ∷ path ∷ []
 key_of (Unlisted manifest path) = (10 ∷ []) ∷ manifest_file Payload manifest ∷ path ∷ []
 key_of (FetchNotListed manifest path) = (11 ∷ []) ∷ manifest_file Payload manifest ∷ path ∷ []

@@ -1,10 +1,10 @@
 -- The verdict on a bag: its faults in order, or why it can't be judged.
-use Rattle.std.specs.Prelude.{◌≡◌, ◌≢◌, ◌↔◌, ◌<◌, ℕ, false, List, nat_le, string_bytes, if◌then◌else◌}
+use Rattle.std.specs.Prelude.{◌≡◌, ◌≢◌, ◌↔◌, ◌<◌, ℕ, false, List, IsSome, None, nat_le, string_bytes, if◌then◌else◌}
 use Rattle.std.specs.Ordering.{nat_cmp}
 use Rattle.std.specs.Cmp.Lexicographic.{slice_cmp}
 use Rattle.std.specs.declared.cmp.Ordering.TheVariants.{Greater}
 use Rattle.bag_tags.specs.declared.declaration.Declaration.{Declaration}
-use Rattle.bag_tags.specs.Declarations.{current}
+use Rattle.bag_tags.specs.Declarations.{current, version_of}
 use Rattle.bag_tags.specs.Names.{IsUnknownManifest}
 use Rattle.bag_rules.specs.declared.fault.Fault.{Fault}
 use Rattle.bag_rules.specs.declared.outcome.Outcome.{Outcome}
@@ -12,17 +12,19 @@ use Rattle.bag_rules.specs.declared.outcome.Outcome.TheVariants.{Judged, Outside
 use Rattle.bag_rules.specs.declared.outcome.OutsideCause.{OutsideCause}
 use Rattle.bag_rules.specs.declared.outcome.OutsideCause.TheVariants.{Version, Encoding, Algorithm}
 use Rattle.bag_rules.specs.Bags.{Bag, IsThere, Declares}
-use Rattle.bag_rules.specs.Broken.{Broken}
-use Rattle.bag_rules.specs.Faults.{Has, AreInOrder, number_of}
+use Rattle.bag_rules.specs.HasFault.{HasFault}
+use Rattle.bag_rules.specs.Faults.{Has, AreInOrder, last_of_declaration, last_of_form, number_of}
 
--- Faults come in three tiers: those of the declaration (kinds 1 and 2), of the form (3 to 8), and of the files (9 to 14). A
--- report has those of the first tier that is broken.
+-- Faults come in three tiers: those of the declaration (kinds 1 and 2), of the form (3 to 8), and of the
+-- files (9 to 14). A report has those of the first tier that is broken.
 abbrev pub tier_of : Fault → ℕ
-tier_of fault = if nat_le (number_of fault) 2 then 1 else if nat_le (number_of fault) 8 then 2 else 3
+tier_of fault =
+    if nat_le (number_of fault) last_of_declaration then 1
+    else if nat_le (number_of fault) last_of_form then 2 else 3
 
 -- no fault of a lower tier is broken
 abbrev pub NoneBelow : ℕ → Bag → Type 0
-NoneBelow tier bag = (fault : Fault) → tier_of fault < tier → ¬ Broken bag fault
+NoneBelow tier bag = (fault : Fault) → tier_of fault < tier → ¬ HasFault bag fault
 
 -- the bag declares version 1.0 and UTF-8, and the algorithm of each manifest is known
 pub record IsInProfile (bag : Bag) : Type 0 where
@@ -33,7 +35,8 @@ pub record IsInProfile (bag : Bag) : Type 0 where
 -- than its declaration.
 pub record IsJudged (bag : Bag) (faults : List Fault) : Type 0 where
   pub in_order : AreInOrder faults
-  pub exact : (fault : Fault) → Has faults fault ↔ (Broken bag fault × NoneBelow (tier_of fault) bag)
+  pub exact : (fault : Fault) → Has faults fault
+      ↔ (HasFault bag fault × NoneBelow (tier_of fault) bag)
   pub in_profile : NoneBelow 2 bag → IsInProfile bag
 
 -- the algorithm of the first manifest, by file name, whose algorithm isn't known
@@ -41,12 +44,15 @@ pub record IsFirstUnknown (bag : Bag) (word : List ℕ) : Type 0 where
   pub path : List ℕ
   pub there : IsThere bag path
   pub unknown : IsUnknownManifest path word
-  pub first : (other other_word : List ℕ) → IsThere bag other → IsUnknownManifest other other_word → slice_cmp nat_cmp path other ≢ Greater
+  pub first : (other other_word : List ℕ) → IsThere bag other → IsUnknownManifest other other_word
+      → slice_cmp nat_cmp path other ≢ Greater
 
 -- the bag has a declaration that reads, and this is the first cause for which it can't be judged
 abbrev pub IsOutside : Bag → OutsideCause → Type 0
-IsOutside bag Version = (declaration : Declaration) × Declares bag declaration × ¬ ((declaration.major ≡ 1) × (declaration.minor ≡ 0))
-IsOutside bag Encoding = (declaration : Declaration) × Declares bag declaration × (declaration.major ≡ 1) × (declaration.minor ≡ 0) × (declaration.utf8 ≡ false)
+IsOutside bag Version = (declaration : Declaration) × Declares bag declaration
+    × (version_of declaration ≡ None)
+IsOutside bag Encoding = (declaration : Declaration) × Declares bag declaration
+    × IsSome (version_of declaration) × (declaration.utf8 ≡ false)
 IsOutside bag (Algorithm name) = Declares bag current × IsFirstUnknown bag (string_bytes name)
 
 abbrev pub IsVerdict : Bag → Outcome → Type 0

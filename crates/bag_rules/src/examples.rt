@@ -2,63 +2,101 @@
 ghost use Rattle.std.specs.Prelude.{true, false, [], ◌∷◌, ◌++◌, codes};
 ghost use Rattle.bag_digest.specs.declared.algorithm.Alg.TheVariants.{Sha256};
 ghost use Rattle.bag_tags.specs.declared.listing.Kind.TheVariants.{Payload};
-ghost use Rattle.bag_tags.specs.Declarations.{written};
+ghost use Rattle.bag_tags.specs.Declarations.{written_declaration};
 ghost use Rattle.bag_rules.specs.declared.fault.Fault.TheVariants.{NoDeclaration, NoPayloadDir, Missing, Unlisted, WrongDigest};
 ghost use Rattle.bag_rules.specs.declared.outcome.OutsideCause.TheVariants.{Version};
-ghost use Rattle.bag_rules.specs.Bags.{Bag, manifest_name};
+ghost use Rattle.bag_rules.specs.Bags.{Bag};
+ghost use Rattle.bag_rules.specs.ExampleBags.{manifest_of_abc};
+ghost use Rattle.bag_tags.specs.Names.{manifest_name};
 ghost use Rattle.bag_rules.specs.Validity.{IsComplete, IsValid};
 ghost use Rattle.bag_rules.specs.Verdicts.{IsJudged, IsOutside};
 
 /// The least bag: a declaration, a payload manifest that lists nothing, and an empty payload directory (RFC 8493 section 2.1).
 pub fn the_least_bag_is_valid()
-    ensures { let declaration = codes "BagIt-Version: 1.0" ++ 10 ∷ codes "Tag-File-Character-Encoding: UTF-8" ++ 10 ∷ [] in
-        let bag : Bag = record { files = (codes "bagit.txt", declaration) ∷ (codes "manifest-sha256.txt", []) ∷ []; has_dir = true } in
+    ensures { let declaration = codes "BagIt-Version: 1.0" ++ 10
+        ∷ codes "Tag-File-Character-Encoding: UTF-8" ++ 10 ∷ [] in
+        let bag : Bag = record {
+          files = (codes "bagit.txt", declaration)
+              ∷ (codes "manifest-sha256.txt", []) ∷ [];
+          has_payload_dir = true;
+        } in
         IsValid bag × IsJudged bag [] }
 {}
 
 /// The same files without the payload directory have that one fault (RFC 8493 section 2.1.2).
 pub fn the_least_bag_needs_its_payload_directory()
-    ensures { let declaration = codes "BagIt-Version: 1.0" ++ 10 ∷ codes "Tag-File-Character-Encoding: UTF-8" ++ 10 ∷ [] in
-        let bag : Bag = record { files = (codes "bagit.txt", declaration) ∷ (codes "manifest-sha256.txt", []) ∷ []; has_dir = false } in
+    ensures { let declaration = codes "BagIt-Version: 1.0" ++ 10
+        ∷ codes "Tag-File-Character-Encoding: UTF-8" ++ 10 ∷ [] in
+        let bag : Bag = record {
+          files = (codes "bagit.txt", declaration)
+              ∷ (codes "manifest-sha256.txt", []) ∷ [];
+          has_payload_dir = false;
+        } in
         IsJudged bag (NoPayloadDir ∷ []) }
 {}
 
 /// A payload file that the manifest lists with its SHA-256 (RFC 8493 section 3).
 pub fn a_bag_with_one_payload_file_is_valid()
-    ensures { let manifest = codes "ba7816bf8f01cfea414140de5dae2223b00361a396177a9cb410ff61f20015ad  data/a.txt" ++ 10 ∷ [] in
-        let bag : Bag = record { files = (codes "bagit.txt", written) ∷ (codes "data/a.txt", codes "abc") ∷ (codes "manifest-sha256.txt", manifest) ∷ []; has_dir = true } in
+    ensures { let manifest = manifest_of_abc in
+        let bag : Bag = record {
+          files = (codes "bagit.txt", written_declaration)
+              ∷ (codes "data/a.txt", codes "abc") ∷ (codes "manifest-sha256.txt", manifest)
+              ∷ [];
+          has_payload_dir = true;
+        } in
         IsValid bag × IsJudged bag [] }
 {}
 
 /// With one octet of the payload changed, the bag is complete and not valid (RFC 8493 section 3).
 pub fn a_changed_payload_file_has_a_wrong_digest()
-    ensures { let manifest = codes "ba7816bf8f01cfea414140de5dae2223b00361a396177a9cb410ff61f20015ad  data/a.txt" ++ 10 ∷ [] in
-        let bag : Bag = record { files = (codes "bagit.txt", written) ∷ (codes "data/a.txt", codes "abd") ∷ (codes "manifest-sha256.txt", manifest) ∷ []; has_dir = true } in
-        IsComplete bag × (¬ IsValid bag) × IsJudged bag (WrongDigest (manifest_name Payload Sha256) (codes "data/a.txt") ∷ []) }
+    ensures { let manifest = manifest_of_abc in
+        let bag : Bag = record {
+          files = (codes "bagit.txt", written_declaration)
+              ∷ (codes "data/a.txt", codes "abd") ∷ (codes "manifest-sha256.txt", manifest)
+              ∷ [];
+          has_payload_dir = true;
+        } in
+        IsComplete bag × (¬ IsValid bag) × IsJudged bag
+        (WrongDigest (manifest_name Payload Sha256) (codes "data/a.txt") ∷ []) }
 {}
 
 /// A payload file that the manifest doesn't list makes the bag incomplete (RFC 8493 section 3).
 pub fn a_payload_file_that_is_not_listed_is_a_fault()
-    ensures { let bag : Bag = record { files = (codes "bagit.txt", written) ∷ (codes "data/a.txt", codes "abc") ∷ (codes "manifest-sha256.txt", []) ∷ []; has_dir = true } in
+    ensures { let bag : Bag = record {
+      files = (codes "bagit.txt", written_declaration)
+          ∷ (codes "data/a.txt", codes "abc") ∷ (codes "manifest-sha256.txt", [])
+          ∷ [];
+      has_payload_dir = true;
+    } in
         (¬ IsComplete bag) × IsJudged bag (Unlisted Sha256 (codes "data/a.txt") ∷ []) }
 {}
 
 /// And so does a listed file that isn't there (RFC 8493 section 3).
 pub fn a_listed_file_that_is_not_there_is_a_fault()
-    ensures { let manifest = codes "ba7816bf8f01cfea414140de5dae2223b00361a396177a9cb410ff61f20015ad  data/a.txt" ++ 10 ∷ [] in
-        let bag : Bag = record { files = (codes "bagit.txt", written) ∷ (codes "manifest-sha256.txt", manifest) ∷ []; has_dir = true } in
-        (¬ IsComplete bag) × IsJudged bag (Missing (manifest_name Payload Sha256) (codes "data/a.txt") ∷ []) }
+    ensures { let manifest = manifest_of_abc in
+        let bag : Bag = record {
+          files = (codes "bagit.txt", written_declaration)
+              ∷ (codes "manifest-sha256.txt", manifest) ∷ [];
+          has_payload_dir = true;
+        } in
+        (¬ IsComplete bag) × IsJudged bag
+        (Missing (manifest_name Payload Sha256) (codes "data/a.txt") ∷ []) }
 {}
 
 /// Of a bag with no files and no payload directory only the first tier's fault is reported.
 pub fn no_files_have_no_declaration()
-    ensures { let bag : Bag = record { files = []; has_dir = false } in
+    ensures { let bag : Bag = record { files = []; has_payload_dir = false } in
         IsJudged bag (NoDeclaration ∷ []) }
 {}
 
 /// A bag of another version is not judged, whatever else holds of it.
 pub fn an_earlier_version_is_outside()
-    ensures { let declaration = codes "BagIt-Version: 0.97" ++ 13 ∷ 10 ∷ codes "Tag-File-Character-Encoding: ISO-8859-1" in
-        let bag : Bag = record { files = (codes "bagit.txt", declaration) ∷ []; has_dir = false } in
+    ensures { let declaration = codes "BagIt-Version: 0.97" ++ 13 ∷ 10
+        ∷ codes "Tag-File-Character-Encoding: ISO-8859-1" in
+        let bag : Bag = record {
+          files = (codes "bagit.txt", declaration)
+              ∷ [];
+          has_payload_dir = false;
+        } in
         IsOutside bag Version }
 {}

@@ -1,47 +1,7 @@
 //! What is wrong with a bag.
 use bag_digest::Alg;
 use bag_path::BagPath;
-use bag_tags::{DeclarationFault, Kind, LineCause, TagName};
-
-/// A manifest, by what it lists and its algorithm. The order is that of the file names.
-#[derive(Clone, Copy, Debug, PartialEq, Eq, PartialOrd, Ord)]
-pub struct ManifestName {
-    /// Whether it is a payload manifest, `manifest-ALG.txt`, or a tag manifest, `tagmanifest-ALG.txt`.
-    pub kind: Kind,
-    /// The algorithm of its digests.
-    pub alg: Alg,
-}
-
-/// A tag file that is read line by line. The order is that of the file names.
-#[derive(Clone, Copy, Debug, PartialEq, Eq, PartialOrd, Ord)]
-pub enum LineFile {
-    /// `bag-info.txt`
-    Info,
-    /// `fetch.txt`
-    FetchList,
-    /// `manifest-ALG.txt` or `tagmanifest-ALG.txt`
-    Manifest(ManifestName),
-}
-
-impl LineFile {
-    ghost use Rattle.std.specs.Prelude.{◌≡◌, ◌≢◌, MatchOption};
-    ghost use Rattle.bag_rules.specs.Bags.{text_file};
-    ghost use Rattle.bag_rules.specs.declared.fault.LineFile.{LineFile};
-
-    /// The tag file that has this path, if it is one that is read line by line.
-    pub fn of(path: &BagPath) -> Option<LineFile>
-        ensures { MatchOption result ((file : LineFile) → path.now ≢ text_file file) (λ file. path.now ≡ text_file file) }
-    {
-        let (kind, alg) = match TagName::of(path) {
-            TagName::Info => return Some(LineFile::Info),
-            TagName::FetchList => return Some(LineFile::FetchList),
-            TagName::PayloadManifest(alg) => (Kind::Payload, alg),
-            TagName::TagManifest(alg) => (Kind::Tag, alg),
-            TagName::Declaration | TagName::UnknownManifest | TagName::Other => return None,
-        };
-        Some(LineFile::Manifest(ManifestName { kind, alg }))
-    }
-}
+use bag_tags::{DeclFault, LineCause, LineFile, ManifestName};
 
 /// What is wrong with a bag, in the order in which a report gives it: by kind of fault, then by file, line and path.
 #[derive(Debug, PartialEq, Eq, PartialOrd, Ord, Drop)]
@@ -49,7 +9,7 @@ pub enum Fault {
     /// There is no `bagit.txt` (RFC 8493 section 2.1.1).
     NoDeclaration,
     /// `bagit.txt` can't be read.
-    BadDeclaration(DeclarationFault),
+    BadDeclaration(DeclFault),
     /// There is no payload directory `data/` (section 2.1.2).
     NoPayloadDir,
     /// There is no payload manifest (section 2.1.3).

@@ -1,15 +1,16 @@
 //! Laws on the definitions that the contracts of this crate cite. Each function's contract is one law, and its body is empty.
-ghost use Rattle.std.specs.Prelude.{◌≡◌, ◌≢◌, ◌↔◌, ℕ, List, []};
+ghost use Rattle.std.specs.Prelude.{◌≡◌, ◌≢◌, ◌↔◌, ◌^◌, ℕ, List, []};
 ghost use Rattle.std.specs.Ordering.{nat_cmp};
 ghost use Rattle.std.specs.Cmp.Lexicographic.{slice_cmp};
 ghost use Rattle.std.specs.declared.cmp.Ordering.TheVariants.{Less, Greater};
 ghost use Rattle.bag_rules.specs.contracts.fault.FaultOrd.TheImpl as order;
 ghost use Rattle.bag_rules.specs.declared.fault.Fault.{Fault};
+ghost use Rattle.bag_rules.specs.declared.limits.TheConstants.{LARGEST_FILE, LARGEST_TAG_FILE, MOST_FILES, MOST_LINES};
 ghost use Rattle.bag_rules.specs.declared.outcome.CheckFault.{CheckFault};
 ghost use Rattle.bag_rules.specs.declared.outcome.Outcome.{Outcome};
 ghost use Rattle.bag_rules.specs.Bags.{Bag, Holds, IsBagOf, paths_of};
-ghost use Rattle.bag_rules.specs.Faults.{NoneUpTo, key_of};
-ghost use Rattle.bag_rules.specs.Memory.{MemFiles, bag_in, mem_body, mem_paths};
+ghost use Rattle.bag_rules.specs.Faults.{NoneUpTo, key_of, last_of_completeness};
+ghost use Rattle.bag_rules.specs.Memory.{MemFiles, bag_in, mem_shown};
 ghost use Rattle.bag_rules.specs.Limits.{Stops};
 ghost use Rattle.bag_rules.specs.SameVerdicts.{SameVerdict};
 ghost use Rattle.bag_rules.specs.Trees.{AreRising};
@@ -18,23 +19,27 @@ ghost use Rattle.bag_rules.specs.Verdicts.{IsJudged, IsVerdict};
 
 /// A bag that is judged is valid exactly if it has no fault.
 pub fn a_judged_bag_is_valid_exactly_if_it_has_no_fault()
-    ensures { (bag : Bag) (faults : List Fault) → AreRising (paths_of bag) → IsJudged bag faults → IsValid bag ↔ (faults ≡ []) }
+    ensures { (bag : Bag) (faults : List Fault) → AreRising (paths_of bag) → IsJudged bag faults
+        → IsValid bag ↔ (faults ≡ []) }
 {}
 
 /// A bag that is judged is complete exactly if it has no fault but wrong digests.
 pub fn a_judged_bag_is_complete_exactly_if_only_digests_are_wrong()
-    ensures { (bag : Bag) (faults : List Fault) → AreRising (paths_of bag) → IsJudged bag faults → IsComplete bag ↔ NoneUpTo 13 faults }
+    ensures { (bag : Bag) (faults : List Fault) → AreRising (paths_of bag) → IsJudged bag faults
+        → IsComplete bag ↔ NoneUpTo last_of_completeness faults }
 {}
 
 /// A bag has one verdict at most.
 pub fn a_bag_has_one_verdict_at_most()
-    ensures { (bag : Bag) (a b : Outcome) → AreRising (paths_of bag) → IsVerdict bag a → IsVerdict bag b → SameVerdict a b }
+    ensures { (bag : Bag) (a b : Outcome) → AreRising (paths_of bag) → IsVerdict bag a
+        → IsVerdict bag b → SameVerdict a b }
 {}
 
 /// Two bags that hold the same files are the same: whatever the order in which its files were given, a bag has one verdict.
 pub fn the_same_files_are_the_same_bag()
     ensures { (a b : Bag) → AreRising (paths_of a) → AreRising (paths_of b)
-        → ((path octets : List ℕ) → Holds a path octets ↔ Holds b path octets) → a.has_dir ≡ b.has_dir → a ≡ b }
+        → ((path octets : List ℕ) → Holds a path octets ↔ Holds b path octets)
+        → a.has_payload_dir ≡ b.has_payload_dir → a ≡ b }
 {}
 
 /// A check of a bag meets one limit first at most.
@@ -44,10 +49,17 @@ pub fn a_bag_meets_one_limit_first_at_most()
 
 /// A tree in memory is that of the bag of its files.
 pub fn a_tree_in_memory_is_that_of_a_bag()
-    ensures { (tree : MemFiles) → IsBagOf mem_paths (λ (files : MemFiles). files.has_dir) mem_body tree (bag_in tree) }
+    ensures { (tree : MemFiles) → IsBagOf (mem_shown tree) (bag_in tree) }
 {}
 
 /// The faults of a report stand by kind, then by file name, then by line, path or second file name.
 pub fn the_order_of_faults_is_by_kind_file_line_and_path()
-    ensures { (fault other : Fault) → order.ghosts.cmp fault other ≡ Less → slice_cmp (slice_cmp nat_cmp) (key_of fault) (key_of other) ≢ Greater }
+    ensures { (fault other : Fault) → order.ghosts.cmp fault other ≡ Less
+        → slice_cmp (slice_cmp nat_cmp) (key_of fault) (key_of other) ≢ Greater }
+{}
+
+/// The limits of a check are these: files, lines, the octets of a tag file and those of any file.
+pub fn the_limits_of_a_check_are_these()
+    ensures { (MOST_FILES ≡ 200000) × (MOST_LINES ≡ 100000)
+        × (LARGEST_TAG_FILE ≡ 16777216) × (LARGEST_FILE ≡ 2 ^ 40) }
 {}

@@ -2,22 +2,26 @@
 #![tactic(auto)]
 
 pub use checking::check;
-pub use fault::{Fault, LineFile, ManifestName};
+pub use fault::Fault;
 pub use memory::{AddFault, MemTree};
 pub use outcome::{CheckFault, Outcome, OutsideCause};
+pub use profile::{Profile, read_profile};
 pub use report::Report;
 pub use tree::{Tree, find};
 
 mod checking;
 pub mod examples;
 mod fault;
-mod files;
-mod form;
+mod file_faults;
+mod form_faults;
+mod kept;
 pub mod laws;
-mod lengths;
-mod listed;
+mod length_faults;
+pub mod limits;
+mod listing_faults;
 mod memory;
 mod outcome;
+mod profile;
 mod report;
-mod texts;
+mod tag_files;
 mod tree;

@@ -1,13 +1,14 @@
 //! A tree of files in memory.
-ghost use Rattle.std.specs.Prelude.{◌≡◌, ◌≢◌, ◌+◌, ◌-◌, ◌^◌, ◌<◌, ◌≤◌, ◌++◌, ◌↔◌, ℕ, [], Contains, IfErr, IfOk, IsErr, IsOk, IsSome, List, OnErr, OnOk, drop, length, max, min, slice_get, take, true};
+ghost use Rattle.std.specs.Prelude.{◌≡◌, ◌≢◌, ◌+◌, ◌-◌, ◌^◌, ◌<◌, ◌≤◌, ◌++◌, ◌↔◌, ℕ, [], Contains, IfErr, IfOk, IsErr, IsOk, List, OnErr, OnOk, drop, false, is_ok, is_some, length, max, slice_get, take, true};
 ghost use Rattle.std.specs.Io.KnownBytes.{ReadConsumes};
 ghost use Rattle.std.specs.Option.{ForSome, option_copied, option_map};
-ghost use Rattle.bag_digest.specs.Device.{Rises};
-ghost use Rattle.bag_rules.specs.Trees.{AreRising, SameFiles};
+ghost use Rattle.bag_digest.specs.Device.{UsesSource, greatest_count};
+ghost use Rattle.bag_rules.specs.Memory.{MemFiles};
+ghost use Rattle.bag_rules.specs.Trees.{AreRising, UsesTree, octets_in, paths_in};
 ghost use Rattle.bag_rules.specs.MemoryInside.{IsGapFor, moved_up, paths_of};
 
 use crate::tree::Tree;
-use bag_digest::{Failed, Source};
+use bag_digest::{Failed, Failures, Source};
 use bag_path::BagPath;
 use std::alloc::Global;
 use std::marker::Model;
@@ -47,9 +48,9 @@ struct Reading {
 #[derive(Drop)]
 pub struct MemTree {
     files: Vec<File>,
-    has_dir: bool,
+    has_payload_dir: bool,
     reading: Option<Reading>,
-    failures: u64,
+    failures: Failures,
 }
 
 impl Model for MemTree {
@@ -74,9 +75,9 @@ impl MemTree {
     {
         MemTree {
             files: Vec::new(alloc),
-            has_dir: false,
+            has_payload_dir: false,
             reading: None,
-            failures: 0,
+            failures: Failures::none(),
         }
     }
 
@@ -91,7 +92,8 @@ impl MemTree {
 
         // What a look-up finds then, and that the order stays.
         ensures found { OnOk result (octets_at self.new path ≡ Some body.items) }
-        ensures others { OnOk result ((other : List ℕ) → other ≢ path → octets_at self.new other ≡ octets_at self.old other) }
+        ensures others { OnOk result ((other : List ℕ) → other ≢ path
+            → octets_at self.new other ≡ octets_at self.old other) }
         ensures rising { AreRising (mem_paths self.new) }
     {
         let place = match search(&self.files, path.as_str()) {
@@ -102,16 +104,16 @@ impl MemTree {
         let Ok(()) = self.files.insert(place, File { path, body }) else {
             return Err(AddFault::Memory);
         };
-        self.has_dir |= is_payload;
+        self.has_payload_dir |= is_payload;
         self.reading = moved_up(self.reading, place);
         Ok(())
     }
 
     /// Puts the payload directory there. It may stay without a file.
     pub fn set_payload_dir(&mut self)
-        ensures { self.new ≡ record self.old { has_dir = true } }
+        ensures { self.new ≡ record self.old { has_payload_dir = true } }
     {
-        self.has_dir = true;
+        self.has_payload_dir = true;
     }
 
     /// The octets of the file with this path.
@@ -127,11 +129,15 @@ impl MemTree {
 
 impl Source for MemTree {
     ghost use Rattle.std.specs.Prelude.{None};
-    ghost use Rattle.bag_rules.specs.Memory.{SameMemFiles, same_itself, same_on};
+    ghost use Rattle.bag_rules.specs.Memory.{IsStarted, MatchRead, SameMemFiles, same_itself, same_on};
 
     ghost remaining = { λ tree. tree.started };
 
-    ghost faults = { λ tree. tree.failures };
+    ghost failures = { λ tree. tree.failures };
+
+    ghost ready = { IsStarted };
+
+    ghost is_open = { λ tree. is_some tree.started };
 
     ghost keeps = { SameMemFiles };
 
@@ -139,19 +145,15 @@ impl Source for MemTree {
     fn read(&mut self, buf: &mut [u8]) -> Result<usize, Failed>
         ensures bound { IfOk result (λ n. n ≤ length buf.new) }
         ensures octets { ReadConsumes self.old.started self.new.started result buf.new }
-        ensures kept { SameMemFiles self.old self.new }
-        ensures failed { OnErr result (Rises self.old.failures self.new.failures) }
-        ensures unfailed { OnOk result (self.new.failures ≡ self.old.failures) }
-        ensures counted { self.old.failures ≤ self.new.failures }
-
+        ensures uses { UsesSource (λ (tree : MemFiles). tree.failures) IsStarted SameMemFiles
+            self.old self.new (IsErr result) }
+        ensures closed { is_some self.old.started ≡ false → IsErr result }
+        ensures open { is_some self.new.started ≡ is_some self.old.started }
         // It fails just where nothing was started, and then counts one failure, up to the greatest number.
-        ensures nothing_started { IsErr result ↔ (self.old.started ≡ None) }
-        ensures read { IfOk result (λ n. self.new ≡ record self.old { started = option_map (drop n) self.old.started }) }
-        ensures not_read { OnErr result (self.new ≡ record self.old { failures = min (self.old.failures + 1) (2 ^ 64 - 1) }) }
+        ensures exactly { MatchRead self.old self.new result }
     {
         let Some(reading) = self.reading else {
-            self.failures = self.failures.saturating_add(1);
-            return Err(Failed);
+            return self.failures.counted(Err(Failed));
         };
         let n = copy_from(&self.files[reading.place].body, reading.at, buf);
         self.reading = Some(Reading {
@@ -162,7 +164,7 @@ impl Source for MemTree {
     }
 
     fn failures(&self) -> u64 {
-        self.failures
+        self.failures.count()
     }
 
     ghost keeps_itself = { same_itself };
@@ -171,13 +173,11 @@ impl Source for MemTree {
 }
 
 impl Tree for MemTree {
-    ghost use Rattle.bag_rules.specs.Memory.{mem_paths, mem_body, same_files};
+    ghost use Rattle.bag_rules.specs.Memory.{IsStarted, IsSure, keeps_tree, mem_octets, mem_shown};
 
-    ghost paths = { mem_paths };
+    ghost shown = { mem_shown };
 
-    ghost has_dir = { λ tree. tree.has_dir };
-
-    ghost body = { mem_body };
+    ghost sure = { IsSure };
 
     fn count(&self) -> usize {
         self.files.len()
@@ -188,27 +188,25 @@ impl Tree for MemTree {
     }
 
     fn has_payload_dir(&self) -> bool {
-        self.has_dir
+        self.has_payload_dir
     }
 
     /// Goes to the start of a file. It doesn't fail.
     fn start(&mut self, i: usize) -> Result<(), Failed>
-        requires { i < length (mem_paths self.old) }
-        ensures started { OnOk result (self.new.started ≡ mem_body self.old i) }
-        ensures same { SameFiles mem_paths (λ tree. tree.has_dir) mem_body self.old self.new }
-        ensures failed { OnErr result (Rises self.old.failures self.new.failures) }
-        ensures unfailed { OnOk result (self.new.failures ≡ self.old.failures) }
-        ensures counted { self.old.failures ≤ self.new.failures }
-
-        ensures ok { IsOk result }
-        ensures known { IsSome self.new.started }
-        ensures only_started { self.new ≡ record self.old { started = mem_body self.old i } }
+        requires { i < length (paths_in (mem_shown self.old)) }
+        ensures started { OnOk result (self.new.started ≡ octets_in (mem_shown self.old) i) }
+        ensures uses { UsesTree mem_shown (λ (tree : MemFiles). tree.failures) IsSure
+            self.old self.new (IsErr result) }
+        ensures ready { IsSure self.old → IsStarted self.new }
+        ensures open { is_some self.new.started ≡ is_ok result }
+        ensures exactly { IsOk result
+            × (self.new ≡ record self.old { started = mem_octets self.old i }) }
     {
         self.reading = Some(Reading { place: i, at: 0 });
         Ok(())
     }
 
-    ghost reads_keep = { same_files };
+    ghost reads_keep = { keeps_tree };
 }
 
 /// Copies what stands from `at` on to the front of the buffer, as far as both go, and says how far.

@@ -1,6 +1,8 @@
 //! How a check ends.
 use crate::report::Report;
+use bag_digest::Failed;
 use bag_path::BagPath;
+use std::alloc::{AllocError, AllocFailed};
 use thiserror::Error;
 
 /// What a check answers.
@@ -41,4 +43,37 @@ pub enum CheckFault {
     /// Memory ran out.
     #[error("out of memory")]
     Memory,
+}
+
+impl From<Failed> for CheckFault {
+    ghost use Rattle.std.specs.Prelude.{◌≡◌};
+    ghost use Rattle.bag_rules.specs.declared.outcome.CheckFault.TheVariants.{Tree};
+
+    ghost from_gives = { λ _ fault. fault ≡ Tree };
+
+    fn from(_: Failed) -> CheckFault {
+        CheckFault::Tree
+    }
+}
+
+impl From<AllocError> for CheckFault {
+    ghost use Rattle.std.specs.Prelude.{◌≡◌};
+    ghost use Rattle.bag_rules.specs.declared.outcome.CheckFault.TheVariants.{Memory};
+
+    ghost from_gives = { λ _ fault. fault ≡ Memory };
+
+    fn from(_: AllocError) -> CheckFault {
+        CheckFault::Memory
+    }
+}
+
+impl<T: Drop> From<AllocFailed<T>> for CheckFault {
+    ghost use Rattle.std.specs.Prelude.{◌≡◌};
+    ghost use Rattle.bag_rules.specs.declared.outcome.CheckFault.TheVariants.{Memory};
+
+    ghost from_gives = { λ _ fault. fault ≡ Memory };
+
+    fn from(_: AllocFailed<T>) -> CheckFault {
+        CheckFault::Memory
+    }
 }

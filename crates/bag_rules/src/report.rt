@@ -31,7 +31,7 @@ impl Report {
     ghost use Rattle.std.specs.Prelude.{◌≡◌, ◌↔◌, [], IfOk, IsTrue};
     ghost use Rattle.bag_rules.specs.declared.fault.Fault.{Fault};
     ghost use Rattle.std.specs.List.Sorted.{IsNonDecreasingBy};
-    ghost use Rattle.bag_rules.specs.Faults.{Has, AreInOrder, NoneUpTo, number_of};
+    ghost use Rattle.bag_rules.specs.Faults.{Has, AreInOrder, NoneUpTo, last_of_completeness, number_of};
 
     /// The report of these faults, whatever their order and however often each stands.
     pub(crate) fn new(mut faults: Vec<Fault>) -> Report
@@ -54,7 +54,7 @@ impl Report {
 
     /// Whether the bag is complete (RFC 8493 section 3): no fault but wrong digests.
     pub fn is_complete(&self) -> bool
-        ensures { IsTrue result ↔ NoneUpTo 13 self.now }
+        ensures { IsTrue result ↔ NoneUpTo last_of_completeness self.now }
     {
         self.faults.iter().all(|fault| fault.number() > 13)
     }

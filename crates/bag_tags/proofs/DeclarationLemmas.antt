@@ -16,11 +16,11 @@ use Rattle.bag_path.specs.declared.lines.Ending.TheVariants.{Lf}
 use Rattle.bag_path.specs.Lines.{Text, line, HasLines, lines_of}
 use Rattle.bag_path.proofs.LinesLemmas.{one_list}
 use Rattle.bag_tags.specs.declared.declaration.Declaration.{Declaration}
-use Rattle.bag_tags.specs.declared.declaration.DeclarationFault.{DeclarationFault}
-use Rattle.bag_tags.specs.declared.declaration.DeclarationFault.TheVariants.{NotUtf8, Mark, LineCount, Label, Version, EncodingName}
+use Rattle.bag_tags.specs.declared.declaration.DeclFault.{DeclFault}
+use Rattle.bag_tags.specs.declared.declaration.DeclFault.TheVariants.{NotUtf8, Mark, LineCount, Label, Version, EncodingName}
 use Rattle.bag_tags.specs.TagLines.{mark}
 use Rattle.bag_tags.specs.WordsReading.{until, is_dot}
-use Rattle.bag_tags.specs.Declarations.{version_label, encoding_label, IsVersionPart, IsVersion, IsEncodingName, NamesUtf8, IsUnmarked, HasLabels, IsDeclaration, HaveNoLabels, IsDeclarationFault, current, written}
+use Rattle.bag_tags.specs.Declarations.{version_label, encoding_label, IsVersionPart, IsVersion, IsEncodingName, NamesUtf8, IsUnmarked, HasLabels, IsDeclaration, HaveNoLabels, IsDeclarationFault, current, written_declaration}
 use Rattle.bag_tags.proofs.WordsLemmas.{until_whole, until_here}
 
 -- digits have no dot
@@ -198,7 +198,7 @@ labels_exclude octets version encoding first second l h none =
     ]
 
 -- a declaration has no fault
-pub excludes : (octets : List ℕ) (declaration : Declaration) (fault : DeclarationFault) → IsDeclaration octets declaration → IsDeclarationFault octets fault → ⊥
+pub excludes : (octets : List ℕ) (declaration : Declaration) (fault : DeclFault) → IsDeclaration octets declaration → IsDeclarationFault octets fault → ⊥
 excludes octets d NotUtf8 h f = no_clash (is_utf8 octets) h.labels.unmarked.0 f
 excludes octets d Mark h f = no_clash (starts_with nat_eq octets mark) f.1 h.labels.unmarked.1
 excludes octets d LineCount h f = count_excludes octets f.1.0 h.labels.first h.labels.second f.1.1 f.1.2 h.labels.two_lines
@@ -242,7 +242,7 @@ version_excludes octets version encoding other name major minor h none k v =
     none major minor (subst (λ t. IsVersion t major minor) (one_labels octets other name version encoding k h).0 v)
 
 -- octets have one first fault at most
-pub one_fault : (octets : List ℕ) (a b : DeclarationFault) → IsDeclarationFault octets a → IsDeclarationFault octets b → a ≡ b
+pub one_fault : (octets : List ℕ) (a b : DeclFault) → IsDeclarationFault octets a → IsDeclarationFault octets b → a ≡ b
 one_fault octets NotUtf8 NotUtf8 f g = refl
 one_fault octets NotUtf8 Mark f g = absurd (no_clash (is_utf8 octets) g.0 f)
 one_fault octets NotUtf8 LineCount f g = absurd (no_clash (is_utf8 octets) g.0.0 f)
@@ -280,7 +280,7 @@ one_fault octets EncodingName Label f g = absurd (labels_exclude octets f.0 f.1 
 one_fault octets EncodingName Version f g = absurd (version_excludes octets g.0 g.1 f.0 f.1 f.2 f.3 g.2 g.3 f.4 f.5)
 one_fault octets EncodingName EncodingName f g = refl
 
-written_lines : lines_of written ≡ line (codes "BagIt-Version: 1.0") Lf ∷ line (codes "Tag-File-Character-Encoding: UTF-8") Lf ∷ []
+written_lines : lines_of written_declaration ≡ line (codes "BagIt-Version: 1.0") Lf ∷ line (codes "Tag-File-Character-Encoding: UTF-8") Lf ∷ []
 unfolding lines_of
 written_lines = refl
 
@@ -290,14 +290,14 @@ ascii_text text h =
     is_utf8-from_IsUtf8 text (IsUtf8-from_ascii text (IsAscii-from_all text (λ k d below. ltb-true (get_or text k d) 128 (each k d below))))
 
 -- what is written declares this format's version, and UTF-8
-pub written_declares : IsDeclaration written current
+pub written_declares : IsDeclaration written_declaration current
 unfolding until
-written_declares = read_so written (codes "1.0") (codes "UTF-8") 1 0 true
+written_declares = read_so written_declaration (codes "1.0") (codes "UTF-8") 1 0 true
     (record {
       first = line (codes "BagIt-Version: 1.0") Lf;
       second = line (codes "Tag-File-Character-Encoding: UTF-8") Lf;
-      unmarked = (ascii_text written refl, refl);
-      two_lines = (one_list written (line (codes "BagIt-Version: 1.0") Lf ∷ line (codes "Tag-File-Character-Encoding: UTF-8") Lf ∷ [])).1 (sym written_lines);
+      unmarked = (ascii_text written_declaration refl, refl);
+      two_lines = (one_list written_declaration (line (codes "BagIt-Version: 1.0") Lf ∷ line (codes "Tag-File-Character-Encoding: UTF-8") Lf ∷ [])).1 (sym written_lines);
       first_is = refl;
       second_is = refl;
     })
@@ -308,6 +308,6 @@ written_declares = read_so written (codes "1.0") (codes "UTF-8") 1 0 true
     (λ e. refl, λ e. refl)
 
 -- what a copy of them declares
-pub copy_declares : {V E : Type 0} (items : V → List ℕ) (r : Result V E) → IfOk r (λ v. ((x y : ℕ) → y ≡ x → y ≡ x) → items v ≡ written) → IfOk r (λ v. IsDeclaration (items v) current)
+pub copy_declares : {V E : Type 0} (items : V → List ℕ) (r : Result V E) → IfOk r (λ v. ((x y : ℕ) → y ≡ x → y ≡ x) → items v ≡ written_declaration) → IfOk r (λ v. IsDeclaration (items v) current)
 copy_declares items (Ok v) h = subst (λ octets. IsDeclaration octets current) (sym (h (λ x y e. e))) written_declares
 copy_declares items (Err e) h = tt

@@ -1,10 +1,10 @@
 -- Lines of worked examples, in ASCII: what they give, by their parts as these are computed.
 use Rattle.std.proofs.Common.{◌≡◌, ◌-◌, ◌==◌, ℕ, true, false, List, ◌∷◌, [], ◌++◌, length, nat_eq, slice_index, Option, Some, refl, inl, inr}
 use Rattle.std.specs.List.{starts_with}
-use Rattle.bag_path.specs.Lines.{Text, lines_of}
+use Rattle.bag_path.specs.Lines.{lines_of}
 use Rattle.bag_path.specs.Paths.{IsPath, is_payload}
-use Rattle.bag_path.specs.SpellingReading.{spelled}
-use Rattle.bag_path.specs.declared.spelling.Version.TheVariants.{V1}
+use Rattle.bag_path.specs.SpellingReading.{octets_spelled}
+use Rattle.bag_path.specs.declared.version.Version.TheVariants.{V1}
 use Rattle.bag_path.proofs.AsciiLemmas.{is_ascii_text, ascii_utf8}
 use Rattle.bag_path.proofs.LinesLemmas.{one_list}
 use Rattle.bag_path.proofs.SpellsLemmas.{spells_if_read}
@@ -14,13 +14,13 @@ use Rattle.bag_tags.specs.declared.fault.LineCause.{LineCause}
 use Rattle.bag_tags.specs.declared.fetch.FetchLine.{FetchLine}
 use Rattle.bag_tags.specs.FetchEntries.{fetch_item, IsUrl}
 use Rattle.bag_tags.specs.Fetches.{fetch_line}
-use Rattle.bag_tags.specs.FetchText.{HasWords, IsLength, GivesEntry, AddsEntry}
-use Rattle.bag_tags.specs.Infos.{MetadataElement, element, continued, IsFit}
+use Rattle.bag_tags.specs.FetchText.{AreWords, IsLength, GivesEntry, AddsEntry}
+use Rattle.bag_tags.specs.Infos.{MetadataElement, element, element_with_line, IsFit}
 use Rattle.bag_tags.specs.InfoReading.{first_line_of}
 use Rattle.bag_tags.specs.InfoText.{AddsInfo}
 use Rattle.bag_tags.specs.Listings.{Listing, pair, with_pair, IsInPlace, lists_path}
 use Rattle.bag_tags.specs.Manifests.{plain_path, HasChecksum, Gives, AddsPair}
-use Rattle.bag_tags.specs.TagLines.{mark, Lead, IsTextOf, IsFirstFault}
+use Rattle.bag_tags.specs.TagLines.{mark, TagLine, LeadsOn, Lead, IsTextOf, IsFirstFault, AreExact}
 use Rattle.bag_tags.specs.Words.{is_blank, begins_blank, is_blank_line, without}
 use Rattle.bag_tags.specs.WordsReading.{until, is_not_blank, is_colon}
 use Rattle.bag_tags.proofs.FetchLineLemmas.{words_of, gives_of}
@@ -30,20 +30,23 @@ use Rattle.bag_tags.proofs.TagLinesLemmas.{numbered, first_fault}
 use Rattle.bag_tags.proofs.WordsLemmas.{word_of, after_word, after_blanks, cut_at}
 
 -- the value that the lines lead to
-pub text_of : {A : Type 0} (leads : A → ℕ → List ℕ → A → Type 0) (start : A) (octets : List ℕ) (value : A) → Lead leads start (numbered octets) value → IsTextOf leads start octets value
+pub text_of : {A : Type 0} (leads : A → ℕ → List ℕ → A → Type 0) (start : A) (octets : List ℕ) (value : A) → Lead (LeadsOn leads) start (numbered octets) value → IsTextOf leads start octets value
 text_of leads start octets value led = record {
   lines = lines_of (without mark octets);
   has_lines = (one_list (without mark octets) (lines_of (without mark octets))).1 refl;
   lead = led;
 }
 
+-- a line that leads on
+pub leads_on : {A : Type 0} (leads : A → ℕ → List ℕ → A → Type 0) (before : A) (line : TagLine) (after : A) → is_blank_line line.text ≡ false → is_ascii_text line.text ≡ true → leads before line.number line.text after → LeadsOn leads before line after
+leads_on leads before line after not_blank ascii on = inr (not_blank, ascii_utf8 line.text ascii, on)
+
 -- the faulty line among the lines
-pub faulty : {A : Type 0} (leads : A → ℕ → List ℕ → A → Type 0) (refuses : A → List ℕ → LineCause → Type 0)
-    → ((value : A) (n : ℕ) (text : List ℕ) (next : A) (cause : LineCause) → leads value n text next → refuses value text cause → ⊥)
-    → (start so_far : A) (octets : List ℕ) (before after : List (ℕ × Text)) (n : ℕ) (line : Text) (cause : LineCause)
-    → numbered octets ≡ before ++ (n, line) ∷ after → Lead leads start before so_far → is_blank_line line.text ≡ false → refuses so_far line.text cause
-    → IsFirstFault leads refuses start octets (record { line = n; cause = cause })
-faulty leads refuses apart start so_far octets before after n line cause cut led not_blank refused = first_fault leads refuses apart start octets (record { line = n; cause = cause }) (record {
+pub faulty : {A : Type 0} (leads : A → ℕ → List ℕ → A → Type 0) (refuses : A → List ℕ → LineCause → Type 0) → AreExact leads refuses
+    → (start so_far : A) (octets : List ℕ) (before after : List TagLine) (line : TagLine) (cause : LineCause)
+    → numbered octets ≡ before ++ line ∷ after → Lead (LeadsOn leads) start before so_far → is_blank_line line.text ≡ false → is_ascii_text line.text ≡ true → refuses so_far line.text cause
+    → IsFirstFault leads refuses start octets (record { line = line.number; cause = cause })
+faulty leads refuses exact start so_far octets before after line cause cut led not_blank ascii refused = first_fault leads refuses exact start octets (record { line = line.number; cause = cause }) (record {
   lines = lines_of (without mark octets);
   has_lines = (one_list (without mark octets) (lines_of (without mark octets))).1 refl;
   before = before;
@@ -52,22 +55,25 @@ faulty leads refuses apart start so_far octets before after n line cause cut led
   cut = cut;
   so_far = so_far;
   lead = led;
-  not_blank = not_blank;
-  cause = refused;
+  number = refl;
+  refused = (not_blank, inr (ascii_utf8 line.text ascii, refused));
 })
 
+-- a line, by its number and its text
+abbrev pub at : ℕ → List ℕ → TagLine
+at number text = record { number = number; text = text }
+
 -- manifests
-module _ (before : Listing) (text : List ℕ) (digest : Digest) (ascii : is_ascii_text text ≡ true) (some : (length (after_word text) == 0) ≡ false) (digits : SpellsDigest before.alg (word_of text) digest) where
+module _ (before : Listing) (text : List ℕ) (digest : Digest) (some : (length (after_word text) == 0) ≡ false) (digits : SpellsDigest before.alg (word_of text) digest) where
   pub checksum : HasChecksum before.alg text digest (after_blanks (after_word text))
   checksum = record {
-    utf8 = ascii_utf8 text ascii;
     checksum = word_of text;
     blanks = (until is_not_blank (after_word text)).0;
     cut = cut_at text some;
     spells_digest = digits;
   }
 
-  module _ (path : List ℕ) (spelled_so : spelled V1 (plain_path (after_blanks (after_word text))) ≡ Some path) (is_path : IsPath path) where
+  module _ (path : List ℕ) (spelled_so : octets_spelled V1 (plain_path (after_blanks (after_word text))) ≡ Some path) (is_path : IsPath path) where
     pub gives : Gives V1 before.alg text path digest
     gives = record { path_text = after_blanks (after_word text); checksum = checksum; spells = spells_if_read V1 path (plain_path (after_blanks (after_word text))) spelled_so; is_path = is_path }
 
@@ -84,39 +90,33 @@ module _ (before : Listing) (text : List ℕ) (digest : Digest) (ascii : is_asci
 pub fit : (label : List ℕ) → (length label == 0) ≡ false → is_blank (slice_index label 0) ≡ false → is_blank (slice_index label (length label - 1)) ≡ false → starts_with nat_eq label mark ≡ false → IsFit label
 fit label some begins ends unmarked = record { some = not_empty label some; begins = begins; ends = ends; unmarked = unmarked }
 
-pub adds_element : (before : List MetadataElement) (number : ℕ) (text first : List ℕ) → is_ascii_text text ≡ true → Some first ≡ first_line_of (until is_colon text).1 → IsFit (until is_colon text).0 → AddsInfo V1 before number text (before ++ element (until is_colon text).0 first ∷ [])
-adds_element before number text first ascii parts is_fit = (
-  ascii_utf8 text ascii,
-  inr (record {
-    element = element (until is_colon text).0 first;
-    gives = record { parts = info.parts_of text (until is_colon text).0 (until is_colon text).1 first refl parts; fit = is_fit };
-    adds = refl;
-  }),
-)
+pub adds_element : (before : List MetadataElement) (number : ℕ) (text first : List ℕ) → Some first ≡ first_line_of (until is_colon text).1 → IsFit (until is_colon text).0 → AddsInfo V1 before number text (before ++ element (until is_colon text).0 first ∷ [])
+adds_element before number text first parts is_fit = inr (record {
+  element = element (until is_colon text).0 first;
+  gives = record { parts = info.parts_of text (until is_colon text).0 (until is_colon text).1 first refl parts; fit = is_fit };
+  adds = refl;
+})
 
-pub adds_line : (earlier : List MetadataElement) (last : MetadataElement) (number : ℕ) (text : List ℕ) → is_ascii_text text ≡ true → begins_blank text ≡ true → AddsInfo V1 (earlier ++ last ∷ []) number text (earlier ++ continued last (until is_not_blank text).1 ∷ [])
-adds_line earlier last number text ascii begins = (
-  ascii_utf8 text ascii,
-  inl (record {
-    earlier = earlier;
-    last = last;
-    line = (until is_not_blank text).1;
-    indented = info.indented text (until is_not_blank text).0 (until is_not_blank text).1 refl begins;
-    has_last = refl;
-    continues = refl;
-  }),
-)
+pub adds_line : (earlier : List MetadataElement) (last : MetadataElement) (number : ℕ) (text : List ℕ) → begins_blank text ≡ true → AddsInfo V1 (earlier ++ last ∷ []) number text (earlier ++ element_with_line last (until is_not_blank text).1 ∷ [])
+adds_line earlier last number text begins = inl (record {
+  earlier = earlier;
+  last = last;
+  line = (until is_not_blank text).1;
+  indented = info.indented text (until is_not_blank text).0 (until is_not_blank text).1 refl begins;
+  has_last = refl;
+  continues = refl;
+})
 
 -- `fetch.txt`
 abbrev pub rest_of : List ℕ → List ℕ
 rest_of text = after_blanks (after_word text)
 
-pub has_words : (text : List ℕ) → is_ascii_text text ≡ true → (length (after_word (rest_of text)) == 0) ≡ false → HasWords text (word_of text) (word_of (rest_of text)) (rest_of (rest_of text))
-has_words text ascii some = record { utf8 = ascii_utf8 text ascii; words = words_of text _ _ _ _ _ _ _ _ refl refl refl some refl }
+pub has_words : (text : List ℕ) → (length (after_word (rest_of text)) == 0) ≡ false → AreWords text (word_of text) (word_of (rest_of text)) (rest_of (rest_of text))
+has_words text some = words_of text _ _ _ _ _ _ _ _ refl refl refl some refl
 
-module _ (text : List ℕ) (octets : Option ℕ) (path : List ℕ) (ascii : is_ascii_text text ≡ true) (some : (length (after_word (rest_of text)) == 0) ≡ false) (is_url : IsUrl (word_of text)) (is_length : IsLength (word_of (rest_of text)) octets) (spelled_so : spelled V1 (rest_of (rest_of text)) ≡ Some path) (is_path : IsPath path) where
+module _ (text : List ℕ) (octets : Option ℕ) (path : List ℕ) (some : (length (after_word (rest_of text)) == 0) ≡ false) (is_url : IsUrl (word_of text)) (is_length : IsLength (word_of (rest_of text)) octets) (spelled_so : octets_spelled V1 (rest_of (rest_of text)) ≡ Some path) (is_path : IsPath path) where
   pub gives_entry : GivesEntry V1 text (fetch_item (word_of text) octets path)
-  gives_entry = gives_of V1 text (word_of text) (word_of (rest_of text)) (rest_of (rest_of text)) octets path (has_words text ascii some) is_url is_length (spells_if_read V1 path (rest_of (rest_of text)) spelled_so) is_path
+  gives_entry = gives_of V1 text (word_of text) (word_of (rest_of text)) (rest_of (rest_of text)) octets path (has_words text some) is_url is_length (spells_if_read V1 path (rest_of (rest_of text)) spelled_so) is_path
 
   pub adds_entry : (before : List FetchLine) (number : ℕ) → is_payload path ≡ true → AddsEntry V1 before number text (before ++ fetch_line number (fetch_item (word_of text) octets path) ∷ [])
   adds_entry before number payload = record { entry = fetch_item (word_of text) octets path; gives = gives_entry; payload = payload; adds = refl }

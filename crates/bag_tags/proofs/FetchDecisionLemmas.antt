@@ -1,28 +1,28 @@
--- A text is that of `fetch.txt`, or has a first fault.
+-- A line of `fetch.txt` adds an entry or is refused, and reading is exact.
 use Rattle.std.proofs.Common.{◌≡◌, ◌≢◌, ◌<◌, ◌^◌, ◌==◌, ◌⊎◌, ◌++◌, ℕ, false, List, [], ◌∷◌, codes, length, drop, Option, Some, None, refl, inl, inr}
 use Rattle.std.specs.Char.{IsAsciiAlphabetic}
 use Rattle.std.specs.List.{AllByRecursion}
 use Rattle.std.specs.Str.{IsUtf8, bytes_eq}
 use Rattle.std.proofs.lemmas.Bool.{cases_Bool}
 use Rattle.std.proofs.lemmas.Slice.Eq.{bytes_eq-Decides}
-use Rattle.bag_path.specs.declared.spelling.Version.{Version}
+use Rattle.bag_path.specs.declared.version.Version.{Version}
 use Rattle.bag_path.specs.Paths.{is_payload}
 use Rattle.bag_tags.specs.declared.fault.LineCause.{LineCause}
-use Rattle.bag_tags.specs.declared.fault.LineCause.TheVariants.{NotUtf8, NoSeparator, BadUrl, BadLength, BadPath, WrongPlace}
-use Rattle.bag_tags.specs.declared.fault.LineFault.{LineFault}
+use Rattle.bag_tags.specs.declared.fault.LineCause.TheVariants.{NoSeparator, BadUrl, BadLength, BadPath, WrongPlace}
 use Rattle.bag_tags.specs.declared.fetch.FetchLine.{FetchLine}
 use Rattle.bag_tags.specs.Numerals.{IsNumeral}
 use Rattle.bag_tags.specs.Words.{is_blank}
 use Rattle.bag_tags.specs.WordsReading.{until, is_not_blank, is_colon}
 use Rattle.bag_tags.specs.FetchEntries.{FetchItem, fetch_item, IsUrl, IsScheme, IsSchemeOctet, IsUrlOctet}
 use Rattle.bag_tags.specs.Fetches.{fetch_line}
-use Rattle.bag_tags.specs.FetchText.{HasWords, IsLength, GivesEntry, AddsEntry, RefusesEntry, FetchText, FetchFault}
-use Rattle.bag_tags.proofs.DecisionLemmas.{Decided, decided_as, decided_by, decided_both, decided_either, decided_not, decided_all, decided_below, decided_equal, decided_letter, decided_digit, decided_true, decided_utf8}
-use Rattle.bag_tags.proofs.FetchLineLemmas.{fetch_apart, words_utf8, gives_of}
+use Rattle.bag_tags.specs.FetchText.{AreWords, IsLength, GivesEntry, AddsEntry, RefusesFetchLine}
+use Rattle.bag_tags.specs.TagLines.{AreExact}
+use Rattle.bag_tags.proofs.DecisionLemmas.{Decided, decided_as, decided_by, decided_both, decided_either, decided_not, decided_all, decided_below, decided_equal, decided_letter, decided_digit, decided_true}
+use Rattle.bag_tags.proofs.FetchLineLemmas.{fetch_one, words_utf8, gives_of}
+use Rattle.bag_tags.proofs.FetchFaultLemmas.{one_cause, not_both}
 use Rattle.bag_tags.proofs.FetchUrlLemmas.{url_of, url_parts}
 use Rattle.bag_tags.proofs.OxumDecisionLemmas.{numeral_or_none}
 use Rattle.bag_tags.proofs.PathDecisionLemmas.{path_or_fault}
-use Rattle.bag_tags.proofs.TextDecisionLemmas.{value_or_fault}
 use Rattle.bag_tags.proofs.WordsLemmas.{word_of, after_word, after_blanks, cut_at, none_passes}
 
 decided_scheme_octet : (octet : ℕ) → Decided (IsSchemeOctet octet)
@@ -66,29 +66,29 @@ length_or_none text = elim (decided_by (text ≡ codes "-") (bytes_eq text (code
 
 module _ (version : Version) (before : List FetchLine) (number : ℕ) (text : List ℕ) where
   abbrev EntryOrCause : Type 0
-  EntryOrCause = ((next : List FetchLine) × AddsEntry version before number text next) ⊎ ((cause : LineCause) × RefusesEntry version before text cause)
+  EntryOrCause = ((next : List FetchLine) × AddsEntry version before number text next) ⊎ ((cause : LineCause) × RefusesFetchLine version before text cause)
 
   -- a line that gives an entry
   of_entry : (entry : FetchItem) → GivesEntry version text entry → EntryOrCause
   of_entry entry gives = elim (decided_true (is_payload entry.path)) [
     | inl payload ↦ inl (before ++ fetch_line number entry ∷ [], record { entry = entry; gives = gives; payload = payload; adds = refl })
-    | inr other ↦ inr (WrongPlace, (entry, gives, other))
+    | inr other ↦ inr (WrongPlace, record { entry = entry; gives = gives; no_payload = other })
   ]
 
   -- a line with a url and a length
-  of_length : (url len path_text : List ℕ) (octets : Option ℕ) → HasWords text url len path_text → IsUrl url → IsLength len octets → EntryOrCause
-  of_length url len path_text octets words is_url is_length = elim (path_or_fault version path_text (words_utf8 text url len path_text words.words words.utf8).1) [
+  of_length : (url len path_text : List ℕ) (octets : Option ℕ) → IsUtf8 text → AreWords text url len path_text → IsUrl url → IsLength len octets → EntryOrCause
+  of_length url len path_text octets utf8 words is_url is_length = elim (path_or_fault version path_text (words_utf8 text url len path_text words utf8).1) [
     | inl p ↦ of_entry (fetch_item url octets p.0) (gives_of version text url len path_text octets p.0 words is_url is_length p.1 p.2)
-    | inr f ↦ inr (BadPath f.0, (url, len, path_text, words, is_url, (octets, is_length, f.1)))
+    | inr f ↦ inr (BadPath f.0, record { url = url; length = len; path_text = path_text; number = octets; words = words; is_url = is_url; is_length = is_length; no_path = f.1 })
   ]
 
   -- a line of three words
-  of_words : (url len path_text : List ℕ) → HasWords text url len path_text → EntryOrCause
-  of_words url len path_text words = elim (decided_url url) [
-    | inr none ↦ inr (BadUrl, (url, len, path_text, words, none))
+  of_words : (url len path_text : List ℕ) → IsUtf8 text → AreWords text url len path_text → EntryOrCause
+  of_words url len path_text utf8 words = elim (decided_url url) [
+    | inr none ↦ inr (BadUrl, record { url = url; length = len; path_text = path_text; words = words; no_url = none })
     | inl is_url ↦ elim (length_or_none len) [
-      | inr none ↦ inr (BadLength, (url, len, path_text, words, is_url, none))
-      | inl l ↦ of_length url len path_text l.0 words is_url l.1
+      | inr none ↦ inr (BadLength, record { url = url; length = len; path_text = path_text; words = words; is_url = is_url; no_length = none })
+      | inl l ↦ of_length url len path_text l.0 utf8 words is_url l.1
     ]
   ]
 
@@ -98,27 +98,26 @@ module _ (version : Version) (before : List FetchLine) (number : ℕ) (text : Li
       let rest = after_blanks (after_word text) in
       let cut = cut_at text some in
       elim (cases_Bool (length (after_word rest) == 0)) [
-        | inl none ↦ inr (NoSeparator, (utf8, inr (word_of text, ((until is_not_blank (after_word text)).0, (rest, cut, none_passes is_blank rest none)))))
-        | inr more ↦ of_words (word_of text) (word_of rest) (after_blanks (after_word rest)) (record {
-          utf8 = utf8;
-          words = record {
-            after_url = (until is_not_blank (after_word text)).0;
-            rest = rest;
-            after_length = (until is_not_blank (after_word rest)).0;
-            url_cut = cut;
-            length_cut = cut_at rest more;
-          };
+        | inl none ↦ inr (NoSeparator, inr (word_of text, ((until is_not_blank (after_word text)).0, (rest, cut, none_passes is_blank rest none))))
+        | inr more ↦ of_words (word_of text) (word_of rest) (after_blanks (after_word rest)) utf8 (record {
+          after_url = (until is_not_blank (after_word text)).0;
+          rest = rest;
+          after_length = (until is_not_blank (after_word rest)).0;
+          url_cut = cut;
+          length_cut = cut_at rest more;
         })
       ]
 
-  pub entry_or_cause : EntryOrCause
-  entry_or_cause = elim (decided_utf8 text) [
-    | inr other ↦ inr (NotUtf8, other)
-    | inl utf8 ↦ elim (cases_Bool (length (after_word text) == 0)) [
-      | inl none ↦ inr (NoSeparator, (utf8, inl (none_passes is_blank text none)))
-      | inr some ↦ of_cut utf8 some
-    ]
+  entry_or_cause : IsUtf8 text → EntryOrCause
+  entry_or_cause utf8 = elim (cases_Bool (length (after_word text) == 0)) [
+    | inl none ↦ inr (NoSeparator, inl (none_passes is_blank text none))
+    | inr some ↦ of_cut utf8 some
   ]
 
-pub entries_or_fault : (version : Version) (octets : List ℕ) → ((lines : List FetchLine) × FetchText version octets lines) ⊎ ((fault : LineFault) × FetchFault version octets fault)
-entries_or_fault version octets = value_or_fault (AddsEntry version) (RefusesEntry version) (fetch_apart version) (entry_or_cause version) [] octets
+pub fetch_exact : (version : Version) → AreExact (AddsEntry version) (RefusesFetchLine version)
+fetch_exact version = record {
+  one_value = fetch_one version;
+  one_cause = λ before text. one_cause version text before;
+  not_both = λ before number text. not_both version text before number;
+  one_of_both = entry_or_cause version;
+}

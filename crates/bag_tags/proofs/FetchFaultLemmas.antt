@@ -1,99 +1,96 @@
--- The text of `fetch.txt` has one first fault at most, and then it lists nothing.
-use Rattle.std.proofs.Common.{◌≡◌, ℕ, List, [], Option, refl, sym, ap, ◌∙◌, subst, inl, inr}
-use Rattle.std.specs.Str.{IsUtf8}
+-- A line of `fetch.txt` adds one entry, or is refused for one cause.
+use Rattle.std.proofs.Common.{◌≡◌, ℕ, true, List, Option, refl, sym, ap, ◌∙◌, subst, inl, inr}
 use Rattle.bag_path.specs.declared.path.PathFault.{PathFault}
-use Rattle.bag_path.specs.declared.spelling.Version.{Version}
+use Rattle.bag_path.specs.declared.version.Version.{Version}
+use Rattle.bag_path.specs.Paths.{is_payload}
 use Rattle.bag_path.specs.Spellings.{Spells}
 use Rattle.bag_tags.specs.declared.fault.LineCause.{LineCause}
 use Rattle.bag_tags.specs.declared.fault.LineCause.TheVariants.{NotUtf8, NoSeparator, BadDigest, BadPath, WrongPlace, Twice, BadLabel, NothingToContinue, BadUrl, BadLength}
-use Rattle.bag_tags.specs.declared.fault.LineFault.{LineFault}
 use Rattle.bag_tags.specs.declared.fetch.FetchLine.{FetchLine}
 use Rattle.bag_tags.specs.Manifests.{SpellsNoPath}
 use Rattle.bag_tags.specs.FetchEntries.{FetchItem, IsUrl}
-use Rattle.bag_tags.specs.FetchText.{HasWords, IsLength, GivesEntry, AddsEntry, GivesNoEntry, RefusesEntry, FetchText, FetchFault}
-use Rattle.bag_tags.proofs.CauseLemmas.{AtMostOne, Is, Unless, one_is, one_unless, one_path_fault}
-use Rattle.bag_tags.proofs.TagLinesLemmas.{text_none, text_one_fault}
+use Rattle.bag_tags.specs.FetchText.{AreWords, IsLength, GivesEntry, AddsEntry, HasNoPath, GivesNoEntry}
+use Rattle.bag_tags.proofs.CauseLemmas.{Fate, AtMostOne, Is, Unless, on, for, one_is, one_unless, same_cause, on_or_for, one_path_fault}
 use Rattle.bag_tags.proofs.ManifestLemmas.{no_path}
-use Rattle.bag_tags.proofs.FetchLineLemmas.{one_words, not_lacking, fetch_one}
+use Rattle.bag_tags.proofs.FetchLineLemmas.{one_words, one_entry, not_lacking}
 
 module _ (version : Version) (text : List ℕ) where
   -- what a line has to have, in this order
   abbrev SomeWords : Type 0
-  SomeWords = (url length path_text : List ℕ) × HasWords text url length path_text
+  SomeWords = (url length path_text : List ℕ) × AreWords text url length path_text
 
   abbrev SomeUrl : Type 0
-  SomeUrl = (url length path_text : List ℕ) × HasWords text url length path_text × IsUrl url
+  SomeUrl = (url length path_text : List ℕ) × AreWords text url length path_text × IsUrl url
 
   abbrev SomeLength : Type 0
-  SomeLength = (url length path_text : List ℕ) × HasWords text url length path_text × ((octets : Option ℕ) × IsLength length octets)
+  SomeLength = (url length path_text : List ℕ) × AreWords text url length path_text × ((number : Option ℕ) × IsLength length number)
 
   abbrev SomeEntry : Type 0
   SomeEntry = (entry : FetchItem) × GivesEntry version text entry
 
-  -- the cause of a path's text
-  abbrev OfPath : LineCause → Type 0
-  OfPath cause = (fault : PathFault) × (cause ≡ BadPath fault) × GivesNoEntry version text (BadPath fault)
+  abbrev OfPayload : Type 0
+  OfPayload = (entry : FetchItem) × GivesEntry version text entry × (is_payload entry.path ≡ true)
 
-  -- the first of the causes that a line has
-  abbrev IsFirstCause : LineCause → Type 0
-  IsFirstCause =
-      Unless (IsUtf8 text) (Is NotUtf8)
-      (Unless SomeWords (Is NoSeparator)
-      (Unless SomeUrl (Is BadUrl)
-      (Unless SomeLength (Is BadLength)
-      (Unless SomeEntry OfPath (Is WrongPlace)))))
+  -- the fate of a path's text
+  abbrev OfPath : Fate → Type 0
+  OfPath fate = (fault : PathFault) × (fate ≡ for (BadPath fault)) × HasNoPath version text fault
 
-  same_words : (u l p v m q : List ℕ) → HasWords text u l p → HasWords text v m q → (u ≡ v) × (l ≡ m) × (p ≡ q)
-  same_words u l p v m q h k = one_words text u l p v m q h.words k.words
+  -- the fate that a line has, by the first of these that it lacks
+  abbrev AfterLength : Fate → Type 0
+  AfterLength = Unless SomeEntry OfPath (Unless OfPayload (Is (for WrongPlace)) (Is on))
+
+  abbrev AfterWords : Fate → Type 0
+  AfterWords = Unless SomeUrl (Is (for BadUrl)) (Unless SomeLength (Is (for BadLength)) AfterLength)
+
+  abbrev HasFate : Fate → Type 0
+  HasFate = Unless SomeWords (Is (for NoSeparator)) AfterWords
 
   one_of_path : AtMostOne OfPath
   one_of_path c d h k =
       let a = h.2 in
       let b = k.2 in
-      let same = same_words a.0 a.1 a.2 b.0 b.1 b.2 a.3 b.3 in
-      h.1 ∙ ap BadPath (one_path_fault version b.2 h.0 k.0 (subst (SpellsNoPath h.0 version) same.2 a.5.2) b.5.2) ∙ sym k.1
+      let same = one_words text a.url a.length a.path_text b.url b.length b.path_text a.words b.words in
+      h.1 ∙ ap (λ f. for (BadPath f)) (one_path_fault version b.path_text h.0 k.0 (subst (SpellsNoPath h.0 version) same.2 a.no_path) b.no_path) ∙ sym k.1
 
-  one_first_cause : AtMostOne IsFirstCause
-  one_first_cause =
-      one_unless (IsUtf8 text) (Is NotUtf8) _ (one_is NotUtf8)
-      (one_unless SomeWords (Is NoSeparator) _ (one_is NoSeparator)
-      (one_unless SomeUrl (Is BadUrl) _ (one_is BadUrl)
-      (one_unless SomeLength (Is BadLength) _ (one_is BadLength)
-      (one_unless SomeEntry OfPath (Is WrongPlace) one_of_path (one_is WrongPlace)))))
+  one_fate : AtMostOne HasFate
+  one_fate =
+      one_unless SomeWords (Is (for NoSeparator)) _ (one_is _)
+      (one_unless SomeUrl (Is (for BadUrl)) _ (one_is _)
+      (one_unless SomeLength (Is (for BadLength)) _ (one_is _)
+      (one_unless SomeEntry OfPath _ one_of_path
+      (one_unless OfPayload (Is (for WrongPlace)) (Is on) (one_is _) (one_is _)))))
 
-  -- a line with a url, and one with a length, is refused for a later cause
-  with_words : (cause : LineCause) (u l p : List ℕ) → HasWords text u l p → Unless SomeUrl (Is BadUrl) (Unless SomeLength (Is BadLength) (Unless SomeEntry OfPath (Is WrongPlace))) cause → IsFirstCause cause
-  with_words cause u l p h later = inr (h.utf8, inr ((u, l, p, h), later))
+  -- a line with words, and one with a length
+  with_words : (fate : Fate) (u l p : List ℕ) → AreWords text u l p → AfterWords fate → HasFate fate
+  with_words fate u l p h later = inr ((u, l, p, h), later)
 
-  with_length : (cause : LineCause) (u l p : List ℕ) (octets : Option ℕ) → HasWords text u l p → IsUrl u → IsLength l octets → Unless SomeEntry OfPath (Is WrongPlace) cause → IsFirstCause cause
-  with_length cause u l p octets h url length later = with_words cause u l p h (inr ((u, l, p, h, url), inr ((u, l, p, h, (octets, length)), later)))
+  with_length : (fate : Fate) (u l p : List ℕ) (number : Option ℕ) → AreWords text u l p → IsUrl u → IsLength l number → AfterLength fate → HasFate fate
+  with_length fate u l p number h url length later = with_words fate u l p h (inr ((u, l, p, h, url), inr ((u, l, p, h, (number, length)), later)))
+
+  with_entry : (fate : Fate) (entry : FetchItem) → GivesEntry version text entry → Unless OfPayload (Is (for WrongPlace)) (Is on) fate → HasFate fate
+  with_entry fate entry g later = with_length fate entry.url g.length g.path_text entry.octets g.words g.is_url g.is_length (inr ((entry, g), later))
 
   -- a line with a bad path gives no entry
-  no_entry : (entry : FetchItem) (fault : PathFault) → GivesEntry version text entry → GivesNoEntry version text (BadPath fault) → ⊥
-  no_entry entry fault g r =
-      let same = same_words entry.url g.length g.path_text r.0 r.1 r.2 g.words r.3 in
-      no_path version r.2 entry.path fault (subst (Spells version entry.path) same.2 g.spells) g.is_path r.5.2
+  no_entry : (fault : PathFault) → HasNoPath version text fault → SomeEntry → ⊥
+  no_entry fault r h =
+      let g = h.1 in
+      let same = one_words text h.0.url g.length g.path_text r.url r.length r.path_text g.words r.words in
+      no_path version r.path_text h.0.path fault (subst (Spells version h.0.path) same.2 g.spells) g.is_path r.no_path
 
-  first_cause : (cause : LineCause) → GivesNoEntry version text cause → IsFirstCause cause
-  first_cause NotUtf8 r = inl (r, refl)
-  first_cause NoSeparator r = inr (r.0, inl (λ h. not_lacking text h.0 h.1 h.2 h.3.words r.1, refl))
-  first_cause BadUrl r = with_words BadUrl r.0 r.1 r.2 r.3 (inl (λ h. r.4 (subst IsUrl (same_words h.0 h.1 h.2 r.0 r.1 r.2 h.3 r.3).0 h.4), refl))
-  first_cause BadLength r = with_words BadLength r.0 r.1 r.2 r.3 (inr ((r.0, r.1, r.2, r.3, r.4), inl (λ h. r.5 h.4.0 (subst (λ t. IsLength t h.4.0) (same_words h.0 h.1 h.2 r.0 r.1 r.2 h.3 r.3).1 h.4.1), refl)))
-  first_cause (BadPath fault) r = with_length (BadPath fault) r.0 r.1 r.2 r.5.0 r.3 r.4 r.5.1 (inl (λ h. no_entry h.0 fault h.1 r, (fault, refl, r)))
-  first_cause WrongPlace r = with_length WrongPlace r.0.url r.1.length r.1.path_text r.0.octets r.1.words r.1.is_url r.1.is_length (inr ((r.0, r.1), refl))
-  first_cause BadDigest r = absurd r
-  first_cause Twice r = absurd r
-  first_cause BadLabel r = absurd r
-  first_cause NothingToContinue r = absurd r
+  refused_fate : (cause : LineCause) → GivesNoEntry version text cause → HasFate (for cause)
+  refused_fate NoSeparator r = inl (λ h. not_lacking text h.0 h.1 h.2 h.3 r, refl)
+  refused_fate BadUrl r = with_words _ r.url r.length r.path_text r.words (inl (λ h. r.no_url (subst IsUrl (one_words text h.0 h.1 h.2 r.url r.length r.path_text h.3 r.words).0 h.4), refl))
+  refused_fate BadLength r = with_words _ r.url r.length r.path_text r.words (inr ((r.url, r.length, r.path_text, r.words, r.is_url), inl (λ h. r.no_length h.4.0 (subst (λ t. IsLength t h.4.0) (one_words text h.0 h.1 h.2 r.url r.length r.path_text h.3 r.words).1 h.4.1), refl)))
+  refused_fate (BadPath fault) r = with_length _ r.url r.length r.path_text r.number r.words r.is_url r.is_length (inl (no_entry fault r, (fault, refl, r)))
+  refused_fate WrongPlace r = with_entry _ r.entry r.gives (inl (λ h. r.no_payload (ap (λ (e : FetchItem). is_payload e.path) (one_entry version text r.entry h.0 r.gives h.1) ∙ h.2), refl))
+  refused_fate NotUtf8 r = absurd r
+  refused_fate BadDigest r = absurd r
+  refused_fate Twice r = absurd r
+  refused_fate BadLabel r = absurd r
+  refused_fate NothingToContinue r = absurd r
 
-  -- a line is refused for one cause at most
-  pub one_cause : (cause other : LineCause) → GivesNoEntry version text cause → GivesNoEntry version text other → cause ≡ other
-  one_cause cause other r s = one_first_cause cause other (first_cause cause r) (first_cause other s)
+  pub one_cause : (before : List FetchLine) (cause other : LineCause) → GivesNoEntry version text cause → GivesNoEntry version text other → cause ≡ other
+  one_cause before cause other r s = same_cause cause other (one_fate (for cause) (for other) (refused_fate cause r) (refused_fate other s))
 
--- a text with a fault lists nothing
-pub none_listed : (version : Version) (octets : List ℕ) (lines : List FetchLine) (fault : LineFault) → FetchText version octets lines → FetchFault version octets fault → ⊥
-none_listed version octets lines fault t f = text_none (AddsEntry version) (RefusesEntry version) (fetch_one version) [] octets lines fault t f
-
--- a text has one first fault at most
-pub one_fault : (version : Version) (octets : List ℕ) (fault other : LineFault) → FetchFault version octets fault → FetchFault version octets other → fault ≡ other
-one_fault version octets fault other f g = text_one_fault (AddsEntry version) (RefusesEntry version) (fetch_one version) (λ before. one_cause version) [] octets fault other f g
+  pub not_both : (before : List FetchLine) (number : ℕ) (next : List FetchLine) (cause : LineCause) → AddsEntry version before number text next → GivesNoEntry version text cause → ⊥
+  not_both before number next cause a r = on_or_for cause (one_fate on (for cause) (with_entry on a.entry a.gives (inr ((a.entry, a.gives, a.payload), refl))) (refused_fate cause r))

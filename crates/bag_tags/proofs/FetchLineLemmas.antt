@@ -1,22 +1,20 @@
--- A line of `fetch.txt` adds one entry, or is refused for one cause.
+-- A line of `fetch.txt` adds one entry.
 use Rattle.std.proofs.Common.{◌≡◌, ◌==◌, ◌<◌, ℕ, true, false, List, [], ◌∷◌, ◌++◌, Option, Some, None, codes, length, refl, sym, ap, ◌∙◌, subst, inl, inr, arith, append_assoc}
 use Rattle.std.specs.List.{AllByRecursion}
 use Rattle.std.specs.Str.{IsUtf8}
 use Rattle.std.proofs.lemmas.Bool.{cases_Bool, ne_eqb}
-use Rattle.bag_path.specs.declared.spelling.Version.{Version}
-use Rattle.bag_path.specs.Paths.{IsPath, is_payload}
+use Rattle.bag_path.specs.declared.version.Version.{Version}
+use Rattle.bag_path.specs.Paths.{IsPath}
 use Rattle.bag_path.specs.Spellings.{Spells}
 use Rattle.bag_path.proofs.SpellsLemmas.{one_path}
-use Rattle.bag_tags.specs.declared.fault.LineCause.{LineCause}
-use Rattle.bag_tags.specs.declared.fault.LineCause.TheVariants.{NotUtf8, NoSeparator, BadDigest, BadPath, WrongPlace, Twice, BadLabel, NothingToContinue, BadUrl, BadLength}
 use Rattle.bag_tags.specs.declared.fetch.FetchLine.{FetchLine}
 use Rattle.bag_tags.specs.Numerals.{IsNumeral}
 use Rattle.bag_tags.specs.Words.{is_blank, IsNotBlank, IsCut}
 use Rattle.bag_tags.specs.WordsReading.{until, is_not_blank}
 use Rattle.bag_tags.specs.FetchEntries.{FetchItem, fetch_item, IsUrl}
 use Rattle.bag_tags.specs.Fetches.{fetch_line}
-use Rattle.bag_tags.specs.FetchText.{AreWords, HasWords, IsLength, GivesEntry, AddsEntry, LacksWord, GivesNoEntry, RefusesEntry}
-use Rattle.bag_tags.proofs.ManifestLemmas.{cut_by, same_rest, no_cut, no_path}
+use Rattle.bag_tags.specs.FetchText.{AreWords, IsLength, GivesEntry, AddsEntry, LacksWord, GivesNoEntry}
+use Rattle.bag_tags.proofs.ManifestLemmas.{cut_by, same_rest, no_cut}
 use Rattle.bag_tags.proofs.WordsLemmas.{cut_word, none_passes}
 use Rattle.bag_tags.specs.declared.fault.TagCause.{TagCause}
 use Rattle.bag_tags.specs.declared.fault.TagCause.TheVariants as tag
@@ -56,32 +54,13 @@ one_length text (Some n) None h k = absurd (dash_no_numeral n (subst (λ t. IsNu
 -- a line gives one entry
 pub one_entry : (version : Version) (text : List ℕ) (d e : FetchItem) → GivesEntry version text d → GivesEntry version text e → d ≡ e
 one_entry version text d e h k =
-    let w = one_words text d.url h.length h.path_text e.url k.length k.path_text h.words.words k.words.words in
+    let w = one_words text d.url h.length h.path_text e.url k.length k.path_text h.words k.words in
     ap (λ u. fetch_item u d.octets d.path) w.0
     ∙ ap (λ o. fetch_item e.url o d.path) (one_length k.length d.octets e.octets (subst (λ t. IsLength t d.octets) w.1 h.is_length) k.is_length)
     ∙ ap (λ p. fetch_item e.url e.octets p) (one_path version d.path e.path k.path_text (subst (Spells version d.path) w.2 h.spells) k.spells)
 
 pub fetch_one : (version : Version) (before : List FetchLine) (number : ℕ) (text : List ℕ) (next other : List FetchLine) → AddsEntry version before number text next → AddsEntry version before number text other → next ≡ other
 fetch_one version before number text next other a b = a.adds ∙ ap (λ e. before ++ fetch_line number e ∷ []) (one_entry version text a.entry b.entry a.gives b.gives) ∙ sym b.adds
-
--- a line that adds an entry is refused for no cause
-pub fetch_apart : (version : Version) (before : List FetchLine) (number : ℕ) (text : List ℕ) (next : List FetchLine) (cause : LineCause) → AddsEntry version before number text next → RefusesEntry version before text cause → ⊥
-fetch_apart version before number text next NotUtf8 a r = r a.gives.words.utf8
-fetch_apart version before number text next NoSeparator a r = not_lacking text a.entry.url a.gives.length a.gives.path_text a.gives.words.words r.1
-fetch_apart version before number text next BadUrl a r =
-    let w = one_words text a.entry.url a.gives.length a.gives.path_text r.0 r.1 r.2 a.gives.words.words r.3.words in
-    r.4 (subst IsUrl w.0 a.gives.is_url)
-fetch_apart version before number text next BadLength a r =
-    let w = one_words text a.entry.url a.gives.length a.gives.path_text r.0 r.1 r.2 a.gives.words.words r.3.words in
-    r.5 a.entry.octets (subst (λ t. IsLength t a.entry.octets) w.1 a.gives.is_length)
-fetch_apart version before number text next (BadPath fault) a r =
-    let w = one_words text a.entry.url a.gives.length a.gives.path_text r.0 r.1 r.2 a.gives.words.words r.3.words in
-    no_path version r.2 a.entry.path fault (subst (Spells version a.entry.path) w.2 a.gives.spells) a.gives.is_path r.5.2
-fetch_apart version before number text next WrongPlace a r = r.2 (ap (λ (e : FetchItem). is_payload e.path) (sym (one_entry version text a.entry r.0 a.gives r.1)) ∙ a.payload)
-fetch_apart version before number text next BadDigest a r = r
-fetch_apart version before number text next Twice a r = r
-fetch_apart version before number text next BadLabel a r = r
-fetch_apart version before number text next NothingToContinue a r = r
 
 -- a line that was cut at its blanks
 empty_after : (xs ys zs : List ℕ) → until is_not_blank xs ≡ (ys, zs) → xs ≡ [] → zs ≡ []
@@ -136,19 +115,11 @@ words_utf8 text url len path h u =
     (first.0, (cut_utf8 h.rest len h.after_length path h.length_cut first.1).1)
 
 -- a path's cause is that of its line
-pub path_cause : (version : Version) (text url len path_text : List ℕ) (octets : Option ℕ) (e : TagCause) → HasWords text url len path_text → IsUrl url → IsLength len octets → Causes (PathCause version path_text) e → Causes (GivesNoEntry version text) e
-path_cause version text url len path_text octets tag.Memory w u l h = tt
-path_cause version text url len path_text octets (tag.Line (BadPath fault)) w u l h = (url, len, path_text, w, u, (octets, l, h))
-path_cause version text url len path_text octets (tag.Line NotUtf8) w u l h = absurd h
-path_cause version text url len path_text octets (tag.Line NoSeparator) w u l h = absurd h
-path_cause version text url len path_text octets (tag.Line BadDigest) w u l h = absurd h
-path_cause version text url len path_text octets (tag.Line WrongPlace) w u l h = absurd h
-path_cause version text url len path_text octets (tag.Line Twice) w u l h = absurd h
-path_cause version text url len path_text octets (tag.Line BadLabel) w u l h = absurd h
-path_cause version text url len path_text octets (tag.Line NothingToContinue) w u l h = absurd h
-path_cause version text url len path_text octets (tag.Line BadUrl) w u l h = absurd h
-path_cause version text url len path_text octets (tag.Line BadLength) w u l h = absurd h
+pub path_cause : (version : Version) (text url len path_text : List ℕ) (number : Option ℕ) (e : TagCause) → AreWords text url len path_text → IsUrl url → IsLength len number → Causes (PathCause version path_text) e → Causes (GivesNoEntry version text) e
+path_cause version text url len path_text number tag.Memory w u l h = tt
+path_cause version text url len path_text number (tag.Line cause) w u l h = subst (GivesNoEntry version text) (sym h.1)
+    (record { url = url; length = len; path_text = path_text; number = number; words = w; is_url = u; is_length = l; no_path = h.2 })
 
 -- an entry of the parts that were read
-pub gives_of : (version : Version) (text url len path_text : List ℕ) (octets : Option ℕ) (path : List ℕ) → HasWords text url len path_text → IsUrl url → IsLength len octets → Spells version path path_text → IsPath path → GivesEntry version text (fetch_item url octets path)
+pub gives_of : (version : Version) (text url len path_text : List ℕ) (octets : Option ℕ) (path : List ℕ) → AreWords text url len path_text → IsUrl url → IsLength len octets → Spells version path path_text → IsPath path → GivesEntry version text (fetch_item url octets path)
 gives_of version text url len path_text octets path w u l s p = record { length = len; path_text = path_text; words = w; is_url = u; is_length = l; spells = s; is_path = p }

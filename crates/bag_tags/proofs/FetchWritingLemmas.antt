@@ -9,12 +9,12 @@ use Rattle.std.proofs.lemmas.Bool.Decides.{nat_tests}
 use Rattle.std.proofs.lemmas.List.Concat.{flat_map-cons}
 use Rattle.std.proofs.lemmas.Str.{IsUtf8-append}
 use Rattle.bag_path.specs.Lines.{IsPlain, written_lines}
-use Rattle.bag_path.specs.Spellings.{written}
-use Rattle.bag_path.specs.declared.spelling.Version.TheVariants.{V1}
+use Rattle.bag_path.specs.Spellings.{written_spelling}
+use Rattle.bag_path.specs.declared.version.Version.TheVariants.{V1}
 use Rattle.bag_path.proofs.SpellsLemmas.{written_spells}
 use Rattle.bag_tags.specs.declared.fetch.FetchLine.{FetchLine}
 use Rattle.bag_tags.specs.Words.{is_blank, IsNotBlank, is_blank_line, begins_blank}
-use Rattle.bag_tags.specs.TagLines.{mark, Lead}
+use Rattle.bag_tags.specs.TagLines.{mark, LeadsOn, Lead}
 use Rattle.bag_tags.specs.FetchEntries.{FetchItem, IsUrl, IsScheme, IsSchemeOctet, IsUrlOctet, written_length}
 use Rattle.bag_tags.specs.Fetches.{CanBeFetched, fetch_line, numbered_from, written_line, written_fetch}
 use Rattle.bag_tags.specs.FetchText.{IsLength, AddsEntry, FetchText}
@@ -26,7 +26,7 @@ use Rattle.bag_tags.proofs.WrittenPathLemmas.{written_utf8, path_plain, payload_
 
 -- the text of a line
 abbrev entry_text : FetchItem → List ℕ
-entry_text entry = entry.url ++ codes " " ++ written_length entry.octets ++ codes " " ++ written entry.path
+entry_text entry = entry.url ++ codes " " ++ written_length entry.octets ++ codes " " ++ written_spelling entry.path
 
 abbrev line_text : FetchLine → List ℕ
 line_text line = entry_text line.entry
@@ -85,7 +85,7 @@ text_plain line h =
     let e = line.entry in
     let space : IsPlain 32 = graphic_space in
     let plain = λ (xs : List ℕ) (g : AllByRecursion (λ x. 32 < x) xs). each (λ x. 32 < x) IsPlain graphic_plain xs g in
-    all_both IsPlain (e.url ++ codes " " ++ written_length e.octets ++ codes " ") (written e.path)
+    all_both IsPlain (e.url ++ codes " " ++ written_length e.octets ++ codes " ") (written_spelling e.path)
     (all_both IsPlain (e.url ++ codes " " ++ written_length e.octets) (codes " ")
     (all_both IsPlain (e.url ++ codes " ") (written_length e.octets)
     (all_both IsPlain e.url (codes " ") (plain e.url (url_graphic e.url h.0.url)) (space, tt))
@@ -124,34 +124,28 @@ gives line n before h =
     let e = line.entry in
     let len = written_length e.octets in
     let graphic = length_graphic e.octets h.1 in
-    let utf8 = IsUtf8-append (e.url ++ codes " " ++ len ++ codes " ") (written e.path)
-    (IsUtf8-append (e.url ++ codes " " ++ len) (codes " ") (IsUtf8-append (e.url ++ codes " ") len (IsUtf8-append e.url (codes " ") h.0.utf8 (utf8_one 32 (omega arith))) (length_utf8 e.octets h.1)) (utf8_one 32 (omega arith)))
-    (written_utf8 e.path h.0.path.utf8) in
     record {
       entry = e;
       gives = record {
         length = len;
-        path_text = written e.path;
+        path_text = written_spelling e.path;
         words = record {
-          utf8 = utf8;
-          words = record {
-            after_url = codes " ";
-            rest = len ++ codes " " ++ written e.path;
-            after_length = codes " ";
-            url_cut = record {
-              whole = regroup e.url len (written e.path);
-              word_ends = each (λ x. 32 < x) IsNotBlank graphic_not_blank e.url (url_graphic e.url h.0.url);
-              some_blank = λ k. cc;
-              only_blanks = (refl, tt);
-              rest_begins = ap begins_blank (append_assoc len (codes " ") (written e.path)) ∙ begins_graphic len (codes " " ++ written e.path) (length_some e.octets h.1) graphic;
-            };
-            length_cut = record {
-              whole = refl;
-              word_ends = each (λ x. 32 < x) IsNotBlank graphic_not_blank len graphic;
-              some_blank = λ k. cc;
-              only_blanks = (refl, tt);
-              rest_begins = payload_begins e.path h.0.payload;
-            };
+          after_url = codes " ";
+          rest = len ++ codes " " ++ written_spelling e.path;
+          after_length = codes " ";
+          url_cut = record {
+            whole = regroup e.url len (written_spelling e.path);
+            word_ends = each (λ x. 32 < x) IsNotBlank graphic_not_blank e.url (url_graphic e.url h.0.url);
+            some_blank = λ k. cc;
+            only_blanks = (refl, tt);
+            rest_begins = ap begins_blank (append_assoc len (codes " ") (written_spelling e.path)) ∙ begins_graphic len (codes " " ++ written_spelling e.path) (length_some e.octets h.1) graphic;
+          };
+          length_cut = record {
+            whole = refl;
+            word_ends = each (λ x. 32 < x) IsNotBlank graphic_not_blank len graphic;
+            some_blank = λ k. cc;
+            only_blanks = (refl, tt);
+            rest_begins = payload_begins e.path h.0.payload;
           };
         };
         is_url = h.0.url;
@@ -169,19 +163,24 @@ gives line n before h =
 not_blank : (line : FetchLine) → CanBeFetched line → is_blank_line (line_text line) ≡ false
 not_blank line h =
     let e = line.entry in
-    ap is_blank_line (sym (append-nil (line_text line)) ∙ from_scheme e.url h.0.url (codes " ") (written_length e.octets) (codes " ") (written e.path) [])
-    ∙ scheme_not_blank h.0.url.scheme ((58 ∷ h.0.url.rest) ++ (codes " " ++ (written_length e.octets ++ (codes " " ++ (written e.path ++ []))))) h.0.url.is_scheme
+    ap is_blank_line (sym (append-nil (line_text line)) ∙ from_scheme e.url h.0.url (codes " ") (written_length e.octets) (codes " ") (written_spelling e.path) [])
+    ∙ scheme_not_blank h.0.url.scheme ((58 ∷ h.0.url.rest) ++ (codes " " ++ (written_length e.octets ++ (codes " " ++ (written_spelling e.path ++ []))))) h.0.url.is_scheme
 
-lead_fetch : (lines before : List FetchLine) (n : ℕ) → AllByRecursion CanBeFetched lines → Lead (AddsEntry V1) before (numbered_texts n (map line_text lines)) (before ++ numbered_from n lines)
+line_utf8 : (line : FetchLine) → CanBeFetched line → IsUtf8 (line_text line)
+line_utf8 line h =
+    let e = line.entry in
+    let len = written_length e.octets in
+    IsUtf8-append (e.url ++ codes " " ++ len ++ codes " ") (written_spelling e.path)
+    (IsUtf8-append (e.url ++ codes " " ++ len) (codes " ") (IsUtf8-append (e.url ++ codes " ") len (IsUtf8-append e.url (codes " ") h.0.utf8 (utf8_one 32 (omega arith))) (length_utf8 e.octets h.1)) (utf8_one 32 (omega arith)))
+    (written_utf8 e.path h.0.path.utf8)
+
+lead_fetch : (lines before : List FetchLine) (n : ℕ) → AllByRecursion CanBeFetched lines → Lead (LeadsOn (AddsEntry V1)) before (numbered_texts n (map line_text lines)) (before ++ numbered_from n lines)
 lead_fetch [] before n h = append-nil before
-lead_fetch (line ∷ lines) before n h = inr (
-  not_blank line h.0,
-  (
-    before ++ fetch_line n line.entry ∷ [],
-    gives line n before h.0,
-    subst (λ after. Lead (AddsEntry V1) (before ++ fetch_line n line.entry ∷ []) (numbered_texts (n + 1) (map line_text lines)) after)
-        (append_assoc before (fetch_line n line.entry ∷ []) (numbered_from (n + 1) lines)) (lead_fetch lines (before ++ fetch_line n line.entry ∷ []) (n + 1) h.1),
-  ),
+lead_fetch (line ∷ lines) before n h = (
+  before ++ fetch_line n line.entry ∷ [],
+  inr (not_blank line h.0, line_utf8 line h.0, gives line n before h.0),
+  subst (λ after. Lead (LeadsOn (AddsEntry V1)) (before ++ fetch_line n line.entry ∷ []) (numbered_texts (n + 1) (map line_text lines)) after)
+      (append_assoc before (fetch_line n line.entry ∷ []) (numbered_from (n + 1) lines)) (lead_fetch lines (before ++ fetch_line n line.entry ∷ []) (n + 1) h.1),
 )
 
 fetch_unmarked : (lines : List FetchLine) → AllByRecursion CanBeFetched lines → starts_with nat_eq (written_lines (map line_text lines)) mark ≡ false
@@ -192,8 +191,8 @@ fetch_unmarked (line ∷ lines) h =
     let more = 10 ∷ [] ++ written_lines (map line_text lines) in
     ap (λ octets. starts_with nat_eq octets mark)
     (lines_cons (line_text line) (map line_text lines) ∙ append_assoc (line_text line) (10 ∷ []) (written_lines (map line_text lines))
-    ∙ from_scheme e.url u (codes " ") (written_length e.octets) (codes " ") (written e.path) more)
-    ∙ scheme_unmarked u.scheme ((58 ∷ u.rest) ++ (codes " " ++ (written_length e.octets ++ (codes " " ++ (written e.path ++ more))))) u.is_scheme
+    ∙ from_scheme e.url u (codes " ") (written_length e.octets) (codes " ") (written_spelling e.path) more)
+    ∙ scheme_unmarked u.scheme ((58 ∷ u.rest) ++ (codes " " ++ (written_length e.octets ++ (codes " " ++ (written_spelling e.path ++ more))))) u.is_scheme
 
 pub fetch_reads : (octets : List ℕ) (lines : List FetchLine) → octets ≡ written_fetch lines → AllByRecursion CanBeFetched lines → FetchText V1 octets (numbered_from 1 lines)
 fetch_reads octets lines e h = subst (λ text. FetchText V1 text (numbered_from 1 lines)) (sym (e ∙ fetch_written lines))

@@ -1,18 +1,16 @@
--- A line of `bag-info.txt` adds one thing, or is refused for one cause.
+-- A line of `bag-info.txt` adds one thing.
 use Rattle.std.proofs.Common.{◌≡◌, ◌≢◌, ◌⊎◌, ℕ, true, false, List, [], ◌∷◌, ◌++◌, Some, None, refl, sym, ap, ◌∙◌, subst, inl, inr, append-nil, arith}
 use Rattle.std.specs.List.{AllByRecursion}
 use Rattle.std.specs.Str.{IsUtf8}
 use Rattle.std.proofs.lemmas.Bool.{ne_eqb, cases_Bool}
 use Rattle.std.proofs.lemmas.Bool.Decides.{eqb_tells}
 use Rattle.bag_path.specs.Lines.{IsPlain}
-use Rattle.bag_path.specs.declared.spelling.Version.{Version}
-use Rattle.bag_tags.specs.declared.fault.LineCause.{LineCause}
-use Rattle.bag_tags.specs.declared.fault.LineCause.TheVariants.{NotUtf8, NoSeparator, BadDigest, BadPath, WrongPlace, Twice, BadLabel, NothingToContinue, BadUrl, BadLength}
+use Rattle.bag_path.specs.declared.version.Version.{Version}
 use Rattle.bag_tags.specs.Words.{is_blank, IsBlank, is_blank_line, begins_blank}
 use Rattle.bag_tags.specs.WordsReading.{until, is_colon, is_not_blank}
-use Rattle.bag_tags.specs.Infos.{MetadataElement, element, continued, IsFit, IsLabel, IsLabelOctet, IsNotColon, IsFurtherLine, IsValue}
+use Rattle.bag_tags.specs.Infos.{MetadataElement, element, element_with_line, IsFit, IsLabel, IsLabelOctet, IsNotColon, IsFurtherLine, IsValue}
 use Rattle.bag_tags.specs.InfoReading.{first_line_of}
-use Rattle.bag_tags.specs.InfoText.{IsIndented, HasColon, HasFirstLine, HasParts, GivesElement, Continues, AddsElement, AddsInfo, LacksSeparator, GivesNoElement, RefusesInfo}
+use Rattle.bag_tags.specs.InfoText.{IsIndented, HasColon, HasFirstLine, HasParts, GivesElement, Continues, AddsElement, AddsInfo, LacksSeparator}
 use Rattle.bag_tags.proofs.WordsLemmas.{until_front, until_here, begins_with}
 use Rattle.bag_tags.proofs.ValueLemmas.{plain_value}
 use Rattle.bag_tags.proofs.TextCutLemmas.{utf8_before, utf8_after, each, all_left, all_right, first_of, second_of, same_tail, whole_of, blanks_of, rest_begins, blanks_cut, blank_line_of, utf8_after_blanks}
@@ -133,7 +131,7 @@ one_element text d e h k =
     ap (λ l. element l d.value) s.0 ∙ ap (λ v. element e.label v) s.1
 
 -- the last of a list
-no_last : (xs : List MetadataElement) (x : MetadataElement) → (let l : List MetadataElement = [] in l) ≡ xs ++ x ∷ [] → ⊥
+pub no_last : (xs : List MetadataElement) (x : MetadataElement) → (let l : List MetadataElement = [] in l) ≡ xs ++ x ∷ [] → ⊥
 no_last [] x e = cc
 no_last (y ∷ xs) x e = cc
 
@@ -149,15 +147,15 @@ one_last (z ∷ xs) (w ∷ ys) x y e =
 
 -- a line leads to one list of elements
 pub info_one : (version : Version) (before : List MetadataElement) (number : ℕ) (text : List ℕ) (next other : List MetadataElement) → AddsInfo version before number text next → AddsInfo version before number text other → next ≡ other
-info_one version before number text next other a b = elim a.1 [
-  | inl c ↦ elim b.1 [
+info_one version before number text next other a b = elim a [
+  | inl c ↦ elim b [
     | inl d ↦
         let s = one_last c.earlier d.earlier c.last d.last (sym c.has_last ∙ d.has_last) in
-        c.continues ∙ ap (λ xs. xs ++ continued c.last c.line ∷ []) s.0 ∙ ap (λ x. d.earlier ++ continued x c.line ∷ []) s.1
-        ∙ ap (λ l. d.earlier ++ continued d.last l ∷ []) (one_line text c.line d.line c.indented d.indented) ∙ sym d.continues
+        c.continues ∙ ap (λ xs. xs ++ element_with_line c.last c.line ∷ []) s.0 ∙ ap (λ x. d.earlier ++ element_with_line x c.line ∷ []) s.1
+        ∙ ap (λ l. d.earlier ++ element_with_line d.last l ∷ []) (one_line text c.line d.line c.indented d.indented) ∙ sym d.continues
     | inr d ↦ absurd (not_both text c.line d.element c.indented d.gives)
   ]
-  | inr c ↦ elim b.1 [
+  | inr c ↦ elim b [
     | inl d ↦ absurd (not_both text d.line c.element d.indented c.gives)
     | inr d ↦ c.adds ∙ ap (λ x. before ++ x ∷ []) (one_element text c.element d.element c.gives d.gives) ∙ sym d.adds
   ]
@@ -172,41 +170,6 @@ not_lacking text label first p n = elim n [
       let f = subst (λ a. HasFirstLine a first) s.1 p.first_line in
       let k : true ≡ false = sym f.0 ∙ h.1.1.2 in cc
 ]
-
--- a line that gives an element has a separator and a good label
-gives_not_none : (text : List ℕ) (e : MetadataElement) (cause : LineCause) → GivesElement text e → GivesNoElement text cause → ⊥
-gives_not_none text e NoSeparator g n = not_lacking text e.label e.value g.parts n
-gives_not_none text e BadLabel g n = n.1.2 (subst IsFit (one_parts text e.label e.value n.0 n.1.0 g.parts n.1.1).0 g.fit)
-gives_not_none text e NotUtf8 g n = n
-gives_not_none text e BadDigest g n = n
-gives_not_none text e (BadPath fault) g n = n
-gives_not_none text e WrongPlace g n = n
-gives_not_none text e Twice g n = n
-gives_not_none text e NothingToContinue g n = n
-gives_not_none text e BadUrl g n = n
-gives_not_none text e BadLength g n = n
-
-line_apart : (before : List MetadataElement) (text : List ℕ) (next : List MetadataElement) (cause : LineCause) → Continues before text next ⊎ AddsElement before text next → begins_blank text ≡ false → GivesNoElement text cause → ⊥
-line_apart before text next cause a b n = elim a [
-  | inl c ↦ let k : true ≡ false = sym (indent_begins text c.line c.indented) ∙ b in cc
-  | inr c ↦ gives_not_none text c.element cause c.gives n
-]
-
--- a line that adds something is refused for no cause
-pub info_apart : (version : Version) (before : List MetadataElement) (number : ℕ) (text : List ℕ) (next : List MetadataElement) (cause : LineCause) → AddsInfo version before number text next → RefusesInfo version before text cause → ⊥
-info_apart version before number text next NotUtf8 a r = r a.0
-info_apart version before number text next NothingToContinue a r = elim a.1 [
-  | inl c ↦ no_last c.earlier c.last (sym r.2 ∙ c.has_last)
-  | inr c ↦ let k : true ≡ false = sym r.1 ∙ gives_begins text c.element c.gives in cc
-]
-info_apart version before number text next NoSeparator a r = line_apart before text next NoSeparator a.1 r.1 r.2
-info_apart version before number text next BadLabel a r = line_apart before text next BadLabel a.1 r.1 r.2
-info_apart version before number text next BadDigest a r = r.2
-info_apart version before number text next (BadPath fault) a r = r.2
-info_apart version before number text next WrongPlace a r = r.2
-info_apart version before number text next Twice a r = r.2
-info_apart version before number text next BadUrl a r = r.2
-info_apart version before number text next BadLength a r = r.2
 
 -- the label and the first line of a text
 pub label_utf8 : (text label first : List ℕ) → HasParts text label first → IsUtf8 text → IsUtf8 label

@@ -6,9 +6,9 @@ use Rattle.std.proofs.lemmas.Bool.{ne_eqb}
 use Rattle.std.proofs.lemmas.List.Concat.{flat_map-cons, flat_map-append}
 use Rattle.std.proofs.lemmas.Str.{IsUtf8-append}
 use Rattle.bag_path.specs.Lines.{IsPlain, written_lines}
-use Rattle.bag_path.specs.declared.spelling.Version.TheVariants.{V1}
+use Rattle.bag_path.specs.declared.version.Version.TheVariants.{V1}
 use Rattle.bag_tags.specs.Words.{is_blank, is_blank_line, begins_blank}
-use Rattle.bag_tags.specs.TagLines.{mark, Lead}
+use Rattle.bag_tags.specs.TagLines.{mark, LeadsOn, Lead}
 use Rattle.bag_tags.specs.Infos.{MetadataElement, element, IsFit, IsLabelOctet, IsNotColon, IsElement, IsFurtherLine, IsValue, after_lf, written_octet, written_value, written_element, written_info}
 use Rattle.bag_tags.specs.InfoText.{AddsInfo, InfoText}
 use Rattle.bag_tags.proofs.TextCutLemmas.{utf8_before, utf8_after, utf8_one}
@@ -99,30 +99,27 @@ not_blank (x ∷ line) some b = rw b refl
 
 -- the further lines of an element
 lead_further : (before : List MetadataElement) (label value : List ℕ) (further rest : List (List ℕ)) (n : ℕ) (after : List MetadataElement) → AllByRecursion IsFurtherLine further → AllByRecursion IsUtf8 further
-    → ((m : ℕ) → Lead (AddsInfo V1) (before ++ element label (value ++ flat_map after_lf further) ∷ []) (numbered_texts m rest) after)
-    → Lead (AddsInfo V1) (before ++ element label value ∷ []) (numbered_texts n (map indented further ++ rest)) after
-lead_further before label value [] rest n after h u k = subst (λ v. Lead (AddsInfo V1) (before ++ element label v ∷ []) (numbered_texts n rest) after) (append-nil value) (k n)
+    → ((m : ℕ) → Lead (LeadsOn (AddsInfo V1)) (before ++ element label (value ++ flat_map after_lf further) ∷ []) (numbered_texts m rest) after)
+    → Lead (LeadsOn (AddsInfo V1)) (before ++ element label value ∷ []) (numbered_texts n (map indented further ++ rest)) after
+lead_further before label value [] rest n after h u k = subst (λ v. Lead (LeadsOn (AddsInfo V1)) (before ++ element label v ∷ []) (numbered_texts n rest) after) (append-nil value) (k n)
 lead_further before label value (line ∷ further) rest n after h u k =
-    let next = before ++ element label (value ++ after_lf line) ∷ [] in
-    inr (
-      not_blank line h.0.some h.0.begins,
-      (
-        next,
-        (
-          IsUtf8-append (32 ∷ []) line (utf8_one 32 (omega arith)) u.0,
-          inl (record {
-            earlier = before;
-            last = element label value;
-            line = line;
-            indented = record { blanks = 32 ∷ []; whole = refl; some_blank = λ e. cc; only_blanks = (refl, tt); line_begins = h.0.begins };
-            has_last = refl;
-            continues = refl;
-          }),
-        ),
-        lead_further before label (value ++ after_lf line) further rest (n + 1) after h.1 u.1
-            (λ m. subst (λ v. Lead (AddsInfo V1) (before ++ element label v ∷ []) (numbered_texts m rest) after)
-            (ap (λ xs. value ++ xs) (flat_map-cons after_lf line further) ∙ sym (append_assoc value (after_lf line) (flat_map after_lf further))) (k m)),
+    let next = before ++ element label (value ++ after_lf line) ∷ [] in (
+      next,
+      inr (
+        not_blank line h.0.some h.0.begins,
+        IsUtf8-append (32 ∷ []) line (utf8_one 32 (omega arith)) u.0,
+        inl (record {
+          earlier = before;
+          last = element label value;
+          line = line;
+          indented = record { blanks = 32 ∷ []; whole = refl; some_blank = λ e. cc; only_blanks = (refl, tt); line_begins = h.0.begins };
+          has_last = refl;
+          continues = refl;
+        }),
       ),
+      lead_further before label (value ++ after_lf line) further rest (n + 1) after h.1 u.1
+          (λ m. subst (λ v. Lead (LeadsOn (AddsInfo V1)) (before ++ element label v ∷ []) (numbered_texts m rest) after)
+          (ap (λ xs. value ++ xs) (flat_map-cons after_lf line further) ∙ sym (append_assoc value (after_lf line) (flat_map after_lf further))) (k m)),
     )
 
 label_not_blank : (label rest : List ℕ) → IsFit label → is_blank_line (label ++ rest) ≡ false
@@ -135,40 +132,37 @@ no_colon (x ∷ label) h = (h.0.0, no_colon label h.1)
 
 -- the lines of an element
 lead_element : (before : List MetadataElement) (e : MetadataElement) (h : IsElement e) (rest : List (List ℕ)) (n : ℕ) (after : List MetadataElement)
-    → ((m : ℕ) → Lead (AddsInfo V1) (before ++ e ∷ []) (numbered_texts m rest) after)
-    → Lead (AddsInfo V1) before (numbered_texts n (texts_of e h.is_value ++ rest)) after
+    → ((m : ℕ) → Lead (LeadsOn (AddsInfo V1)) (before ++ e ∷ []) (numbered_texts m rest) after)
+    → Lead (LeadsOn (AddsInfo V1)) before (numbered_texts n (texts_of e h.is_value ++ rest)) after
 lead_element before e h rest n after k =
     let v = h.is_value in
-    let u = value_utf8 v.first v.further (subst IsUtf8 v.lines.whole h.value_utf8) in
-    inr (
-      label_not_blank e.label (58 ∷ 32 ∷ v.first) h.is_label.fit,
-      (
-        before ++ element e.label v.first ∷ [],
-        (
-          IsUtf8-append e.label (58 ∷ 32 ∷ v.first) h.label_utf8 (IsUtf8-append (58 ∷ []) (32 ∷ v.first) (utf8_one 58 (omega arith)) (IsUtf8-append (32 ∷ []) v.first (utf8_one 32 (omega arith)) u.0)),
-          inr (record {
-            element = element e.label v.first;
-            gives = record {
-              parts = record {
-                after = 32 ∷ v.first;
-                colon = record { whole = refl; first_colon = no_colon e.label h.is_label.octets };
-                first_line = (refl, refl);
-              };
-              fit = h.is_label.fit;
+    let u = value_utf8 v.first v.further (subst IsUtf8 v.lines.whole h.value_utf8) in (
+      before ++ element e.label v.first ∷ [],
+      inr (
+        label_not_blank e.label (58 ∷ 32 ∷ v.first) h.is_label.fit,
+        IsUtf8-append e.label (58 ∷ 32 ∷ v.first) h.label_utf8 (IsUtf8-append (58 ∷ []) (32 ∷ v.first) (utf8_one 58 (omega arith)) (IsUtf8-append (32 ∷ []) v.first (utf8_one 32 (omega arith)) u.0)),
+        inr (record {
+          element = element e.label v.first;
+          gives = record {
+            parts = record {
+              after = 32 ∷ v.first;
+              colon = record { whole = refl; first_colon = no_colon e.label h.is_label.octets };
+              first_line = (refl, refl);
             };
-            adds = refl;
-          }),
-        ),
-        lead_further before e.label v.first v.further rest (n + 1) after v.lines.further_lines u.1
-            (λ m. subst (λ value. Lead (AddsInfo V1) (before ++ element e.label value ∷ []) (numbered_texts m rest) after) v.lines.whole (k m)),
+            fit = h.is_label.fit;
+          };
+          adds = refl;
+        }),
       ),
+      lead_further before e.label v.first v.further rest (n + 1) after v.lines.further_lines u.1
+          (λ m. subst (λ value. Lead (LeadsOn (AddsInfo V1)) (before ++ element e.label value ∷ []) (numbered_texts m rest) after) v.lines.whole (k m)),
     )
 
-lead_info : (before elements : List MetadataElement) (h : AllByRecursion IsElement elements) (n : ℕ) → Lead (AddsInfo V1) before (numbered_texts n (info_texts elements h)) (before ++ elements)
+lead_info : (before elements : List MetadataElement) (h : AllByRecursion IsElement elements) (n : ℕ) → Lead (LeadsOn (AddsInfo V1)) before (numbered_texts n (info_texts elements h)) (before ++ elements)
 unfolding info_texts
 lead_info before [] h n = append-nil before
 lead_info before (e ∷ elements) h n = lead_element before e h.0 (info_texts elements h.1) n (before ++ e ∷ elements)
-    (λ m. subst (λ after. Lead (AddsInfo V1) (before ++ e ∷ []) (numbered_texts m (info_texts elements h.1)) after) (append_assoc before (e ∷ []) elements) (lead_info (before ++ e ∷ []) elements h.1 m))
+    (λ m. subst (λ after. Lead (LeadsOn (AddsInfo V1)) (before ++ e ∷ []) (numbered_texts m (info_texts elements h.1)) after) (append_assoc before (e ∷ []) elements) (lead_info (before ++ e ∷ []) elements h.1 m))
 
 -- a label begins with no mark
 element_unmarked : (label first : List ℕ) (tail : List (List ℕ)) → IsFit label → starts_with nat_eq (written_lines (labelled label first ∷ tail)) mark ≡ false

@@ -1,10 +1,10 @@
--- A text is that of a manifest, or has a first fault.
+-- A line of a manifest adds a pair or is refused, and reading is exact.
 use Rattle.std.proofs.Common.{◌≡◌, ◌⊎◌, ◌==◌, ℕ, false, List, codes, length, Result, Ok, Err, refl, sym, ◌∙◌, inl, inr, rules}
 use Rattle.std.specs.Str.{IsUtf8, IsAscii}
 use Rattle.std.proofs.lemmas.Bool.{cases_Bool}
 use Rattle.hex.specs.Hex.{decode_sized}
 use Rattle.hex.specs.declared.error.FromHexError.{FromHexError}
-use Rattle.bag_path.specs.declared.spelling.Version.{Version}
+use Rattle.bag_path.specs.declared.version.Version.{Version}
 use Rattle.bag_path.specs.Paths.{is_payload}
 use Rattle.bag_digest.specs.declared.algorithm.Alg.{Alg}
 use Rattle.bag_digest.specs.declared.algorithm.Alg.TheVariants.{Md5, Sha1, Sha256, Sha512}
@@ -13,23 +13,21 @@ use Rattle.bag_digest.specs.declared.digest.Digest.TheVariants as digest
 use Rattle.bag_digest.specs.Algorithm.{size_of}
 use Rattle.bag_digest.specs.Spelling.{SpellsDigest}
 use Rattle.bag_tags.specs.declared.fault.LineCause.{LineCause}
-use Rattle.bag_tags.specs.declared.fault.LineCause.TheVariants.{NotUtf8, NoSeparator, BadDigest, BadPath, WrongPlace, Twice}
-use Rattle.bag_tags.specs.declared.fault.LineFault.{LineFault}
+use Rattle.bag_tags.specs.declared.fault.LineCause.TheVariants.{NoSeparator, BadDigest, BadPath, WrongPlace, Twice}
 use Rattle.bag_tags.specs.declared.listing.Kind.{Kind}
 use Rattle.bag_tags.specs.declared.listing.Kind.TheVariants.{Payload, Tag}
-use Rattle.bag_tags.specs.declared.listing.Pair.{Pair}
 use Rattle.bag_tags.specs.Names.{NamesTagManifest}
 use Rattle.bag_tags.specs.Words.{is_blank, without}
 use Rattle.bag_tags.specs.WordsReading.{until, is_not_blank}
-use Rattle.bag_tags.specs.Listings.{Listing, nothing_listed, with_pair, pair, IsInPlace, lists_path}
-use Rattle.bag_tags.specs.Manifests.{plain_path, HasChecksum, Gives, AddsPair, RefusesLine, ManifestText, ManifestFault}
-use Rattle.bag_tags.proofs.DecisionLemmas.{Decided, decided_both, decided_not, decided_true, decided_false, decided_utf8}
+use Rattle.bag_tags.specs.Listings.{Listing, with_pair, pair, IsInPlace, lists_path}
+use Rattle.bag_tags.specs.Manifests.{plain_path, HasChecksum, Gives, AddsPair, RefusesLine}
+use Rattle.bag_tags.specs.TagLines.{AreExact}
+use Rattle.bag_tags.proofs.DecisionLemmas.{Decided, decided_both, decided_not, decided_true, decided_false}
 use Rattle.bag_tags.proofs.FetchLineLemmas.{cut_utf8}
-use Rattle.bag_tags.proofs.ManifestLemmas.{adds_or_refuses}
-use Rattle.bag_tags.proofs.ManifestTextLemmas.{manifest_listed}
+use Rattle.bag_tags.proofs.ManifestLemmas.{adds_one}
+use Rattle.bag_tags.proofs.ManifestFaultLemmas.{one_cause, not_both}
 use Rattle.bag_tags.proofs.NameDecisionLemmas.{decided_tag_manifest}
 use Rattle.bag_tags.proofs.PathDecisionLemmas.{path_or_fault}
-use Rattle.bag_tags.proofs.TextDecisionLemmas.{value_or_fault}
 use Rattle.bag_tags.proofs.Utf8Lemmas.{without_utf8, IsAscii-from_each}
 use Rattle.bag_tags.proofs.WordsLemmas.{word_of, after_word, after_blanks, cut_at, none_passes}
 
@@ -70,9 +68,9 @@ module _ (version : Version) (before : Listing) (number : ℕ) (text : List ℕ)
   -- a line that gives something
   of_path : (path : List ℕ) (digest : Digest) → Gives version before.alg text path digest → PairOrCause
   of_path path digest gives = elim (decided_place before.kind path) [
-    | inr wrong ↦ inr (WrongPlace, (path, (digest, gives, wrong)))
+    | inr wrong ↦ inr (WrongPlace, record { path = path; digest = digest; gives = gives; elsewhere = wrong })
     | inl in_place ↦ elim (cases_Bool (lists_path before.pairs path)) [
-      | inl listed ↦ inr (Twice, (path, (digest, gives, in_place, listed)))
+      | inl listed ↦ inr (Twice, record { path = path; digest = digest; gives = gives; in_place = in_place; listed = listed })
       | inr not_listed ↦ inl (
         with_pair before (pair path digest),
         record {
@@ -87,10 +85,10 @@ module _ (version : Version) (before : Listing) (number : ℕ) (text : List ℕ)
   ]
 
   -- a line that has a checksum
-  of_checksum : (digest : Digest) (path_text : List ℕ) → HasChecksum before.alg text digest path_text → PairOrCause
-  of_checksum digest path_text checksum = elim (path_or_fault version (plain_path path_text) (plain_utf8 path_text (cut_utf8 text checksum.checksum checksum.blanks path_text checksum.cut checksum.utf8).1)) [
+  of_checksum : (digest : Digest) (path_text : List ℕ) → IsUtf8 text → HasChecksum before.alg text digest path_text → PairOrCause
+  of_checksum digest path_text utf8 checksum = elim (path_or_fault version (plain_path path_text) (plain_utf8 path_text (cut_utf8 text checksum.checksum checksum.blanks path_text checksum.cut utf8).1)) [
     | inl p ↦ of_path p.0 digest (record { path_text = path_text; checksum = checksum; spells = p.1; is_path = p.2 })
-    | inr f ↦ inr (BadPath f.0, (digest, (path_text, checksum, f.1)))
+    | inr f ↦ inr (BadPath f.0, record { digest = digest; path_text = path_text; checksum = checksum; no_path = f.1 })
   ]
 
   -- a line with a blank
@@ -101,21 +99,20 @@ module _ (version : Version) (before : Listing) (number : ℕ) (text : List ℕ)
       let path_text = after_blanks (after_word text) in
       let cut = cut_at text some in
       elim (digest_or_none before.alg word) [
-        | inl d ↦ of_checksum d.0 path_text (record { utf8 = utf8; checksum = word; blanks = blanks; cut = cut; spells_digest = d.1 })
-        | inr none ↦ inr (BadDigest, (utf8, (word, blanks, path_text, cut, none)))
+        | inl d ↦ of_checksum d.0 path_text utf8 (record { checksum = word; blanks = blanks; cut = cut; spells_digest = d.1 })
+        | inr none ↦ inr (BadDigest, record { checksum = word; blanks = blanks; path_text = path_text; cut = cut; no_digest = none })
       ]
 
-  pub pair_or_cause : PairOrCause
-  pair_or_cause = elim (decided_utf8 text) [
-    | inr other ↦ inr (NotUtf8, other)
-    | inl utf8 ↦ elim (cases_Bool (length (after_word text) == 0)) [
-      | inl none ↦ inr (NoSeparator, (utf8, none_passes is_blank text none))
-      | inr some ↦ of_cut utf8 some
-    ]
+  pair_or_cause : IsUtf8 text → PairOrCause
+  pair_or_cause utf8 = elim (cases_Bool (length (after_word text) == 0)) [
+    | inl none ↦ inr (NoSeparator, none_passes is_blank text none)
+    | inr some ↦ of_cut utf8 some
   ]
 
-pub pairs_or_fault : (version : Version) (alg : Alg) (kind : Kind) (octets : List ℕ) → ((pairs : List Pair) × ManifestText version alg kind octets pairs) ⊎ ((fault : LineFault) × ManifestFault version alg kind octets fault)
-pairs_or_fault version alg kind octets = elim (value_or_fault (AddsPair version) (RefusesLine version) (adds_or_refuses version) (pair_or_cause version) (nothing_listed alg kind) octets) [
-  | inl h ↦ inl (h.0.pairs, (manifest_listed version alg kind octets h.0 h.1).2)
-  | inr f ↦ inr f
-]
+pub manifest_exact : (version : Version) → AreExact (AddsPair version) (RefusesLine version)
+manifest_exact version = record {
+  one_value = adds_one version;
+  one_cause = one_cause version;
+  not_both = λ before number text. not_both version before text number;
+  one_of_both = pair_or_cause version;
+}

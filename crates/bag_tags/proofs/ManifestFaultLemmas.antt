@@ -1,22 +1,17 @@
--- The text of a manifest has one first fault at most, and then it lists nothing.
-use Rattle.std.proofs.Common.{◌≡◌, ℕ, List, refl, sym, ap, ◌∙◌, subst, inl, inr}
-use Rattle.std.specs.Str.{IsUtf8}
+-- A line of a manifest adds one pair, or is refused for one cause.
+use Rattle.std.proofs.Common.{◌≡◌, ℕ, true, false, List, refl, sym, ap, ◌∙◌, subst, inl, inr}
 use Rattle.bag_path.specs.declared.path.PathFault.{PathFault}
-use Rattle.bag_path.specs.declared.spelling.Version.{Version}
-use Rattle.bag_digest.specs.declared.algorithm.Alg.{Alg}
+use Rattle.bag_path.specs.declared.version.Version.{Version}
+use Rattle.bag_path.specs.Spellings.{Spells}
 use Rattle.bag_digest.specs.declared.digest.Digest.{Digest}
 use Rattle.bag_digest.specs.Spelling.{SpellsDigest}
 use Rattle.bag_tags.specs.declared.fault.LineCause.{LineCause}
 use Rattle.bag_tags.specs.declared.fault.LineCause.TheVariants.{NotUtf8, NoSeparator, BadDigest, BadPath, WrongPlace, Twice, BadLabel, NothingToContinue, BadUrl, BadLength}
-use Rattle.bag_tags.specs.declared.fault.LineFault.{LineFault}
-use Rattle.bag_tags.specs.declared.listing.Kind.{Kind}
-use Rattle.bag_tags.specs.declared.listing.Pair.{Pair}
 use Rattle.bag_tags.specs.Words.{IsCut}
-use Rattle.bag_tags.specs.Listings.{Listing, nothing_listed, IsInPlace}
-use Rattle.bag_tags.specs.Manifests.{plain_path, HasChecksum, Gives, AddsPair, SpellsNoPath, GivesNothing, RefusesLine, ManifestText, ManifestFault}
-use Rattle.bag_tags.proofs.CauseLemmas.{AtMostOne, Is, Unless, one_is, one_unless, one_path_fault}
-use Rattle.bag_tags.proofs.TagLinesLemmas.{text_none, text_one_fault}
-use Rattle.bag_tags.proofs.ManifestLemmas.{same_word, no_cut, checksum_one, gives_one, adds_one, gives_not_nothing}
+use Rattle.bag_tags.specs.Listings.{Listing, IsInPlace, lists_path}
+use Rattle.bag_tags.specs.Manifests.{plain_path, HasChecksum, Gives, AddsPair, SpellsNoPath, HasBadPath, RefusesLine}
+use Rattle.bag_tags.proofs.CauseLemmas.{Fate, AtMostOne, Is, Unless, on, for, one_is, one_unless, same_cause, on_or_for, one_path_fault}
+use Rattle.bag_tags.proofs.ManifestLemmas.{same_word, no_cut, checksum_one, gives_one, no_path}
 
 module _ (version : Version) (before : Listing) (text : List ℕ) where
   -- what a line has to have, in this order
@@ -29,66 +24,80 @@ module _ (version : Version) (before : Listing) (text : List ℕ) where
   abbrev SomePath : Type 0
   SomePath = (path : List ℕ) × ((digest : Digest) × Gives version before.alg text path digest)
 
-  abbrev SomePlace : Type 0
-  SomePlace = (path : List ℕ) × ((digest : Digest) × Gives version before.alg text path digest × IsInPlace before.kind path)
+  abbrev InPlace : Type 0
+  InPlace = (path : List ℕ) × ((digest : Digest) × Gives version before.alg text path digest × IsInPlace before.kind path)
 
-  -- the cause of a path's text
-  abbrev OfPath : LineCause → Type 0
-  OfPath cause = (fault : PathFault) × (cause ≡ BadPath fault) × GivesNothing version before.alg text (BadPath fault)
+  abbrev NotListed : Type 0
+  NotListed = (path : List ℕ) × ((digest : Digest) × Gives version before.alg text path digest × (lists_path before.pairs path ≡ false))
 
-  -- the first of the causes that a line has
-  abbrev IsFirstCause : LineCause → Type 0
-  IsFirstCause =
-      Unless (IsUtf8 text) (Is NotUtf8)
-      (Unless SomeCut (Is NoSeparator)
-      (Unless SomeChecksum (Is BadDigest)
-      (Unless SomePath OfPath
-      (Unless SomePlace (Is WrongPlace) (Is Twice)))))
+  -- the fate of a path's text
+  abbrev OfPath : Fate → Type 0
+  OfPath fate = (fault : PathFault) × (fate ≡ for (BadPath fault)) × HasBadPath version before.alg text fault
+
+  -- the fate that a line has, by the first of these that it lacks
+  abbrev AfterPath : Fate → Type 0
+  AfterPath = Unless InPlace (Is (for WrongPlace)) (Unless NotListed (Is (for Twice)) (Is on))
+
+  abbrev AfterChecksum : Fate → Type 0
+  AfterChecksum = Unless SomePath OfPath AfterPath
+
+  abbrev HasFate : Fate → Type 0
+  HasFate = Unless SomeCut (Is (for NoSeparator)) (Unless SomeChecksum (Is (for BadDigest)) AfterChecksum)
 
   one_of_path : AtMostOne OfPath
   one_of_path c d h k =
       let a = h.2 in
       let b = k.2 in
-      let same = (checksum_one before.alg text a.0 b.0 a.1.0 b.1.0 a.1.1 b.1.1).1 in
-      h.1 ∙ ap BadPath (one_path_fault version (plain_path b.1.0) h.0 k.0 (subst (λ t. SpellsNoPath h.0 version (plain_path t)) same a.1.2) b.1.2) ∙ sym k.1
+      let same = (checksum_one before.alg text a.digest b.digest a.path_text b.path_text a.checksum b.checksum).1 in
+      h.1 ∙ ap (λ f. for (BadPath f)) (one_path_fault version (plain_path b.path_text) h.0 k.0 (subst (λ t. SpellsNoPath h.0 version (plain_path t)) same a.no_path) b.no_path) ∙ sym k.1
 
-  one_first_cause : AtMostOne IsFirstCause
-  one_first_cause =
-      one_unless (IsUtf8 text) (Is NotUtf8) _ (one_is NotUtf8)
-      (one_unless SomeCut (Is NoSeparator) _ (one_is NoSeparator)
-      (one_unless SomeChecksum (Is BadDigest) _ (one_is BadDigest)
+  one_fate : AtMostOne HasFate
+  one_fate =
+      one_unless SomeCut (Is (for NoSeparator)) _ (one_is _)
+      (one_unless SomeChecksum (Is (for BadDigest)) _ (one_is _)
       (one_unless SomePath OfPath _ one_of_path
-      (one_unless SomePlace (Is WrongPlace) (Is Twice) (one_is WrongPlace) (one_is Twice)))))
+      (one_unless InPlace (Is (for WrongPlace)) _ (one_is _)
+      (one_unless NotListed (Is (for Twice)) (Is on) (one_is _) (one_is _)))))
 
-  -- a line that has a checksum, and one that gives a path, is refused for a later cause
-  with_checksum : (cause : LineCause) (digest : Digest) (path_text : List ℕ) → HasChecksum before.alg text digest path_text → Unless SomePath OfPath (Unless SomePlace (Is WrongPlace) (Is Twice)) cause → IsFirstCause cause
-  with_checksum cause digest path_text h later = inr (h.utf8, inr ((h.checksum, h.blanks, path_text, h.cut), inr ((digest, (path_text, h)), later)))
+  -- a line that has a checksum, and one that gives a path
+  with_checksum : (fate : Fate) (digest : Digest) (path_text : List ℕ) → HasChecksum before.alg text digest path_text → AfterChecksum fate → HasFate fate
+  with_checksum fate digest path_text h later = inr ((h.checksum, h.blanks, path_text, h.cut), inr ((digest, (path_text, h)), later))
 
-  with_path : (cause : LineCause) (path : List ℕ) (digest : Digest) → Gives version before.alg text path digest → Unless SomePlace (Is WrongPlace) (Is Twice) cause → IsFirstCause cause
-  with_path cause path digest h later = with_checksum cause digest h.path_text h.checksum (inr ((path, (digest, h)), later))
+  with_path : (fate : Fate) (path : List ℕ) (digest : Digest) → Gives version before.alg text path digest → AfterPath fate → HasFate fate
+  with_path fate path digest h later = with_checksum fate digest h.path_text h.checksum (inr ((path, (digest, h)), later))
 
-  first_cause : (cause : LineCause) → RefusesLine version before text cause → IsFirstCause cause
-  first_cause NotUtf8 r = inl (r, refl)
-  first_cause NoSeparator r = inr (r.0, inl (λ h. no_cut text h.0 h.1 h.2 h.3 r.1, refl))
-  first_cause BadDigest r =
-      let w = r.1 in
-      inr (r.0, inr ((w.0, w.1, w.2, w.3), inl (λ h. w.4 h.0 (subst (λ t. SpellsDigest before.alg t h.0) (same_word text h.1.1.checksum h.1.1.blanks h.1.0 w.0 w.1 w.2 h.1.1.cut w.3).0 h.1.1.spells_digest), refl)))
-  first_cause (BadPath fault) r = with_checksum (BadPath fault) r.0 r.1.0 r.1.1 (inl (λ h. gives_not_nothing version before.alg text h.0 h.1.0 (BadPath fault) h.1.1 r, (fault, refl, r)))
-  first_cause WrongPlace r = with_path WrongPlace r.0 r.1.0 r.1.1 (inl (λ h. r.1.2 (subst (IsInPlace before.kind) (gives_one version before.alg text h.0 r.0 h.1.0 r.1.0 h.1.1 r.1.1).0 h.1.2), refl))
-  first_cause Twice r = with_path Twice r.0 r.1.0 r.1.1 (inr ((r.0, (r.1.0, r.1.1, r.1.2)), refl))
-  first_cause BadLabel r = absurd r
-  first_cause NothingToContinue r = absurd r
-  first_cause BadUrl r = absurd r
-  first_cause BadLength r = absurd r
+  -- a line with a bad path gives none
+  no_path_given : (fault : PathFault) → HasBadPath version before.alg text fault → SomePath → ⊥
+  no_path_given fault r h =
+      let g = h.1.1 in
+      let same = (checksum_one before.alg text h.1.0 r.digest g.path_text r.path_text g.checksum r.checksum).1 in
+      no_path version (plain_path r.path_text) h.0 fault (subst (λ t. Spells version h.0 (plain_path t)) same g.spells) g.is_path r.no_path
 
-  -- a line is refused for one cause at most
+  no_digest_given : (word blanks rest : List ℕ) → IsCut text word blanks rest → ((digest : Digest) → ¬ SpellsDigest before.alg word digest) → SomeChecksum → ⊥
+  no_digest_given word blanks rest cut none h =
+      let c = h.1.1 in
+      none h.0 (subst (λ t. SpellsDigest before.alg t h.0) (same_word text c.checksum c.blanks h.1.0 word blanks rest c.cut cut).0 c.spells_digest)
+
+  same_path : (p q : List ℕ) (d e : Digest) → Gives version before.alg text p d → Gives version before.alg text q e → p ≡ q
+  same_path p q d e h k = (gives_one version before.alg text p q d e h k).0
+
+  refused_fate : (cause : LineCause) → RefusesLine version before text cause → HasFate (for cause)
+  refused_fate NoSeparator r = inl (λ h. no_cut text h.0 h.1 h.2 h.3 r, refl)
+  refused_fate BadDigest r = inr ((r.checksum, r.blanks, r.path_text, r.cut), inl (no_digest_given r.checksum r.blanks r.path_text r.cut r.no_digest, refl))
+  refused_fate (BadPath fault) r = with_checksum _ r.digest r.path_text r.checksum (inl (no_path_given fault r, (fault, refl, r)))
+  refused_fate WrongPlace r = with_path _ r.path r.digest r.gives (inl (λ h. r.elsewhere (subst (IsInPlace before.kind) (same_path h.0 r.path h.1.0 r.digest h.1.1 r.gives) h.1.2), refl))
+  refused_fate Twice r = with_path _ r.path r.digest r.gives (inr ((r.path, (r.digest, r.gives, r.in_place)), inl (λ h. let b : true ≡ false = sym r.listed ∙ ap (lists_path before.pairs) (same_path r.path h.0 r.digest h.1.0 r.gives h.1.1) ∙ h.1.2 in cc, refl)))
+  refused_fate NotUtf8 r = absurd r
+  refused_fate BadLabel r = absurd r
+  refused_fate NothingToContinue r = absurd r
+  refused_fate BadUrl r = absurd r
+  refused_fate BadLength r = absurd r
+
+  added_fate : (number : ℕ) (next : Listing) → AddsPair version before number text next → HasFate on
+  added_fate number next a = with_path on a.path a.digest a.gives (inr ((a.path, (a.digest, a.gives, a.admitted.in_place)), inr ((a.path, (a.digest, a.gives, a.admitted.not_listed)), refl)))
+
   pub one_cause : (cause other : LineCause) → RefusesLine version before text cause → RefusesLine version before text other → cause ≡ other
-  one_cause cause other r s = one_first_cause cause other (first_cause cause r) (first_cause other s)
+  one_cause cause other r s = same_cause cause other (one_fate (for cause) (for other) (refused_fate cause r) (refused_fate other s))
 
--- a text with a fault lists nothing
-pub none_listed : (version : Version) (alg : Alg) (kind : Kind) (octets : List ℕ) (pairs : List Pair) (fault : LineFault) → ManifestText version alg kind octets pairs → ManifestFault version alg kind octets fault → ⊥
-none_listed version alg kind octets pairs fault t f = text_none (AddsPair version) (RefusesLine version) (adds_one version) (nothing_listed alg kind) octets _ fault t f
-
--- a text has one first fault at most
-pub one_fault : (version : Version) (alg : Alg) (kind : Kind) (octets : List ℕ) (fault other : LineFault) → ManifestFault version alg kind octets fault → ManifestFault version alg kind octets other → fault ≡ other
-one_fault version alg kind octets fault other f g = text_one_fault (AddsPair version) (RefusesLine version) (adds_one version) (one_cause version) (nothing_listed alg kind) octets fault other f g
+  pub not_both : (number : ℕ) (next : Listing) (cause : LineCause) → AddsPair version before number text next → RefusesLine version before text cause → ⊥
+  not_both number next cause a r = on_or_for cause (one_fate on (for cause) (added_fate number next a) (refused_fate cause r))

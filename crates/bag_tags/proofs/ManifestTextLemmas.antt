@@ -1,57 +1,47 @@
--- The text of a manifest lists one list of pairs, or has one first fault.
-use Rattle.std.proofs.Common.{◌≡◌, ℕ, List, [], ◌∷◌, Err, refl, ap, ◌∙◌, subst, inl, inr}
-use Rattle.std.specs.List.{enumerate_from}
-use Rattle.std.specs.Result.{IsErrOf}
-use Rattle.bag_path.specs.Lines.{Text}
-use Rattle.bag_path.specs.declared.spelling.Version.{Version}
+-- The text of a manifest lists pairs by the algorithm and of the kind with which it is read.
+use Rattle.std.proofs.Common.{◌≡◌, ◌⊎◌, ℕ, List, [], ◌∷◌, refl, ap, ◌∙◌, subst, inl, inr}
+use Rattle.bag_path.specs.declared.version.Version.{Version}
 use Rattle.bag_digest.specs.declared.algorithm.Alg.{Alg}
 use Rattle.bag_tags.specs.declared.fault.LineFault.{LineFault}
-use Rattle.bag_tags.specs.declared.fault.TagFault.{TagFault}
-use Rattle.bag_tags.specs.declared.fault.TagFault.TheVariants as fault
 use Rattle.bag_tags.specs.declared.listing.Kind.{Kind}
 use Rattle.bag_tags.specs.declared.listing.Pair.{Pair}
-use Rattle.bag_tags.specs.TagLines.{Lead, IsTextOf, StopsAt, Faults}
+use Rattle.bag_tags.specs.TagLines.{TagLine, LeadsOn, Lead, IsTextOf, tag_lines}
 use Rattle.bag_tags.specs.Listings.{Listing, nothing_listed}
 use Rattle.bag_tags.specs.Manifests.{AddsPair, RefusesLine, ManifestText, ManifestFault}
-use Rattle.bag_tags.proofs.TagLinesLemmas.{text_one, text_none, first_fault}
-use Rattle.bag_tags.proofs.ManifestLemmas.{adds_one, adds_or_refuses}
+use Rattle.bag_tags.proofs.ManifestDecisionLemmas.{manifest_exact}
+use Rattle.bag_tags.proofs.TagLinesLemmas.{value_or_fault}
 
--- lines change neither the algorithm nor the kind
-keeps : (version : Version) (lines : List (ℕ × Text)) (start value : Listing) → Lead (AddsPair version) start lines value → (value.alg ≡ start.alg) × (value.kind ≡ start.kind)
-keeps version [] start value h = (ap (λ (l : Listing). l.alg) h, ap (λ (l : Listing). l.kind) h)
-keeps version (line ∷ lines) start value h = elim h [
-  | inl e ↦ keeps version lines start value e.1
-  | inr e ↦
-      let r = keeps version lines e.1.0 value e.1.2 in
-      let a = e.1.1.added in
-      (r.0 ∙ ap (λ (l : Listing). l.alg) a, r.1 ∙ ap (λ (l : Listing). l.kind) a)
+abbrev pub listing : Alg → Kind → List Pair → Listing
+listing alg kind pairs = record { alg = alg; kind = kind; pairs = pairs }
+
+-- a line changes neither the algorithm nor the kind
+abbrev IsKept : Listing → Listing → Type 0
+IsKept start value = (value.alg ≡ start.alg) × (value.kind ≡ start.kind)
+
+kept : (start value : Listing) → value ≡ start → IsKept start value
+kept start value e = (ap (λ (l : Listing). l.alg) e, ap (λ (l : Listing). l.kind) e)
+
+keeps_line : (version : Version) (start value : Listing) (line : TagLine) → LeadsOn (AddsPair version) start line value → IsKept start value
+keeps_line version start value line h = elim h [
+  | inl e ↦ kept start value e.1
+  | inr e ↦ let a = e.2.added in (ap (λ (l : Listing). l.alg) a, ap (λ (l : Listing). l.kind) a)
 ]
 
-abbrev listing : Alg → Kind → List Pair → Listing
-listing alg kind pairs = record { alg = alg; kind = kind; pairs = pairs }
+keeps : (version : Version) (lines : List TagLine) (start value : Listing) → Lead (LeadsOn (AddsPair version)) start lines value → IsKept start value
+keeps version [] start value h = kept start value h
+keeps version (line ∷ lines) start value h =
+    let a = keeps_line version start h.0 line h.1 in
+    let r = keeps version lines h.0 value h.2 in
+    (r.0 ∙ a.0, r.1 ∙ a.1)
 
 pub manifest_listed : (version : Version) (alg : Alg) (kind : Kind) (octets : List ℕ) (value : Listing) → IsTextOf (AddsPair version) (nothing_listed alg kind) octets value → (value.alg ≡ alg) × (value.kind ≡ kind) × ManifestText version alg kind octets value.pairs
 manifest_listed version alg kind octets value t =
-    let k = keeps version (enumerate_from 1 t.lines) (nothing_listed alg kind) value t.lead in
+    let k = keeps version (tag_lines t.lines) (nothing_listed alg kind) value t.lead in
     let same : value ≡ listing alg kind value.pairs = ap (λ a. listing a value.kind value.pairs) k.0 ∙ ap (λ d. listing alg d value.pairs) k.1 in
     (k.0, k.1, subst (IsTextOf (AddsPair version) (nothing_listed alg kind) octets) same t)
 
-pub manifest_only : (version : Version) (alg : Alg) (kind : Kind) (octets : List ℕ) (value : Listing) (pairs : List Pair) → IsTextOf (AddsPair version) (nothing_listed alg kind) octets value → ManifestText version alg kind octets pairs → value.pairs ≡ pairs
-manifest_only version alg kind octets value pairs t m = ap (λ (l : Listing). l.pairs) (text_one (AddsPair version) (adds_one version) (nothing_listed alg kind) octets value (listing alg kind pairs) t m)
-
-pub manifest_fault : (version : Version) (alg : Alg) (kind : Kind) (octets : List ℕ) (e : TagFault) (f : LineFault) → Faults (StopsAt (AddsPair version) (RefusesLine version) (nothing_listed alg kind) octets) e → e ≡ fault.Line f → ManifestFault version alg kind octets f
-manifest_fault version alg kind octets fault.Memory f h e = cc
-manifest_fault version alg kind octets (fault.Line d) f h e =
-    let same : d ≡ f = cc in
-    subst (ManifestFault version alg kind octets) same (first_fault (AddsPair version) (RefusesLine version) (adds_or_refuses version) (nothing_listed alg kind) octets d h)
-
-pub manifest_faulty : (version : Version) (alg : Alg) (kind : Kind) (octets : List ℕ) (e : TagFault) (pairs : List Pair) → Faults (StopsAt (AddsPair version) (RefusesLine version) (nothing_listed alg kind) octets) e → ManifestText version alg kind octets pairs → e ≡ fault.Memory
-manifest_faulty version alg kind octets fault.Memory pairs h m = refl
-manifest_faulty version alg kind octets (fault.Line f) pairs h m = absurd (text_none (AddsPair version) (RefusesLine version) (adds_one version) (nothing_listed alg kind) octets (listing alg kind pairs) f m (manifest_fault version alg kind octets (fault.Line f) f h refl))
-
--- the fault that a function returned
-pub fault_of : {A : Type 0} (e f : TagFault) → IsErrOf {T = A} (Err e) f → e ≡ f
-fault_of e f h = cc
-
-pub one_list_of_pairs : (version : Version) (alg : Alg) (kind : Kind) (octets : List ℕ) (pairs others : List Pair) → ManifestText version alg kind octets pairs → ManifestText version alg kind octets others → pairs ≡ others
-one_list_of_pairs version alg kind octets pairs others m n = manifest_only version alg kind octets (listing alg kind pairs) others m n
+pub pairs_or_fault : (version : Version) (alg : Alg) (kind : Kind) (octets : List ℕ) → ((pairs : List Pair) × ManifestText version alg kind octets pairs) ⊎ ((fault : LineFault) × ManifestFault version alg kind octets fault)
+pairs_or_fault version alg kind octets = elim (value_or_fault (AddsPair version) (RefusesLine version) (manifest_exact version) (nothing_listed alg kind) octets) [
+  | inl h ↦ inl (h.0.pairs, (manifest_listed version alg kind octets h.0 h.1).2)
+  | inr f ↦ inr f
+]

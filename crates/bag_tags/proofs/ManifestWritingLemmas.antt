@@ -13,8 +13,8 @@ use Rattle.hex.specs.Hex.{is_hex_digit}
 use Rattle.hex.proofs.HexLemmas.{IsOk-decode_sized}
 use Rattle.bag_path.specs.Lines.{IsPlain, written_lines}
 use Rattle.bag_path.specs.Paths.{IsPath, segments}
-use Rattle.bag_path.specs.Spellings.{Spells, written, written_part}
-use Rattle.bag_path.specs.declared.spelling.Version.TheVariants.{V1}
+use Rattle.bag_path.specs.Spellings.{Spells, written_spelling, written_part}
+use Rattle.bag_path.specs.declared.version.Version.TheVariants.{V1}
 use Rattle.bag_path.proofs.SpellsLemmas.{written_spells}
 use Rattle.bag_digest.specs.declared.algorithm.Alg.{Alg}
 use Rattle.bag_digest.specs.declared.algorithm.Alg.TheVariants.{Md5, Sha1, Sha256, Sha512}
@@ -25,7 +25,7 @@ use Rattle.bag_digest.specs.Spelling.{SpellsDigest, lower_case_of}
 use Rattle.bag_tags.specs.declared.listing.Kind.{Kind}
 use Rattle.bag_tags.specs.declared.listing.Pair.{Pair}
 use Rattle.bag_tags.specs.Words.{is_blank, IsNotBlank, is_blank_line, begins_blank, without}
-use Rattle.bag_tags.specs.TagLines.{mark, Lead}
+use Rattle.bag_tags.specs.TagLines.{mark, LeadsOn, Lead}
 use Rattle.bag_tags.specs.Listings.{Listing, lists_path, NoneTwice, nothing_listed}
 use Rattle.bag_tags.specs.ManifestView.{FitEach}
 use Rattle.bag_tags.specs.Manifests.{plain_path, AddsPair, ManifestText}
@@ -138,17 +138,17 @@ no_percent k = absurd (omega arith)
 slash_one : (y : ℕ) (text : List ℕ) → y ≢ 47 → starts_with nat_eq (written_part y ++ text) (codes "/") ≡ false
 slash_one y text n = part_not y 47 text (λ k. n (sym k)) no_percent
 
-slash_next : (rest : List ℕ) → IsNotDotted (46 ∷ rest) → starts_with nat_eq (written rest) (codes "/") ≡ false
+slash_next : (rest : List ℕ) → IsNotDotted (46 ∷ rest) → starts_with nat_eq (written_spelling rest) (codes "/") ≡ false
 slash_next [] h = refl
-slash_next (y ∷ rest) h = slash_one y (written rest) (λ f. h rest (ap (λ z. 46 ∷ z ∷ rest) f))
+slash_next (y ∷ rest) h = slash_one y (written_spelling rest) (λ f. h rest (ap (λ z. 46 ∷ z ∷ rest) f))
 
 dot_first : (text : List ℕ) → starts_with nat_eq text (codes "/") ≡ false → starts_with nat_eq (46 ∷ text) (codes "./") ≡ false
 dot_first text h = h
 
-no_dot : (x : ℕ) (path : List ℕ) → IsNotDotted (x ∷ path) → starts_with nat_eq (written (x ∷ path)) (codes "./") ≡ false
+no_dot : (x : ℕ) (path : List ℕ) → IsNotDotted (x ∷ path) → starts_with nat_eq (written_spelling (x ∷ path)) (codes "./") ≡ false
 no_dot x path h = elim (eqb_tells x 46) [
-  | inl e ↦ ap (λ z. starts_with nat_eq (written (z ∷ path)) (codes "./")) e.1 ∙ dot_first (written path) (slash_next path (subst (λ z. IsNotDotted (z ∷ path)) e.1 h))
-  | inr e ↦ part_no_dot x (written path) (λ k. e.1 (sym k))
+  | inl e ↦ ap (λ z. starts_with nat_eq (written_spelling (z ∷ path)) (codes "./")) e.1 ∙ dot_first (written_spelling path) (slash_next path (subst (λ z. IsNotDotted (z ∷ path)) e.1 h))
+  | inr e ↦ part_no_dot x (written_spelling path) (λ k. e.1 (sym k))
 ]
 
 or_left : (a b : Bool) → (a || b) ≡ false → a ≡ false
@@ -165,8 +165,8 @@ not_42 x h e = let k : true ≡ false = sym (ap (λ y. y == 42) (sym e)) ∙ h i
 drops_none : (front text : List ℕ) → starts_with nat_eq text front ≡ false → without front text ≡ text
 drops_none front text n = rw n refl
 
-dotted_by : (path : List ℕ) (P : List ℕ → Type 0) → P (codes "./" ++ written path) → (needs_dot path ≡ false → P (written path)) → P (written_path path)
-dotted_by path P d p = elim (cases_Bool (needs_dot path)) [ inl e ↦ subst (λ b. P ((if b then codes "./" else []) ++ written path)) (sym e) d | inr e ↦ subst (λ b. P ((if b then codes "./" else []) ++ written path)) (sym e) (p e) ]
+dotted_by : (path : List ℕ) (P : List ℕ → Type 0) → P (codes "./" ++ written_spelling path) → (needs_dot path ≡ false → P (written_spelling path)) → P (written_path path)
+dotted_by path P d p = elim (cases_Bool (needs_dot path)) [ inl e ↦ subst (λ b. P ((if b then codes "./" else []) ++ written_spelling path)) (sym e) d | inr e ↦ subst (λ b. P ((if b then codes "./" else []) ++ written_spelling path)) (sym e) (p e) ]
 
 dot_dropped : (text : List ℕ) → plain_path (codes "./" ++ text) ≡ text
 dot_dropped text = refl
@@ -180,30 +180,30 @@ no_star_percent k = absurd (omega arith)
 star_one : (x : ℕ) (text : List ℕ) → (x == 42) ≡ false → starts_with nat_eq (written_part x ++ text) (codes "*") ≡ false
 star_one x text h = part_not x 42 text (not_42 x h) no_star_percent
 
-no_star : (path : List ℕ) → path ≢ [] → needs_dot path ≡ false → starts_with nat_eq (written path) (codes "*") ≡ false
+no_star : (path : List ℕ) → path ≢ [] → needs_dot path ≡ false → starts_with nat_eq (written_spelling path) (codes "*") ≡ false
 no_star [] some h = absurd (some refl)
-no_star (x ∷ path) some h = star_one x (written path) (or_left (x == 42) (is_blank x) h)
+no_star (x ∷ path) some h = star_one x (written_spelling path) (or_left (x == 42) (is_blank x) h)
 
-no_dot_path : (path : List ℕ) → path ≢ [] → IsNotDotted path → starts_with nat_eq (written path) (codes "./") ≡ false
+no_dot_path : (path : List ℕ) → path ≢ [] → IsNotDotted path → starts_with nat_eq (written_spelling path) (codes "./") ≡ false
 no_dot_path [] some h = absurd (some refl)
 no_dot_path (x ∷ path) some h = no_dot x path h
 
 -- what is written for a path is read as its written spelling
-read_same : (path : List ℕ) → path ≢ [] → IsNotDotted path → plain_path (written_path path) ≡ written path
-read_same path some h = dotted_by path (λ text. plain_path text ≡ written path) (dot_dropped (written path)) (λ e. read_plain (written path) (no_star path some e) (no_dot_path path some h))
+read_same : (path : List ℕ) → path ≢ [] → IsNotDotted path → plain_path (written_path path) ≡ written_spelling path
+read_same path some h = dotted_by path (λ text. plain_path text ≡ written_spelling path) (dot_dropped (written_spelling path)) (λ e. read_plain (written_spelling path) (no_star path some e) (no_dot_path path some h))
 
 path_begins : (path : List ℕ) → path ≢ [] → begins_blank (written_path path) ≡ false
 path_begins [] some = absurd (some refl)
-path_begins (x ∷ path) some = elim (cases_Bool (needs_dot (x ∷ path))) [ inl e ↦ rw e refl | inr e ↦ rw e (part_begins x (written path) (or_right _ _ e)) ]
+path_begins (x ∷ path) some = elim (cases_Bool (needs_dot (x ∷ path))) [ inl e ↦ rw e refl | inr e ↦ rw e (part_begins x (written_spelling path) (or_right _ _ e)) ]
 
-dotted : (path : List ℕ) (P : List ℕ → Type 0) → P (codes "./" ++ written path) → P (written path) → P (written_path path)
-dotted path P d p = elim (cases_Bool (needs_dot path)) [ inl e ↦ subst (λ b. P ((if b then codes "./" else []) ++ written path)) (sym e) d | inr e ↦ subst (λ b. P ((if b then codes "./" else []) ++ written path)) (sym e) p ]
+dotted : (path : List ℕ) (P : List ℕ → Type 0) → P (codes "./" ++ written_spelling path) → P (written_spelling path) → P (written_path path)
+dotted path P d p = elim (cases_Bool (needs_dot path)) [ inl e ↦ subst (λ b. P ((if b then codes "./" else []) ++ written_spelling path)) (sym e) d | inr e ↦ subst (λ b. P ((if b then codes "./" else []) ++ written_spelling path)) (sym e) p ]
 
 path_text_plain : (path : List ℕ) → AllByRecursion IsPlain (written_path path)
 path_text_plain path = dotted path (AllByRecursion IsPlain) ((λ e. cc, λ e. cc), ((λ e. cc, λ e. cc), path_plain path)) (path_plain path)
 
 path_text_utf8 : (path : List ℕ) → IsUtf8 path → IsUtf8 (written_path path)
-path_text_utf8 path u = dotted path IsUtf8 (IsUtf8-append (codes "./") (written path) (IsUtf8-append (46 ∷ []) (47 ∷ []) (utf8_one 46 (omega arith)) (utf8_one 47 (omega arith))) (written_utf8 path u)) (written_utf8 path u)
+path_text_utf8 path u = dotted path IsUtf8 (IsUtf8-append (codes "./") (written_spelling path) (IsUtf8-append (46 ∷ []) (47 ∷ []) (utf8_one 46 (omega arith)) (utf8_one 47 (omega arith))) (written_utf8 path u)) (written_utf8 path u)
 
 hex_of_pair : (p : Pair) → CanBeWritten p → IsHex (lower_case_of p.digest)
 hex_of_pair p h = hex_of (alg_of p.digest) (lower_case_of p.digest) p.digest h.1
@@ -251,7 +251,6 @@ adds alg kind before rest p n h fit once =
       gives = record {
         path_text = written_path p.path;
         checksum = record {
-          utf8 = IsUtf8-append (hex ++ codes "  ") (written_path p.path) (IsUtf8-append hex (codes "  ") (hex_utf8 hex is_hex) (IsUtf8-append (32 ∷ []) (32 ∷ []) (utf8_one 32 (omega arith)) (utf8_one 32 (omega arith)))) (path_text_utf8 p.path h.0.utf8);
           checksum = hex;
           blanks = codes "  ";
           cut = record {
@@ -270,17 +269,21 @@ adds alg kind before rest p n h fit once =
       added = refl;
     }
 
-lead_pairs : (alg : Alg) (kind : Kind) (pairs before : List Pair) (n : ℕ) → AllByRecursion CanBeWritten pairs → FitEach alg kind pairs → NoneTwice (before ++ pairs) → Lead (AddsPair V1) (listing alg kind before) (numbered_texts n (map pair_text pairs)) (listing alg kind (before ++ pairs))
+line_utf8 : (p : Pair) → CanBeWritten p → IsUtf8 (pair_text p)
+line_utf8 p h =
+    let hex = lower_case_of p.digest in
+    IsUtf8-append (hex ++ codes "  ") (written_path p.path)
+    (IsUtf8-append hex (codes "  ") (hex_utf8 hex (hex_of_pair p h)) (IsUtf8-append (32 ∷ []) (32 ∷ []) (utf8_one 32 (omega arith)) (utf8_one 32 (omega arith))))
+    (path_text_utf8 p.path h.0.utf8)
+
+lead_pairs : (alg : Alg) (kind : Kind) (pairs before : List Pair) (n : ℕ) → AllByRecursion CanBeWritten pairs → FitEach alg kind pairs → NoneTwice (before ++ pairs) → Lead (LeadsOn (AddsPair V1)) (listing alg kind before) (numbered_texts n (map pair_text pairs)) (listing alg kind (before ++ pairs))
 lead_pairs alg kind [] before n h fit once = ap (listing alg kind) (append-nil before)
-lead_pairs alg kind (p ∷ pairs) before n h fit once = inr (
-  not_blank p h.0,
-  (
-    listing alg kind (before ++ p ∷ []),
-    adds alg kind before pairs p n h.0 fit once,
-    subst (λ after. Lead (AddsPair V1) (listing alg kind (before ++ p ∷ [])) (numbered_texts (n + 1) (map pair_text pairs)) (listing alg kind after))
-        (append_assoc before (p ∷ []) pairs)
-        (lead_pairs alg kind pairs (before ++ p ∷ []) (n + 1) h.1 fit.1 (subst NoneTwice (sym (append_assoc before (p ∷ []) pairs)) once)),
-  ),
+lead_pairs alg kind (p ∷ pairs) before n h fit once = (
+  listing alg kind (before ++ p ∷ []),
+  inr (not_blank p h.0, line_utf8 p h.0, adds alg kind before pairs p n h.0 fit once),
+  subst (λ after. Lead (LeadsOn (AddsPair V1)) (listing alg kind (before ++ p ∷ [])) (numbered_texts (n + 1) (map pair_text pairs)) (listing alg kind after))
+      (append_assoc before (p ∷ []) pairs)
+      (lead_pairs alg kind pairs (before ++ p ∷ []) (n + 1) h.1 fit.1 (subst NoneTwice (sym (append_assoc before (p ∷ []) pairs)) once)),
 )
 
 pairs_unmarked : (pairs : List Pair) → AllByRecursion CanBeWritten pairs → starts_with nat_eq (written_lines (map pair_text pairs)) mark ≡ false

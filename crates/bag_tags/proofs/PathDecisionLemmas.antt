@@ -5,11 +5,11 @@ use Rattle.std.specs.Str.{IsUtf8, bytes_eq}
 use Rattle.std.proofs.lemmas.Str.{IsUtf8-append}
 use Rattle.bag_path.specs.declared.path.PathFault.{PathFault}
 use Rattle.bag_path.specs.declared.path.PathFault.TheVariants as path
-use Rattle.bag_path.specs.declared.spelling.Version.{Version}
-use Rattle.bag_path.specs.declared.spelling.Version.TheVariants.{V1}
+use Rattle.bag_path.specs.declared.version.Version.{Version}
+use Rattle.bag_path.specs.declared.version.Version.TheVariants.{V1}
 use Rattle.bag_path.specs.Paths.{IsPath, path_fault, has_segment, is_empty_segment, is_dot_segment}
 use Rattle.bag_path.specs.Spellings.{StandsFor, Spells}
-use Rattle.bag_path.specs.SpellingReading.{spelled}
+use Rattle.bag_path.specs.SpellingReading.{octets_spelled}
 use Rattle.bag_path.proofs.PathLemmas.{path_if_no_fault, no_bad_escape}
 use Rattle.bag_path.proofs.SpellsLemmas.{spells_if_read, nothing_if_none}
 use Rattle.bag_tags.specs.Manifests.{SpellsNoPath}
@@ -99,9 +99,9 @@ of_octets : (version : Version) (text p : List ℕ) (found : Option PathFault) �
 of_octets version text p None u s e = inl (p, s, path_if_no_fault p (spelled_utf8 version p text s u) e)
 of_octets version text p (Some fault) u s e = inr (fault, faulty version text p fault s e)
 
-of_reading : (version : Version) (text : List ℕ) (read : Option (List ℕ)) → IsUtf8 text → spelled version text ≡ read → PathOrFault version text
+of_reading : (version : Version) (text : List ℕ) (read : Option (List ℕ)) → IsUtf8 text → octets_spelled version text ≡ read → PathOrFault version text
 of_reading version text None u e = inr (path.BadEscape, nothing_if_none version text e)
 of_reading version text (Some p) u e = of_octets version text p (path_fault p) u (spells_if_read version p text e) refl
 
 pub path_or_fault : (version : Version) (text : List ℕ) → IsUtf8 text → PathOrFault version text
-path_or_fault version text u = of_reading version text (spelled version text) u refl
+path_or_fault version text u = of_reading version text (octets_spelled version text) u refl

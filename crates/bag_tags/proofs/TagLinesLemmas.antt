@@ -1,171 +1,185 @@
 -- A text tag file is read exactly as its lines lead.
-use Rattle.std.proofs.Common.{◌≡◌, ℕ, true, false, List, [], ◌∷◌, ◌++◌, refl, sym, ap, ◌∙◌, subst, inl, inr, append_assoc, append-nil}
-use Rattle.std.specs.List.{enumerate_from}
-use Rattle.bag_path.specs.Lines.{Text, HasLines, lines_of}
-use Rattle.bag_path.proofs.LinesLemmas.{one_list}
+use Rattle.std.proofs.Common.{◌≡◌, ◌⊎◌, ◌+◌, ℕ, true, false, List, [], ◌∷◌, ◌++◌, map, Err, refl, sym, ap, ◌∙◌, subst, inl, inr, append_assoc, append-nil}
+use Rattle.std.specs.List.{AllByRecursion, enumerate_from}
+use Rattle.std.specs.Result.{IsErrOf}
+use Rattle.std.proofs.lemmas.Bool.{cases_Bool}
+use Rattle.bag_path.specs.Lines.{Text, HasLines, IsPlain, AreLines, lines_of}
+use Rattle.bag_path.proofs.LinesLemmas.{one_list, are_lines}
 use Rattle.bag_tags.specs.declared.fault.LineCause.{LineCause}
+use Rattle.bag_tags.specs.declared.fault.LineCause.TheVariants.{NotUtf8}
 use Rattle.bag_tags.specs.declared.fault.LineFault.{LineFault}
 use Rattle.bag_tags.specs.declared.fault.TagFault.{TagFault}
 use Rattle.bag_tags.specs.declared.fault.TagFault.TheVariants as tag
 use Rattle.bag_tags.specs.Words.{is_blank_line, without}
-use Rattle.bag_tags.specs.TagLines.{mark, Lead, IsTextOf, StopsAt, IsFirstFault, Faults}
-use Rattle.bag_tags.specs.Reading.{LeadsOn, RefusedAt}
+use Rattle.bag_tags.specs.TagLines.{mark, TagLine, tag_line, tag_lines, LeadsOn, IsRefused, Lead, IsTextOf, StopsAt, IsFirstFault, AreExact, Faults, RefusedAt}
+use Rattle.bag_tags.proofs.DecisionLemmas.{decided_utf8}
 
 -- the numbered lines of a text
-abbrev pub numbered : List ℕ → List (ℕ × Text)
-numbered octets = enumerate_from 1 (lines_of (without mark octets))
+abbrev pub numbered : List ℕ → List TagLine
+numbered octets = tag_lines (lines_of (without mark octets))
 
--- the lines before the rest of all lines lead to this value
-pub record HasLed {A : Type 0} (leads : A → ℕ → List ℕ → A → Type 0) (start : A) (all rest : List (ℕ × Text)) (value : A) : Type 0 where
-  pub before : List (ℕ × Text)
-  pub cut : all ≡ before ++ rest
-  pub lead : Lead leads start before value
-
-pub none_led : {A : Type 0} (leads : A → ℕ → List ℕ → A → Type 0) (start : A) (all : List (ℕ × Text)) → HasLed leads start all all start
-none_led leads start all = record { before = []; cut = refl; lead = refl }
-
--- one line more at the end
-lead_more : {A : Type 0} (leads : A → ℕ → List ℕ → A → Type 0) (start value next : A) (before : List (ℕ × Text)) (line : ℕ × Text) → Lead leads start before value → LeadsOn leads value line next → Lead leads start (before ++ line ∷ []) next
-lead_more leads start value next [] line led on = elim on [
-  | inl e ↦ inl (e.0, e.1 ∙ led)
-  | inr e ↦ inr (e.0, (next, subst (λ v. leads v line.0 line.1.text next) led e.1, refl))
-]
-lead_more leads start value next (first ∷ before) line led on = elim led [
-  | inl e ↦ inl (e.0, lead_more leads start value next before line e.1 on)
-  | inr e ↦ inr (e.0, (e.1.0, e.1.1, lead_more leads e.1.0 value next before line e.1.2 on))
-]
-
-pub led_on : {A : Type 0} (leads : A → ℕ → List ℕ → A → Type 0) (start value next : A) (all left rest : List (ℕ × Text)) (line : ℕ × Text) → left ≡ line ∷ rest → LeadsOn leads value line next → HasLed leads start all left value → HasLed leads start all rest next
-led_on leads start value next all left rest line first on led = record {
-  before = led.before ++ line ∷ [];
-  cut = led.cut ∙ ap (λ ls. led.before ++ ls) first ∙ sym (append_assoc led.before (line ∷ []) rest);
-  lead = lead_more leads start value next led.before line led.lead on;
-}
-
--- the lines of octets are theirs
+-- the lines of octets are theirs, and no others
 own_lines : (octets : List ℕ) → HasLines octets (lines_of octets)
 own_lines octets = (one_list octets (lines_of octets)).1 refl
 
+same_lines : (octets : List ℕ) (a b : List Text) → HasLines octets a → HasLines octets b → tag_lines a ≡ tag_lines b
+same_lines octets a b h k = ap tag_lines ((one_list octets a).0 h ∙ sym ((one_list octets b).0 k))
+
+-- READING
+
+-- the lines before the rest of all lines lead to this value
+pub record HasLed {A : Type 0} (leads : A → ℕ → List ℕ → A → Type 0) (start : A) (all rest : List TagLine) (value : A) : Type 0 where
+  pub before : List TagLine
+  pub cut : all ≡ before ++ rest
+  pub lead : Lead (LeadsOn leads) start before value
+
+pub none_led : {A : Type 0} (leads : A → ℕ → List ℕ → A → Type 0) (start : A) (all : List TagLine) → HasLed leads start all all start
+none_led leads start all = record { before = []; cut = refl; lead = refl }
+
+-- one line more at the end
+lead_more : {A : Type 0} (step : A → TagLine → A → Type 0) (start value next : A) (before : List TagLine) (line : TagLine) → Lead step start before value → step value line next → Lead step start (before ++ line ∷ []) next
+lead_more step start value next [] line led on = (next, subst (λ v. step v line next) led on, refl)
+lead_more step start value next (first ∷ before) line led on = (led.0, led.1, lead_more step led.0 value next before line led.2 on)
+
+pub led_on : {A : Type 0} (leads : A → ℕ → List ℕ → A → Type 0) (start value next : A) (all left rest : List TagLine) (line : TagLine) → left ≡ line ∷ rest → LeadsOn leads value line next → HasLed leads start all left value → HasLed leads start all rest next
+led_on leads start value next all left rest line first on led = record {
+  before = led.before ++ line ∷ [];
+  cut = led.cut ∙ ap (λ ls. led.before ++ ls) first ∙ sym (append_assoc led.before (line ∷ []) rest);
+  lead = lead_more (LeadsOn leads) start value next led.before line led.lead on;
+}
+
 -- no line is left
-pub led_all : {A : Type 0} (leads : A → ℕ → List ℕ → A → Type 0) (start value : A) (octets : List ℕ) (left : List (ℕ × Text)) → left ≡ [] → HasLed leads start (numbered octets) left value → IsTextOf leads start octets value
+pub led_all : {A : Type 0} (leads : A → ℕ → List ℕ → A → Type 0) (start value : A) (octets : List ℕ) (left : List TagLine) → left ≡ [] → HasLed leads start (numbered octets) left value → IsTextOf leads start octets value
 led_all leads start value octets left none led = record {
   lines = lines_of (without mark octets);
   has_lines = own_lines (without mark octets);
-  lead = subst (λ ls. Lead leads start ls value) (sym (led.cut ∙ ap (λ ls. led.before ++ ls) none ∙ append-nil led.before)) led.lead;
+  lead = subst (λ ls. Lead (LeadsOn leads) start ls value) (sym (led.cut ∙ ap (λ ls. led.before ++ ls) none ∙ append-nil led.before)) led.lead;
 }
 
 -- a line is refused
-refused_line : {A : Type 0} (leads : A → ℕ → List ℕ → A → Type 0) (refuses : A → List ℕ → LineCause → Type 0) (start value : A) (octets : List ℕ) (left rest : List (ℕ × Text)) (line : ℕ × Text) (fault : LineFault) → left ≡ line ∷ rest → RefusedAt refuses value line fault → HasLed leads start (numbered octets) left value → StopsAt leads refuses start octets fault
-refused_line leads refuses start value octets left rest line fault first refused led =
-    let here : line ≡ (fault.line, line.1) = ap (λ n. (n, line.1)) (sym refused.0) in
-    record {
-      lines = lines_of (without mark octets);
-      has_lines = own_lines (without mark octets);
-      before = led.before;
-      faulty = line.1;
-      after = rest;
-      cut = led.cut ∙ ap (λ ls. led.before ++ ls) (first ∙ ap (λ l. l ∷ rest) here);
-      so_far = value;
-      lead = led.lead;
-      not_blank = refused.1;
-      cause = refused.2;
-    }
-
-pub refused_at : {A : Type 0} (leads : A → ℕ → List ℕ → A → Type 0) (refuses : A → List ℕ → LineCause → Type 0) (start value : A) (octets : List ℕ) (left rest : List (ℕ × Text)) (line : ℕ × Text) (e : TagFault) → left ≡ line ∷ rest → Faults (RefusedAt refuses value line) e → HasLed leads start (numbered octets) left value → Faults (StopsAt leads refuses start octets) e
+pub refused_at : {A : Type 0} (leads : A → ℕ → List ℕ → A → Type 0) (refuses : A → List ℕ → LineCause → Type 0) (start value : A) (octets : List ℕ) (left rest : List TagLine) (line : TagLine) (e : TagFault) → left ≡ line ∷ rest → Faults (RefusedAt refuses value line) e → HasLed leads start (numbered octets) left value → Faults (StopsAt leads refuses start octets) e
 refused_at leads refuses start value octets left rest line tag.Memory first refused led = tt
-refused_at leads refuses start value octets left rest line (tag.Line fault) first refused led = refused_line leads refuses start value octets left rest line fault first refused led
-
--- where no line both leads on and is refused, the lines stop at the first fault
-pub first_fault : {A : Type 0} (leads : A → ℕ → List ℕ → A → Type 0) (refuses : A → List ℕ → LineCause → Type 0) → ((value : A) (n : ℕ) (text : List ℕ) (next : A) (cause : LineCause) → leads value n text next → refuses value text cause → ⊥) → (start : A) (octets : List ℕ) (fault : LineFault) → StopsAt leads refuses start octets fault → IsFirstFault leads refuses start octets fault
-first_fault leads refuses apart start octets fault stops = record {
-  stops = stops;
-  no_further = λ next on. apart stops.so_far fault.line stops.faulty.text next fault.cause on stops.cause;
+refused_at leads refuses start value octets left rest line (tag.Line fault) first refused led = record {
+  lines = lines_of (without mark octets);
+  has_lines = own_lines (without mark octets);
+  before = led.before;
+  faulty = line;
+  after = rest;
+  cut = led.cut ∙ ap (λ ls. led.before ++ ls) first;
+  so_far = value;
+  lead = led.lead;
+  number = refused.0;
+  refused = refused.1;
 }
 
--- lines lead to one value where each line does
-lead_one : {A : Type 0} (leads : A → ℕ → List ℕ → A → Type 0) → ((value : A) (n : ℕ) (text : List ℕ) (next other : A) → leads value n text next → leads value n text other → next ≡ other) → (lines : List (ℕ × Text)) (start value other : A) → Lead leads start lines value → Lead leads start lines other → value ≡ other
-lead_one leads one [] start value other h k = h ∙ sym k
-lead_one leads one (line ∷ lines) start value other h k = elim h [
-  | inl e ↦ elim k [
-    | inl d ↦ lead_one leads one lines start value other e.1 d.1
-    | inr d ↦ absurd (let b : true ≡ false = sym e.0 ∙ d.0 in cc)
-  ]
-  | inr e ↦ elim k [
-    | inl d ↦ absurd (let b : true ≡ false = sym d.0 ∙ e.0 in cc)
-    | inr d ↦ lead_one leads one lines e.1.0 value other e.1.2 (subst (λ v. Lead leads v lines other) (one start line.0 line.1.text d.1.0 e.1.0 d.1.1 e.1.1) d.1.2)
-  ]
-]
+-- the next line has no line end in its text
+abbrev IsPlainLine : TagLine → Type 0
+IsPlainLine line = AllByRecursion IsPlain line.text
 
--- a text is that of one value
-pub text_one : {A : Type 0} (leads : A → ℕ → List ℕ → A → Type 0) → ((value : A) (n : ℕ) (text : List ℕ) (next other : A) → leads value n text next → leads value n text other → next ≡ other) → (start : A) (octets : List ℕ) (value other : A) → IsTextOf leads start octets value → IsTextOf leads start octets other → value ≡ other
-text_one leads one start octets value other t u =
-    let o = without mark octets in
-    let same : t.lines ≡ u.lines = (one_list o t.lines).0 t.has_lines ∙ sym ((one_list o u.lines).0 u.has_lines) in
-    lead_one leads one (enumerate_from 1 t.lines) start value other t.lead (subst (λ ls. Lead leads start (enumerate_from 1 ls) other) (sym same) u.lead)
+plain_lines : (n : ℕ) (lines : List Text) → AreLines lines → AllByRecursion IsPlainLine (map tag_line (enumerate_from n lines))
+plain_lines n [] h = tt
+plain_lines n (line ∷ lines) h = (h.0, plain_lines (n + 1) lines h.2)
 
--- lines with a refused one among them lead to no value
-lead_none : {A : Type 0} (leads : A → ℕ → List ℕ → A → Type 0) → ((value : A) (n : ℕ) (text : List ℕ) (next other : A) → leads value n text next → leads value n text other → next ≡ other) → (before after : List (ℕ × Text)) (n : ℕ) (faulty : Text) (start so_far value : A) → Lead leads start before so_far → is_blank_line faulty.text ≡ false → ((next : A) → leads so_far n faulty.text next → ⊥) → Lead leads start (before ++ (n, faulty) ∷ after) value → ⊥
-lead_none leads one [] after n faulty start so_far value led not_blank none h = elim h [
-  | inl e ↦ absurd (let b : true ≡ false = sym e.0 ∙ not_blank in cc)
-  | inr e ↦ none e.1.0 (subst (λ v. leads v n faulty.text e.1.0) (sym led) e.1.1)
-]
-lead_none leads one (line ∷ before) after n faulty start so_far value led not_blank none h = elim h [
-  | inl e ↦ elim led [
-    | inl d ↦ lead_none leads one before after n faulty start so_far value d.1 not_blank none e.1
-    | inr d ↦ absurd (let b : true ≡ false = sym e.0 ∙ d.0 in cc)
+at_cut : (before rest : List TagLine) (line : TagLine) → AllByRecursion IsPlainLine (before ++ line ∷ rest) → IsPlainLine line
+at_cut [] rest line h = h.0
+at_cut (first ∷ before) rest line h = at_cut before rest line h.1
+
+pub next_plain : {A : Type 0} (leads : A → ℕ → List ℕ → A → Type 0) (start value : A) (octets : List ℕ) (left rest : List TagLine) (line : TagLine) → left ≡ line ∷ rest → HasLed leads start (numbered octets) left value → AllByRecursion IsPlain line.text
+next_plain leads start value octets left rest line first led = at_cut led.before rest line
+    (subst (AllByRecursion IsPlainLine) (led.cut ∙ ap (λ ls. led.before ++ ls) first) (plain_lines 1 (lines_of (without mark octets)) (are_lines (without mark octets))))
+
+-- EXACTNESS
+
+module _ {A : Type 0} (leads : A → ℕ → List ℕ → A → Type 0) (refuses : A → List ℕ → LineCause → Type 0) (exact : AreExact leads refuses) where
+  abbrev Step : A → TagLine → A → Type 0
+  Step = LeadsOn leads
+
+  abbrev IsFaulty : A → TagLine → LineCause → Type 0
+  IsFaulty = IsRefused refuses
+
+  -- a line that may be blank or not UTF-8
+  one_step : (before : A) (line : TagLine) (next other : A) → Step before line next → Step before line other → next ≡ other
+  one_step before line next other h k = elim h [
+    | inl e ↦ elim k [ inl d ↦ e.1 ∙ sym d.1 | inr d ↦ absurd (let b : true ≡ false = sym e.0 ∙ d.0 in cc) ]
+    | inr e ↦ elim k [
+      | inl d ↦ absurd (let b : true ≡ false = sym d.0 ∙ e.0 in cc)
+      | inr d ↦ exact.one_value before line.number line.text next other e.2 d.2
+    ]
   ]
-  | inr e ↦ elim led [
-    | inl d ↦ absurd (let b : true ≡ false = sym d.0 ∙ e.0 in cc)
-    | inr d ↦ lead_none leads one before after n faulty d.1.0 so_far value d.1.2 not_blank none (subst (λ v. Lead leads v (before ++ (n, faulty) ∷ after) value) (one start line.0 line.1.text e.1.0 d.1.0 e.1.1 d.1.1) e.1.2)
+
+  no_step : (before : A) (line : TagLine) (next : A) (cause : LineCause) → IsFaulty before line cause → Step before line next → ⊥
+  no_step before line next cause f h = elim h [
+    | inl e ↦ let b : true ≡ false = sym e.0 ∙ f.0 in cc
+    | inr e ↦ elim f.1 [ inl d ↦ d.1 e.1 | inr d ↦ exact.not_both before line.number line.text next cause e.2 d.1 ]
   ]
-]
 
--- a text with a faulty line is that of no value
-pub text_none : {A : Type 0} (leads : A → ℕ → List ℕ → A → Type 0) (refuses : A → List ℕ → LineCause → Type 0) → ((value : A) (n : ℕ) (text : List ℕ) (next other : A) → leads value n text next → leads value n text other → next ≡ other) → (start : A) (octets : List ℕ) (value : A) (fault : LineFault) → IsTextOf leads start octets value → IsFirstFault leads refuses start octets fault → ⊥
-text_none leads refuses one start octets value fault t f =
-    let o = without mark octets in
-    let s = f.stops in
-    let same : t.lines ≡ s.lines = (one_list o t.lines).0 t.has_lines ∙ sym ((one_list o s.lines).0 s.has_lines) in
-    lead_none leads one s.before s.after fault.line s.faulty start s.so_far value s.lead s.not_blank f.no_further (subst (λ ls. Lead leads start ls value) (ap (enumerate_from 1) same ∙ s.cut) t.lead)
-
-module _ {A : Type 0} (leads : A → ℕ → List ℕ → A → Type 0) (refuses : A → List ℕ → LineCause → Type 0) (one : (value : A) (n : ℕ) (text : List ℕ) (next other : A) → leads value n text next → leads value n text other → next ≡ other) (one_cause : (value : A) (text : List ℕ) (cause other : LineCause) → refuses value text cause → refuses value text other → cause ≡ other) where
-  -- a numbered line that is refused after a value, and leads nowhere
-  abbrev IsFaulty : A → ℕ × Text → LineCause → Type 0
-  IsFaulty value line cause = (is_blank_line line.1.text ≡ false) × refuses value line.1.text cause × ((next : A) → leads value line.0 line.1.text next → ⊥)
-
-  no_lead : (line : ℕ × Text) (lines : List (ℕ × Text)) (start value : A) (cause : LineCause) → IsFaulty start line cause → Lead leads start (line ∷ lines) value → ⊥
-  no_lead line lines start value cause f h = elim h [
-    | inl e ↦ absurd (let b : true ≡ false = sym e.0 ∙ f.0 in cc)
-    | inr e ↦ f.2 e.1.0 e.1.1
+  one_cause_of : (before : A) (line : TagLine) (c d : LineCause) → IsFaulty before line c → IsFaulty before line d → c ≡ d
+  one_cause_of before line c d f g = elim f.1 [
+    | inl e ↦ elim g.1 [ inl h ↦ e.0 ∙ sym h.0 | inr h ↦ absurd (e.1 h.0) ]
+    | inr e ↦ elim g.1 [ inl h ↦ absurd (h.1 e.0) | inr h ↦ exact.one_cause before line.text c d e.1 h.1 ]
   ]
+
+  step_or_cause : (before : A) (line : TagLine) → ((next : A) × Step before line next) ⊎ ((cause : LineCause) × IsFaulty before line cause)
+  step_or_cause before line = elim (cases_Bool (is_blank_line line.text)) [
+    | inl b ↦ inl (before, inl (b, refl))
+    | inr b ↦ elim (decided_utf8 line.text) [
+      | inr n ↦ inr (NotUtf8, (b, inl (refl, n)))
+      | inl u ↦ elim (exact.one_of_both before line.number line.text u) [
+        | inl h ↦ inl (h.0, inr (b, u, h.1))
+        | inr c ↦ inr (c.0, (b, inr (u, c.1)))
+      ]
+    ]
+  ]
+
+  -- lines lead to one value
+  lead_one : (lines : List TagLine) (start value other : A) → Lead Step start lines value → Lead Step start lines other → value ≡ other
+  lead_one [] start value other h k = h ∙ sym k
+  lead_one (line ∷ lines) start value other h k =
+      lead_one lines h.0 value other h.2 (subst (λ v. Lead Step v lines other) (one_step start line k.0 h.0 k.1 h.1) k.2)
+
+  -- a text is that of one value
+  pub text_one : (start : A) (octets : List ℕ) (value other : A) → IsTextOf leads start octets value → IsTextOf leads start octets other → value ≡ other
+  text_one start octets value other t u =
+      let same = same_lines (without mark octets) u.lines t.lines u.has_lines t.has_lines in
+      lead_one (tag_lines t.lines) start value other t.lead (subst (λ ls. Lead Step start ls other) same u.lead)
+
+  -- the lines stop at the first fault
+  pub first_fault : (start : A) (octets : List ℕ) (fault : LineFault) → StopsAt leads refuses start octets fault → IsFirstFault leads refuses start octets fault
+  first_fault start octets fault stops = record {
+    stops = stops;
+    no_further = λ next. no_step stops.so_far stops.faulty next fault.cause stops.refused;
+  }
+
+  -- lines with a refused one among them lead to no value
+  lead_none : (before after : List TagLine) (faulty : TagLine) (start so_far value : A) → Lead Step start before so_far → ((next : A) → Step so_far faulty next → ⊥) → Lead Step start (before ++ faulty ∷ after) value → ⊥
+  lead_none [] after faulty start so_far value led none h = none h.0 (subst (λ v. Step v faulty h.0) (sym led) h.1)
+  lead_none (line ∷ before) after faulty start so_far value led none h =
+      lead_none before after faulty led.0 so_far value led.2 none (subst (λ v. Lead Step v (before ++ faulty ∷ after) value) (one_step start line h.0 led.0 h.1 led.1) h.2)
+
+  -- a text with a faulty line is that of no value
+  pub text_none : (start : A) (octets : List ℕ) (value : A) (fault : LineFault) → IsTextOf leads start octets value → IsFirstFault leads refuses start octets fault → ⊥
+  text_none start octets value fault t f =
+      let s = f.stops in
+      let same = same_lines (without mark octets) t.lines s.lines t.has_lines s.has_lines in
+      lead_none s.before s.after s.faulty start s.so_far value s.lead f.no_further (subst (λ ls. Lead Step start ls value) (same ∙ s.cut) t.lead)
 
   -- the first faulty line among lines is one, for one cause
-  stop_one : (before others after rest : List (ℕ × Text)) (line other : ℕ × Text) (start so_far value : A) (c d : LineCause) → before ++ line ∷ after ≡ others ++ other ∷ rest → Lead leads start before so_far → Lead leads start others value → IsFaulty so_far line c → IsFaulty value other d → (line.0 ≡ other.0) × (c ≡ d)
+  stop_one : (before others after rest : List TagLine) (line other : TagLine) (start so_far value : A) (c d : LineCause) → before ++ line ∷ after ≡ others ++ other ∷ rest → Lead Step start before so_far → Lead Step start others value → IsFaulty so_far line c → IsFaulty value other d → (line ≡ other) × (c ≡ d)
   stop_one [] [] after rest line other start so_far value c d e h k f g =
       let here : line ≡ other = cc in
       let same : so_far ≡ value = h ∙ sym k in
-      (ap (λ (l : ℕ × Text). l.0) here, one_cause value other.1.text c d (subst (λ (l : ℕ × Text). refuses value l.1.text c) here (subst (λ v. refuses v line.1.text c) same f.1)) g.1)
+      (here, one_cause_of value other c d (subst (λ l. IsFaulty value l c) here (subst (λ v. IsFaulty v line c) same f)) g)
   stop_one [] (x ∷ others) after rest line other start so_far value c d e h k f g =
       let here : line ≡ x = cc in
-      absurd (no_lead x others start value c (subst (λ l. IsFaulty start l c) here (subst (λ v. IsFaulty v line c) h f)) k)
+      absurd (no_step so_far line k.0 c f (subst (λ v. Step v line k.0) (sym h) (subst (λ l. Step start l k.0) (sym here) k.1)))
   stop_one (x ∷ before) [] after rest line other start so_far value c d e h k f g =
       let here : other ≡ x = cc in
-      absurd (no_lead x before start so_far d (subst (λ l. IsFaulty start l d) here (subst (λ v. IsFaulty v other d) k g)) h)
+      absurd (no_step value other h.0 d g (subst (λ v. Step v other h.0) (sym k) (subst (λ l. Step start l h.0) (sym here) h.1)))
   stop_one (x ∷ before) (y ∷ others) after rest line other start so_far value c d e h k f g =
       let here : x ≡ y = cc in
       let more : before ++ line ∷ after ≡ others ++ other ∷ rest = cc in
-      elim (subst (λ l. Lead leads start (l ∷ before) so_far) here h) [
-        | inl a ↦ elim k [
-          | inl b ↦ stop_one before others after rest line other start so_far value c d more a.1 b.1 f g
-          | inr b ↦ absurd (let t : true ≡ false = sym a.0 ∙ b.0 in cc)
-        ]
-        | inr a ↦ elim k [
-          | inl b ↦ absurd (let t : true ≡ false = sym b.0 ∙ a.0 in cc)
-          | inr b ↦
-              let same = one start y.0 y.1.text a.1.0 b.1.0 a.1.1 b.1.1 in
-              stop_one before others after rest line other b.1.0 so_far value c d more (subst (λ v. Lead leads v before so_far) same a.1.2) b.1.2 f g
-        ]
-      ]
+      let same = one_step start y h.0 k.0 (subst (λ l. Step start l h.0) here h.1) k.1 in
+      stop_one before others after rest line other k.0 so_far value c d more (subst (λ v. Lead Step v before so_far) same h.2) k.2 f g
 
   abbrev fault_at : ℕ → LineCause → LineFault
   fault_at line cause = record { line = line; cause = cause }
@@ -173,10 +187,51 @@ module _ {A : Type 0} (leads : A → ℕ → List ℕ → A → Type 0) (refuses
   -- a text has one first fault at most
   pub text_one_fault : (start : A) (octets : List ℕ) (fault other : LineFault) → IsFirstFault leads refuses start octets fault → IsFirstFault leads refuses start octets other → fault ≡ other
   text_one_fault start octets fault other f g =
-      let o = without mark octets in
       let s = f.stops in
       let t = g.stops in
-      let same : s.lines ≡ t.lines = (one_list o s.lines).0 s.has_lines ∙ sym ((one_list o t.lines).0 t.has_lines) in
-      let cut = sym s.cut ∙ ap (enumerate_from 1) same ∙ t.cut in
-      let both = stop_one s.before t.before s.after t.after (fault.line, s.faulty) (other.line, t.faulty) start s.so_far t.so_far fault.cause other.cause cut s.lead t.lead (s.not_blank, s.cause, f.no_further) (t.not_blank, t.cause, g.no_further) in
-      ap (λ n. fault_at n fault.cause) both.0 ∙ ap (fault_at other.line) both.1
+      let cut = sym s.cut ∙ same_lines (without mark octets) s.lines t.lines s.has_lines t.has_lines ∙ t.cut in
+      let both = stop_one s.before t.before s.after t.after s.faulty t.faulty start s.so_far t.so_far fault.cause other.cause cut s.lead t.lead s.refused t.refused in
+      let number : fault.line ≡ other.line = s.number ∙ ap (λ (l : TagLine). l.number) both.0 ∙ sym t.number in
+      ap (λ n. fault_at n fault.cause) number ∙ ap (fault_at other.line) both.1
+
+  -- lines lead to a value, or one of them is refused
+  record Stops (start : A) (lines : List TagLine) : Type 0 where
+    before : List TagLine
+    faulty : TagLine
+    after : List TagLine
+    cut : lines ≡ before ++ faulty ∷ after
+    so_far : A
+    lead : Lead Step start before so_far
+    cause : LineCause
+    refused : IsFaulty so_far faulty cause
+
+  lead_or_stop : (lines : List TagLine) (start : A) → ((value : A) × Lead Step start lines value) ⊎ Stops start lines
+  lead_or_stop [] start = inl (start, refl)
+  lead_or_stop (line ∷ lines) start = elim (step_or_cause start line) [
+    | inr c ↦ inr (record { before = []; faulty = line; after = lines; cut = refl; so_far = start; lead = refl; cause = c.0; refused = c.1 })
+    | inl on ↦ elim (lead_or_stop lines on.0) [
+      | inl h ↦ inl (h.0, (on.0, on.1, h.1))
+      | inr s ↦ inr (record { before = line ∷ s.before; faulty = s.faulty; after = s.after; cut = ap (λ ls. line ∷ ls) s.cut; so_far = s.so_far; lead = (on.0, on.1, s.lead); cause = s.cause; refused = s.refused })
+    ]
+  ]
+
+  -- a text has a value, or a first fault
+  pub value_or_fault : (start : A) (octets : List ℕ) → ((value : A) × IsTextOf leads start octets value) ⊎ ((fault : LineFault) × IsFirstFault leads refuses start octets fault)
+  value_or_fault start octets = elim (lead_or_stop (numbered octets) start) [
+    | inl h ↦ inl (h.0, record { lines = lines_of (without mark octets); has_lines = own_lines (without mark octets); lead = h.1 })
+    | inr s ↦ inr (
+      fault_at s.faulty.number s.cause,
+      first_fault start octets _ (record { lines = lines_of (without mark octets); has_lines = own_lines (without mark octets); before = s.before; faulty = s.faulty; after = s.after; cut = s.cut; so_far = s.so_far; lead = s.lead; number = refl; refused = s.refused }),
+    )
+  ]
+
+  -- the fault at which reading stopped
+  pub fault_found : (start : A) (octets : List ℕ) (e : TagFault) (fault : LineFault) → Faults (StopsAt leads refuses start octets) e → IsErrOf {T = Unit {0}} (Err e) (tag.Line fault) → IsFirstFault leads refuses start octets fault
+  fault_found start octets tag.Memory fault h e = absurd (cc)
+  fault_found start octets (tag.Line found) fault h e =
+      let same : found ≡ fault = cc in
+      subst (IsFirstFault leads refuses start octets) same (first_fault start octets found h)
+
+  pub only_memory : (start : A) (octets : List ℕ) (e : TagFault) (other : A) → Faults (StopsAt leads refuses start octets) e → IsTextOf leads start octets other → e ≡ tag.Memory
+  only_memory start octets tag.Memory other h t = refl
+  only_memory start octets (tag.Line found) other h t = absurd (text_none start octets other found t (first_fault start octets found h))

@@ -1,13 +1,16 @@
 -- Parts of lists and of texts.
-use Rattle.std.proofs.Common.{◌≡◌, ◌<◌, ℕ, Bool, true, false, not, List, [], ◌∷◌, ◌++◌, length, get_or, refl, sym, ap, ◌∙◌, subst, inl, inr, arith, length-append}
+use Rattle.std.proofs.Common.{◌≡◌, ◌<◌, ◌≤◌, ◌+◌, drop, length-drop, slice_index, ℕ, Bool, true, false, not, List, [], ◌∷◌, ◌++◌, length, get_or, refl, sym, ap, ◌∙◌, subst, inl, inr, arith, length-append}
 use Rattle.std.proofs.Math.Seq.{take-append_seam, get_or-append_seam}
 use Rattle.std.specs.List.{AllByRecursion}
-use Rattle.std.specs.Str.{IsUtf8}
+use Rattle.std.specs.Str.{IsUtf8, IsCharBoundary}
+use Rattle.std.proofs.lemmas.List.{get_or-drop}
 use Rattle.std.proofs.lemmas.Bool.{not-false, not_from_true, cases_Bool}
 use Rattle.std.proofs.lemmas.Bool.Decides.{nat_tests}
-use Rattle.std.proofs.lemmas.Str.{IsUtf8-take, IsUtf8-from_ascii, IsCharBoundary-before_ascii}
+use Rattle.std.proofs.lemmas.Str.{IsUtf8-take, IsUtf8-from_ascii, IsCharBoundary-before_ascii, IsCharBoundary-start}
 use Rattle.bag_tags.specs.Words.{is_blank, IsBlank, is_blank_line, begins_blank}
-use Rattle.bag_tags.specs.WordsReading.{until, is_not_blank}
+use Rattle.bag_tags.specs.WordsReading.{until, stops, is_not_blank, is_dot, is_colon}
+use Rattle.bag_tags.specs.declared.words.Stop.{Stop}
+use Rattle.bag_tags.specs.declared.words.Stop.TheVariants.{Blank, NoBlank, Dot, Colon}
 use Rattle.bag_tags.proofs.WordsLemmas.{until_whole, until_front, until_at, begins_with}
 use Rattle.bag_tags.proofs.Utf8Lemmas.{IsUtf8-rest, IsAscii-from_each}
 
@@ -87,3 +90,35 @@ blanks_cut blanks rest h b = until_at is_not_blank blanks rest (each IsBlank (λ
 pub blank_line_of : (xs : List ℕ) → AllByRecursion IsBlank xs → is_blank_line xs ≡ true
 blank_line_of [] h = refl
 blank_line_of (x ∷ xs) h = rw h.0 (blank_line_of xs h.1)
+
+-- what follows where a text is cut
+ascii_rest : (test : ℕ → Bool) → ((x : ℕ) → test x ≡ true → x < 128) → (text front rest : List ℕ) → until test text ≡ (front, rest) → IsUtf8 text → IsUtf8 rest
+ascii_rest test below text front [] e u = IsUtf8-from_ascii [] (IsAscii-from_each [] tt)
+ascii_rest test below text front (y ∷ ys) e u =
+    let whole = subst IsUtf8 (whole_of test text front (y ∷ ys) e) u in
+    let b = below y (begins_with test text y ys (ap (λ (u : List ℕ × List ℕ). u.1) e)) in
+    IsUtf8-rest front (y ∷ ys) (utf8_before front ys y b whole) whole
+
+dot_below : (x : ℕ) → is_dot x ≡ true → x < 128
+dot_below x h = grind (arith, nat_tests)
+
+colon_below : (x : ℕ) → is_colon x ≡ true → x < 128
+colon_below x h = grind (arith, nat_tests)
+
+pub rest_utf8 : (stop : Stop) (text front rest : List ℕ) → until (stops stop) text ≡ (front, rest) → IsUtf8 text → IsUtf8 rest
+rest_utf8 Blank text front rest e u = ascii_rest is_blank blank_below text front rest e u
+rest_utf8 NoBlank text front rest e u = utf8_after_blanks front rest (blanks_of text front rest e) (subst IsUtf8 (whole_of is_not_blank text front rest e) u)
+rest_utf8 Dot text front rest e u = ascii_rest is_dot dot_below text front rest e u
+rest_utf8 Colon text front rest e u = ascii_rest is_colon colon_below text front rest e u
+
+pub boundary_of_rest : (text : List ℕ) (n : ℕ) → n ≤ length text → IsUtf8 (drop n text) → IsCharBoundary text n
+boundary_of_rest text n within u = (
+  within,
+  λ below high.
+      let start = IsCharBoundary-start (drop n text) u in
+      let here : slice_index (drop n text) 0 ≡ slice_index text n =
+      get_or-drop n text 0 0 ∙ (let same : n + 0 ≡ n = omega arith in ap (λ k. get_or text k 0) same) in
+      let some : 0 < length (drop n text) = omega (arith, length-drop n text) in
+      let h : 192 ≤ slice_index (drop n text) 0 = start.1 some (omega (arith, here)) in
+      omega (arith, here, h),
+)

@@ -9,7 +9,7 @@ use Rattle.bag_path.specs.Lines.{Text, line, HasLines, IsPlain, written_lines}
 use Rattle.bag_path.specs.declared.lines.Ending.TheVariants.{Lf}
 use Rattle.bag_path.proofs.LinesLemmas.{one_list, lines_of-written_lines}
 use Rattle.bag_tags.specs.Words.{without}
-use Rattle.bag_tags.specs.TagLines.{mark, Lead, IsTextOf}
+use Rattle.bag_tags.specs.TagLines.{mark, TagLine, tag_line, LeadsOn, Lead, IsTextOf}
 
 -- a fact of the pieces so far is one of all, once all were gone through
 pub all_of : {A : Type 0} (xs : List A) (n : ℕ) → n ≡ length xs → take n xs ≡ xs
@@ -23,8 +23,8 @@ abbrev pub lf_line : List ℕ → Text
 lf_line text = line text Lf
 
 -- the texts as numbered lines
-abbrev pub numbered_texts : ℕ → List (List ℕ) → List (ℕ × Text)
-numbered_texts n texts = enumerate_from n (map lf_line texts)
+abbrev pub numbered_texts : ℕ → List (List ℕ) → List TagLine
+numbered_texts n texts = map tag_line (enumerate_from n (map lf_line texts))
 
 plain_texts : (texts : List (List ℕ)) → AllByRecursion (AllByRecursion IsPlain) texts → AllByRecursion (All IsPlain) texts
 plain_texts [] h = tt
@@ -38,7 +38,7 @@ pub unmarked : (octets : List ℕ) → starts_with nat_eq octets mark ≡ false 
 unmarked octets h = rw h refl
 
 -- written texts are a text of the value to which their lines lead
-pub written_text : {A : Type 0} (leads : A → ℕ → List ℕ → A → Type 0) (start value : A) (texts : List (List ℕ)) → starts_with nat_eq (written_lines texts) mark ≡ false → AllByRecursion (AllByRecursion IsPlain) texts → Lead leads start (numbered_texts 1 texts) value → IsTextOf leads start (written_lines texts) value
+pub written_text : {A : Type 0} (leads : A → ℕ → List ℕ → A → Type 0) (start value : A) (texts : List (List ℕ)) → starts_with nat_eq (written_lines texts) mark ≡ false → AllByRecursion (AllByRecursion IsPlain) texts → Lead (LeadsOn leads) start (numbered_texts 1 texts) value → IsTextOf leads start (written_lines texts) value
 written_text leads start value texts u h l = record {
   lines = map lf_line texts;
   has_lines = subst (λ octets. HasLines octets (map lf_line texts)) (sym (unmarked (written_lines texts) u)) (has_written_lines texts h);

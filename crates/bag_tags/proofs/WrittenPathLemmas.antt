@@ -10,7 +10,7 @@ use Rattle.std.proofs.lemmas.List.Elements.{recursion_from_All}
 use Rattle.std.proofs.lemmas.Str.{IsUtf8-from_ascii, IsUtf8-append, IsUtf8-nil, encode_ascii}
 use Rattle.bag_path.specs.Lines.{IsPlain}
 use Rattle.bag_path.specs.Paths.{is_payload}
-use Rattle.bag_path.specs.Spellings.{written, written_part}
+use Rattle.bag_path.specs.Spellings.{written_spelling, written_part}
 use Rattle.bag_path.proofs.WrittenLemmas.{written_char, written_plain}
 use Rattle.bag_tags.specs.Words.{begins_blank}
 use Rattle.bag_tags.proofs.Utf8Lemmas.{IsAscii-from_each}
@@ -32,31 +32,31 @@ small a b c x y z = ascii (a ∷ b ∷ c ∷ []) (x, (y, (z, tt)))
 char_utf8 : (c : ℕ) → scalars (c ∷ []) ≡ true → IsUtf8 (encode_utf8 c)
 char_utf8 c h = (c ∷ [], (h, append-nil (encode_utf8 c)))
 
-written_one : (c : ℕ) → scalars (c ∷ []) ≡ true → IsUtf8 (written (encode_utf8 c))
+written_one : (c : ℕ) → scalars (c ∷ []) ≡ true → IsUtf8 (written_spelling (encode_utf8 c))
 written_one c h = elim (eqb_tells c 37) [
-  | inl e ↦ subst (λ d. IsUtf8 (written (encode_utf8 d))) (sym e.1) (subst IsUtf8 (ap written (sym (encode_ascii 37 (omega arith)))) (small 37 50 53 (omega arith) (omega arith) (omega arith)))
+  | inl e ↦ subst (λ d. IsUtf8 (written_spelling (encode_utf8 d))) (sym e.1) (subst IsUtf8 (ap written_spelling (sym (encode_ascii 37 (omega arith)))) (small 37 50 53 (omega arith) (omega arith) (omega arith)))
   | inr e ↦ elim (eqb_tells c 10) [
-    | inl f ↦ subst (λ d. IsUtf8 (written (encode_utf8 d))) (sym f.1) (subst IsUtf8 (ap written (sym (encode_ascii 10 (omega arith)))) (small 37 48 65 (omega arith) (omega arith) (omega arith)))
+    | inl f ↦ subst (λ d. IsUtf8 (written_spelling (encode_utf8 d))) (sym f.1) (subst IsUtf8 (ap written_spelling (sym (encode_ascii 10 (omega arith)))) (small 37 48 65 (omega arith) (omega arith) (omega arith)))
     | inr f ↦ elim (eqb_tells c 13) [
-      | inl g ↦ subst (λ d. IsUtf8 (written (encode_utf8 d))) (sym g.1) (subst IsUtf8 (ap written (sym (encode_ascii 13 (omega arith)))) (small 37 48 68 (omega arith) (omega arith) (omega arith)))
+      | inl g ↦ subst (λ d. IsUtf8 (written_spelling (encode_utf8 d))) (sym g.1) (subst IsUtf8 (ap written_spelling (sym (encode_ascii 13 (omega arith)))) (small 37 48 68 (omega arith) (omega arith) (omega arith)))
       | inr g ↦ subst IsUtf8 (sym (written_char c e.1 f.1 g.1)) (char_utf8 c h)
     ]
   ]
 ]
 
-written_chars : (cs : List ℕ) → scalars cs ≡ true → IsUtf8 (written (encode_utf8_all cs))
+written_chars : (cs : List ℕ) → scalars cs ≡ true → IsUtf8 (written_spelling (encode_utf8_all cs))
 written_chars [] h = IsUtf8-nil
 written_chars (c ∷ cs) h = subst IsUtf8 (sym (flat_map-append written_part (encode_utf8 c) (encode_utf8_all cs)))
-    (IsUtf8-append (written (encode_utf8 c)) (written (encode_utf8_all cs)) (written_one c (and_left _ (scalars cs) h)) (written_chars cs (and_right _ (scalars cs) h)))
+    (IsUtf8-append (written_spelling (encode_utf8 c)) (written_spelling (encode_utf8_all cs)) (written_one c (and_left _ (scalars cs) h)) (written_chars cs (and_right _ (scalars cs) h)))
 
-pub written_utf8 : (path : List ℕ) → IsUtf8 path → IsUtf8 (written path)
-written_utf8 path u = subst (λ octets. IsUtf8 (written octets)) u.1.1 (written_chars u.0 u.1.0)
+pub written_utf8 : (path : List ℕ) → IsUtf8 path → IsUtf8 (written_spelling path)
+written_utf8 path u = subst (λ octets. IsUtf8 (written_spelling octets)) u.1.1 (written_chars u.0 u.1.0)
 
-pub path_plain : (path : List ℕ) → AllByRecursion IsPlain (written path)
-path_plain path = recursion_from_All IsPlain (written path) (written_plain path)
+pub path_plain : (path : List ℕ) → AllByRecursion IsPlain (written_spelling path)
+path_plain path = recursion_from_All IsPlain (written_spelling path) (written_plain path)
 
 payload_whole : (path : List ℕ) → is_payload path ≡ true → path ≡ codes "data/" ++ drop 5 path
 payload_whole path h = sym (take-append-drop 5 path) ∙ ap (λ xs. xs ++ drop 5 path) (sym ((bytes_eq-Decides (codes "data/") (take 5 path)).0 h))
 
-pub payload_begins : (path : List ℕ) → is_payload path ≡ true → begins_blank (written path) ≡ false
-payload_begins path h = ap (λ p. begins_blank (written p)) (payload_whole path h)
+pub payload_begins : (path : List ℕ) → is_payload path ≡ true → begins_blank (written_spelling path) ≡ false
+payload_begins path h = ap (λ p. begins_blank (written_spelling p)) (payload_whole path h)

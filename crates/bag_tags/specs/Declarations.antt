@@ -1,12 +1,17 @@
 -- `bagit.txt` (RFC 8493 section 2.1.1).
-use Rattle.std.specs.Prelude.{◌≡◌, ◌≢◌, ◌⊎◌, ◌↔◌, ◌≤◌, ◌++◌, ℕ, true, false, List, [], ◌∷◌, IsTrue, map, length, nat_eq, codes, slice_index}
+use Rattle.std.specs.Prelude.{◌≡◌, ◌≢◌, ◌⊎◌, ◌↔◌, ◌≤◌, ◌++◌, ◌==◌, ◌&&◌, if◌then◌else◌, Option, Some, None, ℕ, true, false, List, [], ◌∷◌, IsTrue, map, length, nat_eq, codes, slice_index}
+use Rattle.bag_path.specs.Octets.{lf}
+use Rattle.bag_tags.specs.Octets.{first_visible, last_visible, zero_digit}
 use Rattle.std.specs.List.{AllByRecursion, starts_with}
 use Rattle.std.specs.Char.{to_ascii_lowercase}
 use Rattle.std.specs.Str.{is_utf8}
 use Rattle.bag_path.specs.Lines.{Text, HasLines}
 use Rattle.bag_tags.specs.declared.declaration.Declaration.{Declaration}
-use Rattle.bag_tags.specs.declared.declaration.DeclarationFault.{DeclarationFault}
-use Rattle.bag_tags.specs.declared.declaration.DeclarationFault.TheVariants.{NotUtf8, Mark, LineCount, Label, Version, EncodingName}
+use Rattle.bag_tags.specs.declared.declaration.DeclFault.{DeclFault}
+use Rattle.bag_tags.specs.declared.declaration.DeclFault.TheVariants.{NotUtf8, Mark, LineCount, Label, EncodingName}
+use Rattle.bag_tags.specs.declared.declaration.DeclFault.TheVariants as fault
+use Rattle.bag_path.specs.declared.version.Version.{Version}
+use Rattle.bag_path.specs.declared.version.Version.TheVariants.{V1}
 use Rattle.bag_tags.specs.TagLines.{mark}
 use Rattle.bag_tags.specs.Numerals.{IsNumeral}
 
@@ -20,7 +25,7 @@ encoding_label = codes "Tag-File-Character-Encoding: "
 pub record IsVersionPart (text : List ℕ) (value : ℕ) : Type 0 where
   pub numeral : IsNumeral text value
   pub short : length text ≤ 9
-  pub no_leading_zero : (length text ≡ 1) ⊎ (slice_index text 0 ≢ 48)
+  pub no_leading_zero : (length text ≡ 1) ⊎ (slice_index text 0 ≢ zero_digit)
 
 -- `M.N`
 pub record IsVersion (text : List ℕ) (major minor : ℕ) : Type 0 where
@@ -32,7 +37,7 @@ pub record IsVersion (text : List ℕ) (major minor : ℕ) : Type 0 where
 
 -- one or more characters from `!` to `~`
 abbrev pub IsVisible : ℕ → Type 0
-IsVisible octet = (33 ≤ octet) × (octet ≤ 126)
+IsVisible octet = (first_visible ≤ octet) × (octet ≤ last_visible)
 
 abbrev pub IsEncodingName : List ℕ → Type 0
 IsEncodingName name = (name ≢ []) × AllByRecursion IsVisible name
@@ -65,23 +70,34 @@ pub record IsDeclaration (octets : List ℕ) (declaration : Declaration) : Type 
 
 -- the texts of the two lines don't both begin with their labels
 abbrev pub HaveNoLabels : List ℕ → List ℕ → Type 0
-HaveNoLabels first second = (starts_with nat_eq first version_label ≡ false) ⊎ (starts_with nat_eq second encoding_label ≡ false)
+HaveNoLabels first second = (starts_with nat_eq first version_label ≡ false)
+    ⊎ (starts_with nat_eq second encoding_label ≡ false)
 
 -- the first fault of octets that declare nothing
-abbrev pub IsDeclarationFault : List ℕ → DeclarationFault → Type 0
+abbrev pub IsDeclarationFault : List ℕ → DeclFault → Type 0
 IsDeclarationFault octets NotUtf8 = is_utf8 octets ≡ false
 IsDeclarationFault octets Mark = (is_utf8 octets ≡ true) × (starts_with nat_eq octets mark ≡ true)
-IsDeclarationFault octets LineCount = IsUnmarked octets × ((lines : List Text) × HasLines octets lines × (length lines ≢ 2))
-IsDeclarationFault octets Label = IsUnmarked octets × ((first : Text) × (second : Text) × HasLines octets (first ∷ second ∷ []) × HaveNoLabels first.text second.text)
-IsDeclarationFault octets Version = (version : List ℕ) × (encoding : List ℕ) × HasLabels octets version encoding
+IsDeclarationFault octets LineCount = IsUnmarked octets
+    × ((lines : List Text) × HasLines octets lines × (length lines ≢ 2))
+IsDeclarationFault octets Label = IsUnmarked octets
+    × ((first : Text) × (second : Text) × HasLines octets (first ∷ second ∷ [])
+    × HaveNoLabels first.text second.text)
+IsDeclarationFault octets fault.Version = (version : List ℕ) × (encoding : List ℕ)
+    × HasLabels octets version encoding
     × ((major minor : ℕ) → IsVersion version major minor → ⊥)
-IsDeclarationFault octets EncodingName = (version : List ℕ) × (encoding : List ℕ) × (major : ℕ) × (minor : ℕ) × HasLabels octets version encoding
+IsDeclarationFault octets EncodingName = (version : List ℕ) × (encoding : List ℕ) × (major : ℕ)
+    × (minor : ℕ) × HasLabels octets version encoding
     × IsVersion version major minor × (IsEncodingName encoding → ⊥)
+
+-- the version that is declared, where it is one that is known
+abbrev pub version_of : Declaration → Option Version
+version_of declaration = if declaration.major == 1 && declaration.minor == 0 then Some V1 else None
 
 -- version 1.0 and UTF-8
 abbrev pub current : Declaration
 current = record { major = 1; minor = 0; utf8 = true }
 
 -- the octets that declare it here
-abbrev pub written : List ℕ
-written = codes "BagIt-Version: 1.0" ++ 10 ∷ codes "Tag-File-Character-Encoding: UTF-8" ++ 10 ∷ []
+abbrev pub written_declaration : List ℕ
+written_declaration = codes "BagIt-Version: 1.0" ++ lf ∷ codes "Tag-File-Character-Encoding: UTF-8"
+    ++ lf ∷ []

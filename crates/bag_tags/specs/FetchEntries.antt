@@ -1,11 +1,13 @@
 -- Entries of `fetch.txt` (RFC 8493 section 2.2.3).
 use Rattle.std.specs.Prelude.{◌≡◌, ◌≢◌, ◌⊎◌, ◌<◌, ◌++◌, ℕ, true, List, [], ◌∷◌, Option, Some, None, codes}
+use Rattle.bag_path.specs.Octets.{lf}
+use Rattle.bag_tags.specs.Octets.{colon, delete, dot, hyphen, plus, space}
 use Rattle.std.specs.List.{AllByRecursion}
 use Rattle.std.specs.Char.{IsAsciiDigit, IsAsciiAlphabetic}
 use Rattle.std.specs.Fmt.{decimal}
 use Rattle.std.specs.Str.{IsUtf8}
 use Rattle.bag_path.specs.Paths.{IsPath, is_payload}
-use Rattle.bag_path.specs.Spellings.{written}
+use Rattle.bag_path.specs.Spellings.{written_spelling}
 use Rattle.bag_tags.specs.declared.fetch.FetchEntryFault.{FetchEntryFault}
 use Rattle.bag_tags.specs.declared.fetch.FetchEntryFault.TheVariants.{BadUrl, NotPayload, Memory}
 
@@ -20,7 +22,8 @@ fetch_item url octets path = record { url = url; octets = octets; path = path }
 
 -- a letter, a digit, `+`, `-` or `.`
 abbrev pub IsSchemeOctet : ℕ → Type 0
-IsSchemeOctet octet = IsAsciiAlphabetic octet ⊎ IsAsciiDigit octet ⊎ (octet ≡ 43) ⊎ (octet ≡ 45) ⊎ (octet ≡ 46)
+IsSchemeOctet octet = IsAsciiAlphabetic octet ⊎ IsAsciiDigit octet ⊎ (octet ≡ plus) ⊎ (octet ≡ hyphen)
+    ⊎ (octet ≡ dot)
 
 -- a scheme (RFC 3986 section 3.1) begins with a letter
 abbrev pub IsScheme : List ℕ → Type 0
@@ -29,13 +32,14 @@ IsScheme (octet ∷ octets) = IsAsciiAlphabetic octet × AllByRecursion IsScheme
 
 -- neither a space nor a control: U+0000 to U+001F and U+007F
 abbrev pub IsUrlOctet : ℕ → Type 0
-IsUrlOctet octet = (32 < octet) × (octet ≢ 127)
+IsUrlOctet octet = (space < octet) × (octet ≢ delete)
 
--- a scheme, a colon and something more (RFC 3986 section 3; that nothing else is asked of a url is this project's own)
+-- a scheme, a colon and something more (RFC 3986 section 3; that nothing else is asked of a url is
+-- this project's own)
 pub record IsUrl (url : List ℕ) : Type 0 where
   pub scheme : List ℕ
   pub rest : List ℕ
-  pub whole : url ≡ scheme ++ 58 ∷ rest
+  pub whole : url ≡ scheme ++ colon ∷ rest
   pub is_scheme : IsScheme scheme
   pub some : rest ≢ []
   pub no_control : AllByRecursion IsUrlOctet rest
@@ -60,4 +64,5 @@ written_length (Some n) = decimal n
 
 -- a line as it is written: url, space, length or `-`, space, the path's written spelling and LF
 abbrev pub written_entry : FetchItem → List ℕ
-written_entry entry = entry.url ++ codes " " ++ written_length entry.octets ++ codes " " ++ written entry.path ++ 10 ∷ []
+written_entry entry = entry.url ++ codes " " ++ written_length entry.octets ++ codes " "
+    ++ written_spelling entry.path ++ lf ∷ []

@@ -1,12 +1,12 @@
 -- The text of `fetch.txt` (RFC 8493 section 2.2.3).
 use Rattle.std.specs.Prelude.{◌≡◌, ◌⊎◌, ◌<◌, ◌^◌, ◌++◌, ℕ, true, List, [], ◌∷◌, Option, Some, None, codes}
 use Rattle.std.specs.List.{AllByRecursion}
-use Rattle.std.specs.Str.{IsUtf8}
-use Rattle.bag_path.specs.declared.spelling.Version.{Version}
+use Rattle.bag_path.specs.declared.path.PathFault.{PathFault}
+use Rattle.bag_path.specs.declared.version.Version.{Version}
 use Rattle.bag_path.specs.Paths.{IsPath, is_payload}
 use Rattle.bag_path.specs.Spellings.{Spells}
 use Rattle.bag_tags.specs.declared.fault.LineCause.{LineCause}
-use Rattle.bag_tags.specs.declared.fault.LineCause.TheVariants.{NotUtf8, NoSeparator, BadUrl, BadLength, BadPath, WrongPlace}
+use Rattle.bag_tags.specs.declared.fault.LineCause.TheVariants.{NoSeparator, BadUrl, BadLength, BadPath, WrongPlace}
 use Rattle.bag_tags.specs.declared.fault.LineFault.{LineFault}
 use Rattle.bag_tags.specs.Numerals.{IsNumeral}
 use Rattle.bag_tags.specs.Words.{IsNotBlank, IsCut}
@@ -24,12 +24,8 @@ pub record AreWords (text url length path_text : List ℕ) : Type 0 where
   pub url_cut : IsCut text url after_url rest
   pub length_cut : IsCut rest length after_length path_text
 
--- And it is UTF-8.
-pub record HasWords (text url length path_text : List ℕ) : Type 0 where
-  pub utf8 : IsUtf8 text
-  pub words : AreWords text url length path_text
-
--- a length: `-`, or a numeral of a number below 2^64 (that leading zeros are accepted is this project's own)
+-- a length: `-`, or a numeral of a number below 2^64 (that leading zeros are accepted is this
+-- project's own)
 abbrev pub IsLength : List ℕ → Option ℕ → Type 0
 IsLength text None = text ≡ codes "-"
 IsLength text (Some n) = IsNumeral text n × (n < 2 ^ 64)
@@ -38,14 +34,15 @@ IsLength text (Some n) = IsNumeral text n × (n < 2 ^ 64)
 pub record GivesEntry (version : Version) (text : List ℕ) (entry : FetchItem) : Type 0 where
   pub length : List ℕ
   pub path_text : List ℕ
-  pub words : HasWords text entry.url length path_text
+  pub words : AreWords text entry.url length path_text
   pub is_url : IsUrl entry.url
   pub is_length : IsLength length entry.octets
   pub spells : Spells version entry.path path_text
   pub is_path : IsPath entry.path
 
 -- a line adds the entry that it gives, for a payload file, with the line's number
-pub record AddsEntry (version : Version) (before : List FetchLine) (number : ℕ) (text : List ℕ) (after : List FetchLine) : Type 0 where
+pub record AddsEntry (version : Version) (before : List FetchLine) (number : ℕ) (text : List ℕ)
+    (after : List FetchLine) : Type 0 where
   pub entry : FetchItem
   pub gives : GivesEntry version text entry
   pub payload : is_payload entry.path ≡ true
@@ -58,22 +55,57 @@ FetchText version octets lines = IsTextOf (AddsEntry version) [] octets lines
 -- no blank after the url, or none after the length
 abbrev pub LacksWord : List ℕ → Type 0
 LacksWord text = AllByRecursion IsNotBlank text
-    ⊎ ((url : List ℕ) × ((blanks : List ℕ) × ((rest : List ℕ) × IsCut text url blanks rest × AllByRecursion IsNotBlank rest)))
+    ⊎ ((url : List ℕ) × ((blanks : List ℕ) × ((rest : List ℕ)
+    × IsCut text url blanks rest × AllByRecursion IsNotBlank rest)))
+
+-- The line has its words, but the first is no url.
+pub record HasBadUrl (text : List ℕ) : Type 0 where
+  pub url : List ℕ
+  pub length : List ℕ
+  pub path_text : List ℕ
+  pub words : AreWords text url length path_text
+  pub no_url : ¬ IsUrl url
+
+-- The line has a url, but the word after it is no length.
+pub record HasBadLength (text : List ℕ) : Type 0 where
+  pub url : List ℕ
+  pub length : List ℕ
+  pub path_text : List ℕ
+  pub words : AreWords text url length path_text
+  pub is_url : IsUrl url
+  pub no_length : (number : Option ℕ) → ¬ IsLength length number
+
+-- The line has a url and a length, but the text after them spells no path.
+pub record HasNoPath (version : Version) (text : List ℕ) (fault : PathFault) : Type 0 where
+  pub url : List ℕ
+  pub length : List ℕ
+  pub path_text : List ℕ
+  pub number : Option ℕ
+  pub words : AreWords text url length path_text
+  pub is_url : IsUrl url
+  pub is_length : IsLength length number
+  pub no_path : SpellsNoPath fault version path_text
+
+-- The line gives an entry for a path that is not that of a payload file.
+pub record HasOtherPath (version : Version) (text : List ℕ) : Type 0 where
+  pub entry : FetchItem
+  pub gives : GivesEntry version text entry
+  pub no_payload : ¬ (is_payload entry.path ≡ true)
 
 -- the first cause for which a line gives no entry for a payload file
 abbrev pub GivesNoEntry : Version → List ℕ → LineCause → Type 0
-GivesNoEntry version text NotUtf8 = ¬ IsUtf8 text
-GivesNoEntry version text NoSeparator = IsUtf8 text × LacksWord text
-GivesNoEntry version text BadUrl = (url length path_text : List ℕ) × HasWords text url length path_text × ¬ IsUrl url
-GivesNoEntry version text BadLength = (url length path_text : List ℕ) × HasWords text url length path_text × IsUrl url × ((octets : Option ℕ) → ¬ IsLength length octets)
-GivesNoEntry version text (BadPath fault) = (url length path_text : List ℕ) × HasWords text url length path_text × IsUrl url × ((octets : Option ℕ) × IsLength length octets × SpellsNoPath fault version path_text)
-GivesNoEntry version text WrongPlace = (entry : FetchItem) × GivesEntry version text entry × ¬ (is_payload entry.path ≡ true)
+GivesNoEntry version text NoSeparator = LacksWord text
+GivesNoEntry version text BadUrl = HasBadUrl text
+GivesNoEntry version text BadLength = HasBadLength text
+GivesNoEntry version text (BadPath fault) = HasNoPath version text fault
+GivesNoEntry version text WrongPlace = HasOtherPath version text
 GivesNoEntry version text _ = ⊥
 
 -- which doesn't depend on the lines before it
-abbrev pub RefusesEntry : Version → List FetchLine → List ℕ → LineCause → Type 0
-RefusesEntry version before text cause = GivesNoEntry version text cause
+abbrev pub RefusesFetchLine : Version → List FetchLine → List ℕ → LineCause → Type 0
+RefusesFetchLine version before text cause = GivesNoEntry version text cause
 
 -- the first fault of a text that lists nothing
 abbrev pub FetchFault : Version → List ℕ → LineFault → Type 0
-FetchFault version octets fault = IsFirstFault (AddsEntry version) (RefusesEntry version) [] octets fault
+FetchFault version octets fault = IsFirstFault (AddsEntry version)
+    (RefusesFetchLine version) [] octets fault

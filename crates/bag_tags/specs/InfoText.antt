@@ -1,14 +1,14 @@
 -- The text of `bag-info.txt` (RFC 8493 section 2.2.2).
 use Rattle.std.specs.Prelude.{◌≡◌, ◌≢◌, ◌⊎◌, ◌++◌, ℕ, true, false, List, [], ◌∷◌}
+use Rattle.bag_tags.specs.Octets.{colon}
 use Rattle.std.specs.List.{AllByRecursion}
-use Rattle.std.specs.Str.{IsUtf8}
-use Rattle.bag_path.specs.declared.spelling.Version.{Version}
+use Rattle.bag_path.specs.declared.version.Version.{Version}
 use Rattle.bag_tags.specs.declared.fault.LineCause.{LineCause}
-use Rattle.bag_tags.specs.declared.fault.LineCause.TheVariants.{NotUtf8, NoSeparator, BadLabel, NothingToContinue}
+use Rattle.bag_tags.specs.declared.fault.LineCause.TheVariants.{NoSeparator, BadLabel, NothingToContinue}
 use Rattle.bag_tags.specs.declared.fault.LineFault.{LineFault}
 use Rattle.bag_tags.specs.Words.{IsBlank, IsNotBlank, begins_blank}
 use Rattle.bag_tags.specs.TagLines.{IsTextOf, IsFirstFault}
-use Rattle.bag_tags.specs.Infos.{MetadataElement, continued, IsFit, IsNotColon}
+use Rattle.bag_tags.specs.Infos.{MetadataElement, element_with_line, IsFit, IsNotColon}
 
 -- The line is indented: blanks, and then this, which begins with no blank.
 pub record IsIndented (text line : List ℕ) : Type 0 where
@@ -20,10 +20,11 @@ pub record IsIndented (text line : List ℕ) : Type 0 where
 
 -- The line is a label, its first colon, and what follows.
 pub record HasColon (text label after : List ℕ) : Type 0 where
-  pub whole : text ≡ label ++ 58 ∷ after
+  pub whole : text ≡ label ++ colon ∷ after
   pub first_colon : AllByRecursion IsNotColon label
 
--- What follows the colon is one blank and the first line of the value; or nothing, and then the first line is empty (this
+-- What follows the colon is one blank and the first line of the value; or nothing, and then the
+-- first line is empty (this
 -- project's own: the RFC asks for the blank).
 abbrev pub HasFirstLine : List ℕ → List ℕ → Type 0
 HasFirstLine [] first = first ≡ []
@@ -41,23 +42,26 @@ pub record GivesElement (text : List ℕ) (element : MetadataElement) : Type 0 w
   pub fit : IsFit element.label
 
 -- an indented line continues the value of the last element
-pub record Continues (before : List MetadataElement) (text : List ℕ) (after : List MetadataElement) : Type 0 where
+pub record Continues (before : List MetadataElement) (text : List ℕ)
+    (after : List MetadataElement) : Type 0 where
   pub earlier : List MetadataElement
   pub last : MetadataElement
   pub line : List ℕ
   pub indented : IsIndented text line
   pub has_last : before ≡ earlier ++ last ∷ []
-  pub continues : after ≡ earlier ++ continued last line ∷ []
+  pub continues : after ≡ earlier ++ element_with_line last line ∷ []
 
 -- any other line adds the element that it gives
-pub record AddsElement (before : List MetadataElement) (text : List ℕ) (after : List MetadataElement) : Type 0 where
+pub record AddsElement (before : List MetadataElement) (text : List ℕ)
+    (after : List MetadataElement) : Type 0 where
   pub element : MetadataElement
   pub gives : GivesElement text element
   pub adds : after ≡ before ++ element ∷ []
 
 -- what a line that isn't blank makes of the elements before it
 abbrev pub AddsInfo : Version → List MetadataElement → ℕ → List ℕ → List MetadataElement → Type 0
-AddsInfo version before number text after = IsUtf8 text × (Continues before text after ⊎ AddsElement before text after)
+AddsInfo version before number text after = Continues before text after
+    ⊎ AddsElement before text after
 
 -- the octets are the text of these elements, in this order
 abbrev pub InfoText : Version → List ℕ → List MetadataElement → Type 0
@@ -66,20 +70,22 @@ InfoText version octets elements = IsTextOf (AddsInfo version) [] octets element
 -- a line without a separator: it has no colon, or something other than a blank after the first
 abbrev pub LacksSeparator : List ℕ → Type 0
 LacksSeparator text = AllByRecursion IsNotColon text
-    ⊎ ((label : List ℕ) × ((octet : ℕ) × ((rest : List ℕ) × HasColon text label (octet ∷ rest) × IsNotBlank octet)))
+    ⊎ ((label : List ℕ) × ((octet : ℕ) × ((rest : List ℕ)
+    × HasColon text label (octet ∷ rest) × IsNotBlank octet)))
 
 -- the first cause for which a line that isn't indented gives no element
 abbrev pub GivesNoElement : List ℕ → LineCause → Type 0
 GivesNoElement text NoSeparator = LacksSeparator text
-GivesNoElement text BadLabel = (label : List ℕ) × ((first : List ℕ) × HasParts text label first × ¬ IsFit label)
+GivesNoElement text BadLabel = (label : List ℕ) × ((first : List ℕ) × HasParts text label first
+    × ¬ IsFit label)
 GivesNoElement text _ = ⊥
 
 -- the first cause for which a line adds nothing
 abbrev pub RefusesInfo : Version → List MetadataElement → List ℕ → LineCause → Type 0
-RefusesInfo version before text NotUtf8 = ¬ IsUtf8 text
-RefusesInfo version before text NothingToContinue = IsUtf8 text × (begins_blank text ≡ true) × (before ≡ [])
-RefusesInfo version before text cause = IsUtf8 text × (begins_blank text ≡ false) × GivesNoElement text cause
+RefusesInfo version before text NothingToContinue = (begins_blank text ≡ true) × (before ≡ [])
+RefusesInfo version before text cause = (begins_blank text ≡ false) × GivesNoElement text cause
 
 -- the first fault of a text that says nothing
 abbrev pub InfoFault : Version → List ℕ → LineFault → Type 0
-InfoFault version octets fault = IsFirstFault (AddsInfo version) (RefusesInfo version) [] octets fault
+InfoFault version octets fault = IsFirstFault (AddsInfo version)
+    (RefusesInfo version) [] octets fault

@@ -1,7 +1,10 @@
 -- What `bag-info.txt` says (RFC 8493 section 2.2.2).
-use Rattle.std.specs.Prelude.{◌≡◌, ◌≢◌, ◌-◌, ◌++◌, ◌==◌, ℕ, false, List, [], ◌∷◌, length, nat_eq, codes, slice_index, if◌then◌else◌}
+use Rattle.std.specs.Prelude.{◌≡◌, ◌≢◌, ◌-◌, ◌++◌, ◌==◌, ℕ, Bool, false, List, [], ◌∷◌, length, map, nat_eq, codes, slice_index, if◌then◌else◌}
+use Rattle.bag_path.specs.Octets.{lf}
+use Rattle.bag_tags.specs.Octets.{colon, space}
 use Rattle.std.specs.List.{AllByRecursion, flat_map, starts_with}
-use Rattle.std.specs.Str.{IsUtf8}
+use Rattle.std.specs.Char.{to_ascii_lowercase}
+use Rattle.std.specs.Str.{IsUtf8, bytes_eq}
 use Rattle.bag_path.specs.Lines.{IsPlain}
 use Rattle.bag_tags.specs.declared.info.ElementFault.{ElementFault}
 use Rattle.bag_tags.specs.declared.info.ElementFault.TheVariants.{BadLabel, BadValue, Memory}
@@ -16,7 +19,8 @@ pub record MetadataElement : Type 0 where
 abbrev pub element : List ℕ → List ℕ → MetadataElement
 element label value = record { label = label; value = value }
 
--- The label is not empty, and begins and ends with no blank. (That it doesn't begin with U+FEFF is this project's own: at
+-- The label is not empty, and begins and ends with no blank. (That it doesn't begin with U+FEFF is
+-- this project's own: at
 -- the front of the file that is a byte order mark.)
 pub record IsFit (label : List ℕ) : Type 0 where
   pub some : label ≢ []
@@ -25,7 +29,7 @@ pub record IsFit (label : List ℕ) : Type 0 where
   pub unmarked : starts_with nat_eq label mark ≡ false
 
 abbrev pub IsNotColon : ℕ → Type 0
-IsNotColon octet = octet ≢ 58
+IsNotColon octet = octet ≢ colon
 
 -- neither a colon, nor LF or CR
 abbrev pub IsLabelOctet : ℕ → Type 0
@@ -43,9 +47,10 @@ pub record IsFurtherLine (line : List ℕ) : Type 0 where
   pub no_line_end : AllByRecursion IsPlain line
 
 abbrev pub after_lf : List ℕ → List ℕ
-after_lf line = 10 ∷ line
+after_lf line = lf ∷ line
 
--- The lines of a value: a first one, which may be empty and may begin with blanks, and further ones, each after an LF.
+-- The lines of a value: a first one, which may be empty and may begin with blanks, and further
+-- ones, each after an LF.
 pub record HasValueLines (value first : List ℕ) (further : List (List ℕ)) : Type 0 where
   pub whole : value ≡ first ++ flat_map after_lf further
   pub first_line : AllByRecursion IsPlain first
@@ -71,20 +76,26 @@ RefusesElement label value BadValue = IsLabel label × ¬ IsValue value
 RefusesElement label value Memory = Unit {0}
 
 -- the value with one line more
-abbrev pub continued : MetadataElement → List ℕ → MetadataElement
-continued element line = record element { value = element.value ++ after_lf line }
+abbrev pub element_with_line : MetadataElement → List ℕ → MetadataElement
+element_with_line element line = record element { value = element.value ++ after_lf line }
+
+-- whether the element is a `Payload-Oxum` (section 2.2.2): labels are compared without regard to
+-- ASCII case
+abbrev pub is_oxum : MetadataElement → Bool
+is_oxum element = bytes_eq (map to_ascii_lowercase element.label) (codes "payload-oxum")
 
 -- the octets of a value as they are written: each LF before a space
 abbrev pub written_octet : ℕ → List ℕ
-written_octet octet = if octet == 10 then 10 ∷ 32 ∷ [] else octet ∷ []
+written_octet octet = if octet == lf then lf ∷ space ∷ [] else octet ∷ []
 
 abbrev pub written_value : List ℕ → List ℕ
 written_value value = flat_map written_octet value
 
--- an element as it is written: its label, a colon, a space, its value and LF; each further line of the value is indented by a
+-- an element as it is written: its label, a colon, a space, its value and LF; each further line of
+-- the value is indented by a
 -- space, and nothing is folded
 abbrev pub written_element : MetadataElement → List ℕ
-written_element element = element.label ++ codes ": " ++ written_value element.value ++ 10 ∷ []
+written_element element = element.label ++ codes ": " ++ written_value element.value ++ lf ∷ []
 
 abbrev pub written_info : List MetadataElement → List ℕ
 written_info elements = flat_map written_element elements

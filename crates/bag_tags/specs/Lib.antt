@@ -1,7 +1,7 @@
+pub mod Octets
 pub mod Words
 pub mod WordsReading
 pub mod TagLines
-pub mod Reading
 pub mod Numerals
 pub mod Declarations
 pub mod Names

@@ -29,7 +29,8 @@ pair path digest = record { path = path; digest = digest }
 abbrev pub with_pair : Listing → Pair → Listing
 with_pair listing pair = record listing { pairs = listing.pairs ++ pair ∷ [] }
 
--- A payload manifest lists payload files alone. A tag manifest lists tag files that are no tag manifests.
+-- A payload manifest lists payload files alone. A tag manifest lists tag files that are no tag
+-- manifests.
 abbrev pub IsInPlace : Kind → List ℕ → Type 0
 IsInPlace Payload path = is_payload path ≡ true
 IsInPlace Tag path = (is_payload path ≡ false) × ¬ NamesTagManifest path
@@ -41,7 +42,8 @@ lists_path pairs path = list_any (λ (pair : Pair). bytes_eq pair.path path) pai
 -- the digest that is listed for a path, if one is
 abbrev pub listed_digest : List Pair → List ℕ → Option Digest
 listed_digest [] path = None
-listed_digest (pair ∷ pairs) path = if bytes_eq pair.path path then Some pair.digest else listed_digest pairs path
+listed_digest (pair ∷ pairs) path = if bytes_eq pair.path path then Some pair.digest
+    else listed_digest pairs path
 
 -- no path stands twice
 abbrev pub NoneTwice : List Pair → Type 0
@@ -57,6 +59,8 @@ pub record Admits (listing : Listing) (path : List ℕ) (digest : Digest) : Type
 -- the first reason why it may not; want of memory says nothing
 abbrev pub RefusesPair : Listing → List ℕ → Digest → PushFault → Type 0
 RefusesPair listing path digest WrongAlg = ¬ (alg_of digest ≡ listing.alg)
-RefusesPair listing path digest WrongPlace = (alg_of digest ≡ listing.alg) × ¬ IsInPlace listing.kind path
-RefusesPair listing path digest Twice = (alg_of digest ≡ listing.alg) × IsInPlace listing.kind path × (lists_path listing.pairs path ≡ true)
+RefusesPair listing path digest WrongPlace = (alg_of digest ≡ listing.alg)
+    × ¬ IsInPlace listing.kind path
+RefusesPair listing path digest Twice = (alg_of digest ≡ listing.alg) × IsInPlace listing.kind path
+    × (lists_path listing.pairs path ≡ true)
 RefusesPair listing path digest Memory = Unit {0}

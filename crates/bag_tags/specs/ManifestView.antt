@@ -18,15 +18,18 @@ listing_of manifest = record { alg = manifest.alg; kind = manifest.kind; pairs =
 -- where the first pair with this path stands, counted from n
 abbrev pub place_from : ℕ → List Pair → List ℕ → Option ℕ
 place_from n [] path = None
-place_from n (pair ∷ pairs) path = if bytes_eq pair.path path then Some n else place_from (n + 1) pairs path
+place_from n (pair ∷ pairs) path = if bytes_eq pair.path path then Some n
+    else place_from (n + 1) pairs path
 
 -- the index has the place of each path that is listed, and no other path
 abbrev pub IsIndexOf : BTreeMap (List ℕ) ℕ → List Pair → Type 0
-IsIndexOf places pairs = (path : List ℕ) → get (slice_cmp nat_cmp) places path ≡ place_from 0 pairs path
+IsIndexOf places pairs = (path : List ℕ) → get (slice_cmp nat_cmp) places path
+    ≡ place_from 0 pairs path
 
 -- each pair's digest is by the algorithm, and its path is in place
 abbrev pub FitEach : Alg → Kind → List Pair → Type 0
-FitEach alg kind pairs = AllByRecursion (λ (pair : Pair). (alg_of pair.digest ≡ alg) × IsInPlace kind pair.path) pairs
+FitEach alg kind pairs = AllByRecursion (λ (pair : Pair). (alg_of pair.digest ≡ alg)
+    × IsInPlace kind pair.path) pairs
 
 pub record IsIndexed (manifest : Inside) : Type 0 where
   pub index : IsIndexOf manifest.places manifest.pairs.items

@@ -1,8 +1,7 @@
 -- The text of a manifest (RFC 8493 section 2.1.3).
 use Rattle.std.specs.Prelude.{◌≡◌, ℕ, true, List, codes}
 use Rattle.std.specs.List.{AllByRecursion}
-use Rattle.std.specs.Str.{IsUtf8}
-use Rattle.bag_path.specs.declared.spelling.Version.{Version}
+use Rattle.bag_path.specs.declared.version.Version.{Version}
 use Rattle.bag_path.specs.declared.path.PathFault.{PathFault}
 use Rattle.bag_path.specs.declared.path.PathFault.TheVariants as path
 use Rattle.bag_path.specs.Paths.{IsPath}
@@ -11,7 +10,7 @@ use Rattle.bag_digest.specs.declared.algorithm.Alg.{Alg}
 use Rattle.bag_digest.specs.declared.digest.Digest.{Digest}
 use Rattle.bag_digest.specs.Spelling.{SpellsDigest}
 use Rattle.bag_tags.specs.declared.fault.LineCause.{LineCause}
-use Rattle.bag_tags.specs.declared.fault.LineCause.TheVariants.{NotUtf8, NoSeparator, BadDigest, BadPath, WrongPlace, Twice}
+use Rattle.bag_tags.specs.declared.fault.LineCause.TheVariants.{NoSeparator, BadDigest, BadPath, WrongPlace, Twice}
 use Rattle.bag_tags.specs.declared.fault.LineFault.{LineFault}
 use Rattle.bag_tags.specs.declared.listing.Kind.{Kind}
 use Rattle.bag_tags.specs.declared.listing.Pair.{Pair}
@@ -24,22 +23,25 @@ abbrev pub plain_path : List ℕ → List ℕ
 plain_path text = without (codes "./") (without (codes "*") text)
 
 -- The line is a checksum, blanks and a path's text; the checksum is this digest in hex.
-pub record HasChecksum (alg : Alg) (text : List ℕ) (digest : Digest) (path_text : List ℕ) : Type 0 where
-  pub utf8 : IsUtf8 text
+pub record HasChecksum (alg : Alg) (text : List ℕ) (digest : Digest)
+    (path_text : List ℕ) : Type 0 where
   pub checksum : List ℕ
   pub blanks : List ℕ
   pub cut : IsCut text checksum blanks path_text
   pub spells_digest : SpellsDigest alg checksum digest
 
 -- The line gives the path this digest.
-pub record Gives (version : Version) (alg : Alg) (text : List ℕ) (path : List ℕ) (digest : Digest) : Type 0 where
+pub record Gives (version : Version) (alg : Alg) (text : List ℕ) (path : List ℕ)
+    (digest : Digest) : Type 0 where
   pub path_text : List ℕ
   pub checksum : HasChecksum alg text digest path_text
   pub spells : Spells version path (plain_path path_text)
   pub is_path : IsPath path
 
 -- a line adds the pair that it gives
-pub record AddsPair (version : Version) (before : Listing) (number : ℕ) (text : List ℕ) (after : Listing) : Type 0 where
+pub record AddsPair (version : Version) (before : Listing) (number : ℕ) (text : List ℕ)
+    (after : Listing)
+    : Type 0 where
   pub path : List ℕ
   pub digest : Digest
   pub gives : Gives version before.alg text path digest
@@ -48,7 +50,9 @@ pub record AddsPair (version : Version) (before : Listing) (number : ℕ) (text 
 
 -- the octets are the text of a manifest that lists these pairs, in this order
 abbrev pub ManifestText : Version → Alg → Kind → List ℕ → List Pair → Type 0
-ManifestText version alg kind octets pairs = IsTextOf (AddsPair version) (nothing_listed alg kind) octets (record { alg = alg; kind = kind; pairs = pairs })
+ManifestText version alg kind octets pairs =
+    IsTextOf (AddsPair version) (nothing_listed alg kind) octets
+    (record { alg = alg; kind = kind; pairs = pairs })
 
 -- the text spells no path: it spells no octets, or octets with this first fault
 abbrev pub SpellsNoPath : PathFault → Version → List ℕ → Type 0
@@ -57,23 +61,54 @@ SpellsNoPath fault version text = RefusesSpelling fault version text
 
 -- the cause of a path's text that spells no path
 abbrev pub PathCause : Version → List ℕ → LineCause → Type 0
-PathCause version text (BadPath fault) = SpellsNoPath fault version text
-PathCause version text _ = ⊥
+PathCause version text cause = (fault : PathFault) × (cause ≡ BadPath fault)
+    × SpellsNoPath fault version text
+
+-- The line has a blank, but what stands before it is no digest's.
+pub record HasBadDigest (alg : Alg) (text : List ℕ) : Type 0 where
+  pub checksum : List ℕ
+  pub blanks : List ℕ
+  pub path_text : List ℕ
+  pub cut : IsCut text checksum blanks path_text
+  pub no_digest : (digest : Digest) → ¬ SpellsDigest alg checksum digest
+
+-- The line has a checksum, but the text after it spells no path.
+pub record HasBadPath (version : Version) (alg : Alg) (text : List ℕ)
+    (fault : PathFault) : Type 0 where
+  pub digest : Digest
+  pub path_text : List ℕ
+  pub checksum : HasChecksum alg text digest path_text
+  pub no_path : SpellsNoPath fault version (plain_path path_text)
 
 -- the first cause for which a line gives no path a digest
 abbrev pub GivesNothing : Version → Alg → List ℕ → LineCause → Type 0
-GivesNothing version alg text NotUtf8 = ¬ IsUtf8 text
-GivesNothing version alg text NoSeparator = IsUtf8 text × AllByRecursion IsNotBlank text
-GivesNothing version alg text BadDigest = IsUtf8 text × ((checksum blanks path_text : List ℕ) × IsCut text checksum blanks path_text × ((digest : Digest) → ¬ SpellsDigest alg checksum digest))
-GivesNothing version alg text (BadPath fault) = (digest : Digest) × ((path_text : List ℕ) × HasChecksum alg text digest path_text × SpellsNoPath fault version (plain_path path_text))
+GivesNothing version alg text NoSeparator = AllByRecursion IsNotBlank text
+GivesNothing version alg text BadDigest = HasBadDigest alg text
+GivesNothing version alg text (BadPath fault) = HasBadPath version alg text fault
 GivesNothing version alg text _ = ⊥
+
+-- The line gives a path that this manifest may not list.
+pub record HasWrongPlace (version : Version) (before : Listing) (text : List ℕ) : Type 0 where
+  pub path : List ℕ
+  pub digest : Digest
+  pub gives : Gives version before.alg text path digest
+  pub elsewhere : ¬ IsInPlace before.kind path
+
+-- The line gives a path that an earlier line lists.
+pub record HasListedPath (version : Version) (before : Listing) (text : List ℕ) : Type 0 where
+  pub path : List ℕ
+  pub digest : Digest
+  pub gives : Gives version before.alg text path digest
+  pub in_place : IsInPlace before.kind path
+  pub listed : lists_path before.pairs path ≡ true
 
 -- the first cause for which a line adds no pair: it gives none, or one that isn't admitted
 abbrev pub RefusesLine : Version → Listing → List ℕ → LineCause → Type 0
-RefusesLine version before text WrongPlace = (path : List ℕ) × ((digest : Digest) × Gives version before.alg text path digest × ¬ IsInPlace before.kind path)
-RefusesLine version before text Twice = (path : List ℕ) × ((digest : Digest) × Gives version before.alg text path digest × IsInPlace before.kind path × (lists_path before.pairs path ≡ true))
+RefusesLine version before text WrongPlace = HasWrongPlace version before text
+RefusesLine version before text Twice = HasListedPath version before text
 RefusesLine version before text cause = GivesNothing version before.alg text cause
 
 -- the first fault of a text that lists nothing
 abbrev pub ManifestFault : Version → Alg → Kind → List ℕ → LineFault → Type 0
-ManifestFault version alg kind octets fault = IsFirstFault (AddsPair version) (RefusesLine version) (nothing_listed alg kind) octets fault
+ManifestFault version alg kind octets fault =
+    IsFirstFault (AddsPair version) (RefusesLine version) (nothing_listed alg kind) octets fault

@@ -1,17 +1,25 @@
--- What the files of a bag are, by their paths: names at the base directory, matched exactly (RFC 8493 section 2).
-use Rattle.std.specs.Prelude.{◌≡◌, ◌≢◌, ◌⊎◌, ℕ, List, [], ◌++◌, codes}
+-- What the files of a bag are, by their paths: names at the base directory, matched exactly (RFC
+-- 8493 section 2).
+use Rattle.std.specs.Prelude.{◌≡◌, ◌≢◌, ◌⊎◌, ℕ, List, [], ◌++◌, Option, Some, None, codes}
+use Rattle.bag_tags.specs.Octets.{underscore}
 use Rattle.std.specs.Char.{IsAsciiAlphanumeric}
 use Rattle.std.specs.List.{AllByRecursion}
 use Rattle.bag_digest.specs.declared.algorithm.Alg.{Alg}
 use Rattle.bag_digest.specs.Algorithm.{name_of}
+use Rattle.bag_tags.specs.declared.listing.Kind.{Kind}
+use Rattle.bag_tags.specs.declared.listing.Kind.TheVariants.{Payload, Tag}
+use Rattle.bag_tags.specs.declared.name.LineFile.{LineFile}
+use Rattle.bag_tags.specs.declared.name.LineFile.TheVariants as file
+use Rattle.bag_tags.specs.declared.name.ManifestName.{ManifestName}
 use Rattle.bag_tags.specs.declared.name.TagName.{TagName}
 use Rattle.bag_tags.specs.declared.name.TagName.TheVariants.{Declaration, PayloadManifest, TagManifest, UnknownManifest, Info, FetchList, Other}
 
 -- an ASCII letter, a digit or `_`
 abbrev pub IsWordOctet : ℕ → Type 0
-IsWordOctet octet = IsAsciiAlphanumeric octet ⊎ (octet ≡ 95)
+IsWordOctet octet = IsAsciiAlphanumeric octet ⊎ (octet ≡ underscore)
 
--- what may stand for an algorithm in a manifest's name: one or more of these (section 2.4; the underscore is this
+-- what may stand for an algorithm in a manifest's name: one or more of these (section 2.4; the
+-- underscore is this
 -- project's own)
 abbrev pub IsWord : List ℕ → Type 0
 IsWord word = (word ≢ []) × AllByRecursion IsWordOctet word
@@ -47,3 +55,27 @@ IsReserved path Other = ⊥
 abbrev pub Names : List ℕ → TagName → Type 0
 Names path Other = (name : TagName) → IsReserved path name → ⊥
 Names path name = IsReserved path name
+
+-- `manifest-ALG.txt` (section 2.1.3), `tagmanifest-ALG.txt` (section 2.2.1)
+abbrev pub manifest_file : Kind → Alg → List ℕ
+manifest_file Payload alg = payload_manifest (name_of alg)
+manifest_file Tag alg = tag_manifest (name_of alg)
+
+abbrev pub manifest_name : Kind → Alg → ManifestName
+manifest_name kind alg = record { kind = kind; alg = alg }
+
+-- the manifest that has a name, where its algorithm is known
+abbrev pub known_manifest : TagName → Option ManifestName
+known_manifest (PayloadManifest alg) = Some (manifest_name Payload alg)
+known_manifest (TagManifest alg) = Some (manifest_name Tag alg)
+known_manifest _ = None
+
+-- the file name of a manifest
+abbrev pub file_of : ManifestName → List ℕ
+file_of name = manifest_file name.kind name.alg
+
+-- the tag files that are read line by line (sections 2.2.2, 2.2.3, 2.1.3 and 2.2.1)
+abbrev pub text_file : LineFile → List ℕ
+text_file file.Info = codes "bag-info.txt"
+text_file file.FetchList = codes "fetch.txt"
+text_file (file.Manifest name) = file_of name

@@ -1,11 +1,13 @@
--- The value of `Payload-Oxum` (RFC 8493 section 2.2.2): how many octets the payload has, and in how many files.
+-- The value of `Payload-Oxum` (RFC 8493 section 2.2.2): how many octets the payload has, and in
+-- how many files.
 use Rattle.std.specs.Prelude.{◌≡◌, ◌<◌, ◌^◌, ◌++◌, ℕ, List, codes}
 use Rattle.std.specs.List.{AllByRecursion}
 use Rattle.std.specs.Fmt.{decimal}
 use Rattle.bag_tags.specs.Numerals.{IsNumeral}
 use Rattle.bag_tags.specs.Words.{IsBlank}
 
--- Blanks, the number of octets, a dot, the number of files and blanks, each number below 2^64 (that blanks are dropped at
+-- Blanks, the number of octets, a dot, the number of files and blanks, each number below 2^64
+-- (that blanks are dropped at
 -- both ends, and that leading zeros are accepted, is this project's own).
 pub record OxumText (text : List ℕ) (octets streams : ℕ) : Type 0 where
   pub front : List ℕ

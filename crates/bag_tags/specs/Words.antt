@@ -1,10 +1,11 @@
 -- The words of a line: what stands before, between and after its blanks.
 use Rattle.std.specs.Prelude.{◌≡◌, ◌≢◌, ◌==◌, ◌||◌, ℕ, Bool, true, false, List, [], ◌∷◌, ◌++◌, length, drop, nat_eq, if◌then◌else◌}
+use Rattle.bag_tags.specs.Octets.{space, tab}
 use Rattle.std.specs.List.{AllByRecursion, list_all, starts_with}
 
 -- a space or a tab
 abbrev pub is_blank : ℕ → Bool
-is_blank octet = octet == 32 || octet == 9
+is_blank octet = octet == space || octet == tab
 
 abbrev pub IsBlank : ℕ → Type 0
 IsBlank octet = is_blank octet ≡ true
@@ -20,7 +21,8 @@ abbrev pub begins_blank : List ℕ → Bool
 begins_blank [] = false
 begins_blank (octet ∷ octets) = is_blank octet
 
--- The text is a word without blanks, all the blanks after it, of which there is one at least, and what follows them.
+-- The text is a word without blanks, all the blanks after it, of which there is one at least, and
+-- what follows them.
 pub record IsCut (text word blanks rest : List ℕ) : Type 0 where
   pub whole : text ≡ word ++ blanks ++ rest
   pub word_ends : AllByRecursion IsNotBlank word

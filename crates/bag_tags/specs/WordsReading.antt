@@ -1,5 +1,7 @@
--- How a line is cut: the front of a list up to the first element that passes a test, and what follows.
+-- How a line is cut: the front of a list up to the first element that passes a test, and what
+-- follows.
 use Rattle.std.specs.Prelude.{◌==◌, ℕ, Bool, not, List, [], ◌∷◌, if◌then◌else◌}
+use Rattle.bag_tags.specs.Octets.{colon, dot}
 use Rattle.bag_tags.specs.declared.words.Stop.{Stop}
 use Rattle.bag_tags.specs.declared.words.Stop.TheVariants.{Blank, NoBlank, Dot, Colon}
 use Rattle.bag_tags.specs.Words.{is_blank}
@@ -12,10 +14,10 @@ abbrev pub is_not_blank : ℕ → Bool
 is_not_blank octet = not (is_blank octet)
 
 abbrev pub is_dot : ℕ → Bool
-is_dot octet = octet == 46
+is_dot octet = octet == dot
 
 abbrev pub is_colon : ℕ → Bool
-is_colon octet = octet == 58
+is_colon octet = octet == colon
 
 -- the octets before which a cut is made
 abbrev pub stops : Stop → ℕ → Bool

@@ -2,16 +2,14 @@
 ghost use Rattle.std.specs.Prelude.{◌≡◌, ◌≢◌, ◌↔◌, ℕ, IfOk, IfErr, IsTrue, Ok, MatchOption, List, [], ◌∷◌, ◌++◌, length, map};
 ghost use Rattle.bag_path.specs.Lines.{Text, lines_of};
 ghost use Rattle.bag_tags.specs.declared.declaration.Declaration.{Declaration};
-ghost use Rattle.bag_tags.specs.Declarations.{IsDeclaration, IsDeclarationFault, IsVersion, IsVersionPart, IsEncodingName, HaveNoLabels, version_label, encoding_label, current, written};
-ghost use Rattle.bag_tags.specs.declared.declaration.DeclarationFault.{DeclarationFault};
+ghost use Rattle.bag_tags.specs.Declarations.{IsDeclaration, IsDeclarationFault, IsVersion, IsVersionPart, IsEncodingName, HaveNoLabels, version_label, encoding_label, current, written_declaration};
+ghost use Rattle.bag_tags.specs.declared.declaration.DeclFault.{DeclFault};
 
 use crate::number::read_number;
-use crate::words::{Stop, split_at_first};
-use bag_path::Lines;
+use crate::words::{MARK, Stop, split_at_first};
+use bag_path::{Lines, Version};
 use std::alloc::{AllocError, Global};
 use thiserror::Error;
-
-const MARK: &[u8] = b"\xEF\xBB\xBF";
 
 const VERSION_LABEL: &[u8] = b"BagIt-Version: ";
 
@@ -23,14 +21,32 @@ const CURRENT: &[u8] = b"BagIt-Version: 1.0\nTag-File-Character-Encoding: UTF-8\
 /// files' encoding is UTF-8.
 #[derive(Clone, Copy, Debug, PartialEq, Eq)]
 pub struct Declaration {
+    /// The number before the dot of the version.
     pub major: u32,
+    /// The number after it.
     pub minor: u32,
+    /// Whether the tag files' encoding is UTF-8.
     pub utf8: bool,
+}
+
+impl Declaration {
+    ghost use Rattle.std.specs.Prelude.{◌≡◌};
+    ghost use Rattle.bag_tags.specs.Declarations.{version_of};
+
+    /// The version of the format, where it is one that is known: 1.0.
+    pub fn version(self) -> Option<Version>
+        ensures { result ≡ version_of self }
+    {
+        match (self.major, self.minor) {
+            (1, 0) => Some(Version::V1),
+            _ => None,
+        }
+    }
 }
 
 /// Why `bagit.txt` can't be read. Where several hold of it, the first in this order is answered.
 #[derive(Clone, Copy, Debug, PartialEq, Eq, PartialOrd, Ord, Error)]
-pub enum DeclarationFault {
+pub enum DeclFault {
     /// The file is not UTF-8.
     #[error("not UTF-8")]
     NotUtf8,
@@ -56,29 +72,30 @@ pub enum DeclarationFault {
 ///
 /// # Errors
 ///
-/// The first fault, in the order of `DeclarationFault`.
-pub fn read_declaration(octets: &[u8]) -> Result<Declaration, DeclarationFault>
+/// The first fault, in the order of `DeclFault`.
+pub fn read_declaration(octets: &[u8]) -> Result<Declaration, DeclFault>
     ensures read { IfOk result (λ declaration. IsDeclaration octets.now declaration) }
-    ensures only { (declaration : Declaration) → IsDeclaration octets.now declaration → result ≡ Ok declaration }
+    ensures only { (declaration : Declaration) → IsDeclaration octets.now declaration → result
+        ≡ Ok declaration }
     ensures fault { IfErr result (λ fault. IsDeclarationFault octets.now fault) }
 {
     if str::from_utf8(octets).is_err() {
-        return Err(DeclarationFault::NotUtf8);
+        return Err(DeclFault::NotUtf8);
     }
     if octets.starts_with(MARK) {
-        return Err(DeclarationFault::Mark);
+        return Err(DeclFault::Mark);
     }
     let Some((first, second)) = two_lines(octets) else {
-        return Err(DeclarationFault::LineCount);
+        return Err(DeclFault::LineCount);
     };
     let Some((version, encoding)) = after_labels(first, second) else {
-        return Err(DeclarationFault::Label);
+        return Err(DeclFault::Label);
     };
     let Some((major, minor)) = read_version(version) else {
-        return Err(DeclarationFault::Version);
+        return Err(DeclFault::Version);
     };
     if !is_encoding_name(encoding) {
-        return Err(DeclarationFault::EncodingName);
+        return Err(DeclFault::EncodingName);
     }
     Ok(Declaration {
         major,
@@ -94,7 +111,7 @@ pub fn read_declaration(octets: &[u8]) -> Result<Declaration, DeclarationFault>
 ///
 /// `AllocError` where memory runs out.
 pub fn write_declaration(alloc: Global) -> Result<Vec<u8>, AllocError>
-    ensures octets { IfOk result (λ octets. octets.items ≡ written) }
+    ensures octets { IfOk result (λ octets. octets.items ≡ written_declaration) }
     ensures declares { IfOk result (λ octets. IsDeclaration octets.items current) }
 {
     CURRENT.to_vec(alloc)
@@ -102,22 +119,27 @@ pub fn write_declaration(alloc: Global) -> Result<Vec<u8>, AllocError>
 
 /// Octets declare one thing at most.
 pub fn octets_declare_one_thing_at_most()
-    ensures { (octets : List ℕ) (a b : Declaration) → IsDeclaration octets a → IsDeclaration octets b → a ≡ b }
+    ensures { (octets : List ℕ) (a b : Declaration) → IsDeclaration octets a
+        → IsDeclaration octets b → a ≡ b }
 {}
 
 /// Octets have one first fault at most.
 pub fn octets_have_one_declaration_fault_at_most()
-    ensures { (octets : List ℕ) (a b : DeclarationFault) → IsDeclarationFault octets a → IsDeclarationFault octets b → a ≡ b }
+    ensures { (octets : List ℕ) (a b : DeclFault) → IsDeclarationFault octets a
+        → IsDeclarationFault octets b → a ≡ b }
 {}
 
 /// Octets that declare something have no fault.
 pub fn a_declaration_has_no_fault()
-    ensures { (octets : List ℕ) (declaration : Declaration) (fault : DeclarationFault) → IsDeclaration octets declaration → IsDeclarationFault octets fault → ⊥ }
+    ensures { (octets : List ℕ) (declaration : Declaration) (fault : DeclFault)
+        → IsDeclaration octets declaration → IsDeclarationFault octets fault → ⊥ }
 {}
 
 /// The texts of the lines, where there are exactly two.
 fn two_lines(octets: &[u8]) -> Option<(&[u8], &[u8])>
-    ensures { MatchOption result (length (lines_of octets.now) ≢ 2) (λ pair. map (λ (line : Text). line.text) (lines_of octets.now) ≡ pair.0.now ∷ pair.1.now ∷ []) }
+    ensures { MatchOption result (length (lines_of octets.now) ≢ 2)
+        (λ pair. map (λ (line : Text). line.text) (lines_of octets.now) ≡ pair.0.now ∷ pair.1.now
+        ∷ []) }
 {
     let mut lines = Lines::new(octets);
     let first = lines.next()?;
@@ -130,7 +152,9 @@ fn two_lines(octets: &[u8]) -> Option<(&[u8], &[u8])>
 
 /// What follows the labels of the two lines, where they have them.
 fn after_labels<'a>(first: &'a [u8], second: &'a [u8]) -> Option<(&'a [u8], &'a [u8])>
-    ensures { MatchOption result (HaveNoLabels first.now second.now) (λ pair. (first.now ≡ version_label ++ pair.0.now) × (second.now ≡ encoding_label ++ pair.1.now)) }
+    ensures { MatchOption result (HaveNoLabels first.now second.now)
+        (λ pair. (first.now ≡ version_label ++ pair.0.now)
+        × (second.now ≡ encoding_label ++ pair.1.now)) }
 {
     Some((
         first.strip_prefix(VERSION_LABEL)?,
@@ -140,7 +164,8 @@ fn after_labels<'a>(first: &'a [u8], second: &'a [u8]) -> Option<(&'a [u8], &'a 
 
 /// The major and the minor number.
 fn read_version(text: &[u8]) -> Option<(u32, u32)>
-    ensures { MatchOption result ((major minor : ℕ) → IsVersion text.now major minor → ⊥) (λ pair. IsVersion text.now pair.0 pair.1) }
+    ensures { MatchOption result ((major minor : ℕ) → IsVersion text.now major minor → ⊥)
+        (λ pair. IsVersion text.now pair.0 pair.1) }
 {
     let (major, rest) = split_at_first(text, Stop::Dot);
     let minor = rest.strip_prefix(b".")?;
@@ -148,7 +173,8 @@ fn read_version(text: &[u8]) -> Option<(u32, u32)>
 }
 
 fn read_part(text: &[u8]) -> Option<u32>
-    ensures { MatchOption result ((value : ℕ) → IsVersionPart text.now value → ⊥) (λ value. IsVersionPart text.now value) }
+    ensures { MatchOption result ((value : ℕ) → IsVersionPart text.now value → ⊥)
+        (λ value. IsVersionPart text.now value) }
 {
     if text.len() > 9 {
         return None;

@@ -3,8 +3,8 @@ ghost use Rattle.std.specs.Prelude.{ℕ, false, [], ◌∷◌, ◌++◌, Some, N
 ghost use Rattle.bag_digest.specs.declared.algorithm.Alg.TheVariants.{Md5, Sha256};
 ghost use Rattle.bag_digest.specs.declared.digest.Digest.TheVariants as digest;
 ghost use Rattle.bag_path.specs.declared.path.PathFault.TheVariants as path;
-ghost use Rattle.bag_path.specs.declared.spelling.Version.TheVariants.{V1};
-ghost use Rattle.bag_tags.specs.declared.declaration.DeclarationFault.TheVariants as declaration;
+ghost use Rattle.bag_path.specs.declared.version.Version.TheVariants.{V1};
+ghost use Rattle.bag_tags.specs.declared.declaration.DeclFault.TheVariants as declaration;
 ghost use Rattle.bag_tags.specs.declared.fault.LineCause.TheVariants as cause;
 ghost use Rattle.bag_tags.specs.declared.listing.Kind.TheVariants.{Payload, Tag};
 ghost use Rattle.bag_tags.specs.declared.name.TagName.TheVariants as name;
@@ -35,18 +35,21 @@ pub fn like_names_name_nothing()
 
 /// Version 1.0 in UTF-8 (RFC 8493 section 2.1.1).
 pub fn the_current_version_is_declared()
-    ensures { IsDeclaration (codes "BagIt-Version: 1.0" ++ 10 ∷ codes "Tag-File-Character-Encoding: UTF-8" ++ 10 ∷ []) current }
+    ensures { IsDeclaration (codes "BagIt-Version: 1.0" ++ 10
+        ∷ codes "Tag-File-Character-Encoding: UTF-8" ++ 10 ∷ []) current }
 {}
 
 /// An earlier version and another encoding are declared, with other line endings (RFC 8493 section 2.1.1).
 pub fn an_earlier_version_is_declared()
-    ensures { IsDeclaration (codes "BagIt-Version: 0.97" ++ 13 ∷ 10 ∷ codes "Tag-File-Character-Encoding: ISO-8859-1")
+    ensures { IsDeclaration (codes "BagIt-Version: 0.97" ++ 13 ∷ 10
+        ∷ codes "Tag-File-Character-Encoding: ISO-8859-1")
         (record { major = 0; minor = 97; utf8 = false }) }
 {}
 
 /// A byte order mark is a fault (RFC 8493 section 2.1.1).
 pub fn a_marked_declaration_is_faulty()
-    ensures { IsDeclarationFault (mark ++ codes "BagIt-Version: 1.0" ++ 10 ∷ codes "Tag-File-Character-Encoding: UTF-8" ++ 10 ∷ [])
+    ensures { IsDeclarationFault (mark ++ codes "BagIt-Version: 1.0" ++ 10
+        ∷ codes "Tag-File-Character-Encoding: UTF-8" ++ 10 ∷ [])
         declaration.Mark }
 {}
 
@@ -57,12 +60,14 @@ pub fn a_declaration_of_one_line_is_faulty()
 
 /// The label is not matched without its space.
 pub fn a_declaration_with_other_labels_is_faulty()
-    ensures { IsDeclarationFault (codes "BagIt-Version:1.0" ++ 10 ∷ codes "Tag-File-Character-Encoding: UTF-8" ++ 10 ∷ []) declaration.Label }
+    ensures { IsDeclarationFault (codes "BagIt-Version:1.0" ++ 10
+        ∷ codes "Tag-File-Character-Encoding: UTF-8" ++ 10 ∷ []) declaration.Label }
 {}
 
 /// A version's number begins with no zero but its own.
 pub fn a_version_with_a_leading_zero_is_faulty()
-    ensures { IsDeclarationFault (codes "BagIt-Version: 01.0" ++ 10 ∷ codes "Tag-File-Character-Encoding: UTF-8" ++ 10 ∷ []) declaration.Version }
+    ensures { IsDeclarationFault (codes "BagIt-Version: 01.0" ++ 10
+        ∷ codes "Tag-File-Character-Encoding: UTF-8" ++ 10 ∷ []) declaration.Version }
 {}
 
 /// Two numbers below 2^64 and a dot (RFC 8493 section 2.2.2). Blanks at both ends and leading zeros are dropped.
@@ -83,44 +88,58 @@ pub fn other_texts_are_no_oxums()
 /// Hex digits in either case, blanks, and a path, with any line end (RFC 8493 section 2.1.3). One `*` and one `./` are dropped.
 pub fn a_manifest_lists_a_path_with_its_digest()
     ensures { ManifestText V1 Sha256 Payload
-        (codes "BA7816BF8F01CFEA414140DE5DAE2223B00361A396177A9CB410FF61F20015AD" ++ 9 ∷ codes "*./data/a.txt" ++ 13 ∷ 10 ∷ [])
+        (codes "BA7816BF8F01CFEA414140DE5DAE2223B00361A396177A9CB410FF61F20015AD" ++ 9
+        ∷ codes "*./data/a.txt" ++ 13 ∷ 10 ∷ [])
         (pair (codes "data/a.txt") (digest.Sha256 (
-        0xBA ∷ 0x78 ∷ 0x16 ∷ 0xBF ∷ 0x8F ∷ 0x01 ∷ 0xCF ∷ 0xEA ∷ 0x41 ∷ 0x41 ∷ 0x40 ∷ 0xDE ∷ 0x5D ∷ 0xAE ∷ 0x22 ∷ 0x23
-        ∷ 0xB0 ∷ 0x03 ∷ 0x61 ∷ 0xA3 ∷ 0x96 ∷ 0x17 ∷ 0x7A ∷ 0x9C ∷ 0xB4 ∷ 0x10 ∷ 0xFF ∷ 0x61 ∷ 0xF2 ∷ 0x00 ∷ 0x15 ∷ 0xAD ∷ [])) ∷ []) }
+        0xBA ∷ 0x78 ∷ 0x16 ∷ 0xBF ∷ 0x8F ∷ 0x01 ∷ 0xCF ∷ 0xEA ∷ 0x41 ∷ 0x41 ∷ 0x40 ∷ 0xDE ∷ 0x5D
+        ∷ 0xAE ∷ 0x22 ∷ 0x23
+        ∷ 0xB0 ∷ 0x03 ∷ 0x61 ∷ 0xA3 ∷ 0x96 ∷ 0x17 ∷ 0x7A ∷ 0x9C ∷ 0xB4 ∷ 0x10 ∷ 0xFF ∷ 0x61 ∷ 0xF2
+        ∷ 0x00 ∷ 0x15 ∷ 0xAD ∷ [])) ∷ []) }
 {}
 
 /// A manifest may list nothing, and blank lines are skipped.
 pub fn a_manifest_may_list_nothing()
-    ensures { ManifestText V1 Sha256 Payload [] [] × ManifestText V1 Md5 Tag (10 ∷ 32 ∷ 9 ∷ 13 ∷ 10 ∷ []) [] }
+    ensures { ManifestText V1 Sha256 Payload [] []
+        × ManifestText V1 Md5 Tag (10 ∷ 32 ∷ 9 ∷ 13 ∷ 10 ∷ []) [] }
 {}
 
 /// A path stands in one line at most (RFC 8493 section 2.1.3).
 pub fn a_path_that_is_listed_twice_is_a_fault()
     ensures { ManifestFault V1 Md5 Payload
-        (codes "900150983cd24fb0d6963f7d28e17f72  data/a" ++ 10 ∷ codes "900150983cd24fb0d6963f7d28e17f72  data/b" ++ 10
+        (codes "900150983cd24fb0d6963f7d28e17f72  data/a" ++ 10
+        ∷ codes "900150983cd24fb0d6963f7d28e17f72  data/b" ++ 10
         ∷ codes "900150983cd24fb0d6963f7d28e17f72  ./data/a" ++ 10 ∷ [])
         (record { line = 3; cause = cause.Twice }) }
 {}
 
 /// A payload manifest lists payload files alone (RFC 8493 section 2.1.3), and a tag manifest no tag manifests (section 2.2.1).
 pub fn a_path_of_the_other_kind_is_a_fault()
-    ensures { ManifestFault V1 Md5 Payload (codes "900150983cd24fb0d6963f7d28e17f72  k") (record { line = 1; cause = cause.WrongPlace })
-        × ManifestFault V1 Md5 Tag (codes "900150983cd24fb0d6963f7d28e17f72  data/k") (record { line = 1; cause = cause.WrongPlace })
-        × ManifestFault V1 Md5 Tag (codes "900150983cd24fb0d6963f7d28e17f72  tagmanifest-md5.txt") (record { line = 1; cause = cause.WrongPlace }) }
+    ensures { ManifestFault V1 Md5 Payload (codes "900150983cd24fb0d6963f7d28e17f72  k")
+        (record { line = 1; cause = cause.WrongPlace })
+        × ManifestFault V1 Md5 Tag (codes "900150983cd24fb0d6963f7d28e17f72  data/k")
+        (record { line = 1; cause = cause.WrongPlace })
+        × ManifestFault V1 Md5 Tag (codes "900150983cd24fb0d6963f7d28e17f72  tagmanifest-md5.txt")
+        (record { line = 1; cause = cause.WrongPlace }) }
 {}
 
 /// A line needs a blank, a digest of the algorithm's length and a path that leads nowhere else.
 pub fn other_lines_of_a_manifest_are_faults()
-    ensures { ManifestFault V1 Md5 Payload (codes "900150983cd24fb0d6963f7d28e17f72") (record { line = 1; cause = cause.NoSeparator })
-        × ManifestFault V1 Sha256 Payload (codes "900150983cd24fb0d6963f7d28e17f72 data/k") (record { line = 1; cause = cause.BadDigest })
-        × ManifestFault V1 Md5 Payload (codes "900150983cd24fb0d6963f7d28e17f72 data/../k") (record { line = 1; cause = cause.BadPath path.DotSegment })
-        × ManifestFault V1 Md5 Payload (codes "900150983cd24fb0d6963f7d28e17f72 data/%41") (record { line = 1; cause = cause.BadPath path.BadEscape }) }
+    ensures { ManifestFault V1 Md5 Payload (codes "900150983cd24fb0d6963f7d28e17f72")
+        (record { line = 1; cause = cause.NoSeparator })
+        × ManifestFault V1 Sha256 Payload (codes "900150983cd24fb0d6963f7d28e17f72 data/k")
+        (record { line = 1; cause = cause.BadDigest })
+        × ManifestFault V1 Md5 Payload (codes "900150983cd24fb0d6963f7d28e17f72 data/../k")
+        (record { line = 1; cause = cause.BadPath path.DotSegment })
+        × ManifestFault V1 Md5 Payload (codes "900150983cd24fb0d6963f7d28e17f72 data/%41")
+        (record { line = 1; cause = cause.BadPath path.BadEscape }) }
 {}
 
 /// Labels may come again, a value may go on in indented lines, and may be empty (RFC 8493 section 2.2.2).
 pub fn a_bag_info_says_its_elements()
-    ensures { InfoText V1 (codes "Note: one" ++ 10 ∷ codes "Note: two" ++ 10 ∷ 9 ∷ codes " three" ++ 10 ∷ codes "Empty:" ++ 10 ∷ [])
-        (element (codes "Note") (codes "one") ∷ element (codes "Note") (codes "two" ++ 10 ∷ codes "three") ∷ element (codes "Empty") [] ∷ []) }
+    ensures { InfoText V1 (codes "Note: one" ++ 10 ∷ codes "Note: two" ++ 10 ∷ 9 ∷ codes " three"
+        ++ 10 ∷ codes "Empty:" ++ 10 ∷ [])
+        (element (codes "Note") (codes "one") ∷ element (codes "Note")
+        (codes "two" ++ 10 ∷ codes "three") ∷ element (codes "Empty") [] ∷ []) }
 {}
 
 /// A first line that is indented continues nothing, a line needs a colon and a blank, and a label ends with no blank (RFC 8493
@@ -134,9 +153,11 @@ pub fn other_lines_of_a_bag_info_are_faults()
 
 /// A length is a number of octets, or `-` where none is given (RFC 8493 section 2.2.3).
 pub fn a_fetch_list_lists_its_entries()
-    ensures { FetchText V1 (codes "http:x - data/a" ++ 10 ∷ codes "https://example.org/b" ++ 9 ∷ codes "05" ++ 9 ∷ codes "data/b c" ++ 10 ∷ [])
+    ensures { FetchText V1 (codes "http:x - data/a" ++ 10 ∷ codes "https://example.org/b" ++ 9
+        ∷ codes "05" ++ 9 ∷ codes "data/b c" ++ 10 ∷ [])
         (fetch_line 1 (fetch_item (codes "http:x") None (codes "data/a"))
-        ∷ fetch_line 2 (fetch_item (codes "https://example.org/b") (Some 5) (codes "data/b c")) ∷ []) }
+        ∷ fetch_line 2 (fetch_item (codes "https://example.org/b") (Some 5) (codes "data/b c"))
+        ∷ []) }
 {}
 
 /// An entry needs a url, a length and a payload file's path (RFC 8493 section 2.2.3).

@@ -1,5 +1,6 @@
 //! Why a text tag file can't be read.
 use bag_path::PathFault;
+use std::alloc::AllocError;
 use thiserror::Error;
 
 /// Why a line can't be read. Where several hold of a line, one is answered: `read_manifest`, `read_info` and `read_fetch`
@@ -42,15 +43,19 @@ pub enum LineCause {
 #[derive(Clone, Copy, Debug, PartialEq, Eq, Error)]
 #[error("line {line}: {cause}")]
 pub struct LineFault {
+    /// The number of the line, from 1 on.
     pub line: u64,
+    /// The first cause that holds of it.
     pub cause: LineCause,
 }
 
 /// Why a file wasn't read.
 #[derive(Clone, Copy, Debug, PartialEq, Eq, Error)]
 pub enum TagFault {
+    /// The first faulty line.
     #[error(transparent)]
     Line(LineFault),
+    /// Memory ran out.
     #[error("out of memory")]
     Memory,
 }
@@ -60,4 +65,15 @@ pub enum TagFault {
 pub(crate) enum TagCause {
     Line(LineCause),
     Memory,
+}
+
+impl From<AllocError> for TagCause {
+    ghost use Rattle.std.specs.Prelude.{◌≡◌};
+    ghost use Rattle.bag_tags.specs.declared.fault.TagCause.TheVariants.{Memory};
+
+    ghost from_gives = { λ error cause. cause ≡ Memory };
+
+    fn from(_: AllocError) -> TagCause {
+        TagCause::Memory
+    }
 }

@@ -31,7 +31,9 @@ impl Model for FetchEntry {
 /// An entry, and the number of the line that lists it. In a list that was built by [`Fetch::push`] that is its place from 1.
 #[derive(Debug, Drop)]
 pub struct FetchLine {
+    /// The number of the line, from 1 on.
     pub line: u64,
+    /// What it lists.
     pub entry: FetchEntry,
 }
 
@@ -165,7 +167,8 @@ impl Fetch {
     ///
     /// `AllocError` where memory runs out; the entries then stay as they were.
     pub fn push(&mut self, entry: FetchEntry) -> Result<(), AllocError>
-        ensures added { OnOk result (self.new ≡ self.old ++ fetch_line (length self.old + 1) entry ∷ []) }
+        ensures added { OnOk result (self.new ≡ self.old ++ fetch_line (length self.old + 1) entry
+            ∷ []) }
         ensures unchanged { OnErr result (self.new ≡ self.old) }
     {
         let place = self.lines.len() as u64 + 1;
@@ -197,7 +200,8 @@ fn is_scheme(text: &[u8]) -> bool
 }
 
 fn is_colon_and_more(text: &[u8]) -> bool
-    ensures { IsTrue result ↔ ((1 < length text.now) × AllByRecursion IsUrlOctet (drop 1 text.now)) }
+    ensures { IsTrue result ↔ ((1 < length text.now)
+        × AllByRecursion IsUrlOctet (drop 1 text.now)) }
 {
     text.len() > 1 && are_in_url(&text[1..])
 }

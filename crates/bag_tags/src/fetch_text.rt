@@ -1,13 +1,10 @@
 //! The text of `fetch.txt` (RFC 8493 section 2.2.3).
 ghost use Rattle.std.specs.Prelude.{◌≡◌, ◌<◌, ◌^◌, ◌++◌, ℕ, List, Option, IfErr, IfOk, IsErrOf, OnOk, IfSome, IfNone, MatchResult, true};
-ghost use Rattle.std.specs.Str.{IsUtf8};
-ghost use Rattle.bag_path.specs.Paths.{IsPath, is_payload};
-ghost use Rattle.bag_path.specs.Spellings.{Spells};
-ghost use Rattle.bag_path.specs.declared.spelling.Version.TheVariants.{V1};
+ghost use Rattle.bag_path.specs.Paths.{is_payload};
+ghost use Rattle.bag_path.specs.declared.version.Version.TheVariants.{V1};
 ghost use Rattle.bag_tags.specs.declared.fault.LineFault.{LineFault};
 ghost use Rattle.bag_tags.specs.declared.fetch.FetchLine.{FetchLine};
 ghost use Rattle.bag_tags.specs.TagLines.{Causes};
-ghost use Rattle.bag_tags.specs.Manifests.{PathCause};
 ghost use Rattle.bag_tags.specs.FetchEntries.{IsEntry, written_entry, written_length};
 ghost use Rattle.bag_tags.specs.Fetches.{numbered_from, written_fetch};
 ghost use Rattle.bag_tags.specs.FetchText.{AddsEntry, FetchText, FetchFault, AreWords, IsLength, LacksWord, GivesEntry, GivesNoEntry};
@@ -15,12 +12,11 @@ ghost use Rattle.bag_tags.specs.FetchText.{AddsEntry, FetchText, FetchFault, Are
 use crate::fault::{LineCause, TagCause, TagFault};
 use crate::fetch::{Fetch, FetchEntry, FetchEntryFault, FetchLine, is_url};
 use crate::number::read_number;
-use crate::reading::{TagLines, read_text};
-use crate::utf8::known_text;
-use crate::words::{Stop, split_at_first};
-use bag_path::{BagPath, PathFault, Version, escape, unescape};
+use crate::path_text::read_path;
+use crate::reading::{TagLines, read_onto};
+use crate::words::{Stop, split_text};
+use bag_path::{Version, escape};
 use std::alloc::{AllocError, Global};
-use std::str;
 
 /// The entries of a text: on each line a url, blanks, a length in octets or `-`, blanks and the path of a payload file.
 ///
@@ -35,48 +31,45 @@ pub fn read_fetch(alloc: Global, octets: &[u8], version: Version) -> Result<Fetc
     ensures listed { IfOk result (λ fetch. FetchText version octets.now fetch) }
     ensures only { (lines : List FetchLine) → FetchText version octets.now lines
         → MatchResult result (λ fetch. fetch ≡ lines) (λ fault. fault ≡ TagFault.Memory) }
-    ensures fault { (fault : LineFault) → IsErrOf result (TagFault.Line fault) → FetchFault version octets.now fault }
+    ensures fault { (fault : LineFault) → IsErrOf result (TagFault.Line fault)
+        → FetchFault version octets.now fault }
 {
     let mut fetch = Fetch::new(alloc);
-    read_text(&mut fetch, version, octets)?;
+    read_onto(&mut fetch, version, octets)?;
     Ok(fetch)
 }
 
 impl TagLines for Fetch {
-    ghost use Rattle.bag_tags.specs.FetchText.{AddsEntry, RefusesEntry};
+    ghost use Rattle.bag_tags.specs.FetchText.{AddsEntry, RefusesFetchLine};
 
     ghost leads = { AddsEntry };
 
-    ghost refuses = { RefusesEntry };
+    ghost refuses = { RefusesFetchLine };
 
-    fn read_line(&mut self, version: Version, number: u64, text: &[u8]) -> Result<(), TagCause> {
+    fn read_line(&mut self, version: Version, number: u64, text: &str) -> Result<(), TagCause> {
         let entry = read_entry(self.allocator(), version, text)?;
-        match self.push_line(number, entry) {
-            Ok(()) => Ok(()),
-            Err(AllocError) => Err(TagCause::Memory),
-        }
+        self.push_line(number, entry)?;
+        Ok(())
     }
 }
 
 /// The entry that a line gives.
-fn read_entry(alloc: Global, version: Version, text: &[u8]) -> Result<FetchEntry, TagCause>
-    ensures ok { IfOk result (λ entry. GivesEntry version text.now entry × (is_payload entry.path ≡ true)) }
+fn read_entry(alloc: Global, version: Version, text: &str) -> Result<FetchEntry, TagCause>
+    ensures ok { IfOk result (λ entry. GivesEntry version text.now entry
+        × (is_payload entry.path ≡ true)) }
     ensures err { IfErr result (Causes (GivesNoEntry version text.now)) }
 {
-    if str::from_utf8(text).is_err() {
-        return Err(TagCause::Line(LineCause::NotUtf8));
-    }
     let Some((url, length, path)) = split_words(text) else {
         return Err(TagCause::Line(LineCause::NoSeparator));
     };
-    if !is_url(url) {
+    if !is_url(url.as_bytes()) {
         return Err(TagCause::Line(LineCause::BadUrl));
     }
-    let Some(length) = read_length(length) else {
+    let Some(length) = read_length(length.as_bytes()) else {
         return Err(TagCause::Line(LineCause::BadLength));
     };
     let path = read_path(alloc, version, path)?;
-    match FetchEntry::new(alloc, known_text(url), length, path) {
+    match FetchEntry::new(alloc, url, length, path) {
         Ok(entry) => Ok(entry),
         Err(FetchEntryFault::BadUrl) => unreachable!(),
         Err(FetchEntryFault::NotPayload) => Err(TagCause::Line(LineCause::WrongPlace)),
@@ -84,31 +77,18 @@ fn read_entry(alloc: Global, version: Version, text: &[u8]) -> Result<FetchEntry
     }
 }
 
-/// The path that the text after the length spells.
-fn read_path(alloc: Global, version: Version, text: &[u8]) -> Result<BagPath, TagCause>
-    requires { IsUtf8 text.now }
-    ensures ok { IfOk result (λ path. Spells version path text.now × IsPath path) }
-    ensures err { IfErr result (Causes (PathCause version text.now)) }
-{
-    match unescape(alloc, known_text(text), version) {
-        Ok(path) => Ok(path),
-        Err(PathFault::Memory) => Err(TagCause::Memory),
-        Err(fault) => Err(TagCause::Line(LineCause::BadPath(fault))),
-    }
-}
-
 /// The url, the length and the path's text of a line.
-fn split_words(text: &[u8]) -> Option<(&[u8], &[u8], &[u8])>
+fn split_words(text: &str) -> Option<(&str, &str, &str)>
     ensures some { IfSome result (λ words. AreWords text.now words.0.now words.1.now words.2.now) }
     ensures none { IfNone result (LacksWord text.now) }
 {
-    let (url, rest) = split_at_first(text, Stop::Blank);
-    let (_blanks, rest) = split_at_first(rest, Stop::NoBlank);
-    let (length, rest) = split_at_first(rest, Stop::Blank);
+    let (url, rest) = split_text(text, Stop::Blank);
+    let (_blanks, rest) = split_text(rest, Stop::NoBlank);
+    let (length, rest) = split_text(rest, Stop::Blank);
     if rest.is_empty() {
         return None;
     }
-    let (_blanks, path) = split_at_first(rest, Stop::NoBlank);
+    let (_blanks, path) = split_text(rest, Stop::NoBlank);
     Some((url, length, path))
 }
 

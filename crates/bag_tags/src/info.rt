@@ -4,12 +4,10 @@ ghost use Rattle.std.specs.List.{AllByRecursion};
 ghost use Rattle.bag_tags.specs.Infos.{IsFit, IsLabel, IsLabelOctet, IsValue};
 ghost use Rattle.bag_tags.specs.InfoReading.{stops_value};
 
-use crate::words::is_blank;
+use crate::words::{MARK, is_blank};
 use std::alloc::{AllocError, Global};
 use std::marker::Model;
 use thiserror::Error;
-
-const MARK: &[u8] = b"\xEF\xBB\xBF";
 
 /// A metadata element of `bag-info.txt`: a label and its value. A line break in the value is one LF.
 #[derive(Debug, Drop)]
@@ -57,7 +55,7 @@ impl From<AllocError> for ElementFault {
 
 impl Element {
     ghost use Rattle.std.specs.Prelude.{◌≡◌, IfOk, IfErr};
-    ghost use Rattle.bag_tags.specs.Infos.{element, continued, IsElement, IsFurtherLine, RefusesElement};
+    ghost use Rattle.bag_tags.specs.Infos.{element, element_with_line, is_oxum, IsElement, IsFurtherLine, RefusesElement};
 
     /// The element with this label and this value.
     ///
@@ -97,10 +95,17 @@ impl Element {
         self.value.as_str()
     }
 
+    /// Whether it is a `Payload-Oxum`. Its label is compared without regard to ASCII case.
+    pub fn is_oxum(&self) -> bool
+        ensures { result ≡ is_oxum self.now }
+    {
+        self.label().eq_ignore_ascii_case("Payload-Oxum")
+    }
+
     /// The element with one line more at the end of its value.
     pub(crate) fn with_line(self, line: &str) -> Result<Element, AllocError>
         requires { IsFurtherLine line.now }
-        ensures { IfOk result (λ more. more ≡ continued self line.now) }
+        ensures { IfOk result (λ more. more ≡ element_with_line self line.now) }
     {
         let Element { label, mut value } = self;
         value.push('\n')?;

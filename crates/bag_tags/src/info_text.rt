@@ -1,10 +1,9 @@
 //! The text of `bag-info.txt` (RFC 8493 section 2.2.2).
 ghost use Rattle.std.specs.Prelude.{◌≡◌, ◌++◌, true, false, List, [], IfErr, IfOk, IsErrOf, OnOk, MatchResult, option_map};
 ghost use Rattle.std.specs.List.{AllByRecursion};
-ghost use Rattle.std.specs.Str.{IsUtf8};
 ghost use Rattle.bag_path.specs.Lines.{IsPlain};
-ghost use Rattle.bag_path.specs.declared.spelling.Version.{Version};
-ghost use Rattle.bag_path.specs.declared.spelling.Version.TheVariants.{V1};
+ghost use Rattle.bag_path.specs.declared.version.Version.{Version};
+ghost use Rattle.bag_path.specs.declared.version.Version.TheVariants.{V1};
 ghost use Rattle.bag_tags.specs.declared.fault.LineFault.{LineFault};
 ghost use Rattle.bag_tags.specs.TagLines.{Causes};
 ghost use Rattle.bag_tags.specs.Words.{begins_blank, is_blank_line};
@@ -14,12 +13,11 @@ ghost use Rattle.bag_tags.specs.InfoText.{Continues, GivesElement, GivesNoElemen
 
 use crate::fault::{LineCause, TagCause, TagFault};
 use crate::info::{Element, ElementFault, Info};
-use crate::reading::{TagLines, read_text};
+use crate::reading::{TagLines, read_onto};
 use crate::utf8::known_text;
-use crate::words::{Stop, is_blank, split_at_first};
+use crate::words::{Stop, begins_blank, is_blank, split_text};
 use bag_path::Version;
 use std::alloc::{AllocError, Global};
-use std::str;
 
 /// The elements of a text: each is a line with a label, a colon, a blank and the first line of the value, and then the
 /// indented lines, if there are any, each a further line of the value.
@@ -35,10 +33,11 @@ pub fn read_info(alloc: Global, octets: &[u8], version: Version) -> Result<Info,
     ensures read { IfOk result (λ info. InfoText version octets.now info) }
     ensures only { (elements : List MetadataElement) → InfoText version octets.now elements
         → MatchResult result (λ info. info ≡ elements) (λ fault. fault ≡ TagFault.Memory) }
-    ensures fault { (fault : LineFault) → IsErrOf result (TagFault.Line fault) → InfoFault version octets.now fault }
+    ensures fault { (fault : LineFault) → IsErrOf result (TagFault.Line fault)
+        → InfoFault version octets.now fault }
 {
     let mut info = Info::new(alloc);
-    read_text(&mut info, version, octets)?;
+    read_onto(&mut info, version, octets)?;
     Ok(info)
 }
 
@@ -49,55 +48,45 @@ impl TagLines for Info {
 
     ghost refuses = { RefusesInfo };
 
-    fn read_line(&mut self, _version: Version, _number: u64, text: &[u8]) -> Result<(), TagCause> {
-        if str::from_utf8(text).is_err() {
-            return Err(TagCause::Line(LineCause::NotUtf8));
-        }
-        if text.len() > 0 && is_blank(text[0]) {
+    fn read_line(&mut self, _version: Version, _number: u64, text: &str) -> Result<(), TagCause> {
+        if begins_blank(text.as_bytes()) {
             return continue_last(self, text);
         }
         let element = read_element(self.allocator(), text)?;
-        match self.push(element) {
-            Ok(()) => Ok(()),
-            Err(AllocError) => Err(TagCause::Memory),
-        }
+        self.push(element)?;
+        Ok(())
     }
 }
 
 /// Adds an indented line to the value of the last element.
-fn continue_last(info: &mut Info, text: &[u8]) -> Result<(), TagCause>
-    requires utf8 { IsUtf8 text.now }
+fn continue_last(info: &mut Info, text: &str) -> Result<(), TagCause>
     requires plain { AllByRecursion IsPlain text.now }
     requires indented { begins_blank text.now ≡ true }
     requires not_blank { is_blank_line text.now ≡ false }
     ensures ok { OnOk result (Continues info.old text.now info.new) }
-    ensures err { IfErr result (Causes (λ cause. (cause ≡ LineCause.NothingToContinue) × (info.old ≡ []))) }
+    ensures err { IfErr result (Causes (λ cause. (cause ≡ LineCause.NothingToContinue)
+        × (info.old ≡ []))) }
 {
     let Some(last) = info.pop() else {
         return Err(TagCause::Line(LineCause::NothingToContinue));
     };
-    let (_blanks, line) = split_at_first(text, Stop::NoBlank);
-    let Ok(last) = last.with_line(known_text(line)) else {
-        return Err(TagCause::Memory);
-    };
-    match info.push(last) {
-        Ok(()) => Ok(()),
-        Err(AllocError) => Err(TagCause::Memory),
-    }
+    let (_blanks, line) = split_text(text, Stop::NoBlank);
+    let longer = last.with_line(line)?;
+    info.push(longer)?;
+    Ok(())
 }
 
 /// The element that a line gives.
-fn read_element(alloc: Global, text: &[u8]) -> Result<Element, TagCause>
-    requires utf8 { IsUtf8 text.now }
-    requires plain { AllByRecursion IsPlain text.now }
+fn read_element(alloc: Global, text: &str) -> Result<Element, TagCause>
+    requires { AllByRecursion IsPlain text.now }
     ensures ok { IfOk result (GivesElement text.now) }
     ensures err { IfErr result (Causes (GivesNoElement text.now)) }
 {
-    let (label, rest) = split_at_first(text, Stop::Colon);
-    let Some(first) = first_line(rest) else {
+    let (label, rest) = split_text(text, Stop::Colon);
+    let Some(first) = first_line(rest.as_bytes()) else {
         return Err(TagCause::Line(LineCause::NoSeparator));
     };
-    match Element::new(alloc, known_text(label), known_text(first)) {
+    match Element::new(alloc, label, known_text(first)) {
         Ok(element) => Ok(element),
         Err(ElementFault::BadLabel) => Err(TagCause::Line(LineCause::BadLabel)),
         Err(ElementFault::BadValue) => unreachable!(),
@@ -140,7 +129,8 @@ pub fn write_info(alloc: Global, info: &Info) -> Result<Vec<u8>, AllocError>
 }
 
 fn write_element(octets: &mut Vec<u8>, element: &Element) -> Result<(), AllocError>
-    ensures written { OnOk result (octets.new.items ≡ octets.old.items ++ written_element element.now) }
+    ensures written { OnOk result (octets.new.items ≡ octets.old.items
+        ++ written_element element.now) }
     ensures is_element { IsElement element.now }
 {
     octets.extend_from_slice(element.label().as_bytes())?;

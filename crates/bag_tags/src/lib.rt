@@ -1,7 +1,7 @@
 //! The tag files of a bag: their values, read from octets and written back (RFC 8493 section 2).
 #![tactic(auto)]
 
-pub use declaration::{Declaration, DeclarationFault, read_declaration, write_declaration};
+pub use declaration::{DeclFault, Declaration, read_declaration, write_declaration};
 pub use fault::{LineCause, LineFault, TagFault};
 pub use fetch::{Fetch, FetchEntry, FetchEntryFault, FetchLine};
 pub use fetch_text::{read_fetch, write_fetch};
@@ -11,7 +11,7 @@ pub use listing::{Kind, Pair, PushFault};
 pub use manifest::Manifest;
 pub use manifest_text::read_manifest;
 pub use manifest_writing::write_manifest;
-pub use name::{TagName, unknown_algorithm};
+pub use name::{LineFile, ManifestName, TagName, unknown_algorithm};
 pub use oxum::Oxum;
 
 mod declaration;
@@ -29,6 +29,7 @@ mod manifest_writing;
 mod name;
 mod number;
 mod oxum;
+mod path_text;
 mod reading;
 mod utf8;
 mod words;

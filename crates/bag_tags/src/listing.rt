@@ -2,12 +2,15 @@
 use crate::name::names_tag_manifest;
 use bag_digest::Digest;
 use bag_path::BagPath;
+use std::alloc::AllocError;
 use thiserror::Error;
 
 /// Whether a manifest lists payload files (RFC 8493 section 2.1.3) or tag files (section 2.2.1).
 #[derive(Clone, Copy, Debug, PartialEq, Eq, PartialOrd, Ord)]
 pub enum Kind {
+    /// Payload files, in `manifest-ALG.txt`.
     Payload,
+    /// Tag files, in `tagmanifest-ALG.txt`.
     Tag,
 }
 
@@ -29,7 +32,9 @@ impl Kind {
 /// A listed file.
 #[derive(Debug, Drop)]
 pub struct Pair {
+    /// Where the file is, from the base directory on.
     pub path: BagPath,
+    /// The digest of its octets.
     pub digest: Digest,
 }
 
@@ -49,4 +54,15 @@ pub enum PushFault {
     /// Memory ran out.
     #[error("out of memory")]
     Memory,
+}
+
+impl From<AllocError> for PushFault {
+    ghost use Rattle.std.specs.Prelude.{◌≡◌};
+    ghost use Rattle.bag_tags.specs.declared.listing.PushFault.TheVariants.{Memory};
+
+    ghost from_gives = { λ error fault. fault ≡ Memory };
+
+    fn from(_: AllocError) -> PushFault {
+        PushFault::Memory
+    }
 }

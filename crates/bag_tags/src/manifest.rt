@@ -6,6 +6,7 @@ ghost use Rattle.bag_tags.specs.ManifestView.{IsIndexOf};
 ghost use Rattle.bag_tags.specs.Listings.{lists_path, pair};
 
 use crate::listing::{Kind, Pair, PushFault};
+use crate::name::ManifestName;
 use bag_digest::{Alg, Digest};
 use bag_path::BagPath;
 use std::alloc::{AllocError, Global};
@@ -38,6 +39,7 @@ impl Manifest {
     ghost use Rattle.bag_digest.specs.Hash.{alg_of};
     ghost use Rattle.bag_tags.specs.Listings.{nothing_listed, with_pair, pair, listed_digest, Admits, RefusesPair, NoneTwice};
     ghost use Rattle.bag_tags.specs.ManifestView.{FitEach};
+    ghost use Rattle.bag_tags.specs.Names.{manifest_name};
 
     /// A manifest that lists nothing yet.
     pub fn new(alloc: Global, alg: Alg, kind: Kind) -> Manifest
@@ -70,12 +72,23 @@ impl Manifest {
         self.kind
     }
 
+    /// What the manifest lists and its algorithm, by which its file is named.
+    pub fn name(&self) -> ManifestName
+        ensures { result ≡ manifest_name self.now.kind self.now.alg }
+    {
+        ManifestName {
+            kind: self.kind,
+            alg: self.alg,
+        }
+    }
+
     /// The listed files in the order of the manifest.
     pub fn pairs(&self) -> &[Pair]
         ensures pairs { result.now ≡ self.now.pairs }
         ensures none_twice { NoneTwice self.now.pairs }
         ensures fit { FitEach self.now.alg self.now.kind self.now.pairs }
     {
+        // The index says that no pair stands twice.
         let _places = &self.places;
         self.pairs.as_slice()
     }
@@ -111,11 +124,8 @@ impl Manifest {
         if self.places.contains_key(&path) {
             return Err(PushFault::Twice);
         }
-        match add(&mut self.pairs, &mut self.places, path, digest) {
-            Ok(()) => return Ok(()),
-            Err(AllocError) => {}
-        }
-        Err(PushFault::Memory)
+        add(&mut self.pairs, &mut self.places, path, digest)?;
+        Ok(())
     }
 }
 
@@ -141,12 +151,11 @@ fn add(
     let place = pairs.len();
     let key = path.clone()?;
     pairs.push(Pair { path, digest })?;
-    match places.insert(key, place) {
-        Ok(_) => return Ok(()),
-        Err(_) => {}
-    }
-    let _ = pairs.pop();
-    Err(AllocError)
+    let Ok(_) = places.insert(key, place) else {
+        let _ = pairs.pop();
+        return Err(AllocError);
+    };
+    Ok(())
 }
 
 #[cfg(test)]

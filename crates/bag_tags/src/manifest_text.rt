@@ -1,22 +1,19 @@
 //! The text of a manifest (RFC 8493 section 2.1.3).
 ghost use Rattle.std.specs.Prelude.{◌≡◌, List, IfErr, IfOk, IsErrOf, MatchResult};
-ghost use Rattle.std.specs.Str.{IsUtf8};
-ghost use Rattle.bag_path.specs.Paths.{IsPath};
-ghost use Rattle.bag_path.specs.Spellings.{Spells};
 ghost use Rattle.bag_tags.specs.declared.fault.LineFault.{LineFault};
 ghost use Rattle.bag_tags.specs.declared.listing.Pair.{Pair};
 ghost use Rattle.bag_tags.specs.TagLines.{Causes};
-ghost use Rattle.bag_tags.specs.Manifests.{plain_path, Gives, GivesNothing, PathCause, ManifestText, ManifestFault};
+ghost use Rattle.bag_tags.specs.Manifests.{plain_path, Gives, GivesNothing, ManifestText, ManifestFault};
 
 use crate::fault::{LineCause, TagCause, TagFault};
 use crate::listing::{Kind, Pair, PushFault};
 use crate::manifest::Manifest;
-use crate::reading::{TagLines, read_text};
-use crate::words::{Stop, split_at_first, without};
+use crate::path_text::read_path;
+use crate::reading::{TagLines, read_onto};
+use crate::words::{Stop, split_text};
 use bag_digest::{Alg, Digest};
-use bag_path::{BagPath, PathFault, Version, unescape};
+use bag_path::Version;
 use std::alloc::Global;
-use std::str;
 
 /// The manifest of a text: a line for each file, with its checksum in hex, blanks and its path.
 ///
@@ -38,11 +35,13 @@ pub fn read_manifest(
     ensures listed { IfOk result (λ manifest. (manifest.alg ≡ alg) × (manifest.kind ≡ kind)
         × ManifestText version alg kind octets.now manifest.pairs) }
     ensures only { (pairs : List Pair) → ManifestText version alg kind octets.now pairs
-        → MatchResult result (λ manifest. manifest.pairs ≡ pairs) (λ fault. fault ≡ TagFault.Memory) }
-    ensures fault { (fault : LineFault) → IsErrOf result (TagFault.Line fault) → ManifestFault version alg kind octets.now fault }
+        → MatchResult result (λ manifest. manifest.pairs ≡ pairs)
+        (λ fault. fault ≡ TagFault.Memory) }
+    ensures fault { (fault : LineFault) → IsErrOf result (TagFault.Line fault)
+        → ManifestFault version alg kind octets.now fault }
 {
     let mut manifest = Manifest::new(alloc, alg, kind);
-    read_text(&mut manifest, version, octets)?;
+    read_onto(&mut manifest, version, octets)?;
     Ok(manifest)
 }
 
@@ -53,7 +52,7 @@ impl TagLines for Manifest {
 
     ghost refuses = { RefusesLine };
 
-    fn read_line(&mut self, version: Version, _number: u64, text: &[u8]) -> Result<(), TagCause> {
+    fn read_line(&mut self, version: Version, _number: u64, text: &str) -> Result<(), TagCause> {
         let alloc = self.allocator();
         let Pair { path, digest } = read_pair(alloc, self.alg(), version, text)?;
         match self.push(path, digest) {
@@ -67,39 +66,28 @@ impl TagLines for Manifest {
 }
 
 /// What a line gives: a path, and its digest.
-fn read_pair(alloc: Global, alg: Alg, version: Version, text: &[u8]) -> Result<Pair, TagCause>
+fn read_pair(alloc: Global, alg: Alg, version: Version, text: &str) -> Result<Pair, TagCause>
     ensures ok { IfOk result (λ pair. Gives version alg text.now pair.path pair.digest) }
     ensures err { IfErr result (Causes (GivesNothing version alg text.now)) }
 {
-    if str::from_utf8(text).is_err() {
-        return Err(TagCause::Line(LineCause::NotUtf8));
-    }
-    let (checksum, rest) = split_at_first(text, Stop::Blank);
+    let (checksum, rest) = split_text(text, Stop::Blank);
     if rest.is_empty() {
         return Err(TagCause::Line(LineCause::NoSeparator));
     }
-    let Some(digest) = Digest::from_hex(alg, checksum) else {
+    let Some(digest) = Digest::from_hex(alg, checksum.as_bytes()) else {
         return Err(TagCause::Line(LineCause::BadDigest));
     };
-    let (_blanks, path_text) = split_at_first(rest, Stop::NoBlank);
-    let path = read_path(alloc, version, path_text)?;
+    let (_blanks, path_text) = split_text(rest, Stop::NoBlank);
+    let path = read_path(alloc, version, plain_path(path_text))?;
     Ok(Pair { path, digest })
 }
 
-/// The path that the text after the blanks spells.
-fn read_path(alloc: Global, version: Version, text: &[u8]) -> Result<BagPath, TagCause>
-    requires { IsUtf8 text.now }
-    ensures ok { IfOk result (λ path. Spells version path (plain_path text.now) × IsPath path) }
-    ensures err { IfErr result (Causes (PathCause version (plain_path text.now))) }
+/// The text of a path without one star, and then without one dot and slash.
+fn plain_path(text: &str) -> &str
+    ensures { result.now ≡ plain_path text.now }
 {
-    let Ok(text) = str::from_utf8(without(b"./", without(b"*", text))) else {
-        unreachable!();
-    };
-    match unescape(alloc, text, version) {
-        Ok(path) => Ok(path),
-        Err(PathFault::Memory) => Err(TagCause::Memory),
-        Err(fault) => Err(TagCause::Line(LineCause::BadPath(fault))),
-    }
+    let text = text.strip_prefix("*").unwrap_or(text);
+    text.strip_prefix("./").unwrap_or(text)
 }
 
 #[cfg(test)]

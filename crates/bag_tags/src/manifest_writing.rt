@@ -1,7 +1,7 @@
 //! Manifests as they are written (RFC 8493 section 2.1.3).
 ghost use Rattle.std.specs.Prelude.{◌≡◌, ◌++◌, IfOk, OnOk};
 ghost use Rattle.bag_path.specs.Paths.{IsPath};
-ghost use Rattle.bag_path.specs.declared.spelling.Version.TheVariants.{V1};
+ghost use Rattle.bag_path.specs.declared.version.Version.TheVariants.{V1};
 ghost use Rattle.bag_digest.specs.Hash.{alg_of};
 ghost use Rattle.bag_digest.specs.Spelling.{SpellsDigest, lower_case_of};
 ghost use Rattle.bag_tags.specs.Manifests.{ManifestText};
@@ -34,7 +34,8 @@ pub fn write_manifest(alloc: Global, manifest: &Manifest) -> Result<Vec<u8>, All
 fn write_pair(alloc: Global, octets: &mut Vec<u8>, pair: &Pair) -> Result<(), AllocError>
     ensures written { OnOk result (octets.new.items ≡ octets.old.items ++ written_pair pair.now) }
     ensures path { OnOk result (IsPath pair.now.path) }
-    ensures digest { OnOk result (SpellsDigest (alg_of pair.now.digest) (lower_case_of pair.now.digest) pair.now.digest) }
+    ensures digest { OnOk result (SpellsDigest (alg_of pair.now.digest)
+        (lower_case_of pair.now.digest) pair.now.digest) }
 {
     octets.extend_from_slice(pair.digest.to_hex(alloc)?.as_bytes())?;
     octets.extend_from_slice(b"  ")?;

@@ -3,8 +3,10 @@ ghost use Rattle.std.specs.Prelude.{◌≡◌, ◌↔◌, ◌++◌, ℕ, List, I
 ghost use Rattle.bag_tags.specs.declared.name.TagName.{TagName};
 ghost use Rattle.bag_tags.specs.Names.{IsWord, IsWordOctet, IsUnknownManifest, Names, NamesTagManifest};
 
+use crate::listing::Kind;
 use bag_digest::Alg;
 use bag_path::BagPath;
+use std::fmt::{self, Display, Formatter, Write};
 
 /// What a file of a bag is, by its path. All but `Other` stand at the base directory, and their names are
 /// matched exactly.
@@ -30,7 +32,7 @@ pub enum TagName {
 impl TagName {
     ghost use Rattle.std.specs.Prelude.{◌≡◌};
     ghost use Rattle.bag_tags.specs.declared.name.TagName.{TagName};
-    ghost use Rattle.bag_tags.specs.Names.{Names};
+    ghost use Rattle.bag_tags.specs.Names.{Names, known_manifest};
 
     /// What the file at this path is.
     pub fn of(path: &BagPath) -> TagName
@@ -61,12 +63,94 @@ impl TagName {
         }
         TagName::Other
     }
+
+    /// The manifest that has this name, where its algorithm is known.
+    pub fn manifest(self) -> Option<ManifestName>
+        ensures { result ≡ known_manifest self }
+    {
+        let (kind, alg) = match self {
+            TagName::PayloadManifest(alg) => (Kind::Payload, alg),
+            TagName::TagManifest(alg) => (Kind::Tag, alg),
+            _ => return None,
+        };
+        Some(ManifestName { kind, alg })
+    }
+}
+
+/// A manifest, by what it lists and its algorithm. The order is that of the file names.
+#[derive(Clone, Copy, Debug, PartialEq, Eq, PartialOrd, Ord)]
+pub struct ManifestName {
+    /// Whether it is a payload manifest, `manifest-ALG.txt`, or a tag manifest, `tagmanifest-ALG.txt`.
+    pub kind: Kind,
+    /// The algorithm of its digests.
+    pub alg: Alg,
+}
+
+impl Display for ManifestName {
+    ghost use Rattle.std.specs.Prelude.{Some};
+    ghost use Rattle.bag_tags.specs.Names.{file_of};
+
+    ghost output = { λ name. Some (file_of name) };
+
+    fn fmt<W: Write>(&self, f: &mut Formatter<W>) -> fmt::Result {
+        let alg = self.alg.name();
+        match self.kind {
+            Kind::Payload => write!(f, "manifest-{alg}.txt"),
+            Kind::Tag => write!(f, "tagmanifest-{alg}.txt"),
+        }
+    }
+}
+
+/// A tag file that is read line by line. The order is that of the file names.
+#[derive(Clone, Copy, Debug, PartialEq, Eq, PartialOrd, Ord)]
+pub enum LineFile {
+    /// `bag-info.txt`, which `read_info` reads.
+    Info,
+    /// `fetch.txt`, which `read_fetch` reads.
+    FetchList,
+    /// `manifest-ALG.txt` or `tagmanifest-ALG.txt`, which `read_manifest` reads.
+    Manifest(ManifestName),
+}
+
+impl LineFile {
+    ghost use Rattle.std.specs.Prelude.{◌≡◌, ◌≢◌, MatchOption};
+    ghost use Rattle.bag_tags.specs.Names.{text_file};
+    ghost use Rattle.bag_tags.specs.declared.name.LineFile.{LineFile};
+
+    /// The tag file that has this path, if it is one that is read line by line.
+    pub fn of(path: &BagPath) -> Option<LineFile>
+        ensures { MatchOption result ((file : LineFile) → path.now ≢ text_file file)
+            (λ file. path.now ≡ text_file file) }
+    {
+        let name = TagName::of(path);
+        match name {
+            TagName::Info => Some(LineFile::Info),
+            TagName::FetchList => Some(LineFile::FetchList),
+            _ => Some(LineFile::Manifest(name.manifest()?)),
+        }
+    }
+}
+
+impl Display for LineFile {
+    ghost use Rattle.std.specs.Prelude.{Some};
+    ghost use Rattle.bag_tags.specs.Names.{text_file};
+
+    ghost output = { λ file. Some (text_file file) };
+
+    fn fmt<W: Write>(&self, f: &mut Formatter<W>) -> fmt::Result {
+        match self {
+            LineFile::Info => f.write_str("bag-info.txt"),
+            LineFile::FetchList => f.write_str("fetch.txt"),
+            LineFile::Manifest(name) => write!(f, "{name}"),
+        }
+    }
 }
 
 /// The X of `manifest-X.txt` or `tagmanifest-X.txt`, where it is one or more ASCII letters, digits or `_`, and
 /// the name of no algorithm that is known.
 pub fn unknown_algorithm(path: &BagPath) -> Option<&str>
-    ensures { MatchOption result ((word : List ℕ) → IsUnknownManifest path.now word → ⊥) (λ word. IsUnknownManifest path.now word.now) }
+    ensures { MatchOption result ((word : List ℕ) → IsUnknownManifest path.now word → ⊥)
+        (λ word. IsUnknownManifest path.now word.now) }
 {
     let text = path.as_str();
     let word = match manifest_word(text, "manifest-") {
@@ -98,7 +182,9 @@ pub fn a_path_has_one_unknown_algorithm_at_most()
 
 /// What stands between this front and `.txt`, where they are there and it is a word.
 fn manifest_word<'a>(text: &'a str, front: &str) -> Option<&'a str>
-    ensures { MatchOption result ((word : List ℕ) → IsWord word → text.now ≡ front.now ++ word ++ codes ".txt" → ⊥) (λ word. IsWord word.now × (text.now ≡ front.now ++ word.now ++ codes ".txt")) }
+    ensures { MatchOption result ((word : List ℕ) → IsWord word → text.now ≡ front.now ++ word
+        ++ codes ".txt" → ⊥) (λ word. IsWord word.now
+        × (text.now ≡ front.now ++ word.now ++ codes ".txt")) }
 {
     let word = text.strip_prefix(front)?.strip_suffix(".txt")?;
     if is_word(word) { Some(word) } else { None }

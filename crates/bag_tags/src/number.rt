@@ -6,7 +6,8 @@ ghost use Rattle.bag_tags.specs.Numerals.{IsNumeral};
 
 /// The value of one or more ASCII digits, where it is below 2^64. Leading zeros are accepted.
 pub(crate) fn read_number(text: &[u8]) -> Option<u64>
-    ensures { MatchOption result ((n : ℕ) → IsNumeral text.now n → n < 2 ^ 64 → ⊥) (λ n. IsNumeral text.now n) }
+    ensures { MatchOption result ((n : ℕ) → IsNumeral text.now n → n < 2 ^ 64 → ⊥)
+        (λ n. IsNumeral text.now n) }
 {
     if text.is_empty() || !are_digits(text) {
         return None;

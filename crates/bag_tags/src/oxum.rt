@@ -10,7 +10,9 @@ use std::alloc::{AllocError, Global};
 /// How many octets a payload has, and how many files (streams).
 #[derive(Clone, Copy, Debug, PartialEq, Eq)]
 pub struct Oxum {
+    /// How many octets the payload files have together.
     pub octets: u64,
+    /// How many payload files there are.
     pub streams: u64,
 }
 
@@ -19,7 +21,8 @@ impl Oxum {
     /// ends and leading zeros are accepted.
     pub fn parse(text: &str) -> Option<Oxum>
         ensures read { IfSome result (λ oxum. OxumText text.now oxum.octets oxum.streams) }
-        ensures only { (oxum : Oxum) → OxumText text.now oxum.octets oxum.streams → result ≡ Some oxum }
+        ensures only { (oxum : Oxum) → OxumText text.now oxum.octets oxum.streams → result
+            ≡ Some oxum }
     {
         let (_front, rest) = split_at_first(text.as_bytes(), Stop::NoBlank);
         let (octets, rest) = split_at_first(rest, Stop::Dot);
@@ -40,7 +43,8 @@ impl Oxum {
     ///
     /// `AllocError` where memory runs out.
     pub fn to_text(self, alloc: Global) -> Result<String, AllocError>
-        ensures written { IfOk result (λ text. string_bytes text ≡ written_oxum self.octets self.streams) }
+        ensures written { IfOk result (λ text. string_bytes text
+            ≡ written_oxum self.octets self.streams) }
         ensures says { IfOk result (λ text. OxumText (string_bytes text) self.octets self.streams) }
     {
         format!(in alloc; "{}.{}", self.octets, self.streams)

@@ -1,30 +1,40 @@
 //! How text tag files are read: line by line, onto a value.
-ghost use Rattle.std.specs.Prelude.{◌≡◌, ℕ, false, List, IfErr, OnOk};
+ghost use Rattle.std.specs.Prelude.{◌≡◌, ℕ, false, List, IfErr, IsErrOf, MatchResult, OnOk};
 ghost use Rattle.std.specs.List.{AllByRecursion};
+ghost use Rattle.std.specs.Str.{IsUtf8};
 ghost use Rattle.bag_path.specs.Lines.{IsPlain};
 ghost use Rattle.bag_path.specs.LinesLeft.{numbered_text};
-ghost use Rattle.bag_path.specs.declared.spelling.Version.{Version};
+ghost use Rattle.bag_path.specs.declared.version.Version.{Version};
 ghost use Rattle.bag_tags.specs.declared.fault.LineCause.{LineCause};
-ghost use Rattle.bag_tags.specs.Reading.{LeadsOn, RefusedAt};
-ghost use Rattle.bag_tags.specs.TagLines.{Causes, Faults, IsTextOf, StopsAt};
+ghost use Rattle.bag_tags.specs.declared.fault.LineFault.{LineFault};
+ghost use Rattle.bag_tags.specs.TagLines.{
+  AreExact,
+  Causes,
+  Faults,
+  HasCause,
+  IsFirstFault,
+  IsTextOf,
+  LeadsOn,
+  RefusedAt,
+  tag_line,
+};
 ghost use Rattle.bag_tags.specs.Words.{is_blank_line};
 
-use crate::fault::{LineFault, TagCause, TagFault};
-use crate::words::{is_blank_line, without};
+use crate::fault::{LineCause, LineFault, TagCause, TagFault};
+use crate::words::{MARK, is_blank_line, without};
 use bag_path::{Line, Lines, Version};
-
-const MARK: &[u8] = b"\xEF\xBB\xBF";
+use std::str;
 
 /// The value of a text tag file, onto which its lines are read in order.
 pub(crate) trait TagLines {
-    /// What a line that isn't blank makes of the value so far.
+    /// What a line that is UTF-8 and not blank makes of the value so far.
     ghost leads: { Version → Self → ℕ → List ℕ → Self → Type 0 };
 
     /// Why such a line is faulty after this value.
     ghost refuses: { Version → Self → List ℕ → LineCause → Type 0 };
 
     /// Adds what a line says. After an `Err` the value is not used again.
-    fn read_line(&mut self, version: Version, number: u64, text: &[u8]) -> Result<(), TagCause>
+    fn read_line(&mut self, version: Version, number: u64, text: &str) -> Result<(), TagCause>
         requires plain { AllByRecursion IsPlain text.now }
         requires not_blank { is_blank_line text.now ≡ false }
         ensures ok { OnOk result (leads version self.old number text.now self.new) }
@@ -32,13 +42,17 @@ pub(crate) trait TagLines {
 }
 
 /// Reads a whole text onto a value. After an `Err` the value is not used again.
-pub(crate) fn read_text<V: TagLines>(
+pub(crate) fn read_onto<V: TagLines>(
     value: &mut V,
     version: Version,
     octets: &[u8],
 ) -> Result<(), TagFault>
-    ensures ok { OnOk result (IsTextOf (V.leads version) value.old octets.now value.new) }
-    ensures err { IfErr result (Faults (StopsAt (V.leads version) (V.refuses version) value.old octets.now)) }
+    requires { AreExact (V.leads version) (V.refuses version) }
+    ensures read { OnOk result (IsTextOf (V.leads version) value.old octets.now value.new) }
+    ensures only { (other : V) → IsTextOf (V.leads version) value.old octets.now other
+        → MatchResult result (λ done. value.new ≡ other) (λ fault. fault ≡ TagFault.Memory) }
+    ensures fault { (fault : LineFault) → IsErrOf result (TagFault.Line fault)
+        → IsFirstFault (V.leads version) (V.refuses version) value.old octets.now fault }
 {
     for line in Lines::new(without(MARK, octets)) {
         read_numbered(value, version, line)?;
@@ -52,18 +66,39 @@ fn read_numbered<V: TagLines>(
     line: Line<'_>,
 ) -> Result<(), TagFault>
     requires { AllByRecursion IsPlain line.text.now }
-    ensures ok { OnOk result (LeadsOn (V.leads version) value.old (numbered_text line.entry) value.new) }
-    ensures err { IfErr result (Faults (RefusedAt (V.refuses version) value.old (numbered_text line.entry))) }
+    ensures ok { OnOk result
+        (LeadsOn (V.leads version) value.old (tag_line (numbered_text line.entry)) value.new) }
+    ensures err { IfErr result
+        (Faults (RefusedAt (V.refuses version) value.old (tag_line (numbered_text line.entry)))) }
 {
     if is_blank_line(line.text) {
         return Ok(());
     }
-    match value.read_line(version, line.number as u64, line.text) {
+    match read_octets(value, version, line.number, line.text) {
         Ok(()) => Ok(()),
         Err(TagCause::Memory) => Err(TagFault::Memory),
         Err(TagCause::Line(cause)) => Err(TagFault::Line(LineFault {
-            line: line.number as u64,
+            line: line.number,
             cause,
         })),
     }
+}
+
+/// Adds what a line says that isn't blank, where it is UTF-8.
+fn read_octets<V: TagLines>(
+    value: &mut V,
+    version: Version,
+    number: u64,
+    octets: &[u8],
+) -> Result<(), TagCause>
+    requires plain { AllByRecursion IsPlain octets.now }
+    requires not_blank { is_blank_line octets.now ≡ false }
+    ensures utf8 { OnOk result (IsUtf8 octets.now) }
+    ensures ok { OnOk result (V.leads version value.old number octets.now value.new) }
+    ensures err { IfErr result (Causes (HasCause (V.refuses version) value.old octets.now)) }
+{
+    let Ok(text) = str::from_utf8(octets) else {
+        return Err(TagCause::Line(LineCause::NotUtf8));
+    };
+    value.read_line(version, number, text)
 }

@@ -1,7 +1,10 @@
 //! The words of a line.
 ghost use Rattle.std.specs.Prelude.{◌≡◌, ◌≤◌, length, take, drop};
-ghost use Rattle.bag_tags.specs.Words.{is_blank, is_blank_line, without};
+ghost use Rattle.bag_tags.specs.Words.{begins_blank, is_blank, is_blank_line, without};
 ghost use Rattle.bag_tags.specs.WordsReading.{until, stops};
+
+/// The byte order mark of UTF-8.
+pub(crate) const MARK: &[u8] = b"\xEF\xBB\xBF";
 
 /// The octets before which a text is cut.
 #[derive(Clone, Copy, Debug, PartialEq, Eq)]
@@ -35,6 +38,13 @@ pub(crate) fn split_at_first(text: &[u8], stop: Stop) -> (&[u8], &[u8])
     text.split_at(front_len(text, stop))
 }
 
+/// The same of a text.
+pub(crate) fn split_text(text: &str, stop: Stop) -> (&str, &str)
+    ensures { until (stops stop) text.now ≡ (result.0.now, result.1.now) }
+{
+    text.split_at(front_len(text.as_bytes(), stop))
+}
+
 fn front_len(text: &[u8], stop: Stop) -> usize
     ensures within { result ≤ length text.now }
     ensures front { until (stops stop) text.now ≡ (take result text.now, drop result text.now) }
@@ -52,6 +62,16 @@ pub(crate) fn is_blank(octet: u8) -> bool
     ensures { result ≡ is_blank octet }
 {
     octet == b' ' || octet == b'\t'
+}
+
+/// Whether a text begins with a space or a tab.
+pub(crate) fn begins_blank(text: &[u8]) -> bool
+    ensures { result ≡ begins_blank text.now }
+{
+    match text.first() {
+        Some(octet) => is_blank(*octet),
+        None => false,
+    }
 }
 
 /// Whether a line has blanks alone, or nothing.

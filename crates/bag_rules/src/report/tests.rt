@@ -1,8 +1,8 @@
-use crate::fault::{Fault, LineFile, ManifestName};
+use crate::fault::Fault;
 use crate::report::Report;
 use bag_digest::Alg;
 use bag_path::{BagPath, PathFault};
-use bag_tags::{DeclarationFault, Kind, LineCause};
+use bag_tags::{DeclFault, Kind, LineCause, LineFile, ManifestName};
 use std::alloc::Global;
 use std::test::Fail;
 
@@ -126,7 +126,7 @@ fn the_kinds_of_fault_stand_by_their_numbers(rt: HostRuntime) -> Result<(), Fail
         },
         Fault::NoManifest,
         Fault::NoPayloadDir,
-        Fault::BadDeclaration(DeclarationFault::Mark),
+        Fault::BadDeclaration(DeclFault::Mark),
         Fault::NoDeclaration,
     ]?);
     let mut numbers = Vec::new(alloc);

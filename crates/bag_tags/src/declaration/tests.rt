@@ -9,7 +9,7 @@ const VERSION_1: Declaration = Declaration {
     utf8: true,
 };
 
-fn version(major: u32, minor: u32) -> Result<Declaration, DeclarationFault> {
+fn version(major: u32, minor: u32) -> Result<Declaration, DeclFault> {
     Ok(Declaration {
         major,
         minor,
@@ -17,7 +17,7 @@ fn version(major: u32, minor: u32) -> Result<Declaration, DeclarationFault> {
     })
 }
 
-fn encoding(utf8: bool) -> Result<Declaration, DeclarationFault> {
+fn encoding(utf8: bool) -> Result<Declaration, DeclFault> {
     Ok(Declaration {
         major: 1,
         minor: 0,
@@ -38,9 +38,9 @@ fn what_is_written_is_54_octets_and_declares_1_0_and_utf_8(rt: HostRuntime) -> R
 fn a_declaration_cut_to_each_length(rt: HostRuntime) {
     for len in 0..=54 {
         let want = match len {
-            0..=19 => Err(DeclarationFault::LineCount),
-            20..=47 => Err(DeclarationFault::Label),
-            48 => Err(DeclarationFault::EncodingName),
+            0..=19 => Err(DeclFault::LineCount),
+            20..=47 => Err(DeclFault::Label),
+            48 => Err(DeclFault::EncodingName),
             49..=52 => encoding(false),
             _ => encoding(true),
         };
@@ -65,7 +65,7 @@ fn there_are_exactly_two_lines(rt: HostRuntime) {
     let empty_first: &[u8] = b"\nBagIt-Version: 1.0\nTag-File-Character-Encoding: UTF-8\n";
     let one: &[u8] = b"BagIt-Version: 1.0 Tag-File-Character-Encoding: UTF-8\n";
     for octets in [empty_third, empty_between, empty_first, one] {
-        assert_eq!(rt; read_declaration(octets), Err(DeclarationFault::LineCount));
+        assert_eq!(rt; read_declaration(octets), Err(DeclFault::LineCount));
     }
 }
 
@@ -85,7 +85,7 @@ fn the_labels_are_matched_exactly_and_in_order(rt: HostRuntime) {
         swapped,
         bad_version_too,
     ] {
-        assert_eq!(rt; read_declaration(octets), Err(DeclarationFault::Label));
+        assert_eq!(rt; read_declaration(octets), Err(DeclFault::Label));
     }
 }
 
@@ -93,24 +93,24 @@ fn the_labels_are_matched_exactly_and_in_order(rt: HostRuntime) {
 fn a_version_is_two_numbers_of_one_to_nine_digits_without_leading_zeros(
     rt: HostRuntime,
 ) -> Result<(), Fail> {
-    let cases: [(&[u8], Result<Declaration, DeclarationFault>); 17] = [
+    let cases: [(&[u8], Result<Declaration, DeclFault>); 17] = [
         (b"1.0", version(1, 0)),
         (b"0.97", version(0, 97)),
         (b"0.0", version(0, 0)),
         (b"10.20", version(10, 20)),
         (b"999999999.999999999", version(999_999_999, 999_999_999)),
-        (b"1000000000.0", Err(DeclarationFault::Version)),
-        (b"1.1000000000", Err(DeclarationFault::Version)),
-        (b"01.0", Err(DeclarationFault::Version)),
-        (b"1.00", Err(DeclarationFault::Version)),
-        (b"1", Err(DeclarationFault::Version)),
-        (b"1.", Err(DeclarationFault::Version)),
-        (b".0", Err(DeclarationFault::Version)),
-        (b"1.0.0", Err(DeclarationFault::Version)),
-        (b"+1.0", Err(DeclarationFault::Version)),
-        (b"1.0 ", Err(DeclarationFault::Version)),
-        (b" 1.0", Err(DeclarationFault::Version)),
-        (b"", Err(DeclarationFault::Version)),
+        (b"1000000000.0", Err(DeclFault::Version)),
+        (b"1.1000000000", Err(DeclFault::Version)),
+        (b"01.0", Err(DeclFault::Version)),
+        (b"1.00", Err(DeclFault::Version)),
+        (b"1", Err(DeclFault::Version)),
+        (b"1.", Err(DeclFault::Version)),
+        (b".0", Err(DeclFault::Version)),
+        (b"1.0.0", Err(DeclFault::Version)),
+        (b"+1.0", Err(DeclFault::Version)),
+        (b"1.0 ", Err(DeclFault::Version)),
+        (b" 1.0", Err(DeclFault::Version)),
+        (b"", Err(DeclFault::Version)),
     ];
     for (text, want) in cases {
         let parts: [&[u8]; 3] = [
@@ -127,24 +127,24 @@ fn a_version_is_two_numbers_of_one_to_nine_digits_without_leading_zeros(
 #[test]
 fn a_bad_version_comes_before_a_bad_encoding_name(rt: HostRuntime) {
     let octets: &[u8] = b"BagIt-Version: 1\nTag-File-Character-Encoding: \n";
-    assert_eq!(rt; read_declaration(octets), Err(DeclarationFault::Version));
+    assert_eq!(rt; read_declaration(octets), Err(DeclFault::Version));
 }
 
 #[test]
 fn an_encoding_name_is_visible_ascii(rt: HostRuntime) -> Result<(), Fail> {
-    let cases: [(&[u8], Result<Declaration, DeclarationFault>); 12] = [
+    let cases: [(&[u8], Result<Declaration, DeclFault>); 12] = [
         (b"UTF-8", encoding(true)),
         (b"utf-8", encoding(true)),
         (b"uTf-8", encoding(true)),
         (b"ISO-8859-1", encoding(false)),
         (b"UTF8", encoding(false)),
         (b"!~", encoding(false)),
-        (b"UTF-8 ", Err(DeclarationFault::EncodingName)),
-        (b" UTF-8", Err(DeclarationFault::EncodingName)),
-        (b"UTF-8\t", Err(DeclarationFault::EncodingName)),
-        (b"UTF-8\x7F", Err(DeclarationFault::EncodingName)),
-        (b"\xC3\xA9", Err(DeclarationFault::EncodingName)),
-        (b"", Err(DeclarationFault::EncodingName)),
+        (b"UTF-8 ", Err(DeclFault::EncodingName)),
+        (b" UTF-8", Err(DeclFault::EncodingName)),
+        (b"UTF-8\t", Err(DeclFault::EncodingName)),
+        (b"UTF-8\x7F", Err(DeclFault::EncodingName)),
+        (b"\xC3\xA9", Err(DeclFault::EncodingName)),
+        (b"", Err(DeclFault::EncodingName)),
     ];
     for (text, want) in cases {
         let parts: [&[u8]; 3] = [
@@ -165,10 +165,10 @@ fn a_mark_and_octets_that_are_not_utf_8_come_first(rt: HostRuntime) {
     let marked_not_utf8: &[u8] = b"\xEF\xBB\xBF\xFF";
     let latin: &[u8] = b"BagIt-Version: 1.0\nTag-File-Character-Encoding: \xE9\n";
     let half_a_mark: &[u8] = b"\xEF\xBB";
-    assert_eq!(rt; read_declaration(marked), Err(DeclarationFault::Mark));
-    assert_eq!(rt; read_declaration(mark_alone), Err(DeclarationFault::Mark));
+    assert_eq!(rt; read_declaration(marked), Err(DeclFault::Mark));
+    assert_eq!(rt; read_declaration(mark_alone), Err(DeclFault::Mark));
     for octets in [marked_not_utf8, latin, half_a_mark] {
-        assert_eq!(rt; read_declaration(octets), Err(DeclarationFault::NotUtf8));
+        assert_eq!(rt; read_declaration(octets), Err(DeclFault::NotUtf8));
     }
 }
 
@@ -178,4 +178,22 @@ fn joined(alloc: Global, parts: &[&[u8]]) -> Result<Vec<u8>, AllocError> {
         octets.extend_from_slice(part)?;
     }
     Ok(octets)
+}
+
+#[test]
+fn the_version_that_is_known_is_1_0(rt: HostRuntime) {
+    for (major, minor, want) in [
+        (1, 0, Some(Version::V1)),
+        (0, 97, None),
+        (1, 1, None),
+        (0, 0, None),
+        (2, 0, None),
+    ] {
+        let declaration = Declaration {
+            major,
+            minor,
+            utf8: true,
+        };
+        assert_eq!(rt; declaration.version(), want, "{major}.{minor}");
+    }
 }

@@ -1,5 +1,6 @@
 use super::*;
 use crate::fault::LineFault;
+use bag_path::{BagPath, PathFault};
 use std::test::Fail;
 
 /// Whether a text lists these entries, each with its line.
@@ -101,6 +102,16 @@ fn the_first_faulty_line_and_its_first_cause(rt: HostRuntime) {
         fault_of(alloc, b"http:x 5 data/a\n\nhttp:x 5 a\nhttp:x"),
         at(3, LineCause::WrongPlace)
     );
+}
+
+#[test]
+fn an_entry_is_written_with_its_length(rt: HostRuntime) -> Result<(), Fail> {
+    let mut fetch = Fetch::new(rt.alloc());
+    let path = BagPath::parse(rt.alloc(), "data/a")?;
+    fetch.push(FetchEntry::new(rt.alloc(), "http:x", Some(5), path)?)?;
+    let written = write_fetch(rt.alloc(), &fetch)?;
+    assert!(rt; written.as_slice() == b"http:x 5 data/a\n".as_slice());
+    Ok(())
 }
 
 #[test]

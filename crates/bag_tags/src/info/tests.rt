@@ -55,3 +55,19 @@ fn a_label_may_stand_in_several_elements(rt: HostRuntime) -> Result<(), Fail> {
     assert_eq!(rt; info.elements()[1].value(), "two");
     Ok(())
 }
+
+#[test]
+fn the_label_of_an_oxum_has_no_case(rt: HostRuntime) -> Result<(), Fail> {
+    for (label, want) in [
+        ("Payload-Oxum", true),
+        ("PAYLOAD-OXUM", true),
+        ("payload-oxum", true),
+        ("Payload-Oxum-2", false),
+        ("Payload_Oxum", false),
+        ("Oxum", false),
+    ] {
+        let element = Element::new(rt.alloc(), label, "1.1")?;
+        assert_eq!(rt; element.is_oxum(), want, "{label}");
+    }
+    Ok(())
+}

@@ -1,5 +1,6 @@
 use super::*;
 use crate::fault::LineFault;
+use bag_path::PathFault;
 use std::test::Fail;
 
 const TWO_LINES: &[u8] =

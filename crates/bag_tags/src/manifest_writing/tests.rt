@@ -39,6 +39,20 @@ fn a_star_and_a_space_at_the_front_of_a_path_are_kept(rt: HostRuntime) -> Result
         written.as_slice()
             == b"e3b0c44298fc1c149afbf4c8996fb92427ae41e4649b934ca495991b7852b855  ./*x\nba7816bf8f01cfea414140de5dae2223b00361a396177a9cb410ff61f20015ad  ./ y\n".as_slice()
     );
+    let read = read_manifest(
+        rt.alloc(),
+        written.as_slice(),
+        Alg::Sha256,
+        Kind::Tag,
+        Version::V1,
+    )?;
+    assert_eq!(rt; read.alg(), Alg::Sha256);
+    assert_eq!(rt; read.kind(), Kind::Tag);
+    assert_eq!(rt; read.pairs().len(), 2);
+    for (pair, (path, checksum)) in read.pairs().iter().zip([("*x", EMPTY), (" y", ABC)]) {
+        assert_eq!(rt; pair.path.as_str(), path);
+        assert_eq!(rt; Some(pair.digest), Digest::from_hex(Alg::Sha256, checksum));
+    }
     Ok(())
 }
 

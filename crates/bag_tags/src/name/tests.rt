@@ -94,3 +94,52 @@ fn tag_manifests_of_known_and_unknown_algorithms(rt: HostRuntime) -> Result<(), 
     }
     Ok(())
 }
+
+#[test]
+fn a_tag_file_of_lines_has_the_name_that_it_was_told_by(rt: HostRuntime) -> Result<(), Fail> {
+    for text in [
+        "bag-info.txt",
+        "fetch.txt",
+        "manifest-md5.txt",
+        "manifest-sha512.txt",
+        "tagmanifest-sha1.txt",
+        "tagmanifest-sha256.txt",
+    ] {
+        let path = BagPath::parse(rt.alloc(), text)?;
+        let file = LineFile::of(&path).expect(&rt, text);
+        assert_eq!(rt; format!(in rt.alloc(); "{file}")?.as_str(), text);
+    }
+    for text in [
+        "bagit.txt",
+        "manifest-sha224.txt",
+        "data/fetch.txt",
+        "notes.txt",
+    ] {
+        let path = BagPath::parse(rt.alloc(), text)?;
+        assert!(rt; LineFile::of(&path).is_none(), "at {text}");
+    }
+    Ok(())
+}
+
+#[test]
+fn the_name_of_a_manifest(rt: HostRuntime) -> Result<(), Fail> {
+    for (text, kind, alg) in [
+        ("manifest-sha1.txt", Kind::Payload, Alg::Sha1),
+        ("tagmanifest-sha512.txt", Kind::Tag, Alg::Sha512),
+    ] {
+        let path = BagPath::parse(rt.alloc(), text)?;
+        let name = TagName::of(&path).manifest();
+        assert_eq!(rt; name, Some(ManifestName { kind, alg }), "at {text}");
+    }
+    for text in [
+        "manifest-sha224.txt",
+        "bagit.txt",
+        "bag-info.txt",
+        "fetch.txt",
+        "notes.txt",
+    ] {
+        let path = BagPath::parse(rt.alloc(), text)?;
+        assert!(rt; TagName::of(&path).manifest().is_none(), "at {text}");
+    }
+    Ok(())
+}

@@ -1,4 +1,5 @@
-use Rattle.std.proofs.Common.{◌≡◌, ◌+◌, ◌-◌, ◌≤◌}
+use Rattle.std.proofs.Common.{◌+◌, ◌-◌}
+use Rattle.bag_digest.specs.Device.{UsesSource}
 use Rattle.bag_digest.proofs.Progress.{HasGiven}
 use Rattle.bag_digest.proofs.reading.read_to_end_within.Given as goal
 
@@ -7,9 +8,7 @@ invariant-pieces g l =
     let source = g.S.Source in
     record {
       given : HasGiven (source.remaining l.fn.reader) (source.remaining l.reader) l.total l.limit l.body.items;
-      unfailed : source.faults l.reader ≡ source.faults l.fn.reader;
-      counted : source.faults l.fn.reader ≤ source.faults l.reader;
-      kept : source.keeps l.fn.reader l.reader;
+      used : UsesSource source.failures source.ready source.keeps l.fn.reader l.reader ⊥;
     }
 
 abbrev pub decreases-pieces : goal.decreases-pieces

@@ -1,4 +1,4 @@
-use Rattle.bag_path.proofs.UnescapeLemmas.{written_again}
+use Rattle.bag_path.proofs.SpellsLemmas.{written_again}
 use Rattle.bag_path.proofs.laws.what_is_written_is_read_again.Goals as goal
 
 pub returns : goal.returns

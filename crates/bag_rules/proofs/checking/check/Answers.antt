@@ -1,13 +1,31 @@
-use Rattle.std.proofs.Common.{arith}
-use Rattle.std.proofs.lemmas.Result.{IfOk-weaker}
-use Rattle.bag_rules.proofs.DeclaredLemmas.{verdict_means}
+use Rattle.std.proofs.Common.{◌≤◌, ◌∙◌, Result, Ok, length, arith}
+use Rattle.bag_rules.proofs.Words.{CheckFault, IfOk-weaker, Outcome}
+use Rattle.bag_rules.proofs.DeclaredLemmas.{ended_stops, profile_stopped, verdict_means}
 use Rattle.bag_rules.proofs.LimitLemmas.{within_count}
 use Rattle.bag_rules.proofs.TreeLemmas.{rises, same_count}
 use Rattle.bag_rules.proofs.checking.check.Goals as goal
 
+pub returns-in-Known-clause-meaning : goal.returns-in-Known-clause-meaning
+returns-in-Known-clause-meaning g c = λ bag is.
+    let profile = rw c.in-Known.is at (c.in_ok-version.ensures.profile bag is) in
+    IfOk-weaker c.check_in_profile.result _ _ (λ outcome verdict. verdict_means bag outcome (rises bag is c.count.ensures.rising) verdict)
+    (c.check_in_profile.ensures.verdict bag (c.in_ok-version.ensures.tree.same ∙ is) profile)
+
+pub returns-in-Known-clause-limits : goal.returns-in-Known-clause-limits
+returns-in-Known-clause-limits g c = λ bag is.
+    let profile = rw c.in-Known.is at (c.in_ok-version.ensures.profile bag is) in
+    let few : length bag.files ≤ 200000 = omega (arith, c.if-count-gt-MOST_FILES.false, c.count.ensures.files, same_count bag is) in
+    within_count bag c.check_in_profile.result few (profile_stopped bag c.check_in_profile.result (c.in_ok-version.ensures.limits bag is) profile.0
+    (c.check_in_profile.ensures.limits bag (c.in_ok-version.ensures.tree.same ∙ is) profile))
+
 pub returns-clause-meaning : goal.returns-clause-meaning
-returns-clause-meaning g c = λ bag is. IfOk-weaker c.check_declared.result _ _ (λ outcome verdict. verdict_means bag outcome (rises bag is c.count.ensures.rising) verdict) (c.check_declared.ensures.verdict bag is)
+returns-clause-meaning g c = λ bag is.
+    let profile = rw c.in-Ended.is at (c.in_ok-version.ensures.profile bag is) in
+    verdict_means bag c.in-Ended.outcome (rises bag is c.count.ensures.rising) profile.0
 
 pub returns-clause-limits : goal.returns-clause-limits
 returns-clause-limits g c = λ bag is.
-    within_count bag c.check_declared.result (omega (arith, c.if-count-gt-MOST_FILES.false, c.count.ensures.files, same_count bag is)) (c.check_declared.ensures.limits bag is)
+    let profile = rw c.in-Ended.is at (c.in_ok-version.ensures.profile bag is) in
+    let few : length bag.files ≤ 200000 = omega (arith, c.if-count-gt-MOST_FILES.false, c.count.ensures.files, same_count bag is) in
+    let outcome : Result Outcome CheckFault = Ok c.in-Ended.outcome in
+    within_count bag outcome few (ended_stops bag c.in-Ended.outcome (c.in_ok-version.ensures.limits bag is) profile)

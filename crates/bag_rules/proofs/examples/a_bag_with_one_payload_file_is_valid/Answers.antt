@@ -1,7 +1,5 @@
 use Rattle.std.proofs.Common.{[], codes, refl}
-use Rattle.bag_digest.proofs.Published.{digest_of_abc}
-use Rattle.bag_rules.specs.Bags.{Bag}
-use Rattle.bag_rules.specs.Verdicts.{IsJudged}
+use Rattle.bag_rules.proofs.Words.{Bag, digest_of_abc, IsJudged}
 use Rattle.bag_rules.proofs.OneFile.{judged_none, with_file, manifest_octets, listed, lists_one, has_file, rising_with, only_digest}
 use Rattle.bag_rules.proofs.OneManifest.{profile}
 use Rattle.bag_rules.proofs.ValidityLemmas.{valid_exactly}

@@ -1,10 +1,5 @@
 use Rattle.std.proofs.Common.{[], ◌∷◌, codes, refl, arith}
-use Rattle.bag_digest.proofs.Published.{other_digest_of_abd}
-use Rattle.bag_rules.specs.declared.fault.Fault.{Fault}
-use Rattle.bag_rules.specs.declared.fault.Fault.TheVariants.{WrongDigest}
-use Rattle.bag_rules.specs.Bags.{Bag}
-use Rattle.bag_rules.specs.Broken.{Broken}
-use Rattle.bag_rules.specs.Verdicts.{IsJudged}
+use Rattle.bag_rules.proofs.Words.{Bag, Fault, HasFault, IsJudged, other_digest_of_abd, WrongDigest}
 use Rattle.bag_rules.proofs.OneFile.{judged_one, with_file, manifest_octets, path, of_abc, listed, lists_one, has_file, rising_with, only_digest}
 use Rattle.bag_rules.proofs.OneManifest.{by_sha256, lists, profile, HasOneManifest}
 use Rattle.bag_rules.proofs.ValidityLemmas.{complete_exactly, valid_none}
@@ -19,7 +14,7 @@ wrong = WrongDigest by_sha256 path
 has : HasOneManifest bag manifest_octets (codes "abd") listed
 has = has_file manifest_octets (codes "abd") listed lists_one
 
-broken : Broken bag wrong
+broken : HasFault bag wrong
 broken = (listed, lists bag manifest_octets (codes "abd") listed has, (of_abc, refl, (codes "abd", (1, refl), other_digest_of_abd)))
 
 judged : IsJudged bag (wrong ∷ [])

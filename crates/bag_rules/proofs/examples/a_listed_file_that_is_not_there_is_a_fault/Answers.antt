@@ -1,8 +1,5 @@
 use Rattle.std.proofs.Common.{◌≡◌, [], refl, sym, ap, ◌∙◌, subst, inl, inr, arith}
-use Rattle.bag_rules.specs.declared.fault.Fault.{Fault}
-use Rattle.bag_rules.specs.declared.fault.Fault.TheVariants.{Missing}
-use Rattle.bag_rules.specs.Bags.{Bag, IsThere}
-use Rattle.bag_rules.specs.Broken.{Broken}
+use Rattle.bag_rules.proofs.Words.{Bag, Fault, HasFault, IsThere, Missing}
 use Rattle.bag_rules.proofs.OneFile.{judged_one, without_file, manifest_octets, path, listed, listed_path, listed_is, lists_one, has_no_file, no_file, rising_without, payload_only}
 use Rattle.bag_rules.proofs.OneManifest.{HasOneManifest, by_sha256, left_fault, lists, profile}
 use Rattle.bag_rules.proofs.ValidityLemmas.{complete_none}
@@ -17,10 +14,10 @@ missing = Missing by_sha256 path
 has : HasOneManifest bag manifest_octets [] listed
 has = has_no_file manifest_octets listed lists_one
 
-broken : Broken bag missing
+broken : HasFault bag missing
 broken = (listed, lists bag manifest_octets [] listed has, refl, no_file manifest_octets)
 
-only : (other : Fault) → Broken bag other → missing ≡ other
+only : (other : Fault) → HasFault bag other → missing ≡ other
 only other b = elim (left_fault bag manifest_octets [] listed has other b) [
   | inl m ↦ ap (λ p. Missing by_sha256 p) (listed_path m.0 m.2) ∙ m.1
   | inr r ↦ elim r [

@@ -1,9 +1,5 @@
 use Rattle.std.proofs.Common.{◌≡◌, [], Some, None, true, false, codes, refl, sym, ap, ◌∙◌, inl, inr, arith}
-use Rattle.bag_digest.specs.declared.algorithm.Alg.TheVariants.{Sha256}
-use Rattle.bag_rules.specs.declared.fault.Fault.{Fault}
-use Rattle.bag_rules.specs.declared.fault.Fault.TheVariants.{Unlisted}
-use Rattle.bag_rules.specs.Bags.{Bag}
-use Rattle.bag_rules.specs.Broken.{Broken}
+use Rattle.bag_rules.proofs.Words.{Bag, Fault, HasFault, Sha256, Unlisted}
 use Rattle.bag_rules.proofs.OneFile.{judged_one, with_file, path, lists_none, has_file, rising_with, payload_only}
 use Rattle.bag_rules.proofs.OneManifest.{HasOneManifest, left_fault, lists, profile}
 use Rattle.bag_rules.proofs.ValidityLemmas.{complete_none}
@@ -18,10 +14,10 @@ unlisted = Unlisted Sha256 path
 has : HasOneManifest bag [] (codes "abc") []
 has = has_file [] (codes "abc") [] lists_none
 
-broken : Broken bag unlisted
+broken : HasFault bag unlisted
 broken = ([], lists bag [] (codes "abc") [] has, refl, (codes "abc", (1, refl)), refl)
 
-only : (other : Fault) → Broken bag other → unlisted ≡ other
+only : (other : Fault) → HasFault bag other → unlisted ≡ other
 only other b = elim (left_fault bag [] (codes "abc") [] has other b) [
   | inl m ↦ absurd (let e : false ≡ true = m.2 in cc)
   | inr r ↦ elim r [

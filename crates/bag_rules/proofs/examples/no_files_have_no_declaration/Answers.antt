@@ -1,15 +1,11 @@
 use Rattle.std.proofs.Common.{◌≡◌, ◌<◌, ◌≤◌, ℕ, List, Some, [], false, refl, subst, inl, inr, arith}
 use Rattle.std.specs.List.{slice_get}
 use Rattle.std.specs.List.Sorted.{IsStrictlySortedBy}
-use Rattle.bag_rules.specs.declared.fault.Fault.{Fault}
-use Rattle.bag_rules.specs.declared.fault.Fault.TheVariants.{NoDeclaration, BadDeclaration}
-use Rattle.bag_rules.specs.Bags.{Bag, IsThere, declaration_file}
-use Rattle.bag_rules.specs.Broken.{Broken}
-use Rattle.bag_rules.specs.Verdicts.{NoneBelow, tier_of}
+use Rattle.bag_rules.proofs.Words.{BadDeclaration, Bag, declaration_file, Fault, HasFault, IsThere, NoDeclaration, NoneBelow, tier_of}
 use Rattle.bag_rules.proofs.examples.no_files_have_no_declaration.Goals as goal
 
 abbrev bag : Bag
-bag = record { files = []; has_dir = false }
+bag = record { files = []; has_payload_dir = false }
 
 none_there : ¬ IsThere bag declaration_file
 none_there h = let e : slice_get {X = List ℕ × List ℕ} [] h.1.0 ≡ Some (declaration_file, h.0) = h.1.1 in cc
@@ -22,7 +18,7 @@ first_tier fault = omega arith
 later : (fault : Fault) → 1 < tier_of fault → ¬ NoneBelow (tier_of fault) bag
 later fault above none = none NoDeclaration above none_there
 
-only : (fault : Fault) → Broken bag fault → NoneBelow (tier_of fault) bag → NoDeclaration ≡ fault
+only : (fault : Fault) → HasFault bag fault → NoneBelow (tier_of fault) bag → NoDeclaration ≡ fault
 only NoDeclaration b none = refl
 only (BadDeclaration cause) b none = absurd (none_there (b.0, b.1))
 only fault b none = absurd (later fault (omega arith) none)
@@ -33,7 +29,7 @@ returns c = record {
   in_order = (tt, tt);
   exact = λ fault. (
     λ h. elim h [
-      | inl e ↦ subst (λ f. Broken bag f × NoneBelow (tier_of f) bag) e (none_there, λ other less b. (let least = first_tier other in omega (arith, least, less)))
+      | inl e ↦ subst (λ f. HasFault bag f × NoneBelow (tier_of f) bag) e (none_there, λ other less b. (let least = first_tier other in omega (arith, least, less)))
       | inr n ↦ absurd n
     ],
     λ h. inl (only fault h.0 h.1),

@@ -1,5 +1,5 @@
 use Rattle.std.proofs.Common.{false, refl}
-use Rattle.bag_rules.specs.declared.fault.Fault.TheVariants.{NoPayloadDir}
+use Rattle.bag_rules.proofs.Words.{NoPayloadDir}
 use Rattle.bag_rules.proofs.LeastBag.{least_bag, only_fault, in_profile}
 use Rattle.bag_rules.proofs.OneFile.{judged_one}
 use Rattle.bag_rules.proofs.examples.the_least_bag_needs_its_payload_directory.Goals as goal

@@ -1,5 +1,5 @@
 use Rattle.std.proofs.Common.{rules}
-use Rattle.std.proofs.lemmas.Fn.{always_returns_same}
+use Rattle.bag_rules.proofs.Words.{always_returns_same}
 use Rattle.bag_rules.proofs.MemoryShown.{against, search_found, search_absent}
 use Rattle.bag_rules.proofs.memory.search.Goals as goal
 

@@ -1,5 +1,5 @@
 use Rattle.std.proofs.Common.{Some, sym, ap, ◌∙◌, arith}
-use Rattle.std.proofs.lemmas.Map.Lookups.{exact_bytes}
+use Rattle.bag_rules.proofs.Words.{exact_bytes}
 use Rattle.bag_rules.proofs.RisingPaths.{place_of, lower, higher, one_place}
 use Rattle.bag_rules.proofs.tree.find.Goals as goal
 

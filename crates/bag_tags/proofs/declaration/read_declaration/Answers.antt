@@ -1,5 +1,5 @@
 use Rattle.std.proofs.Common.{Ok, sym, ap, ◌∙◌, rules}
-use Rattle.bag_tags.specs.declared.declaration.DeclarationFault.TheVariants.{NotUtf8, Mark, LineCount, Label, Version, EncodingName}
+use Rattle.bag_tags.specs.declared.declaration.DeclFault.TheVariants.{NotUtf8, Mark, LineCount, Label, Version, EncodingName}
 use Rattle.bag_tags.specs.Declarations.{IsEncodingName}
 use Rattle.bag_tags.proofs.DeclarationLemmas.{text_from, no_text_from, count_fault, label_fault, labels_are, excludes, one_declaration, read_so}
 use Rattle.bag_tags.proofs.declaration.read_declaration.Goals as goal

@@ -1,10 +1,10 @@
-use Rattle.std.proofs.Common.{List, ℕ, codes, ◌++◌, ◌∷◌, [], refl, inr}
+use Rattle.std.proofs.Common.{List, ℕ, codes, ◌++◌, ◌∷◌, [], refl}
 use Rattle.bag_path.specs.Lines.{lines_of}
-use Rattle.bag_path.specs.declared.spelling.Version.TheVariants.{V1}
+use Rattle.bag_path.specs.declared.version.Version.TheVariants.{V1}
 use Rattle.bag_tags.specs.Infos.{MetadataElement, element, IsFit}
 use Rattle.bag_tags.specs.InfoText.{AddsInfo}
 use Rattle.bag_tags.specs.WordsReading.{until}
-use Rattle.bag_tags.proofs.ExampleLines.{text_of, fit, adds_element, adds_line}
+use Rattle.bag_tags.proofs.ExampleLines.{at, text_of, leads_on, fit, adds_element, adds_line}
 use Rattle.bag_tags.proofs.examples.a_bag_info_says_its_elements.Goals as goal
 
 abbrev first : MetadataElement
@@ -28,21 +28,21 @@ note_fit = fit (codes "Note") refl refl refl refl
 
 one : AddsInfo V1 [] 1 (codes "Note: one") (first ∷ [])
 unfolding until
-one = adds_element [] 1 (codes "Note: one") (codes "one") refl refl note_fit
+one = adds_element [] 1 (codes "Note: one") (codes "one") refl note_fit
 
 two : AddsInfo V1 (first ∷ []) 2 (codes "Note: two") (first ∷ begun ∷ [])
 unfolding until
-two = adds_element (first ∷ []) 2 (codes "Note: two") (codes "two") refl refl note_fit
+two = adds_element (first ∷ []) 2 (codes "Note: two") (codes "two") refl note_fit
 
 three : AddsInfo V1 (first ∷ begun ∷ []) 3 (9 ∷ codes " three") (first ∷ second ∷ [])
 unfolding until
-three = adds_line (first ∷ []) begun 3 (9 ∷ codes " three") refl refl
+three = adds_line (first ∷ []) begun 3 (9 ∷ codes " three") refl
 
 four : AddsInfo V1 (first ∷ second ∷ []) 4 (codes "Empty:") (first ∷ second ∷ third ∷ [])
 unfolding until
-four = adds_element (first ∷ second ∷ []) 4 (codes "Empty:") [] refl refl (fit (codes "Empty") refl refl refl refl)
+four = adds_element (first ∷ second ∷ []) 4 (codes "Empty:") [] refl (fit (codes "Empty") refl refl refl refl)
 
 pub returns : goal.returns
 unfolding lines_of
 returns c = text_of (AddsInfo V1) [] text (first ∷ second ∷ third ∷ [])
-    (inr (refl, (_, one, inr (refl, (_, two, inr (refl, (_, three, inr (refl, (_, four, refl)))))))))
+    (_, leads_on (AddsInfo V1) _ (at 1 (codes "Note: one")) _ refl refl one, (_, leads_on (AddsInfo V1) _ (at 2 (codes "Note: two")) _ refl refl two, (_, leads_on (AddsInfo V1) _ (at 3 (9 ∷ codes " three")) _ refl refl three, (_, leads_on (AddsInfo V1) _ (at 4 (codes "Empty:")) _ refl refl four, refl))))

@@ -1,15 +1,15 @@
-use Rattle.std.proofs.Common.{List, ℕ, codes, Some, None, ◌++◌, ◌∷◌, [], refl, inr, arith, rules}
+use Rattle.std.proofs.Common.{List, ℕ, codes, Some, None, ◌++◌, ◌∷◌, [], refl, arith, rules}
 use Rattle.bag_path.specs.Lines.{lines_of}
 use Rattle.bag_path.specs.Paths.{path_fault}
-use Rattle.bag_path.specs.SpellingReading.{spelled_after}
-use Rattle.bag_path.specs.declared.spelling.Version.TheVariants.{V1}
+use Rattle.bag_path.specs.SpellingReading.{octets_spelled_after}
+use Rattle.bag_path.specs.declared.version.Version.TheVariants.{V1}
 use Rattle.bag_path.proofs.AsciiLemmas.{ascii_path}
 use Rattle.bag_tags.specs.declared.fetch.FetchLine.{FetchLine}
 use Rattle.bag_tags.specs.FetchEntries.{IsUrl, fetch_item}
 use Rattle.bag_tags.specs.Fetches.{fetch_line}
 use Rattle.bag_tags.specs.FetchText.{IsLength, AddsEntry}
 use Rattle.bag_tags.specs.WordsReading.{until}
-use Rattle.bag_tags.proofs.ExampleLines.{text_of, adds_entry}
+use Rattle.bag_tags.proofs.ExampleLines.{text_of, leads_on, adds_entry}
 use Rattle.bag_tags.proofs.examples.a_fetch_list_lists_its_entries.Goals as goal
 
 abbrev first : FetchLine
@@ -40,13 +40,14 @@ five : IsLength (codes "05") (Some 5)
 five = (record { some = λ e. cc; digits = search rules; value_is = refl }, omega arith)
 
 adds_one : AddsEntry V1 [] 1 one after_one
-unfolding until spelled_after path_fault
-adds_one = adds_entry one None (codes "data/a") refl refl short_url refl refl (ascii_path (codes "data/a") refl refl) [] 1 refl
+unfolding until octets_spelled_after path_fault
+adds_one = adds_entry one None (codes "data/a") refl short_url refl refl (ascii_path (codes "data/a") refl refl) [] 1 refl
 
 adds_two : AddsEntry V1 after_one 2 two after_two
-unfolding until spelled_after path_fault
-adds_two = adds_entry two (Some 5) (codes "data/b c") refl refl long_url five refl (ascii_path (codes "data/b c") refl refl) after_one 2 refl
+unfolding until octets_spelled_after path_fault
+adds_two = adds_entry two (Some 5) (codes "data/b c") refl long_url five refl (ascii_path (codes "data/b c") refl refl) after_one 2 refl
 
 pub returns : goal.returns
 unfolding lines_of
-returns c = text_of (AddsEntry V1) [] (one ++ 10 ∷ two ++ 10 ∷ []) after_two (inr (refl, (after_one, adds_one, inr (refl, (after_two, adds_two, refl)))))
+returns c = text_of (AddsEntry V1) [] (one ++ 10 ∷ two ++ 10 ∷ []) after_two
+    (after_one, leads_on (AddsEntry V1) _ _ _ refl refl adds_one, (after_two, leads_on (AddsEntry V1) _ _ _ refl refl adds_two, refl))

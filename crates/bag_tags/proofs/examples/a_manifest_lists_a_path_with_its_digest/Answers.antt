@@ -1,9 +1,9 @@
-use Rattle.std.proofs.Common.{List, ℕ, codes, ◌++◌, ◌∷◌, [], refl, inr}
+use Rattle.std.proofs.Common.{List, ℕ, codes, ◌++◌, ◌∷◌, [], refl}
 use Rattle.hex.specs.Hex.{decode_pairs}
 use Rattle.bag_path.specs.Lines.{lines_of}
 use Rattle.bag_path.specs.Paths.{path_fault}
-use Rattle.bag_path.specs.SpellingReading.{spelled_after}
-use Rattle.bag_path.specs.declared.spelling.Version.TheVariants.{V1}
+use Rattle.bag_path.specs.SpellingReading.{octets_spelled_after}
+use Rattle.bag_path.specs.declared.version.Version.TheVariants.{V1}
 use Rattle.bag_path.proofs.AsciiLemmas.{ascii_path}
 use Rattle.bag_digest.specs.declared.algorithm.Alg.TheVariants.{Sha256}
 use Rattle.bag_digest.specs.declared.digest.Digest.{Digest}
@@ -14,7 +14,7 @@ use Rattle.bag_tags.specs.Manifests.{AddsPair}
 use Rattle.bag_tags.specs.WordsReading.{until}
 use Rattle.bag_digest.specs.Spelling.{SpellsDigest}
 use Rattle.bag_tags.proofs.WordsLemmas.{word_of}
-use Rattle.bag_tags.proofs.ExampleLines.{text_of, adds_pair}
+use Rattle.bag_tags.proofs.ExampleLines.{text_of, leads_on, adds_pair}
 use Rattle.bag_tags.proofs.examples.a_manifest_lists_a_path_with_its_digest.Goals as goal
 
 abbrev of_abc : Digest
@@ -36,9 +36,9 @@ unfolding until decode_pairs
 gives_digest = record { by_alg = refl; digits = refl }
 
 adds : AddsPair V1 nothing 1 text one
-unfolding until spelled_after path_fault
-adds = adds_pair nothing text of_abc refl refl gives_digest (codes "data/a.txt") refl (ascii_path (codes "data/a.txt") refl refl) 1 refl refl
+unfolding until octets_spelled_after path_fault
+adds = adds_pair nothing text of_abc refl gives_digest (codes "data/a.txt") refl (ascii_path (codes "data/a.txt") refl refl) 1 refl refl
 
 pub returns : goal.returns
 unfolding lines_of
-returns c = text_of (AddsPair V1) nothing (text ++ 13 ∷ 10 ∷ []) one (inr (refl, (one, adds, refl)))
+returns c = text_of (AddsPair V1) nothing (text ++ 13 ∷ 10 ∷ []) one (one, leads_on (AddsPair V1) _ _ _ refl refl adds, refl)

@@ -1,12 +1,10 @@
 use Rattle.std.proofs.Common.{codes, List, ℕ, ◌++◌, ◌∷◌, [], refl}
 use Rattle.hex.specs.Hex.{decode_pairs}
-use Rattle.bag_path.specs.Lines.{line, lines_of}
+use Rattle.bag_path.specs.Lines.{lines_of}
 use Rattle.bag_path.specs.Paths.{path_fault}
-use Rattle.bag_path.specs.SpellingReading.{spelled_after}
-use Rattle.bag_path.specs.declared.lines.Ending.TheVariants.{Nothing}
+use Rattle.bag_path.specs.SpellingReading.{octets_spelled_after}
 use Rattle.bag_path.specs.declared.path.PathFault.TheVariants as path
-use Rattle.bag_path.specs.declared.spelling.Version.TheVariants.{V1}
-use Rattle.bag_path.proofs.AsciiLemmas.{ascii_utf8}
+use Rattle.bag_path.specs.declared.version.Version.TheVariants.{V1}
 use Rattle.bag_path.proofs.SpellsLemmas.{spells_if_read, nothing_if_none}
 use Rattle.bag_digest.specs.declared.algorithm.Alg.TheVariants.{Md5, Sha256}
 use Rattle.bag_digest.specs.declared.digest.Digest.{Digest}
@@ -18,8 +16,8 @@ use Rattle.bag_tags.specs.Listings.{Listing, nothing_listed}
 use Rattle.bag_tags.specs.Manifests.{AddsPair, RefusesLine, ManifestFault}
 use Rattle.bag_tags.specs.Words.{is_blank}
 use Rattle.bag_tags.specs.WordsReading.{until}
-use Rattle.bag_tags.proofs.ExampleLines.{faulty, checksum}
-use Rattle.bag_tags.proofs.ManifestLemmas.{adds_or_refuses}
+use Rattle.bag_tags.proofs.ExampleLines.{at, faulty, checksum}
+use Rattle.bag_tags.proofs.ManifestDecisionLemmas.{manifest_exact}
 use Rattle.bag_tags.proofs.WordsLemmas.{none_passes, cut_at}
 use Rattle.bag_tags.proofs.examples.other_lines_of_a_manifest_are_faults.Goals as goal
 
@@ -56,23 +54,23 @@ gives_digest = record { by_alg = refl; digits = refl }
 
 no_blank : ManifestFault V1 Md5 Payload digits (record { line = 1; cause = NoSeparator })
 unfolding lines_of until
-no_blank = faulty (AddsPair V1) (RefusesLine V1) (adds_or_refuses V1) known known digits [] [] 1 (line digits Nothing) NoSeparator refl refl refl
-    (ascii_utf8 digits refl, none_passes is_blank digits refl)
+no_blank = faulty (AddsPair V1) (RefusesLine V1) (manifest_exact V1) known known digits [] [] (at 1 digits) NoSeparator refl refl refl refl
+    (none_passes is_blank digits refl)
 
 bad_digest : ManifestFault V1 Sha256 Payload short (record { line = 1; cause = BadDigest })
 unfolding lines_of until
-bad_digest = faulty (AddsPair V1) (RefusesLine V1) (adds_or_refuses V1) other other short [] [] 1 (line short Nothing) BadDigest refl refl refl
-    (ascii_utf8 short refl, (digits, codes " ", codes "data/k", cut_at short refl, too_short))
+bad_digest = faulty (AddsPair V1) (RefusesLine V1) (manifest_exact V1) other other short [] [] (at 1 short) BadDigest refl refl refl refl
+    (record { checksum = digits; blanks = codes " "; path_text = codes "data/k"; cut = cut_at short refl; no_digest = too_short })
 
 dot_segment : ManifestFault V1 Md5 Payload up (record { line = 1; cause = BadPath path.DotSegment })
-unfolding lines_of until spelled_after path_fault
-dot_segment = faulty (AddsPair V1) (RefusesLine V1) (adds_or_refuses V1) known known up [] [] 1 (line up Nothing) (BadPath path.DotSegment) refl refl refl
-    (of_abc, (codes "data/../k", checksum known up of_abc refl refl gives_digest, (codes "data/../k", spells_if_read V1 (codes "data/../k") (codes "data/../k") refl, refl)))
+unfolding lines_of until octets_spelled_after path_fault
+dot_segment = faulty (AddsPair V1) (RefusesLine V1) (manifest_exact V1) known known up [] [] (at 1 up) (BadPath path.DotSegment) refl refl refl refl
+    (record { digest = of_abc; path_text = codes "data/../k"; checksum = checksum known up of_abc refl gives_digest; no_path = (codes "data/../k", spells_if_read V1 (codes "data/../k") (codes "data/../k") refl, refl) })
 
 bad_escape : ManifestFault V1 Md5 Payload escaped (record { line = 1; cause = BadPath path.BadEscape })
-unfolding lines_of until spelled_after
-bad_escape = faulty (AddsPair V1) (RefusesLine V1) (adds_or_refuses V1) known known escaped [] [] 1 (line escaped Nothing) (BadPath path.BadEscape) refl refl refl
-    (of_abc, (codes "data/%41", checksum known escaped of_abc refl refl gives_digest, nothing_if_none V1 (codes "data/%41") refl))
+unfolding lines_of until octets_spelled_after
+bad_escape = faulty (AddsPair V1) (RefusesLine V1) (manifest_exact V1) known known escaped [] [] (at 1 escaped) (BadPath path.BadEscape) refl refl refl refl
+    (record { digest = of_abc; path_text = codes "data/%41"; checksum = checksum known escaped of_abc refl gives_digest; no_path = nothing_if_none V1 (codes "data/%41") refl })
 
 pub returns : goal.returns
 returns c = (no_blank, bad_digest, dot_segment, bad_escape)

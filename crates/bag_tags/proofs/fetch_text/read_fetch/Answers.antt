@@ -1,24 +1,13 @@
-use Rattle.std.proofs.Common.{List, subst}
-use Rattle.std.proofs.lemmas.Result.{err_from_is_err_and}
+use Rattle.std.proofs.Common.{List, sym, subst}
 use Rattle.bag_tags.specs.declared.fetch.FetchLine.{FetchLine}
-use Rattle.bag_tags.specs.TagLines.{IsTextOf, StopsAt, Faults}
-use Rattle.bag_tags.specs.FetchText.{AddsEntry, RefusesEntry}
-use Rattle.bag_tags.proofs.ManifestTextLemmas.{fault_of}
-use Rattle.bag_tags.proofs.FetchTextLemmas.{fetch_only, fetch_fault, fetch_faulty}
+use Rattle.bag_tags.specs.FetchText.{AddsEntry}
+use Rattle.bag_tags.specs.TagLines.{IsTextOf}
+use Rattle.bag_tags.proofs.FetchDecisionLemmas.{fetch_exact}
 use Rattle.bag_tags.proofs.fetch_text.read_fetch.Goals as goal
 
-pub returns-in_err-read_text-clause-only : goal.returns-in_err-read_text-clause-only
-returns-in_err-read_text-clause-only c = λ lines t.
-    let p = err_from_is_err_and c.from_residual.result c.from_residual.ensures.1 in
-    let stops = subst (λ (start : List FetchLine). Faults (StopsAt (AddsEntry c.args.version) (RefusesEntry c.args.version) start c.args.octets.now) c.in_err-read_text.field-0.0) c.new-fetch.ensures c.in_err-read_text.ensures.err in
-    rw (p.1, p.2) (fetch_faulty c.args.version c.args.octets.now _ lines stops t)
-
-pub returns-in_err-read_text-clause-fault : goal.returns-in_err-read_text-clause-fault
-returns-in_err-read_text-clause-fault c = λ fault e.
-    let p = err_from_is_err_and c.from_residual.result c.from_residual.ensures.1 in
-    let stops = subst (λ (start : List FetchLine). Faults (StopsAt (AddsEntry c.args.version) (RefusesEntry c.args.version) start c.args.octets.now) c.in_err-read_text.field-0.0) c.new-fetch.ensures c.in_err-read_text.ensures.err in
-    fetch_fault c.args.version c.args.octets.now _ fault stops (fault_of _ _ (rw (p.1, p.2) at e))
+pub read_onto-requires : goal.read_onto-requires
+read_onto-requires c = fetch_exact c.args.version
 
 pub returns-clause-only : goal.returns-clause-only
-returns-clause-only c = λ lines t. fetch_only c.args.version c.args.octets.now c.read_text.new.value lines
-    (subst (λ (start : List FetchLine). IsTextOf (AddsEntry c.args.version) start c.args.octets.now c.read_text.new.value) c.new-fetch.ensures c.in_ok-read_text.ensures.ok) t
+returns-clause-only c = λ other t. c.in_ok-read_onto.ensures.only other
+    (subst (λ (start : List FetchLine). IsTextOf (AddsEntry c.args.version) start c.args.octets.now other) (sym c.new-fetch.ensures) t)

@@ -1,7 +1,7 @@
 use Rattle.std.proofs.Common.{◌≡◌, List, length, ap, ◌∙◌, subst, arith}
 use Rattle.bag_tags.specs.Infos.{MetadataElement, IsElement, written_info}
 use Rattle.bag_tags.specs.InfoText.{InfoText}
-use Rattle.bag_path.specs.declared.spelling.Version.TheVariants.{V1}
+use Rattle.bag_path.specs.declared.version.Version.TheVariants.{V1}
 use Rattle.bag_tags.proofs.WritingLemmas.{facts, all_of}
 use Rattle.bag_tags.proofs.InfoWritingLemmas.{info_reads}
 use Rattle.bag_tags.proofs.info_text.write_info.Goals as goal

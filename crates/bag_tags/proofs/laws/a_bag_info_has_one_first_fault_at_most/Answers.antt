@@ -1,5 +1,5 @@
-use Rattle.bag_tags.proofs.InfoFaultLemmas.{one_fault}
+use Rattle.bag_tags.proofs.ExactTexts.{one_info_fault}
 use Rattle.bag_tags.proofs.laws.a_bag_info_has_one_first_fault_at_most.Goals as goal
 
 pub returns : goal.returns
-returns c version octets fault other f g = one_fault version octets fault other f g
+returns c = one_info_fault

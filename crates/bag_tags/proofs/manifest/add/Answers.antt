@@ -7,8 +7,8 @@ use Rattle.bag_tags.specs.ManifestView.{IsIndexOf}
 use Rattle.bag_tags.proofs.ListingLemmas.{index_more}
 use Rattle.bag_tags.proofs.manifest.add.Goals as goal
 
-pub returns-in-Ok-clause-index : goal.returns-in-Ok-clause-index
-returns-in-Ok-clause-index c =
+pub returns-clause-index : goal.returns-clause-index
+returns-clause-index c =
     let old = c.args.pairs.now.items in
     let same_key : c.in_ok-key.key ≡ c.args.path = search rules in
     let place : c.len-place.result ≡ length old = search rules in

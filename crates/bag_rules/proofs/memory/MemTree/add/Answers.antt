@@ -1,7 +1,5 @@
 use Rattle.std.proofs.Common.{ap, sym, subst, refl, ◌∙◌, ◌||◌, [], Contains}
-use Rattle.bag_rules.specs.declared.memory.MemTree.TheInside.{Inside}
-use Rattle.bag_rules.specs.Trees.{AreRising}
-use Rattle.bag_rules.specs.Memory.{mem_paths, with_file, octets_at}
+use Rattle.bag_rules.proofs.Words.{AreRising, Inside, mem_paths, octets_at, with_file}
 use Rattle.bag_rules.proofs.MemoryFiles.{absent_in_gap, rising_put}
 use Rattle.bag_rules.proofs.MemoryShown.{same_gap}
 use Rattle.bag_rules.proofs.MemoryAdded.{view_added, sound_added, found_added, others_added}
@@ -22,7 +20,7 @@ invariant_of-self-2 c =
     sound_added c.self.inside _ c.in-Err.place _ c.self.invariant record {
       gap = gap;
       files = c.in-Ok-insert.ensures.items;
-      has_dir = ap (λ b. c.self.inside.has_dir || b) c.is_payload-is_payload.ensures;
+      has_payload_dir = ap (λ b. c.self.inside.has_payload_dir || b) c.is_payload-is_payload.ensures;
       reading = c.moved_up-self-inside.ensures;
       failures = refl;
     }
@@ -32,14 +30,14 @@ returns-clause-added c =
     let gap = same_gap c.self.inside.files.items c.deref.result.now c.args.path c.as_str.result.now c.in-Err.place c.deref.ensures.value c.as_str.ensures.text c.in-Err.ensures.absent in
     let new : Inside = record {
       files = c.insert.new.self;
-      has_dir = c.self.inside.has_dir || c.is_payload-is_payload.result;
+      has_payload_dir = c.self.inside.has_payload_dir || c.is_payload-is_payload.result;
       reading = c.moved_up-self-inside.result;
       failures = c.self.inside.failures;
     } in
     view_added c.self.inside new c.in-Err.place record { path = c.args.path; body = c.args.body } c.self.invariant record {
       gap = gap;
       files = c.in-Ok-insert.ensures.items;
-      has_dir = ap (λ b. c.self.inside.has_dir || b) c.is_payload-is_payload.ensures;
+      has_payload_dir = ap (λ b. c.self.inside.has_payload_dir || b) c.is_payload-is_payload.ensures;
       reading = c.moved_up-self-inside.ensures;
       failures = refl;
     }

@@ -1,6 +1,5 @@
 use Rattle.std.proofs.Common.{subst}
-use Rattle.std.specs.List.Sorted.{IsNonDecreasingBy}
-use Rattle.bag_rules.specs.Faults.{number_of}
+use Rattle.bag_rules.proofs.Words.{IsNonDecreasingBy, number_of}
 use Rattle.bag_rules.proofs.OrderLemmas.{numbers_rise}
 use Rattle.bag_rules.proofs.report.Report.faults.Goals as goal
 

@@ -1,6 +1,4 @@
-use Rattle.std.proofs.lemmas.List.Filters.{dedup_is}
-use Rattle.std.proofs.lemmas.List.Kept.{Contains-dedup, Contains-from_dedup, IsStrictlySortedBy-dedup}
-use Rattle.std.proofs.lemmas.List.Sorted.{Contains-permutation, IsPermutation-sym}
+use Rattle.bag_rules.proofs.Words.{Contains-dedup, Contains-from_dedup, Contains-permutation, dedup_is, IsPermutation-sym, IsStrictlySortedBy-dedup}
 use Rattle.bag_rules.specs.contracts.fault.FaultEq.TheImpl.Laws as equality
 use Rattle.bag_rules.specs.contracts.fault.FaultOrd.TheImpl.Laws as order
 use Rattle.bag_rules.proofs.FaultLemmas.{fault_same}

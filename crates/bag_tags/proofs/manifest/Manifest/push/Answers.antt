@@ -19,19 +19,19 @@ returns-then-contains_key-clause-refused c =
 pub add-requires-clause-absent : goal.add-requires-clause-absent
 add-requires-clause-absent c = sym (is_listed c.self.inside.places c.self.inside.pairs.items c.args.path c.self.invariant.index) ∙ sym c.contains_key.ensures ∙ c.if-contains_key.false
 
-pub invariant_of-self : goal.invariant_of-self
-invariant_of-self c =
+pub invariant_of-self-2 : goal.invariant_of-self-2
+invariant_of-self-2 c =
     let absent : lists_path c.self.inside.pairs.items c.args.path ≡ false = sym (is_listed c.self.inside.places c.self.inside.pairs.items c.args.path c.self.invariant.index) ∙ sym c.contains_key.ensures ∙ c.if-contains_key.false in
     let by_alg : alg_of c.args.digest ≡ c.self.inside.alg = search rules in
     let in_place : IsInPlace c.self.inside.kind c.args.path = search rules in
     record {
       index = c.add.ensures.index;
-      none_twice = subst NoneTwice (sym c.in-Ok.ensures.added) (none_twice_more c.self.inside.pairs.items (pair c.args.path c.args.digest) c.self.invariant.none_twice absent);
-      fit = subst (FitEach c.self.inside.alg c.self.inside.kind) (sym c.in-Ok.ensures.added) (fit_more c.self.inside.alg c.self.inside.kind c.self.inside.pairs.items (pair c.args.path c.args.digest) c.self.invariant.fit by_alg in_place);
+      none_twice = subst NoneTwice (sym c.in_ok-add.ensures.added) (none_twice_more c.self.inside.pairs.items (pair c.args.path c.args.digest) c.self.invariant.none_twice absent);
+      fit = subst (FitEach c.self.inside.alg c.self.inside.kind) (sym c.in_ok-add.ensures.added) (fit_more c.self.inside.alg c.self.inside.kind c.self.inside.pairs.items (pair c.args.path c.args.digest) c.self.invariant.fit by_alg in_place);
     }
 
-pub returns-in-Ok-clause-admitted : goal.returns-in-Ok-clause-admitted
-returns-in-Ok-clause-admitted c =
+pub returns-clause-admitted : goal.returns-clause-admitted
+returns-clause-admitted c =
     let by_alg : alg_of c.args.digest ≡ c.args.self.now.alg = search rules in
     let in_place : IsInPlace c.args.self.now.kind c.args.path = search rules in
     record {

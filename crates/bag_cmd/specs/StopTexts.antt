@@ -1,0 +1,28 @@
+-- Why a command ended before it had an answer, as it is printed.
+use Rattle.std.specs.Prelude.{ℕ, List, codes}
+use Rattle.bag_rules.specs.declared.outcome.CheckFault.{CheckFault}
+use Rattle.bag_rules.specs.declared.outcome.CheckFault.TheVariants as check
+use Rattle.bag_cmd.specs.declared.folder.OpenFault.{OpenFault}
+use Rattle.bag_cmd.specs.declared.folder.OpenFault.TheVariants as open_fault
+use Rattle.bag_cmd.specs.declared.stop.Stop.{Stop}
+use Rattle.bag_cmd.specs.declared.stop.Stop.TheVariants as stop
+
+abbrev pub stop_text : Stop → List ℕ
+stop_text stop.Files = codes "bag: files"
+stop_text stop.Memory = codes "bag: memory"
+stop_text stop.TagTooLarge = codes "bag: tag too large"
+stop_text stop.TooLarge = codes "bag: too large"
+stop_text stop.TooMany = codes "bag: too many"
+
+-- why a folder wasn't opened
+abbrev pub stop_of_open : OpenFault → Stop
+stop_of_open open_fault.Files = stop.Files
+stop_of_open open_fault.Memory = stop.Memory
+
+-- why a check didn't come to an end
+abbrev pub stop_of_check : CheckFault → Stop
+stop_of_check check.Tree = stop.Files
+stop_of_check check.Memory = stop.Memory
+stop_of_check (check.TagTooLarge path) = stop.TagTooLarge
+stop_of_check (check.TooLarge path) = stop.TooLarge
+stop_of_check check.TooMany = stop.TooMany

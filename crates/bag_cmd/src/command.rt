@@ -1,0 +1,29 @@
+//! Runs what the command line asks for.
+ghost use Rattle.std.specs.Prelude.{map, string_bytes};
+ghost use Rattle.bag_cmd.specs.Answers.{RunsCommand};
+
+use crate::commands::check::check_folder;
+use crate::folder::Directories;
+use crate::output::Output;
+use crate::request::Request;
+use crate::status::USAGE;
+use std::alloc::Global;
+use std::io::Write;
+use std::rt::Files;
+
+/// Runs the command that these words name, and answers its status.
+pub fn command<R: Files, D: Directories, W: Write + Drop>(
+    rt: &R,
+    disk: &D,
+    alloc: Global,
+    words: Vec<String>,
+    out: &mut Output<W>,
+) -> u8
+    ensures { RunsCommand W.contents (D.listing disk.now) (map string_bytes words.items)
+        out.old out.new result }
+{
+    match Request::parse(words) {
+        Some(Request::Check { folder }) => check_folder(rt, disk, alloc, folder.as_str(), out),
+        None => out.print_line("bag: check", USAGE),
+    }
+}

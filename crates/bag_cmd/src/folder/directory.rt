@@ -1,0 +1,96 @@
+//! What gives the entries of directories.
+ghost use Rattle.std.specs.Prelude.{◌≡◌};
+
+use super::OpenFault;
+use std::alloc::Global;
+use std::fs;
+use std::fs::FileType;
+use std::marker::Model;
+use std::rt::Files;
+
+/// What an entry of a directory is. A link is neither a file nor a directory here, wherever it leads.
+#[derive(Clone, Copy, Debug, PartialEq, Eq)]
+pub enum EntryKind {
+    /// A plain file.
+    File,
+    /// A directory.
+    Directory,
+    /// A link, a fifo, a socket or a device.
+    Other,
+}
+
+impl EntryKind {
+    ghost use Rattle.std.specs.Fs.{IsDir, IsFile};
+    ghost use Rattle.std.specs.Prelude.{◌↔◌};
+
+    /// What a file type of the system is.
+    pub fn of(kind: FileType) -> EntryKind
+        ensures file { (result ≡ EntryKind.File) ↔ IsFile kind }
+        ensures directory { (result ≡ EntryKind.Directory) ↔ IsDir kind }
+    {
+        if kind.is_file() {
+            EntryKind::File
+        } else if kind.is_dir() {
+            EntryKind::Directory
+        } else {
+            EntryKind::Other
+        }
+    }
+}
+
+/// An entry of a directory.
+#[derive(Drop)]
+pub struct Entry {
+    /// The file name.
+    pub name: String,
+    /// What it is.
+    pub kind: EntryKind,
+}
+
+impl Model for Entry {
+    ghost use Rattle.std.specs.Prelude.{string_bytes};
+    ghost use Rattle.bag_cmd.specs.Directories.{EntryShown};
+
+    ghost Value = { EntryShown };
+
+    ghost view = { λ entry. record { name = string_bytes entry.name; kind = entry.kind } };
+}
+
+/// Where directories are looked up.
+pub trait Directories {
+    ghost use Rattle.std.specs.Prelude.{◌≡◌, Option, Some};
+    ghost use Rattle.bag_cmd.specs.Directories.{AnswersEntries, Listing};
+
+    /// The entries of all directories, where they are known.
+    ghost listing: { Self → Option Listing };
+
+    /// The entries of the directory with this name, but for itself and the one that it stands in.
+    ///
+    /// # Errors
+    ///
+    /// `Files` where the directory isn't there or can't be read, or one of its names isn't UTF-8. `Memory` where memory ran out.
+    fn entries(&self, alloc: Global, directory: &str) -> Result<Vec<Entry>, OpenFault>
+        ensures { (known : Listing) → listing self.now ≡ Some known
+            → AnswersEntries (λ entries. entries.items) known directory.now result };
+}
+
+/// The directories of the system. Nothing is known of their entries.
+#[derive(Drop)]
+pub struct Disk<'a, R>(pub &'a R);
+
+impl<R: Files> Directories for Disk<'_, R> {
+    ghost use Rattle.std.specs.Prelude.{None};
+
+    ghost listing = { λ _. None };
+
+    fn entries(&self, alloc: Global, directory: &str) -> Result<Vec<Entry>, OpenFault> {
+        let mut entries = Vec::new(alloc);
+        for entry in fs::read_dir(&(self.0, alloc), directory)? {
+            let entry = entry?;
+            let name = String::from_str(alloc, entry.file_name())?;
+            let kind = EntryKind::of(entry.file_type()?);
+            entries.push(Entry { name, kind })?;
+        }
+        Ok(entries)
+    }
+}

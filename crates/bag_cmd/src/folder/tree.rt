@@ -1,0 +1,208 @@
+//! A folder on disk, as a tree of files.
+ghost use Rattle.std.specs.Prelude.{◌≡◌, ◌↔◌, ◌||◌, ℕ, List, Contains, [], None, string_bytes, ◌<◌, ◌≤◌, IfOk, IsErr, OnOk, false, is_ok, is_some, length};
+ghost use Rattle.std.specs.List.{list_any};
+ghost use Rattle.bag_path.specs.Paths.{is_payload};
+ghost use Rattle.bag_rules.specs.Trees.{AreRising, octets_in, paths_in};
+ghost use Rattle.bag_cmd.specs.Folders.{IsOpened, IsRefused};
+
+use super::OpenFault;
+use super::directory::Directories;
+use super::name::opened;
+use super::walk::{Below, walk};
+use bag_digest::{Failed, Failures, Source};
+use bag_path::{BagPath, LONGEST_PATH};
+use bag_rules::Tree;
+use std::alloc::Global;
+use std::io::Read;
+use std::marker::Model;
+use std::rt::Files;
+
+/// The files below a folder, by their paths from it. Nothing is claimed of what they hold.
+#[derive(Drop)]
+pub struct FolderTree<R: Files> {
+    rt: R,
+    folder: String,
+    // the name of the file that was sought last; it has room for each
+    name: String,
+    paths: Vec<BagPath>,
+    has_dir: bool,
+    file: Option<R::File>,
+    failures: Failures,
+}
+
+impl<R: Files> Model for FolderTree<R> {
+    ghost use Rattle.std.specs.Prelude.{option_map, string_bytes};
+    ghost use Rattle.bag_cmd.specs.Folders.{FolderShown, IsListing, shown_by};
+
+    ghost Value = { FolderShown };
+
+    ghost view = { λ tree. record {
+      shown = shown_by tree.paths.items tree.has_dir;
+      folder = string_bytes tree.folder;
+      name = string_bytes tree.name;
+      to_read = option_map R.File.remaining tree.file;
+      failures = tree.failures;
+    } };
+
+    ghost invariant = { λ tree. IsListing tree.paths.items tree.has_dir };
+}
+
+impl<R: Files + Drop> FolderTree<R> {
+    /// Looks at the whole folder, and takes each file in it or below it under its path from the folder.
+    ///
+    /// The folder may be named with a slash at the end, and the name may be that of a link to a folder; below it no link is followed.
+    /// Empty directories are passed over, but for `data/`, which is the payload directory without a file (RFC 8493 section 2.1.2).
+    ///
+    /// # Errors
+    ///
+    /// `Files` where the folder isn't there, isn't a folder or can't be read, and where something in it or below it is neither
+    /// a plain file nor a directory (a link, a fifo, a socket, a device), has a name that isn't UTF-8, or has a path that
+    /// [`BagPath::parse`] refuses (longer than 4,096 octets; a plain file named `data` in the folder itself).
+    /// `Memory` where memory ran out. No file is opened.
+    pub fn open<D: Directories>(
+        rt: R,
+        disk: &D,
+        alloc: Global,
+        folder: &str,
+    ) -> Result<FolderTree<R>, OpenFault>
+        ensures no_name { folder.now ≡ [] → result ≡ Err OpenFault.Files }
+        ensures opened { IfOk result (IsOpened (D.listing disk.now) folder.now) }
+        ensures refused { result ≡ Err OpenFault.Files → IsRefused (D.listing disk.now) folder.now }
+    {
+        if folder.is_empty() {
+            return Err(OpenFault::Files);
+        }
+        let below = walk(disk, alloc, folder)?;
+        let folder = String::from_str(alloc, folder)?;
+        let name = String::with_capacity(alloc, folder.len().saturating_add(1 + LONGEST_PATH))?;
+        Ok(tree_of(rt, folder, name, below))
+    }
+}
+
+/// The tree of what is below this folder.
+fn tree_of<R: Files + Drop>(rt: R, folder: String, name: String, below: Below) -> FolderTree<R>
+    ensures paths { (path : List ℕ)
+        → Contains (paths_in result.shown) path ↔ Contains below.paths.items path }
+    ensures payload { result.shown.has_payload_dir
+        ≡ (below.has_dir || list_any is_payload below.paths.items) }
+    ensures named { result.folder ≡ string_bytes folder }
+    ensures closed { result.to_read ≡ None }
+    ensures not_failed { result.failures ≡ 0 }
+{
+    let has_dir = below.has_dir || has_payload(&below.paths);
+    FolderTree {
+        rt,
+        folder,
+        name,
+        paths: in_order(below.paths),
+        has_dir,
+        file: None,
+        failures: Failures::none(),
+    }
+}
+
+/// The paths in the order of their octets, each once.
+fn in_order(mut paths: Vec<BagPath>) -> Vec<BagPath>
+    ensures rising { AreRising result.items }
+    ensures kept { (path : List ℕ) → Contains result.items path ↔ Contains paths.items path }
+{
+    paths.sort_unstable();
+    paths.dedup();
+    paths
+}
+
+impl<R: Files> Source for FolderTree<R> {
+    ghost use Rattle.std.specs.Io.KnownBytes.{ReadConsumes};
+    ghost use Rattle.bag_digest.specs.Device.{UsesSource};
+    ghost use Rattle.bag_cmd.specs.Folders.{FolderShown, ReadsFolder, SameShown, same_itself, same_on};
+
+    ghost remaining = { λ _. None };
+
+    ghost failures = { λ tree. tree.failures };
+
+    ghost ready = { λ _. ⊥ };
+
+    ghost is_open = { λ tree. is_some tree.to_read };
+
+    ghost keeps = { SameShown };
+
+    /// Reads on in the file that is open. Where none is, it fails.
+    fn read(&mut self, buf: &mut [u8]) -> Result<usize, Failed>
+        ensures bound { IfOk result (λ n. n ≤ length buf.new) }
+        ensures octets { ReadConsumes None None result buf.new }
+        ensures uses { UsesSource (λ (tree : FolderShown). tree.failures)
+            (λ (tree : FolderShown). ⊥) SameShown self.old self.new (IsErr result) }
+        ensures closed { is_some self.old.to_read ≡ false → IsErr result }
+        ensures open { is_some self.new.to_read ≡ is_some self.old.to_read }
+        ensures exactly { ReadsFolder self.old self.new result buf.new }
+    {
+        let answer = match &mut self.file {
+            Some(file) => file.read(buf).map_err(|_| Failed),
+            None => Err(Failed),
+        };
+        self.failures.counted(answer)
+    }
+
+    fn failures(&self) -> u64 {
+        self.failures.count()
+    }
+
+    ghost keeps_itself = { same_itself };
+
+    ghost keeps_on = { same_on };
+}
+
+impl<R: Files> Tree for FolderTree<R> {
+    ghost use Rattle.bag_rules.specs.Trees.{UsesTree};
+    ghost use Rattle.bag_cmd.specs.Folders.{FolderShown, StartsFile, keeps_tree};
+
+    ghost shown = { λ tree. tree.shown };
+
+    ghost sure = { λ _. ⊥ };
+
+    fn count(&self) -> usize {
+        self.paths.len()
+    }
+
+    fn path(&self, i: usize) -> &BagPath {
+        &self.paths[i]
+    }
+
+    fn has_payload_dir(&self) -> bool {
+        self.has_dir
+    }
+
+    /// Closes the file that was open, and opens this one.
+    ///
+    /// It fails where the file is no longer there or can't be read; then none is open. It takes no memory. The folder is taken to be
+    /// as it was when it was looked at: a fifo that was put in a file's place since then is waited for.
+    fn start(&mut self, i: usize) -> Result<(), Failed>
+        requires { i < length (paths_in self.old.shown) }
+        ensures started { OnOk result (None ≡ octets_in self.old.shown i) }
+        ensures uses { UsesTree (λ (tree : FolderShown). tree.shown)
+            (λ (tree : FolderShown). tree.failures) (λ (tree : FolderShown). ⊥)
+            self.old self.new (IsErr result) }
+        ensures open { is_some self.new.to_read ≡ is_ok result }
+        ensures exactly { StartsFile self.old self.new i result }
+    {
+        self.file = None;
+        let path = self.paths[i].as_str();
+        let answer = match opened(&self.rt, &mut self.name, self.folder.as_str(), path) {
+            Some(file) => {
+                self.file = Some(file);
+                Ok(())
+            }
+            None => Err(Failed),
+        };
+        self.failures.counted(answer)
+    }
+
+    ghost reads_keep = { keeps_tree };
+}
+
+/// Whether some path is a payload path.
+fn has_payload(paths: &[BagPath]) -> bool
+    ensures { result ≡ list_any is_payload paths.now }
+{
+    paths.iter().any(|path| path.is_payload())
+}

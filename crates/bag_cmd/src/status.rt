@@ -1,0 +1,16 @@
+//! The statuses that the program ends with.
+
+/// The bag is valid.
+pub const VALID: u8 = 0;
+
+/// The bag is not valid.
+pub const NOT_VALID: u8 = 1;
+
+/// The bag can't be judged here.
+pub const OUTSIDE: u8 = 2;
+
+/// Files that can't be read, memory, a limit, or an output that is full or closed.
+pub const FAILED: u8 = 3;
+
+/// The command line names no command (`EX_USAGE` of `sysexits.h`).
+pub const USAGE: u8 = 64;

@@ -1,0 +1,51 @@
+//! How often a device has failed.
+ghost use Rattle.std.specs.Prelude.{◌≡◌, ◌+◌, IsErr, MatchResult, OnErr, Ok, min};
+ghost use Rattle.bag_digest.specs.Device.{CountsFailure, greatest_count};
+
+use crate::source::Failed;
+use std::marker::Model;
+
+/// How often a device has failed. The count stays at its greatest number, 2^64 - 1.
+#[derive(Debug, Drop)]
+pub struct Failures {
+    count: u64,
+}
+
+impl Model for Failures {
+    ghost use Rattle.std.specs.Prelude.{ℕ};
+
+    ghost Value = { ℕ };
+
+    ghost view = { λ failures. failures.count };
+}
+
+impl Failures {
+    /// The count of a device that hasn't failed yet.
+    pub fn none() -> Failures
+        ensures { result ≡ 0 }
+    {
+        Failures { count: 0 }
+    }
+
+    /// The number of failures.
+    pub fn count(&self) -> u64
+        ensures { result ≡ self.now }
+    {
+        self.count
+    }
+
+    /// The answer of one call of the device, whose error is counted. What was wrong is not kept.
+    pub fn counted<A, E: Drop>(&mut self, answer: Result<A, E>) -> Result<A, Failed>
+        ensures answer { MatchResult answer (λ value. result ≡ Ok value) (λ _. IsErr result) }
+        ensures counted { CountsFailure answer self.old self.new }
+        ensures one_more { OnErr answer (self.new ≡ min (self.old + 1) greatest_count) }
+    {
+        match answer {
+            Ok(value) => Ok(value),
+            Err(_) => {
+                self.count = self.count.saturating_add(1);
+                Err(Failed)
+            }
+        }
+    }
+}

@@ -1,0 +1,22 @@
+-- Octets that mean something in paths, in their spellings and between lines.
+use Rattle.std.specs.Prelude.{ℕ}
+
+-- NUL, which no path has
+abbrev pub nul : ℕ
+nul = 0
+
+-- LF, a newline
+abbrev pub lf : ℕ
+lf = 10
+
+-- CR, a carriage return
+abbrev pub cr : ℕ
+cr = 13
+
+-- `%`, which begins an escape
+abbrev pub percent : ℕ
+percent = 37
+
+-- `/`, which stands between the segments of a path
+abbrev pub slash : ℕ
+slash = 47

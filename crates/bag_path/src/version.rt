@@ -1,0 +1,8 @@
+//! Versions of the format.
+
+/// A version of the format. It decides how paths are spelled, and whatever else differs between versions.
+#[derive(Clone, Copy, Debug, PartialEq, Eq)]
+pub enum Version {
+    /// BagIt 1.0 (RFC 8493): `%0A` is LF, `%0D` is CR and `%25` is `%`, their hex letters in either case. No other `%` stands.
+    V1,
+}

@@ -1,0 +1,41 @@
+use Rattle.std.proofs.Common.{◌≡◌, ◌∙◌, ◌++◌, ◌∷◌, [], List, true, false, sym, ap, subst}
+use Rattle.bag_rules.proofs.Words.{Adds, Fault, HasFaultOf, IsUnlistedManifest, Listing, manifest_file, NoManifest, NoPayloadDir, on_ok_weaker, paths_in, Payload, Shown}
+use Rattle.bag_rules.proofs.AddsLemmas.{adds_kinds}
+use Rattle.bag_rules.proofs.FormLemmas.{dir_there, dir_away, manifest_there, manifest_away, all_unlisted}
+use Rattle.bag_rules.proofs.TreeLemmas.{is_there, shows}
+use Rattle.bag_rules.proofs.form_faults.add_form_faults.Goals as goal
+use Rattle.bag_rules.proofs.form_faults.add_form_faults.Goals.{then-not-has_payload_dir+in_ok-push, else-not-has_payload_dir, then-not-has_payload_manifest+in_ok-push-2, else-not-has_payload_manifest}
+
+pub returns-clause-added : goal.returns-clause-added
+returns-clause-added g c = λ bag is are. on_ok_weaker c.add_oxum_faults.result (λ added.
+    let paths = paths_in (g.T.Tree.shown c.args.tree.now) in
+    let old = c.args.faults.now.items in
+    let first = c.if-not-has_payload_dir.faults.items in
+    let second = c.if-not-has_payload_manifest.faults.items in
+    let third = c.add_unlisted_manifests.new.faults.items in
+    let dir : Adds old first (HasFaultOf bag (3 ∷ [])) = elim c.if-not-has_payload_dir.branch [
+      | then-not-has_payload_dir+in_ok-push w ↦
+          let more : w.push.new.self.items ≡ old ++ NoPayloadDir ∷ [] = w.in_ok-push.ensures.items in
+          dir_away bag old first (sym (ap (λ (s : Shown). s.has_payload_dir) is) ∙ sym c.has_payload_dir.ensures.dir ∙ w.if-not-has_payload_dir.true) cc
+      | else-not-has_payload_dir w ↦
+          let same : first ≡ old = cc in
+          subst (λ (fs : List Fault). Adds old fs (HasFaultOf bag (3 ∷ []))) (sym same)
+          (dir_there bag old (sym (ap (λ (s : Shown). s.has_payload_dir) is) ∙ sym c.has_payload_dir.ensures.dir ∙ w.if-not-has_payload_dir.false))
+    ] in
+    let manifest : Adds first second (HasFaultOf bag (4 ∷ [])) = elim c.if-not-has_payload_manifest.branch [
+      | then-not-has_payload_manifest+in_ok-push-2 w ↦
+          let more : w.push-then-not-has_payload_manifest.new.self.items ≡ first ++ NoManifest ∷ [] = w.in_ok-push-2.ensures.items in
+          manifest_away bag first second
+          (λ alg there. let k : false ≡ true = sym w.if-not-has_payload_manifest.true ∙ c.has_payload_manifest.ensures.1 (alg, shows bag is (manifest_file Payload alg) there) in cc) cc
+      | else-not-has_payload_manifest w ↦
+          let same : second ≡ first = cc in
+          let some = c.has_payload_manifest.ensures.0 w.if-not-has_payload_manifest.false in
+          subst (λ (fs : List Fault). Adds first fs (HasFaultOf bag (4 ∷ []))) (sym same)
+          (manifest_there bag first some.0 (is_there bag is (manifest_file Payload some.0) some.1))
+    ] in
+    let unlisted : Adds second third (HasFaultOf bag (6 ∷ [])) = all_unlisted bag c.args.texts.now are paths second third (λ path. (is_there bag is path, shows bag is path))
+    (subst (λ (ls : List Listing). Adds second third (IsUnlistedManifest paths ls)) c.deref.ensures.value c.in_ok-add_unlisted_manifests.ensures.added) in
+    adds_kinds bag (3 ∷ 4 ∷ 6 ∷ []) (7 ∷ 8 ∷ []) old third _
+    (adds_kinds bag (3 ∷ 4 ∷ []) (6 ∷ []) old second third (adds_kinds bag (3 ∷ []) (4 ∷ []) old first second dir manifest) unlisted)
+    added)
+    (c.add_oxum_faults.ensures.added bag are)

@@ -1,0 +1,20 @@
+use Rattle.std.proofs.Common.{◌≡◌, ◌∙◌, Some, length, subst, sym, ap, string_bytes}
+use Rattle.bag_tags.specs.Declarations.{version_of}
+use Rattle.bag_rules.proofs.Words.{Declares, IsFirstUnknownOf, NoneUnknown}
+use Rattle.bag_rules.proofs.DeclaredLemmas.{known_algorithms, other_declaration, unknown_algorithm}
+use Rattle.bag_rules.proofs.TreeLemmas.{paths_same, rises}
+use Rattle.bag_rules.proofs.profile.profile_of.Goals as goal
+
+pub returns-in-Err-clause-profile : goal.returns-in-Err-clause-profile
+returns-in-Err-clause-profile g c = λ bag is declares. other_declaration bag c.args.declaration c.in-Err.cause (rises bag is c.requires) declares c.in-Err.ensures
+
+pub returns-in-Some-clause-profile : goal.returns-in-Some-clause-profile
+returns-in-Some-clause-profile g c = λ bag is declares.
+    let first = rw c.in-Some.is at c.in_ok-name.ensures.ok in
+    unknown_algorithm bag c.in-Some.name (rises bag is c.requires) (subst (λ d. Declares bag d) c.in-Ok.ensures.0 declares)
+    (subst (λ ps. IsFirstUnknownOf ps (string_bytes c.in-Some.name)) (paths_same bag is) first)
+
+pub returns-in-None-clause-profile : goal.returns-in-None-clause-profile
+returns-in-None-clause-profile g c = λ bag is declares.
+    known_algorithms bag _ (subst (λ d. Declares bag d) c.in-Ok.ensures.0 declares) (sym (ap version_of c.in-Ok.ensures.0) ∙ c.in-Ok.ensures.1)
+    (subst (λ ps. NoneUnknown ps (length ps)) (paths_same bag is) (rw c.in-None.is at c.in_ok-name.ensures.ok))

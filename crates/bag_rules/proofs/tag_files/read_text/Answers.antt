@@ -1,0 +1,64 @@
+use Rattle.std.proofs.Common.{◌≡◌, ◌<◌, true, false, length, refl, sym, ◌∙◌, inr, subst}
+use Rattle.bag_rules.proofs.Words.{err_from_is_err_and, HasCountedLines, IsBadLineOf, IsFirstBadLine, IsLongTag, lines_of, on_ok_weaker, one_file, ReadsText, Stopped, text_file, TextStops}
+use Rattle.bag_rules.proofs.AddsLemmas.{adds_so}
+use Rattle.bag_rules.proofs.LimitLemmas.{stopped_so}
+use Rattle.bag_rules.proofs.TextStops.{done_or_memory, long_stops, none_stops}
+use Rattle.bag_rules.proofs.KeptLemmas.{on_ok_of}
+use Rattle.bag_rules.proofs.TreeLemmas.{named_here}
+use Rattle.bag_rules.proofs.tag_files.read_text.Goals as goal
+use Rattle.bag_rules.proofs.tag_files.read_text.Goals.{else-has_counted_lines-via-then-has_counted_lines+else-has_more_lines, else-has_counted_lines-via-else-has_counted_lines}
+
+pub returns-in_err-text-clause-limits : goal.returns-in_err-text-clause-limits
+returns-in_err-text-clause-limits g c = λ path octets at.
+    let named : path ≡ text_file c.in-Some.file = named_here at c.path.ensures ∙ c.in-Some.ensures in
+    let stopped : Stopped (IsLongTag path octets) c.in_err-text.field-0.0 = c.in_err-text.ensures.known path octets at in
+    let error = err_from_is_err_and c.from_residual.result c.from_residual.ensures.1 in
+    rw (error.1, error.2) (stopped_so (IsLongTag path octets) (TextStops path octets) c.in_err-text.field-0.0 (long_stops c.in-Some.file path octets named c.in_err-text.field-0.0) stopped)
+
+pub returns-then-has_more_lines-clause-limits : goal.returns-then-has_more_lines-clause-limits
+returns-then-has_more_lines-clause-limits g c = λ path octets at.
+    let named : path ≡ text_file c.in-Some.file = named_here at c.path.ensures ∙ c.in-Some.ensures in
+    let held : c.deref-then-has_counted_lines.result.now ≡ octets = c.deref-then-has_counted_lines.ensures.value ∙ (c.in_ok-text.ensures.known path octets at).0 in (
+      c.in-Some.file,
+      named,
+      inr (
+        (c.in_ok-text.ensures.known path octets at).1,
+        (c.has_counted_lines.ensures.0 c.if-has_counted_lines.true, subst (λ o. 100000 < length (lines_of o)) held (c.has_more_lines.ensures.0 c.if-has_more_lines.true), refl),
+      ),
+    )
+
+pub returns-clause-read : goal.returns-clause-read
+returns-clause-read g c = λ path octets at.
+    let named : path ≡ text_file c.in-Some.file = named_here at c.path.ensures ∙ c.in-Some.ensures in
+    let held : c.deref-2.result.now ≡ octets = c.deref-2.ensures.value ∙ (c.in_ok-text.ensures.known path octets at).0 in
+    on_ok_weaker c.read_lines.result (λ reads.
+    record {
+      reads = λ file is. subst (λ f. ReadsText c.args.version f octets c.args.texts.now c.read_lines.new.texts) (one_file path c.in-Some.file file named is) (subst (λ o. ReadsText c.args.version c.in-Some.file o c.args.texts.now c.read_lines.new.texts) held reads);
+      leaves = λ none. absurd (none c.in-Some.file named);
+    })
+    c.read_lines.ensures.read
+
+pub returns-clause-faulty : goal.returns-clause-faulty
+returns-clause-faulty g c = λ path octets at.
+    let named : path ≡ text_file c.in-Some.file = named_here at c.path.ensures ∙ c.in-Some.ensures in
+    let held : c.deref-2.result.now ≡ octets = c.deref-2.ensures.value ∙ (c.in_ok-text.ensures.known path octets at).0 in
+    on_ok_weaker c.read_lines.result (λ added.
+    adds_so c.args.faults.now.items c.read_lines.new.faults.items (IsFirstBadLine c.args.version c.in-Some.file c.deref-2.result.now) (IsBadLineOf c.args.version path octets)
+    (λ f bad. (c.in-Some.file, named, subst (λ o. IsFirstBadLine c.args.version c.in-Some.file o f) held bad))
+    (λ f bad. subst (λ o. IsFirstBadLine c.args.version c.in-Some.file o f) (sym held) (subst (λ file. IsFirstBadLine c.args.version file octets f) (one_file path bad.0 c.in-Some.file bad.1 named) bad.2))
+    added)
+    c.read_lines.ensures.faulty
+
+pub returns-clause-limits : goal.returns-clause-limits
+returns-clause-limits g c = λ path octets at.
+    let named : path ≡ text_file c.in-Some.file = named_here at c.path.ensures ∙ c.in-Some.ensures in
+    let few : HasCountedLines c.in-Some.file → 100000 < length (lines_of octets) → ⊥ = λ counted many. elim c.else-has_counted_lines.branch [
+      | else-has_counted_lines-via-then-has_counted_lines+else-has_more_lines w ↦ (let held : w.deref-then-has_counted_lines.result.now ≡ octets = w.deref-then-has_counted_lines.ensures.value ∙ (c.in_ok-text.ensures.known path octets at).0 in let k : true ≡ false = sym (w.has_more_lines.ensures.1 (subst (λ o. 100000 < length (lines_of o)) (sym held) many)) ∙ w.if-has_more_lines.false in cc)
+      | else-has_counted_lines-via-else-has_counted_lines w ↦ (let k : true ≡ false = sym (c.has_counted_lines.ensures.1 counted) ∙ w.if-has_counted_lines.false in cc)
+    ] in
+    done_or_memory c.read_lines.result (TextStops path octets) c.read_lines.ensures.err
+    (none_stops c.in-Some.file path octets named ((c.in_ok-text.ensures.known path octets at).1) few)
+
+pub returns-clause-kept : goal.returns-clause-kept
+returns-clause-kept g c = λ are. on_ok_of c.read_lines.result _ (c.in_ok-keep.ensures.kept (g.T.Tree.shown c.args.tree.now) are (λ path octets at.
+    let known = c.in_ok-text.ensures.known path octets at in (c.deref.ensures.value ∙ known.0, known.1)))

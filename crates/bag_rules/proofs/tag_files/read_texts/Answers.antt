@@ -1,0 +1,84 @@
+use Rattle.std.proofs.Common.{rules, ◌≡◌, ◌<◌, ◌∷◌, [], length, sym, ap, ◌∙◌, subst, arith}
+use Rattle.bag_rules.specs.KeptInside.{AreKept}
+use Rattle.bag_rules.proofs.Words.{Adds, AreTextsOf, Bag, err_from_is_err_and, front, HasFaultOf, IsBadLineOf, IsBagOf, NoneStopsBefore, ReadsOn, TextStops}
+use Rattle.bag_rules.proofs.HasLemmas.{stands}
+use Rattle.bag_rules.proofs.FirstFiles.{once_at}
+use Rattle.bag_rules.proofs.FrontLemmas.{whole_front}
+use Rattle.bag_rules.proofs.LimitLemmas.{first_stops, none_more}
+use Rattle.bag_rules.proofs.TextsMore.{faults_more, texts_more}
+use Rattle.bag_rules.proofs.TreeLemmas.{file_at, same_count}
+use Rattle.bag_rules.proofs.TreeUses.{uses_error, uses_kept, uses_on}
+use Rattle.bag_rules.proofs.tag_files.read_texts.Goals as goal
+
+pub returns-in_err-read_text-clause-limits : goal.returns-in_err-read_text-clause-limits
+returns-in_err-read_text-clause-limits g c = λ bag is.
+    let tree = g.T.Tree in
+    let before = c.loop-i.invariant in
+    let i = c.loop-i.i in
+    let inside : i < length bag.files = omega (arith, before.all, same_count bag is, c.loop-i-test.true) in
+    let here = stands bag.files i inside in
+    let path = here.0.0 in
+    let octets = here.0.1 in
+    let now = before.used.same ∙ is in
+    let error = err_from_is_err_and c.from_residual.result c.from_residual.ensures.1 in
+    rw (error.1, error.2) (first_stops bag TextStops i path octets c.in_err-read_text.field-0.0 here.1 (before.limits bag is)
+    (c.in_err-read_text.ensures.limits path octets (file_at bag now i path octets here.1)))
+
+pub loop-i-preserved : goal.loop-i-preserved
+loop-i-preserved g c =
+    let tree = g.T.Tree in
+    let before = c.loop-i.invariant in
+    let i = c.loop-i.i in
+    let inside : (bag : Bag) → IsBagOf (tree.shown c.args.tree.now) bag → i < length bag.files =
+    λ bag is. omega (arith, before.all, same_count bag is, c.loop-i-test.true) in
+    record {
+      read = λ bag is by.
+          let here = stands bag.files i (inside bag is) in
+          let now = before.used.same ∙ is in
+          texts_more bag i here.0.0 here.0.1 here.1
+          (once_at bag is c.count-i-end.ensures.rising i here.0.0 here.0.1 here.1)
+          c.loop-i.texts c.read_text.new.texts (before.read bag is by)
+          (subst (λ version. ReadsOn version here.0.0 here.0.1 c.loop-i.texts c.read_text.new.texts) (sym by) (c.in_ok-read_text.ensures.read here.0.0 here.0.1 (file_at bag now i here.0.0 here.0.1 here.1)));
+      faulty = λ bag is by.
+          let here = stands bag.files i (inside bag is) in
+          let now = before.used.same ∙ is in
+          faults_more bag i here.0.0 here.0.1 here.1
+          (once_at bag is c.count-i-end.ensures.rising i here.0.0 here.0.1 here.1)
+          c.args.faults.now.items c.loop-i.faults.items c.read_text.new.faults.items (before.faulty bag is by)
+          (subst (λ version. Adds c.loop-i.faults.items c.read_text.new.faults.items (IsBadLineOf version here.0.0 here.0.1)) (sym by) (c.in_ok-read_text.ensures.faulty here.0.0 here.0.1 (file_at bag now i here.0.0 here.0.1 here.1)));
+      limits = λ bag is.
+          let here = stands bag.files i (inside bag is) in
+          let now = before.used.same ∙ is in
+          none_more bag TextStops i here.0.0 here.0.1 here.1
+          (c.in_ok-read_text.ensures.limits here.0.0 here.0.1 (file_at bag now i here.0.0 here.0.1 here.1))
+          (before.limits bag is);
+      kept = λ are.
+          let here = subst (λ s. AreKept s c.loop-i.kept) (sym before.used.same) (before.kept are) in
+          subst (λ s. AreKept s c.read_text.new.kept) before.used.same (c.in_ok-read_text.ensures.kept here);
+      used = uses_kept (uses_on before.used (λ no. no) c.in_ok-read_text.ensures.tree) (λ e. cc e) (λ no. no);
+      all = before.all;
+      room = search rules;
+    }
+
+pub returns-clause-read : goal.returns-clause-read
+returns-clause-read g c = λ bag is by.
+    let n : c.loop-i.i ≡ length bag.files = omega (arith, c.loop-i.invariant.all, same_count bag is) in
+    subst (λ k. AreTextsOf k bag c.loop-i.texts) n (c.loop-i.invariant.read bag is by)
+
+pub returns-clause-faulty : goal.returns-clause-faulty
+returns-clause-faulty g c = λ bag is by.
+    let n : c.loop-i.i ≡ length bag.files = omega (arith, c.loop-i.invariant.all, same_count bag is) in
+    subst (λ b. Adds c.args.faults.now.items c.loop-i.faults.items (HasFaultOf b (5 ∷ []))) (ap (λ k. front k bag) n ∙ whole_front bag) (c.loop-i.invariant.faulty bag is by)
+
+pub returns-clause-limits : goal.returns-clause-limits
+returns-clause-limits g c = λ bag is.
+    let n : c.loop-i.i ≡ length bag.files = omega (arith, c.loop-i.invariant.all, same_count bag is) in
+    subst (λ k. NoneStopsBefore k bag TextStops) n (c.loop-i.invariant.limits bag is)
+
+pub returns-in_err-read_text-clause-tree : goal.returns-in_err-read_text-clause-tree
+returns-in_err-read_text-clause-tree g c =
+    let p = err_from_is_err_and c.from_residual.result c.from_residual.ensures.1 in
+    rw (p.1, p.2) (uses_error (uses_on c.loop-i.invariant.used (λ no. no) c.in_err-read_text.ensures.tree))
+
+pub returns-clause-tree : goal.returns-clause-tree
+returns-clause-tree g c = uses_kept c.loop-i.invariant.used (λ no. no) (λ e. cc e)

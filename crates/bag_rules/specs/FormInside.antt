@@ -1,0 +1,35 @@
+-- Faults of the form, by what was read. Private functions alone cite these: what a fault is stands in HasFault.
+use Rattle.std.specs.Prelude.{◌≡◌, ◌⊎◌, ◌≤◌, ℕ, true, false, List, Some, length, slice_get}
+use Rattle.std.specs.List.{filter}
+use Rattle.bag_digest.specs.declared.algorithm.Alg.{Alg}
+use Rattle.bag_tags.specs.declared.listing.Kind.TheVariants.{Payload, Tag}
+use Rattle.bag_tags.specs.Infos.{MetadataElement, is_oxum}
+use Rattle.bag_tags.specs.Listings.{Listing, lists_path}
+use Rattle.bag_tags.specs.Oxums.{OxumText}
+use Rattle.bag_rules.specs.declared.fault.Fault.{Fault}
+use Rattle.bag_rules.specs.declared.fault.Fault.TheVariants.{ManifestNotListed, OxumForm, OxumTwice}
+use Rattle.bag_tags.specs.Names.{manifest_file}
+use Rattle.bag_rules.specs.Faults.{Has}
+
+-- the path is that of a payload manifest, and one of these tag manifests doesn't list it
+abbrev pub IsUnlistedBy : List Listing → List ℕ → Fault → Type 0
+IsUnlistedBy listings path fault = (alg : Alg)
+    × ((listing : Listing) × (path ≡ manifest_file Payload alg) × Has listings listing
+    × (listing.kind ≡ Tag)
+    × (lists_path listing.pairs path ≡ false) × (fault ≡ ManifestNotListed listing.alg alg))
+
+-- some path among these is
+abbrev pub IsUnlistedManifest : List (List ℕ) → List Listing → Fault → Type 0
+IsUnlistedManifest paths listings fault = (i : ℕ)
+    × ((path : List ℕ) × (slice_get paths i ≡ Some path) × IsUnlistedBy listings path fault)
+
+-- a `Payload-Oxum` that can't be read
+abbrev pub IsBadOxum : MetadataElement → Type 0
+IsBadOxum element = (is_oxum element ≡ true)
+    × ((octets streams : ℕ) → ¬ OxumText element.value octets streams)
+
+-- one among these elements is such, or two of them are `Payload-Oxum`
+abbrev pub IsOxumFault : List MetadataElement → Fault → Type 0
+IsOxumFault elements fault =
+    ((element : MetadataElement) × Has elements element × IsBadOxum element × (fault ≡ OxumForm))
+    ⊎ ((2 ≤ length (filter is_oxum elements)) × (fault ≡ OxumTwice))

@@ -1,0 +1,30 @@
+-- What a check answers. Private functions alone cite these: the verdict stands in Verdicts.
+use Rattle.std.specs.Prelude.{◌≡◌, ◌<◌, ℕ, false, List, IsSome, None, Some, slice_get}
+use Rattle.bag_tags.specs.declared.declaration.Declaration.{Declaration}
+use Rattle.bag_tags.specs.Declarations.{version_of}
+use Rattle.bag_tags.specs.Names.{IsUnknownManifest}
+use Rattle.bag_rules.specs.declared.fault.Fault.{Fault}
+use Rattle.bag_rules.specs.declared.outcome.Outcome.{Outcome}
+use Rattle.bag_rules.specs.declared.outcome.Outcome.TheVariants.{Judged, Outside}
+use Rattle.bag_rules.specs.declared.outcome.OutsideCause.{OutsideCause}
+use Rattle.bag_rules.specs.declared.outcome.OutsideCause.TheVariants.{Version, Encoding, Algorithm}
+use Rattle.bag_rules.specs.Faults.{Has, AreInOrder}
+
+-- the declaration is of another version, or of another encoding
+abbrev pub MatchOutside : OutsideCause → Declaration → Type 0
+MatchOutside Version declaration = version_of declaration ≡ None
+MatchOutside Encoding declaration = IsSome (version_of declaration) × (declaration.utf8 ≡ false)
+MatchOutside (Algorithm name) declaration = ⊥
+
+-- none of the first n paths is that of a manifest whose algorithm isn't known
+abbrev pub NoneUnknown : List (List ℕ) → ℕ → Type 0
+NoneUnknown paths n = (i : ℕ) (path word : List ℕ) → i < n → slice_get paths i ≡ Some path
+    → ¬ IsUnknownManifest path word
+
+-- the algorithm of the first such manifest
+pub record IsFirstUnknownOf (paths : List (List ℕ)) (word : List ℕ) : Type 0 where
+  pub place : ℕ
+  pub path : List ℕ
+  pub there : slice_get paths place ≡ Some path
+  pub unknown : IsUnknownManifest path word
+  pub before : NoneUnknown paths place

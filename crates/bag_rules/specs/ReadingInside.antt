@@ -1,0 +1,83 @@
+-- What the reading of a bag's tag files adds to what was read, and to the faults. Private functions alone cite these.
+use Rattle.std.specs.Prelude.{◌≡◌, ◌≢◌, ◌⊎◌, ◌↔◌, ◌++◌, ℕ, List, [], ◌∷◌, Option, Some, None, Result, Ok, Err, take}
+use Rattle.bag_path.specs.declared.version.Version.{Version}
+use Rattle.bag_tags.specs.declared.fault.LineCause.{LineCause}
+use Rattle.bag_tags.specs.declared.fault.LineFault.{LineFault}
+use Rattle.bag_tags.specs.declared.fault.TagFault.{TagFault}
+use Rattle.bag_tags.specs.declared.fault.TagFault.TheVariants.{Line}
+use Rattle.bag_tags.specs.declared.fetch.FetchLine.{FetchLine}
+use Rattle.bag_tags.specs.FetchText.{FetchText}
+use Rattle.bag_tags.specs.Infos.{MetadataElement}
+use Rattle.bag_tags.specs.InfoText.{InfoText}
+use Rattle.bag_tags.specs.Listings.{Listing}
+use Rattle.bag_tags.specs.Manifests.{ManifestText}
+use Rattle.bag_rules.specs.declared.fault.Fault.{Fault}
+use Rattle.bag_rules.specs.declared.fault.Fault.TheVariants.{BadLine}
+use Rattle.bag_tags.specs.declared.name.LineFile.{LineFile}
+use Rattle.bag_tags.specs.declared.name.LineFile.TheVariants.{Info, FetchList, Manifest}
+use Rattle.bag_tags.specs.declared.name.ManifestName.{ManifestName}
+use Rattle.bag_rules.specs.declared.tag_files.Texts.{Texts}
+use Rattle.bag_rules.specs.Bags.{Bag, Lists, SaysInfo, ListsFetch}
+use Rattle.bag_tags.specs.Names.{manifest_name, text_file}
+use Rattle.bag_rules.specs.HasFault.{IsFaultyText, line_fault}
+use Rattle.bag_rules.specs.Faults.{Has}
+
+-- the new list has these faults beside those of the old one, and no others
+abbrev pub Adds : List Fault → List Fault → (Fault → Type 0) → Type 0
+Adds old new faults = (fault : Fault) → Has new fault ↔ (Has old fault ⊎ faults fault)
+
+abbrev pub name_in : Listing → ManifestName
+name_in listing = manifest_name listing.kind listing.alg
+
+-- the first n files of a bag
+abbrev pub front : ℕ → Bag → Bag
+front n bag = record bag { files = take n bag.files }
+
+-- these are what the tag files say among the first n files
+pub record AreTextsOf (n : ℕ) (bag : Bag) (texts : Texts) : Type 0 where
+  pub info : (elements : List MetadataElement) → (texts.info ≡ Some elements)
+      ↔ SaysInfo (front n bag) elements
+  pub fetch : (lines : List FetchLine) → (texts.fetch ≡ Some lines) ↔ ListsFetch (front n bag) lines
+  pub manifests : (listing : Listing) → Has texts.manifests.items listing
+      ↔ Lists (front n bag) (name_in listing) listing.pairs
+
+-- the text of this manifest gives this listing
+abbrev pub GivesListing : Version → ManifestName → List ℕ → Listing → Type 0
+GivesListing version name octets listing = (name_in listing ≡ name)
+    × ManifestText version listing.alg listing.kind octets listing.pairs
+
+-- the text of a tag file gives its value in place of what was there, and a manifest one listing more
+abbrev pub ReadsText : Version → LineFile → List ℕ → Texts → Texts → Type 0
+ReadsText version Info octets old new = ((elements : List MetadataElement)
+    → (new.info ≡ Some elements) ↔ InfoText version octets elements)
+    × (new.fetch ≡ old.fetch) × (new.manifests.items ≡ old.manifests.items)
+ReadsText version FetchList octets old new =
+    ((lines : List FetchLine) → (new.fetch ≡ Some lines) ↔ FetchText version octets lines)
+    × (new.info ≡ old.info) × (new.manifests.items ≡ old.manifests.items)
+ReadsText version (Manifest name) octets old new =
+    ((listing : Listing) → Has new.manifests.items listing
+    ↔ (Has old.manifests.items listing ⊎ GivesListing version name octets listing))
+    × (new.info ≡ old.info) × (new.fetch ≡ old.fetch)
+
+-- a file is read where it is such a tag file; else nothing changes
+pub record ReadsOn (version : Version) (path octets : List ℕ) (old new : Texts) : Type 0 where
+  pub reads : (file : LineFile) → path ≡ text_file file → ReadsText version file octets old new
+  pub leaves : ((file : LineFile) → path ≢ text_file file) → (new.info ≡ old.info)
+      × (new.fetch ≡ old.fetch) × (new.manifests.items ≡ old.manifests.items)
+
+-- the first faulty line of a tag file's text
+abbrev pub IsFirstBadLine : Version → LineFile → List ℕ → Fault → Type 0
+IsFirstBadLine version file octets fault = (line : ℕ)
+    × ((cause : LineCause) × IsFaultyText version file octets (line_fault line cause)
+    × (fault ≡ BadLine file line cause))
+
+abbrev pub IsBadLineOf : Version → List ℕ → List ℕ → Fault → Type 0
+IsBadLineOf version path octets fault = (file : LineFile) × (path ≡ text_file file)
+    × IsFirstBadLine version file octets fault
+
+-- the value that was read, and the same faults; or none, and its first faulty line
+abbrev pub ValueOf : {V : Type 0} → Result V TagFault → LineFile → List Fault → List Fault
+    → Option V → Type 0
+ValueOf read file old new (Some value) = (read ≡ Ok value) × (new ≡ old)
+ValueOf read file old new None = (fault : LineFault) × (read ≡ Err (Line fault))
+    × (new ≡ old ++ BadLine file fault.line fault.cause ∷ [])

@@ -1,0 +1,90 @@
+//! What is kept of the tag files that were read as text.
+ghost use Rattle.std.specs.Prelude.{◌≡◌, ℕ, List, IfErr, IfSome, IsTrue, OnOk, true};
+ghost use Rattle.bag_digest.specs.Algorithm.{has};
+ghost use Rattle.bag_digest.specs.declared.algorithm.Alg.{Alg};
+ghost use Rattle.bag_rules.specs.KeptInside.{AreKept, HasSumsWithin, IsTextAt};
+ghost use Rattle.bag_rules.specs.Trees.{HasFileAt, Shown};
+ghost use Rattle.bag_rules.specs.declared.outcome.CheckFault.{CheckFault};
+
+use crate::outcome::CheckFault;
+use bag_digest::{Alg, AlgSet, Digests, Multi};
+use std::alloc::Global;
+
+/// The lengths and digests of the tag files that were read as text, by their places: eleven files at most. So what was
+/// read is what is verified, and none of them is read again.
+#[derive(Drop)]
+pub(crate) struct Kept {
+    set: AlgSet,
+    files: Vec<KeptFile>,
+}
+
+/// What is kept of one file.
+#[derive(Drop)]
+struct KeptFile {
+    place: usize,
+    length: u64,
+    digests: Digests,
+}
+
+impl Kept {
+    /// Nothing yet; the digests will be those of this set.
+    pub(crate) fn new(alloc: Global, set: AlgSet) -> Kept
+        ensures { (shown : Shown) → AreKept shown result }
+    {
+        Kept {
+            set,
+            files: Vec::new(alloc),
+        }
+    }
+
+    /// Keeps the length and the digests of the text at this place.
+    pub(crate) fn keep(&mut self, place: usize, text: &[u8]) -> Result<(), CheckFault>
+        ensures kept { (shown : Shown) → AreKept shown self.old → IsTextAt shown place text.now
+            → OnOk result (AreKept shown self.new) }
+        ensures err { IfErr result (λ fault. fault ≡ CheckFault.Memory) }
+    {
+        let mut multi = Multi::new(self.set);
+        multi.update(text);
+        let file = KeptFile {
+            place,
+            length: text.len() as u64,
+            digests: multi.finish(),
+        };
+        self.files.push(file)?;
+        Ok(())
+    }
+
+    /// The length of the file at this place, and its digests by the algorithms of the set, where they were kept.
+    pub(crate) fn find(&self, place: usize, set: AlgSet) -> Option<(u64, Digests)>
+        ensures { (shown : Shown) (path octets : List ℕ) → AreKept shown self.now
+            → HasFileAt shown place path octets
+            → IfSome result (λ found. HasSumsWithin found set octets) }
+    {
+        if !covers(self.set, set) {
+            return None;
+        }
+        for file in &self.files {
+            if file.place == place {
+                return Some((file.length, file.digests));
+            }
+        }
+        None
+    }
+}
+
+/// Whether the first set has each algorithm of the second.
+fn covers(all: AlgSet, part: AlgSet) -> bool
+    ensures { IsTrue result → (alg : Alg) → has part alg ≡ true → has all alg ≡ true }
+{
+    has_if(all, part, Alg::Md5)
+        && has_if(all, part, Alg::Sha1)
+        && has_if(all, part, Alg::Sha256)
+        && has_if(all, part, Alg::Sha512)
+}
+
+/// Whether the first set has the algorithm, if the second has it.
+fn has_if(all: AlgSet, part: AlgSet, alg: Alg) -> bool
+    ensures { IsTrue result → has part alg ≡ true → has all alg ≡ true }
+{
+    !part.has(alg) || all.has(alg)
+}

@@ -1,0 +1,111 @@
+//! What the tag files list against the files that are there, and against each other (RFC 8493 sections 2.2.3 and 3).
+ghost use Rattle.std.specs.Prelude.{◌≡◌, ◌∷◌, [], IfErr, OnOk, length};
+ghost use Rattle.bag_rules.specs.Bags.{Bag};
+ghost use Rattle.bag_rules.specs.Faults.{kind_of_unlisted_entries};
+ghost use Rattle.bag_rules.specs.HasFault.{HasFaultOf};
+ghost use Rattle.bag_rules.specs.FilesInside.{IsFetchUnlistedBy, IsMissing, IsMissingBy, IsPairMissing};
+ghost use Rattle.bag_rules.specs.ReadingInside.{Adds, AreTextsOf};
+ghost use Rattle.bag_rules.specs.Trees.{paths_in};
+
+use crate::fault::Fault;
+use crate::outcome::CheckFault;
+use crate::tag_files::Texts;
+use crate::tree::{Tree, find};
+use bag_tags::{Fetch, Kind, Manifest, ManifestName, Pair};
+
+/// Adds the files that the manifests list and that are not there.
+pub(crate) fn add_missing<T: Tree>(
+    tree: &T,
+    manifests: &[Manifest],
+    faults: &mut Vec<Fault>,
+) -> Result<(), CheckFault>
+    ensures added { OnOk result (Adds faults.old.items faults.new.items
+        (IsMissing (paths_in (T.shown tree.now)) manifests.now)) }
+    ensures err { IfErr result (λ fault. fault ≡ CheckFault.Memory) }
+{
+    for manifest in manifests {
+        add_missing_by(tree, manifest, faults)?;
+    }
+    Ok(())
+}
+
+/// Adds the files that a manifest lists and that are not there.
+fn add_missing_by<T: Tree>(
+    tree: &T,
+    manifest: &Manifest,
+    faults: &mut Vec<Fault>,
+) -> Result<(), CheckFault>
+    ensures added { OnOk result (Adds faults.old.items faults.new.items
+        (IsMissingBy (paths_in (T.shown tree.now)) manifest.now)) }
+    ensures err { IfErr result (λ fault. fault ≡ CheckFault.Memory) }
+{
+    let name = ManifestName {
+        kind: manifest.kind(),
+        alg: manifest.alg(),
+    };
+    for pair in manifest.pairs() {
+        add_missing_pair(tree, name, pair, faults)?;
+    }
+    Ok(())
+}
+
+/// Adds the file of one pair, if it is not there.
+fn add_missing_pair<T: Tree>(
+    tree: &T,
+    manifest: ManifestName,
+    pair: &Pair,
+    faults: &mut Vec<Fault>,
+) -> Result<(), CheckFault>
+    ensures added { OnOk result (Adds faults.old.items faults.new.items
+        (IsPairMissing (paths_in (T.shown tree.now)) manifest pair.now.path)) }
+    ensures err { IfErr result (λ fault. fault ≡ CheckFault.Memory) }
+{
+    match find(tree, pair.path.as_str()) {
+        Some(_) => Ok(()),
+        None => {
+            let path = pair.path.clone()?;
+            faults.push(Fault::Missing { manifest, path })?;
+            Ok(())
+        }
+    }
+}
+
+/// Adds the entries of `fetch.txt` that a payload manifest doesn't list.
+pub(crate) fn add_fetch_unlisted(texts: &Texts, faults: &mut Vec<Fault>) -> Result<(), CheckFault>
+    ensures added { (bag : Bag) → AreTextsOf (length bag.files) bag texts.now
+        → OnOk result (Adds faults.old.items faults.new.items
+        (HasFaultOf bag kind_of_unlisted_entries)) }
+    ensures err { IfErr result (λ fault. fault ≡ CheckFault.Memory) }
+{
+    let Some(fetch) = &texts.fetch else {
+        return Ok(());
+    };
+    for manifest in &texts.manifests {
+        add_fetch_unlisted_by(manifest, fetch, faults)?;
+    }
+    Ok(())
+}
+
+/// Adds the entries of `fetch.txt` that this manifest doesn't list, if it is a payload manifest.
+fn add_fetch_unlisted_by(
+    manifest: &Manifest,
+    fetch: &Fetch,
+    faults: &mut Vec<Fault>,
+) -> Result<(), CheckFault>
+    ensures added { OnOk result (Adds faults.old.items faults.new.items
+        (IsFetchUnlistedBy manifest.now fetch.now)) }
+    ensures err { IfErr result (λ fault. fault ≡ CheckFault.Memory) }
+{
+    if manifest.kind() == Kind::Tag {
+        return Ok(());
+    }
+    for line in fetch.entries() {
+        let path = line.entry.path();
+        if manifest.get(path).is_none() {
+            let path = path.clone()?;
+            let manifest = manifest.alg();
+            faults.push(Fault::FetchNotListed { manifest, path })?;
+        }
+    }
+    Ok(())
+}

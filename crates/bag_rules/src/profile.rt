@@ -1,0 +1,146 @@
+//! Whether a bag can be judged by more than its declaration (RFC 8493 section 2.1.1).
+ghost use Rattle.std.specs.Prelude.{◌≡◌, ◌<◌, Contains, IfErr, IfOk, IsErrOf, MatchOption, MatchResult, Some, length, slice_get, string_bytes};
+ghost use Rattle.bag_tags.specs.Declarations.{current, version_of};
+ghost use Rattle.bag_rules.specs.Bags.{Bag, Declares, IsBagOf, declaration_file};
+ghost use Rattle.bag_rules.specs.JudgingInside.{IsFirstUnknownOf, MatchOutside, NoneUnknown};
+ghost use Rattle.bag_rules.specs.Limits.{DeclarationStops, FirstStops, NoneStops, Stopped};
+ghost use Rattle.bag_rules.specs.Profiles.{IsProfile, ended_by};
+ghost use Rattle.bag_rules.specs.Trees.{AreRising, UsesTree, paths_in};
+ghost use Rattle.bag_rules.specs.declared.fault.Fault.TheVariants.{NoDeclaration};
+ghost use Rattle.bag_rules.specs.declared.outcome.CheckFault.{CheckFault};
+
+use crate::fault::Fault;
+use crate::outcome::{CheckFault, Outcome, OutsideCause};
+use crate::report::Report;
+use crate::tag_files::read_tag_file;
+use crate::tree::{Tree, find};
+use bag_path::Version;
+use bag_tags::{Declaration, read_declaration, unknown_algorithm};
+use std::alloc::Global;
+
+/// What the declaration and the names of the manifests say of a bag.
+#[derive(Debug, Drop)]
+pub enum Profile {
+    /// The bag declares this version and UTF-8, and the algorithm of each of its manifests is known.
+    Known(Version),
+    /// It doesn't, and so it is judged by this alone.
+    Ended(Outcome),
+}
+
+/// Reads the declaration of the bag that a tree holds, and looks at the names of its manifests.
+///
+/// # Errors
+///
+/// `TagTooLarge`: the declaration has more than 16,777,216 octets. `Tree`: a call of the tree failed, and it counted that.
+/// `Memory`.
+pub fn read_profile<T: Tree>(
+    alloc: Global,
+    buffer: &mut [u8],
+    tree: &mut T,
+) -> Result<Profile, CheckFault>
+    requires room { 0 < length buffer.old }
+    requires rising { AreRising (paths_in (T.shown tree.old)) }
+    ensures profile { (bag : Bag) → IsBagOf (T.shown tree.old) bag → IfOk result (IsProfile bag) }
+    ensures limits { (bag : Bag) → IsBagOf (T.shown tree.old) bag
+        → MatchResult result (λ profile. NoneStops bag DeclarationStops)
+        (Stopped (FirstStops bag DeclarationStops)) }
+    ensures tree { UsesTree T.shown T.failures T.sure tree.old tree.new
+        (IsErrOf result CheckFault.Tree) }
+    // What needs no known octets: where there is no declaration, that is the answer.
+    ensures undeclared { ¬ Contains (paths_in (T.shown tree.old)) declaration_file
+        → MatchResult result
+        (λ profile. profile ≡ ended_by NoDeclaration) (λ fault. fault ≡ CheckFault.Memory) }
+{
+    match find(tree, "bagit.txt") {
+        Some(i) => read_declared(alloc, buffer, tree, i),
+        None => ended_by(alloc, Fault::NoDeclaration),
+    }
+}
+
+/// Reads the declaration at this place.
+fn read_declared<T: Tree>(
+    alloc: Global,
+    buffer: &mut [u8],
+    tree: &mut T,
+    i: usize,
+) -> Result<Profile, CheckFault>
+    requires room { 0 < length buffer.old }
+    requires rising { AreRising (paths_in (T.shown tree.old)) }
+    requires there { slice_get (paths_in (T.shown tree.old)) i ≡ Some declaration_file }
+    ensures profile { (bag : Bag) → IsBagOf (T.shown tree.old) bag → IfOk result (IsProfile bag) }
+    ensures limits { (bag : Bag) → IsBagOf (T.shown tree.old) bag
+        → MatchResult result (λ profile. NoneStops bag DeclarationStops)
+        (Stopped (FirstStops bag DeclarationStops)) }
+    ensures tree { UsesTree T.shown T.failures T.sure tree.old tree.new
+        (IsErrOf result CheckFault.Tree) }
+{
+    let text = read_tag_file(alloc, buffer, tree, i)?;
+    match read_declaration(&text) {
+        Ok(declaration) => profile_of(alloc, tree, declaration),
+        Err(cause) => ended_by(alloc, Fault::BadDeclaration(cause)),
+    }
+}
+
+/// What this declaration and the names of the manifests say.
+fn profile_of<T: Tree>(
+    alloc: Global,
+    tree: &T,
+    declaration: Declaration,
+) -> Result<Profile, CheckFault>
+    requires { AreRising (paths_in (T.shown tree.now)) }
+    ensures profile { (bag : Bag) → IsBagOf (T.shown tree.now) bag → Declares bag declaration
+        → IfOk result (IsProfile bag) }
+    ensures err { IfErr result (λ fault. fault ≡ CheckFault.Memory) }
+{
+    let version = match known_version(declaration) {
+        Ok(version) => version,
+        Err(cause) => return Ok(Profile::Ended(Outcome::Outside(cause))),
+    };
+    match first_unknown(alloc, tree)? {
+        Some(name) => {
+            let cause = OutsideCause::Algorithm(name);
+            Ok(Profile::Ended(Outcome::Outside(cause)))
+        }
+        None => Ok(Profile::Known(version)),
+    }
+}
+
+/// The version that is declared, or why a bag with this declaration can't be judged.
+fn known_version(declaration: Declaration) -> Result<Version, OutsideCause>
+    ensures { MatchResult result
+        (λ version. (declaration ≡ current) × (version_of declaration ≡ Some version))
+        (λ cause. MatchOutside cause declaration) }
+{
+    let Some(version) = declaration.version() else {
+        return Err(OutsideCause::Version);
+    };
+    if !declaration.utf8 {
+        return Err(OutsideCause::Encoding);
+    }
+    Ok(version)
+}
+
+/// The algorithm of the first manifest by file name whose algorithm isn't known.
+fn first_unknown<T: Tree>(alloc: Global, tree: &T) -> Result<Option<String>, CheckFault>
+    ensures ok { IfOk result (λ found. MatchOption found
+        (NoneUnknown (paths_in (T.shown tree.now)) (length (paths_in (T.shown tree.now))))
+        (λ name. IsFirstUnknownOf (paths_in (T.shown tree.now)) (string_bytes name))) }
+    ensures err { IfErr result (λ fault. fault ≡ CheckFault.Memory) }
+{
+    for i in 0..tree.count() {
+        if let Some(name) = unknown_algorithm(tree.path(i)) {
+            return Ok(Some(String::from_str(alloc, name)?));
+        }
+    }
+    Ok(None)
+}
+
+/// The report of one fault of the declaration.
+fn ended_by(alloc: Global, fault: Fault) -> Result<Profile, CheckFault>
+    ensures ok { IfOk result (λ profile. profile ≡ ended_by fault) }
+    ensures err { IfErr result (λ fault. fault ≡ CheckFault.Memory) }
+{
+    let mut faults = Vec::new(alloc);
+    faults.push(fault)?;
+    Ok(Profile::Ended(Outcome::Judged(Report::new(faults))))
+}

@@ -1,0 +1,195 @@
+//! The tag files of a bag that are read line by line (RFC 8493 sections 2.1.3 and 2.2).
+ghost use Rattle.std.specs.Prelude.{◌≡◌, ◌<◌, ◌≤◌, ◌↔◌, ◌∷◌, [], ℕ, List, IfOk, IfErr, IsErrOf, IsTrue, MatchResult, OnOk, Some, length, slice_get};
+ghost use Rattle.bag_path.specs.Lines.{lines_of};
+ghost use Rattle.bag_rules.specs.Bags.{Bag, IsBagOf, version_of};
+ghost use Rattle.bag_rules.specs.Faults.{kind_of_lines};
+ghost use Rattle.bag_rules.specs.HasFault.{HasFaultOf};
+ghost use Rattle.bag_rules.specs.Limits.{HasCountedLines, IsLongTag, FirstStops, NoneStops, Stopped, TextStops};
+ghost use Rattle.bag_rules.specs.KeptInside.{AreKept};
+ghost use Rattle.bag_rules.specs.ReadingInside.{Adds, AreTextsOf, IsBadLineOf, ReadsOn, ReadsText, ValueOf, IsFirstBadLine};
+ghost use Rattle.bag_rules.specs.Trees.{HasFileAt, UsesTree, paths_in};
+ghost use Rattle.bag_rules.specs.declared.outcome.CheckFault.{CheckFault};
+
+use crate::fault::Fault;
+use crate::kept::Kept;
+use crate::limits::{LARGEST_TAG_FILE, MOST_LINES};
+use crate::outcome::CheckFault;
+use crate::tree::Tree;
+use bag_digest::{ReadFault, read_to_end_within};
+use bag_path::{Lines, Version};
+use bag_tags::{Fetch, Info, LineFile, Manifest, TagFault, read_fetch, read_info, read_manifest};
+use std::alloc::Global;
+
+/// What the tag files say that are read line by line: those that are there and have no faulty line.
+#[derive(Drop)]
+pub(crate) struct Texts {
+    /// What `bag-info.txt` says.
+    pub info: Option<Info>,
+    /// What `fetch.txt` lists.
+    pub fetch: Option<Fetch>,
+    /// The payload manifests and tag manifests, by file name.
+    pub manifests: Vec<Manifest>,
+}
+
+/// Reads the tag files by name, and adds the first faulty line of each that has one.
+pub(crate) fn read_texts<T: Tree>(
+    alloc: Global,
+    buffer: &mut [u8],
+    tree: &mut T,
+    version: Version,
+    kept: &mut Kept,
+    faults: &mut Vec<Fault>,
+) -> Result<Texts, CheckFault>
+    requires { 0 < length buffer.old }
+    ensures read { (bag : Bag) → IsBagOf (T.shown tree.old) bag → version_of bag ≡ version
+        → IfOk result (AreTextsOf (length bag.files) bag) }
+    ensures faulty { (bag : Bag) → IsBagOf (T.shown tree.old) bag → version_of bag ≡ version
+        → OnOk result (Adds faults.old.items faults.new.items (HasFaultOf bag kind_of_lines)) }
+    ensures limits { (bag : Bag) → IsBagOf (T.shown tree.old) bag
+        → MatchResult result (λ texts. NoneStops bag TextStops)
+        (Stopped (FirstStops bag TextStops)) }
+    ensures tree { UsesTree T.shown T.failures T.sure tree.old tree.new
+        (IsErrOf result CheckFault.Tree) }
+    ensures kept { AreKept (T.shown tree.old) kept.old
+        → OnOk result (AreKept (T.shown tree.old) kept.new) }
+{
+    let mut texts = Texts {
+        info: None,
+        fetch: None,
+        manifests: Vec::new(alloc),
+    };
+    for i in 0..tree.count() {
+        read_text(alloc, buffer, tree, i, version, &mut texts, kept, faults)?;
+    }
+    Ok(texts)
+}
+
+/// Reads the file at this place, if it is one that is read line by line.
+fn read_text<T: Tree>(
+    alloc: Global,
+    buffer: &mut [u8],
+    tree: &mut T,
+    i: usize,
+    version: Version,
+    texts: &mut Texts,
+    kept: &mut Kept,
+    faults: &mut Vec<Fault>,
+) -> Result<(), CheckFault>
+    requires room { 0 < length buffer.old }
+    requires inside { i < length (paths_in (T.shown tree.old)) }
+    ensures read { (path octets : List ℕ) → HasFileAt (T.shown tree.old) i path octets
+        → OnOk result (ReadsOn version path octets texts.old texts.new) }
+    ensures faulty { (path octets : List ℕ) → HasFileAt (T.shown tree.old) i path octets
+        → OnOk result (Adds faults.old.items faults.new.items (IsBadLineOf version path octets)) }
+    ensures limits { (path octets : List ℕ) → HasFileAt (T.shown tree.old) i path octets
+        → MatchResult result (λ done. (fault : CheckFault) → ¬ TextStops path octets fault)
+        (Stopped (TextStops path octets)) }
+    ensures tree { UsesTree T.shown T.failures T.sure tree.old tree.new
+        (IsErrOf result CheckFault.Tree) }
+    ensures kept { AreKept (T.shown tree.old) kept.old
+        → OnOk result (AreKept (T.shown tree.old) kept.new) }
+{
+    let Some(file) = LineFile::of(tree.path(i)) else {
+        return Ok(());
+    };
+    let text = read_tag_file(alloc, buffer, tree, i)?;
+    kept.keep(i, &text)?;
+    if has_counted_lines(file) && has_more_lines(&text, MOST_LINES) {
+        return Err(CheckFault::TooMany);
+    }
+    read_lines(alloc, &text, file, version, texts, faults)
+}
+
+/// Reads a tag file whole.
+pub(crate) fn read_tag_file<T: Tree>(
+    alloc: Global,
+    buffer: &mut [u8],
+    tree: &mut T,
+    i: usize,
+) -> Result<Vec<u8>, CheckFault>
+    requires room { 0 < length buffer.old }
+    requires inside { i < length (paths_in (T.shown tree.old)) }
+    ensures known { (path octets : List ℕ) → HasFileAt (T.shown tree.old) i path octets
+        → MatchResult result (λ text. (text.items ≡ octets) × (length octets ≤ LARGEST_TAG_FILE))
+        (Stopped (IsLongTag path octets)) }
+    ensures tree { UsesTree T.shown T.failures T.sure tree.old tree.new
+        (IsErrOf result CheckFault.Tree) }
+{
+    tree.start(i)?;
+    match read_to_end_within(alloc, buffer, tree, LARGEST_TAG_FILE) {
+        Ok(octets) => Ok(octets),
+        Err(ReadFault::Read) => Err(CheckFault::Tree),
+        Err(ReadFault::Memory) => Err(CheckFault::Memory),
+        Err(ReadFault::TooLarge) => Err(CheckFault::TagTooLarge(tree.path(i).clone()?)),
+    }
+}
+
+/// Whether the number of this file's lines is limited.
+fn has_counted_lines(file: LineFile) -> bool
+    ensures { IsTrue result ↔ HasCountedLines file }
+{
+    !matches!(file, LineFile::Info)
+}
+
+/// Whether a text has more lines than these.
+fn has_more_lines(text: &[u8], most: usize) -> bool
+    ensures { IsTrue result ↔ (most < length (lines_of text.now)) }
+{
+    Lines::new(text).nth(most).is_some()
+}
+
+/// Reads the text of a tag file: adds what it says, or its first faulty line.
+fn read_lines(
+    alloc: Global,
+    text: &[u8],
+    file: LineFile,
+    version: Version,
+    texts: &mut Texts,
+    faults: &mut Vec<Fault>,
+) -> Result<(), CheckFault>
+    ensures read { OnOk result (ReadsText version file text.now texts.old texts.new) }
+    ensures faulty { OnOk result (Adds faults.old.items faults.new.items
+        (IsFirstBadLine version file text.now)) }
+    ensures err { IfErr result (λ fault. fault ≡ CheckFault.Memory) }
+{
+    match file {
+        LineFile::Info => {
+            texts.info = value_of(read_info(alloc, text, version), file, faults)?;
+        }
+        LineFile::FetchList => {
+            texts.fetch = value_of(read_fetch(alloc, text, version), file, faults)?;
+        }
+        LineFile::Manifest(name) => {
+            let read = read_manifest(alloc, text, name.alg, name.kind, version);
+            if let Some(manifest) = value_of(read, file, faults)? {
+                texts.manifests.push(manifest)?;
+            }
+        }
+    }
+    Ok(())
+}
+
+/// The value of a text; where it has none, its first faulty line is added.
+fn value_of<V: Drop>(
+    read: Result<V, TagFault>,
+    file: LineFile,
+    faults: &mut Vec<Fault>,
+) -> Result<Option<V>, CheckFault>
+    ensures value { IfOk result (λ value.
+        ValueOf read file faults.old.items faults.new.items value) }
+    ensures err { IfErr result (λ fault. fault ≡ CheckFault.Memory) }
+{
+    match read {
+        Ok(value) => Ok(Some(value)),
+        Err(TagFault::Line(fault)) => {
+            let bad_line = Fault::BadLine {
+                file,
+                line: fault.line,
+                cause: fault.cause,
+            };
+            faults.push(bad_line)?;
+            Ok(None)
+        }
+        Err(TagFault::Memory) => Err(CheckFault::Memory),
+    }
+}

@@ -1,0 +1,155 @@
+#!/usr/bin/env python3
+"""Small bags, each with the lines and the status that docs/FORMAT.md asks for: `small_bags.py PROGRAM`.
+
+The digests are those that the standards publish for `abc` and for no octets (RFC 1321, FIPS 180-4), and of sha256sum.
+"""
+import sys
+
+from hostile import DECLARATION, MARK, VALID, bag, judged, not_complete
+
+A_SHA256 = b"ba7816bf8f01cfea414140de5dae2223b00361a396177a9cb410ff61f20015ad"
+E_SHA256 = b"e3b0c44298fc1c149afbf4c8996fb92427ae41e4649b934ca495991b7852b855"
+A_MD5 = b"900150983cd24fb0d6963f7d28e17f72"
+E_MD5 = b"d41d8cd98f00b204e9800998ecf8427e"
+MANIFEST = A_SHA256 + b"  data/a.txt\n" + E_SHA256 + b"  data/e.txt\n"
+BOTH_BY_MD5 = A_MD5 + b"  data/a.txt\n" + E_MD5 + b"  data/e.txt\n"
+# What sha256sum says of the declaration and of this manifest.
+DECLARATION_SHA256 = b"1712ecfb074bf29c4188ad3421032509159a09739fd604f8fe57038b4ddefcc9"
+MANIFEST_SHA256 = b"456acbba2b2aa56b7fa3d4e9ac34b9475cc2c2a6694f5c4bd7975db51956fda7"
+
+
+def tags(files=None):
+    """The bag of two files, with the digests above, and these files in place of its own or beside them."""
+    return bag(files={b"manifest-sha256.txt": MANIFEST, **(files or {})})
+
+
+def with_manifest(octets):
+    return tags({b"manifest-sha256.txt": octets})
+
+
+def complete(*lines):
+    return [*lines, "complete, not valid"], 1
+
+
+def outside(cause):
+    return [f"outside: {cause}"], 2
+
+
+def declarations():
+    yield "a bag of two files", tags(), VALID
+    yield "no bagit.txt", tags({b"bagit.txt": None}), not_complete("no bagit.txt")
+    for name, octets, answer in [
+        ("a mark", MARK + DECLARATION, not_complete("bagit.txt: byte order mark")),
+        ("one line", b"BagIt-Version: 1.0", not_complete("bagit.txt: line count")),
+        ("version 0.97", DECLARATION.replace(b"1.0", b"0.97"), outside("version")),
+        ("another encoding", DECLARATION.replace(b"UTF-8", b"ISO-8859-1"), outside("encoding")),
+    ]:
+        yield f"bagit.txt with {name}", tags({b"bagit.txt": octets}), answer
+
+
+def manifests():
+    other_tool = A_SHA256.upper() + b"\t*./data/a.txt\r\n" + E_SHA256 + b"  data/e.txt"
+    yield "a manifest as other tools write it", with_manifest(other_tool), VALID
+    for third, cause in [
+        (E_SHA256 + b"  data/../k", "path"),
+        (E_SHA256 + b"  data//k", "path"),
+        (E_SHA256 + b"  data", "path"),
+        (E_SHA256 + b"  k", "wrong place"),
+        (A_SHA256 + b"  data/a.txt", "twice"),
+        (A_SHA256[:32] + b"  data/k", "digest form"),
+        (b"data/k", "separator"),
+    ]:
+        answer = not_complete(f"manifest-sha256.txt:3: {cause}")
+        yield f"a manifest with the line {third}", with_manifest(MANIFEST + third), answer
+    one = A_MD5 + b"  data/a.txt\n"
+    answer = not_complete("manifest-md5.txt: unlisted: data/e.txt")
+    yield "a second manifest that lists one file", tags({b"manifest-md5.txt": one}), answer
+    yield "a second manifest", tags({b"manifest-md5.txt": BOTH_BY_MD5}), VALID
+    answer = not_complete("manifest-md5.txt: unlisted: data/z", "manifest-sha256.txt: unlisted: data/z")
+    yield "two manifests, and a file more", tags({b"manifest-md5.txt": BOTH_BY_MD5, b"data/z": b""}), answer
+    swapped = E_MD5 + b"  data/a.txt\n" + A_MD5 + b"  data/e.txt\n"
+    answer = complete("manifest-md5.txt: digest: data/a.txt", "manifest-md5.txt: digest: data/e.txt")
+    yield "digests of other files in one of two manifests", tags({b"manifest-md5.txt": swapped}), answer
+    files = {b"manifest-sha224.txt": b"", b"tagmanifest-blake2.txt": b"?"}
+    yield "two unknown algorithms", tags(files), outside("algorithm sha224")
+
+
+def payloads():
+    nothing = {b"bagit.txt": DECLARATION, b"manifest-sha256.txt": b""}
+    yield "an empty bag without data/", nothing, not_complete("no data directory")
+    yield "an empty bag with data/", {**nothing, b"data/": None}, VALID
+    both = not_complete("no data directory", "no payload manifest")
+    yield "bagit.txt alone", {b"bagit.txt": DECLARATION}, both
+    changed = complete("manifest-sha256.txt: digest: data/a.txt")
+    yield "a changed octet", tags({b"data/a.txt": b"abd"}), changed
+    lines = ["missing: data/e.txt", "unlisted: data/z", "digest: data/a.txt"]
+    three = {b"data/a.txt": b"", b"data/e.txt": None, b"data/z": b"abc"}
+    yield "a missing, an unlisted and a changed file", tags(three), not_complete(
+        *[f"manifest-sha256.txt: {line}" for line in lines])
+
+
+def infos():
+    form, repeated, wrong = [not_complete(f"bag-info.txt: Payload-Oxum {word}") for word in ("form", "repeated", "wrong")]
+    for octets, answer in [
+        (b"Payload-Oxum: 3.2", VALID),
+        (MARK + b"Payload-Oxum: 3.2\n", VALID),
+        (b"Payload-Oxum: 4.2", wrong),
+        (b"payload-oxum: 3.1", wrong),
+        (b"Payload-Oxum: 3", form),
+        (b"Payload-Oxum: 3.2\nPayload-Oxum: 3.2", repeated),
+        (b"Payload-Oxums: 9.9\nNote: Payload-Oxum: 8.8\n", VALID),
+    ]:
+        yield f"bag-info.txt: {octets}", tags({b"bag-info.txt": octets}), answer
+
+
+def tag_manifests():
+    listed = MANIFEST_SHA256 + b"  manifest-sha256.txt\n"
+    for octets, answer in [
+        (b"", not_complete("tagmanifest-sha256.txt: not listed: manifest-sha256.txt")),
+        (E_SHA256 + b"  data/a.txt\n", not_complete("tagmanifest-sha256.txt:1: wrong place")),
+        (E_SHA256 + b"  manifest-sha256.txt\n", complete("tagmanifest-sha256.txt: digest: manifest-sha256.txt")),
+        (listed + DECLARATION_SHA256 + b"  bagit.txt\n", VALID),
+        (listed + DECLARATION_SHA256 + b"  note.txt\n", not_complete("tagmanifest-sha256.txt: missing: note.txt")),
+    ]:
+        yield f"tagmanifest-sha256.txt: {octets}", tags({b"tagmanifest-sha256.txt": octets}), answer
+
+
+def fetches():
+    a, z, y = b"http://example.org/a ", b"http://example.org/z - data/z\n", b"http://example.org/y - data/y\n"
+    for octets, answer in [
+        (z, not_complete("fetch.txt: not in manifest-sha256.txt: data/z")),
+        (a + b"4 data/a.txt\n", not_complete("fetch.txt:1: length: data/a.txt")),
+        (b"\n" + a + b"3 data/a.txt\n" + a + b"2 data/a.txt\n", not_complete("fetch.txt:3: length: data/a.txt")),
+        (a + b"3 data/a.txt\nhttp://example.org/e - data/e.txt\n", VALID),
+    ]:
+        yield f"fetch.txt: {octets}", tags({b"fetch.txt": octets}), answer
+    names = ["manifest-md5.txt: data/y", "manifest-md5.txt: data/z", "manifest-sha256.txt: data/y", "manifest-sha256.txt: data/z"]
+    files = {b"manifest-md5.txt": BOTH_BY_MD5, b"fetch.txt": z + y + y}
+    yield "faults of fetch.txt", tags(files), not_complete(*[f"fetch.txt: not in {name}" for name in names])
+
+
+def several_tag_files():
+    both = {b"bag-info.txt": b"x\n", b"fetch.txt": b"x\n"}
+    yield "two files with a faulty line", tags(both), not_complete("bag-info.txt:1: separator", "fetch.txt:1: separator")
+    files = {b"bag-info.txt": b"Payload-Oxum: 9.9\n x\n:\n", b"tagmanifest-md5.txt": b"?", b"data/z": b""}
+    answer = not_complete("bag-info.txt:3: label", "tagmanifest-md5.txt:1: separator")
+    yield "faulty lines, which hide the faults of the files", tags(files), answer
+    files = dict.fromkeys([b"manifest-.txt", b"x/bagit.txt", b"manifest-sha 256.txt", b"readme"], b"")
+    yield "files without a meaning", tags(files), VALID
+
+
+def limits():
+    many, large = (["bag: too many"], 3), (["bag: tag too large"], 3)
+    long, huge = b"\n" * 100_001, b"x" * 16_777_217
+    for name in (b"fetch.txt", b"tagmanifest-md5.txt", b"manifest-sha512.txt"):
+        yield f"100,001 lines in {name}", tags({name: long}), many
+    yield "100,001 lines in bag-info.txt", tags({b"bag-info.txt": long}), VALID
+    yield "a bagit.txt of 16,777,216 octets", tags({b"bagit.txt": huge[1:]}), not_complete("bagit.txt: line count")
+    yield "a bagit.txt of 16,777,217 octets", tags({b"bagit.txt": huge}), large
+    yield "limits that are met by name, first the size", tags({b"bag-info.txt": huge, b"fetch.txt": long}), large
+    yield "limits that are met by name, first the lines", tags({b"fetch.txt": long, b"tagmanifest-md5.txt": huge}), many
+
+
+if __name__ == "__main__":
+    FAMILIES = (declarations, manifests, payloads, infos, tag_manifests, fetches, several_tag_files, limits)
+    sys.exit(judged(sys.argv[1], "small", FAMILIES))
