@@ -22,9 +22,9 @@ const TAG_MD5: ManifestName = ManifestName {
     alg: Alg::Md5,
 };
 
-fn has_line(rt: &impl Abort, alloc: Global, fault: &Fault, line: &str) {
-    let text = FaultLine(fault).to_string(alloc);
-    assert_eq!(rt; text.expect(rt, "memory").as_str(), line);
+fn has_line(rt: &impl Abort, alloc: Global, fault: &Fault, line: &str) -> Result<(), Fail> {
+    assert_eq!(rt; FaultLine(fault).to_string(alloc)?.as_str(), line);
+    Ok(())
 }
 
 #[test]
@@ -90,13 +90,13 @@ fn each_fault_has_its_line(rt: HostRuntime) -> Result<(), Fail> {
         ),
     ];
     for (fault, line) in &faults {
-        has_line(&rt, alloc, fault, line);
+        has_line(&rt, alloc, fault, line)?;
     }
     Ok(())
 }
 
 #[test]
-fn each_cause_has_its_words(rt: HostRuntime) {
+fn each_cause_has_its_words(rt: HostRuntime) -> Result<(), Fail> {
     let alloc = rt.alloc();
     for (cause, line) in [
         (LineCause::NotUtf8, "fetch.txt:1: not UTF-8"),
@@ -118,7 +118,7 @@ fn each_cause_has_its_words(rt: HostRuntime) {
             line: 1,
             cause,
         };
-        has_line(&rt, alloc, &fault, line);
+        has_line(&rt, alloc, &fault, line)?;
     }
     for (cause, line) in [
         (DeclFault::NotUtf8, "bagit.txt: not UTF-8"),
@@ -128,8 +128,9 @@ fn each_cause_has_its_words(rt: HostRuntime) {
         (DeclFault::Version, "bagit.txt: version"),
         (DeclFault::EncodingName, "bagit.txt: encoding name"),
     ] {
-        has_line(&rt, alloc, &Fault::BadDeclaration(cause), line);
+        has_line(&rt, alloc, &Fault::BadDeclaration(cause), line)?;
     }
+    Ok(())
 }
 
 #[test]
@@ -141,8 +142,7 @@ fn a_path_is_printed_with_its_escapes(rt: HostRuntime) -> Result<(), Fail> {
         path,
     };
     let line = "manifest-sha256.txt: unlisted: data/100%25%0D%0A\u{e9} \u{1f4e6}\t%250A";
-    has_line(&rt, alloc, &fault, line);
-    Ok(())
+    has_line(&rt, alloc, &fault, line)
 }
 
 #[test]
