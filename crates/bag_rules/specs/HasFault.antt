@@ -62,7 +62,8 @@ HasFault bag (BadDeclaration cause) = (octets : List ℕ) × Holds bag declarati
 HasFault bag NoPayloadDir = bag.has_payload_dir ≡ false  -- section 2.1.2
 HasFault bag NoManifest = (alg : Alg) → ¬ IsThere bag (manifest_file Payload alg)  -- section 2.1.3
 HasFault bag (BadLine file line cause) = (octets : List ℕ) × Holds bag (text_file file) octets
-    × IsFaultyText (version_of bag) file octets (line_fault line cause)  -- sections 2.1.3, 2.2.1 to 2.2.3
+    × IsFaultyText (version_of bag) file octets
+    (line_fault line cause)  -- sections 2.1.3, 2.2.1 to 2.2.3
 HasFault bag (ManifestNotListed tag_manifest manifest) =
     (pairs : List Pair) × Lists bag (manifest_name Tag tag_manifest) pairs
     × IsThere bag (manifest_file Payload manifest)
@@ -83,13 +84,15 @@ HasFault bag (FetchNotListed manifest path) =
 HasFault bag (FetchLength number path) = (line : FetchLine) × HasEntry bag line
     × (line.line ≡ number) × (line.entry.path ≡ path)
     × ((length_given : ℕ) × (line.entry.octets ≡ Some length_given)
-    × ((octets : List ℕ) × Holds bag path octets × (length octets ≢ length_given)))  -- section 2.2.3
+    × ((octets : List ℕ) × Holds bag path octets
+    × (length octets ≢ length_given)))  -- section 2.2.3
 HasFault bag OxumWrong = (element : MetadataElement) × SaysOxum bag element
     × ((octets : ℕ) × ((streams : ℕ) × OxumText element.value octets streams
     × IsOtherPayload bag octets streams))  -- section 2.2.2
 HasFault bag (WrongDigest manifest path) = (pairs : List Pair) × Lists bag manifest pairs
     × ((digest : Digest) × (listed_digest pairs path ≡ Some digest)
-    × ((octets : List ℕ) × Holds bag path octets × (hash manifest.alg octets ≢ digest)))  -- section 3
+    × ((octets : List ℕ) × Holds bag path octets
+    × (hash manifest.alg octets ≢ digest)))  -- section 3
 
 -- the fault is broken, and its kind is one of these
 abbrev pub HasFaultOf : Bag → List ℕ → Fault → Type 0

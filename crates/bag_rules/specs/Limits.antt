@@ -46,7 +46,8 @@ HasManyLines file octets fault = HasCountedLines file × (MOST_LINES < length (l
 -- a tag file that is read line by line
 abbrev pub TextStops : List ℕ → List ℕ → CheckFault → Type 0
 TextStops path octets fault = (file : LineFile) × (path ≡ text_file file)
-    × (IsLongTag path octets fault ⊎ ((length octets ≤ LARGEST_TAG_FILE) × HasManyLines file octets fault))
+    × (IsLongTag path octets fault
+    ⊎ ((length octets ≤ LARGEST_TAG_FILE) × HasManyLines file octets fault))
 
 -- each payload file and each listed file is read
 abbrev pub IsChecked : Bag → List ℕ → Type 0

@@ -1,5 +1,5 @@
 -- A tree of files in memory, as what it shows.
-use Rattle.std.specs.Prelude.{◌≡◌, ◌||◌, ◌+◌, ℕ, Bool, true, false, List, [], Option, None, Result, IsSome, MatchResult, drop, is_some, min, refl, slice_get}
+use Rattle.std.specs.Prelude.{◌≡◌, ◌≢◌, ◌||◌, ◌+◌, ℕ, Bool, true, false, List, [], Option, Some, None, Result, IsSome, MatchResult, drop, is_some, min, refl, slice_get}
 use Rattle.std.specs.Option.{option_map}
 use Rattle.std.specs.Ordering.{nat_cmp}
 use Rattle.std.specs.Cmp.Lexicographic.{slice_cmp}
@@ -43,6 +43,11 @@ with_file tree path octets = record tree {
   has_payload_dir = tree.has_payload_dir || is_payload path;
 }
 
+-- a look-up finds these octets at the path, and elsewhere what it found before
+pub record FindsAlso (old new : MemFiles) (path octets : List ℕ) : Type 0 where
+  pub here : octets_at new path ≡ Some octets
+  pub others : (other : List ℕ) → other ≢ path → octets_at new other ≡ octets_at old other
+
 -- the bag of these files
 abbrev pub bag_in : MemFiles → Bag
 bag_in tree = record { files = tree.files; has_payload_dir = tree.has_payload_dir }
@@ -71,6 +76,11 @@ MatchRead old new result = MatchResult result
 abbrev shown_with : List (List ℕ × List ℕ) → Bool → Shown
 shown_with files has_payload_dir = shown_of
     (record { files = files; has_payload_dir = has_payload_dir })
+
+-- what a read does to whether something is open: that stays, and where nothing is, the read fails
+pub record KeepsOpen (old new : Bool) (failed : Type 0) : Type 0 where
+  pub stays : new ≡ old
+  pub fails : old ≡ false → failed
 
 -- the same files
 abbrev pub SameMemFiles : MemFiles → MemFiles → Type 0

@@ -1,5 +1,6 @@
 //! Telling cases of the definitions, worked out: each function's contract is one, and its body is empty.
 ghost use Rattle.std.specs.Prelude.{true, false, [], ◌∷◌, ◌++◌, codes};
+ghost use Rattle.bag_path.specs.Octets.{cr, lf};
 ghost use Rattle.bag_digest.specs.declared.algorithm.Alg.TheVariants.{Sha256};
 ghost use Rattle.bag_tags.specs.declared.listing.Kind.TheVariants.{Payload};
 ghost use Rattle.bag_tags.specs.Declarations.{written_declaration};
@@ -13,8 +14,8 @@ ghost use Rattle.bag_rules.specs.Verdicts.{IsJudged, IsOutside};
 
 /// The least bag: a declaration, a payload manifest that lists nothing, and an empty payload directory (RFC 8493 section 2.1).
 pub fn the_least_bag_is_valid()
-    ensures { let declaration = codes "BagIt-Version: 1.0" ++ 10
-        ∷ codes "Tag-File-Character-Encoding: UTF-8" ++ 10 ∷ [] in
+    ensures { let declaration = codes "BagIt-Version: 1.0" ++ lf
+        ∷ codes "Tag-File-Character-Encoding: UTF-8" ++ lf ∷ [] in
         let bag : Bag = record {
           files = (codes "bagit.txt", declaration)
               ∷ (codes "manifest-sha256.txt", []) ∷ [];
@@ -25,8 +26,8 @@ pub fn the_least_bag_is_valid()
 
 /// The same files without the payload directory have that one fault (RFC 8493 section 2.1.2).
 pub fn the_least_bag_needs_its_payload_directory()
-    ensures { let declaration = codes "BagIt-Version: 1.0" ++ 10
-        ∷ codes "Tag-File-Character-Encoding: UTF-8" ++ 10 ∷ [] in
+    ensures { let declaration = codes "BagIt-Version: 1.0" ++ lf
+        ∷ codes "Tag-File-Character-Encoding: UTF-8" ++ lf ∷ [] in
         let bag : Bag = record {
           files = (codes "bagit.txt", declaration)
               ∷ (codes "manifest-sha256.txt", []) ∷ [];
@@ -91,7 +92,7 @@ pub fn no_files_have_no_declaration()
 
 /// A bag of another version is not judged, whatever else holds of it.
 pub fn an_earlier_version_is_outside()
-    ensures { let declaration = codes "BagIt-Version: 0.97" ++ 13 ∷ 10
+    ensures { let declaration = codes "BagIt-Version: 0.97" ++ cr ∷ lf
         ∷ codes "Tag-File-Character-Encoding: ISO-8859-1" in
         let bag : Bag = record {
           files = (codes "bagit.txt", declaration)

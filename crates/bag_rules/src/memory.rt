@@ -1,5 +1,5 @@
 //! A tree of files in memory.
-ghost use Rattle.std.specs.Prelude.{◌≡◌, ◌≢◌, ◌+◌, ◌-◌, ◌^◌, ◌<◌, ◌≤◌, ◌++◌, ◌↔◌, ℕ, [], Contains, IfErr, IfOk, IsErr, IsOk, List, OnErr, OnOk, drop, false, is_ok, is_some, length, max, slice_get, take, true};
+ghost use Rattle.std.specs.Prelude.{◌≡◌, ◌+◌, ◌-◌, ◌^◌, ◌<◌, ◌≤◌, ◌++◌, ◌↔◌, [], Contains, IfErr, IfOk, IsErr, IsOk, OnErr, OnOk, drop, is_some, length, max, slice_get, take, true};
 ghost use Rattle.std.specs.Io.KnownBytes.{ReadConsumes};
 ghost use Rattle.std.specs.Option.{ForSome, option_copied, option_map};
 ghost use Rattle.bag_digest.specs.Device.{UsesSource, greatest_count};
@@ -67,7 +67,7 @@ impl Model for MemTree {
 
 impl MemTree {
     ghost use Rattle.std.specs.Prelude.{Some};
-    ghost use Rattle.bag_rules.specs.Memory.{mem_paths, no_files, octets_at, with_file};
+    ghost use Rattle.bag_rules.specs.Memory.{FindsAlso, mem_paths, no_files, octets_at, with_file};
 
     /// No files, and no payload directory.
     pub fn new(alloc: Global) -> MemTree
@@ -91,9 +91,7 @@ impl MemTree {
         ensures refused { OnErr result (self.new ≡ self.old) }
 
         // What a look-up finds then, and that the order stays.
-        ensures found { OnOk result (octets_at self.new path ≡ Some body.items) }
-        ensures others { OnOk result ((other : List ℕ) → other ≢ path
-            → octets_at self.new other ≡ octets_at self.old other) }
+        ensures found { OnOk result (FindsAlso self.old self.new path body.items) }
         ensures rising { AreRising (mem_paths self.new) }
     {
         let place = match search(&self.files, path.as_str()) {
@@ -129,7 +127,7 @@ impl MemTree {
 
 impl Source for MemTree {
     ghost use Rattle.std.specs.Prelude.{None};
-    ghost use Rattle.bag_rules.specs.Memory.{IsStarted, MatchRead, SameMemFiles, same_itself, same_on};
+    ghost use Rattle.bag_rules.specs.Memory.{IsStarted, KeepsOpen, MatchRead, SameMemFiles, same_itself, same_on};
 
     ghost remaining = { λ tree. tree.started };
 
@@ -147,8 +145,8 @@ impl Source for MemTree {
         ensures octets { ReadConsumes self.old.started self.new.started result buf.new }
         ensures uses { UsesSource (λ (tree : MemFiles). tree.failures) IsStarted SameMemFiles
             self.old self.new (IsErr result) }
-        ensures closed { is_some self.old.started ≡ false → IsErr result }
-        ensures open { is_some self.new.started ≡ is_some self.old.started }
+        ensures open { KeepsOpen (is_some self.old.started) (is_some self.new.started)
+            (IsErr result) }
         // It fails just where nothing was started, and then counts one failure, up to the greatest number.
         ensures exactly { MatchRead self.old self.new result }
     {
@@ -197,10 +195,8 @@ impl Tree for MemTree {
         ensures started { OnOk result (self.new.started ≡ octets_in (mem_shown self.old) i) }
         ensures uses { UsesTree mem_shown (λ (tree : MemFiles). tree.failures) IsSure
             self.old self.new (IsErr result) }
-        ensures ready { IsSure self.old → IsStarted self.new }
-        ensures open { is_some self.new.started ≡ is_ok result }
-        ensures exactly { IsOk result
-            × (self.new ≡ record self.old { started = mem_octets self.old i }) }
+        ensures open { IsOk result × IsStarted self.new }
+        ensures exactly { self.new ≡ record self.old { started = mem_octets self.old i } }
     {
         self.reading = Some(Reading { place: i, at: 0 });
         Ok(())

@@ -51,10 +51,10 @@ returns-clause-twice c =
     )
 
 pub returns-clause-found : goal.returns-clause-found
-returns-clause-found c = ap (λ t. octets_at t c.args.path) (returns-clause-added c) ∙ found_added c.args.self.now c.args.path c.args.body.items
-
-pub returns-clause-others : goal.returns-clause-others
-returns-clause-others c = λ other apart. ap (λ t. octets_at t other) (returns-clause-added c) ∙ others_added c.args.self.now c.args.path c.args.body.items other apart
+returns-clause-found c = record {
+  here = ap (λ t. octets_at t c.args.path) (returns-clause-added c) ∙ found_added c.args.self.now c.args.path c.args.body.items;
+  others = λ other apart. ap (λ t. octets_at t other) (returns-clause-added c) ∙ others_added c.args.self.now c.args.path c.args.body.items other apart;
+}
 
 pub returns-clause-rising : goal.returns-clause-rising
 returns-clause-rising c =
