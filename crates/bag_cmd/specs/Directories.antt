@@ -1,6 +1,8 @@
 -- Directories with known entries, and what stands below a folder.
-use Rattle.std.specs.Prelude.{◌≡◌, ◌↔◌, ◌++◌, ◌⊎◌, ℕ, Bool, true, List, [], Contains, MatchResult, Option, Some, None, Result, codes, ◌∷◌, if◌then◌else◌}
+use Rattle.std.specs.Prelude.{◌≡◌, ◌↔◌, ◌++◌, ◌⊎◌, ℕ, Bool, true, List, [], Contains, MatchResult, Option, Some, None, Result, Ok, Err, codes, map, ◌∷◌, if◌then◌else◌}
+use Rattle.std.specs.Fs.{dir_entry_name}
 use Rattle.std.specs.Str.{bytes_eq}
+use Rattle.std.specs.declared.fs.dir.DirEntry.{DirEntry}
 use Rattle.bag_path.specs.Paths.{IsPath, is_payload}
 use Rattle.bag_cmd.specs.declared.folder.OpenFault.{OpenFault}
 use Rattle.bag_cmd.specs.declared.folder.OpenFault.TheVariants.{Files}
@@ -26,6 +28,16 @@ abbrev pub AnswersEntries : {Entries : Type 0} → (Entries → List EntryShown)
 AnswersEntries shown listing directory answer =
     MatchResult answer (λ entries. listing directory ≡ Some (shown entries))
     (λ fault. fault ≡ Files → listing directory ≡ None)
+
+-- what the system gives for an entry: its file name, or an error
+abbrev pub given_name : {R A F D E : Type 0} → Result (DirEntry R A F D) E → Option (List ℕ)
+given_name (Ok entry) = Some (dir_entry_name entry)
+given_name (Err error) = None
+
+-- none of what the system gave is an error, and these are the entries of those names, in turn
+abbrev pub AreGiven : {R A F D E : Type 0} → List (Result (DirEntry R A F D) E) → List EntryShown
+    → Type 0
+AreGiven given entries = map given_name given ≡ map (λ entry. Some entry.name) entries
 
 -- a directory that is told: its name and its entries
 pub record ToldShown : Type 0 where

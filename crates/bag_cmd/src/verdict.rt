@@ -43,9 +43,5 @@ pub fn verdict_text(report: &Report) -> &'static str
 pub fn report_status(report: &Report) -> u8
     ensures { result ≡ report_status report.now }
 {
-    if report.faults().is_empty() {
-        VALID
-    } else {
-        NOT_VALID
-    }
+    if report.is_valid() { VALID } else { NOT_VALID }
 }

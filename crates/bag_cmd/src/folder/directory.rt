@@ -1,10 +1,12 @@
 //! What gives the entries of directories.
-ghost use Rattle.std.specs.Prelude.{◌≡◌};
+ghost use Rattle.std.specs.Prelude.{◌≡◌, IfOk, List};
+ghost use Rattle.std.specs.Iterator.{Drains, IsFinite};
+ghost use Rattle.bag_cmd.specs.Directories.{AreGiven};
 
 use super::OpenFault;
 use std::alloc::Global;
-use std::fs;
-use std::fs::FileType;
+use std::fs::{self, DirEntry, FileType};
+use std::io;
 use std::marker::Model;
 use std::rt::Files;
 
@@ -84,13 +86,30 @@ impl<R: Files> Directories for Disk<'_, R> {
     ghost listing = { λ _. None };
 
     fn entries(&self, alloc: Global, directory: &str) -> Result<Vec<Entry>, OpenFault> {
-        let mut entries = Vec::new(alloc);
-        for entry in fs::read_dir(&(self.0, alloc), directory)? {
-            let entry = entry?;
-            let name = String::from_str(alloc, entry.file_name())?;
-            let kind = EntryKind::of(entry.file_type()?);
-            entries.push(Entry { name, kind })?;
-        }
-        Ok(entries)
+        gathered(alloc, fs::read_dir(&(self.0, alloc), directory)?)
     }
+}
+
+/// The entries that a directory of the system gives, each by its name, up to the end. What it gives nobody knows.
+///
+/// # Errors
+///
+/// `Files` where an error was given for an entry, or what it is can't be looked up. `Memory` where memory ran out.
+fn gathered<R: Files + Drop, I: Iterator<Item = io::Result<DirEntry<R>>>>(
+    alloc: Global,
+    directory: I,
+) -> Result<Vec<Entry>, OpenFault>
+    requires can_next { I.can_next directory }
+    requires finite { IsFinite (I.remaining directory) }
+    ensures { IfOk result (λ entries. (given : List _)
+        × Drains I.next_gives directory given × AreGiven given entries.items) }
+{
+    let mut entries = Vec::new(alloc);
+    for given in directory {
+        let given = given?;
+        let name = String::from_str(alloc, given.file_name())?;
+        let kind = EntryKind::of(given.file_type()?);
+        entries.push(Entry { name, kind })?;
+    }
+    Ok(entries)
 }

@@ -1,5 +1,5 @@
 //! A folder on disk, as a tree of files.
-ghost use Rattle.std.specs.Prelude.{◌≡◌, ◌↔◌, ◌||◌, ℕ, List, Contains, [], None, string_bytes, ◌<◌, ◌≤◌, IfOk, IsErr, OnOk, false, is_ok, is_some, length};
+ghost use Rattle.std.specs.Prelude.{◌≡◌, ◌↔◌, ◌||◌, ℕ, List, Contains, [], None, string_bytes, ◌<◌, ◌≤◌, IfOk, IsErr, OnOk, is_ok, is_some, length};
 ghost use Rattle.std.specs.List.{list_any};
 ghost use Rattle.bag_path.specs.Paths.{is_payload};
 ghost use Rattle.bag_rules.specs.Trees.{AreRising, octets_in, paths_in};
@@ -132,8 +132,6 @@ impl<R: Files> Source for FolderTree<R> {
         ensures octets { ReadConsumes None None result buf.new }
         ensures uses { UsesSource (λ (tree : FolderShown). tree.failures)
             (λ (tree : FolderShown). ⊥) SameShown self.old self.new (IsErr result) }
-        ensures closed { is_some self.old.to_read ≡ false → IsErr result }
-        ensures open { is_some self.new.to_read ≡ is_some self.old.to_read }
         ensures exactly { ReadsFolder self.old self.new result buf.new }
     {
         let answer = match &mut self.file {
