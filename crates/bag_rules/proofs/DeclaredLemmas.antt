@@ -1,6 +1,6 @@
 -- A check from the declaration on.
 use Rattle.std.proofs.Common.{◌≡◌, ◌<◌, ◌≤◌, ◌^◌, ◌∙◌, ◌==◌, ◌&&◌, if◌then◌else◌, ℕ, Bool, true, false, None, List, [], ◌∷◌, Some, Result, Ok, Err, MatchResult, Global, String, string_bytes, length, slice_get, refl, ap, subst, inl, inr, arith}
-use Rattle.bag_rules.proofs.Words.{Algorithm, and_parts, AreRising, BadDeclaration, BadLine, Bag, CheckFault, current, Declaration, declaration_file, DeclarationStops, Declares, DeclFault, Encoding, Ended, ended_by, eqb-true, excludes, Fault, FetchLength, FetchNotListed, FirstStops, HasFault, Holds, IsDeclaration, IsDeclarationFault, IsFirstUnknown, IsFirstUnknownOf, IsInProfile, IsJudged, IsLongTag, IsOutside, IsProfile, IsThere, IsUnknownManifest, IsVerdict, Judged, Known, ManifestNotListed, MatchOutside, Means, Missing, NoDeclaration, NoManifest, NoneStops, NoneUnknown, NoPayloadDir, one_declaration, one_fault, Outcome, Outside, OutsideCause, OxumForm, OxumTwice, OxumWrong, ProfileStops, slice_get_within, Stopped, tier_of, Unlisted, V1, WorkStops, WrongDigest}
+use Rattle.bag_rules.proofs.Words.{Algorithm, and_parts, AreRising, BadDeclaration, Bag, CheckFault, current, Declaration, declaration_file, DeclarationStops, Declares, DeclFault, Encoding, Ended, ended_by, eqb-true, excludes, Fault, FirstStops, HasFault, Holds, IsDeclaration, IsDeclarationFault, IsFirstUnknown, IsFirstUnknownOf, IsInProfile, IsJudged, IsLongTag, IsOutside, IsProfile, IsThere, IsVerdict, Judged, Known, MatchOutside, Means, NoDeclaration, NoneStops, NoneUnknown, one_declaration, one_fault, Outcome, Outside, OutsideCause, ProfileStops, slice_get_within, Stopped, tier_of, V1, WorkStops}
 use Rattle.bag_path.specs.declared.version.Version as format
 use Rattle.bag_tags.specs.Declarations.{version_of}
 use Rattle.bag_rules.specs.declared.outcome.OutsideCause.TheVariants.{Version}
@@ -22,7 +22,7 @@ only_declaration bag own NoDeclaration below none bad broken = none refl broken
 only_declaration bag own (BadDeclaration cause) below none bad broken = bad cause broken
 only_declaration bag own _ below none bad broken = absurd (omega (arith, below))
 
-none_verdict : (bag : Bag) → ¬ IsThere bag declaration_file → IsJudged bag (NoDeclaration ∷ [])
+pub none_verdict : (bag : Bag) → ¬ IsThere bag declaration_file → IsJudged bag (NoDeclaration ∷ [])
 none_verdict bag absent = one_fault_is bag NoDeclaration absent refl (λ fault below broken. only_declaration bag NoDeclaration fault below (λ e b. refl) (λ cause b. absurd (absent (b.0, b.1))) broken)
 
 bad_verdict : (bag : Bag) (octets : List ℕ) (cause : DeclFault) → AreRising (paths_of bag) → Holds bag declaration_file octets → IsDeclarationFault octets cause → IsJudged bag (BadDeclaration cause ∷ [])

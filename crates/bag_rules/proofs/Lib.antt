@@ -36,6 +36,5 @@ pub mod ValidityLemmas
 pub mod SameListLemmas
 pub mod OneLimitLemmas
 pub mod OneVerdictLemmas
-pub mod LeastBag
 pub mod OneManifest
 pub mod OneFile

@@ -1,8 +1,11 @@
 -- A tree in memory once a file was put among its files.
-use Rattle.std.proofs.Common.{◌≡◌, ◌≢◌, ℕ, ◌+◌, ◌||◌, true, List, Option, Some, All, length, refl, sym, ap, subst, ◌∙◌, arith, inl, inr, nat_le, ◌<◌, None}
-use Rattle.bag_rules.proofs.Words.{All-keys-insert_entry, All-weaker, AreRising, bytes_eq, bytes_eq-Decides, cases_Bool, cond-false, cond-true, File, ForSome, insert, insert_entry, Inside, is_payload, IsGapFor, IsSound, keys_of, length-insert, MemFiles, moved_up, nat_cmp, octets_at, option_map, or_left, or_right, Reading, rest_of, same_Some, shown_files, slice_cmp, view_of, with_file}
+use Rattle.std.proofs.Common.{◌≡◌, ℕ, ◌+◌, ◌≤◌, ◌||◌, true, cond, List, Option, Some, All, length, refl, sym, ap, subst, ◌∙◌, arith, inl, inr, nat_le, ◌<◌, None}
+use Rattle.std.proofs.lemmas.Bool.{false_from_ne_true}
+use Rattle.std.proofs.lemmas.Map.{lookup-insert, none_passes_from_lookup}
+use Rattle.bag_rules.specs.Memory.{FindsAlso}
+use Rattle.bag_rules.proofs.Words.{All-weaker, AreRising, bytes_eq, bytes_eq-Decides, cases_Bool, cond-false, cond-true, File, ForSome, insert, Inside, is_payload, IsGapFor, IsSound, keys_of, length-insert, lookup, moved_up, nat_list_eq_equiv, octets_at, option_map, or_left, or_right, Reading, rest_of, same_Some, shown_files, view_of, with_file}
 use Rattle.bag_rules.specs.MemoryInside.{paths_of}
-use Rattle.bag_rules.proofs.MemoryFiles.{put_in_gap, rising_put, lookup_put}
+use Rattle.bag_rules.proofs.MemoryFiles.{All-insert, lookup_in_gap, map-insert, put_in_gap, rising_put}
 use Rattle.bag_rules.proofs.MemoryShown.{length_shown, shown_insert, rest_moved}
 
 -- the same fields but for a file more
@@ -24,50 +27,57 @@ moved_within place n (Some old) within r here =
     ])
 
 module _ (old new : Inside) (place : ℕ) (file : File) (sound : IsSound old) (added : HasAdded old new place file) where
-  files_are : shown_files new.files.items ≡ insert_entry (slice_cmp nat_cmp) (shown_files old.files.items) file.path file.body.items
-  files_are =
-      ap shown_files added.files
-      ∙ shown_insert old.files.items place file
-      ∙ put_in_gap file.path file.body.items (shown_files old.files.items) place added.gap
+  files_are : shown_files new.files.items ≡ insert (shown_files old.files.items) place (file.path, file.body.items)
+  files_are = ap shown_files added.files ∙ shown_insert old.files.items place file
+
+  paths_are : paths_of new.files.items ≡ insert (paths_of old.files.items) place file.path
+  paths_are = ap keys_of files_are ∙ map-insert (λ (f : List ℕ × List ℕ). f.0) (shown_files old.files.items) place (file.path, file.body.items)
+
+  within : place ≤ length old.files.items
+  within = omega (arith, added.gap.within, length_shown old.files.items)
 
   rest_is : rest_of new.files.items new.reading ≡ rest_of old.files.items old.reading
   rest_is =
       (λ t. rest_of (added.files t) (added.reading t))
-      ∙ rest_moved old.files.items place file old.reading sound.reading
+      ∙ rest_moved old.files.items place file within old.reading sound.reading
 
   pub view_added : view_of new ≡ with_file (view_of old) file.path file.body.items
   view_added = λ t. record {
-    files = files_are t;
+    files = (files_are ∙ put_in_gap file.path file.body.items (shown_files old.files.items) place added.gap) t;
     has_payload_dir = added.has_payload_dir t;
     started = rest_is t;
     failures = added.failures t;
   }
 
-  rising_is : AreRising (paths_of new.files.items)
-  rising_is = subst (λ fs. AreRising (keys_of fs)) (sym files_are) (rising_put file.path file.body.items (shown_files old.files.items) sound.rising)
-
   payload_is : All (λ path. is_payload path ≡ true → new.has_payload_dir ≡ true) (paths_of new.files.items)
-  payload_is = subst (λ fs. All (λ path. is_payload path ≡ true → new.has_payload_dir ≡ true) (keys_of fs)) (sym files_are) (
-      All-keys-insert_entry (slice_cmp nat_cmp) file.path file.body.items (λ path. is_payload path ≡ true → new.has_payload_dir ≡ true) (shown_files old.files.items)
+  payload_is = subst (All (λ path. is_payload path ≡ true → new.has_payload_dir ≡ true)) (sym paths_are) (
+      All-insert (λ path. is_payload path ≡ true → new.has_payload_dir ≡ true) (paths_of old.files.items) place file.path
       (All-weaker (λ path. is_payload path ≡ true → old.has_payload_dir ≡ true) (λ path. is_payload path ≡ true → new.has_payload_dir ≡ true) (λ path before h. added.has_payload_dir ∙ or_left old.has_payload_dir (is_payload file.path) (before h)) (paths_of old.files.items) sound.payload)
       (λ h. added.has_payload_dir ∙ or_right old.has_payload_dir (is_payload file.path) h)
       )
 
   reading_is : ForSome new.reading (λ r. r.place < length new.files.items)
   reading_is =
-      let longer : length new.files.items ≡ length old.files.items + 1 = ap length added.files ∙ length-insert old.files.items place file (omega (arith, added.gap.within, length_shown old.files.items)) in
+      let longer : length new.files.items ≡ length old.files.items + 1 = ap length added.files ∙ length-insert old.files.items place file within in
       subst (λ n. ForSome new.reading (λ r. r.place < n)) (sym longer)
       (subst (λ reading. ForSome reading (λ r. r.place < length old.files.items + 1)) (sym added.reading) (moved_within place (length old.files.items) old.reading sound.reading))
 
   pub sound_added : IsSound new
-  sound_added = record { rising = rising_is; payload = payload_is; reading = reading_is }
+  sound_added = record {
+    rising = subst AreRising (sym paths_are) (rising_put file.path (paths_of old.files.items) place added.gap sound.rising);
+    payload = payload_is;
+    reading = reading_is;
+  }
 
--- what a look-up finds among the files with this one
-pub found_added : (tree : MemFiles) (path octets : List ℕ) → octets_at (with_file tree path octets) path ≡ Some octets
-found_added tree path octets = lookup_put path octets tree.files path ∙ cond-true (bytes_eq path path) (Some octets) (octets_at tree path) ((bytes_eq-Decides path path).1 refl)
+  -- what a look-up finds
+  lookup_is : (path : List ℕ) → octets_at (view_of new) path ≡ cond (bytes_eq file.path path) (Some file.body.items) (octets_at (view_of old) path)
+  lookup_is path =
+      let none = none_passes_from_lookup (bytes_eq file.path) (shown_files old.files.items) (lookup_in_gap file.path (shown_files old.files.items) place sound.rising added.gap) in
+      ap (lookup (bytes_eq path)) files_are
+      ∙ lookup-insert nat_list_eq_equiv file.path file.body.items path (shown_files old.files.items) place none
 
-pub others_added : (tree : MemFiles) (path octets other : List ℕ) → other ≢ path → octets_at (with_file tree path octets) other ≡ octets_at tree other
-others_added tree path octets other apart = lookup_put path octets tree.files other ∙ elim (cases_Bool (bytes_eq other path)) [
-  | inl same ↦ absurd (apart ((bytes_eq-Decides other path).0 same))
-  | inr not ↦ cond-false (bytes_eq other path) (Some octets) (octets_at tree other) not
-]
+  pub finds_added : FindsAlso (view_of old) (view_of new) file.path file.body.items
+  finds_added = record {
+    here = lookup_is file.path ∙ cond-true (bytes_eq file.path file.path) _ _ ((bytes_eq-Decides file.path file.path).1 refl);
+    others = λ other apart. lookup_is other ∙ cond-false (bytes_eq file.path other) _ _ (false_from_ne_true _ (λ e. apart (sym ((bytes_eq-Decides file.path other).0 e))));
+  }

@@ -1,8 +1,9 @@
 -- What the fields of a tree in memory show, once a file was put among them, and what a search finds.
-use Rattle.std.proofs.Common.{◌≡◌, ℕ, zero, suc, ◌+◌, ◌<◌, ◌++◌, ◌-◌, add-zero, take, take-append-drop, true, List, [], ◌∷◌, Option, Some, None, Result, Ok, Err, IfOk, IfErr, All, map, slice_get, get_or, drop, is_some, length, refl, sym, ap, subst, ◌∙◌, arith, inl, inr}
+use Rattle.std.proofs.Common.{◌≡◌, ℕ, zero, suc, ◌+◌, ◌<◌, ◌≤◌, ◌++◌, ◌-◌, add-zero, take, take-append-drop, true, List, [], ◌∷◌, Option, Some, None, Result, Ok, Err, IfOk, IfErr, All, map, slice_get, get_or, drop, is_some, length, refl, sym, ap, subst, ◌∙◌, arith, inl, inr}
 use Rattle.bag_rules.proofs.Words.{All-nil, AreRising, Consumes, drop-drop, exact_bytes, File, ForSome, get_or-map, Greater, insert, Inside, is_lt, is_payload, IsAtEnd, IsBinarySearchResult, IsGapFor, IsNonDecreasingBy, IsSearchInRange, IsSound, length-map, Less, Less-from_sorted, mem_octets, mem_paths, mem_shown, MemFiles, moved_up, nat_cmp, nat_list_cmp_total, no_files, octets_at, octets_in, option_map, Ordering, ordering_index, ordering_reverse, paths_in, Reading, rest_of, same_Some, searchable_from_sorted, shown_files, slice_cmp, slice_get-map, slice_get_cases, slice_get_read, slice_get_within, take-append_seam, values_of, view_of}
 use Rattle.std.specs.List.Sorted.{IsStrictlySortedBy}
 use Rattle.bag_rules.specs.MemoryInside.{paths_of}
+use Rattle.bag_rules.proofs.HasLemmas.{stands}
 use Rattle.bag_rules.proofs.TreeLemmas.{all_paths}
 use Rattle.bag_rules.proofs.MemoryFiles.{map-insert, slice_get-insert_moved, lookup_at, lookup_in_gap}
 
@@ -11,27 +12,21 @@ pub paths_are : (files : List File) → paths_of files ≡ map (λ (file : File)
 paths_are [] = refl
 paths_are (file ∷ files) = ap (λ paths. file.path ∷ paths) (paths_are files)
 
--- so are the octets
-pub bodies_are : (files : List File) → values_of (shown_files files) ≡ map (λ (file : File). file.body.items) files
-bodies_are [] = refl
-bodies_are (file ∷ files) = ap (λ bodies. file.body.items ∷ bodies) (bodies_are files)
-
 pub length_shown : (files : List File) → length (paths_of files) ≡ length files
 length_shown files = ap length (paths_are files) ∙ length-map files (λ (file : File). file.path)
 
--- the path of a file by its place
-pub path_at : (files : List File) (i : ℕ) (file : File) → i < length files → file ≡ get_or files i file → slice_get (paths_of files) i ≡ Some file.path
-path_at files i file within here =
-    ap (λ paths. slice_get paths i) (paths_are files)
-    ∙ slice_get-map (λ (f : File). f.path) files i
-    ∙ ap (option_map (λ (f : File). f.path)) (slice_get_read files (length files) i file refl within here)
+length_bodies : (files : List File) → length (values_of (shown_files files)) ≡ length files
+length_bodies files = length-map (shown_files files) (λ (file : List ℕ × List ℕ). file.1) ∙ length-map files (λ (file : File). (file.path, file.body.items))
 
--- its octets
+-- a file by its place, and its path and octets
+file_shown : (files : List File) (i : ℕ) (file : File) → i < length files → file ≡ get_or files i file → slice_get (shown_files files) i ≡ Some (file.path, file.body.items)
+file_shown files i file within here = slice_get-map (λ (f : File). (f.path, f.body.items)) files i ∙ ap (option_map (λ (f : File). (f.path, f.body.items))) (slice_get_read files (length files) i file refl within here)
+
+pub path_at : (files : List File) (i : ℕ) (file : File) → i < length files → file ≡ get_or files i file → slice_get (paths_of files) i ≡ Some file.path
+path_at files i file within here = slice_get-map (λ (f : List ℕ × List ℕ). f.0) (shown_files files) i ∙ ap (option_map (λ (f : List ℕ × List ℕ). f.0)) (file_shown files i file within here)
+
 pub body_at : (files : List File) (i : ℕ) (file : File) → i < length files → file ≡ get_or files i file → slice_get (values_of (shown_files files)) i ≡ Some file.body.items
-body_at files i file within here =
-    ap (λ bodies. slice_get bodies i) (bodies_are files)
-    ∙ slice_get-map (λ (f : File). f.body.items) files i
-    ∙ ap (option_map (λ (f : File). f.body.items)) (slice_get_read files (length files) i file refl within here)
+body_at files i file within here = slice_get-map (λ (f : List ℕ × List ℕ). f.1) (shown_files files) i ∙ ap (option_map (λ (f : List ℕ × List ℕ). f.1)) (file_shown files i file within here)
 
 -- a place that shows a path is that of a file with this path
 pub file_at : (files : List File) (i : ℕ) (path : List ℕ) → slice_get (paths_of files) i ≡ Some path → (file : File) × (i < length files) × (get_or files i file ≡ file) × (file.path ≡ path)
@@ -100,32 +95,26 @@ not_dropped : (o : Option (List ℕ)) → option_map (drop 0) o ≡ o
 not_dropped None = refl
 not_dropped (Some xs) = refl
 
-some_at : {X : Type 0} (xs : List X) (i : ℕ) → i < length xs → is_some (slice_get xs i) ≡ true
-some_at [] i h = absurd (omega (arith, h))
-some_at (x ∷ xs) zero h = refl
-some_at (x ∷ xs) (suc i) h = some_at xs i (omega (arith, h))
-
 pub started_from : (tree : MemFiles) (inside : Inside) (i : ℕ) → view_of inside ≡ tree → option_map (drop 0) (slice_get (values_of (shown_files inside.files.items)) i) ≡ octets_in (mem_shown tree) i
 started_from tree inside i view = not_dropped _ ∙ ap (λ t. mem_octets t i) view ∙ sym (octets_are tree i)
 
 pub started_there : (tree : MemFiles) (inside : Inside) (i : ℕ) → view_of inside ≡ tree → i < length (paths_in (mem_shown tree)) → is_some (option_map (drop 0) (slice_get (values_of (shown_files inside.files.items)) i)) ≡ true
 started_there tree inside i view below =
     let files = inside.files.items in
-    let paths = ap length (shown_is tree inside view) in
-    let bodies = ap length (bodies_are files) in
-    ap is_some (not_dropped (slice_get (values_of (shown_files files)) i))
-    ∙ some_at (values_of (shown_files files)) i (omega (arith, below, paths, length_shown files, bodies, length-map files (λ (file : File). file.body.items)))
+    let bodies = values_of (shown_files files) in
+    let body = stands bodies i (omega (arith, below, ap length (shown_is tree inside view), length_shown files, length_bodies files)) in
+    ap is_some (not_dropped (slice_get bodies i) ∙ body.1)
 
 -- what is left of the file that is read, once another was put at a place
-module _ (files : List File) (place : ℕ) (file : File) where
-  pub shown_insert : shown_files (insert files place file) ≡ insert (shown_files files) place (file.path, file.body.items)
-  shown_insert = map-insert (λ (f : File). (f.path, f.body.items)) files place file
+pub shown_insert : (files : List File) (place : ℕ) (file : File) → shown_files (insert files place file) ≡ insert (shown_files files) place (file.path, file.body.items)
+shown_insert files place file = map-insert (λ (f : File). (f.path, f.body.items)) files place file
 
+module _ (files : List File) (place : ℕ) (file : File) (upto : place ≤ length files) where
   body_moved : (r : Reading) → r.place < length files → slice_get (values_of (shown_files (insert files place file))) (moved_up place r).place ≡ slice_get (values_of (shown_files files)) r.place
   body_moved r within =
-      ap (λ fs. slice_get (values_of fs) (moved_up place r).place) shown_insert
+      ap (λ fs. slice_get (values_of fs) (moved_up place r).place) (shown_insert files place file)
       ∙ ap (λ bodies. slice_get bodies (moved_up place r).place) (map-insert (λ (f : List ℕ × List ℕ). f.1) (shown_files files) place (file.path, file.body.items))
-      ∙ slice_get-insert_moved (values_of (shown_files files)) place file.body.items r.place (omega (arith, within, ap length (bodies_are files), length-map files (λ (f : File). f.body.items)))
+      ∙ slice_get-insert_moved (values_of (shown_files files)) place file.body.items r.place (omega (arith, upto, length_bodies files)) (omega (arith, within, length_bodies files))
 
   pub rest_moved : (reading : Option Reading) → ForSome reading (λ r. r.place < length files) → rest_of (insert files place file) (option_map (moved_up place) reading) ≡ rest_of files reading
   rest_moved None within = refl
@@ -142,14 +131,14 @@ get_at tree inside path text files i file octets view rising same all found here
     let within : i < length inside.files.items = omega (arith, slice_get_within (paths_of inside.files.items) i path at, length_shown inside.files.items) in
     ap Some body
     ∙ sym (body_at inside.files.items i file within here)
-    ∙ sym (lookup_at (shown_files inside.files.items) i path rising at)
+    ∙ sym (lookup_at path (shown_files inside.files.items) i rising at)
     ∙ ap (λ t. octets_at t path) view
 
 -- and at a gap
-pub get_in_gap : (tree : MemFiles) (inside : Inside) (path text : List ℕ) (files : List File) (i : ℕ) → view_of inside ≡ tree → text ≡ path → files ≡ inside.files.items → IsGapFor (paths_of files) text i → None ≡ octets_at tree path
-get_in_gap tree inside path text files i view same all gap =
+pub get_in_gap : (tree : MemFiles) (inside : Inside) (path text : List ℕ) (files : List File) (i : ℕ) → view_of inside ≡ tree → AreRising (paths_of inside.files.items) → text ≡ path → files ≡ inside.files.items → IsGapFor (paths_of files) text i → None ≡ octets_at tree path
+get_in_gap tree inside path text files i view rising same all gap =
     let at = same_gap inside.files.items files path text i all same gap in
-    sym (lookup_in_gap path [] (shown_files inside.files.items) i at) ∙ ap (λ t. octets_at t path) view
+    sym (lookup_in_gap path (shown_files inside.files.items) i rising at) ∙ ap (λ t. octets_at t path) view
 
 -- nothing is wrong where there are no files
 pub empty_sound : (inside : Inside) → inside.files.items ≡ [] → inside.reading ≡ None → IsSound inside

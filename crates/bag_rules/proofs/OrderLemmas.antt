@@ -1,7 +1,7 @@
 -- The order of faults goes by their numbers first.
 use native.Mathlib.Omega.{arith}
 use Rattle.std.proofs.Common.{◌≡◌, ◌≤◌, List, inl, inr, ap}
-use Rattle.bag_rules.proofs.Words.{AreInOrder, BadDeclaration, BadLine, eq-or-lt_of_le, Fault, FetchLength, FetchNotListed, IsNonDecreasingBy, Less, Less-from_sorted, ManifestNotListed, Missing, NoDeclaration, NoManifest, NoPayloadDir, number_of, OxumForm, OxumTwice, OxumWrong, slice_index_or, Unlisted, WrongDigest}
+use Rattle.bag_rules.proofs.Words.{AreInOrder, eq-or-lt_of_le, Fault, IsNonDecreasingBy, Less, Less-from_sorted, NoDeclaration, number_of, slice_index_or}
 use Rattle.bag_rules.specs.contracts.fault.FaultOrd.TheImpl as order
 
 pub by_number : (x y : Fault) → order.ghosts.cmp x y ≡ Less → number_of x ≤ number_of y

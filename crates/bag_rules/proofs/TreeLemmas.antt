@@ -1,6 +1,6 @@
 -- What a tree shows of its bag.
 use Rattle.std.proofs.Common.{◌≡◌, ℕ, List, [], ◌∷◌, Option, Some, None, length, map, slice_get, Contains, refl, sym, ap, ◌∙◌, subst}
-use Rattle.bag_rules.proofs.Words.{AreRising, Bag, HasFileAt, Holds, IsBagOf, IsThere, length-map, octets_in, option_and_then, option_map, paths_in, same_Some, Shown, shown_of, slice_get-map}
+use Rattle.bag_rules.proofs.Words.{AreRising, Bag, HasFileAt, Holds, IsBagOf, IsThere, length-map, octets_in, option_and_then, option_map, paths_in, same_Some, Shown, slice_get-map}
 use Rattle.bag_rules.specs.Bags.{paths_of}
 use Rattle.bag_rules.proofs.RisingPaths.{place_of, contains_at, one_place}
 
@@ -21,7 +21,7 @@ one_octets bag path a b rising p q =
     let s : (path, a) ≡ (path, b) = cc in
     ap (λ (file : File). file.1) s
 
-found_file : (o : Option File) (path : List ℕ) → option_map (λ (file : File). file.0) o ≡ Some path → (octets : List ℕ) × (o ≡ Some (path, octets))
+pub found_file : (o : Option File) (path : List ℕ) → option_map (λ (file : File). file.0) o ≡ Some path → (octets : List ℕ) × (o ≡ Some (path, octets))
 found_file None path e = cc
 found_file (Some file) path e = let same : file.0 ≡ path = cc in (file.1, ap (λ p. Some (p, file.1)) same)
 

@@ -1,6 +1,6 @@
 -- From what a check found to the verdict.
 use Rattle.std.proofs.Common.{◌≡◌, ◌⊎◌, ◌↔◌, ◌<◌, ◌≤◌, ◌==◌, ◌∙◌, ℕ, true, false, List, [], ◌∷◌, ◌++◌, length, refl, sym, ap, subst, inl, inr, arith, nat_le}
-use Rattle.bag_rules.proofs.Words.{Adds, AreInOrder, AreRising, BadDeclaration, BadLine, Bag, cases_lt, Declaration, declaration_file, Declares, eqb-true, excludes, Fault, FetchLength, FetchNotListed, Has, HasFault, HasFaultOf, IsDeclarationFault, IsInProfile, IsJudged, kind_of_lines, kinds_beside_lines, kinds_of_files, kinds_of_form, leb-true, list_any, ManifestNotListed, Missing, NoDeclaration, NoManifest, NoneBelow, NoPayloadDir, number_of, OxumForm, OxumTwice, OxumWrong, tier_of, Unlisted, WrongDigest}
+use Rattle.bag_rules.proofs.Words.{Adds, AreInOrder, AreRising, BadDeclaration, Bag, cases_lt, Declaration, declaration_file, Declares, eqb-true, excludes, Fault, Has, HasFault, HasFaultOf, IsDeclarationFault, IsInProfile, IsJudged, kind_of_lines, kinds_beside_lines, kinds_of_files, kinds_of_form, leb-true, list_any, NoDeclaration, NoneBelow, number_of, tier_of}
 use Rattle.bag_rules.specs.Bags.{paths_of}
 use Rattle.bag_rules.proofs.AddsLemmas.{adds_kinds, adds_of}
 use Rattle.bag_rules.proofs.TreeLemmas.{one_octets}

@@ -1,15 +1,9 @@
 -- Bags (RFC 8493 section 2), as trees hold them.
 use Rattle.std.specs.Prelude.{◌≡◌, ◌+◌, ℕ, Bool, List, [], ◌∷◌, Some, length, map, codes}
 use Rattle.std.specs.List.{slice_get, filter}
-use Rattle.std.specs.Str.{bytes_eq}
-use Rattle.std.specs.Char.{to_ascii_lowercase}
 use Rattle.bag_path.specs.declared.version.Version.{Version}
 use Rattle.bag_path.specs.declared.version.Version.TheVariants.{V1}
 use Rattle.bag_path.specs.Paths.{is_payload}
-use Rattle.bag_digest.specs.declared.algorithm.Alg.{Alg}
-use Rattle.bag_digest.specs.Algorithm.{name_of}
-use Rattle.bag_tags.specs.declared.listing.Kind.{Kind}
-use Rattle.bag_tags.specs.declared.listing.Kind.TheVariants.{Payload, Tag}
 use Rattle.bag_tags.specs.declared.listing.Pair.{Pair}
 use Rattle.bag_tags.specs.declared.fetch.FetchLine.{FetchLine}
 use Rattle.bag_tags.specs.declared.declaration.Declaration.{Declaration}
@@ -20,8 +14,7 @@ use Rattle.bag_tags.specs.FetchText.{FetchText}
 use Rattle.bag_tags.specs.Manifests.{ManifestText}
 use Rattle.bag_tags.specs.Names.{file_of, text_file}
 use Rattle.bag_tags.specs.declared.name.ManifestName.{ManifestName}
-use Rattle.bag_tags.specs.declared.name.LineFile.{LineFile}
-use Rattle.bag_tags.specs.declared.name.LineFile.TheVariants.{Info, FetchList, Manifest}
+use Rattle.bag_tags.specs.declared.name.LineFile.TheVariants.{Info, FetchList}
 use Rattle.bag_rules.specs.Trees.{Shown}
 
 -- The files of a base directory by path, each with its octets, and whether the payload directory is there. The paths of a

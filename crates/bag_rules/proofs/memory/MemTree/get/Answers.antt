@@ -7,4 +7,4 @@ returns-in-Ok c = get_at c.args.self.now c.self.inside c.args.path.now c.as_str.
 
 pub returns-in-Err : goal.returns-in-Err
 returns-in-Err c = get_in_gap c.args.self.now c.self.inside c.args.path.now c.as_str.result.now c.deref.result.now c.in-Err.field-0
-    c.self.view_is c.as_str.ensures.text c.deref.ensures.value c.in-Err.ensures.absent
+    c.self.view_is c.self.invariant.rising c.as_str.ensures.text c.deref.ensures.value c.in-Err.ensures.absent
