@@ -243,42 +243,25 @@ version_excludes octets version encoding other name major minor h none k v =
 
 -- octets have one first fault at most
 pub one_fault : (octets : List ℕ) (a b : DeclFault) → IsDeclarationFault octets a → IsDeclarationFault octets b → a ≡ b
-one_fault octets NotUtf8 NotUtf8 f g = refl
-one_fault octets NotUtf8 Mark f g = absurd (no_clash (is_utf8 octets) g.0 f)
-one_fault octets NotUtf8 LineCount f g = absurd (no_clash (is_utf8 octets) g.0.0 f)
-one_fault octets NotUtf8 Label f g = absurd (no_clash (is_utf8 octets) g.0.0 f)
-one_fault octets NotUtf8 Version f g = absurd (no_clash (is_utf8 octets) g.2.unmarked.0 f)
-one_fault octets NotUtf8 EncodingName f g = absurd (no_clash (is_utf8 octets) g.4.unmarked.0 f)
-one_fault octets Mark NotUtf8 f g = absurd (no_clash (is_utf8 octets) f.0 g)
-one_fault octets Mark Mark f g = refl
-one_fault octets Mark LineCount f g = absurd (no_clash (starts_with nat_eq octets mark) f.1 g.0.1)
-one_fault octets Mark Label f g = absurd (no_clash (starts_with nat_eq octets mark) f.1 g.0.1)
-one_fault octets Mark Version f g = absurd (no_clash (starts_with nat_eq octets mark) f.1 g.2.unmarked.1)
-one_fault octets Mark EncodingName f g = absurd (no_clash (starts_with nat_eq octets mark) f.1 g.4.unmarked.1)
-one_fault octets LineCount NotUtf8 f g = absurd (no_clash (is_utf8 octets) f.0.0 g)
-one_fault octets LineCount Mark f g = absurd (no_clash (starts_with nat_eq octets mark) g.1 f.0.1)
 one_fault octets LineCount LineCount f g = refl
 one_fault octets LineCount Label f g = absurd (count_excludes octets f.1.0 g.1.0 g.1.1 f.1.1 f.1.2 g.1.2)
 one_fault octets LineCount Version f g = absurd (count_excludes octets f.1.0 g.2.first g.2.second f.1.1 f.1.2 g.2.two_lines)
 one_fault octets LineCount EncodingName f g = absurd (count_excludes octets f.1.0 g.4.first g.4.second f.1.1 f.1.2 g.4.two_lines)
-one_fault octets Label NotUtf8 f g = absurd (no_clash (is_utf8 octets) f.0.0 g)
-one_fault octets Label Mark f g = absurd (no_clash (starts_with nat_eq octets mark) g.1 f.0.1)
 one_fault octets Label LineCount f g = absurd (count_excludes octets g.1.0 f.1.0 f.1.1 g.1.1 g.1.2 f.1.2)
 one_fault octets Label Label f g = refl
 one_fault octets Label Version f g = absurd (labels_exclude octets g.0 g.1 f.1.0 f.1.1 g.2 f.1.2 f.1.3)
 one_fault octets Label EncodingName f g = absurd (labels_exclude octets g.0 g.1 f.1.0 f.1.1 g.4 f.1.2 f.1.3)
-one_fault octets Version NotUtf8 f g = absurd (no_clash (is_utf8 octets) f.2.unmarked.0 g)
-one_fault octets Version Mark f g = absurd (no_clash (starts_with nat_eq octets mark) g.1 f.2.unmarked.1)
 one_fault octets Version LineCount f g = absurd (count_excludes octets g.1.0 f.2.first f.2.second g.1.1 g.1.2 f.2.two_lines)
 one_fault octets Version Label f g = absurd (labels_exclude octets f.0 f.1 g.1.0 g.1.1 f.2 g.1.2 g.1.3)
 one_fault octets Version Version f g = refl
 one_fault octets Version EncodingName f g = absurd (version_excludes octets f.0 f.1 g.0 g.1 g.2 g.3 f.2 f.3 g.4 g.5)
-one_fault octets EncodingName NotUtf8 f g = absurd (no_clash (is_utf8 octets) f.4.unmarked.0 g)
-one_fault octets EncodingName Mark f g = absurd (no_clash (starts_with nat_eq octets mark) g.1 f.4.unmarked.1)
 one_fault octets EncodingName LineCount f g = absurd (count_excludes octets g.1.0 f.4.first f.4.second g.1.1 g.1.2 f.4.two_lines)
 one_fault octets EncodingName Label f g = absurd (labels_exclude octets f.0 f.1 g.1.0 g.1.1 f.4 g.1.2 g.1.3)
 one_fault octets EncodingName Version f g = absurd (version_excludes octets g.0 g.1 f.0 f.1 f.2 f.3 g.2 g.3 f.4 f.5)
 one_fault octets EncodingName EncodingName f g = refl
+one_fault octets NotUtf8 NotUtf8 f g = refl
+one_fault octets Mark Mark f g = refl
+one_fault octets a b f g = cc
 
 written_lines : lines_of written_declaration ≡ line (codes "BagIt-Version: 1.0") Lf ∷ line (codes "Tag-File-Character-Encoding: UTF-8") Lf ∷ []
 unfolding lines_of

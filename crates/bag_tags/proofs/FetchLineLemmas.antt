@@ -1,5 +1,5 @@
 -- A line of `fetch.txt` adds one entry.
-use Rattle.std.proofs.Common.{◌≡◌, ◌==◌, ◌<◌, ℕ, true, false, List, [], ◌∷◌, ◌++◌, Option, Some, None, codes, length, refl, sym, ap, ◌∙◌, subst, inl, inr, arith, append_assoc}
+use Rattle.std.proofs.Common.{◌≡◌, ◌==◌, ◌<◌, ℕ, Bool, true, false, List, [], ◌∷◌, ◌++◌, Option, Some, None, codes, length, refl, sym, ap, ◌∙◌, subst, inl, inr, arith, append_assoc, ◌≢◌, drop}
 use Rattle.std.specs.List.{AllByRecursion}
 use Rattle.std.specs.Str.{IsUtf8}
 use Rattle.std.proofs.lemmas.Bool.{cases_Bool, ne_eqb}
@@ -10,28 +10,23 @@ use Rattle.bag_path.proofs.SpellsLemmas.{one_path}
 use Rattle.bag_tags.specs.declared.fetch.FetchLine.{FetchLine}
 use Rattle.bag_tags.specs.Numerals.{IsNumeral}
 use Rattle.bag_tags.specs.Words.{is_blank, IsNotBlank, IsCut}
-use Rattle.bag_tags.specs.WordsReading.{until, is_not_blank}
-use Rattle.bag_tags.specs.FetchEntries.{FetchItem, fetch_item, IsUrl}
+use Rattle.bag_tags.specs.WordsReading.{until, is_not_blank, is_colon}
+use Rattle.bag_tags.specs.FetchEntries.{FetchItem, fetch_item, IsUrl, IsScheme, IsSchemeOctet, IsUrlOctet}
 use Rattle.bag_tags.specs.Fetches.{fetch_line}
-use Rattle.bag_tags.specs.FetchText.{AreWords, IsLength, GivesEntry, AddsEntry, LacksWord, GivesNoEntry}
-use Rattle.bag_tags.proofs.ManifestLemmas.{cut_by, same_rest, no_cut}
-use Rattle.bag_tags.proofs.WordsLemmas.{cut_word, none_passes}
-use Rattle.bag_tags.specs.declared.fault.TagCause.{TagCause}
-use Rattle.bag_tags.specs.declared.fault.TagCause.TheVariants as tag
-use Rattle.bag_tags.specs.TagLines.{Causes}
-use Rattle.bag_tags.specs.Manifests.{PathCause}
-use Rattle.bag_tags.proofs.TextCutLemmas.{first_of, blank_below, utf8_before, utf8_after, utf8_after_blanks}
-
--- cuts of one text
-same_word : (text w b r v c s : List ℕ) → IsCut text w b r → IsCut text v c s → w ≡ v
-same_word text w b r v c s p q = first_of w v (b ++ r) (c ++ s) (sym (cut_word text w b r p) ∙ cut_word text v c s q)
+use Rattle.bag_tags.specs.FetchText.{AreWords, IsLength, GivesEntry, AddsEntry, LacksWord}
+use Rattle.bag_tags.proofs.ManifestLemmas.{cut_by, same_word, same_rest, no_cut}
+use Rattle.bag_tags.proofs.NumeralLemmas.{some_length}
+use Rattle.bag_tags.proofs.WordsLemmas.{cut_word, none_passes, until_here, begins_with, each}
+use Rattle.bag_tags.proofs.TextCutLemmas.{first_of, blank_below, utf8_before, utf8_after, utf8_after_blanks, second_of, whole_of}
+use Rattle.std.specs.Char.{IsAsciiAlphabetic}
+use Rattle.bag_tags.proofs.InfoLineLemmas.{is_58}
 
 pub one_words : (text u l p v m q : List ℕ) → AreWords text u l p → AreWords text v m q → (u ≡ v) × (l ≡ m) × (p ≡ q)
 one_words text u l p v m q h k =
     let rest = same_rest text u h.after_url h.rest v k.after_url k.rest h.url_cut k.url_cut in
     let cut = subst (λ xs. IsCut xs l h.after_length p) rest h.length_cut in (
-      same_word text u h.after_url h.rest v k.after_url k.rest h.url_cut k.url_cut,
-      same_word k.rest l h.after_length p m k.after_length q cut k.length_cut,
+      (same_word text u h.after_url h.rest v k.after_url k.rest h.url_cut k.url_cut).0,
+      (same_word k.rest l h.after_length p m k.after_length q cut k.length_cut).0,
       same_rest k.rest l h.after_length p m k.after_length q cut k.length_cut,
     )
 
@@ -63,32 +58,25 @@ pub fetch_one : (version : Version) (before : List FetchLine) (number : ℕ) (te
 fetch_one version before number text next other a b = a.adds ∙ ap (λ e. before ++ fetch_line number e ∷ []) (one_entry version text a.entry b.entry a.gives b.gives) ∙ sym b.adds
 
 -- a line that was cut at its blanks
-empty_after : (xs ys zs : List ℕ) → until is_not_blank xs ≡ (ys, zs) → xs ≡ [] → zs ≡ []
+nothing_after : (test : ℕ → Bool) (xs ys zs : List ℕ) → until test xs ≡ (ys, zs) → xs ≡ [] → zs ≡ []
 unfolding until
-empty_after xs ys zs e n = sym (ap (λ (u : List ℕ × List ℕ). u.1) e) ∙ ap (λ xs. (until is_not_blank xs).1) n
-
-empty_word : (xs ys zs : List ℕ) → until is_blank xs ≡ (ys, zs) → xs ≡ [] → zs ≡ []
-unfolding until
-empty_word xs ys zs e n = sym (ap (λ (u : List ℕ × List ℕ). u.1) e) ∙ ap (λ xs. (until is_blank xs).1) n
+nothing_after test xs ys zs e n = sym (ap (λ (u : List ℕ × List ℕ). u.1) e) ∙ ap (λ xs. (until test xs).1) n
 
 nothing : (xs : List ℕ) → (length xs == 0) ≡ true → xs ≡ []
 nothing [] h = refl
 nothing (x ∷ xs) h = absurd (let k : (length (x ∷ xs) == 0) ≡ false = ne_eqb (length (x ∷ xs)) 0 (λ e. omega arith) in let b : true ≡ false = sym h ∙ k in cc)
 
-cut_of : (text word rest blanks more : List ℕ) → until is_blank text ≡ (word, rest) → (length rest == 0) ≡ false → until is_not_blank rest ≡ (blanks, more) → IsCut text word blanks more
-cut_of text word rest blanks more e some f = subst (λ (u : List ℕ × List ℕ). IsCut text word u.0 u.1) f (cut_by text word rest e some)
-
 pub words_of : (text url after_url blanks rest len after_len other path : List ℕ) → until is_blank text ≡ (url, after_url) → until is_not_blank after_url ≡ (blanks, rest) → until is_blank rest ≡ (len, after_len) → (length after_len == 0) ≡ false → until is_not_blank after_len ≡ (other, path) → AreWords text url len path
 words_of text url after_url blanks rest len after_len other path e f g some h = elim (cases_Bool (length after_url == 0)) [
   | inl n ↦ absurd (
-      let none : after_len ≡ [] = empty_word rest len after_len g (empty_after after_url blanks rest f (nothing after_url n)) in
+      let none : after_len ≡ [] = nothing_after is_blank rest len after_len g (nothing_after is_not_blank after_url blanks rest f (nothing after_url n)) in
       let k : true ≡ false = sym (ap (λ xs. length xs == 0) none) ∙ some in cc)
   | inr n ↦ record {
     after_url = blanks;
     rest = rest;
     after_length = other;
-    url_cut = cut_of text url after_url blanks rest e n f;
-    length_cut = cut_of rest len after_len other path g some h;
+    url_cut = cut_by text url after_url blanks rest e n f;
+    length_cut = cut_by rest len after_len other path g some h;
   }
 ]
 
@@ -98,7 +86,7 @@ left_of text word rest e n = none_passes is_blank text (ap (λ (u : List ℕ × 
 pub lacks_of : (text url after_url blanks rest len after_len : List ℕ) → until is_blank text ≡ (url, after_url) → until is_not_blank after_url ≡ (blanks, rest) → until is_blank rest ≡ (len, after_len) → (length after_len == 0) ≡ true → LacksWord text
 lacks_of text url after_url blanks rest len after_len e f g none = elim (cases_Bool (length after_url == 0)) [
   | inl n ↦ inl (left_of text url after_url e n)
-  | inr n ↦ inr (url, (blanks, (rest, cut_of text url after_url blanks rest e n f, left_of rest len after_len g none)))
+  | inr n ↦ inr (url, (blanks, (rest, cut_by text url after_url blanks rest e n f, left_of rest len after_len g none)))
 ]
 
 -- the words in UTF-8
@@ -114,12 +102,33 @@ words_utf8 text url len path h u =
     let first = cut_utf8 text url h.after_url h.rest h.url_cut u in
     (first.0, (cut_utf8 h.rest len h.after_length path h.length_cut first.1).1)
 
--- a path's cause is that of its line
-pub path_cause : (version : Version) (text url len path_text : List ℕ) (number : Option ℕ) (e : TagCause) → AreWords text url len path_text → IsUrl url → IsLength len number → Causes (PathCause version path_text) e → Causes (GivesNoEntry version text) e
-path_cause version text url len path_text number tag.Memory w u l h = tt
-path_cause version text url len path_text number (tag.Line cause) w u l h = subst (GivesNoEntry version text) (sym h.1)
-    (record { url = url; length = len; path_text = path_text; number = number; words = w; is_url = u; is_length = l; no_path = h.2 })
-
 -- an entry of the parts that were read
 pub gives_of : (version : Version) (text url len path_text : List ℕ) (octets : Option ℕ) (path : List ℕ) → AreWords text url len path_text → IsUrl url → IsLength len octets → Spells version path path_text → IsPath path → GivesEntry version text (fetch_item url octets path)
 gives_of version text url len path_text octets path w u l s p = record { length = len; path_text = path_text; words = w; is_url = u; is_length = l; spells = s; is_path = p }
+
+scheme_no_colon : (scheme : List ℕ) → IsScheme scheme → AllByRecursion (λ x. is_colon x ≡ false) scheme
+scheme_no_colon [] h = absurd h
+scheme_no_colon (x ∷ scheme) h = (ne_eqb x 58 (λ e. omega (arith, h.0)), each IsSchemeOctet _ (λ y o. ne_eqb y 58 (λ e. omega (arith, o))) scheme h.1)
+
+pub url_cut : (url : List ℕ) (h : IsUrl url) → until is_colon url ≡ (h.scheme, 58 ∷ h.rest)
+url_cut url h = ap (until is_colon) h.whole ∙ until_here is_colon h.scheme h.rest 58 (scheme_no_colon h.scheme h.is_scheme) refl
+
+pub url_of : (url scheme rest : List ℕ) → until is_colon url ≡ (scheme, rest) → IsScheme scheme → (1 < length rest) × AllByRecursion IsUrlOctet (drop 1 rest) → IsUrl url
+url_of url scheme [] e s h = absurd (let k : 1 < 0 = h.0 in omega arith)
+url_of url scheme (x ∷ rest) e s h = record {
+  scheme = scheme;
+  rest = rest;
+  whole = whole_of is_colon url scheme (x ∷ rest) e ∙ ap (λ y. scheme ++ y ∷ rest) (is_58 x (begins_with is_colon url x rest (ap (λ (u : List ℕ × List ℕ). u.1) e)));
+  is_scheme = s;
+  some = λ n. absurd (omega (arith, h.0, ap length n));
+  no_control = h.1;
+}
+
+pub url_parts : (url scheme rest : List ℕ) → until is_colon url ≡ (scheme, rest) → IsUrl url → IsScheme scheme × ((1 < length rest) × AllByRecursion IsUrlOctet (drop 1 rest))
+url_parts url scheme rest e h =
+    let same : (let u : List ℕ × List ℕ = (scheme, rest) in u) ≡ (h.scheme, 58 ∷ h.rest) = sym e ∙ url_cut url h in
+    let some = some_length h.rest h.some in
+    let long : 1 < length (58 ∷ h.rest) = omega arith in (
+      subst IsScheme (sym (first_of scheme h.scheme rest (58 ∷ h.rest) same)) h.is_scheme,
+      subst (λ xs. (1 < length xs) × AllByRecursion IsUrlOctet (drop 1 xs)) (sym (second_of scheme h.scheme rest (58 ∷ h.rest) same)) (long, h.no_control),
+    )

@@ -20,9 +20,9 @@ use Rattle.bag_tags.specs.Fetches.{CanBeFetched, fetch_line, numbered_from, writ
 use Rattle.bag_tags.specs.FetchText.{IsLength, AddsEntry, FetchText}
 use Rattle.bag_tags.proofs.NumeralLemmas.{digits_utf8}
 use Rattle.bag_tags.proofs.OxumLemmas.{decimal_numeral}
-use Rattle.bag_tags.proofs.TextCutLemmas.{each, all_both, utf8_one}
-use Rattle.bag_tags.proofs.WritingLemmas.{numbered_texts, written_text, lines_cons}
-use Rattle.bag_tags.proofs.WrittenPathLemmas.{written_utf8, path_plain, payload_begins}
+use Rattle.bag_tags.proofs.TextCutLemmas.{all_both, utf8_one}
+use Rattle.bag_tags.proofs.WritingLemmas.{numbered_texts, written_text, lines_cons, written_utf8, path_plain, payload_begins}
+use Rattle.bag_tags.proofs.WordsLemmas.{each}
 
 -- the text of a line
 abbrev entry_text : FetchItem → List ℕ

@@ -11,9 +11,9 @@ use Rattle.bag_tags.specs.WordsReading.{until, is_colon, is_not_blank}
 use Rattle.bag_tags.specs.Infos.{MetadataElement, element, element_with_line, IsFit, IsLabel, IsLabelOctet, IsNotColon, IsFurtherLine, IsValue}
 use Rattle.bag_tags.specs.InfoReading.{first_line_of}
 use Rattle.bag_tags.specs.InfoText.{IsIndented, HasColon, HasFirstLine, HasParts, GivesElement, Continues, AddsElement, AddsInfo, LacksSeparator}
-use Rattle.bag_tags.proofs.WordsLemmas.{until_front, until_here, begins_with}
+use Rattle.bag_tags.proofs.WordsLemmas.{until_front, until_here, begins_with, each, blanks_cut}
 use Rattle.bag_tags.proofs.ValueLemmas.{plain_value}
-use Rattle.bag_tags.proofs.TextCutLemmas.{utf8_before, utf8_after, each, all_left, all_right, first_of, second_of, same_tail, whole_of, blanks_of, rest_begins, blanks_cut, blank_line_of, utf8_after_blanks}
+use Rattle.bag_tags.proofs.TextCutLemmas.{utf8_before, utf8_after, all_left, all_right, first_of, second_of, same_tail, whole_of, blanks_of, rest_begins, blank_line_of, utf8_after_blanks}
 
 -- an indented line that was cut after its blanks
 some_blanks : (blanks text line : List ℕ) → text ≡ blanks ++ line → begins_blank text ≡ true → begins_blank line ≡ false → blanks ≢ []
@@ -44,9 +44,6 @@ further_line text blanks line e p n =
       begins = rest_begins text blanks line e;
       no_line_end = all_right IsPlain blanks line (subst (AllByRecursion IsPlain) whole p);
     }
-
-pub line_utf8 : (text blanks line : List ℕ) → until is_not_blank text ≡ (blanks, line) → IsUtf8 text → IsUtf8 line
-line_utf8 text blanks line e u = utf8_after_blanks blanks line (blanks_of text blanks line e) (subst IsUtf8 (whole_of is_not_blank text blanks line e) u)
 
 indent_cut : (text line : List ℕ) (h : IsIndented text line) → until is_not_blank text ≡ (h.blanks, line)
 indent_cut text line h = ap (until is_not_blank) h.whole ∙ blanks_cut h.blanks line h.only_blanks h.line_begins
@@ -172,9 +169,6 @@ not_lacking text label first p n = elim n [
 ]
 
 -- the label and the first line of a text
-pub label_utf8 : (text label first : List ℕ) → HasParts text label first → IsUtf8 text → IsUtf8 label
-label_utf8 text label first h u = utf8_before label h.after 58 (omega arith) (subst IsUtf8 h.colon.whole u)
-
 after_utf8 : (after first : List ℕ) → HasFirstLine after first → IsUtf8 after → IsUtf8 first
 after_utf8 [] first h u = subst IsUtf8 (sym h) u
 after_utf8 (x ∷ rest) first h u = subst IsUtf8 (sym h.1) (utf8_after_blanks (x ∷ []) rest (h.0, tt) u)

@@ -1,10 +1,7 @@
 -- A line of a manifest adds one pair, or is refused for one cause.
-use Rattle.std.proofs.Common.{◌≡◌, ◌==◌, ℕ, true, false, List, [], ◌++◌, Some, None, sym, ap, ◌∙◌, subst, length}
+use Rattle.std.proofs.Common.{◌≡◌, ◌==◌, ℕ, true, false, List, [], ◌++◌, sym, ap, ◌∙◌, subst, length}
 use Rattle.std.specs.List.{AllByRecursion}
 use Rattle.bag_path.specs.declared.version.Version.{Version}
-use Rattle.bag_path.specs.declared.path.PathFault.{PathFault}
-use Rattle.bag_path.specs.declared.path.PathFault.TheVariants as path
-use Rattle.bag_path.specs.Paths.{IsPath, path_fault}
 use Rattle.bag_path.specs.Spellings.{Spells}
 use Rattle.bag_digest.specs.declared.algorithm.Alg.{Alg}
 use Rattle.bag_digest.specs.declared.digest.Digest.{Digest}
@@ -12,11 +9,10 @@ use Rattle.bag_digest.specs.Spelling.{SpellsDigest}
 use Rattle.bag_tags.specs.Words.{is_blank, IsNotBlank, IsCut}
 use Rattle.bag_tags.specs.WordsReading.{until, is_not_blank}
 use Rattle.bag_tags.specs.Listings.{Listing, pair, with_pair}
-use Rattle.bag_tags.specs.Manifests.{plain_path, HasChecksum, Gives, AddsPair, SpellsNoPath, PathCause, GivesNothing}
+use Rattle.bag_tags.specs.Manifests.{plain_path, HasChecksum, Gives, AddsPair, PathCause, GivesNothing}
 use Rattle.bag_tags.specs.declared.fault.TagCause.{TagCause}
 use Rattle.bag_tags.specs.declared.fault.TagCause.TheVariants as tag
 use Rattle.bag_tags.specs.TagLines.{Causes}
-use Rattle.bag_path.proofs.PathLemmas.{no_fault_if_path}
 use Rattle.bag_path.proofs.SpellsLemmas.{one_path}
 use Rattle.bag_digest.proofs.Spelled.{one_digest_spelled}
 use Rattle.bag_tags.proofs.WordsLemmas.{cut_word, cut_blanks, cut_some, cut_at, nothing_left}
@@ -56,35 +52,15 @@ adds_one version value number text next other h k =
     let g = gives_one version value.alg text h.path k.path h.digest k.digest h.gives k.gives in
     h.added ∙ ap (λ p. with_pair value (pair p h.digest)) g.0 ∙ ap (λ d. with_pair value (pair k.path d)) g.1 ∙ sym k.added
 
--- a text that spells a path has no fault
-no_fault : (version : Version) (text p : List ℕ) (fault : PathFault) → Spells version p text → IsPath p → ((q : List ℕ) × Spells version q text × (path_fault q ≡ Some fault)) → ⊥
-no_fault version text p fault h is refused =
-    let e : None ≡ Some fault = sym (no_fault_if_path p is) ∙ ap path_fault (one_path version p refused.0 text h refused.1) ∙ refused.2 in cc
-
-pub no_path : (version : Version) (text p : List ℕ) (fault : PathFault) → Spells version p text → IsPath p → SpellsNoPath fault version text → ⊥
-no_path version text p path.Memory h is refused = refused
-no_path version text p path.BadEscape h is refused = refused p h
-no_path version text p path.Empty h is refused = no_fault version text p path.Empty h is refused
-no_path version text p path.TooLong h is refused = no_fault version text p path.TooLong h is refused
-no_path version text p path.EmptySegment h is refused = no_fault version text p path.EmptySegment h is refused
-no_path version text p path.DotSegment h is refused = no_fault version text p path.DotSegment h is refused
-no_path version text p path.Nul h is refused = no_fault version text p path.Nul h is refused
-no_path version text p path.PayloadRoot h is refused = no_fault version text p path.PayloadRoot h is refused
-
 -- a line that was cut before its first blank
-pub cut_by : (text word rest : List ℕ) → until is_blank text ≡ (word, rest) → (length rest == 0) ≡ false → IsCut text word (until is_not_blank rest).0 (until is_not_blank rest).1
-cut_by text word rest e some =
+pub cut_by : (text word rest blanks more : List ℕ) → until is_blank text ≡ (word, rest) → (length rest == 0) ≡ false → until is_not_blank rest ≡ (blanks, more) → IsCut text word blanks more
+cut_by text word rest blanks more e some f =
     let cut = cut_at text (ap (λ (u : List ℕ × List ℕ). length u.1 == 0) e ∙ some) in
-    subst (λ (u : List ℕ × List ℕ). IsCut text u.0 (until is_not_blank u.1).0 (until is_not_blank u.1).1) e cut
+    subst (λ (u : List ℕ × List ℕ). IsCut text word u.0 u.1) f (subst (λ (u : List ℕ × List ℕ). IsCut text u.0 (until is_not_blank u.1).0 (until is_not_blank u.1).1) e cut)
 
 -- the checksum of a line that was cut twice
 pub checksum_by : (alg : Alg) (text word rest blanks path_text : List ℕ) (digest : Digest) → until is_blank text ≡ (word, rest) → (length rest == 0) ≡ false → until is_not_blank rest ≡ (blanks, path_text) → SpellsDigest alg word digest → HasChecksum alg text digest path_text
-checksum_by alg text word rest blanks path_text digest e some f spells = record {
-  checksum = word;
-  blanks = blanks;
-  cut = subst (λ (u : List ℕ × List ℕ). IsCut text word u.0 u.1) f (cut_by text word rest e some);
-  spells_digest = spells;
-}
+checksum_by alg text word rest blanks path_text digest e some f spells = record { checksum = word; blanks = blanks; cut = cut_by text word rest blanks path_text e some f; spells_digest = spells }
 
 -- a path's cause is that of its line
 pub path_cause : (version : Version) (alg : Alg) (text path_text : List ℕ) (digest : Digest) (e : TagCause) → HasChecksum alg text digest path_text → Causes (PathCause version (plain_path path_text)) e → Causes (GivesNothing version alg text) e

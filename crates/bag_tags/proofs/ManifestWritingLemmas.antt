@@ -17,7 +17,7 @@ use Rattle.bag_path.specs.Spellings.{Spells, written_spelling, written_part}
 use Rattle.bag_path.specs.declared.version.Version.TheVariants.{V1}
 use Rattle.bag_path.proofs.SpellsLemmas.{written_spells}
 use Rattle.bag_digest.specs.declared.algorithm.Alg.{Alg}
-use Rattle.bag_digest.specs.declared.algorithm.Alg.TheVariants.{Md5, Sha1, Sha256, Sha512}
+use Rattle.bag_digest.specs.declared.algorithm.Alg.TheVariants.{Md5}
 use Rattle.bag_digest.specs.declared.digest.Digest.{Digest}
 use Rattle.bag_digest.specs.Algorithm.{size_of}
 use Rattle.bag_digest.specs.Hash.{alg_of}
@@ -30,10 +30,9 @@ use Rattle.bag_tags.specs.Listings.{Listing, lists_path, NoneTwice, nothing_list
 use Rattle.bag_tags.specs.ManifestView.{FitEach}
 use Rattle.bag_tags.specs.Manifests.{plain_path, AddsPair, ManifestText}
 use Rattle.bag_tags.specs.ManifestWriting.{CanBeWritten, needs_dot, written_path, written_pair, written_manifest}
-use Rattle.bag_tags.proofs.Utf8Lemmas.{IsAscii-from_each}
-use Rattle.bag_tags.proofs.TextCutLemmas.{each, all_both, utf8_one}
-use Rattle.bag_tags.proofs.WritingLemmas.{numbered_texts, written_text, lines_cons}
-use Rattle.bag_tags.proofs.WrittenPathLemmas.{written_utf8, path_plain}
+use Rattle.bag_tags.proofs.TextCutLemmas.{all_both, utf8_one, IsAscii-from_each}
+use Rattle.bag_tags.proofs.WritingLemmas.{numbered_texts, written_text, lines_cons, written_utf8, path_plain}
+use Rattle.bag_tags.proofs.WordsLemmas.{each}
 
 -- the text of a line
 abbrev pair_text : Pair → List ℕ
@@ -50,9 +49,7 @@ record IsHex (text : List ℕ) : Type 0 where
 
 size_some : (alg : Alg) → 0 < size_of alg
 size_some Md5 = omega arith
-size_some Sha1 = omega arith
-size_some Sha256 = omega arith
-size_some Sha512 = omega arith
+size_some alg = omega arith
 
 hex_of : (alg : Alg) (text : List ℕ) (digest : Digest) → SpellsDigest alg text digest → IsHex text
 hex_of alg text digest h =

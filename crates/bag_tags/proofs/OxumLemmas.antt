@@ -2,7 +2,7 @@
 use Rattle.std.proofs.Common.{◌≡◌, ◌≢◌, ◌<◌, ◌^◌, ℕ, true, false, List, [], ◌∷◌, ◌++◌, length, codes, refl, sym, ap, ◌∙◌, subst, inl, inr, arith, take, drop, take-append-drop, append_assoc, append-nil}
 use Rattle.std.specs.Fmt.{decimal}
 use Rattle.std.specs.Str.Parse.{digits_value}
-use Rattle.std.proofs.lemmas.Bool.{cases_Bool, not-false}
+use Rattle.std.proofs.lemmas.Bool.{cases_Bool}
 use Rattle.std.proofs.lemmas.Slice.Eq.{bytes_eq-Decides}
 use Rattle.std.specs.List.{AllByRecursion}
 use Rattle.std.specs.Str.{bytes_eq}
@@ -14,24 +14,15 @@ use Rattle.bag_tags.specs.WordsReading.{until, is_not_blank, is_dot}
 use Rattle.bag_tags.specs.Numerals.{IsNumeral}
 use Rattle.bag_tags.specs.Oxums.{OxumText, written_oxum}
 use Rattle.bag_tags.specs.declared.oxum.Oxum.{Oxum}
-use Rattle.bag_tags.proofs.WordsLemmas.{until_whole, until_front, until_here, until_at}
+use Rattle.bag_tags.proofs.WordsLemmas.{each, until_here, until_at, blanks_cut}
+use Rattle.bag_tags.proofs.TextCutLemmas.{first_of, second_of, whole_of, blanks_of, blank_line_of}
 use Rattle.bag_tags.proofs.NumeralLemmas.{digits_model}
-
-each : (P Q : ℕ → Type 0) → ((x : ℕ) → P x → Q x) → (xs : List ℕ) → AllByRecursion P xs → AllByRecursion Q xs
-each P Q f [] h = tt
-each P Q f (x ∷ xs) h = (f x h.0, each P Q f xs h.1)
 
 digit_no_blank : (x : ℕ) → IsAsciiDigit x → is_blank x ≡ false
 digit_no_blank x h = grind (arith, nat_tests)
 
-digit_not_blank : (x : ℕ) → IsAsciiDigit x → is_not_blank x ≡ true
-digit_not_blank x h = grind (arith, nat_tests)
-
 digit_no_dot : (x : ℕ) → IsAsciiDigit x → is_dot x ≡ false
 digit_no_dot x h = grind (arith, nat_tests)
-
-blank_is : (x : ℕ) → IsBlank x → is_not_blank x ≡ false
-blank_is x h = rw h refl
 
 -- a text that was cut: after its blanks, at the first dot and at the first blank after it
 pub record IsCutOxum (text before after back : List ℕ) : Type 0 where
@@ -45,7 +36,7 @@ pub record IsCutOxum (text before after back : List ℕ) : Type 0 where
 -- a numeral begins with no blank
 front_cut : (front digits more : List ℕ) → AllByRecursion IsBlank front → digits ≢ [] → AllByRecursion IsAsciiDigit digits → until is_not_blank (front ++ (digits ++ more)) ≡ (front, digits ++ more)
 front_cut front [] more h some d = absurd (some refl)
-front_cut front (x ∷ digits) more h some d = until_here is_not_blank front (digits ++ more) x (each IsBlank (λ x. is_not_blank x ≡ false) blank_is front h) (digit_not_blank x d.0)
+front_cut front (x ∷ digits) more h some d = blanks_cut front (x ∷ (digits ++ more)) h (digit_no_blank x d.0)
 
 -- blanks end a numeral
 blank_begins : (back : List ℕ) → AllByRecursion IsBlank back → (until is_blank back).0 ≡ []
@@ -66,12 +57,6 @@ cut_of text octets streams h = record {
   at_dot = until_here is_dot h.before_dot (h.after_dot ++ h.back) 46 (each IsAsciiDigit (λ x. is_dot x ≡ false) digit_no_dot h.before_dot h.octets_are.digits) refl;
   at_back = until_at is_blank h.after_dot h.back (each IsAsciiDigit (λ x. is_blank x ≡ false) digit_no_blank h.after_dot h.streams_are.digits) (blank_begins h.back h.back_blank);
 }
-
-first_of : (a c b d : List ℕ) → (let p : List ℕ × List ℕ = (a, b) in p) ≡ (c, d) → a ≡ c
-first_of a c b d e = ap (λ (p : List ℕ × List ℕ). p.0) e
-
-second_of : (a c b d : List ℕ) → (let p : List ℕ × List ℕ = (a, b) in p) ≡ (c, d) → b ≡ d
-second_of a c b d e = ap (λ (p : List ℕ × List ℕ). p.1) e
 
 -- a text is cut in one way
 pub one_cut : (text b a k c d l : List ℕ) → IsCutOxum text b a k → IsCutOxum text c d l → (b ≡ c) × (a ≡ d) × (k ≡ l)
@@ -105,10 +90,6 @@ no_dot text front rest before dotted e f h octets streams o =
     let dot : dotted ≡ 46 ∷ q.more = second_of before o.before_dot dotted (46 ∷ q.more) (sym f ∙ ap (until is_dot) same ∙ q.at_dot) in
     let k : true ≡ false = sym (ap (λ xs. bytes_eq (take 1 xs) (46 ∷ [])) dot) ∙ h in cc
 
-blank_line_of : (back : List ℕ) → AllByRecursion IsBlank back → is_blank_line back ≡ true
-blank_line_of [] h = refl
-blank_line_of (x ∷ back) h = rw h.0 (blank_line_of back h.1)
-
 of_blank_line : (back : List ℕ) → is_blank_line back ≡ true → AllByRecursion IsBlank back
 of_blank_line [] h = tt
 of_blank_line (x ∷ back) h = elim (cases_Bool (is_blank x)) [
@@ -140,11 +121,11 @@ oxum_read text before after back octets streams p h m a n b = record {
   before_dot = before;
   after_dot = after;
   back = back;
-  whole = until_whole is_not_blank text ∙ ap (λ (u : List ℕ × List ℕ). u.0 ++ u.1) p.at_front
-      ∙ ap (λ xs. p.front ++ xs) (until_whole is_dot p.rest ∙ ap (λ (u : List ℕ × List ℕ). u.0 ++ u.1) p.at_dot)
-      ∙ ap (λ xs. p.front ++ (before ++ 46 ∷ xs)) (until_whole is_blank p.more ∙ ap (λ (u : List ℕ × List ℕ). u.0 ++ u.1) p.at_back)
+  whole = whole_of is_not_blank text p.front p.rest p.at_front
+      ∙ ap (λ xs. p.front ++ xs) (whole_of is_dot p.rest before (46 ∷ p.more) p.at_dot)
+      ∙ ap (λ xs. p.front ++ (before ++ 46 ∷ xs)) (whole_of is_blank p.more after back p.at_back)
       ∙ sym (to_right p.front before after back);
-  front_blank = each (λ x. is_not_blank x ≡ false) IsBlank (λ x e. not-false (is_blank x) e) p.front (subst (λ (u : List ℕ × List ℕ). AllByRecursion (λ x. is_not_blank x ≡ false) u.0) p.at_front (until_front is_not_blank text));
+  front_blank = blanks_of text p.front p.rest p.at_front;
   octets_are = m;
   octets_fit = a;
   streams_are = n;

@@ -10,8 +10,8 @@ use Rattle.bag_path.specs.declared.version.Version.TheVariants.{V1}
 use Rattle.bag_path.specs.Paths.{IsPath, path_fault, has_segment, is_empty_segment, is_dot_segment}
 use Rattle.bag_path.specs.Spellings.{StandsFor, Spells}
 use Rattle.bag_path.specs.SpellingReading.{octets_spelled}
-use Rattle.bag_path.proofs.PathLemmas.{path_if_no_fault, no_bad_escape}
-use Rattle.bag_path.proofs.SpellsLemmas.{spells_if_read, nothing_if_none}
+use Rattle.bag_path.proofs.PathLemmas.{path_if_no_fault, no_fault_if_path, no_bad_escape}
+use Rattle.bag_path.proofs.SpellsLemmas.{spells_if_read, read_if_spells, nothing_if_none, none_if_nothing}
 use Rattle.bag_tags.specs.Manifests.{SpellsNoPath}
 use Rattle.bag_tags.proofs.TextCutLemmas.{utf8_before, utf8_after, utf8_one}
 
@@ -88,12 +88,7 @@ no_memory p =
 faulty : (version : Version) (text p : List ℕ) (fault : PathFault) → Spells version p text → path_fault p ≡ Some fault → SpellsNoPath fault version text
 faulty version text p path.Memory s e = absurd (no_memory p e)
 faulty version text p path.BadEscape s e = absurd (no_bad_escape p e)
-faulty version text p path.Empty s e = (p, s, e)
-faulty version text p path.TooLong s e = (p, s, e)
-faulty version text p path.EmptySegment s e = (p, s, e)
-faulty version text p path.DotSegment s e = (p, s, e)
-faulty version text p path.Nul s e = (p, s, e)
-faulty version text p path.PayloadRoot s e = (p, s, e)
+faulty version text p fault s e = (p, s, e)
 
 of_octets : (version : Version) (text p : List ℕ) (found : Option PathFault) → IsUtf8 text → Spells version p text → path_fault p ≡ found → PathOrFault version text
 of_octets version text p None u s e = inl (p, s, path_if_no_fault p (spelled_utf8 version p text s u) e)
@@ -105,3 +100,25 @@ of_reading version text (Some p) u e = of_octets version text p (path_fault p) u
 
 pub path_or_fault : (version : Version) (text : List ℕ) → IsUtf8 text → PathOrFault version text
 path_or_fault version text u = of_reading version text (octets_spelled version text) u refl
+
+-- the fault of a text that spells no path is that of the octets that are read from it
+abbrev fault_of_octets : Option (List ℕ) → Option PathFault
+fault_of_octets None = Some path.BadEscape
+fault_of_octets (Some octets) = path_fault octets
+
+fault_read : (version : Version) (text p : List ℕ) (fault : PathFault) → Spells version p text → path_fault p ≡ Some fault → fault_of_octets (octets_spelled version text) ≡ Some fault
+fault_read version text p fault s e = ap fault_of_octets (read_if_spells version p text s) ∙ e
+
+no_path_read : (version : Version) (text : List ℕ) (fault : PathFault) → SpellsNoPath fault version text → fault_of_octets (octets_spelled version text) ≡ Some fault
+no_path_read version text path.Memory h = absurd h
+no_path_read version text path.BadEscape h = ap fault_of_octets (none_if_nothing version text h)
+no_path_read version text fault h = fault_read version text h.0 fault h.1 h.2
+
+pub one_path_fault : (version : Version) (text : List ℕ) (fault other : PathFault) → SpellsNoPath fault version text → SpellsNoPath other version text → fault ≡ other
+one_path_fault version text fault other h k =
+    let e : Some fault ≡ Some other = sym (no_path_read version text fault h) ∙ no_path_read version text other k in cc
+
+-- a text that spells a path has none
+pub no_path : (version : Version) (text p : List ℕ) (fault : PathFault) → Spells version p text → IsPath p → SpellsNoPath fault version text → ⊥
+no_path version text p fault h is refused =
+    let e : None ≡ Some fault = sym (ap fault_of_octets (read_if_spells version p text h) ∙ no_fault_if_path p is) ∙ no_path_read version text fault refused in cc

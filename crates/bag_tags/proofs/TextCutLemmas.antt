@@ -1,22 +1,61 @@
 -- Parts of lists and of texts.
-use Rattle.std.proofs.Common.{◌≡◌, ◌<◌, ◌≤◌, ◌+◌, drop, length-drop, slice_index, ℕ, Bool, true, false, not, List, [], ◌∷◌, ◌++◌, length, get_or, refl, sym, ap, ◌∙◌, subst, inl, inr, arith, length-append}
+use Rattle.std.proofs.Common.{◌≡◌, ◌<◌, ◌≤◌, ◌+◌, drop, length-drop, slice_index, ℕ, Bool, true, false, not, List, [], ◌∷◌, ◌++◌, length, get_or, refl, sym, ap, ◌∙◌, subst, inl, inr, arith, length-append, ◌&&◌, zero, suc, take, nat_eq, take-append-drop}
 use Rattle.std.proofs.Math.Seq.{take-append_seam, get_or-append_seam}
-use Rattle.std.specs.List.{AllByRecursion}
-use Rattle.std.specs.Str.{IsUtf8, IsCharBoundary}
-use Rattle.std.proofs.lemmas.List.{get_or-drop}
+use Rattle.std.specs.List.{AllByRecursion, starts_with}
+use Rattle.std.specs.Str.{IsUtf8, IsCharBoundary, IsAscii, chars}
+use Rattle.std.proofs.lemmas.List.{get_or-drop, append_cancel_left}
 use Rattle.std.proofs.lemmas.Bool.{not-false, not_from_true, cases_Bool}
 use Rattle.std.proofs.lemmas.Bool.Decides.{nat_tests}
-use Rattle.std.proofs.lemmas.Str.{IsUtf8-take, IsUtf8-from_ascii, IsCharBoundary-before_ascii, IsCharBoundary-start}
-use Rattle.bag_tags.specs.Words.{is_blank, IsBlank, is_blank_line, begins_blank}
+use Rattle.std.proofs.lemmas.Str.{IsUtf8-take, IsUtf8-from_ascii, IsCharBoundary-before_ascii, IsCharBoundary-start, chars-append, scalars-chars, encodes-append, encodes-chars, IsAscii-append}
+use Rattle.bag_tags.specs.Words.{is_blank, IsBlank, is_blank_line, begins_blank, without}
 use Rattle.bag_tags.specs.WordsReading.{until, stops, is_not_blank, is_dot, is_colon}
 use Rattle.bag_tags.specs.declared.words.Stop.{Stop}
 use Rattle.bag_tags.specs.declared.words.Stop.TheVariants.{Blank, NoBlank, Dot, Colon}
-use Rattle.bag_tags.proofs.WordsLemmas.{until_whole, until_front, until_at, begins_with}
-use Rattle.bag_tags.proofs.Utf8Lemmas.{IsUtf8-rest, IsAscii-from_each}
+use Rattle.bag_tags.proofs.WordsLemmas.{each, until_whole, until_front, begins_with, unblank_rest}
+use Rattle.std.proofs.lemmas.Slice.Eq.{bytes_eq-Decides}
+use Rattle.std.proofs.Math.Utf8.{scalars, encodes}
 
-pub each : (P Q : ℕ → Type 0) → ((x : ℕ) → P x → Q x) → (xs : List ℕ) → AllByRecursion P xs → AllByRecursion Q xs
-each P Q f [] h = tt
-each P Q f (x ∷ xs) h = (f x h.0, each P Q f xs h.1)
+and_second : (a b : Bool) → (a && b) ≡ true → b ≡ true
+and_second true b h = h
+and_second false b h = cc
+
+scalars_rest : (cs ds : List ℕ) → scalars (cs ++ ds) ≡ true → scalars ds ≡ true
+scalars_rest [] ds h = h
+scalars_rest (c ∷ cs) ds h = scalars_rest cs ds (and_second _ (scalars (cs ++ ds)) h)
+
+pub IsUtf8-rest : (front rest : List ℕ) → IsUtf8 front → IsUtf8 (front ++ rest) → IsUtf8 rest
+IsUtf8-rest front rest f whole = (
+  chars rest,
+  (
+    scalars_rest (chars front) (chars rest) (ap scalars (sym (chars-append front rest f)) ∙ scalars-chars (front ++ rest) whole),
+    append_cancel_left front (encodes (chars rest)) rest (
+        ap (λ xs. xs ++ encodes (chars rest)) (sym (encodes-chars front f))
+        ∙ sym (encodes-append (chars front) (chars rest))
+        ∙ ap encodes (sym (chars-append front rest f))
+        ∙ encodes-chars (front ++ rest) whole
+        ),
+  ),
+)
+
+-- octets below 128, one by one
+below-cons : (b : ℕ) (bs : List ℕ) → b < 128 → IsAscii bs → IsAscii (b ∷ bs)
+below-cons b bs h k zero = h
+below-cons b bs h k (suc i) = k i
+
+pub IsAscii-from_each : (bs : List ℕ) → AllByRecursion (λ b. b < 128) bs → IsAscii bs
+IsAscii-from_each [] h = λ i. omega arith
+IsAscii-from_each (b ∷ bs) h = below-cons b bs h.0 (IsAscii-from_each bs h.1)
+
+-- a text that begins so is this front and the rest
+starts_whole : (text front : List ℕ) → starts_with nat_eq text front ≡ true → text ≡ front ++ drop (length front) text
+starts_whole text front h = sym (take-append-drop (length front) text) ∙ ap (λ xs. xs ++ drop (length front) text) (sym ((bytes_eq-Decides front (take (length front) text)).0 h))
+
+-- and so is what follows a front in ASCII that is dropped
+pub without_utf8 : (front text : List ℕ) → IsAscii front → IsUtf8 text → IsUtf8 (without front text)
+without_utf8 front text ascii utf8 = elim (cases_Bool (starts_with nat_eq text front)) [
+  | inl h ↦ rw h (IsUtf8-rest front (drop (length front) text) (IsUtf8-from_ascii front ascii) (subst IsUtf8 (starts_whole text front h) utf8))
+  | inr h ↦ rw h utf8
+]
 
 pub all_left : (P : ℕ → Type 0) (xs ys : List ℕ) → AllByRecursion P (xs ++ ys) → AllByRecursion P xs
 all_left P [] ys h = tt
@@ -68,24 +107,8 @@ utf8_after_blanks blanks rest h u = IsUtf8-rest blanks rest (IsUtf8-from_ascii b
 pub blanks_of : (text blanks rest : List ℕ) → until is_not_blank text ≡ (blanks, rest) → AllByRecursion IsBlank blanks
 blanks_of text blanks rest e = each (λ x. is_not_blank x ≡ false) IsBlank (λ x h. not-false (is_blank x) h) blanks (subst (λ (u : List ℕ × List ℕ). AllByRecursion (λ x. is_not_blank x ≡ false) u.0) e (until_front is_not_blank text))
 
-begins_by : (rest : List ℕ) → ((y : ℕ) (ys : List ℕ) → rest ≡ y ∷ ys → is_not_blank y ≡ true) → begins_blank rest ≡ false
-begins_by [] h = refl
-begins_by (y ∷ ys) h = elim (cases_Bool (is_blank y)) [
-  | inl e ↦ absurd (let k : false ≡ true = sym (ap not e) ∙ h y ys refl in cc)
-  | inr e ↦ e
-]
-
 pub rest_begins : (text blanks rest : List ℕ) → until is_not_blank text ≡ (blanks, rest) → begins_blank rest ≡ false
-rest_begins text blanks rest e = begins_by rest (λ y ys f. begins_with is_not_blank text y ys (ap (λ (u : List ℕ × List ℕ). u.1) e ∙ f))
-
-unblank_front : (rest : List ℕ) → begins_blank rest ≡ false → (until is_not_blank rest).0 ≡ []
-unfolding until
-unblank_front [] h = refl
-unblank_front (x ∷ rest) h = rw h refl
-
--- and a text is cut so only there
-pub blanks_cut : (blanks rest : List ℕ) → AllByRecursion IsBlank blanks → begins_blank rest ≡ false → until is_not_blank (blanks ++ rest) ≡ (blanks, rest)
-blanks_cut blanks rest h b = until_at is_not_blank blanks rest (each IsBlank (λ x. is_not_blank x ≡ false) (λ x e. not_from_true (is_blank x) e) blanks h) (unblank_front rest b)
+rest_begins text blanks rest e = ap (λ (u : List ℕ × List ℕ). begins_blank u.1) (sym e) ∙ unblank_rest text
 
 pub blank_line_of : (xs : List ℕ) → AllByRecursion IsBlank xs → is_blank_line xs ≡ true
 blank_line_of [] h = refl

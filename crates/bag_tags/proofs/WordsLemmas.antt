@@ -1,9 +1,11 @@
 -- A text is cut exactly at its first blanks.
-use Rattle.std.proofs.Common.{◌≡◌, ◌≢◌, ◌==◌, ℕ, Bool, true, false, not, List, [], ◌∷◌, ◌++◌, length, refl, sym, ap, ◌∙◌, inl, inr, arith, append_assoc}
+use Rattle.std.proofs.Common.{◌≡◌, ◌≢◌, ◌==◌, ℕ, Bool, true, false, not, List, [], ◌∷◌, ◌++◌, length, refl, sym, ap, ◌∙◌, inl, inr, arith, append_assoc, ◌+◌, ◌<◌, take, drop, get_or, append-nil, subst}
 use Rattle.std.specs.List.{AllByRecursion}
 use Rattle.std.proofs.lemmas.Bool.{not-false, not_from_true, cases_Bool, ne_eqb}
-use Rattle.bag_tags.specs.Words.{is_blank, begins_blank, IsCut}
+use Rattle.bag_tags.specs.Words.{is_blank, IsBlank, begins_blank, IsCut}
 use Rattle.bag_tags.specs.WordsReading.{until, is_not_blank}
+use Rattle.std.proofs.lemmas.List.{drop_more, take_more}
+use Rattle.std.proofs.Math.Seq.{drop-length}
 
 -- the front up to an element that passes
 pub until_whole : (test : ℕ → Bool) (xs : List ℕ) → xs ≡ (until test xs).0 ++ (until test xs).1
@@ -64,13 +66,9 @@ then_passes p (x ∷ text) h = elim (cases_Bool (p x)) [
   | inr e ↦ rw e (then_passes p text (rw e at h))
 ]
 
-pass_from : (p : ℕ → Bool) (xs : List ℕ) → AllByRecursion (λ x. not (p x) ≡ false) xs → AllByRecursion (λ x. p x ≡ true) xs
-pass_from p [] h = tt
-pass_from p (x ∷ xs) h = (not-false (p x) h.0, pass_from p xs h.1)
-
-fail_from : (p : ℕ → Bool) (xs : List ℕ) → AllByRecursion (λ x. p x ≡ true) xs → AllByRecursion (λ x. not (p x) ≡ false) xs
-fail_from p [] h = tt
-fail_from p (x ∷ xs) h = (not_from_true (p x) h.0, fail_from p xs h.1)
+pub each : (P Q : ℕ → Type 0) → ((x : ℕ) → P x → Q x) → (xs : List ℕ) → AllByRecursion P xs → AllByRecursion Q xs
+each P Q f [] h = tt
+each P Q f (x ∷ xs) h = (f x h.0, each P Q f xs h.1)
 
 -- elements that pass leave no front
 none_before : (p : ℕ → Bool) (front rest : List ℕ) → front ≢ [] → AllByRecursion (λ x. p x ≡ true) front → (until p (front ++ rest)).0 ≡ []
@@ -88,7 +86,10 @@ unfolding until
 unblank_front [] h = refl
 unblank_front (x ∷ rest) h = rw h refl
 
-unblank_rest : (xs : List ℕ) → begins_blank (until is_not_blank xs).1 ≡ false
+pub blanks_cut : (blanks rest : List ℕ) → AllByRecursion IsBlank blanks → begins_blank rest ≡ false → until is_not_blank (blanks ++ rest) ≡ (blanks, rest)
+blanks_cut blanks rest h b = until_at is_not_blank blanks rest (each IsBlank _ (λ x e. not_from_true (is_blank x) e) blanks h) (unblank_front rest b)
+
+pub unblank_rest : (xs : List ℕ) → begins_blank (until is_not_blank xs).1 ≡ false
 unfolding until
 unblank_rest [] = refl
 unblank_rest (x ∷ xs) = elim (cases_Bool (is_blank x)) [ inl h ↦ rw h (unblank_rest xs) | inr h ↦ rw h h ]
@@ -111,7 +112,7 @@ cut_at text some =
       whole = until_whole is_blank text ∙ ap (λ xs. word_of text ++ xs) (until_whole is_not_blank rest) ∙ sym (append_assoc (word_of text) (until is_not_blank rest).0 (until is_not_blank rest).1);
       word_ends = until_front is_blank text;
       some_blank = then_passes is_blank text some;
-      only_blanks = pass_from is_blank (until is_not_blank rest).0 (until_front is_not_blank rest);
+      only_blanks = each _ IsBlank (λ x h. not-false (is_blank x) h) (until is_not_blank rest).0 (until_front is_not_blank rest);
       rest_begins = unblank_rest rest;
     }
 
@@ -122,7 +123,39 @@ cut_word text word blanks rest cut =
     ∙ until_at is_blank word (blanks ++ rest) cut.word_ends (none_before is_blank blanks rest cut.some_blank cut.only_blanks)
 
 pub cut_blanks : (text word blanks rest : List ℕ) → IsCut text word blanks rest → until is_not_blank (blanks ++ rest) ≡ (blanks, rest)
-cut_blanks text word blanks rest cut = until_at is_not_blank blanks rest (fail_from is_blank blanks cut.only_blanks) (unblank_front rest cut.rest_begins)
+cut_blanks text word blanks rest cut = blanks_cut blanks rest cut.only_blanks cut.rest_begins
 
 pub cut_some : (text word blanks rest : List ℕ) → IsCut text word blanks rest → (length (blanks ++ rest) == 0) ≡ false
 cut_some text word blanks rest cut = not_empty blanks rest cut.some_blank
+
+-- the first n elements don't pass, and then it goes on as at what follows
+abbrev pub Spans : (ℕ → Bool) → List ℕ → ℕ → Type 0
+Spans test text n = until test text ≡ (take n text ++ (until test (drop n text)).0, (until test (drop n text)).1)
+
+-- one element that doesn't pass goes onto the front
+onto : (test : ℕ → Bool) (x : ℕ) (xs : List ℕ) → test x ≡ false → until test (x ∷ xs) ≡ (x ∷ (until test xs).0, (until test xs).1)
+unfolding until
+onto test x xs h = rw h refl
+
+stop : (test : ℕ → Bool) (x : ℕ) (xs : List ℕ) → test x ≡ true → until test (x ∷ xs) ≡ ([], x ∷ xs)
+unfolding until
+stop test x xs h = rw h refl
+
+pub spans_on : (test : ℕ → Bool) (text : List ℕ) (n : ℕ) → n < length text → test (get_or text n 0) ≡ false → Spans test text n → Spans test text (n + 1)
+spans_on test text n below h s =
+    let U = until test (drop (n + 1) text) in
+    let go = λ (p : List ℕ × List ℕ). let r : List ℕ × List ℕ = (take n text ++ p.0, p.1) in r in
+    let more : take n text ++ (get_or text n 0 ∷ U.0) ≡ take (n + 1) text ++ U.0 = sym (ap (λ xs. xs ++ U.0) (take_more text n 0 below) ∙ append_assoc (take n text) (get_or text n 0 ∷ []) U.0) in
+    s ∙ ap go (ap (until test) (drop_more text n 0 below) ∙ onto test (get_or text n 0) (drop (n + 1) text) h) ∙ ap (λ xs. (xs, U.1)) more
+
+pub spans_stop : (test : ℕ → Bool) (text : List ℕ) (n : ℕ) → n < length text → test (get_or text n 0) ≡ true → Spans test text n → until test text ≡ (take n text, drop n text)
+spans_stop test text n below h s =
+    let go = λ (p : List ℕ × List ℕ). let r : List ℕ × List ℕ = (take n text ++ p.0, p.1) in r in
+    s ∙ ap go (ap (until test) (drop_more text n 0 below) ∙ stop test (get_or text n 0) (drop (n + 1) text) h ∙ ap (λ xs. ([], xs)) (sym (drop_more text n 0 below)))
+    ∙ ap (λ xs. (xs, drop n text)) (append-nil (take n text))
+
+pub spans_end : (test : ℕ → Bool) (text : List ℕ) (n : ℕ) → n ≡ length text → Spans test text n → until test text ≡ (take (length text) text, drop (length text) text)
+unfolding until
+spans_end test text n e s =
+    let go = λ (p : List ℕ × List ℕ). let r : List ℕ × List ℕ = (take (length text) text ++ p.0, p.1) in r in
+    subst (Spans test text) e s ∙ ap go (ap (until test) (drop-length text)) ∙ (ap (λ xs. (xs, [])) (append-nil (take (length text) text))) ∙ ap (λ xs. (take (length text) text, xs)) (sym (drop-length text))

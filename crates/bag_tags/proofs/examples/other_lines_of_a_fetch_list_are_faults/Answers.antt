@@ -11,8 +11,7 @@ use Rattle.bag_tags.specs.WordsReading.{until}
 use Rattle.bag_tags.proofs.ExampleLemmas.{other_text}
 use Rattle.bag_tags.proofs.ExampleLines.{at, faulty, has_words, gives_entry}
 use Rattle.bag_tags.proofs.FetchDecisionLemmas.{fetch_exact}
-use Rattle.bag_tags.proofs.FetchLineLemmas.{lacks_of}
-use Rattle.bag_tags.proofs.FetchUrlLemmas.{url_parts}
+use Rattle.bag_tags.proofs.FetchLineLemmas.{lacks_of, url_parts}
 use Rattle.bag_tags.proofs.examples.other_lines_of_a_fetch_list_are_faults.Goals as goal
 
 is_url : IsUrl (codes "http:x")

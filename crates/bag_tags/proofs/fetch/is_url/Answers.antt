@@ -1,5 +1,5 @@
 use Rattle.std.proofs.Common.{◌≡◌, true, false, sym, ◌∙◌}
-use Rattle.bag_tags.proofs.FetchUrlLemmas.{url_of, url_parts}
+use Rattle.bag_tags.proofs.FetchLineLemmas.{url_of, url_parts}
 use Rattle.bag_tags.proofs.fetch.is_url.Goals as goal
 
 pub returns-then-is_scheme : goal.returns-then-is_scheme

@@ -1,4 +1,4 @@
-use Rattle.std.proofs.Common.{◌≡◌, ◌==◌, List, ℕ, true, false, length, sym, ap, ◌∙◌, subst}
+use Rattle.std.proofs.Common.{◌≡◌, ◌==◌, List, ℕ, true, false, length, refl, sym, ap, ◌∙◌, subst}
 use Rattle.std.proofs.lemmas.Result.{err_from_is_err_and}
 use Rattle.bag_digest.specs.declared.digest.Digest.{Digest}
 use Rattle.bag_digest.specs.Spelling.{SpellsDigest}
@@ -24,7 +24,7 @@ returns-in_default-clause-err c =
       checksum = c.split_text.result.0.now;
       blanks = (until is_not_blank rest).0;
       path_text = (until is_not_blank rest).1;
-      cut = cut_by c.args.text.now c.split_text.result.0.now rest c.split_text.ensures some;
+      cut = cut_by _ _ rest _ _ c.split_text.ensures some refl;
       no_digest = subst (λ t. (digest : Digest) → ¬ SpellsDigest c.args.alg t digest) c.as_bytes.ensures.value c.in_default.ensures.none;
     }
 

@@ -1,6 +1,6 @@
 use Rattle.std.proofs.Common.{◌∙◌, sym, arith}
 use Rattle.bag_tags.specs.WordsReading.{stops}
-use Rattle.bag_tags.proofs.SpanLemmas.{spans_on, spans_stop, spans_end}
+use Rattle.bag_tags.proofs.WordsLemmas.{spans_on, spans_stop, spans_end}
 use Rattle.bag_tags.proofs.words.front_len.Goals as goal
 
 pub returns-then-is_at-clause-front : goal.returns-then-is_at-clause-front
