@@ -40,7 +40,8 @@ digest_in digests Sha512 = option_map (λ d. digest.Sha512 d) digests.sha512
 
 -- the digests of these octets by the algorithms of the set, and no others
 abbrev pub AreDigests : Digests → AlgSet → List ℕ → Type 0
-AreDigests digests set octets = (alg : Alg) → digest_in digests alg ≡ (if has set alg then Some (hash alg octets) else None)
+AreDigests digests set octets = (alg : Alg)
+    → digest_in digests alg ≡ (if has set alg then Some (hash alg octets) else None)
 
 -- a hasher is there exactly where it is wanted, and there it holds the octets
 abbrev pub HoldsIf : {H : Type 0} → (H → List ℕ → Type 0) → Bool → Option H → List ℕ → Type 0

@@ -21,7 +21,8 @@ GaveWithin old new limit = (octets : List ℕ) × Consumes old new octets × (le
 
 -- the source gave one octet more than the limit, and none after it was taken
 abbrev pub GaveMoreThan : Option (List ℕ) → Option (List ℕ) → ℕ → Type 0
-GaveMoreThan old new limit = (octets : List ℕ) × Consumes old new octets × (length octets ≡ limit + 1)
+GaveMoreThan old new limit = (octets : List ℕ) × Consumes old new octets
+    × (length octets ≡ limit + 1)
 
 -- the source gave one piece, the front of the buffer, of at most this many octets: none only at the end
 pub record GavePiece (old new : Option (List ℕ)) (left n : ℕ) (buffer : List ℕ) : Type 0 where

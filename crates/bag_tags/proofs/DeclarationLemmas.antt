@@ -8,7 +8,7 @@ use Rattle.std.specs.Cmp.Lexicographic.{pointwise}
 use Rattle.std.proofs.lemmas.Str.{IsUtf8-from_ascii, is_utf8-from_IsUtf8, IsUtf8-from_is_utf8}
 use Rattle.std.proofs.lemmas.Str.Ascii.{IsAscii-from_all}
 use Rattle.std.proofs.lemmas.List.Sums.{AllPass-from_list_all}
-use Rattle.std.proofs.lemmas.Bool.{cases_Bool, ne_eqb}
+use Rattle.std.proofs.lemmas.Bool.{ne_eqb, false_from_ne_true}
 use Rattle.std.proofs.lemmas.Slice.Eq.{bytes_eq-Decides}
 use Rattle.std.proofs.lemmas.List.{take-append-drop}
 use Rattle.std.proofs.Math.Seq.{take-append_seam}
@@ -21,6 +21,7 @@ use Rattle.bag_tags.specs.declared.declaration.DeclFault.TheVariants.{NotUtf8, M
 use Rattle.bag_tags.specs.TagLines.{mark}
 use Rattle.bag_tags.specs.WordsReading.{until, is_dot}
 use Rattle.bag_tags.specs.Declarations.{version_label, encoding_label, IsVersionPart, IsVersion, IsEncodingName, NamesUtf8, IsUnmarked, HasLabels, IsDeclaration, HaveNoLabels, IsDeclarationFault, current, written_declaration}
+use Rattle.bag_tags.proofs.ListingLemmas.{unlike}
 use Rattle.bag_tags.proofs.WordsLemmas.{until_whole, until_here}
 
 -- digits have no dot
@@ -89,10 +90,7 @@ one_labels octets a b c d h k =
 
 -- what `strip_prefix` tells of a label
 pub label_gone : (text label : List ℕ) → pointwise nat_eq (take (length label) text) label ≡ false → starts_with nat_eq text label ≡ false
-label_gone text label h = elim (cases_Bool (starts_with nat_eq text label)) [
-  | inl e ↦ absurd (let same : label ≡ take (length label) text = (bytes_eq-Decides label (take (length label) text)).0 e in let k = (bytes_eq-Decides (take (length label) text) label).1 (sym same) in cc)
-  | inr e ↦ e
-]
+label_gone text label h = unlike (take (length label) text) label h
 
 pub label_not : (text label : List ℕ) → pointwise nat_eq (take (length label) text) label ≡ false → (rest : List ℕ) → text ≢ label ++ rest
 label_not text label h rest e =
@@ -125,7 +123,7 @@ text_from octets P Q (Err s) h e = cc
 
 pub no_text_from : {A E : Type 0} (octets : List ℕ) (P : A → Type 0) (Q : E → Type 0) (r : Result A E) → MatchResult r P (λ e. (IsUtf8 octets → ⊥) × Q e) → is_err r ≡ true → is_utf8 octets ≡ false
 no_text_from octets P Q (Ok s) h e = cc
-no_text_from octets P Q (Err s) h e = elim (cases_Bool (is_utf8 octets)) [ inl t ↦ absurd (h.0 (IsUtf8-from_is_utf8 octets t)) | inr t ↦ t ]
+no_text_from octets P Q (Err s) h e = false_from_ne_true (is_utf8 octets) (λ t. h.0 (IsUtf8-from_is_utf8 octets t))
 
 -- two lines with these texts
 record TwoLines (octets one two : List ℕ) : Type 0 where
@@ -139,16 +137,8 @@ abbrev pub texts_of : List ℕ → List (List ℕ)
 texts_of octets = map (λ (line : Text). line.text) (lines_of octets)
 
 two_of : (octets one two : List ℕ) (lines : List Text) → HasLines octets lines → map (λ (line : Text). line.text) lines ≡ one ∷ two ∷ [] → TwoLines octets one two
-two_of octets one two [] h e = cc
-two_of octets one two (a ∷ []) h e = absurd (omega (arith, ap length e))
-two_of octets one two (a ∷ b ∷ []) h e = record {
-  first = a;
-  second = b;
-  are_lines = h;
-  first_is = cc;
-  second_is = cc;
-}
-two_of octets one two (a ∷ b ∷ c ∷ lines) h e = absurd (omega (arith, ap length e))
+two_of octets one two (a ∷ b ∷ []) h e = record { first = a; second = b; are_lines = h; first_is = cc; second_is = cc }
+two_of octets one two lines h e = absurd (omega (arith, ap length e))
 
 two_lines : (octets one two : List ℕ) → texts_of octets ≡ one ∷ two ∷ [] → TwoLines octets one two
 two_lines octets one two e = two_of octets one two (lines_of octets) ((one_list octets (lines_of octets)).1 refl) e
@@ -211,10 +201,8 @@ excludes octets d EncodingName h f =
     f.6 (subst IsEncodingName same.1 h.named)
 
 same_truth : (a b : Bool) (P : Type 0) → (IsTrue a ↔ P) → (IsTrue b ↔ P) → a ≡ b
-same_truth true true P h k = refl
-same_truth false false P h k = refl
-same_truth true false P h k = absurd (no_clash false (k.1 (h.0 refl)) refl)
-same_truth false true P h k = absurd (no_clash false (h.1 (k.0 refl)) refl)
+same_truth true b P h k = sym (k.1 (h.0 refl))
+same_truth false b P h k = sym (false_from_ne_true b (λ t. let f : false ≡ true = h.1 (k.0 t) in cc))
 
 abbrev declares : ℕ → ℕ → Bool → Declaration
 declares major minor utf8 = record { major = major; minor = minor; utf8 = utf8 }

@@ -1,5 +1,5 @@
 -- A line of `fetch.txt` adds one entry.
-use Rattle.std.proofs.Common.{◌≡◌, ◌==◌, ◌<◌, ℕ, Bool, true, false, List, [], ◌∷◌, ◌++◌, Option, Some, None, codes, length, refl, sym, ap, ◌∙◌, subst, inl, inr, arith, append_assoc, ◌≢◌, drop}
+use Rattle.std.proofs.Common.{◌≡◌, ◌==◌, ◌<◌, ℕ, Bool, true, false, List, [], ◌∷◌, ◌++◌, Option, Some, None, codes, length, refl, sym, ap, ◌∙◌, subst, inl, inr, arith, append_assoc, drop}
 use Rattle.std.specs.List.{AllByRecursion}
 use Rattle.std.specs.Str.{IsUtf8}
 use Rattle.std.proofs.lemmas.Bool.{cases_Bool, ne_eqb}
@@ -16,9 +16,8 @@ use Rattle.bag_tags.specs.Fetches.{fetch_line}
 use Rattle.bag_tags.specs.FetchText.{AreWords, IsLength, GivesEntry, AddsEntry, LacksWord}
 use Rattle.bag_tags.proofs.ManifestLemmas.{cut_by, same_word, same_rest, no_cut}
 use Rattle.bag_tags.proofs.NumeralLemmas.{some_length}
-use Rattle.bag_tags.proofs.WordsLemmas.{cut_word, none_passes, until_here, begins_with, each}
+use Rattle.bag_tags.proofs.WordsLemmas.{none_passes, until_here, begins_with, each}
 use Rattle.bag_tags.proofs.TextCutLemmas.{first_of, blank_below, utf8_before, utf8_after, utf8_after_blanks, second_of, whole_of}
-use Rattle.std.specs.Char.{IsAsciiAlphabetic}
 use Rattle.bag_tags.proofs.InfoLineLemmas.{is_58}
 
 pub one_words : (text u l p v m q : List ℕ) → AreWords text u l p → AreWords text v m q → (u ≡ v) × (l ≡ m) × (p ≡ q)

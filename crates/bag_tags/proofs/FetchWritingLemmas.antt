@@ -1,7 +1,7 @@
 -- What is written for entries is read as these entries.
 use Rattle.std.proofs.Common.{◌≡◌, ◌≢◌, ◌<◌, ◌^◌, ◌+◌, ℕ, false, List, [], ◌∷◌, ◌++◌, Option, Some, None, IfSome, codes, map, nat_eq, refl, sym, ap, ◌∙◌, subst, inr, arith, append_assoc, append-nil}
 use Rattle.std.specs.List.{AllByRecursion, starts_with}
-use Rattle.std.specs.Char.{IsAsciiDigit, IsAsciiAlphabetic}
+use Rattle.std.specs.Char.{IsAsciiDigit}
 use Rattle.std.specs.Fmt.{decimal}
 use Rattle.std.specs.Str.{IsUtf8}
 use Rattle.std.proofs.lemmas.Bool.{ne_eqb}
@@ -36,15 +36,9 @@ fetch_written [] = refl
 fetch_written (line ∷ lines) = flat_map-cons written_line line lines ∙ ap (λ xs. written_line line ++ xs) (fetch_written lines) ∙ sym (lines_cons (line_text line) (map line_text lines))
 
 -- what stands in a url
-letter_graphic : (x : ℕ) → IsAsciiAlphabetic x → 32 < x
-letter_graphic x h = omega arith
-
-scheme_graphic : (x : ℕ) → IsSchemeOctet x → 32 < x
-scheme_graphic x h = omega arith
-
 all_graphic : (scheme : List ℕ) → IsScheme scheme → AllByRecursion (λ x. 32 < x) scheme
 all_graphic [] h = absurd h
-all_graphic (x ∷ scheme) h = (letter_graphic x h.0, each IsSchemeOctet (λ x. 32 < x) scheme_graphic scheme h.1)
+all_graphic (x ∷ scheme) h = (omega (arith, h.0), each IsSchemeOctet (λ x. 32 < x) (λ x o. omega (arith, o)) scheme h.1)
 
 url_graphic : (url : List ℕ) → IsUrl url → AllByRecursion (λ x. 32 < x) url
 url_graphic url h = subst (AllByRecursion (λ x. 32 < x)) (sym h.whole) (all_both (λ x. 32 < x) h.scheme (58 ∷ h.rest) (all_graphic h.scheme h.is_scheme) (omega arith, each IsUrlOctet (λ x. 32 < x) (λ x o. o.0) h.rest h.no_control))
@@ -55,13 +49,10 @@ graphic_not_blank x h = grind (arith, nat_tests)
 graphic_plain : (x : ℕ) → 32 < x → IsPlain x
 graphic_plain x h = (λ e. omega arith, λ e. omega arith)
 
-digit_graphic : (x : ℕ) → IsAsciiDigit x → 32 < x
-digit_graphic x h = omega arith
-
 -- and in a length
 length_graphic : (octets : Option ℕ) → IfSome octets (λ n. n < 2 ^ 64) → AllByRecursion (λ x. 32 < x) (written_length octets)
 length_graphic None h = (omega arith, tt)
-length_graphic (Some n) h = each IsAsciiDigit (λ x. 32 < x) digit_graphic (decimal n) (decimal_numeral n h).digits
+length_graphic (Some n) h = each IsAsciiDigit (λ x. 32 < x) (λ x d. omega (arith, d)) (decimal n) (decimal_numeral n h).digits
 
 length_utf8 : (octets : Option ℕ) → IfSome octets (λ n. n < 2 ^ 64) → IsUtf8 (written_length octets)
 length_utf8 None h = utf8_one 45 (omega arith)
@@ -83,7 +74,7 @@ begins_graphic (x ∷ xs) ys some h = graphic_not_blank x h.0
 text_plain : (line : FetchLine) → CanBeFetched line → AllByRecursion IsPlain (line_text line)
 text_plain line h =
     let e = line.entry in
-    let space : IsPlain 32 = graphic_space in
+    let space : IsPlain 32 = (λ e. cc, λ e. cc) in
     let plain = λ (xs : List ℕ) (g : AllByRecursion (λ x. 32 < x) xs). each (λ x. 32 < x) IsPlain graphic_plain xs g in
     all_both IsPlain (e.url ++ codes " " ++ written_length e.octets ++ codes " ") (written_spelling e.path)
     (all_both IsPlain (e.url ++ codes " " ++ written_length e.octets) (codes " ")
@@ -92,25 +83,19 @@ text_plain line h =
     (plain (written_length e.octets) (length_graphic e.octets h.1)))
     (space, tt))
     (path_plain e.path)
-  where
-    graphic_space : IsPlain 32
-    graphic_space = (λ e. cc, λ e. cc)
 
 texts_plain : (lines : List FetchLine) → AllByRecursion CanBeFetched lines → AllByRecursion (AllByRecursion IsPlain) (map line_text lines)
 texts_plain [] h = tt
 texts_plain (line ∷ lines) h = (text_plain line h.0, texts_plain lines h.1)
 
 -- it begins with a letter
-letter_unmarked : (x : ℕ) (xs : List ℕ) → IsAsciiAlphabetic x → starts_with nat_eq (x ∷ xs) mark ≡ false
-letter_unmarked x xs h = rw (ne_eqb 239 x (λ e. omega arith)) refl
-
 scheme_unmarked : (scheme rest : List ℕ) → IsScheme scheme → starts_with nat_eq (scheme ++ rest) mark ≡ false
 scheme_unmarked [] rest h = absurd h
-scheme_unmarked (x ∷ scheme) rest h = letter_unmarked x (scheme ++ rest) h.0
+scheme_unmarked (x ∷ scheme) rest h = rw (ne_eqb 239 x (λ e. omega (arith, h.0))) refl
 
 scheme_not_blank : (scheme rest : List ℕ) → IsScheme scheme → is_blank_line (scheme ++ rest) ≡ false
 scheme_not_blank [] rest h = absurd h
-scheme_not_blank (x ∷ scheme) rest h = rw (graphic_not_blank x (letter_graphic x h.0)) refl
+scheme_not_blank (x ∷ scheme) rest h = rw (graphic_not_blank x (omega (arith, h.0))) refl
 
 all_right : (s r a b c d rest : List ℕ) → (s ++ r) ++ a ++ b ++ c ++ d ++ rest ≡ s ++ (r ++ (a ++ (b ++ (c ++ (d ++ rest)))))
 all_right s r a b c d rest = simp append_assoc

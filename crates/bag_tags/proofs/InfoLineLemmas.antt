@@ -1,5 +1,5 @@
 -- A line of `bag-info.txt` adds one thing.
-use Rattle.std.proofs.Common.{◌≡◌, ◌≢◌, ◌⊎◌, ℕ, true, false, List, [], ◌∷◌, ◌++◌, Some, None, refl, sym, ap, ◌∙◌, subst, inl, inr, append-nil, arith}
+use Rattle.std.proofs.Common.{◌≡◌, ◌≢◌, ℕ, true, false, List, [], ◌∷◌, ◌++◌, Some, None, refl, sym, ap, ◌∙◌, subst, inl, inr, append-nil, arith}
 use Rattle.std.specs.List.{AllByRecursion}
 use Rattle.std.specs.Str.{IsUtf8}
 use Rattle.std.proofs.lemmas.Bool.{ne_eqb, cases_Bool}
@@ -10,10 +10,10 @@ use Rattle.bag_tags.specs.Words.{is_blank, IsBlank, is_blank_line, begins_blank}
 use Rattle.bag_tags.specs.WordsReading.{until, is_colon, is_not_blank}
 use Rattle.bag_tags.specs.Infos.{MetadataElement, element, element_with_line, IsFit, IsLabel, IsLabelOctet, IsNotColon, IsFurtherLine, IsValue}
 use Rattle.bag_tags.specs.InfoReading.{first_line_of}
-use Rattle.bag_tags.specs.InfoText.{IsIndented, HasColon, HasFirstLine, HasParts, GivesElement, Continues, AddsElement, AddsInfo, LacksSeparator}
+use Rattle.bag_tags.specs.InfoText.{IsIndented, HasColon, HasFirstLine, HasParts, GivesElement, AddsInfo, LacksSeparator}
 use Rattle.bag_tags.proofs.WordsLemmas.{until_front, until_here, begins_with, each, blanks_cut}
 use Rattle.bag_tags.proofs.ValueLemmas.{plain_value}
-use Rattle.bag_tags.proofs.TextCutLemmas.{utf8_before, utf8_after, all_left, all_right, first_of, second_of, same_tail, whole_of, blanks_of, rest_begins, blank_line_of, utf8_after_blanks}
+use Rattle.bag_tags.proofs.TextCutLemmas.{utf8_after, all_left, all_right, first_of, second_of, same_tail, whole_of, blanks_of, rest_begins, blank_line_of, utf8_after_blanks}
 
 -- an indented line that was cut after its blanks
 some_blanks : (blanks text line : List ℕ) → text ≡ blanks ++ line → begins_blank text ≡ true → begins_blank line ≡ false → blanks ≢ []

@@ -1,11 +1,11 @@
 -- The index of a manifest finds its pairs.
-use Rattle.std.proofs.Common.{◌≡◌, ℕ, suc, ◌+◌, ◌||◌, true, false, List, [], ◌∷◌, ◌++◌, Option, Some, None, if◌then◌else◌, IfSome, slice_get, length, refl, sym, ap, ◌∙◌, arith, inl, inr, is_some, cond}
+use Rattle.std.proofs.Common.{◌≡◌, ℕ, suc, ◌+◌, ◌||◌, false, List, [], ◌∷◌, ◌++◌, Option, Some, None, if◌then◌else◌, IfSome, slice_get, length, refl, sym, ap, ◌∙◌, arith, inl, inr, is_some, cond}
 use Rattle.std.specs.Option.{option_map}
 use Rattle.std.specs.Str.{bytes_eq}
 use Rattle.std.specs.BTreeMap.{BTreeMap, get, Updates}
 use Rattle.std.specs.Ordering.{nat_cmp}
 use Rattle.std.specs.Cmp.Lexicographic.{slice_cmp}
-use Rattle.std.proofs.lemmas.Bool.{cases_Bool}
+use Rattle.std.proofs.lemmas.Bool.{cases_Bool, or_parts, false_from_ne_true}
 use Rattle.std.proofs.lemmas.Map.Text.{is_eq-slice_cmp}
 use Rattle.std.proofs.lemmas.Slice.Eq.{bytes_eq-Decides}
 use Rattle.bag_digest.specs.declared.algorithm.Alg.{Alg}
@@ -49,18 +49,8 @@ is_placed n (p ∷ pairs) path = elim (cases_Bool (bytes_eq p.path path)) [ inl 
 pub is_listed : (places : BTreeMap (List ℕ) ℕ) (pairs : List Pair) (path : List ℕ) → IsIndexOf places pairs → is_some (get (slice_cmp nat_cmp) places path) ≡ lists_path pairs path
 is_listed places pairs path index = ap (λ (o : Option ℕ). is_some o) (index path) ∙ is_placed 0 pairs path
 
--- the same octets
-same_octets : (xs ys : List ℕ) → bytes_eq xs ys ≡ true → xs ≡ ys
-same_octets xs ys e = (bytes_eq-Decides xs ys).0 e
-
-itself : (xs : List ℕ) → bytes_eq xs xs ≡ true
-itself xs = (bytes_eq-Decides xs xs).1 refl
-
 head_absent : (p : Pair) (pairs : List Pair) (path : List ℕ) → lists_path (p ∷ pairs) path ≡ false → (bytes_eq p.path path ≡ false) × (lists_path pairs path ≡ false)
-head_absent p pairs path e = elim (cases_Bool (bytes_eq p.path path)) [
-  | inl h ↦ absurd (let k : true ≡ false = rw h at e in cc)
-  | inr h ↦ (h, rw h at e)
-]
+head_absent p pairs path e = or_parts (bytes_eq p.path path) (lists_path pairs path) e
 
 -- the places after one pair more, whose path wasn't listed
 placed_more : (n : ℕ) (pairs : List Pair) (new : Pair) (path : List ℕ) → lists_path pairs new.path ≡ false → place_from n (pairs ++ new ∷ []) path ≡ (if bytes_eq new.path path then Some (n + length pairs) else place_from n pairs path)
@@ -69,10 +59,8 @@ placed_more n (p ∷ pairs) new path absent =
     let h = head_absent p pairs new.path absent in
     elim (cases_Bool (bytes_eq p.path path)) [
       | inl e ↦
-          let other : bytes_eq new.path path ≡ false = elim (cases_Bool (bytes_eq new.path path)) [
-            | inl d ↦ absurd (let k : bytes_eq p.path new.path ≡ true = rw (same_octets p.path path e, same_octets new.path path d) (itself path) in let b : true ≡ false = sym k ∙ h.0 in cc)
-            | inr d ↦ d
-          ] in
+          let other : bytes_eq new.path path ≡ false = false_from_ne_true (bytes_eq new.path path) (λ d.
+          let k = (bytes_eq-Decides p.path new.path).1 ((bytes_eq-Decides p.path path).0 e ∙ sym ((bytes_eq-Decides new.path path).0 d)) in cc) in
           rw (e, other) refl
       | inr e ↦ rw e (placed_more (n + 1) pairs new path h.1 ∙ ap (λ k. if bytes_eq new.path path then Some k else place_from (n + 1) pairs path) (let q : n + 1 + length pairs ≡ n + length (p ∷ pairs) = omega arith in q))
     ]
@@ -90,11 +78,8 @@ lists_more : (pairs : List Pair) (new : Pair) (path : List ℕ) → lists_path (
 lists_more [] new path = elim (cases_Bool (bytes_eq new.path path)) [ inl e ↦ rw e refl | inr e ↦ rw e refl ]
 lists_more (p ∷ pairs) new path = elim (cases_Bool (bytes_eq p.path path)) [ inl e ↦ rw e refl | inr e ↦ rw e (lists_more pairs new path) ]
 
-unlike : (xs ys : List ℕ) → bytes_eq xs ys ≡ false → bytes_eq ys xs ≡ false
-unlike xs ys e = elim (cases_Bool (bytes_eq ys xs)) [
-  | inl d ↦ absurd (let k : bytes_eq xs ys ≡ true = rw (same_octets ys xs d) (itself xs) in let b : true ≡ false = sym k ∙ e in cc)
-  | inr d ↦ d
-]
+pub unlike : (xs ys : List ℕ) → bytes_eq xs ys ≡ false → bytes_eq ys xs ≡ false
+unlike xs ys e = false_from_ne_true (bytes_eq ys xs) (λ d. let k = (bytes_eq-Decides xs ys).1 (sym ((bytes_eq-Decides ys xs).0 d)) in cc)
 
 pub none_twice_more : (pairs : List Pair) (new : Pair) → NoneTwice pairs → lists_path pairs new.path ≡ false → NoneTwice (pairs ++ new ∷ [])
 none_twice_more [] new none absent = (refl, tt)

@@ -1,5 +1,5 @@
 -- The text of a manifest lists pairs by the algorithm and of the kind with which it is read.
-use Rattle.std.proofs.Common.{◌≡◌, ◌⊎◌, ℕ, List, [], ◌∷◌, refl, ap, ◌∙◌, subst, inl, inr}
+use Rattle.std.proofs.Common.{◌≡◌, ◌⊎◌, ℕ, List, [], ◌∷◌, ap, ◌∙◌, subst, inl, inr}
 use Rattle.bag_path.specs.declared.version.Version.{Version}
 use Rattle.bag_digest.specs.declared.algorithm.Alg.{Alg}
 use Rattle.bag_tags.specs.declared.fault.LineFault.{LineFault}

@@ -1,13 +1,12 @@
 -- What is written for pairs is read as these pairs.
-use Rattle.std.proofs.Common.{◌≡◌, ◌≢◌, ◌==◌, ◌||◌, ◌<◌, ◌*◌, ◌+◌, ℕ, Bool, true, false, List, [], ◌∷◌, ◌++◌, codes, map, length, nat_eq, if◌then◌else◌, refl, sym, ap, ◌∙◌, subst, inl, inr, arith, append_assoc, append-nil}
+use Rattle.std.proofs.Common.{◌≡◌, ◌⊎◌, ◌≢◌, ◌==◌, ◌<◌, ◌*◌, ◌+◌, ℕ, true, false, List, [], ◌∷◌, ◌++◌, codes, map, length, nat_eq, if◌then◌else◌, refl, sym, ap, ◌∙◌, subst, inl, inr, arith, append_assoc, append-nil}
 use Rattle.std.specs.List.{AllByRecursion, All, starts_with}
 use Rattle.std.specs.Str.{IsUtf8, bytes_eq}
-use Rattle.std.proofs.lemmas.Bool.{ne_eqb, cases_Bool}
+use Rattle.std.proofs.lemmas.Bool.{ne_eqb, cases_Bool, or_parts}
 use Rattle.std.proofs.lemmas.Bool.Decides.{eqb_tells, nat_tests}
 use Rattle.std.proofs.lemmas.List.Concat.{flat_map-cons}
 use Rattle.std.proofs.lemmas.List.Elements.{recursion_from_All, All-from_recursion, All-head}
 use Rattle.std.proofs.lemmas.List.Splits.{slice_split_at}
-use Rattle.std.proofs.lemmas.Slice.Eq.{bytes_eq-Decides}
 use Rattle.std.proofs.lemmas.Str.{IsUtf8-append, IsUtf8-from_ascii}
 use Rattle.hex.specs.Hex.{is_hex_digit}
 use Rattle.hex.proofs.HexLemmas.{IsOk-decode_sized}
@@ -24,13 +23,14 @@ use Rattle.bag_digest.specs.Hash.{alg_of}
 use Rattle.bag_digest.specs.Spelling.{SpellsDigest, lower_case_of}
 use Rattle.bag_tags.specs.declared.listing.Kind.{Kind}
 use Rattle.bag_tags.specs.declared.listing.Pair.{Pair}
-use Rattle.bag_tags.specs.Words.{is_blank, IsNotBlank, is_blank_line, begins_blank, without}
+use Rattle.bag_tags.specs.Words.{is_blank, IsNotBlank, is_blank_line, begins_blank}
 use Rattle.bag_tags.specs.TagLines.{mark, LeadsOn, Lead}
 use Rattle.bag_tags.specs.Listings.{Listing, lists_path, NoneTwice, nothing_listed}
 use Rattle.bag_tags.specs.ManifestView.{FitEach}
 use Rattle.bag_tags.specs.Manifests.{plain_path, AddsPair, ManifestText}
 use Rattle.bag_tags.specs.ManifestWriting.{CanBeWritten, needs_dot, written_path, written_pair, written_manifest}
 use Rattle.bag_tags.proofs.TextCutLemmas.{all_both, utf8_one, IsAscii-from_each}
+use Rattle.bag_tags.proofs.ListingLemmas.{unlike}
 use Rattle.bag_tags.proofs.WritingLemmas.{numbered_texts, written_text, lines_cons, written_utf8, path_plain}
 use Rattle.bag_tags.proofs.WordsLemmas.{each}
 
@@ -76,43 +76,28 @@ hex_not_blank : (text rest : List ℕ) → IsHex text → is_blank_line (text ++
 hex_not_blank [] rest h = absurd (h.some refl)
 hex_not_blank (x ∷ text) rest h = rw (digit_not_blank x h.digits.0) refl
 
-digit_unmarked : (x : ℕ) (xs : List ℕ) → is_hex_digit x ≡ true → starts_with nat_eq (x ∷ xs) mark ≡ false
-digit_unmarked x xs h = let g = digit_graphic x h in rw (ne_eqb 239 x (λ e. omega (arith, g.1))) refl
-
 hex_unmarked : (text rest : List ℕ) → IsHex text → starts_with nat_eq (text ++ rest) mark ≡ false
 hex_unmarked [] rest h = absurd (h.some refl)
-hex_unmarked (x ∷ text) rest h = digit_unmarked x (text ++ rest) h.digits.0
+hex_unmarked (x ∷ text) rest h = let g = digit_graphic x h.digits.0 in rw (ne_eqb 239 x (λ e. omega (arith, g.1))) refl
 
--- the first octet of what is written for an octet is that octet, or `%`
-part_not : (x y : ℕ) (rest : List ℕ) → y ≢ x → y ≢ 37 → starts_with nat_eq (written_part x ++ rest) (y ∷ []) ≡ false
-part_not x y rest n m = elim (eqb_tells x 37) [
-  | inl a ↦ rw a.0 (rw (ne_eqb y 37 m) refl)
-  | inr a ↦ rw a.0 (elim (eqb_tells x 10) [
-    | inl b ↦ rw b.0 (rw (ne_eqb y 37 m) refl)
-    | inr b ↦ rw b.0 (elim (eqb_tells x 13) [
-      | inl c ↦ rw c.0 (rw (ne_eqb y 37 m) refl)
-      | inr c ↦ rw c.0 (rw (ne_eqb y x n) refl)
-    ])
-  ])
+-- what is written for an octet is that octet, or begins with `%`
+part_of : (x : ℕ) → ((code : List ℕ) × (written_part x ≡ 37 ∷ code)) ⊎ (written_part x ≡ x ∷ [])
+part_of x = elim (eqb_tells x 37) [
+  | inl a ↦ inl (50 ∷ 53 ∷ [], rw a.0 refl)
+  | inr a ↦ elim (eqb_tells x 10) [
+    | inl b ↦ inl (48 ∷ 65 ∷ [], rw (a.0, b.0) refl)
+    | inr b ↦ elim (eqb_tells x 13) [ inl c ↦ inl (48 ∷ 68 ∷ [], rw (a.0, b.0, c.0) refl) | inr c ↦ inr (rw (a.0, b.0, c.0) refl) ]
+  ]
 ]
+
+part_not : (x y : ℕ) (rest : List ℕ) → y ≢ x → y ≢ 37 → starts_with nat_eq (written_part x ++ rest) (y ∷ []) ≡ false
+part_not x y rest n m = elim (part_of x) [ inl p ↦ rw (p.1, ne_eqb y 37 m) refl | inr p ↦ rw (p, ne_eqb y x n) refl ]
 
 part_no_dot : (x : ℕ) (rest : List ℕ) → 46 ≢ x → starts_with nat_eq (written_part x ++ rest) (codes "./") ≡ false
-part_no_dot x rest n = elim (eqb_tells x 37) [
-  | inl a ↦ rw a.0 refl
-  | inr a ↦ rw a.0 (elim (eqb_tells x 10) [
-    | inl b ↦ rw b.0 refl
-    | inr b ↦ rw b.0 (elim (eqb_tells x 13) [ inl c ↦ rw c.0 refl | inr c ↦ rw c.0 (rw (ne_eqb 46 x n) refl) ])
-  ])
-]
+part_no_dot x rest n = elim (part_of x) [ inl p ↦ rw p.1 refl | inr p ↦ rw (p, ne_eqb 46 x n) refl ]
 
 part_begins : (x : ℕ) (rest : List ℕ) → is_blank x ≡ false → begins_blank (written_part x ++ rest) ≡ false
-part_begins x rest h = elim (eqb_tells x 37) [
-  | inl a ↦ rw a.0 refl
-  | inr a ↦ rw a.0 (elim (eqb_tells x 10) [
-    | inl b ↦ rw b.0 refl
-    | inr b ↦ rw b.0 (elim (eqb_tells x 13) [ inl c ↦ rw c.0 refl | inr c ↦ rw c.0 h ])
-  ])
-]
+part_begins x rest h = elim (part_of x) [ inl p ↦ rw p.1 refl | inr p ↦ rw p h ]
 
 -- no path begins with `./`
 dot_segment : (rest : List ℕ) → segments (46 ∷ 47 ∷ rest) ≡ (46 ∷ []) ∷ segments rest
@@ -129,57 +114,34 @@ IsNotDotted path = (rest : List ℕ) → path ≢ 46 ∷ 47 ∷ rest
 not_dotted : (path : List ℕ) → IsPath path → IsNotDotted path
 not_dotted path h = λ rest e. no_dot_first rest (subst IsPath e h)
 
-no_percent : ◌≢◌ {A = ℕ} 47 37
-no_percent k = absurd (omega arith)
-
 slash_one : (y : ℕ) (text : List ℕ) → y ≢ 47 → starts_with nat_eq (written_part y ++ text) (codes "/") ≡ false
-slash_one y text n = part_not y 47 text (λ k. n (sym k)) no_percent
+slash_one y text n = part_not y 47 text (λ k. n (sym k)) (λ k. absurd (omega (arith, k)))
 
 slash_next : (rest : List ℕ) → IsNotDotted (46 ∷ rest) → starts_with nat_eq (written_spelling rest) (codes "/") ≡ false
 slash_next [] h = refl
 slash_next (y ∷ rest) h = slash_one y (written_spelling rest) (λ f. h rest (ap (λ z. 46 ∷ z ∷ rest) f))
 
-dot_first : (text : List ℕ) → starts_with nat_eq text (codes "/") ≡ false → starts_with nat_eq (46 ∷ text) (codes "./") ≡ false
-dot_first text h = h
-
 no_dot : (x : ℕ) (path : List ℕ) → IsNotDotted (x ∷ path) → starts_with nat_eq (written_spelling (x ∷ path)) (codes "./") ≡ false
 no_dot x path h = elim (eqb_tells x 46) [
-  | inl e ↦ ap (λ z. starts_with nat_eq (written_spelling (z ∷ path)) (codes "./")) e.1 ∙ dot_first (written_spelling path) (slash_next path (subst (λ z. IsNotDotted (z ∷ path)) e.1 h))
+  | inl e ↦ ap (λ z. starts_with nat_eq (written_spelling (z ∷ path)) (codes "./")) e.1 ∙ (slash_next path (subst (λ z. IsNotDotted (z ∷ path)) e.1 h))
   | inr e ↦ part_no_dot x (written_spelling path) (λ k. e.1 (sym k))
 ]
-
-or_left : (a b : Bool) → (a || b) ≡ false → a ≡ false
-or_left false b h = refl
-or_left true b h = cc
-
-or_right : (a b : Bool) → (a || b) ≡ false → b ≡ false
-or_right false b h = h
-or_right true b h = cc
 
 not_42 : (x : ℕ) → (x == 42) ≡ false → 42 ≢ x
 not_42 x h e = let k : true ≡ false = sym (ap (λ y. y == 42) (sym e)) ∙ h in cc
 
-drops_none : (front text : List ℕ) → starts_with nat_eq text front ≡ false → without front text ≡ text
-drops_none front text n = rw n refl
-
 dotted_by : (path : List ℕ) (P : List ℕ → Type 0) → P (codes "./" ++ written_spelling path) → (needs_dot path ≡ false → P (written_spelling path)) → P (written_path path)
 dotted_by path P d p = elim (cases_Bool (needs_dot path)) [ inl e ↦ subst (λ b. P ((if b then codes "./" else []) ++ written_spelling path)) (sym e) d | inr e ↦ subst (λ b. P ((if b then codes "./" else []) ++ written_spelling path)) (sym e) (p e) ]
 
-dot_dropped : (text : List ℕ) → plain_path (codes "./" ++ text) ≡ text
-dot_dropped text = refl
-
 read_plain : (text : List ℕ) → starts_with nat_eq text (codes "*") ≡ false → starts_with nat_eq text (codes "./") ≡ false → plain_path text ≡ text
-read_plain text star dot = ap (without (codes "./")) (drops_none (codes "*") text star) ∙ drops_none (codes "./") text dot
-
-no_star_percent : ◌≢◌ {A = ℕ} 42 37
-no_star_percent k = absurd (omega arith)
+read_plain text star dot = rw (star, dot) refl
 
 star_one : (x : ℕ) (text : List ℕ) → (x == 42) ≡ false → starts_with nat_eq (written_part x ++ text) (codes "*") ≡ false
-star_one x text h = part_not x 42 text (not_42 x h) no_star_percent
+star_one x text h = part_not x 42 text (not_42 x h) (λ k. absurd (omega (arith, k)))
 
 no_star : (path : List ℕ) → path ≢ [] → needs_dot path ≡ false → starts_with nat_eq (written_spelling path) (codes "*") ≡ false
 no_star [] some h = absurd (some refl)
-no_star (x ∷ path) some h = star_one x (written_spelling path) (or_left (x == 42) (is_blank x) h)
+no_star (x ∷ path) some h = star_one x (written_spelling path) (or_parts (x == 42) (is_blank x) h).0
 
 no_dot_path : (path : List ℕ) → path ≢ [] → IsNotDotted path → starts_with nat_eq (written_spelling path) (codes "./") ≡ false
 no_dot_path [] some h = absurd (some refl)
@@ -187,20 +149,17 @@ no_dot_path (x ∷ path) some h = no_dot x path h
 
 -- what is written for a path is read as its written spelling
 read_same : (path : List ℕ) → path ≢ [] → IsNotDotted path → plain_path (written_path path) ≡ written_spelling path
-read_same path some h = dotted_by path (λ text. plain_path text ≡ written_spelling path) (dot_dropped (written_spelling path)) (λ e. read_plain (written_spelling path) (no_star path some e) (no_dot_path path some h))
+read_same path some h = dotted_by path (λ text. plain_path text ≡ written_spelling path) refl (λ e. read_plain (written_spelling path) (no_star path some e) (no_dot_path path some h))
 
 path_begins : (path : List ℕ) → path ≢ [] → begins_blank (written_path path) ≡ false
 path_begins [] some = absurd (some refl)
-path_begins (x ∷ path) some = elim (cases_Bool (needs_dot (x ∷ path))) [ inl e ↦ rw e refl | inr e ↦ rw e (part_begins x (written_spelling path) (or_right _ _ e)) ]
-
-dotted : (path : List ℕ) (P : List ℕ → Type 0) → P (codes "./" ++ written_spelling path) → P (written_spelling path) → P (written_path path)
-dotted path P d p = elim (cases_Bool (needs_dot path)) [ inl e ↦ subst (λ b. P ((if b then codes "./" else []) ++ written_spelling path)) (sym e) d | inr e ↦ subst (λ b. P ((if b then codes "./" else []) ++ written_spelling path)) (sym e) p ]
+path_begins (x ∷ path) some = elim (cases_Bool (needs_dot (x ∷ path))) [ inl e ↦ rw e refl | inr e ↦ rw e (part_begins x (written_spelling path) (or_parts _ _ e).1) ]
 
 path_text_plain : (path : List ℕ) → AllByRecursion IsPlain (written_path path)
-path_text_plain path = dotted path (AllByRecursion IsPlain) ((λ e. cc, λ e. cc), ((λ e. cc, λ e. cc), path_plain path)) (path_plain path)
+path_text_plain path = dotted_by path (AllByRecursion IsPlain) ((λ e. cc, λ e. cc), ((λ e. cc, λ e. cc), path_plain path)) (λ n. path_plain path)
 
 path_text_utf8 : (path : List ℕ) → IsUtf8 path → IsUtf8 (written_path path)
-path_text_utf8 path u = dotted path IsUtf8 (IsUtf8-append (codes "./") (written_spelling path) (IsUtf8-append (46 ∷ []) (47 ∷ []) (utf8_one 46 (omega arith)) (utf8_one 47 (omega arith))) (written_utf8 path u)) (written_utf8 path u)
+path_text_utf8 path u = dotted_by path IsUtf8 (IsUtf8-append (codes "./") (written_spelling path) (IsUtf8-append (46 ∷ []) (47 ∷ []) (utf8_one 46 (omega arith)) (utf8_one 47 (omega arith))) (written_utf8 path u)) (λ n. written_utf8 path u)
 
 hex_of_pair : (p : Pair) → CanBeWritten p → IsHex (lower_case_of p.digest)
 hex_of_pair p h = hex_of (alg_of p.digest) (lower_case_of p.digest) p.digest h.1
@@ -220,19 +179,13 @@ not_blank : (p : Pair) → CanBeWritten p → is_blank_line (pair_text p) ≡ fa
 not_blank p h = ap is_blank_line (append_assoc (lower_case_of p.digest) (codes "  ") (written_path p.path)) ∙ hex_not_blank (lower_case_of p.digest) (codes "  " ++ written_path p.path) (hex_of_pair p h)
 
 -- no pair before has the path
-bytes_other : (a b : List ℕ) → bytes_eq a b ≡ false → bytes_eq b a ≡ false
-bytes_other a b h = elim (cases_Bool (bytes_eq b a)) [
-  | inl e ↦ absurd (let k : true ≡ false = sym ((bytes_eq-Decides a b).1 (sym ((bytes_eq-Decides b a).0 e))) ∙ h in cc)
-  | inr e ↦ e
-]
-
 among : (bs rest : List Pair) (p : Pair) (q : List ℕ) → lists_path (bs ++ p ∷ rest) q ≡ false → bytes_eq p.path q ≡ false
-among [] rest p q h = or_left _ _ h
-among (b ∷ bs) rest p q h = among bs rest p q (or_right _ _ h)
+among [] rest p q h = (or_parts _ _ h).0
+among (b ∷ bs) rest p q h = among bs rest p q (or_parts _ _ h).1
 
 not_before : (bs rest : List Pair) (p : Pair) → NoneTwice (bs ++ p ∷ rest) → lists_path bs p.path ≡ false
 not_before [] rest p h = refl
-not_before (b ∷ bs) rest p h = rw (bytes_other p.path b.path (among bs rest p b.path h.0)) (not_before bs rest p h.1)
+not_before (b ∷ bs) rest p h = rw (unlike p.path b.path (among bs rest p b.path h.0)) (not_before bs rest p h.1)
 
 abbrev listing : Alg → Kind → List Pair → Listing
 listing alg kind pairs = record { alg = alg; kind = kind; pairs = pairs }

@@ -15,7 +15,7 @@ use Rattle.std.specs.List.{AllByRecursion}
 use Rattle.bag_tags.proofs.DecisionLemmas.{Decided, decided_by, decided_as, decided_both, decided_either, decided_all, decided_some, decided_equal, decided_letter_or_digit}
 
 -- a path is not two texts that differ
-apart : (path a b : List ℕ) → path ≡ a → path ≡ b → bytes_eq a b ≡ false → ⊥
+pub apart : (path a b : List ℕ) → path ≡ a → path ≡ b → bytes_eq a b ≡ false → ⊥
 apart path a b h e differ = let same = (bytes_eq-Decides a b).1 (sym h ∙ e) in cc
 
 one_alg : (a b : Alg) → name_of a ≡ name_of b → a ≡ b

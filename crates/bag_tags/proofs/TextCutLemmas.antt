@@ -1,27 +1,23 @@
 -- Parts of lists and of texts.
-use Rattle.std.proofs.Common.{◌≡◌, ◌<◌, ◌≤◌, ◌+◌, drop, length-drop, slice_index, ℕ, Bool, true, false, not, List, [], ◌∷◌, ◌++◌, length, get_or, refl, sym, ap, ◌∙◌, subst, inl, inr, arith, length-append, ◌&&◌, zero, suc, take, nat_eq, take-append-drop}
+use Rattle.std.proofs.Common.{◌≡◌, ◌≢◌, ◌<◌, ◌≤◌, ◌+◌, drop, length-drop, slice_index, ℕ, Bool, true, false, List, [], ◌∷◌, ◌++◌, length, get_or, refl, sym, ap, ◌∙◌, subst, inl, inr, arith, length-append, zero, suc, take, nat_eq, take-append-drop}
 use Rattle.std.proofs.Math.Seq.{take-append_seam, get_or-append_seam}
 use Rattle.std.specs.List.{AllByRecursion, starts_with}
 use Rattle.std.specs.Str.{IsUtf8, IsCharBoundary, IsAscii, chars}
 use Rattle.std.proofs.lemmas.List.{get_or-drop, append_cancel_left}
-use Rattle.std.proofs.lemmas.Bool.{not-false, not_from_true, cases_Bool}
+use Rattle.std.proofs.lemmas.Bool.{not-false, cases_Bool, and_parts}
 use Rattle.std.proofs.lemmas.Bool.Decides.{nat_tests}
-use Rattle.std.proofs.lemmas.Str.{IsUtf8-take, IsUtf8-from_ascii, IsCharBoundary-before_ascii, IsCharBoundary-start, chars-append, scalars-chars, encodes-append, encodes-chars, IsAscii-append}
+use Rattle.std.proofs.lemmas.Str.{IsUtf8-take, IsUtf8-from_ascii, IsCharBoundary-before_ascii, IsCharBoundary-start, chars-append, scalars-chars, encodes-append, encodes-chars}
 use Rattle.bag_tags.specs.Words.{is_blank, IsBlank, is_blank_line, begins_blank, without}
-use Rattle.bag_tags.specs.WordsReading.{until, stops, is_not_blank, is_dot, is_colon}
+use Rattle.bag_tags.specs.WordsReading.{until, stops, is_not_blank}
 use Rattle.bag_tags.specs.declared.words.Stop.{Stop}
-use Rattle.bag_tags.specs.declared.words.Stop.TheVariants.{Blank, NoBlank, Dot, Colon}
+use Rattle.bag_tags.specs.declared.words.Stop.TheVariants.{Blank, NoBlank}
 use Rattle.bag_tags.proofs.WordsLemmas.{each, until_whole, until_front, begins_with, unblank_rest}
 use Rattle.std.proofs.lemmas.Slice.Eq.{bytes_eq-Decides}
 use Rattle.std.proofs.Math.Utf8.{scalars, encodes}
 
-and_second : (a b : Bool) → (a && b) ≡ true → b ≡ true
-and_second true b h = h
-and_second false b h = cc
-
 scalars_rest : (cs ds : List ℕ) → scalars (cs ++ ds) ≡ true → scalars ds ≡ true
 scalars_rest [] ds h = h
-scalars_rest (c ∷ cs) ds h = scalars_rest cs ds (and_second _ (scalars (cs ++ ds)) h)
+scalars_rest (c ∷ cs) ds h = scalars_rest cs ds (and_parts _ (scalars (cs ++ ds)) h).1
 
 pub IsUtf8-rest : (front rest : List ℕ) → IsUtf8 front → IsUtf8 (front ++ rest) → IsUtf8 rest
 IsUtf8-rest front rest f whole = (
@@ -122,17 +118,14 @@ ascii_rest test below text front (y ∷ ys) e u =
     let b = below y (begins_with test text y ys (ap (λ (u : List ℕ × List ℕ). u.1) e)) in
     IsUtf8-rest front (y ∷ ys) (utf8_before front ys y b whole) whole
 
-dot_below : (x : ℕ) → is_dot x ≡ true → x < 128
-dot_below x h = grind (arith, nat_tests)
-
-colon_below : (x : ℕ) → is_colon x ≡ true → x < 128
-colon_below x h = grind (arith, nat_tests)
+stop_below : (stop : Stop) → stop ≢ NoBlank → (x : ℕ) → stops stop x ≡ true → x < 128
+stop_below Blank n x h = blank_below x h
+stop_below NoBlank n x h = absurd (n refl)
+stop_below stop n x h = grind (arith, nat_tests)
 
 pub rest_utf8 : (stop : Stop) (text front rest : List ℕ) → until (stops stop) text ≡ (front, rest) → IsUtf8 text → IsUtf8 rest
-rest_utf8 Blank text front rest e u = ascii_rest is_blank blank_below text front rest e u
 rest_utf8 NoBlank text front rest e u = utf8_after_blanks front rest (blanks_of text front rest e) (subst IsUtf8 (whole_of is_not_blank text front rest e) u)
-rest_utf8 Dot text front rest e u = ascii_rest is_dot dot_below text front rest e u
-rest_utf8 Colon text front rest e u = ascii_rest is_colon colon_below text front rest e u
+rest_utf8 stop text front rest e u = ascii_rest (stops stop) (stop_below stop (λ n. cc)) text front rest e u
 
 pub boundary_of_rest : (text : List ℕ) (n : ℕ) → n ≤ length text → IsUtf8 (drop n text) → IsCharBoundary text n
 boundary_of_rest text n within u = (

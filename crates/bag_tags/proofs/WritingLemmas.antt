@@ -1,7 +1,7 @@
 -- Texts that are written line by line are read as these lines.
-use Rattle.std.proofs.Common.{◌≡◌, ◌≢◌, ◌==◌, ℕ, false, List, [], ◌∷◌, ◌++◌, map, length, take, nat_eq, refl, sym, ap, ◌∙◌, subst, inl, inr, ◌&&◌, ◌<◌, Bool, true, codes, encode_utf8, encode_utf8_all, drop, take-append-drop, arith, append-nil}
+use Rattle.std.proofs.Common.{◌≡◌, ◌≢◌, ◌==◌, ℕ, false, List, [], ◌∷◌, ◌++◌, map, length, take, nat_eq, refl, sym, ap, ◌∙◌, subst, inl, inr, ◌<◌, true, codes, encode_utf8, encode_utf8_all, drop, take-append-drop, arith, append-nil}
 use Rattle.std.specs.List.{AllByRecursion, All, enumerate_from, starts_with}
-use Rattle.std.proofs.lemmas.Bool.{ne_eqb, cases_Bool}
+use Rattle.std.proofs.lemmas.Bool.{ne_eqb, cases_Bool, and_parts}
 use Rattle.std.proofs.lemmas.List.Elements.{All-from_recursion, recursion_from_All}
 use Rattle.std.proofs.lemmas.List.Concat.{flat_map-cons, flat_map-append}
 use Rattle.std.proofs.Math.Seq.{take-length}
@@ -75,19 +75,8 @@ no_mark (p ∷ q ∷ []) rest x a b c h = rw (ne_eqb 191 x (λ e. b (sym e))) (e
 ])
 no_mark (p ∷ q ∷ r ∷ word) rest x a b c h = h
 
-and_left : (a b : Bool) → (a && b) ≡ true → (a && true) ≡ true
-and_left true b h = refl
-and_left false b h = cc
-
-and_right : (a b : Bool) → (a && b) ≡ true → b ≡ true
-and_right true b h = h
-and_right false b h = cc
-
-ascii : (bs : List ℕ) → AllByRecursion (λ b. b < 128) bs → IsUtf8 bs
-ascii bs h = IsUtf8-from_ascii bs (IsAscii-from_each bs h)
-
 small : (a b c : ℕ) → a < 128 → b < 128 → c < 128 → IsUtf8 (a ∷ b ∷ c ∷ [])
-small a b c x y z = ascii (a ∷ b ∷ c ∷ []) (x, (y, (z, tt)))
+small a b c x y z = IsUtf8-from_ascii (a ∷ b ∷ c ∷ []) (IsAscii-from_each (a ∷ b ∷ c ∷ []) (x, (y, (z, tt))))
 
 char_utf8 : (c : ℕ) → scalars (c ∷ []) ≡ true → IsUtf8 (encode_utf8 c)
 char_utf8 c h = (c ∷ [], (h, append-nil (encode_utf8 c)))
@@ -107,7 +96,7 @@ written_one c h = elim (eqb_tells c 37) [
 written_chars : (cs : List ℕ) → scalars cs ≡ true → IsUtf8 (written_spelling (encode_utf8_all cs))
 written_chars [] h = IsUtf8-nil
 written_chars (c ∷ cs) h = subst IsUtf8 (sym (flat_map-append written_part (encode_utf8 c) (encode_utf8_all cs)))
-    (IsUtf8-append (written_spelling (encode_utf8 c)) (written_spelling (encode_utf8_all cs)) (written_one c (and_left _ (scalars cs) h)) (written_chars cs (and_right _ (scalars cs) h)))
+    (IsUtf8-append (written_spelling (encode_utf8 c)) (written_spelling (encode_utf8_all cs)) (let s = (and_parts _ (scalars cs) h).0 in written_one c (rw s refl)) (written_chars cs (and_parts _ (scalars cs) h).1))
 
 pub written_utf8 : (path : List ℕ) → IsUtf8 path → IsUtf8 (written_spelling path)
 written_utf8 path u = subst (λ octets. IsUtf8 (written_spelling octets)) u.1.1 (written_chars u.0 u.1.0)

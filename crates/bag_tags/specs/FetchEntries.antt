@@ -22,8 +22,8 @@ fetch_item url octets path = record { url = url; octets = octets; path = path }
 
 -- a letter, a digit, `+`, `-` or `.`
 abbrev pub IsSchemeOctet : ℕ → Type 0
-IsSchemeOctet octet = IsAsciiAlphabetic octet ⊎ IsAsciiDigit octet ⊎ (octet ≡ plus) ⊎ (octet ≡ hyphen)
-    ⊎ (octet ≡ dot)
+IsSchemeOctet octet = IsAsciiAlphabetic octet ⊎ IsAsciiDigit octet
+    ⊎ (octet ≡ plus) ⊎ (octet ≡ hyphen) ⊎ (octet ≡ dot)
 
 -- a scheme (RFC 3986 section 3.1) begins with a letter
 abbrev pub IsScheme : List ℕ → Type 0

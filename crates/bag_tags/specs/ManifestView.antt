@@ -13,7 +13,8 @@ use Rattle.bag_tags.specs.declared.manifest.Manifest.TheInside.{Inside}
 use Rattle.bag_tags.specs.Listings.{Listing, IsInPlace, NoneTwice}
 
 abbrev pub listing_of : Inside → Listing
-listing_of manifest = record { alg = manifest.alg; kind = manifest.kind; pairs = manifest.pairs.items }
+listing_of manifest =
+    record { alg = manifest.alg; kind = manifest.kind; pairs = manifest.pairs.items }
 
 -- where the first pair with this path stands, counted from n
 abbrev pub place_from : ℕ → List Pair → List ℕ → Option ℕ

@@ -46,7 +46,7 @@ abbrev pub IsReserved : List ℕ → TagName → Type 0
 IsReserved path Declaration = path ≡ codes "bagit.txt"  -- section 2.1.1
 IsReserved path (PayloadManifest alg) = path ≡ payload_manifest (name_of alg)  -- section 2.1.3
 IsReserved path (TagManifest alg) = path ≡ tag_manifest (name_of alg)  -- section 2.2.1
-IsReserved path UnknownManifest = (word : List ℕ) × IsUnknownManifest path word  -- sections 2.1.3 and 2.2.1
+IsReserved path UnknownManifest = (word : List ℕ) × IsUnknownManifest path word  -- 2.1.3 and 2.2.1
 IsReserved path Info = path ≡ codes "bag-info.txt"  -- section 2.2.2
 IsReserved path FetchList = path ≡ codes "fetch.txt"  -- section 2.2.3
 IsReserved path Other = ⊥
