@@ -1,6 +1,6 @@
 -- Faults that are added to others.
 use Rattle.std.proofs.Common.{◌≡◌, ◌⊎◌, ◌||◌, ◌==◌, ℕ, Bool, true, false, List, [], ◌∷◌, ◌++◌, refl, sym, ap, ◌∙◌, inl, inr, subst}
-use Rattle.bag_rules.proofs.Words.{Adds, Bag, Fault, Has, HasFaultOf, list_any, number_of}
+use Rattle.bag_rules.proofs.Words.{Adds, Bag, Fault, Has, HasFaultOf, list_any, list_any-append, number_of, or_cases, or_left, or_right}
 use Rattle.bag_rules.proofs.HasLemmas.{has_push}
 
 pub adds_push : (old new : List Fault) (fault : Fault) → new ≡ old ++ fault ∷ [] → Adds old new (λ f. fault ≡ f)
@@ -37,30 +37,10 @@ adds_on old mid new P Q R split first second a b f = (
 pub adds_of : (bag : Bag) (xs ys : List ℕ) (old new : List Fault) → ((f : Fault) → list_any (λ kind. kind == number_of f) xs ≡ list_any (λ kind. kind == number_of f) ys) → Adds old new (HasFaultOf bag xs) → Adds old new (HasFaultOf bag ys)
 adds_of bag xs ys old new same a = adds_so old new (HasFaultOf bag xs) (HasFaultOf bag ys) (λ f h. (h.0, sym (same f) ∙ h.1)) (λ f h. (h.0, same f ∙ h.1)) a
 
--- either of two tests
-any_or : (n : ℕ) (xs ys : List ℕ) → list_any (λ kind. kind == n) (xs ++ ys) ≡ (list_any (λ kind. kind == n) xs || list_any (λ kind. kind == n) ys)
-any_or n [] ys = refl
-any_or n (x ∷ xs) ys = ap (λ b. (x == n) || b) (any_or n xs ys) ∙ or_assoc (x == n) (list_any (λ kind. kind == n) xs) (list_any (λ kind. kind == n) ys)
-  where
-    or_assoc : (a b c : Bool) → (a || (b || c)) ≡ ((a || b) || c)
-    or_assoc true b c = refl
-    or_assoc false b c = refl
-
-or_split : (a b : Bool) → (a || b) ≡ true → (a ≡ true) ⊎ (b ≡ true)
-or_split true b h = inl refl
-or_split false b h = inr h
-
-or_first : (a b : Bool) → a ≡ true → (a || b) ≡ true
-or_first a b h = rw h refl
-
-or_second : (a b : Bool) → b ≡ true → (a || b) ≡ true
-or_second true b h = refl
-or_second false b h = h
-
 -- the broken faults of some kinds, and then those of others
 pub adds_kinds : (bag : Bag) (xs ys : List ℕ) (old mid new : List Fault) → Adds old mid (HasFaultOf bag xs) → Adds mid new (HasFaultOf bag ys) → Adds old new (HasFaultOf bag (xs ++ ys))
 adds_kinds bag xs ys old mid new a b = adds_on old mid new (HasFaultOf bag xs) (HasFaultOf bag ys) (HasFaultOf bag (xs ++ ys))
-    (λ f h. elim (or_split (list_any (λ kind. kind == number_of f) xs) (list_any (λ kind. kind == number_of f) ys) (sym (any_or (number_of f) xs ys) ∙ h.1)) [ inl k ↦ inl (h.0, k) | inr k ↦ inr (h.0, k) ])
-    (λ f h. (h.0, any_or (number_of f) xs ys ∙ or_first (list_any (λ kind. kind == number_of f) xs) (list_any (λ kind. kind == number_of f) ys) h.1))
-    (λ f h. (h.0, any_or (number_of f) xs ys ∙ or_second (list_any (λ kind. kind == number_of f) xs) (list_any (λ kind. kind == number_of f) ys) h.1))
+    (λ f h. elim (or_cases _ _ (sym (list_any-append (λ kind. kind == number_of f) xs ys) ∙ h.1)) [ inl k ↦ inl (h.0, k) | inr k ↦ inr (h.0, k) ])
+    (λ f h. (h.0, list_any-append (λ kind. kind == number_of f) xs ys ∙ or_left _ _ h.1))
+    (λ f h. (h.0, list_any-append (λ kind. kind == number_of f) xs ys ∙ or_right _ _ h.1))
     a b

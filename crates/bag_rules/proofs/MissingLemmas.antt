@@ -1,6 +1,6 @@
 -- The files that a manifest lists and that are not there.
 use Rattle.std.proofs.Common.{◌≡◌, ◌||◌, ℕ, Bool, true, false, List, [], ◌∷◌, ◌++◌, Contains, refl, sym, ap, ◌∙◌, inl, inr, subst}
-use Rattle.bag_rules.proofs.Words.{Adds, bytes_eq, bytes_eq-Decides, cases_Bool, Fault, Has, IsMissingBy, IsPairMissing, Listing, lists_path, ManifestName, Missing, name_in, Pair}
+use Rattle.bag_rules.proofs.Words.{Adds, bytes_eq, bytes_eq-Decides, cases_Bool, Fault, Has, IsMissingBy, IsPairMissing, Listing, lists_path, ManifestName, Missing, name_in, or_right, Pair}
 use Rattle.bag_rules.proofs.AddsLemmas.{adds_so, adds_one}
 use Rattle.bag_rules.proofs.EachLemmas.{OfSome}
 
@@ -15,11 +15,7 @@ pair_of (p ∷ pairs) path h = elim (cases_Bool (bytes_eq p.path path)) [
 pub pair_listed : (pairs : List Pair) (pair : Pair) → Has pairs pair → lists_path pairs pair.path ≡ true
 pair_listed [] pair h = absurd h
 pair_listed (p ∷ pairs) pair (inl e) = rw ((bytes_eq-Decides p.path pair.path).1 (ap (λ (q : Pair). q.path) e)) refl
-pair_listed (p ∷ pairs) pair (inr h) = second (bytes_eq p.path pair.path) (lists_path pairs pair.path) (pair_listed pairs pair h)
-  where
-    second : (a b : Bool) → b ≡ true → (a || b) ≡ true
-    second true b h = refl
-    second false b h = h
+pair_listed (p ∷ pairs) pair (inr h) = or_right (bytes_eq p.path pair.path) (lists_path pairs pair.path) (pair_listed pairs pair h)
 
 -- the pairs whose files are not there
 pub missing_by : (paths : List (List ℕ)) (listing : Listing) (pairs : List Pair) (name : ManifestName) (old new : List Fault) → pairs ≡ listing.pairs → name ≡ name_in listing

@@ -1,13 +1,13 @@
 -- The places of paths in a rising list.
 use Rattle.std.proofs.Common.{◌≡◌, ℕ, ◌<◌, List, Some, slice_get, get_or, length, Contains, refl, sym, ap, ◌∙◌, arith, inl, inr}
-use Rattle.bag_rules.proofs.Words.{AreRising, cases_lt, Equal, get_or_from_slice_get, Greater, Less, Less-from_sorted, nat_cmp, nat_list_cmp_total, ordering_reverse, same_Some, slice_cmp, slice_get_read, slice_get_within, tied_itself}
+use Rattle.bag_rules.proofs.Words.{AreRising, cases_order, Equal, get_or_from_slice_get, Greater, Less, Less-from_sorted, nat_cmp, nat_list_cmp_total, ordering_reverse, same_Some, slice_cmp, slice_get_read, slice_get_within, tied_itself}
 
--- a path that is in the list stands at some place
-pub place_of : (paths : List (List ℕ)) (path : List ℕ) → Contains paths path → (k : ℕ) × (slice_get paths k ≡ Some path)
-place_of paths path found = (found.0, slice_get_read paths (length paths) found.0 path refl found.1 (sym found.2))
+-- what is in a list stands at some place
+pub place_of : {X : Type 0} (xs : List X) (x : X) → Contains xs x → (k : ℕ) × (slice_get xs k ≡ Some x)
+place_of xs x found = (found.0, slice_get_read xs (length xs) found.0 x refl found.1 (sym found.2))
 
-pub contains_at : (paths : List (List ℕ)) (i : ℕ) (path : List ℕ) → slice_get paths i ≡ Some path → Contains paths path
-contains_at paths i path here = (i, slice_get_within paths i path here, get_or_from_slice_get paths i path path here)
+pub contains_at : {X : Type 0} (xs : List X) (i : ℕ) (x : X) → slice_get xs i ≡ Some x → Contains xs x
+contains_at xs i x here = (i, slice_get_within xs i x here, get_or_from_slice_get xs i x x here)
 
 module _ (paths : List (List ℕ)) (rising : AreRising paths) where
   -- the path at the lower place is less
@@ -19,16 +19,15 @@ module _ (paths : List (List ℕ)) (rising : AreRising paths) where
 
   -- the lesser path stands at the lower place
   pub lower : (i j : ℕ) (x y : List ℕ) → slice_get paths i ≡ Some x → slice_get paths j ≡ Some y → slice_cmp nat_cmp x y ≡ Less → i < j
-  lower i j x y p q less = elim (cases_lt i j) [
-    | inl below ↦ below
-    | inr above ↦ elim (cases_lt j i) [
-      | inl past ↦ (let turned : slice_cmp nat_cmp x y ≡ Greater = nat_list_cmp_total.antisymm x y ∙ ap ordering_reverse (lesser j i y x q p past) in absurd (cc))
-      | inr here ↦ (
-          let place : i ≡ j = omega arith in
-          let same : x ≡ y = same_Some x y (sym p ∙ ap (slice_get paths) place ∙ q) in
-          let tied : slice_cmp nat_cmp x y ≡ Equal = ap (slice_cmp nat_cmp x) (sym same) ∙ tied_itself nat_list_cmp_total x in
-          absurd (cc)
-          )
+  lower i j x y p q less = elim (cases_order i j) [
+    | inl place ↦ (
+        let same : x ≡ y = same_Some x y (sym p ∙ ap (slice_get paths) place ∙ q) in
+        let tied : slice_cmp nat_cmp x y ≡ Equal = ap (slice_cmp nat_cmp x) (sym same) ∙ tied_itself nat_list_cmp_total x in
+        absurd (cc)
+        )
+    | inr other ↦ elim other [
+      | inl below ↦ below
+      | inr past ↦ (let turned : slice_cmp nat_cmp x y ≡ Greater = nat_list_cmp_total.antisymm x y ∙ ap ordering_reverse (lesser j i y x q p past) in absurd (cc))
     ]
   ]
 

@@ -20,7 +20,7 @@ unfolding IsStrictlySortedBy
 sorted_by_key key cmp [] h = tt
 sorted_by_key key cmp (x ∷ xs) h = (all_of_keys key (λ k. cmp (key x) k ≡ Less) xs h.0, sorted_by_key key cmp xs h.1)
 
-all_has : {X : Type 0} (P : X → Type 0) (xs : List X) (x : X) → AllByRecursion P xs → Has xs x → P x
+pub all_has : {X : Type 0} (P : X → Type 0) (xs : List X) (x : X) → AllByRecursion P xs → Has xs x → P x
 all_has P [] x all has = absurd has
 all_has P (first ∷ xs) x all (inl e) = subst P e all.0
 all_has P (first ∷ xs) x all (inr has) = all_has P xs x all.1 has

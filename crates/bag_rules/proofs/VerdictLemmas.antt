@@ -1,6 +1,6 @@
 -- From what a check found to the verdict.
-use Rattle.std.proofs.Common.{◌≡◌, ◌⊎◌, ◌↔◌, ◌<◌, ◌≤◌, ◌==◌, ◌∙◌, ℕ, true, false, List, [], ◌∷◌, ◌++◌, length, refl, sym, ap, subst, inl, inr, arith, nat_le}
-use Rattle.bag_rules.proofs.Words.{Adds, AreInOrder, AreRising, BadDeclaration, Bag, cases_lt, Declaration, declaration_file, Declares, eqb-true, excludes, Fault, Has, HasFault, HasFaultOf, IsDeclarationFault, IsInProfile, IsJudged, kind_of_lines, kinds_beside_lines, kinds_of_files, kinds_of_form, leb-true, list_any, NoDeclaration, NoneBelow, number_of, tier_of}
+use Rattle.std.proofs.Common.{◌≡◌, ◌↔◌, ◌<◌, ◌≤◌, ◌==◌, ◌∙◌, ℕ, true, false, List, [], ◌∷◌, ◌++◌, length, refl, sym, ap, subst, inl, inr, arith}
+use Rattle.bag_rules.proofs.Words.{Adds, AreInOrder, AreRising, BadDeclaration, Bag, cases_order, Declaration, declaration_file, Declares, eqb-true, excludes, Fault, Has, HasFault, HasFaultOf, IsDeclarationFault, IsInProfile, IsJudged, kind_of_lines, kinds_beside_lines, kinds_of_files, kinds_of_form, list_any, NoDeclaration, NoneBelow, number_of, tier_of}
 use Rattle.bag_rules.specs.Bags.{paths_of}
 use Rattle.bag_rules.proofs.AddsLemmas.{adds_kinds, adds_of}
 use Rattle.bag_rules.proofs.TreeLemmas.{one_octets}
@@ -15,34 +15,20 @@ found_files NoDeclaration = refl
 found_files _ = refl
 
 -- which tier a kind is of
-tiers : (fault : Fault) → (list_any (λ kind. kind == number_of fault) kinds_of_form ≡ (tier_of fault == 2)) × (list_any (λ kind. kind == number_of fault) kinds_of_files ≡ (tier_of fault == 3)) × (nat_le (tier_of fault) 3 ≡ true) × (nat_le 1 (tier_of fault) ≡ true)
-tiers NoDeclaration = (refl, refl, refl, refl)
-tiers _ = (refl, refl, refl, refl)
+tiers : (fault : Fault) → (list_any (λ kind. kind == number_of fault) kinds_of_form ≡ (tier_of fault == 2)) × (list_any (λ kind. kind == number_of fault) kinds_of_files ≡ (tier_of fault == 3))
+tiers NoDeclaration = (refl, refl)
+tiers _ = (refl, refl)
 
-pub tier_of_form : (fault : Fault) → list_any (λ kind. kind == number_of fault) kinds_of_form ≡ true → tier_of fault ≡ 2
-tier_of_form fault h = eqb-true (tier_of fault) 2 (sym (tiers fault).0 ∙ h)
+form_tier : (fault : Fault) → (list_any (λ kind. kind == number_of fault) kinds_of_form ≡ true) ↔ (tier_of fault ≡ 2)
+form_tier fault = (λ h. eqb-true (tier_of fault) 2 (sym (tiers fault).0 ∙ h), λ h. (tiers fault).0 ∙ ap (λ n. n == 2) h)
 
-pub form_of_tier : (fault : Fault) → tier_of fault ≡ 2 → list_any (λ kind. kind == number_of fault) kinds_of_form ≡ true
-form_of_tier fault h = (tiers fault).0 ∙ ap (λ n. n == 2) h
+file_tier : (fault : Fault) → (list_any (λ kind. kind == number_of fault) kinds_of_files ≡ true) ↔ (tier_of fault ≡ 3)
+file_tier fault = (λ h. eqb-true (tier_of fault) 3 (sym (tiers fault).1 ∙ h), λ h. (tiers fault).1 ∙ ap (λ n. n == 3) h)
 
-pub tier_of_file : (fault : Fault) → list_any (λ kind. kind == number_of fault) kinds_of_files ≡ true → tier_of fault ≡ 3
-tier_of_file fault h = eqb-true (tier_of fault) 3 (sym (tiers fault).1 ∙ h)
-
-pub file_of_tier : (fault : Fault) → tier_of fault ≡ 3 → list_any (λ kind. kind == number_of fault) kinds_of_files ≡ true
-file_of_tier fault h = (tiers fault).1 ∙ ap (λ n. n == 3) h
-
--- below a tier, or of it, or above it
-in_tier : (n tier : ℕ) → (n < tier) ⊎ (n ≡ tier) ⊎ (tier < n)
-in_tier n tier = elim (cases_lt n tier) [
-  | inl below ↦ inl below
-  | inr past ↦ elim (cases_lt tier n) [ inl above ↦ inr (inr above) | inr here ↦ inr (inl (omega (arith, past, here))) ]
-]
-
-at_most_3 : (fault : Fault) → tier_of fault ≤ 3
-at_most_3 fault = leb-true (tier_of fault) 3 (tiers fault).2
-
-at_least_1 : (fault : Fault) → 1 ≤ tier_of fault
-at_least_1 fault = leb-true 1 (tier_of fault) (tiers fault).3
+-- the tiers, by the numbers of their kinds
+pub number_by_tier : (fault : Fault) → (tier_of fault < 3 → number_of fault ≤ 8) × (1 ≤ tier_of fault) × (tier_of fault ≤ 3)
+number_by_tier NoDeclaration = (λ h. omega arith, omega arith, omega arith)
+number_by_tier fault = (λ h. omega (arith, h), omega arith, omega arith)
 
 -- a bag that declares something has no fault of the declaration
 pub declared_none : (bag : Bag) (declaration : Declaration) → AreRising (paths_of bag) → Declares bag declaration → NoneBelow 2 bag
@@ -68,21 +54,26 @@ form_found bag start lines faults e a b = subst (λ (fs : List Fault). Adds fs f
 pub form_some : (bag : Bag) (faults : List Fault) → Adds [] faults (HasFaultOf bag kinds_of_form) → (length faults == 0) ≡ false → NoneBelow 3 bag → ⊥
 form_some bag faults adds some none = let first = some_first faults some in elim ((adds first.0).0 first.1) [
   | inl old ↦ old
-  | inr new ↦ none first.0 (omega (arith, tier_of_form first.0 new.1)) new.0
+  | inr new ↦ none first.0 (omega (arith, (form_tier first.0).0 new.1)) new.0
 ]
 
 -- no fault of the form was found
 pub form_none : (bag : Bag) (faults : List Fault) → NoneBelow 2 bag → Adds [] faults (HasFaultOf bag kinds_of_form) → faults ≡ [] → NoneBelow 3 bag
-form_none bag faults none adds empty fault below broken = elim (in_tier (tier_of fault) 2) [
-  | inl lower ↦ none fault lower broken
-  | inr past ↦ elim past [
-    | inl here ↦ subst (λ fs. Has fs fault) empty ((adds fault).1 (inr (broken, form_of_tier fault here)))
-    | inr above ↦ absurd (omega (arith, below, above))
-  ]
+form_none bag faults none adds empty fault below broken = elim (cases_order (tier_of fault) 2) [
+  | inl here ↦ subst (λ fs. Has fs fault) empty ((adds fault).1 (inr (broken, (form_tier fault).1 here)))
+  | inr other ↦ elim other [ inl lower ↦ none fault lower broken | inr above ↦ absurd (omega (arith, below, above)) ]
 ]
 
+-- what was found of the kinds of one tier
+tier_found : (bag : Bag) (kinds : List ℕ) (tier : ℕ) (faults : List Fault) → ((fault : Fault) → (list_any (λ kind. kind == number_of fault) kinds ≡ true) ↔ (tier_of fault ≡ tier))
+    → Adds [] faults (HasFaultOf bag kinds) → (fault : Fault) → Has faults fault ↔ (HasFault bag fault × (tier_of fault ≡ tier))
+tier_found bag kinds tier faults tells adds fault = (
+  λ h. elim ((adds fault).0 h) [ inl old ↦ absurd old | inr new ↦ (new.0, (tells fault).0 new.1) ],
+  λ h. (adds fault).1 (inr (h.0, (tells fault).1 h.1)),
+)
+
 -- the faults of one tier, where no fault of a lower one is broken
-tier_judged : (tier : ℕ) (bag : Bag) (faults report : List Fault) → IsInProfile bag → NoneBelow tier bag
+tier_judged : (tier : ℕ) (bag : Bag) (faults report : List Fault) → (NoneBelow 2 bag → IsInProfile bag) → NoneBelow tier bag
     → ((fault : Fault) → Has faults fault ↔ (HasFault bag fault × (tier_of fault ≡ tier))) → ((fault : Fault) → tier < tier_of fault → ¬ NoneBelow (tier_of fault) bag)
     → AreInOrder report → ((fault : Fault) → Has report fault ↔ Has faults fault) → IsJudged bag report
 tier_judged tier bag faults report profile none are above in_order same = record {
@@ -91,58 +82,38 @@ tier_judged tier bag faults report profile none are above in_order same = record
     λ h. (let found = (are fault).0 ((same fault).0 h) in (found.0, subst (λ t. NoneBelow t bag) (sym found.1) none)),
     λ h. (same fault).1 ((are fault).1 (
       h.0,
-      elim (in_tier (tier_of fault) tier) [
-        | inl lower ↦ absurd (none fault lower h.0)
-        | inr past ↦ elim past [ inl here ↦ here | inr later ↦ absurd (above fault later h.1) ]
+      elim (cases_order (tier_of fault) tier) [
+        | inl here ↦ here
+        | inr other ↦ elim other [ inl lower ↦ absurd (none fault lower h.0) | inr later ↦ absurd (above fault later h.1) ]
       ],
     )),
   );
-  in_profile = λ none. profile;
+  in_profile = profile;
 }
 
 -- the verdict on a bag with faults of the form
 pub judged_by_form : (bag : Bag) (faults report : List Fault) → IsInProfile bag → NoneBelow 2 bag → Adds [] faults (HasFaultOf bag kinds_of_form) → (length faults == 0) ≡ false
     → AreInOrder report → ((fault : Fault) → Has report fault ↔ Has faults fault) → IsJudged bag report
 judged_by_form bag faults report profile none adds some in_order same =
+    let are = tier_found bag kinds_of_form 2 faults form_tier adds in
     let first = some_first faults some in
-    let are : (fault : Fault) → Has faults fault ↔ (HasFault bag fault × (tier_of fault ≡ 2)) = λ fault. (
-      λ h. elim ((adds fault).0 h) [ inl old ↦ absurd old | inr new ↦ (new.0, tier_of_form fault new.1) ],
-      λ h. (adds fault).1 (inr (h.0, form_of_tier fault h.1)),
-    ) in
     let found = (are first.0).0 first.1 in
-    tier_judged 2 bag faults report profile none are
-    (λ fault above below. below first.0 (omega (arith, above, found.1)) found.0)
-    in_order same
+    tier_judged 2 bag faults report (λ none. profile) none are (λ fault above below. below first.0 (omega (arith, above, found.1)) found.0) in_order same
 
 -- the verdict on a bag of the right form
 pub judged_by_files : (bag : Bag) (faults report : List Fault) → IsInProfile bag → NoneBelow 3 bag → Adds [] faults (HasFaultOf bag kinds_of_files)
     → AreInOrder report → ((fault : Fault) → Has report fault ↔ Has faults fault) → IsJudged bag report
 judged_by_files bag faults report profile none adds in_order same =
-    tier_judged 3 bag faults report profile none
-    (λ fault. (
-      λ h. elim ((adds fault).0 h) [ inl old ↦ absurd old | inr new ↦ (new.0, tier_of_file fault new.1) ],
-      λ h. (adds fault).1 (inr (h.0, file_of_tier fault h.1)),
-    ))
-    (λ fault above below. absurd (omega (arith, above, at_most_3 fault)))
-    in_order same
+    tier_judged 3 bag faults report (λ none. profile) none (tier_found bag kinds_of_files 3 faults file_tier adds) (λ fault above below. absurd (omega (arith, above, (number_by_tier fault).2))) in_order same
 
 -- the verdict on a bag with one fault of the declaration
 pub judged_by_declaration : (bag : Bag) (own : Fault) (report : List Fault) → HasFault bag own → tier_of own ≡ 1 → ((fault : Fault) → tier_of fault < 2 → HasFault bag fault → own ≡ fault)
     → AreInOrder report → ((fault : Fault) → Has report fault ↔ Has (own ∷ []) fault) → IsJudged bag report
-judged_by_declaration bag own report broken first only in_order same = record {
-  in_order = in_order;
-  exact = λ fault. (
-    λ h. elim ((same fault).0 h) [
-      | inl is ↦ subst (λ f. HasFault bag f × NoneBelow (tier_of f) bag) is (broken, rw first none_lower)
-      | inr none ↦ absurd none
-    ],
-    λ h. (same fault).1 (inl (elim (in_tier (tier_of fault) 2) [
-      | inl lower ↦ only fault lower h.0
-      | inr past ↦ elim past [ inl here ↦ absurd (h.1 own (omega (arith, first, here)) broken) | inr later ↦ absurd (h.1 own (omega (arith, first, later)) broken) ]
-    ])),
-  );
-  in_profile = λ none. absurd (none own (omega (arith, first)) broken);
-}
-  where
-    none_lower : NoneBelow 1 bag
-    none_lower fault below b = absurd (omega (arith, below, at_least_1 fault))
+judged_by_declaration bag own report broken first only in_order same =
+    tier_judged 1 bag (own ∷ []) report (λ none. absurd (none own (omega (arith, first)) broken)) (λ fault below b. absurd (omega (arith, below, (number_by_tier fault).1)))
+    (λ fault. (
+      λ h. elim h [ inl is ↦ subst (λ f. HasFault bag f × (tier_of f ≡ 1)) is (broken, first) | inr none ↦ absurd none ],
+      λ h. inl (only fault (omega (arith, h.1)) h.0),
+    ))
+    (λ fault above below. below own (omega (arith, above, first)) broken)
+    in_order same

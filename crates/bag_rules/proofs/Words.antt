@@ -44,7 +44,7 @@ pub use Rattle.bag_rules.specs.declared.outcome.OutsideCause.{OutsideCause}
 pub use Rattle.bag_rules.specs.declared.outcome.OutsideCause.TheVariants.{Algorithm, Encoding}
 pub use Rattle.bag_rules.specs.declared.profile.Profile.TheVariants.{Ended, Known}
 pub use Rattle.bag_rules.specs.declared.tag_files.Texts.{Texts}
-pub use Rattle.bag_tags.proofs.DecisionLemmas.{Decided, decided_as, decided_by, decided_equal}
+pub use Rattle.bag_tags.proofs.DecisionLemmas.{Decided, decided_as, decided_at_most, decided_by, decided_either, decided_equal, decided_true}
 pub use Rattle.bag_tags.proofs.DeclarationLemmas.{excludes, one_declaration, one_fault, written_declares}
 pub use Rattle.bag_tags.proofs.EarlierDeclaration.{earlier, earlier_declares, earlier_version}
 pub use Rattle.bag_tags.proofs.ExampleLemmas.{differ_at, other_text}
@@ -82,7 +82,7 @@ pub use Rattle.bag_tags.specs.declared.name.TagName.TheVariants.{PayloadManifest
 pub use Rattle.bag_tags.specs.declared.oxum.Oxum.{Oxum}
 pub use Rattle.std.proofs.Math.Nat.{eq-or-lt_of_le}
 pub use Rattle.std.proofs.Math.Seq.{take-append_seam, take-length}
-pub use Rattle.std.proofs.lemmas.Bool.{and_parts, and_right, cases_Bool, cases_lt, cond-false, cond-true, eqb-true, false≢true, leb-false, leb-true, or_cases, or_left, or_right}
+pub use Rattle.std.proofs.lemmas.Bool.{and_parts, and_right, both_ways, cases_Bool, cases_lt, cases_order, cond-false, cond-true, eqb-true, false_from_ne_true, false≢true, leb-false, leb-true, or_cases, or_left, or_right}
 pub use Rattle.std.proofs.lemmas.Bool.Decides.{Decides-eqb}
 pub use Rattle.std.proofs.lemmas.Cmp.{nat_list_cmp_total, nat_list_eq_equiv, tied_itself}
 pub use Rattle.std.proofs.lemmas.Fn.{always_returns_same}
@@ -92,11 +92,13 @@ pub use Rattle.std.proofs.lemmas.List.{append-nil, drop-drop, get_or-map, length
 pub use Rattle.std.proofs.lemmas.List.Edits.{length-insert}
 pub use Rattle.std.proofs.lemmas.List.Elements.{All-contains, All-nil, All-weaker, filter_more}
 pub use Rattle.std.proofs.lemmas.List.Filters.{dedup_is}
+pub use Rattle.std.proofs.lemmas.List.Folds.{list_any-append}
 pub use Rattle.std.proofs.lemmas.List.Kept.{Contains-dedup, Contains-from_dedup, IsStrictlySortedBy-dedup}
 pub use Rattle.std.proofs.lemmas.List.Sorted.{Contains-permutation, IsPermutation-sym, searchable_from_sorted}
 pub use Rattle.std.proofs.lemmas.Map.Entries.{lookup_from_place, place_from_lookup}
 pub use Rattle.std.proofs.lemmas.Map.Keys.{IsDistinct-from_sorted, Less-from_sorted}
 pub use Rattle.std.proofs.lemmas.Map.Lookups.{exact_bytes}
+pub use Rattle.std.proofs.lemmas.Map.Made.{is_member-Decides}
 pub use Rattle.std.proofs.lemmas.Map.Text.{is_eq-slice_cmp}
 pub use Rattle.std.proofs.lemmas.Map.Views.{All-keys-insert_entry}
 pub use Rattle.std.proofs.lemmas.Option.{get_or_from_slice_get, same_Some, slice_get-map, slice_get_cases, slice_get_read, slice_get_within, some_pair_parts}
