@@ -182,9 +182,9 @@ pub fn a_path_has_one_unknown_algorithm_at_most()
 
 /// What stands between this front and `.txt`, where they are there and it is a word.
 fn manifest_word<'a>(text: &'a str, front: &str) -> Option<&'a str>
-    ensures { MatchOption result ((word : List ℕ) → IsWord word → text.now ≡ front.now ++ word
-        ++ codes ".txt" → ⊥) (λ word. IsWord word.now
-        × (text.now ≡ front.now ++ word.now ++ codes ".txt")) }
+    ensures word { MatchOption result
+        ((word : List ℕ) → IsWord word → text.now ≡ front.now ++ word ++ codes ".txt" → ⊥)
+        (λ word. IsWord word.now × (text.now ≡ front.now ++ word.now ++ codes ".txt")) }
 {
     let word = text.strip_prefix(front)?.strip_suffix(".txt")?;
     if is_word(word) { Some(word) } else { None }

@@ -11,8 +11,8 @@ returns-in-Some-from_name c word u =
     elim c.match-manifest_word.branch [
       | in-Some w ↦
           payload_known c.args.path.now alg word u
-          (sym c.as_str-text.ensures.text ∙ w.in-Some.ensures.1 ∙ ap payload_manifest (ap (λ (b : Bor (List ℕ)). b.now) (sym w.word-is) ∙ found))
+          (sym c.as_str-text.ensures.text ∙ w.in-Some.ensures.word.1 ∙ ap payload_manifest (ap (λ (b : Bor (List ℕ)). b.now) (sym w.word-is) ∙ found))
       | in-None+in_ok-word-in-None w ↦
           tag_known c.args.path.now alg word u
-          (sym c.as_str-text.ensures.text ∙ w.in_ok-word-in-None.ensures.1 ∙ ap tag_manifest (ap (λ (b : Bor (List ℕ)). b.now) (sym w.word-is) ∙ found))
+          (sym c.as_str-text.ensures.text ∙ w.in_ok-word-in-None.ensures.word.1 ∙ ap tag_manifest (ap (λ (b : Bor (List ℕ)). b.now) (sym w.word-is) ∙ found))
     ]
