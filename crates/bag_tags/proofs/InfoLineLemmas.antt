@@ -1,7 +1,6 @@
 -- A line of `bag-info.txt` adds one thing.
-use Rattle.std.proofs.Common.{◌≡◌, ◌≢◌, ℕ, true, false, List, [], ◌∷◌, ◌++◌, Some, None, refl, sym, ap, ◌∙◌, subst, inl, inr, append-nil, arith}
+use Rattle.std.proofs.Common.{◌≡◌, ◌≢◌, ℕ, true, false, List, [], ◌∷◌, ◌++◌, Some, None, refl, sym, ap, ◌∙◌, subst, inl, inr, append-nil}
 use Rattle.std.specs.List.{AllByRecursion}
-use Rattle.std.specs.Str.{IsUtf8}
 use Rattle.std.proofs.lemmas.Bool.{ne_eqb, cases_Bool}
 use Rattle.std.proofs.lemmas.Bool.Decides.{eqb_tells}
 use Rattle.bag_path.specs.Lines.{IsPlain}
@@ -13,7 +12,7 @@ use Rattle.bag_tags.specs.InfoReading.{first_line_of}
 use Rattle.bag_tags.specs.InfoText.{IsIndented, HasColon, HasFirstLine, HasParts, GivesElement, AddsInfo, LacksSeparator}
 use Rattle.bag_tags.proofs.WordsLemmas.{until_front, until_here, begins_with, each, blanks_cut}
 use Rattle.bag_tags.proofs.ValueLemmas.{plain_value}
-use Rattle.bag_tags.proofs.TextCutLemmas.{utf8_after, all_left, all_right, first_of, second_of, same_tail, whole_of, blanks_of, rest_begins, blank_line_of, utf8_after_blanks}
+use Rattle.bag_tags.proofs.TextCutLemmas.{all_left, all_right, first_of, second_of, same_tail, whole_of, blanks_of, rest_begins, blank_line_of}
 
 -- an indented line that was cut after its blanks
 some_blanks : (blanks text line : List ℕ) → text ≡ blanks ++ line → begins_blank text ≡ true → begins_blank line ≡ false → blanks ≢ []
@@ -169,13 +168,6 @@ not_lacking text label first p n = elim n [
 ]
 
 -- the label and the first line of a text
-after_utf8 : (after first : List ℕ) → HasFirstLine after first → IsUtf8 after → IsUtf8 first
-after_utf8 [] first h u = subst IsUtf8 (sym h) u
-after_utf8 (x ∷ rest) first h u = subst IsUtf8 (sym h.1) (utf8_after_blanks (x ∷ []) rest (h.0, tt) u)
-
-pub first_utf8 : (text label first : List ℕ) → HasParts text label first → IsUtf8 text → IsUtf8 first
-first_utf8 text label first h u = after_utf8 h.after first h.first_line (utf8_after label h.after 58 (omega arith) (subst IsUtf8 h.colon.whole u))
-
 both : (xs : List ℕ) → AllByRecursion IsNotColon xs → AllByRecursion IsPlain xs → AllByRecursion IsLabelOctet xs
 both [] h k = tt
 both (x ∷ xs) h k = ((h.0, k.0), both xs h.1 k.1)

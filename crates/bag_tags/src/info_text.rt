@@ -14,7 +14,6 @@ ghost use Rattle.bag_tags.specs.InfoText.{Continues, GivesElement, GivesNoElemen
 use crate::fault::{LineCause, TagCause, TagFault};
 use crate::info::{Element, ElementFault, Info};
 use crate::reading::{TagLines, read_onto};
-use crate::utf8::known_text;
 use crate::words::{Stop, begins_blank, is_blank, split_text};
 use bag_path::Version;
 use std::alloc::{AllocError, Global};
@@ -83,10 +82,10 @@ fn read_element(alloc: Global, text: &str) -> Result<Element, TagCause>
     ensures err { IfErr result (Causes (GivesNoElement text.now)) }
 {
     let (label, rest) = split_text(text, Stop::Colon);
-    let Some(first) = first_line(rest.as_bytes()) else {
+    let Some(first) = first_line(rest) else {
         return Err(TagCause::Line(LineCause::NoSeparator));
     };
-    match Element::new(alloc, label, known_text(first)) {
+    match Element::new(alloc, label, first) {
         Ok(element) => Ok(element),
         Err(ElementFault::BadLabel) => Err(TagCause::Line(LineCause::BadLabel)),
         Err(ElementFault::BadValue) => unreachable!(),
@@ -95,10 +94,10 @@ fn read_element(alloc: Global, text: &str) -> Result<Element, TagCause>
 }
 
 /// What follows the colon and one blank, or nothing where the line ends at its colon.
-fn first_line(rest: &[u8]) -> Option<&[u8]>
+fn first_line(rest: &str) -> Option<&str>
     ensures { option_map (λ first. first.now) result ≡ first_line_of rest.now }
 {
-    match rest {
+    match rest.as_bytes() {
         [] => None,
         [_] => Some(&rest[1..]),
         [_, blank, ..] => {

@@ -31,5 +31,4 @@ mod number;
 mod oxum;
 mod path_text;
 mod reading;
-mod utf8;
 mod words;
