@@ -68,15 +68,15 @@ memory() {
     grep -qE "^ *$1: .*(\b(Memory|AllocError|AllocFailed)\b|bag: memory)" "$work/told"
 }
 
-# failed_write SIDE: what was compared on this side has the status 3, of a write that failed.
+# failed_write SIDE: what was compared on this side has the status 3 and no line, of a write that failed.
 failed_write() {
-    grep -qE "^ *$1: \(3, " "$work/told"
+    grep -qE "^ *$1: \(3, Some\(\"\"\)\)" "$work/told"
 }
 
 # tells STATUS: a test that ended so failed for want of memory alone: by its error's name, or by what it compared.
 tells() {
     case $1 in
-    101) grep -qxE 'error: ([A-Za-z]+\()*(Memory|AllocError|AllocFailed)\b.*' "$work/told" ;;
+    101) grep -qxE 'error: ([A-Za-z]+\()*(Memory|OutOfMemory|AllocError|AllocFailed)\b.*' "$work/told" ;;
     134) { memory left && ! memory right; } || { failed_write left && ! failed_write right; } ;;
     *) false ;;
     esac
