@@ -16,6 +16,9 @@ adds_so old new P Q there back a f = (
 pub adds_none : (faults : List Fault) (P : Fault → Type 0) → ((f : Fault) → P f → ⊥) → Adds faults faults P
 adds_none faults P none f = (λ h. inl h, λ h. elim h [ inl k ↦ k | inr p ↦ absurd (none f p) ])
 
+pub adds_same : (old new : List Fault) (P : Fault → Type 0) → new ≡ old → ((f : Fault) → P f → ⊥) → Adds old new P
+adds_same old new P same none = subst (λ fs. Adds old fs P) (sym same) (adds_none old P none)
+
 -- one fault more, which is just what P says
 pub adds_one : (old new : List Fault) (fault : Fault) (P : Fault → Type 0) → new ≡ old ++ fault ∷ [] → P fault → ((f : Fault) → P f → fault ≡ f) → Adds old new P
 adds_one old new fault P e here only = adds_so old new (λ f. fault ≡ f) P (λ f same. subst P same here) only (adds_push old new fault e)

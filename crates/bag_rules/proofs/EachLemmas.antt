@@ -2,14 +2,11 @@
 use Rattle.std.proofs.Common.{◌≡◌, ◌<◌, ◌+◌, ℕ, List, [], ◌∷◌, ◌++◌, Some, length, take, slice_get, get_or, refl, sym, ap, ◌∙◌, inl, inr, subst}
 use Rattle.bag_rules.proofs.Words.{Adds, Fault, get_or_from_slice_get, Has, slice_get_within, take-length, take_more}
 use Rattle.bag_rules.proofs.HasLemmas.{has_push}
-use Rattle.bag_rules.proofs.AddsLemmas.{adds_none, adds_on}
+use Rattle.bag_rules.proofs.AddsLemmas.{adds_on}
 
 -- a fault of one of these items
 abbrev pub OfSome : {X : Type 0} → List X → (X → Fault → Type 0) → Fault → Type 0
 OfSome {X} xs of fault = (x : X) × Has xs x × of x fault
-
-pub each_none : {X : Type 0} (xs : List X) (of : X → Fault → Type 0) (faults : List Fault) → Adds faults faults (OfSome (take 0 xs) of)
-each_none xs of faults = adds_none faults (OfSome (take 0 xs) of) (λ f h. absurd h.1)
 
 -- the faults of one item more
 pub each_more : {X : Type 0} (xs : List X) (i : ℕ) (x : X) (of : X → Fault → Type 0) (old mid new : List Fault) → i < length xs → x ≡ get_or xs i x → Adds old mid (OfSome (take i xs) of) → Adds mid new (of x) → Adds old new (OfSome (take (i + 1) xs) of)

@@ -1,7 +1,7 @@
 -- The entries of `fetch.txt` against the manifests and the files.
 use Rattle.std.proofs.Common.{◌≡◌, ◌≢◌, true, false, List, [], ◌∷◌, ◌++◌, Option, Some, None, length, refl, sym, ap, ◌∙◌, subst, is_some}
 use Rattle.bag_rules.proofs.Words.{Adds, AreTextsOf, Bag, Digest, Fault, FetchLength, FetchLine, FetchNotListed, Has, HasEntry, HasFault, HasFaultOf, IsFetchUnlistedBy, IsOtherLength, Kind, listed_digest, Listing, Lists, lists_path, manifest_name, Payload, same_Some, Tag, Texts}
-use Rattle.bag_rules.proofs.AddsLemmas.{adds_so, adds_none, adds_one}
+use Rattle.bag_rules.proofs.AddsLemmas.{adds_so, adds_none, adds_one, adds_same}
 use Rattle.bag_rules.proofs.EachLemmas.{OfSome}
 use Rattle.bag_rules.proofs.ListedLemmas.{listed_or_not}
 use Rattle.bag_rules.proofs.FrontLemmas.{fetch_listed, manifest_listed}
@@ -10,8 +10,8 @@ use Rattle.bag_rules.proofs.FrontLemmas.{fetch_listed, manifest_listed}
 abbrev pub IsLineUnlisted : Listing → FetchLine → Fault → Type 0
 IsLineUnlisted listing line fault = (lists_path listing.pairs line.entry.path ≡ false) × (fault ≡ FetchNotListed listing.alg line.entry.path)
 
-pub line_listed : (listing : Listing) (line : FetchLine) (o : Option Digest) (faults : List Fault) → listed_digest listing.pairs line.entry.path ≡ o → is_some o ≡ true → Adds faults faults (IsLineUnlisted listing line)
-line_listed listing line o faults e some = adds_none faults (IsLineUnlisted listing line)
+pub line_listed : (listing : Listing) (line : FetchLine) (o : Option Digest) (old new : List Fault) → listed_digest listing.pairs line.entry.path ≡ o → is_some o ≡ true → new ≡ old → Adds old new (IsLineUnlisted listing line)
+line_listed listing line o old new e some same = adds_same old new (IsLineUnlisted listing line) same
     (λ f h. let k : true ≡ false = sym some ∙ sym (listed_or_not listing.pairs line.entry.path o e) ∙ h.0 in cc)
 
 pub line_unlisted : (listing : Listing) (line : FetchLine) (o : Option Digest) (old new : List Fault) → listed_digest listing.pairs line.entry.path ≡ o → is_some o ≡ false → new ≡ old ++ FetchNotListed listing.alg line.entry.path ∷ [] → Adds old new (IsLineUnlisted listing line)
@@ -57,11 +57,6 @@ module _ (bag : Bag) (texts : Texts) (are : AreTextsOf (length bag.files) bag te
   none_longer faults none = adds_none faults (HasFaultOf bag (12 ∷ [])) (λ f h. not_longer f none h)
 
   -- entries that payload manifests don't list
-  unlisted_there : (lines : List FetchLine) → texts.fetch ≡ Some lines → (listing : Listing) (line : FetchLine) → Has texts.manifests.items listing → listing.kind ≡ Payload → Has lines line → lists_path listing.pairs line.entry.path ≡ false → HasFault bag (FetchNotListed listing.alg line.entry.path)
-  unlisted_there lines some listing line has payload has_line unlisted =
-      let lists = (manifest_listed bag texts are listing).0 has in
-      (listing.pairs, subst (λ k. Lists bag (manifest_name k listing.alg) listing.pairs) payload lists, unlisted, (line, entry_of lines line some has_line, refl))
-
   unlisted_back : (lines : List FetchLine) → texts.fetch ≡ Some lines → (f : Fault) → HasFaultOf bag (11 ∷ []) f → OfSome texts.manifests.items (λ (listing : Listing). IsFetchUnlistedBy listing lines) f
   unlisted_back lines some (FetchNotListed manifest path) h =
       let listing : Listing = record { alg = manifest; kind = Payload; pairs = h.0.0 } in
@@ -72,7 +67,9 @@ module _ (bag : Bag) (texts : Texts) (are : AreTextsOf (length bag.files) bag te
 
   pub all_unlisted : (lines : List FetchLine) (old new : List Fault) → texts.fetch ≡ Some lines → Adds old new (OfSome texts.manifests.items (λ (listing : Listing). IsFetchUnlistedBy listing lines)) → Adds old new (HasFaultOf bag (11 ∷ []))
   all_unlisted lines old new some a = adds_so old new (OfSome texts.manifests.items (λ (listing : Listing). IsFetchUnlistedBy listing lines)) (HasFaultOf bag (11 ∷ []))
-      (λ f h. subst (λ g. HasFaultOf bag (11 ∷ []) g) (sym h.2.1.3) (unlisted_there lines some h.0 h.2.1.0 h.1 h.2.0 h.2.1.1 h.2.1.2, refl))
+      (λ f h.
+      let lists = subst (λ k. Lists bag (manifest_name k h.0.alg) h.0.pairs) h.2.0 ((manifest_listed bag texts are h.0).0 h.1) in
+      subst (λ g. HasFaultOf bag (11 ∷ []) g) (sym h.2.1.3) ((h.0.pairs, lists, h.2.1.2, (h.2.1.0, entry_of lines h.2.1.0 some h.2.1.1, refl)), refl))
       (unlisted_back lines some)
       a
 

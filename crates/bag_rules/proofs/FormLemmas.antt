@@ -1,21 +1,21 @@
 -- What a file or an element adds to the faults of the form.
 use Rattle.std.proofs.Common.{◌≡◌, ◌≢◌, ◌↔◌, ◌≤◌, ℕ, true, false, List, [], ◌∷◌, ◌++◌, Option, Some, None, Contains, is_some, length, refl, sym, ap, ◌∙◌, inl, inr, subst}
 use Rattle.bag_rules.proofs.Words.{Adds, Alg, AreTextsOf, Bag, Digest, Fault, filter, Has, HasFaultOf, is_oxum, IsBadOxum, IsOxumFault, IsThere, IsUnlistedBy, IsUnlistedManifest, listed_digest, Listing, Lists, lists_path, manifest_file, manifest_name, ManifestNotListed, MetadataElement, NoManifest, NoPayloadDir, OxumForm, OxumTwice, Payload, same_Some, SaysOxum, Tag, Texts}
-use Rattle.bag_rules.proofs.AddsLemmas.{adds_so, adds_none, adds_one, adds_on}
+use Rattle.bag_rules.proofs.AddsLemmas.{adds_so, adds_none, adds_one, adds_on, adds_same}
 use Rattle.bag_rules.proofs.EachLemmas.{OfSome}
 use Rattle.bag_rules.proofs.FrontLemmas.{info_said, manifest_listed}
 use Rattle.bag_rules.proofs.ListedLemmas.{listed_or_not}
-use Rattle.bag_rules.proofs.RisingPaths.{place_of, contains_at}
+use Rattle.bag_rules.proofs.HasLemmas.{contains_from_has, has_from_contains}
 
 -- a tag manifest doesn't list the payload manifest that has this path
 abbrev pub IsNotListedIn : List ℕ → Alg → Listing → Fault → Type 0
 IsNotListedIn path alg listing fault = (listing.kind ≡ Tag) × (lists_path listing.pairs path ≡ false) × (fault ≡ ManifestNotListed listing.alg alg)
 
-pub no_tag_manifest : (path : List ℕ) (alg : Alg) (listing : Listing) (faults : List Fault) → listing.kind ≢ Tag → Adds faults faults (IsNotListedIn path alg listing)
-no_tag_manifest path alg listing faults other = adds_none faults (IsNotListedIn path alg listing) (λ f h. other h.0)
+pub no_tag_manifest : (path : List ℕ) (alg : Alg) (listing : Listing) (old new : List Fault) → listing.kind ≢ Tag → new ≡ old → Adds old new (IsNotListedIn path alg listing)
+no_tag_manifest path alg listing old new other same = adds_same old new (IsNotListedIn path alg listing) same (λ f h. other h.0)
 
-pub listed_in : (path : List ℕ) (alg : Alg) (listing : Listing) (o : Option Digest) (faults : List Fault) → listed_digest listing.pairs path ≡ o → is_some o ≡ true → Adds faults faults (IsNotListedIn path alg listing)
-listed_in path alg listing o faults e some = adds_none faults (IsNotListedIn path alg listing)
+pub listed_in : (path : List ℕ) (alg : Alg) (listing : Listing) (o : Option Digest) (old new : List Fault) → listed_digest listing.pairs path ≡ o → is_some o ≡ true → new ≡ old → Adds old new (IsNotListedIn path alg listing)
+listed_in path alg listing o old new e some same = adds_same old new (IsNotListedIn path alg listing) same
     (λ f h. let k : true ≡ false = sym some ∙ sym (listed_or_not listing.pairs path o e) ∙ h.1 in cc)
 
 pub not_listed_in : (path : List ℕ) (alg : Alg) (listing : Listing) (o : Option Digest) (old new : List Fault) → listing.kind ≡ Tag → listed_digest listing.pairs path ≡ o → is_some o ≡ false → new ≡ old ++ ManifestNotListed listing.alg alg ∷ [] → Adds old new (IsNotListedIn path alg listing)
@@ -39,8 +39,8 @@ module _ (bag : Bag) where
   dir_kind NoPayloadDir h = (refl, h.0)
   dir_kind _ h = absurd (let k : false ≡ true = h.1 in cc)
 
-  pub dir_there : (faults : List Fault) → bag.has_payload_dir ≡ true → Adds faults faults (HasFaultOf bag (3 ∷ []))
-  dir_there faults there = adds_none faults (HasFaultOf bag (3 ∷ [])) (λ f h. let k : true ≡ false = sym there ∙ (dir_kind f h).1 in cc)
+  pub dir_there : (old new : List Fault) → bag.has_payload_dir ≡ true → new ≡ old → Adds old new (HasFaultOf bag (3 ∷ []))
+  dir_there old new there same = adds_same old new (HasFaultOf bag (3 ∷ [])) same (λ f h. let k : true ≡ false = sym there ∙ (dir_kind f h).1 in cc)
 
   pub dir_away : (old new : List Fault) → bag.has_payload_dir ≡ false → new ≡ old ++ NoPayloadDir ∷ [] → Adds old new (HasFaultOf bag (3 ∷ []))
   dir_away old new away more = adds_one old new NoPayloadDir (HasFaultOf bag (3 ∷ [])) more (away, refl) (λ f h. (dir_kind f h).0)
@@ -50,8 +50,8 @@ module _ (bag : Bag) where
   manifest_kind NoManifest h = (refl, h.0)
   manifest_kind _ h = absurd (let k : false ≡ true = h.1 in cc)
 
-  pub manifest_there : (faults : List Fault) (alg : Alg) → IsThere bag (manifest_file Payload alg) → Adds faults faults (HasFaultOf bag (4 ∷ []))
-  manifest_there faults alg there = adds_none faults (HasFaultOf bag (4 ∷ [])) (λ f h. (manifest_kind f h).1 alg there)
+  pub manifest_there : (old new : List Fault) (alg : Alg) → IsThere bag (manifest_file Payload alg) → new ≡ old → Adds old new (HasFaultOf bag (4 ∷ []))
+  manifest_there old new alg there same = adds_same old new (HasFaultOf bag (4 ∷ [])) same (λ f h. (manifest_kind f h).1 alg there)
 
   pub manifest_away : (old new : List Fault) → ((alg : Alg) → ¬ IsThere bag (manifest_file Payload alg)) → new ≡ old ++ NoManifest ∷ [] → Adds old new (HasFaultOf bag (4 ∷ []))
   manifest_away old new away more = adds_one old new NoManifest (HasFaultOf bag (4 ∷ [])) more (away, refl) (λ f h. (manifest_kind f h).0)
@@ -60,20 +60,18 @@ module _ (bag : Bag) (texts : Texts) (are : AreTextsOf (length bag.files) bag te
   -- payload manifests that a tag manifest doesn't list
   unlisted_there : (paths : List (List ℕ)) → ((path : List ℕ) → Contains paths path → IsThere bag path) → (f : Fault) → IsUnlistedManifest paths texts.manifests.items f → HasFaultOf bag (6 ∷ []) f
   unlisted_there paths there f h =
-      let path = h.1.0 in
-      let alg = h.1.2.0 in
-      let listing = h.1.2.1.0 in
-      let by = h.1.2.1 in
+      let path = h.0 in
+      let by = h.2.1 in
+      let listing = by.0 in
       let lists = subst (λ k. Lists bag (manifest_name k listing.alg) listing.pairs) by.3 ((manifest_listed bag texts are listing).0 by.2) in
       subst (λ g. HasFaultOf bag (6 ∷ []) g) (sym by.5)
-      ((listing.pairs, lists, subst (λ p. IsThere bag p) by.1 (there path (contains_at paths h.0 path h.1.1)), subst (λ p. lists_path listing.pairs p ≡ false) by.1 by.4), refl)
+      ((listing.pairs, lists, subst (λ p. IsThere bag p) by.1 (there path (contains_from_has paths path h.1)), subst (λ p. lists_path listing.pairs p ≡ false) by.1 by.4), refl)
 
   unlisted_back : (paths : List (List ℕ)) → ((path : List ℕ) → IsThere bag path → Contains paths path) → (f : Fault) → HasFaultOf bag (6 ∷ []) f → IsUnlistedManifest paths texts.manifests.items f
   unlisted_back paths shown (ManifestNotListed tag_manifest manifest) h =
       let listing : Listing = record { alg = tag_manifest; kind = Tag; pairs = h.0.0 } in
       let path = manifest_file Payload manifest in
-      let place = place_of paths path (shown path h.0.2) in
-      (place.0, (path, place.1, (manifest, (listing, refl, (manifest_listed bag texts are listing).1 h.0.1, refl, h.0.3, refl))))
+      (path, has_from_contains paths path (shown path h.0.2), (manifest, (listing, refl, (manifest_listed bag texts are listing).1 h.0.1, refl, h.0.3, refl)))
   unlisted_back paths shown _ h = absurd (let k : false ≡ true = h.1 in cc)
 
   pub all_unlisted : (paths : List (List ℕ)) (old new : List Fault) → ((path : List ℕ) → Contains paths path ↔ IsThere bag path) → Adds old new (IsUnlistedManifest paths texts.manifests.items) → Adds old new (HasFaultOf bag (6 ∷ []))

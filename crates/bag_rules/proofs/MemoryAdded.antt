@@ -1,9 +1,9 @@
 -- A tree in memory once a file was put among its files.
 use Rattle.std.proofs.Common.{◌≡◌, ℕ, ◌+◌, ◌≤◌, ◌||◌, true, cond, List, Option, Some, All, length, refl, sym, ap, subst, ◌∙◌, arith, inl, inr, nat_le, ◌<◌, None}
-use Rattle.std.proofs.lemmas.Bool.{false_from_ne_true}
+use Rattle.std.proofs.lemmas.Bool.{cond_both}
 use Rattle.std.proofs.lemmas.Map.{lookup-insert, none_passes_from_lookup}
 use Rattle.bag_rules.specs.Memory.{FindsAlso}
-use Rattle.bag_rules.proofs.Words.{All-weaker, AreRising, bytes_eq, bytes_eq-Decides, cases_Bool, cond-false, cond-true, File, ForSome, insert, Inside, is_payload, IsGapFor, IsSound, keys_of, length-insert, lookup, moved_up, nat_list_eq_equiv, octets_at, option_map, or_left, or_right, Reading, rest_of, same_Some, shown_files, view_of, with_file}
+use Rattle.bag_rules.proofs.Words.{All-weaker, AreRising, bytes_eq, bytes_eq-Decides, cases_Bool, cond-false, cond-true, false_from_ne_true, File, ForSome, insert, Inside, is_payload, IsGapFor, IsSound, keys_of, length-insert, lookup, moved_up, nat_list_eq_equiv, octets_at, option_map, or_left, or_right, Reading, rest_of, same_Some, shown_files, view_of, with_file}
 use Rattle.bag_rules.specs.MemoryInside.{paths_of}
 use Rattle.bag_rules.proofs.MemoryFiles.{All-insert, lookup_in_gap, map-insert, put_in_gap, rising_put}
 use Rattle.bag_rules.proofs.MemoryShown.{length_shown, shown_insert, rest_moved}
@@ -21,10 +21,7 @@ moved_within place n None within r here = cc
 moved_within place n (Some old) within r here =
     let there : old.place < n = within old refl in
     let same : moved_up place old ≡ r = same_Some (moved_up place old) r here in
-    subst (λ (q : Reading). q.place < n + 1) same (elim (cases_Bool (nat_le place old.place)) [
-      | inl e ↦ (let at : (moved_up place old).place ≡ old.place + 1 = cond-true (nat_le place old.place) _ _ e in omega (arith, at, there))
-      | inr e ↦ (let at : (moved_up place old).place ≡ old.place = cond-false (nat_le place old.place) _ _ e in omega (arith, at, there))
-    ])
+    subst (λ (q : Reading). q.place < n + 1) same (cond_both (nat_le place old.place) (old.place + 1) old.place (λ k. k < n + 1) (λ e. omega (arith, there)) (λ e. omega (arith, there)))
 
 module _ (old new : Inside) (place : ℕ) (file : File) (sound : IsSound old) (added : HasAdded old new place file) where
   files_are : shown_files new.files.items ≡ insert (shown_files old.files.items) place (file.path, file.body.items)

@@ -1,5 +1,6 @@
 -- Files by path in rising order: what is there once a file was put in its place, and what a look-up finds.
 use Rattle.std.proofs.Common.{◌≡◌, ℕ, zero, suc, ◌+◌, ◌<◌, ◌≤◌, true, false, Bool, List, [], ◌∷◌, Some, None, All, Contains, map, slice_get, length, take, drop, refl, sym, ap, subst, ◌∙◌, arith, inl, inr, nat_le, is_some, if◌then◌else◌}
+use Rattle.std.proofs.lemmas.Bool.{cond_both}
 use Rattle.std.proofs.lemmas.List.{drop-map, map-append, take-map}
 use Rattle.std.proofs.lemmas.List.Edits.{get_or-insert_above, get_or-insert_below}
 use Rattle.std.proofs.lemmas.List.Elements.{All-append, All-cons, All-drop, All-from_recursion, All-take, recursion_from_All}
@@ -74,16 +75,9 @@ module _ (path : List ℕ) (files : Files) (i : ℕ) (rising : AreRising (keys_o
 
 -- what stands at a place, once something was put before it or there
 pub slice_get-insert_moved : {X : Type 0} (xs : List X) (i : ℕ) (x : X) (k : ℕ) → i ≤ length xs → k < length xs → slice_get (insert xs i x) (if nat_le i k then k + 1 else k) ≡ slice_get xs k
-slice_get-insert_moved xs i x k upto within = elim (cases_Bool (nat_le i k)) [
-  | inl from ↦ ap (slice_get (insert xs i x)) (cond-true (nat_le i k) (k + 1) k from)
-      ∙ slice_get-get_or (insert xs i x) (k + 1) x (omega (arith, length-insert xs i x upto, within))
-      ∙ ap Some (get_or-insert_above xs i x x k (leb-true i k from) upto)
-      ∙ sym (slice_get-get_or xs k x within)
-  | inr before ↦ ap (slice_get (insert xs i x)) (cond-false (nat_le i k) (k + 1) k before)
-      ∙ slice_get-get_or (insert xs i x) k x (omega (arith, length-insert xs i x upto, within))
-      ∙ ap Some (get_or-insert_below xs i x x k (leb-false i k before) upto)
-      ∙ sym (slice_get-get_or xs k x within)
-]
+slice_get-insert_moved xs i x k upto within = cond_both (nat_le i k) (k + 1) k (λ at. slice_get (insert xs i x) at ≡ slice_get xs k)
+    (λ from. slice_get-get_or (insert xs i x) (k + 1) x (omega (arith, length-insert xs i x upto, within)) ∙ ap Some (get_or-insert_above xs i x x k (leb-true i k from) upto) ∙ sym (slice_get-get_or xs k x within))
+    (λ before. slice_get-get_or (insert xs i x) k x (omega (arith, length-insert xs i x upto, within)) ∙ ap Some (get_or-insert_below xs i x x k (leb-false i k before) upto) ∙ sym (slice_get-get_or xs k x within))
 
 pub map-insert : {X Y : Type 0} (f : X → Y) (xs : List X) (i : ℕ) (x : X) → map f (insert xs i x) ≡ insert (map f xs) i (f x)
 map-insert f xs i x = simp (map-append, take-map, drop-map)

@@ -3,17 +3,14 @@ use Rattle.std.proofs.Common.{◌≡◌, ℕ, zero, suc, ◌+◌, ◌<◌, ◌�
 use Rattle.bag_rules.proofs.Words.{All-nil, AreRising, Consumes, drop-drop, exact_bytes, File, ForSome, get_or-map, Greater, insert, Inside, is_lt, is_payload, IsAtEnd, IsBinarySearchResult, IsGapFor, IsNonDecreasingBy, IsSearchInRange, IsSound, length-map, Less, Less-from_sorted, mem_octets, mem_paths, mem_shown, MemFiles, moved_up, nat_cmp, nat_list_cmp_total, no_files, octets_at, octets_in, option_map, Ordering, ordering_index, ordering_reverse, paths_in, Reading, rest_of, same_Some, searchable_from_sorted, shown_files, slice_cmp, slice_get-map, slice_get_cases, slice_get_read, slice_get_within, take-append_seam, values_of, view_of}
 use Rattle.std.specs.List.Sorted.{IsStrictlySortedBy}
 use Rattle.bag_rules.specs.MemoryInside.{paths_of}
+use Rattle.std.proofs.lemmas.List.{get_or_default}
 use Rattle.bag_rules.proofs.HasLemmas.{stands}
+use Rattle.bag_rules.proofs.RisingPaths.{lesser}
 use Rattle.bag_rules.proofs.TreeLemmas.{all_paths}
 use Rattle.bag_rules.proofs.MemoryFiles.{map-insert, slice_get-insert_moved, lookup_at, lookup_in_gap}
 
--- the paths that are shown are those of the files
-pub paths_are : (files : List File) → paths_of files ≡ map (λ (file : File). file.path) files
-paths_are [] = refl
-paths_are (file ∷ files) = ap (λ paths. file.path ∷ paths) (paths_are files)
-
 pub length_shown : (files : List File) → length (paths_of files) ≡ length files
-length_shown files = ap length (paths_are files) ∙ length-map files (λ (file : File). file.path)
+length_shown files = length-map (shown_files files) (λ (file : List ℕ × List ℕ). file.0) ∙ length-map files (λ (file : File). (file.path, file.body.items))
 
 length_bodies : (files : List File) → length (values_of (shown_files files)) ≡ length files
 length_bodies files = length-map (shown_files files) (λ (file : List ℕ × List ℕ). file.1) ∙ length-map files (λ (file : File). (file.path, file.body.items))
@@ -45,16 +42,15 @@ module _ (files : List File) (path : List ℕ) where
   abbrev pub against : File → Ordering
   against file = slice_cmp nat_cmp file.path path
 
+  path_of : (k : ℕ) (d : File) → k < length files → slice_get (paths_of files) k ≡ Some (get_or files k d).path
+  path_of k d within = path_at files k (get_or files k d) within (get_or_default files k d (get_or files k d) within)
+
   -- the answers of the comparison rise along files in order
   answers_rise : AreRising (paths_of files) → IsNonDecreasingBy (λ file. ordering_index (against file)) files
   answers_rise rising = searchable_from_sorted nat_list_cmp_total (λ (file : File). file.path) files path (λ k d _ next.
-      let paths = map (λ (file : File). file.path) files in
-      let e : List ℕ = [] in
       let below : k + 1 < length files = omega (arith, next) in
-      let less = Less-from_sorted (slice_cmp nat_cmp) paths k (k + 1) e (subst AreRising (paths_are files) rising) (omega arith) (omega (arith, length-map files (λ (file : File). file.path))) in
-      let left = get_or-map (λ (file : File). file.path) files k d e (omega arith) in
-      let right = get_or-map (λ (file : File). file.path) files (k + 1) d e below in
-      ap is_lt (nat_list_cmp_total.antisymm (get_or files (k + 1) d).path (get_or files k d).path ∙ ap ordering_reverse (sym (λ t. slice_cmp nat_cmp (left t) (right t)) ∙ less)))
+      let less = lesser (paths_of files) rising k (k + 1) (get_or files k d).path (get_or files (k + 1) d).path (path_of k d (omega (arith, below))) (path_of (k + 1) d below) (omega arith) in
+      ap is_lt (nat_list_cmp_total.antisymm (get_or files (k + 1) d).path (get_or files k d).path ∙ ap ordering_reverse less))
 
   pub search_found : (r : Result ℕ ℕ) → IsSearchInRange r (length files) → IsBinarySearchResult against files r → IfOk r (λ i. slice_get (paths_of files) i ≡ Some path)
   search_found (Ok i) within equal = elim (slice_get_cases files i).1 [
@@ -63,18 +59,18 @@ module _ (files : List File) (path : List ℕ) where
   ]
   search_found (Err i) within equal = tt
 
+  -- what is shown at a place is compared as its file is
+  met : (j : ℕ) (other : List ℕ) → slice_get (paths_of files) j ≡ Some other → (file : File) × (j < length files) × (slice_cmp nat_cmp path other ≡ ordering_reverse (against (get_or files j file)))
+  met j other here =
+      let file = file_at files j other here in
+      (file.0, file.1, nat_list_cmp_total.antisymm path other ∙ sym (ap (λ f. ordering_reverse (against f)) file.2 ∙ ap (λ p. ordering_reverse (slice_cmp nat_cmp p path)) file.3))
+
   pub search_absent : AreRising (paths_of files) → (r : Result ℕ ℕ) → IsSearchInRange r (length files) → IsBinarySearchResult against files r → IfErr r (IsGapFor (paths_of files) path)
   search_absent rising (Ok i) within parted = tt
   search_absent rising (Err i) within parted = record {
     within = omega (arith, within, length_shown files);
-    less_before = λ j other below here.
-        let file = file_at files j other here in
-        let less : slice_cmp nat_cmp other path ≡ Less = ap (λ p. slice_cmp nat_cmp p path) (sym file.3) ∙ ap against (sym file.2) ∙ (parted (answers_rise rising)).0 j file.0 (omega arith) below in
-        nat_list_cmp_total.antisymm path other ∙ ap ordering_reverse less;
-    greater_from = λ j other from here.
-        let file = file_at files j other here in
-        let greater : slice_cmp nat_cmp other path ≡ Greater = ap (λ p. slice_cmp nat_cmp p path) (sym file.3) ∙ ap against (sym file.2) ∙ (parted (answers_rise rising)).1 j file.0 from file.1 in
-        nat_list_cmp_total.antisymm path other ∙ ap ordering_reverse greater;
+    less_before = λ j other below here. (let m = met j other here in m.2 ∙ ap ordering_reverse ((parted (answers_rise rising)).0 j m.0 (omega arith) below));
+    greater_from = λ j other from here. (let m = met j other here in m.2 ∙ ap ordering_reverse ((parted (answers_rise rising)).1 j m.0 from m.1));
   }
 
 -- the paths that the tree shows

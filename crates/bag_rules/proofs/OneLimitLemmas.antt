@@ -1,6 +1,6 @@
 -- A check meets one limit first at most.
 use Rattle.std.proofs.Common.{◌≡◌, ◌∙◌, ℕ, List, Some, slice_get, sym, ap, subst, inl, inr, arith}
-use Rattle.bag_rules.proofs.Words.{Bag, cases_lt, CheckFault, DeclarationStops, FileStops, FirstStops, ProfileStops, Stops, TextStops, WorkStops}
+use Rattle.bag_rules.proofs.Words.{Bag, cases_order, CheckFault, DeclarationStops, FileStops, FirstStops, ProfileStops, Stops, TextStops, WorkStops}
 use Rattle.bag_rules.proofs.LimitLemmas.{none_first}
 
 abbrev File : Type 0
@@ -12,12 +12,9 @@ IsOneReason stops = (path octets : List ℕ) (a b : CheckFault) → stops path o
 
 module _ (bag : Bag) (stops : List ℕ → List ℕ → CheckFault → Type 0) (a b : CheckFault) (f : FirstStops bag stops a) (g : FirstStops bag stops b) where
   same_place : f.place ≡ g.place
-  same_place = elim (cases_lt f.place g.place) [
-    | inl below ↦ absurd (g.first f.place f.path f.octets a below f.there f.reason)
-    | inr past ↦ elim (cases_lt g.place f.place) [
-      | inl above ↦ absurd (f.first g.place g.path g.octets b above g.there g.reason)
-      | inr here ↦ omega (arith, past, here)
-    ]
+  same_place = elim (cases_order f.place g.place) [
+    | inl here ↦ here
+    | inr other ↦ elim other [ inl below ↦ absurd (g.first f.place f.path f.octets a below f.there f.reason) | inr above ↦ absurd (f.first g.place g.path g.octets b above g.there g.reason) ]
   ]
 
   pub one_first : IsOneReason stops → a ≡ b

@@ -1,7 +1,7 @@
 -- Bags with a declaration, a payload manifest by SHA-256 that lists no other file than `data/a.txt`, and no other payload file:
 -- what can be wrong with them.
 use Rattle.std.proofs.Common.{◌≡◌, ◌≢◌, ◌⊎◌, ℕ, true, false, List, [], ◌∷◌, Some, codes, nat_eq, get_or, refl, sym, ap, ◌∙◌, subst, inl, inr}
-use Rattle.bag_rules.proofs.Words.{Alg, BadDeclaration, BadLine, Bag, bytes_eq, current, differ_at, Digest, excludes, Fault, FetchLength, FetchList, FetchNotListed, file_of, Has, HasFault, hash, Holds, Info, is_payload, IsDeclaration, IsInProfile, IsThere, IsUnknownManifest, Kind, line_fault, LineCause, listed_digest, Lists, lists_path, Manifest, manifest_file, manifest_name, ManifestFault, ManifestName, ManifestNotListed, ManifestText, Md5, Missing, NoDeclaration, NoManifest, no_pairs, NoPayloadDir, one_list_of_pairs, other_text, OxumForm, OxumTwice, OxumWrong, Pair, Payload, payload_known, payload_manifest, Sha1, Sha256, Sha512, Tag, tag_manifest, Unlisted, V1, written_declaration, written_declares, WrongDigest}
+use Rattle.bag_rules.proofs.Words.{Alg, BadDeclaration, BadLine, Bag, bytes_eq, current, differ_at, Digest, excludes, Fault, FetchLength, FetchList, FetchNotListed, file_of, Has, HasFault, hash, Holds, Info, is_payload, IsDeclaration, IsInProfile, IsThere, IsUnknownManifest, Kind, line_fault, LineCause, listed_digest, Lists, lists_path, Manifest, manifest_file, manifest_name, ManifestFault, ManifestName, ManifestNotListed, ManifestText, Md5, Missing, NoDeclaration, NoManifest, no_pairs, NoPayloadDir, one_file, one_list_of_pairs, other_text, OxumForm, OxumTwice, OxumWrong, Pair, Payload, payload_known, payload_manifest, Sha1, Sha256, Sha512, Tag, tag_manifest, Unlisted, V1, written_declaration, written_declares, WrongDigest}
 use Rattle.bag_rules.proofs.ListedLemmas.{some_listed}
 
 abbrev pub payload_file : List ℕ
@@ -45,11 +45,7 @@ manifest_apart Payload alg path m t e = differ_at 0 (manifest_file Payload alg) 
 manifest_apart Tag alg path m t e = differ_at 0 (manifest_file Tag alg) path t e
 
 named : (kind : Kind) (alg : Alg) → manifest_file kind alg ≡ codes "manifest-sha256.txt" → manifest_name kind alg ≡ by_sha256
-named Tag alg e = absurd (differ_at 0 (manifest_file Tag alg) (codes "manifest-sha256.txt") refl e)
-named Payload Md5 e = absurd (other_text (codes "manifest-md5.txt") (codes "manifest-sha256.txt") refl e)
-named Payload Sha1 e = absurd (other_text (codes "manifest-sha1.txt") (codes "manifest-sha256.txt") refl e)
-named Payload Sha256 e = refl
-named Payload Sha512 e = absurd (other_text (codes "manifest-sha512.txt") (codes "manifest-sha256.txt") refl e)
+named kind alg e = let same : Manifest (manifest_name kind alg) ≡ Manifest by_sha256 = one_file (codes "manifest-sha256.txt") (Manifest (manifest_name kind alg)) (Manifest by_sha256) (sym e) refl in cc
 
 module _ (bag : Bag) (manifest content : List ℕ) (pairs : List Pair) (h : HasOneManifest bag manifest content pairs) where
   no_other : (path octets : List ℕ) → bytes_eq (codes "bagit.txt") path ≡ false → bytes_eq payload_file path ≡ false → bytes_eq (codes "manifest-sha256.txt") path ≡ false → ¬ Holds bag path octets

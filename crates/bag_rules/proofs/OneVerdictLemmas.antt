@@ -13,28 +13,17 @@ use Rattle.bag_rules.proofs.SameListLemmas.{asymmetric, same_list, sorted_by_key
 use Rattle.bag_rules.proofs.TreeLemmas.{one_octets}
 use Rattle.bag_rules.proofs.VerdictLemmas.{declared_none}
 
-abbrev File : Type 0
-File = List ℕ × List ℕ
-
 -- THE ORDER OF FILES
-
-holds_has : (bag : Bag) (file : File) → Has bag.files file → Holds bag file.0 file.1
-holds_has bag file has = place_of_has bag.files file has
-
-has_holds : (bag : Bag) (file : File) → Holds bag file.0 file.1 → Has bag.files file
-has_holds bag file holds = has_at bag.files holds.0 file holds.1
-
-abbrev bag_of : List File → Bool → Bag
-bag_of files has_payload_dir = record { files = files; has_payload_dir = has_payload_dir }
 
 pub same_bag : (a b : Bag) → AreRising (paths_of a) → AreRising (paths_of b) → ((path octets : List ℕ) → Holds a path octets ↔ Holds b path octets) → a.has_payload_dir ≡ b.has_payload_dir → a ≡ b
 same_bag a b rising rises same dir =
-    let key : File → List ℕ = λ file. file.0 in
-    let files = same_list (λ (x y : File). slice_cmp nat_cmp x.0 y.0) (λ x y. asymmetric nat_list_cmp_total x.0 y.0) a.files b.files
-    (sorted_by_key (λ (file : File). file.0) (slice_cmp nat_cmp) a.files rising) (sorted_by_key (λ (file : File). file.0) (slice_cmp nat_cmp) b.files rises)
-    (λ file has. has_holds b file ((same file.0 file.1).0 (holds_has a file has)))
-    (λ file has. has_holds a file ((same file.0 file.1).1 (holds_has b file has))) in
-    ap (λ fs. bag_of fs a.has_payload_dir) files ∙ ap (bag_of b.files) dir
+    let key = λ (file : List ℕ × List ℕ). file.0 in
+    let found : (bag : Bag) (file : List ℕ × List ℕ) → Holds bag file.0 file.1 → Has bag.files file = λ bag file holds. has_at bag.files holds.0 file holds.1 in
+    let files = same_list (λ x y. slice_cmp nat_cmp (key x) (key y)) (λ x y. asymmetric nat_list_cmp_total (key x) (key y)) a.files b.files
+    (sorted_by_key key (slice_cmp nat_cmp) a.files rising) (sorted_by_key key (slice_cmp nat_cmp) b.files rises)
+    (λ file has. found b file ((same file.0 file.1).0 (place_of_has a.files file has)))
+    (λ file has. found a file ((same file.0 file.1).1 (place_of_has b.files file has))) in
+    λ t. record { files = files t; has_payload_dir = dir t }
 
 -- VERDICTS
 

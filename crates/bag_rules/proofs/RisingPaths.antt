@@ -11,7 +11,7 @@ contains_at xs i x here = (i, slice_get_within xs i x here, get_or_from_slice_ge
 
 module _ (paths : List (List ℕ)) (rising : AreRising paths) where
   -- the path at the lower place is less
-  lesser : (i j : ℕ) (x y : List ℕ) → slice_get paths i ≡ Some x → slice_get paths j ≡ Some y → i < j → slice_cmp nat_cmp x y ≡ Less
+  pub lesser : (i j : ℕ) (x y : List ℕ) → slice_get paths i ≡ Some x → slice_get paths j ≡ Some y → i < j → slice_cmp nat_cmp x y ≡ Less
   lesser i j x y p q below =
       let left : get_or paths i x ≡ x = get_or_from_slice_get paths i x x p in
       let right : get_or paths j x ≡ y = get_or_from_slice_get paths j y x q in

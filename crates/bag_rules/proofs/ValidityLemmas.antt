@@ -124,16 +124,6 @@ module _ (bag : Bag) (none : (fault : Fault) → number_of fault ≤ 13 → ¬ H
     each_listed = λ alg pairs path lists there payload. unless (decided_true _) (Unlisted alg path) (omega arith) (λ no. (pairs, lists, false_from_ne_true _ no, there, payload));
   }
 
-  -- no digest is wrong
-  pub none_valid : IsComplete bag → ((manifest : ManifestName) (path : List ℕ) → ¬ HasFault bag (WrongDigest manifest path)) → IsValid bag
-  none_valid complete right = record {
-    complete = complete;
-    verified = λ name pairs path digest octets lists is holds. elim (decided_digest (hash name.alg octets) digest) [
-      | inl same ↦ same
-      | inr other ↦ absurd (right name path (pairs, lists, (digest, is, (octets, holds, other))))
-    ];
-  }
-
 -- FROM THE VERDICT
 
 each_above : (n : ℕ) (faults : List Fault) → ((fault : Fault) → Has faults fault → n < number_of fault) → NoneUpTo n faults
@@ -177,8 +167,13 @@ module _ (bag : Bag) (faults : List Fault) (judged : IsJudged bag faults) where
   valid_of : faults ≡ [] → IsValid bag
   valid_of e =
       let only : NoneUpTo 13 faults = subst (λ fs. NoneUpTo 13 fs) (sym e) tt in
-      none_valid bag (only_digests only) (complete_of only) (λ manifest path broken.
-      subst (λ fs. Has fs (WrongDigest manifest path)) e ((judged.exact (WrongDigest manifest path)).1 (broken, below_3 only)))
+      record {
+        complete = complete_of only;
+        verified = λ name pairs path digest octets lists is holds. elim (decided_digest (hash name.alg octets) digest) [
+          | inl same ↦ same
+          | inr other ↦ absurd (subst (λ fs. Has fs (WrongDigest name path)) e ((judged.exact (WrongDigest name path)).1 ((pairs, lists, (digest, is, (octets, holds, other))), below_3 only)))
+        ];
+      }
 
   pub valid_exactly : AreRising (paths_of bag) → IsValid bag ↔ (faults ≡ [])
   valid_exactly rising = (λ valid. none_broken (valid_none bag rising valid), valid_of)

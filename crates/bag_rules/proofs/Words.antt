@@ -13,8 +13,6 @@ pub use Rattle.bag_path.proofs.AsciiLemmas.{ascii_path}
 pub use Rattle.bag_path.specs.Lines.{lines_of}
 pub use Rattle.bag_path.specs.LinesLeft.{lines_left, numbered_text}
 pub use Rattle.bag_path.specs.Paths.{is_payload}
-pub use Rattle.bag_path.specs.declared.path.PathFault.{PathFault}
-pub use Rattle.bag_path.specs.declared.path.PathFault.TheVariants.{BadEscape, DotSegment, Empty, EmptySegment, Nul, PayloadRoot, TooLong}
 pub use Rattle.bag_path.specs.declared.version.Version.TheVariants.{V1}
 pub use Rattle.bag_rules.specs.Bags.{Bag, declaration_file, Declares, Holds, IsBagOf, IsThere, Lists, ListsFetch, octet_count, payload_of, SaysInfo, shown_of}
 pub use Rattle.bag_rules.specs.Faults.{AreInOrder, Has, kind_of_lines, kinds_beside_lines, kinds_of_files, kinds_of_form, NoneUpTo, number_of}
@@ -65,7 +63,6 @@ pub use Rattle.bag_tags.specs.Manifests.{AddsPair, ManifestFault, ManifestText}
 pub use Rattle.bag_tags.specs.Names.{file_of, IsUnknownManifest, manifest_file, manifest_name, payload_manifest, tag_manifest, text_file}
 pub use Rattle.bag_tags.specs.Oxums.{OxumText}
 pub use Rattle.bag_tags.specs.declared.declaration.DeclFault.{DeclFault}
-pub use Rattle.bag_tags.specs.declared.declaration.DeclFault.TheVariants.{EncodingName, Label, LineCount, Mark, NotUtf8}
 pub use Rattle.bag_tags.specs.declared.declaration.Declaration.{Declaration}
 pub use Rattle.bag_tags.specs.declared.fault.LineCause.{LineCause}
 pub use Rattle.bag_tags.specs.declared.fault.LineFault.{LineFault}
@@ -95,12 +92,11 @@ pub use Rattle.std.proofs.lemmas.List.Filters.{dedup_is}
 pub use Rattle.std.proofs.lemmas.List.Folds.{list_any-append}
 pub use Rattle.std.proofs.lemmas.List.Kept.{Contains-dedup, Contains-from_dedup, IsStrictlySortedBy-dedup}
 pub use Rattle.std.proofs.lemmas.List.Sorted.{Contains-permutation, IsPermutation-sym, searchable_from_sorted}
-pub use Rattle.std.proofs.lemmas.Map.Entries.{lookup_from_place, place_from_lookup}
+pub use Rattle.std.proofs.lemmas.Map.Entries.{lookup_from_place}
 pub use Rattle.std.proofs.lemmas.Map.Keys.{IsDistinct-from_sorted, Less-from_sorted}
 pub use Rattle.std.proofs.lemmas.Map.Lookups.{exact_bytes}
 pub use Rattle.std.proofs.lemmas.Map.Made.{is_member-Decides}
 pub use Rattle.std.proofs.lemmas.Map.Text.{is_eq-slice_cmp}
-pub use Rattle.std.proofs.lemmas.Map.Views.{All-keys-insert_entry}
 pub use Rattle.std.proofs.lemmas.Option.{get_or_from_slice_get, same_Some, slice_get-map, slice_get_cases, slice_get_read, slice_get_within, some_pair_parts}
 pub use Rattle.std.proofs.lemmas.Result.{err_from_is_err_and, IfErr-weaker, IfOk-weaker, on_ok_weaker}
 pub use Rattle.std.proofs.lemmas.Slice.Eq.{bytes_eq-Decides}

@@ -1,5 +1,5 @@
 -- Faults of the form, by what was read. Private functions alone cite these: what a fault is stands in HasFault.
-use Rattle.std.specs.Prelude.{◌≡◌, ◌⊎◌, ◌≤◌, ℕ, true, false, List, Some, length, slice_get}
+use Rattle.std.specs.Prelude.{◌≡◌, ◌⊎◌, ◌≤◌, ℕ, true, false, List, length}
 use Rattle.std.specs.List.{filter}
 use Rattle.bag_digest.specs.declared.algorithm.Alg.{Alg}
 use Rattle.bag_tags.specs.declared.listing.Kind.TheVariants.{Payload, Tag}
@@ -20,8 +20,8 @@ IsUnlistedBy listings path fault = (alg : Alg)
 
 -- some path among these is
 abbrev pub IsUnlistedManifest : List (List ℕ) → List Listing → Fault → Type 0
-IsUnlistedManifest paths listings fault = (i : ℕ)
-    × ((path : List ℕ) × (slice_get paths i ≡ Some path) × IsUnlistedBy listings path fault)
+IsUnlistedManifest paths listings fault = (path : List ℕ) × Has paths path
+    × IsUnlistedBy listings path fault
 
 -- a `Payload-Oxum` that can't be read
 abbrev pub IsBadOxum : MetadataElement → Type 0

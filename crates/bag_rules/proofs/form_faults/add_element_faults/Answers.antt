@@ -1,6 +1,6 @@
-use Rattle.std.proofs.Common.{◌≡◌, ◌≤◌, ◌++◌, ◌∷◌, [], ◌↔◌, IsTrue, List, length, true, false, refl, sym, subst, arith, rules, tests}
-use Rattle.bag_rules.proofs.Words.{Adds, cases_from_any, count_from_yields_List, Fault, filter, is_oxum, IsBadOxum, MetadataElement, OxumForm, OxumTwice, YieldsList-from_filter, YieldsList-from_slice}
-use Rattle.bag_rules.proofs.AddsLemmas.{adds_one, adds_none}
+use Rattle.std.proofs.Common.{◌≡◌, ◌≤◌, ◌++◌, ◌∷◌, [], ◌↔◌, IsTrue, length, true, false, refl, sym, arith, rules, tests}
+use Rattle.bag_rules.proofs.Words.{Adds, cases_from_any, count_from_yields_List, filter, is_oxum, IsBadOxum, MetadataElement, OxumForm, OxumTwice, YieldsList-from_filter, YieldsList-from_slice}
+use Rattle.bag_rules.proofs.AddsLemmas.{adds_one, adds_same}
 use Rattle.bag_rules.proofs.AnyLemmas.{some_or_none, some_if, none_if}
 use Rattle.bag_rules.proofs.FormLemmas.{IsFormFault, IsTwiceFault, form_then_twice}
 use Rattle.bag_rules.proofs.form_faults.add_element_faults.Goals as goal
@@ -22,10 +22,7 @@ returns-clause-added c =
           let added : w.push.new.self.items ≡ old ++ OxumForm ∷ [] = w.in_ok-push.ensures.items in
           let more : mid ≡ old ++ OxumForm ∷ [] = cc in
           adds_one old mid OxumForm (IsFormFault elements) more (bad.0, bad.1, bad.2, refl) (λ f h. sym h.3)
-      | else-any w ↦
-          let same : mid ≡ old = cc in
-          subst (λ (fs : List Fault). Adds old fs (IsFormFault elements)) (sym same)
-          (adds_none old (IsFormFault elements) (λ f h. none_if IsBadOxum c.any.result elements found w.if-any.false h.0 h.1 h.2))
+      | else-any w ↦ adds_same old mid (IsFormFault elements) (cc) (λ f h. none_if IsBadOxum c.any.result elements found w.if-any.false h.0 h.1 h.2)
     ] in
     let second : Adds mid new (IsTwiceFault elements) = elim c.if-count-gt1.branch [
       | then-count-gt1+in_ok-push-2 w ↦
@@ -34,9 +31,7 @@ returns-clause-added c =
           let two : 2 ≤ length (filter is_oxum elements) = rw (← number) (omega arith) in
           adds_one mid new OxumTwice (IsTwiceFault elements) more (two, refl) (λ f h. sym h.1)
       | else-count-gt1 w ↦
-          let same : new ≡ mid = cc in
           let few : length (filter is_oxum elements) ≤ 1 = rw (← number) (omega arith) in
-          subst (λ (fs : List Fault). Adds mid fs (IsTwiceFault elements)) (sym same)
-          (adds_none mid (IsTwiceFault elements) (λ f h. omega (arith, few, h.0)))
+          adds_same mid new (IsTwiceFault elements) (cc) (λ f h. omega (arith, few, h.0))
     ] in
     form_then_twice elements old mid new first second

@@ -17,10 +17,7 @@ returns-clause-added g c = λ bag is are. on_ok_weaker c.add_oxum_faults.result 
       | then-not-has_payload_dir+in_ok-push w ↦
           let more : w.push.new.self.items ≡ old ++ NoPayloadDir ∷ [] = w.in_ok-push.ensures.items in
           dir_away bag old first (sym (ap (λ (s : Shown). s.has_payload_dir) is) ∙ sym c.has_payload_dir.ensures.dir ∙ w.if-not-has_payload_dir.true) cc
-      | else-not-has_payload_dir w ↦
-          let same : first ≡ old = cc in
-          subst (λ (fs : List Fault). Adds old fs (HasFaultOf bag (3 ∷ []))) (sym same)
-          (dir_there bag old (sym (ap (λ (s : Shown). s.has_payload_dir) is) ∙ sym c.has_payload_dir.ensures.dir ∙ w.if-not-has_payload_dir.false))
+      | else-not-has_payload_dir w ↦ dir_there bag old first (sym (ap (λ (s : Shown). s.has_payload_dir) is) ∙ sym c.has_payload_dir.ensures.dir ∙ w.if-not-has_payload_dir.false) cc
     ] in
     let manifest : Adds first second (HasFaultOf bag (4 ∷ [])) = elim c.if-not-has_payload_manifest.branch [
       | then-not-has_payload_manifest+in_ok-push-2 w ↦
@@ -28,10 +25,8 @@ returns-clause-added g c = λ bag is are. on_ok_weaker c.add_oxum_faults.result 
           manifest_away bag first second
           (λ alg there. let k : false ≡ true = sym w.if-not-has_payload_manifest.true ∙ c.has_payload_manifest.ensures.1 (alg, shows bag is (manifest_file Payload alg) there) in cc) cc
       | else-not-has_payload_manifest w ↦
-          let same : second ≡ first = cc in
           let some = c.has_payload_manifest.ensures.0 w.if-not-has_payload_manifest.false in
-          subst (λ (fs : List Fault). Adds first fs (HasFaultOf bag (4 ∷ []))) (sym same)
-          (manifest_there bag first some.0 (is_there bag is (manifest_file Payload some.0) some.1))
+          manifest_there bag first second some.0 (is_there bag is (manifest_file Payload some.0) some.1) cc
     ] in
     let unlisted : Adds second third (HasFaultOf bag (6 ∷ [])) = all_unlisted bag c.args.texts.now are paths second third (λ path. (is_there bag is path, shows bag is path))
     (subst (λ (ls : List Listing). Adds second third (IsUnlistedManifest paths ls)) c.deref.ensures.value c.in_ok-add_unlisted_manifests.ensures.added) in

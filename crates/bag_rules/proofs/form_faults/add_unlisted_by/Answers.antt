@@ -1,5 +1,5 @@
-use Rattle.std.proofs.Common.{◌≡◌, ◌≢◌, ◌∙◌, ◌++◌, ◌∷◌, [], List, length, arith, rules, sym, ap, subst, not}
-use Rattle.bag_rules.proofs.Words.{Adds, Fault, manifest_file, ManifestNotListed, Payload, PayloadManifest, Tag}
+use Rattle.std.proofs.Common.{◌≡◌, ◌≢◌, ◌∙◌, ◌++◌, ◌∷◌, [], length, arith, rules, sym, ap, not}
+use Rattle.bag_rules.proofs.Words.{Adds, manifest_file, ManifestNotListed, Payload, PayloadManifest, Tag}
 use Rattle.bag_rules.proofs.EachLemmas.{each_more, each_all}
 use Rattle.bag_rules.proofs.FormLemmas.{IsNotListedIn, no_tag_manifest, listed_in, not_listed_in, unlisted_by_some, unlisted_by_none}
 use Rattle.bag_rules.proofs.form_faults.add_unlisted_by.Goals as goal
@@ -22,10 +22,10 @@ loop-manifest-preserved c =
           not_listed_in path alg listing w.get.result _ _ tag (sym w.get.ensures.listed) (w.is_none.ensures ∙ ap not w.if-is_none.true) cc
       | else-eq w ↦
           let same : c.if-eq.faults.items ≡ c.loop-manifest.faults.items = cc in
-          subst (λ (fs : List Fault). Adds c.loop-manifest.faults.items fs (IsNotListedIn path alg listing)) (sym same) (elim w.else-eq.branch [
-            | else-eq-via-then-eq+else-is_none v ↦ listed_in path alg listing v.get.result _ (sym v.get.ensures.listed) (v.is_none.ensures ∙ ap not v.if-is_none.false)
-            | else-eq-via-else-eq v ↦ (let other : listing.kind ≢ Tag = search rules in no_tag_manifest path alg listing _ other)
-          ])
+          elim w.else-eq.branch [
+            | else-eq-via-then-eq+else-is_none v ↦ listed_in path alg listing v.get.result _ _ (sym v.get.ensures.listed) (v.is_none.ensures ∙ ap not v.if-is_none.false) same
+            | else-eq-via-else-eq v ↦ (let other : listing.kind ≢ Tag = search rules in no_tag_manifest path alg listing _ _ other same)
+          ]
     ] in
     each_more c.args.manifests.now c.loop-manifest.manifest-index listing (IsNotListedIn path alg) _ _ _ c.loop-manifest-test.true c.manifest-item.is c.loop-manifest.invariant step
 

@@ -7,5 +7,5 @@ invariant-loop-i g l =
     let paths = paths_in (g.T.Tree.shown l.tree) in
     record {
       all : l.i-end ≡ length paths;
-      none : (k : ℕ) (path : List ℕ) (alg : Alg) → k < l.i → slice_get paths k ≡ Some path → path ≢ manifest_file Payload alg;
+      none : (k : ℕ) → k < l.i → (path : List ℕ) (alg : Alg) → slice_get paths k ≡ Some path → path ≢ manifest_file Payload alg;
     }

@@ -1,5 +1,5 @@
-use Rattle.std.proofs.Common.{◌≡◌, ◌≢◌, ◌∙◌, ◌++◌, ◌∷◌, [], length, List, arith, rules, sym, ap, subst, not}
-use Rattle.bag_rules.proofs.Words.{Adds, Fault, FetchNotListed, listed_digest, Tag}
+use Rattle.std.proofs.Common.{◌≡◌, ◌≢◌, ◌∙◌, ◌++◌, ◌∷◌, [], length, arith, rules, sym, ap, subst, not}
+use Rattle.bag_rules.proofs.Words.{Adds, FetchNotListed, listed_digest, Tag}
 use Rattle.bag_rules.proofs.EachLemmas.{OfSome, each_more, each_all}
 use Rattle.bag_rules.proofs.FetchLemmas.{IsLineUnlisted, line_listed, line_unlisted, lines_unlisted, payload_if}
 use Rattle.bag_rules.proofs.listing_faults.add_fetch_unlisted_by.Goals as goal
@@ -17,10 +17,7 @@ loop-line-preserved c =
           let added : w.push.new.self.items ≡ c.loop-line.faults.items ++ FetchNotListed w.alg-manifest.result w.in_ok-path.path ∷ [] = w.in_ok-push.ensures.items in
           let more : c.if-is_none.faults.items ≡ c.loop-line.faults.items ++ FetchNotListed listing.alg line.entry.path ∷ [] = cc in
           line_unlisted listing line c.get.result _ _ digest (c.is_none.ensures ∙ ap not w.if-is_none.true) more
-      | else-is_none w ↦
-          let same : c.if-is_none.faults.items ≡ c.loop-line.faults.items = cc in
-          subst (λ (fs : List Fault). Adds c.loop-line.faults.items fs (IsLineUnlisted listing line)) (sym same)
-          (line_listed listing line c.get.result c.loop-line.faults.items digest (c.is_none.ensures ∙ ap not w.if-is_none.false))
+      | else-is_none w ↦ line_listed listing line c.get.result _ _ digest (c.is_none.ensures ∙ ap not w.if-is_none.false) cc
     ] in
     each_more c.entries-line-items.result.now c.loop-line.line-index line (IsLineUnlisted listing) _ _ _ c.loop-line-test.true c.line-item.is c.loop-line.invariant step
 
