@@ -58,11 +58,9 @@ module _ (bag : Bag) (texts : Texts) (are : AreTextsOf (length bag.files) bag te
 
   -- entries that payload manifests don't list
   unlisted_back : (lines : List FetchLine) → texts.fetch ≡ Some lines → (f : Fault) → HasFaultOf bag (11 ∷ []) f → OfSome texts.manifests.items (λ (listing : Listing). IsFetchUnlistedBy listing lines) f
-  unlisted_back lines some (FetchNotListed manifest path) h =
-      let listing : Listing = record { alg = manifest; kind = Payload; pairs = h.0.0 } in
-      let line = h.0.3.0 in
-      let same : line.entry.path ≡ path = h.0.3.2 in
-      (listing, (manifest_listed bag texts are listing).1 h.0.1, (refl, (line, entry_in lines line some h.0.3.1, subst (λ p. lists_path h.0.0 p ≡ false) (sym same) h.0.2, ap (λ p. FetchNotListed manifest p) (sym same))))
+  unlisted_back lines some (FetchNotListed manifest path) ((pairs, lists, unlisted, (line, has, named)), kind) =
+      let listing : Listing = record { alg = manifest; kind = Payload; pairs = pairs } in
+      (listing, (manifest_listed bag texts are listing).1 lists, (refl, (line, entry_in lines line some has, subst (λ p. lists_path pairs p ≡ false) (sym named) unlisted, ap (λ p. FetchNotListed manifest p) (sym named))))
   unlisted_back lines some _ h = absurd (let k : false ≡ true = h.1 in cc)
 
   pub all_unlisted : (lines : List FetchLine) (old new : List Fault) → texts.fetch ≡ Some lines → Adds old new (OfSome texts.manifests.items (λ (listing : Listing). IsFetchUnlistedBy listing lines)) → Adds old new (HasFaultOf bag (11 ∷ []))
@@ -75,19 +73,13 @@ module _ (bag : Bag) (texts : Texts) (are : AreTextsOf (length bag.files) bag te
 
   -- entries that give files another length
   longer_back : (lines : List FetchLine) → texts.fetch ≡ Some lines → (f : Fault) → HasFaultOf bag (12 ∷ []) f → OfSome lines (λ (line : FetchLine). IsOtherLength bag line) f
-  longer_back lines some (FetchLength number path) h =
-      let line = h.0.0 in
-      let given = h.0.4.0 in
-      let octets = h.0.4.2.0 in
-      let holds = h.0.4.2.1 in
-      (line, entry_in lines line some h.0.1, (given, (octets, (holds.0, h.0.4.1, holds.1 ∙ ap (λ p. Some (p, octets)) (sym h.0.3), h.0.4.2.2, ap (λ n. FetchLength n path) (sym h.0.2) ∙ ap (λ p. FetchLength line.line p) (sym h.0.3)))))
+  longer_back lines some (FetchLength number path) ((line, has, numbered, named, (given, gives, (octets, (i, at), other))), kind) =
+      (line, entry_in lines line some has, (given, (octets, (i, gives, at ∙ ap (λ p. Some (p, octets)) (sym named), other, ap (λ n. FetchLength n path) (sym numbered) ∙ ap (λ p. FetchLength line.line p) (sym named)))))
   longer_back lines some _ h = absurd (let k : false ≡ true = h.1 in cc)
 
   longer_there : (lines : List FetchLine) → texts.fetch ≡ Some lines → (f : Fault) → OfSome lines (λ (line : FetchLine). IsOtherLength bag line) f → HasFaultOf bag (12 ∷ []) f
-  longer_there lines some f h =
-      let line = h.0 in
-      let other = h.2.1.1 in
-      subst (λ g. HasFaultOf bag (12 ∷ []) g) (sym other.4) ((line, entry_of lines line some h.1, refl, refl, (h.2.0, other.1, (h.2.1.0, (other.0, other.2), other.3))), refl)
+  longer_there lines some f (line, has, (given, (octets, (i, gives, at, other, is)))) =
+      subst (λ g. HasFaultOf bag (12 ∷ []) g) (sym is) ((line, entry_of lines line some has, refl, refl, (given, gives, (octets, (i, at), other))), refl)
 
   pub all_longer : (lines : List FetchLine) (old new : List Fault) → texts.fetch ≡ Some lines → Adds old new (OfSome lines (λ (line : FetchLine). IsOtherLength bag line)) → Adds old new (HasFaultOf bag (12 ∷ []))
   all_longer lines old new some a = adds_so old new (OfSome lines (λ (line : FetchLine). IsOtherLength bag line)) (HasFaultOf bag (12 ∷ [])) (longer_there lines some) (longer_back lines some) a

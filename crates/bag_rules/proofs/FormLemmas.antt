@@ -59,13 +59,9 @@ module _ (bag : Bag) where
 module _ (bag : Bag) (texts : Texts) (are : AreTextsOf (length bag.files) bag texts) where
   -- payload manifests that a tag manifest doesn't list
   unlisted_there : (paths : List (List ℕ)) → ((path : List ℕ) → Contains paths path → IsThere bag path) → (f : Fault) → IsUnlistedManifest paths texts.manifests.items f → HasFaultOf bag (6 ∷ []) f
-  unlisted_there paths there f h =
-      let path = h.0 in
-      let by = h.2.1 in
-      let listing = by.0 in
-      let lists = subst (λ k. Lists bag (manifest_name k listing.alg) listing.pairs) by.3 ((manifest_listed bag texts are listing).0 by.2) in
-      subst (λ g. HasFaultOf bag (6 ∷ []) g) (sym by.5)
-      ((listing.pairs, lists, subst (λ p. IsThere bag p) by.1 (there path (contains_from_has paths path h.1)), subst (λ p. lists_path listing.pairs p ≡ false) by.1 by.4), refl)
+  unlisted_there paths there f (path, has, (alg, (listing, named, held, tag, unlisted, is))) =
+      let lists = subst (λ k. Lists bag (manifest_name k listing.alg) listing.pairs) tag ((manifest_listed bag texts are listing).0 held) in
+      subst (λ g. HasFaultOf bag (6 ∷ []) g) (sym is) ((listing.pairs, lists, subst (λ p. IsThere bag p) named (there path (contains_from_has paths path has)), subst (λ p. lists_path listing.pairs p ≡ false) named unlisted), refl)
 
   unlisted_back : (paths : List (List ℕ)) → ((path : List ℕ) → IsThere bag path → Contains paths path) → (f : Fault) → HasFaultOf bag (6 ∷ []) f → IsUnlistedManifest paths texts.manifests.items f
   unlisted_back paths shown (ManifestNotListed tag_manifest manifest) h =

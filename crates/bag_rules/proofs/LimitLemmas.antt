@@ -8,9 +8,7 @@ use Rattle.bag_rules.proofs.PlaceLemmas.{same_file}
 pub stopped_so : (P Q : CheckFault → Type 0) (fault : CheckFault) → (P fault → Q fault) → Stopped P fault → Stopped Q fault
 stopped_so P Q Tree there h = tt
 stopped_so P Q Memory there h = tt
-stopped_so P Q (TagTooLarge path) there h = there h
-stopped_so P Q TooMany there h = there h
-stopped_so P Q (TooLarge path) there h = there h
+stopped_so P Q _ there h = there h
 
 pub stopped_memory : (P : CheckFault → Type 0) (fault : CheckFault) → fault ≡ Memory → Stopped P fault
 stopped_memory P fault e = rw e tt

@@ -1,7 +1,7 @@
 -- Bags with one payload manifest and one payload file, or none.
 use Rattle.std.proofs.Common.{◌≡◌, ◌<◌, ℕ, Bool, true, false, List, [], ◌∷◌, codes, refl, sym, ap, subst, inl, inr, arith}
 use Rattle.std.specs.List.Sorted.{IsStrictlySortedBy}
-use Rattle.bag_rules.proofs.Words.{adds_pair, AddsPair, AreRising, ascii_path, Bag, bytes_eq, bytes_eq-Decides, Digest, digits_of_abc, false≢true, Fault, HasFault, IsInProfile, IsJudged, IsThere, leads_on, Listing, lists_path, ManifestText, NoneBelow, nothing_listed, or_cases, other_text, Pair, pair, Payload, Sha256, sha256_of_abc, SpellsDigest, text_of, tier_of, V1, with_pair, word_of, written_declaration}
+use Rattle.bag_rules.proofs.Words.{adds_pair, AddsPair, AreRising, ascii_path, Bag, bytes_eq, bytes_eq-Decides, Digest, digits_of_abc, false≢true, Fault, HasFault, IsInProfile, IsJudged, IsThere, leads_on, Listing, lists_path, ManifestText, nothing_listed, or_cases, other_text, Pair, pair, Payload, Sha256, sha256_of_abc, SpellsDigest, text_of, tier_of, V1, with_pair, word_of, written_declaration}
 use Rattle.bag_path.specs.Lines.{lines_of}
 use Rattle.bag_path.specs.Paths.{path_fault}
 use Rattle.bag_path.specs.SpellingReading.{octets_spelled_after}
@@ -11,6 +11,8 @@ use Rattle.bag_rules.specs.Bags.{paths_of}
 use Rattle.bag_rules.specs.ExampleBags.{manifest_of_abc}
 use Rattle.bag_rules.proofs.HasLemmas.{has_at}
 use Rattle.bag_rules.proofs.OneManifest.{HasOneManifest, payload_file}
+use Rattle.bag_rules.proofs.OneVerdictLemmas.{lone}
+use Rattle.bag_rules.proofs.VerdictLemmas.{judged_by_one}
 
 -- VERDICTS
 
@@ -20,17 +22,9 @@ judged_none bag none profile = record { in_order = tt; exact = λ fault. (λ h. 
 
 -- the one fault that is broken
 pub judged_one : (bag : Bag) (fault : Fault) → HasFault bag fault → ((other : Fault) → HasFault bag other → fault ≡ other) → IsInProfile bag → IsJudged bag (fault ∷ [])
-unfolding IsStrictlySortedBy
 judged_one bag fault broken only profile =
-    let none_below : NoneBelow (tier_of fault) bag = λ other less b. omega (arith, subst (λ f. tier_of f < tier_of fault) (sym (only other b)) less) in
-    record {
-      in_order = (tt, tt);
-      exact = λ other. (
-        λ h. elim h [ inl e ↦ subst (λ f. HasFault bag f × NoneBelow (tier_of f) bag) e (broken, none_below) | inr n ↦ absurd n ],
-        λ h. inl (only other h.0),
-      );
-      in_profile = λ below. profile;
-    }
+    judged_by_one bag fault (fault ∷ []) broken (λ other less b. omega (arith, subst (λ f. tier_of f < tier_of fault) (sym (only other b)) less)) (λ other tier. only other)
+    (λ below. profile) (lone fault) (λ other. (λ h. h, λ h. h))
 
 -- MANIFESTS
 

@@ -72,14 +72,12 @@ module _ (bag : Bag) (manifest content : List ℕ) (pairs : List Pair) (h : HasO
   lists_these : (name : ManifestName) (others : List Pair) → Lists bag name others → (name ≡ by_sha256) × (others ≡ pairs)
   lists_these name others l =
       let one = the_one name l.octets l.there in
-      let text : ManifestText V1 name.alg name.kind manifest others = subst (λ o. ManifestText V1 name.alg name.kind o others) one.1 l.text in
-      (one.0, one_list_of_pairs V1 Sha256 Payload manifest others pairs (subst (λ (n : ManifestName). ManifestText V1 n.alg n.kind manifest others) one.0 text) h.text)
+      (one.0, one_list_of_pairs V1 Sha256 Payload manifest others pairs (rw (one.0, one.1) at l.text) h.text)
 
   no_bad_line : (name : ManifestName) (octets : List ℕ) (line : ℕ) (cause : LineCause) → Holds bag (file_of name) octets → ¬ ManifestFault V1 name.alg name.kind octets (line_fault line cause)
   no_bad_line name octets line cause held fault =
       let one = the_one name octets held in
-      no_pairs V1 Sha256 Payload manifest pairs (line_fault line cause) h.text
-      (subst (λ (n : ManifestName). ManifestFault V1 n.alg n.kind manifest (line_fault line cause)) one.0 (subst (λ o. ManifestFault V1 name.alg name.kind o (line_fault line cause)) one.1 fault))
+      no_pairs V1 Sha256 Payload manifest pairs (line_fault line cause) h.text (rw (one.0, one.1) at fault)
 
   -- a payload file that is there is the one
   payload_only : (path octets : List ℕ) → Holds bag path octets → is_payload path ≡ true → (path ≡ payload_file) × (octets ≡ content)

@@ -41,16 +41,10 @@ not_version : (bag : Bag) → AreRising (paths_of bag) → Declares bag current 
 not_version bag rising declares other = let clash : Some V1 ≡ None = ap version_of (one_declared bag current other.0 rising declares other.1) ∙ other.2 in cc
 
 not_encoding : (bag : Bag) → AreRising (paths_of bag) → Declares bag current → IsOutside bag Encoding → ⊥
-not_encoding bag rising declares other =
-    let e = one_declared bag current other.0 rising declares other.1 in
-    let clash : true ≡ false = ap (λ (d : Declaration). d.utf8) e ∙ other.3 in
-    cc
+not_encoding bag rising declares other = let clash : true ≡ false = ap (λ (d : Declaration). d.utf8) (one_declared bag current other.0 rising declares other.1) ∙ other.3 in cc
 
 not_both : (bag : Bag) → AreRising (paths_of bag) → IsOutside bag Version → IsOutside bag Encoding → ⊥
-not_both bag rising v n =
-    let e = one_declared bag v.0 n.0 rising v.1 n.1 in
-    let clash : false ≡ true = ap is_some (sym v.2 ∙ ap version_of e) ∙ n.2 in
-    cc
+not_both bag rising v n = let clash : false ≡ true = ap is_some (sym v.2 ∙ ap version_of (one_declared bag v.0 n.0 rising v.1 n.1)) ∙ n.2 in cc
 
 -- a bag that can't be judged declares something, so it is judged only in the profile
 declares_some : (bag : Bag) (cause : OutsideCause) → IsOutside bag cause → (declaration : Declaration) × Declares bag declaration

@@ -1,6 +1,6 @@
 -- What a tree shows of its bag.
 use Rattle.std.proofs.Common.{◌≡◌, ℕ, List, [], ◌∷◌, Option, Some, None, length, map, slice_get, Contains, refl, sym, ap, ◌∙◌, subst}
-use Rattle.bag_rules.proofs.Words.{AreRising, Bag, HasFileAt, Holds, IsBagOf, IsThere, length-map, octets_in, option_and_then, option_map, paths_in, same_Some, Shown, slice_get-map}
+use Rattle.bag_rules.proofs.Words.{AreRising, Bag, HasFileAt, Holds, IsBagOf, IsThere, length-map, octets_in, option_and_then, option_map, paths_in, same_Some, Shown, slice_get-map, some_pair_parts}
 use Rattle.bag_rules.specs.Bags.{paths_of}
 use Rattle.bag_rules.proofs.RisingPaths.{place_of, contains_at, one_place}
 
@@ -16,10 +16,7 @@ pub one_file : (bag : Bag) (i j : ℕ) (path a b : List ℕ) → AreRising (path
 one_file bag i j path a b rising p q = one_place (paths_of bag) rising i j path (shown_at bag i path a p) (shown_at bag j path b q)
 
 pub one_octets : (bag : Bag) (path a b : List ℕ) → AreRising (paths_of bag) → Holds bag path a → Holds bag path b → a ≡ b
-one_octets bag path a b rising p q =
-    let e : Some (path, a) ≡ Some (path, b) = sym p.1 ∙ ap (slice_get bag.files) (one_file bag p.0 q.0 path a b rising p.1 q.1) ∙ q.1 in
-    let s : (path, a) ≡ (path, b) = cc in
-    ap (λ (file : File). file.1) s
+one_octets bag path a b rising p q = (some_pair_parts path path a b (sym p.1 ∙ ap (slice_get bag.files) (one_file bag p.0 q.0 path a b rising p.1 q.1) ∙ q.1)).1
 
 pub found_file : (o : Option File) (path : List ℕ) → option_map (λ (file : File). file.0) o ≡ Some path → (octets : List ℕ) × (o ≡ Some (path, octets))
 found_file None path e = cc

@@ -106,14 +106,20 @@ pub judged_by_files : (bag : Bag) (faults report : List Fault) → IsInProfile b
 judged_by_files bag faults report profile none adds in_order same =
     tier_judged 3 bag faults report (λ none. profile) none (tier_found bag kinds_of_files 3 faults file_tier adds) (λ fault above below. absurd (omega (arith, above, (number_by_tier fault).2))) in_order same
 
--- the verdict on a bag with one fault of the declaration
+-- the verdict on a bag with one fault of a tier
+pub judged_by_one : (bag : Bag) (own : Fault) (report : List Fault) → HasFault bag own → NoneBelow (tier_of own) bag → ((fault : Fault) → tier_of fault ≡ tier_of own → HasFault bag fault → own ≡ fault)
+    → (NoneBelow 2 bag → IsInProfile bag) → AreInOrder report → ((fault : Fault) → Has report fault ↔ Has (own ∷ []) fault) → IsJudged bag report
+judged_by_one bag own report broken none only profile in_order same =
+    tier_judged (tier_of own) bag (own ∷ []) report profile none
+    (λ fault. (
+      λ h. elim h [ inl is ↦ subst (λ f. HasFault bag f × (tier_of f ≡ tier_of own)) is (broken, refl) | inr none ↦ absurd none ],
+      λ h. inl (only fault h.1 h.0),
+    ))
+    (λ fault above below. below own above broken)
+    in_order same
+
+-- and on one with a fault of the declaration
 pub judged_by_declaration : (bag : Bag) (own : Fault) (report : List Fault) → HasFault bag own → tier_of own ≡ 1 → ((fault : Fault) → tier_of fault < 2 → HasFault bag fault → own ≡ fault)
     → AreInOrder report → ((fault : Fault) → Has report fault ↔ Has (own ∷ []) fault) → IsJudged bag report
-judged_by_declaration bag own report broken first only in_order same =
-    tier_judged 1 bag (own ∷ []) report (λ none. absurd (none own (omega (arith, first)) broken)) (λ fault below b. absurd (omega (arith, below, (number_by_tier fault).1)))
-    (λ fault. (
-      λ h. elim h [ inl is ↦ subst (λ f. HasFault bag f × (tier_of f ≡ 1)) is (broken, first) | inr none ↦ absurd none ],
-      λ h. inl (only fault (omega (arith, h.1)) h.0),
-    ))
-    (λ fault above below. below own (omega (arith, above, first)) broken)
-    in_order same
+judged_by_declaration bag own report broken first only = judged_by_one bag own report broken (λ fault below b. omega (arith, below, first, (number_by_tier fault).1))
+    (λ fault tier. only fault (omega (arith, tier, first))) (λ none. absurd (none own (omega (arith, first)) broken))

@@ -6,11 +6,9 @@ use Rattle.bag_rules.proofs.memory.search.Goals as goal
 pub returns-clause-found : goal.returns-clause-found
 returns-clause-found c =
     let found = c.binary_search_by.ensures in
-    let files = c.args.files.now in
-    search_found files c.args.path.now _ found.bound (found.position (against files c.args.path.now) (always_returns_same _ _ _ (λ a r g called. search rules)))
+    search_found c.args.files.now c.args.path.now _ found.bound (found.position (against c.args.files.now c.args.path.now) (always_returns_same _ _ _ (λ a r g called. search rules)))
 
 pub returns-clause-absent : goal.returns-clause-absent
 returns-clause-absent c =
     let found = c.binary_search_by.ensures in
-    let files = c.args.files.now in
-    search_absent files c.args.path.now c.requires _ found.bound (found.position (against files c.args.path.now) (always_returns_same _ _ _ (λ a r g called. search rules)))
+    search_absent c.args.files.now c.args.path.now c.requires _ found.bound (found.position (against c.args.files.now c.args.path.now) (always_returns_same _ _ _ (λ a r g called. search rules)))
