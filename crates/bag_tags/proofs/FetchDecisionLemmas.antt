@@ -27,6 +27,7 @@ use Rattle.bag_path.specs.Spellings.{Spells}
 use Rattle.bag_tags.specs.Manifests.{SpellsNoPath}
 use Rattle.bag_tags.proofs.CauseLemmas.{Fate, AtMostOne, Is, Unless, on, for, one_is, one_unless, same_cause, on_or_for}
 
+-- ONE CAUSE AT MOST
 module _ (version : Version) (text : List ℕ) where
   -- what a line has to have, in this order
   abbrev SomeWords : Type 0
@@ -104,6 +105,7 @@ module _ (version : Version) (text : List ℕ) where
   pub not_both : (before : List FetchLine) (number : ℕ) (next : List FetchLine) (cause : LineCause) → AddsEntry version before number text next → GivesNoEntry version text cause → ⊥
   not_both before number next cause a r = on_or_for cause (one_fate on (for cause) (with_entry on a.entry a.gives (inr ((a.entry, a.gives, a.payload), refl))) (refused_fate cause r))
 
+-- ONE ENTRY, OR A CAUSE
 decided_scheme_octet : (octet : ℕ) → Decided (IsSchemeOctet octet)
 decided_scheme_octet octet =
     decided_either _ _ (decided_letter octet)

@@ -15,6 +15,7 @@ use Rattle.bag_tags.proofs.DecisionLemmas.{Decided, decided_as, decided_both, de
 use Rattle.bag_tags.proofs.InfoLineLemmas.{indented, parts_of, lacks_of, info_one, gives_begins, indent_begins, no_last, not_lacking, one_parts}
 use Rattle.bag_tags.proofs.CauseLemmas.{Fate, AtMostOne, Is, Unless, on, for, one_is, one_unless, same_cause, on_or_for}
 
+-- ONE CAUSE AT MOST
 module _ (version : Version) (before : List MetadataElement) (text : List ℕ) where
   -- what an indented line has to have, and what another has to have, in this order
   abbrev SomeParts : Type 0
@@ -63,6 +64,8 @@ module _ (version : Version) (before : List MetadataElement) (text : List ℕ) w
 
   pub not_both : (number : ℕ) (next : List MetadataElement) (cause : LineCause) → AddsInfo version before number text next → RefusesInfo version before text cause → ⊥
   not_both number next cause a r = on_or_for cause (one_fate on (for cause) (added_fate number next a) (refused_fate cause r))
+
+-- ONE ELEMENT, OR A CAUSE
 
 -- a label, by what it needs
 abbrev FitParts : List ℕ → Type 0

@@ -33,6 +33,7 @@ use Rattle.bag_path.specs.Spellings.{Spells}
 use Rattle.bag_tags.proofs.CauseLemmas.{Fate, AtMostOne, Is, Unless, on, for, one_is, one_unless, same_cause, on_or_for}
 use Rattle.bag_digest.specs.declared.digest.Digest.TheVariants as digest
 
+-- ONE CAUSE AT MOST
 module _ (version : Version) (before : Listing) (text : List ℕ) where
   -- what a line has to have, in this order
   abbrev SomeCut : Type 0
@@ -117,6 +118,8 @@ module _ (version : Version) (before : Listing) (text : List ℕ) where
 
   pub not_both : (number : ℕ) (next : Listing) (cause : LineCause) → AddsPair version before number text next → RefusesLine version before text cause → ⊥
   not_both number next cause a r = on_or_for cause (one_fate on (for cause) (added_fate number next a) (refused_fate cause r))
+
+-- ONE PAIR, OR A CAUSE
 
 -- the digest of octets by an algorithm
 abbrev digest_by : Alg → List ℕ → Digest

@@ -82,6 +82,7 @@ one_name path a b h k = elim (reserved path a h) [
   | inr r ↦ elim (reserved path b k) [ inl s ↦ absurd (r.1 b s) | inr s ↦ r.0 ∙ sym s.0 ]
 ]
 
+-- a path names a tag manifest, or does not
 decided_word_octet : (octet : ℕ) → Decided (IsWordOctet octet)
 decided_word_octet octet = decided_either (IsAsciiAlphanumeric octet) (octet ≡ 95) (decided_letter_or_digit octet) (decided_equal octet 95)
 

@@ -1,4 +1,4 @@
--- Parts of lists and of texts.
+-- Parts of lists and of texts, and their UTF-8.
 use Rattle.std.proofs.Common.{◌≡◌, ◌≢◌, ◌<◌, ◌≤◌, ◌+◌, drop, length-drop, slice_index, ℕ, Bool, true, false, List, [], ◌∷◌, ◌++◌, length, get_or, refl, sym, ap, ◌∙◌, subst, inl, inr, arith, length-append, zero, suc, take, nat_eq, take-append-drop}
 use Rattle.std.proofs.Math.Seq.{take-append_seam, get_or-append_seam}
 use Rattle.std.specs.List.{AllByRecursion, starts_with}
@@ -19,6 +19,7 @@ scalars_rest : (cs ds : List ℕ) → scalars (cs ++ ds) ≡ true → scalars ds
 scalars_rest [] ds h = h
 scalars_rest (c ∷ cs) ds h = scalars_rest cs ds (and_parts _ (scalars (cs ++ ds)) h).1
 
+-- what follows UTF-8 in UTF-8 is UTF-8
 pub IsUtf8-rest : (front rest : List ℕ) → IsUtf8 front → IsUtf8 (front ++ rest) → IsUtf8 rest
 IsUtf8-rest front rest f whole = (
   chars rest,

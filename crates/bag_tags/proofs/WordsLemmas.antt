@@ -128,7 +128,7 @@ cut_blanks text word blanks rest cut = blanks_cut blanks rest cut.only_blanks cu
 pub cut_some : (text word blanks rest : List ℕ) → IsCut text word blanks rest → (length (blanks ++ rest) == 0) ≡ false
 cut_some text word blanks rest cut = not_empty blanks rest cut.some_blank
 
--- the first n elements don't pass, and then it goes on as at what follows
+-- A list that is gone through up to the first element that passes: the first n elements don't pass, and then it goes on as at what follows
 abbrev pub Spans : (ℕ → Bool) → List ℕ → ℕ → Type 0
 Spans test text n = until test text ≡ (take n text ++ (until test (drop n text)).0, (until test (drop n text)).1)
 

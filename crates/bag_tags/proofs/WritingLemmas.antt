@@ -75,6 +75,7 @@ no_mark (p ∷ q ∷ []) rest x a b c h = rw (ne_eqb 191 x (λ e. b (sym e))) (e
 ])
 no_mark (p ∷ q ∷ r ∷ word) rest x a b c h = h
 
+-- the written spelling of a path is UTF-8, and begins as the path does
 small : (a b c : ℕ) → a < 128 → b < 128 → c < 128 → IsUtf8 (a ∷ b ∷ c ∷ [])
 small a b c x y z = IsUtf8-from_ascii (a ∷ b ∷ c ∷ []) (IsAscii-from_each (a ∷ b ∷ c ∷ []) (x, (y, (z, tt))))
 
