@@ -3,15 +3,11 @@ use Rattle.std.proofs.Common.{◌≡◌, ◌&&◌, ℕ, Bool, true, List, refl, 
 use Rattle.bag_rules.proofs.Words.{Alg, and_parts, BadDeclaration, BadLine, bytes_eq-Decides, false≢true, Fault, FetchLength, FetchList, FetchNotListed, Info, LineCause, LineFile, Manifest, ManifestName, ManifestNotListed, Missing, NoDeclaration, NoManifest, NoPayloadDir, OxumForm, OxumTwice, OxumWrong, Unlisted, unsigned_Decides, WrongDigest}
 use denote.Enum.Bare.{same_true}
 use Rattle.bag_digest.specs.contracts.algorithm.Alg as algorithm
-use Rattle.bag_digest.specs.contracts.algorithm.AlgPartialEq.TheImpl as alg
 use Rattle.bag_tags.specs.contracts.listing.Kind as listing
 use Rattle.bag_tags.specs.contracts.declaration.DeclFault as declarations
 use Rattle.bag_path.specs.contracts.path.PathFault as path_faults
-use Rattle.bag_tags.specs.contracts.listing.KindPartialEq.TheImpl as kind
 use Rattle.bag_tags.specs.declared.fault.LineCause.TheVariants as cause_of
 use Rattle.bag_tags.specs.contracts.fault.LineCausePartialEq.TheImpl as cause
-use Rattle.bag_path.specs.contracts.path.BagPathPartialEq.TheImpl as path
-use Rattle.std.specs.contracts.prelude.U64PartialEq.TheImpl as u64
 use Rattle.bag_tags.specs.contracts.name.ManifestNamePartialEq.TheImpl as name
 use Rattle.bag_tags.specs.contracts.name.LineFilePartialEq.TheImpl as file
 use Rattle.bag_rules.specs.contracts.fault.FaultPartialEq.TheImpl as impl
@@ -20,7 +16,7 @@ same_both : {A B C : Type 0} (f : A → B → C) {a a' : A} {b b' : B} (s t : Bo
 same_both f {a} {a'} {b} {b'} s t first second h = ap (λ x. f x b) (first (and_parts s t h).0) ∙ ap (f a') (second (and_parts s t h).1)
 
 name_same : (x y : ManifestName) → name.ghosts.eq x y ≡ true → x ≡ y
-name_same x y h = same_both (λ k a. record { kind = k; alg = a }) (kind.ghosts.eq x.kind y.kind) (alg.ghosts.eq x.alg y.alg) (same_true listing.the_type tt x.kind y.kind) (same_true algorithm.the_type tt x.alg y.alg) h
+name_same x y h = same_both (λ k a. record { kind = k; alg = a }) _ _ (same_true listing.the_type tt x.kind y.kind) (same_true algorithm.the_type tt x.alg y.alg) h
 
 cause_same : (x y : LineCause) → cause.ghosts.eq x y ≡ true → x ≡ y
 cause_same cause_of.NotUtf8 cause_of.NotUtf8 h = refl
@@ -47,15 +43,15 @@ fault_same (BadDeclaration x) (BadDeclaration y) h = ap BadDeclaration (same_tru
 fault_same NoPayloadDir NoPayloadDir h = refl
 fault_same NoManifest NoManifest h = refl
 fault_same (BadLine f n c) (BadLine f' n' c') h =
-    same_both (λ (f : LineFile) (rest : ℕ × LineCause). BadLine f rest.0 rest.1) (file.ghosts.eq f f') (u64.ghosts.eq n n' && cause.ghosts.eq c c') (file_same f f')
-    (same_both (λ n c. (n, c)) (u64.ghosts.eq n n') (cause.ghosts.eq c c') (unsigned_Decides n n').0 (cause_same c c')) h
-fault_same (ManifestNotListed a b) (ManifestNotListed a' b') h = same_both ManifestNotListed (alg.ghosts.eq a a') (alg.ghosts.eq b b') (same_true algorithm.the_type tt a a') (same_true algorithm.the_type tt b b') h
+    same_both (λ (f : LineFile) (rest : ℕ × LineCause). BadLine f rest.0 rest.1) _ _ (file_same f f')
+    (same_both (λ n c. (n, c)) _ _ (unsigned_Decides n n').0 (cause_same c c')) h
+fault_same (ManifestNotListed a b) (ManifestNotListed a' b') h = same_both ManifestNotListed _ _ (same_true algorithm.the_type tt a a') (same_true algorithm.the_type tt b b') h
 fault_same OxumForm OxumForm h = refl
 fault_same OxumTwice OxumTwice h = refl
-fault_same (Missing a b) (Missing a' b') h = same_both Missing (name.ghosts.eq a a') (path.ghosts.eq b b') (name_same a a') (bytes_eq-Decides b b').0 h
-fault_same (Unlisted a b) (Unlisted a' b') h = same_both Unlisted (alg.ghosts.eq a a') (path.ghosts.eq b b') (same_true algorithm.the_type tt a a') (bytes_eq-Decides b b').0 h
-fault_same (FetchNotListed a b) (FetchNotListed a' b') h = same_both FetchNotListed (alg.ghosts.eq a a') (path.ghosts.eq b b') (same_true algorithm.the_type tt a a') (bytes_eq-Decides b b').0 h
-fault_same (FetchLength a b) (FetchLength a' b') h = same_both FetchLength (u64.ghosts.eq a a') (path.ghosts.eq b b') (unsigned_Decides a a').0 (bytes_eq-Decides b b').0 h
+fault_same (Missing a b) (Missing a' b') h = same_both Missing _ _ (name_same a a') (bytes_eq-Decides b b').0 h
+fault_same (Unlisted a b) (Unlisted a' b') h = same_both Unlisted _ _ (same_true algorithm.the_type tt a a') (bytes_eq-Decides b b').0 h
+fault_same (FetchNotListed a b) (FetchNotListed a' b') h = same_both FetchNotListed _ _ (same_true algorithm.the_type tt a a') (bytes_eq-Decides b b').0 h
+fault_same (FetchLength a b) (FetchLength a' b') h = same_both FetchLength _ _ (unsigned_Decides a a').0 (bytes_eq-Decides b b').0 h
 fault_same OxumWrong OxumWrong h = refl
-fault_same (WrongDigest a b) (WrongDigest a' b') h = same_both WrongDigest (name.ghosts.eq a a') (path.ghosts.eq b b') (name_same a a') (bytes_eq-Decides b b').0 h
+fault_same (WrongDigest a b) (WrongDigest a' b') h = same_both WrongDigest _ _ (name_same a a') (bytes_eq-Decides b b').0 h
 fault_same _ _ h = absurd (false≢true h)

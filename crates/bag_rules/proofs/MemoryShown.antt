@@ -83,16 +83,13 @@ known_at [] i = refl
 known_at (file ∷ files) zero = refl
 known_at (file ∷ files) (suc i) = known_at files i
 
-pub octets_are : (tree : MemFiles) (i : ℕ) → octets_in (mem_shown tree) i ≡ mem_octets tree i
-octets_are tree i = known_at tree.files i
-
 -- a file that was started is there
 not_dropped : (o : Option (List ℕ)) → option_map (drop 0) o ≡ o
 not_dropped None = refl
 not_dropped (Some xs) = refl
 
 pub started_from : (tree : MemFiles) (inside : Inside) (i : ℕ) → view_of inside ≡ tree → option_map (drop 0) (slice_get (values_of (shown_files inside.files.items)) i) ≡ octets_in (mem_shown tree) i
-started_from tree inside i view = not_dropped _ ∙ ap (λ t. mem_octets t i) view ∙ sym (octets_are tree i)
+started_from tree inside i view = not_dropped _ ∙ ap (λ t. mem_octets t i) view ∙ sym (known_at tree.files i)
 
 pub started_there : (tree : MemFiles) (inside : Inside) (i : ℕ) → view_of inside ≡ tree → i < length (paths_in (mem_shown tree)) → is_some (option_map (drop 0) (slice_get (values_of (shown_files inside.files.items)) i)) ≡ true
 started_there tree inside i view below =

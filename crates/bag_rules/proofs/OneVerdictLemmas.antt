@@ -46,21 +46,14 @@ not_encoding bag rising declares other = let clash : true ≡ false = ap (λ (d 
 not_both : (bag : Bag) → AreRising (paths_of bag) → IsOutside bag Version → IsOutside bag Encoding → ⊥
 not_both bag rising v n = let clash : false ≡ true = ap is_some (sym v.2 ∙ ap version_of (one_declared bag v.0 n.0 rising v.1 n.1)) ∙ n.2 in cc
 
--- a bag that can't be judged declares something, so it is judged only in the profile
-declares_some : (bag : Bag) (cause : OutsideCause) → IsOutside bag cause → (declaration : Declaration) × Declares bag declaration
-declares_some bag Version out = (out.0, out.1)
-declares_some bag Encoding out = (out.0, out.1)
-declares_some bag (Algorithm name) out = (current, out.0)
-
-not_in_profile : (bag : Bag) (cause : OutsideCause) → AreRising (paths_of bag) → IsInProfile bag → IsOutside bag cause → ⊥
-not_in_profile bag Version rising profile out = not_version bag rising profile.declared out
-not_in_profile bag Encoding rising profile out = not_encoding bag rising profile.declared out
-not_in_profile bag (Algorithm name) rising profile out = profile.known out.1.path (string_bytes name) out.1.there out.1.unknown
+-- a bag that declares something is judged only in the profile
+in_profile : (bag : Bag) (faults : List Fault) (declaration : Declaration) → AreRising (paths_of bag) → IsJudged bag faults → Declares bag declaration → IsInProfile bag
+in_profile bag faults declaration rising judged declares = judged.in_profile (declared_none bag declaration rising declares)
 
 not_judged : (bag : Bag) (faults : List Fault) (cause : OutsideCause) → AreRising (paths_of bag) → IsJudged bag faults → IsOutside bag cause → ⊥
-not_judged bag faults cause rising judged out =
-    let some = declares_some bag cause out in
-    not_in_profile bag cause rising (judged.in_profile (declared_none bag some.0 rising some.1)) out
+not_judged bag faults Version rising judged out = not_version bag rising (in_profile bag faults out.0 rising judged out.1).declared out
+not_judged bag faults Encoding rising judged out = not_encoding bag rising (in_profile bag faults out.0 rising judged out.1).declared out
+not_judged bag faults (Algorithm name) rising judged out = (in_profile bag faults current rising judged out.0).known out.1.path (string_bytes name) out.1.there out.1.unknown
 
 -- neither is greater, so they are the same
 neither : (x y : List ℕ) (o : Ordering) → slice_cmp nat_cmp x y ≡ o → slice_cmp nat_cmp x y ≢ Greater → slice_cmp nat_cmp y x ≢ Greater → x ≡ y
