@@ -1,12 +1,9 @@
 -- Faults that are added item by item.
-use Rattle.std.proofs.Common.{◌≡◌, ◌<◌, ◌+◌, ℕ, List, [], ◌∷◌, ◌++◌, Some, length, take, slice_get, get_or, refl, sym, ap, ◌∙◌, inl, inr, subst}
+use Rattle.std.proofs.Common.{arith, zero, suc, ◌≡◌, ◌<◌, ◌+◌, ℕ, List, [], ◌∷◌, ◌++◌, Some, length, take, slice_get, get_or, refl, sym, ap, ◌∙◌, inl, inr, subst}
 use Rattle.bag_rules.proofs.Words.{Adds, Fault, get_or_from_slice_get, Has, slice_get_within, take-length, take_more}
+use Rattle.bag_rules.specs.FilesInside.{OfSome}
 use Rattle.bag_rules.proofs.HasLemmas.{has_push}
 use Rattle.bag_rules.proofs.AddsLemmas.{adds_on}
-
--- a fault of one of these items
-abbrev pub OfSome : {X : Type 0} → List X → (X → Fault → Type 0) → Fault → Type 0
-OfSome {X} xs of fault = (x : X) × Has xs x × of x fault
 
 -- the faults of one item more
 pub each_more : {X : Type 0} (xs : List X) (i : ℕ) (x : X) (of : X → Fault → Type 0) (old mid new : List Fault) → i < length xs → x ≡ get_or xs i x → Adds old mid (OfSome (take i xs) of) → Adds mid new (of x) → Adds old new (OfSome (take (i + 1) xs) of)
@@ -28,3 +25,18 @@ each_at xs i x of old mid new at a b = each_more xs i x of old mid new (slice_ge
 -- the faults of all items
 pub each_all : {X : Type 0} (xs : List X) (i : ℕ) (of : X → Fault → Type 0) (old new : List Fault) → i ≡ length xs → Adds old new (OfSome (take i xs) of) → Adds old new (OfSome xs of)
 each_all xs i of old new n a = subst (λ ys. Adds old new (OfSome ys of)) (ap (λ k. take k xs) n ∙ take-length xs) a
+
+-- WHAT HOLDS OF EACH ITEM
+
+pub holds_more : {X : Type 0} (xs : List X) (i : ℕ) (x : X) (P : X → Type 0) → slice_get xs i ≡ Some x → ((y : X) → Has (take i xs) y → P y) → P x → (y : X) → Has (take (i + 1) xs) y → P y
+holds_more {X} xs i x P at before here y has =
+    let more : take (i + 1) xs ≡ take i xs ++ x ∷ [] = take_more xs i x (slice_get_within xs i x at) ∙ ap (λ (z : X). take i xs ++ z ∷ []) (get_or_from_slice_get xs i x x at) in
+    elim ((has_push (take i xs) x y).0 (subst (λ ys. Has ys y) more has)) [ inl k ↦ before y k | inr e ↦ subst P e here ]
+
+pub holds_all : {X : Type 0} (xs : List X) (i : ℕ) (P : X → Type 0) → i ≡ length xs → ((y : X) → Has (take i xs) y → P y) → (y : X) → Has xs y → P y
+holds_all xs i P n before y has = before y (subst (λ ys. Has ys y) (sym (ap (λ k. take k xs) n ∙ take-length xs)) has)
+
+pub stands_at : {X : Type 0} (xs : List X) (i : ℕ) (d : X) → i < length xs → slice_get xs i ≡ Some (get_or xs i d)
+stands_at [] i d h = absurd (omega (arith, h))
+stands_at (x ∷ xs) zero d h = refl
+stands_at (x ∷ xs) (suc i) d h = stands_at xs i d (omega (arith, h))

@@ -1,8 +1,7 @@
 -- The entries of `fetch.txt` against the manifests and the files.
 use Rattle.std.proofs.Common.{◌≡◌, ◌≢◌, true, false, List, [], ◌∷◌, ◌++◌, Option, Some, None, length, refl, sym, ap, ◌∙◌, subst, is_some}
-use Rattle.bag_rules.proofs.Words.{Adds, AreTextsOf, Bag, Digest, Fault, FetchLength, FetchLine, FetchNotListed, Has, HasEntry, HasFault, HasFaultOf, IsFetchUnlistedBy, IsOtherLength, Kind, listed_digest, Listing, Lists, lists_path, manifest_name, Payload, same_Some, Tag, Texts}
+use Rattle.bag_rules.proofs.Words.{Adds, AreTextsOf, Bag, Digest, Fault, FetchLine, FetchNotListed, Has, HasEntry, HasFault, HasFaultOf, IsFetchUnlistedBy, Kind, listed_digest, Listing, Lists, lists_path, manifest_name, OfSome, Payload, same_Some, Tag, Texts}
 use Rattle.bag_rules.proofs.AddsLemmas.{adds_so, adds_none, adds_one, adds_same}
-use Rattle.bag_rules.proofs.EachLemmas.{OfSome}
 use Rattle.bag_rules.proofs.ListedLemmas.{listed_or_not}
 use Rattle.bag_rules.proofs.FrontLemmas.{fetch_listed, manifest_listed}
 
@@ -46,15 +45,8 @@ module _ (bag : Bag) (texts : Texts) (are : AreTextsOf (length bag.files) bag te
   not_unlisted (FetchNotListed manifest path) none h = no_entry h.0.3.0 none h.0.3.1
   not_unlisted _ none h = absurd (let k : false ≡ true = h.1 in cc)
 
-  not_longer : (f : Fault) → texts.fetch ≡ None → HasFaultOf bag (12 ∷ []) f → ⊥
-  not_longer (FetchLength number path) none h = no_entry h.0.0 none h.0.1
-  not_longer _ none h = absurd (let k : false ≡ true = h.1 in cc)
-
   pub none_unlisted : (faults : List Fault) → texts.fetch ≡ None → Adds faults faults (HasFaultOf bag (11 ∷ []))
   none_unlisted faults none = adds_none faults (HasFaultOf bag (11 ∷ [])) (λ f h. not_unlisted f none h)
-
-  pub none_longer : (faults : List Fault) → texts.fetch ≡ None → Adds faults faults (HasFaultOf bag (12 ∷ []))
-  none_longer faults none = adds_none faults (HasFaultOf bag (12 ∷ [])) (λ f h. not_longer f none h)
 
   -- entries that payload manifests don't list
   unlisted_back : (lines : List FetchLine) → texts.fetch ≡ Some lines → (f : Fault) → HasFaultOf bag (11 ∷ []) f → OfSome texts.manifests.items (λ (listing : Listing). IsFetchUnlistedBy listing lines) f
@@ -70,16 +62,3 @@ module _ (bag : Bag) (texts : Texts) (are : AreTextsOf (length bag.files) bag te
       subst (λ g. HasFaultOf bag (11 ∷ []) g) (sym h.2.1.3) ((h.0.pairs, lists, h.2.1.2, (h.2.1.0, entry_of lines h.2.1.0 some h.2.1.1, refl)), refl))
       (unlisted_back lines some)
       a
-
-  -- entries that give files another length
-  longer_back : (lines : List FetchLine) → texts.fetch ≡ Some lines → (f : Fault) → HasFaultOf bag (12 ∷ []) f → OfSome lines (λ (line : FetchLine). IsOtherLength bag line) f
-  longer_back lines some (FetchLength number path) ((line, has, numbered, named, (given, gives, (octets, (i, at), other))), kind) =
-      (line, entry_in lines line some has, (given, (octets, (i, gives, at ∙ ap (λ p. Some (p, octets)) (sym named), other, ap (λ n. FetchLength n path) (sym numbered) ∙ ap (λ p. FetchLength line.line p) (sym named)))))
-  longer_back lines some _ h = absurd (let k : false ≡ true = h.1 in cc)
-
-  longer_there : (lines : List FetchLine) → texts.fetch ≡ Some lines → (f : Fault) → OfSome lines (λ (line : FetchLine). IsOtherLength bag line) f → HasFaultOf bag (12 ∷ []) f
-  longer_there lines some f (line, has, (given, (octets, (i, gives, at, other, is)))) =
-      subst (λ g. HasFaultOf bag (12 ∷ []) g) (sym is) ((line, entry_of lines line some has, refl, refl, (given, gives, (octets, (i, at), other))), refl)
-
-  pub all_longer : (lines : List FetchLine) (old new : List Fault) → texts.fetch ≡ Some lines → Adds old new (OfSome lines (λ (line : FetchLine). IsOtherLength bag line)) → Adds old new (HasFaultOf bag (12 ∷ []))
-  all_longer lines old new some a = adds_so old new (OfSome lines (λ (line : FetchLine). IsOtherLength bag line)) (HasFaultOf bag (12 ∷ [])) (longer_there lines some) (longer_back lines some) a

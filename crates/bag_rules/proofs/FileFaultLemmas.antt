@@ -1,7 +1,8 @@
 -- The faults of a file by the manifests.
 use Rattle.std.proofs.Common.{◌≡◌, ◌≢◌, ◌⊎◌, ◌↔◌, ◌||◌, ◌&&◌, ℕ, Bool, true, false, List, [], ◌∷◌, ◌++◌, Some, None, if◌then◌else◌, refl, sym, ap, ◌∙◌, inl, inr, subst}
-use Rattle.bag_rules.proofs.Words.{Adds, Alg, alg_of, AlgSet, and_parts, and_right, AreDigests, cases_Bool, Digest, digest_in, Digests, false≢true, Fault, Has, has, hash, is_alg, is_payload, IsFaultBy, IsFaultOfListing, IsReadBy, IsUnlistedIn, listed_digest, Listing, lists_by, lists_path, Md5, name_in, or_cases, Payload, Sha1, Sha256, Sha512, Unlisted, WrongDigest}
-use Rattle.bag_rules.proofs.AddsLemmas.{adds_none, adds_on, adds_one}
+use Rattle.bag_rules.proofs.Words.{Adds, Alg, alg_of, AlgSet, and_parts, and_right, AreDigests, cases_Bool, Digest, digest_in, Digests, false≢true, Fault, FetchLength, Fits, FitsListing, GivenLength, Has, has, hash, is_alg, is_payload, IsFaultBy, IsOtherDigest, IsOtherLength, IsReadBy, IsUnlistedIn, IsWrongIn, listed_digest, Listing, lists_by, lists_path, Md5, name_in, OfSome, or_cases, Payload, same_Some, Sha1, Sha256, Sha512, Unlisted, Want, WrongDigest}
+use Rattle.bag_rules.specs.KeptInside.{HasSums}
+use Rattle.bag_rules.proofs.AddsLemmas.{adds_none, adds_on, adds_one, adds_so}
 use Rattle.bag_rules.proofs.HasLemmas.{has_push}
 use Rattle.bag_rules.proofs.ListedLemmas.{none_listed, some_listed}
 
@@ -106,79 +107,54 @@ listed_is_read listings path set lists some = elim (some_or_none (lists_by listi
   | inr none ↦ absurd (some (λ alg. lists alg ∙ none alg))
 ]
 
--- only a file that is read has a fault
-pub faulty_is_read : (listings : List Listing) (path octets : List ℕ) (fault : Fault) → IsFaultBy listings path octets fault → IsReadBy listings path
-faulty_is_read listings path octets fault (listing, has, inl unlisted) = inl unlisted.1
-faulty_is_read listings path octets fault (listing, has, inr wrong) = inr (listing, has, some_listed listing.pairs path wrong.0 wrong.1)
+-- a file that isn't read has no fault
+pub no_faults_by : (listings : List Listing) (lengths : List GivenLength) (path octets : List ℕ) → ¬ IsReadBy listings path → lengths ≡ [] → (f : Fault) → IsFaultBy listings lengths path octets f → ⊥
+no_faults_by listings lengths path octets unread none f (inl unlisted) = unread (inl unlisted.2.1)
+no_faults_by listings lengths path octets unread none f (inr (inl longer)) = subst (λ gs. Has gs longer.0) none longer.1
+no_faults_by listings lengths path octets unread none f (inr (inr wrong)) = unread (inr (wrong.0, wrong.1, some_listed wrong.0.pairs path wrong.2.0 wrong.2.1))
 
--- THE FAULT BY ONE MANIFEST
+-- THE FAULT BY ONE MANIFEST, OR BY ONE LENGTH
 
--- none where the digest that is listed is the one that was taken
-pub right_digest : (listing : Listing) (path : List ℕ) (digests : Digests) (digest : Digest) → listed_digest listing.pairs path ≡ Some digest → digest_in digests (alg_of digest) ≡ Some digest → (f : Fault) → IsFaultOfListing listing path digests f → ⊥
-right_digest listing path digests digest some right f (inl unlisted) = false≢true (sym unlisted.2 ∙ some_listed listing.pairs path digest some)
-right_digest listing path digests digest some right f (inr wrong) =
-    let k : Some digest ≡ Some wrong.0 = sym some ∙ wrong.1 in
-    let same : digest ≡ wrong.0 = cc in
-    wrong.2 (subst (λ d. digest_in digests (alg_of d) ≡ Some d) same right)
+pub adds_unlisted : (old new : List Fault) (listing : Listing) (path : List ℕ) → listed_digest listing.pairs path ≡ None → listing.kind ≡ Payload → is_payload path ≡ true → new ≡ old ++ Unlisted listing.alg path ∷ [] → Adds old new (IsUnlistedIn path listing)
+adds_unlisted old new listing path none kind payload e = adds_one old new (Unlisted listing.alg path) (IsUnlistedIn path listing) e (kind, payload, none_listed listing.pairs path none, refl) (λ f unlisted. sym unlisted.3)
 
--- none where the manifest need not list the path
-pub need_not : (listing : Listing) (path : List ℕ) (digests : Digests) → listed_digest listing.pairs path ≡ None → ((listing.kind ≡ Payload) → is_payload path ≡ true → ⊥) → (f : Fault) → IsFaultOfListing listing path digests f → ⊥
-need_not listing path digests none other f (inl unlisted) = other unlisted.0 unlisted.1
-need_not listing path digests none other f (inr wrong) = let k : None ≡ Some wrong.0 = sym none ∙ wrong.1 in cc
+pub not_unlisted : (faults : List Fault) (listing : Listing) (path : List ℕ) → (listing.kind ≡ Payload → (digest : Digest) × (listed_digest listing.pairs path ≡ Some digest)) → Adds faults faults (IsUnlistedIn path listing)
+not_unlisted faults listing path listed = adds_none faults (IsUnlistedIn path listing) (λ f unlisted. (let d = listed unlisted.0 in false≢true (sym unlisted.2 ∙ some_listed listing.pairs path d.0 d.1)))
 
-pub adds_wrong : (old new : List Fault) (listing : Listing) (path : List ℕ) (digests : Digests) (digest : Digest) → listed_digest listing.pairs path ≡ Some digest → digest_in digests (alg_of digest) ≢ Some digest → new ≡ old ++ WrongDigest (name_in listing) path ∷ [] → Adds old new (IsFaultOfListing listing path digests)
-adds_wrong old new listing path digests digest some wrong e =
-    adds_one old new (WrongDigest (name_in listing) path) (IsFaultOfListing listing path digests) e (inr (digest, some, wrong, refl))
-    (λ f fault. elim fault [
-      | inl unlisted ↦ absurd (false≢true (sym unlisted.2 ∙ some_listed listing.pairs path digest some))
-      | inr other ↦ sym other.3
-    ])
+pub adds_longer : (old new : List Fault) (given : GivenLength) (path : List ℕ) (n : ℕ) → given.length ≢ n → new ≡ old ++ FetchLength given.line path ∷ [] → Adds old new (IsOtherLength path n given)
+adds_longer old new given path n other e = adds_one old new (FetchLength given.line path) (IsOtherLength path n given) e (other, refl) (λ f longer. sym longer.1)
 
-pub adds_unlisted : (old new : List Fault) (listing : Listing) (path : List ℕ) (digests : Digests) → listed_digest listing.pairs path ≡ None → listing.kind ≡ Payload → is_payload path ≡ true → new ≡ old ++ Unlisted listing.alg path ∷ [] → Adds old new (IsFaultOfListing listing path digests)
-adds_unlisted old new listing path digests none kind payload e =
-    adds_one old new (Unlisted listing.alg path) (IsFaultOfListing listing path digests) e (inl (kind, payload, none_listed listing.pairs path none, refl))
-    (λ f fault. elim fault [
-      | inl unlisted ↦ sym unlisted.3
-      | inr wrong ↦ absurd (let k : None ≡ Some wrong.0 = sym none ∙ wrong.1 in cc)
-    ])
+pub adds_wrong : (old new : List Fault) (listing : Listing) (path : List ℕ) (digests : Digests) (digest : Digest) → listed_digest listing.pairs path ≡ Some digest → digest_in digests listing.alg ≢ Some digest → new ≡ old ++ WrongDigest (name_in listing) path ∷ [] → Adds old new (IsOtherDigest path digests listing)
+adds_wrong old new listing path digests digest some wrong e = adds_one old new (WrongDigest (name_in listing) path) (IsOtherDigest path digests listing) e (digest, some, wrong, refl) (λ f other. sym other.3)
 
--- THE FAULTS BY SEVERAL
+pub none_wrong : (faults : List Fault) (listing : Listing) (path : List ℕ) (digests : Digests) → FitsListing path digests listing → Adds faults faults (IsOtherDigest path digests listing)
+none_wrong faults listing path digests fits = adds_none faults (IsOtherDigest path digests listing) (λ f wrong. wrong.2 (fits wrong.0 wrong.1))
+
+-- THE FAULTS BY ALL
 
 -- the digest that was taken is the file's
 taken : (digests : Digests) (set : AlgSet) (listings : List Listing) (listing : Listing) (path octets : List ℕ) → AreDigests digests set octets → ((alg : Alg) → lists_by listings path alg ≡ true → has set alg ≡ true) → Has listings listing → lists_path listing.pairs path ≡ true → digest_in digests listing.alg ≡ Some (hash listing.alg octets)
 taken digests set listings listing path octets are lists has listed = are listing.alg ∙ ap (λ b. if b then Some (hash listing.alg octets) else None) (lists listing.alg (lists_here listings listing path has listed))
 
--- so a digest isn't among them just where it isn't the file's
-taken_so : (digests : Digests) (digest : Digest) (alg : Alg) (octets : List ℕ) → digest_in digests alg ≡ Some (hash alg octets) → alg_of digest ≡ alg → (digest_in digests (alg_of digest) ≡ Some digest) ↔ (hash alg octets ≡ digest)
-taken_so digests digest alg octets found by = (
-  λ h. (let k : Some (hash alg octets) ≡ Some digest = sym found ∙ ap (digest_in digests) (sym by) ∙ h in let s : hash alg octets ≡ digest = cc in s),
-  λ h. ap (digest_in digests) by ∙ found ∙ ap (λ d. Some d) h,
-)
+module _ (want : Want) (octets : List ℕ) (sums : ℕ × Digests) (set : AlgSet) (are : HasSums sums set octets) (lists : (alg : Alg) → lists_by want.manifests.now want.path.now alg ≡ true → has set alg ≡ true) where
+  own : (listing : Listing) → Has want.manifests.now listing → lists_path listing.pairs want.path.now ≡ true → digest_in sums.1 listing.alg ≡ Some (hash listing.alg octets)
+  own listing has = taken sums.1 are.taken want.manifests.now listing want.path.now octets are.digests (λ alg l. are.covers alg (lists alg l)) has
 
--- the faults by one manifest more
-pub faults_more : (old mid new : List Fault) (before listings : List Listing) (listing : Listing) (path octets : List ℕ) (digests : Digests) (set : AlgSet) → AreDigests digests set octets → ((alg : Alg) → lists_by listings path alg ≡ true → has set alg ≡ true) → Has listings listing → ((digest : Digest) → listed_digest listing.pairs path ≡ Some digest → alg_of digest ≡ listing.alg) → Adds old mid (IsFaultBy before path octets) → Adds mid new (IsFaultOfListing listing path digests) → Adds old new (IsFaultBy (before ++ listing ∷ []) path octets)
-faults_more old mid new before listings listing path octets digests set are lists has by =
-    let so = λ (digest : Digest) (some : listed_digest listing.pairs path ≡ Some digest). taken_so digests digest listing.alg octets (taken digests set listings listing path octets are lists has (some_listed listing.pairs path digest some)) (by digest some) in
-    adds_on old mid new (IsFaultBy before path octets) (IsFaultOfListing listing path digests) (IsFaultBy (before ++ listing ∷ []) path octets)
-    (λ f h. elim ((has_push before listing h.0).0 h.1) [
-      | inl earlier ↦ inl (h.0, earlier, h.2)
-      | inr this ↦ elim h.2 [
-        | inl unlisted ↦ inr (inl (subst (λ l. IsUnlistedIn l path f) (sym this) unlisted))
-        | inr wrong ↦
-            let some : listed_digest listing.pairs path ≡ Some wrong.0 = subst (λ (l : Listing). listed_digest l.pairs path ≡ Some wrong.0) (sym this) wrong.1 in
-            let other : hash listing.alg octets ≢ wrong.0 = subst (λ (l : Listing). hash l.alg octets ≢ wrong.0) (sym this) wrong.2 in
-            inr (inr (wrong.0, some, (λ e. other ((so wrong.0 some).0 e)), subst (λ (l : Listing). f ≡ WrongDigest (name_in l) path) (sym this) wrong.3))
-      ]
+  -- a file that is the one that is wanted can only be unlisted
+  pub fits_unlisted : (old new : List Fault) → Fits want sums.0 sums.1 → Adds old new (OfSome want.manifests.now (IsUnlistedIn want.path.now)) → Adds old new (IsFaultBy want.manifests.now want.lengths.now want.path.now octets)
+  fits_unlisted old new fits = adds_so old new _ _ (λ f unlisted. inl unlisted) (λ f fault. elim fault [
+    | inl unlisted ↦ unlisted
+    | inr other ↦ absurd (elim other [
+      | inl longer ↦ longer.2.0 (fits.0 longer.0 longer.1 ∙ are.count)
+      | inr wrong ↦ (let some = some_listed wrong.0.pairs want.path.now wrong.2.0 wrong.2.1 in wrong.2.2 (same_Some _ _ (sym (own wrong.0 wrong.1 some) ∙ fits.1 wrong.0 wrong.1 wrong.2.0 wrong.2.1)))
     ])
-    (λ f h. (h.0, (has_push before listing h.0).1 (inl h.1), h.2))
-    (λ f h. (
-      listing,
-      (has_push before listing listing).1 (inr refl),
-      elim h [
-        | inl unlisted ↦ inl unlisted
-        | inr wrong ↦ inr (wrong.0, wrong.1, (λ e. wrong.2 ((so wrong.0 wrong.1).1 e)), wrong.3)
-      ],
-    ))
+  ])
 
-pub faults_none : (faults : List Fault) (path octets : List ℕ) → Adds faults faults (IsFaultBy [] path octets)
-faults_none faults path octets = adds_none faults (IsFaultBy [] path octets) (λ f h. h.1)
+  -- another has these faults
+  pub faults_by : (old a b new : List Fault) → Adds old a (OfSome want.manifests.now (IsUnlistedIn want.path.now)) → Adds a b (OfSome want.lengths.now (IsOtherLength want.path.now sums.0)) → Adds b new (OfSome want.manifests.now (IsOtherDigest want.path.now sums.1)) → Adds old new (IsFaultBy want.manifests.now want.lengths.now want.path.now octets)
+  faults_by old a b new unlisted longer wrong = adds_on old a new _ _ _ (λ f h. h) (λ f h. inl h) (λ f h. inr h) unlisted (adds_on a b new _ _ _ (λ f h. h) (λ f h. inl h) (λ f h. inr h)
+      (subst (λ n. Adds a b (OfSome want.lengths.now (IsOtherLength want.path.now n))) are.count longer)
+      (adds_so b new _ _
+      (λ f h. (h.0, h.1, (h.2.0, h.2.1, (λ e. h.2.2 (own h.0 h.1 (some_listed h.0.pairs want.path.now h.2.0 h.2.1) ∙ ap Some e)), h.2.3)))
+      (λ f h. (h.0, h.1, (h.2.0, h.2.1, (λ e. h.2.2 (same_Some _ _ (sym (own h.0 h.1 (some_listed h.0.pairs want.path.now h.2.0 h.2.1)) ∙ e))), h.2.3)))
+      wrong))

@@ -1,6 +1,7 @@
 -- The faults of the files, by what was read, are those that are broken.
-use Rattle.std.proofs.Common.{◌≡◌, ℕ, Bool, true, false, List, [], ◌∷◌, Option, length, refl, sym, inl, inr, subst}
-use Rattle.bag_rules.proofs.Words.{AreTextsOf, BadDeclaration, BadLine, Bag, CheckFault, Fault, FetchLength, FetchNotListed, FileStops, FirstStops, Has, HasFaultOf, IsBagOf, IsChecked, IsFileFault, IsLongRead, IsMissing, IsReadBy, Listing, Lists, manifest_name, ManifestName, ManifestNotListed, Missing, name_in, NoDeclaration, NoManifest, NoneStops, NoneStopsBefore, NoPayloadDir, OxumForm, OxumTwice, OxumWrong, Pair, paths_in, Payload, Shown, Stopped, Texts, Unlisted, WrongDigest}
+use Rattle.std.proofs.Common.{◌≡◌, ℕ, Bool, true, false, List, [], ◌∷◌, Option, length, refl, sym, ap, inl, inr, subst}
+use Rattle.bag_rules.proofs.Words.{AreLinesOf, AreTextsOf, AreWantsOf, BadDeclaration, BadLine, Bag, CheckFault, Fault, FetchLength, FetchLine, FetchNotListed, FileStops, FirstStops, GivenLength, Has, HasEntry, HasFaultOf, IsBagOf, IsChecked, IsFileFault, IsLongRead, IsMissing, IsReadBy, Listing, Lists, manifest_name, ManifestName, ManifestNotListed, Missing, name_in, NoDeclaration, NoManifest, NoneStops, NoneStopsBefore, NoPayloadDir, OxumForm, OxumTwice, OxumWrong, Pair, paths_in, Payload, Shown, Stopped, Texts, Unlisted, Wants, WrongDigest}
+use Rattle.bag_rules.proofs.FetchLemmas.{entry_in, entry_of, no_entry}
 use Rattle.bag_rules.proofs.FrontLemmas.{manifest_listed}
 use Rattle.bag_rules.proofs.LimitLemmas.{stopped_so}
 use Rattle.bag_rules.proofs.TreeLemmas.{is_there, shows}
@@ -43,19 +44,45 @@ module _ (bag : Bag) (texts : Texts) (are : AreTextsOf (length bag.files) bag te
 
   -- FAULTS OF THE FILES THAT ARE THERE
 
-  pub file_fault_broken : (f : Fault) → IsFileFault bag texts.manifests.items f → HasFaultOf bag (10 ∷ 14 ∷ []) f
-  file_fault_broken f (i, (path, (octets, at, (listing, has, inl unlisted)))) =
-      let lists : Lists bag (manifest_name Payload listing.alg) listing.pairs = subst (λ kind. Lists bag (manifest_name kind listing.alg) listing.pairs) unlisted.0 (lists_of_has listing has) in
-      subst (HasFaultOf bag (10 ∷ 14 ∷ [])) (sym unlisted.3) ((listing.pairs, lists, unlisted.2, (octets, (i, at)), unlisted.1), refl)
-  file_fault_broken f (i, (path, (octets, at, (listing, has, inr wrong)))) =
-      subst (HasFaultOf bag (10 ∷ 14 ∷ [])) (sym wrong.3) ((listing.pairs, lists_of_has listing has, (wrong.0, wrong.1, (octets, (i, at), wrong.2))), refl)
+  module _ (lines : List FetchLine) (lines_are : AreLinesOf texts lines) (wants : Wants) (wants_are : AreWantsOf texts.manifests.items lines wants) where
+    read_in : (listing : Listing) → Has wants.manifests.now listing → Has texts.manifests.items listing
+    read_in listing = subst (λ ls. Has ls listing) wants_are.manifests
 
-  pub broken_file_fault : (f : Fault) → HasFaultOf bag (10 ∷ 14 ∷ []) f → IsFileFault bag texts.manifests.items f
-  broken_file_fault (Unlisted alg path) ((pairs, lists, unlisted, (octets, (i, at)), payload), kind) =
-      (i, (path, (octets, at, (listing_by (manifest_name Payload alg) pairs, has_of_lists (manifest_name Payload alg) pairs lists, inl (refl, payload, unlisted, refl)))))
-  broken_file_fault (WrongDigest name path) ((pairs, lists, (digest, some, (octets, (i, at), wrong))), kind) =
-      (i, (path, (octets, at, (listing_by name pairs, has_of_lists name pairs lists, inr (digest, some, wrong, refl)))))
-  broken_file_fault _ h = absurd (let k : false ≡ true = h.1 in cc)
+    kept_in : (listing : Listing) → Has texts.manifests.items listing → Has wants.manifests.now listing
+    kept_in listing = subst (λ ls. Has ls listing) (sym wants_are.manifests)
+
+    entry_there : (line : FetchLine) → Has lines line → HasEntry bag line
+    entry_there line has = elim lines_are [
+      | inl some ↦ entry_of bag texts are lines line some has
+      | inr none ↦ absurd (subst (λ ls. Has ls line) none.1 has)
+    ]
+
+    entry_here : (line : FetchLine) → HasEntry bag line → Has lines line
+    entry_here line entry = elim lines_are [
+      | inl some ↦ entry_in bag texts are lines line some entry
+      | inr none ↦ absurd (no_entry bag texts are line none.0 entry)
+    ]
+
+    pub file_fault_broken : (f : Fault) → IsFileFault bag wants f → HasFaultOf bag (10 ∷ 12 ∷ 14 ∷ []) f
+    file_fault_broken f (i, (path, (octets, at, inl (listing, has, unlisted)))) =
+        let lists : Lists bag (manifest_name Payload listing.alg) listing.pairs = subst (λ kind. Lists bag (manifest_name kind listing.alg) listing.pairs) unlisted.0 (lists_of_has listing (read_in listing has)) in
+        subst (HasFaultOf bag (10 ∷ 12 ∷ 14 ∷ [])) (sym unlisted.3) ((listing.pairs, lists, unlisted.2, (octets, (i, at)), unlisted.1), refl)
+    file_fault_broken f (i, (path, (octets, at, inr (inl (given, has, longer))))) =
+        let line = (wants_are.lengths.given path given).0 has in
+        subst (HasFaultOf bag (10 ∷ 12 ∷ 14 ∷ [])) (sym longer.1) ((line.0, entry_there line.0 line.1, line.2.2, line.2.0, (given.length, line.2.1, (octets, (i, at), λ e. longer.0 (sym e)))), refl)
+    file_fault_broken f (i, (path, (octets, at, inr (inr (listing, has, wrong))))) =
+        subst (HasFaultOf bag (10 ∷ 12 ∷ 14 ∷ [])) (sym wrong.3) ((listing.pairs, lists_of_has listing (read_in listing has), (wrong.0, wrong.1, (octets, (i, at), wrong.2))), refl)
+
+    pub broken_file_fault : (f : Fault) → HasFaultOf bag (10 ∷ 12 ∷ 14 ∷ []) f → IsFileFault bag wants f
+    broken_file_fault (Unlisted alg path) ((pairs, lists, unlisted, (octets, (i, at)), payload), kind) =
+        let listing = listing_by (manifest_name Payload alg) pairs in
+        (i, (path, (octets, at, inl (listing, kept_in listing (has_of_lists (manifest_name Payload alg) pairs lists), (refl, payload, unlisted, refl)))))
+    broken_file_fault (FetchLength number path) ((line, entry, number_is, path_is, (n, gives, (octets, (i, at), other))), kind) =
+        let given : GivenLength = record { line = line.line; length = n } in
+        (i, (path, (octets, at, inr (inl (given, (wants_are.lengths.given path given).1 (line, entry_here line entry, (path_is, gives, refl)), ((λ e. other (sym e)), ap (λ k. FetchLength k path) (sym number_is)))))))
+    broken_file_fault (WrongDigest name path) ((pairs, lists, (digest, some, (octets, (i, at), wrong))), kind) =
+        (i, (path, (octets, at, inr (inr (listing_by name pairs, kept_in (listing_by name pairs) (has_of_lists name pairs lists), (digest, some, wrong, refl))))))
+    broken_file_fault _ h = absurd (let k : false ≡ true = h.1 in cc)
 
   -- FILES THAT ARE NOT THERE
 

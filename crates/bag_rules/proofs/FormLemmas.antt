@@ -2,7 +2,7 @@
 use Rattle.std.proofs.Common.{◌≡◌, ◌≢◌, ◌↔◌, ◌≤◌, ℕ, true, false, List, [], ◌∷◌, ◌++◌, Option, Some, None, Contains, is_some, length, refl, sym, ap, ◌∙◌, inl, inr, subst}
 use Rattle.bag_rules.proofs.Words.{Adds, Alg, AreTextsOf, Bag, Digest, Fault, filter, Has, HasFaultOf, is_oxum, IsBadOxum, IsOxumFault, IsThere, IsUnlistedBy, IsUnlistedManifest, listed_digest, Listing, Lists, lists_path, manifest_file, manifest_name, ManifestNotListed, MetadataElement, NoManifest, NoPayloadDir, OxumForm, OxumTwice, Payload, same_Some, SaysOxum, Tag, Texts}
 use Rattle.bag_rules.proofs.AddsLemmas.{adds_so, adds_none, adds_one, adds_on, adds_same}
-use Rattle.bag_rules.proofs.EachLemmas.{OfSome}
+use Rattle.bag_rules.specs.FilesInside.{OfSome}
 use Rattle.bag_rules.proofs.FrontLemmas.{info_said, manifest_listed}
 use Rattle.bag_rules.proofs.ListedLemmas.{listed_or_not}
 use Rattle.bag_rules.proofs.HasLemmas.{contains_from_has, has_from_contains}

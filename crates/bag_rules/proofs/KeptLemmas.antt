@@ -11,6 +11,7 @@ use Rattle.bag_rules.specs.declared.kept.KeptFile.{KeptFile}
 use Rattle.bag_rules.specs.KeptInside.{AreKept, HasSumsWithin, IsKeptOf}
 use Rattle.bag_rules.specs.Trees.{HasFileAt, Shown}
 use Rattle.bag_rules.proofs.Words.{Alg, AlgSet, has}
+use Rattle.bag_rules.proofs.EachLemmas.{stands_at}
 use Rattle.bag_rules.proofs.FileReadLemmas.{push_at, push_before}
 
 -- a fact that holds in any case
@@ -36,17 +37,12 @@ kept_push shown old new file are set files here = record {
       ]);
 }
 
-read_at : {X : Type 0} (xs : List X) (i : ℕ) (d : X) → i < length xs → slice_get xs i ≡ Some (get_or xs i d)
-read_at [] i d h = absurd (omega (arith, h))
-read_at (x ∷ xs) zero d h = refl
-read_at (x ∷ xs) (suc i) d h = read_at xs i d (omega (arith, h))
-
 -- what is kept of a file that was found
 pub kept_found : (shown : Shown) (kept : Kept) (items : List KeptFile) (i place : ℕ) (d : KeptFile) (set : AlgSet) (path octets : List ℕ) → items ≡ kept.files.items → i < length items → (get_or items i d).place ≡ place
     → ((alg : Alg) → has set alg ≡ true → has kept.set alg ≡ true) → AreKept shown kept → HasFileAt shown place path octets → HasSumsWithin ((get_or items i d).length, (get_or items i d).digests) set octets
 kept_found shown kept items i place d set path octets same below here covers are at =
     let file = get_or items i d in
-    let there : slice_get kept.files.items i ≡ Some file = ap (λ fs. slice_get fs i) (sym same) ∙ read_at items i d below in
+    let there : slice_get kept.files.items i ≡ Some file = ap (λ fs. slice_get fs i) (sym same) ∙ stands_at items i d below in
     let is = are.each i file there path octets (subst (λ p. HasFileAt shown p path octets) (sym here) at) in
     record {
       sums = record { taken = kept.set; count = is.0; digests = is.1; covers = covers };

@@ -23,11 +23,12 @@ pub mod TextsMore
 pub mod FileFaultLemmas
 pub mod FileReadLemmas
 pub mod KeptLemmas
+pub mod WantLemmas
 pub mod FileKindLemmas
 pub mod EachLemmas
 pub mod FrontLemmas
 pub mod FormLemmas
-pub mod LengthLemmas
+pub mod PayloadLemmas
 pub mod MissingLemmas
 pub mod OxumReading
 pub mod AnyLemmas

@@ -2,7 +2,7 @@
 use Rattle.std.proofs.Common.{◌≡◌, ◌||◌, ℕ, Bool, true, false, List, [], ◌∷◌, ◌++◌, Contains, refl, sym, ap, ◌∙◌, inl, inr, subst}
 use Rattle.bag_rules.proofs.Words.{Adds, bytes_eq, bytes_eq-Decides, cases_Bool, Fault, Has, IsMissingBy, IsPairMissing, Listing, lists_path, ManifestName, Missing, name_in, or_right, Pair}
 use Rattle.bag_rules.proofs.AddsLemmas.{adds_so, adds_one}
-use Rattle.bag_rules.proofs.EachLemmas.{OfSome}
+use Rattle.bag_rules.specs.FilesInside.{OfSome}
 
 -- a path is listed where some pair has it
 pub pair_of : (pairs : List Pair) (path : List ℕ) → lists_path pairs path ≡ true → (pair : Pair) × Has pairs pair × (pair.path ≡ path)

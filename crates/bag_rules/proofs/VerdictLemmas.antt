@@ -10,7 +10,7 @@ pub found_form : (fault : Fault) → list_any (λ kind. kind == number_of fault)
 found_form NoDeclaration = refl
 found_form _ = refl
 
-pub found_files : (fault : Fault) → list_any (λ kind. kind == number_of fault) (9 ∷ 11 ∷ 10 ∷ 14 ∷ 12 ∷ 13 ∷ []) ≡ list_any (λ kind. kind == number_of fault) kinds_of_files
+pub found_files : (fault : Fault) → list_any (λ kind. kind == number_of fault) (9 ∷ 11 ∷ 10 ∷ 12 ∷ 14 ∷ 13 ∷ []) ≡ list_any (λ kind. kind == number_of fault) kinds_of_files
 found_files NoDeclaration = refl
 found_files _ = refl
 

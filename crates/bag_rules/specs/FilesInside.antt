@@ -1,12 +1,10 @@
 -- Faults of the files, by what was read. Private functions alone cite these: what a fault is stands in HasFault.
-use Rattle.std.specs.Prelude.{◌≡◌, ◌≢◌, ◌⊎◌, ◌&&◌, ℕ, Bool, true, false, List, Some, Contains, length, slice_get}
-use Rattle.std.specs.List.{list_any}
+use Rattle.std.specs.Prelude.{◌≡◌, ◌≢◌, ◌⊎◌, ℕ, true, false, List, Option, Some, Contains, length, slice_get}
+use Rattle.std.specs.Bool.{then_some}
 use Rattle.bag_path.specs.Paths.{is_payload}
-use Rattle.bag_digest.specs.declared.algorithm.Alg.{Alg}
 use Rattle.bag_digest.specs.declared.digest.Digest.{Digest}
 use Rattle.bag_digest.specs.declared.multi.Digests.{Digests}
-use Rattle.bag_digest.specs.Algorithm.{is_alg}
-use Rattle.bag_digest.specs.Hash.{hash, alg_of, digest_in}
+use Rattle.bag_digest.specs.Hash.{hash, digest_in}
 use Rattle.bag_tags.specs.declared.fetch.FetchLine.{FetchLine}
 use Rattle.bag_tags.specs.declared.listing.Kind.TheVariants.{Payload}
 use Rattle.bag_tags.specs.Infos.{MetadataElement, is_oxum}
@@ -16,10 +14,14 @@ use Rattle.bag_rules.specs.declared.fault.Fault.{Fault}
 use Rattle.bag_rules.specs.declared.fault.Fault.TheVariants.{Missing, Unlisted, FetchNotListed, FetchLength, WrongDigest}
 use Rattle.bag_tags.specs.declared.name.ManifestName.{ManifestName}
 use Rattle.bag_rules.specs.declared.outcome.CheckFault.{CheckFault}
-use Rattle.bag_rules.specs.Bags.{Bag}
+use Rattle.bag_rules.specs.Bags.{Bag, octet_count, payload_of}
 use Rattle.bag_rules.specs.Faults.{Has}
 use Rattle.bag_rules.specs.Limits.{IsLongFile}
 use Rattle.bag_rules.specs.ReadingInside.{name_in}
+use Rattle.bag_rules.specs.WantsInside.{given_at}
+use Rattle.bag_rules.specs.declared.want.GivenLength.{GivenLength}
+use Rattle.bag_rules.specs.declared.wants.Wants.{Wants}
+use Rattle.bag_rules.specs.declared.oxum_faults.PayloadSize.{PayloadSize}
 
 -- LISTED FILES
 
@@ -47,12 +49,6 @@ IsFetchUnlistedBy listing lines fault = (listing.kind ≡ Payload)
 
 -- FILES THAT ARE THERE
 
--- some manifest by this algorithm lists the path
-abbrev pub lists_by : List Listing → List ℕ → Alg → Bool
-lists_by listings path alg =
-    list_any (λ
-    (listing : Listing). is_alg listing.alg alg && lists_path listing.pairs path) listings
-
 -- a file is read where it is a payload file, or some manifest lists it
 abbrev pub IsReadBy : List Listing → List ℕ → Type 0
 IsReadBy listings path = (is_payload path ≡ true)
@@ -62,47 +58,59 @@ IsReadBy listings path = (is_payload path ≡ true)
 abbrev pub IsLongRead : List Listing → List ℕ → List ℕ → CheckFault → Type 0
 IsLongRead listings path octets fault = IsReadBy listings path × IsLongFile path octets fault
 
--- the file is a payload file that the payload manifest doesn't list
-abbrev pub IsUnlistedIn : Listing → List ℕ → Fault → Type 0
-IsUnlistedIn listing path fault = (listing.kind ≡ Payload) × (is_payload path ≡ true)
+-- the payload manifest doesn't list the payload file
+abbrev pub IsUnlistedIn : List ℕ → Listing → Fault → Type 0
+IsUnlistedIn path listing fault = (listing.kind ≡ Payload) × (is_payload path ≡ true)
     × (lists_path listing.pairs path ≡ false) × (fault ≡ Unlisted listing.alg path)
 
--- the fault of a file by one manifest: it is unlisted, or its digest is another than these
-abbrev pub IsFaultOfListing : Listing → List ℕ → Digests → Fault → Type 0
-IsFaultOfListing listing path digests fault = IsUnlistedIn listing path fault
-    ⊎ ((digest : Digest) × (listed_digest listing.pairs path ≡ Some digest)
-    × (digest_in digests (alg_of digest) ≢ Some digest)
-    × (fault ≡ WrongDigest (name_in listing) path))
+-- the manifest lists a digest that isn't among these
+abbrev pub IsOtherDigest : List ℕ → Digests → Listing → Fault → Type 0
+IsOtherDigest path digests listing fault = (digest : Digest)
+    × (listed_digest listing.pairs path ≡ Some digest)
+    × (digest_in digests listing.alg ≢ Some digest) × (fault ≡ WrongDigest (name_in listing) path)
 
--- the faults of a file with these octets by the manifests
-abbrev pub IsFaultBy : List Listing → List ℕ → List ℕ → Fault → Type 0
-IsFaultBy listings path octets fault = (listing : Listing) × Has listings listing
-    × (IsUnlistedIn listing path fault
-    ⊎ ((digest : Digest) × (listed_digest listing.pairs path ≡ Some digest)
-    × (hash listing.alg octets ≢ digest) × (fault ≡ WrongDigest (name_in listing) path)))
+-- the manifest lists a digest that isn't that of the octets
+abbrev pub IsWrongIn : List ℕ → List ℕ → Listing → Fault → Type 0
+IsWrongIn path octets listing fault = (digest : Digest)
+    × (listed_digest listing.pairs path ≡ Some digest)
+    × (hash listing.alg octets ≢ digest) × (fault ≡ WrongDigest (name_in listing) path)
 
--- the faults of the files of a bag by the manifests
-abbrev pub IsFileFault : Bag → List Listing → Fault → Type 0
-IsFileFault bag listings fault = (i : ℕ) ×
+-- a length that is given isn't this one
+abbrev pub IsOtherLength : List ℕ → ℕ → GivenLength → Fault → Type 0
+IsOtherLength path n given fault = (given.length ≢ n) × (fault ≡ FetchLength given.line path)
+
+-- a fault of one of these
+abbrev pub OfSome : {X : Type 0} → List X → (X → Fault → Type 0) → Fault → Type 0
+OfSome {X} xs of fault = (x : X) × Has xs x × of x fault
+
+-- the faults of a file with these octets, by what is said of it
+abbrev pub IsFaultBy : List Listing → List GivenLength → List ℕ → List ℕ → Fault → Type 0
+IsFaultBy listings lengths path octets fault = OfSome listings (IsUnlistedIn path) fault
+    ⊎ (OfSome lengths (IsOtherLength path (length octets)) fault
+    ⊎ OfSome listings (IsWrongIn path octets) fault)
+
+abbrev pub IsFaultIn : Wants → List ℕ → List ℕ → Fault → Type 0
+IsFaultIn wants path octets fault =
+    IsFaultBy wants.manifests.now (given_at wants.lengths path) path octets fault
+
+-- the faults of the files of a bag
+abbrev pub IsFileFault : Bag → Wants → Fault → Type 0
+IsFileFault bag wants fault = (i : ℕ) ×
     ((path : List ℕ) × ((octets : List ℕ) × (slice_get bag.files i ≡ Some (path, octets))
-    × IsFaultBy listings path octets fault))
+    × IsFaultIn wants path octets fault))
 
--- these are the lengths of the payload files, by their places
-abbrev pub AreLengths : Bag → List ℕ → Type 0
-AreLengths bag lengths = (length lengths ≡ length bag.files)
-    × ((i : ℕ) (path octets : List ℕ) → slice_get bag.files i ≡ Some (path, octets)
-    → is_payload path ≡ true → slice_get lengths i ≡ Some (length octets))
+-- THE SIZE OF THE PAYLOAD
 
--- LENGTHS
+-- the length of a payload file, and nothing of another
+abbrev pub payload_length : List ℕ → List ℕ → Option ℕ
+payload_length path octets = then_some (is_payload path) (length octets)
 
--- an entry gives a file that is there another length
-abbrev pub IsOtherLength : Bag → FetchLine → Fault → Type 0
-IsOtherLength bag line fault = (given : ℕ)
-    × ((octets : List ℕ) × ((i : ℕ) × (line.entry.octets ≡ Some given)
-    × (slice_get bag.files i ≡ Some (line.entry.path, octets)) × (length octets ≢ given)
-    × (fault ≡ FetchLength line.line line.entry.path)))
+-- the payload of these files has this size
+abbrev pub IsSizeOf : List (List ℕ × List ℕ) → PayloadSize → Type 0
+IsSizeOf files size = (size.octets ≡ octet_count (payload_of files))
+    × (size.streams ≡ length (payload_of files))
 
--- a `Payload-Oxum` that says other numbers than these
-abbrev pub IsOtherOxum : ℕ → ℕ → MetadataElement → Type 0
-IsOtherOxum octets streams element = (is_oxum element ≡ true)
-    × ((o : ℕ) × ((s : ℕ) × OxumText element.value o s × ((o ≢ octets) ⊎ (s ≢ streams))))
+-- a `Payload-Oxum` that says another size
+abbrev pub IsOtherOxum : PayloadSize → MetadataElement → Type 0
+IsOtherOxum size element = (is_oxum element ≡ true)
+    × ((o : ℕ) × ((s : ℕ) × OxumText element.value o s × ((o ≢ size.octets) ⊎ (s ≢ size.streams))))

@@ -12,6 +12,8 @@ pub mod Limits
 pub mod ReadingInside
 pub mod KeptInside
 pub mod FormInside
+pub mod Wants
+pub mod WantsInside
 pub mod FilesInside
 pub mod JudgingInside
 pub mod ExampleBags

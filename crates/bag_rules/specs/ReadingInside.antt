@@ -41,6 +41,10 @@ pub record AreTextsOf (n : ℕ) (bag : Bag) (texts : Texts) : Type 0 where
   pub manifests : (listing : Listing) → Has texts.manifests.items listing
       ↔ Lists (front n bag) (name_in listing) listing.pairs
 
+-- these are the lines of `fetch.txt`, or there are none
+abbrev pub AreLinesOf : Texts → List FetchLine → Type 0
+AreLinesOf texts lines = (texts.fetch ≡ Some lines) ⊎ ((texts.fetch ≡ None) × (lines ≡ []))
+
 -- the text of this manifest gives this listing
 abbrev pub GivesListing : Version → ManifestName → List ℕ → Listing → Type 0
 GivesListing version name octets listing = (name_in listing ≡ name)

@@ -17,7 +17,9 @@ use crate::outcome::CheckFault;
 use crate::tree::Tree;
 use bag_digest::{ReadFault, read_to_end_within};
 use bag_path::{Lines, Version};
-use bag_tags::{Fetch, Info, LineFile, Manifest, TagFault, read_fetch, read_info, read_manifest};
+use bag_tags::{
+    Fetch, FetchLine, Info, LineFile, Manifest, TagFault, read_fetch, read_info, read_manifest,
+};
 use std::alloc::Global;
 
 /// What the tag files say that are read line by line: those that are there and have no faulty line.
@@ -29,6 +31,20 @@ pub(crate) struct Texts {
     pub fetch: Option<Fetch>,
     /// The payload manifests and tag manifests, by file name.
     pub manifests: Vec<Manifest>,
+}
+
+impl Texts {
+    ghost use Rattle.bag_rules.specs.ReadingInside.{AreLinesOf};
+
+    /// What `fetch.txt` lists; nothing where it isn't there.
+    pub(crate) fn fetch_lines(&self) -> &[FetchLine]
+        ensures { AreLinesOf self.now result.now }
+    {
+        match &self.fetch {
+            Some(fetch) => fetch.entries(),
+            None => &[],
+        }
+    }
 }
 
 /// Reads the tag files by name, and adds the first faulty line of each that has one.

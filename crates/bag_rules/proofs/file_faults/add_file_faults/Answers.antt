@@ -1,5 +1,5 @@
 use Rattle.std.proofs.Common.{◌≡◌, ◌∷◌, ◌∙◌, [], List, Result, Ok, Err, IfErr, MatchResult, sym, subst}
-use Rattle.bag_rules.proofs.Words.{Adds, AreLengths, err_from_is_err_and, FileStops, FirstStops, HasFaultOf, IfErr-weaker, IsFileFault, IsLongRead, IsMissing, kinds_of_files, Listing, NoneStops, on_ok_weaker, paths_in, Stopped}
+use Rattle.bag_rules.proofs.Words.{Adds, AreLinesOf, AreWantsOf, err_from_is_err_and, FetchLine, FileStops, FirstStops, HasFaultOf, IfErr-weaker, IsFileFault, IsLongRead, IsMissing, IsSizeOf, kinds_of_files, Listing, NoneStops, on_ok_weaker, paths_in, Stopped}
 use Rattle.bag_rules.specs.declared.outcome.CheckFault.TheVariants.{Memory}
 use Rattle.bag_rules.proofs.AddsLemmas.{adds_kinds, adds_of, adds_so}
 use Rattle.bag_rules.proofs.VerdictLemmas.{found_files}
@@ -11,35 +11,38 @@ ended : {T E : Type 0} (r : Result T E) (P : Type 0) (Q : E → Type 0) → P �
 ended (Ok x) P Q p q = p
 ended (Err e) P Q p q = q
 
-pub returns-in_err-lengths-clause-limits : goal.returns-in_err-lengths-clause-limits
-returns-in_err-lengths-clause-limits g c = λ bag is are.
-    let stopped = subst (λ (ls : List Listing). Stopped (FirstStops bag (IsLongRead ls)) c.in_err-lengths.field-0.0) c.deref-2.ensures.value (c.in_err-lengths.ensures.limits bag is) in
-    let p = err_from_is_err_and c.from_residual-in_err-lengths.result c.from_residual-in_err-lengths.ensures.1 in
-    rw p.1 (first_stops_so bag c.args.texts.now are p.0 (subst (Stopped (FirstStops bag (IsLongRead c.args.texts.now.manifests.items))) (sym p.2) stopped))
+pub returns-in_err-size-clause-limits : goal.returns-in_err-size-clause-limits
+returns-in_err-size-clause-limits g c = λ bag is are.
+    let texts = c.args.texts.now in
+    let listings : c.in_ok-wants.wants.manifests.now ≡ texts.manifests.items = c.in_ok-wants.ensures.manifests ∙ c.deref-2.ensures.value in
+    let stopped = subst (λ (ls : List Listing). Stopped (FirstStops bag (IsLongRead ls)) c.in_err-size.field-0.0) listings (c.in_err-size.ensures.limits bag is) in
+    let p = err_from_is_err_and c.from_residual-in_err-size.result c.from_residual-in_err-size.ensures.1 in
+    rw p.1 (first_stops_so bag texts are p.0 (subst (Stopped (FirstStops bag (IsLongRead texts.manifests.items))) (sym p.2) stopped))
+
+pub read_files-requires-clause-ready : goal.read_files-requires-clause-ready
+read_files-requires-clause-ready g c = (c.requires.kept, c.in_ok-wants.ensures.lengths.payload)
 
 pub returns-clause-added : goal.returns-clause-added
 returns-clause-added g c = λ bag is are.
     let texts = c.args.texts.now in
-    let paths = paths_in (g.T.Tree.shown c.args.tree.now) in
-    let still = c.in_ok-lengths.ensures.tree.same ∙ is in
+    let wants = c.in_ok-wants.wants in
+    let wants_are = subst (λ ls. AreWantsOf ls c.fetch_lines.result.now wants) c.deref-2.ensures.value c.in_ok-wants.ensures in
     let missing : Adds c.args.faults.now.items c.add_missing.new.faults.items (HasFaultOf bag (9 ∷ [])) =
-    adds_so _ _ (IsMissing paths texts.manifests.items) (HasFaultOf bag (9 ∷ [])) (missing_broken bag texts are is) (broken_missing bag texts are is)
-    (subst (λ (ls : List Listing). Adds c.args.faults.now.items c.add_missing.new.faults.items (IsMissing paths ls)) c.deref.ensures.value c.in_ok-add_missing.ensures.added) in
+    adds_so _ _ (IsMissing (paths_in (g.T.Tree.shown c.args.tree.now)) texts.manifests.items) (HasFaultOf bag (9 ∷ [])) (missing_broken bag texts are is) (broken_missing bag texts are is)
+    (subst (λ (ls : List Listing). Adds c.args.faults.now.items c.add_missing.new.faults.items (IsMissing (paths_in (g.T.Tree.shown c.args.tree.now)) ls)) c.deref.ensures.value c.in_ok-add_missing.ensures.added) in
     let unlisted : Adds c.add_missing.new.faults.items c.add_fetch_unlisted.new.faults.items (HasFaultOf bag (11 ∷ [])) = c.in_ok-add_fetch_unlisted.ensures.added bag are in
-    let files : Adds c.add_fetch_unlisted.new.faults.items c.read_files.new.faults.items (HasFaultOf bag (10 ∷ 14 ∷ [])) =
-    adds_so _ _ (IsFileFault bag texts.manifests.items) (HasFaultOf bag (10 ∷ 14 ∷ [])) (file_fault_broken bag texts are) (broken_file_fault bag texts are)
-    (subst (λ (ls : List Listing). Adds c.add_fetch_unlisted.new.faults.items c.read_files.new.faults.items (IsFileFault bag ls)) c.deref-2.ensures.value (c.in_ok-lengths.ensures.added bag is)) in
-    let lengths = c.in_ok-lengths.ensures.lengths bag is in
-    let fetch : Adds c.read_files.new.faults.items c.add_fetch_lengths.new.faults.items (HasFaultOf bag (12 ∷ [])) =
-    c.in_ok-add_fetch_lengths.ensures.added bag still are (subst (AreLengths bag) (sym c.deref-3.ensures.value) lengths) in
+    let read = c.in_ok-size.ensures.read bag is in
+    let files : Adds c.add_fetch_unlisted.new.faults.items c.read_files.new.faults.items (HasFaultOf bag (10 ∷ 12 ∷ 14 ∷ [])) =
+    adds_so _ _ (IsFileFault bag wants) (HasFaultOf bag (10 ∷ 12 ∷ 14 ∷ [])) (file_fault_broken bag texts are c.fetch_lines.result.now c.fetch_lines.ensures wants wants_are) (broken_file_fault bag texts are c.fetch_lines.result.now c.fetch_lines.ensures wants wants_are) read.1 in
     on_ok_weaker c.add_wrong_oxum.result (λ oxum.
-    adds_of bag (9 ∷ 11 ∷ 10 ∷ 14 ∷ 12 ∷ 13 ∷ []) kinds_of_files _ _ found_files (adds_kinds bag (9 ∷ 11 ∷ 10 ∷ 14 ∷ 12 ∷ []) (13 ∷ []) _ _ _
-    (adds_kinds bag (9 ∷ 11 ∷ 10 ∷ 14 ∷ []) (12 ∷ []) _ _ _
-    (adds_kinds bag (9 ∷ 11 ∷ []) (10 ∷ 14 ∷ []) _ _ _ (adds_kinds bag (9 ∷ []) (11 ∷ []) _ _ _ missing unlisted) files) fetch) oxum))
-    (c.add_wrong_oxum.ensures.added bag still are (subst (AreLengths bag) (sym c.deref-4.ensures.value) lengths))
+    adds_of bag (9 ∷ 11 ∷ 10 ∷ 12 ∷ 14 ∷ 13 ∷ []) kinds_of_files _ _ found_files (adds_kinds bag (9 ∷ 11 ∷ 10 ∷ 12 ∷ 14 ∷ []) (13 ∷ []) _ _ _
+    (adds_kinds bag (9 ∷ 11 ∷ []) (10 ∷ 12 ∷ 14 ∷ []) _ _ _ (adds_kinds bag (9 ∷ []) (11 ∷ []) _ _ _ missing unlisted) files) oxum))
+    (c.add_wrong_oxum.ensures.added bag are read.0)
 
 pub returns-clause-limits : goal.returns-clause-limits
 returns-clause-limits g c = λ bag is are.
-    let none = subst (λ (ls : List Listing). NoneStops bag (IsLongRead ls)) c.deref-2.ensures.value (c.in_ok-lengths.ensures.limits bag is) in
-    ended c.add_wrong_oxum.result (NoneStops bag (FileStops bag)) (Stopped (FirstStops bag (FileStops bag))) (none_stops bag c.args.texts.now are none)
+    let texts = c.args.texts.now in
+    let listings : c.in_ok-wants.wants.manifests.now ≡ texts.manifests.items = c.in_ok-wants.ensures.manifests ∙ c.deref-2.ensures.value in
+    let none = subst (λ (ls : List Listing). NoneStops bag (IsLongRead ls)) listings (c.in_ok-size.ensures.limits bag is) in
+    ended c.add_wrong_oxum.result (NoneStops bag (FileStops bag)) (Stopped (FirstStops bag (FileStops bag))) (none_stops bag texts are none)
     (IfErr-weaker c.add_wrong_oxum.result (λ fault. fault ≡ Memory) (Stopped (FirstStops bag (FileStops bag))) (λ fault e. stopped_memory (FirstStops bag (FileStops bag)) fault e) c.add_wrong_oxum.ensures.err)

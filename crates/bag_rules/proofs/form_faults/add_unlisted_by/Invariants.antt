@@ -1,6 +1,6 @@
 use Rattle.std.proofs.Common.{take}
 use Rattle.bag_rules.proofs.Words.{Adds}
-use Rattle.bag_rules.proofs.EachLemmas.{OfSome}
+use Rattle.bag_rules.specs.FilesInside.{OfSome}
 use Rattle.bag_rules.proofs.FormLemmas.{IsNotListedIn}
 use Rattle.bag_rules.proofs.form_faults.add_unlisted_by.Given as goal
 

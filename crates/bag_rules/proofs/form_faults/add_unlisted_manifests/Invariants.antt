@@ -1,6 +1,6 @@
 use Rattle.std.proofs.Common.{◌≡◌, length, take}
 use Rattle.bag_rules.proofs.Words.{Adds, IsUnlistedBy, paths_in}
-use Rattle.bag_rules.proofs.EachLemmas.{OfSome}
+use Rattle.bag_rules.specs.FilesInside.{OfSome}
 use Rattle.bag_rules.proofs.form_faults.add_unlisted_manifests.Given as goal
 
 abbrev pub invariant-loop-i : goal.invariant-loop-i

@@ -1,6 +1,7 @@
 use Rattle.std.proofs.Common.{◌≡◌, ◌≢◌, ◌∙◌, ◌++◌, ◌∷◌, [], length, arith, rules, sym, ap, subst, not}
 use Rattle.bag_rules.proofs.Words.{Adds, FetchNotListed, listed_digest, Tag}
-use Rattle.bag_rules.proofs.EachLemmas.{OfSome, each_more, each_all}
+use Rattle.bag_rules.specs.FilesInside.{OfSome}
+use Rattle.bag_rules.proofs.EachLemmas.{each_more, each_all}
 use Rattle.bag_rules.proofs.FetchLemmas.{IsLineUnlisted, line_listed, line_unlisted, lines_unlisted, payload_if}
 use Rattle.bag_rules.proofs.listing_faults.add_fetch_unlisted_by.Goals as goal
 use Rattle.bag_rules.proofs.listing_faults.add_fetch_unlisted_by.Goals.{then-is_none+in_ok-path+in_ok-push, else-is_none}

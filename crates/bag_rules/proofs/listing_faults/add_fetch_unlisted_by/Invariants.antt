@@ -1,6 +1,6 @@
 use Rattle.std.proofs.Common.{take}
 use Rattle.bag_rules.proofs.Words.{Adds}
-use Rattle.bag_rules.proofs.EachLemmas.{OfSome}
+use Rattle.bag_rules.specs.FilesInside.{OfSome}
 use Rattle.bag_rules.proofs.FetchLemmas.{IsLineUnlisted}
 use Rattle.bag_rules.proofs.listing_faults.add_fetch_unlisted_by.Given as goal
 

@@ -1,6 +1,6 @@
 use Rattle.std.proofs.Common.{take}
 use Rattle.bag_rules.proofs.Words.{Adds, IsPairMissing, Pair, paths_in}
-use Rattle.bag_rules.proofs.EachLemmas.{OfSome}
+use Rattle.bag_rules.specs.FilesInside.{OfSome}
 use Rattle.bag_rules.proofs.listing_faults.add_missing_by.Given as goal
 
 abbrev pub invariant-loop-pair : goal.invariant-loop-pair

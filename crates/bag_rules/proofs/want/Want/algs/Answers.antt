@@ -2,14 +2,14 @@ use Rattle.std.proofs.Common.{◌≡◌, ◌||◌, ◌+◌, ◌++◌, ◌∷◌,
 use Rattle.bag_rules.proofs.Words.{Alg, has, is_alg, Listing, lists_by, lists_path, take_more}
 use Rattle.bag_rules.proofs.FileFaultLemmas.{one_lists, none_lists}
 use Rattle.bag_rules.proofs.ListedLemmas.{listed_or_not}
-use Rattle.bag_rules.proofs.file_faults.algorithms_of.Goals as goal
-use Rattle.bag_rules.proofs.file_faults.algorithms_of.Goals.{then-is_some, else-is_some}
+use Rattle.bag_rules.proofs.want.Want.algs.Goals as goal
+use Rattle.bag_rules.proofs.want.Want.algs.Goals.{then-is_some, else-is_some}
 
 pub loop-manifest-preserved : goal.loop-manifest-preserved
 loop-manifest-preserved c =
-    let listings = c.args.manifests.now in
+    let listings = c.args.self.now.manifests.now in
     let listing = c.manifest-item.result in
-    let path = c.args.path.now in
+    let path = c.args.self.now.path.now in
     let before = take c.loop-manifest.manifest-index listings in
     let more : take (c.loop-manifest.manifest-index + 1) listings ≡ before ++ listing ∷ [] =
     take_more listings c.loop-manifest.manifest-index listing c.loop-manifest-test.true ∙ ap (λ (l : Listing). before ++ l ∷ []) (sym c.manifest-item.is) in

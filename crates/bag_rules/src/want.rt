@@ -1,0 +1,99 @@
+//! What a file has to be, by what the tag files say of its path (RFC 8493 sections 2.1.3, 2.2.1 and 2.2.3).
+use bag_digest::{Alg, AlgSet, Digests};
+use bag_path::BagPath;
+use bag_tags::Manifest;
+use thiserror::Error;
+
+/// A length that `fetch.txt` gives for a file, in octets, and the number of the line that gives it.
+#[derive(Clone, Copy, Debug, Drop)]
+pub struct GivenLength {
+    /// The number of the line, from 1 on.
+    pub line: u64,
+    /// The file's length in octets.
+    pub length: u64,
+}
+
+/// What the file at a path has to be: as long as each line of `fetch.txt` says that gives its length, and of the digest that
+/// each manifest lists for it.
+#[derive(Clone, Copy, Drop)]
+pub struct Want<'a> {
+    pub(crate) path: &'a BagPath,
+    pub(crate) manifests: &'a [Manifest],
+    pub(crate) lengths: &'a [GivenLength],
+}
+
+/// Why a file isn't the one that is wanted. Where several hold, the first in this order is answered.
+#[derive(Clone, Copy, Debug, PartialEq, Eq, Error)]
+pub enum WantFault {
+    /// A line of `fetch.txt` gives another length.
+    #[error("length")]
+    Length,
+    /// The digest by this algorithm is another than the listed one. No manifest before the one by it lists another too.
+    #[error("digest")]
+    Digest(Alg),
+}
+
+impl Want<'_> {
+    ghost use Rattle.std.specs.Prelude.{◌≡◌, ◌↔◌, IsTrue, MatchOption, MatchResult};
+    ghost use Rattle.bag_digest.specs.Algorithm.{has};
+    ghost use Rattle.bag_digest.specs.declared.algorithm.Alg.{Alg};
+    ghost use Rattle.bag_rules.specs.Wants.{Fits, FitsDigests, FitsLength, IsFirstMisfit, IsFirstWrong, lists_by};
+
+    /// The algorithms by which the path is listed.
+    pub fn algs(&self) -> AlgSet
+        ensures { (alg : Alg) → has result alg ≡ lists_by self.now.manifests.now self.now.path.now alg }
+    {
+        let mut set = AlgSet::empty();
+        for manifest in self.manifests {
+            if manifest.get(self.path).is_some() {
+                set = set.with(manifest.alg());
+            }
+        }
+        set
+    }
+
+    /// Tells whether a file of this length in octets and with these digests is the one that is wanted.
+    ///
+    /// # Errors
+    ///
+    /// The first of `Length` and `Digest` that holds.
+    pub fn test(&self, length: u64, digests: &Digests) -> Result<(), WantFault>
+        ensures { MatchResult result (λ done. Fits self.now length digests.now)
+            (IsFirstMisfit self.now length digests.now) }
+    {
+        if !self.fits_length(length) {
+            return Err(WantFault::Length);
+        }
+        match self.first_wrong(digests) {
+            Some(alg) => Err(WantFault::Digest(alg)),
+            None => Ok(()),
+        }
+    }
+
+    /// Whether each length that is given is this one.
+    fn fits_length(&self, length: u64) -> bool
+        ensures { IsTrue result ↔ FitsLength self.now length }
+    {
+        for given in self.lengths {
+            if given.length != length {
+                return false;
+            }
+        }
+        true
+    }
+
+    /// The algorithm of the first digest that is listed and isn't among these.
+    fn first_wrong(&self, digests: &Digests) -> Option<Alg>
+        ensures { MatchOption result (FitsDigests self.now digests.now)
+            (IsFirstWrong self.now digests.now) }
+    {
+        for manifest in self.manifests {
+            if let Some(digest) = manifest.get(self.path) {
+                if !digests.contains(digest) {
+                    return Some(manifest.alg());
+                }
+            }
+        }
+        None
+    }
+}

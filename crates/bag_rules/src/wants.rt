@@ -1,0 +1,89 @@
+//! What the tag files say of the files that are there, by path.
+ghost use Rattle.std.specs.Prelude.{IfOk, OnOk};
+ghost use Rattle.bag_rules.specs.WantsInside.{AddsLength, AreByPath};
+
+use crate::want::{GivenLength, Want};
+use bag_path::BagPath;
+use bag_tags::{FetchLine, Manifest};
+use std::alloc::{AllocError, Global};
+use std::collections::BTreeMap;
+
+/// The lengths that `fetch.txt` gives, by path, those of one path in the order of their lines.
+type Lengths = BTreeMap<BagPath, Vec<GivenLength>>;
+
+/// What the manifests list, and the lengths that `fetch.txt` gives.
+#[derive(Drop)]
+pub(crate) struct Wants<'a> {
+    manifests: &'a [Manifest],
+    lengths: Lengths,
+}
+
+impl<'a> Wants<'a> {
+    ghost use Rattle.std.specs.Prelude.{IfOk};
+    ghost use Rattle.bag_rules.specs.WantsInside.{AreWantsOf, IsWantIn};
+
+    /// What these manifests and lines say.
+    pub(crate) fn new(
+        alloc: Global,
+        manifests: &'a [Manifest],
+        lines: &[FetchLine],
+    ) -> Result<Wants<'a>, AllocError>
+        ensures { IfOk result (AreWantsOf manifests.now lines.now) }
+    {
+        let lengths = lengths_by_path(alloc, lines)?;
+        Ok(Wants { manifests, lengths })
+    }
+
+    /// What the file at this path has to be.
+    pub(crate) fn of<'b>(&'b self, path: &'b BagPath) -> Want<'b>
+        ensures { IsWantIn self.now path.now result }
+    {
+        let lengths = match self.lengths.get(path) {
+            Some(lengths) => lengths.as_slice(),
+            None => &[],
+        };
+        Want {
+            path,
+            manifests: self.manifests,
+            lengths,
+        }
+    }
+}
+
+fn lengths_by_path(alloc: Global, lines: &[FetchLine]) -> Result<Lengths, AllocError>
+    ensures { IfOk result (AreByPath lines.now) }
+{
+    let mut lengths = BTreeMap::new(alloc);
+    for line in lines {
+        if let Some(length) = line.entry.length() {
+            let line_number = line.line;
+            let given = GivenLength {
+                line: line_number,
+                length,
+            };
+            add_length(alloc, &mut lengths, line.entry.path(), given)?;
+        }
+    }
+    Ok(lengths)
+}
+
+/// Adds a length of the file at this path, after the others.
+fn add_length(
+    alloc: Global,
+    lengths: &mut Lengths,
+    path: &BagPath,
+    given: GivenLength,
+) -> Result<(), AllocError>
+    ensures { OnOk result (AddsLength lengths.old lengths.new path.now given) }
+{
+    let key = path.clone()?;
+    let mut of_path = match lengths.remove(path) {
+        Some(of_path) => of_path,
+        None => Vec::new(alloc),
+    };
+    of_path.push(given)?;
+    match lengths.insert(key, of_path) {
+        Ok(_) => Ok(()),
+        Err(_) => Err(AllocError),
+    }
+}
