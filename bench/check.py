@@ -105,6 +105,7 @@ def main():
             row(f"large {algorithm}", [1 << 30], 1, [algorithm], rounds, work)
         row("small sha256", [2048] * 20_000, 200, ["sha256"], rounds, work)
         row("empty sha256", [0] * 100_000, 200, ["sha256"], rounds, work)
+        row("one folder", [0] * 100_000, 1, ["sha256"], rounds, work)
         row("four manifests", [1 << 28], 1, ["md5", "sha1", "sha256", "sha512"], rounds, work)
 
 
