@@ -1,6 +1,7 @@
 //! What is wrong with the bag that a tree holds (RFC 8493 section 3).
 ghost use Rattle.std.specs.Prelude.{◌≡◌, ◌<◌, ◌≤◌, ◌∷◌, [], Contains, IfOk, IsErrOf, MatchResult, length};
 ghost use Rattle.bag_rules.specs.Bags.{Bag, IsBagOf, declaration_file};
+ghost use Rattle.bag_rules.specs.KeptInside.{AreKept};
 ghost use Rattle.bag_rules.specs.Limits.{ProfileStops, Stopped, Stops};
 ghost use Rattle.bag_rules.specs.Profiles.{IsProfile};
 ghost use Rattle.bag_rules.specs.Trees.{AreRising, UsesTree, paths_in};
@@ -61,8 +62,11 @@ pub fn check<T: Tree>(alloc: Global, tree: &mut T) -> Result<Outcome, CheckFault
         return Err(CheckFault::TooMany);
     }
     let mut buffer = piece_buffer(alloc)?;
-    match read_profile(alloc, buffer.as_mut_slice(), tree)? {
-        Profile::Known(version) => check_in_profile(alloc, buffer.as_mut_slice(), tree, version),
+    let mut kept = Kept::new(alloc, tag_algorithms(tree));
+    match read_profile(alloc, buffer.as_mut_slice(), tree, &mut kept)? {
+        Profile::Known(version) => {
+            check_in_profile(alloc, buffer.as_mut_slice(), tree, version, &mut kept)
+        }
         Profile::Ended(outcome) => Ok(outcome),
     }
 }
@@ -73,9 +77,10 @@ fn check_in_profile<T: Tree>(
     buffer: &mut [u8],
     tree: &mut T,
     version: Version,
+    kept: &mut Kept,
 ) -> Result<Outcome, CheckFault>
-    requires room { 0 < length buffer.old }
-    requires rising { AreRising (paths_in (T.shown tree.old)) }
+    requires ready { (0 < length buffer.old) × AreRising (paths_in (T.shown tree.old)) }
+    requires kept { AreKept (T.shown tree.old) kept.old }
     ensures verdict { (bag : Bag) → IsBagOf (T.shown tree.old) bag → IsProfile bag (Known version)
         → IfOk result (IsVerdict bag) }
     ensures limits { (bag : Bag) → IsBagOf (T.shown tree.old) bag → IsProfile bag (Known version)
@@ -85,11 +90,10 @@ fn check_in_profile<T: Tree>(
         (IsErrOf result CheckFault.Tree) }
 {
     let mut faults = Vec::new(alloc);
-    let mut kept = Kept::new(alloc, tag_algorithms(tree));
-    let texts = read_texts(alloc, buffer, tree, version, &mut kept, &mut faults)?;
+    let texts = read_texts(alloc, buffer, tree, version, kept, &mut faults)?;
     add_form_faults(tree, &texts, &mut faults)?;
     if faults.is_empty() {
-        add_file_faults(alloc, buffer, tree, &texts, &kept, &mut faults)?;
+        add_file_faults(alloc, buffer, tree, &texts, kept, &mut faults)?;
     }
     Ok(Outcome::Judged(Report::new(faults)))
 }

@@ -5,7 +5,6 @@ pub use checking::check;
 pub use fault::Fault;
 pub use memory::{AddFault, MemTree};
 pub use outcome::{CheckFault, Outcome, OutsideCause};
-pub use profile::{Profile, read_profile};
 pub use report::Report;
 pub use tree::{Tree, find};
 pub use want::{GivenLength, Want, WantFault};

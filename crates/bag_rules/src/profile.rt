@@ -1,8 +1,9 @@
 //! Whether a bag can be judged by more than its declaration (RFC 8493 section 2.1.1).
-ghost use Rattle.std.specs.Prelude.{◌≡◌, ◌<◌, Contains, IfErr, IfOk, IsErrOf, MatchOption, MatchResult, Some, length, slice_get, string_bytes};
+ghost use Rattle.std.specs.Prelude.{◌≡◌, ◌<◌, Contains, IfErr, IfOk, IsErrOf, MatchOption, MatchResult, OnOk, Some, length, slice_get, string_bytes};
 ghost use Rattle.bag_tags.specs.Declarations.{current, version_of};
 ghost use Rattle.bag_rules.specs.Bags.{Bag, Declares, IsBagOf, declaration_file};
 ghost use Rattle.bag_rules.specs.JudgingInside.{IsFirstUnknownOf, MatchOutside, NoneUnknown};
+ghost use Rattle.bag_rules.specs.KeptInside.{AreKept};
 ghost use Rattle.bag_rules.specs.Limits.{DeclarationStops, FirstStops, NoneStops, Stopped};
 ghost use Rattle.bag_rules.specs.Profiles.{IsProfile, ended_by};
 ghost use Rattle.bag_rules.specs.Trees.{AreRising, UsesTree, paths_in};
@@ -10,6 +11,7 @@ ghost use Rattle.bag_rules.specs.declared.fault.Fault.TheVariants.{NoDeclaration
 ghost use Rattle.bag_rules.specs.declared.outcome.CheckFault.{CheckFault};
 
 use crate::fault::Fault;
+use crate::kept::Kept;
 use crate::outcome::{CheckFault, Outcome, OutsideCause};
 use crate::report::Report;
 use crate::tag_files::read_tag_file;
@@ -20,7 +22,7 @@ use std::alloc::Global;
 
 /// What the declaration and the names of the manifests say of a bag.
 #[derive(Debug, Drop)]
-pub enum Profile {
+pub(crate) enum Profile {
     /// The bag declares this version and UTF-8, and the algorithm of each of its manifests is known.
     Known(Version),
     /// It doesn't, and so it is judged by this alone.
@@ -28,18 +30,13 @@ pub enum Profile {
 }
 
 /// Reads the declaration of the bag that a tree holds, and looks at the names of its manifests.
-///
-/// # Errors
-///
-/// `TagTooLarge`: the declaration has more than 16,777,216 octets. `Tree`: a call of the tree failed, and it counted that.
-/// `Memory`.
-pub fn read_profile<T: Tree>(
+pub(crate) fn read_profile<T: Tree>(
     alloc: Global,
     buffer: &mut [u8],
     tree: &mut T,
+    kept: &mut Kept,
 ) -> Result<Profile, CheckFault>
-    requires room { 0 < length buffer.old }
-    requires rising { AreRising (paths_in (T.shown tree.old)) }
+    requires ready { (0 < length buffer.old) × AreRising (paths_in (T.shown tree.old)) }
     ensures profile { (bag : Bag) → IsBagOf (T.shown tree.old) bag → IfOk result (IsProfile bag) }
     ensures limits { (bag : Bag) → IsBagOf (T.shown tree.old) bag
         → MatchResult result (λ profile. NoneStops bag DeclarationStops)
@@ -50,9 +47,11 @@ pub fn read_profile<T: Tree>(
     ensures undeclared { ¬ Contains (paths_in (T.shown tree.old)) declaration_file
         → MatchResult result
         (λ profile. profile ≡ ended_by NoDeclaration) (λ fault. fault ≡ CheckFault.Memory) }
+    ensures kept { AreKept (T.shown tree.old) kept.old
+        → OnOk result (AreKept (T.shown tree.old) kept.new) }
 {
     match find(tree, "bagit.txt") {
-        Some(i) => read_declared(alloc, buffer, tree, i),
+        Some(i) => read_declared(alloc, buffer, tree, i, kept),
         None => ended_by(alloc, Fault::NoDeclaration),
     }
 }
@@ -63,9 +62,9 @@ fn read_declared<T: Tree>(
     buffer: &mut [u8],
     tree: &mut T,
     i: usize,
+    kept: &mut Kept,
 ) -> Result<Profile, CheckFault>
-    requires room { 0 < length buffer.old }
-    requires rising { AreRising (paths_in (T.shown tree.old)) }
+    requires ready { (0 < length buffer.old) × AreRising (paths_in (T.shown tree.old)) }
     requires there { slice_get (paths_in (T.shown tree.old)) i ≡ Some declaration_file }
     ensures profile { (bag : Bag) → IsBagOf (T.shown tree.old) bag → IfOk result (IsProfile bag) }
     ensures limits { (bag : Bag) → IsBagOf (T.shown tree.old) bag
@@ -73,8 +72,11 @@ fn read_declared<T: Tree>(
         (Stopped (FirstStops bag DeclarationStops)) }
     ensures tree { UsesTree T.shown T.failures T.sure tree.old tree.new
         (IsErrOf result CheckFault.Tree) }
+    ensures kept { AreKept (T.shown tree.old) kept.old
+        → OnOk result (AreKept (T.shown tree.old) kept.new) }
 {
     let text = read_tag_file(alloc, buffer, tree, i)?;
+    kept.keep(i, &text)?;
     match read_declaration(&text) {
         Ok(declaration) => profile_of(alloc, tree, declaration),
         Err(cause) => ended_by(alloc, Fault::BadDeclaration(cause)),

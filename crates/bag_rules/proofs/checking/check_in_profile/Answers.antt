@@ -13,7 +13,7 @@ pub returns-in_err-add_file_faults-clause-limits : goal.returns-in_err-add_file_
 returns-in_err-add_file_faults-clause-limits g c = λ bag is profile.
     let is_after = c.in_ok-texts.ensures.tree.same ∙ is in
     let texts = c.in_ok-texts.ensures.read bag is profile.1 in
-    let none = declared_none bag _ (rises bag is c.requires.rising) profile.0.declared in
+    let none = declared_none bag _ (rises bag is c.requires.ready.1) profile.0.declared in
     let formed = form_found bag _ _ _ c.new-faults.ensures.items (c.in_ok-texts.ensures.faulty bag is profile.1) (c.in_ok-add_form_faults.ensures.added bag is_after texts) in
     let empty : (length c.add_form_faults.new.faults.items == 0) ≡ true = search rules in
     let p = err_from_is_err_and c.from_residual-in_err-add_file_faults.result c.from_residual-in_err-add_file_faults.ensures.1 in
@@ -25,7 +25,7 @@ pub returns-clause-verdict : goal.returns-clause-verdict
 returns-clause-verdict g c = λ bag is profile.
     let is_after = c.in_ok-texts.ensures.tree.same ∙ is in
     let texts = c.in_ok-texts.ensures.read bag is profile.1 in
-    let none = declared_none bag _ (rises bag is c.requires.rising) profile.0.declared in
+    let none = declared_none bag _ (rises bag is c.requires.ready.1) profile.0.declared in
     let formed = form_found bag _ _ _ c.new-faults.ensures.items (c.in_ok-texts.ensures.faulty bag is profile.1) (c.in_ok-add_form_faults.ensures.added bag is_after texts) in
     elim c.if-is_empty.branch [
       | then-is_empty+in_ok-add_file_faults w ↦
@@ -49,7 +49,7 @@ returns-clause-limits g c = λ bag is profile fault stops.
       | inr file ↦ elim c.if-is_empty.branch [
         | then-is_empty+in_ok-add_file_faults w ↦ limit.none_first bag _ fault (w.in_ok-add_file_faults.ensures.limits bag is_after texts) file.2
         | else-is_empty w ↦
-            let none = declared_none bag _ (rises bag is c.requires.rising) profile.0.declared in
+            let none = declared_none bag _ (rises bag is c.requires.ready.1) profile.0.declared in
             let formed = form_found bag _ _ _ c.new-faults.ensures.items (c.in_ok-texts.ensures.faulty bag is profile.1) (c.in_ok-add_form_faults.ensures.added bag is_after texts) in
             form_some bag c.add_form_faults.new.faults.items formed (search rules) file.1
       ]
@@ -67,4 +67,4 @@ returns-clause-tree g c = elim c.if-is_empty.branch [
 ]
 
 pub add_file_faults-requires-clause-kept : goal.add_file_faults-requires-clause-kept
-add_file_faults-requires-clause-kept g c = subst (λ s. AreKept s c.read_texts.new.kept) (sym c.in_ok-texts.ensures.tree.same) (c.in_ok-texts.ensures.kept (c.new-kept.ensures (g.T.Tree.shown c.args.tree.now)))
+add_file_faults-requires-clause-kept g c = subst (λ s. AreKept s c.read_texts.new.kept) (sym c.in_ok-texts.ensures.tree.same) (c.in_ok-texts.ensures.kept c.requires.kept)
