@@ -19,6 +19,10 @@ pub on_ok_of : {X E : Type 0} (r : Result X E) (P : Type 0) → P → OnOk r P
 on_ok_of (Ok x) P p = p
 on_ok_of (Err e) P p = tt
 
+pub on_ok_both : {X E : Type 0} (r : Result X E) (P Q : Type 0) → OnOk r P → OnOk r Q → OnOk r (P × Q)
+on_ok_both (Ok x) P Q p q = (p, q)
+on_ok_both (Err e) P Q p q = tt
+
 -- nothing is kept
 pub none_kept : (shown : Shown) (kept : Kept) → kept.files.items ≡ [] → AreKept shown kept
 none_kept shown kept none = record { each = λ i file here. absurd (let k : None ≡ Some file = subst (λ files. slice_get files i ≡ Some file) none here in cc) }

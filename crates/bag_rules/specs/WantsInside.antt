@@ -43,7 +43,8 @@ pub record AreByPath (lines : List FetchLine) (lengths : Lengths) : Type 0 where
   pub given : (path : List ℕ) → AreGivenIn lines path (given_at lengths path)
   pub payload : (path : List ℕ) → is_payload path ≡ false → given_at lengths path ≡ []
 
-pub record AreWantsOf (listings : List Listing) (lines : List FetchLine) (wants : Wants) : Type 0 where
+pub record AreWantsOf (listings : List Listing) (lines : List FetchLine) (wants : Wants)
+    : Type 0 where
   pub manifests : wants.manifests.now ≡ listings
   pub lengths : AreByPath lines wants.lengths
 

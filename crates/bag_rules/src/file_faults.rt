@@ -177,7 +177,8 @@ fn add_faults_of(
     faults: &mut Vec<Fault>,
 ) -> Result<(), CheckFault>
     ensures added { (set : AlgSet) (octets : List ℕ) → HasSums sums.now set octets
-        → ((alg : Alg) → lists_by want.now.manifests.now want.now.path.now alg ≡ true → has set alg ≡ true)
+        → ((alg : Alg) → lists_by want.now.manifests.now want.now.path.now alg ≡ true
+        → has set alg ≡ true)
         → OnOk result (Adds faults.old.items faults.new.items
         (IsFaultBy want.now.manifests.now want.now.lengths.now want.now.path.now octets)) }
     ensures err { IfErr result (λ fault. fault ≡ CheckFault.Memory) }

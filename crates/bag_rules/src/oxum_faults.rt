@@ -26,7 +26,8 @@ pub(crate) fn add_wrong_oxum(
     size: PayloadSize,
     faults: &mut Vec<Fault>,
 ) -> Result<(), CheckFault>
-    ensures added { (bag : Bag) → AreTextsOf (length bag.files) bag texts.now → IsSizeOf bag.files size
+    ensures added { (bag : Bag) → AreTextsOf (length bag.files) bag texts.now
+        → IsSizeOf bag.files size
         → OnOk result (Adds faults.old.items faults.new.items (HasFaultOf bag kind_of_oxum)) }
     ensures err { IfErr result (λ fault. fault ≡ CheckFault.Memory) }
 {

@@ -94,9 +94,8 @@ fn read_text<T: Tree>(
     requires room { 0 < length buffer.old }
     requires inside { i < length (paths_in (T.shown tree.old)) }
     ensures read { (path octets : List ℕ) → HasFileAt (T.shown tree.old) i path octets
-        → OnOk result (ReadsOn version path octets texts.old texts.new) }
-    ensures faulty { (path octets : List ℕ) → HasFileAt (T.shown tree.old) i path octets
-        → OnOk result (Adds faults.old.items faults.new.items (IsBadLineOf version path octets)) }
+        → OnOk result (ReadsOn version path octets texts.old texts.new
+        × Adds faults.old.items faults.new.items (IsBadLineOf version path octets)) }
     ensures limits { (path octets : List ℕ) → HasFileAt (T.shown tree.old) i path octets
         → MatchResult result (λ done. (fault : CheckFault) → ¬ TextStops path octets fault)
         (Stopped (TextStops path octets)) }

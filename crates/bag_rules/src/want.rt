@@ -41,7 +41,8 @@ impl Want<'_> {
 
     /// The algorithms by which the path is listed.
     pub fn algs(&self) -> AlgSet
-        ensures { (alg : Alg) → has result alg ≡ lists_by self.now.manifests.now self.now.path.now alg }
+        ensures { (alg : Alg)
+            → has result alg ≡ lists_by self.now.manifests.now self.now.path.now alg }
     {
         let mut set = AlgSet::empty();
         for manifest in self.manifests {
@@ -97,3 +98,6 @@ impl Want<'_> {
         None
     }
 }
+
+#[cfg(test)]
+mod tests;

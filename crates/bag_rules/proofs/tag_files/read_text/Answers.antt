@@ -3,7 +3,7 @@ use Rattle.bag_rules.proofs.Words.{err_from_is_err_and, HasCountedLines, IsBadLi
 use Rattle.bag_rules.proofs.AddsLemmas.{adds_so}
 use Rattle.bag_rules.proofs.LimitLemmas.{stopped_so}
 use Rattle.bag_rules.proofs.TextStops.{done_or_memory, long_stops, none_stops}
-use Rattle.bag_rules.proofs.KeptLemmas.{on_ok_of}
+use Rattle.bag_rules.proofs.KeptLemmas.{on_ok_both, on_ok_of}
 use Rattle.bag_rules.proofs.TreeLemmas.{named_here}
 use Rattle.bag_rules.proofs.tag_files.read_text.Goals as goal
 use Rattle.bag_rules.proofs.tag_files.read_text.Goals.{else-has_counted_lines-via-then-has_counted_lines+else-has_more_lines, else-has_counted_lines-via-else-has_counted_lines}
@@ -29,25 +29,21 @@ returns-then-has_more_lines-clause-limits g c = λ path octets at.
 
 pub returns-clause-read : goal.returns-clause-read
 returns-clause-read g c = λ path octets at.
-    let named : path ≡ text_file c.in-Some.file = named_here at c.path.ensures ∙ c.in-Some.ensures in
+    let file = c.in-Some.file in
+    let version = c.args.version in
+    let named : path ≡ text_file file = named_here at c.path.ensures ∙ c.in-Some.ensures in
     let held : c.deref-2.result.now ≡ octets = c.deref-2.ensures.value ∙ (c.in_ok-text.ensures.known path octets at).0 in
-    on_ok_weaker c.read_lines.result (λ reads.
+    on_ok_both c.read_lines.result _ _
+    (on_ok_weaker c.read_lines.result (λ reads.
     record {
-      reads = λ file is. subst (λ f. ReadsText c.args.version f octets c.args.texts.now c.read_lines.new.texts) (one_file path c.in-Some.file file named is) (subst (λ o. ReadsText c.args.version c.in-Some.file o c.args.texts.now c.read_lines.new.texts) held reads);
-      leaves = λ none. absurd (none c.in-Some.file named);
+      reads = λ other is. subst (λ f. ReadsText version f octets c.args.texts.now c.read_lines.new.texts) (one_file path file other named is) (subst (λ o. ReadsText version file o c.args.texts.now c.read_lines.new.texts) held reads);
+      leaves = λ none. absurd (none file named);
     })
-    c.read_lines.ensures.read
-
-pub returns-clause-faulty : goal.returns-clause-faulty
-returns-clause-faulty g c = λ path octets at.
-    let named : path ≡ text_file c.in-Some.file = named_here at c.path.ensures ∙ c.in-Some.ensures in
-    let held : c.deref-2.result.now ≡ octets = c.deref-2.ensures.value ∙ (c.in_ok-text.ensures.known path octets at).0 in
-    on_ok_weaker c.read_lines.result (λ added.
-    adds_so c.args.faults.now.items c.read_lines.new.faults.items (IsFirstBadLine c.args.version c.in-Some.file c.deref-2.result.now) (IsBadLineOf c.args.version path octets)
-    (λ f bad. (c.in-Some.file, named, subst (λ o. IsFirstBadLine c.args.version c.in-Some.file o f) held bad))
-    (λ f bad. subst (λ o. IsFirstBadLine c.args.version c.in-Some.file o f) (sym held) (subst (λ file. IsFirstBadLine c.args.version file octets f) (one_file path bad.0 c.in-Some.file bad.1 named) bad.2))
-    added)
-    c.read_lines.ensures.faulty
+    c.read_lines.ensures.read)
+    (on_ok_weaker c.read_lines.result (adds_so c.args.faults.now.items c.read_lines.new.faults.items (IsFirstBadLine version file c.deref-2.result.now) (IsBadLineOf version path octets)
+    (λ f bad. (file, named, subst (λ o. IsFirstBadLine version file o f) held bad))
+    (λ f bad. subst (λ o. IsFirstBadLine version file o f) (sym held) (subst (λ name. IsFirstBadLine version name octets f) (one_file path bad.0 file bad.1 named) bad.2)))
+    c.read_lines.ensures.faulty)
 
 pub returns-clause-limits : goal.returns-clause-limits
 returns-clause-limits g c = λ path octets at.

@@ -38,14 +38,14 @@ loop-i-preserved g c =
           texts_more bag i here.0.0 here.0.1 here.1
           (once_at bag is c.count-i-end.ensures.rising i here.0.0 here.0.1 here.1)
           c.loop-i.texts c.read_text.new.texts (before.read bag is by)
-          (subst (λ version. ReadsOn version here.0.0 here.0.1 c.loop-i.texts c.read_text.new.texts) (sym by) (c.in_ok-read_text.ensures.read here.0.0 here.0.1 (file_at bag now i here.0.0 here.0.1 here.1)));
+          (subst (λ version. ReadsOn version here.0.0 here.0.1 c.loop-i.texts c.read_text.new.texts) (sym by) (c.in_ok-read_text.ensures.read here.0.0 here.0.1 (file_at bag now i here.0.0 here.0.1 here.1)).0);
       faulty = λ bag is by.
           let here = stands bag.files i (inside bag is) in
           let now = before.used.same ∙ is in
           faults_more bag i here.0.0 here.0.1 here.1
           (once_at bag is c.count-i-end.ensures.rising i here.0.0 here.0.1 here.1)
           c.args.faults.now.items c.loop-i.faults.items c.read_text.new.faults.items (before.faulty bag is by)
-          (subst (λ version. Adds c.loop-i.faults.items c.read_text.new.faults.items (IsBadLineOf version here.0.0 here.0.1)) (sym by) (c.in_ok-read_text.ensures.faulty here.0.0 here.0.1 (file_at bag now i here.0.0 here.0.1 here.1)));
+          (subst (λ version. Adds c.loop-i.faults.items c.read_text.new.faults.items (IsBadLineOf version here.0.0 here.0.1)) (sym by) (c.in_ok-read_text.ensures.read here.0.0 here.0.1 (file_at bag now i here.0.0 here.0.1 here.1)).1);
       limits = λ bag is.
           let here = stands bag.files i (inside bag is) in
           let now = before.used.same ∙ is in
