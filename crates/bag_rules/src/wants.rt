@@ -56,9 +56,8 @@ fn lengths_by_path(alloc: Global, lines: &[FetchLine]) -> Result<Lengths, AllocE
     let mut lengths = BTreeMap::new(alloc);
     for line in lines {
         if let Some(length) = line.entry.length() {
-            let line_number = line.line;
             let given = GivenLength {
-                line: line_number,
+                line: line.line,
                 length,
             };
             add_length(alloc, &mut lengths, line.entry.path(), given)?;
