@@ -4,7 +4,7 @@ use Rattle.std.specs.List.{flat_map}
 use Rattle.bag_path.specs.declared.path.PathFault.{PathFault}
 use Rattle.bag_path.specs.declared.path.PathFault.TheVariants.{Memory, BadEscape}
 use Rattle.bag_path.specs.declared.version.Version.{Version}
-use Rattle.bag_path.specs.declared.version.Version.TheVariants.{V1}
+use Rattle.bag_path.specs.declared.version.Version.TheVariants.{V1, V097}
 use Rattle.bag_path.specs.Octets.{lf, cr, percent}
 use Rattle.bag_path.specs.Paths.{Refuses}
 
@@ -14,11 +14,20 @@ IsLineEscape part octet =
     ((octet ≡ lf) × ((part ≡ codes "%0A") ⊎ (part ≡ codes "%0a")))
     ⊎ ((octet ≡ cr) × ((part ≡ codes "%0D") ⊎ (part ≡ codes "%0d")))
 
--- The part stands for the octet, where this rest follows it (what follows matters to no part of version 1.0).
+-- the text begins with an escape of LF or CR
+abbrev pub BeginsLineEscape : List ℕ → Type 0
+BeginsLineEscape text =
+    (part rest : List ℕ) × (octet : ℕ) × (text ≡ part ++ rest) × IsLineEscape part octet
+
+-- The part stands for the octet, where this rest follows it. In version 1.0 a `%` is always escaped; in version 0.97 it
+-- stands for itself, but where it would begin an escape of LF or CR.
 abbrev pub StandsFor : Version → List ℕ → ℕ → List ℕ → Type 0
 StandsFor V1 part octet rest =
     ((octet ≢ percent) × (part ≡ octet ∷ []))
     ⊎ ((octet ≡ percent) × (part ≡ codes "%25"))
+    ⊎ IsLineEscape part octet
+StandsFor V097 part octet rest =
+    ((part ≡ octet ∷ []) × ¬ BeginsLineEscape (octet ∷ rest))
     ⊎ IsLineEscape part octet
 
 -- The text is a joining of parts that stand for the octets of the path, one for each and in order.

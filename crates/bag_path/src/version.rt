@@ -5,4 +5,7 @@
 pub enum Version {
     /// BagIt 1.0 (RFC 8493): `%0A` is LF, `%0D` is CR and `%25` is `%`, their hex letters in either case. No other `%` stands.
     V1,
+    /// BagIt 0.97, as this project reads it: `%0A` is LF and `%0D` is CR, their hex letters in either case. Every other `%`
+    /// stands for itself.
+    V097,
 }

@@ -11,7 +11,7 @@ use Rattle.bag_tags.specs.declared.declaration.DeclFault.{DeclFault}
 use Rattle.bag_tags.specs.declared.declaration.DeclFault.TheVariants.{NotUtf8, Mark, LineCount, Label, EncodingName}
 use Rattle.bag_tags.specs.declared.declaration.DeclFault.TheVariants as fault
 use Rattle.bag_path.specs.declared.version.Version.{Version}
-use Rattle.bag_path.specs.declared.version.Version.TheVariants.{V1}
+use Rattle.bag_path.specs.declared.version.Version.TheVariants.{V1, V097}
 use Rattle.bag_tags.specs.TagLines.{mark}
 use Rattle.bag_tags.specs.Numerals.{IsNumeral}
 
@@ -91,7 +91,10 @@ IsDeclarationFault octets EncodingName = (version : List ℕ) × (encoding : Lis
 
 -- the version that is declared, where it is one that is known
 abbrev pub version_of : Declaration → Option Version
-version_of declaration = if declaration.major == 1 && declaration.minor == 0 then Some V1 else None
+version_of declaration =
+    if declaration.major == 1 && declaration.minor == 0 then Some V1
+    else if declaration.major == 0 && declaration.minor == 97 then Some V097
+    else None
 
 -- version 1.0 and UTF-8
 abbrev pub current : Declaration

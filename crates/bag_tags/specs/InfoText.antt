@@ -3,10 +3,11 @@ use Rattle.std.specs.Prelude.{◌≡◌, ◌≢◌, ◌⊎◌, ◌++◌, ℕ, tr
 use Rattle.bag_tags.specs.Octets.{colon}
 use Rattle.std.specs.List.{AllByRecursion}
 use Rattle.bag_path.specs.declared.version.Version.{Version}
+use Rattle.bag_path.specs.declared.version.Version.TheVariants.{V1, V097}
 use Rattle.bag_tags.specs.declared.fault.LineCause.{LineCause}
 use Rattle.bag_tags.specs.declared.fault.LineCause.TheVariants.{NoSeparator, BadLabel, NothingToContinue}
 use Rattle.bag_tags.specs.declared.fault.LineFault.{LineFault}
-use Rattle.bag_tags.specs.Words.{IsBlank, IsNotBlank, begins_blank}
+use Rattle.bag_tags.specs.Words.{IsBlank, IsNotBlank, begins_blank, ends_blank}
 use Rattle.bag_tags.specs.TagLines.{IsTextOf, IsFirstFault}
 use Rattle.bag_tags.specs.Infos.{MetadataElement, element_with_line, IsFit, IsNotColon}
 
@@ -23,22 +24,32 @@ pub record HasColon (text label after : List ℕ) : Type 0 where
   pub whole : text ≡ label ++ colon ∷ after
   pub first_colon : AllByRecursion IsNotColon label
 
--- What follows the colon is one blank and the first line of the value; or nothing, and then the
--- first line is empty (this
--- project's own: the RFC asks for the blank).
-abbrev pub HasFirstLine : List ℕ → List ℕ → Type 0
-HasFirstLine [] first = first ≡ []
-HasFirstLine (blank ∷ rest) first = IsBlank blank × (first ≡ rest)
+-- What stands before the colon is the label; in version 0.97 blanks may follow it.
+abbrev pub HasLabel : Version → List ℕ → List ℕ → Type 0
+HasLabel V1 before label = before ≡ label
+HasLabel V097 before label = (blanks : List ℕ) × (before ≡ label ++ blanks)
+    × AllByRecursion IsBlank blanks × (ends_blank label ≡ false)
 
--- The line is a label, a colon, a blank and the first line of a value.
-pub record HasParts (text label first : List ℕ) : Type 0 where
+-- What follows the colon is one blank and the first line of the value; or nothing, and then the
+-- first line is empty (this project's own: the RFC asks for the blank). In version 0.97 it is any
+-- number of blanks and the first line, which begins with none.
+abbrev pub HasFirstLine : Version → List ℕ → List ℕ → Type 0
+HasFirstLine V1 [] first = first ≡ []
+HasFirstLine V1 (blank ∷ rest) first = IsBlank blank × (first ≡ rest)
+HasFirstLine V097 after first = (blanks : List ℕ) × (after ≡ blanks ++ first)
+    × AllByRecursion IsBlank blanks × (begins_blank first ≡ false)
+
+-- The line is a label, a colon, and the first line of a value.
+pub record HasParts (version : Version) (text label first : List ℕ) : Type 0 where
+  pub before : List ℕ
   pub after : List ℕ
-  pub colon : HasColon text label after
-  pub first_line : HasFirstLine after first
+  pub colon : HasColon text before after
+  pub label_is : HasLabel version before label
+  pub first_line : HasFirstLine version after first
 
 -- The line gives this element.
-pub record GivesElement (text : List ℕ) (element : MetadataElement) : Type 0 where
-  pub parts : HasParts text element.label element.value
+pub record GivesElement (version : Version) (text : List ℕ) (element : MetadataElement) : Type 0 where
+  pub parts : HasParts version text element.label element.value
   pub fit : IsFit element.label
 
 -- an indented line continues the value of the last element
@@ -52,38 +63,40 @@ pub record Continues (before : List MetadataElement) (text : List ℕ)
   pub continues : after ≡ earlier ++ element_with_line last line ∷ []
 
 -- any other line adds the element that it gives
-pub record AddsElement (before : List MetadataElement) (text : List ℕ)
+pub record AddsElement (version : Version) (before : List MetadataElement) (text : List ℕ)
     (after : List MetadataElement) : Type 0 where
   pub element : MetadataElement
-  pub gives : GivesElement text element
+  pub gives : GivesElement version text element
   pub adds : after ≡ before ++ element ∷ []
 
 -- what a line that isn't blank makes of the elements before it
 abbrev pub AddsInfo : Version → List MetadataElement → ℕ → List ℕ → List MetadataElement → Type 0
 AddsInfo version before number text after = Continues before text after
-    ⊎ AddsElement before text after
+    ⊎ AddsElement version before text after
 
 -- the octets are the text of these elements, in this order
 abbrev pub InfoText : Version → List ℕ → List MetadataElement → Type 0
 InfoText version octets elements = IsTextOf (AddsInfo version) [] octets elements
 
--- a line without a separator: it has no colon, or something other than a blank after the first
-abbrev pub LacksSeparator : List ℕ → Type 0
-LacksSeparator text = AllByRecursion IsNotColon text
+-- A line without a separator: it has no colon; or, in version 1.0, something other than a blank after the first.
+abbrev pub LacksSeparator : Version → List ℕ → Type 0
+LacksSeparator V1 text = AllByRecursion IsNotColon text
     ⊎ ((label : List ℕ) × ((octet : ℕ) × ((rest : List ℕ)
     × HasColon text label (octet ∷ rest) × IsNotBlank octet)))
+LacksSeparator V097 text = AllByRecursion IsNotColon text
 
 -- the first cause for which a line that isn't indented gives no element
-abbrev pub GivesNoElement : List ℕ → LineCause → Type 0
-GivesNoElement text NoSeparator = LacksSeparator text
-GivesNoElement text BadLabel = (label : List ℕ) × ((first : List ℕ) × HasParts text label first
+abbrev pub GivesNoElement : Version → List ℕ → LineCause → Type 0
+GivesNoElement version text NoSeparator = LacksSeparator version text
+GivesNoElement version text BadLabel = (label : List ℕ) × ((first : List ℕ) × HasParts version text label first
     × ¬ IsFit label)
-GivesNoElement text _ = ⊥
+GivesNoElement version text _ = ⊥
 
 -- the first cause for which a line adds nothing
 abbrev pub RefusesInfo : Version → List MetadataElement → List ℕ → LineCause → Type 0
 RefusesInfo version before text NothingToContinue = (begins_blank text ≡ true) × (before ≡ [])
-RefusesInfo version before text cause = (begins_blank text ≡ false) × GivesNoElement text cause
+RefusesInfo version before text cause = (begins_blank text ≡ false)
+    × GivesNoElement version text cause
 
 -- the first fault of a text that says nothing
 abbrev pub InfoFault : Version → List ℕ → LineFault → Type 0

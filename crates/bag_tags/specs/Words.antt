@@ -21,6 +21,11 @@ abbrev pub begins_blank : List ℕ → Bool
 begins_blank [] = false
 begins_blank (octet ∷ octets) = is_blank octet
 
+abbrev pub ends_blank : List ℕ → Bool
+ends_blank [] = false
+ends_blank (octet ∷ []) = is_blank octet
+ends_blank (octet ∷ octets) = ends_blank octets
+
 -- The text is a word without blanks, all the blanks after it, of which there is one at least, and
 -- what follows them.
 pub record IsCut (text word blanks rest : List ℕ) : Type 0 where

@@ -33,12 +33,13 @@ impl Declaration {
     ghost use Rattle.std.specs.Prelude.{◌≡◌};
     ghost use Rattle.bag_tags.specs.Declarations.{version_of};
 
-    /// The version of the format, where it is one that is known: 1.0.
+    /// The version of the format, where it is one that is known: 1.0 or 0.97.
     pub fn version(self) -> Option<Version>
         ensures { result ≡ version_of self }
     {
         match (self.major, self.minor) {
             (1, 0) => Some(Version::V1),
+            (0, 97) => Some(Version::V097),
             _ => None,
         }
     }
