@@ -16,6 +16,7 @@ TAG_LIMIT, LINE_LIMIT, FILE_LIMIT, PATH_LIMIT = 16777216, 100000, 200000, 4096
 # The name of a manifest, its algorithm known or not [5].
 MANIFEST = re.compile(rb"(tag)?manifest-([A-Za-z0-9_]+)\.txt")
 URL = re.compile(rb"[A-Za-z][A-Za-z0-9+.-]*:[^\x00-\x20\x7f]+")
+VERSIONS = b"1.0", b"0.97"
 NUMBER = rb"(0|[1-9][0-9]{0,8})"
 VERSION = re.compile(NUMBER + rb"\." + NUMBER)
 
@@ -64,11 +65,18 @@ def spell(path):
     return path.replace(b"%", b"%25").replace(b"\n", b"%0A").replace(b"\r", b"%0D")
 
 
-def read_path(spelling):
-    """[4]"""
+def unescape(spelling, version):
+    """[4, 15]"""
+    if version == b"0.97":
+        return re.sub(rb"%0[Dd]", b"\r", re.sub(rb"%0[Aa]", b"\n", spelling))
     if re.search(rb"%(?!0[Aa]|0[Dd]|25)", spelling):
         raise BadLine("path")
-    path = re.sub(rb"%(..)", lambda found: bytes([int(found[1], 16)]), spelling)
+    return re.sub(rb"%(..)", lambda found: bytes([int(found[1], 16)]), spelling)
+
+
+def read_path(spelling, version):
+    """[4]"""
+    path = unescape(spelling, version)
     segments = path.split(b"/")
     if not path or len(path) > PATH_LIMIT or b"\0" in path or path == b"data":
         raise BadLine("path")
@@ -82,7 +90,7 @@ def is_payload(path):
 
 
 def read_declaration(octets):
-    """The fault, or whether the version is 1.0 and whether the encoding is UTF-8 [3]."""
+    """The fault, or the version and whether the encoding is UTF-8 [3]."""
     if not is_utf8(octets):
         return "not UTF-8", None
     if octets.startswith(MARK):
@@ -98,10 +106,10 @@ def read_declaration(octets):
         return "version", None
     if not re.fullmatch(rb"[!-~]+", encoding):
         return "encoding name", None
-    return None, (version == b"1.0", encoding.upper() == b"UTF-8")
+    return None, (version, encoding.upper() == b"UTF-8")
 
 
-def read_manifest(name, octets):
+def read_manifest(name, version):
     """The digests by path [6]."""
     tag, algorithm = MANIFEST.fullmatch(name).groups()
     pairs = {}
@@ -114,7 +122,7 @@ def read_manifest(name, octets):
         if not re.fullmatch(rb"[0-9A-Fa-f]{%d}" % ALGORITHMS[algorithm], digest):
             raise BadLine("digest form")
         text = text[1:] if text.startswith(b"*") else text
-        path = read_path(text[2:] if text.startswith(b"./") else text)
+        path = read_path(text[2:] if text.startswith(b"./") else text, version)
         if is_payload(path) if tag else not is_payload(path):
             raise BadLine("wrong place")
         found = MANIFEST.fullmatch(path)
@@ -127,7 +135,19 @@ def read_manifest(name, octets):
     return pairs, take
 
 
-def read_info(_, octets):
+def cut_element(line, version):
+    """The label and the first line of the value [7, 15]."""
+    label, colon, rest = line.partition(b":")
+    if not colon:
+        raise BadLine("separator")
+    if version == b"0.97":
+        return label.rstrip(BLANKS), rest.lstrip(BLANKS)
+    if rest[:1] not in (b"", b" ", b"\t"):
+        raise BadLine("separator")
+    return label, rest[1:]
+
+
+def read_info(_, version):
     """The elements, each a list of label and value [7]."""
     elements = []
 
@@ -137,12 +157,10 @@ def read_info(_, octets):
                 raise BadLine("nothing to continue")
             elements[-1][1] += b"\n" + line.lstrip(BLANKS)
             return
-        label, colon, rest = line.partition(b":")
-        if not colon or rest[:1] not in (b"", b" ", b"\t"):
-            raise BadLine("separator")
+        label, first = cut_element(line, version)
         if not label or label.strip(BLANKS) != label or label.startswith(MARK):
             raise BadLine("label")
-        elements.append([label, rest[1:]])
+        elements.append([label, first])
 
     return elements, take
 
@@ -155,7 +173,7 @@ def read_number(digits):
     return number if number < 2**64 else None
 
 
-def read_fetch(_, octets):
+def read_fetch(_, version):
     """The length, or None, and the path of each entry [8]. Each stands at the place of its line."""
     entries = []
 
@@ -169,7 +187,7 @@ def read_fetch(_, octets):
             raise BadLine("url")
         if length != b"-" and read_number(length) is None:
             raise BadLine("length")
-        path = read_path(text)
+        path = read_path(text, version)
         if not is_payload(path):
             raise BadLine("wrong place")
         entries.append((None if length == b"-" else read_number(length), path))
@@ -241,9 +259,10 @@ class Bag:
         if fault:
             self.tell(2, "bagit.txt: " + fault)
             self.end_where_at_fault()
-        if not declared[0]:
+        self.version, is_utf8_encoded = declared
+        if self.version not in VERSIONS:
             raise End(["outside: version"], 2)
-        if not declared[1]:
+        if not is_utf8_encoded:
             raise End(["outside: encoding"], 2)
         for path in self.paths:
             found = MANIFEST.fullmatch(path)
@@ -255,7 +274,7 @@ class Bag:
         octets = self.text(name)
         if name != b"bag-info.txt" and len(lines_of(octets)) > LINE_LIMIT:
             raise End(["bag: too many"], 3)
-        value, take = reader(name, octets)
+        value, take = reader(name, self.version)
         for number, line in numbered(octets):
             try:
                 if not is_utf8(line):
@@ -310,23 +329,28 @@ class Bag:
                     self.tell_path(9, name, "missing", path)
                 elif hashlib.new(algorithm, self.octets(path)).hexdigest() != digest:
                     self.tell_path(14, name, "digest", path)
-        for name in self.payload_manifests:
-            for path in self.payload:
-                if path not in self.manifests[name]:
-                    self.tell_path(10, name, "unlisted", path)
+        for path in self.payload:
+            for name in self.lacking(path):
+                self.tell_path(10, name, "unlisted", path)
         self.judge_fetch()
         numbers = [sum(self.length(path) for path in self.payload), len(self.payload)]
         if self.oxums and self.oxums[0] != numbers:
             self.tell(13, "bag-info.txt: Payload-Oxum wrong")
         self.end_where_at_fault()
 
+    def lacking(self, path):
+        """The payload manifests that are told because they don't list the path [9, 15]."""
+        names = sorted(name for name in self.payload_manifests if path not in self.manifests[name])
+        if self.version == b"0.97":
+            return names[:1] if len(names) == len(self.payload_manifests) else []
+        return names
+
     def judge_fetch(self):
         """[8, 9]"""
         for number, length, path in self.fetch:
-            for name in self.payload_manifests:
-                if path not in self.manifests[name]:
-                    text = "fetch.txt: not in %s: %s" % (name.decode(), spell(path).decode())
-                    self.tell(11, text, name, 0, path)
+            for name in self.lacking(path):
+                text = "fetch.txt: not in %s: %s" % (name.decode(), spell(path).decode())
+                self.tell(11, text, name, 0, path)
             if length is not None and self.length(path) not in (None, length):
                 text = "fetch.txt:%d: length: %s" % (number, spell(path).decode())
                 self.tell(12, text, b"fetch.txt", number, path)
