@@ -52,7 +52,7 @@ for folder in "$work"/examples/*/; do
         expect "$name: coreutils agree" 0 '' listed_digests "$folder"
     fi
 done
-expect 'six examples are valid' 0 '' [ "$valid" -eq 6 ]
+expect 'seven examples are valid' 0 '' [ "$valid" -eq 7 ]
 expect 'a damaged file: coreutils agree' 1 'data/a.txt: FAILED' listed_digests examples/damaged-file
 
 # A payload with the names that people give.
