@@ -1,13 +1,15 @@
 -- Bags (RFC 8493 section 2), as trees hold them.
-use Rattle.std.specs.Prelude.{◌≡◌, ◌+◌, ℕ, Bool, List, [], ◌∷◌, Some, length, map, codes}
+use Rattle.std.specs.Prelude.{◌≡◌, ◌+◌, ℕ, Bool, true, List, [], ◌∷◌, Option, Some, None, length, map, codes}
 use Rattle.std.specs.List.{slice_get, filter}
+use Rattle.std.specs.Map.{lookup}
+use Rattle.std.specs.Str.{bytes_eq}
 use Rattle.bag_path.specs.declared.version.Version.{Version}
 use Rattle.bag_path.specs.declared.version.Version.TheVariants.{V1}
 use Rattle.bag_path.specs.Paths.{is_payload}
 use Rattle.bag_tags.specs.declared.listing.Pair.{Pair}
 use Rattle.bag_tags.specs.declared.fetch.FetchLine.{FetchLine}
 use Rattle.bag_tags.specs.declared.declaration.Declaration.{Declaration}
-use Rattle.bag_tags.specs.Declarations.{IsDeclaration}
+use Rattle.bag_tags.specs.Declarations.{IsDeclaration, declared_version, version_of as known_version}
 use Rattle.bag_tags.specs.Infos.{MetadataElement}
 use Rattle.bag_tags.specs.InfoText.{InfoText}
 use Rattle.bag_tags.specs.FetchText.{FetchText}
@@ -47,10 +49,6 @@ IsBagOf shown bag = shown ≡ shown_of bag
 
 -- TAG FILES
 
--- the version by whose rules the tag files of the bag are read: 1.0, so far the only one
-abbrev pub version_of : Bag → Version
-version_of bag = V1
-
 -- the declaration (section 2.1.1)
 abbrev pub declaration_file : List ℕ
 declaration_file = codes "bagit.txt"
@@ -60,23 +58,51 @@ abbrev pub Declares : Bag → Declaration → Type 0
 Declares bag declaration = (octets : List ℕ) × Holds bag declaration_file octets
     × IsDeclaration octets declaration
 
--- the bag has the manifest, and it lists these pairs
-pub record Lists (bag : Bag) (name : ManifestName) (pairs : List Pair) : Type 0 where
+-- the version that is declared by the text of `bagit.txt`, where it is there
+abbrev pub version_in : Option (List ℕ) → Version
+version_in (Some octets) = declared_version octets
+version_in None = V1
+
+-- the version by whose rules the tag files of the bag are read: the one that it declares
+abbrev pub version_of : Bag → Version
+version_of bag = version_in (lookup (bytes_eq declaration_file) bag.files)
+
+-- the bag declares that version, and UTF-8
+pub record IsDeclared (bag : Bag) : Type 0 where
+  pub declaration : Declaration
+  pub declares : Declares bag declaration
+  pub version_is : known_version declaration ≡ Some (version_of bag)
+  pub in_utf8 : declaration.utf8 ≡ true
+
+-- the bag has the manifest, and by this version it lists these pairs
+pub record ListsBy (version : Version) (bag : Bag) (name : ManifestName) (pairs : List Pair)
+    : Type 0 where
   pub octets : List ℕ
   pub there : Holds bag (file_of name) octets
-  pub text : ManifestText (version_of bag) name.alg name.kind octets pairs
+  pub text : ManifestText version name.alg name.kind octets pairs
 
--- the bag has `bag-info.txt`, and it says these elements
-pub record SaysInfo (bag : Bag) (elements : List MetadataElement) : Type 0 where
+-- the bag has `bag-info.txt`, and by this version it says these elements
+pub record SaysInfoBy (version : Version) (bag : Bag) (elements : List MetadataElement)
+    : Type 0 where
   pub octets : List ℕ
   pub there : Holds bag (text_file Info) octets
-  pub text : InfoText (version_of bag) octets elements
+  pub text : InfoText version octets elements
 
--- the bag has `fetch.txt`, and these are its entries, each with its line number
-pub record ListsFetch (bag : Bag) (lines : List FetchLine) : Type 0 where
+-- the bag has `fetch.txt`, and by this version these are its entries, each with its line number
+pub record ListsFetchBy (version : Version) (bag : Bag) (lines : List FetchLine) : Type 0 where
   pub octets : List ℕ
   pub there : Holds bag (text_file FetchList) octets
-  pub text : FetchText (version_of bag) octets lines
+  pub text : FetchText version octets lines
+
+-- the same by the version of the bag
+abbrev pub Lists : Bag → ManifestName → List Pair → Type 0
+Lists bag = ListsBy (version_of bag) bag
+
+abbrev pub SaysInfo : Bag → List MetadataElement → Type 0
+SaysInfo bag = SaysInfoBy (version_of bag) bag
+
+abbrev pub ListsFetch : Bag → List FetchLine → Type 0
+ListsFetch bag = ListsFetchBy (version_of bag) bag
 
 -- PAYLOAD
 

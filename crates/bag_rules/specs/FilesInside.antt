@@ -1,11 +1,15 @@
 -- Faults of the files, by what was read. Private functions alone cite these: what a fault is stands in HasFault.
-use Rattle.std.specs.Prelude.{◌≡◌, ◌≢◌, ◌⊎◌, ℕ, true, false, List, Option, Some, Contains, length, slice_get}
+use Rattle.std.specs.Prelude.{◌≡◌, ◌≢◌, ◌⊎◌, ℕ, Bool, true, false, List, Option, Some, Contains, length, slice_get}
 use Rattle.std.specs.Bool.{then_some}
+use Rattle.std.specs.declared.cmp.Ordering.TheVariants.{Greater}
+use Rattle.bag_path.specs.declared.version.Version.{Version}
+use Rattle.bag_path.specs.declared.version.Version.TheVariants.{V1, V097}
 use Rattle.bag_path.specs.Paths.{is_payload}
+use Rattle.bag_digest.specs.declared.algorithm.Alg.{Alg}
+use Rattle.bag_digest.specs.contracts.algorithm.AlgOrd.TheImpl as order
 use Rattle.bag_digest.specs.declared.digest.Digest.{Digest}
 use Rattle.bag_digest.specs.declared.multi.Digests.{Digests}
 use Rattle.bag_digest.specs.Hash.{hash, digest_in}
-use Rattle.bag_tags.specs.declared.fetch.FetchLine.{FetchLine}
 use Rattle.bag_tags.specs.declared.listing.Kind.TheVariants.{Payload}
 use Rattle.bag_tags.specs.Infos.{MetadataElement, is_oxum}
 use Rattle.bag_tags.specs.Listings.{Listing, lists_path, listed_digest}
@@ -40,12 +44,36 @@ abbrev pub IsMissing : List (List ℕ) → List Listing → Fault → Type 0
 IsMissing paths listings fault = (listing : Listing) × Has listings listing
     × IsMissingBy paths listing fault
 
--- an entry of `fetch.txt` that a payload manifest doesn't list
-abbrev pub IsFetchUnlistedBy : Listing → List FetchLine → Fault → Type 0
-IsFetchUnlistedBy listing lines fault = (listing.kind ≡ Payload)
-    × ((line : FetchLine) × Has lines line
-    × (lists_path listing.pairs line.entry.path ≡ false)
-    × (fault ≡ FetchNotListed listing.alg line.entry.path))
+-- UNLISTED PATHS
+
+-- a payload manifest by this algorithm lists the path, or doesn't
+pub record HasPayloadListing (listings : List Listing) (path : List ℕ) (lists : Bool) (alg : Alg)
+    : Type 0 where
+  pub listing : Listing
+  pub has : Has listings listing
+  pub kind_is : listing.kind ≡ Payload
+  pub alg_is : listing.alg ≡ alg
+  pub lists_is : lists_path listing.pairs path ≡ lists
+
+-- no algorithm of these comes before it
+abbrev pub IsFirstAmong : (Alg → Type 0) → Alg → Type 0
+IsFirstAmong some alg = some alg × ((other : Alg) → some other → order.ghosts.cmp alg other ≢ Greater)
+
+-- the payload manifest that is told where the path isn't listed as it has to be
+abbrev pub IsUnlistedIn : Version → List Listing → Alg → List ℕ → Type 0
+IsUnlistedIn V1 listings alg path = HasPayloadListing listings path false alg
+IsUnlistedIn V097 listings alg path = IsFirstAmong (HasPayloadListing listings path false) alg
+    × ((other : Alg) → ¬ HasPayloadListing listings path true other)
+
+-- an entry of `fetch.txt` for this path isn't listed as it has to be
+abbrev pub IsEntryUnlisted : Version → List Listing → List ℕ → Fault → Type 0
+IsEntryUnlisted version listings path fault = (alg : Alg)
+    × IsUnlistedIn version listings alg path × (fault ≡ FetchNotListed alg path)
+
+-- a payload file that isn't listed as it has to be
+abbrev pub IsFileUnlisted : Version → List Listing → List ℕ → Fault → Type 0
+IsFileUnlisted version listings path fault = (is_payload path ≡ true) × ((alg : Alg)
+    × IsUnlistedIn version listings alg path × (fault ≡ Unlisted alg path))
 
 -- FILES THAT ARE THERE
 
@@ -57,11 +85,6 @@ IsReadBy listings path = (is_payload path ≡ true)
 -- it is read, and too large
 abbrev pub IsLongRead : List Listing → List ℕ → List ℕ → CheckFault → Type 0
 IsLongRead listings path octets fault = IsReadBy listings path × IsLongFile path octets fault
-
--- the payload manifest doesn't list the payload file
-abbrev pub IsUnlistedIn : List ℕ → Listing → Fault → Type 0
-IsUnlistedIn path listing fault = (listing.kind ≡ Payload) × (is_payload path ≡ true)
-    × (lists_path listing.pairs path ≡ false) × (fault ≡ Unlisted listing.alg path)
 
 -- the manifest lists a digest that isn't among these
 abbrev pub IsOtherDigest : List ℕ → Digests → Listing → Fault → Type 0
@@ -84,14 +107,15 @@ abbrev pub OfSome : {X : Type 0} → List X → (X → Fault → Type 0) → Fau
 OfSome {X} xs of fault = (x : X) × Has xs x × of x fault
 
 -- the faults of a file with these octets, by what is said of it
-abbrev pub IsFaultBy : List Listing → List GivenLength → List ℕ → List ℕ → Fault → Type 0
-IsFaultBy listings lengths path octets fault = OfSome listings (IsUnlistedIn path) fault
+abbrev pub IsFaultBy : Version → List Listing → List GivenLength → List ℕ → List ℕ → Fault → Type 0
+IsFaultBy version listings lengths path octets fault =
+    IsFileUnlisted version listings path fault
     ⊎ (OfSome lengths (IsOtherLength path (length octets)) fault
     ⊎ OfSome listings (IsWrongIn path octets) fault)
 
 abbrev pub IsFaultIn : Wants → List ℕ → List ℕ → Fault → Type 0
 IsFaultIn wants path octets fault =
-    IsFaultBy wants.manifests.now (given_at wants.lengths path) path octets fault
+    IsFaultBy wants.version wants.manifests.now (given_at wants.lengths path) path octets fault
 
 -- the faults of the files of a bag
 abbrev pub IsFileFault : Bag → Wants → Fault → Type 0

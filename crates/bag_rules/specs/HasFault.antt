@@ -24,6 +24,7 @@ use Rattle.bag_tags.specs.declared.name.LineFile.{LineFile}
 use Rattle.bag_tags.specs.declared.name.LineFile.TheVariants.{Info, FetchList, Manifest}
 use Rattle.bag_rules.specs.Bags.{Bag, version_of, Holds, IsThere, Lists, SaysInfo, ListsFetch, declaration_file, payload_of, octet_count}
 use Rattle.bag_tags.specs.Names.{manifest_file, manifest_name, text_file}
+use Rattle.bag_rules.specs.Listed.{IsUnlisted}
 use Rattle.bag_rules.specs.Faults.{Has, number_of}
 
 -- the text of a tag file has this first faulty line
@@ -74,13 +75,10 @@ HasFault bag OxumTwice = (elements : List MetadataElement) × SaysInfo bag eleme
     × (2 ≤ length (filter is_oxum elements))  -- section 2.2.2
 HasFault bag (Missing manifest path) = (pairs : List Pair) × Lists bag manifest pairs
     × (lists_path pairs path ≡ true) × ¬ IsThere bag path  -- section 3
-HasFault bag (Unlisted manifest path) = (pairs : List Pair)
-    × Lists bag (manifest_name Payload manifest) pairs
-    × (lists_path pairs path ≡ false) × IsThere bag path × (is_payload path ≡ true)  -- section 3
-HasFault bag (FetchNotListed manifest path) =
-    (pairs : List Pair) × Lists bag (manifest_name Payload manifest) pairs
-    × (lists_path pairs path ≡ false) × ((line : FetchLine) × HasEntry bag line
-    × (line.entry.path ≡ path))  -- section 2.2.3
+HasFault bag (Unlisted manifest path) = IsUnlisted (version_of bag) bag manifest path
+    × IsThere bag path × (is_payload path ≡ true)  -- section 3
+HasFault bag (FetchNotListed manifest path) = IsUnlisted (version_of bag) bag manifest path
+    × ((line : FetchLine) × HasEntry bag line × (line.entry.path ≡ path))  -- section 2.2.3
 HasFault bag (FetchLength number path) = (line : FetchLine) × HasEntry bag line
     × (line.line ≡ number) × (line.entry.path ≡ path)
     × ((length_given : ℕ) × (line.entry.octets ≡ Some length_given)

@@ -3,6 +3,7 @@ pub mod Memory
 pub mod MemoryInside
 pub mod Faults
 pub mod Bags
+pub mod Listed
 pub mod HasFault
 pub mod Verdicts
 pub mod Profiles

@@ -17,7 +17,7 @@ use Rattle.bag_tags.specs.declared.name.LineFile.{LineFile}
 use Rattle.bag_tags.specs.declared.name.LineFile.TheVariants.{Info, FetchList, Manifest}
 use Rattle.bag_tags.specs.declared.name.ManifestName.{ManifestName}
 use Rattle.bag_rules.specs.declared.tag_files.Texts.{Texts}
-use Rattle.bag_rules.specs.Bags.{Bag, Lists, SaysInfo, ListsFetch}
+use Rattle.bag_rules.specs.Bags.{Bag, Holds, ListsBy, SaysInfoBy, ListsFetchBy, version_of}
 use Rattle.bag_tags.specs.Names.{manifest_name, text_file}
 use Rattle.bag_rules.specs.HasFault.{IsFaultyText, line_fault}
 use Rattle.bag_rules.specs.Faults.{Has}
@@ -33,13 +33,14 @@ name_in listing = manifest_name listing.kind listing.alg
 abbrev pub front : ℕ → Bag → Bag
 front n bag = record bag { files = take n bag.files }
 
--- these are what the tag files say among the first n files
+-- these are what the tag files say among the first n files, by the version of the bag
 pub record AreTextsOf (n : ℕ) (bag : Bag) (texts : Texts) : Type 0 where
   pub info : (elements : List MetadataElement) → (texts.info ≡ Some elements)
-      ↔ SaysInfo (front n bag) elements
-  pub fetch : (lines : List FetchLine) → (texts.fetch ≡ Some lines) ↔ ListsFetch (front n bag) lines
+      ↔ SaysInfoBy (version_of bag) (front n bag) elements
+  pub fetch : (lines : List FetchLine) → (texts.fetch ≡ Some lines)
+      ↔ ListsFetchBy (version_of bag) (front n bag) lines
   pub manifests : (listing : Listing) → Has texts.manifests.items listing
-      ↔ Lists (front n bag) (name_in listing) listing.pairs
+      ↔ ListsBy (version_of bag) (front n bag) (name_in listing) listing.pairs
 
 -- these are the lines of `fetch.txt`, or there are none
 abbrev pub AreLinesOf : Texts → List FetchLine → Type 0
@@ -74,6 +75,13 @@ abbrev pub IsFirstBadLine : Version → LineFile → List ℕ → Fault → Type
 IsFirstBadLine version file octets fault = (line : ℕ)
     × ((cause : LineCause) × IsFaultyText version file octets (line_fault line cause)
     × (fault ≡ BadLine file line cause))
+
+-- among the first n files of the bag a tag file has this first faulty line, by the version of the bag
+pub record HasBadLine (n : ℕ) (bag : Bag) (fault : Fault) : Type 0 where
+  pub file : LineFile
+  pub octets : List ℕ
+  pub there : Holds (front n bag) (text_file file) octets
+  pub bad : IsFirstBadLine (version_of bag) file octets fault
 
 abbrev pub IsBadLineOf : Version → List ℕ → List ℕ → Fault → Type 0
 IsBadLineOf version path octets fault = (file : LineFile) × (path ≡ text_file file)

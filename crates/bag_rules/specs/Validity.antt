@@ -9,7 +9,6 @@ use Rattle.bag_digest.specs.Hash.{hash}
 use Rattle.bag_tags.specs.declared.fetch.FetchLine.{FetchLine}
 use Rattle.bag_tags.specs.declared.listing.Kind.TheVariants.{Payload, Tag}
 use Rattle.bag_tags.specs.declared.listing.Pair.{Pair}
-use Rattle.bag_tags.specs.Declarations.{current}
 use Rattle.bag_tags.specs.Infos.{MetadataElement, is_oxum}
 use Rattle.bag_tags.specs.Listings.{lists_path, listed_digest}
 use Rattle.bag_tags.specs.Oxums.{OxumText}
@@ -17,14 +16,15 @@ use Rattle.bag_tags.specs.declared.name.LineFile.TheVariants.{Info, FetchList}
 use Rattle.bag_tags.specs.declared.name.ManifestName.{ManifestName}
 use Rattle.bag_rules.specs.declared.outcome.Outcome.{Outcome}
 use Rattle.bag_rules.specs.declared.outcome.Outcome.TheVariants.{Judged, Outside}
-use Rattle.bag_rules.specs.Bags.{Bag, Holds, IsThere, Declares, Lists, SaysInfo, ListsFetch, payload_of, octet_count}
+use Rattle.bag_rules.specs.Bags.{Bag, Holds, IsThere, IsDeclared, Lists, SaysInfo, ListsFetch, payload_of, octet_count, version_of}
 use Rattle.bag_tags.specs.Names.{file_of, manifest_file, manifest_name, text_file}
 use Rattle.bag_rules.specs.HasFault.{SaysOxum, HasEntry}
+use Rattle.bag_rules.specs.Listed.{IsListed}
 use Rattle.bag_rules.specs.Faults.{NoneUpTo, last_of_completeness}
 
 -- Section 2: what is there conforms.
 pub record Conforms (bag : Bag) : Type 0 where
-  pub declared : Declares bag current  -- section 2.1.1
+  pub declared : IsDeclared bag  -- section 2.1.1
   pub has_payload_dir : bag.has_payload_dir ≡ true  -- section 2.1.2
   pub has_manifest : (alg : Alg) × IsThere bag (manifest_file Payload alg)  -- section 2.1.3
   pub manifests_read : (name : ManifestName) → IsThere bag (file_of name) → (pairs : List Pair)
@@ -43,24 +43,21 @@ pub record Conforms (bag : Bag) : Type 0 where
       → length (filter is_oxum elements) ≤ 1
   pub oxum_right : (element : MetadataElement) → SaysOxum bag element
       → OxumText element.value (octet_count (payload_of bag.files)) (length (payload_of bag.files))
-  -- each file of `fetch.txt` is in every payload manifest, and has the length that is given,
-  -- if it is there (section 2.2.3)
-  pub fetch_listed : (line : FetchLine) (alg : Alg) (pairs : List Pair) → HasEntry bag line
-      → Lists bag (manifest_name Payload alg) pairs
-      → lists_path pairs line.entry.path ≡ true
+  -- each file of `fetch.txt` is listed, and has the length that is given, if it is there (section 2.2.3)
+  pub fetch_listed : (line : FetchLine) → HasEntry bag line
+      → IsListed (version_of bag) bag line.entry.path
   pub fetch_lengths : (line : FetchLine) (octets : List ℕ) → HasEntry bag line
       → Holds bag line.entry.path octets
       → ForSome line.entry.octets (λ given. length octets ≡ given)
 
 -- Section 3: every required element is there; every file listed in every tag manifest and in every payload manifest is there; every
--- payload file is listed in every payload manifest; and every element present conforms.
+-- payload file is listed in every payload manifest (in version 0.97: in some); and every element present conforms.
 pub record IsComplete (bag : Bag) : Type 0 where
   pub conforms : Conforms bag
   pub each_there : (name : ManifestName) (pairs : List Pair) (path : List ℕ) → Lists bag name pairs
       → lists_path pairs path ≡ true → IsThere bag path
-  pub each_listed : (alg : Alg) (pairs : List Pair) (path : List ℕ)
-      → Lists bag (manifest_name Payload alg) pairs
-      → IsThere bag path → is_payload path ≡ true → lists_path pairs path ≡ true
+  pub each_listed : (path : List ℕ) → IsThere bag path → is_payload path ≡ true
+      → IsListed (version_of bag) bag path
 
 -- Section 3: it is complete, and every checksum in every payload manifest and tag manifest has been verified.
 pub record IsValid (bag : Bag) : Type 0 where

@@ -4,14 +4,14 @@ use Rattle.std.specs.Ordering.{nat_cmp}
 use Rattle.std.specs.Cmp.Lexicographic.{slice_cmp}
 use Rattle.std.specs.declared.cmp.Ordering.TheVariants.{Greater}
 use Rattle.bag_tags.specs.declared.declaration.Declaration.{Declaration}
-use Rattle.bag_tags.specs.Declarations.{current, version_of}
+use Rattle.bag_tags.specs.Declarations.{version_of}
 use Rattle.bag_tags.specs.Names.{IsUnknownManifest}
 use Rattle.bag_rules.specs.declared.fault.Fault.{Fault}
 use Rattle.bag_rules.specs.declared.outcome.Outcome.{Outcome}
 use Rattle.bag_rules.specs.declared.outcome.Outcome.TheVariants.{Judged, Outside}
 use Rattle.bag_rules.specs.declared.outcome.OutsideCause.{OutsideCause}
 use Rattle.bag_rules.specs.declared.outcome.OutsideCause.TheVariants.{Version, Encoding, Algorithm}
-use Rattle.bag_rules.specs.Bags.{Bag, IsThere, Declares}
+use Rattle.bag_rules.specs.Bags.{Bag, IsThere, Declares, IsDeclared}
 use Rattle.bag_rules.specs.HasFault.{HasFault}
 use Rattle.bag_rules.specs.Faults.{Has, AreInOrder, last_of_declaration, last_of_form, number_of}
 
@@ -26,9 +26,9 @@ tier_of fault =
 abbrev pub NoneBelow : ℕ → Bag → Type 0
 NoneBelow tier bag = (fault : Fault) → tier_of fault < tier → ¬ HasFault bag fault
 
--- the bag declares version 1.0 and UTF-8, and the algorithm of each manifest is known
+-- the bag declares a version that is known and UTF-8, and the algorithm of each manifest is known
 pub record IsInProfile (bag : Bag) : Type 0 where
-  pub declared : Declares bag current
+  pub declared : IsDeclared bag
   pub known : (path word : List ℕ) → IsThere bag path → ¬ IsUnknownManifest path word
 
 -- The faults are those of the first tier that is broken, in order and each once. Only a bag in the profile is judged by more
@@ -53,7 +53,7 @@ IsOutside bag Version = (declaration : Declaration) × Declares bag declaration
     × (version_of declaration ≡ None)
 IsOutside bag Encoding = (declaration : Declaration) × Declares bag declaration
     × IsSome (version_of declaration) × (declaration.utf8 ≡ false)
-IsOutside bag (Algorithm name) = Declares bag current × IsFirstUnknown bag (string_bytes name)
+IsOutside bag (Algorithm name) = IsDeclared bag × IsFirstUnknown bag (string_bytes name)
 
 abbrev pub IsVerdict : Bag → Outcome → Type 0
 IsVerdict bag (Judged faults) = IsJudged bag faults

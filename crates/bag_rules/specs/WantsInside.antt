@@ -4,6 +4,7 @@ use Rattle.std.specs.BTreeMap.{BTreeMap, get}
 use Rattle.std.specs.Ordering.{nat_cmp}
 use Rattle.std.specs.Cmp.Lexicographic.{slice_cmp}
 use Rattle.std.specs.declared.alloc.Global.{Global}
+use Rattle.bag_path.specs.declared.version.Version.{Version}
 use Rattle.bag_path.specs.Paths.{is_payload}
 use Rattle.bag_tags.specs.Listings.{Listing}
 use Rattle.bag_tags.specs.declared.fetch.FetchLine.{FetchLine}
@@ -43,8 +44,9 @@ pub record AreByPath (lines : List FetchLine) (lengths : Lengths) : Type 0 where
   pub given : (path : List ℕ) → AreGivenIn lines path (given_at lengths path)
   pub payload : (path : List ℕ) → is_payload path ≡ false → given_at lengths path ≡ []
 
-pub record AreWantsOf (listings : List Listing) (lines : List FetchLine) (wants : Wants)
-    : Type 0 where
+pub record AreWantsOf (version : Version) (listings : List Listing) (lines : List FetchLine)
+    (wants : Wants) : Type 0 where
+  pub version_is : wants.version ≡ version
   pub manifests : wants.manifests.now ≡ listings
   pub lengths : AreByPath lines wants.lengths
 
@@ -53,6 +55,7 @@ abbrev pub GivesPayload : Wants → Type 0
 GivesPayload wants = (path : List ℕ) → is_payload path ≡ false → given_at wants.lengths path ≡ []
 
 pub record IsWantIn (wants : Wants) (path : List ℕ) (want : Want) : Type 0 where
+  pub version_is : want.version ≡ wants.version
   pub path_is : want.path.now ≡ path
   pub manifests : want.manifests.now ≡ wants.manifests.now
   pub lengths : want.lengths.now ≡ given_at wants.lengths path

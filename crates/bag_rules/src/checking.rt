@@ -93,7 +93,7 @@ fn check_in_profile<T: Tree>(
     let texts = read_texts(alloc, buffer, tree, version, kept, &mut faults)?;
     add_form_faults(tree, &texts, &mut faults)?;
     if faults.is_empty() {
-        add_file_faults(alloc, buffer, tree, &texts, kept, &mut faults)?;
+        add_file_faults(alloc, buffer, tree, version, &texts, kept, &mut faults)?;
     }
     Ok(Outcome::Judged(Report::new(faults)))
 }

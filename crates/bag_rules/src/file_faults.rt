@@ -3,10 +3,10 @@ ghost use Rattle.std.specs.Prelude.{true, ◌≡◌, ◌<◌, ℕ, List, IfOk, I
 ghost use Rattle.bag_digest.specs.Algorithm.{has};
 ghost use Rattle.bag_digest.specs.declared.algorithm.Alg.{Alg};
 ghost use Rattle.bag_digest.specs.declared.algorithm.AlgSet.{AlgSet};
-ghost use Rattle.bag_rules.specs.Bags.{Bag, IsBagOf};
+ghost use Rattle.bag_rules.specs.Bags.{Bag, IsBagOf, version_of};
 ghost use Rattle.bag_rules.specs.Faults.{kinds_of_files};
 ghost use Rattle.bag_rules.specs.HasFault.{HasFaultOf};
-ghost use Rattle.bag_rules.specs.FilesInside.{IsFaultBy, IsFaultIn, IsFileFault, IsLongRead, IsOtherDigest, IsOtherLength, IsSizeOf, IsUnlistedIn, OfSome, payload_length};
+ghost use Rattle.bag_rules.specs.FilesInside.{IsFaultBy, IsFaultIn, IsFileFault, IsFileUnlisted, IsLongRead, IsOtherDigest, IsOtherLength, IsSizeOf, OfSome, payload_length};
 ghost use Rattle.bag_rules.specs.KeptInside.{AreKept, HasSums, HasSumsWithin};
 ghost use Rattle.bag_rules.specs.Limits.{FileStops, FirstStops, IsLongFile, NoneStops, Stopped};
 ghost use Rattle.bag_rules.specs.ReadingInside.{Adds, AreTextsOf};
@@ -18,6 +18,7 @@ ghost use Rattle.bag_rules.specs.declared.outcome.CheckFault.{CheckFault};
 use crate::fault::Fault;
 use crate::kept::Kept;
 use crate::limits::LARGEST_FILE;
+use crate::listed::unlisted_in;
 use crate::listing_faults::{add_fetch_unlisted, add_missing};
 use crate::outcome::CheckFault;
 use crate::oxum_faults::{PayloadSize, add_wrong_oxum};
@@ -25,8 +26,8 @@ use crate::tag_files::Texts;
 use crate::tree::Tree;
 use crate::want::Want;
 use crate::wants::Wants;
-use bag_digest::{AlgSet, Digests, SourceFault, digest_through};
-use bag_tags::Kind;
+use bag_digest::{Alg, AlgSet, Digests, SourceFault, digest_through};
+use bag_path::Version;
 use std::alloc::Global;
 
 /// Adds what is wrong with the files of a bag of the right form, each of which is read once.
@@ -34,13 +35,14 @@ pub(crate) fn add_file_faults<T: Tree>(
     alloc: Global,
     buffer: &mut [u8],
     tree: &mut T,
+    version: Version,
     texts: &Texts,
     kept: &Kept,
     faults: &mut Vec<Fault>,
 ) -> Result<(), CheckFault>
     requires room { 0 < length buffer.old }
     requires kept { AreKept (T.shown tree.old) kept.now }
-    ensures added { (bag : Bag) → IsBagOf (T.shown tree.old) bag
+    ensures added { (bag : Bag) → IsBagOf (T.shown tree.old) bag → version_of bag ≡ version
         → AreTextsOf (length bag.files) bag texts.now
         → OnOk result (Adds faults.old.items faults.new.items (HasFaultOf bag kinds_of_files)) }
     ensures limits { (bag : Bag) → IsBagOf (T.shown tree.old) bag
@@ -51,8 +53,8 @@ pub(crate) fn add_file_faults<T: Tree>(
         (IsErrOf result CheckFault.Tree) }
 {
     add_missing(tree, &texts.manifests, faults)?;
-    add_fetch_unlisted(texts, faults)?;
-    let wants = Wants::new(alloc, &texts.manifests, texts.fetch_lines())?;
+    add_fetch_unlisted(version, texts, faults)?;
+    let wants = Wants::new(alloc, version, &texts.manifests, texts.fetch_lines())?;
     let size = read_files(buffer, tree, &wants, kept, faults)?;
     add_wrong_oxum(texts, size, faults)
 }
@@ -180,7 +182,8 @@ fn add_faults_of(
         → ((alg : Alg) → lists_by want.now.manifests.now want.now.path.now alg ≡ true
         → has set alg ≡ true)
         → OnOk result (Adds faults.old.items faults.new.items
-        (IsFaultBy want.now.manifests.now want.now.lengths.now want.now.path.now octets)) }
+        (IsFaultBy want.now.version want.now.manifests.now want.now.lengths.now
+        want.now.path.now octets)) }
     ensures err { IfErr result (λ fault. fault ≡ CheckFault.Memory) }
 {
     add_unlisted(want, faults)?;
@@ -192,19 +195,20 @@ fn add_faults_of(
     add_other_digests(want, digests, faults)
 }
 
-/// Adds the payload manifests that don't list the file, if it is a payload file.
+/// Adds the payload manifests that are told where the file isn't listed as it has to be, if it is a payload file.
 fn add_unlisted(want: &Want<'_>, faults: &mut Vec<Fault>) -> Result<(), CheckFault>
     ensures added { OnOk result (Adds faults.old.items faults.new.items
-        (OfSome want.now.manifests.now (IsUnlistedIn want.now.path.now))) }
+        (IsFileUnlisted want.now.version want.now.manifests.now want.now.path.now)) }
     ensures err { IfErr result (λ fault. fault ≡ CheckFault.Memory) }
 {
     if !want.path.is_payload() {
         return Ok(());
     }
-    for manifest in want.manifests {
-        if manifest.kind() == Kind::Payload && manifest.get(want.path).is_none() {
+    let unlisted = unlisted_in(want.version, want.manifests, want.path);
+    for alg in Alg::ALL {
+        if unlisted.has(alg) {
             let path = want.path.clone()?;
-            let manifest = manifest.alg();
+            let manifest = alg;
             faults.push(Fault::Unlisted { manifest, path })?;
         }
     }

@@ -17,6 +17,7 @@ mod form_faults;
 mod kept;
 pub mod laws;
 pub mod limits;
+mod listed;
 mod listing_faults;
 mod memory;
 mod outcome;

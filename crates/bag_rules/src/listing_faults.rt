@@ -1,17 +1,20 @@
 //! What the tag files list against the files that are there, and against each other (RFC 8493 sections 2.2.3 and 3).
 ghost use Rattle.std.specs.Prelude.{◌≡◌, ◌∷◌, [], IfErr, OnOk, length};
-ghost use Rattle.bag_rules.specs.Bags.{Bag};
+ghost use Rattle.bag_rules.specs.Bags.{Bag, version_of};
 ghost use Rattle.bag_rules.specs.Faults.{kind_of_unlisted_entries};
 ghost use Rattle.bag_rules.specs.HasFault.{HasFaultOf};
-ghost use Rattle.bag_rules.specs.FilesInside.{IsFetchUnlistedBy, IsMissing, IsMissingBy, IsPairMissing};
+ghost use Rattle.bag_rules.specs.FilesInside.{IsEntryUnlisted, IsMissing, IsMissingBy, IsPairMissing};
 ghost use Rattle.bag_rules.specs.ReadingInside.{Adds, AreTextsOf};
 ghost use Rattle.bag_rules.specs.Trees.{paths_in};
 
 use crate::fault::Fault;
+use crate::listed::unlisted_in;
 use crate::outcome::CheckFault;
 use crate::tag_files::Texts;
 use crate::tree::{Tree, find};
-use bag_tags::{Fetch, Kind, Manifest, ManifestName, Pair};
+use bag_digest::Alg;
+use bag_path::{BagPath, Version};
+use bag_tags::{Manifest, ManifestName, Pair};
 
 /// Adds the files that the manifests list and that are not there.
 pub(crate) fn add_missing<T: Tree>(
@@ -70,40 +73,40 @@ fn add_missing_pair<T: Tree>(
     }
 }
 
-/// Adds the entries of `fetch.txt` that a payload manifest doesn't list.
-pub(crate) fn add_fetch_unlisted(texts: &Texts, faults: &mut Vec<Fault>) -> Result<(), CheckFault>
-    ensures added { (bag : Bag) → AreTextsOf (length bag.files) bag texts.now
+/// Adds the entries of `fetch.txt` that aren't listed as they have to be.
+pub(crate) fn add_fetch_unlisted(
+    version: Version,
+    texts: &Texts,
+    faults: &mut Vec<Fault>,
+) -> Result<(), CheckFault>
+    ensures added { (bag : Bag) → version_of bag ≡ version
+        → AreTextsOf (length bag.files) bag texts.now
         → OnOk result (Adds faults.old.items faults.new.items
         (HasFaultOf bag kind_of_unlisted_entries)) }
     ensures err { IfErr result (λ fault. fault ≡ CheckFault.Memory) }
 {
-    let Some(fetch) = &texts.fetch else {
-        return Ok(());
-    };
-    for manifest in &texts.manifests {
-        add_fetch_unlisted_by(manifest, fetch, faults)?;
+    for line in texts.fetch_lines() {
+        add_entry_unlisted(version, &texts.manifests, line.entry.path(), faults)?;
     }
     Ok(())
 }
 
-/// Adds the entries of `fetch.txt` that this manifest doesn't list, if it is a payload manifest.
-fn add_fetch_unlisted_by(
-    manifest: &Manifest,
-    fetch: &Fetch,
+/// Adds the payload manifests that are told where the path of an entry of `fetch.txt` isn't listed as it has to be.
+fn add_entry_unlisted(
+    version: Version,
+    manifests: &[Manifest],
+    path: &BagPath,
     faults: &mut Vec<Fault>,
 ) -> Result<(), CheckFault>
     ensures added { OnOk result (Adds faults.old.items faults.new.items
-        (IsFetchUnlistedBy manifest.now fetch.now)) }
+        (IsEntryUnlisted version manifests.now path.now)) }
     ensures err { IfErr result (λ fault. fault ≡ CheckFault.Memory) }
 {
-    if manifest.kind() == Kind::Tag {
-        return Ok(());
-    }
-    for line in fetch.entries() {
-        let path = line.entry.path();
-        if manifest.get(path).is_none() {
+    let unlisted = unlisted_in(version, manifests, path);
+    for alg in Alg::ALL {
+        if unlisted.has(alg) {
             let path = path.clone()?;
-            let manifest = manifest.alg();
+            let manifest = alg;
             faults.push(Fault::FetchNotListed { manifest, path })?;
         }
     }

@@ -1,6 +1,6 @@
 //! Whether a bag can be judged by more than its declaration (RFC 8493 section 2.1.1).
-ghost use Rattle.std.specs.Prelude.{◌≡◌, ◌<◌, Contains, IfErr, IfOk, IsErrOf, MatchOption, MatchResult, OnOk, Some, length, slice_get, string_bytes};
-ghost use Rattle.bag_tags.specs.Declarations.{current, version_of};
+ghost use Rattle.std.specs.Prelude.{◌≡◌, ◌<◌, Contains, IfErr, IfOk, IsErrOf, MatchOption, MatchResult, OnOk, Some, length, slice_get, string_bytes, true};
+ghost use Rattle.bag_tags.specs.Declarations.{version_of};
 ghost use Rattle.bag_rules.specs.Bags.{Bag, Declares, IsBagOf, declaration_file};
 ghost use Rattle.bag_rules.specs.JudgingInside.{IsFirstUnknownOf, MatchOutside, NoneUnknown};
 ghost use Rattle.bag_rules.specs.KeptInside.{AreKept};
@@ -110,7 +110,7 @@ fn profile_of<T: Tree>(
 /// The version that is declared, or why a bag with this declaration can't be judged.
 fn known_version(declaration: Declaration) -> Result<Version, OutsideCause>
     ensures { MatchResult result
-        (λ version. (declaration ≡ current) × (version_of declaration ≡ Some version))
+        (λ version. (version_of declaration ≡ Some version) × (declaration.utf8 ≡ true))
         (λ cause. MatchOutside cause declaration) }
 {
     let Some(version) = declaration.version() else {

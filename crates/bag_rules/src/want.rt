@@ -1,6 +1,6 @@
 //! What a file has to be, by what the tag files say of its path (RFC 8493 sections 2.1.3, 2.2.1 and 2.2.3).
 use bag_digest::{Alg, AlgSet, Digests};
-use bag_path::BagPath;
+use bag_path::{BagPath, Version};
 use bag_tags::Manifest;
 use thiserror::Error;
 
@@ -17,6 +17,7 @@ pub struct GivenLength {
 /// each manifest lists for it.
 #[derive(Clone, Copy, Drop)]
 pub struct Want<'a> {
+    pub(crate) version: Version,
     pub(crate) path: &'a BagPath,
     pub(crate) manifests: &'a [Manifest],
     pub(crate) lengths: &'a [GivenLength],

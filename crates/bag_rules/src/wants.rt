@@ -3,7 +3,7 @@ ghost use Rattle.std.specs.Prelude.{IfOk, OnOk};
 ghost use Rattle.bag_rules.specs.WantsInside.{AddsLength, AreByPath};
 
 use crate::want::{GivenLength, Want};
-use bag_path::BagPath;
+use bag_path::{BagPath, Version};
 use bag_tags::{FetchLine, Manifest};
 use std::alloc::{AllocError, Global};
 use std::collections::BTreeMap;
@@ -14,6 +14,7 @@ type Lengths = BTreeMap<BagPath, Vec<GivenLength>>;
 /// What the manifests list, and the lengths that `fetch.txt` gives.
 #[derive(Drop)]
 pub(crate) struct Wants<'a> {
+    version: Version,
     manifests: &'a [Manifest],
     lengths: Lengths,
 }
@@ -22,16 +23,21 @@ impl<'a> Wants<'a> {
     ghost use Rattle.std.specs.Prelude.{IfOk};
     ghost use Rattle.bag_rules.specs.WantsInside.{AreWantsOf, IsWantIn};
 
-    /// What these manifests and lines say.
+    /// What these manifests and lines of a bag of this version say.
     pub(crate) fn new(
         alloc: Global,
+        version: Version,
         manifests: &'a [Manifest],
         lines: &[FetchLine],
     ) -> Result<Wants<'a>, AllocError>
-        ensures { IfOk result (AreWantsOf manifests.now lines.now) }
+        ensures { IfOk result (AreWantsOf version manifests.now lines.now) }
     {
         let lengths = lengths_by_path(alloc, lines)?;
-        Ok(Wants { manifests, lengths })
+        Ok(Wants {
+            version,
+            manifests,
+            lengths,
+        })
     }
 
     /// What the file at this path has to be.
@@ -43,6 +49,7 @@ impl<'a> Wants<'a> {
             None => &[],
         };
         Want {
+            version: self.version,
             path,
             manifests: self.manifests,
             lengths,

@@ -1,0 +1,50 @@
+//! Which payload manifests have to list a path (RFC 8493 sections 2.2.3 and 3).
+ghost use Rattle.std.specs.Prelude.{◌≡◌, ◌↔◌, true};
+ghost use Rattle.bag_digest.specs.Algorithm.{has};
+ghost use Rattle.bag_digest.specs.declared.algorithm.Alg.{Alg};
+ghost use Rattle.bag_rules.specs.FilesInside.{HasPayloadListing, IsFirstAmong, IsUnlistedIn};
+
+use bag_digest::{Alg, AlgSet};
+use bag_path::{BagPath, Version};
+use bag_tags::{Kind, Manifest};
+
+/// The algorithms of the payload manifests that are told where a path isn't listed as it has to be: in version 1.0 of each that
+/// doesn't list it, in version 0.97 of the first, where none lists it.
+pub(crate) fn unlisted_in(version: Version, manifests: &[Manifest], path: &BagPath) -> AlgSet
+    ensures { (alg : Alg)
+        → (has result alg ≡ true) ↔ IsUnlistedIn version manifests.now alg path.now }
+{
+    let others = payload_algs(manifests, path, false);
+    match version {
+        Version::V1 => others,
+        Version::V097 if payload_algs(manifests, path, true).is_empty() => first_of(others),
+        Version::V097 => AlgSet::empty(),
+    }
+}
+
+/// The algorithms of the payload manifests that list the path, or of those that don't.
+fn payload_algs(manifests: &[Manifest], path: &BagPath, lists: bool) -> AlgSet
+    ensures { (alg : Alg)
+        → (has result alg ≡ true) ↔ HasPayloadListing manifests.now path.now lists alg }
+{
+    let mut set = AlgSet::empty();
+    for manifest in manifests {
+        if manifest.kind() == Kind::Payload && manifest.get(path).is_some() == lists {
+            set = set.with(manifest.alg());
+        }
+    }
+    set
+}
+
+/// The first algorithm of a set, alone.
+fn first_of(set: AlgSet) -> AlgSet
+    ensures { (alg : Alg)
+        → (has result alg ≡ true) ↔ IsFirstAmong (λ other. has set other ≡ true) alg }
+{
+    for alg in Alg::ALL {
+        if set.has(alg) {
+            return AlgSet::empty().with(alg);
+        }
+    }
+    set
+}
