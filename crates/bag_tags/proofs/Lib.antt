@@ -1,6 +1,7 @@
 pub mod WordsLemmas
 pub mod NumeralLemmas
 pub mod DeclarationLemmas
+pub mod DeclaredVersionLemmas
 pub mod NameLemmas
 pub mod TagLinesLemmas
 pub mod CauseLemmas

@@ -96,6 +96,11 @@ version_of declaration =
     else if declaration.major == 0 && declaration.minor == 97 then Some V097
     else None
 
+-- the version by whose rules tag files are read, where the octets declare one that is known
+abbrev pub declared_version : List ℕ → Version
+declared_version octets =
+    if starts_with nat_eq octets (codes "BagIt-Version: 0.97") then V097 else V1
+
 -- version 1.0 and UTF-8
 abbrev pub current : Declaration
 current = record { major = 1; minor = 0; utf8 = true }

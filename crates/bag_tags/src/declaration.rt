@@ -1,8 +1,9 @@
 //! The bag declaration, `bagit.txt` (RFC 8493 section 2.1.1).
-ghost use Rattle.std.specs.Prelude.{◌≡◌, ◌≢◌, ◌↔◌, ℕ, IfOk, IfErr, IsTrue, Ok, MatchOption, List, [], ◌∷◌, ◌++◌, length, map};
+ghost use Rattle.std.specs.Prelude.{◌≡◌, ◌≢◌, ◌↔◌, ℕ, IfOk, IfErr, IsTrue, Ok, MatchOption, Some, List, [], ◌∷◌, ◌++◌, length, map};
 ghost use Rattle.bag_path.specs.Lines.{Text, lines_of};
+ghost use Rattle.bag_path.specs.declared.version.Version.{Version};
 ghost use Rattle.bag_tags.specs.declared.declaration.Declaration.{Declaration};
-ghost use Rattle.bag_tags.specs.Declarations.{IsDeclaration, IsDeclarationFault, IsVersion, IsVersionPart, IsEncodingName, HaveNoLabels, version_label, encoding_label, current, written_declaration};
+ghost use Rattle.bag_tags.specs.Declarations.{IsDeclaration, IsDeclarationFault, IsVersion, IsVersionPart, IsEncodingName, HaveNoLabels, version_label, encoding_label, version_of, declared_version, current, written_declaration};
 ghost use Rattle.bag_tags.specs.declared.declaration.DeclFault.{DeclFault};
 
 use crate::number::read_number;
@@ -134,6 +135,13 @@ pub fn octets_have_one_declaration_fault_at_most()
 pub fn a_declaration_has_no_fault()
     ensures { (octets : List ℕ) (declaration : Declaration) (fault : DeclFault)
         → IsDeclaration octets declaration → IsDeclarationFault octets fault → ⊥ }
+{}
+
+/// The octets of a declaration begin with its version, where that is one that is known.
+pub fn a_declaration_begins_with_its_version()
+    ensures { (octets : List ℕ) (declaration : Declaration) (version : Version)
+        → IsDeclaration octets declaration → version_of declaration ≡ Some version
+        → version ≡ declared_version octets }
 {}
 
 /// The texts of the lines, where there are exactly two.

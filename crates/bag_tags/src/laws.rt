@@ -26,8 +26,8 @@ ghost use Rattle.bag_tags.specs.Names.{file_of, text_file};
 ghost use Rattle.bag_tags.specs.Oxums.{OxumText};
 
 pub use crate::declaration::{
-    a_declaration_has_no_fault, octets_declare_one_thing_at_most,
-    octets_have_one_declaration_fault_at_most,
+    a_declaration_begins_with_its_version, a_declaration_has_no_fault,
+    octets_declare_one_thing_at_most, octets_have_one_declaration_fault_at_most,
 };
 pub use crate::name::{a_path_has_one_unknown_algorithm_at_most, a_path_names_one_thing_at_most};
 
