@@ -1,14 +1,15 @@
 -- A check from the declaration on.
-use Rattle.std.proofs.Common.{◌≡◌, ◌<◌, ◌≤◌, ◌^◌, ◌∙◌, ◌==◌, ◌&&◌, if◌then◌else◌, ℕ, Bool, true, false, None, List, [], ◌∷◌, Some, Result, Ok, Err, MatchResult, Global, String, string_bytes, length, slice_get, refl, ap, subst, inl, inr, arith}
-use Rattle.bag_rules.proofs.Words.{Algorithm, and_parts, AreRising, BadDeclaration, Bag, CheckFault, current, Declaration, declaration_file, DeclarationStops, Declares, DeclFault, Encoding, Ended, ended_by, eqb-true, excludes, Fault, FirstStops, HasFault, Holds, IsDeclaration, IsDeclarationFault, IsFirstUnknown, IsFirstUnknownOf, IsInProfile, IsJudged, IsLongTag, IsOutside, IsProfile, IsThere, IsVerdict, Judged, Known, MatchOutside, Means, NoDeclaration, NoneStops, NoneUnknown, one_declaration, one_fault, Outcome, Outside, OutsideCause, ProfileStops, slice_get_within, Stopped, tier_of, V1, WorkStops}
+use Rattle.std.proofs.Common.{◌≡◌, ◌<◌, ◌≤◌, ◌^◌, ◌∙◌, ℕ, true, false, None, List, [], ◌∷◌, Some, Result, Ok, Err, MatchResult, Global, String, string_bytes, length, slice_get, refl, sym, ap, subst, inl, inr, arith}
+use Rattle.bag_rules.proofs.Words.{Algorithm, AreRising, BadDeclaration, Bag, CheckFault, Declaration, declaration_file, DeclarationStops, Declares, DeclFault, Encoding, Ended, ended_by, excludes, Fault, FirstStops, HasFault, Holds, IsDeclaration, IsDeclarationFault, IsFirstUnknown, IsFirstUnknownOf, IsInProfile, IsJudged, IsLongTag, IsOutside, IsProfile, IsThere, IsVerdict, Judged, Known, MatchOutside, Means, NoDeclaration, NoneStops, NoneUnknown, one_declaration, one_fault, Outcome, Outside, OutsideCause, ProfileStops, slice_get_within, Stopped, tier_of, WorkStops}
 use Rattle.bag_path.specs.declared.version.Version as format
-use Rattle.bag_tags.specs.Declarations.{version_of}
+use Rattle.bag_tags.specs.Declarations.{version_of as known_version}
+use Rattle.bag_tags.proofs.DeclaredVersionLemmas.{begins_with_version}
 use Rattle.bag_rules.specs.declared.outcome.OutsideCause.TheVariants.{Version}
-use Rattle.bag_rules.specs.Bags.{paths_of}
+use Rattle.bag_rules.specs.Bags.{IsDeclared, paths_of, version_in, version_of}
 use Rattle.bag_rules.proofs.LimitLemmas.{none_first, stopped_so}
 use Rattle.bag_rules.proofs.OneVerdictLemmas.{lone}
 use Rattle.bag_rules.proofs.RisingPaths.{higher}
-use Rattle.bag_rules.proofs.TreeLemmas.{file_of_path, one_file, one_octets, shown_at}
+use Rattle.bag_rules.proofs.TreeLemmas.{file_of_path, one_file, one_octets, shown_at, text_of}
 use Rattle.bag_rules.proofs.ValidityLemmas.{complete_exactly, valid_exactly}
 use Rattle.bag_rules.proofs.VerdictLemmas.{judged_by_declaration}
 
@@ -54,13 +55,13 @@ short_declaration bag octets rising holds short i path other fault below here st
 
 -- the octets of the declaration decide the profile
 not_declared : (bag : Bag) → ¬ IsThere bag declaration_file → ¬ IsInProfile bag
-not_declared bag absent profile = absent (profile.declared.0, profile.declared.1)
+not_declared bag absent profile = absent (profile.declared.declares.0, profile.declared.declares.1)
 
-declares_current : (bag : Bag) (octets : List ℕ) → AreRising (paths_of bag) → Holds bag declaration_file octets → IsInProfile bag → IsDeclaration octets current
-declares_current bag octets rising holds profile = subst (λ o. IsDeclaration o current) (one_octets bag declaration_file profile.declared.0 octets rising profile.declared.1 holds) profile.declared.2
+declares_so : (bag : Bag) (octets : List ℕ) → AreRising (paths_of bag) → Holds bag declaration_file octets → (declared : IsDeclared bag) → IsDeclaration octets declared.declaration
+declares_so bag octets rising holds declared = subst (λ o. IsDeclaration o declared.declaration) (one_octets bag declaration_file declared.declares.0 octets rising declared.declares.1 holds) declared.declares.2
 
 bad_out : (bag : Bag) (octets : List ℕ) (cause : DeclFault) → AreRising (paths_of bag) → Holds bag declaration_file octets → IsDeclarationFault octets cause → ¬ IsInProfile bag
-bad_out bag octets cause rising holds bad profile = excludes octets current cause (declares_current bag octets rising holds profile) bad
+bad_out bag octets cause rising holds bad profile = excludes octets profile.declared.declaration cause (declares_so bag octets rising holds profile.declared) bad
 
 -- WHAT THE DECLARATION AND THE NAMES OF THE MANIFESTS SAY
 
@@ -70,17 +71,18 @@ no_declaration bag absent = (none_verdict bag absent, not_declared bag absent)
 pub bad_declaration : (bag : Bag) (octets : List ℕ) (cause : DeclFault) → AreRising (paths_of bag) → Holds bag declaration_file octets → IsDeclarationFault octets cause → IsProfile bag (ended_by (BadDeclaration cause))
 bad_declaration bag octets cause rising holds bad = (bad_verdict bag octets cause rising holds bad, bad_out bag octets cause rising holds bad)
 
--- version 1.0 and UTF-8
-is_known : (test : Bool) (version : format.Version) → (if test then Some V1 else None) ≡ Some version → test ≡ true
-is_known true version e = refl
-is_known false version e = cc
+-- the version that is read by is the one that is declared
+declared_by : (bag : Bag) (declaration : Declaration) (version : format.Version) → AreRising (paths_of bag) → Declares bag declaration → known_version declaration ≡ Some version → version_of bag ≡ version
+declared_by bag declaration version rising declares known =
+    ap version_in (text_of bag declaration_file declares.0 rising declares.1) ∙ sym (begins_with_version declares.0 declaration version declares.2 known)
 
-pub is_current : (declaration : Declaration) (version : format.Version) → version_of declaration ≡ Some version → declaration.utf8 ≡ true → declaration ≡ current
-is_current declaration version known utf8 =
-    let both = and_parts (declaration.major == 1) (declaration.minor == 0) (is_known (declaration.major == 1 && declaration.minor == 0) version known) in
-    ap (λ n. (let d : Declaration = record declaration { major = n } in d)) (eqb-true declaration.major 1 both.0)
-    ∙ ap (λ n. (let d : Declaration = record { major = 1; minor = n; utf8 = declaration.utf8 } in d)) (eqb-true declaration.minor 0 both.1)
-    ∙ ap (λ b. (let d : Declaration = record { major = 1; minor = 0; utf8 = b } in d)) utf8
+pub is_declared : (bag : Bag) (declaration : Declaration) (version : format.Version) → AreRising (paths_of bag) → Declares bag declaration → known_version declaration ≡ Some version → declaration.utf8 ≡ true → IsDeclared bag
+is_declared bag declaration version rising declares known utf8 = record {
+  declaration = declaration;
+  declares = declares;
+  version_is = known ∙ ap Some (sym (declared_by bag declaration version rising declares known));
+  in_utf8 = utf8;
+}
 
 -- another version, or another encoding
 outside_verdict : (bag : Bag) (declaration : Declaration) (cause : OutsideCause) → Declares bag declaration → MatchOutside cause declaration → IsOutside bag cause
@@ -88,15 +90,18 @@ outside_verdict bag declaration Version declares other = (declaration, declares,
 outside_verdict bag declaration Encoding declares other = (declaration, declares, other.0, other.1)
 outside_verdict bag declaration (Algorithm name) declares other = absurd other
 
-not_current : (cause : OutsideCause) → MatchOutside cause current → ⊥
-not_current Version other = let clash : Some V1 ≡ None = other in cc
-not_current Encoding other = let clash : true ≡ false = other.1 in cc
-not_current (Algorithm name) other = other
+not_outside : (bag : Bag) (declaration : Declaration) (cause : OutsideCause) → known_version declaration ≡ Some (version_of bag) → declaration.utf8 ≡ true → MatchOutside cause declaration → ⊥
+not_outside bag declaration Version known utf8 other = let clash : Some (version_of bag) ≡ None = sym known ∙ other in cc
+not_outside bag declaration Encoding known utf8 other = let clash : true ≡ false = sym utf8 ∙ other.1 in cc
+not_outside bag declaration (Algorithm name) known utf8 other = other
 
 pub other_declaration : (bag : Bag) (declaration : Declaration) (cause : OutsideCause) → AreRising (paths_of bag) → Declares bag declaration → MatchOutside cause declaration → IsProfile bag (Ended (Outside cause))
 other_declaration bag declaration cause rising declares other = (
   outside_verdict bag declaration cause declares other,
-  λ profile. not_current cause (subst (λ d. MatchOutside cause d) (one_declaration declares.0 declaration current declares.2 (declares_current bag declares.0 rising declares.1 profile)) other),
+  λ profile.
+      let declared = profile.declared in
+      let same = one_declaration declares.0 declaration declared.declaration declares.2 (declares_so bag declares.0 rising declares.1 declared) in
+      not_outside bag declaration cause (ap known_version same ∙ declared.version_is) (ap (λ (d : Declaration). d.utf8) same ∙ declared.in_utf8) other,
 )
 
 -- the first unknown algorithm among the paths is that of the bag
@@ -112,19 +117,19 @@ first_unknown bag word rising of =
           of.before there.1.0 other another (higher (paths_of bag) rising of.place there.1.0 of.path other of.there at greater) at unknown);
     }
 
-pub unknown_algorithm : (bag : Bag) (name : String Global) → AreRising (paths_of bag) → Declares bag current → IsFirstUnknownOf (paths_of bag) (string_bytes name) → IsProfile bag (Ended (Outside (Algorithm name)))
-unknown_algorithm bag name rising declares of =
+pub unknown_algorithm : (bag : Bag) (name : String Global) → AreRising (paths_of bag) → IsDeclared bag → IsFirstUnknownOf (paths_of bag) (string_bytes name) → IsProfile bag (Ended (Outside (Algorithm name)))
+unknown_algorithm bag name rising declared of =
     let first = first_unknown bag (string_bytes name) rising of in
-    ((declares, first), λ profile. profile.known first.path (string_bytes name) first.there first.unknown)
+    ((declared, first), λ profile. profile.known first.path (string_bytes name) first.there first.unknown)
 
--- a bag that declares version 1.0 and UTF-8, and whose algorithms are known
-pub known_algorithms : (bag : Bag) (version : format.Version) → Declares bag current → version_of current ≡ Some version → NoneUnknown (paths_of bag) (length (paths_of bag)) → IsProfile bag (Known version)
-known_algorithms bag version declares known none = (
+-- a bag that declares a known version and UTF-8, and whose algorithms are known
+pub known_algorithms : (bag : Bag) (declaration : Declaration) (version : format.Version) → AreRising (paths_of bag) → Declares bag declaration → known_version declaration ≡ Some version → declaration.utf8 ≡ true → NoneUnknown (paths_of bag) (length (paths_of bag)) → IsProfile bag (Known version)
+known_algorithms bag declaration version rising declares known utf8 none = (
   record {
-    declared = declares;
+    declared = is_declared bag declaration version rising declares known utf8;
     known = λ path word there unknown. (let at = shown_at bag there.1.0 path there.0 there.1.1 in none there.1.0 path word (slice_get_within (paths_of bag) there.1.0 path at) at unknown);
   },
-  (let is : Some V1 ≡ Some version = known in cc),
+  declared_by bag declaration version rising declares known,
 )
 
 -- THE WHOLE

@@ -10,6 +10,7 @@ pub mod FaultLemmas
 pub mod AddsLemmas
 pub mod ListedLemmas
 pub mod TreeLemmas
+pub mod FirstManifest
 pub mod TreeUses
 pub mod PlaceLemmas
 pub mod VerdictLemmas

@@ -1,13 +1,13 @@
 -- A bag has one verdict at most, and its files stand in one order.
 use Rattle.std.proofs.Common.{◌≡◌, ◌≢◌, ◌↔◌, ◌∙◌, ℕ, Bool, true, false, List, [], ◌∷◌, Some, None, is_some, refl, sym, ap, subst, string_bytes}
-use Rattle.bag_rules.proofs.Words.{Algorithm, AreInOrder, AreRising, Bag, current, Declaration, declaration_file, Declares, Encoding, Equal, exact_bytes, Fault, Greater, Has, Holds, IsDeclaration, IsFirstUnknown, IsInProfile, IsJudged, IsOutside, IsUnknownManifest, IsVerdict, Judged, Less, nat_cmp, nat_list_cmp_total, one_word, Ordering, ordering_reverse, Outcome, Outside, OutsideCause, SameCause, SameVerdict, slice_cmp, V1}
+use Rattle.bag_rules.proofs.Words.{Algorithm, AreInOrder, AreRising, Bag, Declaration, declaration_file, Declares, Encoding, Equal, exact_bytes, Fault, Greater, Has, Holds, IsDeclaration, IsFirstUnknown, IsInProfile, IsJudged, IsOutside, IsUnknownManifest, IsVerdict, Judged, Less, nat_cmp, nat_list_cmp_total, one_word, Ordering, ordering_reverse, Outcome, Outside, OutsideCause, SameCause, SameVerdict, slice_cmp}
 use Rattle.std.specs.List.Sorted.{IsStrictlySortedBy}
-use Rattle.bag_tags.specs.Declarations.{version_of}
+use Rattle.bag_tags.specs.Declarations.{version_of as known_version}
 use Rattle.bag_tags.proofs.DeclarationLemmas as declarations
 use Rattle.bag_rules.specs.contracts.fault.FaultOrd.TheImpl as order
 use Rattle.bag_rules.specs.contracts.fault.FaultOrd.TheImpl.Laws as laws
 use Rattle.bag_rules.specs.declared.outcome.OutsideCause.TheVariants.{Version}
-use Rattle.bag_rules.specs.Bags.{paths_of}
+use Rattle.bag_rules.specs.Bags.{IsDeclared, paths_of, version_of}
 use Rattle.bag_rules.proofs.HasLemmas.{has_at, place_of_has}
 use Rattle.bag_rules.proofs.SameListLemmas.{asymmetric, same_list, sorted_by_key}
 use Rattle.bag_rules.proofs.TreeLemmas.{one_octets}
@@ -36,15 +36,15 @@ one_list bag faults others p q = same_list order.ghosts.cmp (asymmetric laws.law
 one_declared : (bag : Bag) (d e : Declaration) → AreRising (paths_of bag) → Declares bag d → Declares bag e → d ≡ e
 one_declared bag d e rising p q = declarations.one_declaration q.0 d e (subst (λ o. IsDeclaration o d) (one_octets bag declaration_file p.0 q.0 rising p.1 q.1) p.2) q.2
 
--- what declares this format's version and UTF-8 isn't of another
-not_version : (bag : Bag) → AreRising (paths_of bag) → Declares bag current → IsOutside bag Version → ⊥
-not_version bag rising declares other = let clash : Some V1 ≡ None = ap version_of (one_declared bag current other.0 rising declares other.1) ∙ other.2 in cc
+-- what declares a known version and UTF-8 isn't of another
+not_version : (bag : Bag) → AreRising (paths_of bag) → IsDeclared bag → IsOutside bag Version → ⊥
+not_version bag rising declared other = let clash : Some (version_of bag) ≡ None = sym declared.version_is ∙ ap known_version (one_declared bag declared.declaration other.0 rising declared.declares other.1) ∙ other.2 in cc
 
-not_encoding : (bag : Bag) → AreRising (paths_of bag) → Declares bag current → IsOutside bag Encoding → ⊥
-not_encoding bag rising declares other = let clash : true ≡ false = ap (λ (d : Declaration). d.utf8) (one_declared bag current other.0 rising declares other.1) ∙ other.3 in cc
+not_encoding : (bag : Bag) → AreRising (paths_of bag) → IsDeclared bag → IsOutside bag Encoding → ⊥
+not_encoding bag rising declared other = let clash : true ≡ false = sym declared.in_utf8 ∙ ap (λ (d : Declaration). d.utf8) (one_declared bag declared.declaration other.0 rising declared.declares other.1) ∙ other.3 in cc
 
 not_both : (bag : Bag) → AreRising (paths_of bag) → IsOutside bag Version → IsOutside bag Encoding → ⊥
-not_both bag rising v n = let clash : false ≡ true = ap is_some (sym v.2 ∙ ap version_of (one_declared bag v.0 n.0 rising v.1 n.1)) ∙ n.2 in cc
+not_both bag rising v n = let clash : false ≡ true = ap is_some (sym v.2 ∙ ap known_version (one_declared bag v.0 n.0 rising v.1 n.1)) ∙ n.2 in cc
 
 -- a bag that declares something is judged only in the profile
 in_profile : (bag : Bag) (faults : List Fault) (declaration : Declaration) → AreRising (paths_of bag) → IsJudged bag faults → Declares bag declaration → IsInProfile bag
@@ -53,7 +53,7 @@ in_profile bag faults declaration rising judged declares = judged.in_profile (de
 not_judged : (bag : Bag) (faults : List Fault) (cause : OutsideCause) → AreRising (paths_of bag) → IsJudged bag faults → IsOutside bag cause → ⊥
 not_judged bag faults Version rising judged out = not_version bag rising (in_profile bag faults out.0 rising judged out.1).declared out
 not_judged bag faults Encoding rising judged out = not_encoding bag rising (in_profile bag faults out.0 rising judged out.1).declared out
-not_judged bag faults (Algorithm name) rising judged out = (in_profile bag faults current rising judged out.0).known out.1.path (string_bytes name) out.1.there out.1.unknown
+not_judged bag faults (Algorithm name) rising judged out = (in_profile bag faults out.0.declaration rising judged out.0.declares).known out.1.path (string_bytes name) out.1.there out.1.unknown
 
 -- neither is greater, so they are the same
 neither : (x y : List ℕ) (o : Ordering) → slice_cmp nat_cmp x y ≡ o → slice_cmp nat_cmp x y ≢ Greater → slice_cmp nat_cmp y x ≢ Greater → x ≡ y

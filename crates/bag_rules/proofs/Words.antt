@@ -13,7 +13,7 @@ pub use Rattle.bag_path.proofs.AsciiLemmas.{ascii_path}
 pub use Rattle.bag_path.specs.Lines.{lines_of}
 pub use Rattle.bag_path.specs.LinesLeft.{lines_left, numbered_text}
 pub use Rattle.bag_path.specs.Paths.{is_payload}
-pub use Rattle.bag_path.specs.declared.version.Version.TheVariants.{V1}
+pub use Rattle.bag_path.specs.declared.version.Version.TheVariants.{V1, V097}
 pub use Rattle.bag_rules.specs.Bags.{Bag, declaration_file, Declares, Holds, IsBagOf, IsThere, Lists, ListsFetch, octet_count, payload_of, SaysInfo, shown_of}
 pub use Rattle.bag_rules.specs.Faults.{AreInOrder, Has, kind_of_lines, kinds_beside_lines, kinds_of_files, kinds_of_form, NoneUpTo, number_of}
 pub use Rattle.bag_rules.specs.FilesInside.{IsFaultBy, IsFaultIn, IsFetchUnlistedBy, IsFileFault, IsLongRead, IsMissing, IsMissingBy, IsOtherDigest, IsOtherLength, IsOtherOxum, IsPairMissing, IsReadBy, IsSizeOf, IsUnlistedIn, IsWrongIn, OfSome, payload_length}
