@@ -1,6 +1,7 @@
 #!/usr/bin/env python3
-"""random_bags.py PROGRAM SEED NUMBER: makes so many small bags, whole and damaged, and compares what `PROGRAM check` prints and
-answers for each with tests/reference.py. The same seed makes the same bags. A bag that is judged otherwise is kept and named.
+"""random_bags.py PROGRAM SEED NUMBER: makes so many small bags, whole and damaged, of version 1.0 and of 0.97 by turns, and
+compares what `PROGRAM check` prints and answers for each with tests/reference.py. The same seed makes the same bags. A bag that is
+judged otherwise is kept and named.
 """
 import hashlib
 import os
@@ -13,21 +14,24 @@ import tempfile
 
 import reference
 
+VERSIONS = [b"1.0", b"0.97"]
 ALGORITHMS = ["md5", "sha1", "sha256", "sha512"]
 NAMES = [name.encode() for name in [
-    "a.txt", "b", "A.TXT", "two words", "line\nend", "line end", "line!", "cr\rend", "100%.txt", "%41", "%0A", "tab\tname",
-    "trail ", " lead", "*star", "k/x", "k.txt", "k0", "deep/er/still", "\u00e9", "e\u0301", "\ufeffmark", "\u00a0gap",
-    "back\\slash", ".hidden", "...", "data", "bagit.txt", "tagmanifest-md5.txt"]]
+    "a.txt", "b", "A.TXT", "two words", "line\nend", "line end", "line!", "cr\rend", "100%.txt", "%41", "%0A", "tab\tname", "%25",
+    "%250d", "%", "%%\n", "k/%0d", "%0\n", "%2", "trail ", " lead", "*star", "k/x", "k.txt", "k0", "deep/er/still", "\u00e9",
+    "e\u0301", "\ufeffmark", "\u00a0gap", "back\\slash", ".hidden", "...", "data", "bagit.txt", "tagmanifest-md5.txt"]]
 TAG_NAMES = [name.encode() for name in [
-    "note", "notes/read me", "*star", " lead", "line\nend", "50%", "\u00e9", "datax", "Manifest-md5.txt", "manifest-.txt",
-    "manifest-a-b.txt", "tags/manifest-md5.txt", "manifest-md5.txt~", "BagIt.txt"]]
+    "note", "notes/read me", "*star", " lead", "line\nend", "50%", "50%25", "%0a", "\u00e9", "datax", "Manifest-md5.txt",
+    "manifest-.txt", "manifest-a-b.txt", "tags/manifest-md5.txt", "manifest-md5.txt~", "BagIt.txt"]]
 OTHER_ALGORITHMS = [b"sha224", b"MD5", b"sha3_256", b"zz", b"_", b"blake2b"]
+# Some are good in version 0.97.
 BAD_SPELLINGS = [
     b"", b"data", b"data/", b"/data/a", b"data//a", b"data/./a", b"data/../a", b"..", b".", b"data/a/", b"data/%41", b"data/%2",
-    b"data/%", b"data/%0", b"data/a%0g", b"data/\0", b"././data/a", b"data/" + b"n" * 4092, b"*", b"./", b"**data/a", b"%"]
+    b"data/%", b"data/%0", b"data/a%0g", b"data/%%0a", b"data/\0", b"././data/a", b"data/" + b"n" * 4092, b"*", b"./",
+    b"**data/a", b"%"]
 OTHER_PLACES = [
     b"bagit.txt", b"k", b"data/a.txt", b"tagmanifest-md5.txt", b"tagmanifest-other_1.txt", b"tagmanifest-a-b.txt",
-    b"manifest-sha256.txt", b"datax/a", b"Data/a", b"data%25", b"tags/tagmanifest-md5.txt"]
+    b"manifest-sha256.txt", b"datax/a", b"Data/a", b"data%25", b"data%0A", b"tags/tagmanifest-md5.txt"]
 BAD_URLS = [b"a.txt", b":x", b"http:", b"1a:x", b"a_b:x", b"a:\x01", b"a:\x7f", b"\xef\xbb\xbfa:x", b"\xc3\xa9:x"]
 GOOD_URLS = [
     b"http://example.org/a", b"A+b-.1:x", b"x::", b"file:%", b"a:\xc2\x85", b"a:\xe2\x80\x83b", b"a:\xc3\xa9"]
@@ -38,30 +42,64 @@ BAD_OXUMS = [
 ELEMENTS = [
     b"Contact-Name: Ada", b"Contact-Name:\tBen", b"Empty:", b"Empty: ", b"Folded: one\n two\n\t three", b"Late:\n  value",
     b"\xc3\xa9: x", b"a b: c:d", b"Payload-Oxum-Not: x", b"Spaced:   x  ", b"Gap: one\n\n two"]
+# Some are good in version 0.97.
 BAD_ELEMENTS = [
-    b"no colon", b"Label:value", b"Label : value", b": value", b":", b"\xef\xbb\xbfLabel: x", b"L\xff: x", b"a:b: c",
-    b"Label:\xc2\xa0x"]
-DECLARATION = b"BagIt-Version: 1.0\nTag-File-Character-Encoding: UTF-8\n"
-DECLARATIONS = [DECLARATION.replace(b"1.0", version) for version in [
-    b"0.97", b"1.1", b"2.0", b"01.0", b"1.00", b"1", b"1.0 ", b" 1.0", b"1.0.0", b"1.1234567890", b"999999999.0", b"1,0", b""]]
-DECLARATIONS += [DECLARATION.replace(b"UTF-8", encoding) for encoding in [
-    b"utf-8", b"Utf-8", b"ISO-8859-1", b"UTF-16", b"UTF8", b"", b"UTF-8 ", b"UTF 8", b"\xc3\xa9", b"UTF\xff8"]]
-DECLARATIONS += [
-    b"", b"\n", b"BagIt-Version: 1.0", b"BagIt-Version: 1.0\n \n", DECLARATION + b"\n", b"\n" + DECLARATION,
-    DECLARATION[:-1], b"\xef\xbb\xbf" + DECLARATION, DECLARATION.lower(), DECLARATION.replace(b": 1", b":1"),
-    DECLARATION.replace(b": 1", b":  1"), DECLARATION.replace(b"1.0", b"0.97").replace(b"UTF-8", b"ISO-8859-1"),
-    b"Tag-File-Character-Encoding: UTF-8\nBagIt-Version: 1.0\n", DECLARATION.replace(b"\n", b"\n\n", 1)]
+    b"no colon", b"no colon", b"Label:value", b"Label : value", b": value", b":", b":x", b"\xef\xbb\xbfLabel: x", b"L\xff: x",
+    b"\xef\xbb\xbf : x", b"a:b: c", b"a\t:b", b"Label:\xc2\xa0x", b"Label\xc2\xa0:x"]
+OTHER_VERSIONS = [
+    b"0.96", b"0.98", b"0.9", b"1.97", b"1.1", b"2.0", b"0.970", b"01.0", b"00.97", b"1.00", b"0.097", b"1", b"97", b"1.0 ",
+    b" 0.97", b"1.0.0", b"0.97.0", b"1.1234567890", b"999999999.0", b"1,0", b""]
+OTHER_ENCODINGS = [
+    b"utf-8", b"Utf-8", b"ISO-8859-1", b"UTF-16", b"UTF8", b"", b"UTF-8 ", b"UTF 8", b"\xc3\xa9", b"UTF\xff8"]
 OCTETS = [bytes([octet]) for octet in b" \t\r\n%*./:-0129aAfFgd\0\xff\x7f\x85"]
 OCTETS += [b"\xc3\xa9", b"\xef\xbb\xbf", b"\xc2\xa0", b"\xed\xa0\x80"]
+
+
+def declaration(version, encoding=b"UTF-8"):
+    return b"BagIt-Version: " + version + b"\nTag-File-Character-Encoding: " + encoding + b"\n"
+
+
+def declarations(version):
+    """Those of other versions and encodings, and what declares nothing."""
+    first, second = declaration(version).splitlines(True)
+    both = first + second
+    return [declaration(other) for other in VERSIONS * 2 + OTHER_VERSIONS] + [
+        declaration(version, encoding) for encoding in OTHER_ENCODINGS] + [
+        declaration(other, encoding) for other in [b"0.96", *VERSIONS] for encoding in [b"ISO-8859-1", b"utf-8"]] + [
+        b"\xef\xbb\xbf" + both] * 3 + [
+        b"", b"\n", first[:-1], first + b" \n", both + b"\n", b"\n" + both, both[:-1], both.lower(), second + first,
+        first + b"\n" + second] + [
+        both.replace(b": ", other, 1) for other in [b":", b":  ", b" : "]]
 
 
 def sometimes(rng, percent):
     return rng.randrange(100) < percent
 
 
-def spelled(rng, path):
-    escapes = {b"%": [b"%25"], b"\n": [b"%0A", b"%0a"], b"\r": [b"%0D", b"%0d"]}
+def has_spelling(path, version):
+    return version == b"1.0" or not re.search(b"%0[AaDd]", path)
+
+
+def spelled(rng, path, version):
+    """The path's spelling in the version, and now and then that of the other version."""
+    percent = b"%25" if (version == b"1.0") != sometimes(rng, 4) else b"%"
+    escapes = {b"%": [percent], b"\n": [b"%0A", b"%0a"], b"\r": [b"%0D", b"%0d"]}
     return re.sub(rb"[%\n\r]", lambda found: rng.choice(escapes[found[0]]), path)
+
+
+def colon(rng, version):
+    """What stands between a label and a value."""
+    if sometimes(rng, 3 if version == b"1.0" else 60):
+        return rng.choice([b":", b" : ", b"\t:", b" \t:\t ", b":  ", b":\t\t"])
+    return rng.choice([b": ", b": ", b":\t"])
+
+
+def holders(rng, version, number):
+    """Which of so many payload manifests list a path, by their places: in 1.0 all, in 0.97 some, and now and then none."""
+    if sometimes(rng, 97 if version == b"1.0" else 35):
+        return range(number)
+    least = 0 if sometimes(rng, 20) else 1
+    return rng.sample(range(number), rng.randint(least, number))
 
 
 def joined(rng, lines):
@@ -82,28 +120,25 @@ def content(rng):
     return octets * rng.choice([1, 1, 1, 1, 8000, 16384]) if sometimes(rng, 10) else octets
 
 
-def manifest_line(rng, digest, path):
+def manifest_line(rng, digest, path, version):
     digest = rng.choice([str.lower, str.lower, str.upper, str.capitalize])(digest).encode()
     before = rng.choice([b"  "] * 4 + [b" ", b"\t", b" \t  ", b" *", b"  ./", b"\t*./"])
     if path[:1] in (b" ", b"\t", b"*"):
         before = rng.choice([b"  ./", b" *./"])
-    return digest + before + spelled(rng, path)
+    return digest + before + spelled(rng, path, version)
 
 
 class Bag:
     """A bag in memory: the octets of its files, its directories without files, and what no bag can hold."""
 
-    def __init__(self, rng):
-        self.rng = rng
-        self.files, self.directories, self.specials = {b"bagit.txt": DECLARATION}, [b"data"], {}
-        self.lists = {}
+    def __init__(self, rng, version):
+        self.rng, self.version = rng, version
+        self.files, self.directories, self.specials = {b"bagit.txt": declaration(version)}, [b"data"], {}
         for name in rng.sample(NAMES, rng.choice([0, 1, 1, 2, 2, 3, 5])):
             self.files[b"data/" + name] = content(rng)
         for name in rng.sample(TAG_NAMES, rng.choice([0, 0, 0, 1, 2])):
             self.files[name] = content(rng)
-        some = rng.sample(ALGORITHMS, rng.choice([1, 1, 1, 2, 2, 3, 4]))
-        payload = self.payload()
-        self.manifests(some, b"manifest-%s.txt", payload)
+        self.payload_manifests(rng.sample(ALGORITHMS, rng.choice([1, 1, 1, 2, 2, 3, 4])))
         if sometimes(rng, 50):
             self.info()
         if sometimes(rng, 35):
@@ -112,15 +147,21 @@ class Bag:
     def payload(self):
         return [path for path in self.files if path.startswith(b"data/")]
 
-    def manifests(self, some, form, paths):
-        made = {}
-        for algorithm in some:
-            lines = []
-            for path in self.rng.sample(paths, len(paths)):
+    def manifest(self, algorithm, paths):
+        lines = []
+        for path in self.rng.sample(paths, len(paths)):
+            if has_spelling(path, self.version) or sometimes(self.rng, 30):
                 digest = hashlib.new(algorithm, self.files[path]).hexdigest()
-                lines.append(manifest_line(self.rng, digest, path))
-            made[form % algorithm.encode()] = joined(self.rng, lines)
-        self.files.update(made)
+                lines.append(manifest_line(self.rng, digest, path, self.version))
+        return joined(self.rng, lines)
+
+    def payload_manifests(self, some):
+        lists = [[] for _ in some]
+        for path in self.payload():
+            for place in holders(self.rng, self.version, len(some)):
+                lists[place].append(path)
+        for algorithm, paths in zip(some, lists):
+            self.files[b"manifest-%s.txt" % algorithm.encode()] = self.manifest(algorithm, paths)
 
     def tag_manifests(self):
         """They list every tag file that is there, sometimes but the payload manifests, and sometimes some."""
@@ -130,7 +171,8 @@ class Bag:
             tags = rng.sample(tags, rng.randrange(len(tags) + 1))
         elif sometimes(rng, 30):
             tags = [path for path in tags if path.startswith(b"manifest-")]
-        self.manifests(rng.sample(ALGORITHMS, rng.choice([0, 0, 1, 1, 2])), b"tagmanifest-%s.txt", tags)
+        for algorithm in rng.sample(ALGORITHMS, rng.choice([0, 0, 1, 1, 2])):
+            self.files[b"tagmanifest-%s.txt" % algorithm.encode()] = self.manifest(algorithm, tags)
 
     def oxum(self):
         """The right one."""
@@ -139,15 +181,16 @@ class Bag:
 
     def info(self):
         rng = self.rng
-        elements = rng.sample(ELEMENTS, rng.randrange(4))
+        elements = [re.sub(rb":[ \t]?", lambda _: colon(rng, self.version), element, count=1)
+                    for element in rng.sample(ELEMENTS, rng.randrange(4))]
         label = rng.choice([b"Payload-Oxum"] * 3 + [b"payload-oxum", b"PAYLOAD-OXUM"])
         value = rng.choice([b"%s"] * 4 + [b" %s\t", b"%s ", b"00%s", b"%s\x0c", b"\n %s"]) % self.oxum()
         if sometimes(rng, 15):
             value = rng.choice(BAD_OXUMS + [b"18446744073709551615.0", b"0.0", b"7." + value[-1:], value[:-1] + b"9"])
         if sometimes(rng, 70):
-            elements.insert(rng.randrange(len(elements) + 1), label + b": " + value)
+            elements.insert(rng.randrange(len(elements) + 1), label + colon(rng, self.version) + value)
         if sometimes(rng, 5):
-            elements.append(b"Payload-Oxum: " + rng.choice([value, self.oxum(), b"x", b"1.1"]))
+            elements.append(b"Payload-Oxum" + colon(rng, self.version) + rng.choice([value, self.oxum(), b"x", b"1.1"]))
         if sometimes(rng, 12):
             elements.insert(rng.randrange(len(elements) + 1), rng.choice(BAD_ELEMENTS))
         if sometimes(rng, 3):
@@ -162,7 +205,7 @@ class Bag:
             path = rng.choice(paths)
             length = rng.choice([b"-", b"%d" % len(self.files.get(path, b"")), b"%03d" % len(self.files.get(path, b""))])
             url, gap = rng.choice(GOOD_URLS), rng.choice([b" ", b"  ", b"\t"])
-            spelling = spelled(rng, path)
+            spelling = spelled(rng, path, self.version)
             if sometimes(rng, 18):
                 length = rng.choice(BAD_LENGTHS + [b"1", b"2", b"4", b"18446744073709551615"] * 4)
             if sometimes(rng, 8):
@@ -233,7 +276,6 @@ class Bag:
         digest, _, rest = line.partition(b" ")
         ways = [
             lambda: b"",
-            lambda: line.rstrip(b"\r\n") + b"\n" + line,
             lambda: digest[1:] + b" " + rest,
             lambda: b"0" + line,
             lambda: b"g" + line[1:],
@@ -246,6 +288,7 @@ class Bag:
             lambda: digest + rng.choice([b"\xc2\xa0", b"\x0b", b"\x0c", b"\xe2\x80\x83"]) + rest,
             lambda: digest + b"  data/" + rng.choice(NAMES[:4]) + b"\n",
         ] + [
+            lambda: line.rstrip(b"\r\n") + b"\n" + line,
             lambda: digest + b"  " + rng.choice(BAD_SPELLINGS) + b"\n",
             lambda: digest + b"  " + rng.choice(OTHER_PLACES) + b"\n",
         ] * 3
@@ -262,11 +305,11 @@ class Bag:
 
     def declare(self):
         """Another declaration, or none, or one with another ending."""
-        ended = DECLARATION.replace(b"\n", self.rng.choice([b"\r", b"\r\n"]))
-        declaration = self.rng.choice([self.rng.choice(DECLARATIONS), None, ended])
+        ended = declaration(self.version).replace(b"\n", self.rng.choice([b"\r", b"\r\n"]))
+        declared = self.rng.choice([self.rng.choice(declarations(self.version))] * 3 + [None, ended])
         self.files.pop(b"bagit.txt", None)
-        if declaration is not None:
-            self.files[b"bagit.txt"] = declaration
+        if declared is not None:
+            self.files[b"bagit.txt"] = declared
 
     def drop_payload_directory(self):
         self.directories = [path for path in self.directories if path != b"data"]
@@ -310,14 +353,14 @@ class Bag:
 
 
 DAMAGES = [Bag.drop_file] * 4 + [Bag.add_file] * 3 + [Bag.change_file] * 5 + [Bag.rename_file] * 3 + [Bag.swap_files] * 2 + [
-    Bag.copy_manifest] * 2 + [Bag.damage_line] * 8 + [Bag.damage_octet] * 8 + [Bag.declare] * 3 + [
+    Bag.copy_manifest] * 2 + [Bag.damage_line] * 8 + [Bag.damage_octet] * 8 + [Bag.declare] * 4 + [
     Bag.drop_payload_directory, Bag.drop_payload, Bag.drop_manifests, Bag.empty_manifest, Bag.put_directory, Bag.put_special]
 
 
 def made(seed, number):
     """The bag of this number. Damage done before the tag manifests are written agrees with them."""
     rng = random.Random(f"{seed} {number}")
-    bag = Bag(rng)
+    bag = Bag(rng, VERSIONS[number % 2])
     damages = [rng.choice(DAMAGES) for _ in range(rng.choice([0, 1, 1, 1, 2, 2, 3, 4]))]
     early = [sometimes(rng, 50) for _ in damages]
     for damage, now in zip(damages, early):
@@ -339,7 +382,7 @@ def shape(line):
 
 
 def shapes():
-    """Every kind of line that is printed where a folder is checked, but for the limits."""
+    """Every kind of line that is printed where a folder is checked, but for the limits. Each comes for each version."""
     manifest = ["not UTF-8", "separator", "digest form", "path", "wrong place", "twice"]
     causes = {
         "bag-info.txt": ["not UTF-8", "nothing to continue", "separator", "label"],
@@ -358,12 +401,13 @@ def shapes():
 
 
 def main(program, seed, number):
-    counts = dict.fromkeys(shapes(), 0)
+    counts = {(line, version): 0 for line in shapes() for version in VERSIONS}
     work = tempfile.mkdtemp()
     folder = os.path.join(work, "bag")
     judged = 0
     for i in range(number):
-        made(seed, i).write(os.fsencode(folder))
+        bag = made(seed, i)
+        bag.write(os.fsencode(folder))
         lines, status = reference.check(os.fsencode(folder))
         command = [program, "check", folder]
         ran = subprocess.run(command, stdin=subprocess.DEVNULL, capture_output=True, timeout=60, check=False)
@@ -375,11 +419,12 @@ def main(program, seed, number):
             return 1
         judged += 1
         for line in lines:
-            counts[shape(line)] = counts.get(shape(line), 0) + 1
+            kind = shape(line), bag.version
+            counts[kind] = counts.get(kind, 0) + 1
         shutil.rmtree(folder)
     os.rmdir(work)
-    never = [line for line, count in counts.items() if count == 0]
-    print("\n".join([f"{judged} bags: all judged alike"] + [f"never printed: {line}" for line in never]))
+    never = [f"never printed for a bag of {version.decode()}: {line}" for (line, version), count in counts.items() if count == 0]
+    print("\n".join([f"{judged} bags: all judged alike"] + never))
     return 1 if never or judged == 0 else 0
 
 

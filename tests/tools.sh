@@ -129,5 +129,5 @@ manifest-sha256.txt: digest: data/a.txt
 manifest-sha512.txt: digest: data/a.txt
 complete, not valid" ./bag check "$work/whole"
 
-expect 'random bags' 0 '2000 bags: all judged alike' python3 -B tests/random_bags.py crates/bag_cmd/out/bag_cmd 1 2000
+expect 'random bags' 0 '4000 bags: all judged alike' python3 -B tests/random_bags.py crates/bag_cmd/out/bag_cmd 1 4000
 finish
