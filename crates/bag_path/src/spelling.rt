@@ -2,7 +2,7 @@
 ghost use Rattle.std.specs.Prelude.{◌≡◌, ◌⊎◌, ◌<◌, ◌∷◌, ℕ, List, [], Some, None, Ok, Err, IfOk, IfErr, MatchOption, take, drop, encode_utf8, string_bytes};
 ghost use Rattle.std.specs.Fmt.{WritesOnOk};
 ghost use Rattle.bag_path.specs.Paths.{IsPath};
-ghost use Rattle.bag_path.specs.SpellingReading.{octet_of_escape, octets_spelled};
+ghost use Rattle.bag_path.specs.SpellingReading.{octet_of_escape, octet_of_percent, octets_spelled, taken_by};
 ghost use Rattle.bag_path.specs.Spellings.{Spells, SpellsNothing, RefusesSpelling, written_spelling};
 
 use crate::path::{BagPath, PathFault};
@@ -80,7 +80,7 @@ fn octets_spelled(alloc: Global, text: &str, version: Version) -> Result<String,
     let mut rest = text;
     while let Some((before, after)) = rest.split_once('%') {
         octets.push_str(before)?;
-        let Some((octet, after)) = split_escape(after, version) else {
+        let Some((octet, after)) = split_percent(after, version) else {
             return Err(PathFault::BadEscape);
         };
         octets.push(octet)?;
@@ -90,18 +90,29 @@ fn octets_spelled(alloc: Global, text: &str, version: Version) -> Result<String,
     Ok(octets)
 }
 
-/// The octet that `%` before a text stands for, and what follows its escape.
-fn split_escape(text: &str, version: Version) -> Option<(char, &str)>
-    ensures { let octet = octet_of_escape version (take 2 text.now) in
-        MatchOption result (octet ≡ None)
-        (λ split. (octet ≡ Some split.0) × (split.1.now ≡ drop 2 text.now) × (split.0 < 128)) }
+/// The octet that `%` before a text stands for, and what follows the `%` and its escape.
+fn split_percent(text: &str, version: Version) -> Option<(char, &str)>
+    ensures { let escape = octet_of_escape version (take 2 text.now) in
+        MatchOption result (octet_of_percent version escape ≡ None)
+        (λ split. (octet_of_percent version escape ≡ Some split.0)
+        × (split.1.now ≡ drop (taken_by escape) text.now) × (split.0 < 128)) }
+{
+    match (escape_before(text, version), version) {
+        (Some(octet), _) => Some((octet, &text[2..])),
+        (None, Version::V1) => None,
+        (None, Version::V097) => Some(('%', text)),
+    }
+}
+
+/// The octet of the escape that `%` begins before a text.
+fn escape_before(text: &str, version: Version) -> Option<char>
+    ensures { result ≡ octet_of_escape version (take 2 text.now) }
 {
     let octets = text.as_bytes();
     if octets.len() < 2 {
         return None;
     }
-    let octet = octet_of_escape(octets[0], octets[1], version)?;
-    Some((octet, &text[2..]))
+    octet_of_escape(octets[0], octets[1], version)
 }
 
 /// The octet that `%` and two octets stand for.
@@ -110,8 +121,8 @@ fn octet_of_escape(first: u8, second: u8, version: Version) -> Option<char>
 {
     match (version, first, second) {
         (Version::V1, b'2', b'5') => Some('%'),
-        (Version::V1, b'0', b'A' | b'a') => Some('\n'),
-        (Version::V1, b'0', b'D' | b'd') => Some('\r'),
+        (Version::V1 | Version::V097, b'0', b'A' | b'a') => Some('\n'),
+        (Version::V1 | Version::V097, b'0', b'D' | b'd') => Some('\r'),
         _ => None,
     }
 }
