@@ -38,14 +38,15 @@ GOOD_URLS = [
 BAD_LENGTHS = [b"x", b"--", b"-1", b"+1", b"1.0", b"18446744073709551616", b"0x1", b"\xd9\xa1"]
 BAD_OXUMS = [
     b"", b"3", b".", b"3.", b".2", b"3.2.1", b"-3.2", b"3 .2", b"3,2", b"x.y", b"18446744073709551616.1",
-    b"1.99999999999999999999", b"\xd9\xa1.1", b"3.2\n 1", b"0x1.1", b"3.2\xc2\xa0"]
+    b"1.99999999999999999999", b"\xd9\xa1.1", b"3.2\n 1", b"0x1.1", b"3.2\xc2\xa0", b"3.2:", b"3.2 : x"]
 ELEMENTS = [
     b"Contact-Name: Ada", b"Contact-Name:\tBen", b"Empty:", b"Empty: ", b"Folded: one\n two\n\t three", b"Late:\n  value",
-    b"\xc3\xa9: x", b"a b: c:d", b"Payload-Oxum-Not: x", b"Spaced:   x  ", b"Gap: one\n\n two"]
+    b"\xc3\xa9: x", b"a b: c:d", b"Payload-Oxum-Not: x", b"Payload-Oxum\xc2\xa0: x", b"Payload-Oxum\x0c: x",
+    b"x: Payload-Oxum: x", b"Spaced:   x  ", b"Gap: one\n\n two"]
 # Some are good in version 0.97.
 BAD_ELEMENTS = [
-    b"no colon", b"no colon", b"Label:value", b"Label : value", b": value", b":", b":x", b"\xef\xbb\xbfLabel: x", b"L\xff: x",
-    b"\xef\xbb\xbf : x", b"a:b: c", b"a\t:b", b"Label:\xc2\xa0x", b"Label\xc2\xa0:x"]
+    b"no colon", b"no colon", b"Label:value", b"Label : value", b": value", b":", b":x", b":a: b", b"\xef\xbb\xbfLabel: x",
+    b"L\xff: x", b"\xef\xbb\xbf : x", b"a:b: c", b"a\t:b", b"Label:\xc2\xa0x", b"Label\xc2\xa0:x"]
 OTHER_VERSIONS = [
     b"0.96", b"0.98", b"0.9", b"1.97", b"1.1", b"2.0", b"0.970", b"01.0", b"00.97", b"1.00", b"0.097", b"1", b"97", b"1.0 ",
     b" 0.97", b"1.0.0", b"0.97.0", b"1.1234567890", b"999999999.0", b"1,0", b""]

@@ -154,6 +154,15 @@ def manifests_0_97():
          complete(f"{first}: digest: data/a.txt")),
         ("a missing file that one of two lists", {b"manifest-md5.txt": E_MD5 + b"  data/z\n"},
          not_complete(f"{first}: missing: data/z")),
+        ("both digests are wrong", {b"manifest-md5.txt": E_MD5 + b"  data/a.txt\n",
+                                    b"manifest-sha256.txt": E_SHA256 + b"  data/a.txt\n" + other},
+         complete(f"{first}: digest: data/a.txt", "manifest-sha256.txt: digest: data/a.txt")),
+        ("a missing file that two list", {b"manifest-md5.txt": BOTH_BY_MD5, b"data/a.txt": None},
+         not_complete(f"{first}: missing: data/a.txt", "manifest-sha256.txt: missing: data/a.txt")),
+        ("an unlisted file, which counts for the Oxum", {b"data/z": b"", b"bag-info.txt": b"Payload-Oxum: 3.3"},
+         not_complete("manifest-sha256.txt: unlisted: data/z")),
+        ("stars and dots", {b"manifest-md5.txt": b"", b"manifest-sha256.txt": A_SHA256.upper() + b"\t*./data/a.txt\r\n" + other},
+         VALID),
         ("a line more", {b"manifest-md5.txt": one + b"?"}, not_complete(f"{first}:2: separator")),
         ("an unknown algorithm", {b"manifest-sha224.txt": b""}, outside("algorithm sha224")),
         ("no manifest", {b"manifest-sha256.txt": None}, not_complete("no payload manifest")),
@@ -178,6 +187,7 @@ def infos_0_97():
         (b":v", label, separator),
         (b": v", label, label),
         (b":", label, label),
+        (b": L : v", label, label),
         (MARK + MARK + b" : v", label, label),
         (b" : v", nothing, nothing),
         (b"L", separator, separator),
@@ -187,6 +197,8 @@ def infos_0_97():
         (b"Payload-Oxum\t:\t 4.2", wrong, label),
         (b"Payload-Oxum:3", form, separator),
         (b"Payload-Oxum:\n 3.2", form, form),
+        (b"Payload-Oxum: 3.2 : x", form, form),
+        (b"x: Payload-Oxum: 8.8", VALID, VALID),
         (b"Payload-Oxum : 3.2\nPayload-Oxum:3.2", repeated, label),
         (b"Payload-Oxum\xc2\xa0: 8.8\nPayload- Oxum: 8.8", VALID, VALID),
     ]:
@@ -195,34 +207,42 @@ def infos_0_97():
 
 
 def paths_0_97():
-    """Payload files without an octet, and how a manifest spells them."""
-    missing, unlisted = "manifest-sha256.txt: missing: data/", "manifest-sha256.txt: unlisted: data/"
-    for name, spelling, answer in [
-        (b"%", b"%", VALID),
-        (b"%25", b"%25", VALID),
-        (b"%41", b"%41", VALID),
-        (b"%0", b"%0", VALID),
-        (b"\n", b"%0A", VALID),
-        (b"\n", b"%0a", VALID),
-        (b"\r", b"%0D", VALID),
-        (b"\r", b"%0d", VALID),
-        (b"%\n", b"%%0a", VALID),
-        (b"%0\r", b"%0%0d", VALID),
-        (b"%250A", b"%250A", VALID),
-        (b"%0g", b"%0g", VALID),
-        (b"%", b"%25", not_complete(missing + "%2525", unlisted + "%25")),
-        (b"%0A", b"%0A", not_complete(missing + "%0A", unlisted + "%250A")),
-        (b"%0d", b"%250d", not_complete(missing + "%25250d", unlisted + "%250d")),
-        (b"k", b"../%25", not_complete("manifest-sha256.txt:3: path")),
-        (b"k", b"%0a/", not_complete("manifest-sha256.txt:3: path")),
+    """A payload file without octets, how the manifest spells its path, and the answers for versions 0.97 and 1.0."""
+    path = not_complete("manifest-sha256.txt:3: path")
+
+    def other(spelled, printed):
+        return not_complete(f"manifest-sha256.txt: missing: data/{spelled}", f"manifest-sha256.txt: unlisted: data/{printed}")
+
+    for name, spelling, answer, before in [
+        (b"%", b"%", VALID, path),
+        (b"%0", b"%0", VALID, path),
+        (b"%0g", b"%0g", VALID, path),
+        (b"%41", b"%41", VALID, path),
+        (b"%25", b"%25", VALID, other("%25", "%2525")),
+        (b"%250A", b"%250A", VALID, other("%250A", "%25250A")),
+        (b"\n", b"%0A", VALID, VALID),
+        (b"\n", b"%0a", VALID, VALID),
+        (b"\r", b"%0D", VALID, VALID),
+        (b"\r", b"%0d", VALID, VALID),
+        (b"%\n", b"%%0a", VALID, path),
+        (b"%0\r", b"%0%0d", VALID, path),
+        (b"%", b"%25", other("%2525", "%25"), VALID),
+        (b"%0A", b"%0A", other("%0A", "%250A"), other("%0A", "%250A")),
+        (b"%0d", b"%250d", other("%25250d", "%250d"), VALID),
+        (b"k", b"../%25", path, path),
+        (b"k", b"%0a/", path, path),
     ]:
-        text = MANIFEST + E_SHA256 + b"  data/" + spelling + b"\n"
-        yield f"version 0.97: {name}, spelled {spelling}", tags_0_97({b"data/" + name: b"", b"manifest-sha256.txt": text}), answer
+        files = {b"data/" + name: b"", b"manifest-sha256.txt": MANIFEST + E_SHA256 + b"  data/" + spelling}
+        yield f"version 0.97: {name}, spelled {spelling}", tags_0_97(files), answer
+        yield f"version 1.0: {name}, spelled {spelling}", tags(files), before
+
+
+def repeats_0_97():
     twice = not_complete("manifest-sha256.txt:4: twice")
-    for spellings, answer in [((b"%0A", b"%0a"), twice), ((b"%25", b"%25"), twice), ((b"%", b"%25"), VALID)]:
-        text = MANIFEST + b"".join(E_SHA256 + b"  data/" + spelling + b"\n" for spelling in spellings)
-        files = {b"manifest-sha256.txt": text, b"data/%": b"", b"data/%25": b""}
-        yield f"version 0.97: a manifest with {spellings}", tags_0_97(files), answer
+    for one, other, answer in [(b"%0A", b"%0a", twice), (b"%25", b"%25", twice), (b"%", b"%25", VALID)]:
+        lines = E_SHA256 + b"  data/" + one + b"\n" + E_SHA256 + b"  data/" + other
+        files = {b"manifest-sha256.txt": MANIFEST + lines, b"data/%": b"", b"data/%25": b""}
+        yield f"version 0.97: a manifest with {one} and {other}", tags_0_97(files), answer
 
 
 def tag_manifests_0_97():
@@ -289,5 +309,5 @@ def limits():
 
 if __name__ == "__main__":
     FAMILIES = (declarations, manifests, payloads, infos, tag_manifests, fetches, several_tag_files, limits,
-                manifests_0_97, infos_0_97, paths_0_97, tag_manifests_0_97, fetches_0_97)
+                manifests_0_97, infos_0_97, paths_0_97, repeats_0_97, tag_manifests_0_97, fetches_0_97)
     sys.exit(judged(sys.argv[1], "small", FAMILIES))
