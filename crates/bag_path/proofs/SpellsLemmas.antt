@@ -45,7 +45,7 @@ escape_begun x text h =
     let cut : x ∷ text ≡ 37 ∷ p.0 ∷ p.1 ∷ h.1 = h.3 ∙ ap (λ part. part ++ h.1) p.2 in
     (h.2, ap (λ text. get_or text 0 0) cut, ap (λ text. octet_of_escape V097 (take 2 (drop 1 text))) cut ∙ p.3)
 
-begun : (text : List ℕ) (octet : ℕ) → octet_of_escape V097 (take 2 text) ≡ Some octet → BeginsLineEscape (37 ∷ text)
+pub begun : (text : List ℕ) (octet : ℕ) → octet_of_escape V097 (take 2 text) ≡ Some octet → BeginsLineEscape (37 ∷ text)
 begun text octet e = (37 ∷ take 2 text, drop 2 text, octet, ap (λ text. 37 ∷ text) (take-two text), line_code_stands (take 2 text) octet (line_code_if_escaped (take 2 text) octet e))
 
 plain_stands : (version : Version) (octet : ℕ) (rest : List ℕ) → octet ≢ 37 → StandsFor version (octet ∷ []) octet rest

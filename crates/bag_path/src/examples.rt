@@ -1,12 +1,12 @@
 //! Telling cases of the definitions, worked out: each function's contract is one, and its body is empty.
-ghost use Rattle.std.specs.Prelude.{◌≡◌, ℕ, [], ◌∷◌, ◌++◌, Some, codes, replicate, true, false};
+ghost use Rattle.std.specs.Prelude.{◌≡◌, ℕ, List, [], ◌∷◌, ◌++◌, Some, codes, replicate, true, false};
 ghost use Rattle.bag_path.specs.Lines.{HasLines, line};
 ghost use Rattle.bag_path.specs.Octets.{lf, cr};
 ghost use Rattle.bag_path.specs.Paths.{IsPath, path_fault, is_payload};
 ghost use Rattle.bag_path.specs.Spellings.{Spells, SpellsNothing, written_spelling};
 ghost use Rattle.bag_path.specs.declared.lines.Ending.TheVariants.{Lf, Cr, CrLf, Nothing};
 ghost use Rattle.bag_path.specs.declared.path.PathFault.TheVariants.{Empty, TooLong, EmptySegment, DotSegment, PayloadRoot};
-ghost use Rattle.bag_path.specs.declared.version.Version.TheVariants.{V1};
+ghost use Rattle.bag_path.specs.declared.version.Version.TheVariants.{V1, V097};
 
 /// A line ends at LF, CR or CR LF, and the last may end with the octets (RFC 8493 section 2.3).
 pub fn lines_end_at_lf_cr_and_cr_lf()
@@ -37,6 +37,34 @@ pub fn other_escapes_spell_nothing()
     ensures { SpellsNothing V1 (codes "data/%41")
         × SpellsNothing V1 (codes "data/%2")
         × SpellsNothing V1 (codes "100%") }
+{}
+
+/// In version 0.97 `%` stands for itself, also before `25`, before `%` and at the end of the text.
+pub fn percent_stands_for_itself_in_version_097()
+    ensures { Spells V097 (codes "data/%41") (codes "data/%41")
+        × Spells V097 (codes "data/%25") (codes "data/%25")
+        × Spells V097 (codes "data/%%0%") (codes "data/%%0%") }
+{}
+
+/// In version 0.97 the escapes of LF and CR are those of version 1.0, in either case, also after a `%` that is none.
+pub fn line_ends_are_escaped_in_version_097()
+    ensures { Spells V097 (codes "data/" ++ lf ∷ []) (codes "data/%0a")
+        × Spells V097 (codes "data/" ++ lf ∷ cr ∷ cr ∷ []) (codes "data/%0A%0D%0d")
+        × Spells V097 (codes "%" ++ lf ∷ codes "0A") (codes "%%0A0A") }
+{}
+
+/// In version 0.97 a name that has a literal escape of LF can't be spelled; in version 1.0 it can.
+pub fn a_literal_line_escape_has_no_spelling_in_version_097()
+    ensures { ((text : List ℕ) → ¬ Spells V097 (codes "data/%0A") text)
+        × ((text : List ℕ) → ¬ Spells V097 (codes "data/%0dk") text)
+        × Spells V1 (codes "data/%0A") (codes "data/%250A") }
+{}
+
+/// What is written is of version 1.0, in whatever version the path was read.
+pub fn paths_of_version_097_are_written_in_version_1()
+    ensures { (written_spelling (codes "data/%41") ≡ codes "data/%2541")
+        × (written_spelling (codes "data/%25") ≡ codes "data/%2525")
+        × (written_spelling (codes "data/" ++ lf ∷ []) ≡ codes "data/%0A") }
 {}
 
 /// Segments that are empty, `.` or `..` make no path, nor does the payload directory's own name.

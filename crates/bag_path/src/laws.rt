@@ -1,13 +1,13 @@
 //! Laws on the definitions that the contracts of this crate cite. Each function's contract is one law, and its body is empty.
-ghost use Rattle.std.specs.Prelude.{◌≡◌, ◌↔◌, ℕ, List, All, Some, None, map};
+ghost use Rattle.std.specs.Prelude.{◌≡◌, ◌≢◌, ◌↔◌, ◌++◌, ℕ, List, All, Some, None, map};
 ghost use Rattle.std.specs.Str.{IsUtf8};
 ghost use Rattle.bag_path.specs.Lines.{HasLines, IsPlain, Text, line, lines_of, written_lines};
 ghost use Rattle.bag_path.specs.Paths.{IsPath, path_fault};
 ghost use Rattle.bag_path.specs.SpellingReading.{octets_spelled};
-ghost use Rattle.bag_path.specs.Spellings.{Spells, written_spelling};
+ghost use Rattle.bag_path.specs.Spellings.{IsLineEscape, Spells, written_spelling};
 ghost use Rattle.bag_path.specs.declared.lines.Ending.TheVariants.{Lf};
 ghost use Rattle.bag_path.specs.declared.version.Version.{Version};
-ghost use Rattle.bag_path.specs.declared.version.Version.TheVariants.{V1};
+ghost use Rattle.bag_path.specs.declared.version.Version.TheVariants.{V1, V097};
 
 /// A text is a path exactly if it has none of the faults.
 pub fn a_path_has_no_fault()
@@ -28,6 +28,23 @@ pub fn what_is_written_spells_its_path()
 /// What is written for a path has no LF and no CR, so that it stays on its line.
 pub fn what_is_written_has_no_line_end()
     ensures { (path : List ℕ) → All IsPlain (written_spelling path) }
+{}
+
+/// In version 0.97 every text spells some octets.
+pub fn every_text_spells_octets_in_version_097()
+    ensures { (text : List ℕ) → (path : List ℕ) × Spells V097 path text }
+{}
+
+/// In version 0.97 no text spells a path in which an escape of LF or CR stands.
+pub fn a_path_with_a_line_escape_has_no_spelling_in_version_097()
+    ensures { (before part after text : List ℕ) (octet : ℕ) → IsLineEscape part octet
+        → ¬ Spells V097 (before ++ part ++ after) text }
+{}
+
+/// In version 0.97 every other path spells itself.
+pub fn other_paths_spell_themselves_in_version_097()
+    ensures { (path : List ℕ) → ((before part after : List ℕ) (octet : ℕ)
+        → IsLineEscape part octet → path ≢ (before ++ part ++ after)) → Spells V097 path path }
 {}
 
 /// The octets that are read from a text are those that it spells.

@@ -14,7 +14,7 @@ use std::fmt::{self, Display, Formatter, Write};
 ///
 /// # Errors
 ///
-/// `BadEscape` where a `%` begins no escape of the version; else the first fault of the octets that the text spells, as
+/// `BadEscape` where a `%` begins no escape in version 1.0, and never in version 0.97; else the first fault of the octets that the text spells, as
 /// [`BagPath::parse`] answers it; or `Memory`.
 pub fn unescape(alloc: Global, text: &str, version: Version) -> Result<BagPath, PathFault>
     ensures path { IfOk result (λ path. Spells version path text.now × IsPath path) }
@@ -28,7 +28,7 @@ pub fn unescape(alloc: Global, text: &str, version: Version) -> Result<BagPath, 
 }
 
 /// A path as its spelling is written: LF is `%0A`, CR is `%0D`, `%` is `%25`, and nothing else changes (RFC 8493 section
-/// 2.1.3). [`unescape`] answers the path again.
+/// 2.1.3). [`unescape`] answers the path again in version 1.0, in which it is written.
 #[derive(Clone, Copy)]
 pub struct Spelling<'a>(pub &'a BagPath);
 

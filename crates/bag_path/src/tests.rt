@@ -102,6 +102,52 @@ fn spellings_and_what_is_written_for_their_paths(rt: HostRuntime) -> Result<(), 
 }
 
 #[test]
+fn spellings_of_version_097_and_what_is_written_for_their_paths(
+    rt: HostRuntime,
+) -> Result<(), Fail> {
+    for (text, path, written) in [
+        ("data/%41", "data/%41", "data/%2541"),
+        ("data/%25", "data/%25", "data/%2525"),
+        ("data/%0a", "data/\n", "data/%0A"),
+        ("data/%0d%0D%0A", "data/\r\r\n", "data/%0D%0D%0A"),
+        ("data/%250A", "data/%250A", "data/%25250A"),
+        ("data/%%0A0A", "data/%\n0A", "data/%25%0A0A"),
+        ("data/%0%0d%", "data/%0\r%", "data/%250%0D%25"),
+        ("data/%", "data/%", "data/%25"),
+        ("data/%0", "data/%0", "data/%250"),
+        (
+            "data/%0\u{e9}%\u{1f980}",
+            "data/%0\u{e9}%\u{1f980}",
+            "data/%250\u{e9}%25\u{1f980}",
+        ),
+        ("data/%2e%2E/k", "data/%2e%2E/k", "data/%252e%252E/k"),
+    ] {
+        let spelled = unescape(rt.alloc(), text, Version::V097)?;
+        assert_eq!(rt; spelled.as_str(), path);
+        assert_eq!(rt; escape(rt.alloc(), &spelled)?.as_str(), written);
+    }
+    Ok(())
+}
+
+#[test]
+fn texts_of_version_097_that_spell_no_path(rt: HostRuntime) {
+    for (text, fault) in [
+        ("", PathFault::Empty),
+        ("data//%41", PathFault::EmptySegment),
+        ("data/%0A/", PathFault::EmptySegment),
+        ("data/../%25", PathFault::DotSegment),
+        ("data/%00\0", PathFault::Nul),
+        ("data", PathFault::PayloadRoot),
+    ] {
+        assert_eq!(rt;
+            unescape(rt.alloc(), text, Version::V097),
+            Err(fault),
+            "{text:?}"
+        );
+    }
+}
+
+#[test]
 fn texts_that_spell_no_path(rt: HostRuntime) {
     for (text, fault) in [
         ("data/%41", PathFault::BadEscape),
