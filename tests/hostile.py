@@ -11,6 +11,7 @@ import sys
 import tempfile
 
 DECLARATION = b"BagIt-Version: 1.0\nTag-File-Character-Encoding: UTF-8\n"
+OF_0_97 = DECLARATION.replace(b"1.0", b"0.97")
 PAYLOAD = {b"data/a.txt": b"abc", b"data/e.txt": b""}
 MARK = b"\xef\xbb\xbf"
 VALID = (["valid"], 0)
@@ -188,6 +189,86 @@ def payload_directory():
     yield "an empty data/", {**empty, b"data/": None}, VALID
 
 
+def with_tag_0_97(name, octets):
+    return bag(files={b"bagit.txt": OF_0_97, name: octets})
+
+
+def names_0_97():
+    """Names of payload files and of a tag file in version 0.97, whose spellings leave `%` as it is [15]."""
+    odd = {
+        b"data/%": b"",
+        b"data/%25": b"",
+        b"data/%250A": b"",
+        b"data/%%": b"",
+        b"data/%\n%": b"data/%%0a%",
+        b"data/%0\r": b"data/%0%0D",
+        b"data/%0/A": b"",
+        "data/%0\u0661".encode(): b"",
+        b"data/" + b"%" * 255: b"",
+        b"data/" + b"/".join([b"%0\n" * 60] * 20): b"data/" + b"/".join([b"%0%0A" * 60] * 20),
+        b"data/ % ": b"",
+        b"data/*%": b"",
+    }
+    files = {path: path[-3:] for path in odd}
+    text = b"".join(line(path, files[path], spelling or path) + b"\n" for path, spelling in odd.items())
+    whole = {b"bagit.txt": OF_0_97, b"manifest-sha256.txt": text, **files}
+    yield "odd names of payload files, version 0.97", whole, VALID
+    own = {b"manifest-sha256.txt": manifest(), b"50%25": b"1", b"*%": b"2"}
+    listed = b"".join(line(path, octets, b"./" + path) + b"\n" for path, octets in own.items())
+    tags = {**own, b"bagit.txt": OF_0_97, b"tagmanifest-sha256.txt": listed}
+    yield "odd names of tag files, version 0.97", bag(files=tags), VALID
+    for name in ("%0A", "%0a", "x%0Dy", "k/%0d", "%25%0a"):
+        answer = not_complete(*unlisted("data/" + name.replace("%", "%25")))
+        yield f"a file {name}, version 0.97", with_tag_0_97(b"data/" + name.encode(), b""), answer
+
+
+def long_paths_0_97():
+    zeros = line(b"", b"") + b"data/"
+    for name, spelling, printed in [("%", b"%", "%25"), ("LF", b"%0a", "%0A")]:
+        missing = not_complete("manifest-sha256.txt: missing: data/" + printed * 4091)
+        text = manifest() + zeros + spelling * 4091
+        yield f"a path of 4,096 octets with {name}, version 0.97", with_tag_0_97(b"manifest-sha256.txt", text), missing
+        too_long = not_complete("manifest-sha256.txt:3: path")
+        yield f"an octet more with {name}, version 0.97", with_tag_0_97(b"manifest-sha256.txt", text + spelling), too_long
+        text = manifest() + zeros + spelling * 10**6
+        yield f"a million times {name}, version 0.97", with_tag_0_97(b"manifest-sha256.txt", text), too_long
+
+
+def blanks_0_97():
+    blanks = b" \t" * 10**6
+    label = not_complete("bag-info.txt:1: label")
+    for name, octets, answer in [
+        ("before a colon", b"Note" + blanks + b":x", VALID),
+        ("after a colon", b"Note:" + blanks + b"x", VALID),
+        ("around the colon of an Oxum", b"Payload-Oxum" + blanks + b":" + blanks + b"3.2" + blanks, VALID),
+        ("within a label", b"Note" + blanks + b"x:y", VALID),
+        ("and no colon", b"Note" + blanks, not_complete("bag-info.txt:1: separator")),
+    ]:
+        yield f"2,000,000 blanks {name}, version 0.97", with_tag_0_97(b"bag-info.txt", octets), answer
+    yield "a million colons, version 0.97", with_tag_0_97(b"bag-info.txt", b":" * 10**6), label
+    yield "a label and a million colons, version 0.97", with_tag_0_97(b"bag-info.txt", b"x" + b":" * 10**6), VALID
+    yield "a million elements, version 0.97", with_tag_0_97(b"bag-info.txt", b"a : b\nc:d\n" * 500_000), VALID
+
+
+def many_0_97():
+    """Many files, each in one of four manifests, and many paths of fetch.txt that are in none."""
+    algorithms = "md5", "sha1", "sha256", "sha512"
+    files = {b"data/%d" % i: b"%d" % i for i in range(20_000)}
+    texts = [[], [], [], []]
+    for i, (path, octets) in enumerate(files.items()):
+        texts[i % 4].append(hashlib.new(algorithms[i % 4], octets).hexdigest().encode() + b"  " + path)
+    manifests = {b"manifest-%s.txt" % name.encode(): b"\n".join(text) for name, text in zip(algorithms, texts)}
+    whole = {b"bagit.txt": OF_0_97, **manifests, **files}
+    yield "20,000 files, each in one of four manifests, version 0.97", whole, VALID
+    empty = {**whole, **dict.fromkeys(manifests, b"")}
+    answer = not_complete(*[f"manifest-md5.txt: unlisted: {path.decode()}" for path in sorted(files)])
+    yield "20,000 files, in none of four manifests, version 0.97", empty, answer
+    paths = [b"data/z%d" % (i // 2) for i in range(100_000)]
+    text = b"".join(b"http:x - " + path + b"\n" for path in paths)
+    answer = not_complete(*[f"fetch.txt: not in manifest-sha256.txt: {path.decode()}" for path in sorted(set(paths))])
+    yield "100,000 lines of fetch.txt, whose paths are in no manifest, version 0.97", with_tag_0_97(b"fetch.txt", text), answer
+
+
 def write(folder, files):
     for path, octets in files.items():
         name = os.path.join(os.fsencode(folder), path)
@@ -218,5 +299,6 @@ def judged(program, kind, families):
 
 
 if __name__ == "__main__":
-    FAMILIES = (cuts_of_declaration, cuts_of_manifest, endings_and_marks, names, long_lines, numerals, payload_directory, limits)
+    FAMILIES = (cuts_of_declaration, cuts_of_manifest, endings_and_marks, names, long_lines, numerals, payload_directory, limits,
+                names_0_97, long_paths_0_97, blanks_0_97, many_0_97)
     sys.exit(judged(sys.argv[1], "hostile", FAMILIES))
