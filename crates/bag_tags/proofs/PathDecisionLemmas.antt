@@ -6,9 +6,9 @@ use Rattle.std.proofs.lemmas.Str.{IsUtf8-append}
 use Rattle.bag_path.specs.declared.path.PathFault.{PathFault}
 use Rattle.bag_path.specs.declared.path.PathFault.TheVariants as path
 use Rattle.bag_path.specs.declared.version.Version.{Version}
-use Rattle.bag_path.specs.declared.version.Version.TheVariants.{V1}
+use Rattle.bag_path.specs.declared.version.Version.TheVariants.{V1, V097}
 use Rattle.bag_path.specs.Paths.{IsPath, path_fault, has_segment, is_empty_segment, is_dot_segment}
-use Rattle.bag_path.specs.Spellings.{StandsFor, Spells}
+use Rattle.bag_path.specs.Spellings.{IsLineEscape, StandsFor, Spells}
 use Rattle.bag_path.specs.SpellingReading.{octets_spelled}
 use Rattle.bag_path.proofs.PathLemmas.{path_if_no_fault, no_fault_if_path, no_bad_escape}
 use Rattle.bag_path.proofs.SpellsLemmas.{spells_if_read, read_if_spells, nothing_if_none, none_if_nothing}
@@ -27,23 +27,22 @@ record IsEscape (part : List ℕ) (octet : ℕ) : Type 0 where
 escape : (part : List ℕ) (octet a b : ℕ) → part ≡ 37 ∷ a ∷ b ∷ [] → a < 128 → b < 128 → octet < 128 → IsEscape part octet
 escape part octet a b e h k l = record { first = a; second = b; whole = e; first_below = h; second_below = k; octet_below = l }
 
+line_escape : (part : List ℕ) (octet : ℕ) → IsLineEscape part octet → IsEscape part octet
+line_escape part octet (inl h) = elim h.1 [
+  | inl k ↦ escape part octet 48 65 k (omega arith) (omega arith) (omega (arith, h.0))
+  | inr k ↦ escape part octet 48 97 k (omega arith) (omega arith) (omega (arith, h.0))
+]
+line_escape part octet (inr h) = elim h.1 [
+  | inl k ↦ escape part octet 48 68 k (omega arith) (omega arith) (omega (arith, h.0))
+  | inr k ↦ escape part octet 48 100 k (omega arith) (omega arith) (omega (arith, h.0))
+]
+
 part_of : (version : Version) (part : List ℕ) (octet : ℕ) (rest : List ℕ) → StandsFor version part octet rest → (part ≡ octet ∷ []) ⊎ IsEscape part octet
 part_of V1 part octet rest h = elim h [
   | inl h ↦ inl h.1
-  | inr h ↦ inr (elim h [
-    | inl h ↦ escape part octet 50 53 h.1 (omega arith) (omega arith) (omega (arith, h.0))
-    | inr h ↦ elim h [
-      | inl h ↦ elim h.1 [
-        | inl k ↦ escape part octet 48 65 k (omega arith) (omega arith) (omega (arith, h.0))
-        | inr k ↦ escape part octet 48 97 k (omega arith) (omega arith) (omega (arith, h.0))
-      ]
-      | inr h ↦ elim h.1 [
-        | inl k ↦ escape part octet 48 68 k (omega arith) (omega arith) (omega (arith, h.0))
-        | inr k ↦ escape part octet 48 100 k (omega arith) (omega arith) (omega (arith, h.0))
-      ]
-    ]
-  ])
+  | inr h ↦ inr (elim h [ inl h ↦ escape part octet 50 53 h.1 (omega arith) (omega arith) (omega (arith, h.0)) | inr h ↦ line_escape part octet h ])
 ]
+part_of V097 part octet rest h = elim h [ inl h ↦ inl h.0 | inr h ↦ inr (line_escape part octet h) ]
 
 -- what UTF-8 spells is UTF-8, also after a front
 spelled_utf8_after : (version : Version) (path text front : List ℕ) → Spells version path text → IsUtf8 (front ++ text) → IsUtf8 (front ++ path)
