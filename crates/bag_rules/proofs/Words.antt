@@ -16,7 +16,7 @@ pub use Rattle.bag_path.specs.Paths.{is_payload}
 pub use Rattle.bag_path.specs.declared.version.Version.TheVariants.{V1, V097}
 pub use Rattle.bag_rules.specs.Bags.{Bag, declaration_file, Declares, Holds, IsBagOf, IsThere, Lists, ListsFetch, octet_count, payload_of, SaysInfo, shown_of}
 pub use Rattle.bag_rules.specs.Faults.{AreInOrder, Has, kind_of_lines, kinds_beside_lines, kinds_of_files, kinds_of_form, NoneUpTo, number_of}
-pub use Rattle.bag_rules.specs.FilesInside.{IsFaultBy, IsFaultIn, IsFetchUnlistedBy, IsFileFault, IsLongRead, IsMissing, IsMissingBy, IsOtherDigest, IsOtherLength, IsOtherOxum, IsPairMissing, IsReadBy, IsSizeOf, IsUnlistedIn, IsWrongIn, OfSome, payload_length}
+pub use Rattle.bag_rules.specs.FilesInside.{IsEntryUnlisted, IsFaultBy, IsFaultIn, IsFileFault, IsFileUnlisted, IsLongRead, IsMissing, IsMissingBy, IsOtherDigest, IsOtherLength, IsOtherOxum, IsPairMissing, IsReadBy, IsSizeOf, IsUnlistedIn, IsWrongIn, OfSome, payload_length}
 pub use Rattle.bag_rules.specs.FormInside.{IsBadOxum, IsOxumFault, IsUnlistedBy, IsUnlistedManifest}
 pub use Rattle.bag_rules.specs.HasFault.{HasEntry, HasFault, HasFaultOf, IsFaultyText, line_fault, SaysOxum}
 pub use Rattle.bag_rules.specs.JudgingInside.{IsFirstUnknownOf, MatchOutside, NoneUnknown}
@@ -24,7 +24,7 @@ pub use Rattle.bag_rules.specs.Limits.{DeclarationStops, FileStops, FirstStops, 
 pub use Rattle.bag_rules.specs.Memory.{mem_octets, mem_paths, mem_shown, MemFiles, no_files, octets_at, with_file}
 pub use Rattle.bag_rules.specs.MemoryInside.{IsGapFor, IsSound, moved_up, rest_of, shown_files, view_of}
 pub use Rattle.bag_rules.specs.Profiles.{ended_by, IsProfile}
-pub use Rattle.bag_rules.specs.ReadingInside.{Adds, AreLinesOf, AreTextsOf, front, GivesListing, IsBadLineOf, IsFirstBadLine, name_in, ReadsOn, ReadsText, ValueOf}
+pub use Rattle.bag_rules.specs.ReadingInside.{Adds, AreLinesOf, AreTextsOf, front, GivesListing, HasBadLine, IsBadLineOf, IsFirstBadLine, name_in, ReadsOn, ReadsText, ValueOf}
 pub use Rattle.bag_rules.specs.SameVerdicts.{SameCause, SameVerdict}
 pub use Rattle.bag_rules.specs.Trees.{AreRising, HasFileAt, KeepsTree, octets_in, paths_in, Shown, UsesTree}
 pub use Rattle.bag_rules.specs.Validity.{Conforms, IsComplete, IsValid, Means}

@@ -1,11 +1,11 @@
 use Rattle.std.proofs.Common.{rules, ◌≡◌, ◌<◌, ◌∷◌, [], length, sym, ap, ◌∙◌, subst, arith}
 use Rattle.bag_rules.specs.KeptInside.{AreKept}
-use Rattle.bag_rules.proofs.Words.{Adds, AreTextsOf, Bag, err_from_is_err_and, front, HasFaultOf, IsBadLineOf, IsBagOf, NoneStopsBefore, ReadsOn, TextStops}
+use Rattle.bag_rules.proofs.Words.{Adds, AreTextsOf, Bag, err_from_is_err_and, HasBadLine, HasFaultOf, IsBadLineOf, IsBagOf, NoneStopsBefore, ReadsOn, TextStops}
 use Rattle.bag_rules.proofs.HasLemmas.{stands}
 use Rattle.bag_rules.proofs.FirstFiles.{once_at}
-use Rattle.bag_rules.proofs.FrontLemmas.{whole_front}
+use Rattle.bag_rules.proofs.AddsLemmas.{adds_so}
 use Rattle.bag_rules.proofs.LimitLemmas.{first_stops, none_more}
-use Rattle.bag_rules.proofs.TextsMore.{faults_more, texts_more}
+use Rattle.bag_rules.proofs.TextsMore.{all_bad_lines, faults_more, texts_more}
 use Rattle.bag_rules.proofs.TreeLemmas.{file_at, same_count}
 use Rattle.bag_rules.proofs.TreeUses.{uses_error, uses_kept, uses_on}
 use Rattle.bag_rules.proofs.tag_files.read_texts.Goals as goal
@@ -68,7 +68,8 @@ returns-clause-read g c = λ bag is by.
 pub returns-clause-faulty : goal.returns-clause-faulty
 returns-clause-faulty g c = λ bag is by.
     let n : c.loop-i.i ≡ length bag.files = omega (arith, c.loop-i.invariant.all, same_count bag is) in
-    subst (λ b. Adds c.args.faults.now.items c.loop-i.faults.items (HasFaultOf b (5 ∷ []))) (ap (λ k. front k bag) n ∙ whole_front bag) (c.loop-i.invariant.faulty bag is by)
+    adds_so c.args.faults.now.items c.loop-i.faults.items (HasBadLine (length bag.files) bag) (HasFaultOf bag (5 ∷ [])) (λ f. (all_bad_lines bag f).0) (λ f. (all_bad_lines bag f).1)
+    (subst (λ k. Adds c.args.faults.now.items c.loop-i.faults.items (HasBadLine k bag)) n (c.loop-i.invariant.faulty bag is by))
 
 pub returns-clause-limits : goal.returns-clause-limits
 returns-clause-limits g c = λ bag is.

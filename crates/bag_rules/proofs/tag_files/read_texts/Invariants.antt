@@ -1,6 +1,6 @@
-use Rattle.std.proofs.Common.{◌≡◌, ◌≤◌, ◌∷◌, [], length}
+use Rattle.std.proofs.Common.{◌≡◌, ◌≤◌, length}
 use Rattle.bag_rules.specs.KeptInside.{AreKept}
-use Rattle.bag_rules.proofs.Words.{Adds, AreTextsOf, Bag, front, HasFaultOf, IsBagOf, NoneStopsBefore, paths_in, TextStops, UsesTree}
+use Rattle.bag_rules.proofs.Words.{Adds, AreTextsOf, Bag, HasBadLine, IsBagOf, NoneStopsBefore, paths_in, TextStops, UsesTree}
 use Rattle.bag_rules.specs.Bags.{version_of}
 use Rattle.bag_rules.proofs.tag_files.read_texts.Given as goal
 
@@ -9,7 +9,7 @@ invariant-loop-i g l =
     let tree = g.T.Tree in
     record {
       read : (bag : Bag) → IsBagOf (tree.shown l.fn.tree) bag → version_of bag ≡ l.version → AreTextsOf l.i bag l.texts;
-      faulty : (bag : Bag) → IsBagOf (tree.shown l.fn.tree) bag → version_of bag ≡ l.version → Adds l.fn.faults.items l.faults.items (HasFaultOf (front l.i bag) (5 ∷ []));
+      faulty : (bag : Bag) → IsBagOf (tree.shown l.fn.tree) bag → version_of bag ≡ l.version → Adds l.fn.faults.items l.faults.items (HasBadLine l.i bag);
       limits : (bag : Bag) → IsBagOf (tree.shown l.fn.tree) bag → NoneStopsBefore l.i bag TextStops;
       kept : AreKept (tree.shown l.fn.tree) l.fn.kept → AreKept (tree.shown l.fn.tree) l.kept;
       used : UsesTree tree.shown g.T.Source.failures tree.sure l.fn.tree l.tree ⊥;
