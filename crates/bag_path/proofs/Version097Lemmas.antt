@@ -2,7 +2,7 @@
 use Rattle.std.proofs.Common.{◌≡◌, ◌≢◌, ◌∷◌, ◌++◌, ℕ, zero, suc, List, [], Option, Some, None, refl, sym, subst, ap, ◌∙◌, inl, inr, take, arith}
 use Rattle.std.proofs.lemmas.Bool.Decides.{eqb_tells}
 use Rattle.bag_path.specs.declared.version.Version.TheVariants.{V097}
-use Rattle.bag_path.specs.SpellingReading.{octet_of_escape, octet_of_percent, octets_with_first, octets_spelled, octets_spelled_after, taken_by}
+use Rattle.bag_path.specs.SpellingReading.{octet_of_escape, octet_of_percent, octets_with_first, octets_spelled_after, taken_by}
 use Rattle.bag_path.specs.Spellings.{IsLineEscape, BeginsLineEscape, StandsFor, Spells}
 use Rattle.bag_path.proofs.SpellingLemmas.{plain_octet, percent_after, percent_of}
 use Rattle.bag_path.proofs.SpellsLemmas.{begun, spells_if_read}

@@ -39,7 +39,7 @@ pub enum PathFault {
     /// Memory ran out.
     #[error("memory ran out")]
     Memory,
-    /// A `%` begins no escape of the version (RFC 8493 section 2.1.3). Only `unescape` answers it.
+    /// A `%` begins no escape, in version 1.0 (RFC 8493 section 2.1.3). Only `unescape` answers it.
     #[error("a `%` begins no escape")]
     BadEscape,
 }
