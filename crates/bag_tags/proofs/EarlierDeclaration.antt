@@ -1,5 +1,5 @@
 -- A declaration of an earlier version.
-use Rattle.std.proofs.Common.{ℕ, List, false, map, codes, ◌++◌, ◌∷◌, refl, inl, inr, arith, rules}
+use Rattle.std.proofs.Common.{ℕ, List, true, false, map, codes, ◌++◌, ◌∷◌, [], refl, inl, inr, arith, rules}
 use Rattle.std.specs.Char.{to_ascii_lowercase}
 use Rattle.bag_path.specs.Lines.{lines_of}
 use Rattle.bag_tags.specs.declared.declaration.Declaration.{Declaration}
@@ -27,3 +27,14 @@ version = good_version (codes "0.97") (codes "0") (codes ".97") refl (codes "97"
 pub earlier_declares : IsDeclaration earlier earlier_version
 earlier_declares = read_so earlier (codes "0.97") (codes "ISO-8859-1") 0 97 false labels version (λ e. cc, search rules)
     (λ e. cc, λ e. absurd (other_text (map to_ascii_lowercase (codes "ISO-8859-1")) (codes "utf-8") refl e))
+
+-- the same version in UTF-8
+abbrev in_utf8 : List ℕ
+in_utf8 = codes "BagIt-Version: 0.97" ++ 10 ∷ codes "Tag-File-Character-Encoding: UTF-8" ++ 10 ∷ []
+
+utf8_labels : HasLabels in_utf8 (codes "0.97") (codes "UTF-8")
+unfolding lines_of
+utf8_labels = labels_are in_utf8 (ascii_unmarked in_utf8 refl refl) (codes "BagIt-Version: 0.97") (codes "Tag-File-Character-Encoding: UTF-8") refl (codes "0.97") (codes "UTF-8") refl refl
+
+pub utf8_declares : IsDeclaration in_utf8 (record { major = 0; minor = 97; utf8 = true })
+utf8_declares = read_so in_utf8 (codes "0.97") (codes "UTF-8") 0 97 true utf8_labels version (λ e. cc, search rules) (λ e. refl, λ e. refl)

@@ -4,6 +4,7 @@ use Rattle.std.specs.List.{starts_with}
 use Rattle.bag_path.specs.Lines.{lines_of}
 use Rattle.bag_path.specs.Paths.{IsPath, is_payload}
 use Rattle.bag_path.specs.SpellingReading.{octets_spelled}
+use Rattle.bag_path.specs.declared.version.Version.{Version}
 use Rattle.bag_path.specs.declared.version.Version.TheVariants.{V1}
 use Rattle.bag_path.proofs.AsciiLemmas.{is_ascii_text, ascii_utf8}
 use Rattle.bag_path.proofs.LinesLemmas.{one_list}
@@ -16,13 +17,12 @@ use Rattle.bag_tags.specs.FetchEntries.{fetch_item, IsUrl}
 use Rattle.bag_tags.specs.Fetches.{fetch_line}
 use Rattle.bag_tags.specs.FetchText.{AreWords, IsLength, GivesEntry, AddsEntry}
 use Rattle.bag_tags.specs.Infos.{MetadataElement, element, element_with_line, IsFit}
-use Rattle.bag_tags.specs.InfoReading.{first_line_of}
-use Rattle.bag_tags.specs.InfoText.{AddsInfo}
+use Rattle.bag_tags.specs.InfoText.{AddsInfo, HasParts}
 use Rattle.bag_tags.specs.Listings.{Listing, pair, with_pair, IsInPlace, lists_path}
 use Rattle.bag_tags.specs.Manifests.{plain_path, HasChecksum, Gives, AddsPair}
 use Rattle.bag_tags.specs.TagLines.{mark, TagLine, LeadsOn, Lead, IsTextOf, IsFirstFault, AreExact}
 use Rattle.bag_tags.specs.Words.{is_blank, begins_blank, is_blank_line, without}
-use Rattle.bag_tags.specs.WordsReading.{until, is_not_blank, is_colon}
+use Rattle.bag_tags.specs.WordsReading.{until, is_not_blank}
 use Rattle.bag_tags.proofs.FetchLineLemmas.{words_of, gives_of}
 use Rattle.bag_tags.proofs.InfoLineLemmas as info
 use Rattle.bag_tags.proofs.NumeralLemmas.{not_empty}
@@ -90,10 +90,10 @@ module _ (before : Listing) (text : List ℕ) (digest : Digest) (some : (length 
 pub fit : (label : List ℕ) → (length label == 0) ≡ false → is_blank (slice_index label 0) ≡ false → is_blank (slice_index label (length label - 1)) ≡ false → starts_with nat_eq label mark ≡ false → IsFit label
 fit label some begins ends unmarked = record { some = not_empty label some; begins = begins; ends = ends; unmarked = unmarked }
 
-pub adds_element : (before : List MetadataElement) (number : ℕ) (text first : List ℕ) → Some first ≡ first_line_of (until is_colon text).1 → IsFit (until is_colon text).0 → AddsInfo V1 before number text (before ++ element (until is_colon text).0 first ∷ [])
-adds_element before number text first parts is_fit = inr (record {
-  element = element (until is_colon text).0 first;
-  gives = record { parts = info.parts_of text (until is_colon text).0 (until is_colon text).1 first refl parts; fit = is_fit };
+pub adds_element : (version : Version) (before : List MetadataElement) (number : ℕ) (text label first : List ℕ) → HasParts version text label first → IsFit label → AddsInfo version before number text (before ++ element label first ∷ [])
+adds_element version before number text label first parts is_fit = inr (record {
+  element = element label first;
+  gives = record { parts = parts; fit = is_fit };
   adds = refl;
 })
 

@@ -1,5 +1,5 @@
 -- A line of `bag-info.txt` adds something or is refused, and reading is exact.
-use Rattle.std.proofs.Common.{◌≡◌, ◌≢◌, ◌-◌, ◌⊎◌, ◌++◌, ℕ, true, false, List, [], ◌∷◌, Option, Some, None, length, nat_eq, slice_index, refl, ap, inl, inr, sym, ◌∙◌, subst}
+use Rattle.std.proofs.Common.{◌≡◌, ◌≢◌, ◌-◌, ◌⊎◌, ◌++◌, ℕ, true, false, List, [], ◌∷◌, length, nat_eq, slice_index, refl, ap, inl, inr, sym, ◌∙◌, subst}
 use Rattle.std.specs.List.{starts_with}
 use Rattle.std.proofs.lemmas.Bool.{cases_Bool}
 use Rattle.bag_path.specs.declared.version.Version.{Version}
@@ -7,22 +7,22 @@ use Rattle.bag_tags.specs.declared.fault.LineCause.{LineCause}
 use Rattle.bag_tags.specs.declared.fault.LineCause.TheVariants.{NoSeparator, BadLabel, NothingToContinue}
 use Rattle.bag_tags.specs.TagLines.{mark, AreExact}
 use Rattle.bag_tags.specs.Words.{is_blank, IsNotBlank, begins_blank}
-use Rattle.bag_tags.specs.WordsReading.{until, is_not_blank, is_colon}
+use Rattle.bag_tags.specs.WordsReading.{until, is_not_blank}
 use Rattle.bag_tags.specs.Infos.{MetadataElement, element, element_with_line, IsFit}
-use Rattle.bag_tags.specs.InfoReading.{first_line_of}
-use Rattle.bag_tags.specs.InfoText.{HasParts, AddsInfo, RefusesInfo, GivesElement}
+use Rattle.bag_tags.specs.InfoText.{HasColon, HasParts, AddsInfo, RefusesInfo, GivesElement}
 use Rattle.bag_tags.proofs.DecisionLemmas.{Decided, decided_as, decided_both, decided_false, decided_some}
-use Rattle.bag_tags.proofs.InfoLineLemmas.{indented, parts_of, lacks_of, info_one, gives_begins, indent_begins, no_last, not_lacking, one_parts}
+use Rattle.bag_tags.proofs.InfoLineLemmas.{indented, colon_or_none, lacks_colon, lacks_first, info_one, gives_begins, indent_begins, no_last, not_lacking, one_parts}
+use Rattle.bag_tags.proofs.LabelLemmas.{first_or_none, label_of}
 use Rattle.bag_tags.proofs.CauseLemmas.{Fate, AtMostOne, Is, Unless, on, for, one_is, one_unless, same_cause, on_or_for}
 
 -- ONE CAUSE AT MOST
 module _ (version : Version) (before : List MetadataElement) (text : List ℕ) where
   -- what an indented line has to have, and what another has to have, in this order
   abbrev SomeParts : Type 0
-  SomeParts = (label first : List ℕ) × HasParts text label first
+  SomeParts = (label first : List ℕ) × HasParts version text label first
 
   abbrev SomeElement : Type 0
-  SomeElement = (element : MetadataElement) × GivesElement text element
+  SomeElement = (element : MetadataElement) × GivesElement version text element
 
   -- the fate that a line has, by the first of these that it lacks
   abbrev OfIndented : Fate → Type 0
@@ -44,19 +44,19 @@ module _ (version : Version) (before : List MetadataElement) (text : List ℕ) w
   begins : begins_blank text ≡ true → begins_blank text ≢ false
   begins b n = let e : true ≡ false = sym b ∙ n in cc
 
-  no_element : (label first : List ℕ) → HasParts text label first → ¬ IsFit label → SomeElement → ⊥
-  no_element label first parts unfit h = unfit (subst IsFit (one_parts text h.0.label h.0.value label first h.1.parts parts).0 h.1.fit)
+  no_element : (label first : List ℕ) → HasParts version text label first → ¬ IsFit label → SomeElement → ⊥
+  no_element label first parts unfit h = unfit (subst IsFit (one_parts version text h.0.label h.0.value label first h.1.parts parts).0 h.1.fit)
 
   refused_fate : (cause : LineCause) → RefusesInfo version before text cause → HasFate (for cause)
   refused_fate NothingToContinue r = inl (begins r.0, inl (λ n. n r.1, refl))
-  refused_fate NoSeparator r = inr (r.0, inl (λ h. not_lacking text h.0 h.1 h.2 r.1, refl))
+  refused_fate NoSeparator r = inr (r.0, inl (λ h. not_lacking version text h.0 h.1 h.2 r.1, refl))
   refused_fate BadLabel r = inr (r.0, inr ((r.1.0, r.1.1.0, r.1.1.1), inl (no_element r.1.0 r.1.1.0 r.1.1.1 r.1.1.2, refl)))
   refused_fate cause r = absurd r.1
 
   added_fate : (number : ℕ) (next : List MetadataElement) → AddsInfo version before number text next → HasFate on
   added_fate number next a = elim a [
     | inl c ↦ inl (begins (indent_begins text c.line c.indented), inr (λ e. no_last c.earlier c.last (sym e ∙ c.has_last), refl))
-    | inr c ↦ inr (gives_begins text c.element c.gives, inr ((c.element.label, c.element.value, c.gives.parts), inr ((c.element, c.gives), refl)))
+    | inr c ↦ inr (gives_begins version text c.element c.gives, inr ((c.element.label, c.element.value, c.gives.parts), inr ((c.element, c.gives), refl)))
   ]
 
   pub one_cause : (cause other : LineCause) → RefusesInfo version before text cause → RefusesInfo version before text other → cause ≡ other
@@ -114,21 +114,32 @@ module _ (version : Version) (before : List MetadataElement) (number : ℕ) (tex
       ]
 
   -- a line with a label
-  of_parts : (label first : List ℕ) → begins_blank text ≡ false → HasParts text label first → ElementOrCause
+  of_parts : (label first : List ℕ) → begins_blank text ≡ false → HasParts version text label first → ElementOrCause
   of_parts label first begins parts = elim (decided_fit label) [
     | inl fit ↦ inl (before ++ element label first ∷ [], inr (record { element = element label first; gives = record { parts = parts; fit = fit }; adds = refl }))
     | inr unfit ↦ inr (BadLabel, (begins, (label, (first, parts, unfit))))
   ]
 
-  -- a line that isn't indented, by what follows its colon
-  of_colon : (first : Option (List ℕ)) → begins_blank text ≡ false → first ≡ first_line_of (until is_colon text).1 → ElementOrCause
-  of_colon None begins e = inr (NoSeparator, (begins, lacks_of text (until is_colon text).0 (until is_colon text).1 refl e))
-  of_colon (Some first) begins e = of_parts (until is_colon text).0 first begins (parts_of text (until is_colon text).0 (until is_colon text).1 first refl e)
+  -- a line with a colon, by what follows it
+  of_colon : (before after : List ℕ) → begins_blank text ≡ false → HasColon text before after → ElementOrCause
+  of_colon front after begins colon = elim (first_or_none version after) [
+    | inl first ↦
+        let label = label_of version front in
+        of_parts label.0 first.0 begins (record { before = front; after = after; colon = colon; label_is = label.1; first_line = first.1 })
+    | inr none ↦ inr (NoSeparator, (begins, lacks_first version text front after colon none))
+  ]
+
+  -- a line that isn't indented
+  of_other : begins_blank text ≡ false → ElementOrCause
+  of_other begins = elim (colon_or_none text) [
+    | inl h ↦ of_colon h.0 h.1.0 begins h.1.1
+    | inr none ↦ inr (NoSeparator, (begins, lacks_colon version text none))
+  ]
 
   element_or_cause : ElementOrCause
   element_or_cause = elim (cases_Bool (begins_blank text)) [
     | inl begins ↦ of_indented begins
-    | inr begins ↦ of_colon (first_line_of (until is_colon text).1) begins refl
+    | inr begins ↦ of_other begins
   ]
 
 pub info_exact : (version : Version) → AreExact (AddsInfo version) (RefusesInfo version)

@@ -1,17 +1,19 @@
 -- A line of `bag-info.txt` adds one thing.
-use Rattle.std.proofs.Common.{◌≡◌, ◌≢◌, ℕ, true, false, List, [], ◌∷◌, ◌++◌, Some, None, refl, sym, ap, ◌∙◌, subst, inl, inr, append-nil}
+use Rattle.std.proofs.Common.{◌≡◌, ◌≢◌, ◌⊎◌, ◌<◌, ℕ, length, get_or, true, false, List, [], ◌∷◌, ◌++◌, refl, sym, ap, ◌∙◌, subst, inl, inr, append-nil, append_assoc}
 use Rattle.std.specs.List.{AllByRecursion}
 use Rattle.std.proofs.lemmas.Bool.{ne_eqb, cases_Bool}
 use Rattle.std.proofs.lemmas.Bool.Decides.{eqb_tells}
+use Rattle.std.proofs.lemmas.List.Elements.{All-from_get_or, recursion_from_All}
 use Rattle.bag_path.specs.Lines.{IsPlain}
 use Rattle.bag_path.specs.declared.version.Version.{Version}
+use Rattle.bag_path.specs.declared.version.Version.TheVariants.{V1, V097}
 use Rattle.bag_tags.specs.Words.{is_blank, IsBlank, is_blank_line, begins_blank}
 use Rattle.bag_tags.specs.WordsReading.{until, is_colon, is_not_blank}
 use Rattle.bag_tags.specs.Infos.{MetadataElement, element, element_with_line, IsFit, IsLabel, IsLabelOctet, IsNotColon, IsFurtherLine, IsValue}
-use Rattle.bag_tags.specs.InfoReading.{first_line_of}
-use Rattle.bag_tags.specs.InfoText.{IsIndented, HasColon, HasFirstLine, HasParts, GivesElement, AddsInfo, LacksSeparator}
+use Rattle.bag_tags.specs.InfoText.{IsIndented, HasColon, HasLabel, HasFirstLine, HasParts, GivesElement, AddsInfo, LacksSeparator}
 use Rattle.bag_tags.proofs.WordsLemmas.{until_front, until_here, begins_with, each, blanks_cut}
 use Rattle.bag_tags.proofs.ValueLemmas.{plain_value}
+use Rattle.bag_tags.proofs.LabelLemmas.{one_label, one_first, label_front, first_after, not_after}
 use Rattle.bag_tags.proofs.TextCutLemmas.{all_left, all_right, first_of, second_of, same_tail, whole_of, blanks_of, rest_begins, blank_line_of}
 
 -- an indented line that was cut after its blanks
@@ -64,7 +66,7 @@ colon_cut text label after h = ap (until is_colon) h.whole ∙ until_here is_col
 not_colon : (x : ℕ) → is_colon x ≡ false → IsNotColon x
 not_colon x h e = let k : true ≡ false = sym (ap is_colon e) ∙ h in cc
 
-front_of : (text label rest : List ℕ) → until is_colon text ≡ (label, rest) → AllByRecursion IsNotColon label
+pub front_of : (text label rest : List ℕ) → until is_colon text ≡ (label, rest) → AllByRecursion IsNotColon label
 front_of text label rest e = each (λ x. is_colon x ≡ false) IsNotColon not_colon label (subst (λ (u : List ℕ × List ℕ). AllByRecursion (λ x. is_colon x ≡ false) u.0) e (until_front is_colon text))
 
 pub is_58 : (x : ℕ) → is_colon x ≡ true → x ≡ 58
@@ -83,47 +85,65 @@ same_colon text l a m b h k =
     let e = sym (colon_cut text l a h) ∙ colon_cut text m b k in
     (first_of l m (58 ∷ a) (58 ∷ b) e, (same_tail 58 58 a b (second_of l m (58 ∷ a) (58 ∷ b) e)).1)
 
-one_first : (after f g : List ℕ) → HasFirstLine after f → HasFirstLine after g → f ≡ g
-one_first [] f g h k = h ∙ sym k
-one_first (x ∷ after) f g h k = h.1 ∙ sym k.1
+pub one_parts : (version : Version) (text l f m g : List ℕ) → HasParts version text l f → HasParts version text m g → (l ≡ m) × (f ≡ g)
+one_parts version text l f m g h k =
+    let s = same_colon text h.before h.after k.before k.after h.colon k.colon in (
+      one_label version k.before l m (subst (λ b. HasLabel version b l) s.0 h.label_is) k.label_is,
+      one_first version k.after f g (subst (λ a. HasFirstLine version a f) s.1 h.first_line) k.first_line,
+    )
 
-pub one_parts : (text l f m g : List ℕ) → HasParts text l f → HasParts text m g → (l ≡ m) × (f ≡ g)
-one_parts text l f m g h k =
-    let s = same_colon text l h.after m k.after h.colon k.colon in
-    (s.0, one_first k.after f g (subst (λ a. HasFirstLine a f) s.1 h.first_line) k.first_line)
+-- a text has a colon, or none
+abbrev ColonOrNone : List ℕ → Type 0
+ColonOrNone text = ((before : List ℕ) × ((after : List ℕ) × HasColon text before after)) ⊎ AllByRecursion IsNotColon text
 
--- the first line that was read
-pub parts_of : (text label rest first : List ℕ) → until is_colon text ≡ (label, rest) → Some first ≡ first_line_of rest → HasParts text label first
-parts_of text label [] first e h = absurd (cc)
-parts_of text label (x ∷ []) first e h = let same : first ≡ [] = cc in record { after = []; colon = colon_of text label [] x e; first_line = same }
-parts_of text label (x ∷ y ∷ rest) first e h = elim (cases_Bool (is_blank y)) [
-  | inl b ↦ let k = rw b at h in let same : first ≡ rest = cc in record { after = y ∷ rest; colon = colon_of text label (y ∷ rest) x e; first_line = (b, same) }
-  | inr b ↦ let k = rw b at h in absurd (cc)
-]
+colon_cases : (text before rest : List ℕ) → until is_colon text ≡ (before, rest) → ColonOrNone text
+colon_cases text before [] e = inr (subst (AllByRecursion IsNotColon) (sym (whole_of is_colon text before [] e ∙ append-nil before)) (front_of text before [] e))
+colon_cases text before (x ∷ after) e = inl (before, (after, colon_of text before after x e))
+
+pub colon_or_none : (text : List ℕ) → ColonOrNone text
+colon_or_none text = colon_cases text (until is_colon text).0 (until is_colon text).1 refl
+
+-- the same, by indices
+pub none_where : (text : List ℕ) → ((i : ℕ) → i < length text → get_or text i 0 ≢ 58) → AllByRecursion IsNotColon text
+none_where text none = recursion_from_All IsNotColon text (All-from_get_or IsNotColon text 0 none)
+
+pub colon_where : (text before after : List ℕ) → (text ≡ before ++ 58 ∷ after) × ((i : ℕ) → i < length before → get_or before i 0 ≢ 58) → HasColon text before after
+colon_where text before after h = record { whole = h.0; first_colon = none_where before h.1 }
+
+pub parts_of : (version : Version) (text before after label first : List ℕ) → until is_colon text ≡ (before, 58 ∷ after) → HasLabel version before label → HasFirstLine version after first → HasParts version text label first
+parts_of version text before after label first cut label_is first_line = record { before = before; after = after; colon = colon_of text before after 58 cut; label_is = label_is; first_line = first_line }
 
 -- no separator
-pub lacks_of : (text label rest : List ℕ) → until is_colon text ≡ (label, rest) → None ≡ first_line_of rest → LacksSeparator text
-lacks_of text label [] e h = inl (subst (AllByRecursion IsNotColon) (sym (whole_of is_colon text label [] e ∙ append-nil label)) (front_of text label [] e))
-lacks_of text label (x ∷ []) e h = absurd (cc)
-lacks_of text label (x ∷ y ∷ rest) e h = elim (cases_Bool (is_blank y)) [
-  | inl b ↦ let k = rw b at h in absurd (cc)
-  | inr b ↦ inr (label, (y, (rest, colon_of text label (y ∷ rest) x e, b)))
+pub lacks_colon : (version : Version) (text : List ℕ) → AllByRecursion IsNotColon text → LacksSeparator version text
+lacks_colon V1 text h = inl h
+lacks_colon V097 text h = h
+
+pub lacks_first : (version : Version) (text before after : List ℕ) → HasColon text before after → ((first : List ℕ) → ¬ HasFirstLine version after first) → LacksSeparator version text
+lacks_first V1 text before [] h none = absurd (none [] refl)
+lacks_first V1 text before (x ∷ rest) h none = elim (cases_Bool (is_blank x)) [
+  | inl b ↦ absurd (none rest (b, refl))
+  | inr b ↦ inr (before, (x, (rest, h, b)))
 ]
+lacks_first V097 text before after h none = absurd (none _ (first_after after (until is_not_blank after).0 (until is_not_blank after).1 refl))
 
 -- a line that gives an element begins with no blank
 fit_begins : (label rest : List ℕ) → IsFit label → begins_blank (label ++ rest) ≡ false
 fit_begins [] rest h = absurd (h.some refl)
 fit_begins (x ∷ label) rest h = h.begins
 
-pub gives_begins : (text : List ℕ) (e : MetadataElement) → GivesElement text e → begins_blank text ≡ false
-gives_begins text e g = ap begins_blank g.parts.colon.whole ∙ fit_begins e.label (58 ∷ g.parts.after) g.fit
+pub gives_begins : (version : Version) (text : List ℕ) (e : MetadataElement) → GivesElement version text e → begins_blank text ≡ false
+gives_begins version text e g =
+    let front = label_front version g.parts.before e.label g.parts.label_is in
+    let more = front.0 ++ 58 ∷ g.parts.after in
+    ap begins_blank (g.parts.colon.whole ∙ ap (λ before. before ++ 58 ∷ g.parts.after) front.1 ∙ append_assoc e.label front.0 (58 ∷ g.parts.after))
+    ∙ fit_begins e.label more g.fit
 
-not_both : (text line : List ℕ) (e : MetadataElement) → IsIndented text line → GivesElement text e → ⊥
-not_both text line e h g = let k : true ≡ false = sym (indent_begins text line h) ∙ gives_begins text e g in cc
+not_both : (version : Version) (text line : List ℕ) (e : MetadataElement) → IsIndented text line → GivesElement version text e → ⊥
+not_both version text line e h g = let k : true ≡ false = sym (indent_begins text line h) ∙ gives_begins version text e g in cc
 
-one_element : (text : List ℕ) (d e : MetadataElement) → GivesElement text d → GivesElement text e → d ≡ e
-one_element text d e h k =
-    let s = one_parts text d.label d.value e.label e.value h.parts k.parts in
+one_element : (version : Version) (text : List ℕ) (d e : MetadataElement) → GivesElement version text d → GivesElement version text e → d ≡ e
+one_element version text d e h k =
+    let s = one_parts version text d.label d.value e.label e.value h.parts k.parts in
     ap (λ l. element l d.value) s.0 ∙ ap (λ v. element e.label v) s.1
 
 -- the last of a list
@@ -149,41 +169,48 @@ info_one version before number text next other a b = elim a [
         let s = one_last c.earlier d.earlier c.last d.last (sym c.has_last ∙ d.has_last) in
         c.continues ∙ ap (λ xs. xs ++ element_with_line c.last c.line ∷ []) s.0 ∙ ap (λ x. d.earlier ++ element_with_line x c.line ∷ []) s.1
         ∙ ap (λ l. d.earlier ++ element_with_line d.last l ∷ []) (one_line text c.line d.line c.indented d.indented) ∙ sym d.continues
-    | inr d ↦ absurd (not_both text c.line d.element c.indented d.gives)
+    | inr d ↦ absurd (not_both version text c.line d.element c.indented d.gives)
   ]
   | inr c ↦ elim b [
-    | inl d ↦ absurd (not_both text d.line c.element d.indented c.gives)
-    | inr d ↦ c.adds ∙ ap (λ x. before ++ x ∷ []) (one_element text c.element d.element c.gives d.gives) ∙ sym d.adds
+    | inl d ↦ absurd (not_both version text d.line c.element d.indented c.gives)
+    | inr d ↦ c.adds ∙ ap (λ x. before ++ x ∷ []) (one_element version text c.element d.element c.gives d.gives) ∙ sym d.adds
   ]
 ]
 
 -- a line with a label and a first line has its separator
-pub not_lacking : (text label first : List ℕ) → HasParts text label first → LacksSeparator text → ⊥
-not_lacking text label first p n = elim n [
-  | inl h ↦ (all_right IsNotColon label (58 ∷ p.after) (subst (AllByRecursion IsNotColon) p.colon.whole h)).0 refl
+not_without : (text before after : List ℕ) → HasColon text before after → AllByRecursion IsNotColon text → ⊥
+not_without text before after h none = (all_right IsNotColon before (58 ∷ after) (subst (AllByRecursion IsNotColon) h.whole none)).0 refl
+
+pub not_lacking : (version : Version) (text label first : List ℕ) → HasParts version text label first → LacksSeparator version text → ⊥
+not_lacking V1 text label first p n = elim n [
+  | inl h ↦ not_without text p.before p.after p.colon h
   | inr h ↦
-      let s = same_colon text label p.after h.0 (h.1.0 ∷ h.1.1.0) p.colon h.1.1.1 in
-      let f = subst (λ a. HasFirstLine a first) s.1 p.first_line in
-      let k : true ≡ false = sym f.0 ∙ h.1.1.2 in cc
+      let s = same_colon text p.before p.after h.0 (h.1.0 ∷ h.1.1.0) p.colon h.1.1.1 in
+      not_after h.1.0 h.1.1.0 h.1.1.2 first (subst (λ a. HasFirstLine V1 a first) s.1 p.first_line)
 ]
+not_lacking V097 text label first p n = not_without text p.before p.after p.colon n
 
 -- the label and the first line of a text
 both : (xs : List ℕ) → AllByRecursion IsNotColon xs → AllByRecursion IsPlain xs → AllByRecursion IsLabelOctet xs
 both [] h k = tt
 both (x ∷ xs) h k = ((h.0, k.0), both xs h.1 k.1)
 
-pub is_label_of : (text label first : List ℕ) → HasParts text label first → AllByRecursion IsPlain text → IsFit label → IsLabel label
-is_label_of text label first h p fit = record {
-  fit = fit;
-  octets = both label h.colon.first_colon (all_left IsPlain label (58 ∷ h.after) (subst (AllByRecursion IsPlain) h.colon.whole p));
-}
+pub is_label_of : (version : Version) (text label first : List ℕ) → HasParts version text label first → AllByRecursion IsPlain text → IsFit label → IsLabel label
+is_label_of version text label first h p fit =
+    let before = both h.before h.colon.first_colon (all_left IsPlain h.before (58 ∷ h.after) (subst (AllByRecursion IsPlain) h.colon.whole p)) in
+    let front = label_front version h.before label h.label_is in
+    record {
+      fit = fit;
+      octets = all_left IsLabelOctet label front.0 (subst (AllByRecursion IsLabelOctet) front.1 before);
+    }
 
-after_plain : (after first : List ℕ) → HasFirstLine after first → AllByRecursion IsPlain after → AllByRecursion IsPlain first
-after_plain [] first h p = subst (AllByRecursion IsPlain) (sym h) p
-after_plain (x ∷ rest) first h p = subst (AllByRecursion IsPlain) (sym h.1) p.1
+after_plain : (version : Version) (after first : List ℕ) → HasFirstLine version after first → AllByRecursion IsPlain after → AllByRecursion IsPlain first
+after_plain V1 [] first h p = subst (AllByRecursion IsPlain) (sym h) p
+after_plain V1 (x ∷ rest) first h p = subst (AllByRecursion IsPlain) (sym h.1) p.1
+after_plain V097 after first h p = all_right IsPlain h.0 first (subst (AllByRecursion IsPlain) h.1 p)
 
-pub is_value_of : (text label first : List ℕ) → HasParts text label first → AllByRecursion IsPlain text → IsValue first
-is_value_of text label first h p = plain_value first (after_plain h.after first h.first_line (all_right IsPlain label (58 ∷ h.after) (subst (AllByRecursion IsPlain) h.colon.whole p)).1)
+pub is_value_of : (version : Version) (text label first : List ℕ) → HasParts version text label first → AllByRecursion IsPlain text → IsValue first
+is_value_of version text label first h p = plain_value first (after_plain version h.after first h.first_line (all_right IsPlain h.before (58 ∷ h.after) (subst (AllByRecursion IsPlain) h.colon.whole p)).1)
 
-pub gives_of : (text label first : List ℕ) (e : MetadataElement) → HasParts text label first → e ≡ element label first → IsFit label → GivesElement text e
-gives_of text label first e h same fit = subst (GivesElement text) (sym same) (record { parts = h; fit = fit })
+pub gives_of : (version : Version) (text label first : List ℕ) (e : MetadataElement) → HasParts version text label first → e ≡ element label first → IsFit label → GivesElement version text e
+gives_of version text label first e h same fit = subst (GivesElement version text) (sym same) (record { parts = h; fit = fit })

@@ -145,8 +145,10 @@ lead_element before e h rest n after k =
           element = element e.label v.first;
           gives = record {
             parts = record {
+              before = e.label;
               after = 32 ∷ v.first;
               colon = record { whole = refl; first_colon = no_colon e.label h.is_label.octets };
+              label_is = refl;
               first_line = (refl, refl);
             };
             fit = h.is_label.fit;

@@ -11,6 +11,7 @@ pub mod ManifestTextLemmas
 pub mod OxumLemmas
 pub mod ValueLemmas
 pub mod TextCutLemmas
+pub mod LabelLemmas
 pub mod InfoLineLemmas
 pub mod WritingLemmas
 pub mod InfoWritingLemmas

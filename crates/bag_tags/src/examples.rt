@@ -1,14 +1,14 @@
 //! Telling cases of the definitions, worked out: each function's contract is one, and its body is empty.
-ghost use Rattle.std.specs.Prelude.{ℕ, false, [], ◌∷◌, ◌++◌, Some, None, codes};
+ghost use Rattle.std.specs.Prelude.{◌≡◌, ℕ, true, false, [], ◌∷◌, ◌++◌, Some, None, codes};
 ghost use Rattle.bag_digest.specs.declared.algorithm.Alg.TheVariants.{Md5, Sha256};
 ghost use Rattle.bag_digest.specs.declared.digest.Digest.TheVariants as digest;
 ghost use Rattle.bag_path.specs.declared.path.PathFault.TheVariants as path;
-ghost use Rattle.bag_path.specs.declared.version.Version.TheVariants.{V1};
+ghost use Rattle.bag_path.specs.declared.version.Version.TheVariants.{V1, V097};
 ghost use Rattle.bag_tags.specs.declared.declaration.DeclFault.TheVariants as declaration;
 ghost use Rattle.bag_tags.specs.declared.fault.LineCause.TheVariants as cause;
 ghost use Rattle.bag_tags.specs.declared.listing.Kind.TheVariants.{Payload, Tag};
 ghost use Rattle.bag_tags.specs.declared.name.TagName.TheVariants as name;
-ghost use Rattle.bag_tags.specs.Declarations.{IsDeclaration, IsDeclarationFault, current};
+ghost use Rattle.bag_tags.specs.Declarations.{IsDeclaration, IsDeclarationFault, current, version_of};
 ghost use Rattle.bag_tags.specs.FetchEntries.{fetch_item};
 ghost use Rattle.bag_tags.specs.Fetches.{fetch_line};
 ghost use Rattle.bag_tags.specs.FetchText.{FetchText, FetchFault};
@@ -56,6 +56,15 @@ pub fn a_marked_declaration_is_faulty()
 /// One line is too few (RFC 8493 section 2.1.1).
 pub fn a_declaration_of_one_line_is_faulty()
     ensures { IsDeclarationFault (codes "BagIt-Version: 1.0" ++ 10 ∷ []) declaration.LineCount }
+{}
+
+/// Version 0.97 is known where it is declared, and 0.96 is not.
+pub fn version_0_97_is_known()
+    ensures { IsDeclaration (codes "BagIt-Version: 0.97" ++ 10
+        ∷ codes "Tag-File-Character-Encoding: UTF-8" ++ 10 ∷ [])
+        (record { major = 0; minor = 97; utf8 = true })
+        × (version_of (record { major = 0; minor = 97; utf8 = true }) ≡ Some V097)
+        × (version_of (record { major = 0; minor = 96; utf8 = true }) ≡ None) }
 {}
 
 /// The label is not matched without its space.
@@ -149,6 +158,21 @@ pub fn other_lines_of_a_bag_info_are_faults()
         × InfoFault V1 (codes "a b") (record { line = 1; cause = cause.NoSeparator })
         × InfoFault V1 (codes "a:b") (record { line = 1; cause = cause.NoSeparator })
         × InfoFault V1 (codes "L : v") (record { line = 1; cause = cause.BadLabel }) }
+{}
+
+/// In version 0.97 blanks may stand on both sides of the colon, and are dropped.
+pub fn a_bag_info_of_version_0_97_says_its_elements()
+    ensures { InfoText V097 (codes "L : v" ++ 10 ∷ codes "L:v" ++ 10 ∷ codes "L:" ++ 32 ∷ 9 ∷ 32
+        ∷ codes "v" ++ 10 ∷ [])
+        (element (codes "L") (codes "v") ∷ element (codes "L") (codes "v")
+        ∷ element (codes "L") (codes "v") ∷ []) }
+{}
+
+/// In version 0.97 a line needs a colon and a label before it.
+pub fn other_lines_of_a_bag_info_of_version_0_97_are_faults()
+    ensures { InfoFault V097 (codes "a b") (record { line = 1; cause = cause.NoSeparator })
+        × InfoFault V097 (codes ":v") (record { line = 1; cause = cause.BadLabel })
+        × InfoFault V097 (codes ": v") (record { line = 1; cause = cause.BadLabel }) }
 {}
 
 /// A length is a number of octets, or `-` where none is given (RFC 8493 section 2.2.3).

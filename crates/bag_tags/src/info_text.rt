@@ -1,15 +1,14 @@
 //! The text of `bag-info.txt` (RFC 8493 section 2.2.2).
-ghost use Rattle.std.specs.Prelude.{◌≡◌, ◌++◌, true, false, List, [], IfErr, IfOk, IsErrOf, OnOk, MatchResult, option_map};
+ghost use Rattle.std.specs.Prelude.{◌≡◌, ◌++◌, ℕ, true, false, List, [], IfErr, IfOk, IsErrOf, OnOk, MatchOption, MatchResult};
 ghost use Rattle.std.specs.List.{AllByRecursion};
 ghost use Rattle.bag_path.specs.Lines.{IsPlain};
 ghost use Rattle.bag_path.specs.declared.version.Version.{Version};
-ghost use Rattle.bag_path.specs.declared.version.Version.TheVariants.{V1};
+ghost use Rattle.bag_path.specs.declared.version.Version.TheVariants.{V1, V097};
 ghost use Rattle.bag_tags.specs.declared.fault.LineFault.{LineFault};
 ghost use Rattle.bag_tags.specs.TagLines.{Causes};
 ghost use Rattle.bag_tags.specs.Words.{begins_blank, is_blank_line};
 ghost use Rattle.bag_tags.specs.Infos.{MetadataElement, IsElement, written_element, written_info, written_octet, written_value};
-ghost use Rattle.bag_tags.specs.InfoReading.{first_line_of};
-ghost use Rattle.bag_tags.specs.InfoText.{Continues, GivesElement, GivesNoElement, InfoText, InfoFault};
+ghost use Rattle.bag_tags.specs.InfoText.{Continues, GivesElement, GivesNoElement, HasFirstLine, HasLabel, HasParts, InfoText, InfoFault, LacksSeparator};
 
 use crate::fault::{LineCause, TagCause, TagFault};
 use crate::info::{Element, ElementFault, Info};
@@ -19,7 +18,8 @@ use bag_path::Version;
 use std::alloc::{AllocError, Global};
 
 /// The elements of a text: each is a line with a label, a colon, a blank and the first line of the value, and then the
-/// indented lines, if there are any, each a further line of the value.
+/// indented lines, if there are any, each a further line of the value. In version 0.97 any number of blanks stands
+/// before and after the colon, and is dropped.
 ///
 /// One byte order mark at the front is dropped, and lines of blanks alone are skipped.
 ///
@@ -47,11 +47,11 @@ impl TagLines for Info {
 
     ghost refuses = { RefusesInfo };
 
-    fn read_line(&mut self, _version: Version, _number: u64, text: &str) -> Result<(), TagCause> {
+    fn read_line(&mut self, version: Version, _number: u64, text: &str) -> Result<(), TagCause> {
         if begins_blank(text.as_bytes()) {
             return continue_last(self, text);
         }
-        let element = read_element(self.allocator(), text)?;
+        let element = read_element(self.allocator(), text, version)?;
         self.push(element)?;
         Ok(())
     }
@@ -76,13 +76,12 @@ fn continue_last(info: &mut Info, text: &str) -> Result<(), TagCause>
 }
 
 /// The element that a line gives.
-fn read_element(alloc: Global, text: &str) -> Result<Element, TagCause>
+fn read_element(alloc: Global, text: &str, version: Version) -> Result<Element, TagCause>
     requires { AllByRecursion IsPlain text.now }
-    ensures ok { IfOk result (GivesElement text.now) }
-    ensures err { IfErr result (Causes (GivesNoElement text.now)) }
+    ensures ok { IfOk result (GivesElement version text.now) }
+    ensures err { IfErr result (Causes (GivesNoElement version text.now)) }
 {
-    let (label, rest) = split_text(text, Stop::Colon);
-    let Some(first) = first_line(rest) else {
+    let Some((label, first)) = split_parts(text, version) else {
         return Err(TagCause::Line(LineCause::NoSeparator));
     };
     match Element::new(alloc, label, first) {
@@ -93,20 +92,61 @@ fn read_element(alloc: Global, text: &str) -> Result<Element, TagCause>
     }
 }
 
-/// What follows the colon and one blank, or nothing where the line ends at its colon.
-fn first_line(rest: &str) -> Option<&str>
-    ensures { option_map (λ first. first.now) result ≡ first_line_of rest.now }
+/// The label of a line and the first line of a value, where it has a separator.
+fn split_parts(text: &str, version: Version) -> Option<(&str, &str)>
+    ensures { MatchOption result (LacksSeparator version text.now)
+        (λ parts. HasParts version text.now parts.0.now parts.1.now) }
 {
-    match rest.as_bytes() {
-        [] => None,
-        [_] => Some(&rest[1..]),
-        [_, blank, ..] => {
-            if is_blank(*blank) {
-                Some(&rest[2..])
+    let (before, after) = text.split_once(':')?;
+    let first = first_line(after, version)?;
+    Some((label(before, version), first))
+}
+
+/// The label, which stands before the colon.
+fn label(before: &str, version: Version) -> &str
+    ensures { HasLabel version before.now result.now }
+{
+    match version {
+        Version::V1 => before,
+        Version::V097 => without_last_blanks(before),
+    }
+}
+
+/// The first line of the value, where what follows the colon has one.
+fn first_line(after: &str, version: Version) -> Option<&str>
+    ensures { MatchOption result ((first : List ℕ) → ¬ HasFirstLine version after.now first)
+        (λ first. HasFirstLine version after.now first.now) }
+{
+    match version {
+        Version::V1 => after_blank(after),
+        Version::V097 => Some(split_text(after, Stop::NoBlank).1),
+    }
+}
+
+/// What follows a blank, or nothing where there is nothing.
+fn after_blank(text: &str) -> Option<&str>
+    ensures { MatchOption result ((first : List ℕ) → ¬ HasFirstLine V1 text.now first)
+        (λ first. HasFirstLine V1 text.now first.now) }
+{
+    match text.as_bytes().first() {
+        None => Some(text),
+        Some(octet) => {
+            if is_blank(*octet) {
+                Some(&text[1..])
             } else {
                 None
             }
         }
+    }
+}
+
+/// A text without the blanks at its end.
+fn without_last_blanks(text: &str) -> &str
+    ensures { HasLabel V097 text.now result.now }
+{
+    match text.as_bytes().iter().rposition(|octet| !is_blank(*octet)) {
+        Some(last) => &text[..last + 1],
+        None => "",
     }
 }
 

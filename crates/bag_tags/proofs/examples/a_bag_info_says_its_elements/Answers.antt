@@ -5,6 +5,7 @@ use Rattle.bag_tags.specs.Infos.{MetadataElement, element, IsFit}
 use Rattle.bag_tags.specs.InfoText.{AddsInfo}
 use Rattle.bag_tags.specs.WordsReading.{until}
 use Rattle.bag_tags.proofs.ExampleLines.{at, text_of, leads_on, fit, adds_element, adds_line}
+use Rattle.bag_tags.proofs.InfoLineLemmas.{parts_of}
 use Rattle.bag_tags.proofs.examples.a_bag_info_says_its_elements.Goals as goal
 
 abbrev first : MetadataElement
@@ -28,11 +29,13 @@ note_fit = fit (codes "Note") refl refl refl refl
 
 one : AddsInfo V1 [] 1 (codes "Note: one") (first ∷ [])
 unfolding until
-one = adds_element [] 1 (codes "Note: one") (codes "one") refl note_fit
+one = adds_element V1 [] 1 (codes "Note: one") (codes "Note") (codes "one")
+    (parts_of V1 (codes "Note: one") (codes "Note") (codes " one") (codes "Note") (codes "one") refl refl (refl, refl)) note_fit
 
 two : AddsInfo V1 (first ∷ []) 2 (codes "Note: two") (first ∷ begun ∷ [])
 unfolding until
-two = adds_element (first ∷ []) 2 (codes "Note: two") (codes "two") refl note_fit
+two = adds_element V1 (first ∷ []) 2 (codes "Note: two") (codes "Note") (codes "two")
+    (parts_of V1 (codes "Note: two") (codes "Note") (codes " two") (codes "Note") (codes "two") refl refl (refl, refl)) note_fit
 
 three : AddsInfo V1 (first ∷ begun ∷ []) 3 (9 ∷ codes " three") (first ∷ second ∷ [])
 unfolding until
@@ -40,7 +43,8 @@ three = adds_line (first ∷ []) begun 3 (9 ∷ codes " three") refl
 
 four : AddsInfo V1 (first ∷ second ∷ []) 4 (codes "Empty:") (first ∷ second ∷ third ∷ [])
 unfolding until
-four = adds_element (first ∷ second ∷ []) 4 (codes "Empty:") [] refl (fit (codes "Empty") refl refl refl refl)
+four = adds_element V1 (first ∷ second ∷ []) 4 (codes "Empty:") (codes "Empty") []
+    (parts_of V1 (codes "Empty:") (codes "Empty") [] (codes "Empty") [] refl refl refl) (fit (codes "Empty") refl refl refl refl)
 
 pub returns : goal.returns
 unfolding lines_of

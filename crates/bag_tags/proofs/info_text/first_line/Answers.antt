@@ -1,11 +1,7 @@
-use Rattle.std.proofs.Common.{sym, ap, ◌∙◌, slice_index}
-use Rattle.std.proofs.lemmas.Str.{lead_after_ascii}
-use Rattle.bag_tags.specs.Words.{is_blank}
-use Rattle.bag_tags.proofs.TextCutLemmas.{blank_below}
+use Rattle.std.proofs.Common.{sym, subst}
+use Rattle.bag_tags.specs.InfoText.{HasFirstLine}
+use Rattle.bag_tags.proofs.LabelLemmas.{first_after}
 use Rattle.bag_tags.proofs.info_text.first_line.Goals as goal
 
-pub range_from-requires-then-is_blank : goal.range_from-requires-then-is_blank
-range_from-requires-then-is_blank c =
-    let rest = c.args.rest.now in
-    let blank = ap (λ octets. is_blank (slice_index octets 1)) (sym c.as_bytes.ensures.value) ∙ sym c.is_blank.ensures ∙ c.if-is_blank.true in
-    λ _. (rw c.as_bytes.ensures.value at c.in-len2-up.len_at_least, lead_after_ascii rest 1 c.utf8.rest (blank_below (slice_index rest 1) blank))
+pub returns-in-V097 : goal.returns-in-V097
+returns-in-V097 c = subst (λ version. HasFirstLine version c.args.after.now c.split_text.result.1.now) (sym c.in-V097.is) (first_after _ _ _ c.split_text.ensures)

@@ -1,24 +1,18 @@
 use Rattle.std.proofs.Common.{ap, subst}
 use Rattle.bag_tags.specs.Infos.{MetadataElement, IsFit}
-use Rattle.bag_tags.proofs.InfoLineLemmas.{parts_of, lacks_of, is_label_of, is_value_of, gives_of}
+use Rattle.bag_tags.proofs.InfoLineLemmas.{is_label_of, is_value_of, gives_of}
 use Rattle.bag_tags.proofs.info_text.read_element.Goals as goal
-
-pub returns-in_default-clause-err : goal.returns-in_default-clause-err
-returns-in_default-clause-err c = lacks_of _ _ _ c.split_text.ensures (c.in_default.ensures)
 
 pub unreachable-requires : goal.unreachable-requires
 unreachable-requires c =
-    let parts = parts_of _ _ _ _ c.split_text.ensures (c.in-Some.ensures) in
     let refused = rw c.in-Err-BadValue.field-0-is at c.in-Err-BadValue.ensures.refused in
-    refused.1 (is_value_of _ _ _ parts c.requires)
+    refused.1 (is_value_of _ _ _ _ c.in-Some.ensures c.requires)
 
 pub returns-in-Ok-clause-ok : goal.returns-in-Ok-clause-ok
 returns-in-Ok-clause-ok c =
-    let parts = parts_of _ _ _ _ c.split_text.ensures (c.in-Some.ensures) in
-    gives_of _ _ _ _ parts c.in-Ok.ensures.made (subst IsFit (ap (λ (e : MetadataElement). e.label) c.in-Ok.ensures.made) c.in-Ok.ensures.is_element.is_label.fit)
+    gives_of _ _ _ _ _ c.in-Some.ensures c.in-Ok.ensures.made (subst IsFit (ap (λ (e : MetadataElement). e.label) c.in-Ok.ensures.made) c.in-Ok.ensures.is_element.is_label.fit)
 
 pub returns-in-Err-BadLabel-clause-err : goal.returns-in-Err-BadLabel-clause-err
 returns-in-Err-BadLabel-clause-err c =
-    let parts = parts_of _ _ _ _ c.split_text.ensures (c.in-Some.ensures) in
     let refused = rw c.in-Err-BadLabel.field-0-is at c.in-Err-BadLabel.ensures.refused in
-    (_, (_, parts, λ fit. refused (is_label_of _ _ _ parts c.requires fit)))
+    (_, (_, c.in-Some.ensures, λ fit. refused (is_label_of _ _ _ _ c.in-Some.ensures c.requires fit)))
