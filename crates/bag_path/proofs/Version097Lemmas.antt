@@ -1,6 +1,9 @@
 -- What can be spelled in version 0.97, and what can't.
-use Rattle.std.proofs.Common.{◌≡◌, ◌≢◌, ◌∷◌, ◌++◌, ℕ, zero, suc, List, [], Option, Some, None, refl, sym, subst, ap, ◌∙◌, inl, inr, take, arith}
+use Rattle.std.proofs.Common.{◌≡◌, ◌≢◌, ◌==◌, ◌∷◌, ◌++◌, ℕ, zero, suc, List, [], Option, Some, None, if◌then◌else◌, refl, sym, subst, ap, ◌∙◌, inl, inr, get_or, take, drop, arith, codes}
+use Rattle.std.specs.List.{All, AllByRecursion, flat_map}
 use Rattle.std.proofs.lemmas.Bool.Decides.{eqb_tells}
+use Rattle.std.proofs.lemmas.List.Elements.{All-nil, All-append, All-from_recursion}
+use Rattle.bag_path.specs.Lines.{IsPlain}
 use Rattle.bag_path.specs.declared.version.Version.TheVariants.{V097}
 use Rattle.bag_path.specs.SpellingReading.{octet_of_escape, octet_of_percent, octets_with_first, octets_spelled_after, taken_by}
 use Rattle.bag_path.specs.Spellings.{IsLineEscape, BeginsLineEscape, StandsFor, Spells}
@@ -74,3 +77,72 @@ spells_itself (octet ∷ path) none =
     let alone : ¬ BeginsLineEscape (octet ∷ path) = λ h. none [] h.0 h.1 h.2 h.4 h.3 in
     let more = spells_itself path (λ before part after escaped e same. none (octet ∷ before) part after escaped e (ap (λ path. octet ∷ path) same)) in
     (octet ∷ [], path, refl, inl (refl, alone), more)
+
+-- a path on one line: LF and CR are escaped
+abbrev line_part_of : ℕ → List ℕ
+line_part_of octet = if octet == 10 then codes "%0A" else if octet == 13 then codes "%0D" else octet ∷ []
+
+abbrev line_text : List ℕ → List ℕ
+line_text path = flat_map line_part_of path
+
+by_line_part : (P : ℕ → Type 0) → P 10 → P 13 → ((x : ℕ) → IsPlain x → line_part_of x ≡ x ∷ [] → P x) → (x : ℕ) → P x
+by_line_part P lf cr itself x = elim (eqb_tells x 10) [ inl a ↦ subst P (sym a.1) lf | inr a ↦ elim (eqb_tells x 13) [ inl b ↦ subst P (sym b.1) cr | inr b ↦ itself x (a.1, b.1) (rw (a.0, b.0) refl) ] ]
+
+first_of_texts : (x y : ℕ) (xs ys : List ℕ) → (x ∷ xs) ≡ (y ∷ ys) → x ≡ y
+first_of_texts x y xs ys e = ap (λ text. get_or text 0 0) e
+
+-- an octet that isn't `%` stands in the text as it does in the path
+raw : (path : List ℕ) (x : ℕ) (more : List ℕ) → x ≢ 37 → line_text path ≡ x ∷ more → (rest : List ℕ) × (path ≡ x ∷ rest) × (line_text rest ≡ more)
+raw [] x more other e = absurd (let h : [] ≡ x ∷ more = e in cc)
+raw (y ∷ path) x more other e = by_line_part (λ y. line_text (y ∷ path) ≡ x ∷ more → (rest : List ℕ) × (y ∷ path ≡ x ∷ rest) × (line_text rest ≡ more))
+    (λ e. absurd (other (sym (first_of_texts 37 x _ more e))))
+    (λ e. absurd (other (sym (first_of_texts 37 x _ more e))))
+    (λ y plain same e.
+    let cut : y ∷ line_text path ≡ x ∷ more = ap (λ part. part ++ line_text path) (sym same) ∙ e in
+    (path, ap (λ y. y ∷ path) (first_of_texts y x _ more cut), ap (drop 1) cut))
+    y e
+
+-- where the text begins with an escape, the path begins with it or with its octet
+begun_raw : (x letter : ℕ) (path part rest : List ℕ) → letter ≢ 37 → part ≡ 37 ∷ 48 ∷ letter ∷ [] → x ∷ line_text path ≡ part ++ rest → (after : List ℕ) × (x ∷ path ≡ part ++ after)
+begun_raw x letter path part rest other e cut =
+    let same : x ∷ line_text path ≡ 37 ∷ 48 ∷ letter ∷ rest = cut ∙ ap (λ part. part ++ rest) e in
+    let zero = raw path 48 (letter ∷ rest) (omega arith) (ap (drop 1) same) in
+    let last = raw zero.0 letter rest other zero.2 in
+    (last.0, ap (λ x. x ∷ path) (first_of_texts x 37 _ _ same) ∙ ap (λ path. 37 ∷ path) (zero.1 ∙ ap (λ path. 48 ∷ path) last.1) ∙ ap (λ part. part ++ last.0) (sym e))
+
+begun_in_path : (x octet : ℕ) (path part rest : List ℕ) → IsLineEscape part octet → x ∷ line_text path ≡ part ++ rest → (after : List ℕ) × (x ∷ path ≡ part ++ after)
+begun_in_path x octet path part rest (inl (e, inl k)) cut = begun_raw x 65 path part rest (omega arith) k cut
+begun_in_path x octet path part rest (inl (e, inr k)) cut = begun_raw x 97 path part rest (omega arith) k cut
+begun_in_path x octet path part rest (inr (e, inl k)) cut = begun_raw x 68 path part rest (omega arith) k cut
+begun_in_path x octet path part rest (inr (e, inr k)) cut = begun_raw x 100 path part rest (omega arith) k cut
+
+no_escape_begun : (x : ℕ) (path : List ℕ) → HasNoLineEscape (x ∷ path) → ¬ BeginsLineEscape (x ∷ line_text path)
+no_escape_begun x path none h =
+    let found = begun_in_path x h.2 path h.0 h.1 h.4 h.3 in
+    none [] h.0 found.0 h.2 h.4 found.1
+
+none_after : (x : ℕ) (path : List ℕ) → HasNoLineEscape (x ∷ path) → HasNoLineEscape path
+none_after x path none = λ before part after escaped e same. none (x ∷ before) part after escaped e (ap (λ path. x ∷ path) same)
+
+line_spells : (path : List ℕ) → HasNoLineEscape path → Spells V097 path (line_text path)
+line_spells [] none = refl
+line_spells (octet ∷ path) none =
+    let more : Spells V097 path (line_text path) = line_spells path (none_after octet path none) in
+    by_line_part (λ octet. HasNoLineEscape (octet ∷ path) → Spells V097 (octet ∷ path) (line_text (octet ∷ path)))
+    (λ none. (codes "%0A", line_text path, refl, inr (inl (refl, inl refl)), more))
+    (λ none. (codes "%0D", line_text path, refl, inr (inr (refl, inl refl)), more))
+    (λ x plain same none. (x ∷ [], line_text path, ap (λ part. part ++ line_text path) same, inl (refl, no_escape_begun x path none), more))
+    octet none
+
+part_plain : (octet : ℕ) → AllByRecursion IsPlain (line_part_of octet)
+part_plain octet = by_line_part (λ octet. AllByRecursion IsPlain (line_part_of octet))
+    ((λ e. cc, λ e. cc), ((λ e. cc, λ e. cc), ((λ e. cc, λ e. cc), tt)))
+    ((λ e. cc, λ e. cc), ((λ e. cc, λ e. cc), ((λ e. cc, λ e. cc), tt)))
+    (λ octet h e. rw e (h, tt)) octet
+
+line_plain : (path : List ℕ) → All IsPlain (line_text path)
+line_plain [] = All-nil IsPlain
+line_plain (octet ∷ path) = All-append IsPlain (line_part_of octet) (line_text path) (All-from_recursion IsPlain (line_part_of octet) (part_plain octet)) (line_plain path)
+
+pub spells_on_a_line : (path : List ℕ) → HasNoLineEscape path → (text : List ℕ) × Spells V097 path text × All IsPlain text
+spells_on_a_line path none = (line_text path, line_spells path none, line_plain path)

@@ -47,6 +47,13 @@ pub fn other_paths_spell_themselves_in_version_097()
         → IsLineEscape part octet → path ≢ (before ++ part ++ after)) → Spells V097 path path }
 {}
 
+/// In version 0.97 every other path is spelled by some text that stays on its line.
+pub fn other_paths_have_a_spelling_on_one_line_in_version_097()
+    ensures { (path : List ℕ) → ((before part after : List ℕ) (octet : ℕ)
+        → IsLineEscape part octet → path ≢ (before ++ part ++ after))
+        → (text : List ℕ) × Spells V097 path text × All IsPlain text }
+{}
+
 /// The octets that are read from a text are those that it spells.
 pub fn what_is_read_is_what_is_spelled()
     ensures { (version : Version) (path text : List ℕ)
