@@ -102,20 +102,20 @@ module _ (bag : Bag) (rising : AreRising (paths_of bag)) (reads : (name : Manife
 
   decided_lists : (path : List ℕ) (alg : Alg) → Decided (ListsIt path alg)
   decided_lists path alg = elim (decided_reads alg) [
-    | inr no ↦ inr (λ h. no (h.0, h.1))
+    | inr unread ↦ inr (λ h. unread (h.0, h.1))
     | inl r ↦ elim (cases_Bool (lists_path r.0 path)) [
-      | inl yes ↦ inl (r.0, r.1, yes)
-      | inr no ↦ inr (λ h. (let k : true ≡ false = sym h.2 ∙ ap (λ ps. lists_path ps path) (one_pairs alg h.0 r.0 h.1 r.1) ∙ no in cc))
+      | inl lists ↦ inl (r.0, r.1, lists)
+      | inr other ↦ inr (λ h. (let k : true ≡ false = sym h.2 ∙ ap (λ ps. lists_path ps path) (one_pairs alg h.0 r.0 h.1 r.1) ∙ other in cc))
     ]
   ]
 
   -- a path is listed where no manifest is told for it
   pub listed_unless : (version : Version) (path : List ℕ) → ((alg : Alg) → ¬ IsUnlisted version bag alg path) → IsListed version bag path
-  listed_unless V1 path none = λ alg pairs lists. elim (cases_Bool (lists_path pairs path)) [ inl yes ↦ yes | inr no ↦ absurd (none alg (pairs, lists, no)) ]
+  listed_unless V1 path none = λ alg pairs lists. elim (cases_Bool (lists_path pairs path)) [ inl lists_it ↦ lists_it | inr other ↦ absurd (none alg (pairs, lists, other)) ]
   listed_unless V097 path none = elim (decided_alg (ListsIt path) (decided_lists path)) [
-    | inl h ↦ h
-    | inr no ↦ (
+    | inl h ↦ (h.0, h.1.0, h.1.1, h.1.2)
+    | inr unlisted ↦ (
       let first = first_of Reads decided_reads (some.0, reads (manifest_name Payload some.0) some.1) in
-      absurd (none first.0 (record { there = first.1.0; first = λ other pairs lists. first.1.1 other (pairs, lists) }, no))
+      absurd (none first.0 (record { there = first.1.0; first = λ other pairs lists. first.1.1 other (pairs, lists) }, λ h. unlisted (h.0, (h.1, h.2, h.3))))
     )
   ]

@@ -75,6 +75,7 @@ module _ (manifest : List ℕ) (pairs : List Pair) (lists : ManifestText V1 Sha2
   has_file content = record {
     held = λ path octets h. has_at (with_file manifest content).files h.0 (path, octets) h.1;
     declared = (0, refl);
+    version_is = refl;
     there = (2, refl);
     text = lists;
     listed = only;
@@ -84,6 +85,7 @@ module _ (manifest : List ℕ) (pairs : List Pair) (lists : ManifestText V1 Sha2
   has_no_file has_payload_dir = record {
     held = λ path octets h. elim (has_at (without_file manifest has_payload_dir).files h.0 (path, octets) h.1) [ inl e ↦ inl e | inr e ↦ inr (inr e) ];
     declared = (0, refl);
+    version_is = refl;
     there = (1, refl);
     text = lists;
     listed = only;

@@ -2,6 +2,8 @@
 -- what can be wrong with them.
 use Rattle.std.proofs.Common.{◌≡◌, ◌≢◌, ◌⊎◌, ℕ, true, false, List, [], ◌∷◌, Some, codes, nat_eq, get_or, refl, sym, ap, ◌∙◌, subst, inl, inr}
 use Rattle.bag_rules.proofs.Words.{Alg, BadDeclaration, BadLine, Bag, bytes_eq, current, differ_at, Digest, excludes, Fault, FetchLength, FetchList, FetchNotListed, file_of, Has, HasFault, hash, Holds, Info, is_payload, IsDeclaration, IsInProfile, IsThere, IsUnknownManifest, Kind, line_fault, LineCause, listed_digest, Lists, lists_path, Manifest, manifest_file, manifest_name, ManifestFault, ManifestName, ManifestNotListed, ManifestText, Md5, Missing, NoDeclaration, NoManifest, no_pairs, NoPayloadDir, one_file, one_list_of_pairs, other_text, OxumForm, OxumTwice, OxumWrong, Pair, Payload, payload_known, payload_manifest, Sha1, Sha256, Sha512, Tag, tag_manifest, Unlisted, V1, written_declaration, written_declares, WrongDigest}
+use Rattle.bag_rules.specs.Bags.{version_of}
+use Rattle.bag_rules.specs.Listed.{IsUnlisted}
 use Rattle.bag_rules.proofs.ListedLemmas.{some_listed}
 
 abbrev pub payload_file : List ℕ
@@ -24,6 +26,7 @@ by_file manifest content P a b c path octets (inr (inr (inr none))) = absurd non
 pub record HasOneManifest (bag : Bag) (manifest content : List ℕ) (pairs : List Pair) : Type 0 where
   pub held : (path octets : List ℕ) → Holds bag path octets → IsFile manifest content path octets
   pub declared : Holds bag (codes "bagit.txt") written_declaration
+  pub version_is : version_of bag ≡ V1
   pub there : Holds bag (codes "manifest-sha256.txt") manifest
   pub text : ManifestText V1 Sha256 Payload manifest pairs
   pub listed : (path : List ℕ) → lists_path pairs path ≡ true → path ≡ payload_file
@@ -72,12 +75,12 @@ module _ (bag : Bag) (manifest content : List ℕ) (pairs : List Pair) (h : HasO
   lists_these : (name : ManifestName) (others : List Pair) → Lists bag name others → (name ≡ by_sha256) × (others ≡ pairs)
   lists_these name others l =
       let one = the_one name l.octets l.there in
-      (one.0, one_list_of_pairs V1 Sha256 Payload manifest others pairs (rw (one.0, one.1) at l.text) h.text)
+      (one.0, one_list_of_pairs V1 Sha256 Payload manifest others pairs (rw (one.0, one.1) at (subst (λ v. ManifestText v name.alg name.kind l.octets others) h.version_is l.text)) h.text)
 
-  no_bad_line : (name : ManifestName) (octets : List ℕ) (line : ℕ) (cause : LineCause) → Holds bag (file_of name) octets → ¬ ManifestFault V1 name.alg name.kind octets (line_fault line cause)
+  no_bad_line : (name : ManifestName) (octets : List ℕ) (line : ℕ) (cause : LineCause) → Holds bag (file_of name) octets → ¬ ManifestFault (version_of bag) name.alg name.kind octets (line_fault line cause)
   no_bad_line name octets line cause held fault =
       let one = the_one name octets held in
-      no_pairs V1 Sha256 Payload manifest pairs (line_fault line cause) h.text (rw (one.0, one.1) at fault)
+      no_pairs V1 Sha256 Payload manifest pairs (line_fault line cause) h.text (rw (one.0, one.1) at (subst (λ v. ManifestFault v name.alg name.kind octets (line_fault line cause)) h.version_is fault))
 
   -- a payload file that is there is the one
   payload_only : (path octets : List ℕ) → Holds bag path octets → is_payload path ≡ true → (path ≡ payload_file) × (octets ≡ content)
@@ -99,11 +102,12 @@ module _ (bag : Bag) (manifest content : List ℕ) (pairs : List Pair) (h : HasO
       let here = h.listed path (rw one.1 at b.2) in
       rw (one.0, here) (can.missing (rw (one.1, here) at b.2) (rw here at b.3))
   left_fault P can (Unlisted alg path) b =
-      let one = lists_these (manifest_name Payload alg) b.0 b.1 in
+      let unlisted = subst (λ v. IsUnlisted v bag alg path) h.version_is b.0 in
+      let one = lists_these (manifest_name Payload alg) unlisted.0 unlisted.1 in
       let by : alg ≡ Sha256 = ap (λ (n : ManifestName). n.alg) one.0 in
-      let here = (payload_only path b.3.0 b.3.1 b.4).0 in
-      rw (by, here) (can.unlisted (rw (one.1, here) at b.2) (rw here at b.3))
-  left_fault P can (FetchNotListed alg path) b = absurd (no_fetch b.3.1.lists.octets b.3.1.lists.there)
+      let here = (payload_only path b.1.0 b.1.1 b.2).0 in
+      rw (by, here) (can.unlisted (rw (one.1, here) at unlisted.2) (rw here at b.1))
+  left_fault P can (FetchNotListed alg path) b = absurd (no_fetch b.1.1.lists.octets b.1.1.lists.there)
   left_fault P can (FetchLength line path) b = absurd (no_fetch b.1.lists.octets b.1.lists.there)
   left_fault P can OxumWrong b = absurd (no_info b.1.says.octets b.1.says.there)
   left_fault P can (WrongDigest name path) b =
@@ -117,11 +121,11 @@ module _ (bag : Bag) (manifest content : List ℕ) (pairs : List Pair) (h : HasO
       rw (one.0, here) (can.wrong b.2.0 (rw here at found) (rw here at there) (λ e. other (ap (hash Sha256) same ∙ e)))
 
   pub lists : Lists bag by_sha256 pairs
-  lists = record { octets = manifest; there = h.there; text = h.text }
+  lists = record { octets = manifest; there = h.there; text = subst (λ v. ManifestText v Sha256 Payload manifest pairs) (sym h.version_is) h.text }
 
   pub profile : IsInProfile bag
   profile = record {
-    declared = (written_declaration, h.declared, written_declares);
+    declared = record { declaration = current; declares = (written_declaration, h.declared, written_declares); version_is = ap Some (sym h.version_is); in_utf8 = refl };
     known = λ path word there. by_file manifest content (λ p o. ¬ IsUnknownManifest p word)
         (λ u. word_apart (codes "bagit.txt") word refl refl u.form) (λ u. word_apart payload_file word refl refl u.form) (λ u. payload_known (codes "manifest-sha256.txt") Sha256 word u refl)
         path there.0 (h.held path there.0 there.1);

@@ -15,7 +15,7 @@ has : HasOneManifest bag [] (codes "abc") []
 has = has_file [] [] lists_none none_listed (codes "abc")
 
 broken : HasFault bag unlisted
-broken = ([], lists bag [] (codes "abc") [] has, refl, (codes "abc", (1, refl)), refl)
+broken = (([], lists bag [] (codes "abc") [] has, refl), (codes "abc", (1, refl)), refl)
 
 only : (other : Fault) → HasFault bag other → unlisted ≡ other
 only = left_fault bag [] (codes "abc") [] has (λ fault. unlisted ≡ fault) record {
