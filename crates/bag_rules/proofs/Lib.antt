@@ -9,6 +9,8 @@ pub mod OrderLemmas
 pub mod FaultLemmas
 pub mod AddsLemmas
 pub mod ListedLemmas
+pub mod AlgLemmas
+pub mod UnlistedLemmas
 pub mod TreeLemmas
 pub mod FirstManifest
 pub mod TreeUses

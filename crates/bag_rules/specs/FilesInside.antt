@@ -1,12 +1,11 @@
 -- Faults of the files, by what was read. Private functions alone cite these: what a fault is stands in HasFault.
-use Rattle.std.specs.Prelude.{◌≡◌, ◌≢◌, ◌⊎◌, ℕ, Bool, true, false, List, Option, Some, Contains, length, slice_get}
+use Rattle.std.specs.Prelude.{◌≡◌, ◌≢◌, ◌⊎◌, ◌≤◌, ℕ, Bool, true, false, List, Option, Some, Contains, length, slice_get}
 use Rattle.std.specs.Bool.{then_some}
-use Rattle.std.specs.declared.cmp.Ordering.TheVariants.{Greater}
 use Rattle.bag_path.specs.declared.version.Version.{Version}
 use Rattle.bag_path.specs.declared.version.Version.TheVariants.{V1, V097}
 use Rattle.bag_path.specs.Paths.{is_payload}
 use Rattle.bag_digest.specs.declared.algorithm.Alg.{Alg}
-use Rattle.bag_digest.specs.contracts.algorithm.AlgOrd.TheImpl as order
+use Rattle.bag_digest.specs.Algorithm.{place_of}
 use Rattle.bag_digest.specs.declared.digest.Digest.{Digest}
 use Rattle.bag_digest.specs.declared.multi.Digests.{Digests}
 use Rattle.bag_digest.specs.Hash.{hash, digest_in}
@@ -57,7 +56,7 @@ pub record HasPayloadListing (listings : List Listing) (path : List ℕ) (lists 
 
 -- no algorithm of these comes before it
 abbrev pub IsFirstAmong : (Alg → Type 0) → Alg → Type 0
-IsFirstAmong some alg = some alg × ((other : Alg) → some other → order.ghosts.cmp alg other ≢ Greater)
+IsFirstAmong some alg = some alg × ((other : Alg) → some other → place_of alg ≤ place_of other)
 
 -- the payload manifest that is told where the path isn't listed as it has to be
 abbrev pub IsUnlistedIn : Version → List Listing → Alg → List ℕ → Type 0

@@ -205,10 +205,9 @@ fn add_unlisted(want: &Want<'_>, faults: &mut Vec<Fault>) -> Result<(), CheckFau
         return Ok(());
     }
     let unlisted = unlisted_in(want.version, want.manifests, want.path);
-    for alg in Alg::ALL {
-        if unlisted.has(alg) {
+    for manifest in Alg::ALL {
+        if unlisted.has(manifest) {
             let path = want.path.clone()?;
-            let manifest = alg;
             faults.push(Fault::Unlisted { manifest, path })?;
         }
     }

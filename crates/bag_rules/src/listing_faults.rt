@@ -103,10 +103,9 @@ fn add_entry_unlisted(
     ensures err { IfErr result (λ fault. fault ≡ CheckFault.Memory) }
 {
     let unlisted = unlisted_in(version, manifests, path);
-    for alg in Alg::ALL {
-        if unlisted.has(alg) {
+    for manifest in Alg::ALL {
+        if unlisted.has(manifest) {
             let path = path.clone()?;
-            let manifest = alg;
             faults.push(Fault::FetchNotListed { manifest, path })?;
         }
     }

@@ -1,0 +1,115 @@
+-- Which payload manifests are told where a path isn't listed as it has to be, by what was read and in the bag.
+use Rattle.std.proofs.Common.{◌≡◌, ◌≢◌, ◌<◌, ◌≤◌, ◌↔◌, ◌⊎◌, ◌||◌, ◌∙◌, ◌++◌, ◌∷◌, [], ℕ, Bool, true, false, List, length, refl, sym, ap, subst, inl, inr, arith}
+use Rattle.std.proofs.lemmas.Cmp.{ranked}
+use Rattle.std.specs.Cmp.{nat_cmp_is}
+use Rattle.bag_path.specs.declared.version.Version.{Version}
+use Rattle.bag_digest.specs.Algorithm.{place_of}
+use Rattle.bag_rules.specs.Bags.{version_of}
+use Rattle.bag_rules.specs.FilesInside.{HasPayloadListing, IsFirstAmong, IsUnlistedIn}
+use Rattle.bag_rules.specs.Listed.{IsFirstManifest, IsListed, IsUnlisted}
+use Rattle.bag_rules.proofs.Words.{Alg, AlgSet, AreTextsOf, Bag, cases_Bool, cases_lt, false≢true, Greater, Has, has, is_alg, Kind, Listing, Lists, lists_path, manifest_file, manifest_name, Md5, nat_cmp, or_cases, or_left, or_right, Pair, Payload, Sha1, Sha256, Sha512, slice_cmp, Texts, V1, V097}
+use Rattle.bag_rules.proofs.AlgLemmas.{each_alg, itself, same_alg}
+use Rattle.bag_rules.proofs.FrontLemmas.{manifest_listed}
+use Rattle.bag_rules.proofs.HasLemmas.{has_push}
+
+-- WHAT WAS READ
+
+-- one listing more
+module _ (listings : List Listing) (new : Listing) (path : List ℕ) (lists : Bool) (old : AlgSet) (before : (alg : Alg) → (has old alg ≡ true) ↔ HasPayloadListing listings path lists alg) where
+  kept : (alg : Alg) → has old alg ≡ true → HasPayloadListing (listings ++ new ∷ []) path lists alg
+  kept alg h =
+      let earlier = (before alg).0 h in
+      record { listing = earlier.listing; has = (has_push listings new earlier.listing).1 (inl earlier.has); kind_is = earlier.kind_is; alg_is = earlier.alg_is; lists_is = earlier.lists_is }
+
+  kept_or_new : (alg : Alg) → HasPayloadListing (listings ++ new ∷ []) path lists alg → (has old alg ≡ true) ⊎ (new.kind ≡ Payload) × (new.alg ≡ alg) × (lists_path new.pairs path ≡ lists)
+  kept_or_new alg h = elim ((has_push listings new h.listing).0 h.has) [
+    | inl earlier ↦ inl ((before alg).1 (record { listing = h.listing; has = earlier; kind_is = h.kind_is; alg_is = h.alg_is; lists_is = h.lists_is }))
+    | inr e ↦ inr (subst (λ (l : Listing). (l.kind ≡ Payload) × (l.alg ≡ alg) × (lists_path l.pairs path ≡ lists)) (sym e) (h.kind_is, h.alg_is, h.lists_is))
+  ]
+
+  -- of a payload manifest that lists the path, or doesn't
+  pub one_more : (set : AlgSet) → new.kind ≡ Payload → lists_path new.pairs path ≡ lists → ((alg : Alg) → has set alg ≡ (is_alg new.alg alg || has old alg)) → (alg : Alg) → (has set alg ≡ true) ↔ HasPayloadListing (listings ++ new ∷ []) path lists alg
+  one_more set payload so with_alg alg = (
+    λ h. elim (or_cases (is_alg new.alg alg) (has old alg) (sym (with_alg alg) ∙ h)) [
+      | inl this ↦ record { listing = new; has = (has_push listings new new).1 (inr refl); kind_is = payload; alg_is = same_alg new.alg alg this; lists_is = so }
+      | inr earlier ↦ kept alg earlier
+    ],
+    λ h. with_alg alg ∙ elim (kept_or_new alg h) [
+      | inl earlier ↦ or_right (is_alg new.alg alg) (has old alg) earlier
+      | inr this ↦ or_left (is_alg new.alg alg) (has old alg) (subst (λ a. is_alg new.alg a ≡ true) this.1 (itself new.alg))
+    ],
+  )
+
+  -- and of another
+  pub none_more : ¬ ((new.kind ≡ Payload) × (lists_path new.pairs path ≡ lists)) → (alg : Alg) → (has old alg ≡ true) ↔ HasPayloadListing (listings ++ new ∷ []) path lists alg
+  none_more other alg = (kept alg, λ h. elim (kept_or_new alg h) [ inl earlier ↦ earlier | inr this ↦ absurd (other (this.0, this.2)) ])
+
+-- THE ORDER OF PAYLOAD MANIFESTS
+
+-- their names are in the order of their algorithms
+by_name : (a b : Alg) → slice_cmp nat_cmp (manifest_file Payload a) (manifest_file Payload b) ≡ nat_cmp (place_of a) (place_of b)
+by_name Md5 = each_alg (λ b. slice_cmp nat_cmp (manifest_file Payload Md5) (manifest_file Payload b) ≡ nat_cmp (place_of Md5) (place_of b)) refl refl refl refl
+by_name Sha1 = each_alg (λ b. slice_cmp nat_cmp (manifest_file Payload Sha1) (manifest_file Payload b) ≡ nat_cmp (place_of Sha1) (place_of b)) refl refl refl refl
+by_name Sha256 = each_alg (λ b. slice_cmp nat_cmp (manifest_file Payload Sha256) (manifest_file Payload b) ≡ nat_cmp (place_of Sha256) (place_of b)) refl refl refl refl
+by_name Sha512 = each_alg (λ b. slice_cmp nat_cmp (manifest_file Payload Sha512) (manifest_file Payload b) ≡ nat_cmp (place_of Sha512) (place_of b)) refl refl refl refl
+
+abbrev IsUpTo : Alg → Alg → Type 0
+IsUpTo a b = slice_cmp nat_cmp (manifest_file Payload a) (manifest_file Payload b) ≢ Greater
+
+name_by_place : (a b : Alg) → place_of a ≤ place_of b → IsUpTo a b
+name_by_place a b upto e =
+    let after : place_of b < place_of a = ranked (place_of a) (place_of b) Greater (sym e ∙ by_name a b) in
+    omega (arith, upto, after)
+
+place_by_name : (a b : Alg) → IsUpTo a b → place_of a ≤ place_of b
+place_by_name a b upto = elim (cases_lt (place_of b) (place_of a)) [
+  | inl after ↦ absurd (upto (by_name a b ∙ sym (nat_cmp_is (place_of a) (place_of b) Greater after)))
+  | inr below ↦ omega (arith, below)
+]
+
+-- WHAT THE BAG'S MANIFESTS LIST
+
+module _ (bag : Bag) (texts : Texts) (are : AreTextsOf (length bag.files) bag texts) where
+  listing_said : (path : List ℕ) (lists : Bool) (alg : Alg) → HasPayloadListing texts.manifests.items path lists alg ↔ ((pairs : List Pair) × Lists bag (manifest_name Payload alg) pairs × (lists_path pairs path ≡ lists))
+  listing_said path lists alg = (
+    λ h.
+        let read = (manifest_listed bag texts are h.listing).0 h.has in
+        (h.listing.pairs, subst (λ a. Lists bag (manifest_name Payload a) h.listing.pairs) h.alg_is (subst (λ k. Lists bag (manifest_name k h.listing.alg) h.listing.pairs) h.kind_is read), h.lists_is),
+    λ h.
+        let listing : Listing = record { alg = alg; kind = Payload; pairs = h.0 } in
+        record { listing = listing; has = (manifest_listed bag texts are listing).1 h.1; kind_is = refl; alg_is = refl; lists_is = h.2 },
+  )
+
+  told : (version : Version) (alg : Alg) (path : List ℕ) → IsUnlistedIn version texts.manifests.items alg path → IsUnlisted version bag alg path
+  told V1 alg path h = (listing_said path false alg).0 h
+  told V097 alg path h = (
+    record {
+      there = let l = (listing_said path false alg).0 h.0.0 in (l.0, l.1);
+      first = λ other pairs lists. name_by_place alg other (elim (cases_Bool (lists_path pairs path)) [
+        | inl listed ↦ absurd (h.1 other ((listing_said path true other).1 (pairs, lists, listed)))
+        | inr not_listed ↦ h.0.1 other ((listing_said path false other).1 (pairs, lists, not_listed))
+      ]);
+    },
+    λ l. h.1 l.0 ((listing_said path true l.0).1 (l.1, l.2, l.3)),
+  )
+
+  told_back : (version : Version) (alg : Alg) (path : List ℕ) → IsUnlisted version bag alg path → IsUnlistedIn version texts.manifests.items alg path
+  told_back V1 alg path h = (listing_said path false alg).1 h
+  told_back V097 alg path h = (
+    (
+      (listing_said path false alg).1 (
+        h.0.there.0,
+        h.0.there.1,
+        elim (cases_Bool (lists_path h.0.there.0 path)) [
+          | inl listed ↦ absurd (h.1 (alg, h.0.there.0, h.0.there.1, listed))
+          | inr not_listed ↦ not_listed
+        ],
+      ),
+      λ other l. (let said = (listing_said path false other).0 l in place_by_name alg other (h.0.first other said.0 said.1)),
+    ),
+    λ other l. (let said = (listing_said path true other).0 l in h.1 (other, said.0, said.1, said.2)),
+  )
+
+  -- the same manifests are told
+  pub same_told : (alg : Alg) (path : List ℕ) → IsUnlistedIn (version_of bag) texts.manifests.items alg path ↔ IsUnlisted (version_of bag) bag alg path
+  same_told alg path = (told (version_of bag) alg path, told_back (version_of bag) alg path)
