@@ -1,64 +1,39 @@
 -- The entries of `fetch.txt` against the manifests and the files.
-use Rattle.std.proofs.Common.{◌≡◌, ◌≢◌, true, false, List, [], ◌∷◌, ◌++◌, Option, Some, None, length, refl, sym, ap, ◌∙◌, subst, is_some}
-use Rattle.bag_rules.proofs.Words.{Adds, AreTextsOf, Bag, Digest, Fault, FetchLine, FetchNotListed, Has, HasEntry, HasFault, HasFaultOf, IsFetchUnlistedBy, Kind, listed_digest, Listing, Lists, lists_path, manifest_name, OfSome, Payload, same_Some, Tag, Texts}
-use Rattle.bag_rules.proofs.AddsLemmas.{adds_so, adds_none, adds_one, adds_same}
-use Rattle.bag_rules.proofs.ListedLemmas.{listed_or_not}
-use Rattle.bag_rules.proofs.FrontLemmas.{fetch_listed, manifest_listed}
+use Rattle.std.proofs.Common.{◌≡◌, ◌↔◌, true, false, List, [], ◌∷◌, Some, None, length, refl, sym, ap, ◌∙◌, subst, inl, inr}
+use Rattle.bag_rules.specs.Bags.{version_of}
+use Rattle.bag_rules.proofs.Words.{Adds, AreLinesOf, AreTextsOf, Bag, Fault, FetchLine, FetchNotListed, Has, HasEntry, HasFaultOf, IsEntryUnlisted, OfSome, same_Some, Texts}
+use Rattle.bag_rules.proofs.AddsLemmas.{adds_so}
+use Rattle.bag_rules.proofs.FrontLemmas.{fetch_listed}
+use Rattle.bag_rules.proofs.UnlistedLemmas.{same_told}
 
--- one entry by one payload manifest
-abbrev pub IsLineUnlisted : Listing → FetchLine → Fault → Type 0
-IsLineUnlisted listing line fault = (lists_path listing.pairs line.entry.path ≡ false) × (fault ≡ FetchNotListed listing.alg line.entry.path)
+module _ (bag : Bag) (texts : Texts) (are : AreTextsOf (length bag.files) bag texts) (lines : List FetchLine) (lines_are : AreLinesOf texts lines) where
+  -- the lines that were read are the bag's entries
+  pub entry_there : (line : FetchLine) → Has lines line → HasEntry bag line
+  entry_there line has = elim lines_are [
+    | inl some ↦ record { lines = lines; lists = (fetch_listed bag texts are lines).0 some; has = has }
+    | inr none ↦ absurd (subst (λ ls. Has ls line) none.1 has)
+  ]
 
-pub line_listed : (listing : Listing) (line : FetchLine) (o : Option Digest) (old new : List Fault) → listed_digest listing.pairs line.entry.path ≡ o → is_some o ≡ true → new ≡ old → Adds old new (IsLineUnlisted listing line)
-line_listed listing line o old new e some same = adds_same old new (IsLineUnlisted listing line) same
-    (λ f h. let k : true ≡ false = sym some ∙ sym (listed_or_not listing.pairs line.entry.path o e) ∙ h.0 in cc)
+  pub entry_here : (line : FetchLine) → HasEntry bag line → Has lines line
+  entry_here line entry =
+      let own : texts.fetch ≡ Some entry.lines = (fetch_listed bag texts are entry.lines).1 entry.lists in
+      elim lines_are [
+        | inl some ↦ subst (λ ls. Has ls line) (sym (same_Some lines entry.lines (sym some ∙ own))) entry.has
+        | inr none ↦ absurd (let k : None ≡ Some entry.lines = sym none.0 ∙ own in cc)
+      ]
 
-pub line_unlisted : (listing : Listing) (line : FetchLine) (o : Option Digest) (old new : List Fault) → listed_digest listing.pairs line.entry.path ≡ o → is_some o ≡ false → new ≡ old ++ FetchNotListed listing.alg line.entry.path ∷ [] → Adds old new (IsLineUnlisted listing line)
-line_unlisted listing line o old new e none more = adds_one old new (FetchNotListed listing.alg line.entry.path) (IsLineUnlisted listing line) more
-    (listed_or_not listing.pairs line.entry.path o e ∙ none, refl) (λ f h. sym h.1)
+  -- entries that aren't listed as they have to be
+  abbrev pub IsLineUnlisted : FetchLine → Fault → Type 0
+  IsLineUnlisted line = IsEntryUnlisted (version_of bag) texts.manifests.items line.entry.path
 
-pub payload_if : (kind : Kind) → kind ≢ Tag → kind ≡ Payload
-payload_if Payload h = refl
-payload_if Tag h = absurd (h refl)
+  unlisted_there : (f : Fault) → OfSome lines IsLineUnlisted f → HasFaultOf bag (11 ∷ []) f
+  unlisted_there f (line, has, (alg, unlisted, is)) =
+      subst (HasFaultOf bag (11 ∷ [])) (sym is) (((same_told bag texts are alg line.entry.path).0 unlisted, (line, entry_there line has, refl)), refl)
 
--- the entries that one payload manifest doesn't list, and none where it is a tag manifest
-pub lines_unlisted : (listing : Listing) (lines : List FetchLine) (old new : List Fault) → listing.kind ≡ Payload → Adds old new (OfSome lines (IsLineUnlisted listing)) → Adds old new (IsFetchUnlistedBy listing lines)
-lines_unlisted listing lines old new payload a = adds_so old new (OfSome lines (IsLineUnlisted listing)) (IsFetchUnlistedBy listing lines)
-    (λ f h. (payload, (h.0, h.1, h.2.0, h.2.1)))
-    (λ f h. (h.1.0, h.1.1, (h.1.2, h.1.3)))
-    a
+  unlisted_back : (f : Fault) → HasFaultOf bag (11 ∷ []) f → OfSome lines IsLineUnlisted f
+  unlisted_back (FetchNotListed alg path) ((unlisted, (line, entry, named)), kind) =
+      (line, entry_here line entry, subst (λ p. IsEntryUnlisted (version_of bag) texts.manifests.items p (FetchNotListed alg path)) (sym named) (alg, (same_told bag texts are alg path).1 unlisted, refl))
+  unlisted_back _ h = absurd (let k : false ≡ true = h.1 in cc)
 
-module _ (bag : Bag) (texts : Texts) (are : AreTextsOf (length bag.files) bag texts) where
-  -- no entry stands where there is no list
-  pub no_entry : (line : FetchLine) → texts.fetch ≡ None → HasEntry bag line → ⊥
-  no_entry line none h = let k : None ≡ Some h.lines = sym none ∙ (fetch_listed bag texts are h.lines).1 h.lists in cc
-
-  -- an entry stands in the list that was read
-  pub entry_in : (lines : List FetchLine) (line : FetchLine) → texts.fetch ≡ Some lines → HasEntry bag line → Has lines line
-  entry_in lines line some h = subst (λ ls. Has ls line) (sym (same_Some lines h.lines (sym some ∙ (fetch_listed bag texts are h.lines).1 h.lists))) h.has
-
-  pub entry_of : (lines : List FetchLine) (line : FetchLine) → texts.fetch ≡ Some lines → Has lines line → HasEntry bag line
-  entry_of lines line some h = record { lines = lines; lists = (fetch_listed bag texts are lines).0 some; has = h }
-
-  -- without a list nothing is added
-  not_unlisted : (f : Fault) → texts.fetch ≡ None → HasFaultOf bag (11 ∷ []) f → ⊥
-  not_unlisted (FetchNotListed manifest path) none h = no_entry h.0.3.0 none h.0.3.1
-  not_unlisted _ none h = absurd (let k : false ≡ true = h.1 in cc)
-
-  pub none_unlisted : (faults : List Fault) → texts.fetch ≡ None → Adds faults faults (HasFaultOf bag (11 ∷ []))
-  none_unlisted faults none = adds_none faults (HasFaultOf bag (11 ∷ [])) (λ f h. not_unlisted f none h)
-
-  -- entries that payload manifests don't list
-  unlisted_back : (lines : List FetchLine) → texts.fetch ≡ Some lines → (f : Fault) → HasFaultOf bag (11 ∷ []) f → OfSome texts.manifests.items (λ (listing : Listing). IsFetchUnlistedBy listing lines) f
-  unlisted_back lines some (FetchNotListed manifest path) ((pairs, lists, unlisted, (line, has, named)), kind) =
-      let listing : Listing = record { alg = manifest; kind = Payload; pairs = pairs } in
-      (listing, (manifest_listed bag texts are listing).1 lists, (refl, (line, entry_in lines line some has, subst (λ p. lists_path pairs p ≡ false) (sym named) unlisted, ap (λ p. FetchNotListed manifest p) (sym named))))
-  unlisted_back lines some _ h = absurd (let k : false ≡ true = h.1 in cc)
-
-  pub all_unlisted : (lines : List FetchLine) (old new : List Fault) → texts.fetch ≡ Some lines → Adds old new (OfSome texts.manifests.items (λ (listing : Listing). IsFetchUnlistedBy listing lines)) → Adds old new (HasFaultOf bag (11 ∷ []))
-  all_unlisted lines old new some a = adds_so old new (OfSome texts.manifests.items (λ (listing : Listing). IsFetchUnlistedBy listing lines)) (HasFaultOf bag (11 ∷ []))
-      (λ f h.
-      let lists = subst (λ k. Lists bag (manifest_name k h.0.alg) h.0.pairs) h.2.0 ((manifest_listed bag texts are h.0).0 h.1) in
-      subst (λ g. HasFaultOf bag (11 ∷ []) g) (sym h.2.1.3) ((h.0.pairs, lists, h.2.1.2, (h.2.1.0, entry_of lines h.2.1.0 some h.2.1.1, refl)), refl))
-      (unlisted_back lines some)
-      a
+  pub all_unlisted : (old new : List Fault) → Adds old new (OfSome lines IsLineUnlisted) → Adds old new (HasFaultOf bag (11 ∷ []))
+  all_unlisted old new = adds_so old new (OfSome lines IsLineUnlisted) (HasFaultOf bag (11 ∷ [])) unlisted_there unlisted_back

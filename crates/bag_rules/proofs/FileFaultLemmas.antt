@@ -1,18 +1,14 @@
 -- The faults of a file by the manifests.
 use Rattle.std.proofs.Common.{◌≡◌, ◌≢◌, ◌⊎◌, ◌↔◌, ◌||◌, ◌&&◌, ℕ, Bool, true, false, List, [], ◌∷◌, ◌++◌, Some, None, if◌then◌else◌, refl, sym, ap, ◌∙◌, inl, inr, subst}
-use Rattle.bag_rules.proofs.Words.{Adds, Alg, alg_of, AlgSet, and_parts, and_right, AreDigests, cases_Bool, Digest, digest_in, Digests, false≢true, Fault, FetchLength, Fits, FitsListing, GivenLength, Has, has, hash, is_alg, is_payload, IsFaultBy, IsOtherDigest, IsOtherLength, IsReadBy, IsUnlistedIn, IsWrongIn, listed_digest, Listing, lists_by, lists_path, Md5, name_in, OfSome, or_cases, Payload, same_Some, Sha1, Sha256, Sha512, Unlisted, Want, WrongDigest}
+use Rattle.bag_rules.proofs.Words.{Adds, Alg, alg_of, AlgSet, and_parts, and_right, AreDigests, cases_Bool, Digest, digest_in, Digests, false≢true, Fault, FetchLength, Fits, FitsListing, GivenLength, Has, has, hash, is_alg, is_payload, IsFaultBy, IsFileUnlisted, IsOtherDigest, IsOtherLength, IsReadBy, IsWrongIn, listed_digest, Listing, lists_by, lists_path, Md5, name_in, OfSome, or_cases, same_Some, Sha1, Sha256, Sha512, Want, WrongDigest}
+use Rattle.bag_path.specs.declared.version.Version.{Version}
 use Rattle.bag_rules.specs.KeptInside.{HasSums}
 use Rattle.bag_rules.proofs.AddsLemmas.{adds_none, adds_on, adds_one, adds_so}
+use Rattle.bag_rules.proofs.AlgLemmas.{each_alg, itself}
 use Rattle.bag_rules.proofs.HasLemmas.{has_push}
-use Rattle.bag_rules.proofs.ListedLemmas.{none_listed, some_listed}
+use Rattle.bag_rules.proofs.ListedLemmas.{some_listed}
 
 -- THE ALGORITHMS OF A FILE
-
-itself : (alg : Alg) → is_alg alg alg ≡ true
-itself Md5 = refl
-itself Sha1 = refl
-itself Sha256 = refl
-itself Sha512 = refl
 
 or_false : (b : Bool) → (b || false) ≡ b
 or_false true = refl
@@ -79,12 +75,6 @@ pub not_read : (listings : List Listing) (path : List ℕ) (set : AlgSet) → ((
 not_read listings path set lists none other (inl payload) = false≢true (sym other ∙ payload)
 not_read listings path set lists none other (inr listed) = false≢true (sym (none listed.0.alg) ∙ lists listed.0.alg ∙ lists_here listings listed.0 path listed.1 listed.2)
 
-each_alg : (P : Alg → Type 0) → P Md5 → P Sha1 → P Sha256 → P Sha512 → (alg : Alg) → P alg
-each_alg P a b c d Md5 = a
-each_alg P a b c d Sha1 = b
-each_alg P a b c d Sha256 = c
-each_alg P a b c d Sha512 = d
-
 some_or_none : (test : Alg → Bool) → ((alg : Alg) × (test alg ≡ true)) ⊎ ((alg : Alg) → test alg ≡ false)
 some_or_none test = elim (cases_Bool (test Md5)) [
   | inl h ↦ inl (Md5, h)
@@ -108,18 +98,12 @@ listed_is_read listings path set lists some = elim (some_or_none (lists_by listi
 ]
 
 -- a file that isn't read has no fault
-pub no_faults_by : (listings : List Listing) (lengths : List GivenLength) (path octets : List ℕ) → ¬ IsReadBy listings path → lengths ≡ [] → (f : Fault) → IsFaultBy listings lengths path octets f → ⊥
-no_faults_by listings lengths path octets unread none f (inl unlisted) = unread (inl unlisted.2.1)
-no_faults_by listings lengths path octets unread none f (inr (inl longer)) = subst (λ gs. Has gs longer.0) none longer.1
-no_faults_by listings lengths path octets unread none f (inr (inr wrong)) = unread (inr (wrong.0, wrong.1, some_listed wrong.0.pairs path wrong.2.0 wrong.2.1))
+pub no_faults_by : (version : Version) (listings : List Listing) (lengths : List GivenLength) (path octets : List ℕ) → ¬ IsReadBy listings path → lengths ≡ [] → (f : Fault) → IsFaultBy version listings lengths path octets f → ⊥
+no_faults_by version listings lengths path octets unread none f (inl unlisted) = unread (inl unlisted.0)
+no_faults_by version listings lengths path octets unread none f (inr (inl longer)) = subst (λ gs. Has gs longer.0) none longer.1
+no_faults_by version listings lengths path octets unread none f (inr (inr wrong)) = unread (inr (wrong.0, wrong.1, some_listed wrong.0.pairs path wrong.2.0 wrong.2.1))
 
 -- THE FAULT BY ONE MANIFEST, OR BY ONE LENGTH
-
-pub adds_unlisted : (old new : List Fault) (listing : Listing) (path : List ℕ) → listed_digest listing.pairs path ≡ None → listing.kind ≡ Payload → is_payload path ≡ true → new ≡ old ++ Unlisted listing.alg path ∷ [] → Adds old new (IsUnlistedIn path listing)
-adds_unlisted old new listing path none kind payload e = adds_one old new (Unlisted listing.alg path) (IsUnlistedIn path listing) e (kind, payload, none_listed listing.pairs path none, refl) (λ f unlisted. sym unlisted.3)
-
-pub not_unlisted : (faults : List Fault) (listing : Listing) (path : List ℕ) → (listing.kind ≡ Payload → (digest : Digest) × (listed_digest listing.pairs path ≡ Some digest)) → Adds faults faults (IsUnlistedIn path listing)
-not_unlisted faults listing path listed = adds_none faults (IsUnlistedIn path listing) (λ f unlisted. (let d = listed unlisted.0 in false≢true (sym unlisted.2 ∙ some_listed listing.pairs path d.0 d.1)))
 
 pub adds_longer : (old new : List Fault) (given : GivenLength) (path : List ℕ) (n : ℕ) → given.length ≢ n → new ≡ old ++ FetchLength given.line path ∷ [] → Adds old new (IsOtherLength path n given)
 adds_longer old new given path n other e = adds_one old new (FetchLength given.line path) (IsOtherLength path n given) e (other, refl) (λ f longer. sym longer.1)
@@ -141,7 +125,7 @@ module _ (want : Want) (octets : List ℕ) (sums : ℕ × Digests) (set : AlgSet
   own listing has = taken sums.1 are.taken want.manifests.now listing want.path.now octets are.digests (λ alg l. are.covers alg (lists alg l)) has
 
   -- a file that is the one that is wanted can only be unlisted
-  pub fits_unlisted : (old new : List Fault) → Fits want sums.0 sums.1 → Adds old new (OfSome want.manifests.now (IsUnlistedIn want.path.now)) → Adds old new (IsFaultBy want.manifests.now want.lengths.now want.path.now octets)
+  pub fits_unlisted : (old new : List Fault) → Fits want sums.0 sums.1 → Adds old new (IsFileUnlisted want.version want.manifests.now want.path.now) → Adds old new (IsFaultBy want.version want.manifests.now want.lengths.now want.path.now octets)
   fits_unlisted old new fits = adds_so old new _ _ (λ f unlisted. inl unlisted) (λ f fault. elim fault [
     | inl unlisted ↦ unlisted
     | inr other ↦ absurd (elim other [
@@ -151,7 +135,7 @@ module _ (want : Want) (octets : List ℕ) (sums : ℕ × Digests) (set : AlgSet
   ])
 
   -- another has these faults
-  pub faults_by : (old a b new : List Fault) → Adds old a (OfSome want.manifests.now (IsUnlistedIn want.path.now)) → Adds a b (OfSome want.lengths.now (IsOtherLength want.path.now sums.0)) → Adds b new (OfSome want.manifests.now (IsOtherDigest want.path.now sums.1)) → Adds old new (IsFaultBy want.manifests.now want.lengths.now want.path.now octets)
+  pub faults_by : (old a b new : List Fault) → Adds old a (IsFileUnlisted want.version want.manifests.now want.path.now) → Adds a b (OfSome want.lengths.now (IsOtherLength want.path.now sums.0)) → Adds b new (OfSome want.manifests.now (IsOtherDigest want.path.now sums.1)) → Adds old new (IsFaultBy want.version want.manifests.now want.lengths.now want.path.now octets)
   faults_by old a b new unlisted longer wrong = adds_on old a new _ _ _ (λ f h. h) (λ f h. inl h) (λ f h. inr h) unlisted (adds_on a b new _ _ _ (λ f h. h) (λ f h. inl h) (λ f h. inr h)
       (subst (λ n. Adds a b (OfSome want.lengths.now (IsOtherLength want.path.now n))) are.count longer)
       (adds_so b new _ _

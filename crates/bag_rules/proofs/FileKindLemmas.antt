@@ -1,10 +1,12 @@
 -- The faults of the files, by what was read, are those that are broken.
 use Rattle.std.proofs.Common.{◌≡◌, ℕ, Bool, true, false, List, [], ◌∷◌, Option, length, refl, sym, ap, inl, inr, subst}
-use Rattle.bag_rules.proofs.Words.{AreLinesOf, AreTextsOf, AreWantsOf, BadDeclaration, BadLine, Bag, CheckFault, Fault, FetchLength, FetchLine, FetchNotListed, FileStops, FirstStops, GivenLength, Has, HasEntry, HasFaultOf, IsBagOf, IsChecked, IsFileFault, IsLongRead, IsMissing, IsReadBy, Listing, Lists, manifest_name, ManifestName, ManifestNotListed, Missing, name_in, NoDeclaration, NoManifest, NoneStops, NoneStopsBefore, NoPayloadDir, OxumForm, OxumTwice, OxumWrong, Pair, paths_in, Payload, Shown, Stopped, Texts, Unlisted, Wants, WrongDigest}
-use Rattle.bag_rules.proofs.FetchLemmas.{entry_in, entry_of, no_entry}
+use Rattle.bag_rules.specs.Bags.{version_of}
+use Rattle.bag_rules.proofs.Words.{Alg, AreLinesOf, AreTextsOf, AreWantsOf, BadDeclaration, BadLine, Bag, CheckFault, Fault, FetchLength, FetchLine, FetchNotListed, FileStops, FirstStops, GivenLength, Has, HasEntry, HasFaultOf, IsBagOf, IsChecked, IsFileFault, IsLongRead, IsMissing, IsReadBy, IsUnlistedIn, Listing, Lists, manifest_name, ManifestName, ManifestNotListed, Missing, name_in, NoDeclaration, NoManifest, NoneStops, NoneStopsBefore, NoPayloadDir, OxumForm, OxumTwice, OxumWrong, Pair, paths_in, Payload, Shown, Stopped, Texts, Unlisted, Wants, WrongDigest}
+use Rattle.bag_rules.proofs.FetchLemmas.{entry_here, entry_there}
 use Rattle.bag_rules.proofs.FrontLemmas.{manifest_listed}
 use Rattle.bag_rules.proofs.LimitLemmas.{stopped_so}
 use Rattle.bag_rules.proofs.TreeLemmas.{is_there, shows}
+use Rattle.bag_rules.proofs.UnlistedLemmas.{same_told}
 
 abbrev listing_by : ManifestName → List Pair → Listing
 listing_by name pairs = record { alg = name.alg; kind = name.kind; pairs = pairs }
@@ -44,42 +46,34 @@ module _ (bag : Bag) (texts : Texts) (are : AreTextsOf (length bag.files) bag te
 
   -- FAULTS OF THE FILES THAT ARE THERE
 
-  module _ (lines : List FetchLine) (lines_are : AreLinesOf texts lines) (wants : Wants) (wants_are : AreWantsOf texts.manifests.items lines wants) where
+  module _ (lines : List FetchLine) (lines_are : AreLinesOf texts lines) (wants : Wants) (wants_are : AreWantsOf (version_of bag) texts.manifests.items lines wants) where
     read_in : (listing : Listing) → Has wants.manifests.now listing → Has texts.manifests.items listing
     read_in listing = subst (λ ls. Has ls listing) wants_are.manifests
 
     kept_in : (listing : Listing) → Has texts.manifests.items listing → Has wants.manifests.now listing
     kept_in listing = subst (λ ls. Has ls listing) (sym wants_are.manifests)
 
-    entry_there : (line : FetchLine) → Has lines line → HasEntry bag line
-    entry_there line has = elim lines_are [
-      | inl some ↦ entry_of bag texts are lines line some has
-      | inr none ↦ absurd (subst (λ ls. Has ls line) none.1 has)
-    ]
+    told_in : (alg : Alg) (path : List ℕ) → IsUnlistedIn wants.version wants.manifests.now alg path → IsUnlistedIn (version_of bag) texts.manifests.items alg path
+    told_in alg path unlisted = subst (λ v. IsUnlistedIn v texts.manifests.items alg path) wants_are.version_is (subst (λ ls. IsUnlistedIn wants.version ls alg path) wants_are.manifests unlisted)
 
-    entry_here : (line : FetchLine) → HasEntry bag line → Has lines line
-    entry_here line entry = elim lines_are [
-      | inl some ↦ entry_in bag texts are lines line some entry
-      | inr none ↦ absurd (no_entry bag texts are line none.0 entry)
-    ]
+    told_so : (alg : Alg) (path : List ℕ) → IsUnlistedIn (version_of bag) texts.manifests.items alg path → IsUnlistedIn wants.version wants.manifests.now alg path
+    told_so alg path unlisted = subst (λ ls. IsUnlistedIn wants.version ls alg path) (sym wants_are.manifests) (subst (λ v. IsUnlistedIn v texts.manifests.items alg path) (sym wants_are.version_is) unlisted)
 
     pub file_fault_broken : (f : Fault) → IsFileFault bag wants f → HasFaultOf bag (10 ∷ 12 ∷ 14 ∷ []) f
-    file_fault_broken f (i, (path, (octets, at, inl (listing, has, unlisted)))) =
-        let lists : Lists bag (manifest_name Payload listing.alg) listing.pairs = subst (λ kind. Lists bag (manifest_name kind listing.alg) listing.pairs) unlisted.0 (lists_of_has listing (read_in listing has)) in
-        subst (HasFaultOf bag (10 ∷ 12 ∷ 14 ∷ [])) (sym unlisted.3) ((listing.pairs, lists, unlisted.2, (octets, (i, at)), unlisted.1), refl)
+    file_fault_broken f (i, (path, (octets, at, inl (payload, (alg, unlisted, is))))) =
+        subst (HasFaultOf bag (10 ∷ 12 ∷ 14 ∷ [])) (sym is) (((same_told bag texts are alg path).0 (told_in alg path unlisted), (octets, (i, at)), payload), refl)
     file_fault_broken f (i, (path, (octets, at, inr (inl (given, has, longer))))) =
         let line = (wants_are.lengths.given path given).0 has in
-        subst (HasFaultOf bag (10 ∷ 12 ∷ 14 ∷ [])) (sym longer.1) ((line.0, entry_there line.0 line.1, line.2.2, line.2.0, (given.length, line.2.1, (octets, (i, at), λ e. longer.0 (sym e)))), refl)
+        subst (HasFaultOf bag (10 ∷ 12 ∷ 14 ∷ [])) (sym longer.1) ((line.0, entry_there bag texts are lines lines_are line.0 line.1, line.2.2, line.2.0, (given.length, line.2.1, (octets, (i, at), λ e. longer.0 (sym e)))), refl)
     file_fault_broken f (i, (path, (octets, at, inr (inr (listing, has, wrong))))) =
         subst (HasFaultOf bag (10 ∷ 12 ∷ 14 ∷ [])) (sym wrong.3) ((listing.pairs, lists_of_has listing (read_in listing has), (wrong.0, wrong.1, (octets, (i, at), wrong.2))), refl)
 
     pub broken_file_fault : (f : Fault) → HasFaultOf bag (10 ∷ 12 ∷ 14 ∷ []) f → IsFileFault bag wants f
-    broken_file_fault (Unlisted alg path) ((pairs, lists, unlisted, (octets, (i, at)), payload), kind) =
-        let listing = listing_by (manifest_name Payload alg) pairs in
-        (i, (path, (octets, at, inl (listing, kept_in listing (has_of_lists (manifest_name Payload alg) pairs lists), (refl, payload, unlisted, refl)))))
+    broken_file_fault (Unlisted alg path) ((unlisted, (octets, (i, at)), payload), kind) =
+        (i, (path, (octets, at, inl (payload, (alg, told_so alg path ((same_told bag texts are alg path).1 unlisted), refl)))))
     broken_file_fault (FetchLength number path) ((line, entry, number_is, path_is, (n, gives, (octets, (i, at), other))), kind) =
         let given : GivenLength = record { line = line.line; length = n } in
-        (i, (path, (octets, at, inr (inl (given, (wants_are.lengths.given path given).1 (line, entry_here line entry, (path_is, gives, refl)), ((λ e. other (sym e)), ap (λ k. FetchLength k path) (sym number_is)))))))
+        (i, (path, (octets, at, inr (inl (given, (wants_are.lengths.given path given).1 (line, entry_here bag texts are lines lines_are line entry, (path_is, gives, refl)), ((λ e. other (sym e)), ap (λ k. FetchLength k path) (sym number_is)))))))
     broken_file_fault (WrongDigest name path) ((pairs, lists, (digest, some, (octets, (i, at), wrong))), kind) =
         (i, (path, (octets, at, inr (inr (listing_by name pairs, kept_in (listing_by name pairs) (has_of_lists name pairs lists), (digest, some, wrong, refl))))))
     broken_file_fault _ h = absurd (let k : false ≡ true = h.1 in cc)

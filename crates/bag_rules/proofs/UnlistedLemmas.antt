@@ -1,14 +1,17 @@
 -- Which payload manifests are told where a path isn't listed as it has to be, by what was read and in the bag.
-use Rattle.std.proofs.Common.{◌≡◌, ◌≢◌, ◌<◌, ◌≤◌, ◌↔◌, ◌⊎◌, ◌||◌, ◌∙◌, ◌++◌, ◌∷◌, [], ℕ, Bool, true, false, List, length, refl, sym, ap, subst, inl, inr, arith}
+use Rattle.std.proofs.Common.{◌≡◌, ◌≢◌, ◌<◌, ◌≤◌, ◌↔◌, ◌⊎◌, ◌||◌, ◌+◌, ◌∙◌, ◌++◌, ◌∷◌, [], ℕ, Bool, true, false, List, length, take, get_or, refl, sym, ap, subst, inl, inr, arith}
 use Rattle.std.proofs.lemmas.Cmp.{ranked}
 use Rattle.std.specs.Cmp.{nat_cmp_is}
 use Rattle.bag_path.specs.declared.version.Version.{Version}
 use Rattle.bag_digest.specs.Algorithm.{place_of}
+use Rattle.bag_digest.specs.declared.algorithm.TheConstants.Alg.{ALL}
 use Rattle.bag_rules.specs.Bags.{version_of}
 use Rattle.bag_rules.specs.FilesInside.{HasPayloadListing, IsFirstAmong, IsUnlistedIn}
 use Rattle.bag_rules.specs.Listed.{IsFirstManifest, IsListed, IsUnlisted}
-use Rattle.bag_rules.proofs.Words.{Alg, AlgSet, AreTextsOf, Bag, cases_Bool, cases_lt, false≢true, Greater, Has, has, is_alg, Kind, Listing, Lists, lists_path, manifest_file, manifest_name, Md5, nat_cmp, or_cases, or_left, or_right, Pair, Payload, Sha1, Sha256, Sha512, slice_cmp, Texts, V1, V097}
-use Rattle.bag_rules.proofs.AlgLemmas.{each_alg, itself, same_alg}
+use Rattle.bag_rules.proofs.Words.{Adds, Alg, AlgSet, AreTextsOf, Bag, cases_Bool, cases_lt, false≢true, Fault, Greater, Has, has, is_alg, Kind, Listing, Lists, lists_path, manifest_file, manifest_name, Md5, nat_cmp, or_cases, or_left, or_right, OfSome, Pair, Payload, Sha1, Sha256, Sha512, slice_cmp, Texts, V1, V097}
+use Rattle.bag_rules.proofs.AddsLemmas.{adds_one, adds_same, adds_so}
+use Rattle.bag_rules.proofs.EachLemmas.{each_all, each_at, stands_at}
+use Rattle.bag_rules.proofs.AlgLemmas.{each_alg, in_all, itself, same_alg}
 use Rattle.bag_rules.proofs.FrontLemmas.{manifest_listed}
 use Rattle.bag_rules.proofs.HasLemmas.{has_push}
 
@@ -113,3 +116,31 @@ module _ (bag : Bag) (texts : Texts) (are : AreTextsOf (length bag.files) bag te
   -- the same manifests are told
   pub same_told : (alg : Alg) (path : List ℕ) → IsUnlistedIn (version_of bag) texts.manifests.items alg path ↔ IsUnlisted (version_of bag) bag alg path
   same_told alg path = (told (version_of bag) alg path, told_back (version_of bag) alg path)
+
+-- FAULTS BY ALGORITHM
+
+-- the fault that tells of the manifest by an algorithm of the set
+abbrev pub IsTold : AlgSet → (Alg → Fault) → Alg → Fault → Type 0
+IsTold set of alg fault = (has set alg ≡ true) × (fault ≡ of alg)
+
+module _ (set : AlgSet) (of : Alg → Fault) where
+  -- one algorithm more, which is in the set or isn't
+  module _ (i : ℕ) (default : Alg) (old mid new : List Fault) (inside : i < 4) (before : Adds old mid (OfSome (take i ALL) (IsTold set of))) where
+    abbrev alg : Alg
+    alg = get_or ALL i default
+
+    told_more : Adds mid new (IsTold set of alg) → Adds old new (OfSome (take (i + 1) ALL) (IsTold set of))
+    told_more = each_at ALL i alg (IsTold set of) old mid new (stands_at ALL i default inside) before
+
+    pub told_one : has set alg ≡ true → new ≡ mid ++ of alg ∷ [] → Adds old new (OfSome (take (i + 1) ALL) (IsTold set of))
+    told_one h more = told_more (adds_one mid new (of alg) (IsTold set of alg) more (h, refl) (λ f t. sym t.1))
+
+    pub told_none : has set alg ≡ false → new ≡ mid → Adds old new (OfSome (take (i + 1) ALL) (IsTold set of))
+    told_none h same = told_more (adds_same mid new (IsTold set of alg) same (λ f t. false≢true (sym h ∙ t.0)))
+
+  -- those of the whole set
+  pub told_all : (told : Alg → Type 0) (i : ℕ) (old new : List Fault) → i ≡ 4 → ((alg : Alg) → (has set alg ≡ true) ↔ told alg) → Adds old new (OfSome (take i ALL) (IsTold set of)) → Adds old new (λ f. (alg : Alg) × told alg × (f ≡ of alg))
+  told_all told i old new all says a = adds_so old new (OfSome ALL (IsTold set of)) (λ f. (alg : Alg) × told alg × (f ≡ of alg))
+      (λ f h. (h.0, (says h.0).0 h.2.0, h.2.1))
+      (λ f h. (h.0, in_all h.0, ((says h.0).1 h.1, h.2)))
+      (each_all ALL i (IsTold set of) old new all a)

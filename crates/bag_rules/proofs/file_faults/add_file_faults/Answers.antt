@@ -1,4 +1,5 @@
 use Rattle.std.proofs.Common.{◌≡◌, ◌∷◌, ◌∙◌, [], List, Result, Ok, Err, IfErr, MatchResult, sym, subst}
+use Rattle.bag_path.specs.declared.version.Version.{Version}
 use Rattle.bag_rules.proofs.Words.{Adds, AreLinesOf, AreWantsOf, err_from_is_err_and, FetchLine, FileStops, FirstStops, HasFaultOf, IfErr-weaker, IsFileFault, IsLongRead, IsMissing, IsSizeOf, kinds_of_files, Listing, NoneStops, on_ok_weaker, paths_in, Stopped}
 use Rattle.bag_rules.specs.declared.outcome.CheckFault.TheVariants.{Memory}
 use Rattle.bag_rules.proofs.AddsLemmas.{adds_kinds, adds_of, adds_so}
@@ -23,14 +24,14 @@ pub read_files-requires-clause-ready : goal.read_files-requires-clause-ready
 read_files-requires-clause-ready g c = (c.requires.kept, c.in_ok-wants.ensures.lengths.payload)
 
 pub returns-clause-added : goal.returns-clause-added
-returns-clause-added g c = λ bag is are.
+returns-clause-added g c = λ bag is version_is are.
     let texts = c.args.texts.now in
     let wants = c.in_ok-wants.wants in
-    let wants_are = subst (λ ls. AreWantsOf ls c.fetch_lines.result.now wants) c.deref-2.ensures.value c.in_ok-wants.ensures in
+    let wants_are = subst (λ (v : Version). AreWantsOf v texts.manifests.items c.fetch_lines.result.now wants) (sym version_is) (subst (λ (ls : List Listing). AreWantsOf c.args.version ls c.fetch_lines.result.now wants) c.deref-2.ensures.value c.in_ok-wants.ensures) in
     let missing : Adds c.args.faults.now.items c.add_missing.new.faults.items (HasFaultOf bag (9 ∷ [])) =
     adds_so _ _ (IsMissing (paths_in (g.T.Tree.shown c.args.tree.now)) texts.manifests.items) (HasFaultOf bag (9 ∷ [])) (missing_broken bag texts are is) (broken_missing bag texts are is)
     (subst (λ (ls : List Listing). Adds c.args.faults.now.items c.add_missing.new.faults.items (IsMissing (paths_in (g.T.Tree.shown c.args.tree.now)) ls)) c.deref.ensures.value c.in_ok-add_missing.ensures.added) in
-    let unlisted : Adds c.add_missing.new.faults.items c.add_fetch_unlisted.new.faults.items (HasFaultOf bag (11 ∷ [])) = c.in_ok-add_fetch_unlisted.ensures.added bag are in
+    let unlisted : Adds c.add_missing.new.faults.items c.add_fetch_unlisted.new.faults.items (HasFaultOf bag (11 ∷ [])) = c.in_ok-add_fetch_unlisted.ensures.added bag version_is are in
     let read = c.in_ok-size.ensures.read bag is in
     let files : Adds c.add_fetch_unlisted.new.faults.items c.read_files.new.faults.items (HasFaultOf bag (10 ∷ 12 ∷ 14 ∷ [])) =
     adds_so _ _ (IsFileFault bag wants) (HasFaultOf bag (10 ∷ 12 ∷ 14 ∷ [])) (file_fault_broken bag texts are c.fetch_lines.result.now c.fetch_lines.ensures wants wants_are) (broken_file_fault bag texts are c.fetch_lines.result.now c.fetch_lines.ensures wants wants_are) read.1 in
