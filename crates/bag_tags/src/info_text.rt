@@ -51,7 +51,7 @@ impl TagLines for Info {
         if begins_blank(text.as_bytes()) {
             return continue_last(self, text);
         }
-        let element = read_element(self.allocator(), text, version)?;
+        let element = read_element(self.allocator(), version, text)?;
         self.push(element)?;
         Ok(())
     }
@@ -76,12 +76,12 @@ fn continue_last(info: &mut Info, text: &str) -> Result<(), TagCause>
 }
 
 /// The element that a line gives.
-fn read_element(alloc: Global, text: &str, version: Version) -> Result<Element, TagCause>
+fn read_element(alloc: Global, version: Version, text: &str) -> Result<Element, TagCause>
     requires { AllByRecursion IsPlain text.now }
     ensures ok { IfOk result (GivesElement version text.now) }
     ensures err { IfErr result (Causes (GivesNoElement version text.now)) }
 {
-    let Some((label, first)) = split_parts(text, version) else {
+    let Some((label, first)) = split_parts(version, text) else {
         return Err(TagCause::Line(LineCause::NoSeparator));
     };
     match Element::new(alloc, label, first) {
@@ -93,17 +93,17 @@ fn read_element(alloc: Global, text: &str, version: Version) -> Result<Element, 
 }
 
 /// The label of a line and the first line of a value, where it has a separator.
-fn split_parts(text: &str, version: Version) -> Option<(&str, &str)>
+fn split_parts(version: Version, text: &str) -> Option<(&str, &str)>
     ensures { MatchOption result (LacksSeparator version text.now)
         (λ parts. HasParts version text.now parts.0.now parts.1.now) }
 {
     let (before, after) = text.split_once(':')?;
-    let first = first_line(after, version)?;
-    Some((label(before, version), first))
+    let first = first_line(version, after)?;
+    Some((label(version, before), first))
 }
 
 /// The label, which stands before the colon.
-fn label(before: &str, version: Version) -> &str
+fn label(version: Version, before: &str) -> &str
     ensures { HasLabel version before.now result.now }
 {
     match version {
@@ -113,7 +113,7 @@ fn label(before: &str, version: Version) -> &str
 }
 
 /// The first line of the value, where what follows the colon has one.
-fn first_line(after: &str, version: Version) -> Option<&str>
+fn first_line(version: Version, after: &str) -> Option<&str>
     ensures { MatchOption result ((first : List ℕ) → ¬ HasFirstLine version after.now first)
         (λ first. HasFirstLine version after.now first.now) }
 {

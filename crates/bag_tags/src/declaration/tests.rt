@@ -181,10 +181,12 @@ fn joined(alloc: Global, parts: &[&[u8]]) -> Result<Vec<u8>, AllocError> {
 }
 
 #[test]
-fn the_version_that_is_known_is_1_0(rt: HostRuntime) {
+fn the_versions_that_are_known_are_1_0_and_0_97(rt: HostRuntime) {
     for (major, minor, want) in [
         (1, 0, Some(Version::V1)),
-        (0, 97, None),
+        (0, 97, Some(Version::V097)),
+        (0, 96, None),
+        (97, 0, None),
         (1, 1, None),
         (0, 0, None),
         (2, 0, None),

@@ -142,3 +142,13 @@ fn what_is_written_for_entries(rt: HostRuntime) -> Result<(), Fail> {
     );
     Ok(())
 }
+
+#[test]
+fn escapes_of_paths_in_version_0_97(rt: HostRuntime) -> Result<(), Fail> {
+    let octets = b"http:x - data/%25\nhttp:x - data/%0a\n";
+    let fetch = read_fetch(rt.alloc(), octets, Version::V097)?;
+    assert_eq!(rt; fetch.entries().len(), 2);
+    assert_eq!(rt; fetch.entries()[0].entry.path().as_str(), "data/%25");
+    assert_eq!(rt; fetch.entries()[1].entry.path().as_str(), "data/\n");
+    Ok(())
+}

@@ -104,3 +104,17 @@ fn the_first_faulty_line_and_its_first_cause(rt: HostRuntime) {
         );
     }
 }
+
+#[test]
+fn blanks_around_a_colon_in_version_0_97(rt: HostRuntime) -> Result<(), Fail> {
+    let info = read_info(rt.alloc(), b"L : v\nL:v\nL: \t v\n", Version::V097)?;
+    assert_eq!(rt; info.elements().len(), 3);
+    for element in info.elements() {
+        assert_eq!(rt; element.label(), "L");
+        assert_eq!(rt; element.value(), "v");
+    }
+    let fault = read_info(rt.alloc(), b"L:v\n: v\n", Version::V097).err();
+    let cause = LineCause::BadLabel;
+    assert_eq!(rt; fault, Some(TagFault::Line(LineFault { line: 2, cause })));
+    Ok(())
+}

@@ -135,3 +135,14 @@ fn an_md5_digest_has_32_hex_digits(rt: HostRuntime) -> Result<(), Fail> {
     assert_eq!(rt; manifest.pairs()[0].path.as_str(), "bagit.txt");
     Ok(())
 }
+
+#[test]
+fn escapes_of_paths_in_version_0_97(rt: HostRuntime) -> Result<(), Fail> {
+    let octets = b"900150983cd24fb0d6963f7d28e17f72 data/%25\n\
+900150983cd24fb0d6963f7d28e17f72 data/%0a\n";
+    let manifest = read_manifest(rt.alloc(), octets, Alg::Md5, Kind::Payload, Version::V097)?;
+    assert_eq!(rt; manifest.pairs().len(), 2);
+    assert_eq!(rt; manifest.pairs()[0].path.as_str(), "data/%25");
+    assert_eq!(rt; manifest.pairs()[1].path.as_str(), "data/\n");
+    Ok(())
+}
