@@ -36,7 +36,7 @@ decided_alg P each = decided_as (P Md5 ⊎ (P Sha1 ⊎ (P Sha256 ⊎ P Sha512)))
 abbrev IsFirst : (Alg → Type 0) → Alg → Type 0
 IsFirst P alg = (other : Alg) → P other → slice_cmp nat_cmp (manifest_file Payload alg) (manifest_file Payload other) ≢ Greater
 
-first_md5 : (P : Alg → Type 0) → IsFirst P Md5
+pub first_md5 : (P : Alg → Type 0) → IsFirst P Md5
 first_md5 P Md5 has = λ e. (let k : Equal ≡ Greater = e in cc)
 first_md5 P Sha1 has = λ e. (let k : Less ≡ Greater = e in cc)
 first_md5 P Sha256 has = λ e. (let k : Less ≡ Greater = e in cc)

@@ -42,3 +42,4 @@ pub mod OneLimitLemmas
 pub mod OneVerdictLemmas
 pub mod OneManifest
 pub mod OneFile
+pub mod EarlierBag

@@ -3,6 +3,7 @@ use Rattle.std.proofs.Common.{◌≡◌, ◌<◌, ℕ, Bool, true, false, List, 
 use Rattle.std.specs.List.Sorted.{IsStrictlySortedBy}
 use Rattle.bag_rules.proofs.Words.{adds_pair, AddsPair, AreRising, ascii_path, Bag, bytes_eq, bytes_eq-Decides, Digest, digits_of_abc, false≢true, Fault, HasFault, IsInProfile, IsJudged, IsThere, leads_on, Listing, lists_path, ManifestText, nothing_listed, or_cases, other_text, Pair, pair, Payload, Sha256, sha256_of_abc, SpellsDigest, text_of, tier_of, V1, with_pair, word_of, written_declaration}
 use Rattle.bag_path.specs.Lines.{lines_of}
+use Rattle.bag_path.specs.declared.version.Version.{Version}
 use Rattle.bag_path.specs.Paths.{path_fault}
 use Rattle.bag_path.specs.SpellingReading.{octets_spelled_after}
 use Rattle.bag_digest.specs.declared.digest.Digest.TheVariants as digest
@@ -44,13 +45,13 @@ gives_digest : SpellsDigest Sha256 (word_of text) of_abc
 unfolding until
 gives_digest = digits_of_abc
 
-adds : AddsPair V1 nothing 1 text (with_pair nothing (pair payload_file of_abc))
+adds : (version : Version) → AddsPair version nothing 1 text (with_pair nothing (pair payload_file of_abc))
 unfolding until octets_spelled_after path_fault
-adds = adds_pair nothing text of_abc refl gives_digest payload_file refl (ascii_path payload_file refl refl) 1 refl refl
+adds version = adds_pair nothing text of_abc refl gives_digest payload_file refl (ascii_path payload_file refl refl) 1 refl refl
 
-pub lists_one : ManifestText V1 Sha256 Payload manifest_of_abc listed
+pub lists_one : (version : Version) → ManifestText version Sha256 Payload manifest_of_abc listed
 unfolding lines_of
-lists_one = text_of (AddsPair V1) nothing manifest_of_abc (with_pair nothing (pair payload_file of_abc)) (with_pair nothing (pair payload_file of_abc), leads_on (AddsPair V1) _ _ _ refl refl adds, refl)
+lists_one version = text_of (AddsPair version) nothing manifest_of_abc (with_pair nothing (pair payload_file of_abc)) (with_pair nothing (pair payload_file of_abc), leads_on (AddsPair version) _ _ _ refl refl (adds version), refl)
 
 pub one_listed : (path : List ℕ) → lists_path listed path ≡ true → path ≡ payload_file
 one_listed path e = elim (or_cases (bytes_eq payload_file path) false e) [ inl same ↦ sym ((bytes_eq-Decides payload_file path).0 same) | inr none ↦ absurd (false≢true none) ]

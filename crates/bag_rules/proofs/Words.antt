@@ -50,7 +50,7 @@ pub use Rattle.bag_rules.specs.declared.profile.Profile.TheVariants.{Ended, Know
 pub use Rattle.bag_rules.specs.declared.tag_files.Texts.{Texts}
 pub use Rattle.bag_tags.proofs.DecisionLemmas.{Decided, decided_as, decided_at_most, decided_by, decided_either, decided_equal, decided_true}
 pub use Rattle.bag_tags.proofs.DeclarationLemmas.{excludes, one_declaration, one_fault, written_declares}
-pub use Rattle.bag_tags.proofs.EarlierDeclaration.{earlier, earlier_declares, earlier_version}
+pub use Rattle.bag_tags.proofs.EarlierDeclaration.{utf8_declares}
 pub use Rattle.bag_tags.proofs.ExampleLemmas.{differ_at, other_text}
 pub use Rattle.bag_tags.proofs.ExactTexts.{elements_or_fault, entries_or_fault, no_elements, no_entries, no_pairs, one_list_of_pairs}
 pub use Rattle.bag_tags.proofs.ExampleLines.{adds_pair, leads_on, text_of}

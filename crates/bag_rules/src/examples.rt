@@ -1,13 +1,17 @@
 //! Telling cases of the definitions, worked out: each function's contract is one, and its body is empty.
-ghost use Rattle.std.specs.Prelude.{true, false, [], ◌∷◌, ◌++◌, codes};
+ghost use Rattle.std.specs.Prelude.{◌≡◌, true, false, [], ◌∷◌, ◌++◌, codes};
 ghost use Rattle.bag_path.specs.Octets.{cr, lf};
-ghost use Rattle.bag_digest.specs.declared.algorithm.Alg.TheVariants.{Sha256};
+ghost use Rattle.bag_path.specs.declared.version.Version.TheVariants.{V1, V097};
+ghost use Rattle.bag_digest.specs.declared.algorithm.Alg.{Alg};
+ghost use Rattle.bag_digest.specs.declared.algorithm.Alg.TheVariants.{Md5, Sha256};
 ghost use Rattle.bag_tags.specs.declared.listing.Kind.TheVariants.{Payload};
 ghost use Rattle.bag_tags.specs.Declarations.{written_declaration};
 ghost use Rattle.bag_rules.specs.declared.fault.Fault.TheVariants.{NoDeclaration, NoPayloadDir, Missing, Unlisted, WrongDigest};
-ghost use Rattle.bag_rules.specs.declared.outcome.OutsideCause.TheVariants.{Version};
-ghost use Rattle.bag_rules.specs.Bags.{Bag};
-ghost use Rattle.bag_rules.specs.ExampleBags.{manifest_of_abc};
+ghost use Rattle.bag_rules.specs.declared.outcome.OutsideCause.TheVariants as outside;
+ghost use Rattle.bag_rules.specs.Bags.{Bag, IsDeclared, version_of};
+ghost use Rattle.bag_rules.specs.ExampleBags.{earlier_bag, manifest_of_abc};
+ghost use Rattle.bag_rules.specs.HasFault.{HasFault};
+ghost use Rattle.bag_rules.specs.Listed.{IsListed, IsUnlisted};
 ghost use Rattle.bag_tags.specs.Names.{manifest_name};
 ghost use Rattle.bag_rules.specs.Validity.{IsComplete, IsValid};
 ghost use Rattle.bag_rules.specs.Verdicts.{IsJudged, IsOutside};
@@ -92,12 +96,29 @@ pub fn no_files_have_no_declaration()
 
 /// A bag of another version is not judged, whatever else holds of it.
 pub fn an_earlier_version_is_outside()
-    ensures { let declaration = codes "BagIt-Version: 0.97" ++ cr ∷ lf
+    ensures { let declaration = codes "BagIt-Version: 0.96" ++ cr ∷ lf
         ∷ codes "Tag-File-Character-Encoding: ISO-8859-1" in
         let bag : Bag = record {
           files = (codes "bagit.txt", declaration)
               ∷ [];
           has_payload_dir = false;
         } in
-        IsOutside bag Version }
+        IsOutside bag outside.Version }
+{}
+
+/// A bag that declares version 0.97 is read by it, and its payload file has to be listed in some payload manifest: of these two
+/// the second lists it. By the rules of version 1.0 the first would be told.
+pub fn in_version_097_some_manifest_lists_a_payload_file()
+    ensures { let bag = earlier_bag manifest_of_abc in
+        let path = codes "data/a.txt" in
+        IsDeclared bag × (version_of bag ≡ V097) × IsListed V097 bag path
+        × IsUnlisted V1 bag Md5 path × ((alg : Alg) → ¬ HasFault bag (Unlisted alg path)) }
+{}
+
+/// Where no payload manifest lists it, the first one is told, and no other.
+pub fn in_version_097_the_first_manifest_is_told_of_an_unlisted_file()
+    ensures { let bag = earlier_bag [] in
+        let path = codes "data/a.txt" in
+        HasFault bag (Unlisted Md5 path) × ((alg : Alg) → HasFault bag (Unlisted alg path)
+        → alg ≡ Md5) }
 {}

@@ -73,11 +73,11 @@ module _ (before : Listing) (text : List ℕ) (digest : Digest) (some : (length 
     spells_digest = digits;
   }
 
-  module _ (path : List ℕ) (spelled_so : octets_spelled V1 (plain_path (after_blanks (after_word text))) ≡ Some path) (is_path : IsPath path) where
-    pub gives : Gives V1 before.alg text path digest
-    gives = record { path_text = after_blanks (after_word text); checksum = checksum; spells = spells_if_read V1 path (plain_path (after_blanks (after_word text))) spelled_so; is_path = is_path }
+  module _ {version : Version} (path : List ℕ) (spelled_so : octets_spelled version (plain_path (after_blanks (after_word text))) ≡ Some path) (is_path : IsPath path) where
+    pub gives : Gives version before.alg text path digest
+    gives = record { path_text = after_blanks (after_word text); checksum = checksum; spells = spells_if_read version path (plain_path (after_blanks (after_word text))) spelled_so; is_path = is_path }
 
-    pub adds_pair : (number : ℕ) → IsInPlace before.kind path → lists_path before.pairs path ≡ false → AddsPair V1 before number text (with_pair before (pair path digest))
+    pub adds_pair : (number : ℕ) → IsInPlace before.kind path → lists_path before.pairs path ≡ false → AddsPair version before number text (with_pair before (pair path digest))
     adds_pair number in_place new = record {
       path = path;
       digest = digest;

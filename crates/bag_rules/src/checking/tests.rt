@@ -91,7 +91,7 @@ fn another_version_encoding_or_algorithm_is_not_judged(rt: HostRuntime) -> Resul
     let alloc = rt.alloc();
     let rows = [
         (
-            "BagIt-Version: 0.97\nTag-File-Character-Encoding: UTF-8\n",
+            "BagIt-Version: 0.96\nTag-File-Character-Encoding: UTF-8\n",
             "note.txt",
             "version",
         ),
@@ -113,6 +113,51 @@ fn another_version_encoding_or_algorithm_is_not_judged(rt: HostRuntime) -> Resul
         };
         assert_eq!(rt; told, cause);
     }
+    Ok(())
+}
+
+// The digests of `abc` and of nothing (RFC 1321, appendix A.5).
+const MD5_OF_A: &str = "900150983cd24fb0d6963f7d28e17f72  data/a.txt\n";
+
+const MD5_OF_E: &str = "d41d8cd98f00b204e9800998ecf8427e  data/e.txt\n";
+
+// The faults of a bag of version 0.97 with both files, a manifest by SHA-256 of both, and one by MD5 that lists the first file and
+// what is said here; and one more file.
+fn check_0_97(
+    alloc: Global,
+    md5_manifest: &str,
+    more: (&str, &str),
+) -> Result<Outcome, Fail> {
+    let declaration = "BagIt-Version: 0.97\nTag-File-Character-Encoding: UTF-8\n";
+    let mut tree = tree_of(alloc, declaration, MANIFEST, more)?;
+    let listed = format!(in alloc; "{MD5_OF_A}{md5_manifest}")?;
+    add(alloc, &mut tree, "manifest-md5.txt", listed.as_bytes())?;
+    Ok(check(alloc, &mut tree)?)
+}
+
+#[test]
+fn in_version_0_97_a_file_that_some_manifest_lists_is_listed(rt: HostRuntime) -> Result<(), Fail> {
+    let alloc = rt.alloc();
+    let outcome = check_0_97(alloc, "", ("note.txt", ""))?;
+    let is_valid = matches!(&outcome, Outcome::Judged(report) if report.is_valid());
+    assert!(rt; is_valid);
+    Ok(())
+}
+
+#[test]
+fn in_version_0_97_the_first_manifest_is_told_of_a_path_that_none_lists(
+    rt: HostRuntime,
+) -> Result<(), Fail> {
+    let alloc = rt.alloc();
+    let manifest = Alg::Md5;
+    let path = BagPath::parse(alloc, "data/z")?;
+    let outcome = check_0_97(alloc, MD5_OF_E, ("data/z", ""))?;
+    let unlisted = Fault::Unlisted { manifest, path };
+    assert_eq!(rt; faults(&outcome), [unlisted].as_slice());
+    let path = BagPath::parse(alloc, "data/z")?;
+    let outcome = check_0_97(alloc, "", ("fetch.txt", "http://example.org/z - data/z\n"))?;
+    let unlisted = Fault::FetchNotListed { manifest, path };
+    assert_eq!(rt; faults(&outcome), [unlisted].as_slice());
     Ok(())
 }
 

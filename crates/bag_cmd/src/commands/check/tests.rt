@@ -46,7 +46,7 @@ fn the_answer_of_a_check_is_printed_with_its_status(rt: HostRuntime) -> Result<(
             1,
         ),
         (
-            b"BagIt-Version: 0.97\nTag-File-Character-Encoding: UTF-8\n",
+            b"BagIt-Version: 0.96\nTag-File-Character-Encoding: UTF-8\n",
             b"abc",
             "outside: version\n",
             2,

@@ -1,5 +1,5 @@
 use Rattle.std.proofs.Common.{◌≡◌, ◌∙◌, [], codes, true, false, refl}
-use Rattle.bag_rules.proofs.Words.{Bag, digest_of_abc, IsJudged, same_Some}
+use Rattle.bag_rules.proofs.Words.{V1, Bag, digest_of_abc, IsJudged, same_Some}
 use Rattle.bag_rules.specs.ExampleBags.{manifest_of_abc}
 use Rattle.bag_rules.proofs.OneFile.{judged_none, with_file, listed, lists_one, one_listed, has_file, rising_with}
 use Rattle.bag_rules.proofs.OneManifest.{HasOneManifest, left_fault, profile}
@@ -10,7 +10,7 @@ abbrev bag : Bag
 bag = with_file manifest_of_abc (codes "abc")
 
 has : HasOneManifest bag manifest_of_abc (codes "abc") listed
-has = has_file manifest_of_abc listed lists_one one_listed (codes "abc")
+has = has_file manifest_of_abc listed (lists_one V1) one_listed (codes "abc")
 
 judged : IsJudged bag []
 judged = judged_none bag (left_fault bag manifest_of_abc (codes "abc") listed has (λ fault. ⊥) record {

@@ -1,5 +1,5 @@
 use Rattle.std.proofs.Common.{◌≡◌, [], ◌∷◌, codes, true, false, refl, arith}
-use Rattle.bag_rules.proofs.Words.{Bag, Fault, HasFault, IsJudged, other_digest_of_abd, WrongDigest}
+use Rattle.bag_rules.proofs.Words.{V1, Bag, Fault, HasFault, IsJudged, other_digest_of_abd, WrongDigest}
 use Rattle.bag_rules.specs.ExampleBags.{manifest_of_abc}
 use Rattle.bag_rules.proofs.OneFile.{judged_one, with_file, of_abc, listed, lists_one, one_listed, has_file, rising_with}
 use Rattle.bag_rules.proofs.OneManifest.{HasOneManifest, by_sha256, left_fault, lists, payload_file, profile}
@@ -13,7 +13,7 @@ abbrev wrong : Fault
 wrong = WrongDigest by_sha256 payload_file
 
 has : HasOneManifest bag manifest_of_abc (codes "abd") listed
-has = has_file manifest_of_abc listed lists_one one_listed (codes "abd")
+has = has_file manifest_of_abc listed (lists_one V1) one_listed (codes "abd")
 
 broken : HasFault bag wrong
 broken = (listed, lists bag manifest_of_abc (codes "abd") listed has, (of_abc, refl, (codes "abd", (1, refl), other_digest_of_abd)))

@@ -1,5 +1,5 @@
 use Rattle.std.proofs.Common.{◌≡◌, [], true, false, refl, arith}
-use Rattle.bag_rules.proofs.Words.{Bag, Fault, HasFault, Missing}
+use Rattle.bag_rules.proofs.Words.{V1, Bag, Fault, HasFault, Missing}
 use Rattle.bag_rules.specs.ExampleBags.{manifest_of_abc}
 use Rattle.bag_rules.proofs.OneFile.{judged_one, without_file, listed, lists_one, one_listed, has_no_file, no_file, rising_without}
 use Rattle.bag_rules.proofs.OneManifest.{HasOneManifest, by_sha256, left_fault, lists, payload_file, profile}
@@ -13,7 +13,7 @@ abbrev missing : Fault
 missing = Missing by_sha256 payload_file
 
 has : HasOneManifest bag manifest_of_abc [] listed
-has = has_no_file manifest_of_abc listed lists_one one_listed true
+has = has_no_file manifest_of_abc listed (lists_one V1) one_listed true
 
 broken : HasFault bag missing
 broken = (listed, lists bag manifest_of_abc [] listed has, refl, no_file manifest_of_abc true)
