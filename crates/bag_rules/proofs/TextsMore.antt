@@ -35,7 +35,7 @@ back f = (f.1, f.0)
 -- all faulty lines of the bag
 pub all_bad_lines : (bag : Bag) (f : Fault) → HasBadLine (length bag.files) bag f ↔ HasFaultOf bag (5 ∷ []) f
 all_bad_lines bag f = (
-  λ h. subst (λ fault. HasFaultOf bag (5 ∷ []) fault) (sym h.bad.1.1) ((h.octets, subst (λ (b : Bag). Holds b (text_file h.file) h.octets) (whole_front bag) h.there, h.bad.1.0), refl),
+  λ h. subst (λ fault. HasFaultOf bag (5 ∷ []) fault) (sym h.bad.1.2) ((h.octets, subst (λ (b : Bag). Holds b (text_file h.file) h.octets) (whole_front bag) h.there, h.bad.1.1), refl),
   bad_line_in f,
 )
   where
