@@ -115,7 +115,7 @@ module _ (bag : Bag) (rising : AreRising (paths_of bag)) (reads : (name : Manife
   listed_unless V097 path none = elim (decided_alg (ListsIt path) (decided_lists path)) [
     | inl h ↦ (h.0, h.1.0, h.1.1, h.1.2)
     | inr unlisted ↦ (
-      let first = first_of Reads decided_reads (some.0, reads (manifest_name Payload some.0) some.1) in
-      absurd (none first.0 (record { there = first.1.0; first = λ other pairs lists. first.1.1 other (pairs, lists) }, λ h. unlisted (h.0, (h.1, h.2, h.3))))
-    )
+        let first = first_of Reads decided_reads (some.0, reads (manifest_name Payload some.0) some.1) in
+        absurd (none first.0 (record { there = first.1.0; first = λ other pairs lists. first.1.1 other (pairs, lists) }, λ h. unlisted (h.0, (h.1, h.2, h.3))))
+        )
   ]

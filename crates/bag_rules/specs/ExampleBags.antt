@@ -12,8 +12,11 @@ manifest_of_abc =
 -- A bag of version 0.97 with one payload file, a manifest by MD5 that lists nothing, and this one by SHA-256.
 abbrev pub earlier_bag : List ℕ → Bag
 earlier_bag manifest = record {
-  files = (codes "bagit.txt", codes "BagIt-Version: 0.97" ++ lf
-      ∷ codes "Tag-File-Character-Encoding: UTF-8" ++ lf ∷ [])
+  files = (
+    codes "bagit.txt",
+    codes "BagIt-Version: 0.97" ++ lf
+        ∷ codes "Tag-File-Character-Encoding: UTF-8" ++ lf ∷ [],
+  )
       ∷ (codes "data/a.txt", codes "abc") ∷ (codes "manifest-md5.txt", [])
       ∷ (codes "manifest-sha256.txt", manifest) ∷ [];
   has_payload_dir = true;
