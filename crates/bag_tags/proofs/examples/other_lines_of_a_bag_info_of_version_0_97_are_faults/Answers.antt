@@ -1,4 +1,4 @@
-use Rattle.std.proofs.Common.{◌≡◌, codes, true, false, [], refl}
+use Rattle.std.proofs.Common.{codes, [], refl}
 use Rattle.bag_path.specs.Lines.{lines_of}
 use Rattle.bag_path.specs.declared.version.Version.TheVariants.{V097}
 use Rattle.bag_tags.specs.declared.fault.LineCause.TheVariants.{NoSeparator, BadLabel}

@@ -1,4 +1,4 @@
-use Rattle.std.proofs.Common.{slice_index, rules, arith}
+use Rattle.std.proofs.Common.{slice_index, rules}
 use Rattle.std.proofs.lemmas.Str.{lead_after_ascii}
 use Rattle.bag_tags.proofs.TextCutLemmas.{blank_below}
 use Rattle.bag_tags.proofs.info_text.after_blank.Goals as goal
