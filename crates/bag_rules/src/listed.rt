@@ -9,7 +9,7 @@ use bag_path::{BagPath, Version};
 use bag_tags::{Kind, Manifest};
 
 /// The algorithms of the payload manifests that are told where a path isn't listed as it has to be: in version 1.0 of each that
-/// doesn't list it, in version 0.97 of the first, where none lists it.
+/// doesn't list it, in version 0.97 of the first by file name, where none lists it.
 pub(crate) fn unlisted_in(version: Version, manifests: &[Manifest], path: &BagPath) -> AlgSet
     ensures { (alg : Alg)
         → (has result alg ≡ true) ↔ IsUnlistedIn version manifests.now alg path.now }
@@ -36,7 +36,7 @@ fn payload_algs(manifests: &[Manifest], path: &BagPath, lists: bool) -> AlgSet
     set
 }
 
-/// The first algorithm of a set, alone.
+/// The first algorithm of a set, alone, if it has any. `Alg::ALL` has them in the order of the file names of their manifests.
 fn first_of(set: AlgSet) -> AlgSet
     ensures { (alg : Alg)
         → (has result alg ≡ true) ↔ IsFirstAmong (λ other. has set other ≡ true) alg }
