@@ -1,6 +1,6 @@
 use crate::want::{GivenLength, Want, WantFault};
 use bag_digest::{Alg, AlgSet, Digest, Multi};
-use bag_path::BagPath;
+use bag_path::{BagPath, Version};
 use bag_tags::{Kind, Manifest};
 use std::alloc::Global;
 use std::test::Fail;
@@ -35,6 +35,7 @@ fn a_file_has_to_have_each_length_and_each_digest(rt: HostRuntime) -> Result<(),
         GivenLength { line: 2, length: 4 },
     ];
     let right = Want {
+        version: Version::V1,
         path: &path,
         manifests: &manifests,
         lengths: &given[..1],
@@ -42,6 +43,7 @@ fn a_file_has_to_have_each_length_and_each_digest(rt: HostRuntime) -> Result<(),
     assert_eq!(rt; right.test(3, &digests), Ok(()));
     assert_eq!(rt; right.algs().has(Alg::Sha1), false);
     let longer = Want {
+        version: Version::V1,
         path: &path,
         manifests: &manifests,
         lengths: &given,
@@ -49,6 +51,7 @@ fn a_file_has_to_have_each_length_and_each_digest(rt: HostRuntime) -> Result<(),
     assert_eq!(rt; longer.test(3, &digests), Err(WantFault::Length));
     manifests.push(sha1)?;
     let wrong = Want {
+        version: Version::V1,
         path: &path,
         manifests: &manifests,
         lengths: &[],
@@ -58,6 +61,7 @@ fn a_file_has_to_have_each_length_and_each_digest(rt: HostRuntime) -> Result<(),
     let mut right = Vec::new(alloc);
     right.push(listing(alloc, &path, Alg::Sha1, SHA1_OF_ABC)?)?;
     let both = Want {
+        version: Version::V1,
         path: &path,
         manifests: &right,
         lengths: &[],
