@@ -1,5 +1,5 @@
 -- Faults that are added to others.
-use Rattle.std.proofs.Common.{◌≡◌, ◌⊎◌, ◌||◌, ◌==◌, ℕ, Bool, true, false, List, [], ◌∷◌, ◌++◌, refl, sym, ap, ◌∙◌, inl, inr, subst}
+use Rattle.std.proofs.Common.{◌≡◌, ◌⊎◌, ◌==◌, ℕ, List, [], ◌∷◌, ◌++◌, sym, ◌∙◌, inl, inr, subst}
 use Rattle.bag_rules.proofs.Words.{Adds, Bag, Fault, Has, HasFaultOf, list_any, list_any-append, number_of, or_cases, or_left, or_right}
 use Rattle.bag_rules.proofs.HasLemmas.{has_push}
 

@@ -1,5 +1,5 @@
 -- The four algorithms.
-use Rattle.std.proofs.Common.{◌≡◌, true, false, refl, inl, inr}
+use Rattle.std.proofs.Common.{◌≡◌, true, refl, inl, inr}
 use Rattle.bag_digest.specs.declared.algorithm.TheConstants.Alg.{ALL}
 use Rattle.bag_rules.proofs.Words.{Alg, Has, is_alg, Md5, Sha1, Sha256, Sha512}
 

@@ -1,6 +1,6 @@
 -- Faults that `==` calls equal are the same.
-use Rattle.std.proofs.Common.{◌≡◌, ◌&&◌, ℕ, Bool, true, List, refl, ap, ◌∙◌}
-use Rattle.bag_rules.proofs.Words.{Alg, and_parts, BadDeclaration, BadLine, bytes_eq-Decides, false≢true, Fault, FetchLength, FetchList, FetchNotListed, Info, LineCause, LineFile, Manifest, ManifestName, ManifestNotListed, Missing, NoDeclaration, NoManifest, NoPayloadDir, OxumForm, OxumTwice, OxumWrong, Unlisted, unsigned_Decides, WrongDigest}
+use Rattle.std.proofs.Common.{◌≡◌, ◌&&◌, ℕ, Bool, true, refl, ap, ◌∙◌}
+use Rattle.bag_rules.proofs.Words.{and_parts, BadDeclaration, BadLine, bytes_eq-Decides, false≢true, Fault, FetchLength, FetchList, FetchNotListed, Info, LineCause, LineFile, Manifest, ManifestName, ManifestNotListed, Missing, NoDeclaration, NoManifest, NoPayloadDir, OxumForm, OxumTwice, OxumWrong, Unlisted, unsigned_Decides, WrongDigest}
 use denote.Enum.Bare.{same_true}
 use Rattle.bag_digest.specs.contracts.algorithm.Alg as algorithm
 use Rattle.bag_tags.specs.contracts.listing.Kind as listing

@@ -1,5 +1,5 @@
 -- The entries of `fetch.txt` against the manifests and the files.
-use Rattle.std.proofs.Common.{◌≡◌, ◌↔◌, true, false, List, [], ◌∷◌, Some, None, length, refl, sym, ap, ◌∙◌, subst, inl, inr}
+use Rattle.std.proofs.Common.{◌≡◌, true, false, List, [], ◌∷◌, Some, None, length, refl, sym, ◌∙◌, subst, inl, inr}
 use Rattle.bag_rules.specs.Bags.{version_of}
 use Rattle.bag_rules.proofs.Words.{Adds, AreLinesOf, AreTextsOf, Bag, Fault, FetchLine, FetchNotListed, Has, HasEntry, HasFaultOf, IsEntryUnlisted, OfSome, same_Some, Texts}
 use Rattle.bag_rules.proofs.AddsLemmas.{adds_so}

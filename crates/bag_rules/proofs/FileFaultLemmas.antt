@@ -1,11 +1,10 @@
 -- The faults of a file by the manifests.
-use Rattle.std.proofs.Common.{◌≡◌, ◌≢◌, ◌⊎◌, ◌↔◌, ◌||◌, ◌&&◌, ℕ, Bool, true, false, List, [], ◌∷◌, ◌++◌, Some, None, if◌then◌else◌, refl, sym, ap, ◌∙◌, inl, inr, subst}
-use Rattle.bag_rules.proofs.Words.{Adds, Alg, alg_of, AlgSet, and_parts, and_right, AreDigests, cases_Bool, Digest, digest_in, Digests, false≢true, Fault, FetchLength, Fits, FitsListing, GivenLength, Has, has, hash, is_alg, is_payload, IsFaultBy, IsFileUnlisted, IsOtherDigest, IsOtherLength, IsReadBy, IsWrongIn, listed_digest, Listing, lists_by, lists_path, Md5, name_in, OfSome, or_cases, same_Some, Sha1, Sha256, Sha512, Want, WrongDigest}
+use Rattle.std.proofs.Common.{◌≡◌, ◌≢◌, ◌⊎◌, ◌||◌, ◌&&◌, ℕ, Bool, true, false, List, [], ◌∷◌, ◌++◌, Some, None, if◌then◌else◌, refl, sym, ap, ◌∙◌, inl, inr, subst}
+use Rattle.bag_rules.proofs.Words.{Adds, Alg, AlgSet, and_parts, and_right, AreDigests, cases_Bool, Digest, digest_in, Digests, false≢true, Fault, FetchLength, Fits, FitsListing, GivenLength, Has, has, hash, is_alg, is_payload, IsFaultBy, IsFileUnlisted, IsOtherDigest, IsOtherLength, IsReadBy, listed_digest, Listing, lists_by, lists_path, Md5, name_in, OfSome, or_cases, same_Some, Sha1, Sha256, Sha512, Want, WrongDigest}
 use Rattle.bag_path.specs.declared.version.Version.{Version}
 use Rattle.bag_rules.specs.KeptInside.{HasSums}
 use Rattle.bag_rules.proofs.AddsLemmas.{adds_none, adds_on, adds_one, adds_so}
 use Rattle.bag_rules.proofs.AlgLemmas.{each_alg, itself}
-use Rattle.bag_rules.proofs.HasLemmas.{has_push}
 use Rattle.bag_rules.proofs.ListedLemmas.{some_listed}
 
 -- THE ALGORITHMS OF A FILE

@@ -1,7 +1,7 @@
 -- The faults of the files, by what was read, are those that are broken.
-use Rattle.std.proofs.Common.{◌≡◌, ℕ, Bool, true, false, List, [], ◌∷◌, Option, length, refl, sym, ap, inl, inr, subst}
+use Rattle.std.proofs.Common.{◌≡◌, ℕ, true, false, List, [], ◌∷◌, length, refl, sym, ap, inl, inr, subst}
 use Rattle.bag_rules.specs.Bags.{version_of}
-use Rattle.bag_rules.proofs.Words.{Alg, AreLinesOf, AreTextsOf, AreWantsOf, BadDeclaration, BadLine, Bag, CheckFault, Fault, FetchLength, FetchLine, FetchNotListed, FileStops, FirstStops, GivenLength, Has, HasEntry, HasFaultOf, IsBagOf, IsChecked, IsFileFault, IsLongRead, IsMissing, IsReadBy, IsUnlistedIn, Listing, Lists, manifest_name, ManifestName, ManifestNotListed, Missing, name_in, NoDeclaration, NoManifest, NoneStops, NoneStopsBefore, NoPayloadDir, OxumForm, OxumTwice, OxumWrong, Pair, paths_in, Payload, Shown, Stopped, Texts, Unlisted, Wants, WrongDigest}
+use Rattle.bag_rules.proofs.Words.{Alg, AreLinesOf, AreTextsOf, AreWantsOf, Bag, CheckFault, Fault, FetchLength, FetchLine, FileStops, FirstStops, GivenLength, Has, HasFaultOf, IsBagOf, IsChecked, IsFileFault, IsLongRead, IsMissing, IsReadBy, IsUnlistedIn, Listing, Lists, ManifestName, Missing, name_in, NoneStops, NoneStopsBefore, Pair, paths_in, Shown, Stopped, Texts, Unlisted, Wants, WrongDigest}
 use Rattle.bag_rules.proofs.FetchLemmas.{entry_here, entry_there}
 use Rattle.bag_rules.proofs.FrontLemmas.{manifest_listed}
 use Rattle.bag_rules.proofs.LimitLemmas.{stopped_so}

@@ -1,5 +1,5 @@
 -- The files of a bag, one after another.
-use Rattle.std.proofs.Common.{◌≡◌, ◌<◌, ◌+◌, ℕ, zero, suc, true, List, [], ◌∷◌, ◌++◌, Some, length, slice_get, refl, sym, ap, ◌∙◌, inl, inr, subst, arith}
+use Rattle.std.proofs.Common.{◌≡◌, ◌<◌, ◌+◌, ℕ, zero, suc, List, [], ◌∷◌, ◌++◌, Some, length, slice_get, refl, sym, ap, ◌∙◌, inl, inr, subst, arith}
 use Rattle.bag_rules.proofs.Words.{Adds, Bag, cases_lt, Fault, IsFaultIn, IsFileFault, slice_get_within, Wants}
 use Rattle.bag_rules.proofs.AddsLemmas.{adds_none, adds_on}
 use Rattle.bag_rules.proofs.PlaceLemmas.{same_file}

@@ -4,7 +4,7 @@ use Rattle.bag_path.specs.declared.version.Version.{Version}
 use Rattle.bag_path.specs.declared.version.Version.TheVariants.{V1, V097}
 use Rattle.bag_rules.proofs.Words.{Alg, AreRising, Bag, bytes_eq, cases_Bool, Decided, decided_as, decided_by, decided_either, Equal, file_of, Greater, is_member-Decides, IsThere, Less, list_any, Lists, lists_path, manifest_file, manifest_name, ManifestName, ManifestText, Md5, nat_cmp, one_list_of_pairs, Pair, paths_in, Payload, Sha1, Sha256, Sha512, shown_of, slice_cmp, bytes_eq-Decides}
 use Rattle.bag_rules.specs.Bags.{paths_of, version_of}
-use Rattle.bag_rules.specs.Listed.{IsFirstManifest, IsListed, IsUnlisted}
+use Rattle.bag_rules.specs.Listed.{IsListed, IsUnlisted}
 use Rattle.bag_rules.proofs.TreeLemmas.{is_there, one_octets, shows}
 
 -- DECISIONS

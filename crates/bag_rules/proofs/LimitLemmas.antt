@@ -1,6 +1,6 @@
 -- Which limit is met first.
 use Rattle.std.proofs.Common.{◌≡◌, ◌≤◌, ◌+◌, ◌∙◌, ℕ, List, Some, Result, Ok, Err, MatchResult, length, slice_get, sym, ap, subst, inl, inr, arith}
-use Rattle.bag_rules.proofs.Words.{Bag, cases_lt, CheckFault, FirstStops, NoneStops, NoneStopsBefore, Outcome, slice_get_within, Stopped, Stops, TagTooLarge, TooLarge, TooMany, Tree, WorkStops}
+use Rattle.bag_rules.proofs.Words.{Bag, cases_lt, CheckFault, FirstStops, NoneStops, NoneStopsBefore, Outcome, slice_get_within, Stopped, Stops, Tree, WorkStops}
 use Rattle.bag_rules.specs.declared.outcome.CheckFault.TheVariants.{Memory}
 use Rattle.bag_rules.proofs.PlaceLemmas.{same_file}
 

@@ -1,9 +1,9 @@
 -- A tree in memory once a file was put among its files.
-use Rattle.std.proofs.Common.{◌≡◌, ℕ, ◌+◌, ◌≤◌, ◌||◌, true, cond, List, Option, Some, All, length, refl, sym, ap, subst, ◌∙◌, arith, inl, inr, nat_le, ◌<◌, None}
+use Rattle.std.proofs.Common.{◌≡◌, ℕ, ◌+◌, ◌≤◌, ◌||◌, true, cond, List, Option, Some, All, length, refl, sym, ap, subst, ◌∙◌, arith, nat_le, ◌<◌, None}
 use Rattle.std.proofs.lemmas.Bool.{cond_both}
 use Rattle.std.proofs.lemmas.Map.{lookup-insert, none_passes_from_lookup}
 use Rattle.bag_rules.specs.Memory.{FindsAlso}
-use Rattle.bag_rules.proofs.Words.{All-weaker, AreRising, bytes_eq, bytes_eq-Decides, cases_Bool, cond-false, cond-true, false_from_ne_true, File, ForSome, insert, Inside, is_payload, IsGapFor, IsSound, keys_of, length-insert, lookup, moved_up, nat_list_eq_equiv, octets_at, option_map, or_left, or_right, Reading, rest_of, same_Some, shown_files, view_of, with_file}
+use Rattle.bag_rules.proofs.Words.{All-weaker, AreRising, bytes_eq, bytes_eq-Decides, cond-false, cond-true, false_from_ne_true, File, ForSome, insert, Inside, is_payload, IsGapFor, IsSound, keys_of, length-insert, lookup, moved_up, nat_list_eq_equiv, octets_at, option_map, or_left, or_right, Reading, rest_of, same_Some, shown_files, view_of, with_file}
 use Rattle.bag_rules.specs.MemoryInside.{paths_of}
 use Rattle.bag_rules.proofs.MemoryFiles.{All-insert, lookup_in_gap, map-insert, put_in_gap, rising_put}
 use Rattle.bag_rules.proofs.MemoryShown.{length_shown, shown_insert, rest_moved}

@@ -1,5 +1,5 @@
 -- Files by path in rising order: what is there once a file was put in its place, and what a look-up finds.
-use Rattle.std.proofs.Common.{◌≡◌, ℕ, zero, suc, ◌+◌, ◌<◌, ◌≤◌, true, false, Bool, List, [], ◌∷◌, Some, None, All, Contains, map, slice_get, length, take, drop, refl, sym, ap, subst, ◌∙◌, arith, inl, inr, nat_le, is_some, if◌then◌else◌}
+use Rattle.std.proofs.Common.{◌≡◌, ℕ, zero, suc, ◌+◌, ◌<◌, ◌≤◌, true, false, Bool, List, [], ◌∷◌, Some, None, All, Contains, map, slice_get, length, take, drop, refl, sym, ap, subst, ◌∙◌, arith, nat_le, is_some, if◌then◌else◌}
 use Rattle.std.proofs.lemmas.Bool.{cond_both}
 use Rattle.std.proofs.lemmas.List.{drop-map, map-append, take-map}
 use Rattle.std.proofs.lemmas.List.Edits.{get_or-insert_above, get_or-insert_below}
@@ -7,7 +7,7 @@ use Rattle.std.proofs.lemmas.List.Elements.{All-append, All-cons, All-drop, All-
 use Rattle.std.proofs.lemmas.Map.Entries.{lookup_at_gap}
 use Rattle.std.proofs.lemmas.Map.Views.{IsSome-lookup_from_Contains}
 use Rattle.std.proofs.lemmas.Option.{slice_get-get_or}
-use Rattle.bag_rules.proofs.Words.{AllByRecursion, AreRising, bytes_eq, cases_Bool, cond-false, cond-true, Greater, insert, insert_entry, is_eq-slice_cmp, IsDistinct, IsDistinct-from_sorted, IsGapFor, keys_of, leb-false, leb-true, length-insert, Less, lookup, lookup_from_place, match_ordering, nat_cmp, nat_list_cmp_total, nat_list_eq_equiv, option_map, Ordering, ordering_reverse, slice_cmp, slice_get-map, values_of}
+use Rattle.bag_rules.proofs.Words.{AllByRecursion, AreRising, bytes_eq, Greater, insert, insert_entry, is_eq-slice_cmp, IsDistinct, IsDistinct-from_sorted, IsGapFor, keys_of, leb-false, leb-true, length-insert, Less, lookup, lookup_from_place, match_ordering, nat_cmp, nat_list_cmp_total, nat_list_eq_equiv, option_map, Ordering, ordering_reverse, slice_cmp, slice_get-map, values_of}
 use Rattle.std.specs.List.Sorted.{IsStrictlySortedBy}
 use Rattle.bag_rules.proofs.TreeLemmas.{found_file}
 

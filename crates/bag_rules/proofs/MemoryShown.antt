@@ -1,6 +1,6 @@
 -- What the fields of a tree in memory show, once a file was put among them, and what a search finds.
-use Rattle.std.proofs.Common.{◌≡◌, ℕ, zero, suc, ◌+◌, ◌<◌, ◌≤◌, ◌++◌, ◌-◌, add-zero, take, take-append-drop, true, List, [], ◌∷◌, Option, Some, None, Result, Ok, Err, IfOk, IfErr, All, map, slice_get, get_or, drop, is_some, length, refl, sym, ap, subst, ◌∙◌, arith, inl, inr}
-use Rattle.bag_rules.proofs.Words.{All-nil, AreRising, Consumes, drop-drop, exact_bytes, File, ForSome, get_or-map, Greater, insert, Inside, is_lt, is_payload, IsAtEnd, IsBinarySearchResult, IsGapFor, IsNonDecreasingBy, IsSearchInRange, IsSound, length-map, Less, Less-from_sorted, mem_octets, mem_paths, mem_shown, MemFiles, moved_up, nat_cmp, nat_list_cmp_total, no_files, octets_at, octets_in, option_map, Ordering, ordering_index, ordering_reverse, paths_in, Reading, rest_of, same_Some, searchable_from_sorted, shown_files, slice_cmp, slice_get-map, slice_get_cases, slice_get_read, slice_get_within, take-append_seam, values_of, view_of}
+use Rattle.std.proofs.Common.{◌≡◌, ℕ, zero, suc, ◌+◌, ◌<◌, ◌≤◌, ◌++◌, ◌-◌, add-zero, take, take-append-drop, true, List, [], ◌∷◌, Option, Some, None, Result, Ok, Err, IfOk, IfErr, All, slice_get, get_or, drop, is_some, length, refl, sym, ap, subst, ◌∙◌, arith, inl, inr}
+use Rattle.bag_rules.proofs.Words.{All-nil, AreRising, Consumes, drop-drop, exact_bytes, File, ForSome, insert, Inside, is_lt, is_payload, IsAtEnd, IsBinarySearchResult, IsGapFor, IsNonDecreasingBy, IsSearchInRange, IsSound, length-map, mem_octets, mem_paths, mem_shown, MemFiles, moved_up, nat_cmp, nat_list_cmp_total, no_files, octets_at, octets_in, option_map, Ordering, ordering_index, ordering_reverse, paths_in, Reading, rest_of, same_Some, searchable_from_sorted, shown_files, slice_cmp, slice_get-map, slice_get_cases, slice_get_read, slice_get_within, take-append_seam, values_of, view_of}
 use Rattle.std.specs.List.Sorted.{IsStrictlySortedBy}
 use Rattle.bag_rules.specs.MemoryInside.{paths_of}
 use Rattle.std.proofs.lemmas.List.{get_or_default}

@@ -1,5 +1,5 @@
 -- The files that a manifest lists and that are not there.
-use Rattle.std.proofs.Common.{◌≡◌, ◌||◌, ℕ, Bool, true, false, List, [], ◌∷◌, ◌++◌, Contains, refl, sym, ap, ◌∙◌, inl, inr, subst}
+use Rattle.std.proofs.Common.{◌≡◌, ℕ, true, false, List, [], ◌∷◌, ◌++◌, Contains, refl, sym, ap, ◌∙◌, inl, inr, subst}
 use Rattle.bag_rules.proofs.Words.{Adds, bytes_eq, bytes_eq-Decides, cases_Bool, Fault, Has, IsMissingBy, IsPairMissing, Listing, lists_path, ManifestName, Missing, name_in, or_right, Pair}
 use Rattle.bag_rules.proofs.AddsLemmas.{adds_so, adds_one}
 use Rattle.bag_rules.specs.FilesInside.{OfSome}

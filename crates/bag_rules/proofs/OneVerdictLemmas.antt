@@ -1,5 +1,5 @@
 -- A bag has one verdict at most, and its files stand in one order.
-use Rattle.std.proofs.Common.{◌≡◌, ◌≢◌, ◌↔◌, ◌∙◌, ℕ, Bool, true, false, List, [], ◌∷◌, Some, None, is_some, refl, sym, ap, subst, string_bytes}
+use Rattle.std.proofs.Common.{◌≡◌, ◌≢◌, ◌↔◌, ◌∙◌, ℕ, true, false, List, [], ◌∷◌, Some, None, is_some, refl, sym, ap, subst, string_bytes}
 use Rattle.bag_rules.proofs.Words.{Algorithm, AreInOrder, AreRising, Bag, Declaration, declaration_file, Declares, Encoding, Equal, exact_bytes, Fault, Greater, Has, Holds, IsDeclaration, IsFirstUnknown, IsInProfile, IsJudged, IsOutside, IsUnknownManifest, IsVerdict, Judged, Less, nat_cmp, nat_list_cmp_total, one_word, Ordering, ordering_reverse, Outcome, Outside, OutsideCause, SameCause, SameVerdict, slice_cmp}
 use Rattle.std.specs.List.Sorted.{IsStrictlySortedBy}
 use Rattle.bag_tags.specs.Declarations.{version_of as known_version}

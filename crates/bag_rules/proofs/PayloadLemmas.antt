@@ -1,5 +1,5 @@
 -- The size of the payload, and what `Payload-Oxum` says of it.
-use Rattle.std.proofs.Common.{◌≡◌, ◌≢◌, ◌↔◌, ◌+◌, ℕ, Bool, true, false, not, List, [], ◌∷◌, ◌++◌, Option, Some, None, IsTrue, nat_eq, length, take, get_or, slice_get, cond, refl, sym, ap, ◌∙◌, inl, inr, subst, arith}
+use Rattle.std.proofs.Common.{◌≡◌, ◌↔◌, ◌+◌, ℕ, true, false, not, List, [], ◌∷◌, ◌++◌, Option, Some, None, IsTrue, nat_eq, length, take, get_or, slice_get, cond, refl, sym, ap, ◌∙◌, inl, inr, subst, arith}
 use Rattle.std.specs.Bool.{then_some}
 use Rattle.bag_rules.proofs.Words.{Adds, append-nil, AreTextsOf, Bag, cases_Bool, Decides-eqb, Fault, filter_more, get_or_from_slice_get, Has, HasFault, HasFaultOf, is_oxum, is_payload, IsOtherOxum, IsSizeOf, length_push, MetadataElement, Oxum, OxumText, OxumWrong, payload_length, payload_of, PayloadSize, same_Some, slice_get_within, Texts}
 use Rattle.bag_rules.specs.Bags.{octet_count}

@@ -1,7 +1,7 @@
 -- What the tag files say, with one file more.
 use Rattle.std.proofs.Common.{◌≡◌, ◌≢◌, ◌⊎◌, ◌↔◌, ◌+◌, ℕ, true, false, List, [], ◌∷◌, Some, length, slice_get, refl, sym, ap, ◌∙◌, inl, inr, subst}
 use Rattle.bag_path.specs.declared.version.Version.{Version}
-use Rattle.bag_rules.proofs.Words.{Adds, AreTextsOf, BadDeclaration, BadLine, Bag, Fault, FetchLength, FetchLine, FetchList, FetchNotListed, FetchText, front, GivesListing, Has, HasBadLine, HasFaultOf, Holds, Info, InfoText, IsBadLineOf, IsFirstBadLine, LineFile, Listing, Manifest, ManifestName, ManifestNotListed, ManifestText, MetadataElement, Missing, name_in, NoDeclaration, NoManifest, NoPayloadDir, one_file, OxumForm, OxumTwice, OxumWrong, ReadsOn, ReadsText, text_file, text_or_not, Texts, Unlisted, WrongDigest}
+use Rattle.bag_rules.proofs.Words.{Adds, AreTextsOf, BadLine, Bag, Fault, FetchLine, FetchList, FetchText, front, GivesListing, Has, HasBadLine, HasFaultOf, Holds, Info, InfoText, IsBadLineOf, IsFirstBadLine, LineFile, Listing, Manifest, ManifestName, ManifestText, MetadataElement, name_in, one_file, ReadsOn, ReadsText, text_file, text_or_not, Texts}
 use Rattle.bag_rules.specs.Bags.{ListsBy, ListsFetchBy, SaysInfoBy, version_of}
 use Rattle.bag_rules.proofs.AddsLemmas.{adds_on}
 use Rattle.bag_rules.proofs.FrontLemmas.{whole_front}

@@ -1,6 +1,6 @@
 -- What calls that read a tree do to it, one after another.
 use Rattle.std.proofs.Common.{◌≡◌, ◌∙◌, ℕ, Result, Ok, Err, IfErr, IsErrOf, ap, refl, subst, sym}
-use Rattle.bag_rules.proofs.Words.{CheckFault, CountsIf, KeepsTree, Shown, Tree, UsesSource, UsesTree}
+use Rattle.bag_rules.proofs.Words.{CheckFault, CountsIf, Shown, Tree, UsesTree}
 use Rattle.bag_rules.specs.declared.outcome.CheckFault.TheVariants.{Memory}
 
 err_again : {X Y : Type 0} {y z : CheckFault} → IsErrOf {T = X} (Err y) z → IsErrOf {T = Y} (Err y) z

@@ -1,14 +1,14 @@
 -- Which payload manifests are told where a path isn't listed as it has to be, by what was read and in the bag.
-use Rattle.std.proofs.Common.{◌≡◌, ◌≢◌, ◌<◌, ◌≤◌, ◌↔◌, ◌⊎◌, ◌||◌, ◌+◌, ◌∙◌, ◌++◌, ◌∷◌, [], ℕ, Bool, true, false, List, length, take, get_or, refl, sym, ap, subst, inl, inr, arith}
+use Rattle.std.proofs.Common.{◌≡◌, ◌≢◌, ◌<◌, ◌≤◌, ◌↔◌, ◌⊎◌, ◌||◌, ◌+◌, ◌∙◌, ◌++◌, ◌∷◌, [], ℕ, Bool, true, false, List, length, take, get_or, refl, sym, subst, inl, inr, arith}
 use Rattle.std.proofs.lemmas.Cmp.{ranked}
 use Rattle.std.specs.Cmp.{nat_cmp_is}
 use Rattle.bag_path.specs.declared.version.Version.{Version}
 use Rattle.bag_digest.specs.Algorithm.{place_of}
 use Rattle.bag_digest.specs.declared.algorithm.TheConstants.Alg.{ALL}
 use Rattle.bag_rules.specs.Bags.{version_of}
-use Rattle.bag_rules.specs.FilesInside.{HasPayloadListing, IsFirstAmong, IsUnlistedIn}
-use Rattle.bag_rules.specs.Listed.{IsFirstManifest, IsListed, IsUnlisted}
-use Rattle.bag_rules.proofs.Words.{Adds, Alg, AlgSet, AreTextsOf, Bag, cases_Bool, cases_lt, false≢true, Fault, Greater, Has, has, is_alg, Kind, Listing, Lists, lists_path, manifest_file, manifest_name, Md5, nat_cmp, or_cases, or_left, or_right, OfSome, Pair, Payload, Sha1, Sha256, Sha512, slice_cmp, Texts, V1, V097}
+use Rattle.bag_rules.specs.FilesInside.{HasPayloadListing, IsUnlistedIn}
+use Rattle.bag_rules.specs.Listed.{IsUnlisted}
+use Rattle.bag_rules.proofs.Words.{Adds, Alg, AlgSet, AreTextsOf, Bag, cases_Bool, cases_lt, false≢true, Fault, Greater, has, is_alg, Listing, Lists, lists_path, manifest_file, manifest_name, Md5, nat_cmp, or_cases, or_left, or_right, OfSome, Pair, Payload, Sha1, Sha256, Sha512, slice_cmp, Texts, V1, V097}
 use Rattle.bag_rules.proofs.AddsLemmas.{adds_one, adds_same, adds_so}
 use Rattle.bag_rules.proofs.EachLemmas.{each_all, each_at, stands_at}
 use Rattle.bag_rules.proofs.AlgLemmas.{each_alg, in_all, itself, same_alg}

@@ -1,6 +1,6 @@
 -- A complete bag has no fault but wrong digests, and a bag with no other fault is complete.
-use Rattle.std.proofs.Common.{◌≡◌, ◌⊎◌, ◌↔◌, ◌<◌, ◌≤◌, ℕ, Bool, true, false, List, [], ◌∷◌, Contains, length, zero, suc, refl, sym, ap, subst, inl, inr, arith}
-use Rattle.bag_rules.proofs.Words.{Alg, AreRising, both_ways, decided_at_most, decided_true, false_from_ne_true, list_any, BadDeclaration, BadLine, Bag, bytes_eq, bytes_eq-Decides, cases_Bool, cases_lt, Conforms, Decided, decided_as, decided_by, decided_equal, Declares, Digest, elements_or_fault, entries_or_fault, Fault, FetchLength, FetchLine, FetchList, FetchNotListed, FetchText, file_of, filter, ForSome, Has, HasEntry, HasFault, hash, Holds, Info, InfoText, is_oxum, IsComplete, IsFaultyText, IsJudged, IsThere, IsValid, line_fault, LineFault, LineFile, Lists, lists_path, ListsFetch, Manifest, manifest_file, ManifestName, ManifestNotListed, ManifestText, Md5, MetadataElement, Missing, NoDeclaration, NoManifest, no_elements, no_entries, no_pairs, NoneBelow, NoneUpTo, NoPayloadDir, number_of, octet_count, oxum_one, oxum_or_none, OxumForm, OxumText, OxumTwice, OxumWrong, Pair, pairs_or_fault, Payload, payload_of, SaysInfo, SaysOxum, Sha1, Sha256, Sha512, text_file, tier_of, Unlisted, V097, V1, WrongDigest}
+use Rattle.std.proofs.Common.{◌≡◌, ◌⊎◌, ◌↔◌, ◌<◌, ◌≤◌, ℕ, List, [], ◌∷◌, length, zero, suc, refl, sym, ap, subst, inl, inr, arith}
+use Rattle.bag_rules.proofs.Words.{Alg, AreRising, both_ways, decided_at_most, decided_true, false_from_ne_true, BadDeclaration, BadLine, Bag, bytes_eq, bytes_eq-Decides, cases_lt, Conforms, Decided, decided_as, decided_by, decided_equal, Digest, elements_or_fault, entries_or_fault, Fault, FetchLength, FetchList, FetchNotListed, FetchText, file_of, Has, HasFault, hash, Holds, Info, InfoText, IsComplete, IsFaultyText, IsJudged, IsThere, IsValid, line_fault, LineFault, LineFile, Lists, Manifest, manifest_file, ManifestName, ManifestNotListed, ManifestText, MetadataElement, Missing, NoDeclaration, NoManifest, no_elements, no_entries, no_pairs, NoneBelow, NoneUpTo, NoPayloadDir, number_of, octet_count, oxum_one, oxum_or_none, OxumForm, OxumText, OxumTwice, OxumWrong, Pair, pairs_or_fault, Payload, payload_of, SaysOxum, text_file, tier_of, Unlisted, V097, V1, WrongDigest}
 use Rattle.bag_digest.specs.declared.digest.Digest.TheVariants as digest_of
 use Rattle.bag_path.specs.declared.version.Version.{Version}
 use Rattle.bag_rules.specs.Bags.{IsDeclared, paths_of, version_of}

@@ -1,8 +1,8 @@
 -- What the tag files say of a file, by its path.
-use Rattle.std.proofs.Common.{◌≡◌, ◌≢◌, ◌⊎◌, ◌<◌, ◌+◌, ◌++◌, ◌∷◌, ◌∙◌, [], ℕ, Bool, true, false, List, Option, Some, None, Vec, cond, is_eq, get_or, take, length, refl, sym, ap, subst, inl, inr}
+use Rattle.std.proofs.Common.{◌≡◌, ◌≢◌, ◌⊎◌, ◌++◌, ◌∷◌, ◌∙◌, [], ℕ, true, false, List, Some, None, Vec, cond, is_eq, refl, sym, ap, subst, inl, inr}
 use Rattle.std.specs.BTreeMap.{get}
 use Rattle.std.specs.declared.alloc.Global.{Global}
-use Rattle.bag_rules.proofs.Words.{AddsLength, AreByPath, AreGivenIn, bytes_eq, bytes_eq-Decides, cases_Bool, FetchLine, given_at, GivenLength, GivesLength, Has, is_eq-slice_cmp, is_payload, items_of, Lengths, nat_cmp, same_Some, slice_cmp}
+use Rattle.bag_rules.proofs.Words.{AddsLength, AreByPath, bytes_eq, bytes_eq-Decides, cases_Bool, FetchLine, given_at, GivenLength, GivesLength, Has, is_eq-slice_cmp, is_payload, items_of, Lengths, nat_cmp, same_Some, slice_cmp}
 use Rattle.bag_rules.proofs.HasLemmas.{has_push}
 
 -- the same octets, or others

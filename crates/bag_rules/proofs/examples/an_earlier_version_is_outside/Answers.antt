@@ -1,4 +1,4 @@
-use Rattle.std.proofs.Common.{ℕ, List, false, map, codes, ◌++◌, ◌∷◌, [], refl, inl, inr, arith, rules}
+use Rattle.std.proofs.Common.{ℕ, List, false, map, codes, ◌++◌, ◌∷◌, refl, inl, inr, arith, rules}
 use Rattle.std.specs.Char.{to_ascii_lowercase}
 use Rattle.bag_path.specs.Lines.{lines_of}
 use Rattle.bag_tags.specs.declared.declaration.Declaration.{Declaration}

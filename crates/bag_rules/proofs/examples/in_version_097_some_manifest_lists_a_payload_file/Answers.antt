@@ -1,5 +1,5 @@
-use Rattle.std.proofs.Common.{◌≡◌, [], codes, refl, true}
-use Rattle.bag_rules.proofs.Words.{Bag, manifest_name, Md5, Payload, Sha256, utf8_declares, V097}
+use Rattle.std.proofs.Common.{[], refl, true}
+use Rattle.bag_rules.proofs.Words.{Bag, Sha256, utf8_declares, V097}
 use Rattle.bag_rules.specs.ExampleBags.{earlier_bag, manifest_of_abc}
 use Rattle.bag_rules.specs.Listed.{IsListed}
 use Rattle.bag_rules.proofs.EarlierBag.{first_lists}

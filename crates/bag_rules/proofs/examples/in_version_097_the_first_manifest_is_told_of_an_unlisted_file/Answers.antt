@@ -1,5 +1,5 @@
-use Rattle.std.proofs.Common.{◌≡◌, ◌≢◌, ℕ, false, true, List, [], codes, refl, sym, ap, ◌∙◌, inl, inr}
-use Rattle.bag_rules.proofs.Words.{Alg, Bag, Greater, HasFault, lists_path, manifest_file, manifest_name, Md5, nat_cmp, Payload, Sha1, Sha256, Sha512, slice_cmp, Unlisted, V097}
+use Rattle.std.proofs.Common.{◌≡◌, ◌≢◌, false, true, [], codes, refl, sym, ap, ◌∙◌}
+use Rattle.bag_rules.proofs.Words.{Alg, Bag, Greater, HasFault, lists_path, manifest_file, Md5, nat_cmp, Payload, Sha1, Sha256, Sha512, slice_cmp, Unlisted, V097}
 use Rattle.bag_rules.specs.ExampleBags.{earlier_bag}
 use Rattle.bag_rules.specs.Listed.{IsListed}
 use Rattle.bag_rules.proofs.EarlierBag.{first_lists, none_lists}

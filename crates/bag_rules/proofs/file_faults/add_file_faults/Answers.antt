@@ -1,6 +1,6 @@
 use Rattle.std.proofs.Common.{◌≡◌, ◌∷◌, ◌∙◌, [], List, Result, Ok, Err, IfErr, MatchResult, sym, subst}
 use Rattle.bag_path.specs.declared.version.Version.{Version}
-use Rattle.bag_rules.proofs.Words.{Adds, AreLinesOf, AreWantsOf, err_from_is_err_and, FetchLine, FileStops, FirstStops, HasFaultOf, IfErr-weaker, IsFileFault, IsLongRead, IsMissing, IsSizeOf, kinds_of_files, Listing, NoneStops, on_ok_weaker, paths_in, Stopped}
+use Rattle.bag_rules.proofs.Words.{Adds, AreWantsOf, err_from_is_err_and, FileStops, FirstStops, HasFaultOf, IfErr-weaker, IsFileFault, IsLongRead, IsMissing, kinds_of_files, Listing, NoneStops, on_ok_weaker, paths_in, Stopped}
 use Rattle.bag_rules.specs.declared.outcome.CheckFault.TheVariants.{Memory}
 use Rattle.bag_rules.proofs.AddsLemmas.{adds_kinds, adds_of, adds_so}
 use Rattle.bag_rules.proofs.VerdictLemmas.{found_files}

@@ -1,5 +1,5 @@
 use Rattle.std.proofs.Common.{◌≡◌, ◌≢◌, ◌∙◌, ◌++◌, ◌∷◌, [], true, false, None, Some, arith, ap, subst, sym, rules, length}
-use Rattle.bag_rules.proofs.Words.{alg_of, digest_in, Digest, Fault, FitsListing, IsOtherDigest, listed_digest, manifest_name, name_in, same_Some, WrongDigest}
+use Rattle.bag_rules.proofs.Words.{digest_in, IsOtherDigest, listed_digest, name_in, same_Some, WrongDigest}
 use Rattle.bag_rules.proofs.EachLemmas.{each_all, each_more}
 use Rattle.bag_rules.proofs.FileFaultLemmas.{adds_wrong, none_wrong}
 use Rattle.bag_rules.proofs.file_faults.add_other_digests.Goals as goal

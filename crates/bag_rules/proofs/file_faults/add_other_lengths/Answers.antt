@@ -1,5 +1,5 @@
-use Rattle.std.proofs.Common.{◌≡◌, ◌∙◌, ◌++◌, ◌∷◌, [], arith, ap, get_or, sym, rules, length}
-use Rattle.bag_rules.proofs.Words.{Fault, FetchLength, GivenLength, IsOtherLength}
+use Rattle.std.proofs.Common.{◌≡◌, ◌∙◌, ◌++◌, ◌∷◌, [], arith, ap, get_or, rules, length}
+use Rattle.bag_rules.proofs.Words.{FetchLength, GivenLength, IsOtherLength}
 use Rattle.bag_rules.proofs.AddsLemmas.{adds_none}
 use Rattle.bag_rules.proofs.EachLemmas.{each_all, each_at, stands_at}
 use Rattle.bag_rules.proofs.FileFaultLemmas.{adds_longer}

@@ -1,5 +1,5 @@
-use Rattle.std.proofs.Common.{◌≡◌, ◌≤◌, ◌<◌, ◌^◌, ◌∙◌, [], Bool, ℕ, Some, None, Option, true, false, length, sym, ap, refl, subst, rules, slice_get, arith, inl, List}
-use Rattle.bag_rules.proofs.Words.{Adds, Alg, err_from_is_err_and, given_at, GivenLength, has, is_payload, IsFaultBy, IsFaultIn, IsLongFile, IsLongRead, IsReadBy, Listing, lists_by, payload_length, Stopped}
+use Rattle.std.proofs.Common.{◌≡◌, ◌≤◌, ◌<◌, ◌^◌, ◌∙◌, None, true, false, length, sym, ap, refl, subst, rules, arith, inl}
+use Rattle.bag_rules.proofs.Words.{Adds, Alg, err_from_is_err_and, given_at, has, is_payload, IsFaultIn, IsLongFile, IsLongRead, IsReadBy, lists_by, payload_length, Stopped}
 use Rattle.std.specs.Bool.{then_some}
 use Rattle.bag_rules.proofs.AddsLemmas.{adds_none}
 use Rattle.bag_rules.proofs.FileFaultLemmas.{listed_is_read, no_faults_by, not_read}

@@ -1,7 +1,6 @@
-use Rattle.std.proofs.Common.{◌≡◌, ◌<◌, ◌+◌, ◌∙◌, Some, None, Option, ℕ, ap, sym, subst, arith, rules, length, inl, is_some, take, true, false, refl}
-use Rattle.std.specs.Bool.{then_some}
+use Rattle.std.proofs.Common.{◌≡◌, ◌<◌, ◌+◌, ◌∙◌, Some, None, ℕ, ap, sym, subst, arith, rules, length, take, refl}
 use Rattle.bag_rules.specs.KeptInside.{AreKept}
-use Rattle.bag_rules.proofs.Words.{Bag, cases_Bool, err_from_is_err_and, is_payload, IsFileFault, IsLongRead, IsSizeOf, NoneStopsBefore, paths_in, payload_length, PayloadSize, same_Some, Stopped, take-length}
+use Rattle.bag_rules.proofs.Words.{err_from_is_err_and, IsFileFault, IsLongRead, IsSizeOf, NoneStopsBefore, paths_in, PayloadSize, same_Some, Stopped, take-length}
 use Rattle.bag_rules.proofs.AddsLemmas.{adds_so}
 use Rattle.bag_rules.proofs.HasLemmas.{stands}
 use Rattle.bag_rules.proofs.FileReadLemmas.{IsFaultBefore, all_faults, all_faults_back, file_faults_more, no_faults}

@@ -1,5 +1,5 @@
 use Rattle.std.proofs.Common.{◌≡◌, ◌∙◌, ◌++◌, ◌∷◌, [], List, true, false, sym, ap, subst}
-use Rattle.bag_rules.proofs.Words.{Adds, Fault, HasFaultOf, IsUnlistedManifest, Listing, manifest_file, NoManifest, NoPayloadDir, on_ok_weaker, paths_in, Payload, Shown}
+use Rattle.bag_rules.proofs.Words.{Adds, HasFaultOf, IsUnlistedManifest, Listing, manifest_file, NoManifest, NoPayloadDir, on_ok_weaker, paths_in, Payload, Shown}
 use Rattle.bag_rules.proofs.AddsLemmas.{adds_kinds}
 use Rattle.bag_rules.proofs.FormLemmas.{dir_there, dir_away, manifest_there, manifest_away, all_unlisted}
 use Rattle.bag_rules.proofs.TreeLemmas.{is_there, shows}

@@ -1,6 +1,6 @@
 use Rattle.std.proofs.Common.{◌≡◌, ◌↔◌, ◌||◌, ◌+◌, ◌++◌, ◌∷◌, ◌∙◌, [], true, is_some, sym, ap, subst, take, rules}
 use Rattle.bag_rules.specs.FilesInside.{HasPayloadListing}
-use Rattle.bag_rules.proofs.Words.{Alg, has, is_alg, Listing, lists_path, Payload, take_more}
+use Rattle.bag_rules.proofs.Words.{Alg, has, is_alg, Listing, Payload, take_more}
 use Rattle.bag_rules.proofs.ListedLemmas.{listed_or_not}
 use Rattle.bag_rules.proofs.UnlistedLemmas.{none_more, one_more}
 use Rattle.bag_rules.proofs.listed.payload_algs.Goals as goal

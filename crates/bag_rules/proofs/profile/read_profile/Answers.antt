@@ -1,4 +1,4 @@
-use Rattle.std.proofs.Common.{◌≡◌, subst, sym}
+use Rattle.std.proofs.Common.{subst, sym}
 use Rattle.bag_rules.proofs.Words.{declaration_file, DeclarationStops, FirstStops, IfOk-weaker, IsProfile}
 use Rattle.bag_rules.proofs.DeclaredLemmas.{no_declaration, none_declaration}
 use Rattle.bag_rules.proofs.RisingPaths.{contains_at}

@@ -1,4 +1,4 @@
-use Rattle.std.proofs.Common.{rules, ◌≡◌, ◌<◌, ◌∷◌, [], length, sym, ap, ◌∙◌, subst, arith}
+use Rattle.std.proofs.Common.{rules, ◌≡◌, ◌<◌, ◌∷◌, [], length, sym, ◌∙◌, subst, arith}
 use Rattle.bag_rules.specs.KeptInside.{AreKept}
 use Rattle.bag_rules.proofs.Words.{Adds, AreTextsOf, Bag, err_from_is_err_and, HasBadLine, HasFaultOf, IsBadLineOf, IsBagOf, NoneStopsBefore, ReadsOn, TextStops}
 use Rattle.bag_rules.proofs.HasLemmas.{stands}

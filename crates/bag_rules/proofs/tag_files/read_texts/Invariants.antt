@@ -1,4 +1,4 @@
-use Rattle.std.proofs.Common.{◌≡◌, ◌≤◌, length}
+use Rattle.std.proofs.Common.{◌≡◌, length}
 use Rattle.bag_rules.specs.KeptInside.{AreKept}
 use Rattle.bag_rules.proofs.Words.{Adds, AreTextsOf, Bag, HasBadLine, IsBagOf, NoneStopsBefore, paths_in, TextStops, UsesTree}
 use Rattle.bag_rules.specs.Bags.{version_of}

@@ -1,5 +1,5 @@
-use Rattle.std.proofs.Common.{◌≡◌, ◌∙◌, ◌++◌, ◌∷◌, [], Some, sym, ap, subst, rules}
-use Rattle.bag_rules.proofs.Words.{given_at, GivenLength, items_of}
+use Rattle.std.proofs.Common.{◌≡◌, ◌∙◌, ◌++◌, ◌∷◌, [], sym, ap, rules}
+use Rattle.bag_rules.proofs.Words.{given_at, items_of}
 use Rattle.bag_rules.proofs.WantLemmas.{length_added}
 use Rattle.bag_rules.proofs.wants.add_length.Goals as goal
 use Rattle.bag_rules.proofs.wants.add_length.Goals.{in-Some, in-None}

@@ -1,4 +1,4 @@
-use Rattle.std.proofs.Common.{◌≡◌, ◌∙◌, ◌+◌, ◌++◌, ◌∷◌, [], None, Some, sym, ap, subst, take, length, arith, rules, refl}
+use Rattle.std.proofs.Common.{◌≡◌, ◌∙◌, ◌+◌, ◌++◌, ◌∷◌, [], Some, sym, ap, subst, take, length, arith, rules, refl}
 use Rattle.bag_rules.proofs.Words.{AddsLength, AreByPath, FetchLine, GivenLength, take-length, take_more}
 use Rattle.bag_rules.proofs.WantLemmas.{length_given, no_lengths, nothing_given}
 use Rattle.bag_rules.proofs.wants.lengths_by_path.Goals as goal

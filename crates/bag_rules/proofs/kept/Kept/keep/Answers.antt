@@ -1,4 +1,4 @@
-use Rattle.std.proofs.Common.{◌≡◌, [], ap, length, refl, subst}
+use Rattle.std.proofs.Common.{[], ap, length, refl, subst}
 use Rattle.bag_rules.proofs.Words.{AreDigests}
 use Rattle.bag_rules.proofs.KeptLemmas.{kept_push}
 use Rattle.bag_rules.proofs.kept.Kept.keep.Goals as goal

@@ -1,5 +1,5 @@
-use Rattle.std.proofs.Common.{◌≡◌, ◌∙◌, arith, length, false, true, Some, None, sym, ap, subst, slice_get, rules}
-use Rattle.bag_rules.proofs.Words.{alg_of, Digest, digest_in, FitsListing, get_or_from_slice_get, Has, listed_digest, Listing, same_Some}
+use Rattle.std.proofs.Common.{◌≡◌, ◌∙◌, arith, length, false, true, Some, None, sym, ap, subst, rules}
+use Rattle.bag_rules.proofs.Words.{alg_of, digest_in, FitsListing, listed_digest, same_Some}
 use Rattle.bag_rules.proofs.EachLemmas.{holds_all, holds_more, stands_at}
 use Rattle.bag_rules.proofs.want.Want.first_wrong.Goals as goal
 use Rattle.bag_rules.proofs.want.Want.first_wrong.Goals.{in-Some+else-not-contains, in_default}

@@ -1,4 +1,4 @@
-use Rattle.std.proofs.Common.{◌≡◌, ◌∙◌, arith, length, get_or, false, true, refl, sym, slice_get, Some}
+use Rattle.std.proofs.Common.{◌≡◌, arith, length, get_or, false, true, refl}
 use Rattle.bag_rules.proofs.Words.{GivenLength}
 use Rattle.bag_rules.proofs.EachLemmas.{holds_all, holds_more, stands_at}
 use Rattle.bag_rules.proofs.HasLemmas.{has_at}
