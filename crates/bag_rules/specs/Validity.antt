@@ -43,7 +43,8 @@ pub record Conforms (bag : Bag) : Type 0 where
       → length (filter is_oxum elements) ≤ 1
   pub oxum_right : (element : MetadataElement) → SaysOxum bag element
       → OxumText element.value (octet_count (payload_of bag.files)) (length (payload_of bag.files))
-  -- each file of `fetch.txt` is listed, and has the length that is given, if it is there (section 2.2.3)
+  -- each file of `fetch.txt` is listed, and has the length that is given, if it is there
+  -- (section 2.2.3)
   pub fetch_listed : (line : FetchLine) → HasEntry bag line
       → IsListed (version_of bag) bag line.entry.path
   pub fetch_lengths : (line : FetchLine) (octets : List ℕ) → HasEntry bag line

@@ -48,7 +48,8 @@ pub record HasParts (version : Version) (text label first : List ℕ) : Type 0 w
   pub first_line : HasFirstLine version after first
 
 -- The line gives this element.
-pub record GivesElement (version : Version) (text : List ℕ) (element : MetadataElement) : Type 0 where
+pub record GivesElement (version : Version) (text : List ℕ) (element : MetadataElement)
+    : Type 0 where
   pub parts : HasParts version text element.label element.value
   pub fit : IsFit element.label
 
@@ -88,8 +89,8 @@ LacksSeparator V097 text = AllByRecursion IsNotColon text
 -- the first cause for which a line that isn't indented gives no element
 abbrev pub GivesNoElement : Version → List ℕ → LineCause → Type 0
 GivesNoElement version text NoSeparator = LacksSeparator version text
-GivesNoElement version text BadLabel = (label : List ℕ) × ((first : List ℕ) × HasParts version text label first
-    × ¬ IsFit label)
+GivesNoElement version text BadLabel = (label : List ℕ) × ((first : List ℕ)
+    × HasParts version text label first × ¬ IsFit label)
 GivesNoElement version text _ = ⊥
 
 -- the first cause for which a line adds nothing
