@@ -1,4 +1,4 @@
-//! The program `bag`: works with bags of the BagIt File Packaging Format 1.0 (RFC 8493).
+//! The program `bag`: works with bags of the BagIt File Packaging Format, versions 1.0 (RFC 8493) and 0.97.
 //!
 //! `bag check DIR` judges the bag in a folder. What is printed goes to standard output, and the status tells the same: 0 valid,
 //! 1 not valid, 2 none that can be judged here, 3 a fault of files or memory, or an output that is full or closed, 64 an unknown

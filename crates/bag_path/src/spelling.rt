@@ -14,8 +14,8 @@ use std::fmt::{self, Display, Formatter, Write};
 ///
 /// # Errors
 ///
-/// `BadEscape` where a `%` begins no escape in version 1.0, and never in version 0.97; else the first fault of the octets that the text spells, as
-/// [`BagPath::parse`] answers it; or `Memory`.
+/// `BadEscape` where a `%` begins no escape in version 1.0, and never in version 0.97; else the first fault of the octets that the
+/// text spells, as [`BagPath::parse`] answers it; or `Memory`.
 pub fn unescape(alloc: Global, text: &str, version: Version) -> Result<BagPath, PathFault>
     ensures path { IfOk result (λ path. Spells version path text.now × IsPath path) }
     ensures accepted { (path : List ℕ) → Spells version path text.now → IsPath path

@@ -58,7 +58,7 @@ abbrev pub Declares : Bag → Declaration → Type 0
 Declares bag declaration = (octets : List ℕ) × Holds bag declaration_file octets
     × IsDeclaration octets declaration
 
--- the version that is declared by the text of `bagit.txt`, where it is there
+-- the version that is declared by the text of `bagit.txt` (without one, no file is read by a version)
 abbrev pub version_in : Option (List ℕ) → Version
 version_in (Some octets) = declared_version octets
 version_in None = V1
@@ -67,7 +67,7 @@ version_in None = V1
 abbrev pub version_of : Bag → Version
 version_of bag = version_in (lookup (bytes_eq declaration_file) bag.files)
 
--- the bag declares that version, and UTF-8
+-- the bag declares a version that is known, and this is `version_of`; and UTF-8
 pub record IsDeclared (bag : Bag) : Type 0 where
   pub declaration : Declaration
   pub declares : Declares bag declaration

@@ -20,7 +20,7 @@ IsListed V1 bag path = (alg : Alg) (pairs : List Pair)
 IsListed V097 bag path = (alg : Alg) × (pairs : List Pair)
     × Lists bag (manifest_name Payload alg) pairs × (lists_path pairs path ≡ true)
 
--- the payload manifest is there, and is the first one by file name
+-- the payload manifest is there and reads, and is the first such one by file name
 pub record IsFirstManifest (bag : Bag) (alg : Alg) : Type 0 where
   pub there : (pairs : List Pair) × Lists bag (manifest_name Payload alg) pairs
   pub first : (other : Alg) (pairs : List Pair) → Lists bag (manifest_name Payload other) pairs

@@ -51,8 +51,8 @@ pub record Conforms (bag : Bag) : Type 0 where
       → Holds bag line.entry.path octets
       → ForSome line.entry.octets (λ given. length octets ≡ given)
 
--- Section 3: every required element is there; every file listed in every tag manifest and in every payload manifest is there; every
--- payload file is listed in every payload manifest (in version 0.97: in some); and every element present conforms.
+-- Section 3: every required element is there; every file listed in every tag manifest and in every payload manifest is
+-- there; every payload file is listed in every payload manifest (in version 0.97: in some); and every element present conforms.
 pub record IsComplete (bag : Bag) : Type 0 where
   pub conforms : Conforms bag
   pub each_there : (name : ManifestName) (pairs : List Pair) (path : List ℕ) → Lists bag name pairs

@@ -1,5 +1,9 @@
 //! What is wrong with the bag that a tree holds (RFC 8493 section 3).
-ghost use Rattle.std.specs.Prelude.{◌≡◌, ◌<◌, ◌≤◌, ◌∷◌, [], Contains, IfOk, IsErrOf, MatchResult, length};
+ghost use Rattle.std.specs.Prelude.{◌≡◌, ◌<◌, ◌≤◌, ◌∷◌, [], Contains, IfOk, IsErrOf, MatchResult, length, true};
+ghost use Rattle.bag_digest.specs.Algorithm.{has};
+ghost use Rattle.bag_digest.specs.declared.algorithm.Alg.{Alg};
+ghost use Rattle.bag_tags.specs.declared.listing.Kind.TheVariants.{Tag};
+ghost use Rattle.bag_tags.specs.Names.{manifest_file};
 ghost use Rattle.bag_rules.specs.Bags.{Bag, IsBagOf, declaration_file};
 ghost use Rattle.bag_rules.specs.KeptInside.{AreKept};
 ghost use Rattle.bag_rules.specs.Limits.{ProfileStops, Stopped, Stops};
@@ -99,7 +103,10 @@ fn check_in_profile<T: Tree>(
 }
 
 /// The algorithms of the tag manifests that are there: a tag file may be listed by these.
-fn tag_algorithms<T: Tree>(tree: &T) -> AlgSet {
+fn tag_algorithms<T: Tree>(tree: &T) -> AlgSet
+    ensures { (alg : Alg) → Contains (paths_in (T.shown tree.now)) (manifest_file Tag alg)
+        → has result alg ≡ true }
+{
     let mut set = AlgSet::empty();
     for i in 0..tree.count() {
         if let TagName::TagManifest(alg) = TagName::of(tree.path(i)) {

@@ -35,12 +35,14 @@ pub enum Fault {
         manifest: ManifestName,
         path: BagPath,
     },
-    /// A payload file is not listed in this payload manifest (section 3).
+    /// A payload file is not listed in this payload manifest (section 3); in version 0.97 in none, of which this is the first by
+    /// file name.
     Unlisted {
         manifest: Alg,
         path: BagPath,
     },
-    /// A path of `fetch.txt` is not listed in this payload manifest (section 2.2.3).
+    /// A path of `fetch.txt` is not listed in this payload manifest (section 2.2.3); in version 0.97 in none, of which this is the
+    /// first by file name.
     FetchNotListed {
         manifest: Alg,
         path: BagPath,

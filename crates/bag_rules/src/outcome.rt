@@ -17,7 +17,7 @@ pub enum Outcome {
 /// Why a bag can't be judged here.
 #[derive(Debug, Drop)]
 pub enum OutsideCause {
-    /// `bagit.txt` declares another version than 1.0.
+    /// `bagit.txt` declares a version that is neither 1.0 nor 0.97.
     Version,
     /// `bagit.txt` declares another encoding of tag files than UTF-8.
     Encoding,

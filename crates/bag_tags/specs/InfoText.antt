@@ -19,10 +19,10 @@ pub record IsIndented (text line : List ℕ) : Type 0 where
   pub only_blanks : AllByRecursion IsBlank blanks
   pub line_begins : begins_blank line ≡ false
 
--- The line is a label, its first colon, and what follows.
-pub record HasColon (text label after : List ℕ) : Type 0 where
-  pub whole : text ≡ label ++ colon ∷ after
-  pub first_colon : AllByRecursion IsNotColon label
+-- The line is what stands before its first colon, the colon, and what follows.
+pub record HasColon (text before after : List ℕ) : Type 0 where
+  pub whole : text ≡ before ++ colon ∷ after
+  pub first_colon : AllByRecursion IsNotColon before
 
 -- What stands before the colon is the label; in version 0.97 blanks may follow it.
 abbrev pub HasLabel : Version → List ℕ → List ℕ → Type 0

@@ -121,8 +121,8 @@ const MD5_OF_A: &str = "900150983cd24fb0d6963f7d28e17f72  data/a.txt\n";
 
 const MD5_OF_E: &str = "d41d8cd98f00b204e9800998ecf8427e  data/e.txt\n";
 
-// The faults of a bag of version 0.97 with both files, a manifest by SHA-256 of both, and one by MD5 that lists the first file and
-// what is said here; and one more file.
+// The verdict on a bag of version 0.97 with both files, a manifest by SHA-256 of both, one by MD5 that lists the first file and
+// what is said here, and one more file.
 fn check_0_97(alloc: Global, md5_manifest: &str, more: (&str, &str)) -> Result<Outcome, Fail> {
     let declaration = "BagIt-Version: 0.97\nTag-File-Character-Encoding: UTF-8\n";
     let mut tree = tree_of(alloc, declaration, MANIFEST, more)?;
