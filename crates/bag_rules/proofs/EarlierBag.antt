@@ -19,21 +19,22 @@ module _ (manifest : List ℕ) where
   File = List ℕ × List ℕ
 
   -- what isn't the declaration or the payload file is one of the manifests
-  of_name : (name octets : List ℕ) → Has bag.files (name, octets) → bytes_eq (codes "bagit.txt") name ≡ false → bytes_eq payload_file name ≡ false → ((codes "manifest-md5.txt" ≡ name) × ([] ≡ octets)) ⊎ ((codes "manifest-sha256.txt" ≡ name) × (manifest ≡ octets))
-  of_name name octets (inl e) a b = absurd (other_text (codes "bagit.txt") name a (ap (λ (f : File). f.0) e))
-  of_name name octets (inr (inl e)) a b = absurd (other_text payload_file name b (ap (λ (f : File). f.0) e))
-  of_name name octets (inr (inr (inl e))) a b = inl (ap (λ (f : File). f.0) e, ap (λ (f : File). f.1) e)
-  of_name name octets (inr (inr (inr (inl e)))) a b = inr (ap (λ (f : File). f.0) e, ap (λ (f : File). f.1) e)
-  of_name name octets (inr (inr (inr (inr none)))) a b = absurd none
+  of_name : (name octets : List ℕ) → Has bag.files (name, octets) → bytes_eq (codes "bagit.txt") name ≡ false → bytes_eq payload_file name ≡ false → bytes_eq (codes "fetch.txt") name ≡ false → ((codes "manifest-md5.txt" ≡ name) × ([] ≡ octets)) ⊎ ((codes "manifest-sha256.txt" ≡ name) × (manifest ≡ octets))
+  of_name name octets (inl e) a b d = absurd (other_text (codes "bagit.txt") name a (ap (λ (f : File). f.0) e))
+  of_name name octets (inr (inl e)) a b d = absurd (other_text payload_file name b (ap (λ (f : File). f.0) e))
+  of_name name octets (inr (inr (inl e))) a b d = absurd (other_text (codes "fetch.txt") name d (ap (λ (f : File). f.0) e))
+  of_name name octets (inr (inr (inr (inl e)))) a b d = inl (ap (λ (f : File). f.0) e, ap (λ (f : File). f.1) e)
+  of_name name octets (inr (inr (inr (inr (inl e))))) a b d = inr (ap (λ (f : File). f.0) e, ap (λ (f : File). f.1) e)
+  of_name name octets (inr (inr (inr (inr (inr none))))) a b d = absurd none
 
   of_alg : (alg : Alg) (octets : List ℕ) → Holds bag (manifest_file Payload alg) octets → ((alg ≡ Md5) × ([] ≡ octets)) ⊎ ((alg ≡ Sha256) × (manifest ≡ octets))
-  of_alg Md5 octets h = elim (of_name _ octets (has_at bag.files h.0 (manifest_file Payload Md5, octets) h.1) refl refl) [ inl e ↦ inl (refl, e.1) | inr e ↦ absurd (other_text (codes "manifest-sha256.txt") (manifest_file Payload Md5) refl e.0) ]
-  of_alg Sha1 octets h = elim (of_name _ octets (has_at bag.files h.0 (manifest_file Payload Sha1, octets) h.1) refl refl) [ inl e ↦ absurd (other_text (codes "manifest-md5.txt") (manifest_file Payload Sha1) refl e.0) | inr e ↦ absurd (other_text (codes "manifest-sha256.txt") (manifest_file Payload Sha1) refl e.0) ]
-  of_alg Sha256 octets h = elim (of_name _ octets (has_at bag.files h.0 (manifest_file Payload Sha256, octets) h.1) refl refl) [ inl e ↦ absurd (other_text (codes "manifest-md5.txt") (manifest_file Payload Sha256) refl e.0) | inr e ↦ inr (refl, e.1) ]
-  of_alg Sha512 octets h = elim (of_name _ octets (has_at bag.files h.0 (manifest_file Payload Sha512, octets) h.1) refl refl) [ inl e ↦ absurd (other_text (codes "manifest-md5.txt") (manifest_file Payload Sha512) refl e.0) | inr e ↦ absurd (other_text (codes "manifest-sha256.txt") (manifest_file Payload Sha512) refl e.0) ]
+  of_alg Md5 octets h = elim (of_name _ octets (has_at bag.files h.0 (manifest_file Payload Md5, octets) h.1) refl refl refl) [ inl e ↦ inl (refl, e.1) | inr e ↦ absurd (other_text (codes "manifest-sha256.txt") (manifest_file Payload Md5) refl e.0) ]
+  of_alg Sha1 octets h = elim (of_name _ octets (has_at bag.files h.0 (manifest_file Payload Sha1, octets) h.1) refl refl refl) [ inl e ↦ absurd (other_text (codes "manifest-md5.txt") (manifest_file Payload Sha1) refl e.0) | inr e ↦ absurd (other_text (codes "manifest-sha256.txt") (manifest_file Payload Sha1) refl e.0) ]
+  of_alg Sha256 octets h = elim (of_name _ octets (has_at bag.files h.0 (manifest_file Payload Sha256, octets) h.1) refl refl refl) [ inl e ↦ absurd (other_text (codes "manifest-md5.txt") (manifest_file Payload Sha256) refl e.0) | inr e ↦ inr (refl, e.1) ]
+  of_alg Sha512 octets h = elim (of_name _ octets (has_at bag.files h.0 (manifest_file Payload Sha512, octets) h.1) refl refl refl) [ inl e ↦ absurd (other_text (codes "manifest-md5.txt") (manifest_file Payload Sha512) refl e.0) | inr e ↦ absurd (other_text (codes "manifest-sha256.txt") (manifest_file Payload Sha512) refl e.0) ]
 
   pub first_lists : Lists bag (manifest_name Payload Md5) []
-  first_lists = record { octets = []; there = (2, refl); text = lists_nothing Md5 }
+  first_lists = record { octets = []; there = (3, refl); text = lists_nothing Md5 }
 
 -- both manifests list nothing
 pub none_lists : (alg : Alg) (pairs : List Pair) → Lists (earlier_bag []) (manifest_name Payload alg) pairs → pairs ≡ []

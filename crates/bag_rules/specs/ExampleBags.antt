@@ -9,7 +9,8 @@ manifest_of_abc =
     codes "ba7816bf8f01cfea414140de5dae2223b00361a396177a9cb410ff61f20015ad  data/a.txt"
     ++ lf ∷ []
 
--- A bag of version 0.97 with one payload file, a manifest by MD5 that lists nothing, and this one by SHA-256.
+-- A bag of version 0.97 with one payload file, a `fetch.txt` of another, a manifest by MD5 that lists nothing, and this one by
+-- SHA-256.
 abbrev pub earlier_bag : List ℕ → Bag
 earlier_bag manifest = record {
   files = (
@@ -17,7 +18,8 @@ earlier_bag manifest = record {
     codes "BagIt-Version: 0.97" ++ lf
         ∷ codes "Tag-File-Character-Encoding: UTF-8" ++ lf ∷ [],
   )
-      ∷ (codes "data/a.txt", codes "abc") ∷ (codes "manifest-md5.txt", [])
+      ∷ (codes "data/a.txt", codes "abc") ∷ (codes "fetch.txt", codes "http:x - data/z")
+      ∷ (codes "manifest-md5.txt", [])
       ∷ (codes "manifest-sha256.txt", manifest) ∷ [];
   has_payload_dir = true;
 }

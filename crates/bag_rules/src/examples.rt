@@ -6,7 +6,7 @@ ghost use Rattle.bag_digest.specs.declared.algorithm.Alg.{Alg};
 ghost use Rattle.bag_digest.specs.declared.algorithm.Alg.TheVariants.{Md5, Sha256};
 ghost use Rattle.bag_tags.specs.declared.listing.Kind.TheVariants.{Payload};
 ghost use Rattle.bag_tags.specs.Declarations.{written_declaration};
-ghost use Rattle.bag_rules.specs.declared.fault.Fault.TheVariants.{NoDeclaration, NoPayloadDir, Missing, Unlisted, WrongDigest};
+ghost use Rattle.bag_rules.specs.declared.fault.Fault.TheVariants.{FetchNotListed, NoDeclaration, NoPayloadDir, Missing, Unlisted, WrongDigest};
 ghost use Rattle.bag_rules.specs.declared.outcome.OutsideCause.TheVariants as outside;
 ghost use Rattle.bag_rules.specs.Bags.{Bag, IsDeclared, version_of};
 ghost use Rattle.bag_rules.specs.ExampleBags.{earlier_bag, manifest_of_abc};
@@ -115,10 +115,12 @@ pub fn in_version_097_some_manifest_lists_a_payload_file()
         × IsUnlisted V1 bag Md5 path × ((alg : Alg) → ¬ HasFault bag (Unlisted alg path)) }
 {}
 
-/// Where no payload manifest lists it, the first one is told, and no other.
+/// Where no payload manifest lists it, the first one is told, and no other; and so it is with a path of `fetch.txt`.
 pub fn in_version_097_the_first_manifest_is_told_of_an_unlisted_file()
     ensures { let bag = earlier_bag [] in
-        let path = codes "data/a.txt" in
-        HasFault bag (Unlisted Md5 path) × ((alg : Alg) → HasFault bag (Unlisted alg path)
-        → alg ≡ Md5) }
+        let unlisted = Unlisted Md5 (codes "data/a.txt") in
+        let not_fetched = FetchNotListed Md5 (codes "data/z") in
+        HasFault bag unlisted × HasFault bag not_fetched × ((alg : Alg)
+        → (HasFault bag (Unlisted alg (codes "data/a.txt")) → alg ≡ Md5)
+        × (HasFault bag (FetchNotListed alg (codes "data/z")) → alg ≡ Md5)) }
 {}

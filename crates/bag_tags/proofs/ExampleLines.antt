@@ -114,9 +114,9 @@ rest_of text = after_blanks (after_word text)
 pub has_words : (text : List ℕ) → (length (after_word (rest_of text)) == 0) ≡ false → AreWords text (word_of text) (word_of (rest_of text)) (rest_of (rest_of text))
 has_words text some = words_of text _ _ _ _ _ _ _ _ refl refl refl some refl
 
-module _ (text : List ℕ) (octets : Option ℕ) (path : List ℕ) (some : (length (after_word (rest_of text)) == 0) ≡ false) (is_url : IsUrl (word_of text)) (is_length : IsLength (word_of (rest_of text)) octets) (spelled_so : octets_spelled V1 (rest_of (rest_of text)) ≡ Some path) (is_path : IsPath path) where
-  pub gives_entry : GivesEntry V1 text (fetch_item (word_of text) octets path)
-  gives_entry = gives_of V1 text (word_of text) (word_of (rest_of text)) (rest_of (rest_of text)) octets path (has_words text some) is_url is_length (spells_if_read V1 path (rest_of (rest_of text)) spelled_so) is_path
+module _ {version : Version} (text : List ℕ) (octets : Option ℕ) (path : List ℕ) (some : (length (after_word (rest_of text)) == 0) ≡ false) (is_url : IsUrl (word_of text)) (is_length : IsLength (word_of (rest_of text)) octets) (spelled_so : octets_spelled version (rest_of (rest_of text)) ≡ Some path) (is_path : IsPath path) where
+  pub gives_entry : GivesEntry version text (fetch_item (word_of text) octets path)
+  gives_entry = gives_of version text (word_of text) (word_of (rest_of text)) (rest_of (rest_of text)) octets path (has_words text some) is_url is_length (spells_if_read version path (rest_of (rest_of text)) spelled_so) is_path
 
-  pub adds_entry : (before : List FetchLine) (number : ℕ) → is_payload path ≡ true → AddsEntry V1 before number text (before ++ fetch_line number (fetch_item (word_of text) octets path) ∷ [])
+  pub adds_entry : (before : List FetchLine) (number : ℕ) → is_payload path ≡ true → AddsEntry version before number text (before ++ fetch_line number (fetch_item (word_of text) octets path) ∷ [])
   adds_entry before number payload = record { entry = fetch_item (word_of text) octets path; gives = gives_entry; payload = payload; adds = refl }

@@ -11,7 +11,7 @@ abbrev bag : Bag
 bag = earlier_bag manifest_of_abc
 
 is_listed : IsListed V097 bag payload_file
-is_listed = (Sha256, listed, record { octets = manifest_of_abc; there = (3, refl); text = lists_one V097 }, refl)
+is_listed = (Sha256, listed, record { octets = manifest_of_abc; there = (4, refl); text = lists_one V097 }, refl)
 
 pub returns : goal.returns
 returns c = (
