@@ -40,28 +40,28 @@ pub fn other_escapes_spell_nothing()
 {}
 
 /// In version 0.97 `%` stands for itself, also before `25`, before `%` and at the end of the text.
-pub fn percent_stands_for_itself_in_version_097()
+pub fn percent_stands_for_itself_in_version_0_97()
     ensures { Spells V097 (codes "data/%41") (codes "data/%41")
         × Spells V097 (codes "data/%25") (codes "data/%25")
         × Spells V097 (codes "data/%%0%") (codes "data/%%0%") }
 {}
 
 /// In version 0.97 the escapes of LF and CR are those of version 1.0, in either case, also after a `%` that is none.
-pub fn line_ends_are_escaped_in_version_097()
+pub fn line_ends_are_escaped_in_version_0_97()
     ensures { Spells V097 (codes "data/" ++ lf ∷ []) (codes "data/%0a")
         × Spells V097 (codes "data/" ++ lf ∷ cr ∷ cr ∷ []) (codes "data/%0A%0D%0d")
         × Spells V097 (codes "%" ++ lf ∷ codes "0A") (codes "%%0A0A") }
 {}
 
 /// In version 0.97 a name that has a literal escape of LF can't be spelled; in version 1.0 it can.
-pub fn a_literal_line_escape_has_no_spelling_in_version_097()
+pub fn a_literal_line_escape_has_no_spelling_in_version_0_97()
     ensures { ((text : List ℕ) → ¬ Spells V097 (codes "data/%0A") text)
         × ((text : List ℕ) → ¬ Spells V097 (codes "data/%0dk") text)
         × Spells V1 (codes "data/%0A") (codes "data/%250A") }
 {}
 
 /// What is written is of version 1.0, in whatever version the path was read.
-pub fn paths_of_version_097_are_written_in_version_1()
+pub fn paths_of_version_0_97_are_written_in_version_1()
     ensures { (written_spelling (codes "data/%41") ≡ codes "data/%2541")
         × (written_spelling (codes "data/%25") ≡ codes "data/%2525")
         × (written_spelling (codes "data/" ++ lf ∷ []) ≡ codes "data/%0A") }

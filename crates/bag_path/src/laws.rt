@@ -31,24 +31,24 @@ pub fn what_is_written_has_no_line_end()
 {}
 
 /// In version 0.97 every text spells some octets.
-pub fn every_text_spells_octets_in_version_097()
+pub fn every_text_spells_octets_in_version_0_97()
     ensures { (text : List ℕ) → (path : List ℕ) × Spells V097 path text }
 {}
 
 /// In version 0.97 no text spells a path in which an escape of LF or CR stands.
-pub fn a_path_with_a_line_escape_has_no_spelling_in_version_097()
+pub fn a_path_with_a_line_escape_has_no_spelling_in_version_0_97()
     ensures { (before part after text : List ℕ) (octet : ℕ) → IsLineEscape part octet
         → ¬ Spells V097 (before ++ part ++ after) text }
 {}
 
 /// In version 0.97 every other path spells itself.
-pub fn other_paths_spell_themselves_in_version_097()
+pub fn other_paths_spell_themselves_in_version_0_97()
     ensures { (path : List ℕ) → ((before part after : List ℕ) (octet : ℕ)
         → IsLineEscape part octet → path ≢ (before ++ part ++ after)) → Spells V097 path path }
 {}
 
 /// In version 0.97 every other path is spelled by some text that stays on its line.
-pub fn other_paths_have_a_spelling_on_one_line_in_version_097()
+pub fn other_paths_have_a_spelling_on_one_line_in_version_0_97()
     ensures { (path : List ℕ) → ((before part after : List ℕ) (octet : ℕ)
         → IsLineEscape part octet → path ≢ (before ++ part ++ after))
         → (text : List ℕ) × Spells V097 path text × All IsPlain text }

@@ -102,7 +102,7 @@ fn spellings_and_what_is_written_for_their_paths(rt: HostRuntime) -> Result<(), 
 }
 
 #[test]
-fn spellings_of_version_097_and_what_is_written_for_their_paths(
+fn spellings_of_version_0_97_and_what_is_written_for_their_paths(
     rt: HostRuntime,
 ) -> Result<(), Fail> {
     for (text, path, written) in [
@@ -130,7 +130,7 @@ fn spellings_of_version_097_and_what_is_written_for_their_paths(
 }
 
 #[test]
-fn texts_of_version_097_that_spell_no_path(rt: HostRuntime) {
+fn texts_of_version_0_97_that_spell_no_path(rt: HostRuntime) {
     for (text, fault) in [
         ("", PathFault::Empty),
         ("data//%41", PathFault::EmptySegment),

@@ -42,4 +42,4 @@ pub mod OneLimitLemmas
 pub mod OneVerdictLemmas
 pub mod OneManifest
 pub mod OneFile
-pub mod EarlierBag
+pub mod TwoManifests

@@ -11,8 +11,8 @@ manifest_of_abc =
 
 -- A bag of version 0.97 with one payload file, a `fetch.txt` of another, a manifest by MD5 that lists nothing, and this one by
 -- SHA-256.
-abbrev pub earlier_bag : List ℕ → Bag
-earlier_bag manifest = record {
+abbrev pub bag_of_0_97 : List ℕ → Bag
+bag_of_0_97 manifest = record {
   files = (
     codes "bagit.txt",
     codes "BagIt-Version: 0.97" ++ lf

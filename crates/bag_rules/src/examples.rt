@@ -9,7 +9,7 @@ ghost use Rattle.bag_tags.specs.Declarations.{written_declaration};
 ghost use Rattle.bag_rules.specs.declared.fault.Fault.TheVariants.{FetchNotListed, NoDeclaration, NoPayloadDir, Missing, Unlisted, WrongDigest};
 ghost use Rattle.bag_rules.specs.declared.outcome.OutsideCause.TheVariants as outside;
 ghost use Rattle.bag_rules.specs.Bags.{Bag, IsDeclared, version_of};
-ghost use Rattle.bag_rules.specs.ExampleBags.{earlier_bag, manifest_of_abc};
+ghost use Rattle.bag_rules.specs.ExampleBags.{bag_of_0_97, manifest_of_abc};
 ghost use Rattle.bag_rules.specs.HasFault.{HasFault};
 ghost use Rattle.bag_rules.specs.Listed.{IsListed, IsUnlisted};
 ghost use Rattle.bag_tags.specs.Names.{manifest_name};
@@ -108,16 +108,16 @@ pub fn an_earlier_version_is_outside()
 
 /// A bag that declares version 0.97 is read by it, and its payload file has to be listed in some payload manifest: of these two
 /// the second lists it. By the rules of version 1.0 the first would be told.
-pub fn in_version_097_some_manifest_lists_a_payload_file()
-    ensures { let bag = earlier_bag manifest_of_abc in
+pub fn in_version_0_97_some_manifest_lists_a_payload_file()
+    ensures { let bag = bag_of_0_97 manifest_of_abc in
         let path = codes "data/a.txt" in
         IsDeclared bag × (version_of bag ≡ V097) × IsListed V097 bag path
         × IsUnlisted V1 bag Md5 path × ((alg : Alg) → ¬ HasFault bag (Unlisted alg path)) }
 {}
 
 /// Where no payload manifest lists it, the first one is told, and no other; and so it is with a path of `fetch.txt`.
-pub fn in_version_097_the_first_manifest_is_told_of_an_unlisted_file()
-    ensures { let bag = earlier_bag [] in
+pub fn in_version_0_97_the_first_manifest_is_told_of_an_unlisted_file()
+    ensures { let bag = bag_of_0_97 [] in
         let unlisted = Unlisted Md5 (codes "data/a.txt") in
         let not_fetched = FetchNotListed Md5 (codes "data/z") in
         HasFault bag unlisted × HasFault bag not_fetched × ((alg : Alg)

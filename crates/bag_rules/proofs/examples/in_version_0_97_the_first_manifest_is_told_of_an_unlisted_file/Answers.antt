@@ -7,15 +7,15 @@ use Rattle.bag_tags.specs.Fetches.{fetch_line}
 use Rattle.bag_tags.specs.FetchText.{AddsEntry, FetchText}
 use Rattle.bag_tags.specs.WordsReading.{until}
 use Rattle.bag_tags.proofs.ExampleLines.{adds_entry}
-use Rattle.bag_rules.proofs.Words.{Alg, ascii_path, Bag, FetchLine, FetchNotListed, Greater, HasFault, leads_on, lists_path, manifest_file, Md5, nat_cmp, Payload, Sha1, Sha256, Sha512, slice_cmp, text_of, Unlisted, V097}
-use Rattle.bag_rules.specs.ExampleBags.{earlier_bag}
+use Rattle.bag_rules.proofs.Words.{Alg, ascii_path, Bag, FetchLine, FetchNotListed, Greater, HasFault, leads_on, lists_path, manifest_file, Md5, nat_cmp, Payload, Sha1, Sha256, Sha512, slice_cmp, text_of, V097}
+use Rattle.bag_rules.specs.ExampleBags.{bag_of_0_97}
 use Rattle.bag_rules.specs.Listed.{IsListed, IsUnlisted}
-use Rattle.bag_rules.proofs.EarlierBag.{first_lists, none_lists}
+use Rattle.bag_rules.proofs.TwoManifests.{first_lists, none_lists}
 use Rattle.bag_rules.proofs.FirstManifest.{first_md5}
-use Rattle.bag_rules.proofs.examples.in_version_097_the_first_manifest_is_told_of_an_unlisted_file.Goals as goal
+use Rattle.bag_rules.proofs.examples.in_version_0_97_the_first_manifest_is_told_of_an_unlisted_file.Goals as goal
 
 abbrev bag : Bag
-bag = earlier_bag []
+bag = bag_of_0_97 []
 
 -- no manifest lists anything, and the first is told
 none : (path : List ℕ) → ¬ IsListed V097 bag path

@@ -1,14 +1,14 @@
 use Rattle.std.proofs.Common.{[], refl, true}
 use Rattle.bag_rules.proofs.Words.{Bag, Sha256, utf8_declares, V097}
-use Rattle.bag_rules.specs.ExampleBags.{earlier_bag, manifest_of_abc}
+use Rattle.bag_rules.specs.ExampleBags.{bag_of_0_97, manifest_of_abc}
 use Rattle.bag_rules.specs.Listed.{IsListed}
-use Rattle.bag_rules.proofs.EarlierBag.{first_lists}
+use Rattle.bag_rules.proofs.TwoManifests.{first_lists}
 use Rattle.bag_rules.proofs.OneFile.{listed, lists_one}
 use Rattle.bag_rules.proofs.OneManifest.{payload_file}
-use Rattle.bag_rules.proofs.examples.in_version_097_some_manifest_lists_a_payload_file.Goals as goal
+use Rattle.bag_rules.proofs.examples.in_version_0_97_some_manifest_lists_a_payload_file.Goals as goal
 
 abbrev bag : Bag
-bag = earlier_bag manifest_of_abc
+bag = bag_of_0_97 manifest_of_abc
 
 is_listed : IsListed V097 bag payload_file
 is_listed = (Sha256, listed, record { octets = manifest_of_abc; there = (4, refl); text = lists_one V097 }, refl)

@@ -2,7 +2,7 @@
 use Rattle.std.proofs.Common.{◌≡◌, ◌⊎◌, ℕ, false, List, [], codes, refl, sym, ap, subst, inl, inr}
 use Rattle.bag_rules.proofs.Words.{Alg, Bag, bytes_eq, Has, Holds, Lists, manifest_file, manifest_name, ManifestText, Md5, nothing_listed, one_list_of_pairs, other_text, Pair, Payload, Sha1, Sha256, Sha512, text_of, V097}
 use Rattle.bag_path.specs.Lines.{lines_of}
-use Rattle.bag_rules.specs.ExampleBags.{earlier_bag}
+use Rattle.bag_rules.specs.ExampleBags.{bag_of_0_97}
 use Rattle.bag_rules.proofs.HasLemmas.{has_at}
 use Rattle.bag_rules.proofs.OneManifest.{payload_file}
 
@@ -13,7 +13,7 @@ lists_nothing alg = text_of _ (nothing_listed alg Payload) [] (nothing_listed al
 
 module _ (manifest : List ℕ) where
   abbrev bag : Bag
-  bag = earlier_bag manifest
+  bag = bag_of_0_97 manifest
 
   abbrev File : Type 0
   File = List ℕ × List ℕ
@@ -37,5 +37,5 @@ module _ (manifest : List ℕ) where
   first_lists = record { octets = []; there = (3, refl); text = lists_nothing Md5 }
 
 -- both manifests list nothing
-pub none_lists : (alg : Alg) (pairs : List Pair) → Lists (earlier_bag []) (manifest_name Payload alg) pairs → pairs ≡ []
+pub none_lists : (alg : Alg) (pairs : List Pair) → Lists (bag_of_0_97 []) (manifest_name Payload alg) pairs → pairs ≡ []
 none_lists alg pairs lists = one_list_of_pairs V097 alg Payload [] pairs [] (subst (λ o. ManifestText V097 alg Payload o pairs) (elim (of_alg [] alg lists.octets lists.there) [ inl e ↦ sym e.1 | inr e ↦ sym e.1 ]) lists.text) (lists_nothing alg)
