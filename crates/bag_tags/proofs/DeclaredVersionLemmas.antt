@@ -72,34 +72,16 @@ are_of d version e = elim (chosen (d.major == 1) (d.minor == 0) (d.major == 0) (
   | inr k ↦ inr (same_number d.major 0 k.0, same_number d.minor 97 k.1, k.2)
 ]
 
--- the texts of these numbers
-text_0 : decimal 0 ≡ codes "0"
-unfolding digits
-text_0 = refl
-
-text_1 : decimal 1 ≡ codes "1"
-unfolding digits
-text_1 = refl
-
-text_97 : decimal 97 ≡ codes "97"
-unfolding digits
-text_97 = refl
-
 abbrev numbered : List ℕ → List ℕ → List ℕ → List ℕ
 numbered major minor rest = (version_label ++ major ++ codes "." ++ minor) ++ rest
 
 version_begins : (major minor : ℕ) (rest : List ℕ) (version : Version) → AreOf major minor version → version ≡ declared_version (declaring major minor rest)
+unfolding digits
 version_begins major minor rest version known = elim known [
-  | inl k ↦ k.2 ∙ one rest ∙ written (codes "1") (codes "0") (sym (ap decimal k.0 ∙ text_1)) (sym (ap decimal k.1 ∙ text_0))
-  | inr k ↦ k.2 ∙ other rest ∙ written (codes "0") (codes "97") (sym (ap decimal k.0 ∙ text_0)) (sym (ap decimal k.1 ∙ text_97))
+  | inl k ↦ k.2 ∙ written (codes "1") (codes "0") (sym (ap decimal k.0)) (sym (ap decimal k.1))
+  | inr k ↦ k.2 ∙ written (codes "0") (codes "97") (sym (ap decimal k.0)) (sym (ap decimal k.1))
 ]
   where
-    one : (rest : List ℕ) → V1 ≡ declared_version (numbered (codes "1") (codes "0") rest)
-    one rest = refl
-
-    other : (rest : List ℕ) → V097 ≡ declared_version (numbered (codes "0") (codes "97") rest)
-    other rest = refl
-
     written : (before after : List ℕ) → before ≡ decimal major → after ≡ decimal minor → declared_version (numbered before after rest) ≡ declared_version (declaring major minor rest)
     written before after e f =
         ap (λ text. declared_version (numbered text after rest)) e ∙ ap (λ text. declared_version (numbered (decimal major) text rest)) f

@@ -17,9 +17,6 @@ ends_tail : (x : ℕ) (xs : List ℕ) → ends_blank (x ∷ xs) ≡ false → en
 ends_tail x [] h = refl
 ends_tail x (y ∷ xs) h = h
 
-ends_front : (x y : ℕ) (xs : List ℕ) → ends_blank (y ∷ xs) ≡ false → ends_blank (x ∷ y ∷ xs) ≡ false
-ends_front x y xs h = h
-
 -- some blanks end with a blank
 blanks_end : (x : ℕ) (xs : List ℕ) → AllByRecursion IsBlank (x ∷ xs) → ends_blank (x ∷ xs) ≡ true
 blanks_end x [] h = h.0
@@ -56,7 +53,7 @@ ends_more x xs [] h = elim (cases_Bool (is_blank x)) [
   | inl blank ↦ ([], (x ∷ h.0, ap (λ ys. x ∷ ys) h.1, (blank, h.2), refl))
   | inr not ↦ (x ∷ [], (h.0, ap (λ ys. x ∷ ys) h.1, h.2, not))
 ]
-ends_more x xs (y ∷ label) h = (x ∷ y ∷ label, (h.0, ap (λ ys. x ∷ ys) h.1, h.2, ends_front x y label h.3))
+ends_more x xs (y ∷ label) h = (x ∷ y ∷ label, (h.0, ap (λ ys. x ∷ ys) h.1, h.2, h.3))
 
 pub ends_of : (xs : List ℕ) → Ends xs
 ends_of [] = ([], ([], refl, tt, refl))

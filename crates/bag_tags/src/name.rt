@@ -201,6 +201,3 @@ fn is_word_octet(octet: u8) -> bool
 {
     octet.is_ascii_alphanumeric() || octet == b'_'
 }
-
-#[cfg(test)]
-mod tests;

@@ -20,6 +20,3 @@ fn are_digits(text: &[u8]) -> bool
 {
     text.iter().all(|octet| octet.is_ascii_digit())
 }
-
-#[cfg(test)]
-mod tests;

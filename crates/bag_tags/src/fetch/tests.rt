@@ -1,20 +1,10 @@
 use super::*;
 use std::test::Fail;
 
-#[test]
-fn urls_and_paths_that_make_an_entry(rt: HostRuntime) -> Result<(), Fail> {
-    for (url, length, path) in [
-        ("http:x", Some(5), "data/a"),
-        ("http://example.org/a", None, "data/a b"),
-        ("a+b-c.1:\u{e9}:%41", Some(u64::MAX), "data/\n"),
-        ("Z:z", Some(0), "data/*"),
-    ] {
-        let entry = FetchEntry::new(rt.alloc(), url, length, BagPath::parse(rt.alloc(), path)?)?;
-        assert_eq!(rt; entry.url(), url);
-        assert_eq!(rt; entry.length(), length);
-        assert_eq!(rt; entry.path().as_str(), path);
-    }
-    Ok(())
+/// Why no entry is made of this url and path.
+fn refused(alloc: Global, url: &str, path: &str) -> Result<Option<FetchEntryFault>, Fail> {
+    let path = BagPath::parse(alloc, path)?;
+    Ok(FetchEntry::new(alloc, url, Some(5), path).err())
 }
 
 #[test]
@@ -35,24 +25,7 @@ fn urls_and_paths_that_make_none(rt: HostRuntime) -> Result<(), Fail> {
         ("http:x", "a", FetchEntryFault::NotPayload),
         ("http:x", "data2/a", FetchEntryFault::NotPayload),
     ] {
-        let path = BagPath::parse(rt.alloc(), path)?;
-        let answer = FetchEntry::new(rt.alloc(), url, Some(5), path);
-        assert!(rt; matches!(&answer, Err(e) if *e == fault), "{url:?}");
+        assert_eq!(rt; refused(rt.alloc(), url, path)?, Some(fault), "{url:?}");
     }
-    Ok(())
-}
-
-#[test]
-fn entries_are_numbered_from_1_by_push(rt: HostRuntime) -> Result<(), Fail> {
-    let mut fetch = Fetch::new(rt.alloc());
-    for url in ["http:x", "http:y"] {
-        let path = BagPath::parse(rt.alloc(), "data/a")?;
-        fetch.push(FetchEntry::new(rt.alloc(), url, None, path)?)?;
-    }
-    assert_eq!(rt; fetch.entries().len(), 2);
-    assert_eq!(rt; fetch.entries()[0].line, 1);
-    assert_eq!(rt; fetch.entries()[0].entry.url(), "http:x");
-    assert_eq!(rt; fetch.entries()[1].line, 2);
-    assert_eq!(rt; fetch.entries()[1].entry.url(), "http:y");
     Ok(())
 }

@@ -7,74 +7,67 @@ const MD5_OF_NOTHING: &[u8] = b"d41d8cd98f00b204e9800998ecf8427e";
 
 const SHA256_OF_ABC: &[u8] = b"ba7816bf8f01cfea414140de5dae2223b00361a396177a9cb410ff61f20015ad";
 
-fn digest_of(alg: Alg, hex: &[u8]) -> Result<Digest, Fail> {
-    Ok(Digest::from_hex(alg, hex).ok_or("these are not the hex digits of a digest")?)
+/// What `push` answers for a path and the digest that these digits spell.
+fn answer(
+    alloc: Global,
+    manifest: &mut Manifest,
+    path: &str,
+    hex: &[u8],
+) -> Result<Result<(), PushFault>, Fail> {
+    let alg = if hex.len() == 32 {
+        Alg::Md5
+    } else {
+        Alg::Sha256
+    };
+    let digest = Digest::from_hex(alg, hex).ok_or("these are not the hex digits of a digest")?;
+    let path = BagPath::parse(alloc, path)?;
+    Ok(manifest.push(path, digest))
 }
 
-#[test]
-fn the_first_reason_against_a_pair_is_answered(rt: HostRuntime) -> Result<(), Fail> {
-    let mut manifest = Manifest::new(rt.alloc(), Alg::Md5, Kind::Payload);
-    assert_eq!(rt; manifest.alg(), Alg::Md5);
-    assert_eq!(rt; manifest.kind(), Kind::Payload);
-    assert!(rt; manifest.pairs().is_empty());
-    let md5 = digest_of(Alg::Md5, MD5_OF_ABC)?;
-    let sha256 = digest_of(Alg::Sha256, SHA256_OF_ABC)?;
-    let cases = [
-        ("data/a", sha256, Err(PushFault::WrongAlg)),
-        ("k", sha256, Err(PushFault::WrongAlg)),
-        ("k", md5, Err(PushFault::WrongPlace)),
-        ("data/a", md5, Ok(())),
-        ("data/a", md5, Err(PushFault::Twice)),
-        ("data/a", sha256, Err(PushFault::WrongAlg)),
-    ];
-    for (text, digest, want) in cases {
-        let path = BagPath::parse(rt.alloc(), text)?;
-        assert_eq!(rt; manifest.push(path, digest), want, "at {text}");
+/// Whether a manifest lists for each path the digest that the digits spell, and none for no digits.
+fn has_digests(alloc: Global, manifest: &Manifest, rows: &[(&str, &[u8])]) -> Result<bool, Fail> {
+    for (path, hex) in rows {
+        let path = BagPath::parse(alloc, path)?;
+        if manifest.get(&path) != Digest::from_hex(Alg::Md5, hex) {
+            return Ok(false);
+        }
     }
-    let a = BagPath::parse(rt.alloc(), "data/a")?;
-    let b = BagPath::parse(rt.alloc(), "data/b")?;
-    assert_eq!(rt; manifest.pairs().len(), 1);
-    assert_eq!(rt; manifest.pairs()[0].path.as_str(), "data/a");
-    assert_eq!(rt; manifest.pairs()[0].digest, md5);
-    assert_eq!(rt; manifest.get(&a), Some(md5));
-    assert_eq!(rt; manifest.get(&b), None);
-    Ok(())
+    Ok(true)
+}
+
+/// Whether a manifest lists these paths.
+fn lists(manifest: &Manifest, paths: &[&str]) -> bool {
+    let pairs = manifest.pairs();
+    pairs.len() == paths.len()
+        && pairs
+            .iter()
+            .zip(paths)
+            .all(|(pair, path)| pair.path.as_str() == *path)
 }
 
 #[test]
-fn a_tag_manifest_lists_tag_files_but_no_tag_manifests(rt: HostRuntime) -> Result<(), Fail> {
-    let mut manifest = Manifest::new(rt.alloc(), Alg::Md5, Kind::Tag);
-    assert_eq!(rt; manifest.kind(), Kind::Tag);
-    let md5 = digest_of(Alg::Md5, MD5_OF_ABC)?;
-    let cases = [
-        ("bagit.txt", Ok(())),
-        ("manifest-md5.txt", Ok(())),
-        ("data/a", Err(PushFault::WrongPlace)),
-        ("tagmanifest-sha1.txt", Err(PushFault::WrongPlace)),
-    ];
-    for (text, want) in cases {
-        let path = BagPath::parse(rt.alloc(), text)?;
-        assert_eq!(rt; manifest.kind().takes(&path), want.is_ok(), "at {text}");
-        assert_eq!(rt; manifest.push(path, md5), want, "at {text}");
-    }
-    assert_eq!(rt; manifest.pairs().len(), 2);
-    assert_eq!(rt; manifest.pairs()[0].path.as_str(), "bagit.txt");
-    assert_eq!(rt; manifest.pairs()[1].path.as_str(), "manifest-md5.txt");
-    Ok(())
-}
-
-#[test]
-fn each_of_two_paths_has_its_own_digest(rt: HostRuntime) -> Result<(), Fail> {
+fn pairs_are_listed_in_order_or_the_first_reason_against_one_is_answered(
+    rt: HostRuntime,
+) -> Result<(), Fail> {
     let mut manifest = Manifest::new(rt.alloc(), Alg::Md5, Kind::Payload);
-    let abc = digest_of(Alg::Md5, MD5_OF_ABC)?;
-    let nothing = digest_of(Alg::Md5, MD5_OF_NOTHING)?;
-    manifest.push(BagPath::parse(rt.alloc(), "data/b")?, abc)?;
-    manifest.push(BagPath::parse(rt.alloc(), "data/a")?, nothing)?;
-    let a = BagPath::parse(rt.alloc(), "data/a")?;
-    let b = BagPath::parse(rt.alloc(), "data/b")?;
-    assert_eq!(rt; manifest.get(&a), Some(nothing));
-    assert_eq!(rt; manifest.get(&b), Some(abc));
-    assert_eq!(rt; manifest.pairs()[0].path, b);
-    assert_eq!(rt; manifest.pairs()[1].path, a);
+    for (path, hex, want) in [
+        ("data/a", SHA256_OF_ABC, Err(PushFault::WrongAlg)),
+        ("k", SHA256_OF_ABC, Err(PushFault::WrongAlg)),
+        ("k", MD5_OF_ABC, Err(PushFault::WrongPlace)),
+        ("data/b", MD5_OF_ABC, Ok(())),
+        ("data/b", MD5_OF_ABC, Err(PushFault::Twice)),
+        ("data/b", SHA256_OF_ABC, Err(PushFault::WrongAlg)),
+        ("data/a", MD5_OF_NOTHING, Ok(())),
+    ] {
+        let answered = answer(rt.alloc(), &mut manifest, path, hex)?;
+        assert_eq!(rt; answered, want, "at {path}");
+    }
+    assert!(rt; lists(&manifest, &["data/b", "data/a"]));
+    let digests = [
+        ("data/a", MD5_OF_NOTHING),
+        ("data/b", MD5_OF_ABC),
+        ("data/c", b""),
+    ];
+    assert!(rt; has_digests(rt.alloc(), &manifest, &digests)?);
     Ok(())
 }
