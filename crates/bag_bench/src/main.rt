@@ -3,18 +3,36 @@
 //! `bag_bench KIND LINES` makes the text of a tag file in memory and reads it, where KIND is `manifest`, `info` or `fetch`, or `none`
 //! for a manifest that is made and not read. The status is 0 where the text reads.
 //!
+//! `bag_bench plan LINES` makes the tag files of a transfer, four manifests of so many lines each, and their plan; `bag_bench wants LINES`
+//! then asks it for each path; `bag_bench tags LINES` makes the tag files alone. The status is 0 where the transfer can be opened.
+//!
 //! `bag_bench ALG PIECES` takes the digest of so many pieces of 65,536 octets.
 #![tactic(auto)]
 
 use bag_digest::{Alg, AlgSet, Multi, piece_buffer};
 use bag_path::Version;
-use bag_tags::{Kind, read_fetch, read_info, read_manifest};
+use bag_rules::{Plan, TagSet};
+use bag_tags::{Kind, read_fetch, read_info, read_manifest, write_declaration};
 use std::alloc::{AllocError, Global};
 use std::env::{self, Env};
 use std::process::ExitCode;
 
 /// The SHA-256 of no octets.
 const NOTHING: &str = "e3b0c44298fc1c149afbf4c8996fb92427ae41e4649b934ca495991b7852b855";
+
+/// The file names of four manifests, and the digests of no octets by their algorithms.
+const MANIFESTS: [(&str, &str); 4] = [
+    ("manifest-md5.txt", "d41d8cd98f00b204e9800998ecf8427e"),
+    (
+        "manifest-sha1.txt",
+        "da39a3ee5e6b4b0d3255bfef95601890afd80709",
+    ),
+    ("manifest-sha256.txt", NOTHING),
+    (
+        "manifest-sha512.txt",
+        "cf83e1357eefb8bdf1542850d66d8007d620e4050b5715dc83f4a921d36ce9ce47d0d13c5d85f2b0ff8318d2877eec2f63b931bd47417a81a538327af927da3e",
+    ),
+];
 
 fn main(rt: HostRuntime) -> ExitCode {
     ExitCode::from(run(&rt))
@@ -34,6 +52,7 @@ fn run<R: Env + AllocGlobal>(rt: &R) -> u8 {
     let work = words[0].as_str();
     let status = match Alg::from_name(work) {
         Some(alg) => hash(alloc, alg, number),
+        None if work == "tags" || work == "plan" || work == "wants" => plan(alloc, work, number),
         None => read(alloc, work, number),
     };
     status.unwrap_or(3)
@@ -55,6 +74,48 @@ fn hash(alloc: Global, alg: Alg, pieces: u32) -> Result<u8, AllocError> {
     }
     let digests = multi.finish();
     Ok(if digests.get(alg).is_some() { 0 } else { 1 })
+}
+
+/// Makes the tag files of a transfer and, where that is the work, their plan; and asks it for each path.
+fn plan(alloc: Global, work: &str, lines: u32) -> Result<u8, AllocError> {
+    let Some(tags) = tags_of(alloc, lines)? else {
+        return Ok(1);
+    };
+    if work == "tags" {
+        return Ok(0);
+    }
+    let Ok(plan) = Plan::from_tags(alloc, &tags) else {
+        return Ok(1);
+    };
+    if work == "plan" {
+        return Ok(0);
+    }
+    let all = plan.paths().iter().all(|path| plan.want(path).is_some());
+    Ok(if all { 0 } else { 1 })
+}
+
+/// The tag files of a transfer with four manifests that list this many payload files.
+fn tags_of(alloc: Global, lines: u32) -> Result<Option<TagSet>, AllocError> {
+    let mut tags = TagSet::new(alloc);
+    if tags.add("bagit.txt", write_declaration(alloc)?).is_err() {
+        return Ok(None);
+    }
+    for (name, digest) in MANIFESTS {
+        if tags.add(name, manifest_of(alloc, digest, lines)?).is_err() {
+            return Ok(None);
+        }
+    }
+    Ok(Some(tags))
+}
+
+/// A manifest of this many lines, each with the same digest.
+fn manifest_of(alloc: Global, digest: &str, lines: u32) -> Result<Vec<u8>, AllocError> {
+    let mut text = Vec::new(alloc);
+    for number in 0..lines {
+        let line = format!(in alloc; "{digest}  data/folder/{number}.txt\n")?;
+        text.extend_from_slice(line.as_bytes())?;
+    }
+    Ok(text)
 }
 
 /// A text of this many lines.

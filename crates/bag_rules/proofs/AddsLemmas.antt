@@ -1,6 +1,6 @@
 -- Faults that are added to others.
-use Rattle.std.proofs.Common.{◌≡◌, ◌⊎◌, ◌==◌, ℕ, List, [], ◌∷◌, ◌++◌, sym, ◌∙◌, inl, inr, subst}
-use Rattle.bag_rules.proofs.Words.{Adds, Bag, Fault, Has, HasFaultOf, list_any, list_any-append, number_of, or_cases, or_left, or_right}
+use Rattle.std.proofs.Common.{◌≡◌, ◌⊎◌, ◌==◌, ℕ, true, List, [], ◌∷◌, ◌++◌, sym, ◌∙◌, inl, inr, subst}
+use Rattle.bag_rules.proofs.Words.{Adds, Bag, Fault, Has, HasFault, HasFaultOf, list_any, list_any-append, number_of, or_cases, or_left, or_right}
 use Rattle.bag_rules.proofs.HasLemmas.{has_push}
 
 pub adds_push : (old new : List Fault) (fault : Fault) → new ≡ old ++ fault ∷ [] → Adds old new (λ f. fault ≡ f)
@@ -36,14 +36,18 @@ adds_on old mid new P Q R split first second a b f = (
   ],
 )
 
+-- faults of some kinds, and then those of others
+pub adds_kinds_by : (P : Fault → Type 0) (xs ys : List ℕ) (old mid new : List Fault) → Adds old mid (λ f. P f × (list_any (λ kind. kind == number_of f) xs ≡ true)) → Adds mid new (λ f. P f × (list_any (λ kind. kind == number_of f) ys ≡ true)) → Adds old new (λ f. P f × (list_any (λ kind. kind == number_of f) (xs ++ ys) ≡ true))
+adds_kinds_by P xs ys old mid new a b = adds_on old mid new _ _ _
+    (λ f h. elim (or_cases _ _ (sym (list_any-append (λ kind. kind == number_of f) xs ys) ∙ h.1)) [ inl k ↦ inl (h.0, k) | inr k ↦ inr (h.0, k) ])
+    (λ f h. (h.0, list_any-append (λ kind. kind == number_of f) xs ys ∙ or_left _ _ h.1))
+    (λ f h. (h.0, list_any-append (λ kind. kind == number_of f) xs ys ∙ or_right _ _ h.1))
+    a b
+
 -- the same kinds, in another order
 pub adds_of : (bag : Bag) (xs ys : List ℕ) (old new : List Fault) → ((f : Fault) → list_any (λ kind. kind == number_of f) xs ≡ list_any (λ kind. kind == number_of f) ys) → Adds old new (HasFaultOf bag xs) → Adds old new (HasFaultOf bag ys)
 adds_of bag xs ys old new same a = adds_so old new (HasFaultOf bag xs) (HasFaultOf bag ys) (λ f h. (h.0, sym (same f) ∙ h.1)) (λ f h. (h.0, same f ∙ h.1)) a
 
 -- the broken faults of some kinds, and then those of others
 pub adds_kinds : (bag : Bag) (xs ys : List ℕ) (old mid new : List Fault) → Adds old mid (HasFaultOf bag xs) → Adds mid new (HasFaultOf bag ys) → Adds old new (HasFaultOf bag (xs ++ ys))
-adds_kinds bag xs ys old mid new a b = adds_on old mid new (HasFaultOf bag xs) (HasFaultOf bag ys) (HasFaultOf bag (xs ++ ys))
-    (λ f h. elim (or_cases _ _ (sym (list_any-append (λ kind. kind == number_of f) xs ys) ∙ h.1)) [ inl k ↦ inl (h.0, k) | inr k ↦ inr (h.0, k) ])
-    (λ f h. (h.0, list_any-append (λ kind. kind == number_of f) xs ys ∙ or_left _ _ h.1))
-    (λ f h. (h.0, list_any-append (λ kind. kind == number_of f) xs ys ∙ or_right _ _ h.1))
-    a b
+adds_kinds bag xs ys old mid new a b = adds_kinds_by (HasFault bag) xs ys old mid new a b

@@ -1,6 +1,6 @@
 -- A check from the declaration on.
 use Rattle.std.proofs.Common.{◌≡◌, ◌<◌, ◌≤◌, ◌^◌, ◌∙◌, ℕ, true, false, None, List, [], ◌∷◌, Some, Result, Ok, Err, MatchResult, Global, String, string_bytes, length, slice_get, refl, sym, ap, subst, inl, inr, arith}
-use Rattle.bag_rules.proofs.Words.{Algorithm, AreRising, BadDeclaration, Bag, CheckFault, Declaration, declaration_file, DeclarationStops, Declares, DeclFault, Encoding, Ended, ended_by, excludes, Fault, FirstStops, HasFault, Holds, IsDeclaration, IsDeclarationFault, IsFirstUnknown, IsFirstUnknownOf, IsInProfile, IsJudged, IsLongTag, IsOutside, IsProfile, IsThere, IsVerdict, Judged, Known, MatchOutside, Means, NoDeclaration, NoneStops, NoneUnknown, one_declaration, one_fault, Outcome, Outside, OutsideCause, ProfileStops, slice_get_within, Stopped, tier_of, WorkStops}
+use Rattle.bag_rules.proofs.Words.{Algorithm, AreRising, BadDeclaration, Bag, Broken, CheckFault, Declaration, declaration_file, DeclarationStops, Declares, DeclFault, Encoding, excludes, Fault, FirstStops, HasFault, Holds, IsDeclaration, IsDeclarationFault, IsFirstUnknown, IsFirstUnknownOf, IsInProfile, IsJudged, IsLongTag, IsOutside, IsProfile, IsThere, IsVerdict, Judged, Known, MatchOutside, Means, NoDeclaration, NoneStops, NoneUnknown, one_declaration, one_fault, Outcome, Outside, OutsideCause, ProfileStops, slice_get_within, Stopped, tier_of, Unknown, WorkStops}
 use Rattle.bag_path.specs.declared.version.Version as format
 use Rattle.bag_tags.specs.Declarations.{version_of as known_version}
 use Rattle.bag_tags.proofs.DeclaredVersionLemmas.{begins_with_version}
@@ -65,10 +65,10 @@ bad_out bag octets cause rising holds bad profile = excludes octets profile.decl
 
 -- WHAT THE DECLARATION AND THE NAMES OF THE MANIFESTS SAY
 
-pub no_declaration : (bag : Bag) → ¬ IsThere bag declaration_file → IsProfile bag (ended_by NoDeclaration)
+pub no_declaration : (bag : Bag) → ¬ IsThere bag declaration_file → IsProfile bag (Broken NoDeclaration)
 no_declaration bag absent = (none_verdict bag absent, not_declared bag absent)
 
-pub bad_declaration : (bag : Bag) (octets : List ℕ) (cause : DeclFault) → AreRising (paths_of bag) → Holds bag declaration_file octets → IsDeclarationFault octets cause → IsProfile bag (ended_by (BadDeclaration cause))
+pub bad_declaration : (bag : Bag) (octets : List ℕ) (cause : DeclFault) → AreRising (paths_of bag) → Holds bag declaration_file octets → IsDeclarationFault octets cause → IsProfile bag (Broken (BadDeclaration cause))
 bad_declaration bag octets cause rising holds bad = (bad_verdict bag octets cause rising holds bad, bad_out bag octets cause rising holds bad)
 
 -- the version that is read by is the one that is declared
@@ -95,7 +95,7 @@ not_outside bag declaration Version known utf8 other = let clash : Some (version
 not_outside bag declaration Encoding known utf8 other = let clash : true ≡ false = sym utf8 ∙ other.1 in cc
 not_outside bag declaration (Algorithm name) known utf8 other = other
 
-pub other_declaration : (bag : Bag) (declaration : Declaration) (cause : OutsideCause) → AreRising (paths_of bag) → Declares bag declaration → MatchOutside cause declaration → IsProfile bag (Ended (Outside cause))
+pub other_declaration : (bag : Bag) (declaration : Declaration) (cause : OutsideCause) → AreRising (paths_of bag) → Declares bag declaration → MatchOutside cause declaration → IsProfile bag (Unknown cause)
 other_declaration bag declaration cause rising declares other = (
   outside_verdict bag declaration cause declares other,
   λ profile.
@@ -117,7 +117,7 @@ first_unknown bag word rising of =
           of.before there.1.0 other another (higher (paths_of bag) rising of.place there.1.0 of.path other of.there at greater) at unknown);
     }
 
-pub unknown_algorithm : (bag : Bag) (name : String Global) → AreRising (paths_of bag) → IsDeclared bag → IsFirstUnknownOf (paths_of bag) (string_bytes name) → IsProfile bag (Ended (Outside (Algorithm name)))
+pub unknown_algorithm : (bag : Bag) (name : String Global) → AreRising (paths_of bag) → IsDeclared bag → IsFirstUnknownOf (paths_of bag) (string_bytes name) → IsProfile bag (Unknown (Algorithm name))
 unknown_algorithm bag name rising declared of =
     let first = first_unknown bag (string_bytes name) rising of in
     ((declared, first), λ profile. profile.known first.path (string_bytes name) first.there first.unknown)
@@ -135,9 +135,9 @@ known_algorithms bag declaration version rising declares known utf8 none = (
 -- THE WHOLE
 
 -- out of the profile only the declaration has a limit, and in it the rest of the work decides
-pub ended_stops : (bag : Bag) (outcome : Outcome) → NoneStops bag DeclarationStops → IsProfile bag (Ended outcome) → (fault : CheckFault) → ¬ WorkStops bag fault
-ended_stops bag outcome none out fault (inl first) = none_first bag DeclarationStops fault none first
-ended_stops bag outcome none out fault (inr rest) = out.1 rest.1
+pub ended_stops : (bag : Bag) → NoneStops bag DeclarationStops → ¬ IsInProfile bag → (fault : CheckFault) → ¬ WorkStops bag fault
+ended_stops bag none out fault (inl first) = none_first bag DeclarationStops fault none first
+ended_stops bag none out fault (inr rest) = out rest.1
 
 pub profile_stopped : (bag : Bag) (r : Result Outcome CheckFault) → NoneStops bag DeclarationStops → IsInProfile bag → MatchResult r (λ outcome. (fault : CheckFault) → ¬ ProfileStops bag fault) (Stopped (ProfileStops bag))
     → MatchResult r (λ outcome. (fault : CheckFault) → ¬ WorkStops bag fault) (Stopped (WorkStops bag))

@@ -116,15 +116,15 @@ none_wrong faults listing path digests fits = adds_none faults (IsOtherDigest pa
 -- THE FAULTS BY ALL
 
 -- the digest that was taken is the file's
-taken : (digests : Digests) (set : AlgSet) (listings : List Listing) (listing : Listing) (path octets : List ℕ) → AreDigests digests set octets → ((alg : Alg) → lists_by listings path alg ≡ true → has set alg ≡ true) → Has listings listing → lists_path listing.pairs path ≡ true → digest_in digests listing.alg ≡ Some (hash listing.alg octets)
+pub taken : (digests : Digests) (set : AlgSet) (listings : List Listing) (listing : Listing) (path octets : List ℕ) → AreDigests digests set octets → ((alg : Alg) → lists_by listings path alg ≡ true → has set alg ≡ true) → Has listings listing → lists_path listing.pairs path ≡ true → digest_in digests listing.alg ≡ Some (hash listing.alg octets)
 taken digests set listings listing path octets are lists has listed = are listing.alg ∙ ap (λ b. if b then Some (hash listing.alg octets) else None) (lists listing.alg (lists_here listings listing path has listed))
 
-module _ (want : Want) (octets : List ℕ) (sums : ℕ × Digests) (set : AlgSet) (are : HasSums sums set octets) (lists : (alg : Alg) → lists_by want.manifests.now want.path.now alg ≡ true → has set alg ≡ true) where
+module _ (version : Version) (want : Want) (octets : List ℕ) (sums : ℕ × Digests) (set : AlgSet) (are : HasSums sums set octets) (lists : (alg : Alg) → lists_by want.manifests.now want.path.now alg ≡ true → has set alg ≡ true) where
   own : (listing : Listing) → Has want.manifests.now listing → lists_path listing.pairs want.path.now ≡ true → digest_in sums.1 listing.alg ≡ Some (hash listing.alg octets)
   own listing has = taken sums.1 are.taken want.manifests.now listing want.path.now octets are.digests (λ alg l. are.covers alg (lists alg l)) has
 
   -- a file that is the one that is wanted can only be unlisted
-  pub fits_unlisted : (old new : List Fault) → Fits want sums.0 sums.1 → Adds old new (IsFileUnlisted want.version want.manifests.now want.path.now) → Adds old new (IsFaultBy want.version want.manifests.now want.lengths.now want.path.now octets)
+  pub fits_unlisted : (old new : List Fault) → Fits want sums.0 sums.1 → Adds old new (IsFileUnlisted version want.manifests.now want.path.now) → Adds old new (IsFaultBy version want.manifests.now want.lengths.now want.path.now octets)
   fits_unlisted old new fits = adds_so old new _ _ (λ f unlisted. inl unlisted) (λ f fault. elim fault [
     | inl unlisted ↦ unlisted
     | inr other ↦ absurd (elim other [
@@ -134,7 +134,7 @@ module _ (want : Want) (octets : List ℕ) (sums : ℕ × Digests) (set : AlgSet
   ])
 
   -- another has these faults
-  pub faults_by : (old a b new : List Fault) → Adds old a (IsFileUnlisted want.version want.manifests.now want.path.now) → Adds a b (OfSome want.lengths.now (IsOtherLength want.path.now sums.0)) → Adds b new (OfSome want.manifests.now (IsOtherDigest want.path.now sums.1)) → Adds old new (IsFaultBy want.version want.manifests.now want.lengths.now want.path.now octets)
+  pub faults_by : (old a b new : List Fault) → Adds old a (IsFileUnlisted version want.manifests.now want.path.now) → Adds a b (OfSome want.lengths.now (IsOtherLength want.path.now sums.0)) → Adds b new (OfSome want.manifests.now (IsOtherDigest want.path.now sums.1)) → Adds old new (IsFaultBy version want.manifests.now want.lengths.now want.path.now octets)
   faults_by old a b new unlisted longer wrong = adds_on old a new _ _ _ (λ f h. h) (λ f h. inl h) (λ f h. inr h) unlisted (adds_on a b new _ _ _ (λ f h. h) (λ f h. inl h) (λ f h. inr h)
       (subst (λ n. Adds a b (OfSome want.lengths.now (IsOtherLength want.path.now n))) are.count longer)
       (adds_so b new _ _

@@ -8,7 +8,7 @@ use Rattle.bag_rules.proofs.LimitLemmas.{stopped_so}
 use Rattle.bag_rules.proofs.TreeLemmas.{is_there, shows}
 use Rattle.bag_rules.proofs.UnlistedLemmas.{same_told}
 
-abbrev listing_by : ManifestName → List Pair → Listing
+abbrev pub listing_by : ManifestName → List Pair → Listing
 listing_by name pairs = record { alg = name.alg; kind = name.kind; pairs = pairs }
 
 module _ (bag : Bag) (texts : Texts) (are : AreTextsOf (length bag.files) bag texts) where

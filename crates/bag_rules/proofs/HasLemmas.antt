@@ -1,6 +1,6 @@
 -- That something is in a list, by recursion and by index.
 use native.Mathlib.Omega.{arith}
-use Rattle.std.proofs.Common.{◌≡◌, ◌⊎◌, ◌↔◌, ◌<◌, ℕ, List, [], ◌∷◌, ◌++◌, Some, length, slice_get, inl, inr, zero, suc, refl, subst}
+use Rattle.std.proofs.Common.{◌≡◌, ◌⊎◌, ◌↔◌, ◌<◌, ℕ, List, [], ◌∷◌, ◌++◌, Some, length, map, slice_get, inl, inr, zero, suc, refl, ap, subst}
 use Rattle.std.specs.List.{Contains}
 use Rattle.std.proofs.lemmas.List.Elements.{Contains-append_left, Contains-push, Contains-push_cases}
 use Rattle.bag_rules.proofs.Words.{Has}
@@ -24,6 +24,15 @@ has_push xs new x = (
   λ h. elim (Contains-push_cases xs new x (contains_from_has (xs ++ new ∷ []) x h)) [ inl k ↦ inl (has_from_contains xs x k) | inr e ↦ inr e ],
   λ h. has_from_contains (xs ++ new ∷ []) x (elim h [ inl k ↦ Contains-append_left xs (new ∷ []) x (contains_from_has xs x k) | inr e ↦ subst (Contains (xs ++ new ∷ [])) e (Contains-push xs new) ]),
 )
+
+-- what is made of each
+pub has_map : {X Y : Type 0} (f : X → Y) (xs : List X) (x : X) → Has xs x → Has (map f xs) (f x)
+has_map f [] x h = absurd h
+has_map f (y ∷ xs) x h = elim h [ inl e ↦ inl (ap f e) | inr k ↦ inr (has_map f xs x k) ]
+
+pub has_from_map : {X Y : Type 0} (f : X → Y) (xs : List X) (y : Y) → Has (map f xs) y → (x : X) × Has xs x × (f x ≡ y)
+has_from_map f [] y h = absurd h
+has_from_map f (x ∷ xs) y h = elim h [ inl e ↦ (x, inl refl, e) | inr k ↦ (let r = has_from_map f xs y k in (r.0, inr r.1, r.2)) ]
 
 -- what stands at a place is in the list
 pub has_at : {X : Type 0} (xs : List X) (i : ℕ) (x : X) → slice_get xs i ≡ Some x → Has xs x

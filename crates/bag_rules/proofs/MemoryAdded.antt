@@ -3,10 +3,11 @@ use Rattle.std.proofs.Common.{◌≡◌, ℕ, ◌+◌, ◌≤◌, ◌||◌, true
 use Rattle.std.proofs.lemmas.Bool.{cond_both}
 use Rattle.std.proofs.lemmas.Map.{lookup-insert, none_passes_from_lookup}
 use Rattle.bag_rules.specs.Memory.{FindsAlso}
-use Rattle.bag_rules.proofs.Words.{All-weaker, AreRising, bytes_eq, bytes_eq-Decides, cond-false, cond-true, false_from_ne_true, File, ForSome, insert, Inside, is_payload, IsGapFor, IsSound, keys_of, length-insert, lookup, moved_up, nat_list_eq_equiv, octets_at, option_map, or_left, or_right, Reading, rest_of, same_Some, shown_files, view_of, with_file}
-use Rattle.bag_rules.specs.MemoryInside.{paths_of}
+use Rattle.bag_rules.proofs.Words.{All-weaker, AreRising, bytes_eq, bytes_eq-Decides, cond-false, cond-true, false_from_ne_true, File, ForSome, insert, Inside, is_payload, IsGapFor, IsSound, keys_of, length-insert, lookup, moved_up, nat_list_eq_equiv, octets_at, option_map, or_left, or_right, Reading, rest_of, same_Some, files_of, view_of, with_file}
+use Rattle.bag_rules.specs.Files.{paths_of}
 use Rattle.bag_rules.proofs.MemoryFiles.{All-insert, lookup_in_gap, map-insert, put_in_gap, rising_put}
-use Rattle.bag_rules.proofs.MemoryShown.{length_shown, shown_insert, rest_moved}
+use Rattle.bag_rules.proofs.FilesShown.{length_shown, shown_insert}
+use Rattle.bag_rules.proofs.MemoryShown.{rest_moved}
 
 -- the same fields but for a file more
 pub record HasAdded (old new : Inside) (place : ℕ) (file : File) : Type 0 where
@@ -24,11 +25,11 @@ moved_within place n (Some old) within r here =
     subst (λ (q : Reading). q.place < n + 1) same (cond_both (nat_le place old.place) (old.place + 1) old.place (λ k. k < n + 1) (λ e. omega (arith, there)) (λ e. omega (arith, there)))
 
 module _ (old new : Inside) (place : ℕ) (file : File) (sound : IsSound old) (added : HasAdded old new place file) where
-  files_are : shown_files new.files.items ≡ insert (shown_files old.files.items) place (file.path, file.body.items)
-  files_are = ap shown_files added.files ∙ shown_insert old.files.items place file
+  files_are : files_of new.files.items ≡ insert (files_of old.files.items) place (file.path, file.body.items)
+  files_are = ap files_of added.files ∙ shown_insert old.files.items place file
 
   paths_are : paths_of new.files.items ≡ insert (paths_of old.files.items) place file.path
-  paths_are = ap keys_of files_are ∙ map-insert (λ (f : List ℕ × List ℕ). f.0) (shown_files old.files.items) place (file.path, file.body.items)
+  paths_are = ap keys_of files_are ∙ map-insert (λ (f : List ℕ × List ℕ). f.0) (files_of old.files.items) place (file.path, file.body.items)
 
   within : place ≤ length old.files.items
   within = omega (arith, added.gap.within, length_shown old.files.items)
@@ -40,7 +41,7 @@ module _ (old new : Inside) (place : ℕ) (file : File) (sound : IsSound old) (a
 
   pub view_added : view_of new ≡ with_file (view_of old) file.path file.body.items
   view_added = λ t. record {
-    files = (files_are ∙ put_in_gap file.path file.body.items (shown_files old.files.items) place added.gap) t;
+    files = (files_are ∙ put_in_gap file.path file.body.items (files_of old.files.items) place added.gap) t;
     has_payload_dir = added.has_payload_dir t;
     started = rest_is t;
     failures = added.failures t;
@@ -69,9 +70,9 @@ module _ (old new : Inside) (place : ℕ) (file : File) (sound : IsSound old) (a
   -- what a look-up finds
   lookup_is : (path : List ℕ) → octets_at (view_of new) path ≡ cond (bytes_eq file.path path) (Some file.body.items) (octets_at (view_of old) path)
   lookup_is path =
-      let none = none_passes_from_lookup (bytes_eq file.path) (shown_files old.files.items) (lookup_in_gap file.path (shown_files old.files.items) place sound.rising added.gap) in
+      let none = none_passes_from_lookup (bytes_eq file.path) (files_of old.files.items) (lookup_in_gap file.path (files_of old.files.items) place sound.rising added.gap) in
       ap (lookup (bytes_eq path)) files_are
-      ∙ lookup-insert nat_list_eq_equiv file.path file.body.items path (shown_files old.files.items) place none
+      ∙ lookup-insert nat_list_eq_equiv file.path file.body.items path (files_of old.files.items) place none
 
   pub finds_added : FindsAlso (view_of old) (view_of new) file.path file.body.items
   finds_added = record {

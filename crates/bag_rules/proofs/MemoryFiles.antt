@@ -23,7 +23,7 @@ gap_tail path x paths i gap = record {
 
 -- what is put into the gap is put in its place
 module _ (path octets : List ℕ) where
-  put_step : (file : List ℕ × List ℕ) (files : Files) (r : Ordering) → slice_cmp nat_cmp path file.0 ≡ r → insert_entry (slice_cmp nat_cmp) (file ∷ files) path octets ≡ match_ordering r ((path, octets) ∷ file ∷ files) ((file.0, octets) ∷ files) (file ∷ insert_entry (slice_cmp nat_cmp) files path octets)
+  pub put_step : (file : List ℕ × List ℕ) (files : Files) (r : Ordering) → slice_cmp nat_cmp path file.0 ≡ r → insert_entry (slice_cmp nat_cmp) (file ∷ files) path octets ≡ match_ordering r ((path, octets) ∷ file ∷ files) ((file.0, octets) ∷ files) (file ∷ insert_entry (slice_cmp nat_cmp) files path octets)
   put_step file files r h = ap (λ o. match_ordering o ((path, octets) ∷ file ∷ files) ((file.0, octets) ∷ files) (file ∷ insert_entry (slice_cmp nat_cmp) files path octets)) h
 
   pub put_in_gap : (files : Files) (i : ℕ) → IsGapFor (keys_of files) path i → insert files i (path, octets) ≡ insert_entry (slice_cmp nat_cmp) files path octets
@@ -35,7 +35,7 @@ module _ (path octets : List ℕ) where
 pub All-insert : {X : Type 0} (P : X → Type 0) (xs : List X) (i : ℕ) (x : X) → All P xs → P x → All P (insert xs i x)
 All-insert P xs i x all p = All-append P (take i xs) (x ∷ drop i xs) (All-take P i xs all) (All-cons P x (drop i xs) p (All-drop P i xs all))
 
-all_after : (x y : List ℕ) (ys : List (List ℕ)) → slice_cmp nat_cmp x y ≡ Less → AllByRecursion (λ z. slice_cmp nat_cmp y z ≡ Less) ys → AllByRecursion (λ z. slice_cmp nat_cmp x z ≡ Less) ys
+pub all_after : (x y : List ℕ) (ys : List (List ℕ)) → slice_cmp nat_cmp x y ≡ Less → AllByRecursion (λ z. slice_cmp nat_cmp y z ≡ Less) ys → AllByRecursion (λ z. slice_cmp nat_cmp x z ≡ Less) ys
 all_after x y [] h a = tt
 all_after x y (z ∷ zs) h a = (nat_list_cmp_total.trans x y z h a.0, all_after x y zs h a.1)
 

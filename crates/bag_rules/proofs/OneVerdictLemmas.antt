@@ -37,10 +37,10 @@ one_declared : (bag : Bag) (d e : Declaration) → AreRising (paths_of bag) → 
 one_declared bag d e rising p q = declarations.one_declaration q.0 d e (subst (λ o. IsDeclaration o d) (one_octets bag declaration_file p.0 q.0 rising p.1 q.1) p.2) q.2
 
 -- what declares a known version and UTF-8 isn't of another
-not_version : (bag : Bag) → AreRising (paths_of bag) → IsDeclared bag → IsOutside bag Version → ⊥
+pub not_version : (bag : Bag) → AreRising (paths_of bag) → IsDeclared bag → IsOutside bag Version → ⊥
 not_version bag rising declared other = let clash : Some (version_of bag) ≡ None = sym declared.version_is ∙ ap known_version (one_declared bag declared.declaration other.0 rising declared.declares other.1) ∙ other.2 in cc
 
-not_encoding : (bag : Bag) → AreRising (paths_of bag) → IsDeclared bag → IsOutside bag Encoding → ⊥
+pub not_encoding : (bag : Bag) → AreRising (paths_of bag) → IsDeclared bag → IsOutside bag Encoding → ⊥
 not_encoding bag rising declared other = let clash : true ≡ false = sym declared.in_utf8 ∙ ap (λ (d : Declaration). d.utf8) (one_declared bag declared.declaration other.0 rising declared.declares other.1) ∙ other.3 in cc
 
 not_both : (bag : Bag) → AreRising (paths_of bag) → IsOutside bag Version → IsOutside bag Encoding → ⊥

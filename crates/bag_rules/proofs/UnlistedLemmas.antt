@@ -1,5 +1,5 @@
 -- Which payload manifests are told where a path isn't listed as it has to be, by what was read and in the bag.
-use Rattle.std.proofs.Common.{◌≡◌, ◌≢◌, ◌<◌, ◌≤◌, ◌↔◌, ◌⊎◌, ◌||◌, ◌+◌, ◌∙◌, ◌++◌, ◌∷◌, [], ℕ, Bool, true, false, List, length, take, get_or, refl, sym, subst, inl, inr, arith}
+use Rattle.std.proofs.Common.{◌≡◌, ◌≢◌, ◌<◌, ◌≤◌, ◌↔◌, ◌+◌, ◌∙◌, ◌++◌, ◌∷◌, [], ℕ, Bool, true, false, List, length, take, get_or, refl, sym, subst, inl, inr, arith}
 use Rattle.std.proofs.lemmas.Cmp.{ranked}
 use Rattle.std.specs.Cmp.{nat_cmp_is}
 use Rattle.bag_path.specs.declared.version.Version.{Version}
@@ -8,44 +8,11 @@ use Rattle.bag_digest.specs.declared.algorithm.TheConstants.Alg.{ALL}
 use Rattle.bag_rules.specs.Bags.{version_of}
 use Rattle.bag_rules.specs.FilesInside.{HasPayloadListing, IsUnlistedIn}
 use Rattle.bag_rules.specs.Listed.{IsUnlisted}
-use Rattle.bag_rules.proofs.Words.{Adds, Alg, AlgSet, AreTextsOf, Bag, cases_Bool, cases_lt, false≢true, Fault, Greater, has, is_alg, Listing, Lists, lists_path, manifest_file, manifest_name, Md5, nat_cmp, or_cases, or_left, or_right, OfSome, Pair, Payload, Sha1, Sha256, Sha512, slice_cmp, Texts, V1, V097}
+use Rattle.bag_rules.proofs.Words.{Adds, Alg, AlgSet, AreTextsOf, Bag, cases_Bool, cases_lt, false≢true, Fault, Greater, has, Listing, Lists, lists_path, manifest_file, manifest_name, Md5, nat_cmp, OfSome, Pair, Payload, Sha1, Sha256, Sha512, slice_cmp, Texts, V1, V097}
 use Rattle.bag_rules.proofs.AddsLemmas.{adds_one, adds_same, adds_so}
 use Rattle.bag_rules.proofs.EachLemmas.{each_all, each_at, stands_at}
-use Rattle.bag_rules.proofs.AlgLemmas.{each_alg, in_all, itself, same_alg}
+use Rattle.bag_rules.proofs.AlgLemmas.{each_alg, in_all}
 use Rattle.bag_rules.proofs.FrontLemmas.{manifest_listed}
-use Rattle.bag_rules.proofs.HasLemmas.{has_push}
-
--- WHAT WAS READ
-
--- one listing more
-module _ (listings : List Listing) (new : Listing) (path : List ℕ) (lists : Bool) (old : AlgSet) (before : (alg : Alg) → (has old alg ≡ true) ↔ HasPayloadListing listings path lists alg) where
-  kept : (alg : Alg) → has old alg ≡ true → HasPayloadListing (listings ++ new ∷ []) path lists alg
-  kept alg h =
-      let earlier = (before alg).0 h in
-      record { listing = earlier.listing; has = (has_push listings new earlier.listing).1 (inl earlier.has); kind_is = earlier.kind_is; alg_is = earlier.alg_is; lists_is = earlier.lists_is }
-
-  kept_or_new : (alg : Alg) → HasPayloadListing (listings ++ new ∷ []) path lists alg → (has old alg ≡ true) ⊎ (new.kind ≡ Payload) × (new.alg ≡ alg) × (lists_path new.pairs path ≡ lists)
-  kept_or_new alg h = elim ((has_push listings new h.listing).0 h.has) [
-    | inl earlier ↦ inl ((before alg).1 (record { listing = h.listing; has = earlier; kind_is = h.kind_is; alg_is = h.alg_is; lists_is = h.lists_is }))
-    | inr e ↦ inr (subst (λ (l : Listing). (l.kind ≡ Payload) × (l.alg ≡ alg) × (lists_path l.pairs path ≡ lists)) (sym e) (h.kind_is, h.alg_is, h.lists_is))
-  ]
-
-  -- of a payload manifest that lists the path, or doesn't
-  pub one_more : (set : AlgSet) → new.kind ≡ Payload → lists_path new.pairs path ≡ lists → ((alg : Alg) → has set alg ≡ (is_alg new.alg alg || has old alg)) → (alg : Alg) → (has set alg ≡ true) ↔ HasPayloadListing (listings ++ new ∷ []) path lists alg
-  one_more set payload so with_alg alg = (
-    λ h. elim (or_cases (is_alg new.alg alg) (has old alg) (sym (with_alg alg) ∙ h)) [
-      | inl this ↦ record { listing = new; has = (has_push listings new new).1 (inr refl); kind_is = payload; alg_is = same_alg new.alg alg this; lists_is = so }
-      | inr earlier ↦ kept alg earlier
-    ],
-    λ h. with_alg alg ∙ elim (kept_or_new alg h) [
-      | inl earlier ↦ or_right (is_alg new.alg alg) (has old alg) earlier
-      | inr this ↦ or_left (is_alg new.alg alg) (has old alg) (subst (λ a. is_alg new.alg a ≡ true) this.1 (itself new.alg))
-    ],
-  )
-
-  -- and of another
-  pub none_more : ¬ ((new.kind ≡ Payload) × (lists_path new.pairs path ≡ lists)) → (alg : Alg) → (has old alg ≡ true) ↔ HasPayloadListing (listings ++ new ∷ []) path lists alg
-  none_more other alg = (kept alg, λ h. elim (kept_or_new alg h) [ inl earlier ↦ earlier | inr this ↦ absurd (other (this.0, this.2)) ])
 
 -- THE ORDER OF PAYLOAD MANIFESTS
 
@@ -77,10 +44,10 @@ module _ (bag : Bag) (texts : Texts) (are : AreTextsOf (length bag.files) bag te
   listing_said path lists alg = (
     λ h.
         let read = (manifest_listed bag texts are h.listing).0 h.has in
-        (h.listing.pairs, subst (λ a. Lists bag (manifest_name Payload a) h.listing.pairs) h.alg_is (subst (λ k. Lists bag (manifest_name k h.listing.alg) h.listing.pairs) h.kind_is read), h.lists_is),
+        (h.listing.pairs, subst (λ a. Lists bag (manifest_name Payload a) h.listing.pairs) h.alg_is (subst (λ k. Lists bag (manifest_name k h.listing.alg) h.listing.pairs) h.is_such.0 read), h.is_such.1),
     λ h.
         let listing : Listing = record { alg = alg; kind = Payload; pairs = h.0 } in
-        record { listing = listing; has = (manifest_listed bag texts are listing).1 h.1; kind_is = refl; alg_is = refl; lists_is = h.2 },
+        record { listing = listing; has = (manifest_listed bag texts are listing).1 h.1; alg_is = refl; is_such = (refl, h.2) },
   )
 
   told : (version : Version) (alg : Alg) (path : List ℕ) → IsUnlistedIn version texts.manifests.items alg path → IsUnlisted version bag alg path

@@ -15,7 +15,7 @@ use Rattle.bag_rules.proofs.VerdictLemmas.{declared_none, number_by_tier}
 decided_octets : (a b : List ℕ) → Decided (a ≡ b)
 decided_octets a b = decided_by (a ≡ b) (bytes_eq a b) (bytes_eq-Decides a b)
 
-decided_digest : (a b : Digest) → Decided (a ≡ b)
+pub decided_digest : (a b : Digest) → Decided (a ≡ b)
 decided_digest (digest_of.Md5 a) (digest_of.Md5 b) = decided_as (a ≡ b) _ (λ e. ap digest_of.Md5 e) (λ e. cc) (decided_octets a b)
 decided_digest (digest_of.Sha1 a) (digest_of.Sha1 b) = decided_as (a ≡ b) _ (λ e. ap digest_of.Sha1 e) (λ e. cc) (decided_octets a b)
 decided_digest (digest_of.Sha256 a) (digest_of.Sha256 b) = decided_as (a ≡ b) _ (λ e. ap digest_of.Sha256 e) (λ e. cc) (decided_octets a b)

@@ -22,22 +22,23 @@ pub use Rattle.bag_rules.specs.HasFault.{HasEntry, HasFault, HasFaultOf, IsFault
 pub use Rattle.bag_rules.specs.JudgingInside.{IsFirstUnknownOf, MatchOutside, NoneUnknown}
 pub use Rattle.bag_rules.specs.Limits.{DeclarationStops, FileStops, FirstStops, HasCountedLines, IsChecked, IsLongFile, IsLongTag, NoneStops, NoneStopsBefore, ProfileStops, Stopped, Stops, TextStops, WorkStops}
 pub use Rattle.bag_rules.specs.Memory.{mem_octets, mem_paths, mem_shown, MemFiles, no_files, octets_at, with_file}
-pub use Rattle.bag_rules.specs.MemoryInside.{IsGapFor, IsSound, moved_up, rest_of, shown_files, view_of}
-pub use Rattle.bag_rules.specs.Profiles.{ended_by, IsProfile}
+pub use Rattle.bag_rules.specs.Files.{AreTagFiles, Files, files_of, IsGapFor}
+pub use Rattle.bag_rules.specs.MemoryInside.{IsSound, moved_up, rest_of, view_of}
+pub use Rattle.bag_rules.specs.Profiles.{IsProfile}
 pub use Rattle.bag_rules.specs.ReadingInside.{Adds, AreLinesOf, AreTextsOf, front, GivesListing, HasBadLine, IsBadLineOf, IsFirstBadLine, name_in, ReadsOn, ReadsText, ValueOf}
 pub use Rattle.bag_rules.specs.SameVerdicts.{SameCause, SameVerdict}
 pub use Rattle.bag_rules.specs.Trees.{AreRising, HasFileAt, KeepsTree, octets_in, paths_in, Shown, UsesTree}
 pub use Rattle.bag_rules.specs.Validity.{Conforms, IsComplete, IsValid, Means}
 pub use Rattle.bag_rules.specs.Verdicts.{IsFirstUnknown, IsInProfile, IsJudged, IsOutside, IsVerdict, NoneBelow, tier_of}
-pub use Rattle.bag_rules.specs.Wants.{Fits, FitsDigests, FitsLength, FitsListing, FitsListings, IsFirstMisfit, IsFirstWrong, lists_by}
-pub use Rattle.bag_rules.specs.WantsInside.{AddsLength, AreGivenIn, AreByPath, AreWantsOf, given_at, GivesLength, GivesPayload, IsWantIn, items_of, Lengths}
+pub use Rattle.bag_rules.specs.Wants.{Fits, FitsDigests, FitsLength, FitsListing, FitsListings, HasSuch, lists_by}
+pub use Rattle.bag_rules.specs.WantsInside.{AddsLength, AreGivenIn, AreByPath, AreWantsOf, given_at, GivesLength, GivesPayload, IsWantBy, items_of, Lengths}
 pub use Rattle.bag_rules.specs.declared.want.GivenLength.{GivenLength}
 pub use Rattle.bag_rules.specs.declared.want.Want.{Want}
 pub use Rattle.bag_rules.specs.declared.wants.Wants.{Wants}
 pub use Rattle.bag_rules.specs.declared.oxum_faults.PayloadSize.{PayloadSize}
 pub use Rattle.bag_rules.specs.declared.fault.Fault.{Fault}
 pub use Rattle.bag_rules.specs.declared.fault.Fault.TheVariants.{BadDeclaration, BadLine, FetchLength, FetchNotListed, ManifestNotListed, Missing, NoDeclaration, NoManifest, NoPayloadDir, OxumForm, OxumTwice, OxumWrong, Unlisted, WrongDigest}
-pub use Rattle.bag_rules.specs.declared.memory.File.{File}
+pub use Rattle.bag_rules.specs.declared.file.File.{File}
 pub use Rattle.bag_rules.specs.declared.memory.MemTree.TheInside.{Inside}
 pub use Rattle.bag_rules.specs.declared.memory.Reading.{Reading}
 pub use Rattle.bag_rules.specs.declared.outcome.CheckFault.{CheckFault}
@@ -46,7 +47,7 @@ pub use Rattle.bag_rules.specs.declared.outcome.Outcome.{Outcome}
 pub use Rattle.bag_rules.specs.declared.outcome.Outcome.TheVariants.{Judged, Outside}
 pub use Rattle.bag_rules.specs.declared.outcome.OutsideCause.{OutsideCause}
 pub use Rattle.bag_rules.specs.declared.outcome.OutsideCause.TheVariants.{Algorithm, Encoding}
-pub use Rattle.bag_rules.specs.declared.profile.Profile.TheVariants.{Ended, Known}
+pub use Rattle.bag_rules.specs.declared.profile.Profile.TheVariants.{Broken, Known, Unknown}
 pub use Rattle.bag_rules.specs.declared.tag_files.Texts.{Texts}
 pub use Rattle.bag_tags.proofs.DecisionLemmas.{Decided, decided_as, decided_at_most, decided_by, decided_either, decided_equal, decided_true}
 pub use Rattle.bag_tags.proofs.DeclarationLemmas.{excludes, one_declaration, one_fault, written_declares}
@@ -91,7 +92,7 @@ pub use Rattle.std.proofs.lemmas.Cmp.{nat_list_cmp_total, nat_list_eq_equiv, tie
 pub use Rattle.std.proofs.lemmas.Fn.{always_returns_same}
 pub use Rattle.std.proofs.lemmas.Iterator.{cases_from_any, YieldsList-from_slice}
 pub use Rattle.std.proofs.lemmas.Iterator.Consumers.{count_from_yields_List, nth_from_yields_List, YieldsList-from_filter, YieldsList-from_first}
-pub use Rattle.std.proofs.lemmas.List.{append-nil, drop-drop, get_or-map, length-map, length_push, take_more}
+pub use Rattle.std.proofs.lemmas.List.{append-nil, drop-drop, get_or-map, length-map, length_push, map-id, take_more}
 pub use Rattle.std.proofs.lemmas.List.Edits.{length-insert}
 pub use Rattle.std.proofs.lemmas.List.Elements.{All-contains, All-nil, All-weaker, filter_more}
 pub use Rattle.std.proofs.lemmas.List.Filters.{dedup_is}

@@ -1,11 +1,10 @@
 -- Faults of the files, by what was read. Private functions alone cite these: what a fault is stands in HasFault.
-use Rattle.std.specs.Prelude.{◌≡◌, ◌≢◌, ◌⊎◌, ◌≤◌, ℕ, Bool, true, false, List, Option, Some, Contains, length, slice_get}
+use Rattle.std.specs.Prelude.{◌≡◌, ◌≢◌, ◌⊎◌, ℕ, Bool, true, false, List, Option, Some, Contains, length, slice_get}
 use Rattle.std.specs.Bool.{then_some}
 use Rattle.bag_path.specs.declared.version.Version.{Version}
 use Rattle.bag_path.specs.declared.version.Version.TheVariants.{V1, V097}
 use Rattle.bag_path.specs.Paths.{is_payload}
 use Rattle.bag_digest.specs.declared.algorithm.Alg.{Alg}
-use Rattle.bag_digest.specs.Algorithm.{place_of}
 use Rattle.bag_digest.specs.declared.digest.Digest.{Digest}
 use Rattle.bag_digest.specs.declared.multi.Digests.{Digests}
 use Rattle.bag_digest.specs.Hash.{hash, digest_in}
@@ -20,7 +19,9 @@ use Rattle.bag_rules.specs.declared.outcome.CheckFault.{CheckFault}
 use Rattle.bag_rules.specs.Bags.{Bag, octet_count, payload_of}
 use Rattle.bag_rules.specs.Faults.{Has}
 use Rattle.bag_rules.specs.Limits.{IsLongFile}
+use Rattle.bag_rules.specs.Listed.{IsFirstAmong}
 use Rattle.bag_rules.specs.ReadingInside.{name_in}
+use Rattle.bag_rules.specs.Wants.{HasSuch}
 use Rattle.bag_rules.specs.WantsInside.{given_at}
 use Rattle.bag_rules.specs.declared.want.GivenLength.{GivenLength}
 use Rattle.bag_rules.specs.declared.wants.Wants.{Wants}
@@ -38,6 +39,10 @@ IsMissingBy paths listing fault = (path : List ℕ)
     × ((lists_path listing.pairs path ≡ true) × ¬ Contains paths path
     × (fault ≡ Missing (name_in listing) path))
 
+-- a file that one payload manifest lists and that is not there
+abbrev pub IsPayloadMissing : List (List ℕ) → Listing → Fault → Type 0
+IsPayloadMissing paths listing fault = (listing.kind ≡ Payload) × IsMissingBy paths listing fault
+
 -- a file that some manifest lists and that is not there
 abbrev pub IsMissing : List (List ℕ) → List Listing → Fault → Type 0
 IsMissing paths listings fault = (listing : Listing) × Has listings listing
@@ -46,17 +51,10 @@ IsMissing paths listings fault = (listing : Listing) × Has listings listing
 -- UNLISTED PATHS
 
 -- a payload manifest by this algorithm lists the path, or doesn't
-pub record HasPayloadListing (listings : List Listing) (path : List ℕ) (lists : Bool) (alg : Alg)
-    : Type 0 where
-  pub listing : Listing
-  pub has : Has listings listing
-  pub kind_is : listing.kind ≡ Payload
-  pub alg_is : listing.alg ≡ alg
-  pub lists_is : lists_path listing.pairs path ≡ lists
-
--- no algorithm of these comes before it
-abbrev pub IsFirstAmong : (Alg → Type 0) → Alg → Type 0
-IsFirstAmong some alg = some alg × ((other : Alg) → some other → place_of alg ≤ place_of other)
+abbrev pub HasPayloadListing : List Listing → List ℕ → Bool → Alg → Type 0
+HasPayloadListing listings path lists =
+    HasSuch listings (λ listing. (listing.kind ≡ Payload)
+    × (lists_path listing.pairs path ≡ lists))
 
 -- the payload manifest that is told where the path isn't listed as it has to be
 abbrev pub IsUnlistedIn : Version → List Listing → Alg → List ℕ → Type 0

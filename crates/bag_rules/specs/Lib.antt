@@ -17,4 +17,11 @@ pub mod Wants
 pub mod WantsInside
 pub mod FilesInside
 pub mod JudgingInside
+pub mod Files
+pub mod TagSets
+pub mod Transfers
+pub mod Opening
+pub mod ClashInside
+pub mod Plans
+pub mod OpeningInside
 pub mod ExampleBags

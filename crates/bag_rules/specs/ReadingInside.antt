@@ -1,4 +1,4 @@
--- What the reading of a bag's tag files adds to what was read, and to the faults. Private functions alone cite these.
+-- What the reading of a bag's tag files adds to what was read, and to the faults. Private functions alone cite these, and what says of which tag files a plan is.
 use Rattle.std.specs.Prelude.{◌≡◌, ◌≢◌, ◌⊎◌, ◌↔◌, ◌++◌, ℕ, List, [], ◌∷◌, Option, Some, None, Result, Ok, Err, take}
 use Rattle.bag_path.specs.declared.version.Version.{Version}
 use Rattle.bag_tags.specs.declared.fault.LineCause.{LineCause}

@@ -1,17 +1,26 @@
 -- What a file has to be (RFC 8493 sections 2.1.3, 2.2.1 and 2.2.3).
-use Rattle.std.specs.Prelude.{◌≡◌, ◌&&◌, ℕ, Bool, List, Some, take}
-use Rattle.std.specs.List.{list_any, slice_get}
+use Rattle.std.specs.Prelude.{◌≡◌, ◌≢◌, ◌&&◌, ℕ, Bool, true, List, Some, length}
+use Rattle.std.specs.List.{list_any}
 use Rattle.bag_digest.specs.declared.algorithm.Alg.{Alg}
 use Rattle.bag_digest.specs.declared.digest.Digest.{Digest}
 use Rattle.bag_digest.specs.declared.multi.Digests.{Digests}
-use Rattle.bag_digest.specs.Algorithm.{is_alg}
-use Rattle.bag_digest.specs.Hash.{digest_in}
+use Rattle.bag_digest.specs.declared.algorithm.AlgSet.{AlgSet}
+use Rattle.bag_digest.specs.Algorithm.{has, is_alg}
+use Rattle.bag_digest.specs.Hash.{AreDigests, digest_in, hash}
 use Rattle.bag_tags.specs.Listings.{Listing, lists_path, listed_digest}
 use Rattle.bag_rules.specs.declared.want.GivenLength.{GivenLength}
 use Rattle.bag_rules.specs.declared.want.Want.{Want}
 use Rattle.bag_rules.specs.declared.want.WantFault.{WantFault}
 use Rattle.bag_rules.specs.declared.want.WantFault.TheVariants.{Length, Digest as WrongDigest}
 use Rattle.bag_rules.specs.Faults.{Has}
+use Rattle.bag_rules.specs.Listed.{IsFirstAmong}
+
+-- some of these manifests is by this algorithm, and such
+pub record HasSuch (listings : List Listing) (such : Listing → Type 0) (alg : Alg) : Type 0 where
+  pub listing : Listing
+  pub has : Has listings listing
+  pub alg_is : listing.alg ≡ alg
+  pub is_such : such listing
 
 -- some manifest by this algorithm lists the path
 abbrev pub lists_by : List Listing → List ℕ → Alg → Bool
@@ -40,16 +49,41 @@ FitsDigests want digests = FitsListings want.path.now digests want.manifests.now
 abbrev pub Fits : Want → ℕ → Digests → Type 0
 Fits want n digests = FitsLength want n × FitsDigests want digests
 
--- the first manifest that lists another digest is by this algorithm
-pub record IsFirstWrong (want : Want) (digests : Digests) (alg : Alg) : Type 0 where
-  pub place : ℕ
-  pub listing : Listing
-  pub there : slice_get want.manifests.now place ≡ Some listing
-  pub alg_is : listing.alg ≡ alg
-  pub wrong : ¬ FitsListing want.path.now digests listing
-  pub first : FitsListings want.path.now digests (take place want.manifests.now)
+-- some manifest by this algorithm lists another digest for the path
+abbrev pub IsWrongBy : Want → Digests → Alg → Type 0
+IsWrongBy want digests =
+    HasSuch want.manifests.now (λ listing. ¬ FitsListing want.path.now digests listing)
 
 -- the first reason why it isn't
 abbrev pub IsFirstMisfit : Want → ℕ → Digests → WantFault → Type 0
 IsFirstMisfit want n digests Length = ¬ FitsLength want n
-IsFirstMisfit want n digests (WrongDigest alg) = FitsLength want n × IsFirstWrong want digests alg
+IsFirstMisfit want n digests (WrongDigest alg) = FitsLength want n
+    × IsFirstAmong (IsWrongBy want digests) alg
+
+-- THE SAME OF OCTETS
+
+-- the length of these octets, and their digests by each algorithm by which the path is listed
+pub record AreSumsFor (want : Want) (octets : List ℕ) (n : ℕ) (digests : Digests) : Type 0 where
+  pub set : AlgSet
+  pub length_is : n ≡ length octets
+  pub digests_are : AreDigests digests set octets
+  pub covers : (alg : Alg) → lists_by want.manifests.now want.path.now alg ≡ true
+      → has set alg ≡ true
+
+-- a file of these octets is the one that is wanted
+pub record IsWanted (want : Want) (octets : List ℕ) : Type 0 where
+  pub lengths : FitsLength want (length octets)
+  pub digests : (listing : Listing) (digest : Digest) → Has want.manifests.now listing
+      → listed_digest listing.pairs want.path.now ≡ Some digest → hash listing.alg octets ≡ digest
+
+-- some manifest by this algorithm lists a digest for the path that isn't that of the octets
+abbrev pub IsOtherBy : Want → List ℕ → Alg → Type 0
+IsOtherBy want octets = HasSuch want.manifests.now (λ listing. (digest : Digest)
+    × (listed_digest listing.pairs want.path.now ≡ Some digest)
+    × (hash listing.alg octets ≢ digest))
+
+-- the first reason why it isn't
+abbrev pub IsFirstMisfitOf : Want → List ℕ → WantFault → Type 0
+IsFirstMisfitOf want octets Length = ¬ FitsLength want (length octets)
+IsFirstMisfitOf want octets (WrongDigest alg) = FitsLength want (length octets)
+    × IsFirstAmong (IsOtherBy want octets) alg

@@ -1,4 +1,4 @@
--- How what the tag files say of files is kept. Private functions alone cite these.
+-- How what the tag files say of files is kept. Private functions alone cite these, and what says of which tag files a plan is.
 use Rattle.std.specs.Prelude.{◌≡◌, ◌≢◌, ◌↔◌, ◌++◌, ◌∷◌, [], ℕ, false, List, Option, Some, None, Vec}
 use Rattle.std.specs.BTreeMap.{BTreeMap, get}
 use Rattle.std.specs.Ordering.{nat_cmp}
@@ -54,8 +54,9 @@ pub record AreWantsOf (version : Version) (listings : List Listing) (lines : Lis
 abbrev pub GivesPayload : Wants → Type 0
 GivesPayload wants = (path : List ℕ) → is_payload path ≡ false → given_at wants.lengths path ≡ []
 
-pub record IsWantIn (wants : Wants) (path : List ℕ) (want : Want) : Type 0 where
-  pub version_is : want.version ≡ wants.version
+-- the want of a path says what these manifests and lengths say of it
+pub record IsWantBy (listings : List Listing) (lengths : Lengths) (path : List ℕ) (want : Want)
+    : Type 0 where
   pub path_is : want.path.now ≡ path
-  pub manifests : want.manifests.now ≡ wants.manifests.now
-  pub lengths : want.lengths.now ≡ given_at wants.lengths path
+  pub manifests : want.manifests.now ≡ listings
+  pub given : want.lengths.now ≡ given_at lengths path

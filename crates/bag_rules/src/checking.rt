@@ -1,5 +1,5 @@
 //! What is wrong with the bag that a tree holds (RFC 8493 section 3).
-ghost use Rattle.std.specs.Prelude.{◌≡◌, ◌<◌, ◌≤◌, ◌∷◌, [], Contains, IfOk, IsErrOf, MatchResult, length, true};
+ghost use Rattle.std.specs.Prelude.{◌≡◌, ◌<◌, ◌≤◌, ◌∷◌, [], Contains, IfErr, IfOk, IsErrOf, MatchResult, length, true};
 ghost use Rattle.bag_digest.specs.Algorithm.{has};
 ghost use Rattle.bag_digest.specs.declared.algorithm.Alg.{Alg};
 ghost use Rattle.bag_tags.specs.declared.listing.Kind.TheVariants.{Tag};
@@ -16,6 +16,7 @@ ghost use Rattle.bag_rules.specs.declared.outcome.CheckFault.{CheckFault};
 ghost use Rattle.bag_rules.specs.declared.outcome.Outcome.TheVariants.{Judged};
 ghost use Rattle.bag_rules.specs.declared.profile.Profile.TheVariants.{Known};
 
+use crate::fault::Fault;
 use crate::file_faults::add_file_faults;
 use crate::form_faults::add_form_faults;
 use crate::kept::Kept;
@@ -24,7 +25,7 @@ use crate::outcome::{CheckFault, Outcome};
 use crate::profile::{Profile, read_profile};
 use crate::report::Report;
 use crate::tag_files::read_texts;
-use crate::tree::Tree;
+use crate::tree::{Paths, Tree};
 use bag_digest::{AlgSet, piece_buffer};
 use bag_path::Version;
 use bag_tags::TagName;
@@ -71,8 +72,19 @@ pub fn check<T: Tree>(alloc: Global, tree: &mut T) -> Result<Outcome, CheckFault
         Profile::Known(version) => {
             check_in_profile(alloc, buffer.as_mut_slice(), tree, version, &mut kept)
         }
-        Profile::Ended(outcome) => Ok(outcome),
+        Profile::Unknown(cause) => Ok(Outcome::Outside(cause)),
+        Profile::Broken(fault) => judged_by_one(alloc, fault),
     }
+}
+
+/// The report of one fault.
+fn judged_by_one(alloc: Global, fault: Fault) -> Result<Outcome, CheckFault>
+    ensures ok { IfOk result (λ outcome. outcome ≡ Judged (fault ∷ [])) }
+    ensures err { IfErr result (λ fault. fault ≡ CheckFault.Memory) }
+{
+    let mut faults = Vec::new(alloc);
+    faults.push(fault)?;
+    Ok(Outcome::Judged(Report::new(faults)))
 }
 
 /// The form of a bag in the profile, and then its files, where the form is right.
@@ -103,7 +115,7 @@ fn check_in_profile<T: Tree>(
 }
 
 /// The algorithms of the tag manifests that are there: a tag file may be listed by these.
-fn tag_algorithms<T: Tree>(tree: &T) -> AlgSet
+fn tag_algorithms<T: Paths>(tree: &T) -> AlgSet
     ensures { (alg : Alg) → Contains (paths_in (T.shown tree.now)) (manifest_file Tag alg)
         → has result alg ≡ true }
 {

@@ -9,10 +9,12 @@ ghost use Rattle.bag_tags.specs.Declarations.{written_declaration};
 ghost use Rattle.bag_rules.specs.declared.fault.Fault.TheVariants.{FetchNotListed, NoDeclaration, NoPayloadDir, Missing, Unlisted, WrongDigest};
 ghost use Rattle.bag_rules.specs.declared.outcome.OutsideCause.TheVariants as outside;
 ghost use Rattle.bag_rules.specs.Bags.{Bag, IsDeclared, version_of};
-ghost use Rattle.bag_rules.specs.ExampleBags.{bag_of_0_97, manifest_of_abc};
+ghost use Rattle.bag_rules.specs.declared.want.WantFault.TheVariants as wanted;
+ghost use Rattle.bag_rules.specs.ExampleBags.{bag_of_0_97, file_a, file_e, manifest_of_abc, tags_of_two, tags_with_fetch};
 ghost use Rattle.bag_rules.specs.HasFault.{HasFault};
 ghost use Rattle.bag_rules.specs.Listed.{IsListed, IsUnlisted};
 ghost use Rattle.bag_tags.specs.Names.{manifest_name};
+ghost use Rattle.bag_rules.specs.Transfers.{IsExpected, IsMisfit, Passes};
 ghost use Rattle.bag_rules.specs.Validity.{IsComplete, IsValid};
 ghost use Rattle.bag_rules.specs.Verdicts.{IsJudged, IsOutside};
 
@@ -123,4 +125,18 @@ pub fn in_version_0_97_the_first_manifest_is_told_of_an_unlisted_file()
         HasFault bag unlisted × HasFault bag not_fetched × ((alg : Alg)
         → (HasFault bag (Unlisted alg (codes "data/a.txt")) → alg ≡ Md5)
         × (HasFault bag (FetchNotListed alg (codes "data/z")) → alg ≡ Md5)) }
+{}
+
+/// What the manifest of a transfer lists with its digest passes, whether a length is given or not.
+pub fn what_is_listed_passes()
+    ensures { Passes tags_of_two file_a (codes "abc") × Passes tags_of_two file_e []
+        × Passes tags_with_fetch file_a (codes "abc") × Passes tags_with_fetch file_e [] }
+{}
+
+/// Another length than that of `fetch.txt` is told before another digest, and no file is expected that isn't listed.
+pub fn what_is_not_listed_does_not_pass()
+    ensures { IsMisfit tags_with_fetch file_a (codes "abcd") wanted.Length
+        × IsMisfit tags_with_fetch file_a (codes "abd") (wanted.Digest Sha256)
+        × IsMisfit tags_of_two file_a (codes "abd") (wanted.Digest Sha256)
+        × ¬ IsExpected tags_of_two (codes "data/z") }
 {}

@@ -27,7 +27,8 @@ use crate::tree::Tree;
 use crate::want::Want;
 use crate::wants::Wants;
 use bag_digest::{Alg, AlgSet, Digests, SourceFault, digest_through};
-use bag_path::Version;
+use bag_path::{BagPath, Version};
+use bag_tags::Manifest;
 use std::alloc::Global;
 
 /// Adds what is wrong with the files of a bag of the right form, each of which is read once.
@@ -121,7 +122,7 @@ fn read_file<T: Tree>(
         return Ok(None);
     }
     let sums = sums_of(buffer, tree, i, set, kept)?;
-    add_faults_of(&want, &sums, faults)?;
+    add_faults_of(wants.version, &want, &sums, faults)?;
     Ok(path.is_payload().then_some(sums.0))
 }
 
@@ -174,6 +175,7 @@ fn digests_of<T: Tree>(
 
 /// Adds what is wrong with a file of this length and with these digests.
 fn add_faults_of(
+    version: Version,
     want: &Want<'_>,
     sums: &(u64, Digests),
     faults: &mut Vec<Fault>,
@@ -182,11 +184,11 @@ fn add_faults_of(
         → ((alg : Alg) → lists_by want.now.manifests.now want.now.path.now alg ≡ true
         → has set alg ≡ true)
         → OnOk result (Adds faults.old.items faults.new.items
-        (IsFaultBy want.now.version want.now.manifests.now want.now.lengths.now
+        (IsFaultBy version want.now.manifests.now want.now.lengths.now
         want.now.path.now octets)) }
     ensures err { IfErr result (λ fault. fault ≡ CheckFault.Memory) }
 {
-    add_unlisted(want, faults)?;
+    add_unlisted(version, want.manifests, want.path, faults)?;
     let (length, digests) = sums;
     if want.test(*length, digests).is_ok() {
         return Ok(());
@@ -196,18 +198,23 @@ fn add_faults_of(
 }
 
 /// Adds the payload manifests that are told where the file isn't listed as it has to be, if it is a payload file.
-fn add_unlisted(want: &Want<'_>, faults: &mut Vec<Fault>) -> Result<(), CheckFault>
+pub(crate) fn add_unlisted(
+    version: Version,
+    manifests: &[Manifest],
+    path: &BagPath,
+    faults: &mut Vec<Fault>,
+) -> Result<(), CheckFault>
     ensures added { OnOk result (Adds faults.old.items faults.new.items
-        (IsFileUnlisted want.now.version want.now.manifests.now want.now.path.now)) }
+        (IsFileUnlisted version manifests.now path.now)) }
     ensures err { IfErr result (λ fault. fault ≡ CheckFault.Memory) }
 {
-    if !want.path.is_payload() {
+    if !path.is_payload() {
         return Ok(());
     }
-    let unlisted = unlisted_in(want.version, want.manifests, want.path);
+    let unlisted = unlisted_in(version, manifests, path);
     for manifest in Alg::ALL {
         if unlisted.has(manifest) {
-            let path = want.path.clone()?;
+            let path = path.clone()?;
             faults.push(Fault::Unlisted { manifest, path })?;
         }
     }
@@ -231,7 +238,7 @@ fn add_other_lengths(want: &Want<'_>, found: u64, faults: &mut Vec<Fault>) -> Re
 }
 
 /// Adds the manifests that list another digest for the file.
-fn add_other_digests(
+pub(crate) fn add_other_digests(
     want: &Want<'_>,
     digests: &Digests,
     faults: &mut Vec<Fault>,

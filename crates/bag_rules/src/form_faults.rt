@@ -13,12 +13,12 @@ ghost use Rattle.bag_rules.specs.Trees.{paths_in};
 use crate::fault::Fault;
 use crate::outcome::CheckFault;
 use crate::tag_files::Texts;
-use crate::tree::Tree;
+use crate::tree::Paths;
 use bag_path::BagPath;
 use bag_tags::{Element, Kind, Manifest, Oxum, TagName};
 
 /// Adds what is wrong with the form of a bag whose tag files were read, beside their lines.
-pub(crate) fn add_form_faults<T: Tree>(
+pub(crate) fn add_form_faults<T: Paths>(
     tree: &T,
     texts: &Texts,
     faults: &mut Vec<Fault>,
@@ -39,7 +39,7 @@ pub(crate) fn add_form_faults<T: Tree>(
 }
 
 /// Whether some payload manifest is there.
-fn has_payload_manifest<T: Tree>(tree: &T) -> bool
+fn has_payload_manifest<T: Paths>(tree: &T) -> bool
     ensures { IsTrue result ↔ ((alg : Alg)
         × Contains (paths_in (T.shown tree.now)) (manifest_file Payload alg)) }
 {
@@ -52,7 +52,7 @@ fn has_payload_manifest<T: Tree>(tree: &T) -> bool
 }
 
 /// Adds the payload manifests that a tag manifest doesn't list.
-fn add_unlisted_manifests<T: Tree>(
+fn add_unlisted_manifests<T: Paths>(
     tree: &T,
     manifests: &[Manifest],
     faults: &mut Vec<Fault>,

@@ -1,21 +1,30 @@
 //! Laws on the definitions that the contracts of this crate cite. Each function's contract is one law, and its body is empty.
-ghost use Rattle.std.specs.Prelude.{◌≡◌, ◌≢◌, ◌↔◌, ◌^◌, ℕ, List, []};
+ghost use Rattle.std.specs.Prelude.{◌≡◌, ◌≢◌, ◌≤◌, ◌↔◌, ◌^◌, ℕ, List, [], length};
 ghost use Rattle.std.specs.Ordering.{nat_cmp};
 ghost use Rattle.std.specs.Cmp.Lexicographic.{slice_cmp};
 ghost use Rattle.std.specs.declared.cmp.Ordering.TheVariants.{Less, Greater};
 ghost use Rattle.bag_rules.specs.contracts.fault.FaultOrd.TheImpl as order;
 ghost use Rattle.bag_rules.specs.declared.fault.Fault.{Fault};
-ghost use Rattle.bag_rules.specs.declared.limits.TheConstants.{LARGEST_FILE, LARGEST_TAG_FILE, MOST_FILES, MOST_LINES};
+ghost use Rattle.bag_rules.specs.declared.limits.TheConstants.{LARGEST_FILE, LARGEST_ITEM, LARGEST_TAG_FILE, MOST_FILES, MOST_LINES};
 ghost use Rattle.bag_rules.specs.declared.outcome.CheckFault.{CheckFault};
 ghost use Rattle.bag_rules.specs.declared.outcome.Outcome.{Outcome};
+ghost use Rattle.bag_rules.specs.declared.want.Want.{Want};
+ghost use Rattle.bag_rules.specs.declared.want.WantFault.{WantFault};
 ghost use Rattle.bag_rules.specs.Bags.{Bag, Holds, IsBagOf, paths_of};
+ghost use Rattle.bag_rules.specs.Files.{AreTagFiles, Files};
 ghost use Rattle.bag_rules.specs.Faults.{NoneUpTo, key_of, last_of_completeness};
+ghost use Rattle.bag_rules.specs.declared.plan.PlanFault.{PlanFault};
+ghost use Rattle.bag_rules.specs.declared.plan.PlanFault.TheVariants.{Memory};
 ghost use Rattle.bag_rules.specs.Memory.{MemFiles, bag_in, mem_shown};
 ghost use Rattle.bag_rules.specs.Limits.{Stops};
+ghost use Rattle.bag_rules.specs.Opening.{Opens, Refuses};
+ghost use Rattle.bag_rules.specs.Plans.{IsWantOf};
 ghost use Rattle.bag_rules.specs.SameVerdicts.{SameVerdict};
+ghost use Rattle.bag_rules.specs.Transfers.{IsMisfit, Passes};
 ghost use Rattle.bag_rules.specs.Trees.{AreRising};
 ghost use Rattle.bag_rules.specs.Validity.{IsComplete, IsValid};
 ghost use Rattle.bag_rules.specs.Verdicts.{IsJudged, IsVerdict};
+ghost use Rattle.bag_rules.specs.Wants.{IsFirstMisfitOf, IsWanted};
 
 /// A bag that is judged is valid exactly if it has no fault.
 pub fn a_judged_bag_is_valid_exactly_if_it_has_no_fault()
@@ -58,8 +67,28 @@ pub fn the_order_of_faults_is_by_kind_file_line_and_path()
         → slice_cmp (slice_cmp nat_cmp) (key_of fault) (key_of other) ≢ Greater }
 {}
 
-/// The limits of a check are these: files, lines, the octets of a tag file and those of any file.
-pub fn the_limits_of_a_check_are_these()
+/// Content passes for a listed path exactly if it is within the limit and is what the tag files want there.
+pub fn what_is_wanted_and_within_the_limit_passes()
+    ensures { (tags : Files) (path content : List ℕ) (want : Want) → IsWantOf tags path want
+        → Passes tags path content ↔ ((length content ≤ LARGEST_ITEM) × IsWanted want content) }
+{}
+
+/// And where it isn't what they want, the first reason by the want is that by the tag files.
+pub fn what_is_not_wanted_is_a_misfit()
+    ensures { (tags : Files) (path content : List ℕ) (want : Want) (fault : WantFault)
+        → IsWantOf tags path want
+        → IsFirstMisfitOf want content fault ↔ IsMisfit tags path content fault }
+{}
+
+/// The limits are these: files, lines, the octets of a tag file, those of any file that is checked, and those of a payload file that
+/// a transfer holds.
+pub fn the_limits_are_these()
     ensures { (MOST_FILES ≡ 200000) × (MOST_LINES ≡ 100000)
-        × (LARGEST_TAG_FILE ≡ 16777216) × (LARGEST_FILE ≡ 2 ^ 40) }
+        × (LARGEST_TAG_FILE ≡ 16777216) × (LARGEST_FILE ≡ 2 ^ 40) × (LARGEST_ITEM ≡ 2 ^ 30) }
+{}
+
+/// Where a transfer can be opened with these tag files, there is no reason why not.
+pub fn tag_files_that_open_are_not_refused()
+    ensures { (tags : Files) (fault : PlanFault) → AreTagFiles tags → Opens tags
+        → Refuses tags fault → fault ≡ Memory }
 {}

@@ -3,28 +3,37 @@
 
 pub use checking::check;
 pub use fault::Fault;
+pub use file::File;
 pub use memory::{AddFault, MemTree};
 pub use outcome::{CheckFault, Outcome, OutsideCause};
+pub use plan::{ItemSize, Plan, PlanFault};
 pub use report::Report;
-pub use tree::{Tree, find};
+pub use tag_set::{TagSet, TagSetFault};
+pub use tree::{Paths, Tree, find};
 pub use want::{GivenLength, Want, WantFault};
 
 mod checking;
+mod clash;
 pub mod examples;
 mod fault;
+mod file;
 mod file_faults;
 mod form_faults;
+mod item_faults;
 mod kept;
 pub mod laws;
 pub mod limits;
 mod listed;
 mod listing_faults;
 mod memory;
+mod opening;
 mod outcome;
 mod oxum_faults;
+mod plan;
 mod profile;
 mod report;
 mod tag_files;
+mod tag_set;
 mod tree;
 mod want;
 mod wants;

@@ -1,8 +1,9 @@
 //! Which payload manifests have to list a path (RFC 8493 sections 2.2.3 and 3).
-ghost use Rattle.std.specs.Prelude.{◌≡◌, ◌↔◌, true};
+ghost use Rattle.std.specs.Prelude.{◌≡◌, ◌↔◌, true, false, MatchOption};
 ghost use Rattle.bag_digest.specs.Algorithm.{has};
 ghost use Rattle.bag_digest.specs.declared.algorithm.Alg.{Alg};
-ghost use Rattle.bag_rules.specs.FilesInside.{HasPayloadListing, IsFirstAmong, IsUnlistedIn};
+ghost use Rattle.bag_rules.specs.FilesInside.{HasPayloadListing, IsUnlistedIn};
+ghost use Rattle.bag_rules.specs.Listed.{IsFirstAmong};
 
 use bag_digest::{Alg, AlgSet};
 use bag_path::{BagPath, Version};
@@ -17,7 +18,7 @@ pub(crate) fn unlisted_in(version: Version, manifests: &[Manifest], path: &BagPa
     let others = payload_algs(manifests, path, false);
     match version {
         Version::V1 => others,
-        Version::V097 if payload_algs(manifests, path, true).is_empty() => first_of(others),
+        Version::V097 if payload_algs(manifests, path, true).is_empty() => only_first(others),
         Version::V097 => AlgSet::empty(),
     }
 }
@@ -36,15 +37,26 @@ fn payload_algs(manifests: &[Manifest], path: &BagPath, lists: bool) -> AlgSet
     set
 }
 
-/// The first algorithm of a set, alone, if it has any. `Alg::ALL` has them in the order of the file names of their manifests.
-fn first_of(set: AlgSet) -> AlgSet
+/// The first algorithm of a set, alone, if it has any.
+fn only_first(set: AlgSet) -> AlgSet
     ensures { (alg : Alg)
         → (has result alg ≡ true) ↔ IsFirstAmong (λ other. has set other ≡ true) alg }
 {
+    match first_of(set) {
+        Some(alg) => AlgSet::empty().with(alg),
+        None => AlgSet::empty(),
+    }
+}
+
+/// The first algorithm of a set, if it has any. `Alg::ALL` has them in the order of the file names of their manifests.
+pub(crate) fn first_of(set: AlgSet) -> Option<Alg>
+    ensures { MatchOption result ((alg : Alg) → has set alg ≡ false)
+        (IsFirstAmong (λ alg. has set alg ≡ true)) }
+{
     for alg in Alg::ALL {
         if set.has(alg) {
-            return AlgSet::empty().with(alg);
+            return Some(alg);
         }
     }
-    set
+    None
 }

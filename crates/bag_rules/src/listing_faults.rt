@@ -11,13 +11,13 @@ use crate::fault::Fault;
 use crate::listed::unlisted_in;
 use crate::outcome::CheckFault;
 use crate::tag_files::Texts;
-use crate::tree::{Tree, find};
+use crate::tree::{Paths, find};
 use bag_digest::Alg;
 use bag_path::{BagPath, Version};
 use bag_tags::{Manifest, ManifestName, Pair};
 
 /// Adds the files that the manifests list and that are not there.
-pub(crate) fn add_missing<T: Tree>(
+pub(crate) fn add_missing<T: Paths>(
     tree: &T,
     manifests: &[Manifest],
     faults: &mut Vec<Fault>,
@@ -33,7 +33,7 @@ pub(crate) fn add_missing<T: Tree>(
 }
 
 /// Adds the files that a manifest lists and that are not there.
-fn add_missing_by<T: Tree>(
+pub(crate) fn add_missing_by<T: Paths>(
     tree: &T,
     manifest: &Manifest,
     faults: &mut Vec<Fault>,
@@ -53,7 +53,7 @@ fn add_missing_by<T: Tree>(
 }
 
 /// Adds the file of one pair, if it is not there.
-fn add_missing_pair<T: Tree>(
+fn add_missing_pair<T: Paths>(
     tree: &T,
     manifest: ManifestName,
     pair: &Pair,

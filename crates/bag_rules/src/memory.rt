@@ -5,9 +5,10 @@ ghost use Rattle.std.specs.Option.{ForSome, option_copied, option_map};
 ghost use Rattle.bag_digest.specs.Device.{UsesSource, greatest_count};
 ghost use Rattle.bag_rules.specs.Memory.{MemFiles};
 ghost use Rattle.bag_rules.specs.Trees.{AreRising, UsesTree, octets_in, paths_in};
-ghost use Rattle.bag_rules.specs.MemoryInside.{IsGapFor, moved_up, paths_of};
+ghost use Rattle.bag_rules.specs.MemoryInside.{moved_up};
 
-use crate::tree::Tree;
+use crate::file::{File, body_of, search};
+use crate::tree::{Paths, Tree};
 use bag_digest::{Failed, Failures, Source};
 use bag_path::BagPath;
 use std::alloc::Global;
@@ -26,13 +27,6 @@ pub enum AddFault {
     /// Memory ran out.
     #[error("out of memory")]
     Memory,
-}
-
-/// A file by its path.
-#[derive(Drop)]
-struct File {
-    path: BagPath,
-    body: Vec<u8>,
 }
 
 /// The place of the file that is read, and how far it was read.
@@ -118,10 +112,7 @@ impl MemTree {
     pub fn get(&self, path: &BagPath) -> Option<&[u8]>
         ensures { option_copied result ≡ octets_at self.now path.now }
     {
-        match search(&self.files, path.as_str()) {
-            Ok(i) => Some(self.files[i].body.as_slice()),
-            Err(_) => None,
-        }
+        body_of(&self.files, path.as_str())
     }
 }
 
@@ -170,12 +161,10 @@ impl Source for MemTree {
     ghost keeps_on = { same_on };
 }
 
-impl Tree for MemTree {
-    ghost use Rattle.bag_rules.specs.Memory.{IsStarted, IsSure, keeps_tree, mem_octets, mem_shown};
+impl Paths for MemTree {
+    ghost use Rattle.bag_rules.specs.Memory.{mem_shown};
 
     ghost shown = { mem_shown };
-
-    ghost sure = { IsSure };
 
     fn count(&self) -> usize {
         self.files.len()
@@ -188,6 +177,12 @@ impl Tree for MemTree {
     fn has_payload_dir(&self) -> bool {
         self.has_payload_dir
     }
+}
+
+impl Tree for MemTree {
+    ghost use Rattle.bag_rules.specs.Memory.{IsStarted, IsSure, keeps_tree, mem_octets, mem_shown};
+
+    ghost sure = { IsSure };
 
     /// Goes to the start of a file. It doesn't fail.
     fn start(&mut self, i: usize) -> Result<(), Failed>
@@ -218,15 +213,6 @@ fn copy_from(body: &[u8], at: usize, buf: &mut [u8]) -> usize
     let n = buf.len().min(body.len() - at);
     buf[..n].copy_from_slice(&body[at..at + n]);
     n
-}
-
-/// Where the path is among files in order, or where it would go.
-fn search(files: &[File], path: &str) -> Result<usize, usize>
-    requires { AreRising (paths_of files.now) }
-    ensures found { IfOk result (λ i. slice_get (paths_of files.now) i ≡ Some path.now) }
-    ensures absent { IfErr result (IsGapFor (paths_of files.now) path.now) }
-{
-    files.binary_search_by(|file| file.path.as_str().cmp(path))
 }
 
 /// The same file and the same octet, once a file was put at `place`.

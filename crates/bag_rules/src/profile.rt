@@ -1,21 +1,21 @@
 //! Whether a bag can be judged by more than its declaration (RFC 8493 section 2.1.1).
-ghost use Rattle.std.specs.Prelude.{◌≡◌, ◌<◌, Contains, IfErr, IfOk, IsErrOf, MatchOption, MatchResult, OnOk, Some, length, slice_get, string_bytes, true};
+ghost use Rattle.std.specs.Prelude.{◌≡◌, ◌<◌, Contains, IfErr, IfOk, IsErrOf, MatchOption, MatchResult, Ok, OnOk, Some, length, slice_get, string_bytes, true};
 ghost use Rattle.bag_tags.specs.Declarations.{version_of};
-ghost use Rattle.bag_rules.specs.Bags.{Bag, Declares, IsBagOf, declaration_file};
+ghost use Rattle.bag_rules.specs.Bags.{Bag, Holds, IsBagOf, declaration_file};
 ghost use Rattle.bag_rules.specs.JudgingInside.{IsFirstUnknownOf, MatchOutside, NoneUnknown};
 ghost use Rattle.bag_rules.specs.KeptInside.{AreKept};
 ghost use Rattle.bag_rules.specs.Limits.{DeclarationStops, FirstStops, NoneStops, Stopped};
-ghost use Rattle.bag_rules.specs.Profiles.{IsProfile, ended_by};
+ghost use Rattle.bag_rules.specs.Profiles.{IsProfile};
 ghost use Rattle.bag_rules.specs.Trees.{AreRising, UsesTree, paths_in};
 ghost use Rattle.bag_rules.specs.declared.fault.Fault.TheVariants.{NoDeclaration};
 ghost use Rattle.bag_rules.specs.declared.outcome.CheckFault.{CheckFault};
+ghost use Rattle.bag_rules.specs.declared.profile.Profile.TheVariants.{Broken};
 
 use crate::fault::Fault;
 use crate::kept::Kept;
-use crate::outcome::{CheckFault, Outcome, OutsideCause};
-use crate::report::Report;
+use crate::outcome::{CheckFault, OutsideCause};
 use crate::tag_files::read_tag_file;
-use crate::tree::{Tree, find};
+use crate::tree::{Paths, Tree, find};
 use bag_path::Version;
 use bag_tags::{Declaration, read_declaration, unknown_algorithm};
 use std::alloc::Global;
@@ -25,8 +25,10 @@ use std::alloc::Global;
 pub(crate) enum Profile {
     /// The bag declares this version and UTF-8, and the algorithm of each of its manifests is known.
     Known(Version),
-    /// It doesn't, and so it is judged by this alone.
-    Ended(Outcome),
+    /// It can't be judged, for this cause.
+    Unknown(OutsideCause),
+    /// Its declaration is not there or has this fault, and so it is judged by this alone.
+    Broken(Fault),
 }
 
 /// Reads the declaration of the bag that a tree holds, and looks at the names of its manifests.
@@ -45,14 +47,13 @@ pub(crate) fn read_profile<T: Tree>(
         (IsErrOf result CheckFault.Tree) }
     // What needs no known octets: where there is no declaration, that is the answer.
     ensures undeclared { ¬ Contains (paths_in (T.shown tree.old)) declaration_file
-        → MatchResult result
-        (λ profile. profile ≡ ended_by NoDeclaration) (λ fault. fault ≡ CheckFault.Memory) }
+        → result ≡ Ok (Broken NoDeclaration) }
     ensures kept { AreKept (T.shown tree.old) kept.old
         → OnOk result (AreKept (T.shown tree.old) kept.new) }
 {
     match find(tree, "bagit.txt") {
         Some(i) => read_declared(alloc, buffer, tree, i, kept),
-        None => ended_by(alloc, Fault::NoDeclaration),
+        None => Ok(Profile::Broken(Fault::NoDeclaration)),
     }
 }
 
@@ -77,32 +78,30 @@ fn read_declared<T: Tree>(
 {
     let text = read_tag_file(alloc, buffer, tree, i)?;
     kept.keep(i, &text)?;
-    match read_declaration(&text) {
-        Ok(declaration) => profile_of(alloc, tree, declaration),
-        Err(cause) => ended_by(alloc, Fault::BadDeclaration(cause)),
-    }
+    profile_of(alloc, tree, &text)
 }
 
-/// What this declaration and the names of the manifests say.
-fn profile_of<T: Tree>(
+/// What the declaration with this text and the names of the manifests say.
+pub(crate) fn profile_of<T: Paths>(
     alloc: Global,
     tree: &T,
-    declaration: Declaration,
+    text: &[u8],
 ) -> Result<Profile, CheckFault>
     requires { AreRising (paths_in (T.shown tree.now)) }
-    ensures profile { (bag : Bag) → IsBagOf (T.shown tree.now) bag → Declares bag declaration
-        → IfOk result (IsProfile bag) }
+    ensures profile { (bag : Bag) → IsBagOf (T.shown tree.now) bag
+        → Holds bag declaration_file text.now → IfOk result (IsProfile bag) }
     ensures err { IfErr result (λ fault. fault ≡ CheckFault.Memory) }
 {
+    let declaration = match read_declaration(text) {
+        Ok(declaration) => declaration,
+        Err(cause) => return Ok(Profile::Broken(Fault::BadDeclaration(cause))),
+    };
     let version = match known_version(declaration) {
         Ok(version) => version,
-        Err(cause) => return Ok(Profile::Ended(Outcome::Outside(cause))),
+        Err(cause) => return Ok(Profile::Unknown(cause)),
     };
     match first_unknown(alloc, tree)? {
-        Some(name) => {
-            let cause = OutsideCause::Algorithm(name);
-            Ok(Profile::Ended(Outcome::Outside(cause)))
-        }
+        Some(name) => Ok(Profile::Unknown(OutsideCause::Algorithm(name))),
         None => Ok(Profile::Known(version)),
     }
 }
@@ -123,7 +122,7 @@ fn known_version(declaration: Declaration) -> Result<Version, OutsideCause>
 }
 
 /// The algorithm of the first manifest by file name whose algorithm isn't known.
-fn first_unknown<T: Tree>(alloc: Global, tree: &T) -> Result<Option<String>, CheckFault>
+fn first_unknown<T: Paths>(alloc: Global, tree: &T) -> Result<Option<String>, CheckFault>
     ensures ok { IfOk result (λ found. MatchOption found
         (NoneUnknown (paths_in (T.shown tree.now)) (length (paths_in (T.shown tree.now))))
         (λ name. IsFirstUnknownOf (paths_in (T.shown tree.now)) (string_bytes name))) }
@@ -135,14 +134,4 @@ fn first_unknown<T: Tree>(alloc: Global, tree: &T) -> Result<Option<String>, Che
         }
     }
     Ok(None)
-}
-
-/// The report of one fault of the declaration.
-fn ended_by(alloc: Global, fault: Fault) -> Result<Profile, CheckFault>
-    ensures ok { IfOk result (λ profile. profile ≡ ended_by fault) }
-    ensures err { IfErr result (λ fault. fault ≡ CheckFault.Memory) }
-{
-    let mut faults = Vec::new(alloc);
-    faults.push(fault)?;
-    Ok(Profile::Ended(Outcome::Judged(Report::new(faults))))
 }

@@ -34,7 +34,20 @@ pub(crate) struct Texts {
 }
 
 impl Texts {
+    ghost use Rattle.std.specs.Prelude.{◌≡◌, [], None};
     ghost use Rattle.bag_rules.specs.ReadingInside.{AreLinesOf};
+
+    /// What no tag files say.
+    pub(crate) fn none(alloc: Global) -> Texts
+        ensures optional { (result.info ≡ None) × (result.fetch ≡ None) }
+        ensures manifests { result.manifests.items ≡ [] }
+    {
+        Texts {
+            info: None,
+            fetch: None,
+            manifests: Vec::new(alloc),
+        }
+    }
 
     /// What `fetch.txt` lists; nothing where it isn't there.
     pub(crate) fn fetch_lines(&self) -> &[FetchLine]
@@ -69,11 +82,7 @@ pub(crate) fn read_texts<T: Tree>(
     ensures kept { AreKept (T.shown tree.old) kept.old
         → OnOk result (AreKept (T.shown tree.old) kept.new) }
 {
-    let mut texts = Texts {
-        info: None,
-        fetch: None,
-        manifests: Vec::new(alloc),
-    };
+    let mut texts = Texts::none(alloc);
     for i in 0..tree.count() {
         read_text(alloc, buffer, tree, i, version, &mut texts, kept, faults)?;
     }
@@ -109,7 +118,7 @@ fn read_text<T: Tree>(
     };
     let text = read_tag_file(alloc, buffer, tree, i)?;
     kept.keep(i, &text)?;
-    if has_counted_lines(file) && has_more_lines(&text, MOST_LINES) {
+    if has_too_many_lines(file, &text) {
         return Err(CheckFault::TooMany);
     }
     read_lines(alloc, &text, file, version, texts, faults)
@@ -139,6 +148,13 @@ pub(crate) fn read_tag_file<T: Tree>(
     }
 }
 
+/// Whether a file of this name with this text has more lines than it may.
+pub(crate) fn has_too_many_lines(file: LineFile, text: &[u8]) -> bool
+    ensures { IsTrue result ↔ (HasCountedLines file × (MOST_LINES < length (lines_of text.now))) }
+{
+    has_counted_lines(file) && has_more_lines(text, MOST_LINES)
+}
+
 /// Whether the number of this file's lines is limited.
 fn has_counted_lines(file: LineFile) -> bool
     ensures { IsTrue result ↔ HasCountedLines file }
@@ -154,7 +170,7 @@ fn has_more_lines(text: &[u8], most: usize) -> bool
 }
 
 /// Reads the text of a tag file: adds what it says, or its first faulty line.
-fn read_lines(
+pub(crate) fn read_lines(
     alloc: Global,
     text: &[u8],
     file: LineFile,

@@ -7,16 +7,11 @@ use bag_digest::{Failed, Source};
 use bag_path::BagPath;
 use std::cmp::Ordering;
 
-/// The files below one base directory, by path. Reads are in the file that was started last.
-///
-/// Of a tree whose octets are known the theorems say what is answered; a folder on a disk claims nothing of its octets.
-pub trait Tree: Source {
+/// The paths of the files below one base directory, in order.
+pub trait Paths {
     /// The files in the order of their paths' bytes, each with its octets where they are known, and whether the payload
     /// directory `data/` is there.
     ghost shown: { Self → Shown };
-
-    /// The tree never fails: a file that is started can be read.
-    ghost sure: { Self → Type 0 };
 
     /// The number of files.
     fn count(&self) -> usize
@@ -33,32 +28,40 @@ pub trait Tree: Source {
         ensures dir { result ≡ (shown self.now).has_payload_dir }
         ensures payload { (path : List ℕ) → Contains (paths_in (shown self.now)) path
             → is_payload path ≡ true → IsTrue result };
+}
+
+/// The files below one base directory, by path. Reads are in the file that was started last.
+///
+/// Of a tree whose octets are known the theorems say what is answered; a folder on a disk claims nothing of its octets.
+pub trait Tree: Paths + Source {
+    /// The tree never fails: a file that is started can be read.
+    ghost sure: { Self → Type 0 };
 
     /// Goes to the start of a file, from which `read` then gives the octets. Reads fail after a start that failed.
     fn start(&mut self, i: usize) -> Result<(), Failed>
-        requires { i < length (paths_in (shown self.old)) }
-        ensures started { OnOk result (Self.remaining self.new ≡ octets_in (shown self.old) i) }
-        ensures uses { UsesTree shown Self.failures sure self.old self.new (IsErr result) }
+        requires { i < length (paths_in (Self.shown self.old)) }
+        ensures started { OnOk result (Self.remaining self.new ≡ octets_in (Self.shown self.old) i) }
+        ensures uses { UsesTree Self.shown Self.failures sure self.old self.new (IsErr result) }
         ensures ready { sure self.old → Self.ready self.new }
         ensures open { Self.is_open self.new ≡ is_ok result };
 
-    ghost reads_keep: { (a b : Self) → Self.keeps a b → KeepsTree shown sure a b };
+    ghost reads_keep: { (a b : Self) → Self.keeps a b → KeepsTree Self.shown sure a b };
 }
 
 /// The place of the file with this path, by halves: looks at about as many paths as the number of files has binary digits.
 ///
 /// `path` need not be a bag's path; then no file has it.
-pub fn find<T: Tree>(tree: &T, path: &str) -> Option<usize>
-    ensures found { IfSome result (λ i. slice_get (paths_in (T.shown tree.now)) i ≡ Some path.now) }
-    ensures absent { IfNone result (¬ Contains (paths_in (T.shown tree.now)) path.now) }
+pub fn find<P: Paths>(paths: &P, path: &str) -> Option<usize>
+    ensures found { IfSome result (λ i. slice_get (paths_in (P.shown paths.now)) i ≡ Some path.now) }
+    ensures absent { IfNone result (¬ Contains (paths_in (P.shown paths.now)) path.now) }
     ensures only { IfSome result (λ i. (k : ℕ)
-        → slice_get (paths_in (T.shown tree.now)) k ≡ Some path.now → k ≡ i) }
+        → slice_get (paths_in (P.shown paths.now)) k ≡ Some path.now → k ≡ i) }
 {
     let mut low = 0;
-    let mut high = tree.count();
+    let mut high = paths.count();
     while low < high {
         let middle = low + (high - low) / 2;
-        match tree.path(middle).as_str().cmp(path) {
+        match paths.path(middle).as_str().cmp(path) {
             Ordering::Less => low = middle + 1,
             Ordering::Equal => return Some(middle),
             Ordering::Greater => high = middle,

@@ -1,6 +1,7 @@
 //! What a file has to be, by what the tag files say of its path (RFC 8493 sections 2.1.3, 2.2.1 and 2.2.3).
+use crate::listed::first_of;
 use bag_digest::{Alg, AlgSet, Digests};
-use bag_path::{BagPath, Version};
+use bag_path::BagPath;
 use bag_tags::Manifest;
 use thiserror::Error;
 
@@ -17,7 +18,6 @@ pub struct GivenLength {
 /// each manifest lists for it.
 #[derive(Clone, Copy, Drop)]
 pub struct Want<'a> {
-    pub(crate) version: Version,
     pub(crate) path: &'a BagPath,
     pub(crate) manifests: &'a [Manifest],
     pub(crate) lengths: &'a [GivenLength],
@@ -29,16 +29,23 @@ pub enum WantFault {
     /// A line of `fetch.txt` gives another length.
     #[error("length")]
     Length,
-    /// The digest by this algorithm is another than the listed one. No manifest before the one by it lists another too.
+    /// The digest by this algorithm is another than the listed one: the first such algorithm, in their order.
     #[error("digest")]
     Digest(Alg),
 }
 
 impl Want<'_> {
-    ghost use Rattle.std.specs.Prelude.{◌≡◌, ◌↔◌, IsTrue, MatchOption, MatchResult};
+    ghost use Rattle.std.specs.Prelude.{◌≡◌, ◌↔◌, true, ℕ, List, IsTrue, MatchResult};
     ghost use Rattle.bag_digest.specs.Algorithm.{has};
     ghost use Rattle.bag_digest.specs.declared.algorithm.Alg.{Alg};
-    ghost use Rattle.bag_rules.specs.Wants.{Fits, FitsDigests, FitsLength, IsFirstMisfit, IsFirstWrong, lists_by};
+    ghost use Rattle.bag_rules.specs.Wants.{AreSumsFor, Fits, FitsLength, IsFirstMisfit, IsFirstMisfitOf, IsWanted, IsWrongBy, lists_by};
+
+    /// The path of the file.
+    pub fn path(&self) -> &BagPath
+        ensures { result.now ≡ self.now.path.now }
+    {
+        self.path
+    }
 
     /// The algorithms by which the path is listed.
     pub fn algs(&self) -> AlgSet
@@ -60,13 +67,16 @@ impl Want<'_> {
     ///
     /// The first of `Length` and `Digest` that holds.
     pub fn test(&self, length: u64, digests: &Digests) -> Result<(), WantFault>
-        ensures { MatchResult result (λ done. Fits self.now length digests.now)
+        ensures fits { MatchResult result (λ done. Fits self.now length digests.now)
             (IsFirstMisfit self.now length digests.now) }
+        // The same of the octets that have this length and these digests.
+        ensures octets { (octets : List ℕ) → AreSumsFor self.now octets length digests.now
+            → MatchResult result (λ done. IsWanted self.now octets) (IsFirstMisfitOf self.now octets) }
     {
         if !self.fits_length(length) {
             return Err(WantFault::Length);
         }
-        match self.first_wrong(digests) {
+        match first_of(self.wrong(digests)) {
             Some(alg) => Err(WantFault::Digest(alg)),
             None => Ok(()),
         }
@@ -84,19 +94,20 @@ impl Want<'_> {
         true
     }
 
-    /// The algorithm of the first digest that is listed and isn't among these.
-    fn first_wrong(&self, digests: &Digests) -> Option<Alg>
-        ensures { MatchOption result (FitsDigests self.now digests.now)
-            (IsFirstWrong self.now digests.now) }
+    /// The algorithms by which a digest is listed that isn't among these.
+    fn wrong(&self, digests: &Digests) -> AlgSet
+        ensures { (alg : Alg)
+            → (has result alg ≡ true) ↔ IsWrongBy self.now digests.now alg }
     {
+        let mut set = AlgSet::empty();
         for manifest in self.manifests {
             if let Some(digest) = manifest.get(self.path) {
                 if !digests.contains(digest) {
-                    return Some(manifest.alg());
+                    set = set.with(manifest.alg());
                 }
             }
         }
-        None
+        set
     }
 }
 

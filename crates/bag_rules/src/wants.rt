@@ -1,6 +1,6 @@
 //! What the tag files say of the files that are there, by path.
 ghost use Rattle.std.specs.Prelude.{IfOk, OnOk};
-ghost use Rattle.bag_rules.specs.WantsInside.{AddsLength, AreByPath};
+ghost use Rattle.bag_rules.specs.WantsInside.{AddsLength, AreByPath, IsWantBy};
 
 use crate::want::{GivenLength, Want};
 use bag_path::{BagPath, Version};
@@ -9,19 +9,19 @@ use std::alloc::{AllocError, Global};
 use std::collections::BTreeMap;
 
 /// The lengths that `fetch.txt` gives, by path, those of one path in the order of their lines.
-type Lengths = BTreeMap<BagPath, Vec<GivenLength>>;
+pub(crate) type Lengths = BTreeMap<BagPath, Vec<GivenLength>>;
 
 /// What the manifests list, and the lengths that `fetch.txt` gives.
 #[derive(Drop)]
 pub(crate) struct Wants<'a> {
-    version: Version,
+    pub(crate) version: Version,
     manifests: &'a [Manifest],
     lengths: Lengths,
 }
 
 impl<'a> Wants<'a> {
     ghost use Rattle.std.specs.Prelude.{IfOk};
-    ghost use Rattle.bag_rules.specs.WantsInside.{AreWantsOf, IsWantIn};
+    ghost use Rattle.bag_rules.specs.WantsInside.{AreWantsOf, IsWantBy};
 
     /// What these manifests and lines of a bag of this version say.
     pub(crate) fn new(
@@ -42,22 +42,33 @@ impl<'a> Wants<'a> {
 
     /// What the file at this path has to be.
     pub(crate) fn of<'b>(&'b self, path: &'b BagPath) -> Want<'b>
-        ensures { IsWantIn self.now path.now result }
+        ensures { IsWantBy self.now.manifests.now self.now.lengths path.now result }
     {
-        let lengths = match self.lengths.get(path) {
-            Some(lengths) => lengths.as_slice(),
-            None => &[],
-        };
-        Want {
-            version: self.version,
-            path,
-            manifests: self.manifests,
-            lengths,
-        }
+        want_of(self.manifests, &self.lengths, path)
     }
 }
 
-fn lengths_by_path(alloc: Global, lines: &[FetchLine]) -> Result<Lengths, AllocError>
+/// What the file at this path has to be, by these manifests and lengths.
+pub(crate) fn want_of<'a>(
+    manifests: &'a [Manifest],
+    lengths: &'a Lengths,
+    path: &'a BagPath,
+) -> Want<'a>
+    ensures { IsWantBy manifests.now lengths.now path.now result }
+{
+    let lengths = match lengths.get(path) {
+        Some(lengths) => lengths.as_slice(),
+        None => &[],
+    };
+    Want {
+        path,
+        manifests,
+        lengths,
+    }
+}
+
+/// The lengths that these lines give, by path.
+pub(crate) fn lengths_by_path(alloc: Global, lines: &[FetchLine]) -> Result<Lengths, AllocError>
     ensures { IfOk result (AreByPath lines.now) }
 {
     let mut lengths = BTreeMap::new(alloc);

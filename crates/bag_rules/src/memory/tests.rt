@@ -1,4 +1,4 @@
-use crate::{AddFault, MemTree, Tree, find};
+use crate::{AddFault, MemTree, Paths, Tree, find};
 use bag_digest::{Failed, Source};
 use bag_path::BagPath;
 use std::alloc::Global;

@@ -1,6 +1,6 @@
 use crate::want::{GivenLength, Want, WantFault};
 use bag_digest::{Alg, AlgSet, Digest, Multi};
-use bag_path::{BagPath, Version};
+use bag_path::BagPath;
 use bag_tags::{Kind, Manifest};
 use std::alloc::Global;
 use std::test::Fail;
@@ -35,7 +35,6 @@ fn a_file_has_to_have_each_length_and_each_digest(rt: HostRuntime) -> Result<(),
         GivenLength { line: 2, length: 4 },
     ];
     let right = Want {
-        version: Version::V1,
         path: &path,
         manifests: &manifests,
         lengths: &given[..1],
@@ -43,7 +42,6 @@ fn a_file_has_to_have_each_length_and_each_digest(rt: HostRuntime) -> Result<(),
     assert_eq!(rt; right.test(3, &digests), Ok(()));
     assert_eq!(rt; right.algs().has(Alg::Sha1), false);
     let longer = Want {
-        version: Version::V1,
         path: &path,
         manifests: &manifests,
         lengths: &given,
@@ -51,7 +49,6 @@ fn a_file_has_to_have_each_length_and_each_digest(rt: HostRuntime) -> Result<(),
     assert_eq!(rt; longer.test(3, &digests), Err(WantFault::Length));
     manifests.push(sha1)?;
     let wrong = Want {
-        version: Version::V1,
         path: &path,
         manifests: &manifests,
         lengths: &[],
@@ -61,11 +58,29 @@ fn a_file_has_to_have_each_length_and_each_digest(rt: HostRuntime) -> Result<(),
     let mut right = Vec::new(alloc);
     right.push(listing(alloc, &path, Alg::Sha1, SHA1_OF_ABC)?)?;
     let both = Want {
-        version: Version::V1,
         path: &path,
         manifests: &right,
         lengths: &[],
     };
     assert_eq!(rt; both.test(4, &digests), Ok(()));
+    Ok(())
+}
+
+#[test]
+fn of_several_wrong_digests_the_first_algorithm_is_told(rt: HostRuntime) -> Result<(), Fail> {
+    let alloc = rt.alloc();
+    let path = BagPath::parse(alloc, "data/a")?;
+    let mut manifests = Vec::new(alloc);
+    manifests.push(listing(alloc, &path, Alg::Sha1, SHA1_OF_ABC)?)?;
+    manifests.push(listing(alloc, &path, Alg::Md5, MD5_OF_ABC)?)?;
+    let want = Want {
+        path: &path,
+        manifests: &manifests,
+        lengths: &[],
+    };
+    let mut multi = Multi::new(want.algs());
+    multi.update(b"abd");
+    let told = want.test(3, &multi.finish());
+    assert_eq!(rt; told, Err(WantFault::Digest(Alg::Md5)));
     Ok(())
 }

@@ -8,7 +8,7 @@ use Rattle.bag_rules.proofs.checking.tag_algorithms.Goals.{in-TagManifest, in_de
 
 pub loop-i-preserved : goal.loop-i-preserved
 loop-i-preserved g c =
-    let paths = paths_in (g.T.Tree.shown c.args.tree.now) in
+    let paths = paths_in (g.T.Paths.shown c.args.tree.now) in
     let named = λ (alg : Alg) (at : slice_get paths c.loop-i.i ≡ Some (manifest_file Tag alg)). c.of.ensures.only (TagManifest alg) (same_Some c.path.result.now (manifest_file Tag alg) (sym c.path.ensures ∙ at)) in
     record {
       all = c.loop-i.invariant.all;
@@ -27,7 +27,7 @@ loop-i-preserved g c =
 
 pub returns : goal.returns
 returns g c = λ alg there.
-    let paths = paths_in (g.T.Tree.shown c.args.tree.now) in
+    let paths = paths_in (g.T.Paths.shown c.args.tree.now) in
     let place = place_of paths (manifest_file Tag alg) there in
     let inside = slice_get_within paths place.0 (manifest_file Tag alg) place.1 in
     c.loop-i.invariant.covers place.0 (omega (arith, inside, c.loop-i.invariant.all)) alg place.1

@@ -4,7 +4,7 @@ use Rattle.bag_rules.proofs.checking.tag_algorithms.Given as goal
 
 abbrev pub invariant-loop-i : goal.invariant-loop-i
 invariant-loop-i g l =
-    let paths = paths_in (g.T.Tree.shown l.tree) in
+    let paths = paths_in (g.T.Paths.shown l.tree) in
     record {
       all : l.i-end ≡ length paths;
       covers : (k : ℕ) → k < l.i → (alg : Alg) → slice_get paths k ≡ Some (manifest_file Tag alg) → has l.set alg ≡ true;

@@ -11,9 +11,9 @@ pub returns-then-is_ok-clause-added : goal.returns-then-is_ok-clause-added
 returns-then-is_ok-clause-added c = λ set octets are lists.
     let want = c.args.want.now in
     let sums = c.args.sums.now in
-    let fits : Fits want sums.0 sums.1 = when_ok c.test.result _ (search rules) c.test.ensures in
-    fits_unlisted want octets sums set are lists _ _ fits c.in_ok-add_unlisted.ensures.added
+    let fits : Fits want sums.0 sums.1 = when_ok c.test.result _ (search rules) c.test.ensures.fits in
+    fits_unlisted c.args.version want octets sums set are lists _ _ fits c.in_ok-add_unlisted.ensures.added
 
 pub returns-clause-added : goal.returns-clause-added
 returns-clause-added c = λ set octets are lists.
-    on_ok_weaker c.add_other_digests.result (faults_by c.args.want.now octets c.args.sums.now set are lists _ _ _ _ c.in_ok-add_unlisted.ensures.added c.in_ok-add_other_lengths.ensures.added) c.add_other_digests.ensures.added
+    on_ok_weaker c.add_other_digests.result (faults_by c.args.version c.args.want.now octets c.args.sums.now set are lists _ _ _ _ c.in_ok-add_unlisted.ensures.added c.in_ok-add_other_lengths.ensures.added) c.add_other_digests.ensures.added

@@ -29,8 +29,8 @@ returns-clause-added g c = λ bag is version_is are.
     let wants = c.in_ok-wants.wants in
     let wants_are = subst (λ (v : Version). AreWantsOf v texts.manifests.items c.fetch_lines.result.now wants) (sym version_is) (subst (λ (ls : List Listing). AreWantsOf c.args.version ls c.fetch_lines.result.now wants) c.deref-2.ensures.value c.in_ok-wants.ensures) in
     let missing : Adds c.args.faults.now.items c.add_missing.new.faults.items (HasFaultOf bag (9 ∷ [])) =
-    adds_so _ _ (IsMissing (paths_in (g.T.Tree.shown c.args.tree.now)) texts.manifests.items) (HasFaultOf bag (9 ∷ [])) (missing_broken bag texts are is) (broken_missing bag texts are is)
-    (subst (λ (ls : List Listing). Adds c.args.faults.now.items c.add_missing.new.faults.items (IsMissing (paths_in (g.T.Tree.shown c.args.tree.now)) ls)) c.deref.ensures.value c.in_ok-add_missing.ensures.added) in
+    adds_so _ _ (IsMissing (paths_in (g.T.Paths.shown c.args.tree.now)) texts.manifests.items) (HasFaultOf bag (9 ∷ [])) (missing_broken bag texts are is) (broken_missing bag texts are is)
+    (subst (λ (ls : List Listing). Adds c.args.faults.now.items c.add_missing.new.faults.items (IsMissing (paths_in (g.T.Paths.shown c.args.tree.now)) ls)) c.deref.ensures.value c.in_ok-add_missing.ensures.added) in
     let unlisted : Adds c.add_missing.new.faults.items c.add_fetch_unlisted.new.faults.items (HasFaultOf bag (11 ∷ [])) = c.in_ok-add_fetch_unlisted.ensures.added bag version_is are in
     let read = c.in_ok-size.ensures.read bag is in
     let files : Adds c.add_fetch_unlisted.new.faults.items c.read_files.new.faults.items (HasFaultOf bag (10 ∷ 12 ∷ 14 ∷ [])) =

@@ -7,12 +7,12 @@ use Rattle.bag_rules.proofs.file_faults.add_unlisted.Goals.{then-has+in_ok-path+
 
 pub returns-then-not-is_payload-clause-added : goal.returns-then-not-is_payload-clause-added
 returns-then-not-is_payload-clause-added c =
-    let other : is_payload c.args.want.now.path.now ≡ false = search rules in
+    let other : is_payload c.args.path.now ≡ false = search rules in
     adds_none c.args.faults.now.items _ (λ f h. false≢true (sym other ∙ h.0))
 
 pub loop-manifest-preserved : goal.loop-manifest-preserved
 loop-manifest-preserved c =
-    let path = c.args.want.now.path.now in
+    let path = c.args.path.now in
     let set = c.unlisted_in-unlisted.result in
     elim c.if-has.branch [
       | then-has+in_ok-path+in_ok-push w ↦
@@ -24,7 +24,7 @@ loop-manifest-preserved c =
 
 pub returns-clause-added : goal.returns-clause-added
 returns-clause-added c =
-    let path = c.args.want.now.path.now in
+    let path = c.args.path.now in
     let payload : is_payload path ≡ true = search rules in
     adds_so _ _ _ _ (λ f h. (payload, h)) (λ f h. h.1)
-    (told_all c.unlisted_in-unlisted.result (λ a. Unlisted a path) (λ alg. IsUnlistedIn c.args.want.now.version c.args.want.now.manifests.now alg path) c.loop-manifest.manifest-index _ _ (omega arith) c.unlisted_in-unlisted.ensures c.loop-manifest.invariant)
+    (told_all c.unlisted_in-unlisted.result (λ a. Unlisted a path) (λ alg. IsUnlistedIn c.args.version c.args.manifests.now alg path) c.loop-manifest.manifest-index _ _ (omega arith) c.unlisted_in-unlisted.ensures c.loop-manifest.invariant)

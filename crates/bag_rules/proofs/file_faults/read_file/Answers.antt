@@ -53,7 +53,7 @@ returns-clause-read g c = λ path octets at.
     let added = c.in_ok-add_faults_of.ensures.added c.algs-set.result octets sums (λ alg lists. c.algs-set.ensures alg ∙ lists) in (
       c.then_some.ensures ∙ ap (λ b. then_some b c.in_ok-sums.sums.0) c.is_payload-2.ensures ∙ ap (then_some (is_payload own)) sums.count ∙ ap (λ p. payload_length p octets) here,
       subst (λ p. Adds c.args.faults.now.items c.add_faults_of.new.faults.items (IsFaultIn wants p octets)) here
-          (rw (← c.of-want.ensures.version_is, ← c.of-want.ensures.manifests, ← c.of-want.ensures.lengths, ← c.of-want.ensures.path_is) added),
+          (rw (← c.of-want.ensures.manifests, ← c.of-want.ensures.given, ← c.of-want.ensures.path_is) added),
     )
 
 pub returns-clause-limits : goal.returns-clause-limits

@@ -26,7 +26,7 @@ loop-i-init g c = record {
 pub loop-i-preserved : goal.loop-i-preserved
 loop-i-preserved g c =
     let before = c.loop-i.invariant in
-    let inside : c.loop-i.i < length (paths_in (g.T.Tree.shown c.args.tree.now)) = omega (arith, before.all, c.loop-i-test.true) in
+    let inside : c.loop-i.i < length (paths_in (g.T.Paths.shown c.args.tree.now)) = omega (arith, before.all, c.loop-i-test.true) in
     let grows : (k : ℕ) → c.in_ok-length.field-0 ≡ Some k → (c.match-branch-2.size.octets ≡ c.loop-i.size.octets + k) × (c.match-branch-2.size.streams ≡ c.loop-i.size.streams + 1) = λ k e. elim c.match-branch-2.branch [
       | in-Some w ↦ (let same : w.in-Some.length ≡ k = same_Some w.in-Some.length k (sym w.in-Some.is ∙ e) in (ap (λ (s : PayloadSize). s.octets) w.size-is ∙ omega (arith, same, w.from.ensures), ap (λ (s : PayloadSize). s.streams) w.size-is))
       | in_default w ↦ absurd (let k : None ≡ Some k = search rules in cc)
@@ -58,7 +58,7 @@ loop-i-preserved g c =
 pub returns-in_err-length-clause-limits : goal.returns-in_err-length-clause-limits
 returns-in_err-length-clause-limits g c = λ bag is.
     let before = c.loop-i.invariant in
-    let inside : c.loop-i.i < length (paths_in (g.T.Tree.shown c.args.tree.now)) = omega (arith, before.all, c.loop-i-test.true) in
+    let inside : c.loop-i.i < length (paths_in (g.T.Paths.shown c.args.tree.now)) = omega (arith, before.all, c.loop-i-test.true) in
     let file = stands bag.files c.loop-i.i (subst (λ n. c.loop-i.i < n) (same_count bag is) inside) in
     let at = file_at bag (before.used.same ∙ is) c.loop-i.i file.0.0 file.0.1 file.1 in
     let stopped = c.in_err-length.ensures.limits file.0.0 file.0.1 at in
@@ -69,7 +69,7 @@ returns-in_err-length-clause-limits g c = λ bag is.
 pub returns-clause-read : goal.returns-clause-read
 returns-clause-read g c = λ bag is.
     let wants = c.args.wants.now in
-    let end : c.loop-i.i ≡ length bag.files = (let n : c.loop-i.i ≡ length (paths_in (g.T.Tree.shown c.args.tree.now)) = omega (arith, c.loop-i.invariant.all) in n ∙ same_count bag is) in (
+    let end : c.loop-i.i ≡ length bag.files = (let n : c.loop-i.i ≡ length (paths_in (g.T.Paths.shown c.args.tree.now)) = omega (arith, c.loop-i.invariant.all) in n ∙ same_count bag is) in (
       subst (λ fs. IsSizeOf fs c.loop-i.size) (ap (λ k. take k bag.files) end ∙ take-length bag.files) (c.loop-i.invariant.size bag is),
       adds_so _ _ (IsFaultBefore c.loop-i.i bag wants) (IsFileFault bag wants)
           (λ f h. all_faults bag wants f (subst (λ k. IsFaultBefore k bag wants f) end h))
@@ -79,7 +79,7 @@ returns-clause-read g c = λ bag is.
 
 pub returns-clause-limits : goal.returns-clause-limits
 returns-clause-limits g c = λ bag is.
-    let n : c.loop-i.i ≡ length (paths_in (g.T.Tree.shown c.args.tree.now)) = omega (arith, c.loop-i.invariant.all) in
+    let n : c.loop-i.i ≡ length (paths_in (g.T.Paths.shown c.args.tree.now)) = omega (arith, c.loop-i.invariant.all) in
     subst (λ k. NoneStopsBefore k bag (IsLongRead c.args.wants.now.manifests.now)) (n ∙ same_count bag is) (c.loop-i.invariant.none bag is)
 
 pub returns-in_err-length-clause-tree : goal.returns-in_err-length-clause-tree

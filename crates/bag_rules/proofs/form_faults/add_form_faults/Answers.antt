@@ -8,7 +8,7 @@ use Rattle.bag_rules.proofs.form_faults.add_form_faults.Goals.{then-not-has_payl
 
 pub returns-clause-added : goal.returns-clause-added
 returns-clause-added g c = λ bag is are. on_ok_weaker c.add_oxum_faults.result (λ added.
-    let paths = paths_in (g.T.Tree.shown c.args.tree.now) in
+    let paths = paths_in (g.T.Paths.shown c.args.tree.now) in
     let old = c.args.faults.now.items in
     let first = c.if-not-has_payload_dir.faults.items in
     let second = c.if-not-has_payload_manifest.faults.items in

@@ -7,5 +7,5 @@ pub returns-in_ok-push-in-None-clause-added : goal.returns-in_ok-push-in-None-cl
 returns-in_ok-push-in-None-clause-added g c =
     let own : c.in_ok-path-in-None.path ≡ c.args.pair.now.path = search rules in
     let text : c.as_str.result.now ≡ c.args.pair.now.path = c.as_str.ensures.text in
-    pair_away (paths_in (g.T.Tree.shown c.args.tree.now)) c.args.manifest c.args.pair.now.path _ _
-    (subst (λ p. ¬ Contains (paths_in (g.T.Tree.shown c.args.tree.now)) p) text c.in-None.ensures.absent) (rw (← own) c.in_ok-push-in-None.ensures.items)
+    pair_away (paths_in (g.T.Paths.shown c.args.tree.now)) c.args.manifest c.args.pair.now.path _ _
+    (subst (λ p. ¬ Contains (paths_in (g.T.Paths.shown c.args.tree.now)) p) text c.in-None.ensures.absent) (rw (← own) c.in_ok-push-in-None.ensures.items)

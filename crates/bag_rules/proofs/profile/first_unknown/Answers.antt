@@ -24,7 +24,7 @@ loop-i-preserved g c = record {
     | inl before ↦ c.loop-i.invariant.none i path word before there unknown
     | inr here ↦
         let same : i ≡ c.loop-i.i = omega (arith, below, here) in
-        let own : c.path.result.now ≡ path = path_here _ _ path c.path.ensures (ap (slice_get (paths_in (g.T.Tree.shown c.args.tree.now))) (sym same) ∙ there) in
+        let own : c.path.result.now ≡ path = path_here _ _ path c.path.ensures (ap (slice_get (paths_in (g.T.Paths.shown c.args.tree.now))) (sym same) ∙ there) in
         c.in_default.ensures word (subst (λ p. IsUnknownManifest p word) (sym own) unknown)
   ];
   all = c.loop-i.invariant.all;

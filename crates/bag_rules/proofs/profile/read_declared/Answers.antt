@@ -1,6 +1,6 @@
-use Rattle.std.proofs.Common.{◌≡◌, ◌∙◌, subst, sym}
-use Rattle.bag_rules.proofs.Words.{declaration_file, DeclarationStops, err_from_is_err_and, FirstStops, IfOk-weaker, IsDeclaration, IsDeclarationFault, IsLongTag, IsProfile, slice_get_within}
-use Rattle.bag_rules.proofs.DeclaredLemmas.{bad_declaration, first_declaration, short_declaration}
+use Rattle.std.proofs.Common.{◌∙◌, subst, sym}
+use Rattle.bag_rules.proofs.Words.{declaration_file, DeclarationStops, err_from_is_err_and, FirstStops, Holds, IsLongTag, slice_get_within}
+use Rattle.bag_rules.proofs.DeclaredLemmas.{first_declaration, short_declaration}
 use Rattle.bag_rules.proofs.KeptLemmas.{on_ok_of}
 use Rattle.bag_rules.proofs.LimitLemmas.{stopped_so}
 use Rattle.bag_rules.proofs.TextStops.{done_or_memory}
@@ -19,43 +19,21 @@ returns-in_err-text-clause-limits g c = λ bag is.
     (λ long. first_declaration bag c.args.i file.0 c.in_err-text.field-0.0 (rises bag is c.requires.ready.1) file.1 long)
     (c.in_err-text.ensures.known declaration_file file.0 (file_at bag is c.args.i declaration_file file.0 file.1)))
 
-pub returns-in-Ok-clause-profile : goal.returns-in-Ok-clause-profile
-returns-in-Ok-clause-profile g c = λ bag is.
-    let file = there_at bag is c.args.i declaration_file c.requires.there in
-    let read = c.in_ok-text.ensures.known declaration_file file.0 (file_at bag is c.args.i declaration_file file.0 file.1) in
-    let same : c.deref-2.result.now ≡ file.0 = c.deref-2.ensures.value ∙ read.0 in
-    c.profile_of.ensures.profile bag (c.in_ok-text.ensures.tree.same ∙ is) (file.0, (c.args.i, file.1), subst (λ o. IsDeclaration o c.in-Ok.declaration) same c.in-Ok.ensures.read)
-
-pub returns-in-Ok-clause-limits : goal.returns-in-Ok-clause-limits
-returns-in-Ok-clause-limits g c = λ bag is.
-    let file = there_at bag is c.args.i declaration_file c.requires.there in
-    let read = c.in_ok-text.ensures.known declaration_file file.0 (file_at bag is c.args.i declaration_file file.0 file.1) in
-    done_or_memory c.profile_of.result (FirstStops bag DeclarationStops) c.profile_of.ensures.err (short_declaration bag file.0 (rises bag is c.requires.ready.1) (c.args.i, file.1) read.1)
-
-pub returns-in-Ok-clause-tree : goal.returns-in-Ok-clause-tree
-returns-in-Ok-clause-tree g c = uses_kept c.in_ok-text.ensures.tree (λ e. cc e) (not_tree c.profile_of.result c.profile_of.ensures.err)
-
 pub returns-clause-profile : goal.returns-clause-profile
 returns-clause-profile g c = λ bag is.
     let file = there_at bag is c.args.i declaration_file c.requires.there in
     let read = c.in_ok-text.ensures.known declaration_file file.0 (file_at bag is c.args.i declaration_file file.0 file.1) in
-    let same : c.deref-2.result.now ≡ file.0 = c.deref-2.ensures.value ∙ read.0 in
-    IfOk-weaker c.ended_by.result _ _ (λ profile e. subst (IsProfile bag) (sym e) (bad_declaration bag file.0 c.in-Err.cause (rises bag is c.requires.ready.1) (c.args.i, file.1)
-    (subst (λ o. IsDeclarationFault o c.in-Err.cause) same c.in-Err.ensures.fault))) c.ended_by.ensures.ok
+    c.profile_of.ensures.profile bag (c.in_ok-text.ensures.tree.same ∙ is) (subst (Holds bag declaration_file) (sym (c.deref-2.ensures.value ∙ read.0)) (c.args.i, file.1))
 
 pub returns-clause-limits : goal.returns-clause-limits
 returns-clause-limits g c = λ bag is.
     let file = there_at bag is c.args.i declaration_file c.requires.there in
     let read = c.in_ok-text.ensures.known declaration_file file.0 (file_at bag is c.args.i declaration_file file.0 file.1) in
-    done_or_memory c.ended_by.result (FirstStops bag DeclarationStops) c.ended_by.ensures.err (short_declaration bag file.0 (rises bag is c.requires.ready.1) (c.args.i, file.1) read.1)
+    done_or_memory c.profile_of.result (FirstStops bag DeclarationStops) c.profile_of.ensures.err (short_declaration bag file.0 (rises bag is c.requires.ready.1) (c.args.i, file.1) read.1)
 
 pub returns-clause-tree : goal.returns-clause-tree
-returns-clause-tree g c = uses_kept c.in_ok-text.ensures.tree (λ e. cc e) (not_tree c.ended_by.result c.ended_by.ensures.err)
-
-pub returns-in-Ok-clause-kept : goal.returns-in-Ok-clause-kept
-returns-in-Ok-clause-kept g c = λ are. on_ok_of c.profile_of.result _ (c.in_ok-keep.ensures.kept (g.T.Tree.shown c.args.tree.now) are (λ path octets at.
-    let known = c.in_ok-text.ensures.known path octets at in (c.deref.ensures.value ∙ known.0, known.1)))
+returns-clause-tree g c = uses_kept c.in_ok-text.ensures.tree (λ e. cc e) (not_tree c.profile_of.result c.profile_of.ensures.err)
 
 pub returns-clause-kept : goal.returns-clause-kept
-returns-clause-kept g c = λ are. on_ok_of c.ended_by.result _ (c.in_ok-keep.ensures.kept (g.T.Tree.shown c.args.tree.now) are (λ path octets at.
+returns-clause-kept g c = λ are. on_ok_of c.profile_of.result _ (c.in_ok-keep.ensures.kept (g.T.Paths.shown c.args.tree.now) are (λ path octets at.
     let known = c.in_ok-text.ensures.known path octets at in (c.deref.ensures.value ∙ known.0, known.1)))

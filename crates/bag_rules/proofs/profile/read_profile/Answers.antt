@@ -1,22 +1,18 @@
-use Rattle.std.proofs.Common.{subst, sym}
-use Rattle.bag_rules.proofs.Words.{declaration_file, DeclarationStops, FirstStops, IfOk-weaker, IsProfile}
+use Rattle.bag_rules.proofs.Words.{declaration_file}
 use Rattle.bag_rules.proofs.DeclaredLemmas.{no_declaration, none_declaration}
 use Rattle.bag_rules.proofs.RisingPaths.{contains_at}
-use Rattle.bag_rules.proofs.TextStops.{done_or_memory}
 use Rattle.bag_rules.proofs.TreeLemmas.{shows}
-use Rattle.bag_rules.proofs.TreeUses.{not_tree, uses_none}
+use Rattle.bag_rules.proofs.TreeUses.{uses_none}
 use Rattle.bag_rules.proofs.profile.read_profile.Goals as goal
 
 pub returns-in-Some-clause-undeclared : goal.returns-in-Some-clause-undeclared
 returns-in-Some-clause-undeclared g c = λ absent. absurd (absent (contains_at _ c.in-Some.i declaration_file c.in-Some.ensures.found))
 
 pub returns-in-None-clause-profile : goal.returns-in-None-clause-profile
-returns-in-None-clause-profile g c = λ bag is.
-    IfOk-weaker c.ended_by.result _ _ (λ profile e. subst (IsProfile bag) (sym e) (no_declaration bag (λ there. c.in-None.ensures.absent (shows bag is declaration_file there)))) c.ended_by.ensures.ok
+returns-in-None-clause-profile g c = λ bag is. no_declaration bag (λ there. c.in-None.ensures.absent (shows bag is declaration_file there))
 
 pub returns-in-None-clause-limits : goal.returns-in-None-clause-limits
-returns-in-None-clause-limits g c = λ bag is.
-    done_or_memory c.ended_by.result (FirstStops bag DeclarationStops) c.ended_by.ensures.err (none_declaration bag (λ there. c.in-None.ensures.absent (shows bag is declaration_file there)))
+returns-in-None-clause-limits g c = λ bag is. none_declaration bag (λ there. c.in-None.ensures.absent (shows bag is declaration_file there))
 
 pub returns-in-None-clause-tree : goal.returns-in-None-clause-tree
-returns-in-None-clause-tree g c = uses_none (not_tree c.ended_by.result c.ended_by.ensures.err)
+returns-in-None-clause-tree g c = uses_none (λ e. cc e)

@@ -6,7 +6,6 @@ use Rattle.bag_rules.proofs.TextStops.{done_or_memory, long_stops, none_stops}
 use Rattle.bag_rules.proofs.KeptLemmas.{on_ok_both, on_ok_of}
 use Rattle.bag_rules.proofs.TreeLemmas.{named_here}
 use Rattle.bag_rules.proofs.tag_files.read_text.Goals as goal
-use Rattle.bag_rules.proofs.tag_files.read_text.Goals.{else-has_counted_lines-via-then-has_counted_lines+else-has_more_lines, else-has_counted_lines-via-else-has_counted_lines}
 
 pub returns-in_err-text-clause-limits : goal.returns-in_err-text-clause-limits
 returns-in_err-text-clause-limits g c = λ path octets at.
@@ -15,24 +14,20 @@ returns-in_err-text-clause-limits g c = λ path octets at.
     let error = err_from_is_err_and c.from_residual.result c.from_residual.ensures.1 in
     rw (error.1, error.2) (stopped_so (IsLongTag path octets) (TextStops path octets) c.in_err-text.field-0.0 (long_stops c.in-Some.file path octets named c.in_err-text.field-0.0) stopped)
 
-pub returns-then-has_more_lines-clause-limits : goal.returns-then-has_more_lines-clause-limits
-returns-then-has_more_lines-clause-limits g c = λ path octets at.
+pub returns-then-has_too_many_lines-clause-limits : goal.returns-then-has_too_many_lines-clause-limits
+returns-then-has_too_many_lines-clause-limits g c = λ path octets at.
     let named : path ≡ text_file c.in-Some.file = named_here at c.path.ensures ∙ c.in-Some.ensures in
-    let held : c.deref-then-has_counted_lines.result.now ≡ octets = c.deref-then-has_counted_lines.ensures.value ∙ (c.in_ok-text.ensures.known path octets at).0 in (
-      c.in-Some.file,
-      named,
-      inr (
-        (c.in_ok-text.ensures.known path octets at).1,
-        (c.has_counted_lines.ensures.0 c.if-has_counted_lines.true, subst (λ o. 100000 < length (lines_of o)) held (c.has_more_lines.ensures.0 c.if-has_more_lines.true), refl),
-      ),
-    )
+    let known = c.in_ok-text.ensures.known path octets at in
+    let held : c.deref-2.result.now ≡ octets = c.deref-2.ensures.value ∙ known.0 in
+    let many = c.has_too_many_lines.ensures.0 c.if-has_too_many_lines.true in
+    (c.in-Some.file, named, inr (known.1, (many.0, subst (λ o. 100000 < length (lines_of o)) held many.1, refl)))
 
 pub returns-clause-read : goal.returns-clause-read
 returns-clause-read g c = λ path octets at.
     let file = c.in-Some.file in
     let version = c.args.version in
     let named : path ≡ text_file file = named_here at c.path.ensures ∙ c.in-Some.ensures in
-    let held : c.deref-2.result.now ≡ octets = c.deref-2.ensures.value ∙ (c.in_ok-text.ensures.known path octets at).0 in
+    let held : c.deref-3.result.now ≡ octets = c.deref-3.ensures.value ∙ (c.in_ok-text.ensures.known path octets at).0 in
     on_ok_both c.read_lines.result _ _
     (on_ok_weaker c.read_lines.result (λ reads.
     record {
@@ -40,7 +35,7 @@ returns-clause-read g c = λ path octets at.
       leaves = λ none. absurd (none file named);
     })
     c.read_lines.ensures.read)
-    (on_ok_weaker c.read_lines.result (adds_so c.args.faults.now.items c.read_lines.new.faults.items (IsFirstBadLine version file c.deref-2.result.now) (IsBadLineOf version path octets)
+    (on_ok_weaker c.read_lines.result (adds_so c.args.faults.now.items c.read_lines.new.faults.items (IsFirstBadLine version file c.deref-3.result.now) (IsBadLineOf version path octets)
     (λ f bad. (file, named, subst (λ o. IsFirstBadLine version file o f) held bad))
     (λ f bad. subst (λ o. IsFirstBadLine version file o f) (sym held) (subst (λ name. IsFirstBadLine version name octets f) (one_file path bad.0 file bad.1 named) bad.2)))
     c.read_lines.ensures.faulty)
@@ -48,13 +43,13 @@ returns-clause-read g c = λ path octets at.
 pub returns-clause-limits : goal.returns-clause-limits
 returns-clause-limits g c = λ path octets at.
     let named : path ≡ text_file c.in-Some.file = named_here at c.path.ensures ∙ c.in-Some.ensures in
-    let few : HasCountedLines c.in-Some.file → 100000 < length (lines_of octets) → ⊥ = λ counted many. elim c.else-has_counted_lines.branch [
-      | else-has_counted_lines-via-then-has_counted_lines+else-has_more_lines w ↦ (let held : w.deref-then-has_counted_lines.result.now ≡ octets = w.deref-then-has_counted_lines.ensures.value ∙ (c.in_ok-text.ensures.known path octets at).0 in let k : true ≡ false = sym (w.has_more_lines.ensures.1 (subst (λ o. 100000 < length (lines_of o)) (sym held) many)) ∙ w.if-has_more_lines.false in cc)
-      | else-has_counted_lines-via-else-has_counted_lines w ↦ (let k : true ≡ false = sym (c.has_counted_lines.ensures.1 counted) ∙ w.if-has_counted_lines.false in cc)
-    ] in
+    let known = c.in_ok-text.ensures.known path octets at in
+    let held : c.deref-2.result.now ≡ octets = c.deref-2.ensures.value ∙ known.0 in
+    let few : HasCountedLines c.in-Some.file → 100000 < length (lines_of octets) → ⊥ = λ counted many.
+    (let k : true ≡ false = sym (c.has_too_many_lines.ensures.1 (counted, subst (λ o. 100000 < length (lines_of o)) (sym held) many)) ∙ c.if-has_too_many_lines.false in cc) in
     done_or_memory c.read_lines.result (TextStops path octets) c.read_lines.ensures.err
-    (none_stops c.in-Some.file path octets named ((c.in_ok-text.ensures.known path octets at).1) few)
+    (none_stops c.in-Some.file path octets named known.1 few)
 
 pub returns-clause-kept : goal.returns-clause-kept
-returns-clause-kept g c = λ are. on_ok_of c.read_lines.result _ (c.in_ok-keep.ensures.kept (g.T.Tree.shown c.args.tree.now) are (λ path octets at.
+returns-clause-kept g c = λ are. on_ok_of c.read_lines.result _ (c.in_ok-keep.ensures.kept (g.T.Paths.shown c.args.tree.now) are (λ path octets at.
     let known = c.in_ok-text.ensures.known path octets at in (c.deref.ensures.value ∙ known.0, known.1)))

@@ -12,7 +12,7 @@ use Rattle.bag_rules.proofs.tag_files.read_texts.Goals as goal
 
 pub returns-in_err-read_text-clause-limits : goal.returns-in_err-read_text-clause-limits
 returns-in_err-read_text-clause-limits g c = λ bag is.
-    let tree = g.T.Tree in
+    let shown = g.T.Paths.shown in
     let before = c.loop-i.invariant in
     let i = c.loop-i.i in
     let inside : i < length bag.files = omega (arith, before.all, same_count bag is, c.loop-i-test.true) in
@@ -26,10 +26,10 @@ returns-in_err-read_text-clause-limits g c = λ bag is.
 
 pub loop-i-preserved : goal.loop-i-preserved
 loop-i-preserved g c =
-    let tree = g.T.Tree in
+    let shown = g.T.Paths.shown in
     let before = c.loop-i.invariant in
     let i = c.loop-i.i in
-    let inside : (bag : Bag) → IsBagOf (tree.shown c.args.tree.now) bag → i < length bag.files =
+    let inside : (bag : Bag) → IsBagOf (shown c.args.tree.now) bag → i < length bag.files =
     λ bag is. omega (arith, before.all, same_count bag is, c.loop-i-test.true) in
     record {
       read = λ bag is by.

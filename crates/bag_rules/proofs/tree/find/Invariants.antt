@@ -5,7 +5,7 @@ use Rattle.bag_rules.proofs.tree.find.Given as goal
 -- a place that has the path is still to be looked at
 abbrev pub invariant-loop-low : goal.invariant-loop-low
 invariant-loop-low g l =
-    record { inside : l.high ≤ length (paths_in (g.T.Tree.shown l.tree)); left : (k : ℕ) → slice_get (paths_in (g.T.Tree.shown l.tree)) k ≡ Some l.path → (l.low ≤ k) × (k < l.high) }
+    record { inside : l.high ≤ length (paths_in (g.P.Paths.shown l.paths)); left : (k : ℕ) → slice_get (paths_in (g.P.Paths.shown l.paths)) k ≡ Some l.path → (l.low ≤ k) × (k < l.high) }
 
 abbrev pub decreases-loop-low : goal.decreases-loop-low
 decreases-loop-low g l = l.high - l.low

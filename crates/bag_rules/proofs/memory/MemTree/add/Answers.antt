@@ -1,9 +1,9 @@
 use Rattle.std.proofs.Common.{ap, sym, subst, refl, ◌∙◌, ◌||◌, Contains}
 use Rattle.bag_rules.specs.Memory.{FindsAlso}
-use Rattle.bag_rules.specs.MemoryInside.{shown_files}
+use Rattle.bag_rules.specs.Files.{files_of}
 use Rattle.bag_rules.proofs.Words.{Inside, mem_paths, view_of, with_file}
 use Rattle.bag_rules.proofs.MemoryFiles.{absent_in_gap}
-use Rattle.bag_rules.proofs.MemoryShown.{same_gap}
+use Rattle.bag_rules.proofs.FilesShown.{same_gap}
 use Rattle.bag_rules.proofs.MemoryAdded.{HasAdded, view_added, sound_added, finds_added}
 use Rattle.bag_rules.proofs.memory.MemTree.add.Goals as goal
 
@@ -12,7 +12,7 @@ pub returns-in_default-clause-twice : goal.returns-in_default-clause-twice
 returns-in_default-clause-twice c =
     let gap = same_gap c.self.inside.files.items c.deref.result.now c.args.path c.as_str.result.now c.in-Err.place c.deref.ensures.value c.as_str.ensures.text c.in-Err.ensures.absent in (
       λ e. absurd (cc),
-      λ found. absurd (absent_in_gap c.args.path (shown_files c.self.inside.files.items) _ c.self.invariant.rising gap (subst (λ t. Contains (mem_paths t) c.args.path) (sym c.self.view_is) found)),
+      λ found. absurd (absent_in_gap c.args.path (files_of c.self.inside.files.items) _ c.self.invariant.rising gap (subst (λ t. Contains (mem_paths t) c.args.path) (sym c.self.view_is) found)),
     )
 
 -- the file went into the gap
@@ -42,7 +42,7 @@ returns-clause-added c = view_added c.self.inside (new c) c.in-Err.place _ c.sel
 pub returns-clause-twice : goal.returns-clause-twice
 returns-clause-twice c = (
   λ e. absurd (cc),
-  λ found. absurd (absent_in_gap c.args.path (shown_files c.self.inside.files.items) _ c.self.invariant.rising (added c).gap (subst (λ t. Contains (mem_paths t) c.args.path) (sym c.self.view_is) found)),
+  λ found. absurd (absent_in_gap c.args.path (files_of c.self.inside.files.items) _ c.self.invariant.rising (added c).gap (subst (λ t. Contains (mem_paths t) c.args.path) (sym c.self.view_is) found)),
 )
 
 pub returns-clause-found : goal.returns-clause-found

@@ -1,5 +1,6 @@
 use Rattle.std.proofs.Common.{ap, sym, ◌∙◌, Some, is_some}
-use Rattle.bag_rules.proofs.MemoryShown.{body_at, started_is, read_on, read_view}
+use Rattle.bag_rules.proofs.FilesShown.{body_at}
+use Rattle.bag_rules.proofs.MemoryShown.{started_is, read_on, read_view}
 use Rattle.bag_rules.proofs.memory.MemTreeSource.read.Goals as goal
 
 pub returns-clause-octets : goal.returns-clause-octets

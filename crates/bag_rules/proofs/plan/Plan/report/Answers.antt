@@ -1,0 +1,23 @@
+use Rattle.std.proofs.Common.{◌≡◌, [], List, subst}
+use Rattle.bag_rules.specs.Plans.{IsPlanOf, sizes_of}
+use Rattle.bag_rules.specs.Transfers.{AreHeldFor, held_bag}
+use Rattle.bag_rules.proofs.Words.{Adds, Fault, Files, HasFaultOf, IsJudged, Judged, kinds_of_files}
+use Rattle.bag_rules.proofs.DeclaredLemmas.{verdict_means}
+use Rattle.bag_rules.proofs.HeldBags.{rising}
+use Rattle.bag_rules.proofs.ReportLemmas.{held_profile, none_below}
+use Rattle.bag_rules.proofs.VerdictLemmas.{judged_by_files}
+use Rattle.bag_rules.proofs.plan.Plan.report.Goals as goal
+
+judged : (c : goal.After-new) (tags items : Files) → IsPlanOf tags c.args.self.now → AreHeldFor tags items → c.args.sizes.now ≡ sizes_of items → IsJudged (held_bag tags items) c.new.result
+judged c tags items is held sizes_are =
+    let faults = c.add_item_faults.new.faults.items in
+    let adds : Adds [] faults (HasFaultOf (held_bag tags items) kinds_of_files) =
+    subst (λ (old : List Fault). Adds old faults (HasFaultOf (held_bag tags items) kinds_of_files)) c.new-faults.ensures.items (c.in-Ok.ensures tags items is.tag_files is.opens is.texts held sizes_are) in
+    judged_by_files (held_bag tags items) faults c.new.result (held_profile tags items is.tag_files held is.opens) (none_below tags items is.tag_files held is.opens) adds c.new.ensures.in_order c.new.ensures.same
+
+pub returns-in-Ok-clause-verdict : goal.returns-in-Ok-clause-verdict
+returns-in-Ok-clause-verdict c = judged c
+
+pub returns-in-Ok-clause-meaning : goal.returns-in-Ok-clause-meaning
+returns-in-Ok-clause-meaning c = λ tags items is held sizes_are.
+    verdict_means (held_bag tags items) (Judged c.new.result) (rising tags items is.tag_files held) (judged c tags items is held sizes_are)

@@ -1,0 +1,160 @@
+//! Plans: what the tag files of a transfer say of its payload.
+ghost use Rattle.std.specs.Prelude.{◌≡◌, IfNone, IfSome};
+ghost use Rattle.bag_rules.specs.Faults.{Has};
+ghost use Rattle.bag_rules.specs.Trees.{AreRising};
+
+use crate::clash::first_clash;
+use crate::fault::Fault;
+use crate::item_faults::add_item_faults;
+use crate::opening::{first_large, open_texts, open_version};
+use crate::outcome::OutsideCause;
+use crate::report::Report;
+use crate::tag_files::Texts;
+use crate::tag_set::TagSet;
+use crate::want::Want;
+use crate::wants::{Lengths, lengths_by_path, want_of};
+use bag_path::BagPath;
+use bag_tags::FetchLine;
+use std::alloc::{AllocError, Global};
+use thiserror::Error;
+
+/// Why no transfer can be opened with these tag files. Where several hold, the first in this order is answered; `Memory` may come in
+/// place of any other.
+#[derive(Debug, Drop, Error)]
+pub enum PlanFault {
+    /// A manifest or `fetch.txt` has more than 100,000 lines: the first such file by path.
+    #[error("a tag file is too large")]
+    TagTooLarge(BagPath),
+    /// The bag can't be judged here, which is not to say that it is invalid.
+    #[error("outside the profile")]
+    Outside(OutsideCause),
+    /// The tag files have a fault that no payload file can mend: the first such fault in the order of a report.
+    #[error("a fault of the tag files")]
+    Rules(Fault),
+    /// The path of a tag file or of a listed payload file is that of a folder in which another one is: the first such path.
+    #[error("a file in the place of a folder")]
+    Clash(BagPath),
+    /// Memory ran out.
+    #[error("out of memory")]
+    Memory,
+}
+
+impl From<AllocError> for PlanFault {
+    ghost use Rattle.std.specs.Prelude.{◌≡◌};
+    ghost use Rattle.bag_rules.specs.declared.plan.PlanFault.TheVariants.{Memory};
+
+    ghost from_gives = { λ _ fault. fault ≡ Memory };
+
+    fn from(_: AllocError) -> PlanFault {
+        PlanFault::Memory
+    }
+}
+
+/// How large a payload file is that a transfer holds.
+#[derive(Debug, Drop)]
+pub struct ItemSize {
+    /// The path of the file.
+    pub path: BagPath,
+    /// How many octets it has.
+    pub octets: u64,
+}
+
+/// What the tag files of a transfer say of its payload: which files are to come, and what each has to be.
+#[derive(Drop)]
+pub struct Plan {
+    texts: Texts,
+    lengths: Lengths,
+    paths: Vec<BagPath>,
+}
+
+impl Plan {
+    ghost use Rattle.std.specs.Prelude.{IfErr, IfOk, MatchOption};
+    ghost use Rattle.bag_rules.specs.Files.{Files};
+    ghost use Rattle.bag_rules.specs.Opening.{Refuses};
+    ghost use Rattle.bag_rules.specs.Plans.{AreFetchLines, IsPlanOf, IsWantOf, sizes_of};
+    ghost use Rattle.bag_rules.specs.Transfers.{AreExpected, AreHeldFor, IsExpected, held_bag};
+    ghost use Rattle.bag_rules.specs.Validity.{Means};
+    ghost use Rattle.bag_rules.specs.Verdicts.{IsVerdict};
+    ghost use Rattle.bag_rules.specs.declared.outcome.Outcome.TheVariants.{Judged};
+
+    /// The plan of a transfer with these tag files.
+    ///
+    /// # Errors
+    ///
+    /// The first reason, in the order of [`PlanFault`], for which no transfer can be opened with them.
+    pub fn from_tags(alloc: Global, tags: &TagSet) -> Result<Plan, PlanFault>
+        ensures opened { IfOk result (IsPlanOf tags.now) }
+        ensures refused { IfErr result (Refuses tags.now) }
+    {
+        if let Some(file) = first_large(tags) {
+            return Err(PlanFault::TagTooLarge(file.path().clone()?));
+        }
+        let version = open_version(alloc, tags)?;
+        let (texts, paths) = open_texts(alloc, tags, version)?;
+        if let Some(path) = first_clash(alloc, tags, &paths)? {
+            return Err(PlanFault::Clash(path));
+        }
+        let lengths = lengths_by_path(alloc, texts.fetch_lines())?;
+        Ok(Plan {
+            texts,
+            lengths,
+            paths,
+        })
+    }
+
+    /// The paths of the payload files that are to come: those that a payload manifest lists, in order.
+    pub fn paths(&self) -> &[BagPath]
+        ensures { (tags : Files) → IsPlanOf tags self.now → AreExpected tags result.now }
+    {
+        self.paths.as_slice()
+    }
+
+    /// What the payload file at this path has to be; nothing where no payload manifest lists the path.
+    pub fn want(&self, path: &BagPath) -> Option<Want<'_>>
+        ensures { (tags : Files) → IsPlanOf tags self.now
+            → MatchOption result (¬ IsExpected tags path.now) (IsWantOf tags path.now) }
+    {
+        let own = same_in(&self.paths, path)?;
+        Some(want_of(&self.texts.manifests, &self.lengths, own))
+    }
+
+    /// The entries of `fetch.txt`, in its order, each with the number of its line.
+    pub fn fetch(&self) -> &[FetchLine]
+        ensures { (tags : Files) → IsPlanOf tags self.now → AreFetchLines tags result.now }
+    {
+        self.texts.fetch_lines()
+    }
+
+    /// The report of a bag of these tag files and of the payload files that a transfer holds, by their sizes alone: what was taken has
+    /// its digests and lengths.
+    ///
+    /// `sizes` are those of all files that it holds, by path.
+    pub fn report(&self, alloc: Global, sizes: &[ItemSize]) -> Result<Report, AllocError>
+        ensures verdict { (tags items : Files) → IsPlanOf tags self.now → AreHeldFor tags items
+            → sizes.now ≡ sizes_of items
+            → IfOk result (λ report. IsVerdict (held_bag tags items) (Judged report)) }
+        ensures meaning { (tags items : Files) → IsPlanOf tags self.now → AreHeldFor tags items
+            → sizes.now ≡ sizes_of items
+            → IfOk result (λ report. Means (held_bag tags items) (Judged report)) }
+    {
+        let mut faults = Vec::new(alloc);
+        match add_item_faults(&self.texts, sizes, &mut faults) {
+            Ok(()) => Ok(Report::new(faults)),
+            Err(_) => Err(AllocError),
+        }
+    }
+}
+
+/// The same path among paths in order.
+fn same_in<'a>(paths: &'a [BagPath], path: &BagPath) -> Option<&'a BagPath>
+    ensures found { IfSome result (λ own. (own.now ≡ path.now) × Has paths.now path.now) }
+    ensures absent { AreRising paths.now → IfNone result (¬ Has paths.now path.now) }
+{
+    match paths.binary_search_by(|own| own.cmp(path)) {
+        Ok(place) => Some(&paths[place]),
+        Err(_) => None,
+    }
+}
+
+#[cfg(test)]
+mod tests;

@@ -1,0 +1,158 @@
+//! The tag files of a transfer.
+
+use crate::file::{File, body_of, search};
+use crate::limits::LARGEST_TAG_FILE;
+use crate::tree::Paths;
+use bag_path::{BagPath, PathFault};
+use std::alloc::{AllocError, Global};
+use std::marker::Model;
+use thiserror::Error;
+
+#[cfg(test)]
+mod tests;
+
+/// Why a tag file was not added. Where several hold, the first in this order is answered; `Memory` may come in place of any
+/// other.
+#[derive(Clone, Copy, Debug, PartialEq, Eq, Error)]
+pub enum TagSetFault {
+    /// The text is no path. Want of memory is `Memory` below, and never in here.
+    #[error(transparent)]
+    BadPath(PathFault),
+    /// The path is that of a payload file.
+    #[error("the path is that of a payload file")]
+    Payload,
+    /// A file with this path is there already.
+    #[error("a file with this path is there already")]
+    Twice,
+    /// The file has more than [`LARGEST_TAG_FILE`] octets.
+    #[error("the file has more than 16,777,216 octets")]
+    TooLarge,
+    /// Memory ran out.
+    #[error("out of memory")]
+    Memory,
+}
+
+/// The tag files that a transfer is opened with, by path. None is at a payload path, and none has more than 16,777,216 octets.
+#[derive(Drop)]
+pub struct TagSet {
+    files: Vec<File>,
+}
+
+impl Model for TagSet {
+    ghost use Rattle.bag_rules.specs.Files.{AreTagFiles, Files, files_of};
+
+    ghost Value = { Files };
+
+    ghost view = { λ set. files_of set.files.items };
+
+    ghost invariant = { λ set. AreTagFiles (files_of set.files.items) };
+}
+
+impl TagSet {
+    ghost use Rattle.std.specs.Prelude.{◌≡◌, ◌≢◌, ◌↔◌, [], IsTrue, MatchResult, OnErr, OnOk};
+    ghost use Rattle.std.specs.BTreeMap.{insert_entry};
+    ghost use Rattle.std.specs.Cmp.Lexicographic.{slice_cmp};
+    ghost use Rattle.std.specs.Map.{lookup};
+    ghost use Rattle.std.specs.Option.{option_copied};
+    ghost use Rattle.std.specs.Ordering.{nat_cmp};
+    ghost use Rattle.std.specs.Str.{bytes_eq};
+    ghost use Rattle.bag_rules.specs.declared.tag_set.TagSetFault.{TagSetFault};
+    ghost use Rattle.bag_rules.specs.Files.{AreTagFiles, files_of};
+    ghost use Rattle.bag_rules.specs.TagSets.{RefusesFile};
+
+    /// No tag files.
+    pub fn new(alloc: Global) -> TagSet
+        ensures { result ≡ [] }
+    {
+        TagSet {
+            files: Vec::new(alloc),
+        }
+    }
+
+    /// Puts a tag file at its place in the order of the paths.
+    ///
+    /// # Errors
+    ///
+    /// The first fault in the order of [`TagSetFault`], or `Memory`. The tag files stay as they were then.
+    pub fn add(&mut self, path: &str, body: Vec<u8>) -> Result<(), TagSetFault>
+        ensures added { OnOk result
+            (self.new ≡ insert_entry (slice_cmp nat_cmp) self.old path.now body.items) }
+        ensures unchanged { OnErr result (self.new ≡ self.old) }
+        ensures fault { MatchResult result
+            (λ _. (fault : TagSetFault) → fault ≢ TagSetFault.Memory
+            → ¬ RefusesFile self.old path.now body.items fault)
+            (RefusesFile self.old path.now body.items) }
+    {
+        let path = match BagPath::parse(*self.files.allocator(), path) {
+            Ok(path) => path,
+            Err(PathFault::Memory) => return Err(TagSetFault::Memory),
+            Err(fault) => return Err(TagSetFault::BadPath(fault)),
+        };
+        if path.is_payload() {
+            return Err(TagSetFault::Payload);
+        }
+        let Err(place) = search(&self.files, path.as_str()) else {
+            return Err(TagSetFault::Twice);
+        };
+        if body.len() as u64 > LARGEST_TAG_FILE {
+            return Err(TagSetFault::TooLarge);
+        }
+        let Ok(()) = self.files.insert(place, File { path, body }) else {
+            return Err(TagSetFault::Memory);
+        };
+        Ok(())
+    }
+
+    /// The octets of the tag file with this path.
+    pub fn get(&self, path: &str) -> Option<&[u8]>
+        ensures { option_copied result ≡ lookup (bytes_eq path.now) self.now }
+    {
+        body_of(&self.files, path)
+    }
+
+    /// The tag files by path.
+    pub fn files(&self) -> &[File]
+        ensures files { files_of result.now ≡ self.now }
+        ensures tags { AreTagFiles self.now }
+    {
+        self.files.as_slice()
+    }
+
+    /// Whether the paths and the octets are the same.
+    pub fn is_same(&self, other: &TagSet) -> bool
+        ensures { IsTrue result ↔ (self.now ≡ other.now) }
+    {
+        self.files == other.files
+    }
+}
+
+impl Clone for TagSet {
+    ghost use Rattle.std.specs.Prelude.{◌≡◌};
+
+    ghost is_clone = { λ set copy. copy ≡ set };
+
+    fn clone(&self) -> Result<TagSet, AllocError> {
+        let files = self.files.clone()?;
+        Ok(TagSet { files })
+    }
+}
+
+/// The paths of the tag files. With them the payload directory is shown, which a transfer has from its start.
+impl Paths for TagSet {
+    ghost use Rattle.bag_rules.specs.Bags.{shown_of};
+    ghost use Rattle.bag_rules.specs.Transfers.{tag_bag};
+
+    ghost shown = { λ set. shown_of (tag_bag set) };
+
+    fn count(&self) -> usize {
+        self.files.len()
+    }
+
+    fn path(&self, i: usize) -> &BagPath {
+        &self.files[i].path
+    }
+
+    fn has_payload_dir(&self) -> bool {
+        true
+    }
+}
