@@ -1,0 +1,4 @@
+pub mod EntryLemmas
+pub mod LedgerLemmas
+pub mod SoundLemmas
+pub mod StoredLemmas

@@ -1,0 +1,4 @@
+pub mod Ledgers
+pub mod Keeping
+pub mod PutFaults
+pub mod Stored

@@ -1,0 +1,17 @@
+-- The faults of reading and of a want, among those of putting.
+use Rattle.bag_digest.specs.declared.reading.ReadFault.{ReadFault}
+use Rattle.bag_digest.specs.declared.reading.ReadFault.TheVariants as read
+use Rattle.bag_rules.specs.declared.want.WantFault.{WantFault}
+use Rattle.bag_rules.specs.declared.want.WantFault.TheVariants as want
+use Rattle.bag_ledger.specs.declared.fault.KeepFault.TheVariants as keep
+use Rattle.bag_ledger.specs.declared.fault.PutFault.{PutFault}
+use Rattle.bag_ledger.specs.declared.fault.PutFault.TheVariants.{Reader, TooLarge, Length, Digest, Keep}
+
+abbrev pub put_fault : ReadFault → PutFault
+put_fault read.Read = Reader
+put_fault read.TooLarge = TooLarge
+put_fault read.Memory = Keep keep.Memory
+
+abbrev pub misfit_fault : WantFault → PutFault
+misfit_fault want.Length = Length
+misfit_fault (want.Digest alg) = Digest alg

@@ -1,0 +1,16 @@
+//! Transfers that are kept: tag files, and the payload files that came for them and pass.
+#![tactic(auto)]
+
+pub use fault::{KeepFault, PutFault, StoreFault};
+pub use keeper::Keeper;
+pub use map_keeper::MapKeeper;
+
+#[cfg(test)]
+mod failing;
+mod fault;
+mod keeper;
+pub mod laws;
+mod map_keeper;
+mod stored;
+#[cfg(test)]
+mod tests;
