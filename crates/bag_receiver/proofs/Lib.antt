@@ -1,0 +1,9 @@
+pub mod Words
+pub mod FileLemmas
+pub mod FirstLemmas
+pub mod HeldLemmas
+pub mod StepLemmas
+pub mod DueLemmas
+pub mod SomeDue
+pub mod NameLemmas
+pub mod TwoDelivered

@@ -1,0 +1,16 @@
+use Rattle.std.proofs.Common.{refl, arith}
+use Rattle.bag_rules.specs.ExampleBags.{file_a, tags_with_fetch}
+use Rattle.bag_rules.proofs.TwoListed.{a_passes, abcd_is_misfit, abd_is_misfit, expected, path_a, two_with_fetch}
+use Rattle.bag_receiver.proofs.TwoDelivered.{none_held}
+use Rattle.bag_receiver.proofs.Words.{IsListedPath}
+use Rattle.bag_receiver.proofs.examples.another_length_is_told_first.Goals as goal
+
+listed : IsListedPath tags_with_fetch file_a
+listed = (path_a, expected tags_with_fetch two_with_fetch file_a refl)
+
+pub returns : goal.returns
+returns c = (
+  (listed, (omega arith, abcd_is_misfit)),
+  (listed, (omega arith, abd_is_misfit tags_with_fetch two_with_fetch)),
+  (listed, a_passes tags_with_fetch two_with_fetch, none_held file_a),
+)

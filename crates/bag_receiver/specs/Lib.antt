@@ -1,0 +1,4 @@
+pub mod Deliveries
+pub mod ExampleDeliveries
+pub mod Names
+pub mod Stops

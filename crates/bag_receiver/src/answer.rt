@@ -1,0 +1,46 @@
+//! What a delivery is answered.
+use bag_digest::Alg;
+use bag_ledger::KeepFault;
+use bag_path::PathFault;
+use thiserror::Error;
+
+/// What a delivery is answered.
+#[derive(Clone, Copy, Debug, PartialEq, Eq)]
+pub enum Answer {
+    /// The content passes, and is held from now on.
+    Taken,
+    /// The content passes, and the path is held already. What is held stays.
+    Repeated,
+    /// The content isn't taken, and nothing changes.
+    Refused(DeliverFault),
+}
+
+/// Why a delivery is refused. Of those that hold the first in this order is answered, but of `Reader` and `TooLarge` the one that
+/// comes first in the stream; `Keeper` may come in place of any answer that needs what is kept.
+#[derive(Clone, Copy, Debug, PartialEq, Eq, Error)]
+pub enum DeliverFault {
+    /// No transfer has this name.
+    #[error("no transfer")]
+    NoTransfer,
+    /// The text is no path.
+    #[error("path")]
+    BadPath(PathFault),
+    /// No payload manifest of the transfer lists the path (RFC 8493 section 2.1.3).
+    #[error("not listed")]
+    NotListed,
+    /// A read of the content failed.
+    #[error("reader")]
+    Reader,
+    /// The content has more than 1,073,741,824 octets.
+    #[error("too large")]
+    TooLarge,
+    /// A line of `fetch.txt` gives the file another length (section 2.2.3).
+    #[error("length")]
+    Length,
+    /// A payload manifest lists another digest for the file: the first such algorithm.
+    #[error("digest")]
+    Digest(Alg),
+    /// What keeps the transfers has no answer.
+    #[error("keeper")]
+    Keeper(KeepFault),
+}

@@ -1,0 +1,165 @@
+//! Laws on the definitions that the contracts of this crate cite. Each function's contract is one law, and its body is empty.
+ghost use Rattle.std.specs.Prelude.{◌≡◌, ◌≢◌, ◌↔◌, ◌∷◌, ◌++◌, [], ℕ, List, Option, Some, Contains, map};
+ghost use Rattle.std.specs.Map.{keys_of};
+ghost use Rattle.std.specs.Str.{IsUtf8};
+ghost use Rattle.bag_rules.specs.Faults.{Has};
+ghost use Rattle.bag_rules.specs.Files.{Files};
+ghost use Rattle.bag_rules.specs.Transfers.{AreHeldFor, Passes};
+ghost use Rattle.bag_rules.specs.Trees.{AreRising};
+ghost use Rattle.bag_ledger.specs.Ledgers.{Ledger, Transfer, holding};
+ghost use Rattle.bag_receiver.specs.declared.answer.Answer.{Answer};
+ghost use Rattle.bag_receiver.specs.declared.answer.Answer.TheVariants.{Taken};
+ghost use Rattle.bag_receiver.specs.Deliveries.{Accepts, AcceptsPassing, AreAccepted, Content, Delivery, HasOneContent, IsAcceptance, IsAccepted, IsDue, IsFirstHeld, OneContent, PassesIn, Unread, Whole};
+ghost use Rattle.bag_receiver.specs.Names.{IsNamed};
+ghost use Rattle.bag_receiver.specs.Stops.{AnswerStep, Answered, Event, OffersIn, Standing, Steps, StopRun, standing, with_file};
+
+/// One answer is due to a delivery at most.
+pub fn one_answer_is_due_at_most()
+    ensures { (transfer : Option Transfer) (text : List ℕ) (content : Content) (a b : Answer)
+        → IsDue transfer text content a → IsDue transfer text content b → a ≡ b }
+{}
+
+/// Where a text names a transfer or none, it names one or none: never two, and never neither.
+pub fn a_text_names_one_transfer_or_none()
+    ensures one { (ledger : Ledger) (name : List ℕ) (a b : Option Transfer)
+        → IsNamed ledger name a → IsNamed ledger name b → a ≡ b }
+    ensures some { (ledger : Ledger) (name : List ℕ)
+        → (transfer : Option Transfer) × IsNamed ledger name transfer }
+{}
+
+/// To what came for a text some answer is due, unless its end wasn't reached: it can't be that none is.
+pub fn some_answer_is_due_to_what_was_read()
+    ensures { (transfer : Option Transfer) (text : List ℕ) (content : Content) → IsUtf8 text
+        → content ≢ Unread
+        → ¬ ((answer : Answer) → ¬ IsDue transfer text content answer) }
+{}
+
+/// Where the answer that is due is `Taken` or `Repeated`, the content passes.
+pub fn what_is_due_to_be_accepted_passes()
+    ensures { (transfer : Transfer) (text : List ℕ) (content : Content) (answer : Answer)
+        → IsDue (Some transfer) text content answer → IsAcceptance answer
+        → PassesIn transfer.tags text content }
+{}
+
+/// A content to which `Taken` is due is one file more of the transfer, and nothing is doubtful any more; any other answer that is due
+/// leaves what is held and what is doubtful.
+pub fn what_is_due_is_a_step()
+    ensures taken { (transfer : Transfer) (text octets : List ℕ) (doubtful : Files)
+        → IsDue (Some transfer) text (Whole octets) Taken
+        → let old = standing transfer.items doubtful in
+        let new = standing (holding transfer text octets).items [] in
+        AnswerStep transfer.tags text (Whole octets) Taken old new }
+    ensures other { (transfer : Transfer) (text : List ℕ) (content : Content) (answer : Answer)
+        → (doubtful : Files) → IsDue (Some transfer) text content answer → answer ≢ Taken
+        → let same = standing transfer.items doubtful in
+        AnswerStep transfer.tags text content answer same same }
+{}
+
+/// What is held after one list of deliveries and then another is what is held after both joined.
+pub fn lists_of_deliveries_may_be_joined()
+    ensures { (old middle new : Files) (deliveries others : List Delivery)
+        → IsFirstHeld old deliveries middle → IsFirstHeld middle others new
+        → IsFirstHeld old (deliveries ++ others) new }
+{}
+
+/// A list of deliveries leaves one set of files at most.
+pub fn deliveries_leave_one_set_of_files_at_most()
+    ensures { (old a b : Files) (deliveries : List Delivery) → IsFirstHeld old deliveries a
+        → IsFirstHeld old deliveries b → a ≡ b }
+{}
+
+/// Without a delivery what is held stays.
+pub fn without_a_delivery_what_is_held_stays()
+    ensures { (old : Files) → AreRising (keys_of old) → IsFirstHeld old [] old }
+{}
+
+/// An accepted delivery for a path that isn't held adds that one file.
+pub fn an_accepted_delivery_adds_one_file()
+    ensures { (old : Files) (delivery : Delivery) (path content : List ℕ)
+        → AreRising (keys_of old) → IsAccepted delivery path content
+        → ¬ Contains (keys_of old) path
+        → IsFirstHeld old (delivery ∷ []) (with_file old path content) }
+{}
+
+/// A refused delivery changes nothing, and neither does one for a path that is held.
+pub fn a_refused_or_repeated_delivery_changes_nothing()
+    ensures refused { (old : Files) (delivery : Delivery) → AreRising (keys_of old)
+        → ¬ IsAcceptance delivery.answer → IsFirstHeld old (delivery ∷ []) old }
+    ensures repeated { (old : Files) (delivery : Delivery) → AreRising (keys_of old)
+        → Contains (keys_of old) delivery.text → IsFirstHeld old (delivery ∷ []) old }
+{}
+
+/// What is held passes, if all that was accepted does.
+pub fn what_is_held_passes()
+    ensures { (tags old : Files) (deliveries : List Delivery) (new : Files)
+        → IsFirstHeld old deliveries new → AreHeldFor tags old → AcceptsPassing tags deliveries
+        → AreHeldFor tags new }
+{}
+
+/// Where no two contents that were offered for one path pass, what is held after deliveries to a transfer that held nothing is each
+/// distinct accepted delivery once.
+pub fn what_is_held_is_what_was_accepted()
+    ensures { (tags : Files) (deliveries : List Delivery) (held : Files)
+        → OneContent tags deliveries → AcceptsPassing tags deliveries
+        → IsFirstHeld [] deliveries held → AreAccepted deliveries held }
+{}
+
+/// And two lists of which the same was accepted, whatever was lost, repeated or reordered, leave the same files.
+pub fn lists_of_which_the_same_was_accepted_leave_the_same_files()
+    ensures { (tags : Files) (deliveries others : List Delivery) (held other : Files)
+        → OneContent tags (deliveries ++ others) → AcceptsPassing tags (deliveries ++ others)
+        → ((path content : List ℕ)
+        → Accepts deliveries path content ↔ Accepts others path content)
+        → IsFirstHeld [] deliveries held → IsFirstHeld [] others other → held ≡ other }
+{}
+
+/// What happened may be parted anywhere, and joined again.
+pub fn what_happened_may_be_parted_and_joined()
+    ensures { (tags : Files) (events others : List Event) (old new : Standing)
+        → Steps tags (events ++ others) old new
+        ↔ ((middle : Standing) × Steps tags events old middle × Steps tags others middle new) }
+{}
+
+/// What is held stays held, whatever happens.
+pub fn what_is_held_stays_held()
+    ensures { (tags : Files) (events : List Event) (old new : Standing)
+        → Steps tags events old new
+        → (path content : List ℕ) → Has old.held (path, content) → Has new.held (path, content) }
+{}
+
+/// What is held passes, whatever happens.
+pub fn what_is_held_passes_after_stops()
+    ensures { (tags : Files) (events : List Event) (old new : Standing)
+        → Steps tags events old new → AreHeldFor tags old.held → AreHeldFor tags new.held }
+{}
+
+/// What is held of a transfer was offered whole, and passes.
+pub fn what_is_held_was_offered()
+    ensures offered { (tags : Files) (events : List Event) (held : Files)
+        → StopRun tags events held → (path content : List ℕ) → Has held (path, content)
+        → OffersIn events path content }
+    ensures passes { (tags : Files) (events : List Event) (held : Files)
+        → StopRun tags events held → AreHeldFor tags held }
+{}
+
+/// The path of a delivery that was answered `Taken` or `Repeated` is held, whatever happens after it.
+pub fn an_accepted_delivery_has_its_path_held()
+    ensures { (tags : Files) (events : List Event) (old new : Standing) (delivery : Delivery)
+        → Steps tags events old new → Has events (Answered delivery)
+        → IsAcceptance delivery.answer → Contains (keys_of new.held) delivery.text }
+{}
+
+/// Where no two contents that were offered for one path pass, it is held by the content of that delivery.
+pub fn an_accepted_delivery_has_its_content_held()
+    ensures { (tags : Files) (events : List Event) (held : Files) (delivery : Delivery)
+        → (path content : List ℕ) → HasOneContent tags (OffersIn events)
+        → StopRun tags events held → Has events (Answered delivery)
+        → IsAccepted delivery path content → Has held (path, content) }
+{}
+
+/// Without a stop what is held is the content of the first accepted delivery for each path.
+pub fn without_a_stop_the_first_accepted_content_is_held()
+    ensures { (tags : Files) (deliveries : List Delivery) (old new : Standing)
+        → AreRising (keys_of old.held) → Steps tags (map Answered deliveries) old new
+        → IsFirstHeld old.held deliveries new.held }
+{}
