@@ -18,6 +18,8 @@ build_first
 
 expect 'no words' 64 'bag: check' bag
 expect 'a word that is no command' 64 'bag: check' bag verify examples/first-bag
+expect 'a command in other letters' 64 'bag: check' bag Check examples/first-bag
+expect 'an option in place of a command' 64 'bag: check' bag --help examples/first-bag
 expect 'a command without its folder' 64 'bag: check' bag check
 expect 'a command with two folders' 64 'bag: check' bag check examples/first-bag examples/first-bag
 expect 'a word that is not UTF-8' 64 'bag: check' bag check $'\377'
@@ -45,6 +47,7 @@ manifest-sha256.txt: unlisted: data/l%0Am%25
 not complete" bag check "$work/unlisted"
 
 expect 'no folder' 3 'bag: files' bag check "$work/none"
+expect 'no folder of the name of a command' 3 'bag: files' bag check check
 expect 'an empty name' 3 'bag: files' bag check ''
 expect 'a file in place of the folder' 3 'bag: files' bag check examples/first-bag/bagit.txt
 new link-to-file

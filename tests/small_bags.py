@@ -11,12 +11,106 @@ A_SHA256 = b"ba7816bf8f01cfea414140de5dae2223b00361a396177a9cb410ff61f20015ad"
 E_SHA256 = b"e3b0c44298fc1c149afbf4c8996fb92427ae41e4649b934ca495991b7852b855"
 A_MD5 = b"900150983cd24fb0d6963f7d28e17f72"
 E_MD5 = b"d41d8cd98f00b204e9800998ecf8427e"
-OF_0_97, OF_0_96 = DECLARATION.replace(b"1.0", b"0.97"), DECLARATION.replace(b"1.0", b"0.96")
+OF_0_97 = DECLARATION.replace(b"1.0", b"0.97")
 MANIFEST = A_SHA256 + b"  data/a.txt\n" + E_SHA256 + b"  data/e.txt\n"
 BOTH_BY_MD5 = A_MD5 + b"  data/a.txt\n" + E_MD5 + b"  data/e.txt\n"
+MANIFESTS = [b"manifest-%s.txt" % name for name in (b"md5", b"sha1", b"sha256", b"sha512")]
+TAG_MANIFESTS = [b"tag" + name for name in MANIFESTS]
 # What sha256sum says of the declaration and of this manifest.
 DECLARATION_SHA256 = b"1712ecfb074bf29c4188ad3421032509159a09739fd604f8fe57038b4ddefcc9"
 MANIFEST_SHA256 = b"456acbba2b2aa56b7fa3d4e9ac34b9475cc2c2a6694f5c4bd7975db51956fda7"
+# And md5sum.
+DECLARATION_MD5 = b"eaa2c609ff6371712f623f5531945b44"
+MANIFEST_MD5 = b"8c29597bdd563ba8a8bd22ecc1a04b9a"
+
+# The digests by `md5sum`, `sha1sum`, `sha256sum` and `sha512sum` of the first octets of a message whose octets are their places
+# modulo 251.
+BY_COREUTILS = {
+    1: (
+        b"93b885adfe0da089cdf634904fd59f71",
+        b"5ba93c9db0cff93f52b521d7420e43f6eda2784f",
+        b"6e340b9cffb37a989ca544e6bb780a2c78901d3fb33738768511a30617afa01d",
+        b"b8244d028981d693af7b456af8efa4cad63d282e19ff14942c246e50d9351d22"
+        b"704a802a71c3580b6370de4ceb293c324a8423342557d4e5c38438f0e36910ee",
+    ),
+    55: (
+        b"6912ee65fff2d9f9ce2508cddf8bcda0",
+        b"8ae2d46729cfe68ff927af5eec9c7d1b66d65ac2",
+        b"463eb28e72f82e0a96c0a4cc53690c571281131f672aa229e0d45ae59b598b59",
+        b"6856647f269c2ee3d8128f0b25427659d880641ef343300dd3cd4679168f58d6"
+        b"527fda70b4ebc854e2065e172b7d58c1536992c0810599259ba84a2b40c65414",
+    ),
+    56: (
+        b"51fdd1acda72405dfdfa03fcb85896d7",
+        b"636e2ec698dac903498e648bd2f3af641d3c88cb",
+        b"da2ae4d6b36748f2a318f23e7ab1dfdf45acdc9d049bd80e59de82a60895f562",
+        b"8b12b2f6fe400a51d29656e2b8c42a1bbfe6fcf3e425da430db05d1a2dda1479"
+        b"0dee20fa8b22d8762afffe4988a5c98a4430d22a17e41e23d90fa61ab75671a9",
+    ),
+    63: (
+        b"48a6295221902e8e0938f773a7185e72",
+        b"6d942da0c4392b123528f2905c713a3ce28364bd",
+        b"29af2686fd53374a36b0846694cc342177e428d1647515f078784d69cdb9e488",
+        b"9dc9c5598e55dc42955695320839788e353f1d7f6ba74df74c80a8a52f463c06"
+        b"97f57f68835d1418f4ce9b6530cd79bd0f4c6f7e13c93feb1218c0b65c2c0561",
+    ),
+    64: (
+        b"b2d3f56bc197fd985d5965079b5e7148",
+        b"c6138d514ffa2135bfce0ed0b8fac65669917ec7",
+        b"fdeab9acf3710362bd2658cdc9a29e8f9c757fcf9811603a8c447cd1d9151108",
+        b"ee4320ebaf3fdb4f2c832b137200c08e235e0fa7bbd0eb1740c7063ba8a0d151"
+        b"da77e003398e1714a955d475b05e3e950b639503b452ec185de4229bc4873949",
+    ),
+    65: (
+        b"8bd7053801c768420faf816fadba971c",
+        b"69bd728ad6e13cd76ff19751fde427b00e395746",
+        b"4bfd2c8b6f1eec7a2afeb48b934ee4b2694182027e6d0fc075074f2fabb31781",
+        b"02856cef735f9acec6b9e33f0fbc8f9804d2aa54187f382b8ae842e5d3696c07"
+        b"459aad2a5aed25ea5e117eb1c7ba35da6a7a8adce9e6afe3ad79e9fa42d5bba8",
+    ),
+    111: (
+        b"4fad3ab7d8546851ec1bb63ea7e6f5a8",
+        b"bc544e24573d592290fdaff8ecf3f7f2b00cd483",
+        b"60780e9451bdc43cf4530ffc95cbb0c4eb24dae2c39f55f334d679e076c08065",
+        b"a1a111449b198d9b1f538bad7f3fc1022b3a5b1a5e90a0bc860de8512746cbc3"
+        b"1599e6c834de3a3235327af0b51ff57bf7acf1974a73014d9c3953812edc7c8d",
+    ),
+    112: (
+        b"d1fec2ac3715e791ca5f489f300381b3",
+        b"e4ce142d09a84a8645338dd6535cbfaaf800d320",
+        b"09373f127d34e61dbbaa8bc4499c87074f2ddb10e1b465f506d7d70a15011979",
+        b"c5fbd731d19d2ae1180f001be72c2c1aaba1d7b094b3748880e24593b8e117a7"
+        b"50e11c1bd867cc2f96dace8c8b74abd2d5c4f236be444e77d30d1916174070b9",
+    ),
+    127: (
+        b"8402b21e7bc7906493bae0dac017f1f9",
+        b"89d7312a903f65cd2b3e34a975e55dbea9033353",
+        b"92ca0fa6651ee2f97b884b7246a562fa71250fedefe5ebf270d31c546bfea976",
+        b"eab89674feaa34e27aebeeff3c0a4d70070bb872d5e9f186cf1dbbdee517b6e3"
+        b"5724d629ff025a5b07185e911ada7e3c8acf830aa0e4f71777bd2d44f504f7f0",
+    ),
+    128: (
+        b"37eff01866ba3f538421b30b7cbefcac",
+        b"e6434bc401f98603d7eda504790c98c67385d535",
+        b"471fb943aa23c511f6f72f8d1652d9c880cfa392ad80503120547703e56a2be5",
+        b"1dffd5e3adb71d45d2245939665521ae001a317a03720a45732ba1900ca3b835"
+        b"1fc5c9b4ca513eba6f80bc7b1d1fdad4abd13491cb824d61b08d8c0e1561b3f7",
+    ),
+    129: (
+        b"46f986692847558fc38b0cece591c20f",
+        b"3352e41cc30b40ae80108970492b21014049e625",
+        b"5099c6a56203f9687f7d33f4bfdf576d31dc91f6b695ecea38b2770c87631135",
+        b"1d9da57fbbdab09afb3506ab2d223d06109d65c1c8ad197f50138f714bc4c3f2"
+        b"fe5787922639c680acad1c651f955990425954ce2cba0c5cc83f2667d878eb0f",
+    ),
+    1_000_000: (
+        b"35efddb2811ce9ecbdfa17f18472e604",
+        b"1f7cafedffb2797c60013e6f95d7763bbc57c1ee",
+        b"2c030d49ec131bfbbb446ad21e7a2f12cdb4f2f4f3fda3ac709dd2e68a4646c7",
+        b"c64684a6d351bdb7e7e050d30d61ca838044c888d7a488142cc0001e56e86e8f"
+        b"aec7ab8588dfa82243fecd146da30cce2625c494b1d0c2633fb044c3a2f9a0af",
+    ),
+}
 
 
 def tags(files=None):
@@ -27,6 +121,11 @@ def tags(files=None):
 def tags_0_97(files=None):
     """The same of version 0.97."""
     return tags({b"bagit.txt": OF_0_97, **(files or {})})
+
+
+def empty(files):
+    """A bag without payload files, and these files."""
+    return {b"bagit.txt": DECLARATION, b"data/": None, **files}
 
 
 def with_manifest(octets):
@@ -41,19 +140,155 @@ def outside(cause):
     return [f"outside: {cause}"], 2
 
 
+def declared(version=b"1.0", encoding=b"UTF-8"):
+    return b"BagIt-Version: " + version + b"\nTag-File-Character-Encoding: " + encoding + b"\n"
+
+
 def declarations():
     yield "a bag of two files", tags(), VALID
     yield "no bagit.txt", tags({b"bagit.txt": None}), not_complete("no bagit.txt")
-    for name, octets, answer in [
-        ("a mark", MARK + DECLARATION, not_complete("bagit.txt: byte order mark")),
-        ("one line", b"BagIt-Version: 1.0", not_complete("bagit.txt: line count")),
-        ("version 0.97", OF_0_97, VALID),
-        ("version 0.96", OF_0_96, outside("version")),
-        ("version 00.97", DECLARATION.replace(b"1.0", b"00.97"), not_complete("bagit.txt: version")),
-        ("version 0.97 and another encoding", OF_0_97.replace(b"UTF-8", b"ISO-8859-1"), outside("encoding")),
-        ("another encoding", DECLARATION.replace(b"UTF-8", b"ISO-8859-1"), outside("encoding")),
+    utf8, mark, count, label, version = [not_complete(f"bagit.txt: {cause}") for cause in (
+        "not UTF-8", "byte order mark", "line count", "label", "version")]
+    lines = DECLARATION.split(b"\n")
+    for octets, answer in [
+        (DECLARATION.replace(b"\n", b"\r\n"), VALID),
+        (DECLARATION.replace(b"\n", b"\r"), VALID),
+        (lines[0] + b"\r\n" + lines[1], VALID),
+        (DECLARATION + b"\n", count),
+        (lines[0] + b"\n\n" + lines[1] + b"\n", count),
+        (b"\n" + DECLARATION, count),
+        (lines[0] + b" " + lines[1] + b"\n", count),
+        (lines[0], count),
+        (DECLARATION.replace(b"BagIt-Version", b"bagit-version"), label),
+        (DECLARATION.replace(b"Version: ", b"Version:"), label),
+        (b" " + DECLARATION, label),
+        (DECLARATION.replace(b"Encoding:", b"Encoding"), label),
+        (lines[1] + b"\n" + lines[0] + b"\n", label),
+        (b"BagIt-Version: x\nEncoding: UTF-8\n", label),
+        (declared(version=b"1", encoding=b""), version),
+        (MARK + DECLARATION, mark),
+        (MARK, mark),
+        (MARK + b"\xff", utf8),
+        (declared(encoding=b"\xe9"), utf8),
+        (MARK[:2], utf8),
     ]:
-        yield f"bagit.txt with {name}", tags({b"bagit.txt": octets}), answer
+        yield f"bagit.txt: {octets}", tags({b"bagit.txt": octets}), answer
+
+
+def versions():
+    """A version is two numbers of one to nine digits, without leading zeros."""
+    version = not_complete("bagit.txt: version")
+    for text, answer in [
+        (b"1.0", VALID),
+        (b"0.97", VALID),
+        (b"0.96", outside("version")),
+        (b"0.0", outside("version")),
+        (b"1.1", outside("version")),
+        (b"2.0", outside("version")),
+        (b"97.0", outside("version")),
+        (b"10.20", outside("version")),
+        (b"999999999.999999999", outside("version")),
+        (b"1000000000.0", version),
+        (b"1.1000000000", version),
+        (b"01.0", version),
+        (b"1.00", version),
+        (b"00.97", version),
+        (b"1", version),
+        (b"1.", version),
+        (b".0", version),
+        (b"1.0.0", version),
+        (b"+1.0", version),
+        (b"1.0 ", version),
+        (b" 1.0", version),
+        (b"", version),
+    ]:
+        yield f"version {text}", tags({b"bagit.txt": declared(version=text)}), answer
+
+
+def encodings():
+    """The name of an encoding is visible ASCII."""
+    name = not_complete("bagit.txt: encoding name")
+    for text, answer in [
+        (b"UTF-8", VALID),
+        (b"utf-8", VALID),
+        (b"uTf-8", VALID),
+        (b"ISO-8859-1", outside("encoding")),
+        (b"UTF8", outside("encoding")),
+        (b"!~", outside("encoding")),
+        (b"UTF-8 ", name),
+        (b" UTF-8", name),
+        (b"UTF-8\t", name),
+        (b"UTF-8\x7f", name),
+        (b"\xc3\xa9", name),
+        (b"", name),
+    ]:
+        yield f"encoding {text}", tags({b"bagit.txt": declared(encoding=text)}), answer
+    octets = OF_0_97.replace(b"UTF-8", b"ISO-8859-1")
+    yield "version 0.97 and another encoding", tags({b"bagit.txt": octets}), outside("encoding")
+
+
+def names():
+    """Each tag file that is read line by line has its name."""
+    for name in [b"bag-info.txt", b"fetch.txt", *MANIFESTS, *TAG_MANIFESTS]:
+        answer = not_complete(f"{name.decode()}:1: separator")
+        yield f"a faulty line in {name}", tags({name: b"?"}), answer
+    for name in MANIFESTS:
+        answer = not_complete(*[f"{name.decode()}: unlisted: data/{file}" for file in ("a.txt", "e.txt")])
+        yield f"an empty {name}", tags({name: b""}), answer
+    for name in TAG_MANIFESTS:
+        answer = not_complete(f"{name.decode()}: not listed: manifest-sha256.txt")
+        yield f"an empty {name}", tags({name: b""}), answer
+
+
+def told_names():
+    """Each manifest is told by its name."""
+    for name in MANIFESTS:
+        files = empty({name: b"", b"tagmanifest-sha256.txt": b""})
+        yield f"{name} not listed", files, not_complete(f"tagmanifest-sha256.txt: not listed: {name.decode()}")
+        files = empty({name: b"", b"fetch.txt": b"http:x - data/z"})
+        yield f"a path of fetch.txt not in {name}", files, not_complete(f"fetch.txt: not in {name.decode()}: data/z")
+    for name, digits in zip(TAG_MANIFESTS, (32, 40, 64, 128)):
+        files = empty({b"manifest-md5.txt": b"", name: b"0" * digits + b" k\n" + b"0" * digits + b" manifest-md5.txt"})
+        answer = not_complete(f"{name.decode()}: missing: k", f"{name.decode()}: digest: manifest-md5.txt")
+        yield f"a missing file of {name}", files, answer
+
+
+def other_names():
+    """Names are matched exactly, and at the base directory alone."""
+    for name, word in [
+        (b"manifest-sha224.txt", "sha224"),
+        (b"tagmanifest-sha224.txt", "sha224"),
+        (b"manifest-sha3_256.txt", "sha3_256"),
+        (b"tagmanifest-sha3_256.txt", "sha3_256"),
+        (b"manifest-SHA256.txt", "SHA256"),
+        (b"manifest-MD5.txt", "MD5"),
+        (b"manifest-sha2567.txt", "sha2567"),
+        (b"manifest-sha51.txt", "sha51"),
+        (b"manifest-_.txt", "_"),
+    ]:
+        yield f"a file {name}", tags({name: b"?"}), outside(f"algorithm {word}")
+    for name in [
+        b"manifest-.txt",
+        b"tagmanifest-.txt",
+        b"manifest-sha-256.txt",
+        b"manifest-sha256",
+        b"manifest-sha256.txt.txt",
+        b"manifest-sha256.TXT",
+        b"Manifest-sha256.txt",
+        b"manifest_sha256.txt",
+        b"manifest-\xc3\xa9.txt",
+        b"x/manifest-sha256.txt",
+        b"manifest-x/sha256.txt",
+        b"x/bagit.txt",
+        b"Bagit.txt",
+        b"bagit.txt.txt",
+        b"baginfo.txt",
+        b"notes.txt",
+    ]:
+        yield f"a file {name}, which has no meaning", tags({name: b"?"}), VALID
+    for name in b"data/bagit.txt", b"data/manifest-md5.txt", b"data/fetch.txt":
+        files = {name: b"", b"manifest-sha256.txt": MANIFEST + E_SHA256 + b"  " + name}
+        yield f"a payload file {name}", tags(files), VALID
 
 
 def manifests():
@@ -63,6 +298,9 @@ def manifests():
         (E_SHA256 + b"  data/../k", "path"),
         (E_SHA256 + b"  data//k", "path"),
         (E_SHA256 + b"  data", "path"),
+        (E_SHA256 + b"  data/%2e%2e/k", "path"),
+        (E_SHA256 + b"  data/a%00", "path"),
+        (E_SHA256 + b"  data/\xff", "not UTF-8"),
         (E_SHA256 + b"  k", "wrong place"),
         (A_SHA256 + b"  data/a.txt", "twice"),
         (A_SHA256[:32] + b"  data/k", "digest form"),
@@ -83,18 +321,32 @@ def manifests():
     yield "two unknown algorithms", tags(files), outside("algorithm sha224")
 
 
+def digests():
+    """Files whose lengths are around the sizes of blocks, by all four algorithms."""
+    files = {b"data/%d" % length: (bytes(range(251)) * (length // 251 + 1))[:length] for length in BY_COREUTILS}
+    for i, name in enumerate(MANIFESTS):
+        lines = [digests[i] + b"  data/%d\n" % length for length, digests in BY_COREUTILS.items()]
+        files[name] = b"".join(lines)
+    yield "messages of 1 to 129 octets, and of a million", empty(files), VALID
+
+
 def payloads():
     nothing = {b"bagit.txt": DECLARATION, b"manifest-sha256.txt": b""}
     yield "an empty bag without data/", nothing, not_complete("no data directory")
-    yield "an empty bag with data/", {**nothing, b"data/": None}, VALID
+    yield "an empty bag with data/", empty(nothing), VALID
     both = not_complete("no data directory", "no payload manifest")
     yield "bagit.txt alone", {b"bagit.txt": DECLARATION}, both
+    yield "data/ in another folder", {**nothing, b"other/data/": None}, not_complete("no data directory")
+    yield "a folder without files", {}, not_complete("no bagit.txt")
     changed = complete("manifest-sha256.txt: digest: data/a.txt")
     yield "a changed octet", tags({b"data/a.txt": b"abd"}), changed
     lines = ["missing: data/e.txt", "unlisted: data/z", "digest: data/a.txt"]
     three = {b"data/a.txt": b"", b"data/e.txt": None, b"data/z": b"abc"}
     yield "a missing, an unlisted and a changed file", tags(three), not_complete(
         *[f"manifest-sha256.txt: {line}" for line in lines])
+    files = {"data/100%\r\n\u00e9 \U0001f4e6\t%0A".encode(): b""}
+    escaped = "data/100%25%0D%0A\u00e9 \U0001f4e6\t%250A"
+    yield "a name that is printed with escapes", tags(files), not_complete(f"manifest-sha256.txt: unlisted: {escaped}")
 
 
 def infos():
@@ -104,37 +356,143 @@ def infos():
         (MARK + b"Payload-Oxum: 3.2\n", VALID),
         (b"Payload-Oxum: 4.2", wrong),
         (b"payload-oxum: 3.1", wrong),
-        (b"Payload-Oxum: 3", form),
+        (b"PAYLOAD-OXUM: 3.1", wrong),
+        (b"Payload-Oxum:", form),
         (b"Payload-Oxum: 3.2\nPayload-Oxum: 3.2", repeated),
         (b"Payload-Oxums: 9.9\nNote: Payload-Oxum: 8.8\n", VALID),
+        (b"Payload-Oxum-2: 9.9\nPayload_Oxum: 9.9\nOxum: 9.9\n", VALID),
     ]:
         yield f"bag-info.txt: {octets}", tags({b"bag-info.txt": octets}), answer
 
 
+def oxums():
+    form, wrong = [not_complete(f"bag-info.txt: Payload-Oxum {word}") for word in ("form", "wrong")]
+    for text, answer in [
+        (b"18446744073709551615.0", wrong),
+        (b"18446744073709551616.0", form),
+        (b"0.18446744073709551616", form),
+        (b"279164409832.1198", wrong),
+        (b"003.02", VALID),
+        (b"007.02", wrong),
+        (b" 3.2\t", VALID),
+        (b"\t 3.2 \t", VALID),
+        (b"3.", form),
+        (b".2", form),
+        (b"+3.2", form),
+        (b"\xd9\xa3.2", form),
+        (b"3.2.1", form),
+        (b"3 .2", form),
+        (b"3. 2", form),
+        (b"3.2 1", form),
+        (b"3", form),
+        (b"", form),
+        (b" ", form),
+    ]:
+        yield f"Payload-Oxum: {text}", tags({b"bag-info.txt": b"Payload-Oxum: " + text}), answer
+
+
+def info_lines():
+    """The first faulty line and its first cause; infos_0_97 has more."""
+    for octets, line, cause in [
+        (b" x", 1, "nothing to continue"),
+        (b"\n\tx: y\n", 2, "nothing to continue"),
+        (b"a b", 1, "separator"),
+        (b"\n \t\nA:\tb: c \r\n\r d\re", 6, "separator"),
+        (b"A: b\n" + MARK + b"C: d\n", 2, "label"),
+        (MARK + MARK + b"C: d\n", 1, "label"),
+        (b"A: b\n\xff\n c d", 2, "not UTF-8"),
+        (b" \xff", 1, "not UTF-8"),
+    ]:
+        yield f"bag-info.txt: {octets}", tags({b"bag-info.txt": octets}), not_complete(f"bag-info.txt:{line}: {cause}")
+
+
 def tag_manifests():
     listed = MANIFEST_SHA256 + b"  manifest-sha256.txt\n"
+    place = not_complete("tagmanifest-sha256.txt:2: wrong place")
     for octets, answer in [
         (b"", not_complete("tagmanifest-sha256.txt: not listed: manifest-sha256.txt")),
         (E_SHA256 + b"  data/a.txt\n", not_complete("tagmanifest-sha256.txt:1: wrong place")),
         (E_SHA256 + b"  manifest-sha256.txt\n", complete("tagmanifest-sha256.txt: digest: manifest-sha256.txt")),
         (listed + DECLARATION_SHA256 + b"  bagit.txt\n", VALID),
-        (listed + DECLARATION_SHA256 + b"  note.txt\n", not_complete("tagmanifest-sha256.txt: missing: note.txt")),
+        *[(listed + E_SHA256 + b"  " + name, place) for name in (
+            b"tagmanifest-md5.txt", b"tagmanifest-sha224.txt", b"tagmanifest-_.txt")],
+        *[(listed + E_SHA256 + b"  " + name, not_complete(f"tagmanifest-sha256.txt: missing: {name.decode()}")) for name in (
+            b"note.txt", b"tagmanifest-.txt", b"tagmanifest-sha-1.txt", b"manifest-md5.txt", b"x/tagmanifest-md5.txt",
+            b"tagmanifest-md5.txt/x")],
     ]:
         yield f"tagmanifest-sha256.txt: {octets}", tags({b"tagmanifest-sha256.txt": octets}), answer
+    odd = {b"*a": b"./*a", b" b": b"./ b", b"\tc": b"./\tc", b"**": b"./**", b"d\n%": b"d%0A%25", b".e/*": b".e/*", b"x ": b"x "}
+    lines = b"".join(E_SHA256 + b"  " + spelling + b"\n" for spelling in odd.values())
+    files = {**dict.fromkeys(odd, b""), b"tagmanifest-sha256.txt": listed + lines}
+    yield "tag files with odd names, as they are written", tags(files), VALID
+    listed = MANIFEST_MD5 + b" manifest-sha256.txt\n"
+    form = not_complete("tagmanifest-md5.txt:2: digest form")
+    for checksum, answer in [
+        (DECLARATION_MD5, VALID),
+        (DECLARATION_MD5.upper(), VALID),
+        (DECLARATION_MD5[:31], form),
+        (DECLARATION_MD5[:31] + b"g", form),
+        (DECLARATION_MD5 + b"00000000", form),
+    ]:
+        yield f"the digits {checksum} of MD5", tags({b"tagmanifest-md5.txt": listed + checksum + b" bagit.txt\n"}), answer
 
 
 def fetches():
     a, z, y = b"http://example.org/a ", b"http://example.org/z - data/z\n", b"http://example.org/y - data/y\n"
+    length_1 = not_complete("fetch.txt:1: length: data/a.txt")
     for octets, answer in [
         (z, not_complete("fetch.txt: not in manifest-sha256.txt: data/z")),
-        (a + b"4 data/a.txt\n", not_complete("fetch.txt:1: length: data/a.txt")),
+        (a + b"4 data/a.txt\n", length_1),
         (b"\n" + a + b"3 data/a.txt\n" + a + b"2 data/a.txt\n", not_complete("fetch.txt:3: length: data/a.txt")),
         (a + b"3 data/a.txt\nhttp://example.org/e - data/e.txt\n", VALID),
+        (a + b"0 data/e.txt", VALID),
+        (a + b"000 data/e.txt", VALID),
+        (a + b"003 data/a.txt", VALID),
+        (a + b"7 data/a.txt", length_1),
+        (a + b"18446744073709551615 data/a.txt", length_1),
+        (a + b"0018446744073709551615 data/a.txt", length_1),
     ]:
         yield f"fetch.txt: {octets}", tags({b"fetch.txt": octets}), answer
     names = ["manifest-md5.txt: data/y", "manifest-md5.txt: data/z", "manifest-sha256.txt: data/y", "manifest-sha256.txt: data/z"]
     files = {b"manifest-md5.txt": BOTH_BY_MD5, b"fetch.txt": z + y + y}
     yield "faults of fetch.txt", tags(files), not_complete(*[f"fetch.txt: not in {name}" for name in names])
+
+
+def fetch_lines():
+    """A faulty line and its first cause."""
+    for octets, cause in [
+        (b"1http:x - data/a", "url"),
+        (b"http: - data/a", "url"),
+        (b" http:x - data/a", "url"),
+        (b"http:x\x01 - data/a", "url"),
+        (b"http:x\x7f - data/a", "url"),
+        (b":x - data/a", "url"),
+        (b"h_p:x - data/a", "url"),
+        (b"\xc3\xa9:x - data/a", "url"),
+        (b"example.org/a - data/a", "url"),
+        (b"http:x -1 data/a", "length"),
+        (b"http:x -- data/a", "length"),
+        (b"http:x +7 data/a", "length"),
+        (b"http:x \xd9\xa7 data/a", "length"),
+        (b"http:x 18446744073709551616 data/a", "length"),
+        (b"http:x 99999999999999999999 data/a", "length"),
+        (b"http:x x" + b"0" * 4998 + b"9 data/a", "length"),
+        (b"http:x", "separator"),
+        (b"http:x ", "separator"),
+        (b"http:x 5", "separator"),
+        (b"http:x 5 ", "path"),
+        (b"http:x 5 a", "wrong place"),
+        (b"http:x 5 data2/a", "wrong place"),
+        (b"http:x 5 *data/a", "wrong place"),
+        (b"http:x 5 ./data/a", "path"),
+        (b"http:x 5 data", "path"),
+        (b"http:x 5 data/%41", "path"),
+        (b"\xff", "not UTF-8"),
+        (b"http:x 5 data/\xff", "not UTF-8"),
+    ]:
+        yield f"fetch.txt: {octets[:60]}", tags({b"fetch.txt": octets}), not_complete(f"fetch.txt:1: {cause}")
+    octets = b"http:x 5 data/a\n\nhttp:x 5 a\nhttp:x"
+    yield f"fetch.txt: {octets}", tags({b"fetch.txt": octets}), not_complete("fetch.txt:3: wrong place")
 
 
 def manifests_0_97():
@@ -174,6 +532,7 @@ def infos_0_97():
     form, repeated, wrong = [not_complete(f"bag-info.txt: Payload-Oxum {word}") for word in ("form", "repeated", "wrong")]
     causes = "separator", "label", "nothing to continue"
     separator, label, nothing = [not_complete(f"bag-info.txt:1: {cause}") for cause in causes]
+    label_2 = not_complete("bag-info.txt:2: label")
     for octets, answer, before in [
         (b"L: v", VALID, VALID),
         (b"L : v", VALID, label),
@@ -192,6 +551,7 @@ def infos_0_97():
         (b" : v", nothing, nothing),
         (b"L", separator, separator),
         (b"L v", separator, separator),
+        (b"L:v\n: v\n", label_2, separator),
         (b"Payload-Oxum : 3.2", VALID, label),
         (b"payload-oxum:3.2 \t", VALID, separator),
         (b"Payload-Oxum\t:\t 4.2", wrong, label),
@@ -308,6 +668,7 @@ def limits():
 
 
 if __name__ == "__main__":
-    FAMILIES = (declarations, manifests, payloads, infos, tag_manifests, fetches, several_tag_files, limits,
-                manifests_0_97, infos_0_97, paths_0_97, repeats_0_97, tag_manifests_0_97, fetches_0_97)
+    FAMILIES = (declarations, versions, encodings, names, told_names, other_names, manifests, digests, payloads, infos, oxums,
+                info_lines, tag_manifests, fetches, fetch_lines, several_tag_files, limits, manifests_0_97, infos_0_97,
+                paths_0_97, repeats_0_97, tag_manifests_0_97, fetches_0_97)
     sys.exit(judged(sys.argv[1], "small", FAMILIES))

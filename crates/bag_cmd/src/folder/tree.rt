@@ -11,7 +11,7 @@ use super::name::opened;
 use super::walk::{Below, walk};
 use bag_digest::{Failed, Failures, Source};
 use bag_path::{BagPath, LONGEST_PATH};
-use bag_rules::Tree;
+use bag_rules::{Paths, Tree};
 use std::alloc::Global;
 use std::io::Read;
 use std::marker::Model;
@@ -150,13 +150,8 @@ impl<R: Files> Source for FolderTree<R> {
     ghost keeps_on = { same_on };
 }
 
-impl<R: Files> Tree for FolderTree<R> {
-    ghost use Rattle.bag_rules.specs.Trees.{UsesTree};
-    ghost use Rattle.bag_cmd.specs.Folders.{FolderShown, StartsFile, keeps_tree};
-
+impl<R: Files> Paths for FolderTree<R> {
     ghost shown = { λ tree. tree.shown };
-
-    ghost sure = { λ _. ⊥ };
 
     fn count(&self) -> usize {
         self.paths.len()
@@ -169,6 +164,13 @@ impl<R: Files> Tree for FolderTree<R> {
     fn has_payload_dir(&self) -> bool {
         self.has_dir
     }
+}
+
+impl<R: Files> Tree for FolderTree<R> {
+    ghost use Rattle.bag_rules.specs.Trees.{UsesTree};
+    ghost use Rattle.bag_cmd.specs.Folders.{FolderShown, StartsFile, keeps_tree};
+
+    ghost sure = { λ _. ⊥ };
 
     /// Closes the file that was open, and opens this one.
     ///

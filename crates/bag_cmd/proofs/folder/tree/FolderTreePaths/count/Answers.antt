@@ -2,7 +2,7 @@ use Rattle.std.proofs.Common.{ap, sym, subst}
 use Rattle.bag_rules.specs.Trees.{AreRising}
 use Rattle.bag_cmd.specs.Folders.{FolderShown}
 use Rattle.bag_cmd.proofs.Listings.{paths_seen}
-use Rattle.bag_cmd.proofs.folder.tree.FolderTreeTree.count.Goals as goal
+use Rattle.bag_cmd.proofs.folder.tree.FolderTreePaths.count.Goals as goal
 
 pub returns-clause-rising : goal.returns-clause-rising
 returns-clause-rising g c =

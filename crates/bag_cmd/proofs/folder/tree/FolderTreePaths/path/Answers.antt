@@ -3,7 +3,7 @@ use Rattle.std.specs.List.{slice_get}
 use Rattle.std.proofs.lemmas.Option.{slice_get_read}
 use Rattle.bag_cmd.specs.Folders.{FolderShown}
 use Rattle.bag_cmd.proofs.Listings.{paths_seen}
-use Rattle.bag_cmd.proofs.folder.tree.FolderTreeTree.path.Goals as goal
+use Rattle.bag_cmd.proofs.folder.tree.FolderTreePaths.path.Goals as goal
 
 pub returns : goal.returns
 returns g c =

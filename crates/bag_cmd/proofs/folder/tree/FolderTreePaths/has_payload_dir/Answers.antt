@@ -3,7 +3,7 @@ use Rattle.std.proofs.lemmas.List.Elements.{All-contains}
 use Rattle.bag_path.specs.Paths.{is_payload}
 use Rattle.bag_cmd.specs.Folders.{FolderShown}
 use Rattle.bag_cmd.proofs.Listings.{paths_seen}
-use Rattle.bag_cmd.proofs.folder.tree.FolderTreeTree.has_payload_dir.Goals as goal
+use Rattle.bag_cmd.proofs.folder.tree.FolderTreePaths.has_payload_dir.Goals as goal
 
 pub returns-clause-payload : goal.returns-clause-payload
 returns-clause-payload g c = λ path here.
