@@ -2,3 +2,4 @@ pub mod EntryLemmas
 pub mod LedgerLemmas
 pub mod SoundLemmas
 pub mod StoredLemmas
+pub mod TestingLemmas

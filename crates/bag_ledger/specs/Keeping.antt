@@ -103,6 +103,11 @@ abbrev pub IsKeep : PutFault → Type 0
 IsKeep (Keep fault) = Unit {0}
 IsKeep fault = ⊥
 
+-- what was given would be put, or it is refused
+abbrev pub Tests : Given → Want → Result Unit PutFault → Type 0
+Tests given want result = MatchResult result
+    (λ done. (content : List ℕ) × IsGiven given want content) (RefusesGiven given want)
+
 module _ {K : Type 0} (holds may_leave : K → Ledger → Type 0) (clean : K → Type 0) (old new : K)
     (given : Given) (name : List ℕ) (want : Want) where
   -- this content was put

@@ -4,6 +4,7 @@
 pub use fault::{KeepFault, PutFault, StoreFault};
 pub use keeper::Keeper;
 pub use map_keeper::MapKeeper;
+pub use testing::{test_content, test_reader};
 
 #[cfg(test)]
 mod failing;
@@ -12,5 +13,6 @@ mod keeper;
 pub mod laws;
 mod map_keeper;
 mod stored;
+mod testing;
 #[cfg(test)]
 mod tests;

@@ -1,16 +1,16 @@
 //! A keeper in memory.
-ghost use Rattle.std.specs.Prelude.{◌≡◌, [], MatchResult};
+ghost use Rattle.std.specs.Prelude.{◌≡◌, []};
 ghost use Rattle.bag_ledger.specs.Keeping.{IsPieceAt};
 ghost use Rattle.bag_ledger.specs.Stored.{HoldsItself};
-ghost use Rattle.bag_rules.specs.Wants.{IsFirstMisfitOf, IsWanted};
 
 use crate::fault::{KeepFault, PutFault};
 use crate::keeper::Keeper;
 use crate::stored::{Transfers, add_item, add_transfer, body_of, names_in, sizes_in};
-use bag_digest::{Multi, Source, piece_buffer, read_to_end_within};
+use crate::testing::{test_content, test_octets};
+use bag_digest::{Source, piece_buffer, read_to_end_within};
 use bag_path::BagPath;
 use bag_rules::limits::LARGEST_ITEM;
-use bag_rules::{ItemSize, TagSet, Want, WantFault};
+use bag_rules::{ItemSize, TagSet, Want};
 use std::alloc::Global;
 use std::collections::BTreeMap;
 use std::marker::Model;
@@ -96,10 +96,7 @@ impl Keeper for MapKeeper {
         want: &Want<'_>,
         content: &[u8],
     ) -> Result<(), PutFault> {
-        if content.len() as u64 > LARGEST_ITEM {
-            return Err(PutFault::TooLarge);
-        }
-        test(want, content)?;
+        test_content(want, content)?;
         let path = want.path().clone()?;
         let copy = Vec::from_slice(alloc, content)?;
         add_item(&mut self.transfers, name, path, copy)?;
@@ -115,7 +112,7 @@ impl Keeper for MapKeeper {
     ) -> Result<(), PutFault> {
         let mut buffer = piece_buffer(alloc)?;
         let body = read_to_end_within(alloc, buffer.as_mut_slice(), reader, LARGEST_ITEM)?;
-        test(want, body.as_slice())?;
+        test_octets(want, body.as_slice())?;
         let path = want.path().clone()?;
         add_item(&mut self.transfers, name, path, body)?;
         Ok(())
@@ -144,16 +141,6 @@ impl Keeper for MapKeeper {
     }
 
     ghost sound = { λ keeper ledger clean holds. holds.1 };
-}
-
-/// Whether these octets are those that are wanted.
-fn test(want: &Want<'_>, content: &[u8]) -> Result<(), WantFault>
-    ensures { MatchResult result (λ done. IsWanted want.now content.now)
-        (IsFirstMisfitOf want.now content.now) }
-{
-    let mut multi = Multi::new(want.algs());
-    multi.update(content);
-    want.test(content.len() as u64, &multi.finish())
 }
 
 /// Copies the octets from `offset` on to the front of the buffer, as far as both go, and says how far.

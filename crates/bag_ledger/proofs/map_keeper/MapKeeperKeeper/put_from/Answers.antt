@@ -8,7 +8,7 @@ pub returns-clause-put : goal.returns-clause-put
 returns-clause-put g c =
     let content = c.in_ok-body.body.items in
     let gave = c.in_ok-body.ensures.octets in
-    let wanted : IsWanted c.args.want.now content = subst (IsWanted c.args.want.now) c.as_slice.ensures.value c.in_ok-test.ensures in
+    let wanted : IsWanted c.args.want.now content = subst (IsWanted c.args.want.now) c.as_slice.ensures.value c.in_ok-test_octets.ensures in
     let path : c.in_ok-path.path ≡ c.args.want.now.path.now = search rules in (
       content,
       record {

@@ -1,0 +1,61 @@
+//! Tests of what is given to be put, whether or not it is put then.
+ghost use Rattle.std.specs.Prelude.{IsErrOf, MatchResult};
+ghost use Rattle.bag_digest.specs.Device.{UsesSource};
+ghost use Rattle.bag_ledger.specs.Keeping.{Tests, given_by, known};
+ghost use Rattle.bag_ledger.specs.declared.fault.KeepFault.{KeepFault};
+ghost use Rattle.bag_ledger.specs.declared.fault.KeepFault.TheVariants.{Store};
+ghost use Rattle.bag_ledger.specs.declared.fault.PutFault.TheVariants.{Keep, Reader};
+ghost use Rattle.bag_ledger.specs.declared.fault.StoreFault.{StoreFault};
+ghost use Rattle.bag_rules.specs.Wants.{IsFirstMisfitOf, IsWanted};
+
+use crate::fault::PutFault;
+use bag_digest::{Multi, Source, digest_reader};
+use bag_rules::limits::LARGEST_ITEM;
+use bag_rules::{Want, WantFault};
+use std::alloc::Global;
+
+/// Tells whether this content would be put.
+///
+/// # Errors
+///
+/// As [`Keeper::put`](crate::Keeper::put), but for the keeper's own.
+pub fn test_content(want: &Want<'_>, content: &[u8]) -> Result<(), PutFault>
+    ensures test { Tests (known content.now) want.now result }
+    ensures own { (fault : KeepFault) → ¬ IsErrOf result (Keep fault) }
+{
+    if content.len() as u64 > LARGEST_ITEM {
+        return Err(PutFault::TooLarge);
+    }
+    test_octets(want, content)?;
+    Ok(())
+}
+
+/// Tells whether what the reader gives would be put. It is read piece by piece, to its end or to the first octet past the limit.
+///
+/// # Errors
+///
+/// As [`Keeper::put_from`](crate::Keeper::put_from); the keeper's own only for want of memory.
+pub fn test_reader<S: Source>(
+    alloc: Global,
+    want: &Want<'_>,
+    reader: &mut S,
+) -> Result<(), PutFault>
+    ensures test { Tests (given_by (S.remaining reader.old) (S.remaining reader.new)) want.now result }
+    ensures reader { UsesSource S.failures S.ready S.keeps reader.old reader.new
+        (IsErrOf result Reader) }
+    ensures own { (fault : StoreFault) → ¬ IsErrOf result (Keep (Store fault)) }
+{
+    let (octets, digests) = digest_reader(alloc, reader, want.algs(), LARGEST_ITEM)?;
+    want.test(octets, &digests)?;
+    Ok(())
+}
+
+/// Tells whether these octets are those that are wanted.
+pub(crate) fn test_octets(want: &Want<'_>, octets: &[u8]) -> Result<(), WantFault>
+    ensures { MatchResult result (λ done. IsWanted want.now octets.now)
+        (IsFirstMisfitOf want.now octets.now) }
+{
+    let mut multi = Multi::new(want.algs());
+    multi.update(octets);
+    want.test(octets.len() as u64, &multi.finish())
+}
