@@ -6,4 +6,15 @@ pub mod StepLemmas
 pub mod DueLemmas
 pub mod SomeDue
 pub mod NameLemmas
+pub mod ReceivingLemmas
+pub mod ReceiverLemmas
+pub mod PlaceLemmas
 pub mod TwoDelivered
+pub mod BeginFiles
+pub mod BeginPlaces
+pub mod BeginRefusals
+pub mod BeginSteps
+pub mod CountLemmas
+pub mod RunLemmas
+pub mod CourierLemmas
+pub mod ReportLemmas

@@ -6,7 +6,7 @@ use Rattle.bag_receiver.specs.Names.{IsNamed, IsTransferName, is_of_names}
 use Rattle.bag_receiver.specs.declared.name.TheConstants.{LONGEST_NAME}
 use Rattle.bag_receiver.proofs.Words.{Decided, decided_at_most, decided_true}
 
-name_or_not : (text : List ℕ) → Decided (IsTransferName text)
+pub name_or_not : (text : List ℕ) → Decided (IsTransferName text)
 name_or_not text = elim (decided_at_most 1 (length text)) [
   | inr none ↦ inr (λ h. none (omega (arith, h.some)))
   | inl some ↦ elim (decided_at_most (length text) LONGEST_NAME) [

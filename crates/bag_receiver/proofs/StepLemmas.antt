@@ -22,7 +22,7 @@ data Changes (tags : Files) (old : Standing) (new : Files) : Type 0 where
   Stays : new ≡ old.held → Changes tags old new
   Grows : (path content : List ℕ) → Gains tags old.held path content new → Changes tags old new
 
-doubt_stays : (standing : Standing) (path : List ℕ) (content : Content) → (with_doubt standing path content).held ≡ standing.held
+pub doubt_stays : (standing : Standing) (path : List ℕ) (content : Content) → (with_doubt standing path content).held ≡ standing.held
 doubt_stays standing path (Whole content) = refl
 doubt_stays standing path TooLong = refl
 doubt_stays standing path Unread = refl

@@ -26,6 +26,9 @@ pub record Delivery : Type 0 where
   pub content : Content
   pub answer : Answer
 
+abbrev pub delivery_of : List ℕ → Content → Answer → Delivery
+delivery_of text content answer = record { text = text; content = content; answer = answer }
+
 -- WHAT WAS OFFERED AND WHAT WAS ACCEPTED
 
 -- the delivery brought this content for the path

@@ -1,4 +1,13 @@
 pub mod Deliveries
 pub mod ExampleDeliveries
 pub mod Names
+pub mod PutAnswers
 pub mod Stops
+pub mod Receiving
+pub mod Receivers
+pub mod ReceiversInside
+pub mod Beginning
+pub mod BeginningInside
+pub mod Runs
+pub mod Couriers
+pub mod Reports

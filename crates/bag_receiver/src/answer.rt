@@ -1,6 +1,6 @@
 //! What a delivery is answered.
 use bag_digest::Alg;
-use bag_ledger::KeepFault;
+use bag_ledger::{KeepFault, PutFault};
 use bag_path::PathFault;
 use thiserror::Error;
 
@@ -15,14 +15,14 @@ pub enum Answer {
     Refused(DeliverFault),
 }
 
-/// Why a delivery is refused. Of those that hold the first in this order is answered, but of `Reader` and `TooLarge` the one that
-/// comes first in the stream; `Keeper` may come in place of any answer that needs what is kept.
+/// Why a delivery is refused. Of those that hold the first in this order is answered, but of `Reader` and `TooLarge`
+/// the one that comes first in the stream; `Keeper` may come in place of any answer that needs what is kept or memory.
 #[derive(Clone, Copy, Debug, PartialEq, Eq, Error)]
 pub enum DeliverFault {
-    /// No transfer has this name.
+    /// No transfer has this name, or the text is no name.
     #[error("no transfer")]
     NoTransfer,
-    /// The text is no path.
+    /// The text is no path, for this reason.
     #[error("path")]
     BadPath(PathFault),
     /// No payload manifest of the transfer lists the path (RFC 8493 section 2.1.3).
@@ -40,7 +40,35 @@ pub enum DeliverFault {
     /// A payload manifest lists another digest for the file: the first such algorithm.
     #[error("digest")]
     Digest(Alg),
-    /// What keeps the transfers has no answer.
+    /// What keeps the transfers has no answer, or memory ran out.
     #[error("keeper")]
     Keeper(KeepFault),
+}
+
+impl From<KeepFault> for DeliverFault {
+    ghost use Rattle.std.specs.Prelude.{◌≡◌};
+    ghost use Rattle.bag_receiver.specs.declared.answer.DeliverFault.TheVariants.{Keeper};
+
+    ghost from_gives = { λ keep fault. fault ≡ Keeper keep };
+
+    fn from(fault: KeepFault) -> DeliverFault {
+        DeliverFault::Keeper(fault)
+    }
+}
+
+impl From<PutFault> for DeliverFault {
+    ghost use Rattle.std.specs.Prelude.{◌≡◌};
+    ghost use Rattle.bag_receiver.specs.PutAnswers.{deliver_fault};
+
+    ghost from_gives = { λ put fault. fault ≡ deliver_fault put };
+
+    fn from(fault: PutFault) -> DeliverFault {
+        match fault {
+            PutFault::Reader => DeliverFault::Reader,
+            PutFault::TooLarge => DeliverFault::TooLarge,
+            PutFault::Length => DeliverFault::Length,
+            PutFault::Digest(alg) => DeliverFault::Digest(alg),
+            PutFault::Keep(fault) => DeliverFault::Keeper(fault),
+        }
+    }
 }

@@ -1,4 +1,5 @@
-//! Laws on the definitions that the contracts of this crate cite. Each function's contract is one law, and its body is empty.
+//! Laws on the definitions that the contracts of this crate cite. Each function's contract is one law, and its body is
+//! empty.
 ghost use Rattle.std.specs.Prelude.{◌≡◌, ◌≢◌, ◌↔◌, ◌∷◌, ◌++◌, [], ℕ, List, Option, Some, Contains, map};
 ghost use Rattle.std.specs.Map.{keys_of};
 ghost use Rattle.std.specs.Str.{IsUtf8};
@@ -11,7 +12,8 @@ ghost use Rattle.bag_receiver.specs.declared.answer.Answer.{Answer};
 ghost use Rattle.bag_receiver.specs.declared.answer.Answer.TheVariants.{Taken};
 ghost use Rattle.bag_receiver.specs.Deliveries.{Accepts, AcceptsPassing, AreAccepted, Content, Delivery, HasOneContent, IsAcceptance, IsAccepted, IsDue, IsFirstHeld, OneContent, PassesIn, Unread, Whole};
 ghost use Rattle.bag_receiver.specs.Names.{IsNamed};
-ghost use Rattle.bag_receiver.specs.Stops.{AnswerStep, Answered, Event, OffersIn, Standing, Steps, StopRun, standing, with_file};
+ghost use Rattle.bag_receiver.specs.Receiving.{Happened, LeavesOthers, Receives, State, settled};
+ghost use Rattle.bag_receiver.specs.Stops.{AnswerStep, Answered, Event, OffersIn, Standing, Steps, Stop, StopRun, standing, with_file};
 
 /// One answer is due to a delivery at most.
 pub fn one_answer_is_due_at_most()
@@ -41,8 +43,8 @@ pub fn what_is_due_to_be_accepted_passes()
         → PassesIn transfer.tags text content }
 {}
 
-/// A content to which `Taken` is due is one file more of the transfer, and nothing is doubtful any more; any other answer that is due
-/// leaves what is held and what is doubtful.
+/// A content to which `Taken` is due is one file more of the transfer, and nothing is doubtful any more; any other
+/// answer that is due leaves what is held and what is doubtful.
 pub fn what_is_due_is_a_step()
     ensures taken { (transfer : Transfer) (text octets : List ℕ) (doubtful : Files)
         → IsDue (Some transfer) text (Whole octets) Taken
@@ -96,8 +98,8 @@ pub fn what_is_held_passes()
         → AreHeldFor tags new }
 {}
 
-/// Where no two contents that were offered for one path pass, what is held after deliveries to a transfer that held nothing is each
-/// distinct accepted delivery once.
+/// Where no two contents that were offered for one path pass, what is held after deliveries to a transfer that held
+/// nothing is each distinct accepted delivery once.
 pub fn what_is_held_is_what_was_accepted()
     ensures { (tags : Files) (deliveries : List Delivery) (held : Files)
         → OneContent tags deliveries → AcceptsPassing tags deliveries
@@ -162,4 +164,25 @@ pub fn without_a_stop_the_first_accepted_content_is_held()
     ensures { (tags : Files) (deliveries : List Delivery) (old new : Standing)
         → AreRising (keys_of old.held) → Steps tags (map Answered deliveries) old new
         → IsFirstHeld old.held deliveries new.held }
+{}
+
+/// What happened to a transfer goes on with the deliveries that come to it.
+pub fn what_happened_goes_on_with_deliveries()
+    ensures { (name : List ℕ) (deliveries : List Delivery) (old new : State) (tags : Files)
+        → (events : List Event) → Receives name deliveries old new → Happened old name tags events
+        → Happened new name tags (events ++ map Answered deliveries) }
+{}
+
+/// What happened to another transfer is all that happened to it.
+pub fn deliveries_are_no_event_of_another_transfer()
+    ensures { (name other : List ℕ) (old new : State) (tags : Files) (events : List Event)
+        → LeavesOthers name old new → other ≢ name → Happened old other tags events
+        → Happened new other tags events }
+{}
+
+/// After a stop, which left what was held or what was doubtful, it is one event more of each transfer.
+pub fn a_stop_is_an_event_of_each_transfer()
+    ensures { (now : State) (name : List ℕ) (tags : Files) (events : List Event) (crashed : Ledger)
+        → Happened now name tags events → Has (now.held ∷ now.doubtful) crashed
+        → Happened (settled crashed) name tags (events ++ Stop ∷ []) }
 {}

@@ -1,11 +1,25 @@
-//! The receiver of bags: payload files that come in any order, often or not at all, for transfers that were opened with their tag
-//! files.
+//! The receiver of bags: payload files that come in any order, often or not at all, for transfers that were opened with
+//! their tag files.
 #![tactic(auto)]
 
 pub use answer::{Answer, DeliverFault};
+pub use begin::{BeginFault, Begun};
+pub use courier::Courier;
 pub use name::{LONGEST_NAME, is_name};
+pub use receiver::Receiver;
+pub use report::ViewFault;
+pub use run::{End, MOST_DELIVERIES, Run};
 
 mod answer;
+mod begin;
+mod courier;
+mod deliver;
 pub mod examples;
 pub mod laws;
 mod name;
+mod receiver;
+mod report;
+mod run;
+mod run_from;
+#[cfg(test)]
+mod tests;

@@ -1,0 +1,90 @@
+-- What is reported of a transfer, by what happened to it.
+use Rattle.std.proofs.Common.{◌≡◌, ℕ, List, [], ◌∷◌, Option, Some, None, map, refl, sym, ap, subst, ◌∙◌, inl, inr}
+use Rattle.std.specs.List.Sorted.{IsStrictlySortedBy}
+use Rattle.std.specs.Map.{lookup}
+use Rattle.std.specs.Option.{option_map, unwrap_or}
+use Rattle.std.specs.Str.{bytes_eq}
+use Rattle.bag_rules.specs.declared.outcome.Outcome.TheVariants.{Judged}
+use Rattle.bag_rules.specs.declared.plan.ItemSize.{ItemSize}
+use Rattle.bag_rules.specs.declared.plan.Plan.{Plan}
+use Rattle.bag_rules.specs.declared.report.Report.{Report}
+use Rattle.bag_rules.specs.Plans.{IsPlanOf, sizes_of}
+use Rattle.bag_rules.specs.Transfers.{held_bag}
+use Rattle.bag_rules.specs.Validity.{Means}
+use Rattle.bag_rules.proofs.HeldFaults.{may_be_mended}
+use Rattle.bag_rules.specs.Verdicts.{IsVerdict}
+use Rattle.bag_ledger.specs.Ledgers.{IsSound, Ledger, items_of, transfer_of}
+use Rattle.bag_receiver.specs.Names.{IsNamed, IsTransferName}
+use Rattle.bag_receiver.specs.Receiving.{ArePlansIn, Happened, State}
+use Rattle.bag_receiver.specs.Reports.{IsReportOf, Reports}
+use Rattle.bag_receiver.proofs.HeldLemmas.{held_accepted}
+use Rattle.bag_receiver.proofs.PlaceLemmas.{of_plan}
+use Rattle.bag_receiver.proofs.ReceivingLemmas.{named_there}
+use Rattle.bag_receiver.proofs.StepLemmas.{answered_held}
+use Rattle.bag_receiver.proofs.Words.{Accepts, AcceptsPassing, Answer, Answered, AnswerStep, AreAccepted, AreHeldFor, Delivery, Event, Files, Has, IsAcceptance, IsAccepted, nothing_held, OneContent, Passes, PassesIn, Refused, Repeated, Standing, Steps, StopRun, Taken, Transfer, Whole}
+
+-- THE REPORT OF A PLAN
+
+abbrev pub Tells : Plan → List ItemSize → Report → (Files → Files → Type 0) → Type 0
+Tells plan sizes report says = (tags items : Files) → IsPlanOf tags plan → AreHeldFor tags items → sizes ≡ sizes_of items → says tags items
+
+pub told : (ledger : Ledger) (name : List ℕ) (plans : List (List ℕ × Plan)) (plan : Plan) (sizes : List ItemSize) (report : Report) → ArePlansIn ledger plans → IsSound ledger → IsTransferName name
+    → lookup (bytes_eq name) plans ≡ Some plan → sizes ≡ sizes_of (items_of ledger name)
+    → Tells plan sizes report (λ tags items. IsVerdict (held_bag tags items) (Judged report)) → Tells plan sizes report (λ tags items. Means (held_bag tags items) (Judged report))
+    → Reports ledger name report
+told ledger name plans plan sizes report are sound is at sized verdict means =
+    let (transfer, named, planned) = of_plan ledger name plans plan are is at in
+    let there = named_there ledger name transfer named in
+    let held = (sound.each name transfer there).held in
+    let of_it : sizes ≡ sizes_of transfer.items = sized ∙ ap (λ (t : Option Transfer). sizes_of (unwrap_or (option_map (λ (transfer : Transfer). transfer.items) t) [])) there in
+    let judged = verdict transfer.tags transfer.items planned held of_it in (
+      transfer,
+      named,
+      record {
+        faults = judged;
+        means = means transfer.tags transfer.items planned held of_it;
+        mended = λ fault has. may_be_mended transfer.tags transfer.items planned.tag_files held planned.opens fault ((judged.exact fault).0 has).0;
+      },
+    )
+
+-- WHAT HAPPENED
+
+abbrev shown : Files → Files → Transfer
+shown tags items = record { tags = tags; items = items }
+
+report_shown : (now : State) (name : List ℕ) (tags items : Files) (report : Report) → Reports now.held name report → transfer_of now.held name ≡ Some (shown tags items) → IsReportOf tags items report
+report_shown now name tags items report (transfer, named, is) there =
+    let found : Some transfer ≡ Some (shown tags items) = sym (named_there now.held name transfer named) ∙ there in
+    let same : transfer ≡ shown tags items = cc in
+    subst (λ (t : Transfer). IsReportOf t.tags t.items report) same is
+
+pub stopped : (now : State) (name : List ℕ) (tags : Files) (events : List Event) (report : Report) → Reports now.held name report → Happened now name tags events
+    → (held : Files) × StopRun tags events held × IsReportOf tags held report
+stopped now name tags events report reports (standing, steps, shows) = (standing.held, (standing.doubtful, steps), report_shown now name tags standing.held report reports shows.there)
+
+-- what was accepted passes
+passes_by : (tags : Files) (path octets : List ℕ) (answer : Answer) (old new : Standing) → AnswerStep tags path (Whole octets) answer old new → IsAcceptance answer → Passes tags path octets
+passes_by tags path octets Taken old new (content, same, gains, settled) taken =
+    let is : Whole octets ≡ Whole content = same in
+    let equal : octets ≡ content = cc in
+    subst (Passes tags path) (sym equal) gains.passes
+passes_by tags path octets Repeated old new h taken = h.0
+passes_by tags path octets (Refused fault) old new h taken = absurd taken
+
+accepted_passes : (tags : Files) (deliveries : List Delivery) (old new : Standing) → Steps tags (map Answered deliveries) old new → AcceptsPassing tags deliveries
+accepted_passes tags [] old new steps path content (delivery, has, accepted) = absurd has
+accepted_passes tags (one ∷ deliveries) old new (middle, step, rest) path content (delivery, inl e, accepted) =
+    let is : IsAccepted one path content = subst (λ (d : Delivery). IsAccepted d path content) (sym e) accepted in
+    subst (λ p. Passes tags p content) is.brings.0
+    (passes_by tags one.text content one.answer old middle (subst (λ c. AnswerStep tags one.text c one.answer old middle) is.brings.1 step) is.acceptance)
+accepted_passes tags (one ∷ deliveries) old new (middle, step, rest) path content (delivery, inr has, accepted) =
+    accepted_passes tags deliveries middle new rest path content (delivery, has, accepted)
+
+pub headline : (now : State) (name : List ℕ) (tags : Files) (deliveries : List Delivery) (report : Report) → Reports now.held name report → Happened now name tags (map Answered deliveries)
+    → OneContent tags deliveries → (held : Files) × AreAccepted deliveries held × IsReportOf tags held report
+unfolding IsStrictlySortedBy
+headline now name tags deliveries report reports (standing, steps, shows) one = (
+  standing.held,
+  held_accepted tags deliveries standing.held one (accepted_passes tags deliveries nothing_held standing steps) (answered_held tags deliveries nothing_held standing tt steps),
+  report_shown now name tags standing.held report reports shows.there,
+)

@@ -1,0 +1,131 @@
+-- How a transfer is begun.
+use Rattle.std.specs.Prelude.{◌≡◌, ◌≢◌, ◌⊎◌, ◌<◌, [], ℕ, List, Some, Result, Ok, Err, Contains, Vec, length, map, slice_get, string_bytes, take}
+use Rattle.std.specs.Map.{keys_of}
+use Rattle.std.specs.declared.alloc.Global.{Global}
+use Rattle.std.specs.declared.string.String.{String}
+use Rattle.bag_rules.specs.declared.limits.TheConstants.{LARGEST_TAG_FILE}
+use Rattle.bag_rules.specs.declared.plan.PlanFault.{PlanFault}
+use Rattle.bag_rules.specs.declared.plan.PlanFault.TheVariants as plan
+use Rattle.bag_rules.specs.Faults.{Has}
+use Rattle.bag_rules.specs.Files.{Files}
+use Rattle.bag_rules.specs.Opening.{HasManyLinesAt, IsFirstPath, Opens, Refuses}
+use Rattle.bag_rules.specs.TagSets.{IsTagPath}
+use Rattle.bag_rules.specs.Transfers.{with_files}
+use Rattle.bag_ledger.specs.declared.fault.KeepFault.{KeepFault}
+use Rattle.bag_ledger.specs.declared.fault.KeepFault.TheVariants.{Memory, Store}
+use Rattle.bag_ledger.specs.Keeping.{IsUnused}
+use Rattle.bag_ledger.specs.Ledgers.{Ledger, begun, tags_of, transfer_of, with_transfer}
+use Rattle.bag_receiver.specs.declared.begin.Begun.{Begun}
+use Rattle.bag_receiver.specs.declared.begin.Begun.TheVariants.{New, Again}
+use Rattle.bag_receiver.specs.declared.begin.BeginFault.{BeginFault}
+use Rattle.bag_receiver.specs.declared.begin.BeginFault.TheVariants.{BadName, TagPath, TagTooLarge, Outside, Rules, Clash, Differs, Keeper}
+use Rattle.bag_receiver.specs.Names.{IsTransferName}
+use Rattle.bag_receiver.specs.Receiving.{Happened, LeavesOthers, Shows, State, with_doubtful}
+use Rattle.bag_receiver.specs.Stops.{Standing}
+
+-- THE FILES THAT ARE HANDED IN, in any order: each path, as text, with its octets
+
+abbrev pub given_in : List (String Global × Vec ℕ Global) → Files
+given_in files = map (λ (file : String Global × Vec ℕ Global).
+    (string_bytes file.0, file.1.items)) files
+
+-- the text of the i-th is not the path of a tag file, or it is that of a file before it
+pub record IsMisplaced (given : Files) (i : ℕ) : Type 0 where
+  pub file : List ℕ × List ℕ
+  pub at : slice_get given i ≡ Some file
+  pub misplaced : (¬ IsTagPath file.0) ⊎ Contains (keys_of (take i given)) file.0
+
+abbrev pub NoneMisplaced : Files → Type 0
+NoneMisplaced given = (i : ℕ) → ¬ IsMisplaced given i
+
+-- some file with this path has too many octets
+abbrev pub IsHeavyAt : Files → List ℕ → Type 0
+IsHeavyAt given path = (octets : List ℕ) × Has given (path, octets)
+    × (LARGEST_TAG_FILE < length octets)
+
+-- the file has too many octets, or it is a manifest or `fetch.txt` and has too many lines
+abbrev pub IsLargeAt : Files → List ℕ → Type 0
+IsLargeAt given path = IsHeavyAt given path ⊎ HasManyLinesAt (with_files [] given) path
+
+abbrev pub NoneLarge : Files → Type 0
+NoneLarge given = (path : List ℕ) → ¬ IsLargeAt given path
+
+-- a transfer can be opened with these files, and these are its tag files
+pub record AreTaken (given tags : Files) : Type 0 where
+  pub placed : NoneMisplaced given
+  pub within : NoneLarge given
+  pub tags_are : tags ≡ with_files [] given
+  pub opens : Opens tags
+
+-- none can: the tag files that these are don't open, for this first reason
+pub record AreRefused (given : Files) (fault : PlanFault) : Type 0 where
+  pub placed : NoneMisplaced given
+  pub within : NoneLarge given
+  pub refused : Refuses (with_files [] given) fault
+
+-- the first reason why none can, in this order
+abbrev pub RefusesFiles : Files → BeginFault → Type 0
+RefusesFiles given (TagPath i) = IsMisplaced given i × ((j : ℕ) → j < i → ¬ IsMisplaced given j)
+RefusesFiles given (TagTooLarge path) = NoneMisplaced given × IsFirstPath (IsLargeAt given) path
+RefusesFiles given (Outside cause) = AreRefused given (plan.Outside cause)
+RefusesFiles given (Rules fault) = AreRefused given (plan.Rules fault)
+RefusesFiles given (Clash path) = AreRefused given (plan.Clash path)
+RefusesFiles given fault = ⊥
+
+-- WHAT IS ANSWERED, AND WHAT IT MAKES OF WHAT IS HELD
+
+-- the transfer is there, with these tag files
+abbrev pub IsOpenWith : State → List ℕ → Files → Type 0
+IsOpenWith state name tags = tags_of state.held name ≡ Some tags
+
+-- a transfer may have this name and these files
+abbrev pub MayBegin : List ℕ → Files → Type 0
+MayBegin name given = IsTransferName name × ((tags : Files) × AreTaken given tags)
+
+-- memory may be wanted anywhere; the store is asked only for such a transfer
+abbrev pub MayFail : KeepFault → List ℕ → Files → Type 0
+MayFail Memory name given = Unit {0}
+MayFail (Store fault) name given = MayBegin name given
+
+-- The answer fits the name and the files, whatever the keeper holds.
+abbrev pub IsAnswerTo : Result Begun BeginFault → List ℕ → Files → Type 0
+IsAnswerTo (Err BadName) name given = ¬ IsTransferName name
+IsAnswerTo (Err (Keeper fault)) name given = MayFail fault name given
+IsAnswerTo (Err Differs) name given = MayBegin name given
+IsAnswerTo (Err fault) name given = IsTransferName name × RefusesFiles given fault
+IsAnswerTo (Ok begun) name given = MayBegin name given
+
+-- the ledger with the transfer that is to be opened
+abbrev pub Opened : List ℕ → Files → Ledger → Ledger → Type 0
+Opened name given old new = (tags : Files) × IsTransferName name × AreTaken given tags
+    × IsUnused name old × (new ≡ with_transfer old name tags)
+
+-- Of the refusals the first is answered: the name, the files, other tag files. Where the keeper has no answer nothing
+-- changes, or what it was about to open is doubtful.
+abbrev pub BeginStep : Result Begun BeginFault → List ℕ → Files → State → State → Type 0
+BeginStep (Ok New) name given old new = Opened name given old.held new.held × (new.doubtful ≡ [])
+BeginStep (Ok Again) name given old new = (tags : Files) × IsTransferName name
+    × AreTaken given tags × IsOpenWith old name tags × (new ≡ old)
+BeginStep (Err BadName) name given old new = (¬ IsTransferName name) × (new ≡ old)
+BeginStep (Err Differs) name given old new = (tags : Files) × IsTransferName name
+    × AreTaken given tags × ((other : Files) × IsOpenWith old name other × (other ≢ tags))
+    × (new ≡ old)
+BeginStep (Err (Keeper fault)) name given old new = MayFail fault name given
+    × ((new ≡ old) ⊎ ((ledger : Ledger) × Opened name given old.held ledger
+    × (new ≡ with_doubtful old ledger)))
+BeginStep (Err fault) name given old new = IsTransferName name × RefusesFiles given fault
+    × (new ≡ old)
+
+-- These files were handed in for this name, and nothing else happened.
+pub record Begins (name : List ℕ) (given : Files) (result : Result Begun BeginFault)
+    (old new : State) : Type 0 where
+  pub step : BeginStep result name given old new
+  -- a transfer that was opened holds nothing yet
+  pub opened : result ≡ Ok New → Happened new name (with_files [] given) []
+  -- so does one that a stop may show to be open, where the keeper had no answer
+  pub left : (crashed : Ledger) → Has new.doubtful crashed → Has old.doubtful crashed
+      ⊎ (transfer_of crashed name ≡ Some (begun (with_files [] given)))
+  -- a transfer that was there stands as it stood
+  pub kept : (tags : Files) (standing : Standing) → Shows old name tags standing
+      → Shows new name tags standing
+  pub others : LeavesOthers name old new

@@ -1,0 +1,307 @@
+//! How a transfer is begun.
+ghost use Rattle.std.specs.Prelude.{◌≡◌, ◌≢◌, ◌⊎◌, ◌↔◌, ◌<◌, List, ℕ, IfErr, IfOk, IsErrOf, IsTrue, MatchOption, MatchResult, OnOk, length, string_bytes};
+ghost use Rattle.bag_digest.specs.Device.{CountsIf};
+ghost use Rattle.bag_rules.specs.declared.limits.TheConstants.{LARGEST_TAG_FILE};
+ghost use Rattle.bag_rules.specs.Files.{Files};
+ghost use Rattle.bag_rules.specs.Opening.{IsFirstPath, Refuses};
+ghost use Rattle.bag_rules.specs.Plans.{IsPlanOf};
+ghost use Rattle.bag_ledger.specs.declared.fault.StoreFault.{StoreFault};
+ghost use Rattle.bag_receiver.specs.Beginning.{AreTaken, BeginStep, Begins, IsAnswerTo, IsHeavyAt, NoneMisplaced, given_in};
+ghost use Rattle.bag_receiver.specs.BeginningInside.{IsPlaced, IsRefusal, emptied, light_tags};
+ghost use Rattle.bag_receiver.specs.Names.{IsTransferName};
+ghost use Rattle.bag_receiver.specs.Receivers.{Does};
+ghost use Rattle.bag_receiver.specs.Stops.{with_file};
+
+use crate::name::is_name;
+use crate::receiver::{Receiver, keep_plan};
+use bag_ledger::{KeepFault, Keeper};
+use bag_path::BagPath;
+use bag_rules::limits::LARGEST_TAG_FILE;
+use bag_rules::{Fault, OutsideCause, Plan, PlanFault, TagSet, TagSetFault};
+use std::alloc::{AllocError, Global};
+use thiserror::Error;
+
+/// What a begun transfer is.
+#[derive(Clone, Copy, Debug, PartialEq, Eq)]
+pub enum Begun {
+    /// The transfer is open from now on, and holds no payload file.
+    New,
+    /// It was opened before with these tag files. It stays as it is.
+    Again,
+}
+
+/// Why no transfer was opened. Of those that hold the first in this order is answered; `Keeper` may come in place of
+/// any that needs what is kept or memory.
+#[derive(Debug, Drop, Error)]
+pub enum BeginFault {
+    /// The text is no name of a transfer: 1 to 64 octets, each a small letter of ASCII, a digit or `-`.
+    #[error("name")]
+    BadName,
+    /// The path of the file with this number, counted from 0, is no path, a payload path, or that of a file before it:
+    /// the first such file.
+    #[error("tag path")]
+    TagPath(usize),
+    /// The file at this path has more than 16,777,216 octets, or it is a manifest or `fetch.txt` and has more than
+    /// 100,000 lines: the first such file by path.
+    #[error("tag too large")]
+    TagTooLarge(BagPath),
+    /// The bag can't be judged here, for this reason, which is not to say that it is invalid.
+    #[error("outside")]
+    Outside(OutsideCause),
+    /// The tag files have a fault that no payload file can mend: the first such fault in the order of a report.
+    #[error("a fault of the tag files")]
+    Rules(Fault),
+    /// The path of a tag file or of a listed payload file is that of a folder in which another one is: the first such
+    /// path.
+    #[error("clash")]
+    Clash(BagPath),
+    /// The transfer was opened with other tag files. It stays as it is.
+    #[error("differs")]
+    Differs,
+    /// What keeps the transfers has no answer, or memory ran out.
+    #[error("keeper")]
+    Keeper(KeepFault),
+}
+
+impl From<KeepFault> for BeginFault {
+    ghost use Rattle.std.specs.Prelude.{◌≡◌};
+    ghost use Rattle.bag_receiver.specs.declared.begin.BeginFault.TheVariants.{Keeper};
+
+    ghost from_gives = { λ keep fault. fault ≡ Keeper keep };
+
+    fn from(fault: KeepFault) -> BeginFault {
+        BeginFault::Keeper(fault)
+    }
+}
+
+impl From<AllocError> for BeginFault {
+    ghost use Rattle.std.specs.Prelude.{◌≡◌};
+    ghost use Rattle.bag_ledger.specs.declared.fault.KeepFault.TheVariants.{Memory};
+    ghost use Rattle.bag_receiver.specs.declared.begin.BeginFault.TheVariants.{Keeper};
+
+    ghost from_gives = { λ error fault. fault ≡ Keeper Memory };
+
+    fn from(_: AllocError) -> BeginFault {
+        BeginFault::Keeper(KeepFault::Memory)
+    }
+}
+
+impl From<PlanFault> for BeginFault {
+    ghost use Rattle.std.specs.Prelude.{◌≡◌};
+    ghost use Rattle.bag_receiver.specs.BeginningInside.{begin_fault};
+
+    ghost from_gives = { λ plan fault. fault ≡ begin_fault plan };
+
+    fn from(fault: PlanFault) -> BeginFault {
+        match fault {
+            PlanFault::TagTooLarge(path) => BeginFault::TagTooLarge(path),
+            PlanFault::Outside(cause) => BeginFault::Outside(cause),
+            PlanFault::Rules(fault) => BeginFault::Rules(fault),
+            PlanFault::Clash(path) => BeginFault::Clash(path),
+            PlanFault::Memory => BeginFault::Keeper(KeepFault::Memory),
+        }
+    }
+}
+
+/// The tag files that these are, and their plan.
+pub(crate) fn open(alloc: Global, files: &[(String, Vec<u8>)]) -> Result<(TagSet, Plan), BeginFault>
+    ensures taken { IfOk result (λ opened. AreTaken (given_in files.now) opened.0
+        × IsPlanOf opened.0 opened.1) }
+    ensures refused { IfErr result (IsRefusal (given_in files.now)) }
+{
+    let tags = placed(alloc, files)?;
+    let large = first_large(files);
+    match Plan::from_tags(alloc, &tags) {
+        Ok(plan) => match large {
+            Some(large) => Err(too_large(alloc, large)),
+            None => Ok((tags, plan)),
+        },
+        Err(fault) => match large {
+            Some(large) => Err(first_refusal(alloc, large, fault)),
+            None => Err(BeginFault::from(fault)),
+        },
+    }
+}
+
+/// What is told where this is the least path of a file that has too many octets, and this the fault of the tag files
+/// without such octets.
+fn first_refusal(alloc: Global, large: &str, fault: PlanFault) -> BeginFault
+    ensures { (given : Files) → NoneMisplaced given → IsFirstPath (IsHeavyAt given) large.now
+        → Refuses (light_tags given) fault → IsRefusal given result }
+{
+    match fault {
+        PlanFault::Memory => BeginFault::Keeper(KeepFault::Memory),
+        PlanFault::TagTooLarge(path) => {
+            if path.as_str() < large {
+                BeginFault::TagTooLarge(path)
+            } else {
+                too_large(alloc, large)
+            }
+        }
+        _ => too_large(alloc, large),
+    }
+}
+
+/// That the file with this path is too large, unless memory ran out.
+fn too_large(alloc: Global, path: &str) -> BeginFault
+    ensures { (result ≡ BeginFault.Keeper KeepFault.Memory)
+        ⊎ (result ≡ BeginFault.TagTooLarge path.now) }
+{
+    match BagPath::parse(alloc, path) {
+        Ok(path) => BeginFault::TagTooLarge(path),
+        Err(_) => BeginFault::Keeper(KeepFault::Memory),
+    }
+}
+
+/// The least path of a file that has too many octets.
+fn first_large(files: &[(String, Vec<u8>)]) -> Option<&str>
+    ensures { MatchOption result ((path : List ℕ) → ¬ IsHeavyAt (given_in files.now) path)
+        (λ path. IsFirstPath (IsHeavyAt (given_in files.now)) path.now) }
+{
+    let mut least: Option<&str> = None;
+    for file in files {
+        if is_heavy(file.1.as_slice()) {
+            let path = file.0.as_str();
+            least = match least {
+                Some(old) => Some(lesser(old, path)),
+                None => Some(path),
+            };
+        }
+    }
+    least
+}
+
+/// Whether a file has too many octets.
+fn is_heavy(octets: &[u8]) -> bool
+    ensures { IsTrue result ↔ (LARGEST_TAG_FILE < length octets.now) }
+{
+    octets.len() as u64 > LARGEST_TAG_FILE
+}
+
+/// The lesser of two paths.
+fn lesser<'a>(old: &'a str, path: &'a str) -> &'a str
+    ensures { IsFirstPath (λ one. (one ≡ old.now) ⊎ (one ≡ path.now)) result.now }
+{
+    if old <= path { old } else { path }
+}
+
+/// The files as tag files; those that have too many octets, empty, so that a path that is given twice is found whatever
+/// stands there.
+fn placed(alloc: Global, files: &[(String, Vec<u8>)]) -> Result<TagSet, BeginFault>
+    ensures placed { IfOk result (λ tags. NoneMisplaced (given_in files.now)
+        × (tags ≡ light_tags (given_in files.now))) }
+    ensures refused { IfErr result (IsRefusal (given_in files.now)) }
+{
+    let mut tags = TagSet::new(alloc);
+    for (i, file) in files.iter().enumerate() {
+        if let Err(fault) = place(alloc, &mut tags, file) {
+            return Err(fault_at(i, fault));
+        }
+    }
+    Ok(tags)
+}
+
+/// Why the file with this number has no place.
+fn fault_at(i: usize, fault: TagSetFault) -> BeginFault
+    ensures { (result ≡ BeginFault.Keeper KeepFault.Memory)
+        ⊎ ((fault ≢ TagSetFault.Memory) × (result ≡ BeginFault.TagPath i)) }
+{
+    match fault {
+        TagSetFault::Memory => BeginFault::Keeper(KeepFault::Memory),
+        _ => BeginFault::TagPath(i),
+    }
+}
+
+/// Puts the file among the tag files; one that has too many octets, empty.
+fn place(alloc: Global, tags: &mut TagSet, file: &(String, Vec<u8>)) -> Result<(), TagSetFault>
+    ensures placed { OnOk result (IsPlaced tags.old (string_bytes file.now.0)
+        × (tags.new ≡ with_file tags.old (string_bytes file.now.0) (emptied file.now.1.items))) }
+    ensures refused { IfErr result (λ fault. fault ≢ TagSetFault.Memory
+        → ¬ IsPlaced tags.old (string_bytes file.now.0)) }
+{
+    let path = file.0.as_str();
+    let body = lightened(alloc, file.1.as_slice())?;
+    tags.add(path, body)
+}
+
+/// The octets, but none in the place of too many.
+fn lightened(alloc: Global, octets: &[u8]) -> Result<Vec<u8>, TagSetFault>
+    ensures body { IfOk result (λ body. body.items ≡ emptied octets.now) }
+    ensures refused { IfErr result (λ fault. fault ≡ TagSetFault.Memory) }
+{
+    if is_heavy(octets) {
+        return Ok(Vec::new(alloc));
+    }
+    match octets.to_vec(alloc) {
+        Ok(body) => Ok(body),
+        Err(_) => Err(TagSetFault::Memory),
+    }
+}
+
+impl<K: Keeper> Receiver<K> {
+    /// Opens a transfer with these tag files: each its path, as plain text, and its octets, in any order.
+    ///
+    /// They are all files of the bag but its payload (RFC 8493 section 2), and are judged as far as they can be without
+    /// it.
+    ///
+    /// # Errors
+    ///
+    /// A [`BeginFault`]. Nothing changes then; where the keeper has no answer, a crash may leave the transfer open all
+    /// the same, with all these tag files and no payload file.
+    pub fn begin(
+        &mut self,
+        alloc: Global,
+        name: &str,
+        files: &[(String, Vec<u8>)],
+    ) -> Result<Begun, BeginFault>
+        ensures judged { IsAnswerTo result name.now (given_in files.now) }
+        ensures begun { Does K.holds K.may_leave K.clean self.old self.new
+            (Begins name.now (given_in files.now) result) }
+        ensures store { CountsIf ((fault : StoreFault)
+            × IsErrOf result (BeginFault.Keeper (KeepFault.Store fault)))
+            (K.failures self.old.keeper) (K.failures self.new.keeper) }
+    {
+        if !is_name(name) {
+            return Err(BeginFault::BadName);
+        }
+        let (tags, plan) = open(alloc, files)?;
+        self.open_as(alloc, name, &tags, plan)
+    }
+
+    /// Opens a transfer with tag files that have this plan, unless its name is used.
+    fn open_as(
+        &mut self,
+        alloc: Global,
+        name: &str,
+        tags: &TagSet,
+        plan: Plan,
+    ) -> Result<Begun, BeginFault>
+        requires { IsPlanOf tags.now plan }
+        ensures judged { (given : Files) → IsTransferName name.now → AreTaken given tags.now
+            → IsAnswerTo result name.now given }
+        ensures begun { (given : Files) → IsTransferName name.now → AreTaken given tags.now
+            → Does K.holds K.may_leave K.clean self.old self.new (BeginStep result name.now given) }
+        ensures store { CountsIf ((fault : StoreFault)
+            × IsErrOf result (BeginFault.Keeper (KeepFault.Store fault)))
+            (K.failures self.old.keeper) (K.failures self.new.keeper) }
+    {
+        match self.keeper.tags(alloc, name)? {
+            Some(held) => {
+                if held.is_same(tags) {
+                    Ok(Begun::Again)
+                } else {
+                    Err(BeginFault::Differs)
+                }
+            }
+            None => {
+                self.keeper.begin(alloc, name, tags)?;
+                // Where there is no memory for the plan, it is made again when it is needed.
+                let _ = keep_plan(alloc, &mut self.plans, name, plan);
+                Ok(Begun::New)
+            }
+        }
+    }
+}
+
+#[cfg(test)]
+mod tests;

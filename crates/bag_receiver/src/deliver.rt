@@ -1,0 +1,197 @@
+//! Deliveries: what comes for one path of a transfer.
+ghost use Rattle.std.specs.Prelude.{◌≡◌, ◌⊎◌, ◌∷◌, [], List, ℕ, true, IfOk, IsErrOf, MatchResult};
+ghost use Rattle.bag_digest.specs.Device.{CountsIf, UsesSource};
+ghost use Rattle.bag_path.specs.Paths.{IsPath};
+ghost use Rattle.bag_ledger.specs.Ledgers.{Ledger};
+ghost use Rattle.bag_ledger.specs.declared.fault.StoreFault.{StoreFault};
+ghost use Rattle.bag_ledger.specs.declared.fault.KeepFault.TheVariants.{Store};
+ghost use Rattle.bag_receiver.specs.declared.answer.Answer.TheVariants.{Refused};
+ghost use Rattle.bag_receiver.specs.declared.answer.DeliverFault.TheVariants.{Keeper as NotKept, NoTransfer, Reader};
+ghost use Rattle.bag_receiver.specs.Deliveries.{Content, IsAcceptance, Whole, delivery_of};
+ghost use Rattle.bag_receiver.specs.Names.{IsTransferName};
+ghost use Rattle.bag_receiver.specs.Receiving.{Brought, DeliveryStep, IsAnswer, IsListedIn, Judges, Receives, State};
+ghost use Rattle.bag_receiver.specs.Receivers.{Does, Stands, plans_in};
+ghost use Rattle.bag_receiver.specs.ReceiversInside.{Finds, IsNoPlan, IsPlaceIn, IsPlanned, RefusesText, Same, answer_of};
+
+use crate::answer::{Answer, DeliverFault};
+use crate::receiver::{Plans, Receiver};
+use bag_digest::Source;
+use bag_ledger::{KeepFault, Keeper, test_content, test_reader};
+use bag_path::{BagPath, PathFault};
+use bag_rules::Want;
+use std::alloc::Global;
+
+impl<K: Keeper> Receiver<K> {
+    /// Takes in a payload file of the transfer with this name: this content for this path.
+    ///
+    /// The path is plain text, not the spelling of a manifest: in it `%25` is three characters (RFC 8493 section
+    /// 2.1.3). The content passes if it has at most 1,073,741,824 octets, each digest that a payload manifest lists for
+    /// the path, and each length that `fetch.txt` gives for it (section 2.2.3). Only `Taken` changes what is held;
+    /// where the keeper has no answer, a crash may leave the file all the same.
+    pub fn deliver(&mut self, alloc: Global, name: &str, path: &str, content: &[u8]) -> Answer
+        ensures received { Does K.holds K.may_leave K.clean self.old self.new (Receives name.now
+            (delivery_of path.now (Whole content.now) result ∷ [])) }
+        ensures judged { IsAnswer name.now (delivery_of path.now (Whole content.now) result) }
+        ensures store { CountsIf ((fault : StoreFault)
+            × (result ≡ Refused (NotKept (Store fault))))
+            (K.failures self.old.keeper) (K.failures self.new.keeper) }
+    {
+        match self.take(alloc, name, path, content) {
+            Ok(answer) => answer,
+            Err(fault) => Answer::Refused(fault),
+        }
+    }
+
+    fn take(
+        &mut self,
+        alloc: Global,
+        name: &str,
+        path: &str,
+        content: &[u8],
+    ) -> Result<Answer, DeliverFault>
+        ensures taken { Does K.holds K.may_leave K.clean self.old self.new (DeliveryStep name.now
+            (delivery_of path.now (Whole content.now) (answer_of result))) }
+        ensures judged { IsAnswer name.now
+            (delivery_of path.now (Whole content.now) (answer_of result)) }
+        ensures accepted { IfOk result IsAcceptance }
+        ensures store { CountsIf ((fault : StoreFault) × IsErrOf result (NotKept (Store fault)))
+            (K.failures self.old.keeper) (K.failures self.new.keeper) }
+    {
+        self.find_plan(alloc, name)?;
+        let place = place_of(&mut self.keeper, &self.plans, alloc, name, path)?;
+        if place.is_held {
+            test_content(&place.want, content)?;
+            return Ok(Answer::Repeated);
+        }
+        self.keeper.put(alloc, name, &place.want, content)?;
+        Ok(Answer::Taken)
+    }
+
+    /// Takes in a payload file as `deliver` does, of which a reader gives the content.
+    ///
+    /// The reader is read only where the transfer lists the path: to its end, to the first octet past the limit, or
+    /// until a read fails or the keeper has no answer. No read is tried again.
+    pub fn deliver_from<S: Source>(
+        &mut self,
+        alloc: Global,
+        name: &str,
+        path: &str,
+        reader: &mut S,
+    ) -> Answer
+        ensures received { (content : Content)
+            × Brought (S.remaining reader.old) (S.remaining reader.new) content
+            × IsAnswer name.now (delivery_of path.now content result)
+            × Does K.holds K.may_leave K.clean self.old self.new
+            (Receives name.now (delivery_of path.now content result ∷ [])) }
+        ensures unread { K.clean self.new.keeper → (now : State)
+            → Stands K.holds K.may_leave self.old now
+            → (reader.new ≡ reader.old) ⊎ IsListedIn now.held name.now path.now }
+        ensures reader { UsesSource S.failures S.ready S.keeps reader.old reader.new
+            (result ≡ Refused Reader) }
+        ensures store { CountsIf ((fault : StoreFault)
+            × (result ≡ Refused (NotKept (Store fault))))
+            (K.failures self.old.keeper) (K.failures self.new.keeper) }
+    {
+        match self.take_from(alloc, name, path, reader) {
+            Ok(answer) => answer,
+            Err(fault) => Answer::Refused(fault),
+        }
+    }
+
+    fn take_from<S: Source>(
+        &mut self,
+        alloc: Global,
+        name: &str,
+        path: &str,
+        reader: &mut S,
+    ) -> Result<Answer, DeliverFault>
+        ensures taken { (content : Content)
+            × Brought (S.remaining reader.old) (S.remaining reader.new) content
+            × IsAnswer name.now (delivery_of path.now content (answer_of result))
+            × Does K.holds K.may_leave K.clean self.old self.new
+            (DeliveryStep name.now (delivery_of path.now content (answer_of result))) }
+        ensures unread { K.clean self.new.keeper → (now : State)
+            → Stands K.holds K.may_leave self.old now
+            → (reader.new ≡ reader.old) ⊎ IsListedIn now.held name.now path.now }
+        ensures accepted { IfOk result IsAcceptance }
+        ensures reader { UsesSource S.failures S.ready S.keeps reader.old reader.new
+            (IsErrOf result Reader) }
+        ensures store { CountsIf ((fault : StoreFault) × IsErrOf result (NotKept (Store fault)))
+            (K.failures self.old.keeper) (K.failures self.new.keeper) }
+    {
+        self.find_plan(alloc, name)?;
+        let place = place_of(&mut self.keeper, &self.plans, alloc, name, path)?;
+        if place.is_held {
+            test_reader(alloc, &place.want, reader)?;
+            return Ok(Answer::Repeated);
+        }
+        self.keeper.put_from(alloc, name, &place.want, reader)?;
+        Ok(Answer::Taken)
+    }
+
+    fn find_plan(&mut self, alloc: Global, name: &str) -> Result<(), DeliverFault>
+        ensures looks { Does K.holds K.may_leave K.clean self.old self.new Same }
+        ensures finds { (text : List ℕ) → Finds K.holds K.may_leave K.clean self.old self.new
+            name.now text
+            (λ now done. IsPlanned name.now now.held (plans_in self.new.plans) true) result }
+        ensures named { MatchResult result (λ done. IsTransferName name.now)
+            (λ fault. IsNoPlan fault × (¬ IsTransferName name.now → fault ≡ NoTransfer)) }
+        ensures store { CountsIf ((fault : StoreFault) × IsErrOf result (NotKept (Store fault)))
+            (K.failures self.old.keeper) (K.failures self.new.keeper) }
+    {
+        match self.has_plan(alloc, name)? {
+            true => Ok(()),
+            false => Err(DeliverFault::NoTransfer),
+        }
+    }
+}
+
+/// What is known of a path before anything is read that is delivered for it.
+#[derive(Drop)]
+struct Place<'a> {
+    want: Want<'a>,
+    is_held: bool,
+}
+
+/// What the transfer wants at this path, and whether it holds it.
+fn place_of<'a, K: Keeper>(
+    keeper: &mut K,
+    plans: &'a Plans,
+    alloc: Global,
+    name: &str,
+    path: &str,
+) -> Result<Place<'a>, DeliverFault>
+    ensures looks { Does K.holds K.may_leave K.clean
+        (record { keeper = keeper.old; plans = plans.now })
+        (record { keeper = keeper.new; plans = plans.now }) Same }
+    ensures finds { ((ledger : Ledger) → IsPlanned name.now ledger (plans_in plans.now) true)
+        → Finds K.holds K.may_leave K.clean (record { keeper = keeper.old; plans = plans.now })
+        (record { keeper = keeper.new; plans = plans.now }) name.now path.now
+        (λ now. IsPlaceIn now.held name.now path.now) result }
+    ensures judged { MatchResult result (λ place. IsPath path.now)
+        (λ fault. (content : Content) → Judges (Refused fault) path.now content) }
+    ensures store { CountsIf ((fault : StoreFault) × IsErrOf result (NotKept (Store fault)))
+        (K.failures keeper.old) (K.failures keeper.new) }
+{
+    let path = parsed(alloc, path)?;
+    let Some(plan) = plans.get(name) else {
+        return Err(DeliverFault::NoTransfer);
+    };
+    let Some(want) = plan.want(&path) else {
+        return Err(DeliverFault::NotListed);
+    };
+    let is_held = keeper.size_of(alloc, name, &path)?.is_some();
+    Ok(Place { want, is_held })
+}
+
+/// The path that the text is.
+fn parsed(alloc: Global, text: &str) -> Result<BagPath, DeliverFault>
+    ensures { MatchResult result (λ path. (path ≡ text.now) × IsPath text.now)
+        (RefusesText text.now) }
+{
+    match BagPath::parse(alloc, text) {
+        Ok(path) => Ok(path),
+        Err(PathFault::Memory) => Err(DeliverFault::Keeper(KeepFault::Memory)),
+        Err(fault) => Err(DeliverFault::BadPath(fault)),
+    }
+}

@@ -1,0 +1,118 @@
+//! The receiver: transfers over any keeper, and beside it the plan of each that was used.
+ghost use Rattle.std.specs.Prelude.{◌≡◌, [], IfOk, IsErrOf, IsTrue, MatchResult, OnErr, OnOk, map, string_bytes};
+ghost use Rattle.std.specs.BTreeMap.{insert_entry};
+ghost use Rattle.std.specs.Cmp.Lexicographic.{slice_cmp};
+ghost use Rattle.std.specs.Map.{keys_of};
+ghost use Rattle.std.specs.Ordering.{nat_cmp};
+ghost use Rattle.bag_digest.specs.Device.{CountsIf};
+ghost use Rattle.bag_ledger.specs.declared.fault.StoreFault.{StoreFault};
+ghost use Rattle.bag_ledger.specs.declared.fault.KeepFault.TheVariants.{Store};
+ghost use Rattle.bag_receiver.specs.Names.{IsTransferName};
+ghost use Rattle.bag_receiver.specs.Receiving.{State};
+ghost use Rattle.bag_receiver.specs.Receivers.{Does, IsKept, Stands, plans_in};
+ghost use Rattle.bag_receiver.specs.ReceiversInside.{IsPlanned, Same};
+
+use crate::name::is_name;
+use bag_ledger::{KeepFault, Keeper};
+use bag_rules::Plan;
+use std::alloc::{AllocError, Global};
+use std::collections::BTreeMap;
+
+/// Plans by the names of their transfers.
+pub(crate) type Plans = BTreeMap<String, Plan>;
+
+/// Opens transfers by the tag files of their bags, takes in their payload files, each if it is the one that the tag
+/// files tell of, and reports what is wrong with the bag that is held (RFC 8493 section 3).
+///
+/// The keeper holds all of it. Beside it the receiver has the plans of the transfers that were used, which it makes
+/// again where they are wanting.
+#[derive(Drop)]
+pub struct Receiver<K> {
+    pub(crate) keeper: K,
+    pub(crate) plans: Plans,
+}
+
+impl<K: Keeper> Receiver<K> {
+    /// A receiver over what this keeper holds: the transfers that are there can be used at once.
+    pub fn new(alloc: Global, keeper: K) -> Receiver<K>
+        ensures keeper { result.keeper ≡ keeper }
+        ensures stands { (now : State) → IsKept K.holds K.may_leave keeper now
+            → Stands K.holds K.may_leave result now }
+    {
+        Receiver {
+            keeper,
+            plans: BTreeMap::new(alloc),
+        }
+    }
+
+    /// Hands the keeper back, with all that it holds.
+    pub fn into_keeper(self) -> K
+        ensures { result ≡ self.keeper }
+    {
+        self.keeper
+    }
+
+    /// The names of the transfers, ordered by their octets.
+    ///
+    /// # Errors
+    ///
+    /// The store failed, or memory ran out.
+    pub fn names(&mut self, alloc: Global) -> Result<Vec<String>, KeepFault>
+        ensures looks { Does K.holds K.may_leave K.clean self.old self.new Same }
+        ensures names { K.clean self.new.keeper → (now : State)
+            → Stands K.holds K.may_leave self.old now
+            → IfOk result (λ names. map string_bytes names.items ≡ keys_of now.held) }
+        ensures store { CountsIf ((fault : StoreFault) × IsErrOf result (Store fault))
+            (K.failures self.old.keeper) (K.failures self.new.keeper) }
+    {
+        self.keeper.names(alloc)
+    }
+
+    /// Makes the plan of a transfer, unless it is there; says whether it is there now.
+    pub(crate) fn has_plan(&mut self, alloc: Global, name: &str) -> Result<bool, KeepFault>
+        ensures looks { Does K.holds K.may_leave K.clean self.old self.new Same }
+        ensures found { K.clean self.new.keeper → (now : State)
+            → Stands K.holds K.may_leave self.old now
+            → IfOk result (IsPlanned name.now now.held (plans_in self.new.plans)) }
+        ensures named { MatchResult result (λ is_there. IsTrue is_there → IsTransferName name.now)
+            (λ fault. IsTransferName name.now) }
+        ensures store { CountsIf ((fault : StoreFault) × IsErrOf result (Store fault))
+            (K.failures self.old.keeper) (K.failures self.new.keeper) }
+    {
+        if !is_name(name) {
+            return Ok(false);
+        }
+        if self.plans.contains_key(name) {
+            return Ok(true);
+        }
+        let Some(tags) = self.keeper.tags(alloc, name)? else {
+            return Ok(false);
+        };
+        match Plan::from_tags(alloc, &tags) {
+            Ok(plan) => {
+                keep_plan(alloc, &mut self.plans, name, plan)?;
+                Ok(true)
+            }
+            // What is kept opens.
+            Err(_) => Err(KeepFault::Memory),
+        }
+    }
+}
+
+/// Keeps the plan of a transfer.
+pub(crate) fn keep_plan(
+    alloc: Global,
+    plans: &mut Plans,
+    name: &str,
+    plan: Plan,
+) -> Result<(), AllocError>
+    ensures kept { OnOk result (plans_in plans.new
+        ≡ insert_entry (slice_cmp nat_cmp) (plans_in plans.old) name.now plan) }
+    ensures unchanged { OnErr result (plans_in plans.new ≡ plans_in plans.old) }
+{
+    let name = String::from_str(alloc, name)?;
+    match plans.insert(name, plan) {
+        Ok(_) => Ok(()),
+        Err(_) => Err(AllocError),
+    }
+}

@@ -1,0 +1,109 @@
+//! Runs of what a courier brings.
+ghost use Rattle.std.specs.Prelude.{◌≡◌, ◌≢◌, ◌≤◌, ◌+◌, ◌++◌, ◌∷◌, [], Err, IfErr, List, OnErr, OnOk, length, map, min, string_bytes, true};
+ghost use Rattle.bag_digest.specs.Device.{CountsIf, greatest_count};
+ghost use Rattle.bag_receiver.specs.declared.answer.Answer.TheVariants.{Repeated};
+ghost use Rattle.bag_receiver.specs.Couriers.{AreBrought, AreTold, CallsNext, ComesNext, IsEndWith, courier_failures};
+ghost use Rattle.bag_receiver.specs.Deliveries.{Delivery};
+ghost use Rattle.bag_receiver.specs.Runs.{CountsAtLeast, Runs};
+
+use crate::answer::Answer;
+use crate::courier::Courier;
+use crate::receiver::Receiver;
+use crate::run::{End, MOST_DELIVERIES, Run};
+use bag_ledger::Keeper;
+use std::alloc::{AllocError, Global};
+
+#[cfg(test)]
+mod tests;
+
+impl<K: Keeper> Receiver<K> {
+    /// Takes in what the courier brings, one item after another. Beside the run stands the text of each delivery's path.
+    pub fn run_from<C: Courier>(
+        &mut self,
+        alloc: Global,
+        name: &str,
+        courier: &mut C,
+    ) -> (Run, Vec<String>)
+        ensures runs { (deliveries : List Delivery)
+            × AreTold deliveries (map string_bytes result.1.items) result.0.answers.items
+            × AreBrought (C.coming courier.old) deliveries result.0.ended
+            × Runs K.holds K.may_leave K.clean K.failures self.old self.new name.now deliveries }
+        ensures within { length result.0.answers.items ≤ MOST_DELIVERIES }
+        ensures failures { CountsAtLeast
+            (courier_failures result.0.answers.items result.0.ended)
+            (C.failures courier.old) (C.failures courier.new) }
+        ensures nexts { CallsNext (length result.0.answers.items)
+            (C.nexts courier.old) (C.nexts courier.new) }
+    {
+        let mut answers = Vec::new(alloc);
+        let mut paths = Vec::new(alloc);
+        for n in 0..=MOST_DELIVERIES {
+            if let Err(ended) = next_place(alloc, courier, &mut paths, &mut answers) {
+                return (Run { answers, ended }, paths);
+            }
+            answers[n] = self.deliver_from(alloc, name, paths[n].as_str(), courier);
+        }
+        // Never reached: the last round finds no room.
+        let ended = End::TooMany;
+        (Run { answers, ended }, paths)
+    }
+}
+
+/// Goes on to the next item and makes room for its path and its answer, or says how the run ends.
+fn next_place<C: Courier>(
+    alloc: Global,
+    courier: &mut C,
+    paths: &mut Vec<String>,
+    answers: &mut Vec<Answer>,
+) -> Result<(), End>
+    ensures came { OnOk result (ComesNext (C.coming courier.old) true (C.text courier.new)
+        (C.remaining courier.new) (C.coming courier.new)) }
+    ensures room { OnOk result (length answers.old.items ≢ MOST_DELIVERIES) }
+    ensures placed { OnOk result ((map string_bytes paths.new.items
+        ≡ map string_bytes paths.old.items ++ C.text courier.new ∷ [])
+        × (answers.new.items ≡ answers.old.items ++ Repeated ∷ [])) }
+    ensures unchanged { OnErr result ((paths.new.items ≡ paths.old.items)
+        × (answers.new.items ≡ answers.old.items)) }
+    ensures ended { IfErr result (λ ended. IsEndWith ended (length answers.old.items)
+        (C.coming courier.old)) }
+    ensures failures { CountsIf (result ≡ Err End.Courier)
+        (C.failures courier.old) (C.failures courier.new) }
+    ensures nexts { C.nexts courier.new ≡ min (C.nexts courier.old + 1) greatest_count }
+{
+    match courier.next() {
+        Ok(true) => {}
+        Ok(false) => return Err(End::Done),
+        Err(_) => return Err(End::Courier),
+    }
+    if answers.len() == MOST_DELIVERIES {
+        return Err(End::TooMany);
+    }
+    match add_place(alloc, paths, answers, courier.path()) {
+        Ok(()) => Ok(()),
+        Err(_) => Err(End::Memory),
+    }
+}
+
+/// Makes room for the path with this text and for its answer.
+fn add_place(
+    alloc: Global,
+    paths: &mut Vec<String>,
+    answers: &mut Vec<Answer>,
+    text: &str,
+) -> Result<(), AllocError>
+    ensures placed { OnOk result ((map string_bytes paths.new.items
+        ≡ map string_bytes paths.old.items ++ text.now ∷ [])
+        × (answers.new.items ≡ answers.old.items ++ Repeated ∷ [])) }
+    ensures unchanged { OnErr result ((paths.new.items ≡ paths.old.items)
+        × (answers.new.items ≡ answers.old.items)) }
+{
+    let path = String::from_str(alloc, text)?;
+    if answers.push(Answer::Repeated).is_err() {
+        return Err(AllocError);
+    }
+    if paths.push(path).is_err() {
+        answers.pop();
+        return Err(AllocError);
+    }
+    Ok(())
+}

@@ -1,0 +1,184 @@
+use crate::{Answer, Courier, DeliverFault, End, Receiver};
+use bag_digest::{Failed, Failures, Source};
+use bag_ledger::MapKeeper;
+use std::alloc::{AllocError, Global};
+use std::test::Fail;
+
+const DECLARATION: &str = "BagIt-Version: 1.0\nTag-File-Character-Encoding: UTF-8\n";
+
+// Two files, with the digests of `abc` and of nothing (FIPS 180-4, example B.1, and RFC 6234 section 8.5).
+const MANIFEST: &str = "ba7816bf8f01cfea414140de5dae2223b00361a396177a9cb410ff61f20015ad  data/a.txt
+e3b0c44298fc1c149afbf4c8996fb92427ae41e4649b934ca495991b7852b855  data/e.txt
+";
+
+/// An item: its path, what its reads give one after another, the last first, and whether the read after those fails.
+#[derive(Drop)]
+struct Item {
+    path: String,
+    pieces: Vec<Vec<u8>>,
+    is_broken: bool,
+}
+
+fn an_item(
+    alloc: Global,
+    path: &str,
+    pieces: &[&str],
+    is_broken: bool,
+) -> Result<Item, AllocError> {
+    let mut all = Vec::new(alloc);
+    for piece in pieces.iter().rev() {
+        all.push(Vec::from_slice(alloc, piece.as_bytes())?)?;
+    }
+    Ok(Item {
+        path: String::from_str(alloc, path)?,
+        pieces: all,
+        is_broken,
+    })
+}
+
+/// Brings items, the last first, and then fails unless it ends well.
+#[derive(Drop)]
+struct Items {
+    left: Vec<Item>,
+    ends_well: bool,
+    path: String,
+    pieces: Vec<Vec<u8>>,
+    is_broken: bool,
+    is_open: bool,
+    failures: Failures,
+    nexts: u64,
+}
+
+impl Items {
+    fn new(alloc: Global, left: Vec<Item>, ends_well: bool) -> Items {
+        Items {
+            left,
+            ends_well,
+            path: String::new(alloc),
+            pieces: Vec::new(alloc),
+            is_broken: false,
+            is_open: false,
+            failures: Failures::none(),
+            nexts: 0,
+        }
+    }
+}
+
+impl Source for Items {
+    ghost use Rattle.std.specs.Prelude.{◌≡◌, None, refl, string_bytes};
+    ghost use Rattle.std.proofs.Common.{◌∙◌};
+
+    ghost remaining = { λ _. None };
+
+    ghost failures = { λ it. it.failures };
+
+    ghost ready = { λ _. ⊥ };
+
+    ghost is_open = { λ it. it.is_open };
+
+    ghost keeps = { λ a b. (string_bytes b.path ≡ string_bytes a.path) × (b.nexts ≡ a.nexts) };
+
+    fn read(&mut self, buf: &mut [u8]) -> Result<usize, Failed> {
+        if !self.is_open {
+            return self.failures.counted(Err(Failed));
+        }
+        let Some(piece) = self.pieces.pop() else {
+            let answer = if self.is_broken { Err(Failed) } else { Ok(0) };
+            return self.failures.counted(answer);
+        };
+        let n = piece.len().min(buf.len());
+        buf[..n].copy_from_slice(&piece[..n]);
+        Ok(n)
+    }
+
+    fn failures(&self) -> u64 {
+        self.failures.count()
+    }
+
+    ghost keeps_itself = { λ a. (refl, refl) };
+
+    ghost keeps_on = { λ a b c p q. (q.0 ∙ p.0, q.1 ∙ p.1) };
+}
+
+impl Courier for Items {
+    ghost use Rattle.std.specs.Prelude.{None, refl, string_bytes};
+
+    ghost coming = { λ _. None };
+
+    ghost text = { λ it. string_bytes it.path };
+
+    ghost nexts = { λ it. it.nexts };
+
+    fn next(&mut self) -> Result<bool, Failed> {
+        self.nexts = self.nexts.saturating_add(1);
+        let Some(item) = self.left.pop() else {
+            self.path.clear();
+            self.is_open = false;
+            let answer = if self.ends_well {
+                Ok(false)
+            } else {
+                Err(Failed)
+            };
+            return self.failures.counted(answer);
+        };
+        self.path = item.path;
+        self.pieces = item.pieces;
+        self.is_broken = item.is_broken;
+        self.is_open = true;
+        Ok(true)
+    }
+
+    fn path(&self) -> &str {
+        self.path.as_str()
+    }
+
+    fn nexts(&self) -> u64 {
+        self.nexts
+    }
+
+    ghost keeps_item = { λ old new kept. (refl, kept.0, kept.1) };
+}
+
+/// A receiver with one transfer, of two files.
+fn begun(alloc: Global) -> Result<Receiver<MapKeeper>, AllocError> {
+    let mut files = Vec::new(alloc);
+    for (path, text) in [
+        ("bagit.txt", DECLARATION),
+        ("manifest-sha256.txt", MANIFEST),
+    ] {
+        let octets = Vec::from_slice(alloc, text.as_bytes())?;
+        files.push((String::from_str(alloc, path)?, octets))?;
+    }
+    let mut receiver = Receiver::new(alloc, MapKeeper::new(alloc));
+    match receiver.begin(alloc, "t1", files.as_slice()) {
+        Ok(_) => Ok(receiver),
+        Err(_) => Err(AllocError),
+    }
+}
+
+#[test]
+fn a_run_goes_on_after_a_read_that_failed(rt: HostRuntime) -> Result<(), Fail> {
+    let alloc = rt.alloc();
+    for (ends_well, expected, failures) in [(true, End::Done, 1), (false, End::Courier, 2)] {
+        let mut receiver = begun(alloc)?;
+        let mut items = Vec::new(alloc);
+        items.push(an_item(alloc, "data/e.txt", &[], false)?)?;
+        items.push(an_item(alloc, "data/a.txt", &["a", "bc"], false)?)?;
+        items.push(an_item(alloc, "data/a.txt", &["a"], true)?)?;
+        let mut courier = Items::new(alloc, items, ends_well);
+        let (run, paths) = receiver.run_from(alloc, "t1", &mut courier);
+        let answers = [
+            Answer::Refused(DeliverFault::Reader),
+            Answer::Taken,
+            Answer::Taken,
+        ];
+        assert_eq!(rt; run.answers.as_slice(), answers.as_slice());
+        assert_eq!(rt; run.ended, expected);
+        let told = paths.join(alloc, " ")?;
+        assert_eq!(rt; told.as_str(), "data/a.txt data/a.txt data/e.txt");
+        assert_eq!(rt; courier.nexts(), 4);
+        assert_eq!(rt; courier.failures(), failures);
+        assert!(rt; receiver.report(alloc, "t1")?.is_valid());
+    }
+    Ok(())
+}
