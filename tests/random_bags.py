@@ -132,13 +132,13 @@ def manifest_line(rng, digest, path, version):
 class Bag:
     """A bag in memory: the octets of its files, its directories without files, and what no bag can hold."""
 
-    def __init__(self, rng, version):
+    def __init__(self, rng, version, names=NAMES, contents=content):
         self.rng, self.version = rng, version
         self.files, self.directories, self.specials = {b"bagit.txt": declaration(version)}, [b"data"], {}
-        for name in rng.sample(NAMES, rng.choice([0, 1, 1, 2, 2, 3, 5])):
-            self.files[b"data/" + name] = content(rng)
+        for name in rng.sample(names, rng.choice([0, 1, 1, 2, 2, 3, 5])):
+            self.files[b"data/" + name] = contents(rng)
         for name in rng.sample(TAG_NAMES, rng.choice([0, 0, 0, 1, 2])):
-            self.files[name] = content(rng)
+            self.files[name] = contents(rng)
         self.payload_manifests(rng.sample(ALGORITHMS, rng.choice([1, 1, 1, 2, 2, 3, 4])))
         if sometimes(rng, 50):
             self.info()

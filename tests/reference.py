@@ -74,13 +74,17 @@ def unescape(spelling, version):
     return re.sub(rb"%(..)", lambda found: bytes([int(found[1], 16)]), spelling)
 
 
+def is_path(path):
+    """[4]"""
+    if not path or len(path) > PATH_LIMIT or b"\0" in path or path == b"data":
+        return False
+    return not any(segment in (b"", b".", b"..") for segment in path.split(b"/"))
+
+
 def read_path(spelling, version):
     """[4]"""
     path = unescape(spelling, version)
-    segments = path.split(b"/")
-    if not path or len(path) > PATH_LIMIT or b"\0" in path or path == b"data":
-        raise BadLine("path")
-    if any(segment in (b"", b".", b"..") for segment in segments):
+    if not is_path(path):
         raise BadLine("path")
     return path
 
@@ -196,39 +200,24 @@ def read_fetch(_, version):
 
 
 class Bag:
-    """The folder, its paths in order, and the faults found: each is (number, file, line, path) and its text."""
+    """The paths in order, and the faults found: each is (number, file, line, path) and its text."""
 
-    def __init__(self, folder):
-        self.folder, self.faults = folder, set()
-        self.paths, self.has_payload_directory = [], False
-        self.walk(b"")
-        self.paths.sort()
-        if len(self.paths) > FILE_LIMIT:
-            raise End(["bag: too many"], 3)
+    def __init__(self, paths, has_payload_directory):
+        self.paths, self.has_payload_directory, self.faults = sorted(paths), has_payload_directory, set()
         self.payload = [path for path in self.paths if is_payload(path)]
 
-    def walk(self, below):
-        """[9, 14]"""
-        try:
-            names = os.listdir(os.path.join(self.folder, below))
-            for name in names:
-                path = below + b"/" + name if below else name
-                mode = os.lstat(os.path.join(self.folder, path)).st_mode
-                if not is_utf8(name):
-                    raise OSError
-                if stat.S_ISDIR(mode):
-                    self.has_payload_directory |= path == b"data"
-                    self.walk(path)
-                elif not stat.S_ISREG(mode) or path == b"data" or len(path) > PATH_LIMIT:
-                    raise OSError
-                else:
-                    self.paths.append(path)
-        except OSError:
-            raise End(["bag: files"], 3) from None
-
     def octets(self, path):
-        with open(os.path.join(self.folder, path), "rb") as file:
-            return file.read()
+        raise NotImplementedError
+
+    def judge(self):
+        """The printed lines and the status [14]."""
+        try:
+            self.judge_declaration()
+            self.judge_form()
+            self.judge_files()
+        except End as end:
+            return end.lines, end.status
+        return ["valid"], 0
 
     def length(self, path):
         return len(self.octets(path)) if path in self.paths else None
@@ -359,16 +348,48 @@ class Bag:
         self.tell(number, "%s: %s: %s" % (manifest.decode(), word, spell(path).decode()), manifest, 0, path)
 
 
+class Folder(Bag):
+    """A bag in a folder."""
+
+    def __init__(self, folder):
+        self.folder = folder
+        paths, directories = [], []
+        self.walk(b"", paths, directories)
+        if len(paths) > FILE_LIMIT:
+            raise End(["bag: too many"], 3)
+        super().__init__(paths, b"data" in directories)
+
+    def walk(self, below, paths, directories):
+        """[9, 14]"""
+        try:
+            names = os.listdir(os.path.join(self.folder, below))
+            for name in names:
+                path = below + b"/" + name if below else name
+                mode = os.lstat(os.path.join(self.folder, path)).st_mode
+                if not is_utf8(name):
+                    raise OSError
+                if stat.S_ISDIR(mode):
+                    directories.append(path)
+                    self.walk(path, paths, directories)
+                elif not stat.S_ISREG(mode) or path == b"data" or len(path) > PATH_LIMIT:
+                    raise OSError
+                else:
+                    paths.append(path)
+        except OSError:
+            raise End(["bag: files"], 3) from None
+
+    def octets(self, path):
+        with open(os.path.join(self.folder, path), "rb") as file:
+            return file.read()
+
+
 def check(folder):
     """The printed lines and the status [14]."""
     try:
-        bag = Bag(folder)
-        bag.judge_declaration()
-        bag.judge_form()
-        bag.judge_files()
+        bag = Folder(folder)
     except End as end:
         return end.lines, end.status
-    return ["valid"], 0
+    return bag.judge()
 
 
 if __name__ == "__main__":
