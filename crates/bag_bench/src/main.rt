@@ -1,4 +1,4 @@
-//! Work whose time the scripts in `bench/` take.
+//! Work whose time the scripts in `bench/` take, and the driver of the receiver for `tests/`.
 //!
 //! `bag_bench KIND LINES` makes the text of a tag file in memory and reads it, where KIND is `manifest`, `info` or `fetch`, or `none`
 //! for a manifest that is made and not read. The status is 0 where the text reads.
@@ -6,16 +6,30 @@
 //! `bag_bench plan LINES` makes the tag files of a transfer, four manifests of so many lines each, and their plan; `bag_bench wants LINES`
 //! then asks it for each path; `bag_bench tags LINES` makes the tag files alone. The status is 0 where the transfer can be opened.
 //!
+//! `bag_bench deliver FILES` makes so many payload files of 2,048 octets and a receiver that takes them in one by one, and `bag_bench run
+//! FILES` in one run; `bag_bench copies FILES` takes their digests and copies them into a map; `bag_bench items FILES` makes them alone. The
+//! status is 0 where each was taken.
+//!
 //! `bag_bench ALG PIECES` takes the digest of so many pieces of 65,536 octets.
+//!
+//! `bag_bench deliveries` answers the lists of deliveries on standard input, as `tests/deliveries.py` tells. The status
+//! is 0 where each line was answered.
 #![tactic(auto)]
 
 use bag_digest::{Alg, AlgSet, Multi, piece_buffer};
 use bag_path::Version;
 use bag_rules::{Plan, TagSet};
 use bag_tags::{Kind, read_fetch, read_info, read_manifest, write_declaration};
+use deliveries::answer_all;
+use receiving::receive;
 use std::alloc::{AllocError, Global};
 use std::env::{self, Env};
 use std::process::ExitCode;
+
+mod deliveries;
+mod event;
+mod receiving;
+mod text;
 
 /// The SHA-256 of no octets.
 const NOTHING: &str = "e3b0c44298fc1c149afbf4c8996fb92427ae41e4649b934ca495991b7852b855";
@@ -38,11 +52,14 @@ fn main(rt: HostRuntime) -> ExitCode {
     ExitCode::from(run(&rt))
 }
 
-fn run<R: Env + AllocGlobal>(rt: &R) -> u8 {
+fn run<R: Env + Input + Print + AllocGlobal>(rt: &R) -> u8 {
     let alloc = rt.alloc();
     let Ok(words) = words(rt, alloc) else {
         return 64;
     };
+    if words.len() == 1 && words[0].as_str() == "deliveries" {
+        return if answer_all(rt).is_ok() { 0 } else { 3 };
+    }
     if words.len() != 2 {
         return 64;
     }
@@ -53,6 +70,9 @@ fn run<R: Env + AllocGlobal>(rt: &R) -> u8 {
     let status = match Alg::from_name(work) {
         Some(alg) => hash(alloc, alg, number),
         None if work == "tags" || work == "plan" || work == "wants" => plan(alloc, work, number),
+        None if ["items", "copies", "deliver", "run"].contains(&work) => receive(
+            alloc, work, number,
+        ),
         None => read(alloc, work, number),
     };
     status.unwrap_or(3)

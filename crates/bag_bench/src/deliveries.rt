@@ -1,0 +1,138 @@
+//! Answers lists of deliveries, for `tests/deliveries.py`, which tells what is read and what is printed.
+use crate::event::{Event, bad_line};
+use crate::text::{AnswerText, FaultText, RefusalText, end_text, verdict_text};
+use bag_ledger::MapKeeper;
+use bag_receiver::{Begun, Receiver};
+use std::alloc::Global;
+use std::io::{self, BufRead, BufReader, BufWriter, Write};
+
+type MapReceiver = Receiver<MapKeeper>;
+
+/// Answers each line of standard input by a line.
+///
+/// # Errors
+///
+/// A line is no event; or memory ran out, or a read or a write failed.
+pub fn answer_all<R: Input + Print + AllocGlobal>(rt: &R) -> io::Result<()> {
+    let mut out = BufWriter::new(rt.alloc(), io::writer(rt))?;
+    let answered = answer_lines(rt, &mut out);
+    // The answers before a line that is no event are printed.
+    out.flush()?;
+    answered
+}
+
+fn answer_lines<R: Input + AllocGlobal, W: Write + Drop>(rt: &R, out: &mut W) -> io::Result<()> {
+    let alloc = rt.alloc();
+    let mut receiver = empty(alloc);
+    for line in BufReader::new(alloc, rt.reader())?.lines(alloc) {
+        let line = line?;
+        answer(alloc, &mut receiver, &Event::parse(alloc, &line)?, out)?;
+        writeln!(out)?;
+    }
+    Ok(())
+}
+
+/// A receiver with no transfer.
+fn empty(alloc: Global) -> MapReceiver {
+    Receiver::new(alloc, MapKeeper::new(alloc))
+}
+
+/// Writes what the event is answered.
+fn answer<W: Write + Drop>(
+    alloc: Global,
+    receiver: &mut MapReceiver,
+    event: &Event<'_>,
+    out: &mut W,
+) -> io::Result<()> {
+    match event.word {
+        "start" => {
+            *receiver = empty(alloc);
+            write!(out, "started")
+        }
+        "begin" => begin(alloc, receiver, event, out),
+        "deliver" => deliver(alloc, receiver, event, out),
+        "run" => run(alloc, receiver, event, out),
+        "report" => report(alloc, receiver, event.name.as_str(), out),
+        "names" => names(alloc, receiver, out),
+        _ => Err(bad_line()),
+    }
+}
+
+fn begin<W: Write + Drop>(
+    alloc: Global,
+    receiver: &mut MapReceiver,
+    event: &Event<'_>,
+    out: &mut W,
+) -> io::Result<()> {
+    match receiver.begin(alloc, event.name.as_str(), event.files.as_slice()) {
+        Ok(Begun::New) => write!(out, "new"),
+        Ok(Begun::Again) => write!(out, "again"),
+        Err(fault) => write!(out, "refused: {}", RefusalText(&fault)),
+    }
+}
+
+fn deliver<W: Write + Drop>(
+    alloc: Global,
+    receiver: &mut MapReceiver,
+    event: &Event<'_>,
+    out: &mut W,
+) -> io::Result<()> {
+    if event.files.len() != 1 {
+        return Err(bad_line());
+    }
+    let (path, content) = &event.files[0];
+    let given = receiver.deliver(
+        alloc,
+        event.name.as_str(),
+        path.as_str(),
+        content.as_slice(),
+    );
+    write!(out, "{}", AnswerText(given))
+}
+
+fn run<W: Write + Drop>(
+    alloc: Global,
+    receiver: &mut MapReceiver,
+    event: &Event<'_>,
+    out: &mut W,
+) -> io::Result<()> {
+    let run = receiver.run(alloc, event.name.as_str(), event.files.as_slice());
+    for given in run.answers.iter() {
+        write!(out, "{} | ", AnswerText(*given))?;
+    }
+    write!(out, "{}", end_text(run.ended))
+}
+
+fn report<W: Write + Drop>(
+    alloc: Global,
+    receiver: &mut MapReceiver,
+    name: &str,
+    out: &mut W,
+) -> io::Result<()> {
+    match receiver.report(alloc, name) {
+        Ok(report) => {
+            for fault in report.faults() {
+                write!(out, "{} | ", FaultText(fault))?;
+            }
+            write!(out, "{}", verdict_text(&report))
+        }
+        Err(fault) => write!(out, "refused: {fault}"),
+    }
+}
+
+fn names<W: Write + Drop>(
+    alloc: Global,
+    receiver: &mut MapReceiver,
+    out: &mut W,
+) -> io::Result<()> {
+    let Ok(names) = receiver.names(alloc) else {
+        return write!(out, "refused: keeper");
+    };
+    for (i, name) in names.iter().enumerate() {
+        if i > 0 {
+            write!(out, " ")?;
+        }
+        write!(out, "{name}")?;
+    }
+    Ok(())
+}
