@@ -14,4 +14,7 @@ fi
 
 expect 'random lists of deliveries' 0 '10000 lists of 166814 events: all answered alike' \
     env TMPDIR="$work" python3 -B tests/deliveries.py 10000 1 "$driver" deliveries
+python3 -B tests/growing_files.py >"$work/growing"
+expect '256 growing files in one run' 0 "$(python3 -B tests/growing_files.py --answers)" \
+    sh -c '"$1" deliveries <"$2"' sh "$driver" "$work/growing"
 finish

@@ -1,0 +1,30 @@
+#!/usr/bin/env python3
+"""growing_files.py [--answers]: a list of deliveries as tests/deliveries.py tells, or what has to be answered to it: a transfer of 256
+payload files, of which the nth is n octets of value n, and one run in which all come, then all in the other order, then each with
+one octet more."""
+import hashlib
+import sys
+
+FILES = [(b"data/%03d" % n, bytes([n]) * n) for n in range(256)]
+DECLARATION = b"BagIt-Version: 1.0\nTag-File-Character-Encoding: UTF-8\n"
+MANIFEST = b"".join(b"%s  %s\n" % (hashlib.sha256(octets).hexdigest().encode(), path) for path, octets in FILES)
+
+
+def line(word, *fields):
+    return " ".join([word, *(field.hex() or "-" for field in fields)])
+
+
+def main(words):
+    deliveries = FILES + FILES[::-1] + [(path, octets + b"x") for path, octets in FILES]
+    if words == ["--answers"]:
+        answers = ["taken"] * 256 + ["repeated"] * 256 + ["refused: digest sha256"] * 256 + ["done"]
+        return ["started", "new", " | ".join(answers), "valid"]
+    return [
+        "start",
+        line("begin", b"m", b"bagit.txt", DECLARATION, b"manifest-sha256.txt", MANIFEST),
+        line("run", b"m", *(field for delivery in deliveries for field in delivery)),
+        line("report", b"m"),
+    ]
+
+
+print("\n".join(main(sys.argv[1:])))
