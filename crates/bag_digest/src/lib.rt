@@ -8,7 +8,8 @@ pub use digest::Digest;
 pub use failures::Failures;
 pub use multi::{Digests, Multi};
 pub use reading::{
-    PIECE, ReadFault, SourceFault, digest_reader, digest_through, piece_buffer, read_to_end_within,
+    PIECE, ReadFault, SourceFault, digest_reader, digest_through, piece_buffer, read_piece,
+    read_to_end_within,
 };
 pub use source::{Failed, Source};
 

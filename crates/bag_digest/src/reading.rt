@@ -167,8 +167,15 @@ pub fn read_to_end_within<S: Source>(
 
 /// Reads one piece into the front of the buffer, and answers how many octets it read: none is the end.
 ///
-/// Where only so many octets are `left` within a limit, at most one more is read.
-fn read_piece<S: Source>(buffer: &mut [u8], reader: &mut S, left: u64) -> Result<usize, SourceFault>
+/// # Errors
+///
+/// `Read` where the read failed; `TooLarge` where the source gave more octets than are `left` within a limit: it gave one more, and
+/// none after it was taken.
+pub fn read_piece<S: Source>(
+    buffer: &mut [u8],
+    reader: &mut S,
+    left: u64,
+) -> Result<usize, SourceFault>
     requires { 0 < length buffer.old }
     ensures piece { IfOk result (λ n.
         GavePiece (S.remaining reader.old) (S.remaining reader.new) left n buffer.new) }

@@ -6,8 +6,7 @@ use Rattle.std.proofs.lemmas.List.Elements.{Contains-append_cases, Contains-appe
 use Rattle.std.proofs.lemmas.List.Sorted.{ranks_by, sorted_far}
 use Rattle.std.specs.List.Sorted.{IsPermutation, IsSorted, IsStrictlySortedBy}
 use Rattle.bag_rules.specs.Bags.{shown_of}
-use Rattle.bag_rules.specs.ClashInside.{HasInside, IsFolderAmong}
-use Rattle.bag_rules.specs.Opening.{IsClash, IsFirstPath, IsPathOf}
+use Rattle.bag_rules.specs.Opening.{HasInside, IsClash, IsFirstPath, IsFolderAmong, IsPathOf}
 use Rattle.bag_rules.specs.Transfers.{AreExpected, tag_bag}
 use Rattle.bag_rules.proofs.Words.{Alg, bytes_eq, bytes_eq-Decides, cases_lt, Contains-permutation, Files, is_lt, is_member-Decides, IsPermutation-sym, IsThere, keys_of, list_any, manifest_file, nat_cmp, ordering_reverse, paths_in, Payload, slice_cmp}
 use Rattle.bag_rules.proofs.TreeLemmas.{all_paths, is_there, shows}

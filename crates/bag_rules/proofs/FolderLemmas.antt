@@ -6,8 +6,8 @@ use Rattle.std.proofs.lemmas.List.Sorted.{ranks_by, sorted_far}
 use Rattle.std.specs.List.Sorted.{IsBinarySearchResult, IsNonDecreasingBy, IsSearchInRange, IsSorted}
 use Rattle.std.specs.Ordering.{is_lt, MatchOrdering, nat_cmp, ordering_index, ordering_then}
 use Rattle.bag_path.specs.Octets.{slash}
-use Rattle.bag_rules.specs.ClashInside.{beside_folder, HasInside}
-use Rattle.bag_rules.specs.Opening.{IsFolderOf}
+use Rattle.bag_rules.specs.ClashInside.{beside_folder}
+use Rattle.bag_rules.specs.Opening.{HasInside, IsFolderOf}
 use Rattle.bag_rules.proofs.Words.{cases_lt, Equal, Greater, Less, Ordering, same_Some, slice_cmp}
 
 same_octet : (x y : ℕ) → nat_cmp x y ≡ Equal → x ≡ y

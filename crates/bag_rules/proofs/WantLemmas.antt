@@ -6,7 +6,7 @@ use Rattle.bag_rules.proofs.Words.{AddsLength, AreByPath, bytes_eq, bytes_eq-Dec
 use Rattle.bag_rules.proofs.HasLemmas.{has_push}
 
 -- the same octets, or others
-same_or_not : (xs ys : List ℕ) → (xs ≡ ys) × (bytes_eq xs ys ≡ true) ⊎ (xs ≢ ys) × (bytes_eq xs ys ≡ false)
+pub same_or_not : (xs ys : List ℕ) → (xs ≡ ys) × (bytes_eq xs ys ≡ true) ⊎ (xs ≢ ys) × (bytes_eq xs ys ≡ false)
 same_or_not xs ys = elim (cases_Bool (bytes_eq xs ys)) [
   | inl h ↦ inl ((bytes_eq-Decides xs ys).0 h, h)
   | inr h ↦ inr ((λ e. let k : true ≡ false = sym ((bytes_eq-Decides xs ys).1 e) ∙ h in cc), h)

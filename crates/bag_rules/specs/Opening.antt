@@ -1,5 +1,5 @@
 -- How the tag files of a transfer open: what can't be begun is refused before any payload file comes.
-use Rattle.std.specs.Prelude.{◌≡◌, ◌≢◌, ◌⊎◌, ◌<◌, ◌++◌, ◌∷◌, ℕ, List, length}
+use Rattle.std.specs.Prelude.{◌≡◌, ◌≢◌, ◌⊎◌, ◌<◌, ◌++◌, ◌∷◌, ℕ, List, Contains, length}
 use Rattle.std.specs.Ordering.{nat_cmp}
 use Rattle.std.specs.Cmp.Lexicographic.{slice_cmp}
 use Rattle.std.specs.declared.cmp.Ordering.{Ordering}
@@ -72,6 +72,14 @@ IsPathOf tags path = IsThere (tag_bag tags) path ⊎ IsExpected tags path
 -- one path is that of a folder in which the other is
 abbrev pub IsFolderOf : List ℕ → List ℕ → Type 0
 IsFolderOf path other = (rest : List ℕ) × (other ≡ path ++ slash ∷ rest)
+
+-- one of them is in the folder with this path
+abbrev pub HasInside : List (List ℕ) → List ℕ → Type 0
+HasInside paths folder = (path : List ℕ) × Contains paths path × IsFolderOf folder path
+
+-- it is one of them, and that of a folder in which another is
+abbrev pub IsFolderAmong : List (List ℕ) → List ℕ → Type 0
+IsFolderAmong paths path = Contains paths path × HasInside paths path
 
 abbrev pub IsClash : Files → List ℕ → Type 0
 IsClash tags path = IsPathOf tags path

@@ -3,9 +3,9 @@ ghost use Rattle.std.specs.Prelude.{◌≡◌, ◌++◌, ◌↔◌, IfOk, IsTrue
 ghost use Rattle.std.specs.Cmp.Lexicographic.{slice_cmp};
 ghost use Rattle.std.specs.List.Sorted.{IsSorted};
 ghost use Rattle.std.specs.Ordering.{nat_cmp};
-ghost use Rattle.bag_rules.specs.ClashInside.{HasInside, IsFolderAmong, beside_folder};
+ghost use Rattle.bag_rules.specs.ClashInside.{beside_folder};
+ghost use Rattle.bag_rules.specs.Opening.{HasInside, IsClash, IsFirstPath, IsFolderAmong};
 ghost use Rattle.bag_rules.specs.Files.{paths_of};
-ghost use Rattle.bag_rules.specs.Opening.{IsClash, IsFirstPath};
 ghost use Rattle.bag_rules.specs.Transfers.{AreExpected};
 
 use crate::file::File;
@@ -42,8 +42,12 @@ fn paths_with(alloc: Global, files: &[File], others: &[BagPath]) -> Result<Vec<B
     Ok(paths)
 }
 
-/// The first of these paths that is that of a folder in which another of them is.
-fn first_folder(mut paths: Vec<BagPath>) -> Result<Option<BagPath>, AllocError>
+/// The first of these paths that is that of a folder in which another of them is: both can't be there.
+///
+/// # Errors
+///
+/// `AllocError` where memory runs out.
+pub fn first_folder(mut paths: Vec<BagPath>) -> Result<Option<BagPath>, AllocError>
     ensures { IfOk result (λ found. MatchOption found
         ((path : List ℕ) → ¬ IsFolderAmong paths.items path)
         (IsFirstPath (IsFolderAmong paths.items))) }

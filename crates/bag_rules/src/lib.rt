@@ -2,6 +2,7 @@
 #![tactic(auto)]
 
 pub use checking::check;
+pub use clash::first_folder;
 pub use fault::Fault;
 pub use file::File;
 pub use memory::{AddFault, MemTree};

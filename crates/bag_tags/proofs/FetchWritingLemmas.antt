@@ -28,10 +28,10 @@ use Rattle.bag_tags.proofs.WordsLemmas.{each}
 abbrev entry_text : FetchItem → List ℕ
 entry_text entry = entry.url ++ codes " " ++ written_length entry.octets ++ codes " " ++ written_spelling entry.path
 
-abbrev line_text : FetchLine → List ℕ
+abbrev pub line_text : FetchLine → List ℕ
 line_text line = entry_text line.entry
 
-fetch_written : (lines : List FetchLine) → written_fetch lines ≡ written_lines (map line_text lines)
+pub fetch_written : (lines : List FetchLine) → written_fetch lines ≡ written_lines (map line_text lines)
 fetch_written [] = refl
 fetch_written (line ∷ lines) = flat_map-cons written_line line lines ∙ ap (λ xs. written_line line ++ xs) (fetch_written lines) ∙ sym (lines_cons (line_text line) (map line_text lines))
 
@@ -84,7 +84,7 @@ text_plain line h =
     (space, tt))
     (path_plain e.path)
 
-texts_plain : (lines : List FetchLine) → AllByRecursion CanBeFetched lines → AllByRecursion (AllByRecursion IsPlain) (map line_text lines)
+pub texts_plain : (lines : List FetchLine) → AllByRecursion CanBeFetched lines → AllByRecursion (AllByRecursion IsPlain) (map line_text lines)
 texts_plain [] h = tt
 texts_plain (line ∷ lines) h = (text_plain line h.0, texts_plain lines h.1)
 

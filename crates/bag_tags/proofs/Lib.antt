@@ -29,3 +29,4 @@ pub mod ExampleLines
 pub mod EarlierDeclaration
 pub mod TextFiles
 pub mod ExactTexts
+pub mod WrittenLines

@@ -35,10 +35,10 @@ use Rattle.bag_tags.proofs.WritingLemmas.{numbered_texts, written_text, lines_co
 use Rattle.bag_tags.proofs.WordsLemmas.{each}
 
 -- the text of a line
-abbrev pair_text : Pair → List ℕ
+abbrev pub pair_text : Pair → List ℕ
 pair_text pair = lower_case_of pair.digest ++ codes "  " ++ written_path pair.path
 
-pairs_written : (pairs : List Pair) → written_manifest pairs ≡ written_lines (map pair_text pairs)
+pub pairs_written : (pairs : List Pair) → written_manifest pairs ≡ written_lines (map pair_text pairs)
 pairs_written [] = refl
 pairs_written (p ∷ pairs) = flat_map-cons written_pair p pairs ∙ ap (λ xs. written_pair p ++ xs) (pairs_written pairs) ∙ sym (lines_cons (pair_text p) (map pair_text pairs))
 
@@ -171,7 +171,7 @@ text_plain p h =
     (all_both IsPlain hex (codes "  ") (each (λ x. is_hex_digit x ≡ true) IsPlain digit_plain hex (hex_of_pair p h).digits) ((λ e. cc, λ e. cc), ((λ e. cc, λ e. cc), tt)))
     (path_text_plain p.path)
 
-texts_plain : (pairs : List Pair) → AllByRecursion CanBeWritten pairs → AllByRecursion (AllByRecursion IsPlain) (map pair_text pairs)
+pub texts_plain : (pairs : List Pair) → AllByRecursion CanBeWritten pairs → AllByRecursion (AllByRecursion IsPlain) (map pair_text pairs)
 texts_plain [] h = tt
 texts_plain (p ∷ pairs) h = (text_plain p h.0, texts_plain pairs h.1)
 

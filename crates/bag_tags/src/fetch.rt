@@ -186,7 +186,7 @@ impl Fetch {
 }
 
 /// Whether a text is a scheme, a colon and something more without blanks and controls.
-pub(crate) fn is_url(text: &[u8]) -> bool
+pub fn is_url(text: &[u8]) -> bool
     ensures { IsTrue result ↔ IsUrl text.now }
 {
     let (scheme, rest) = split_at_first(text, Stop::Colon);

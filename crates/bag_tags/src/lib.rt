@@ -3,7 +3,7 @@
 
 pub use declaration::{DeclFault, Declaration, read_declaration, write_declaration};
 pub use fault::{LineCause, LineFault, TagFault};
-pub use fetch::{Fetch, FetchEntry, FetchEntryFault, FetchLine};
+pub use fetch::{Fetch, FetchEntry, FetchEntryFault, FetchLine, is_url};
 pub use fetch_text::{read_fetch, write_fetch};
 pub use info::{Element, ElementFault, Info};
 pub use info_text::{read_info, write_info};

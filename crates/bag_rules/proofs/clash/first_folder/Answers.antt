@@ -1,7 +1,6 @@
 use Rattle.std.proofs.Common.{◌<◌, ◌∙◌, List, ℕ, [], arith, below_more, get_or, length, subst, sym}
 use Rattle.std.proofs.lemmas.List.{get_or_default}
-use Rattle.bag_rules.specs.ClashInside.{HasInside, IsFolderAmong}
-use Rattle.bag_rules.specs.Opening.{IsFirstPath}
+use Rattle.bag_rules.specs.Opening.{HasInside, IsFirstPath, IsFolderAmong}
 use Rattle.bag_rules.proofs.ClashLemmas.{AreInOrder, no_folder, first_is}
 use Rattle.bag_rules.proofs.clash.first_folder.Goals.{After-deref-path-items}
 use Rattle.bag_rules.proofs.clash.first_folder.Goals as goal

@@ -1,5 +1,5 @@
 use Rattle.std.proofs.Common.{ℕ, ◌<◌, get_or, List, []}
-use Rattle.bag_rules.specs.ClashInside.{HasInside}
+use Rattle.bag_rules.specs.Opening.{HasInside}
 use Rattle.bag_rules.proofs.clash.first_folder.Given as goal
 
 -- no path that was looked at is that of a folder

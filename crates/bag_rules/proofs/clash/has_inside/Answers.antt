@@ -1,5 +1,6 @@
 use Rattle.std.proofs.Common.{List, ℕ, sym, subst, ◌∙◌, ◌↔◌, IsTrue, rules}
-use Rattle.bag_rules.specs.ClashInside.{beside_folder, HasInside}
+use Rattle.bag_rules.specs.ClashInside.{beside_folder}
+use Rattle.bag_rules.specs.Opening.{HasInside}
 use Rattle.bag_rules.proofs.Words.{always_returns_same, IsBinarySearchResult}
 use Rattle.bag_rules.proofs.FolderLemmas.{found_inside, inside_found}
 use Rattle.bag_rules.proofs.clash.has_inside.Goals as goal
