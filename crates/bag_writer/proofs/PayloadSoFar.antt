@@ -1,0 +1,148 @@
+-- The payload as far as it was read and written.
+use Rattle.std.proofs.Common.{◌≡◌, ◌≤◌, ◌+◌, ◌∷◌, [], ◌++◌, ℕ, Bool, true, false, List, Option, Some, None, length, take, drop, slice_get, get_or, refl, sym, ap, ◌∙◌, subst, inl, inr, arith, append-nil}
+use Rattle.std.proofs.lemmas.List.{take-append-drop, take_all}
+use Rattle.bag_digest.specs.declared.algorithm.AlgSet.{AlgSet}
+use Rattle.bag_rules.proofs.HasLemmas.{has_push}
+use Rattle.bag_rules.proofs.Words.{AreRising, Files, Has, is_payload, get_or_from_slice_get, option_map, paths_in, payload_of, Shown, slice_get-map}
+use Rattle.bag_rules.specs.declared.limits.TheConstants.{LARGEST_FILE}
+use Rattle.bag_writer.specs.PayloadSteps.{IsCutShort, IsReadAs, IsTaken, unless_hole}
+use Rattle.bag_writer.specs.Sinks.{IsFree, Stored}
+use Rattle.bag_writer.specs.Steps.{AreHoleMarks, AreItemsOf, ArePart, AreWhole, HasNoFile, is_hole, IsItemOf, written_payload}
+use Rattle.bag_writer.specs.Writing.{HasLongFile, IsReadFrom}
+use Rattle.bag_writer.specs.declared.fault.WriteFault.{WriteFault}
+use Rattle.bag_writer.specs.declared.fault.WriteFault.TheVariants.{TooLarge}
+use Rattle.bag_writer.specs.declared.item.Item.{Item}
+use Rattle.bag_writer.specs.declared.spec.Spec.{Spec}
+use Rattle.bag_writer.proofs.FileSteps.{octets_unread, path_here}
+use Rattle.bag_writer.proofs.PayloadLists.{absent_written, AreReadAs, File, next_taken, payload_next, payload_on, payload_passed, payload_read, read_on, rest_from, ShownFile, unread, unread_is, written_next, written_of, written_on}
+use Rattle.bag_writer.proofs.StepLemmas.{free_at_first, free_still, part_after, part_more, part_whole, whole_none, whole_on}
+
+-- these files of a tree were read, and the payload among them was written but for the holes, and these are its items
+pub record HasWritten (spec : Spec) (shown : List ShownFile) (old new : Option Stored) (items : List Item) (files : Files) : Type 0 where
+  pub read : AreReadAs shown files
+  pub items_are : AreItemsOf spec.algs items (payload_of files)
+  pub short : ¬ HasLongFile (payload_of files) LARGEST_FILE
+  pub whole : AreWhole (written_of spec files) old new
+
+pub nothing_written : (spec : Spec) (s : Option Stored) → HasWritten spec [] s s [] []
+nothing_written spec s = record { read = tt; items_are = tt; short = λ h. h.1.1; whole = whole_none s }
+
+pub with_items : {spec : Spec} {shown : List ShownFile} {old new : Option Stored} {items : List Item} {files : Files} (others : List Item) → HasWritten spec shown old new items files → others ≡ items → HasWritten spec shown old new others files
+with_items {spec} {shown} {old} {new} {items} {files} others written e = subst (λ list. HasWritten spec shown old new list files) (sym e) written
+
+items_on : (set : AlgSet) (items : List Item) (files : Files) (item : Item) (file : File) → AreItemsOf set items files → IsItemOf set item file.0 file.1 → AreItemsOf set (items ++ item ∷ []) (files ++ file ∷ [])
+items_on set [] [] item file h k = (k, tt)
+items_on set [] (f ∷ files) item file h k = absurd h
+items_on set (i ∷ items) [] item file h k = absurd h
+items_on set (i ∷ items) (f ∷ files) item file h k = (h.0, items_on set items files item file h.1 k)
+
+short_on : (files : Files) (file : File) → ¬ HasLongFile files LARGEST_FILE → length file.1 ≤ LARGEST_FILE → ¬ HasLongFile (files ++ file ∷ []) LARGEST_FILE
+short_on files file short within (path, (octets, has, long)) = elim ((has_push files file (path, octets)).0 has) [
+  | inl before ↦ short (path, (octets, before, long))
+  | inr last ↦ (let e : length file.1 ≡ length octets = ap (λ (f : File). length f.1) last in omega (arith, within, long, e))
+]
+
+has_middle : (files rest : Files) (file : File) → Has (files ++ file ∷ rest) file
+has_middle [] rest file = inl refl
+has_middle (f ∷ files) rest file = inr (has_middle files rest file)
+
+module _ (spec : Spec) (tree : Shown) (n : ℕ) (old new : Option Stored) (items : List Item) (files : Files) (so_far : HasWritten spec (take n tree.files) old new items files) where
+  -- where all files were read
+  pub all_written : length tree.files ≤ n → IsReadFrom tree (payload_of files)
+  all_written all = payload_read tree files (subst (λ shown. AreReadAs shown files) (take_all n tree.files all) so_far.read)
+
+  -- between two files
+  pub stopped_between : (fault : WriteFault) → ¬ (fault ≡ TooLarge)
+      → (payload : Files) × IsReadFrom tree payload × ((fault ≡ TooLarge → HasLongFile payload LARGEST_FILE) × ArePart (written_payload spec payload) old new)
+  stopped_between fault other =
+      let rest = unread (drop n tree.files) in (
+        payload_of (files ++ rest),
+        payload_read tree (files ++ rest)
+            (subst (λ shown. AreReadAs shown (files ++ rest)) (take-append-drop n tree.files) (read_on (take n tree.files) (drop n tree.files) files rest so_far.read (unread_is (drop n tree.files)))),
+        (
+          (λ e. absurd (other e)),
+          subst (λ list. ArePart list old new) (sym (written_on spec files rest)) (part_whole (written_of spec files) (written_of spec rest) old new so_far.whole),
+        ),
+      )
+
+  module _ (shown : ShownFile) (here : slice_get tree.files n ≡ Some shown) where
+    next : take (n + 1) tree.files ≡ take n tree.files ++ shown ∷ []
+    next = next_taken tree.files n shown here
+
+    -- a file that is none of the payload
+    pub passed : is_payload shown.0 ≡ false → (more : Files) × HasWritten spec (take (n + 1) tree.files) old new items more
+    passed other =
+        let file : File = (shown.0, (octets_unread shown.1).0) in
+        let same : payload_of (files ++ file ∷ []) ≡ payload_of files = payload_on files (file ∷ []) ∙ ap (λ list. payload_of files ++ list) (payload_passed file [] other) ∙ append-nil (payload_of files) in (
+          files ++ file ∷ [],
+          record {
+            read = subst (λ list. AreReadAs list (files ++ file ∷ [])) (sym next) (read_on (take n tree.files) (shown ∷ []) files (file ∷ []) so_far.read (unread_is (shown ∷ [])));
+            items_are = subst (AreItemsOf spec.algs items) (sym same) so_far.items_are;
+            short = subst (λ list. ¬ HasLongFile list LARGEST_FILE) (sym same) so_far.short;
+            whole = subst (λ list. AreWhole (written_payload spec list) old new) (sym same) so_far.whole;
+          },
+        )
+
+    module _ (mark : Bool) (file : File) (payload : is_payload shown.0 ≡ true) (marked : is_hole spec.holes.items shown.0 ≡ mark) (read_as : IsReadAs shown file) where
+      is_one : is_payload file.0 ≡ true
+      is_one = ap is_payload read_as.0 ∙ payload
+
+      is_marked : is_hole spec.holes.items file.0 ≡ mark
+      is_marked = ap (is_hole spec.holes.items) read_as.0 ∙ marked
+
+      next_payload : (rest : Files) → payload_of (files ++ file ∷ rest) ≡ payload_of files ++ file ∷ payload_of rest
+      next_payload rest = payload_on files (file ∷ rest) ∙ ap (λ list. payload_of files ++ list) (payload_next file rest is_one)
+
+      next_written : (rest : Files) → written_of spec (files ++ file ∷ rest) ≡ written_of spec files ++ (unless_hole mark file ++ written_of spec rest)
+      next_written rest = written_on spec files (file ∷ rest) ∙ ap (λ list. written_of spec files ++ list) (written_next spec file rest mark is_one is_marked)
+
+      -- a payload file that was taken
+      pub one_more : (end : Option Stored) (item : Item) → IsTaken spec.algs mark file new end item → HasWritten spec (take (n + 1) tree.files) old end (items ++ item ∷ []) (files ++ file ∷ [])
+      one_more end item taken = record {
+        read = subst (λ list. AreReadAs list (files ++ file ∷ [])) (sym next) (read_on (take n tree.files) (shown ∷ []) files (file ∷ []) so_far.read (read_as, tt));
+        items_are = subst (AreItemsOf spec.algs (items ++ item ∷ [])) (sym (next_payload [])) (items_on spec.algs items (payload_of files) item file so_far.items_are taken.item_is);
+        short = subst (λ list. ¬ HasLongFile list LARGEST_FILE) (sym (next_payload [])) (short_on (payload_of files) file so_far.short taken.within);
+        whole = subst (λ list. AreWhole list old end) (sym (next_written [] ∙ ap (λ list. written_of spec files ++ list) (append-nil (unless_hole mark file)))) (whole_on (written_of spec files) (unless_hole mark file) old new end so_far.whole taken.written);
+      }
+
+      -- and one at which the writing stopped
+      pub stopped_in : (end : Option Stored) (fault : WriteFault) → IsCutShort mark file new end fault
+          → (all : Files) × IsReadFrom tree all × ((fault ≡ TooLarge → HasLongFile all LARGEST_FILE) × ArePart (written_payload spec all) old end)
+      stopped_in end fault cut =
+          let rest = unread (drop (n + 1) tree.files) in
+          let shown_rest = shown ∷ drop (n + 1) tree.files in
+          let joined = read_on (take n tree.files) shown_rest files (file ∷ rest) so_far.read (read_as, unread_is (drop (n + 1) tree.files)) in (
+            payload_of (files ++ file ∷ rest),
+            payload_read tree (files ++ file ∷ rest)
+                (subst (λ list. AreReadAs list (files ++ file ∷ rest)) (ap (λ list. take n tree.files ++ list) (sym (rest_from tree.files n shown here)) ∙ take-append-drop n tree.files) joined),
+            (
+              (λ e. (file.0, (file.1, subst (λ list. Has list file) (sym (next_payload rest)) (has_middle (payload_of files) (payload_of rest) file), cut.long e))),
+              subst (λ list. ArePart list old end) (sym (next_written rest))
+                  (part_after (written_of spec files) (unless_hole mark file ++ written_of spec rest) old new end so_far.whole (part_more (unless_hole mark file) (written_of spec rest) new end cut.written)),
+            ),
+          )
+
+  -- the sink has no file yet at the path of the next one
+  pub free_next : AreRising (paths_in tree) → (path : List ℕ) → slice_get (paths_in tree) n ≡ Some path → HasNoFile old → IsFree new path
+  free_next rising path here none =
+      free_still (written_of spec files) path old new (free_at_first old path none)
+      (absent_written tree spec files n path rising so_far.read here) so_far.whole
+
+-- THE FILE AT A PLACE
+
+found_shown : (o : Option ShownFile) (path : List ℕ) → option_map (λ (s : ShownFile). s.0) o ≡ Some path → (s : ShownFile) × ((o ≡ Some s) × (s.0 ≡ path))
+found_shown None path e = absurd (cc)
+found_shown (Some s) path e = let k : s.0 ≡ path = cc in (s, (refl, k))
+
+-- the file at the place of a path, where what a tree shows is still the same
+pub shown_at : (tree now : Shown) → now ≡ tree → (i : ℕ) (path : List ℕ) → slice_get (paths_in now) i ≡ Some path → (s : ShownFile) × ((slice_get tree.files i ≡ Some s) × (s.0 ≡ path))
+shown_at tree now same i path e =
+    found_shown (slice_get tree.files i) path (sym (slice_get-map (λ (s : ShownFile). s.0) tree.files i) ∙ subst (λ (s : Shown). slice_get (paths_in s) i ≡ Some path) same e)
+
+pub marked_at : (spec : Spec) (tree : Shown) (marks : List Bool) (i : ℕ) (shown : ShownFile) → AreHoleMarks (paths_in tree) spec marks → slice_get tree.files i ≡ Some shown → is_hole spec.holes.items shown.0 ≡ get_or marks i false
+marked_at spec tree marks i shown are here =
+    sym (get_or_from_slice_get marks i (is_hole spec.holes.items shown.0) false (
+    ap (λ list. slice_get list i) are.each
+    ∙ slice_get-map (is_hole spec.holes.items) (paths_in tree) i
+    ∙ ap (option_map (is_hole spec.holes.items)) (path_here tree i shown here)
+    ))

@@ -1,0 +1,85 @@
+use Rattle.std.proofs.Common.{◌≡◌, ◌∙◌, ◌≤◌, ap, arith, false, length, ◌++◌, ◌∷◌, [], List, ℕ, Option, rules, slice_get, Some, subst, sym, true}
+use Rattle.std.proofs.lemmas.List.{length-map}
+use Rattle.std.proofs.lemmas.Result.{err_from_is_err_and}
+use Rattle.bag_rules.proofs.TreeUses.{uses_kept, uses_on}
+use Rattle.bag_rules.proofs.Words.{is_payload, paths_in, payload_of, Shown}
+use Rattle.bag_writer.specs.declared.fault.WriteFault.TheVariants.{Memory}
+use Rattle.bag_writer.proofs.PayloadSoFar.{all_written, free_next, marked_at, one_more, passed, shown_at, stopped_between, stopped_in, with_items}
+use Rattle.bag_writer.proofs.SinkKept.{err_again, sink_kept}
+use Rattle.bag_writer.proofs.SinkUses.{sink_on, sink_so}
+use Rattle.bag_writer.proofs.payload.write_payload.Goals as goal
+
+pub loop-i-preserved-then-not-is_payload : goal.loop-i-preserved-then-not-is_payload
+loop-i-preserved-then-not-is_payload g c =
+    let inv = c.loop-i.invariant in
+    let tree = g.T.Paths.shown c.args.tree.now in
+    let place = shown_at tree (g.T.Paths.shown c.loop-i.tree) inv.read.same c.loop-i.i c.path.result.now c.path.ensures in
+    let told : c.is_payload.result ≡ false = search rules in
+    let other : is_payload place.0.0 ≡ false = ap is_payload place.1.1 ∙ sym c.is_payload.ensures ∙ told in
+    record {
+      written = passed c.args.spec.now tree c.loop-i.i _ _ c.loop-i.items.items inv.written.0 inv.written.1 place.0 place.1.0 other;
+      read = inv.read;
+      closed = inv.closed;
+      used = inv.used;
+    }
+
+pub returns-in_err-item-clause-written : goal.returns-in_err-item-clause-written
+returns-in_err-item-clause-written g c =
+    let p = err_from_is_err_and c.from_residual.result c.from_residual.ensures.1 in
+    let inv = c.loop-i.invariant in
+    let tree = g.T.Paths.shown c.args.tree.now in
+    let place = shown_at tree (g.T.Paths.shown c.loop-i.tree) inv.read.same c.loop-i.i c.path.result.now c.path.ensures in
+    let told : c.is_payload.result ≡ true = search rules in
+    let is : is_payload place.0.0 ≡ true = ap is_payload place.1.1 ∙ sym c.is_payload.ensures ∙ told in
+    let marked = marked_at c.args.spec.now tree c.args.marks.now c.loop-i.i place.0 c.requires.marks place.1.0 in
+    let taken = c.in_err-item.ensures.taken place.0 (ap (λ (s : Shown). slice_get s.files c.loop-i.i) inv.read.same ∙ place.1.0) in
+    rw (p.1, p.2) (stopped_in c.args.spec.now tree c.loop-i.i _ _ c.loop-i.items.items inv.written.0 inv.written.1 place.0 place.1.0 _ taken.0 is marked taken.1 _ c.in_err-item.field-0.0 taken.2)
+
+pub returns-in_err-item-clause-sink : goal.returns-in_err-item-clause-sink
+returns-in_err-item-clause-sink g c =
+    let p = err_from_is_err_and c.from_residual.result c.from_residual.ensures.1 in
+    let inv = c.loop-i.invariant in
+    let tree = g.T.Paths.shown c.args.tree.now in
+    rw (p.1, p.2) (sink_so
+    (sink_on (sink_kept inv.used (λ no. no)) (λ no. no) c.in_err-item.ensures.sink (λ order. (
+      inv.closed order.0,
+      λ path here.
+          free_next c.args.spec.now tree c.loop-i.i _ _ c.loop-i.items.items inv.written.0 inv.written.1 c.count-i-end.ensures.rising path (subst (λ (s : Shown). slice_get (paths_in s) c.loop-i.i ≡ Some path) inv.read.same here) order.1,
+    )))
+    (λ e. err_again e) (λ e. err_again e))
+
+pub returns-in_err-push-clause-written : goal.returns-in_err-push-clause-written
+returns-in_err-push-clause-written g c =
+    let p = err_from_is_err_and c.from_residual-in_err-push.result c.from_residual-in_err-push.ensures.1 in
+    let inv = c.loop-i.invariant in
+    let tree = g.T.Paths.shown c.args.tree.now in
+    let place = shown_at tree (g.T.Paths.shown c.loop-i.tree) inv.read.same c.loop-i.i c.path.result.now c.path.ensures in
+    let told : c.is_payload.result ≡ true = search rules in
+    let is : is_payload place.0.0 ≡ true = ap is_payload place.1.1 ∙ sym c.is_payload.ensures ∙ told in
+    let marked = marked_at c.args.spec.now tree c.args.marks.now c.loop-i.i place.0 c.requires.marks place.1.0 in
+    let taken = c.in_ok-item.ensures.taken place.0 (ap (λ (s : Shown). slice_get s.files c.loop-i.i) inv.read.same ∙ place.1.0) in
+    rw (p.1, p.2) (stopped_between c.args.spec.now tree _ _ _ _ _ (one_more c.args.spec.now tree c.loop-i.i _ _ c.loop-i.items.items inv.written.0 inv.written.1 place.0 place.1.0 _ taken.0 is marked taken.1 _ c.in_ok-item.item taken.2) Memory (λ e. cc))
+
+pub loop-i-preserved : goal.loop-i-preserved
+loop-i-preserved g c =
+    let inv = c.loop-i.invariant in
+    let tree = g.T.Paths.shown c.args.tree.now in
+    let place = shown_at tree (g.T.Paths.shown c.loop-i.tree) inv.read.same c.loop-i.i c.path.result.now c.path.ensures in
+    let told : c.is_payload.result ≡ true = search rules in
+    let is : is_payload place.0.0 ≡ true = ap is_payload place.1.1 ∙ sym c.is_payload.ensures ∙ told in
+    let marked = marked_at c.args.spec.now tree c.args.marks.now c.loop-i.i place.0 c.requires.marks place.1.0 in
+    let taken = c.in_ok-item.ensures.taken place.0 (ap (λ (s : Shown). slice_get s.files c.loop-i.i) inv.read.same ∙ place.1.0) in
+    let more = one_more c.args.spec.now tree c.loop-i.i _ _ c.loop-i.items.items inv.written.0 inv.written.1 place.0 place.1.0 _ taken.0 is marked taken.1 _ c.in_ok-item.item taken.2 in
+    record {
+      written = (inv.written.0 ++ taken.0 ∷ [], with_items _ more c.in_ok-push.ensures.items);
+      read = uses_kept (uses_on inv.read (λ no. no) c.in_ok-item.ensures.tree) (λ e. cc) (λ no. no);
+      closed = λ h. c.in_ok-item.ensures.open (inv.closed h);
+      used = sink_on inv.used (λ no. no) (sink_kept c.in_ok-item.ensures.sink (λ e. cc)) (λ h. h);
+    }
+
+pub returns-clause-written : goal.returns-clause-written
+returns-clause-written g c =
+    let inv = c.loop-i.invariant in
+    let tree = g.T.Paths.shown c.args.tree.now in
+    let end : length tree.files ≤ c.loop-i.i = omega (arith, c.count-i-end.ensures.files, c.loop-i-test.false, length-map tree.files (λ (s : List ℕ × Option (List ℕ)). s.0)) in
+    (payload_of inv.written.0, all_written c.args.spec.now tree c.loop-i.i _ _ c.loop-i.items.items inv.written.0 inv.written.1 end, (inv.written.1.items_are, inv.written.1.short, inv.written.1.whole))

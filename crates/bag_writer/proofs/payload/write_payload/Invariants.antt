@@ -1,0 +1,17 @@
+use Rattle.std.proofs.Common.{◌≡◌, false, take}
+use Rattle.bag_rules.specs.Files.{Files}
+use Rattle.bag_rules.specs.Trees.{UsesTree}
+use Rattle.bag_writer.specs.Sinks.{UsesSink}
+use Rattle.bag_writer.proofs.PayloadSoFar.{HasWritten}
+use Rattle.bag_writer.proofs.payload.write_payload.Given as goal
+
+abbrev pub invariant-loop-i : goal.invariant-loop-i
+invariant-loop-i g l =
+    let tree = g.T.Tree in
+    let sink = g.S.Sink in
+    record {
+      written : (files : Files) × HasWritten l.fn.spec (take l.i (g.T.Paths.shown l.fn.tree).files) (sink.stored l.fn.sink) (sink.stored l.sink) l.items.items files;
+      read : UsesTree g.T.Paths.shown g.T.Source.failures tree.sure l.fn.tree l.tree ⊥;
+      closed : sink.is_open l.fn.sink ≡ false → sink.is_open l.sink ≡ false;
+      used : UsesSink sink.failures sink.sure l.fn.sink l.sink (Unit {0}) ⊥;
+    }

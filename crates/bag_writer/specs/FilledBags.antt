@@ -1,0 +1,32 @@
+-- Of which payloads a bag is written, and the bag with its holes filled: what is to be there once each file was fetched (RFC 8493
+-- section 2.2.3).
+use Rattle.std.specs.Prelude.{◌≡◌, ◌⊎◌, ◌↔◌, ℕ, List, true}
+use Rattle.std.specs.List.{AllByRecursion}
+use Rattle.std.specs.Map.{keys_of}
+use Rattle.bag_path.specs.Paths.{IsPath, is_payload}
+use Rattle.bag_tags.specs.Infos.{IsElement}
+use Rattle.bag_rules.specs.Bags.{Bag, Holds, paths_of}
+use Rattle.bag_rules.specs.Faults.{Has}
+use Rattle.bag_rules.specs.Files.{Files}
+use Rattle.bag_rules.specs.Trees.{AreRising}
+use Rattle.bag_writer.specs.WrittenBags.{tag_files}
+use Rattle.bag_writer.specs.Writing.{IsAccepted, IsTooLarge}
+use Rattle.bag_writer.specs.declared.spec.Spec.{Spec}
+
+abbrev pub IsPayloadPath : List ℕ → Type 0
+IsPayloadPath path = IsPath path × (is_payload path ≡ true)
+
+-- Of this payload a bag can be written so. (The paths of a tree and the elements of an `Info` are such by their types.)
+pub record IsPayloadFor (spec : Spec) (payload : Files) : Type 0 where
+  pub rising : AreRising (keys_of payload)
+  pub paths : AllByRecursion IsPayloadPath (keys_of payload)
+  pub elements : AllByRecursion IsElement spec.info
+  pub accepted : IsAccepted (keys_of payload) spec
+  pub not_too_large : ¬ IsTooLarge spec payload
+
+-- the bag that is written of this payload, and each of its holes is filled
+pub record IsFilled (spec : Spec) (payload : Files) (bag : Bag) : Type 0 where
+  pub rising : AreRising (paths_of bag)
+  pub has_payload_dir : bag.has_payload_dir ≡ true
+  pub exact : (path octets : List ℕ) → Holds bag path octets
+      ↔ (Has payload (path, octets) ⊎ Has (tag_files spec payload) (path, octets))

@@ -1,0 +1,11 @@
+pub mod Sinks
+pub mod Memory
+pub mod MemoryInside
+pub mod WrittenBags
+pub mod Writing
+pub mod Steps
+pub mod PayloadSteps
+pub mod TagWriting
+pub mod Accepting
+pub mod FilledBags
+pub mod ExampleBags

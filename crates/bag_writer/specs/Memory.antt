@@ -1,0 +1,39 @@
+-- A sink in memory, as what it holds.
+use Rattle.std.specs.Prelude.{◌+◌, ℕ, Bool, Option, Some, None, is_some, min}
+use Rattle.bag_digest.specs.Device.{greatest_count}
+use Rattle.bag_rules.specs.Bags.{Bag}
+use Rattle.bag_rules.specs.Memory.{MemFiles}
+use Rattle.bag_writer.specs.Sinks.{Stored, nothing_stored}
+
+-- the files that it holds, and how often it has failed
+pub record MemStored : Type 0 where
+  pub stored : Stored
+  pub failures : ℕ
+
+-- nothing was written yet, and nothing has failed
+abbrev pub nothing_held : MemStored
+nothing_held = record { stored = nothing_stored; failures = 0 }
+
+-- it is always known what it holds
+abbrev pub known : MemStored → Option Stored
+known sink = Some sink.stored
+
+abbrev pub has_begun : MemStored → Bool
+has_begun sink = is_some sink.stored.begun
+
+-- any call that takes memory may fail
+abbrev pub IsNeverSure : MemStored → Type 0
+IsNeverSure sink = ⊥
+
+-- one failure more, up to the greatest number
+abbrev pub with_failure : MemStored → MemStored
+with_failure sink = record sink { failures = min (sink.failures + 1) greatest_count }
+
+-- a tree of the files of a bag, of which none was started and none has failed
+abbrev pub tree_of : Bag → MemFiles
+tree_of bag = record {
+  files = bag.files;
+  has_payload_dir = bag.has_payload_dir;
+  started = None;
+  failures = 0;
+}

@@ -1,0 +1,21 @@
+-- How the fields of a sink in memory show what it holds, and what is true of them.
+use Rattle.std.specs.Prelude.{◌≡◌}
+use Rattle.std.specs.Option.{option_map}
+use Rattle.bag_rules.specs.Memory.{bag_in}
+use Rattle.bag_writer.specs.Memory.{MemStored, tree_of}
+use Rattle.bag_writer.specs.Sinks.{Begun}
+use Rattle.bag_writer.specs.declared.memory.OpenFile.{OpenFile}
+use Rattle.bag_writer.specs.declared.memory.MemSink.TheInside.{Inside}
+
+abbrev pub begun_by : OpenFile → Begun
+begun_by file = record { path = file.path; octets = file.octets.items }
+
+abbrev pub view_of : Inside → MemStored
+view_of sink = record {
+  stored = record { bag = bag_in sink.ended; begun = option_map begun_by sink.begun };
+  failures = sink.failures;
+}
+
+-- no file of the tree was started, and none has failed
+pub record IsSound (sink : Inside) : Type 0 where
+  pub tree : sink.ended ≡ tree_of (bag_in sink.ended)

@@ -1,0 +1,88 @@
+-- How a bag is written: one whole file after another. (These are said of private functions.)
+use Rattle.std.specs.Prelude.{◌≡◌, ◌⊎◌, ◌∷◌, ◌≤◌, [], ℕ, Bool, true, List, Option, Some, None, Contains, length, map, not, slice_get, take}
+use Rattle.std.specs.List.{AllByRecursion, filter, fold, list_any}
+use Rattle.std.specs.Map.{keys_of}
+use Rattle.std.specs.Option.{option_map}
+use Rattle.std.specs.Str.{bytes_eq}
+use Rattle.bag_digest.specs.Hash.{AreDigests}
+use Rattle.bag_digest.specs.declared.algorithm.AlgSet.{AlgSet}
+use Rattle.bag_path.specs.Paths.{is_payload}
+use Rattle.bag_rules.specs.Bags.{paths_of}
+use Rattle.bag_rules.specs.Trees.{AreRising}
+use Rattle.bag_rules.specs.declared.limits.TheConstants.{LARGEST_FILE, MOST_LINES}
+use Rattle.bag_rules.specs.Files.{Files}
+use Rattle.bag_writer.specs.Sinks.{Stored, with_begun, with_ended, with_octets, without_begun}
+use Rattle.bag_writer.specs.Writing.{HasLongFile, IsAccepted}
+use Rattle.bag_writer.specs.declared.item.Item.{Item}
+use Rattle.bag_writer.specs.declared.spec.Hole.{Hole}
+use Rattle.bag_writer.specs.declared.spec.Spec.{Spec}
+
+-- WHAT IS WRITTEN
+
+-- whether the path is that of a hole
+abbrev pub is_hole : List Hole → List ℕ → Bool
+is_hole holes path = list_any (λ (hole : Hole). bytes_eq hole.path path) holes
+
+-- the payload files that are written
+abbrev pub written_payload : Spec → Files → Files
+written_payload spec payload =
+    filter (λ (file : List ℕ × List ℕ). not (is_hole spec.holes.items file.0)) payload
+
+-- one whole file more
+abbrev pub with_whole : Stored → List ℕ × List ℕ → Stored
+with_whole stored file = with_ended (with_octets file.1 (with_begun file.0 stored))
+
+-- whole files, one after another
+abbrev pub with_wholes : Files → Stored → Stored
+with_wholes files stored = fold with_whole stored files
+
+-- each of the files was written whole, where it is known what the sink holds
+abbrev pub AreWhole : Files → Option Stored → Option Stored → Type 0
+AreWhole files old new = new ≡ option_map (with_wholes files) old
+
+-- The next file wasn't begun, some first octets of it were written, or it was begun and is lost.
+abbrev pub HasFrontOf : Option (List ℕ × List ℕ) → Option Stored → Option Stored → Type 0
+HasFrontOf None old new = new ≡ old
+HasFrontOf (Some file) old new = (new ≡ old)
+    ⊎ ((n : ℕ) × (new ≡ option_map (λ stored. with_octets (take n file.1) (with_begun file.0 stored)) old))
+    ⊎ (new ≡ option_map without_begun old)
+
+-- some first ones of these files were written whole, and of the next one some front
+abbrev pub ArePart : Files → Option Stored → Option Stored → Type 0
+ArePart files old new = (n : ℕ)
+    × HasFrontOf (slice_get files n) (option_map (with_wholes (take n files)) old) new
+
+-- no file is there yet, where it is known which are; and none but payload files
+abbrev pub HasNoFile : Option Stored → Type 0
+HasNoFile known = (stored : Stored) → known ≡ Some stored → stored.bag.files ≡ []
+
+abbrev pub HasPayloadAlone : Option Stored → Type 0
+HasPayloadAlone known = (stored : Stored) → known ≡ Some stored → (path : List ℕ)
+    → Contains (paths_of stored.bag) path → is_payload path ≡ true
+
+-- WHAT WAS READ
+
+-- the path of the file, the number of its octets, and their digests
+pub record IsItemOf (set : AlgSet) (item : Item) (path octets : List ℕ) : Type 0 where
+  pub path_is : item.path ≡ path
+  pub length_is : item.octets ≡ length octets
+  pub digests_are : AreDigests item.digests set octets
+
+-- each item is that of the file at its place
+abbrev pub AreItemsOf : AlgSet → List Item → Files → Type 0
+AreItemsOf set [] [] = Unit {0}
+AreItemsOf set (item ∷ items) (file ∷ files) = IsItemOf set item file.0 file.1
+    × AreItemsOf set items files
+AreItemsOf set _ _ = ⊥
+
+-- the mark at each place says whether the path there is that of a hole
+pub record AreHoleMarks (paths : List (List ℕ)) (spec : Spec) (marks : List Bool) : Type 0 where
+  pub each : marks ≡ map (is_hole spec.holes.items) paths
+
+-- a payload of which a bag can be written so, within the limits of its files
+pub record IsWritable (spec : Spec) (payload : Files) : Type 0 where
+  pub rising : AreRising (keys_of payload)
+  pub payload_paths : AllByRecursion (λ path. is_payload path ≡ true) (keys_of payload)
+  pub accepted : IsAccepted (keys_of payload) spec
+  pub few : length payload ≤ MOST_LINES
+  pub short : ¬ HasLongFile payload LARGEST_FILE

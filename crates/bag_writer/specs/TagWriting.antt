@@ -1,0 +1,68 @@
+-- How the tag files are made and written. (These are said of private functions.)
+use Rattle.std.specs.Prelude.{◌≡◌, ◌≢◌, ◌++◌, [], ◌∷◌, ℕ, Bool, true, false, List, Option, Some, None, Contains, string_bytes}
+use Rattle.std.specs.List.{AllByRecursion}
+use Rattle.std.specs.Map.{keys_of}
+use Rattle.std.specs.Option.{option_map}
+use Rattle.bag_digest.specs.declared.algorithm.AlgSet.{AlgSet}
+use Rattle.bag_path.specs.Paths.{is_payload}
+use Rattle.bag_tags.specs.FetchEntries.{IsUrl}
+use Rattle.bag_tags.specs.Listings.{IsInPlace}
+use Rattle.bag_tags.specs.declared.listing.Kind.{Kind}
+use Rattle.bag_rules.specs.Faults.{Has}
+use Rattle.bag_rules.specs.Files.{Files}
+use Rattle.bag_rules.specs.Trees.{AreRising}
+use Rattle.bag_rules.specs.declared.limits.TheConstants.{LARGEST_TAG_FILE}
+use Rattle.bag_writer.specs.Sinks.{IsFree, Stored, UsesSink}
+use Rattle.bag_writer.specs.Steps.{AreItemsOf, ArePart, AreWhole, with_whole}
+use Rattle.bag_writer.specs.Writing.{HasLongFile, IsMetLater}
+use Rattle.bag_writer.specs.declared.fault.WriteFault.{WriteFault}
+use Rattle.bag_writer.specs.declared.fault.WriteFault.TheVariants.{Sink, TooLarge, Tree}
+use Rattle.bag_writer.specs.declared.item.Item.{Item}
+use Rattle.bag_writer.specs.declared.spec.Hole.{Hole}
+
+-- WHAT CAN BE LISTED
+
+-- files of which a manifest of this kind can be made, by path
+pub record CanBeListed (kind : Kind) (files : Files) : Type 0 where
+  pub rising : AreRising (keys_of files)
+  pub in_place : AllByRecursion (IsInPlace kind) (keys_of files)
+
+-- holes of which a `fetch.txt` can be made: each is a payload file's, and its url is one
+pub record CanBeFetched (payload : Files) (holes : List Hole) : Type 0 where
+  pub rising : AreRising (keys_of payload)
+  pub payload_paths : AllByRecursion (λ path. is_payload path ≡ true) (keys_of payload)
+  pub there : (hole : Hole) → Has holes hole → ¬ ¬ Contains (keys_of payload) hole.path
+  pub urls : (hole : Hole) → Has holes hole → ¬ ¬ IsUrl (string_bytes hole.url)
+
+-- WHAT IS WRITTEN
+
+-- no file with its path is there when it is a file's turn
+abbrev pub AreFree : Option Stored → Files → Type 0
+AreFree known [] = Unit {0}
+AreFree known (file ∷ files) = IsFree known file.0
+    × AreFree (option_map (λ (stored : Stored). with_whole stored file) known) files
+
+-- what is met where tag files are written
+abbrev pub IsMetHere : WriteFault → Type 0
+IsMetHere fault = IsMetLater fault × (fault ≢ Tree)
+
+-- The files were written whole and are within the limit, where no fault is answered. Else part of
+-- them was written, and one of them is beyond the limit where that is answered.
+abbrev pub WritesAll : Files → Option Stored → Option Stored → Option WriteFault → Type 0
+WritesAll files old new None = AreWhole files old new × ¬ HasLongFile files LARGEST_TAG_FILE
+WritesAll files old new (Some fault) = ArePart files old new × IsMetHere fault
+    × (fault ≡ TooLarge → HasLongFile files LARGEST_TAG_FILE)
+
+-- what the writing of these tag files does to a sink, with this fault or none
+pub record WritesFiles {S : Type 0} (stored : S → Option Stored) (is_open : S → Bool)
+    (failures : S → ℕ) (sure : S → Type 0) (files : Files) (old new : S)
+    (fault : Option WriteFault) : Type 0 where
+  pub written : WritesAll files (stored old) (stored new) fault
+  pub closed : is_open old ≡ false → fault ≡ None → is_open new ≡ false
+  pub uses : UsesSink failures sure old new
+      ((is_open old ≡ false) × AreFree (stored old) files) (fault ≡ Some Sink)
+
+-- the items of these files come after those that were there
+abbrev pub AddsItems : AlgSet → Files → List Item → List Item → Type 0
+AddsItems set files old new = (before : Files) → AreItemsOf set old before
+    → AreItemsOf set new (before ++ files)

@@ -1,0 +1,111 @@
+//! What is refused before anything is written.
+ghost use Rattle.std.specs.Prelude.{◌≡◌, IfErr, IfOk, List, MatchResult, length, ℕ};
+ghost use Rattle.std.specs.List.{list_any};
+ghost use Rattle.bag_rules.specs.Trees.{paths_in};
+ghost use Rattle.bag_tags.specs.Infos.{is_oxum};
+ghost use Rattle.bag_writer.specs.Accepting.{AreMarks, Marks, RefusesHoles};
+ghost use Rattle.bag_writer.specs.Steps.{AreHoleMarks};
+ghost use Rattle.bag_writer.specs.Writing.{IsAccepted, IsBadHole, IsMetBefore, Refuses, payload_paths};
+ghost use Rattle.bag_writer.specs.declared.spec.Hole.{Hole};
+
+use crate::fault::WriteFault;
+use crate::spec::{Hole, Spec};
+use bag_path::BagPath;
+use bag_rules::{Paths, find, first_folder};
+use bag_tags::is_url;
+use std::alloc::{AllocError, Global};
+
+#[cfg(test)]
+mod tests;
+
+/// Marks the files of the tree that are holes, if a bag can be written so.
+///
+/// # Errors
+///
+/// The first of `NoAlgorithm`, `OxumGiven`, `BadHole` and `Clash` that holds, or `Memory`.
+pub(crate) fn accepted_holes<P: Paths>(
+    alloc: Global,
+    tree: &P,
+    spec: &Spec,
+) -> Result<Vec<bool>, WriteFault>
+    ensures accepted { MatchResult result
+        (λ marks. IsAccepted (payload_paths (P.shown tree.now)) spec.now)
+        (λ fault. Refuses (payload_paths (P.shown tree.now)) spec.now fault
+        × IsMetBefore fault) }
+    ensures marks { IfOk result (λ marks.
+        AreHoleMarks (paths_in (P.shown tree.now)) spec.now marks.items) }
+{
+    if spec.algs.is_empty() {
+        return Err(WriteFault::NoAlgorithm);
+    }
+    if gives_oxum(spec) {
+        return Err(WriteFault::OxumGiven);
+    }
+    let marks = hole_marks(alloc, tree, &spec.holes)?;
+    match first_folder(payload_paths(alloc, tree)?)? {
+        Some(path) => Err(WriteFault::Clash(path)),
+        None => Ok(marks),
+    }
+}
+
+/// Whether an element is a `Payload-Oxum`, whatever the case of its label.
+fn gives_oxum(spec: &Spec) -> bool
+    ensures { result ≡ list_any is_oxum spec.now.info }
+{
+    spec.info.elements().iter().any(|element| element.is_oxum())
+}
+
+/// Marks the files of the tree that are holes.
+///
+/// # Errors
+///
+/// `BadHole` of the first that is bad, or `Memory`.
+fn hole_marks<P: Paths>(alloc: Global, tree: &P, holes: &[Hole]) -> Result<Vec<bool>, WriteFault>
+    ensures marks { IfOk result (λ marks.
+        AreMarks (paths_in (P.shown tree.now)) holes.now marks.items) }
+    ensures good { IfOk result (λ marks. (i : ℕ)
+        → ¬ IsBadHole (payload_paths (P.shown tree.now)) holes.now i) }
+    ensures refused { IfErr result (RefusesHoles (payload_paths (P.shown tree.now)) holes.now) }
+{
+    let mut marks = vec![in alloc; false; tree.count()]?;
+    for (i, hole) in holes.iter().enumerate() {
+        if !mark(tree, hole, &mut marks) {
+            return Err(WriteFault::BadHole(i));
+        }
+    }
+    Ok(marks)
+}
+
+/// Marks a hole, if it is a payload file that has a url and no mark yet.
+fn mark<P: Paths>(tree: &P, hole: &Hole, marks: &mut [bool]) -> bool
+    requires { length marks.old ≡ length (paths_in (P.shown tree.now)) }
+    ensures { (before : List Hole) → AreMarks (paths_in (P.shown tree.now)) before marks.old
+        → Marks (paths_in (P.shown tree.now)) (payload_paths (P.shown tree.now)) before
+        hole.now marks.new result }
+{
+    if !hole.path.is_payload() || !is_url(hole.url.as_bytes()) {
+        return false;
+    }
+    let Some(i) = find(tree, hole.path.as_str()) else {
+        return false;
+    };
+    if marks[i] {
+        return false;
+    }
+    marks[i] = true;
+    true
+}
+
+/// The paths of the payload files.
+fn payload_paths<P: Paths>(alloc: Global, tree: &P) -> Result<Vec<BagPath>, AllocError>
+    ensures { IfOk result (λ paths. paths.items ≡ payload_paths (P.shown tree.now)) }
+{
+    let mut paths = Vec::new(alloc);
+    for i in 0..tree.count() {
+        let path = tree.path(i);
+        if path.is_payload() {
+            paths.push(path.clone()?)?;
+        }
+    }
+    Ok(paths)
+}

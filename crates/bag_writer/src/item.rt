@@ -1,0 +1,14 @@
+//! Files that were written or are holes, as manifests list them.
+use bag_digest::Digests;
+use bag_path::BagPath;
+
+/// A file, as manifests and `fetch.txt` need it.
+#[derive(Drop)]
+pub(crate) struct Item {
+    /// Where the file is, from the base directory on.
+    pub(crate) path: BagPath,
+    /// The number of its octets.
+    pub(crate) octets: u64,
+    /// Their digests by the algorithms of the bag.
+    pub(crate) digests: Digests,
+}

@@ -1,0 +1,56 @@
+//! Laws on the definitions that the contracts of this crate cite. Each function's contract is one law, and its body is empty.
+ghost use Rattle.std.specs.Prelude.{◌≡◌, ◌≤◌, [], ℕ, List, length, not};
+ghost use Rattle.std.specs.List.{filter};
+ghost use Rattle.std.specs.Map.{keys_of};
+ghost use Rattle.bag_path.specs.Paths.{is_payload};
+ghost use Rattle.bag_rules.specs.Bags.{Bag};
+ghost use Rattle.bag_rules.specs.Faults.{Has};
+ghost use Rattle.bag_rules.specs.Files.{AreTagFiles, Files};
+ghost use Rattle.bag_rules.specs.Limits.{Stops};
+ghost use Rattle.bag_rules.specs.Opening.{Opens};
+ghost use Rattle.bag_rules.specs.Transfers.{AreExpected, Passes};
+ghost use Rattle.bag_rules.specs.Validity.{IsValid};
+ghost use Rattle.bag_rules.specs.declared.limits.TheConstants.{LARGEST_ITEM};
+ghost use Rattle.bag_rules.specs.declared.outcome.CheckFault.{CheckFault};
+ghost use Rattle.bag_writer.specs.FilledBags.{IsFilled, IsPayloadFor};
+ghost use Rattle.bag_writer.specs.WrittenBags.{IsWritten, tag_files};
+ghost use Rattle.bag_writer.specs.declared.spec.Spec.{Spec};
+
+/// A written bag whose holes are filled is valid.
+pub fn a_written_bag_with_its_holes_filled_is_valid()
+    ensures { (spec : Spec) (payload : Files) (bag : Bag) → IsPayloadFor spec payload
+        → IsFilled spec payload bag → IsValid bag }
+{}
+
+/// A written bag without holes is valid.
+pub fn a_written_bag_without_holes_is_valid()
+    ensures { (spec : Spec) (payload : Files) (bag : Bag) → IsPayloadFor spec payload
+        → spec.holes.items ≡ [] → IsWritten spec payload bag → IsValid bag }
+{}
+
+/// And no limit stops a check of it.
+pub fn no_limit_stops_a_check_of_a_written_bag()
+    ensures { (spec : Spec) (payload : Files) (bag : Bag) (fault : CheckFault)
+        → IsPayloadFor spec payload → IsFilled spec payload bag → ¬ Stops bag fault }
+{}
+
+/// The tag files of a written bag are those of its files that are no payload.
+pub fn the_tag_files_of_a_written_bag_are_its_other_files()
+    ensures { (spec : Spec) (payload : Files) (bag : Bag) → IsPayloadFor spec payload
+        → IsWritten spec payload bag
+        → filter (λ (file : List ℕ × List ℕ). not (is_payload file.0)) bag.files
+        ≡ tag_files spec payload }
+{}
+
+/// A transfer can be opened with them, and expects the files of the payload; of these each that is within the limit passes.
+pub fn the_tag_files_of_a_written_bag_open()
+    ensures files { (spec : Spec) (payload : Files) → IsPayloadFor spec payload
+        → AreTagFiles (tag_files spec payload) }
+    ensures opens { (spec : Spec) (payload : Files) → IsPayloadFor spec payload
+        → Opens (tag_files spec payload) }
+    ensures expected { (spec : Spec) (payload : Files) → IsPayloadFor spec payload
+        → AreExpected (tag_files spec payload) (keys_of payload) }
+    ensures passes { (spec : Spec) (payload : Files) (path content : List ℕ)
+        → IsPayloadFor spec payload → Has payload (path, content)
+        → length content ≤ LARGEST_ITEM → Passes (tag_files spec payload) path content }
+{}

@@ -1,0 +1,23 @@
+//! The writer of bags: a payload and what is said of it become a bag of version 1.0 (RFC 8493 section 2).
+#![tactic(auto)]
+
+pub use fault::WriteFault;
+pub use memory::MemSink;
+pub use sink::Sink;
+pub use spec::{Hole, Spec};
+pub use writing::write_bag;
+
+mod accepting;
+#[cfg(test)]
+mod counting;
+pub mod examples;
+mod fault;
+pub mod fitting;
+mod item;
+pub mod laws;
+mod memory;
+mod payload;
+mod sink;
+mod spec;
+mod tags;
+mod writing;

@@ -1,0 +1,164 @@
+//! A sink in memory.
+ghost use Rattle.std.specs.Prelude.{◌≡◌, ◌||◌, IsErr, IsOk, MatchResult, OnErr, OnOk, Some, false, is_ok, take, true, ℕ};
+ghost use Rattle.std.specs.Option.{option_map};
+ghost use Rattle.bag_rules.specs.Memory.{MemFiles};
+ghost use Rattle.bag_writer.specs.Memory.{IsNeverSure, MemStored, has_begun, known, nothing_held, tree_of, with_failure};
+ghost use Rattle.bag_writer.specs.Sinks.{IsFree, StaysOrIsLost, UsesSink, with_begun, with_ended, with_octets, with_payload_dir, without_begun};
+
+use crate::sink::Sink;
+use bag_digest::{Failed, Failures};
+use bag_path::BagPath;
+use bag_rules::MemTree;
+use std::alloc::Global;
+use std::marker::Model;
+
+#[cfg(test)]
+mod tests;
+
+/// A file that is begun: where it is to be, and the octets that it has so far.
+#[derive(Drop)]
+struct OpenFile {
+    path: BagPath,
+    octets: Vec<u8>,
+}
+
+/// A sink that holds the files of a bag in memory. It fails where a call is out of order, and where memory runs out.
+#[derive(Drop)]
+pub struct MemSink {
+    alloc: Global,
+    ended: MemTree,
+    begun: Option<OpenFile>,
+    failures: Failures,
+}
+
+impl Model for MemSink {
+    ghost use Rattle.bag_writer.specs.Memory.{MemStored};
+
+    ghost Value = { MemStored };
+
+    ghost use Rattle.bag_writer.specs.MemoryInside.{IsSound, view_of};
+
+    ghost view = { view_of };
+
+    ghost invariant = { IsSound };
+}
+
+impl MemSink {
+    /// No files, no payload directory, and none begun.
+    pub fn new(alloc: Global) -> MemSink
+        ensures { result ≡ nothing_held }
+    {
+        MemSink {
+            alloc,
+            ended: MemTree::new(alloc),
+            begun: None,
+            failures: Failures::none(),
+        }
+    }
+
+    /// The tree of the files that were ended. One that is begun is lost.
+    pub fn into_tree(self) -> MemTree
+        ensures { result ≡ tree_of self.stored.bag }
+    {
+        let MemSink { ended, .. } = self;
+        ended
+    }
+}
+
+impl Sink for MemSink {
+    ghost stored = { known };
+
+    ghost is_open = { has_begun };
+
+    ghost sure = { IsNeverSure };
+
+    ghost failures = { λ sink. sink.failures };
+
+    fn payload_dir(&mut self) -> Result<(), Failed>
+        ensures made { OnOk result (known self.new ≡ option_map with_payload_dir (known self.old)) }
+        ensures kept { OnErr result (known self.new ≡ known self.old) }
+        ensures open { has_begun self.new ≡ has_begun self.old }
+        ensures uses { UsesSink (λ (sink : MemStored). sink.failures) IsNeverSure
+            self.old self.new Unit (IsErr result) }
+        ensures exactly { IsOk result
+            × (self.new ≡ record self.old { stored = with_payload_dir self.old.stored }) }
+    {
+        self.ended.set_payload_dir();
+        Ok(())
+    }
+
+    /// Begins a file. Where no file is begun and none with this path is there, it fails only for want of memory.
+    fn file(&mut self, path: &BagPath) -> Result<(), Failed>
+        ensures begun { OnOk result
+            (known self.new ≡ option_map (with_begun path.now) (known self.old)) }
+        ensures free { OnOk result ((has_begun self.old ≡ false)
+            × IsFree (known self.old) path.now) }
+        ensures kept { OnErr result (known self.new ≡ known self.old) }
+        ensures open { has_begun self.new ≡ (is_ok result || has_begun self.old) }
+        ensures uses { UsesSink (λ (sink : MemStored). sink.failures) IsNeverSure self.old self.new
+            ((has_begun self.old ≡ false) × IsFree (known self.old) path.now) (IsErr result) }
+        ensures exactly { MatchResult result
+            (λ _. self.new ≡ record self.old { stored = with_begun path.now self.old.stored })
+            (λ _. self.new ≡ with_failure self.old) }
+    {
+        if self.begun.is_some() || self.ended.get(path).is_some() {
+            return self.failures.counted(Err(Failed));
+        }
+        match path.clone() {
+            Ok(path) => {
+                self.begun = Some(OpenFile {
+                    path,
+                    octets: Vec::new(self.alloc),
+                });
+                Ok(())
+            }
+            Err(refused) => self.failures.counted(Err(refused)),
+        }
+    }
+
+    /// Writes all of the octets, or none of them. Where a file is begun, it fails only for want of memory.
+    fn write(&mut self, octets: &[u8]) -> Result<(), Failed>
+        ensures written { OnOk result
+            (known self.new ≡ option_map (with_octets octets.now) (known self.old)) }
+        ensures part { OnErr result ((n : ℕ)
+            × (known self.new ≡ option_map (with_octets (take n octets.now)) (known self.old))) }
+        ensures closed { has_begun self.old ≡ false → IsErr result }
+        ensures open { has_begun self.new ≡ has_begun self.old }
+        ensures uses { UsesSink (λ (sink : MemStored). sink.failures) IsNeverSure self.old self.new
+            (has_begun self.old ≡ true) (IsErr result) }
+        ensures exactly { MatchResult result
+            (λ _. self.new ≡ record self.old { stored = with_octets octets.now self.old.stored })
+            (λ _. self.new ≡ with_failure self.old) }
+    {
+        let Some(mut file) = self.begun.take() else {
+            return self.failures.counted(Err(Failed));
+        };
+        let grown = file.octets.extend_from_slice(octets);
+        self.begun = Some(file);
+        self.failures.counted(grown)
+    }
+
+    /// Ends the file that is begun. It fails where none is, and else only for want of memory: the file is then lost.
+    fn end(&mut self) -> Result<(), Failed>
+        ensures ended { OnOk result (known self.new ≡ option_map with_ended (known self.old)) }
+        ensures lost { OnErr result (StaysOrIsLost (known self.old) (known self.new)) }
+        ensures closed { has_begun self.old ≡ false → IsErr result }
+        ensures open { OnOk result (has_begun self.new ≡ false) }
+        ensures uses { UsesSink (λ (sink : MemStored). sink.failures) IsNeverSure self.old self.new
+            (has_begun self.old ≡ true) (IsErr result) }
+        ensures exactly { MatchResult result
+            (λ _. self.new ≡ record self.old { stored = with_ended self.old.stored })
+            (λ _. self.new
+            ≡ with_failure (record self.old { stored = without_begun self.old.stored })) }
+    {
+        let Some(file) = self.begun.take() else {
+            return self.failures.counted(Err(Failed));
+        };
+        let added = self.ended.add(file.path, file.octets);
+        self.failures.counted(added)
+    }
+
+    fn failures(&self) -> u64 {
+        self.failures.count()
+    }
+}

@@ -1,0 +1,237 @@
+//! The payload as it is written: each file is read once, for the sink and for its digests.
+ghost use Rattle.std.specs.Prelude.{◌≡◌, ◌⊎◌, ◌++◌, ◌∷◌, ◌<◌, [], ℕ, List, Option, Some, IfErr, IsErrOf, MatchResult, OnOk, false, length, slice_get, true};
+ghost use Rattle.bag_digest.specs.Device.{UsesSource};
+ghost use Rattle.bag_rules.specs.Files.{Files};
+ghost use Rattle.bag_rules.specs.Trees.{UsesTree, paths_in};
+ghost use Rattle.bag_rules.specs.declared.limits.TheConstants.{LARGEST_FILE};
+ghost use Rattle.bag_writer.specs.Sinks.{IsFree, UsesSink};
+ghost use Rattle.bag_writer.specs.PayloadSteps.{HasFrontFrom, IsCutShort, IsReadAs, IsReadUntil, IsReadWhole, IsTaken, Writes, WritesFront, unless_hole};
+ghost use Rattle.bag_writer.specs.Steps.{AreHoleMarks, AreItemsOf, ArePart, AreWhole, HasNoFile, written_payload};
+ghost use Rattle.bag_writer.specs.Writing.{HasLongFile, IsMetLater, IsReadFrom};
+ghost use Rattle.bag_writer.specs.declared.fault.WriteFault.{WriteFault};
+
+use crate::fault::WriteFault;
+use crate::item::Item;
+use crate::sink::Sink;
+use crate::spec::Spec;
+use bag_digest::{AlgSet, Digests, Failed, Multi, Source, SourceFault, digest_through, read_piece};
+use bag_path::BagPath;
+use bag_rules::Tree;
+use bag_rules::limits::LARGEST_FILE;
+use std::alloc::Global;
+
+/// Reads the payload files by path, writes each that is no hole, and answers what manifests need of each.
+///
+/// # Errors
+///
+/// `Tree`, `Sink`, `Memory`; `TooLarge` where a file has more than 2^40 octets.
+pub(crate) fn write_payload<T: Tree, S: Sink>(
+    alloc: Global,
+    buffer: &mut [u8],
+    tree: &mut T,
+    spec: &Spec,
+    marks: &[bool],
+    sink: &mut S,
+) -> Result<Vec<Item>, WriteFault>
+    requires room { 0 < length buffer.old }
+    requires marks { AreHoleMarks (paths_in (T.shown tree.old)) spec.now marks.now }
+    // There is a payload, that of the tree's bag where it is known, of which this was written.
+    ensures written { (payload : Files) × IsReadFrom (T.shown tree.old) payload
+        × MatchResult result (λ items. AreItemsOf spec.now.algs items.items payload
+        × (¬ HasLongFile payload LARGEST_FILE)
+        × AreWhole (written_payload spec.now payload) (S.stored sink.old) (S.stored sink.new))
+        (λ fault. (fault ≡ WriteFault.TooLarge → HasLongFile payload LARGEST_FILE)
+        × ArePart (written_payload spec.now payload) (S.stored sink.old) (S.stored sink.new)) }
+    ensures err { IfErr result IsMetLater }
+    ensures open { S.is_open sink.old ≡ false → OnOk result (S.is_open sink.new ≡ false) }
+    ensures tree { UsesTree T.shown T.failures T.sure tree.old tree.new
+        (IsErrOf result WriteFault.Tree) }
+    ensures sink { UsesSink S.failures S.sure sink.old sink.new
+        ((S.is_open sink.old ≡ false)
+        × HasNoFile (S.stored sink.old))
+        (IsErrOf result WriteFault.Sink) }
+{
+    let mut items = Vec::new(alloc);
+    for i in 0..tree.count() {
+        if !tree.path(i).is_payload() {
+            continue;
+        }
+        let item = write_file(buffer, tree, i, marks[i], spec.algs, sink)?;
+        items.push(item)?;
+    }
+    Ok(items)
+}
+
+/// Reads the file at this place, writes it unless it is a hole, and answers what manifests need of it.
+///
+/// # Errors
+///
+/// Those of [`write_payload`].
+fn write_file<T: Tree, S: Sink>(
+    buffer: &mut [u8],
+    tree: &mut T,
+    i: usize,
+    is_hole: bool,
+    set: AlgSet,
+    sink: &mut S,
+) -> Result<Item, WriteFault>
+    requires room { 0 < length buffer.old }
+    requires inside { i < length (paths_in (T.shown tree.old)) }
+    ensures taken { (shown : List ℕ × Option (List ℕ))
+        → slice_get (T.shown tree.old).files i ≡ Some shown
+        → (file : List ℕ × List ℕ) × IsReadAs shown file × MatchResult result
+        (IsTaken set is_hole file (S.stored sink.old) (S.stored sink.new))
+        (IsCutShort is_hole file (S.stored sink.old) (S.stored sink.new)) }
+    ensures err { IfErr result IsMetLater }
+    ensures open { S.is_open sink.old ≡ false → OnOk result (S.is_open sink.new ≡ false) }
+    ensures tree { UsesTree T.shown T.failures T.sure tree.old tree.new
+        (IsErrOf result WriteFault.Tree) }
+    ensures sink { UsesSink S.failures S.sure sink.old sink.new
+        ((S.is_open sink.old ≡ false)
+        × ((path : List ℕ) → slice_get (paths_in (T.shown tree.old)) i ≡ Some path
+        → IsFree (S.stored sink.old) path))
+        (IsErrOf result WriteFault.Sink) }
+{
+    let path = tree.path(i).clone()?;
+    let Ok(()) = tree.start(i) else {
+        return Err(WriteFault::Tree);
+    };
+    let (octets, digests) = sums_of(buffer, tree, &path, is_hole, set, sink)?;
+    Ok(Item {
+        path,
+        octets,
+        digests,
+    })
+}
+
+/// Reads a source to its end, writes what it gives as a file unless that is a hole, and answers how many octets it gave
+/// and their digests by each algorithm of the set.
+fn sums_of<R: Source, S: Sink>(
+    buffer: &mut [u8],
+    source: &mut R,
+    path: &BagPath,
+    is_hole: bool,
+    set: AlgSet,
+    sink: &mut S,
+) -> Result<(u64, Digests), WriteFault>
+    requires { 0 < length buffer.old }
+    ensures taken { (octets : List ℕ) × MatchResult result
+        (λ found. IsReadWhole set (R.remaining source.old) (R.remaining source.new) found octets
+        × AreWhole (unless_hole is_hole (path.now, octets))
+        (S.stored sink.old) (S.stored sink.new))
+        (λ fault. IsReadUntil (R.remaining source.old) (R.remaining source.new) fault octets
+        × ((rest : List ℕ) → ArePart (unless_hole is_hole (path.now, octets ++ rest))
+        (S.stored sink.old) (S.stored sink.new))) }
+    ensures err { IfErr result IsMetLater }
+    ensures open { S.is_open sink.old ≡ false → OnOk result (S.is_open sink.new ≡ false) }
+    ensures source { UsesSource R.failures R.ready R.keeps source.old source.new
+        (IsErrOf result WriteFault.Tree) }
+    ensures sink { UsesSink S.failures S.sure sink.old sink.new
+        ((S.is_open sink.old ≡ false) × IsFree (S.stored sink.old) path.now)
+        (IsErrOf result WriteFault.Sink) }
+{
+    if is_hole {
+        digests_of(buffer, source, set)
+    } else {
+        copy_file(buffer, source, path, set, sink)
+    }
+}
+
+/// Reads a source to its end, and answers how many octets it gave and their digests by each algorithm of the set.
+fn digests_of<R: Source>(
+    buffer: &mut [u8],
+    source: &mut R,
+    set: AlgSet,
+) -> Result<(u64, Digests), WriteFault>
+    requires { 0 < length buffer.old }
+    ensures read { (octets : List ℕ) × MatchResult result
+        (λ found. IsReadWhole set (R.remaining source.old) (R.remaining source.new) found octets)
+        (λ fault. IsReadUntil (R.remaining source.old) (R.remaining source.new) fault octets) }
+    ensures err { IfErr result (λ fault.
+        (fault ≡ WriteFault.Tree) ⊎ (fault ≡ WriteFault.TooLarge)) }
+    ensures source { UsesSource R.failures R.ready R.keeps source.old source.new
+        (IsErrOf result WriteFault.Tree) }
+{
+    match digest_through(buffer, source, set, LARGEST_FILE) {
+        Ok(found) => Ok(found),
+        Err(SourceFault::Read) => Err(WriteFault::Tree),
+        Err(SourceFault::TooLarge) => Err(WriteFault::TooLarge),
+    }
+}
+
+/// Writes a file of what a source gives to its end, and answers how many octets it gave and their digests by each
+/// algorithm of the set.
+fn copy_file<R: Source, S: Sink>(
+    buffer: &mut [u8],
+    source: &mut R,
+    path: &BagPath,
+    set: AlgSet,
+    sink: &mut S,
+) -> Result<(u64, Digests), WriteFault>
+    requires { 0 < length buffer.old }
+    ensures copied { (octets : List ℕ) × MatchResult result
+        (λ found. IsReadWhole set (R.remaining source.old) (R.remaining source.new) found octets
+        × AreWhole ((path.now, octets) ∷ []) (S.stored sink.old) (S.stored sink.new))
+        (λ fault. IsReadUntil (R.remaining source.old) (R.remaining source.new) fault octets
+        × HasFrontFrom path.now octets (S.stored sink.old) (S.stored sink.new)) }
+    ensures err { IfErr result IsMetLater }
+    ensures open { OnOk result (S.is_open sink.new ≡ false) }
+    ensures source { UsesSource R.failures R.ready R.keeps source.old source.new
+        (IsErrOf result WriteFault.Tree) }
+    ensures sink { UsesSink S.failures S.sure sink.old sink.new
+        ((S.is_open sink.old ≡ false) × IsFree (S.stored sink.old) path.now)
+        (IsErrOf result WriteFault.Sink) }
+{
+    let Ok(()) = sink.file(path) else {
+        return Err(WriteFault::Sink);
+    };
+    let sums = copy_octets(buffer, source, set, sink)?;
+    match sink.end() {
+        Ok(()) => Ok(sums),
+        Err(Failed) => Err(WriteFault::Sink),
+    }
+}
+
+/// Reads a source to its end, writes what it gives to the file that is begun, and answers how many octets it gave and
+/// their digests by each algorithm of the set.
+///
+/// # Errors
+///
+/// `Tree` where a read failed, `Sink`; `TooLarge` where the source gave more than 2^40 octets.
+fn copy_octets<R: Source, S: Sink>(
+    buffer: &mut [u8],
+    source: &mut R,
+    set: AlgSet,
+    sink: &mut S,
+) -> Result<(u64, Digests), WriteFault>
+    requires { 0 < length buffer.old }
+    ensures copied { (octets : List ℕ) × MatchResult result
+        (λ found. IsReadWhole set (R.remaining source.old) (R.remaining source.new) found octets
+        × Writes octets (S.stored sink.old) (S.stored sink.new))
+        (λ fault. IsReadUntil (R.remaining source.old) (R.remaining source.new) fault octets
+        × WritesFront octets (S.stored sink.old) (S.stored sink.new)) }
+    ensures err { IfErr result IsMetLater }
+    ensures open { S.is_open sink.new ≡ S.is_open sink.old }
+    ensures source { UsesSource R.failures R.ready R.keeps source.old source.new
+        (IsErrOf result WriteFault.Tree) }
+    ensures sink { UsesSink S.failures S.sure sink.old sink.new
+        (S.is_open sink.old ≡ true) (IsErrOf result WriteFault.Sink) }
+{
+    let mut multi = Multi::new(set);
+    let mut total = 0u64;
+    'pieces: loop {
+        let n = match read_piece(buffer, source, LARGEST_FILE - total) {
+            Ok(n) => n,
+            Err(SourceFault::Read) => return Err(WriteFault::Tree),
+            Err(SourceFault::TooLarge) => return Err(WriteFault::TooLarge),
+        };
+        if n == 0 {
+            return Ok((total, multi.finish()));
+        }
+        multi.update(&buffer[..n]);
+        let Ok(()) = sink.write(&buffer[..n]) else {
+            return Err(WriteFault::Sink);
+        };
+        total += n as u64;
+    }
+}

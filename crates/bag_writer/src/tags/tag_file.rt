@@ -1,0 +1,111 @@
+//! One tag file: measured, written whole, and listed.
+ghost use Rattle.std.specs.Prelude.{◌≡◌, ◌∷◌, [], IfOk, IsErr, MatchResult, OnOk, false};
+ghost use Rattle.std.specs.Result.{result_err};
+ghost use Rattle.bag_path.specs.Paths.{IsPath};
+ghost use Rattle.bag_digest.specs.declared.algorithm.AlgSet.{AlgSet};
+ghost use Rattle.bag_tags.specs.Names.{manifest_file};
+ghost use Rattle.bag_writer.specs.Sinks.{IsFree, UsesSink};
+ghost use Rattle.bag_writer.specs.Steps.{ArePart, AreWhole, IsItemOf};
+ghost use Rattle.bag_writer.specs.TagWriting.{AddsItems, WritesFiles};
+
+use crate::fault::WriteFault;
+use crate::item::Item;
+use crate::sink::Sink;
+use bag_digest::{Alg, AlgSet, Failed, Multi};
+use bag_path::{BagPath, PathFault};
+use bag_rules::limits::LARGEST_TAG_FILE;
+use bag_tags::{Kind, ManifestName};
+use std::alloc::{AllocError, Global};
+
+/// Writes a tag file, and lists it after the others.
+///
+/// # Errors
+///
+/// `Sink`, `Memory`; `TooLarge` where it has more than 16,777,216 octets: it isn't begun then.
+pub(crate) fn write_listed<S: Sink>(
+    path: BagPath,
+    octets: &[u8],
+    set: AlgSet,
+    listed: &mut Vec<Item>,
+    sink: &mut S,
+) -> Result<(), WriteFault>
+    ensures written { WritesFiles S.stored S.is_open S.failures S.sure
+        ((path, octets.now) ∷ []) sink.old sink.new (result_err result) }
+    ensures listed { OnOk result (AddsItems set ((path, octets.now) ∷ [])
+        listed.old.items listed.new.items) }
+{
+    write_whole(&path, octets, sink)?;
+    match listed.push(item_of(path, octets, set)) {
+        Ok(()) => Ok(()),
+        Err(_) => Err(WriteFault::Memory),
+    }
+}
+
+/// Writes a tag file.
+///
+/// # Errors
+///
+/// `Sink`; `TooLarge` where it has more than 16,777,216 octets: it isn't begun then.
+pub(crate) fn write_whole<S: Sink>(
+    path: &BagPath,
+    octets: &[u8],
+    sink: &mut S,
+) -> Result<(), WriteFault>
+    ensures { WritesFiles S.stored S.is_open S.failures S.sure
+        ((path.now, octets.now) ∷ []) sink.old sink.new (result_err result) }
+{
+    if octets.len() as u64 > LARGEST_TAG_FILE {
+        return Err(WriteFault::TooLarge);
+    }
+    match write_through(path, octets, sink) {
+        Ok(()) => Ok(()),
+        Err(_) => Err(WriteFault::Sink),
+    }
+}
+
+/// Begins a file, writes its octets and ends it.
+fn write_through<S: Sink>(path: &BagPath, octets: &[u8], sink: &mut S) -> Result<(), Failed>
+    ensures written { MatchResult result
+        (λ _. AreWhole ((path.now, octets.now) ∷ []) (S.stored sink.old) (S.stored sink.new))
+        (λ _. ArePart ((path.now, octets.now) ∷ []) (S.stored sink.old) (S.stored sink.new)) }
+    ensures closed { OnOk result (S.is_open sink.new ≡ false) }
+    ensures uses { UsesSink S.failures S.sure sink.old sink.new
+        ((S.is_open sink.old ≡ false) × IsFree (S.stored sink.old) path.now) (IsErr result) }
+{
+    sink.file(path)?;
+    sink.write(octets)?;
+    sink.end()
+}
+
+/// A file of these octets, as manifests list it.
+pub(crate) fn item_of(path: BagPath, octets: &[u8], set: AlgSet) -> Item
+    ensures { IsItemOf set result path octets.now }
+{
+    let mut hashers = Multi::new(set);
+    hashers.update(octets);
+    Item {
+        path,
+        octets: octets.len() as u64,
+        digests: hashers.finish(),
+    }
+}
+
+/// The path of a manifest.
+pub(crate) fn manifest_path(alloc: Global, kind: Kind, alg: Alg) -> Result<BagPath, AllocError>
+    ensures { IfOk result (λ path. path ≡ manifest_file kind alg) }
+{
+    let name = ManifestName { kind, alg };
+    tag_path(alloc, format!(in alloc; "{name}")?.as_str())
+}
+
+/// The path of a tag file.
+pub(crate) fn tag_path(alloc: Global, name: &str) -> Result<BagPath, AllocError>
+    requires { IsPath name.now }
+    ensures { IfOk result (λ path. path ≡ name.now) }
+{
+    match BagPath::parse(alloc, name) {
+        Ok(path) => Ok(path),
+        Err(PathFault::Memory) => Err(AllocError),
+        Err(_) => unreachable!(),
+    }
+}

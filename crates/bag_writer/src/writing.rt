@@ -1,0 +1,113 @@
+//! A bag, written from a payload.
+ghost use Rattle.std.specs.Prelude.{◌≡◌, ◌≤◌, IfErr, IsErrOf, MatchResult, OnOk, false, length};
+ghost use Rattle.bag_rules.specs.Files.{Files};
+ghost use Rattle.bag_rules.specs.Trees.{AreRising, UsesTree, paths_in};
+ghost use Rattle.bag_rules.specs.declared.limits.TheConstants.{MOST_LINES};
+ghost use Rattle.bag_writer.specs.Sinks.{IsEmptySink, UsesSink};
+ghost use Rattle.bag_writer.specs.Steps.{AreHoleMarks};
+ghost use Rattle.bag_writer.specs.Writing.{IsAccepted, IsDone, IsMetLater, IsOfDevice, IsRefusedUnwritten, Refuses, payload_paths};
+ghost use Rattle.bag_writer.specs.declared.fault.WriteFault.{WriteFault};
+
+use crate::accepting::accepted_holes;
+use crate::fault::WriteFault;
+use crate::payload::write_payload;
+use crate::sink::Sink;
+use crate::spec::Spec;
+use crate::tags::write_tag_files;
+use bag_digest::piece_buffer;
+use bag_rules::limits::MOST_LINES;
+use bag_rules::{Paths, Tree};
+use bag_tags::Oxum;
+use std::alloc::Global;
+
+#[cfg(test)]
+mod tests;
+
+/// Writes the payload files of a tree as a bag of version 1.0 with the manifests and tag manifests by the given
+/// algorithms, and answers the `Payload-Oxum` of the payload (RFC 8493 section 2).
+///
+/// Written are, in this order: the payload directory; each payload file that is no hole, by path; `bag-info.txt` with the given
+/// elements and then the `Payload-Oxum` of the whole payload, holes too; `bagit.txt`; where there are holes, `fetch.txt` with the
+/// length of each; and for each algorithm `manifest-ALG.txt`, by path, over the whole payload, and `tagmanifest-ALG.txt`, by path,
+/// over all tag files but tag manifests. Other files of the tree are not taken. Each payload file is read once.
+///
+/// The sink is to be new: of one that holds a file or its payload directory already, it isn't said what it holds then.
+///
+/// # Errors
+///
+/// Before anything is written, the first that holds: `NoAlgorithm`; `OxumGiven`; `BadHole` of the first bad one; `Clash` of the
+/// least path; and then `TooLarge` for more than 100,000 payload files. After that, where the work meets them: `Tree` and `Sink`,
+/// which that device counted; `TooLarge` for a payload file of more than 2^40 octets or a tag file of more than 16,777,216; the
+/// sink then holds part of the bag. `Memory` may come in place of any other.
+pub fn write_bag<T: Tree, S: Sink>(
+    alloc: Global,
+    tree: &mut T,
+    spec: &Spec,
+    sink: &mut S,
+) -> Result<Oxum, WriteFault>
+    ensures refused { MatchResult result
+        (λ oxum. IsAccepted (payload_paths (T.shown tree.old)) spec.now)
+        (Refuses (payload_paths (T.shown tree.old)) spec.now) }
+    ensures unwritten { IsRefusedUnwritten (payload_paths (T.shown tree.old)) spec.now
+        → (sink.new ≡ sink.old) × MatchResult result (λ oxum. ⊥) (λ fault. ¬ IsOfDevice fault) }
+    // There is a payload, that of the tree's bag where it is known, whose Oxum is answered, and whose bag a sink that was empty
+    // holds then: the whole bag, or part of it.
+    ensures done { (payload : Files) × IsDone (T.shown tree.old) spec.now result
+        (S.stored sink.old) (S.stored sink.new) payload }
+    ensures tree { UsesTree T.shown T.failures T.sure tree.old tree.new
+        (IsErrOf result WriteFault.Tree) }
+    ensures sink { UsesSink S.failures S.sure sink.old sink.new
+        ((S.is_open sink.old ≡ false) × IsEmptySink (S.stored sink.old))
+        (IsErrOf result WriteFault.Sink) }
+    ensures closed { S.is_open sink.old ≡ false → OnOk result (S.is_open sink.new ≡ false) }
+{
+    let marks = accepted_holes(alloc, tree, spec)?;
+    if payload_count(tree) > MOST_LINES {
+        return Err(WriteFault::TooLarge);
+    }
+    write_accepted(alloc, tree, spec, marks.as_slice(), sink)
+}
+
+/// Writes a bag that can be written so.
+fn write_accepted<T: Tree, S: Sink>(
+    alloc: Global,
+    tree: &mut T,
+    spec: &Spec,
+    marks: &[bool],
+    sink: &mut S,
+) -> Result<Oxum, WriteFault>
+    requires accepted { IsAccepted (payload_paths (T.shown tree.old)) spec.now }
+    requires few { length (payload_paths (T.shown tree.old)) ≤ MOST_LINES }
+    requires rising { AreRising (paths_in (T.shown tree.old)) }
+    requires marks { AreHoleMarks (paths_in (T.shown tree.old)) spec.now marks.now }
+    ensures done { (payload : Files) × IsDone (T.shown tree.old) spec.now result
+        (S.stored sink.old) (S.stored sink.new) payload }
+    ensures err { IfErr result IsMetLater }
+    ensures tree { UsesTree T.shown T.failures T.sure tree.old tree.new
+        (IsErrOf result WriteFault.Tree) }
+    ensures sink { UsesSink S.failures S.sure sink.old sink.new
+        ((S.is_open sink.old ≡ false) × IsEmptySink (S.stored sink.old))
+        (IsErrOf result WriteFault.Sink) }
+    ensures closed { S.is_open sink.old ≡ false → OnOk result (S.is_open sink.new ≡ false) }
+{
+    let mut buffer = piece_buffer(alloc)?;
+    let Ok(()) = sink.payload_dir() else {
+        return Err(WriteFault::Sink);
+    };
+    let items = write_payload(alloc, buffer.as_mut_slice(), tree, spec, marks, sink)?;
+    write_tag_files(alloc, spec, items.as_slice(), sink)
+}
+
+/// The number of payload files.
+fn payload_count<P: Paths>(paths: &P) -> usize
+    ensures count { result ≡ length (payload_paths (P.shown paths.now)) }
+    ensures rising { AreRising (paths_in (P.shown paths.now)) }
+{
+    let mut count = 0;
+    for i in 0..paths.count() {
+        if paths.path(i).is_payload() {
+            count += 1;
+        }
+    }
+    count
+}
