@@ -1,9 +1,9 @@
 //! Tests of what is given to be put, whether or not it is put then.
-ghost use Rattle.std.specs.Prelude.{IsErrOf, MatchResult};
+ghost use Rattle.std.specs.Prelude.{◌≡◌, IsErrOf, MatchResult};
 ghost use Rattle.bag_digest.specs.Device.{UsesSource};
 ghost use Rattle.bag_ledger.specs.Keeping.{Tests, given_by, known};
 ghost use Rattle.bag_ledger.specs.declared.fault.KeepFault.{KeepFault};
-ghost use Rattle.bag_ledger.specs.declared.fault.KeepFault.TheVariants.{Store};
+ghost use Rattle.bag_ledger.specs.declared.fault.KeepFault.TheVariants.{Memory, Store};
 ghost use Rattle.bag_ledger.specs.declared.fault.PutFault.TheVariants.{Keep, Reader};
 ghost use Rattle.bag_ledger.specs.declared.fault.StoreFault.{StoreFault};
 ghost use Rattle.bag_rules.specs.Wants.{IsFirstMisfitOf, IsWanted};
@@ -43,6 +43,7 @@ pub fn test_reader<S: Source>(
     ensures test { Tests (given_by (S.remaining reader.old) (S.remaining reader.new)) want.now result }
     ensures reader { UsesSource S.failures S.ready S.keeps reader.old reader.new
         (IsErrOf result Reader) }
+    ensures unread { IsErrOf result (Keep Memory) → reader.new ≡ reader.old }
     ensures own { (fault : StoreFault) → ¬ IsErrOf result (Keep (Store fault)) }
 {
     let (octets, digests) = digest_reader(alloc, reader, want.algs(), LARGEST_ITEM)?;

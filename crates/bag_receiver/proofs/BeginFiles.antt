@@ -2,23 +2,17 @@
 use Rattle.std.proofs.Common.{◌≡◌, ◌≢◌, ◌⊎◌, ◌↔◌, ◌+◌, ◌≤◌, ◌<◌, ◌++◌, ℕ, true, false, List, [], ◌∷◌, Option, Some, None, length, refl, sym, ap, subst, ◌∙◌, inl, inr, arith, if◌then◌else◌, Vec, get_or, take, string_bytes}
 use Rattle.std.specs.Option.{MatchOption}
 use Rattle.std.specs.Ordering.{is_le, is_lt}
-use Rattle.std.specs.declared.alloc.Global.{Global}
-use Rattle.std.specs.declared.string.String.{String}
-use Rattle.std.proofs.lemmas.List.{map-append, take_more}
+use Rattle.std.proofs.lemmas.List.{take_more}
 use Rattle.std.proofs.lemmas.List.Sums.{fold-append}
 use Rattle.std.proofs.Math.Seq.{take-length}
 use Rattle.std.proofs.lemmas.Bool.{lt-ltb, le-ltb}
 use Rattle.std.proofs.lemmas.Map.Lookups.{exact_bytes}
 use Rattle.bag_path.specs.Lines.{lines_of}
 use Rattle.bag_rules.proofs.HasLemmas.{has_at, has_from_map, has_map, has_push, place_of_has}
-use Rattle.bag_rules.specs.declared.limits.TheConstants.{LARGEST_TAG_FILE}
-use Rattle.bag_rules.specs.Opening.{FewLines, HasManyLinesAt, IsFirstPath}
-use Rattle.bag_rules.specs.Transfers.{with_files}
-use Rattle.bag_ledger.proofs.EntryLemmas.{insert_shown}
-use Rattle.bag_receiver.specs.Beginning.{IsHeavyAt, IsLargeAt, given_in}
-use Rattle.bag_receiver.specs.BeginningInside.{emptied, light_tags, lightened}
+use Rattle.bag_receiver.specs.BeginningInside.{lightened}
 use Rattle.bag_receiver.proofs.FileLemmas.{File}
-use Rattle.bag_receiver.proofs.Words.{Decided, decided_at_most, Equal, Files, Greater, Has, insert_entry, keys_of, Less, match_ordering, nat_cmp, nat_list_cmp_total, Ordering, ordering_reverse, slice_cmp, tied_itself, with_file}
+use Rattle.bag_receiver.specs.BeginningInside.{emptied}
+use Rattle.bag_receiver.proofs.Words.{Decided, decided_at_most, Equal, FewLines, Files, given_in, Global, Greater, Has, HasManyLinesAt, insert_entry, insert_shown, IsFirstPath, IsHeavyAt, IsLargeAt, keys_of, LARGEST_TAG_FILE, Less, light_tags, map-append, match_ordering, nat_cmp, nat_list_cmp_total, Ordering, ordering_reverse, slice_cmp, String, tied_itself, with_file, with_files}
 
 -- OCTETS, and what stands in the place of too many
 

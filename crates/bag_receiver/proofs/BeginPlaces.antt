@@ -1,28 +1,20 @@
 -- Which of the files with which a transfer is to be begun have a place among the tag files.
 use Rattle.std.proofs.Common.{◌≡◌, ◌≢◌, ◌⊎◌, ◌+◌, ◌≤◌, ◌<◌, ◌++◌, ℕ, false, List, [], ◌∷◌, Option, Some, None, Result, Ok, Err, Contains, MatchResult, OnOk, IfErr, length, drop, get_or, suc, string_bytes, take, slice_get, refl, sym, ap, subst, ◌∙◌, inl, inr, arith}
-use Rattle.std.specs.Str.{IsUtf8}
 use Rattle.std.proofs.lemmas.Bool.{false_from_ne_true}
-use Rattle.std.proofs.lemmas.List.{length-append, length-map, length-take-le, map-append, take-append-drop, take-append-le}
+use Rattle.std.proofs.lemmas.List.{length-take-le, take-append-drop, take-append-le}
 use Rattle.std.proofs.lemmas.Option.{slice_get_within}
 use Rattle.std.proofs.Math.Seq.{drop-cons, take-append_seam}
-use Rattle.bag_path.proofs.PathLemmas.{path_if_no_fault}
-use Rattle.bag_path.specs.declared.path.PathFault.{PathFault}
-use Rattle.bag_path.specs.Paths.{is_payload, path_fault}
+use Rattle.bag_path.specs.Paths.{is_payload}
 use Rattle.bag_rules.proofs.FirstFiles.{to_front}
-use Rattle.bag_rules.proofs.HasLemmas.{contains_from_has, has_from_contains}
 use Rattle.bag_rules.proofs.TagSetLemmas.{not_refused}
-use Rattle.bag_rules.specs.declared.limits.TheConstants.{LARGEST_TAG_FILE}
 use Rattle.bag_rules.specs.declared.tag_set.TagSetFault.{TagSetFault}
 use Rattle.bag_rules.specs.declared.tag_set.TagSetFault.TheVariants as tag
 use Rattle.bag_rules.specs.TagSets.{IsTagPath, RefusesFile}
-use Rattle.bag_ledger.specs.declared.fault.KeepFault.TheVariants.{Memory}
-use Rattle.bag_receiver.specs.declared.begin.BeginFault.{BeginFault}
-use Rattle.bag_receiver.specs.declared.begin.BeginFault.TheVariants.{Keeper, TagPath}
-use Rattle.bag_receiver.specs.Beginning.{IsMisplaced, NoneMisplaced, RefusesFiles, given_in}
-use Rattle.bag_receiver.specs.BeginningInside.{IsPlaced, IsRefusal, emptied, light_tags}
+use Rattle.bag_receiver.specs.declared.begin.BeginFault.TheVariants.{Keeper}
+use Rattle.bag_receiver.specs.Beginning.{IsMisplaced}
 use Rattle.bag_receiver.proofs.BeginFiles.{Handed, emptied_within, given_more, key_light, light_more, shown_file}
 use Rattle.bag_receiver.proofs.FileLemmas.{File, held_or_not}
-use Rattle.bag_receiver.proofs.Words.{decided_at_most, decided_true, Files, IsPath, keys_of, with_file}
+use Rattle.bag_receiver.proofs.Words.{BeginFault, contains_from_has, decided_at_most, decided_true, emptied, Files, given_in, has_from_contains, IsPath, IsPlaced, IsRefusal, IsUtf8, keys_of, LARGEST_TAG_FILE, length-append, length-map, light_tags, map-append, Memory, NoneMisplaced, path_fault, path_if_no_fault, PathFault, RefusesFiles, TagPath, with_file}
 
 -- A FILE IS PUT, OR IT ISN'T
 

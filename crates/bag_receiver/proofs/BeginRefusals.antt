@@ -1,18 +1,12 @@
 -- What is told of files with which no transfer can be begun.
 use Rattle.std.proofs.Common.{◌≡◌, ◌≢◌, ◌⊎◌, ℕ, List, [], refl, sym, ap, subst, ◌∙◌, inl, inr}
-use Rattle.bag_rules.specs.declared.plan.Plan.{Plan}
 use Rattle.bag_rules.specs.declared.plan.PlanFault.{PlanFault}
 use Rattle.bag_rules.specs.declared.plan.PlanFault.TheVariants as plan
-use Rattle.bag_rules.specs.Opening.{FewLines, IsFirstPath, Refuses}
-use Rattle.bag_rules.specs.Plans.{IsPlanOf}
-use Rattle.bag_rules.specs.Transfers.{with_files}
-use Rattle.bag_ledger.specs.declared.fault.KeepFault.TheVariants.{Memory}
-use Rattle.bag_receiver.specs.declared.begin.BeginFault.{BeginFault}
-use Rattle.bag_receiver.specs.declared.begin.BeginFault.TheVariants.{Keeper, TagTooLarge}
-use Rattle.bag_receiver.specs.Beginning.{AreTaken, IsHeavyAt, IsLargeAt, NoneLarge, NoneMisplaced, RefusesFiles}
-use Rattle.bag_receiver.specs.BeginningInside.{IsRefusal, begin_fault, light_tags}
+use Rattle.bag_receiver.specs.declared.begin.BeginFault.TheVariants.{Keeper}
+use Rattle.bag_receiver.specs.Beginning.{NoneLarge}
+use Rattle.bag_receiver.specs.BeginningInside.{begin_fault}
 use Rattle.bag_receiver.proofs.BeginFiles.{all_light, first_by_octets}
-use Rattle.bag_receiver.proofs.Words.{Files}
+use Rattle.bag_receiver.proofs.Words.{AreTaken, BeginFault, FewLines, Files, IsFirstPath, IsHeavyAt, IsLargeAt, IsPlanOf, IsRefusal, light_tags, Memory, NoneMisplaced, Plan, Refuses, RefusesFiles, TagTooLarge, with_files}
 
 module _ (given : Files) (none : NoneMisplaced given) where
   -- A FILE HAS TOO MANY OCTETS

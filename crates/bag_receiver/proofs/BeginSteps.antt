@@ -1,32 +1,15 @@
 -- What a beginning makes of what is held, and of what happened to each transfer before it.
 use Rattle.std.proofs.Common.{◌≡◌, ◌≢◌, ◌⊎◌, ℕ, List, [], Option, Some, None, Result, Ok, Err, refl, sym, ap, subst, ◌∙◌, inl, inr}
-use Rattle.std.specs.Option.{option_map}
-use Rattle.bag_rules.specs.declared.plan.Plan.{Plan}
-use Rattle.bag_rules.specs.Plans.{IsPlanOf}
-use Rattle.bag_rules.specs.Transfers.{with_files}
-use Rattle.std.specs.BTreeMap.{BTreeMap, insert_entry}
 use Rattle.std.specs.Result.{IsErrAnd, IsErrOf, OnErr, OnOk}
-use Rattle.std.specs.declared.alloc.Global.{Global}
-use Rattle.std.specs.declared.string.String.{String}
-use Rattle.bag_digest.specs.Device.{CountsIf}
-use Rattle.bag_ledger.specs.declared.fault.StoreFault.{StoreFault}
-use Rattle.bag_ledger.specs.declared.fault.KeepFault.{KeepFault}
-use Rattle.bag_ledger.specs.declared.fault.KeepFault.TheVariants.{Memory, Store}
-use Rattle.bag_ledger.specs.Keeping.{IsUnused, Leaves, Reads, Writes}
-use Rattle.bag_ledger.specs.Ledgers.{Ledger, begun, tags_of, transfer_of, with_transfer}
-use Rattle.bag_ledger.proofs.LedgerLemmas.{entry_here, entry_others}
+use Rattle.bag_ledger.specs.Keeping.{IsUnused, Leaves, Writes}
+use Rattle.bag_ledger.specs.Ledgers.{with_transfer}
 use Rattle.bag_receiver.specs.declared.begin.Begun.{Begun}
 use Rattle.bag_receiver.specs.declared.begin.Begun.TheVariants.{New, Again}
-use Rattle.bag_receiver.specs.declared.begin.BeginFault.{BeginFault}
-use Rattle.bag_receiver.specs.declared.begin.BeginFault.TheVariants.{BadName, TagPath, TagTooLarge, Outside, Rules, Clash, Differs, Keeper}
-use Rattle.bag_receiver.specs.declared.receiver.Receiver.{Receiver}
-use Rattle.bag_receiver.specs.Beginning.{AreTaken, BeginStep, Begins, IsAnswerTo, MayFail, Opened}
-use Rattle.bag_receiver.specs.Names.{IsTransferName}
-use Rattle.bag_receiver.specs.Receiving.{ArePlansIn, Shows, State, settled, with_doubtful}
-use Rattle.bag_receiver.specs.Receivers.{Does, plans_in}
+use Rattle.bag_receiver.specs.declared.begin.BeginFault.TheVariants.{BadName, Outside, Rules, Clash, Differs, Keeper}
+use Rattle.bag_receiver.specs.Beginning.{IsAnswerTo, MayFail, Opened}
 use Rattle.bag_receiver.proofs.FileLemmas.{same_or_not}
 use Rattle.bag_receiver.proofs.ReceiverLemmas.{plans_grow}
-use Rattle.bag_receiver.proofs.Words.{Files, Has, nat_cmp, nothing_held, slice_cmp, Standing, Transfer}
+use Rattle.bag_receiver.proofs.Words.{ArePlansIn, AreTaken, BeginFault, Begins, BeginStep, begun, BTreeMap, CountsIf, Does, entry_here, entry_others, Files, Global, Has, HasTransfer, insert_entry, IsPlanOf, IsTransferName, KeepFault, Ledger, LedgerState, Memory, nat_cmp, nothing_held, option_map, Plan, plans_in, Reads, Receiver, settled, slice_cmp, Store, StoreFault, String, TagPath, tags_of, TagTooLarge, Transfer, transfer_of, TransferState, with_doubtful_ledger, with_files}
 
 -- A TRANSFER THAT IS OPENED
 
@@ -37,23 +20,23 @@ module _ (name : List ℕ) (given : Files) (old new : Ledger) (opened : Opened n
   apart_stays : (other : List ℕ) → other ≢ name → transfer_of new other ≡ transfer_of old other
   apart_stays other apart = (let (tags, named, taken, unused, is) = opened in ap (λ l. transfer_of l other) is ∙ entry_others name (begun tags) other apart old)
 
-module _ (result : Result Begun BeginFault) (name : List ℕ) (given : Files) (old new : State) (step : BeginStep result name given old new) where
+module _ (result : Result Begun BeginFault) (name : List ℕ) (given : Files) (old new : LedgerState) (step : BeginStep result name given old new) where
   -- where nothing changed
   same_begins : result ≢ Ok New → new ≡ old → Begins name given result old new
   same_begins other same = record {
     step = step;
     opened = λ is. absurd (other is);
-    left = λ crashed has. inl (subst (λ (s : State). Has s.doubtful crashed) same has);
-    kept = λ tags standing shows. subst (λ (s : State). Shows s name tags standing) (sym same) shows;
+    left = λ crashed has. inl (subst (λ (s : LedgerState). Has s.doubtful crashed) same has);
+    kept = λ tags files present. subst (λ (s : LedgerState). HasTransfer s name tags files) (sym same) present;
     others = record {
-      same = λ one apart. ap (λ (s : State). transfer_of s.held one) same;
-      left = λ one apart crashed has. (crashed, inr (subst (λ (s : State). Has s.doubtful crashed) same has), refl);
+      same = λ one apart. ap (λ (s : LedgerState). transfer_of s.held one) same;
+      left = λ one apart crashed has. (crashed, inr (subst (λ (s : LedgerState). Has s.doubtful crashed) same has), refl);
     };
   }
 
   -- the name was not used
-  was_none : (ledger : Ledger) → Opened name given old.held ledger → (tags : Files) (standing : Standing) → Shows old name tags standing → Shows new name tags standing
-  was_none ledger opened tags standing shows = absurd (let e = sym shows.there ∙ opened.3 in cc e)
+  was_none : (ledger : Ledger) → Opened name given old.held ledger → (tags : Files) (files : TransferState) → HasTransfer old name tags files → HasTransfer new name tags files
+  was_none ledger opened tags files present = absurd (let e = sym present.there ∙ opened.3 in cc e)
 
   new_begins : Opened name given old.held new.held → new.doubtful ≡ [] → Begins name given result old new
   new_begins opened settled = record {
@@ -74,25 +57,25 @@ module _ (result : Result Begun BeginFault) (name : List ℕ) (given : Files) (o
     };
   }
 
-  doubtful_begins : result ≢ Ok New → (ledger : Ledger) → Opened name given old.held ledger → new ≡ with_doubtful old ledger → Begins name given result old new
+  doubtful_begins : result ≢ Ok New → (ledger : Ledger) → Opened name given old.held ledger → new ≡ with_doubtful_ledger old ledger → Begins name given result old new
   doubtful_begins other ledger opened is = record {
     step = step;
     opened = λ e. absurd (other e);
-    left = λ crashed has. elim (subst (λ (s : State). Has s.doubtful crashed) is has) [
+    left = λ crashed has. elim (subst (λ (s : LedgerState). Has s.doubtful crashed) is has) [
       | inl here ↦ inr (ap (λ l. transfer_of l name) (sym here) ∙ there name given old.held ledger opened)
       | inr before ↦ inl before
     ];
     kept = was_none ledger opened;
     others = record {
-      same = λ one apart. ap (λ (s : State). transfer_of s.held one) is;
-      left = λ one apart crashed has. elim (subst (λ (s : State). Has s.doubtful crashed) is has) [
+      same = λ one apart. ap (λ (s : LedgerState). transfer_of s.held one) is;
+      left = λ one apart crashed has. elim (subst (λ (s : LedgerState). Has s.doubtful crashed) is has) [
         | inl here ↦ (old.held, inl refl, ap (λ l. transfer_of l one) (sym here) ∙ apart_stays name given old.held ledger opened one apart)
         | inr before ↦ (crashed, inr before, refl)
       ];
     };
   }
 
-pub begins : (result : Result Begun BeginFault) (name : List ℕ) (given : Files) (old new : State) → BeginStep result name given old new → Begins name given result old new
+pub begins : (result : Result Begun BeginFault) (name : List ℕ) (given : Files) (old new : LedgerState) → BeginStep result name given old new → Begins name given result old new
 begins (Ok New) name given old new step = new_begins (Ok New) name given old new step step.0 step.1
 begins (Ok Again) name given old new step = same_begins (Ok Again) name given old new step (λ e. cc) step.4
 begins (Err BadName) name given old new step = same_begins (Err BadName) name given old new step (λ e. cc) step.1
@@ -140,13 +123,13 @@ module _ {K : Type 0} (holds may_leave : K → Ledger → Type 0) (clean : K →
   abbrev over : K → Plans → Receiver K
   over keeper plans = record { keeper = keeper; plans = plans }
 
-  pub does_nothing_so : (receiver : Receiver K) (step : State → State → Type 0) → ((now : State) → step now now) → Does holds may_leave clean receiver receiver step
-  does_nothing_so receiver step is = record { was_clean = λ c. c; stands = λ c now stands. (now, stands, is now) }
+  pub does_nothing_so : (receiver : Receiver K) (step : LedgerState → LedgerState → Type 0) → ((now : LedgerState) → step now now) → Does holds may_leave clean receiver receiver step
+  does_nothing_so receiver step is = record { was_clean = λ c. c; leads = λ c now in_state. (now, in_state, is now) }
 
-  pub does_so : (old new : Receiver K) (step other : State → State → Type 0) → ((before after : State) → step before after → other before after) → Does holds may_leave clean old new step → Does holds may_leave clean old new other
+  pub does_so : (old new : Receiver K) (step other : LedgerState → LedgerState → Type 0) → ((before after : LedgerState) → step before after → other before after) → Does holds may_leave clean old new step → Does holds may_leave clean old new other
   does_so old new step other so does = record {
     was_clean = does.was_clean;
-    stands = λ c before stands. (let k = does.stands c before stands in (k.0, k.1, so before k.0 k.2));
+    leads = λ c before in_state. (let k = does.leads c before in_state in (k.0, k.1, so before k.0 k.2));
   }
 
   module _ (name : List ℕ) (given tags : Files) (named : IsTransferName name) (taken : AreTaken given tags) (plans : Plans) where
@@ -154,16 +137,16 @@ module _ {K : Type 0} (holds may_leave : K → Ledger → Type 0) (clean : K →
     Stepped old new after result = Does holds may_leave clean (over old plans) (over new after) (BeginStep result name given)
 
     -- the tag files are looked up, and that is all
-    pub looked : (old new : K) (result : Result Begun BeginFault) → Reads holds may_leave clean old new → (clean new → (now : State) → holds old now.held → BeginStep result name given now now) → Stepped old new plans result
+    pub looked : (old new : K) (result : Result Begun BeginFault) → Reads holds may_leave clean old new → (clean new → (now : LedgerState) → holds old now.held → BeginStep result name given now now) → Stepped old new plans result
     looked old new result reads step = record {
       was_clean = reads.was_clean;
-      stands = λ c now stands. (
+      leads = λ c now in_state. (
         now,
         record {
-          kept = record { held = reads.held c now.held stands.kept.held; left = λ crashed left. stands.kept.left crashed (reads.left c crashed left) };
-          plans = stands.plans;
+          kept = record { held = reads.held c now.held in_state.kept.held; left = λ crashed left. in_state.kept.left crashed (reads.left c crashed left) };
+          plans = in_state.plans;
         },
-        step c now stands.kept.held,
+        step c now in_state.kept.held,
       );
     }
 
@@ -189,21 +172,21 @@ module _ {K : Type 0} (holds may_leave : K → Ledger → Type 0) (clean : K →
       pub opening_failed : (fault : KeepFault) → Leaves holds may_leave clean (IsUnused name) middle new (λ ledger. with_transfer ledger name tags) → Stepped old new plans (Err (Keeper fault))
       opening_failed fault leaves = record {
         was_clean = λ c. reads.was_clean (leaves.was_clean c);
-        stands = λ c now stands.
+        leads = λ c now in_state.
             let m = leaves.was_clean c in
-            let holding = reads.held m now.held stands.kept.held in (
-              with_doubtful now (with_transfer now.held name tags),
+            let holding = reads.held m now.held in_state.kept.held in (
+              with_doubtful_ledger now (with_transfer now.held name tags),
               record {
                 kept = record {
                   held = leaves.held c now.held holding;
-                  left = λ crashed left. elim (leaves.left c now.held crashed holding (unused m now.held stands.kept.held) left) [
-                    | inl before ↦ elim (stands.kept.left crashed (reads.left m crashed before)) [ inl same ↦ inl same | inr doubtful ↦ inr (inr doubtful) ]
+                  left = λ crashed left. elim (leaves.left c now.held crashed holding (unused m now.held in_state.kept.held) left) [
+                    | inl before ↦ elim (in_state.kept.left crashed (reads.left m crashed before)) [ inl same ↦ inl same | inr doubtful ↦ inr (inr doubtful) ]
                     | inr written ↦ inr (inl (sym written))
                   ];
                 };
-                plans = stands.plans;
+                plans = in_state.plans;
               },
-              (may_fail name given tags named taken fault, inr (with_transfer now.held name tags, opened_now m now.held stands.kept.held, refl)),
+              (may_fail name given tags named taken fault, inr (with_transfer now.held name tags, opened_now m now.held in_state.kept.held, refl)),
             );
       }
 
@@ -211,11 +194,11 @@ module _ {K : Type 0} (holds may_leave : K → Ledger → Type 0) (clean : K →
           → Writes holds may_leave clean (IsUnused name) middle new (λ ledger. with_transfer ledger name tags) → Stepped old new after (Ok New)
       opened_new after plan is_plan kept writes = record {
         was_clean = λ c. reads.was_clean (writes.was_clean c);
-        stands = λ c now stands.
+        leads = λ c now in_state.
             let m = writes.was_clean c in
-            let holding = reads.held m now.held stands.kept.held in
-            let free = unused m now.held stands.kept.held in
-            let still = plans_after now.held name tags (plans_in plans) free stands.plans in
+            let holding = reads.held m now.held in_state.kept.held in
+            let free = unused m now.held in_state.kept.held in
+            let still = plans_after now.held name tags (plans_in plans) free in_state.plans in
             let here : tags_of (with_transfer now.held name tags) name ≡ Some tags = ap (option_map (λ (transfer : Transfer). transfer.tags)) (entry_here name (begun tags) now.held) in (
               settled (with_transfer now.held name tags),
               record {
@@ -228,7 +211,7 @@ module _ {K : Type 0} (holds may_leave : K → Ledger → Type 0) (clean : K →
                   | inr same ↦ subst (ArePlansIn (with_transfer now.held name tags)) (sym same) still
                 ];
               },
-              (opened_now m now.held stands.kept.held, refl),
+              (opened_now m now.held in_state.kept.held, refl),
             );
       }
 

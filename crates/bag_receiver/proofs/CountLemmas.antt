@@ -1,13 +1,8 @@
 -- How failures of the store are counted over several calls.
-use Rattle.std.proofs.Common.{◌≡◌, ◌≢◌, ℕ, Result, Ok, Err, IsErrOf, refl, ap, subst}
-use Rattle.bag_digest.specs.Device.{CountsIf, UsesSource}
-use Rattle.bag_ledger.specs.declared.fault.KeepFault.{KeepFault}
-use Rattle.bag_ledger.specs.declared.fault.KeepFault.TheVariants.{Store}
-use Rattle.bag_ledger.specs.declared.fault.PutFault.{PutFault}
+use Rattle.std.proofs.Common.{◌≡◌, ◌≢◌, ℕ, Ok, Err, IsErrOf, refl, ap, subst}
+use Rattle.bag_digest.specs.Device.{UsesSource}
 use Rattle.bag_ledger.specs.declared.fault.PutFault.TheVariants as put
-use Rattle.bag_ledger.specs.declared.fault.StoreFault.{StoreFault}
-use Rattle.bag_receiver.specs.PutAnswers.{deliver_fault}
-use Rattle.bag_receiver.proofs.Words.{DeliverFault, Keeper, Reader, Refused}
+use Rattle.bag_receiver.proofs.Words.{CountsIf, deliver_fault, DeliverFault, Keeper, KeepFault, PutFault, Reader, Refused, Store, StoreFault}
 
 -- after a call that didn't fail
 pub counts_after : (failed then : Type 0) (old middle new : ℕ) → ¬ failed → CountsIf failed old middle → CountsIf then middle new → CountsIf then old new

@@ -1,27 +1,13 @@
 -- Runs of what a courier brings.
 use Rattle.std.proofs.Common.{◌≡◌, ◌+◌, ℕ, List, [], ◌∷◌, ◌++◌, Option, Some, None, length, map, min, true, Ok, Err, Result, get_or, refl, sym, ap, subst, ◌∙◌, inl, inr, arith}
-use Rattle.std.proofs.lemmas.List.{length-append, length-map, map-append}
-use Rattle.std.proofs.lemmas.Option.{get_or_from_slice_get, slice_get-map, slice_get_read}
+use Rattle.std.proofs.lemmas.Option.{get_or_from_slice_get}
 use Rattle.std.proofs.Math.Seq.{get_or-append_seam}
-use Rattle.std.specs.Option.{option_map}
-use Rattle.std.specs.String.{string_bytes}
-use Rattle.std.specs.declared.alloc.Global.{Global}
-use Rattle.std.specs.declared.string.String.{String}
 use Rattle.bag_digest.proofs.Progress.{all_known, more_known}
-use Rattle.bag_digest.specs.Device.{CountsIf, Rises, greatest_count}
-use Rattle.bag_ledger.specs.declared.fault.KeepFault.TheVariants.{Store}
-use Rattle.bag_ledger.specs.declared.fault.StoreFault.{StoreFault}
-use Rattle.bag_ledger.specs.Ledgers.{Ledger}
-use Rattle.bag_receiver.specs.declared.receiver.Receiver.{Receiver}
 use Rattle.bag_receiver.specs.declared.run.End.{End}
 use Rattle.bag_receiver.specs.declared.run.End.TheVariants as end
-use Rattle.bag_receiver.specs.Couriers.{AreOf, AreTold, CallsNext, ComesNext, IsOf, courier_failures, read_failure, read_failures}
-use Rattle.bag_receiver.specs.Deliveries.{delivery_of}
-use Rattle.bag_receiver.specs.Receivers.{Does}
-use Rattle.bag_receiver.specs.Receiving.{Brought, IsAnswer, Receives}
-use Rattle.bag_receiver.specs.Runs.{CountsAtLeast, Runs}
+use Rattle.bag_receiver.specs.Couriers.{AreOf, AreTold, IsOf, courier_failures, read_failure}
 use Rattle.bag_receiver.proofs.RunLemmas.{ran_more, ran_nothing}
-use Rattle.bag_receiver.proofs.Words.{Answer, BadPath, Content, Delivery, Digest, Files, Keeper, LARGEST_ITEM, Length, NoTransfer, NotListed, Reader, Refused, Repeated, Taken, TooLarge, TooLong, Unread, Whole}
+use Rattle.bag_receiver.proofs.Words.{Answer, BadPath, Brought, CallsNext, ComesNext, Content, CountsAtLeast, CountsIf, Delivery, delivery_of, Digest, Does, Files, Global, greatest_count, IsAnswer, Keeper, LARGEST_ITEM, Ledger, Length, length-append, length-map, map-append, NotListed, NoTransfer, option_map, read_failures, Reader, Receiver, Receives, Refused, Repeated, Rises, Runs, slice_get-map, slice_get_read, Store, StoreFault, String, string_bytes, Taken, TooLarge, TooLong, Unread, Whole}
 
 -- WHAT IS STILL TO COME
 

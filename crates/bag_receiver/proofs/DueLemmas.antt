@@ -1,9 +1,6 @@
 -- The answer that is due.
 use Rattle.std.proofs.Common.{◌≡◌, [], ◌≢◌, ℕ, List, Option, Some, None, Contains, cond, nat_eq, refl, sym, ap, ◌∙◌, arith}
-use Rattle.bag_path.specs.declared.path.PathFault.{PathFault}
-use Rattle.bag_rules.specs.declared.want.WantFault.TheVariants.{Length as OtherLength, Digest as OtherDigest}
-use Rattle.bag_ledger.specs.Ledgers.{holding}
-use Rattle.bag_receiver.proofs.Words.{Alg, Answer, AnswerStep, BadPath, Content, Digest, Files, HasOtherLength, IsAcceptance, IsDue, IsDueIn, IsExpected, IsFirstAmong, IsListedPath, IsMisfitIn, IsPath, IsTooLong, Keeper, keys_of, Length, ListsOther, Md5, no_fault_if_path, NoTransfer, NotListed, Passes, PassesIn, path_fault, place_of, Reader, Refused, Repeated, Sha1, Sha256, Sha512, Taken, TooLarge, TooLong, Transfer, Unread, WantFault, Whole}
+use Rattle.bag_receiver.proofs.Words.{Alg, Answer, AnswerStep, BadPath, Content, Digest, Files, HasOtherLength, holding, IsAcceptance, IsDue, IsDueIn, IsExpected, IsFirstAmong, IsListedPath, IsMisfitIn, IsPath, IsTooLong, Keeper, keys_of, Length, ListsOther, Md5, no_fault_if_path, NotListed, NoTransfer, OtherDigest, OtherLength, Passes, PassesIn, path_fault, PathFault, place_of, Reader, Refused, Repeated, Sha1, Sha256, Sha512, Taken, TooLarge, TooLong, Transfer, Unread, WantFault, Whole}
 
 -- THE FIRST ALGORITHM
 

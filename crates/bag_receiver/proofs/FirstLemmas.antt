@@ -1,5 +1,5 @@
 -- The first delivery that was accepted for a path.
-use Rattle.std.proofs.Common.{◌≡◌, ◌⊎◌, ℕ, List, [], ◌∷◌, ◌++◌, refl, sym, ap, subst, ◌∙◌, inl, inr}
+use Rattle.std.proofs.Common.{◌∙◌, ◌≡◌, ◌⊎◌, ℕ, List, [], ◌∷◌, ◌++◌, refl, sym, ap, subst, inl, inr}
 use Rattle.bag_receiver.proofs.FileLemmas.{same_or_not}
 use Rattle.bag_receiver.proofs.Words.{Accepts, Answer, Content, Decided, Delivery, Has, IsAcceptance, IsAccepted, IsFirstAccepted, Refused, Repeated, Taken, TooLong, Unread, Whole}
 

@@ -18,3 +18,4 @@ pub mod CountLemmas
 pub mod RunLemmas
 pub mod CourierLemmas
 pub mod ReportLemmas
+pub mod ArrivalLemmas

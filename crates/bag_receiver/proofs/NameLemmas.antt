@@ -1,10 +1,9 @@
 -- The transfer that a name names.
 use Rattle.std.proofs.Common.{◌≡◌, ℕ, List, Option, None, length, refl, sym, ◌∙◌, inl, inr, arith}
 use Rattle.std.specs.List.{list_all}
-use Rattle.bag_ledger.specs.Ledgers.{Ledger, Transfer, transfer_of}
-use Rattle.bag_receiver.specs.Names.{IsNamed, IsTransferName, is_of_names}
+use Rattle.bag_receiver.specs.Names.{is_of_names}
 use Rattle.bag_receiver.specs.declared.name.TheConstants.{LONGEST_NAME}
-use Rattle.bag_receiver.proofs.Words.{Decided, decided_at_most, decided_true}
+use Rattle.bag_receiver.proofs.Words.{Decided, decided_at_most, decided_true, IsNamed, IsTransferName, Ledger, Transfer, transfer_of}
 
 pub name_or_not : (text : List ℕ) → Decided (IsTransferName text)
 name_or_not text = elim (decided_at_most 1 (length text)) [

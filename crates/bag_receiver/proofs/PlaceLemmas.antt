@@ -1,27 +1,14 @@
 -- What is due at a listed path, by what its transfer wants there.
-use Rattle.std.proofs.Common.{◌≡◌, ◌≢◌, ◌⊎◌, ◌≤◌, ◌<◌, ℕ, Bool, true, false, List, [], ◌∷◌, Option, Some, None, Contains, cond, length, refl, sym, ap, subst, ◌∙◌, inl, inr, arith}
-use Rattle.std.specs.Map.{lookup}
-use Rattle.std.specs.Option.{is_some, option_map, unwrap_or}
-use Rattle.std.specs.Str.{bytes_eq}
-use Rattle.std.proofs.lemmas.Slice.Eq.{bytes_eq-Decides}
-use Rattle.bag_rules.specs.declared.plan.Plan.{Plan}
-use Rattle.bag_rules.specs.Plans.{IsPlanOf, IsWantOf}
+use Rattle.std.proofs.Common.{◌≡◌, ◌≢◌, ◌≤◌, ℕ, Bool, true, false, List, [], ◌∷◌, Option, Some, None, Contains, cond, length, refl, sym, ap, subst, ◌∙◌, inl, inr, arith}
 use Rattle.bag_rules.specs.declared.want.Want.{Want}
-use Rattle.bag_rules.specs.declared.want.WantFault.TheVariants.{Length as OtherLength, Digest as OtherDigest}
-use Rattle.bag_rules.specs.Wants.{IsFirstMisfitOf, IsWanted}
+use Rattle.bag_rules.specs.Wants.{IsFirstMisfitOf}
 use Rattle.bag_rules.proofs.PassingLemmas.{misfit_so, wanted_passes}
-use Rattle.bag_ledger.specs.declared.fault.PutFault.{PutFault}
 use Rattle.bag_ledger.specs.declared.fault.PutFault.TheVariants as put
-use Rattle.bag_ledger.specs.Keeping.{Awaits, Given, IsGiven, RefusesGiven, given_by, known}
-use Rattle.bag_ledger.specs.Ledgers.{Ledger, content_of, items_of, transfer_of, with_item}
-use Rattle.bag_receiver.specs.declared.deliver.Place.{Place}
-use Rattle.bag_receiver.specs.Deliveries.{delivery_of}
-use Rattle.bag_receiver.specs.Names.{IsNamed, IsTransferName}
-use Rattle.bag_receiver.specs.PutAnswers.{deliver_fault}
-use Rattle.bag_receiver.specs.Receiving.{Adds, ArePlansIn, Brought, DeliveryStep, IsDueTo as IsDueThere, Judges, State}
-use Rattle.bag_receiver.specs.ReceiversInside.{IsNoPlan, IsPlaceIn, RefusesAny, RefusesText}
+use Rattle.bag_ledger.specs.Keeping.{Awaits}
+use Rattle.bag_ledger.specs.Ledgers.{content_of}
+use Rattle.bag_receiver.specs.ReceiversInside.{IsNoPlan, RefusesText}
 use Rattle.bag_receiver.proofs.ReceivingLemmas.{named_there}
-use Rattle.bag_receiver.proofs.Words.{Answer, BadPath, contains_from_has, Content, DeliverFault, Digest, Files, Has, has_from_contains, IsExpected, IsMisfitIn, IsPath, IsTooLong, Keeper, keys_of, LARGEST_ITEM, Length, NoTransfer, NotListed, PassesIn, Reader, Refused, Repeated, Taken, TooLarge, TooLong, Transfer, Unread, WantFault, Whole}
+use Rattle.bag_receiver.proofs.Words.{Adds, Answer, ArePlansIn, BadPath, Brought, bytes_eq, bytes_eq-Decides, contains_from_has, Content, deliver_fault, DeliverFault, delivery_of, DeliveryStep, Digest, Files, given_by, Has, has_from_contains, is_some, IsDueThere, IsExpected, IsMisfitIn, IsNamed, IsPath, IsPlaceIn, IsPlanOf, IsTooLong, IsTransferName, IsWanted, IsWantOf, Judges, Keeper, keys_of, known, LARGEST_ITEM, Ledger, LedgerState, Length, lookup, NotListed, NoTransfer, option_map, OtherDigest, OtherLength, PassesIn, Place, Plan, PutFault, Reader, Refused, RefusesAny, RefusesGiven, Repeated, Taken, TooLarge, TooLong, Transfer, transfer_of, Unread, unwrap_or, WantFault, Whole, with_item}
 
 -- A LOOK-UP AMONG FILES
 
@@ -125,7 +112,7 @@ known_judged want text octets (put.Keep fault) is gave = tt
 
 -- AT A PLACE
 
-module _ (now : State) (name text : List ℕ) (place : Place) (at : IsPlaceIn now.held name text place) where
+module _ (now : LedgerState) (name text : List ℕ) (place : Place) (at : IsPlaceIn now.held name text place) where
   abbrev tags : Files
   tags = at.transfer.tags
 
@@ -193,7 +180,7 @@ module _ (now : State) (name text : List ℕ) (place : Place) (at : IsPlaceIn no
 
 -- NO PLACE
 
-pub text_refused : (now : State) (name text : List ℕ) (transfer : Transfer) (fault : DeliverFault) → IsNamed now.held name (Some transfer) → RefusesText text fault → RefusesAny name text now fault
+pub text_refused : (now : LedgerState) (name text : List ℕ) (transfer : Transfer) (fault : DeliverFault) → IsNamed now.held name (Some transfer) → RefusesText text fault → RefusesAny name text now fault
 text_refused now name text transfer (BadPath fault) named none content = ((Some transfer, named, none), refl)
 text_refused now name text transfer (Keeper fault) named none content = inl refl
 text_refused now name text transfer NoTransfer named none content = absurd none
@@ -203,7 +190,7 @@ text_refused now name text transfer TooLarge named none content = absurd none
 text_refused now name text transfer Length named none content = absurd none
 text_refused now name text transfer (Digest alg) named none content = absurd none
 
-pub not_listed : (now : State) (name text : List ℕ) (transfer : Transfer) → IsNamed now.held name (Some transfer) → IsPath text → ¬ IsExpected transfer.tags text → RefusesAny name text now NotListed
+pub not_listed : (now : LedgerState) (name text : List ℕ) (transfer : Transfer) → IsNamed now.held name (Some transfer) → IsPath text → ¬ IsExpected transfer.tags text → RefusesAny name text now NotListed
 not_listed now name text transfer named is other content = ((Some transfer, named, (is, other)), refl)
 
 pub no_plan_judged : (text : List ℕ) (content : Content) (fault : DeliverFault) → IsNoPlan fault → Judges (Refused fault) text content

@@ -1,36 +1,15 @@
 -- How the receiver's calls follow one another, and what they find.
-use Rattle.std.proofs.Common.{◌≡◌, ◌≢◌, ◌⊎◌, ◌≤◌, ◌<◌, ℕ, Bool, true, false, List, [], ◌∷◌, Option, Some, None, map, length, refl, sym, ap, subst, ◌∙◌, inl, inr}
-use Rattle.std.specs.BTreeMap.{BTreeMap, get_by, insert_entry, is_at}
-use Rattle.std.specs.Map.{lookup}
-use Rattle.std.specs.Option.{option_map, is_some}
-use Rattle.std.specs.Ordering.{nat_cmp}
-use Rattle.std.specs.Cmp.Lexicographic.{slice_cmp}
-use Rattle.std.specs.Str.{bytes_eq}
-use Rattle.std.specs.String.{string_bytes, string_cmp}
-use Rattle.std.specs.declared.alloc.Global.{Global}
-use Rattle.std.specs.declared.string.String.{String}
-use Rattle.std.proofs.lemmas.Map.Text.{is_eq-slice_cmp}
-use Rattle.std.proofs.lemmas.Slice.Eq.{bytes_eq-Decides}
-use Rattle.bag_rules.specs.declared.plan.Plan.{Plan}
-use Rattle.bag_rules.specs.Plans.{IsPlanOf}
-use Rattle.bag_ledger.specs.declared.fault.PutFault.{PutFault}
+use Rattle.std.proofs.Common.{◌≡◌, ◌⊎◌, ◌≤◌, ℕ, true, false, List, [], ◌∷◌, Option, Some, None, map, length, refl, sym, ap, subst, ◌∙◌, inl, inr}
+use Rattle.std.specs.BTreeMap.{get_by, is_at}
+use Rattle.std.specs.String.{string_cmp}
 use Rattle.bag_ledger.specs.declared.fault.PutFault.TheVariants as put
-use Rattle.bag_ledger.specs.Keeping.{Given, HasPut, MayPut, Reads, RefusesGiven, given_by, known}
-use Rattle.bag_ledger.specs.Ledgers.{Ledger, Transfer, holding, tags_of, transfer_of, with_item}
-use Rattle.bag_ledger.proofs.EntryLemmas.{insert_shown, lookup_shown}
-use Rattle.bag_ledger.proofs.LedgerLemmas.{entry_here, entry_others, item_here, item_others}
+use Rattle.bag_ledger.specs.Keeping.{HasPut, MayPut}
+use Rattle.bag_ledger.proofs.EntryLemmas.{lookup_shown}
 use Rattle.bag_ledger.proofs.StoredLemmas.{by_name}
-use Rattle.bag_receiver.specs.declared.receiver.Receiver.{Receiver}
-use Rattle.bag_receiver.specs.declared.deliver.Place.{Place}
-use Rattle.bag_receiver.specs.Deliveries.{delivery_of}
-use Rattle.bag_receiver.specs.PutAnswers.{deliver_fault}
-use Rattle.bag_receiver.specs.Receiving.{Adds, ArePlansIn, Brought, DeliveryStep, Judges, Receives, State, settled, with_doubtful}
-use Rattle.bag_receiver.specs.Receivers.{Does, Stands, plans_in}
-use Rattle.bag_receiver.specs.ReceiversInside.{IsPlaceIn, RefusesAny, Same}
 use Rattle.bag_receiver.proofs.FileLemmas.{same_or_not}
 use Rattle.bag_receiver.proofs.ReceivingLemmas.{receives}
 use Rattle.bag_receiver.proofs.PlaceLemmas.{adds, awaits, content_read, known_refused, read_brought, read_judged, read_refused}
-use Rattle.bag_receiver.proofs.Words.{Answer, Content, DeliverFault, Delivery, Files, IsPath, Keeper, LARGEST_ITEM, Refused, Taken, Whole}
+use Rattle.bag_receiver.proofs.Words.{Adds, Answer, ArePlansIn, Brought, BTreeMap, bytes_eq, Content, deliver_fault, DeliverFault, Delivery, delivery_of, DeliveryStep, Does, entry_here, entry_others, Files, Given, given_by, Global, holding, insert_entry, insert_shown, is_eq-slice_cmp, is_some, IsInState, IsPath, IsPlaceIn, IsPlanOf, item_here, item_others, Judges, Keeper, known, LARGEST_ITEM, Ledger, LedgerState, lookup, nat_cmp, option_map, Place, Plan, plans_in, PutFault, Reads, Receiver, Receives, Refused, RefusesAny, RefusesGiven, Same, settled, slice_cmp, String, string_bytes, tags_of, Taken, Transfer, transfer_of, Whole, with_doubtful_ledger, with_item}
 
 abbrev pub Plans : Type 0
 Plans = BTreeMap (String Global) Plan
@@ -88,36 +67,36 @@ plans_stay ledger name path content plans are other plan at = (let k = are other
 -- CALLS
 
 module _ {K : Type 0} (holds may_leave : K → Ledger → Type 0) (clean : K → Type 0) where
-  abbrev Did : Receiver K → Receiver K → (State → State → Type 0) → Type 0
+  abbrev Did : Receiver K → Receiver K → (LedgerState → LedgerState → Type 0) → Type 0
   Did old new step = Does holds may_leave clean old new step
 
-  abbrev Stood : Receiver K → State → Type 0
-  Stood receiver now = Stands holds may_leave receiver now
+  abbrev InState : Receiver K → LedgerState → Type 0
+  InState receiver now = IsInState holds may_leave receiver now
 
   abbrev pub over : K → Plans → Receiver K
   over keeper plans = record { keeper = keeper; plans = plans }
 
   pub does_nothing : (receiver : Receiver K) → Did receiver receiver Same
-  does_nothing receiver = record { was_clean = λ c. c; stands = λ c now stands. (now, stands, refl) }
+  does_nothing receiver = record { was_clean = λ c. c; leads = λ c now in_state. (now, in_state, refl) }
 
-  pub does_after : (old middle new : Receiver K) (step : State → State → Type 0) → Did old middle Same → Did middle new step → Did old new step
+  pub does_after : (old middle new : Receiver K) (step : LedgerState → LedgerState → Type 0) → Did old middle Same → Did middle new step → Did old new step
   does_after old middle new step h k = record {
     was_clean = λ c. h.was_clean (k.was_clean c);
-    stands = λ c before stands. (let m = h.stands (k.was_clean c) before stands in k.stands c before (subst (Stood middle) m.2 m.1));
+    leads = λ c before in_state. (let m = h.leads (k.was_clean c) before in_state in k.leads c before (subst (InState middle) m.2 m.1));
   }
 
   -- what stood so before a call that changes nothing stands so after it
-  pub still : (old new : Receiver K) (now : State) → Did old new Same → clean new.keeper → Stood old now → Stood new now
-  still old new now h c stands = (let m = h.stands c now stands in subst (Stood new) m.2 m.1)
+  pub still : (old new : Receiver K) (now : LedgerState) → Did old new Same → clean new.keeper → InState old now → InState new now
+  still old new now h c in_state = (let m = h.leads c now in_state in subst (InState new) m.2 m.1)
 
   pub does_read : (old new : K) (plans : Plans) → Reads holds may_leave clean old new → Did (over old plans) (over new plans) Same
   does_read old new plans reads = record {
     was_clean = reads.was_clean;
-    stands = λ c now stands. (
+    leads = λ c now in_state. (
       now,
       record {
-        kept = record { held = reads.held c now.held stands.kept.held; left = λ crashed left. stands.kept.left crashed (reads.left c crashed left) };
-        plans = stands.plans;
+        kept = record { held = reads.held c now.held in_state.kept.held; left = λ crashed left. in_state.kept.left crashed (reads.left c crashed left) };
+        plans = in_state.plans;
       },
       refl,
     );
@@ -129,11 +108,11 @@ module _ {K : Type 0} (holds may_leave : K → Ledger → Type 0) (clean : K →
       → (clean new → (ledger : Ledger) → holds old ledger → tags_of ledger name ≡ Some tags) → Did (over old plans) (over new more) Same
   does_plan old new plans more name tags plan reads kept is there = record {
     was_clean = reads.was_clean;
-    stands = λ c now stands. (
+    leads = λ c now in_state. (
       now,
       record {
-        kept = (still (over old plans) (over new plans) now (does_read old new plans reads) c stands).kept;
-        plans = subst (ArePlansIn now.held) (sym kept) (plans_grow now.held (plans_in plans) name plan tags stands.plans (there c now.held stands.kept.held) is);
+        kept = (still (over old plans) (over new plans) now (does_read old new plans reads) c in_state).kept;
+        plans = subst (ArePlansIn now.held) (sym kept) (plans_grow now.held (plans_in plans) name plan tags in_state.plans (there c now.held in_state.kept.held) is);
       },
       refl,
     );
@@ -147,104 +126,104 @@ module _ {K : Type 0} (holds may_leave : K → Ledger → Type 0) (clean : K →
   pub does_receive : (old new : Receiver K) (name : List ℕ) (delivery : Delivery) → Did old new (DeliveryStep name delivery) → Did old new (Receives name (delivery ∷ []))
   does_receive old new name delivery h = record {
     was_clean = h.was_clean;
-    stands = λ c now stands. (let k = h.stands c now stands in (k.0, k.1, receives name (delivery ∷ []) now k.0 (k.0, k.2, refl)));
+    leads = λ c now in_state. (let k = h.leads c now in_state in (k.0, k.1, receives name (delivery ∷ []) now k.0 (k.0, k.2, refl)));
   }
 
   -- CALLS THAT CHANGE NOTHING AND FIND A FACT
 
-  abbrev pub Found : Receiver K → Receiver K → (State → Type 0) → Type 0
-  Found old new fact = Did old new Same × (clean new.keeper → (now : State) → Stood old now → fact now)
+  abbrev pub Found : Receiver K → Receiver K → (LedgerState → Type 0) → Type 0
+  Found old new fact = Did old new Same × (clean new.keeper → (now : LedgerState) → InState old now → fact now)
 
-  pub found_then : (old middle new : Receiver K) (fact other : State → Type 0) → Found old middle fact → Did middle new Same
-      → (clean new.keeper → (now : State) → Stood middle now → fact now → other now) → Found old new other
+  pub found_then : (old middle new : Receiver K) (fact other : LedgerState → Type 0) → Found old middle fact → Did middle new Same
+      → (clean new.keeper → (now : LedgerState) → InState middle now → fact now → other now) → Found old new other
   found_then old middle new fact other (looks, finds) more then = (
     does_after old middle new Same looks more,
-    λ c now stands. then c now (still old middle now looks (more.was_clean c) stands) (finds (more.was_clean c) now stands),
+    λ c now in_state. then c now (still old middle now looks (more.was_clean c) in_state) (finds (more.was_clean c) now in_state),
   )
 
   -- where nothing changes, what was found is the step
-  pub found_step : (old new : Receiver K) (step : State → State → Type 0) → Found old new (λ now. step now now) → Did old new step
+  pub found_step : (old new : Receiver K) (step : LedgerState → LedgerState → Type 0) → Found old new (λ now. step now now) → Did old new step
   found_step old new step (looks, finds) = record {
     was_clean = looks.was_clean;
-    stands = λ c now stands. (now, still old new now looks c stands, finds c now stands);
+    leads = λ c now in_state. (now, still old new now looks c in_state, finds c now in_state);
   }
 
   -- and a call that rests on what was found
-  pub does_then : (old middle new : Receiver K) (fact : State → Type 0) (step : State → State → Type 0) → Found old middle fact
-      → (clean new.keeper → clean middle.keeper) → (clean new.keeper → (now : State) → Stood middle now → fact now → (after : State) × Stood new after × step now after) → Did old new step
+  pub does_then : (old middle new : Receiver K) (fact : LedgerState → Type 0) (step : LedgerState → LedgerState → Type 0) → Found old middle fact
+      → (clean new.keeper → clean middle.keeper) → (clean new.keeper → (now : LedgerState) → InState middle now → fact now → (after : LedgerState) × InState new after × step now after) → Did old new step
   does_then old middle new fact step (looks, finds) was_clean then = record {
     was_clean = λ c. looks.was_clean (was_clean c);
-    stands = λ c now stands. then c now (still old middle now looks (was_clean c) stands) (finds (was_clean c) now stands);
+    leads = λ c now in_state. then c now (still old middle now looks (was_clean c) in_state) (finds (was_clean c) now in_state);
   }
 
   -- what is refused, whatever its content is
   pub refused_step : (old new : Receiver K) (name text : List ℕ) (content : Content) (fault : DeliverFault) → Found old new (λ now. RefusesAny name text now fault)
       → Did old new (DeliveryStep name (delivery_of text content (Refused fault)))
   refused_step old new name text content fault (looks, finds) =
-      found_step old new (DeliveryStep name (delivery_of text content (Refused fault))) (looks, λ c now stands. finds c now stands content)
+      found_step old new (DeliveryStep name (delivery_of text content (Refused fault))) (looks, λ c now in_state. finds c now in_state content)
 
   -- PUTTING, at a place that isn't held
 
   module _ (old new : K) (plans : Plans) (given : Given) (name text : List ℕ) (place : Place) (free : place.is_held ≡ false) where
-    abbrev After : (State → State → Type 0) → State → Type 0
-    After step now = (after : State) × Stood (over new plans) after × step now after
+    abbrev After : (LedgerState → LedgerState → Type 0) → LedgerState → Type 0
+    After step now = (after : LedgerState) × InState (over new plans) after × step now after
 
-    abbrev puts_to : State → List ℕ → Ledger
+    abbrev puts_to : LedgerState → List ℕ → Ledger
     puts_to now content = with_item now.held name text content
 
-    abbrev PutTo : State → List ℕ → K → Type 0
+    abbrev PutTo : LedgerState → List ℕ → K → Type 0
     PutTo now content keeper = holds keeper (puts_to now content)
 
     -- the path of the want is the text
-    with_path : (now : State) (content path : List ℕ) → path ≡ text → with_item now.held name path content ≡ puts_to now content
+    with_path : (now : LedgerState) (content path : List ℕ) → path ≡ text → with_item now.held name path content ≡ puts_to now content
     with_path now content path e = ap (λ p. with_item now.held name p content) e
 
-    pub was_put : (content : List ℕ) → HasPut holds may_leave clean old new given name place.want content → clean new → (now : State) → Stood (over old plans) now
-        → IsPlaceIn now.held name text place → Stood (over new plans) (settled (puts_to now content))
-    was_put content h c now stands at = record {
+    pub was_put : (content : List ℕ) → HasPut holds may_leave clean old new given name place.want content → clean new → (now : LedgerState) → InState (over old plans) now
+        → IsPlaceIn now.held name text place → InState (over new plans) (settled (puts_to now content))
+    was_put content h c now in_state at = record {
       kept = record {
-        held = subst (holds new) (with_path now content place.want.path.now at.wanted.path_is) (h.writes.held c now.held stands.kept.held (awaits now name text place at free));
-        left = λ crashed left. inl (h.writes.left c now.held crashed stands.kept.held (awaits now name text place at free) left ∙ with_path now content place.want.path.now at.wanted.path_is);
+        held = subst (holds new) (with_path now content place.want.path.now at.wanted.path_is) (h.writes.held c now.held in_state.kept.held (awaits now name text place at free));
+        left = λ crashed left. inl (h.writes.left c now.held crashed in_state.kept.held (awaits now name text place at free) left ∙ with_path now content place.want.path.now at.wanted.path_is);
       };
-      plans = plans_stay now.held name text content (plans_in plans) stands.plans;
+      plans = plans_stay now.held name text content (plans_in plans) in_state.plans;
     }
 
-    pub may_be_put : (content : List ℕ) (fault : PutFault) → MayPut holds may_leave clean old new given name place.want fault content → clean new → (now : State) → Stood (over old plans) now
-        → IsPlaceIn now.held name text place → Stood (over new plans) (with_doubtful now (puts_to now content))
-    may_be_put content fault h c now stands at = record {
+    pub may_be_put : (content : List ℕ) (fault : PutFault) → MayPut holds may_leave clean old new given name place.want fault content → clean new → (now : LedgerState) → InState (over old plans) now
+        → IsPlaceIn now.held name text place → InState (over new plans) (with_doubtful_ledger now (puts_to now content))
+    may_be_put content fault h c now in_state at = record {
       kept = record {
-        held = h.leaves.held c now.held stands.kept.held;
-        left = λ crashed left. elim (h.leaves.left c now.held crashed stands.kept.held (awaits now name text place at free) left) [
-          | inl before ↦ elim (stands.kept.left crashed before) [ inl same ↦ inl same | inr doubtful ↦ inr (inr doubtful) ]
+        held = h.leaves.held c now.held in_state.kept.held;
+        left = λ crashed left. elim (h.leaves.left c now.held crashed in_state.kept.held (awaits now name text place at free) left) [
+          | inl before ↦ elim (in_state.kept.left crashed before) [ inl same ↦ inl same | inr doubtful ↦ inr (inr doubtful) ]
           | inr written ↦ inr (inl (sym (written ∙ with_path now content place.want.path.now at.wanted.path_is)))
         ];
       };
-      plans = stands.plans;
+      plans = in_state.plans;
     }
 
   -- a content that is known is put, or refused
   module _ (old new : K) (plans : Plans) (name text octets : List ℕ) (place : Place) (free : place.is_held ≡ false) where
-    abbrev AnswersTo : Answer → State → Type 0
-    AnswersTo answer now = (after : State) × Stood (over new plans) after × DeliveryStep name (delivery_of text (Whole octets) answer) now after
+    abbrev AnswersTo : Answer → LedgerState → Type 0
+    AnswersTo answer now = (after : LedgerState) × InState (over new plans) after × DeliveryStep name (delivery_of text (Whole octets) answer) now after
 
-    pub known_taken : (content : List ℕ) → HasPut holds may_leave clean old new (known octets) name place.want content → clean new → (now : State) → Stood (over old plans) now
+    pub known_taken : (content : List ℕ) → HasPut holds may_leave clean old new (known octets) name place.want content → clean new → (now : LedgerState) → InState (over old plans) now
         → IsPlaceIn now.held name text place → AnswersTo Taken now
-    known_taken content h c now stands at =
+    known_taken content h c now in_state at =
         let within : length content ≤ LARGEST_ITEM = subst (λ (o : List ℕ). length o ≤ LARGEST_ITEM) (sym h.is_given.0.0) h.is_given.0.1 in (
           settled (with_item now.held name text content),
-          was_put old new plans (known octets) name text place free content h c now stands at,
+          was_put old new plans (known octets) name text place free content h c now in_state at,
           (subst (λ o. Adds name now.held (delivery_of text (Whole o) Taken) (with_item now.held name text content)) h.is_given.0.0 (adds now name text place at content Taken within h.is_given.1 free), refl),
         )
 
     pub known_refused_by : (fault : PutFault) → RefusesGiven (known octets) place.want fault
         → Reads holds may_leave clean old new ⊎ ((content : List ℕ) × MayPut holds may_leave clean old new (known octets) name place.want fault content)
-        → clean new → (now : State) → Stood (over old plans) now → IsPlaceIn now.held name text place → AnswersTo (Refused (deliver_fault fault)) now
-    known_refused_by fault refused (inl reads) c now stands at =
-        (now, still (over old plans) (over new plans) now (does_read old new plans reads) c stands, known_refused now name text place at octets fault refused)
-    known_refused_by (put.Keep fault) refused (inr (content, h)) c now stands at =
+        → clean new → (now : LedgerState) → InState (over old plans) now → IsPlaceIn now.held name text place → AnswersTo (Refused (deliver_fault fault)) now
+    known_refused_by fault refused (inl reads) c now in_state at =
+        (now, still (over old plans) (over new plans) now (does_read old new plans reads) c in_state, known_refused now name text place at octets fault refused)
+    known_refused_by (put.Keep fault) refused (inr (content, h)) c now in_state at =
         let within : length content ≤ LARGEST_ITEM = subst (λ (o : List ℕ). length o ≤ LARGEST_ITEM) (sym h.is_given.0.0) h.is_given.0.1 in (
-          with_doubtful now (with_item now.held name text content),
-          may_be_put old new plans (known octets) name text place free content (put.Keep fault) h c now stands at,
+          with_doubtful_ledger now (with_item now.held name text content),
+          may_be_put old new plans (known octets) name text place free content (put.Keep fault) h c now in_state at,
           inr (
             with_item now.held name text content,
             subst (λ o. Adds name now.held (delivery_of text (Whole o) (Refused (Keeper fault))) (with_item now.held name text content)) h.is_given.0.0
@@ -252,21 +231,21 @@ module _ {K : Type 0} (holds may_leave : K → Ledger → Type 0) (clean : K →
             refl,
           ),
         )
-    known_refused_by put.Reader refused (inr (content, h)) c now stands at = absurd h.keep
-    known_refused_by put.TooLarge refused (inr (content, h)) c now stands at = absurd h.keep
-    known_refused_by put.Length refused (inr (content, h)) c now stands at = absurd h.keep
-    known_refused_by (put.Digest alg) refused (inr (content, h)) c now stands at = absurd h.keep
+    known_refused_by put.Reader refused (inr (content, h)) c now in_state at = absurd h.keep
+    known_refused_by put.TooLarge refused (inr (content, h)) c now in_state at = absurd h.keep
+    known_refused_by put.Length refused (inr (content, h)) c now in_state at = absurd h.keep
+    known_refused_by (put.Digest alg) refused (inr (content, h)) c now in_state at = absurd h.keep
 
   -- a content that a reader gives is put, or refused
   module _ (old new : K) (plans : Plans) (before after : Option (List ℕ)) (name text : List ℕ) (place : Place) (free : place.is_held ≡ false) where
-    abbrev AnswersRead : Content → Answer → State → Type 0
-    AnswersRead content answer now = (after : State) × Stood (over new plans) after × DeliveryStep name (delivery_of text content answer) now after
+    abbrev AnswersRead : Content → Answer → LedgerState → Type 0
+    AnswersRead content answer now = (after : LedgerState) × InState (over new plans) after × DeliveryStep name (delivery_of text content answer) now after
 
-    pub read_taken : (content : List ℕ) → HasPut holds may_leave clean old new (given_by before after) name place.want content → clean new → (now : State) → Stood (over old plans) now
+    pub read_taken : (content : List ℕ) → HasPut holds may_leave clean old new (given_by before after) name place.want content → clean new → (now : LedgerState) → InState (over old plans) now
         → IsPlaceIn now.held name text place → AnswersRead (Whole content) Taken now
-    read_taken content h c now stands at = (
+    read_taken content h c now in_state at = (
       settled (with_item now.held name text content),
-      was_put old new plans (given_by before after) name text place free content h c now stands at,
+      was_put old new plans (given_by before after) name text place free content h c now in_state at,
       (adds now name text place at content Taken h.is_given.0.within h.is_given.1 free, refl),
     )
 
@@ -291,15 +270,15 @@ module _ {K : Type 0} (holds may_leave : K → Ledger → Type 0) (clean : K →
     put_judged (put.Digest alg) refused (inr h) is = absurd h.1.keep
 
     pub read_refused_by : (fault : PutFault) (refused : RefusesGiven (given_by before after) place.want fault) (how : PutOrRead fault)
-        → clean new → (now : State) → Stood (over old plans) now → IsPlaceIn now.held name text place → AnswersRead (content_put fault refused how) (Refused (deliver_fault fault)) now
-    read_refused_by fault refused (inl reads) c now stands at =
-        (now, still (over old plans) (over new plans) now (does_read old new plans reads) c stands, read_refused now name text place at before after fault refused)
-    read_refused_by (put.Keep fault) refused (inr (content, h)) c now stands at = (
-      with_doubtful now (with_item now.held name text content),
-      may_be_put old new plans (given_by before after) name text place free content (put.Keep fault) h c now stands at,
+        → clean new → (now : LedgerState) → InState (over old plans) now → IsPlaceIn now.held name text place → AnswersRead (content_put fault refused how) (Refused (deliver_fault fault)) now
+    read_refused_by fault refused (inl reads) c now in_state at =
+        (now, still (over old plans) (over new plans) now (does_read old new plans reads) c in_state, read_refused now name text place at before after fault refused)
+    read_refused_by (put.Keep fault) refused (inr (content, h)) c now in_state at = (
+      with_doubtful_ledger now (with_item now.held name text content),
+      may_be_put old new plans (given_by before after) name text place free content (put.Keep fault) h c now in_state at,
       inr (with_item now.held name text content, adds now name text place at content (Refused (Keeper fault)) h.is_given.0.within h.is_given.1 free, refl),
     )
-    read_refused_by put.Reader refused (inr (content, h)) c now stands at = absurd h.keep
-    read_refused_by put.TooLarge refused (inr (content, h)) c now stands at = absurd h.keep
-    read_refused_by put.Length refused (inr (content, h)) c now stands at = absurd h.keep
-    read_refused_by (put.Digest alg) refused (inr (content, h)) c now stands at = absurd h.keep
+    read_refused_by put.Reader refused (inr (content, h)) c now in_state at = absurd h.keep
+    read_refused_by put.TooLarge refused (inr (content, h)) c now in_state at = absurd h.keep
+    read_refused_by put.Length refused (inr (content, h)) c now in_state at = absurd h.keep
+    read_refused_by (put.Digest alg) refused (inr (content, h)) c now in_state at = absurd h.keep

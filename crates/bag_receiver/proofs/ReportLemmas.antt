@@ -1,27 +1,21 @@
 -- What is reported of a transfer, by what happened to it.
-use Rattle.std.proofs.Common.{◌≡◌, ℕ, List, [], ◌∷◌, Option, Some, None, map, refl, sym, ap, subst, ◌∙◌, inl, inr}
-use Rattle.std.specs.List.Sorted.{IsStrictlySortedBy}
-use Rattle.std.specs.Map.{lookup}
-use Rattle.std.specs.Option.{option_map, unwrap_or}
-use Rattle.std.specs.Str.{bytes_eq}
+use Rattle.std.proofs.Common.{◌≡◌, ℕ, List, [], ◌∷◌, Option, Some, map, sym, ap, subst, ◌∙◌, inl, inr}
 use Rattle.bag_rules.specs.declared.outcome.Outcome.TheVariants.{Judged}
 use Rattle.bag_rules.specs.declared.plan.ItemSize.{ItemSize}
-use Rattle.bag_rules.specs.declared.plan.Plan.{Plan}
 use Rattle.bag_rules.specs.declared.report.Report.{Report}
-use Rattle.bag_rules.specs.Plans.{IsPlanOf, sizes_of}
+use Rattle.bag_rules.specs.Plans.{sizes_of}
 use Rattle.bag_rules.specs.Transfers.{held_bag}
 use Rattle.bag_rules.specs.Validity.{Means}
 use Rattle.bag_rules.proofs.HeldFaults.{may_be_mended}
 use Rattle.bag_rules.specs.Verdicts.{IsVerdict}
-use Rattle.bag_ledger.specs.Ledgers.{IsSound, Ledger, items_of, transfer_of}
-use Rattle.bag_receiver.specs.Names.{IsNamed, IsTransferName}
-use Rattle.bag_receiver.specs.Receiving.{ArePlansIn, Happened, State}
+use Rattle.bag_ledger.specs.Ledgers.{IsSound}
 use Rattle.bag_receiver.specs.Reports.{IsReportOf, Reports}
 use Rattle.bag_receiver.proofs.HeldLemmas.{held_accepted}
 use Rattle.bag_receiver.proofs.PlaceLemmas.{of_plan}
 use Rattle.bag_receiver.proofs.ReceivingLemmas.{named_there}
 use Rattle.bag_receiver.proofs.StepLemmas.{answered_held}
-use Rattle.bag_receiver.proofs.Words.{Accepts, AcceptsPassing, Answer, Answered, AnswerStep, AreAccepted, AreHeldFor, Delivery, Event, Files, Has, IsAcceptance, IsAccepted, nothing_held, OneContent, Passes, PassesIn, Refused, Repeated, Standing, Steps, StopRun, Taken, Transfer, Whole}
+use Rattle.std.specs.List.Sorted.{IsStrictlySortedBy}
+use Rattle.bag_receiver.proofs.Words.{AcceptsPassing, Answer, Answered, AnswerStep, AreAccepted, AreHeldFor, ArePlansIn, bytes_eq, Delivery, Event, Files, Happened, IsAcceptance, IsAccepted, IsPlanOf, IsTransferName, items_of, Ledger, LedgerState, lookup, nothing_held, OneContent, option_map, Passes, Plan, Refused, Repeated, Steps, StopRun, Taken, Transfer, transfer_of, TransferState, unwrap_or, Whole}
 
 -- THE REPORT OF A PLAN
 
@@ -52,18 +46,18 @@ told ledger name plans plan sizes report are sound is at sized verdict means =
 abbrev shown : Files → Files → Transfer
 shown tags items = record { tags = tags; items = items }
 
-report_shown : (now : State) (name : List ℕ) (tags items : Files) (report : Report) → Reports now.held name report → transfer_of now.held name ≡ Some (shown tags items) → IsReportOf tags items report
+report_shown : (now : LedgerState) (name : List ℕ) (tags items : Files) (report : Report) → Reports now.held name report → transfer_of now.held name ≡ Some (shown tags items) → IsReportOf tags items report
 report_shown now name tags items report (transfer, named, is) there =
     let found : Some transfer ≡ Some (shown tags items) = sym (named_there now.held name transfer named) ∙ there in
     let same : transfer ≡ shown tags items = cc in
     subst (λ (t : Transfer). IsReportOf t.tags t.items report) same is
 
-pub stopped : (now : State) (name : List ℕ) (tags : Files) (events : List Event) (report : Report) → Reports now.held name report → Happened now name tags events
+pub stopped : (now : LedgerState) (name : List ℕ) (tags : Files) (events : List Event) (report : Report) → Reports now.held name report → Happened now name tags events
     → (held : Files) × StopRun tags events held × IsReportOf tags held report
-stopped now name tags events report reports (standing, steps, shows) = (standing.held, (standing.doubtful, steps), report_shown now name tags standing.held report reports shows.there)
+stopped now name tags events report reports (files, steps, present) = (files.held, (files.doubtful, steps), report_shown now name tags files.held report reports present.there)
 
 -- what was accepted passes
-passes_by : (tags : Files) (path octets : List ℕ) (answer : Answer) (old new : Standing) → AnswerStep tags path (Whole octets) answer old new → IsAcceptance answer → Passes tags path octets
+passes_by : (tags : Files) (path octets : List ℕ) (answer : Answer) (old new : TransferState) → AnswerStep tags path (Whole octets) answer old new → IsAcceptance answer → Passes tags path octets
 passes_by tags path octets Taken old new (content, same, gains, settled) taken =
     let is : Whole octets ≡ Whole content = same in
     let equal : octets ≡ content = cc in
@@ -71,7 +65,7 @@ passes_by tags path octets Taken old new (content, same, gains, settled) taken =
 passes_by tags path octets Repeated old new h taken = h.0
 passes_by tags path octets (Refused fault) old new h taken = absurd taken
 
-accepted_passes : (tags : Files) (deliveries : List Delivery) (old new : Standing) → Steps tags (map Answered deliveries) old new → AcceptsPassing tags deliveries
+accepted_passes : (tags : Files) (deliveries : List Delivery) (old new : TransferState) → Steps tags (map Answered deliveries) old new → AcceptsPassing tags deliveries
 accepted_passes tags [] old new steps path content (delivery, has, accepted) = absurd has
 accepted_passes tags (one ∷ deliveries) old new (middle, step, rest) path content (delivery, inl e, accepted) =
     let is : IsAccepted one path content = subst (λ (d : Delivery). IsAccepted d path content) (sym e) accepted in
@@ -80,11 +74,11 @@ accepted_passes tags (one ∷ deliveries) old new (middle, step, rest) path cont
 accepted_passes tags (one ∷ deliveries) old new (middle, step, rest) path content (delivery, inr has, accepted) =
     accepted_passes tags deliveries middle new rest path content (delivery, has, accepted)
 
-pub headline : (now : State) (name : List ℕ) (tags : Files) (deliveries : List Delivery) (report : Report) → Reports now.held name report → Happened now name tags (map Answered deliveries)
+pub headline : (now : LedgerState) (name : List ℕ) (tags : Files) (deliveries : List Delivery) (report : Report) → Reports now.held name report → Happened now name tags (map Answered deliveries)
     → OneContent tags deliveries → (held : Files) × AreAccepted deliveries held × IsReportOf tags held report
 unfolding IsStrictlySortedBy
-headline now name tags deliveries report reports (standing, steps, shows) one = (
-  standing.held,
-  held_accepted tags deliveries standing.held one (accepted_passes tags deliveries nothing_held standing steps) (answered_held tags deliveries nothing_held standing tt steps),
-  report_shown now name tags standing.held report reports shows.there,
+headline now name tags deliveries report reports (files, steps, present) one = (
+  files.held,
+  held_accepted tags deliveries files.held one (accepted_passes tags deliveries nothing_held files steps) (answered_held tags deliveries nothing_held files tt steps),
+  report_shown now name tags files.held report reports present.there,
 )

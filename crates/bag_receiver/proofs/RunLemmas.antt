@@ -1,24 +1,12 @@
 -- Deliveries one after another.
-use Rattle.std.proofs.Common.{◌≡◌, ◌⊎◌, ◌≤◌, ◌<◌, ◌+◌, ℕ, List, [], ◌∷◌, ◌++◌, Option, Some, None, Vec, length, map, slice_get, refl, sym, ap, subst, ◌∙◌, inl, inr, arith}
-use Rattle.std.specs.List.{AllByRecursion}
-use Rattle.std.specs.String.{string_bytes}
-use Rattle.std.specs.declared.alloc.Global.{Global}
-use Rattle.std.specs.declared.string.String.{String}
-use Rattle.bag_digest.specs.Device.{CountsIf, Rises, greatest_count}
-use Rattle.bag_ledger.specs.declared.fault.KeepFault.TheVariants.{Memory, Store}
-use Rattle.bag_ledger.specs.declared.fault.StoreFault.{StoreFault}
-use Rattle.bag_ledger.specs.Ledgers.{Ledger}
-use Rattle.bag_receiver.specs.declared.receiver.Receiver.{Receiver}
-use Rattle.bag_receiver.specs.Deliveries.{delivery_of}
-use Rattle.bag_receiver.specs.Receivers.{Does, Stands}
-use Rattle.bag_receiver.specs.Receiving.{DeliverySteps, IsAnswer, Receives, State}
-use Rattle.bag_receiver.specs.Runs.{CountsAtLeast, Runs, store_failure, store_failures, with_answers}
+use Rattle.std.proofs.Common.{◌≡◌, ◌≤◌, ◌+◌, ℕ, List, [], ◌∷◌, ◌++◌, Some, None, Vec, length, slice_get, refl, sym, ap, subst, ◌∙◌, inl, inr, arith}
+use Rattle.bag_receiver.specs.Runs.{store_failure, store_failures}
 use Rattle.bag_receiver.proofs.ReceivingLemmas.{receives}
-use Rattle.bag_receiver.proofs.Words.{Answer, BadPath, Delivery, Digest, Files, Keeper, Length, NoTransfer, NotListed, Reader, Refused, Repeated, Taken, TooLarge, Whole}
+use Rattle.bag_receiver.proofs.Words.{AllByRecursion, Answer, BadPath, CountsAtLeast, CountsIf, Delivery, delivery_of, DeliverySteps, Digest, Does, Files, Global, greatest_count, IsAnswer, Keeper, Ledger, LedgerState, Length, Memory, NotListed, NoTransfer, Reader, Receiver, Receives, Refused, Repeated, Rises, Runs, Store, StoreFault, String, string_bytes, Taken, TooLarge, Whole, with_answers}
 
-steps_join : (name : List ℕ) (deliveries others : List Delivery) (old middle new : State) → DeliverySteps name deliveries old middle → DeliverySteps name others middle new
+steps_join : (name : List ℕ) (deliveries others : List Delivery) (old middle new : LedgerState) → DeliverySteps name deliveries old middle → DeliverySteps name others middle new
     → DeliverySteps name (deliveries ++ others) old new
-steps_join name [] others old middle new e k = subst (λ (s : State). DeliverySteps name others s new) e k
+steps_join name [] others old middle new e k = subst (λ (s : LedgerState). DeliverySteps name others s new) e k
 steps_join name (delivery ∷ deliveries) others old middle new h k = (h.0, h.1, steps_join name deliveries others h.0 middle new h.2 k)
 
 all_more : {A : Type 0} (P : A → Type 0) (xs : List A) (x : A) → AllByRecursion P xs → P x → AllByRecursion P (xs ++ x ∷ [])
@@ -67,7 +55,7 @@ counted (Refused (Digest alg)) n old middle new counts then = counted_none n old
 module _ {K : Type 0} (holds may_leave : K → Ledger → Type 0) (clean : K → Type 0) (failures : K → ℕ) where
   pub ran_nothing : (receiver : Receiver K) (name : List ℕ) → Runs holds may_leave clean failures receiver receiver name []
   ran_nothing receiver name = record {
-    received = record { was_clean = λ c. c; stands = λ c now stands. (now, stands, receives name [] now now refl) };
+    received = record { was_clean = λ c. c; leads = λ c now in_state. (now, in_state, receives name [] now now refl) };
     judged = tt;
     store = record { stays = λ e. refl; rises = inl (omega arith) };
   }
@@ -78,9 +66,9 @@ module _ {K : Type 0} (holds may_leave : K → Ledger → Type 0) (clean : K →
   ran_more old middle new name deliveries delivery runs does is counts = record {
     received = record {
       was_clean = λ c. runs.received.was_clean (does.was_clean c);
-      stands = λ c before stands. (
-          let first = runs.received.stands (does.was_clean c) before stands in
-          let then = does.stands c first.0 first.1 in
+      leads = λ c before in_state. (
+          let first = runs.received.leads (does.was_clean c) before in_state in
+          let then = does.leads c first.0 first.1 in
           (then.0, then.1, receives name (deliveries ++ delivery ∷ []) before then.0 (steps_join name deliveries (delivery ∷ []) before first.0 then.0 first.2.steps then.2.steps)));
     };
     judged = all_more (IsAnswer name) deliveries delivery runs.judged is;

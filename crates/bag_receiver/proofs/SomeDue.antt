@@ -1,13 +1,9 @@
 -- Some answer is due.
 use Rattle.std.proofs.Common.{◌≡◌, ◌≢◌, ◌≤◌, ℕ, List, [], ◌∷◌, Option, Some, None, length, cond, nat_eq, refl, sym, ap, ◌∙◌, inl, inr, arith}
-use Rattle.std.specs.Str.{IsUtf8}
-use Rattle.bag_path.specs.declared.path.PathFault.{PathFault}
-use Rattle.bag_path.proofs.PathLemmas.{path_if_no_fault}
 use Rattle.bag_digest.specs.Hash.{hash}
-use Rattle.bag_digest.specs.declared.digest.Digest.{Digest as DigestOf}
 use Rattle.bag_digest.specs.declared.digest.Digest.TheVariants as digest
 use Rattle.bag_receiver.proofs.FileLemmas.{held_or_not, same_or_not}
-use Rattle.bag_receiver.proofs.Words.{Alg, Answer, BadPath, Content, decided_at_most, decided_equal, Digest, Files, HasOtherLength, IsDue, IsExpected, IsFirstAmong, IsPath, LARGEST_ITEM, Length, ListsOther, Md5, NoTransfer, NotListed, Passes, path_fault, place_of, Refused, Repeated, Sha1, Sha256, Sha512, Taken, TooLarge, TooLong, Transfer, Unread, Whole}
+use Rattle.bag_receiver.proofs.Words.{Alg, Answer, BadPath, Content, decided_at_most, decided_equal, Digest, DigestOf, Files, HasOtherLength, IsDue, IsExpected, IsFirstAmong, IsPath, IsUtf8, LARGEST_ITEM, Length, ListsOther, Md5, NotListed, NoTransfer, Passes, path_fault, path_if_no_fault, PathFault, place_of, Refused, Repeated, Sha1, Sha256, Sha512, Taken, TooLarge, TooLong, Transfer, Unread, Whole}
 
 -- TWO DIGESTS ARE THE SAME, OR NOT
 

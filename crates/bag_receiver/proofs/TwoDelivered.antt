@@ -1,15 +1,14 @@
 -- Deliveries to a transfer of two files, and what happens to it.
 use Rattle.std.proofs.Common.{◌≡◌, ◌≢◌, ◌⊎◌, ℕ, List, [], ◌∷◌, Contains, map, codes, refl, sym, ap, subst, ◌∙◌, inl, inr}
-use Rattle.std.specs.List.Sorted.{IsStrictlySortedBy}
-use Rattle.bag_path.specs.Paths.{IsPath, path_fault}
-use Rattle.bag_rules.specs.ExampleBags.{file_a, file_e, tags_of_two}
-use Rattle.bag_rules.proofs.TwoListed.{a_passes, e_passes, two}
+use Rattle.bag_rules.proofs.TwoListed.{e_passes}
 use Rattle.bag_rules.proofs.SameListLemmas.{all_has}
 use Rattle.bag_rules.proofs.Words.{AllByRecursion, ascii_path, other_text}
-use Rattle.bag_receiver.specs.ExampleDeliveries.{abc, abd, another_run, both, delivered, one_run, only_e, run_with_a_failure}
+use Rattle.bag_receiver.specs.ExampleDeliveries.{another_run, one_run, run_with_a_failure}
 use Rattle.bag_receiver.proofs.FileLemmas.{File}
 use Rattle.bag_receiver.proofs.StepLemmas.{answered_held}
-use Rattle.bag_receiver.proofs.Words.{Accepts, Answer, Answered, AreAccepted, AreRising, contains_from_has, Cut, Delivery, Event, DeliverFault, Files, Has, has_from_contains, IsAccepted, IsFirstHeld, keys_of, nothing_held, Passes, Reader, Refused, Repeated, standing, Standing, Step, Steps, Stop, StopStep, Taken, Unread, Whole, with_doubt, with_file}
+use Rattle.std.specs.List.Sorted.{IsStrictlySortedBy}
+use Rattle.bag_path.specs.Paths.{path_fault}
+use Rattle.bag_receiver.proofs.Words.{a_passes, abc, abd, Accepts, Answer, Answered, AreAccepted, AreRising, both, contains_from_has, Cut, delivered, DeliverFault, Delivery, Event, file_a, file_e, Files, Has, has_from_contains, IsAccepted, IsFirstHeld, IsPath, keys_of, nothing_held, only_e, Passes, Reader, Refused, Repeated, Step, Steps, Stop, StopStep, tags_of_two, Taken, transfer_state, TransferState, two, Unread, Whole, with_doubtful_file, with_file}
 
 -- a path that isn't listed
 pub path_z : IsPath (codes "data/z")
@@ -44,22 +43,22 @@ passes_e = e_passes tags_of_two two
 
 -- STEPS
 
-pub taken : (path content : List ℕ) (held doubtful : Files) → Passes tags_of_two path content → ¬ Contains (keys_of held) path → Step tags_of_two (Answered (delivered path content Taken)) (standing held doubtful) (standing (with_file held path content) [])
+pub taken : (path content : List ℕ) (held doubtful : Files) → Passes tags_of_two path content → ¬ Contains (keys_of held) path → Step tags_of_two (Answered (delivered path content Taken)) (transfer_state held doubtful) (transfer_state (with_file held path content) [])
 taken path content held doubtful passes away = (content, refl, record { passes = passes; not_held = away; becomes = refl }, refl)
 
-pub repeated : (path content : List ℕ) (held doubtful : Files) → Passes tags_of_two path content → Contains (keys_of held) path → Step tags_of_two (Answered (delivered path content Repeated)) (standing held doubtful) (standing held doubtful)
+pub repeated : (path content : List ℕ) (held doubtful : Files) → Passes tags_of_two path content → Contains (keys_of held) path → Step tags_of_two (Answered (delivered path content Repeated)) (transfer_state held doubtful) (transfer_state held doubtful)
 repeated path content held doubtful passes there = (passes, there, refl)
 
 -- of two runs
 
-one_steps : Steps tags_of_two (map Answered one_run) nothing_held (standing both [])
+one_steps : Steps tags_of_two (map Answered one_run) nothing_held (transfer_state both [])
 one_steps = (
-  standing only_e [],
+  transfer_state only_e [],
   taken file_e [] [] [] passes_e (none_held file_e),
   (
-    standing both [],
+    transfer_state both [],
     taken file_a abc only_e [] passes_a a_not_held,
-    (standing both [], repeated file_a abc both [] passes_a a_held, (standing both [], refl, (standing both [], refl, refl))),
+    (transfer_state both [], repeated file_a abc both [] passes_a a_held, (transfer_state both [], refl, (transfer_state both [], refl, refl))),
   ),
 )
 
@@ -69,7 +68,7 @@ only_a = (file_a, abc) ∷ []
 e_not_held : ¬ Contains (keys_of only_a) file_e
 e_not_held h = elim (has_from_contains (keys_of only_a) file_e h) [ inl e ↦ apart (sym e) | inr none ↦ none ]
 
-another_steps : Steps tags_of_two (map Answered another_run) nothing_held (standing both [])
+another_steps : Steps tags_of_two (map Answered another_run) nothing_held (transfer_state both [])
 another_steps = (
   nothing_held,
   refl,
@@ -77,31 +76,31 @@ another_steps = (
     nothing_held,
     refl,
     (
-      standing only_a [],
+      transfer_state only_a [],
       taken file_a abc [] [] passes_a (none_held file_a),
-      (standing both [], taken file_e [] only_a [] passes_e e_not_held, (standing both [], repeated file_a abc both [] passes_a a_held, refl)),
+      (transfer_state both [], taken file_e [] only_a [] passes_e e_not_held, (transfer_state both [], repeated file_a abc both [] passes_a a_held, refl)),
     ),
   ),
 )
 
 pub one_held : IsFirstHeld [] one_run both
 unfolding IsStrictlySortedBy
-one_held = answered_held tags_of_two one_run nothing_held (standing both []) tt one_steps
+one_held = answered_held tags_of_two one_run nothing_held (transfer_state both []) tt one_steps
 
 pub another_held : IsFirstHeld [] another_run both
 unfolding IsStrictlySortedBy
-another_held = answered_held tags_of_two another_run nothing_held (standing both []) tt another_steps
+another_held = answered_held tags_of_two another_run nothing_held (transfer_state both []) tt another_steps
 
-failure_steps : Steps tags_of_two (map Answered run_with_a_failure) nothing_held (standing both [])
+failure_steps : Steps tags_of_two (map Answered run_with_a_failure) nothing_held (transfer_state both [])
 failure_steps = (
   nothing_held,
   refl,
-  (standing only_a [], taken file_a abc [] [] passes_a (none_held file_a), (standing both [], taken file_e [] only_a [] passes_e e_not_held, refl)),
+  (transfer_state only_a [], taken file_a abc [] [] passes_a (none_held file_a), (transfer_state both [], taken file_e [] only_a [] passes_e e_not_held, refl)),
 )
 
 pub failure_held : IsFirstHeld [] run_with_a_failure both
 unfolding IsStrictlySortedBy
-failure_held = answered_held tags_of_two run_with_a_failure nothing_held (standing both []) tt failure_steps
+failure_held = answered_held tags_of_two run_with_a_failure nothing_held (transfer_state both []) tt failure_steps
 
 -- WHAT WAS ACCEPTED
 
@@ -158,52 +157,52 @@ failure_accepted = accepted_both run_with_a_failure (of_failure, (of_a Taken, (o
 
 -- WHERE STEPS LEAD
 
-same_standing : (s : Standing) (held doubtful : Files) → s.held ≡ held → s.doubtful ≡ doubtful → s ≡ standing held doubtful
-same_standing s held doubtful h d = λ t. record { held = h t; doubtful = d t }
+same_transfer_state : (s : TransferState) (held doubtful : Files) → s.held ≡ held → s.doubtful ≡ doubtful → s ≡ transfer_state held doubtful
+same_transfer_state s held doubtful h d = λ t. record { held = h t; doubtful = d t }
 
-pub after_taken : (path content : List ℕ) (old new : Standing) → Step tags_of_two (Answered (delivered path content Taken)) old new → new ≡ standing (with_file old.held path content) []
+pub after_taken : (path content : List ℕ) (old new : TransferState) → Step tags_of_two (Answered (delivered path content Taken)) old new → new ≡ transfer_state (with_file old.held path content) []
 after_taken path content old new h = (let whole : Whole content ≡ Whole h.0 = h.1 in let same : h.0 ≡ content = cc in
-    same_standing new (with_file old.held path content) [] (h.2.becomes ∙ ap (λ c. with_file old.held path c) same) h.3)
+    same_transfer_state new (with_file old.held path content) [] (h.2.becomes ∙ ap (λ c. with_file old.held path c) same) h.3)
 
 -- of one doubtful file
-pub after_stop : (held : Files) (path content : List ℕ) (new : Standing) → StopStep tags_of_two (standing held ((path, content) ∷ [])) new → (new ≡ standing held []) ⊎ (Passes tags_of_two path content × (new ≡ standing (with_file held path content) []))
+pub after_stop : (held : Files) (path content : List ℕ) (new : TransferState) → StopStep tags_of_two (transfer_state held ((path, content) ∷ [])) new → (new ≡ transfer_state held []) ⊎ (Passes tags_of_two path content × (new ≡ transfer_state (with_file held path content) []))
 after_stop held path content new h = elim h.held [
-  | inl same ↦ inl (same_standing new held [] same h.settled)
+  | inl same ↦ inl (same_transfer_state new held [] same h.settled)
   | inr k ↦ elim k.2 [
     | inl e ↦ inr (
       subst (λ (f : File). Passes tags_of_two f.0 f.1) (sym e) k.3.passes,
-      same_standing new (with_file held path content) [] (k.3.becomes ∙ ap (λ (f : File). with_file held f.0 f.1) (sym e)) h.settled,
+      same_transfer_state new (with_file held path content) [] (k.3.becomes ∙ ap (λ (f : File). with_file held f.0 f.1) (sym e)) h.settled,
     )
     | inr none ↦ absurd none
   ]
 ]
 
 -- of none
-pub after_stop_alone : (held : Files) (new : Standing) → StopStep tags_of_two (standing held []) new → new.held ≡ held
+pub after_stop_alone : (held : Files) (new : TransferState) → StopStep tags_of_two (transfer_state held []) new → new.held ≡ held
 after_stop_alone held new h = elim h.held [ inl same ↦ same | inr k ↦ absurd k.2 ]
 
 abbrev pub cut_events : List Event
 cut_events = Answered (delivered file_e [] Taken) ∷ Cut file_a (Whole abc) ∷ Stop ∷ []
 
 -- after the second file was taken and the first one cut
-pub after_cut : (new : Standing) → Steps tags_of_two cut_events nothing_held new → (new ≡ standing only_e []) ⊎ (new ≡ standing both [])
+pub after_cut : (new : TransferState) → Steps tags_of_two cut_events nothing_held new → (new ≡ transfer_state only_e []) ⊎ (new ≡ transfer_state both [])
 after_cut new h =
-    let first : h.0 ≡ standing only_e [] = after_taken file_e [] nothing_held h.0 h.1 in
-    let second : h.2.0 ≡ standing only_e ((file_a, abc) ∷ []) = h.2.1 ∙ ap (λ s. with_doubt s file_a (Whole abc)) first in
+    let first : h.0 ≡ transfer_state only_e [] = after_taken file_e [] nothing_held h.0 h.1 in
+    let second : h.2.0 ≡ transfer_state only_e ((file_a, abc) ∷ []) = h.2.1 ∙ ap (λ s. with_doubtful_file s file_a (Whole abc)) first in
     let stop = subst (λ s. StopStep tags_of_two s h.2.2.0) second h.2.2.1 in
     elim (after_stop only_e file_a abc h.2.2.0 stop) [ inl none ↦ inl (h.2.2.2 ∙ none) | inr more ↦ inr (h.2.2.2 ∙ more.1) ]
 
 -- and given again
-pub after_again : (again : Answer) → (again ≡ Taken) ⊎ (again ≡ Repeated) → (old middle new : Standing) → (old ≡ standing only_e []) ⊎ (old ≡ standing both []) → middle ≡ old → Step tags_of_two (Answered (delivered file_a abc again)) middle new → new.held ≡ both
+pub after_again : (again : Answer) → (again ≡ Taken) ⊎ (again ≡ Repeated) → (old middle new : TransferState) → (old ≡ transfer_state only_e []) ⊎ (old ≡ transfer_state both []) → middle ≡ old → Step tags_of_two (Answered (delivered file_a abc again)) middle new → new.held ≡ both
 after_again again (inl is) old middle new (inl e) m h =
     let taken_now = after_taken file_a abc middle new (subst (λ a. Step tags_of_two (Answered (delivered file_a abc a)) middle new) is h) in
-    ap (λ (s : Standing). s.held) (taken_now ∙ ap (λ (s : Standing). standing (with_file s.held file_a abc) []) (m ∙ e))
+    ap (λ (s : TransferState). s.held) (taken_now ∙ ap (λ (s : TransferState). transfer_state (with_file s.held file_a abc) []) (m ∙ e))
 after_again again (inl is) old middle new (inr e) m h =
     let step = subst (λ a. Step tags_of_two (Answered (delivered file_a abc a)) middle new) is h in
-    absurd (step.2.not_held (subst (λ (s : Standing). Contains (keys_of s.held) file_a) (sym (m ∙ e)) a_held))
+    absurd (step.2.not_held (subst (λ (s : TransferState). Contains (keys_of s.held) file_a) (sym (m ∙ e)) a_held))
 after_again again (inr is) old middle new (inl e) m h =
     let step = subst (λ a. Step tags_of_two (Answered (delivered file_a abc a)) middle new) is h in
-    absurd (a_not_held (subst (λ (s : Standing). Contains (keys_of s.held) file_a) (m ∙ e) step.1))
+    absurd (a_not_held (subst (λ (s : TransferState). Contains (keys_of s.held) file_a) (m ∙ e) step.1))
 after_again again (inr is) old middle new (inr e) m h =
     let step = subst (λ a. Step tags_of_two (Answered (delivered file_a abc a)) middle new) is h in
-    ap (λ (s : Standing). s.held) (step.2 ∙ m ∙ e)
+    ap (λ (s : TransferState). s.held) (step.2 ∙ m ∙ e)

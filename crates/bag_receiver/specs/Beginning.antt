@@ -20,8 +20,8 @@ use Rattle.bag_receiver.specs.declared.begin.Begun.TheVariants.{New, Again}
 use Rattle.bag_receiver.specs.declared.begin.BeginFault.{BeginFault}
 use Rattle.bag_receiver.specs.declared.begin.BeginFault.TheVariants.{BadName, TagPath, TagTooLarge, Outside, Rules, Clash, Differs, Keeper}
 use Rattle.bag_receiver.specs.Names.{IsTransferName}
-use Rattle.bag_receiver.specs.Receiving.{Happened, LeavesOthers, Shows, State, with_doubtful}
-use Rattle.bag_receiver.specs.Stops.{Standing}
+use Rattle.bag_receiver.specs.Receiving.{Happened, HasTransfer, LeavesOthers, LedgerState, with_doubtful_ledger}
+use Rattle.bag_receiver.specs.Stops.{TransferState}
 
 -- THE FILES THAT ARE HANDED IN, in any order: each path, as text, with its octets
 
@@ -75,7 +75,7 @@ RefusesFiles given fault = ⊥
 -- WHAT IS ANSWERED, AND WHAT IT MAKES OF WHAT IS HELD
 
 -- the transfer is there, with these tag files
-abbrev pub IsOpenWith : State → List ℕ → Files → Type 0
+abbrev pub IsOpenWith : LedgerState → List ℕ → Files → Type 0
 IsOpenWith state name tags = tags_of state.held name ≡ Some tags
 
 -- a transfer may have this name and these files
@@ -102,7 +102,7 @@ Opened name given old new = (tags : Files) × IsTransferName name × AreTaken gi
 
 -- Of the refusals the first is answered: the name, the files, other tag files. Where the keeper has no answer nothing
 -- changes, or what it was about to open is doubtful.
-abbrev pub BeginStep : Result Begun BeginFault → List ℕ → Files → State → State → Type 0
+abbrev pub BeginStep : Result Begun BeginFault → List ℕ → Files → LedgerState → LedgerState → Type 0
 BeginStep (Ok New) name given old new = Opened name given old.held new.held × (new.doubtful ≡ [])
 BeginStep (Ok Again) name given old new = (tags : Files) × IsTransferName name
     × AreTaken given tags × IsOpenWith old name tags × (new ≡ old)
@@ -112,20 +112,20 @@ BeginStep (Err Differs) name given old new = (tags : Files) × IsTransferName na
     × (new ≡ old)
 BeginStep (Err (Keeper fault)) name given old new = MayFail fault name given
     × ((new ≡ old) ⊎ ((ledger : Ledger) × Opened name given old.held ledger
-    × (new ≡ with_doubtful old ledger)))
+    × (new ≡ with_doubtful_ledger old ledger)))
 BeginStep (Err fault) name given old new = IsTransferName name × RefusesFiles given fault
     × (new ≡ old)
 
 -- These files were handed in for this name, and nothing else happened.
 pub record Begins (name : List ℕ) (given : Files) (result : Result Begun BeginFault)
-    (old new : State) : Type 0 where
+    (old new : LedgerState) : Type 0 where
   pub step : BeginStep result name given old new
   -- a transfer that was opened holds nothing yet
   pub opened : result ≡ Ok New → Happened new name (with_files [] given) []
   -- so does one that a stop may show to be open, where the keeper had no answer
   pub left : (crashed : Ledger) → Has new.doubtful crashed → Has old.doubtful crashed
       ⊎ (transfer_of crashed name ≡ Some (begun (with_files [] given)))
-  -- a transfer that was there stands as it stood
-  pub kept : (tags : Files) (standing : Standing) → Shows old name tags standing
-      → Shows new name tags standing
+  -- a transfer that was there holds what it held
+  pub kept : (tags : Files) (files : TransferState) → HasTransfer old name tags files
+      → HasTransfer new name tags files
   pub others : LeavesOthers name old new

@@ -44,7 +44,7 @@ abbrev pub IsEndWith : End → ℕ → Option Files → Type 0
 IsEndWith Done n left = NoneLeft left
 IsEndWith TooMany n left = (n ≡ MOST_DELIVERIES) × (left ≢ Some [])
 IsEndWith Courier n left = Unit {0}
-IsEndWith Memory n left = left ≢ Some []
+IsEndWith Memory n left = (n ≢ MOST_DELIVERIES) × (left ≢ Some [])
 
 -- A RUN
 

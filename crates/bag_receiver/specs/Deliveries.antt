@@ -132,8 +132,8 @@ IsDueIn transfer text content Taken = IsListedPath transfer.tags text
     × PassesIn transfer.tags text content × ¬ Contains (keys_of transfer.items) text
 IsDueIn transfer text content (Refused fault) = ⊥
 
--- The answer that is due: that there is no transfer, or the one that is due in it. Where the content wasn't read to its end, only
--- a refusal that needs no content is.
+-- The answer that is due: that there is no transfer, or the one that is due in it. Where the content wasn't read to its
+-- end, only a refusal that needs no content is.
 abbrev pub IsDue : Option Transfer → List ℕ → Content → Answer → Type 0
 IsDue None text content answer = answer ≡ Refused NoTransfer
 IsDue (Some transfer) text content answer = IsDueIn transfer text content answer

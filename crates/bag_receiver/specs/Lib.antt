@@ -11,3 +11,4 @@ pub mod BeginningInside
 pub mod Runs
 pub mod Couriers
 pub mod Reports
+pub mod Arrivals

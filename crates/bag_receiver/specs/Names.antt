@@ -15,8 +15,8 @@ pub record IsTransferName (text : List ℕ) : Type 0 where
   pub within : length text ≤ LONGEST_NAME
   pub octets : list_all is_of_names text ≡ true
 
--- This is the transfer with this name, if there is one. Where the text is no name there is none, whatever the ledger holds: others
--- may have written it.
+-- This is the transfer with this name, if there is one. Where the text is no name there is none, whatever the ledger
+-- holds: others may have written it.
 pub record IsNamed (ledger : Ledger) (name : List ℕ) (transfer : Option Transfer) : Type 0 where
   pub named : IsTransferName name → transfer ≡ transfer_of ledger name
   pub unnamed : ¬ IsTransferName name → transfer ≡ None

@@ -1,5 +1,5 @@
 -- What the receiver's own functions find, on which its calls stand.
-use Rattle.std.specs.Prelude.{◌≡◌, ℕ, Bool, true, false, List, Option, Some, None, Result, Ok, Err, MatchResult}
+use Rattle.std.specs.Prelude.{◌≡◌, ℕ, Bool, true, false, List, Some, None, Result, Ok, Err, MatchResult}
 use Rattle.std.specs.Map.{lookup}
 use Rattle.std.specs.Option.{is_some}
 use Rattle.std.specs.Str.{bytes_eq}
@@ -16,11 +16,11 @@ use Rattle.bag_receiver.specs.declared.deliver.Place.{Place}
 use Rattle.bag_receiver.specs.declared.receiver.Receiver.{Receiver}
 use Rattle.bag_receiver.specs.Deliveries.{Content, IsListedPath, delivery_of}
 use Rattle.bag_receiver.specs.Names.{IsNamed, IsTransferName}
-use Rattle.bag_receiver.specs.Receiving.{DeliveryStep, State}
-use Rattle.bag_receiver.specs.Receivers.{Stands}
+use Rattle.bag_receiver.specs.Receiving.{DeliveryStep, LedgerState}
+use Rattle.bag_receiver.specs.Receivers.{IsInState}
 
 -- nothing changes
-abbrev pub Same : State → State → Type 0
+abbrev pub Same : LedgerState → LedgerState → Type 0
 Same old new = new ≡ old
 
 -- the plan of the transfer with this name is there, or there is no such transfer
@@ -38,7 +38,7 @@ pub record IsPlaceIn (ledger : Ledger) (name text : List ℕ) (place : Place) : 
   pub held : is_some (content_of ledger name text) ≡ place.is_held
 
 -- the fault is answered to what was delivered for this text, whatever its content is, and nothing changes
-abbrev pub RefusesAny : List ℕ → List ℕ → State → DeliverFault → Type 0
+abbrev pub RefusesAny : List ℕ → List ℕ → LedgerState → DeliverFault → Type 0
 RefusesAny name text now fault = (content : Content)
     → DeliveryStep name (delivery_of text content (Refused fault)) now now
 
@@ -49,10 +49,10 @@ answer_of (Err fault) = Refused fault
 
 -- this is found, or the delivery for this text is refused for this reason
 module _ {K : Type 0} (holds may_leave : K → Ledger → Type 0) (clean : K → Type 0) where
-  abbrev pub Finds : {A : Type 0} → Receiver K → Receiver K → List ℕ → List ℕ → (State → A → Type 0)
-      → Result A DeliverFault → Type 0
-  Finds old new name text found result = clean new.keeper → (now : State)
-      → Stands holds may_leave old now
+  abbrev pub Finds : {A : Type 0} → Receiver K → Receiver K → List ℕ → List ℕ
+      → (LedgerState → A → Type 0) → Result A DeliverFault → Type 0
+  Finds old new name text found result = clean new.keeper → (now : LedgerState)
+      → IsInState holds may_leave old now
       → MatchResult result (found now) (RefusesAny name text now)
 
 -- there is no such transfer, or the keeper has no answer

@@ -1,4 +1,4 @@
--- What a receiver holds, and what comes of what is given to it.
+-- What is held of all transfers, and what comes of it by what is given to a receiver.
 use Rattle.std.specs.Prelude.{◌≡◌, ◌≢◌, ◌⊎◌, ◌≤◌, ◌∷◌, [], ℕ, List, Option, Some, length, map}
 use Rattle.std.specs.Map.{keys_of, lookup}
 use Rattle.std.specs.Str.{bytes_eq}
@@ -16,25 +16,25 @@ use Rattle.bag_receiver.specs.declared.answer.Answer.TheVariants.{Taken, Refused
 use Rattle.bag_receiver.specs.declared.answer.DeliverFault.TheVariants.{NoTransfer, BadPath, NotListed, Reader, TooLarge, Keeper}
 use Rattle.bag_receiver.specs.Deliveries.{Content, Delivery, IsDue, IsFirstHeld, IsListedPath, IsTooLong, TooLong, Unread, Whole}
 use Rattle.bag_receiver.specs.Names.{IsNamed, IsTransferName}
-use Rattle.bag_receiver.specs.Stops.{Answered, Event, Standing, Steps, StopStep, nothing_held, standing}
+use Rattle.bag_receiver.specs.Stops.{Answered, Event, Steps, StopStep, TransferState, nothing_held}
 
 -- WHAT IS HELD
 
--- the ledger that is held, and those that a crash may leave in its place
-pub record State : Type 0 where
+-- What is held of all transfers: the ledger, and those that a crash may leave in its place.
+pub record LedgerState : Type 0 where
   pub held : Ledger
   pub doubtful : List Ledger
 
-abbrev pub state : Ledger → List Ledger → State
-state held doubtful = record { held = held; doubtful = doubtful }
+abbrev pub ledger_state : Ledger → List Ledger → LedgerState
+ledger_state held doubtful = record { held = held; doubtful = doubtful }
 
 -- nothing but this ledger is left by a crash
-abbrev pub settled : Ledger → State
-settled held = state held []
+abbrev pub settled : Ledger → LedgerState
+settled held = ledger_state held []
 
 -- one ledger more that a crash may leave
-abbrev pub with_doubtful : State → Ledger → State
-with_doubtful old ledger = record old { doubtful = ledger ∷ old.doubtful }
+abbrev pub with_doubtful_ledger : LedgerState → Ledger → LedgerState
+with_doubtful_ledger old ledger = record old { doubtful = ledger ∷ old.doubtful }
 
 -- each plan is that of the transfer with its name
 abbrev pub ArePlansIn : Ledger → List (List ℕ × Plan) → Type 0
@@ -88,59 +88,62 @@ IsListedIn ledger name text = (transfer : Transfer) × IsNamed ledger name (Some
 abbrev pub IsUnread : List ℕ → Ledger → Delivery → Type 0
 IsUnread name ledger delivery = (delivery.content ≡ Unread) × IsListedIn ledger name delivery.text
 
--- What a delivery makes of what is held, by its answer: the one that is due, or that a read failed, or that the keeper has none. What
--- is taken is held for sure.
-abbrev pub StepBy : Answer → List ℕ → Delivery → State → State → Type 0
+-- What a delivery makes of what is held, by its answer: the one that is due, or that a read failed, or that the keeper
+-- has none. What is taken is held for sure.
+abbrev pub StepBy : Answer → List ℕ → Delivery → LedgerState → LedgerState → Type 0
 StepBy Taken name delivery old new = Adds name old.held delivery new.held × (new.doubtful ≡ [])
 StepBy (Refused Reader) name delivery old new = IsUnread name old.held delivery × (new ≡ old)
 StepBy (Refused (Keeper fault)) name delivery old new = (new ≡ old)
-    ⊎ ((ledger : Ledger) × Adds name old.held delivery ledger × (new ≡ with_doubtful old ledger))
+    ⊎ ((ledger : Ledger) × Adds name old.held delivery ledger
+    × (new ≡ with_doubtful_ledger old ledger))
 StepBy answer name delivery old new = IsDueTo name old.held delivery answer × (new ≡ old)
 
-abbrev pub DeliveryStep : List ℕ → Delivery → State → State → Type 0
+abbrev pub DeliveryStep : List ℕ → Delivery → LedgerState → LedgerState → Type 0
 DeliveryStep name delivery old new = StepBy delivery.answer name delivery old new
 
 -- one delivery after another
-abbrev pub DeliverySteps : List ℕ → List Delivery → State → State → Type 0
+abbrev pub DeliverySteps : List ℕ → List Delivery → LedgerState → LedgerState → Type 0
 DeliverySteps name [] old new = new ≡ old
-DeliverySteps name (delivery ∷ deliveries) old new = (next : State)
+DeliverySteps name (delivery ∷ deliveries) old new = (next : LedgerState)
     × DeliveryStep name delivery old next × DeliverySteps name deliveries next new
 
 -- ONE TRANSFER
 
--- So stands the transfer with this name: these are its tag files, it holds these payload files, and a crash may leave one of the
+-- The transfer with this name has these tag files and holds these payload files, and a crash may leave one of the
 -- doubtful ones beside them.
-pub record Shows (state : State) (name : List ℕ) (tags : Files) (standing : Standing) : Type 0 where
-  pub there : transfer_of state.held name ≡ Some (record { tags = tags; items = standing.held })
+pub record HasTransfer (state : LedgerState) (name : List ℕ) (tags : Files) (files : TransferState)
+    : Type 0 where
+  pub there : transfer_of state.held name ≡ Some (record { tags = tags; items = files.held })
   pub left : (crashed : Ledger) → Has state.doubtful crashed → (items : Files)
       × (transfer_of crashed name ≡ Some (record { tags = tags; items = items }))
-      × StopStep tags standing (record { held = items; doubtful = [] })
+      × StopStep tags files (record { held = items; doubtful = [] })
 
 -- this happened to the transfer with this name since it was opened with these tag files
-abbrev pub Happened : State → List ℕ → Files → List Event → Type 0
-Happened state name tags events = (now : Standing) × Steps tags events nothing_held now
-    × Shows state name tags now
+abbrev pub Happened : LedgerState → List ℕ → Files → List Event → Type 0
+Happened state name tags events = (now : TransferState) × Steps tags events nothing_held now
+    × HasTransfer state name tags now
 
 -- it has these tag files, and holds these payload files
-abbrev pub IsHeldIn : State → List ℕ → Files → Files → Type 0
+abbrev pub IsHeldIn : LedgerState → List ℕ → Files → Files → Type 0
 IsHeldIn state name tags items =
     transfer_of state.held name ≡ Some (record { tags = tags; items = items })
 
 -- other transfers are as they were, and a crash leaves of each what it could leave before
-pub record LeavesOthers (name : List ℕ) (old new : State) : Type 0 where
+pub record LeavesOthers (name : List ℕ) (old new : LedgerState) : Type 0 where
   pub same : (other : List ℕ) → other ≢ name
       → transfer_of new.held other ≡ transfer_of old.held other
   pub left : (other : List ℕ) → other ≢ name → (crashed : Ledger) → Has new.doubtful crashed
       → (before : Ledger) × Has (old.held ∷ old.doubtful) before
       × (transfer_of crashed other ≡ transfer_of before other)
 
--- These deliveries came to the transfer with this name, and nothing else happened: it went on from how it stood, and holds for each
--- path that it didn't hold the content of the first accepted delivery.
-pub record Receives (name : List ℕ) (deliveries : List Delivery) (old new : State) : Type 0 where
+-- These deliveries came to the transfer with this name, and nothing else happened: it went on from what it held, and
+-- holds for each path that it didn't hold the content of the first accepted delivery.
+pub record Receives (name : List ℕ) (deliveries : List Delivery) (old new : LedgerState)
+    : Type 0 where
   pub steps : DeliverySteps name deliveries old new
-  pub goes_on : (tags : Files) (before : Standing) → Shows old name tags before
-      → (after : Standing) × Steps tags (map Answered deliveries) before after
-      × Shows new name tags after
+  pub goes_on : (tags : Files) (before : TransferState) → HasTransfer old name tags before
+      → (after : TransferState) × Steps tags (map Answered deliveries) before after
+      × HasTransfer new name tags after
   pub first : (tags items : Files) → AreRising (keys_of items) → IsHeldIn old name tags items
       → (more : Files) × IsHeldIn new name tags more × IsFirstHeld items deliveries more
   pub others : LeavesOthers name old new

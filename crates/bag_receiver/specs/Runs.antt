@@ -1,5 +1,5 @@
 -- Runs of deliveries, and couriers that bring them.
-use Rattle.std.specs.Prelude.{◌≡◌, ◌⊎◌, ◌<◌, ◌≤◌, ◌+◌, ◌∷◌, [], ℕ, List}
+use Rattle.std.specs.Prelude.{◌≡◌, ◌≢◌, ◌⊎◌, ◌<◌, ◌≤◌, ◌+◌, ◌∷◌, [], ℕ, List}
 use Rattle.std.specs.List.{AllByRecursion}
 use Rattle.bag_digest.specs.Device.{greatest_count}
 use Rattle.bag_rules.specs.Files.{Files}
@@ -32,10 +32,11 @@ pub record CountsAtLeast (n old new : ℕ) : Type 0 where
   pub stays : n ≡ 0 → new ≡ old
   pub rises : (old + n ≤ new) ⊎ (greatest_count ≤ new)
 
--- These deliveries came to the transfer with this name and had these answers; the store failed where an answer says so, and nowhere
--- else.
+-- These deliveries came to the transfer with this name and had these answers; the store failed where an answer says so,
+-- and nowhere else.
 pub record Runs {K : Type 0} (holds may_leave : K → Ledger → Type 0) (clean : K → Type 0)
-    (failures : K → ℕ) (old new : Receiver K) (name : List ℕ) (deliveries : List Delivery) : Type 0 where
+    (failures : K → ℕ) (old new : Receiver K) (name : List ℕ) (deliveries : List Delivery)
+    : Type 0 where
   pub received : Does holds may_leave clean old new (Receives name deliveries)
   pub judged : AllByRecursion (IsAnswer name) deliveries
   pub store : CountsAtLeast (store_failures deliveries) (failures old.keeper) (failures new.keeper)
@@ -54,4 +55,4 @@ abbrev pub IsEndOf : End → ℕ → ℕ → Type 0
 IsEndOf Done n all = n ≡ all
 IsEndOf TooMany n all = (n ≡ MOST_DELIVERIES) × (n < all)
 IsEndOf Courier n all = ⊥
-IsEndOf Memory n all = n < all
+IsEndOf Memory n all = (n ≢ MOST_DELIVERIES) × (n < all)

@@ -31,27 +31,27 @@ BringsAt Stop path content = ⊥
 abbrev pub OffersIn : List Event → List ℕ → List ℕ → Type 0
 OffersIn events path content = (event : Event) × Has events event × BringsAt event path content
 
--- the files that are held, and those of which only a stop will show whether they were written
-pub record Standing : Type 0 where
+-- What one transfer holds: the payload files, and those of which only a stop will show whether they were written.
+pub record TransferState : Type 0 where
   pub held : Files
   pub doubtful : Files
 
-abbrev pub standing : Files → Files → Standing
-standing held doubtful = record { held = held; doubtful = doubtful }
+abbrev pub transfer_state : Files → Files → TransferState
+transfer_state held doubtful = record { held = held; doubtful = doubtful }
 
 -- nothing is held, and nothing doubtful
-abbrev pub nothing_held : Standing
-nothing_held = standing [] []
+abbrev pub nothing_held : TransferState
+nothing_held = transfer_state [] []
 
 -- one file more
 abbrev pub with_file : Files → List ℕ → List ℕ → Files
 with_file held path content = insert_entry (slice_cmp nat_cmp) held path content
 
 -- a content that came whole is doubtful
-abbrev pub with_doubt : Standing → List ℕ → Content → Standing
-with_doubt old path (Whole content) =
+abbrev pub with_doubtful_file : TransferState → List ℕ → Content → TransferState
+with_doubtful_file old path (Whole content) =
     record old { doubtful = (path, content) ∷ old.doubtful }
-with_doubt old path content = old
+with_doubtful_file old path content = old
 
 -- The content passes, and the path isn't held: it becomes that of a file more.
 pub record Gains (tags held : Files) (path content : List ℕ) (new : Files) : Type 0 where
@@ -60,34 +60,35 @@ pub record Gains (tags held : Files) (path content : List ℕ) (new : Files) : T
   pub becomes : new ≡ with_file held path content
 
 -- What an answer says of what is held. What was taken is held for sure, and what was doubtful before it is not held.
-abbrev pub AnswerStep : Files → List ℕ → Content → Answer → Standing → Standing → Type 0
+abbrev pub AnswerStep : Files → List ℕ → Content → Answer → TransferState → TransferState → Type 0
 AnswerStep tags path content Taken old new = (octets : List ℕ) × (content ≡ Whole octets)
     × Gains tags old.held path octets new.held × (new.doubtful ≡ [])
 AnswerStep tags path content Repeated old new = PassesIn tags path content
     × Contains (keys_of old.held) path × (new ≡ old)
-AnswerStep tags path content (Refused (Keeper fault)) old new = new ≡ with_doubt old path content
+AnswerStep tags path content (Refused (Keeper fault)) old new =
+    new ≡ with_doubtful_file old path content
 AnswerStep tags path content (Refused fault) old new = new ≡ old
 
 -- after a stop one of the doubtful files may be held, if it passes and its path wasn't, and none is doubtful
-pub record StopStep (tags : Files) (old new : Standing) : Type 0 where
+pub record StopStep (tags : Files) (old new : TransferState) : Type 0 where
   pub settled : new.doubtful ≡ []
   pub held : (new.held ≡ old.held)
       ⊎ ((path : List ℕ) × (content : List ℕ) × Has old.doubtful (path, content)
       × Gains tags old.held path content new.held)
 
-abbrev pub Step : Files → Event → Standing → Standing → Type 0
+abbrev pub Step : Files → Event → TransferState → TransferState → Type 0
 Step tags (Answered delivery) old new =
     AnswerStep tags delivery.text delivery.content delivery.answer old new
-Step tags (Cut path content) old new = new ≡ with_doubt old path content
+Step tags (Cut path content) old new = new ≡ with_doubtful_file old path content
 Step tags Stop old new = StopStep tags old new
 
 -- what happened leads from the one to the other
-abbrev pub Steps : Files → List Event → Standing → Standing → Type 0
+abbrev pub Steps : Files → List Event → TransferState → TransferState → Type 0
 Steps tags [] old new = new ≡ old
-Steps tags (event ∷ events) old new = (next : Standing) × Step tags event old next
+Steps tags (event ∷ events) old new = (next : TransferState) × Step tags event old next
     × Steps tags events next new
 
 -- these files are held by a transfer with these tag files, to which this happened since it was opened
 abbrev pub StopRun : Files → List Event → Files → Type 0
 StopRun tags events held = (doubtful : Files)
-    × Steps tags events nothing_held (standing held doubtful)
+    × Steps tags events nothing_held (transfer_state held doubtful)

@@ -18,7 +18,7 @@ use bag_ledger::{KeepFault, Keeper};
 use bag_path::BagPath;
 use bag_rules::limits::LARGEST_TAG_FILE;
 use bag_rules::{Fault, OutsideCause, Plan, PlanFault, TagSet, TagSetFault};
-use std::alloc::{AllocError, Global};
+use std::alloc::Global;
 use thiserror::Error;
 
 /// What a begun transfer is.
@@ -74,18 +74,6 @@ impl From<KeepFault> for BeginFault {
     }
 }
 
-impl From<AllocError> for BeginFault {
-    ghost use Rattle.std.specs.Prelude.{◌≡◌};
-    ghost use Rattle.bag_ledger.specs.declared.fault.KeepFault.TheVariants.{Memory};
-    ghost use Rattle.bag_receiver.specs.declared.begin.BeginFault.TheVariants.{Keeper};
-
-    ghost from_gives = { λ error fault. fault ≡ Keeper Memory };
-
-    fn from(_: AllocError) -> BeginFault {
-        BeginFault::Keeper(KeepFault::Memory)
-    }
-}
-
 impl From<PlanFault> for BeginFault {
     ghost use Rattle.std.specs.Prelude.{◌≡◌};
     ghost use Rattle.bag_receiver.specs.BeginningInside.{begin_fault};
@@ -110,14 +98,14 @@ pub(crate) fn open(alloc: Global, files: &[(String, Vec<u8>)]) -> Result<(TagSet
     ensures refused { IfErr result (IsRefusal (given_in files.now)) }
 {
     let tags = placed(alloc, files)?;
-    let large = first_large(files);
+    let heavy = first_heavy(files);
     match Plan::from_tags(alloc, &tags) {
-        Ok(plan) => match large {
-            Some(large) => Err(too_large(alloc, large)),
+        Ok(plan) => match heavy {
+            Some(heavy) => Err(too_large(alloc, heavy)),
             None => Ok((tags, plan)),
         },
-        Err(fault) => match large {
-            Some(large) => Err(first_refusal(alloc, large, fault)),
+        Err(fault) => match heavy {
+            Some(heavy) => Err(first_refusal(alloc, heavy, fault)),
             None => Err(BeginFault::from(fault)),
         },
     }
@@ -125,20 +113,20 @@ pub(crate) fn open(alloc: Global, files: &[(String, Vec<u8>)]) -> Result<(TagSet
 
 /// What is told where this is the least path of a file that has too many octets, and this the fault of the tag files
 /// without such octets.
-fn first_refusal(alloc: Global, large: &str, fault: PlanFault) -> BeginFault
-    ensures { (given : Files) → NoneMisplaced given → IsFirstPath (IsHeavyAt given) large.now
+fn first_refusal(alloc: Global, heavy: &str, fault: PlanFault) -> BeginFault
+    ensures { (given : Files) → NoneMisplaced given → IsFirstPath (IsHeavyAt given) heavy.now
         → Refuses (light_tags given) fault → IsRefusal given result }
 {
     match fault {
         PlanFault::Memory => BeginFault::Keeper(KeepFault::Memory),
         PlanFault::TagTooLarge(path) => {
-            if path.as_str() < large {
+            if path.as_str() < heavy {
                 BeginFault::TagTooLarge(path)
             } else {
-                too_large(alloc, large)
+                too_large(alloc, heavy)
             }
         }
-        _ => too_large(alloc, large),
+        _ => too_large(alloc, heavy),
     }
 }
 
@@ -154,7 +142,7 @@ fn too_large(alloc: Global, path: &str) -> BeginFault
 }
 
 /// The least path of a file that has too many octets.
-fn first_large(files: &[(String, Vec<u8>)]) -> Option<&str>
+fn first_heavy(files: &[(String, Vec<u8>)]) -> Option<&str>
     ensures { MatchOption result ((path : List ℕ) → ¬ IsHeavyAt (given_in files.now) path)
         (λ path. IsFirstPath (IsHeavyAt (given_in files.now)) path.now) }
 {

@@ -1,5 +1,5 @@
 //! Couriers: what brings the payload files of a transfer.
-ghost use Rattle.std.specs.Prelude.{◌≡◌, ◌≢◌, ◌+◌, [], ℕ, List, Option, true, Ok, IfOk, min};
+ghost use Rattle.std.specs.Prelude.{◌≡◌, ◌≢◌, ◌+◌, [], ℕ, List, Option, true, Ok, IfOk, IsOk, min};
 ghost use Rattle.bag_digest.specs.Device.{CountsFailure, greatest_count};
 ghost use Rattle.bag_rules.specs.Files.{Files};
 ghost use Rattle.bag_receiver.specs.Couriers.{ComesNext};
@@ -19,6 +19,9 @@ pub trait Courier: Source {
     /// How often `next` was called.
     ghost nexts: { Self → ℕ };
 
+    /// `next` doesn't fail, whether or not reads do.
+    ghost steady: { Self → Type 0 };
+
     /// Goes on to the next item, and passes over what wasn't read of the one before. `false`: none is left.
     ///
     /// # Errors
@@ -30,6 +33,7 @@ pub trait Courier: Source {
         ensures open { Self.is_open self.new ≡ true → result ≡ Ok true }
         ensures none { result ≢ Ok true → text self.new ≡ [] }
         ensures counted { CountsFailure result (Self.failures self.old) (Self.failures self.new) }
+        ensures steady { steady self.old → IsOk result × steady self.new }
         ensures called { nexts self.new ≡ min (nexts self.old + 1) greatest_count };
 
     /// The path of the item that came last, as text; empty where none did.
@@ -41,5 +45,5 @@ pub trait Courier: Source {
         ensures { result ≡ nexts self.now };
 
     ghost keeps_item: { (old new : Self) → Self.keeps old new → (coming new ≡ coming old)
-        × (text new ≡ text old) × (nexts new ≡ nexts old) };
+        × (text new ≡ text old) × (nexts new ≡ nexts old) × (steady old → steady new) };
 }

@@ -9,8 +9,8 @@ ghost use Rattle.bag_receiver.specs.declared.answer.Answer.TheVariants.{Refused}
 ghost use Rattle.bag_receiver.specs.declared.answer.DeliverFault.TheVariants.{Keeper as NotKept, NoTransfer, Reader};
 ghost use Rattle.bag_receiver.specs.Deliveries.{Content, IsAcceptance, Whole, delivery_of};
 ghost use Rattle.bag_receiver.specs.Names.{IsTransferName};
-ghost use Rattle.bag_receiver.specs.Receiving.{Brought, DeliveryStep, IsAnswer, IsListedIn, Judges, Receives, State};
-ghost use Rattle.bag_receiver.specs.Receivers.{Does, Stands, plans_in};
+ghost use Rattle.bag_receiver.specs.Receiving.{Brought, DeliveryStep, IsAnswer, IsListedIn, Judges, LedgerState, Receives};
+ghost use Rattle.bag_receiver.specs.Receivers.{Does, IsInState, plans_in};
 ghost use Rattle.bag_receiver.specs.ReceiversInside.{Finds, IsNoPlan, IsPlaceIn, IsPlanned, RefusesText, Same, answer_of};
 
 use crate::answer::{Answer, DeliverFault};
@@ -83,8 +83,8 @@ impl<K: Keeper> Receiver<K> {
             × IsAnswer name.now (delivery_of path.now content result)
             × Does K.holds K.may_leave K.clean self.old self.new
             (Receives name.now (delivery_of path.now content result ∷ [])) }
-        ensures unread { K.clean self.new.keeper → (now : State)
-            → Stands K.holds K.may_leave self.old now
+        ensures unread { K.clean self.new.keeper → (now : LedgerState)
+            → IsInState K.holds K.may_leave self.old now
             → (reader.new ≡ reader.old) ⊎ IsListedIn now.held name.now path.now }
         ensures reader { UsesSource S.failures S.ready S.keeps reader.old reader.new
             (result ≡ Refused Reader) }
@@ -110,8 +110,8 @@ impl<K: Keeper> Receiver<K> {
             × IsAnswer name.now (delivery_of path.now content (answer_of result))
             × Does K.holds K.may_leave K.clean self.old self.new
             (DeliveryStep name.now (delivery_of path.now content (answer_of result))) }
-        ensures unread { K.clean self.new.keeper → (now : State)
-            → Stands K.holds K.may_leave self.old now
+        ensures unread { K.clean self.new.keeper → (now : LedgerState)
+            → IsInState K.holds K.may_leave self.old now
             → (reader.new ≡ reader.old) ⊎ IsListedIn now.held name.now path.now }
         ensures accepted { IfOk result IsAcceptance }
         ensures reader { UsesSource S.failures S.ready S.keeps reader.old reader.new

@@ -10,10 +10,17 @@ ghost use Rattle.bag_rules.specs.Trees.{AreRising};
 ghost use Rattle.bag_ledger.specs.Ledgers.{Ledger, Transfer, holding};
 ghost use Rattle.bag_receiver.specs.declared.answer.Answer.{Answer};
 ghost use Rattle.bag_receiver.specs.declared.answer.Answer.TheVariants.{Taken};
+ghost use Rattle.bag_receiver.specs.declared.name.TheConstants.{LONGEST_NAME};
+ghost use Rattle.bag_receiver.specs.declared.run.TheConstants.{MOST_DELIVERIES};
 ghost use Rattle.bag_receiver.specs.Deliveries.{Accepts, AcceptsPassing, AreAccepted, Content, Delivery, HasOneContent, IsAcceptance, IsAccepted, IsDue, IsFirstHeld, OneContent, PassesIn, Unread, Whole};
 ghost use Rattle.bag_receiver.specs.Names.{IsNamed};
-ghost use Rattle.bag_receiver.specs.Receiving.{Happened, LeavesOthers, Receives, State, settled};
-ghost use Rattle.bag_receiver.specs.Stops.{AnswerStep, Answered, Event, OffersIn, Standing, Steps, Stop, StopRun, standing, with_file};
+ghost use Rattle.bag_receiver.specs.Receiving.{Happened, LeavesOthers, LedgerState, Receives, settled};
+ghost use Rattle.bag_receiver.specs.Stops.{AnswerStep, Answered, Event, OffersIn, Steps, Stop, StopRun, TransferState, transfer_state, with_file};
+
+/// The limits are these: the octets of a transfer's name, and the deliveries of one run.
+pub fn the_limits_are_these()
+    ensures { (LONGEST_NAME ≡ 64) × (MOST_DELIVERIES ≡ 1000000) }
+{}
 
 /// One answer is due to a delivery at most.
 pub fn one_answer_is_due_at_most()
@@ -48,12 +55,12 @@ pub fn what_is_due_to_be_accepted_passes()
 pub fn what_is_due_is_a_step()
     ensures taken { (transfer : Transfer) (text octets : List ℕ) (doubtful : Files)
         → IsDue (Some transfer) text (Whole octets) Taken
-        → let old = standing transfer.items doubtful in
-        let new = standing (holding transfer text octets).items [] in
+        → let old = transfer_state transfer.items doubtful in
+        let new = transfer_state (holding transfer text octets).items [] in
         AnswerStep transfer.tags text (Whole octets) Taken old new }
     ensures other { (transfer : Transfer) (text : List ℕ) (content : Content) (answer : Answer)
         → (doubtful : Files) → IsDue (Some transfer) text content answer → answer ≢ Taken
-        → let same = standing transfer.items doubtful in
+        → let same = transfer_state transfer.items doubtful in
         AnswerStep transfer.tags text content answer same same }
 {}
 
@@ -117,21 +124,21 @@ pub fn lists_of_which_the_same_was_accepted_leave_the_same_files()
 
 /// What happened may be parted anywhere, and joined again.
 pub fn what_happened_may_be_parted_and_joined()
-    ensures { (tags : Files) (events others : List Event) (old new : Standing)
+    ensures { (tags : Files) (events others : List Event) (old new : TransferState)
         → Steps tags (events ++ others) old new
-        ↔ ((middle : Standing) × Steps tags events old middle × Steps tags others middle new) }
+        ↔ ((middle : TransferState) × Steps tags events old middle × Steps tags others middle new) }
 {}
 
 /// What is held stays held, whatever happens.
 pub fn what_is_held_stays_held()
-    ensures { (tags : Files) (events : List Event) (old new : Standing)
+    ensures { (tags : Files) (events : List Event) (old new : TransferState)
         → Steps tags events old new
         → (path content : List ℕ) → Has old.held (path, content) → Has new.held (path, content) }
 {}
 
 /// What is held passes, whatever happens.
 pub fn what_is_held_passes_after_stops()
-    ensures { (tags : Files) (events : List Event) (old new : Standing)
+    ensures { (tags : Files) (events : List Event) (old new : TransferState)
         → Steps tags events old new → AreHeldFor tags old.held → AreHeldFor tags new.held }
 {}
 
@@ -146,7 +153,7 @@ pub fn what_is_held_was_offered()
 
 /// The path of a delivery that was answered `Taken` or `Repeated` is held, whatever happens after it.
 pub fn an_accepted_delivery_has_its_path_held()
-    ensures { (tags : Files) (events : List Event) (old new : Standing) (delivery : Delivery)
+    ensures { (tags : Files) (events : List Event) (old new : TransferState) (delivery : Delivery)
         → Steps tags events old new → Has events (Answered delivery)
         → IsAcceptance delivery.answer → Contains (keys_of new.held) delivery.text }
 {}
@@ -161,28 +168,28 @@ pub fn an_accepted_delivery_has_its_content_held()
 
 /// Without a stop what is held is the content of the first accepted delivery for each path.
 pub fn without_a_stop_the_first_accepted_content_is_held()
-    ensures { (tags : Files) (deliveries : List Delivery) (old new : Standing)
+    ensures { (tags : Files) (deliveries : List Delivery) (old new : TransferState)
         → AreRising (keys_of old.held) → Steps tags (map Answered deliveries) old new
         → IsFirstHeld old.held deliveries new.held }
 {}
 
 /// What happened to a transfer goes on with the deliveries that come to it.
 pub fn what_happened_goes_on_with_deliveries()
-    ensures { (name : List ℕ) (deliveries : List Delivery) (old new : State) (tags : Files)
+    ensures { (name : List ℕ) (deliveries : List Delivery) (old new : LedgerState) (tags : Files)
         → (events : List Event) → Receives name deliveries old new → Happened old name tags events
         → Happened new name tags (events ++ map Answered deliveries) }
 {}
 
 /// What happened to another transfer is all that happened to it.
 pub fn deliveries_are_no_event_of_another_transfer()
-    ensures { (name other : List ℕ) (old new : State) (tags : Files) (events : List Event)
+    ensures { (name other : List ℕ) (old new : LedgerState) (tags : Files) (events : List Event)
         → LeavesOthers name old new → other ≢ name → Happened old other tags events
         → Happened new other tags events }
 {}
 
 /// After a stop, which left what was held or what was doubtful, it is one event more of each transfer.
 pub fn a_stop_is_an_event_of_each_transfer()
-    ensures { (now : State) (name : List ℕ) (tags : Files) (events : List Event) (crashed : Ledger)
-        → Happened now name tags events → Has (now.held ∷ now.doubtful) crashed
+    ensures { (now : LedgerState) (name : List ℕ) (tags : Files) (events : List Event)
+        → (crashed : Ledger) → Happened now name tags events → Has (now.held ∷ now.doubtful) crashed
         → Happened (settled crashed) name tags (events ++ Stop ∷ []) }
 {}

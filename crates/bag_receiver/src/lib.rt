@@ -11,6 +11,7 @@ pub use report::ViewFault;
 pub use run::{End, MOST_DELIVERIES, Run};
 
 mod answer;
+pub mod arrival;
 mod begin;
 mod courier;
 mod deliver;

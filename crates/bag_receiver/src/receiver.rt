@@ -8,8 +8,8 @@ ghost use Rattle.bag_digest.specs.Device.{CountsIf};
 ghost use Rattle.bag_ledger.specs.declared.fault.StoreFault.{StoreFault};
 ghost use Rattle.bag_ledger.specs.declared.fault.KeepFault.TheVariants.{Store};
 ghost use Rattle.bag_receiver.specs.Names.{IsTransferName};
-ghost use Rattle.bag_receiver.specs.Receiving.{State};
-ghost use Rattle.bag_receiver.specs.Receivers.{Does, IsKept, Stands, plans_in};
+ghost use Rattle.bag_receiver.specs.Receiving.{LedgerState};
+ghost use Rattle.bag_receiver.specs.Receivers.{Does, IsInState, IsKept, plans_in};
 ghost use Rattle.bag_receiver.specs.ReceiversInside.{IsPlanned, Same};
 
 use crate::name::is_name;
@@ -36,8 +36,8 @@ impl<K: Keeper> Receiver<K> {
     /// A receiver over what this keeper holds: the transfers that are there can be used at once.
     pub fn new(alloc: Global, keeper: K) -> Receiver<K>
         ensures keeper { result.keeper ≡ keeper }
-        ensures stands { (now : State) → IsKept K.holds K.may_leave keeper now
-            → Stands K.holds K.may_leave result now }
+        ensures in_state { (now : LedgerState) → IsKept K.holds K.may_leave keeper now
+            → IsInState K.holds K.may_leave result now }
     {
         Receiver {
             keeper,
@@ -59,8 +59,8 @@ impl<K: Keeper> Receiver<K> {
     /// The store failed, or memory ran out.
     pub fn names(&mut self, alloc: Global) -> Result<Vec<String>, KeepFault>
         ensures looks { Does K.holds K.may_leave K.clean self.old self.new Same }
-        ensures names { K.clean self.new.keeper → (now : State)
-            → Stands K.holds K.may_leave self.old now
+        ensures names { K.clean self.new.keeper → (now : LedgerState)
+            → IsInState K.holds K.may_leave self.old now
             → IfOk result (λ names. map string_bytes names.items ≡ keys_of now.held) }
         ensures store { CountsIf ((fault : StoreFault) × IsErrOf result (Store fault))
             (K.failures self.old.keeper) (K.failures self.new.keeper) }
@@ -71,8 +71,8 @@ impl<K: Keeper> Receiver<K> {
     /// Makes the plan of a transfer, unless it is there; says whether it is there now.
     pub(crate) fn has_plan(&mut self, alloc: Global, name: &str) -> Result<bool, KeepFault>
         ensures looks { Does K.holds K.may_leave K.clean self.old self.new Same }
-        ensures found { K.clean self.new.keeper → (now : State)
-            → Stands K.holds K.may_leave self.old now
+        ensures found { K.clean self.new.keeper → (now : LedgerState)
+            → IsInState K.holds K.may_leave self.old now
             → IfOk result (IsPlanned name.now now.held (plans_in self.new.plans)) }
         ensures named { MatchResult result (λ is_there. IsTrue is_there → IsTransferName name.now)
             (λ fault. IsTransferName name.now) }

@@ -4,10 +4,10 @@ ghost use Rattle.bag_digest.specs.Device.{CountsIf};
 ghost use Rattle.bag_rules.specs.Files.{Files};
 ghost use Rattle.bag_ledger.specs.declared.fault.StoreFault.{StoreFault};
 ghost use Rattle.bag_receiver.specs.Deliveries.{AreAccepted, Delivery, OneContent};
-ghost use Rattle.bag_receiver.specs.Names.{IsNamed};
-ghost use Rattle.bag_receiver.specs.Receivers.{Does, Stands};
+ghost use Rattle.bag_receiver.specs.Names.{IsNamed, IsTransferName};
+ghost use Rattle.bag_receiver.specs.Receivers.{Does, IsInState};
 ghost use Rattle.bag_receiver.specs.ReceiversInside.{Same};
-ghost use Rattle.bag_receiver.specs.Receiving.{Happened, State};
+ghost use Rattle.bag_receiver.specs.Receiving.{Happened, LedgerState};
 ghost use Rattle.bag_receiver.specs.Reports.{IsReportOf, Reports};
 ghost use Rattle.bag_receiver.specs.Stops.{Answered, Event, StopRun};
 
@@ -62,21 +62,25 @@ impl<K: Keeper> Receiver<K> {
     /// memory ran out.
     pub fn report(&mut self, alloc: Global, name: &str) -> Result<Report, ViewFault>
         ensures looks { Does K.holds K.may_leave K.clean self.old self.new Same }
-        ensures reported { K.clean self.new.keeper → (now : State)
-            → Stands K.holds K.may_leave self.old now
+        ensures reported { K.clean self.new.keeper → (now : LedgerState)
+            → IsInState K.holds K.may_leave self.old now
             → MatchResult result (Reports now.held name.now)
             (λ fault. fault ≡ ViewFault.NoTransfer → IsNamed now.held name.now None) }
+        // A text that is no name names no transfer, whatever the store would answer.
+        ensures judged { ¬ IsTransferName name.now → IsErrOf result ViewFault.NoTransfer }
         // After a transfer was opened, for any list of deliveries with losses, repeats and reorderings: the report is
         // that of its tag files with each distinct accepted delivery once, provided that no two different contents that
         // were offered for one path pass.
-        ensures headline { K.clean self.new.keeper → (now : State)
-            → Stands K.holds K.may_leave self.old now → (tags : Files) (deliveries : List Delivery)
+        ensures headline { K.clean self.new.keeper → (now : LedgerState)
+            → IsInState K.holds K.may_leave self.old now
+            → (tags : Files) (deliveries : List Delivery)
             → Happened now name.now tags (map Answered deliveries) → OneContent tags deliveries
             → IfOk result (λ report. (held : Files) × AreAccepted deliveries held
             × IsReportOf tags held report) }
         // And whatever happened since, stops too.
-        ensures stopped { K.clean self.new.keeper → (now : State)
-            → Stands K.holds K.may_leave self.old now → (tags : Files) (events : List Event)
+        ensures stopped { K.clean self.new.keeper → (now : LedgerState)
+            → IsInState K.holds K.may_leave self.old now
+            → (tags : Files) (events : List Event)
             → Happened now name.now tags events
             → IfOk result (λ report. (held : Files) × StopRun tags events held
             × IsReportOf tags held report) }

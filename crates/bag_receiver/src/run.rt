@@ -20,7 +20,7 @@ pub enum End {
     TooMany,
     /// The courier failed to bring the next item.
     Courier,
-    /// There was no memory for the answer to the next item, which wasn't delivered.
+    /// There was no memory for the answer to the next item, or for the text of its path. It wasn't delivered.
     Memory,
 }
 

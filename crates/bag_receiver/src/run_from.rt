@@ -17,7 +17,8 @@ use std::alloc::{AllocError, Global};
 mod tests;
 
 impl<K: Keeper> Receiver<K> {
-    /// Takes in what the courier brings, one item after another. Beside the run stands the text of each delivery's path.
+    /// Takes in what the courier brings, one item after another. Beside the run stands the text of each delivery's
+    /// path.
     pub fn run_from<C: Courier>(
         &mut self,
         alloc: Global,
@@ -34,53 +35,41 @@ impl<K: Keeper> Receiver<K> {
             (C.failures courier.old) (C.failures courier.new) }
         ensures nexts { CallsNext (length result.0.answers.items)
             (C.nexts courier.old) (C.nexts courier.new) }
+        // A read that fails is the answer to its item. The courier's end is that of its `next` alone.
+        ensures steady { C.steady courier.old → result.0.ended ≢ End.Courier }
     {
         let mut answers = Vec::new(alloc);
         let mut paths = Vec::new(alloc);
-        for n in 0..=MOST_DELIVERIES {
-            if let Err(ended) = next_place(alloc, courier, &mut paths, &mut answers) {
+        'items: loop {
+            let n = answers.len();
+            if let Err(ended) = next_item(courier, n) {
                 return (Run { answers, ended }, paths);
             }
+            let Ok(()) = add_place(alloc, &mut paths, &mut answers, courier.path()) else {
+                let ended = End::Memory;
+                return (Run { answers, ended }, paths);
+            };
             answers[n] = self.deliver_from(alloc, name, paths[n].as_str(), courier);
         }
-        // Never reached: the last round finds no room.
-        let ended = End::TooMany;
-        (Run { answers, ended }, paths)
     }
 }
 
-/// Goes on to the next item and makes room for its path and its answer, or says how the run ends.
-fn next_place<C: Courier>(
-    alloc: Global,
-    courier: &mut C,
-    paths: &mut Vec<String>,
-    answers: &mut Vec<Answer>,
-) -> Result<(), End>
+/// Goes on to the next item, where `n` were delivered, or says how the run ends.
+fn next_item<C: Courier>(courier: &mut C, n: usize) -> Result<(), End>
     ensures came { OnOk result (ComesNext (C.coming courier.old) true (C.text courier.new)
         (C.remaining courier.new) (C.coming courier.new)) }
-    ensures room { OnOk result (length answers.old.items ≢ MOST_DELIVERIES) }
-    ensures placed { OnOk result ((map string_bytes paths.new.items
-        ≡ map string_bytes paths.old.items ++ C.text courier.new ∷ [])
-        × (answers.new.items ≡ answers.old.items ++ Repeated ∷ [])) }
-    ensures unchanged { OnErr result ((paths.new.items ≡ paths.old.items)
-        × (answers.new.items ≡ answers.old.items)) }
-    ensures ended { IfErr result (λ ended. IsEndWith ended (length answers.old.items)
-        (C.coming courier.old)) }
+    ensures room { OnOk result (n ≢ MOST_DELIVERIES) }
+    ensures ended { IfErr result (λ ended. IsEndWith ended n (C.coming courier.old)) }
     ensures failures { CountsIf (result ≡ Err End.Courier)
         (C.failures courier.old) (C.failures courier.new) }
     ensures nexts { C.nexts courier.new ≡ min (C.nexts courier.old + 1) greatest_count }
+    ensures steady { C.steady courier.old → (result ≢ Err End.Courier) × C.steady courier.new }
 {
     match courier.next() {
-        Ok(true) => {}
-        Ok(false) => return Err(End::Done),
-        Err(_) => return Err(End::Courier),
-    }
-    if answers.len() == MOST_DELIVERIES {
-        return Err(End::TooMany);
-    }
-    match add_place(alloc, paths, answers, courier.path()) {
-        Ok(()) => Ok(()),
-        Err(_) => Err(End::Memory),
+        Ok(true) if n == MOST_DELIVERIES => Err(End::TooMany),
+        Ok(true) => Ok(()),
+        Ok(false) => Err(End::Done),
+        Err(_) => Err(End::Courier),
     }
 }
 

@@ -1,10 +1,12 @@
-use crate::{Answer, DeliverFault, End, Receiver};
+use crate::{Answer, DeliverFault, End, Receiver, ViewFault};
 use bag_digest::{Alg, Counted};
 use bag_ledger::MapKeeper;
 use bag_path::PathFault;
 use std::alloc::{AllocError, Global};
 use std::io::{self, Read};
 use std::test::Fail;
+
+mod large;
 
 type Items = Vec<(String, Vec<u8>)>;
 
@@ -203,5 +205,25 @@ fn a_run_has_a_million_deliveries_at_most(rt: HostRuntime) -> Result<(), Fail> {
         run.answers[999_999],
         Answer::Refused(DeliverFault::NotListed)
     );
+    Ok(())
+}
+
+#[test]
+fn there_is_no_report_of_a_transfer_that_is_not_there(rt: HostRuntime) -> Result<(), Fail> {
+    let alloc = rt.alloc();
+    let mut receiver = opened(alloc, &["t1"], &[DECLARATION, MANIFEST])?;
+    for name in ["t2", "", "T1", "t1/"] {
+        let told = receiver.report(alloc, name);
+        assert!(rt; matches!(told, Err(ViewFault::NoTransfer)), "{name}");
+    }
+    Ok(())
+}
+
+#[test]
+fn the_names_of_the_transfers_are_told_in_order(rt: HostRuntime) -> Result<(), Fail> {
+    let alloc = rt.alloc();
+    let mut receiver = opened(alloc, &["t2", "t10", "-"], &[DECLARATION, MANIFEST])?;
+    let names = receiver.names(alloc)?.join(alloc, " ")?;
+    assert_eq!(rt; names.as_str(), "- t10 t2");
     Ok(())
 }

@@ -4,6 +4,8 @@ use bag_ledger::MapKeeper;
 use std::alloc::{AllocError, Global};
 use std::test::Fail;
 
+mod listed;
+
 const DECLARATION: &str = "BagIt-Version: 1.0\nTag-File-Character-Encoding: UTF-8\n";
 
 // Two files, with the digests of `abc` and of nothing (FIPS 180-4, example B.1, and RFC 6234 section 8.5).
@@ -109,6 +111,8 @@ impl Courier for Items {
 
     ghost nexts = { λ it. it.nexts };
 
+    ghost steady = { λ _. ⊥ };
+
     fn next(&mut self) -> Result<bool, Failed> {
         self.nexts = self.nexts.saturating_add(1);
         let Some(item) = self.left.pop() else {
@@ -136,7 +140,7 @@ impl Courier for Items {
         self.nexts
     }
 
-    ghost keeps_item = { λ old new kept. (refl, kept.0, kept.1) };
+    ghost keeps_item = { λ old new kept. (refl, kept.0, kept.1, λ none. none) };
 }
 
 /// A receiver with one transfer, of two files.

@@ -1,8 +1,6 @@
 use Rattle.std.proofs.Common.{sym, subst}
-use Rattle.bag_rules.specs.Opening.{FewLines}
-use Rattle.bag_receiver.specs.Beginning.{given_in}
-use Rattle.bag_receiver.specs.BeginningInside.{IsRefusal}
 use Rattle.bag_receiver.proofs.BeginRefusals.{alone, taken, told, told_large}
+use Rattle.bag_receiver.proofs.Words.{FewLines, given_in, IsRefusal}
 use Rattle.bag_receiver.proofs.begin.open.Goals as goal
 
 pub returns-in-Some-clause-refused : goal.returns-in-Some-clause-refused
@@ -10,7 +8,7 @@ returns-in-Some-clause-refused c =
     let given = given_in c.args.files.now in
     let none = c.in_ok-tags.ensures.placed.0 in
     let few = subst FewLines c.in_ok-tags.ensures.placed.1 c.in-Ok.ensures.opened.opens.few_lines in
-    told_large given none c.in-Some.large.now c.too_large.result (alone given none c.in-Some.large.now c.in-Some.ensures few) c.too_large.ensures
+    told_large given none c.in-Some.heavy.now c.too_large.result (alone given none c.in-Some.heavy.now c.in-Some.ensures few) c.too_large.ensures
 
 pub returns-in-Ok-clause-taken : goal.returns-in-Ok-clause-taken
 returns-in-Ok-clause-taken c =
@@ -22,4 +20,4 @@ pub returns-clause-refused : goal.returns-clause-refused
 returns-clause-refused c =
     let given = given_in c.args.files.now in
     let placed = c.in_ok-tags.ensures.placed in
-    subst (IsRefusal given) (sym c.from.ensures) (told given placed.0 c.in-None-large.ensures c.in_ok-tags.tags c.in-Err.fault placed.1 c.in-Err.ensures.refused)
+    subst (IsRefusal given) (sym c.from.ensures) (told given placed.0 c.in-None-heavy.ensures c.in_ok-tags.tags c.in-Err.fault placed.1 c.in-Err.ensures.refused)

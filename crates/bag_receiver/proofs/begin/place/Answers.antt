@@ -1,7 +1,6 @@
 use Rattle.std.proofs.Common.{◌≡◌, ◌∙◌, ap, subst}
-use Rattle.std.specs.Str.{IsUtf8}
-use Rattle.bag_receiver.specs.BeginningInside.{emptied}
 use Rattle.bag_receiver.proofs.BeginPlaces.{not_placed_by, placed_by}
+use Rattle.bag_receiver.proofs.Words.{emptied, IsUtf8}
 use Rattle.bag_receiver.proofs.begin.place.Goals as goal
 
 pub returns-clause-placed : goal.returns-clause-placed

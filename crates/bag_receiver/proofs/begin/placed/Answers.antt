@@ -1,9 +1,8 @@
 use Rattle.std.proofs.Common.{ap, subst, ◌∙◌, arith, string_bytes}
 use Rattle.bag_rules.proofs.Words.{Files}
-use Rattle.bag_receiver.specs.Beginning.{NoneMisplaced}
-use Rattle.bag_receiver.specs.BeginningInside.{IsPlaced, light_tags}
 use Rattle.bag_receiver.proofs.BeginFiles.{given_all}
 use Rattle.bag_receiver.proofs.BeginPlaces.{placed_at, refused_at, tags_at}
+use Rattle.bag_receiver.proofs.Words.{IsPlaced, light_tags, NoneMisplaced}
 use Rattle.bag_receiver.proofs.begin.placed.Goals as goal
 
 pub loop-i-preserved : goal.loop-i-preserved

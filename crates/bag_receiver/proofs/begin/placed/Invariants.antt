@@ -1,6 +1,5 @@
 use Rattle.std.proofs.Common.{◌≡◌, take}
-use Rattle.bag_receiver.specs.Beginning.{NoneMisplaced, given_in}
-use Rattle.bag_receiver.specs.BeginningInside.{light_tags}
+use Rattle.bag_receiver.proofs.Words.{given_in, light_tags, NoneMisplaced}
 use Rattle.bag_receiver.proofs.begin.placed.Given as goal
 
 abbrev pub invariant-loop-i : goal.invariant-loop-i

@@ -1,7 +1,5 @@
 use Rattle.std.proofs.Common.{refl}
-use Rattle.bag_rules.specs.ExampleBags.{file_a, tags_of_two}
-use Rattle.bag_rules.proofs.TwoListed.{expected, path_a, two}
-use Rattle.bag_receiver.proofs.Words.{IsListedPath}
+use Rattle.bag_receiver.proofs.Words.{expected, file_a, IsListedPath, path_a, tags_of_two, two}
 use Rattle.bag_receiver.proofs.examples.what_is_longer_than_the_limit_is_too_large.Goals as goal
 
 listed : IsListedPath tags_of_two file_a

@@ -1,11 +1,8 @@
 use Rattle.std.proofs.Common.{◌≡◌, codes, None, refl, sym, ◌∙◌, Some}
-use Rattle.bag_path.specs.Paths.{path_fault}
 use Rattle.bag_path.specs.declared.path.PathFault.TheVariants.{DotSegment}
-use Rattle.bag_rules.specs.ExampleBags.{file_a, tags_of_two}
-use Rattle.bag_rules.proofs.TwoListed.{expected, not_expected, path_a, two}
-use Rattle.bag_ledger.specs.Ledgers.{begun}
 use Rattle.bag_receiver.proofs.TwoDelivered.{path_z}
-use Rattle.bag_receiver.proofs.Words.{Answer, BadPath, Digest, IsDue, Keeper, Length, no_fault_if_path, NoTransfer, NotListed, Reader, Refused, Repeated, Taken, TooLarge, Unread}
+use Rattle.bag_path.specs.Paths.{path_fault}
+use Rattle.bag_receiver.proofs.Words.{Answer, BadPath, begun, Digest, expected, file_a, IsDue, Keeper, Length, no_fault_if_path, not_expected, NotListed, NoTransfer, path_a, Reader, Refused, Repeated, tags_of_two, Taken, TooLarge, two, Unread}
 use Rattle.bag_receiver.proofs.examples.what_was_not_read_to_its_end_is_never_taken.Goals as goal
 
 bad : path_fault (codes "data/../k") ≡ Some DotSegment

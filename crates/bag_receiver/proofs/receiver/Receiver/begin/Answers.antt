@@ -1,6 +1,6 @@
 use Rattle.std.proofs.Common.{rules}
-use Rattle.bag_receiver.specs.Beginning.{BeginStep, Begins, given_in}
 use Rattle.bag_receiver.proofs.BeginSteps.{begins, does_so}
+use Rattle.bag_receiver.proofs.Words.{Begins, BeginStep, given_in}
 use Rattle.bag_receiver.proofs.receiver.Receiver.begin.Goals as goal
 
 pub returns-clause-begun : goal.returns-clause-begun

@@ -1,13 +1,10 @@
-use Rattle.std.proofs.Common.{◌≡◌, ◌∙◌, Some, sym, rules}
-use Rattle.std.specs.Map.{lookup}
-use Rattle.std.specs.Str.{bytes_eq}
-use Rattle.bag_ledger.proofs.LedgerLemmas.{entry_here}
-use Rattle.bag_receiver.specs.Receivers.{plans_in}
+use Rattle.std.proofs.Common.{◌∙◌, sym, rules}
 use Rattle.bag_receiver.proofs.ReceiverLemmas.{does_plan, plan_found}
+use Rattle.bag_receiver.proofs.Words.{bytes_eq, entry_here, lookup, plans_in}
 use Rattle.bag_receiver.proofs.receiver.Receiver.has_plan.Goals as goal
 
 pub returns-then-contains_key-clause-found : goal.returns-then-contains_key-clause-found
-returns-then-contains_key-clause-found g c = λ clean now stands. (
+returns-then-contains_key-clause-found g c = λ clean now in_state. (
   c.is_name.ensures.0 (search rules),
   plan_found g.K.Keeper.holds g.K.Keeper.may_leave g.K.Keeper.clean c.args.name.now c.args.self.now.plans (sym c.contains_key.ensures ∙ search rules),
 )
@@ -19,5 +16,5 @@ returns-in-Ok-clause-looks g c =
     (λ clean ledger holds. sym (c.in_ok-tags.ensures.tags clean ledger holds) ∙ search rules)
 
 pub returns-in-Ok-clause-found : goal.returns-in-Ok-clause-found
-returns-in-Ok-clause-found g c = λ clean now stands.
+returns-in-Ok-clause-found g c = λ clean now in_state.
     (c.is_name.ensures.0 (search rules), (c.in-Ok.plan, (λ t. lookup (bytes_eq c.args.name.now) (c.in_ok-keep_plan-in-Ok.ensures.kept t)) ∙ entry_here c.args.name.now c.in-Ok.plan (plans_in c.args.self.now.plans)))

@@ -1,15 +1,6 @@
-use Rattle.std.proofs.Common.{◌≡◌, ◌≤◌, ◌<◌, ◌+◌, ◌++◌, ◌∷◌, ◌∙◌, [], ℕ, List, Some, length, slice_get, slice_set, refl, sym, ap, subst, rules, arith}
-use Rattle.std.specs.Option.{option_map}
-use Rattle.std.proofs.lemmas.List.{length-append}
-use Rattle.std.proofs.lemmas.Option.{slice_get-map, slice_get_read}
-use Rattle.std.proofs.Math.Seq.{set-append_seam}
-use Rattle.bag_receiver.specs.Beginning.{given_in}
-use Rattle.bag_receiver.specs.Deliveries.{delivery_of}
-use Rattle.bag_receiver.specs.Receivers.{Does}
-use Rattle.bag_receiver.specs.Receiving.{IsAnswer, Receives}
-use Rattle.bag_receiver.specs.Runs.{Runs, with_answers}
+use Rattle.std.proofs.Common.{◌≡◌, ◌+◌, ◌++◌, ◌∷◌, ◌∙◌, [], ℕ, List, Some, length, slice_get, slice_set, refl, sym, ap, subst, rules, arith}
 use Rattle.bag_receiver.proofs.RunLemmas.{answers_more, no_answers, ran_more, ran_nothing, text_of}
-use Rattle.bag_receiver.proofs.Words.{Delivery, Repeated, Whole}
+use Rattle.bag_receiver.proofs.Words.{Delivery, delivery_of, Does, given_in, IsAnswer, length-append, option_map, Receives, Repeated, Runs, set-append_seam, slice_get-map, slice_get_read, Whole, with_answers}
 use Rattle.bag_receiver.proofs.receiver.Receiver.run.Goals as goal
 
 pub loop-path-init : goal.loop-path-init

@@ -1,7 +1,5 @@
 use Rattle.std.proofs.Common.{◌≡◌, ◌≤◌, length}
-use Rattle.bag_receiver.specs.Beginning.{given_in}
-use Rattle.bag_receiver.specs.Runs.{Runs, with_answers}
-use Rattle.bag_receiver.specs.declared.run.TheConstants.{MOST_DELIVERIES}
+use Rattle.bag_receiver.proofs.Words.{given_in, MOST_DELIVERIES, Runs, with_answers}
 use Rattle.bag_receiver.proofs.receiver.Receiver.run.Given as goal
 
 abbrev pub invariant-loop-path : goal.invariant-loop-path

@@ -1,11 +1,8 @@
 use Rattle.std.proofs.Common.{◌≡◌, true, false, subst, inl, inr, rules}
-use Rattle.std.proofs.lemmas.Result.{err_from_is_err_and}
-use Rattle.bag_rules.specs.Wants.{IsWanted}
-use Rattle.bag_receiver.specs.Deliveries.{Whole}
-use Rattle.bag_receiver.specs.ReceiversInside.{IsPlaceIn}
 use Rattle.bag_receiver.proofs.CountLemmas.{counts_after, counts_on, counts_put, no_fault}
 use Rattle.bag_receiver.proofs.PlaceLemmas.{known_refused, repeated}
 use Rattle.bag_receiver.proofs.ReceiverLemmas.{does_then, found_step, found_then, known_refused_by, known_taken, refused_step}
+use Rattle.bag_receiver.proofs.Words.{err_from_is_err_and, IsPlaceIn, IsWanted, Whole}
 use Rattle.bag_receiver.proofs.receiver.Receiver.take.Goals as goal
 
 pub returns-in_err-place-clause-taken : goal.returns-in_err-place-clause-taken
@@ -13,7 +10,7 @@ returns-in_err-place-clause-taken g c =
     let error = err_from_is_err_and c.from_residual-in_err-place.result c.from_residual-in_err-place.ensures.1 in
     rw (error.1, error.2) (refused_step g.K.Keeper.holds g.K.Keeper.may_leave g.K.Keeper.clean _ _ c.args.name.now c.args.path.now (Whole c.args.content.now) _
     (found_then g.K.Keeper.holds g.K.Keeper.may_leave g.K.Keeper.clean c.args.self.now c.find_plan.new.self _ _ _ (c.find_plan.ensures.looks, c.in_ok-find_plan.ensures.finds c.args.path.now) c.place_of.ensures.looks
-    (λ clean now stands planned. c.in_err-place.ensures.finds (λ ledger. planned) clean now stands)))
+    (λ clean now in_state planned. c.in_err-place.ensures.finds (λ ledger. planned) clean now in_state)))
 
 pub returns-in_err-place-clause-store : goal.returns-in_err-place-clause-store
 returns-in_err-place-clause-store g c =
@@ -24,21 +21,21 @@ pub returns-in_err-test_content-clause-taken : goal.returns-in_err-test_content-
 returns-in_err-test_content-clause-taken g c =
     let placed = found_then g.K.Keeper.holds g.K.Keeper.may_leave g.K.Keeper.clean c.args.self.now c.find_plan.new.self _ _ (λ now. IsPlaceIn now.held c.args.name.now c.args.path.now c.in_ok-place.place)
     (c.find_plan.ensures.looks, c.in_ok-find_plan.ensures.finds c.args.path.now) c.place_of.ensures.looks
-    (λ clean now stands planned. c.in_ok-place.ensures.finds (λ ledger. planned) clean now stands) in
+    (λ clean now in_state planned. c.in_ok-place.ensures.finds (λ ledger. planned) clean now in_state) in
     let error = err_from_is_err_and c.from_residual-in_err-test_content.result c.from_residual-in_err-test_content.ensures.1 in
     rw (error.1, error.2) (found_step g.K.Keeper.holds g.K.Keeper.may_leave g.K.Keeper.clean c.args.self.now _ _
-    (placed.0, λ clean now stands. known_refused now c.args.name.now c.args.path.now c.in_ok-place.place (placed.1 clean now stands) c.args.content.now _ c.in_err-test_content.ensures.test))
+    (placed.0, λ clean now in_state. known_refused now c.args.name.now c.args.path.now c.in_ok-place.place (placed.1 clean now in_state) c.args.content.now _ c.in_err-test_content.ensures.test))
 
 pub returns-then-place-clause-taken : goal.returns-then-place-clause-taken
 returns-then-place-clause-taken g c =
     let placed = found_then g.K.Keeper.holds g.K.Keeper.may_leave g.K.Keeper.clean c.args.self.now c.find_plan.new.self _ _ (λ now. IsPlaceIn now.held c.args.name.now c.args.path.now c.in_ok-place.place)
     (c.find_plan.ensures.looks, c.in_ok-find_plan.ensures.finds c.args.path.now) c.place_of.ensures.looks
-    (λ clean now stands planned. c.in_ok-place.ensures.finds (λ ledger. planned) clean now stands) in
+    (λ clean now in_state planned. c.in_ok-place.ensures.finds (λ ledger. planned) clean now in_state) in
     let test = c.in_ok-test_content.ensures.test in
     let held : c.in_ok-place.place.is_held ≡ true = search rules in
     found_step g.K.Keeper.holds g.K.Keeper.may_leave g.K.Keeper.clean c.args.self.now _ _ (
       placed.0,
-      λ clean now stands. repeated now c.args.name.now c.args.path.now c.in_ok-place.place (placed.1 clean now stands) c.args.content.now test.1.0.1
+      λ clean now in_state. repeated now c.args.name.now c.args.path.now c.in_ok-place.place (placed.1 clean now in_state) c.args.content.now test.1.0.1
           (subst (IsWanted c.in_ok-place.place.want) test.1.0.0 test.1.1) held,
     )
 
@@ -46,7 +43,7 @@ pub returns-in_err-put-clause-taken : goal.returns-in_err-put-clause-taken
 returns-in_err-put-clause-taken g c =
     let placed = found_then g.K.Keeper.holds g.K.Keeper.may_leave g.K.Keeper.clean c.args.self.now c.find_plan.new.self _ _ (λ now. IsPlaceIn now.held c.args.name.now c.args.path.now c.in_ok-place.place)
     (c.find_plan.ensures.looks, c.in_ok-find_plan.ensures.finds c.args.path.now) c.place_of.ensures.looks
-    (λ clean now stands planned. c.in_ok-place.ensures.finds (λ ledger. planned) clean now stands) in
+    (λ clean now in_state planned. c.in_ok-place.ensures.finds (λ ledger. planned) clean now in_state) in
     let free : c.in_ok-place.place.is_held ≡ false = search rules in
     let error = err_from_is_err_and c.from_residual-in_err-put.result c.from_residual-in_err-put.ensures.1 in
     rw (error.1, error.2) (does_then g.K.Keeper.holds g.K.Keeper.may_leave g.K.Keeper.clean c.args.self.now _ _ _ _ placed
@@ -64,7 +61,7 @@ pub returns-clause-taken : goal.returns-clause-taken
 returns-clause-taken g c =
     let placed = found_then g.K.Keeper.holds g.K.Keeper.may_leave g.K.Keeper.clean c.args.self.now c.find_plan.new.self _ _ (λ now. IsPlaceIn now.held c.args.name.now c.args.path.now c.in_ok-place.place)
     (c.find_plan.ensures.looks, c.in_ok-find_plan.ensures.finds c.args.path.now) c.place_of.ensures.looks
-    (λ clean now stands planned. c.in_ok-place.ensures.finds (λ ledger. planned) clean now stands) in
+    (λ clean now in_state planned. c.in_ok-place.ensures.finds (λ ledger. planned) clean now in_state) in
     let free : c.in_ok-place.place.is_held ≡ false = search rules in
     let put = c.in_ok-put.ensures.put in
     does_then g.K.Keeper.holds g.K.Keeper.may_leave g.K.Keeper.clean c.args.self.now _ _ _ _ placed put.1.writes.was_clean

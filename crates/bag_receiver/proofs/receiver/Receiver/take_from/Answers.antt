@@ -1,11 +1,8 @@
 use Rattle.std.proofs.Common.{◌≡◌, true, false, ap, inl, inr, rules}
-use Rattle.std.proofs.lemmas.Result.{err_from_is_err_and}
-use Rattle.bag_receiver.specs.Deliveries.{Unread, Whole}
-use Rattle.bag_receiver.specs.declared.answer.Answer.TheVariants.{Refused}
-use Rattle.bag_receiver.specs.ReceiversInside.{IsPlaceIn}
 use Rattle.bag_receiver.proofs.CountLemmas.{counts_after, counts_on, counts_put, no_fault, not_used, uses_put}
 use Rattle.bag_receiver.proofs.PlaceLemmas.{content_read, no_plan_judged, not_reader, nothing_brought, read_brought, read_judged, read_refused, repeated}
 use Rattle.bag_receiver.proofs.ReceiverLemmas.{content_put, does_then, found_step, found_then, put_brought, put_judged, read_refused_by, read_taken, refused_step}
+use Rattle.bag_receiver.proofs.Words.{err_from_is_err_and, IsPlaceIn, Refused, Unread, Whole}
 use Rattle.bag_receiver.proofs.receiver.Receiver.take_from.Goals as goal
 
 pub returns-in_err-find_plan-clause-taken : goal.returns-in_err-find_plan-clause-taken
@@ -33,7 +30,7 @@ returns-in_err-place-clause-taken g c =
       record { unnamed = λ other. absurd (other c.in_ok-find_plan.ensures.named); judges = c.in_err-place.ensures.judged Unread },
       refused_step g.K.Keeper.holds g.K.Keeper.may_leave g.K.Keeper.clean _ _ c.args.name.now c.args.path.now Unread _
           (found_then g.K.Keeper.holds g.K.Keeper.may_leave g.K.Keeper.clean c.args.self.now c.find_plan.new.self _ _ _ (c.find_plan.ensures.looks, c.in_ok-find_plan.ensures.finds c.args.path.now) c.place_of.ensures.looks
-          (λ clean now stands planned. c.in_err-place.ensures.finds (λ ledger. planned) clean now stands)),
+          (λ clean now in_state planned. c.in_err-place.ensures.finds (λ ledger. planned) clean now in_state)),
     )
 
 pub returns-in_err-place-clause-reader : goal.returns-in_err-place-clause-reader
@@ -50,22 +47,22 @@ pub returns-in_err-test_reader-clause-taken : goal.returns-in_err-test_reader-cl
 returns-in_err-test_reader-clause-taken g c =
     let placed = found_then g.K.Keeper.holds g.K.Keeper.may_leave g.K.Keeper.clean c.args.self.now c.find_plan.new.self _ _ (λ now. IsPlaceIn now.held c.args.name.now c.args.path.now c.in_ok-place.place)
     (c.find_plan.ensures.looks, c.in_ok-find_plan.ensures.finds c.args.path.now) c.place_of.ensures.looks
-    (λ clean now stands planned. c.in_ok-place.ensures.finds (λ ledger. planned) clean now stands) in
+    (λ clean now in_state planned. c.in_ok-place.ensures.finds (λ ledger. planned) clean now in_state) in
     let error = err_from_is_err_and c.from_residual-in_err-test_reader.result c.from_residual-in_err-test_reader.ensures.1 in
     let test = c.in_err-test_reader.ensures.test in
     rw (error.1, error.2) (
       content_read c.in_ok-place.place.want (g.S.Source.remaining c.args.reader.now) (g.S.Source.remaining c.test_reader.new.reader) _ test,
       read_brought c.in_ok-place.place.want _ _ _ test,
       record { unnamed = λ other. absurd (other c.in_ok-find_plan.ensures.named); judges = read_judged c.in_ok-place.place.want _ _ c.args.path.now _ test c.in_ok-place.ensures.judged },
-      found_step g.K.Keeper.holds g.K.Keeper.may_leave g.K.Keeper.clean c.args.self.now _ _ (placed.0, λ clean now stands. read_refused now c.args.name.now c.args.path.now c.in_ok-place.place (placed.1 clean now stands) _ _ _ test),
+      found_step g.K.Keeper.holds g.K.Keeper.may_leave g.K.Keeper.clean c.args.self.now _ _ (placed.0, λ clean now in_state. read_refused now c.args.name.now c.args.path.now c.in_ok-place.place (placed.1 clean now in_state) _ _ _ test),
     )
 
 pub returns-in_err-test_reader-clause-unread : goal.returns-in_err-test_reader-clause-unread
 returns-in_err-test_reader-clause-unread g c =
     let placed = found_then g.K.Keeper.holds g.K.Keeper.may_leave g.K.Keeper.clean c.args.self.now c.find_plan.new.self _ _ (λ now. IsPlaceIn now.held c.args.name.now c.args.path.now c.in_ok-place.place)
     (c.find_plan.ensures.looks, c.in_ok-find_plan.ensures.finds c.args.path.now) c.place_of.ensures.looks
-    (λ clean now stands planned. c.in_ok-place.ensures.finds (λ ledger. planned) clean now stands) in
-    λ clean now stands. (let at = placed.1 clean now stands in inr (at.transfer, at.named, at.listed))
+    (λ clean now in_state planned. c.in_ok-place.ensures.finds (λ ledger. planned) clean now in_state) in
+    λ clean now in_state. (let at = placed.1 clean now in_state in inr (at.transfer, at.named, at.listed))
 
 pub returns-in_err-test_reader-clause-reader : goal.returns-in_err-test_reader-clause-reader
 returns-in_err-test_reader-clause-reader g c =
@@ -76,28 +73,28 @@ pub returns-then-place-clause-taken : goal.returns-then-place-clause-taken
 returns-then-place-clause-taken g c =
     let placed = found_then g.K.Keeper.holds g.K.Keeper.may_leave g.K.Keeper.clean c.args.self.now c.find_plan.new.self _ _ (λ now. IsPlaceIn now.held c.args.name.now c.args.path.now c.in_ok-place.place)
     (c.find_plan.ensures.looks, c.in_ok-find_plan.ensures.finds c.args.path.now) c.place_of.ensures.looks
-    (λ clean now stands planned. c.in_ok-place.ensures.finds (λ ledger. planned) clean now stands) in
+    (λ clean now in_state planned. c.in_ok-place.ensures.finds (λ ledger. planned) clean now in_state) in
     let test = c.in_ok-test_reader.ensures.test in
     let held : c.in_ok-place.place.is_held ≡ true = search rules in (
       Whole test.0,
       test.1.0,
       record { unnamed = λ other. absurd (other c.in_ok-find_plan.ensures.named); judges = (c.in_ok-place.ensures.judged, test.1.0.within) },
       found_step g.K.Keeper.holds g.K.Keeper.may_leave g.K.Keeper.clean c.args.self.now _ _
-          (placed.0, λ clean now stands. repeated now c.args.name.now c.args.path.now c.in_ok-place.place (placed.1 clean now stands) test.0 test.1.0.within test.1.1 held),
+          (placed.0, λ clean now in_state. repeated now c.args.name.now c.args.path.now c.in_ok-place.place (placed.1 clean now in_state) test.0 test.1.0.within test.1.1 held),
     )
 
 pub returns-then-place-clause-unread : goal.returns-then-place-clause-unread
 returns-then-place-clause-unread g c =
     let placed = found_then g.K.Keeper.holds g.K.Keeper.may_leave g.K.Keeper.clean c.args.self.now c.find_plan.new.self _ _ (λ now. IsPlaceIn now.held c.args.name.now c.args.path.now c.in_ok-place.place)
     (c.find_plan.ensures.looks, c.in_ok-find_plan.ensures.finds c.args.path.now) c.place_of.ensures.looks
-    (λ clean now stands planned. c.in_ok-place.ensures.finds (λ ledger. planned) clean now stands) in
-    λ clean now stands. (let at = placed.1 clean now stands in inr (at.transfer, at.named, at.listed))
+    (λ clean now in_state planned. c.in_ok-place.ensures.finds (λ ledger. planned) clean now in_state) in
+    λ clean now in_state. (let at = placed.1 clean now in_state in inr (at.transfer, at.named, at.listed))
 
 pub returns-in_err-put_from-clause-taken : goal.returns-in_err-put_from-clause-taken
 returns-in_err-put_from-clause-taken g c =
     let placed = found_then g.K.Keeper.holds g.K.Keeper.may_leave g.K.Keeper.clean c.args.self.now c.find_plan.new.self _ _ (λ now. IsPlaceIn now.held c.args.name.now c.args.path.now c.in_ok-place.place)
     (c.find_plan.ensures.looks, c.in_ok-find_plan.ensures.finds c.args.path.now) c.place_of.ensures.looks
-    (λ clean now stands planned. c.in_ok-place.ensures.finds (λ ledger. planned) clean now stands) in
+    (λ clean now in_state planned. c.in_ok-place.ensures.finds (λ ledger. planned) clean now in_state) in
     let free : c.in_ok-place.place.is_held ≡ false = search rules in
     let error = err_from_is_err_and c.from_residual-in_err-put_from.result c.from_residual-in_err-put_from.ensures.1 in
     let put = c.in_err-put_from.ensures.put in
@@ -116,10 +113,10 @@ pub returns-in_err-put_from-clause-unread : goal.returns-in_err-put_from-clause-
 returns-in_err-put_from-clause-unread g c =
     let placed = found_then g.K.Keeper.holds g.K.Keeper.may_leave g.K.Keeper.clean c.args.self.now c.find_plan.new.self _ _ (λ now. IsPlaceIn now.held c.args.name.now c.args.path.now c.in_ok-place.place)
     (c.find_plan.ensures.looks, c.in_ok-find_plan.ensures.finds c.args.path.now) c.place_of.ensures.looks
-    (λ clean now stands planned. c.in_ok-place.ensures.finds (λ ledger. planned) clean now stands) in
-    λ clean now stands. elim c.in_err-put_from.ensures.put.1 [
-      | inl reads ↦ (let at = placed.1 (reads.was_clean clean) now stands in inr (at.transfer, at.named, at.listed))
-      | inr h ↦ (let at = placed.1 (h.1.leaves.was_clean clean) now stands in inr (at.transfer, at.named, at.listed))
+    (λ clean now in_state planned. c.in_ok-place.ensures.finds (λ ledger. planned) clean now in_state) in
+    λ clean now in_state. elim c.in_err-put_from.ensures.put.1 [
+      | inl reads ↦ (let at = placed.1 (reads.was_clean clean) now in_state in inr (at.transfer, at.named, at.listed))
+      | inr h ↦ (let at = placed.1 (h.1.leaves.was_clean clean) now in_state in inr (at.transfer, at.named, at.listed))
     ]
 
 pub returns-in_err-put_from-clause-reader : goal.returns-in_err-put_from-clause-reader
@@ -137,7 +134,7 @@ pub returns-clause-taken : goal.returns-clause-taken
 returns-clause-taken g c =
     let placed = found_then g.K.Keeper.holds g.K.Keeper.may_leave g.K.Keeper.clean c.args.self.now c.find_plan.new.self _ _ (λ now. IsPlaceIn now.held c.args.name.now c.args.path.now c.in_ok-place.place)
     (c.find_plan.ensures.looks, c.in_ok-find_plan.ensures.finds c.args.path.now) c.place_of.ensures.looks
-    (λ clean now stands planned. c.in_ok-place.ensures.finds (λ ledger. planned) clean now stands) in
+    (λ clean now in_state planned. c.in_ok-place.ensures.finds (λ ledger. planned) clean now in_state) in
     let free : c.in_ok-place.place.is_held ≡ false = search rules in
     let put = c.in_ok-put_from.ensures.put in (
       Whole put.0,
@@ -151,5 +148,5 @@ pub returns-clause-unread : goal.returns-clause-unread
 returns-clause-unread g c =
     let placed = found_then g.K.Keeper.holds g.K.Keeper.may_leave g.K.Keeper.clean c.args.self.now c.find_plan.new.self _ _ (λ now. IsPlaceIn now.held c.args.name.now c.args.path.now c.in_ok-place.place)
     (c.find_plan.ensures.looks, c.in_ok-find_plan.ensures.finds c.args.path.now) c.place_of.ensures.looks
-    (λ clean now stands planned. c.in_ok-place.ensures.finds (λ ledger. planned) clean now stands) in
-    λ clean now stands. (let at = placed.1 (c.in_ok-put_from.ensures.put.1.writes.was_clean clean) now stands in inr (at.transfer, at.named, at.listed))
+    (λ clean now in_state planned. c.in_ok-place.ensures.finds (λ ledger. planned) clean now in_state) in
+    λ clean now in_state. (let at = placed.1 (c.in_ok-put_from.ensures.put.1.writes.was_clean clean) now in_state in inr (at.transfer, at.named, at.listed))

@@ -1,9 +1,8 @@
 use Rattle.std.proofs.Common.{◌≡◌, ◌∙◌, ℕ, List, sym, subst, arith, take, false, true}
-use Rattle.bag_rules.specs.Opening.{IsFirstPath}
-use Rattle.bag_receiver.specs.Beginning.{IsHeavyAt, given_in}
 use Rattle.bag_receiver.proofs.BeginFiles.{IsHeavy, first_here, first_of_two, given_all, given_more, heavy_stays, shown_file}
-use Rattle.bag_receiver.proofs.begin.first_large.Goals as goal
-use Rattle.bag_receiver.proofs.begin.first_large.Goals.{then-is_heavy+in-Some, then-is_heavy+in-None, else-is_heavy}
+use Rattle.bag_receiver.proofs.Words.{given_in, IsFirstPath, IsHeavyAt}
+use Rattle.bag_receiver.proofs.begin.first_heavy.Goals as goal
+use Rattle.bag_receiver.proofs.begin.first_heavy.Goals.{then-is_heavy+in-Some, then-is_heavy+in-None, else-is_heavy}
 
 pub loop-file-preserved : goal.loop-file-preserved
 loop-file-preserved c =
