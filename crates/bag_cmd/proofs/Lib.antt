@@ -1,3 +1,5 @@
+pub mod AlgNames
 pub mod Listings
+pub mod PayloadFolders
 pub mod VerdictLemmas
 pub mod WalkLemmas

@@ -15,6 +15,7 @@ use Rattle.bag_cmd.specs.declared.status.TheConstants.{FAILED, USAGE}
 use Rattle.bag_cmd.specs.declared.output.Output.{Output}
 use Rattle.bag_cmd.specs.declared.stop.Stop.TheVariants.{Files, Memory}
 use Rattle.bag_cmd.specs.CheckTexts.{check_lines, check_status}
+use Rattle.bag_cmd.specs.declared.folder.place.Place.TheVariants.{Base}
 use Rattle.bag_cmd.specs.Directories.{Listing}
 use Rattle.bag_cmd.specs.Folders.{FolderShown, IsOpened, IsRefused}
 use Rattle.bag_cmd.specs.Printing.{Printed}
@@ -51,7 +52,7 @@ IsFolderAnswer = IsAnswer (λ tree. tree.shown) (λ tree. tree.failures) (λ tre
 -- this name; `bag: files` where something can't be in a bag; or that memory ran out.
 pub data PrintsCheck {W : Type 0} (contents : W → Option (List ℕ)) (known : Option Listing)
     (folder : List ℕ) (old new : Output W) (result : ℕ) : Type 0 where
-  Answered : (tree later : FolderShown) → IsOpened known folder tree
+  Answered : (tree later : FolderShown) → IsOpened known folder Base tree
       → PrintedOf contents old new result (IsFolderAnswer tree later)
       → PrintsCheck contents known folder old new result
   Refused : IsRefused known folder → Printed contents old new result (stop_text Files ∷ []) FAILED

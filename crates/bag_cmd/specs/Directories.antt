@@ -1,9 +1,11 @@
 -- Directories with known entries, and what stands below a folder.
 use Rattle.std.specs.Prelude.{◌≡◌, ◌↔◌, ◌++◌, ◌⊎◌, ℕ, Bool, true, List, [], Contains, MatchResult, Option, Some, None, Result, Ok, Err, codes, map, ◌∷◌, if◌then◌else◌}
 use Rattle.std.specs.Fs.{dir_entry_name}
+use Rattle.std.specs.Option.{option_map}
 use Rattle.std.specs.Str.{bytes_eq}
 use Rattle.std.specs.declared.fs.dir.DirEntry.{DirEntry}
 use Rattle.bag_path.specs.Paths.{IsPath, is_payload}
+use Rattle.bag_tags.specs.Words.{without}
 use Rattle.bag_cmd.specs.declared.folder.OpenFault.{OpenFault}
 use Rattle.bag_cmd.specs.declared.folder.OpenFault.TheVariants.{Files}
 use Rattle.bag_cmd.specs.declared.folder.directory.EntryKind.{EntryKind}
@@ -49,6 +51,22 @@ abbrev pub listing_of : List ToldShown → Listing
 listing_of [] name = None
 listing_of (told ∷ more) name =
     if bytes_eq told.name name then Some told.entries else listing_of more name
+
+-- the payload directory in its base directory
+abbrev pub data_entry : EntryShown
+data_entry = record { name = codes "data"; kind = Directory }
+
+-- The directories as they stand where the folder is the payload directory of the one that it is named as: that holds `data` alone,
+-- and what is below `data` is what is below the folder.
+abbrev pub payload_listing : List ℕ → Listing → Listing
+payload_listing folder listing name =
+    if bytes_eq name (name_below folder []) then
+    Some (data_entry ∷ [])
+    else
+    listing (name_below folder (without (name_below folder (codes "data/")) name))
+
+abbrev pub in_payload : Option Listing → List ℕ → Option Listing
+in_payload known folder = option_map (payload_listing folder) known
 
 -- THE TREE BELOW A FOLDER
 

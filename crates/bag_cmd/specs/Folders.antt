@@ -1,10 +1,13 @@
 -- An open folder, as what it shows. What its files hold isn't known.
-use Rattle.std.specs.Prelude.{◌≡◌, ◌+◌, ℕ, Bool, true, All, List, Option, Some, None, Result, IsErr, IsSomeAnd, MatchResult, OnOk, map, min, refl, slice_get}
+use Rattle.std.specs.Prelude.{◌≡◌, ◌+◌, ℕ, Bool, true, All, List, Option, Some, None, Result, IsErr, IsSomeAnd, MatchResult, OnOk, codes, map, min, refl, slice_get}
 use Rattle.std.specs.Io.KnownBytes.{ReadConsumes}
 use Rattle.std.proofs.Common.{◌∙◌}
 use Rattle.bag_path.specs.Paths.{is_payload}
 use Rattle.bag_digest.specs.Device.{greatest_count}
 use Rattle.bag_rules.specs.Trees.{AreRising, KeepsTree, Shown, paths_in}
+use Rattle.bag_tags.specs.Words.{without}
+use Rattle.bag_cmd.specs.declared.folder.place.Place.{Place}
+use Rattle.bag_cmd.specs.declared.folder.place.Place.TheVariants.{Base, Payload}
 use Rattle.bag_cmd.specs.Directories.{IsBelow, IsUnfit, Listing, name_below}
 
 -- what is shown of files with these paths, whose octets nobody knows
@@ -14,11 +17,17 @@ shown_by paths has_payload_dir = record {
   has_payload_dir = has_payload_dir;
 }
 
--- its files and whether the payload directory is there, the folder's name and the name of the file that was sought last, what the
+-- the path from the folder of the file with this path in the bag
+abbrev pub path_below : Place → List ℕ → List ℕ
+path_below Base path = path
+path_below Payload path = without (codes "data/") path
+
+-- its files and whether the payload directory is there, the folder's name, where its files stand in a bag, and the name of the file that was sought last, what the
 -- open file will still give (where one is open, and where that is known), and how often the folder has failed
 pub record FolderShown : Type 0 where
   pub shown : Shown
   pub folder : List ℕ
+  pub place : Place
   pub name : List ℕ
   pub to_read : Option (Option (List ℕ))
   pub failures : ℕ
@@ -30,9 +39,10 @@ pub record IsListing (paths : List (List ℕ)) (has_dir : Bool) : Type 0 where
 
 -- a folder that was opened under this name: it shows what stands below, where the entries of directories are known; no file is open,
 -- and nothing has failed
-pub record IsOpened (known : Option Listing) (folder : List ℕ) (tree : FolderShown)
-    : Type 0 where
+pub record IsOpened (known : Option Listing) (folder : List ℕ) (place : Place)
+    (tree : FolderShown) : Type 0 where
   pub named : tree.folder ≡ folder
+  pub placed : tree.place ≡ place
   pub closed : tree.to_read ≡ None
   pub not_failed : tree.failures ≡ 0
   pub shows : (listing : Listing) → known ≡ Some listing
@@ -65,7 +75,7 @@ pub record ReadsFolder {E : Type 0} (old new : FolderShown) (result : Result ℕ
 pub record StartsFile {E : Type 0} (old new : FolderShown) (i : ℕ) (result : Result (Unit {0}) E)
     : Type 0 where
   pub named : OnOk result (IsSomeAnd (slice_get (paths_in old.shown) i)
-      (λ path. new.name ≡ name_below old.folder path))
+      (λ path. new.name ≡ name_below old.folder (path_below old.place path)))
   pub changes : MatchResult result
       (λ _. new ≡ record old { name = new.name; to_read = new.to_read })
       (λ _. new ≡ record old {

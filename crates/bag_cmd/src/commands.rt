@@ -1,3 +1,4 @@
 //! The commands, a module each.
 
 pub mod check;
+pub mod make;

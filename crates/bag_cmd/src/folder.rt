@@ -2,6 +2,8 @@
 
 use bag_path::PathFault;
 pub use directory::{Directories, Disk};
+pub use place::Place;
+pub use sink::FolderSink;
 use std::alloc::{AllocError, AllocFailed};
 use std::io::{self, ErrorKind};
 use thiserror::Error;
@@ -9,6 +11,9 @@ pub use tree::FolderTree;
 
 pub mod directory;
 mod name;
+mod payload;
+mod place;
+mod sink;
 #[cfg(test)]
 mod tests;
 pub mod told;

@@ -54,12 +54,21 @@ impl<W: Write + Drop> Output<W> {
         self.failures.counted(written)
     }
 
+    /// Prints a text and a line feed alone, and hands them on. Answers the status that goes with it, or [`FAILED`] where the writer
+    /// failed.
+    pub fn print<D: Display + Drop>(&mut self, text: D, status: u8) -> u8
+        ensures { IfSome (D.output text) (λ line.
+            Printed W.contents self.old self.new result (line ∷ []) status) }
+    {
+        let printed = self.line(text).is_ok() && self.flush().is_ok();
+        if printed { status } else { FAILED }
+    }
+
     /// Prints one line alone, and hands it on. Answers the status that goes with it, or [`FAILED`] where the writer failed.
     pub fn print_line(&mut self, line: &str, status: u8) -> u8
         ensures { Printed W.contents self.old self.new result (line.now ∷ []) status }
     {
-        let printed = self.line(line).is_ok() && self.flush().is_ok();
-        if printed { status } else { FAILED }
+        self.print(line, status)
     }
 
     /// Hands on all that the writer holds back.

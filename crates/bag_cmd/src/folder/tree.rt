@@ -3,11 +3,14 @@ ghost use Rattle.std.specs.Prelude.{◌≡◌, ◌↔◌, ◌||◌, ℕ, List, C
 ghost use Rattle.std.specs.List.{list_any};
 ghost use Rattle.bag_path.specs.Paths.{is_payload};
 ghost use Rattle.bag_rules.specs.Trees.{AreRising, octets_in, paths_in};
+ghost use Rattle.bag_cmd.specs.Directories.{in_payload};
 ghost use Rattle.bag_cmd.specs.Folders.{IsOpened, IsRefused};
 
 use super::OpenFault;
 use super::directory::Directories;
 use super::name::opened;
+use super::payload::InPayload;
+use super::place::Place;
 use super::walk::{Below, walk};
 use bag_digest::{Failed, Failures, Source};
 use bag_path::{BagPath, LONGEST_PATH};
@@ -22,6 +25,7 @@ use std::rt::Files;
 pub struct FolderTree<R: Files> {
     rt: R,
     folder: String,
+    place: Place,
     // the name of the file that was sought last; it has room for each
     name: String,
     paths: Vec<BagPath>,
@@ -39,6 +43,7 @@ impl<R: Files> Model for FolderTree<R> {
     ghost view = { λ tree. record {
       shown = shown_by tree.paths.items tree.has_dir;
       folder = string_bytes tree.folder;
+      place = tree.place;
       name = string_bytes tree.name;
       to_read = option_map R.File.remaining tree.file;
       failures = tree.failures;
@@ -66,7 +71,45 @@ impl<R: Files + Drop> FolderTree<R> {
         folder: &str,
     ) -> Result<FolderTree<R>, OpenFault>
         ensures no_name { folder.now ≡ [] → result ≡ Err OpenFault.Files }
-        ensures opened { IfOk result (IsOpened (D.listing disk.now) folder.now) }
+        ensures opened { IfOk result (IsOpened (D.listing disk.now) folder.now Place.Base) }
+        ensures refused { result ≡ Err OpenFault.Files → IsRefused (D.listing disk.now) folder.now }
+    {
+        FolderTree::open_at(rt, disk, alloc, folder, Place::Base)
+    }
+
+    /// The same, with the files in the payload directory: each under `data/` and its path from the folder. So a plain file named
+    /// `data` in the folder is the payload file `data/data`. The payload directory is there.
+    ///
+    /// # Errors
+    ///
+    /// As of [`FolderTree::open`], but that the folder may hold a plain file named `data`, and that a path from it may have no more
+    /// than 4,091 octets.
+    pub fn open_payload<D: Directories>(
+        rt: R,
+        disk: &D,
+        alloc: Global,
+        folder: &str,
+    ) -> Result<FolderTree<R>, OpenFault>
+        ensures no_name { folder.now ≡ [] → result ≡ Err OpenFault.Files }
+        ensures opened { IfOk result
+            (IsOpened (in_payload (D.listing disk.now) folder.now) folder.now Place.Payload) }
+        ensures refused { result ≡ Err OpenFault.Files
+            → IsRefused (in_payload (D.listing disk.now) folder.now) folder.now }
+    {
+        let inside = InPayload { disk, folder };
+        FolderTree::open_at(rt, &inside, alloc, folder, Place::Payload)
+    }
+
+    /// The tree of the files that these directories list below the folder.
+    fn open_at<D: Directories>(
+        rt: R,
+        disk: &D,
+        alloc: Global,
+        folder: &str,
+        place: Place,
+    ) -> Result<FolderTree<R>, OpenFault>
+        ensures no_name { folder.now ≡ [] → result ≡ Err OpenFault.Files }
+        ensures opened { IfOk result (IsOpened (D.listing disk.now) folder.now place) }
         ensures refused { result ≡ Err OpenFault.Files → IsRefused (D.listing disk.now) folder.now }
     {
         if folder.is_empty() {
@@ -75,17 +118,24 @@ impl<R: Files + Drop> FolderTree<R> {
         let below = walk(disk, alloc, folder)?;
         let folder = String::from_str(alloc, folder)?;
         let name = String::with_capacity(alloc, folder.len().saturating_add(1 + LONGEST_PATH))?;
-        Ok(tree_of(rt, folder, name, below))
+        Ok(tree_of(rt, folder, place, name, below))
     }
 }
 
 /// The tree of what is below this folder.
-fn tree_of<R: Files + Drop>(rt: R, folder: String, name: String, below: Below) -> FolderTree<R>
+fn tree_of<R: Files + Drop>(
+    rt: R,
+    folder: String,
+    place: Place,
+    name: String,
+    below: Below,
+) -> FolderTree<R>
     ensures paths { (path : List ℕ)
         → Contains (paths_in result.shown) path ↔ Contains below.paths.items path }
     ensures payload { result.shown.has_payload_dir
         ≡ (below.has_dir || list_any is_payload below.paths.items) }
     ensures named { result.folder ≡ string_bytes folder }
+    ensures placed { result.place ≡ place }
     ensures closed { result.to_read ≡ None }
     ensures not_failed { result.failures ≡ 0 }
 {
@@ -93,6 +143,7 @@ fn tree_of<R: Files + Drop>(rt: R, folder: String, name: String, below: Below) -
     FolderTree {
         rt,
         folder,
+        place,
         name,
         paths: in_order(below.paths),
         has_dir,
@@ -186,7 +237,7 @@ impl<R: Files> Tree for FolderTree<R> {
         ensures exactly { StartsFile self.old self.new i result }
     {
         self.file = None;
-        let path = self.paths[i].as_str();
+        let path = self.place.path_below(self.paths[i].as_str());
         let answer = match opened(&self.rt, &mut self.name, self.folder.as_str(), path) {
             Some(file) => {
                 self.file = Some(file);

@@ -4,7 +4,7 @@ use Rattle.std.proofs.lemmas.Option.{slice_get_read}
 use Rattle.bag_rules.specs.Trees.{paths_in}
 use Rattle.bag_cmd.specs.Directories.{name_below}
 use Rattle.std.specs.List.{slice_get}
-use Rattle.bag_cmd.specs.Folders.{FolderShown}
+use Rattle.bag_cmd.specs.Folders.{FolderShown, path_below}
 use Rattle.bag_cmd.proofs.Listings.{paths_seen}
 use Rattle.bag_cmd.proofs.folder.tree.FolderTreeTree.start.Goals as goal
 use Rattle.bag_cmd.proofs.folder.tree.FolderTreeTree.start.Goals.{in-Some, in-None}
@@ -29,9 +29,9 @@ returns-clause-exactly g c =
     let at = slice_get_read c.self.inside.paths.items (length c.self.inside.paths.items) c.args.i c.index.result.now refl (subst (λ (paths : List (List ℕ)). c.args.i < length paths) seen c.requires) c.index.ensures in
     elim c.match-opened.branch [
       | in-Some w ↦
-          let named : string_bytes c.match-opened.self-inside.name ≡ name_below c.args.self.now.folder c.index.result.now = search rules in
+          let named : string_bytes c.match-opened.self-inside.name ≡ name_below c.args.self.now.folder (path_below c.args.self.now.place c.index.result.now) = search rules in
           record {
-            named = on_ok c.counted.result _ (found_at c.self.inside.paths.items (paths_in c.args.self.now.shown) c.args.i c.index.result.now seen at (λ path. string_bytes c.match-opened.self-inside.name ≡ name_below c.args.self.now.folder path) named);
+            named = on_ok c.counted.result _ (found_at c.self.inside.paths.items (paths_in c.args.self.now.shown) c.args.i c.index.result.now seen at (λ path. string_bytes c.match-opened.self-inside.name ≡ name_below c.args.self.now.folder (path_below c.args.self.now.place path)) named);
             changes = search rules;
           }
       | in-None w ↦ record { named = no_ok c.counted.result _ (search rules); changes = search rules }

@@ -3,7 +3,7 @@ use Rattle.std.proofs.lemmas.Result.{err_from_is_err_and}
 use Rattle.bag_rules.specs.Trees.{paths_in}
 use Rattle.bag_cmd.specs.declared.folder.OpenFault.TheVariants.{Files}
 use Rattle.bag_cmd.proofs.Listings.{below_in_order}
-use Rattle.bag_cmd.proofs.folder.tree.FolderTree.open.Goals as goal
+use Rattle.bag_cmd.proofs.folder.tree.FolderTree.open_at.Goals as goal
 
 pub returns-in_err-below-clause-refused : goal.returns-in_err-below-clause-refused
 returns-in_err-below-clause-refused g c = λ is listing known.
@@ -16,6 +16,7 @@ returns-clause-opened g c =
     let folder : string_bytes c.in_ok-folder.folder ≡ c.args.folder.now = c.in_ok-folder.ensures.ok in
     record {
       named = cc (folder, c.tree_of.ensures.named);
+      placed = c.tree_of.ensures.placed;
       closed = c.tree_of.ensures.closed;
       not_failed = c.tree_of.ensures.not_failed;
       shows = λ listing known.

@@ -1,0 +1,70 @@
+//! A folder as the payload directory of a bag.
+ghost use Rattle.std.specs.Prelude.{◌≡◌, ◌∷◌, [], IfErr, IfOk, codes, string_bytes};
+ghost use Rattle.bag_tags.specs.Words.{without};
+ghost use Rattle.bag_cmd.specs.Directories.{data_entry, in_payload, name_below};
+
+use super::OpenFault;
+use super::directory::{Directories, Entry, EntryKind};
+use super::name::spell;
+use std::alloc::{AllocError, Global};
+
+/// The directories where one folder is the payload directory of the one that it is named as.
+#[derive(Drop)]
+pub struct InPayload<'a, D> {
+    /// Where directories are looked up.
+    pub disk: &'a D,
+    /// The folder.
+    pub folder: &'a str,
+}
+
+impl<D: Directories> Directories for InPayload<'_, D> {
+    ghost listing = { λ inside. in_payload (D.listing inside.disk.now) inside.folder.now };
+
+    fn entries(&self, alloc: Global, directory: &str) -> Result<Vec<Entry>, OpenFault> {
+        let mut base = String::new(alloc);
+        spell(&mut base, self.folder, "")?;
+        if directory == base.as_str() {
+            return payload_alone(alloc);
+        }
+        let name = name_outside(alloc, self.folder, directory)?;
+        self.disk.entries(alloc, name.as_str())
+    }
+}
+
+/// The name outside the bag of a directory in the payload directory.
+fn name_outside(alloc: Global, folder: &str, directory: &str) -> Result<String, AllocError>
+    ensures { IfOk result (λ name. string_bytes name
+        ≡ name_below folder.now (without (name_below folder.now (codes "data/")) directory.now)) }
+{
+    let mut payload = String::new(alloc);
+    spell(&mut payload, folder, "data/")?;
+    let below = without(payload.as_str(), directory);
+    let mut name = String::new(alloc);
+    spell(&mut name, folder, below)?;
+    Ok(name)
+}
+
+/// The text without this at its front, where it is there.
+fn without<'a>(front: &str, text: &'a str) -> &'a str
+    ensures { result.now ≡ without front.now text.now }
+{
+    match text.strip_prefix(front) {
+        Some(rest) => rest,
+        None => text,
+    }
+}
+
+/// The payload directory alone.
+fn payload_alone(alloc: Global) -> Result<Vec<Entry>, OpenFault>
+    ensures alone { IfOk result (λ entries. entries.items
+        ≡ data_entry ∷ []) }
+    ensures memory { IfErr result (λ fault. fault ≡ OpenFault.Memory) }
+{
+    let mut entries = Vec::new(alloc);
+    let name = String::from_str(alloc, "data")?;
+    entries.push(Entry {
+        name,
+        kind: EntryKind::Directory,
+    })?;
+    Ok(entries)
+}
