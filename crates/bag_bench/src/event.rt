@@ -47,14 +47,16 @@ pub fn bad_line() -> io::Error {
     io::Error::from(ErrorKind::InvalidData)
 }
 
-fn text_of(alloc: Global, field: &str) -> io::Result<String> {
+/// The text that a field gives in hex, or by `-` where it is empty.
+pub fn text_of(alloc: Global, field: &str) -> io::Result<String> {
     match String::from_utf8(octets_of(alloc, field)?) {
         Ok(text) => Ok(text),
         Err(_) => Err(bad_line()),
     }
 }
 
-fn octets_of(alloc: Global, field: &str) -> io::Result<Vec<u8>> {
+/// The octets that a field gives in hex, or by `-` where there are none.
+pub fn octets_of(alloc: Global, field: &str) -> io::Result<Vec<u8>> {
     if field == "-" {
         return Ok(Vec::new(alloc));
     }

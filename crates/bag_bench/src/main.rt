@@ -14,6 +14,9 @@
 //!
 //! `bag_bench deliveries` answers the lists of deliveries on standard input, as `tests/deliveries.py` tells. The status
 //! is 0 where each line was answered.
+//!
+//! `bag_bench write` writes in memory the bags that standard input asks for, as `tests/new_bags.py` tells. The status is 0 where each
+//! line was read.
 #![tactic(auto)]
 
 use bag_digest::{Alg, AlgSet, Multi, piece_buffer};
@@ -25,11 +28,13 @@ use receiving::receive;
 use std::alloc::{AllocError, Global};
 use std::env::{self, Env};
 use std::process::ExitCode;
+use writing::write_all;
 
 mod deliveries;
 mod event;
 mod receiving;
 mod text;
+mod writing;
 
 /// The SHA-256 of no octets.
 const NOTHING: &str = "e3b0c44298fc1c149afbf4c8996fb92427ae41e4649b934ca495991b7852b855";
@@ -59,6 +64,9 @@ fn run<R: Env + Input + Print + AllocGlobal>(rt: &R) -> u8 {
     };
     if words.len() == 1 && words[0].as_str() == "deliveries" {
         return if answer_all(rt).is_ok() { 0 } else { 3 };
+    }
+    if words.len() == 1 && words[0].as_str() == "write" {
+        return if write_all(rt).is_ok() { 0 } else { 3 };
     }
     if words.len() != 2 {
         return 64;

@@ -1,0 +1,382 @@
+#!/usr/bin/env python3
+"""new_bags.py COUNT SEED PROGRAM DRIVER..: has the driver write chosen bags and so many random ones, in one process, and compares what
+it answers and each file with what is made here, from section 17 of docs/FORMAT.md and with hashlib alone. Then each bag is put into a
+folder, where coreutils check each line of its manifests that they can spell, and the program and tests/reference.py judge it. The
+same seed makes the same bags. The first answer that differs is told with its lines.
+
+The driver reads lines from standard input. Each is a word and its fields, each after one blank: its octets in hex, letters in lower
+case, or `-` where it has none. Texts are UTF-8, and paths aren't spelled.
+
+    file PATH OCTETS      a file of the tree, once for each path
+    by ALG                an algorithm: `md5`, `sha1`, `sha256` or `sha512`, not in hex
+    element LABEL VALUE   an element of `bag-info.txt`, after those that were given, with LF between the lines of its value
+    hole PATH URL         a hole, after those that were given
+    write                 the bag is written, and the next line begins another
+
+For each `write` it prints `written: OCTETS.FILES`, or `refused: ` and `no algorithm`, `Oxum given`, `bad hole N` (its place, from 0
+on), `clash PATH` (spelled) or `too large`; then `data` where the payload directory is there; a line for each file, its path and its
+octets; and an empty line.
+"""
+import collections
+import hashlib
+import os
+import random
+import re
+import subprocess
+import sys
+import tempfile
+
+import reference
+
+ALGORITHMS = ["md5", "sha1", "sha256", "sha512"]
+MOST_FILES, LARGEST_TAG_FILE = 100000, 16777216
+# The system takes paths of up to 4,095 octets, of which the folder has some.
+LONGEST_IN_FOLDER = 3900
+# What has to be answered, and by what it has to be judged: each at least once.
+KINDS = ["written", "refused: no algorithm", "refused: Oxum given", "refused: bad hole", "refused: clash", "refused: too large",
+         "refused after the payload: too large"]
+JUDGED = ["in a folder", "with a path that no folder takes", "valid", "not complete", "valid with its holes filled",
+          "digests by coreutils", "digests by hashlib alone"]
+# A scheme, a colon, and more without blanks and controls [8].
+URL = re.compile("[A-Za-z][A-Za-z0-9+.-]*:[^\\x00- \\x7f]+")
+GOOD_URLS = ["http://example.org/a", "x:y", "a+b.c-1:%41", "https://example.org/\u00e9?a=b#c", "urn:*"]
+BAD_URLS = ["", "http", ":x", "http:", "1x:y", "http://example.org/a b", "http:\n", "http:\x7f", "h\u00e9:x", "a_b:c"]
+PIECES = ["a", "b", "a.txt", "A", "*", "*a", " a", "\ta", "a ", "100%", "%41", "%0A", "%25", "a\nb", "\r", "a\r\nb", "\\", "a\\nb",
+          "\u00e9", "e\u0301", "\ufeff", "...", "-", "~", "#", "\U0001f4c4", ".-x", "\x01", "\u2028", "'\"`$"]
+TAGS = ["bagit.txt", "bag-info.txt", "fetch.txt", "manifest-md5.txt", "tagmanifest-sha256.txt", "note", "*", " x", "datax"]
+LABELS = ["Source-Organization", "Contact-Name", "x", "Payload-Oxum-2", "a b", "\u00e9", "Bagging-Date", "%41", "*"]
+OXUM_LABELS = ["Payload-Oxum", "payload-oxum", "PAYLOAD-OXUM", "payload-OXUM"]
+LINES = ["", "a", "a value of some words", " ", "  blanks  ", "\u00e9\u2028", "a:b", "100%", "\t"]
+FURTHER = ["a", "b: c", "more ", "\u00e9", "Payload-Oxum: 1.1", "*"]
+
+
+class Order:
+    """What is to be written: a tree, algorithms, elements and holes."""
+
+    def __init__(self, files, algorithms=("sha256",), elements=(), holes=()):
+        self.files = {path.encode(): octets for path, octets in dict(files).items()}
+        self.payload = {path: self.files[path] for path in sorted(self.files) if path.startswith(b"data/")}
+        self.algorithms = [name for name in ALGORITHMS if name in algorithms]
+        self.elements = list(elements)
+        self.holes = [(path.encode(), url) for path, url in holes]
+
+    def lines(self):
+        yield from (f"file {field(path)} {field(octets)}" for path, octets in self.files.items())
+        yield from (f"by {name}" for name in self.algorithms)
+        yield from (f"element {field(label.encode())} {field(value.encode())}" for label, value in self.elements)
+        yield from (f"hole {field(path)} {field(url.encode())}" for path, url in self.holes)
+        yield "write"
+
+    def refusal(self):
+        """What is told before anything is written, or None [17.1]."""
+        if not self.algorithms:
+            return "no algorithm"
+        if any(label.lower() == "payload-oxum" for label, _ in self.elements):
+            return "Oxum given"
+        earlier = set()
+        for place, (path, url) in enumerate(self.holes):
+            if path not in self.payload or path in earlier or not URL.fullmatch(url):
+                return f"bad hole {place}"
+            earlier.add(path)
+        folders = {path[:end] for path in self.payload for end in range(len(path)) if path[end:end + 1] == b"/"}
+        clashes = folders.intersection(self.payload)
+        if clashes:
+            return "clash " + spelled(min(clashes)).decode()
+        return "too large" if len(self.payload) > MOST_FILES else None
+
+    def answer(self):
+        """The first line, and the files that are there then [17.1, 17.2]."""
+        refusal = self.refusal()
+        if refusal:
+            return "refused: " + refusal, None
+        holes = dict(self.holes)
+        files = {path: octets for path, octets in self.payload.items() if path not in holes}
+        for name, octets in self.tag_files():
+            if len(octets) > LARGEST_TAG_FILE:
+                return "refused: too large", files
+            files[name] = octets
+        return "written: " + self.oxum(), files
+
+    def oxum(self):
+        return f"{sum(map(len, self.payload.values()))}.{len(self.payload)}"
+
+    def tag_files(self):
+        """The tag files in the order of their names [17.3]."""
+        listed = {
+            b"bag-info.txt": "".join(
+                label + ": " + value.replace("\n", "\n ") + "\n"
+                for label, value in [*self.elements, ("Payload-Oxum", self.oxum())]).encode(),
+            b"bagit.txt": b"BagIt-Version: 1.0\nTag-File-Character-Encoding: UTF-8\n",
+        }
+        if self.holes:
+            listed[b"fetch.txt"] = b"".join(
+                b"%s %d %s\n" % (url.encode(), len(self.payload[path]), spelled(path)) for path, url in self.holes)
+        for name in self.algorithms:
+            listed[b"manifest-%s.txt" % name.encode()] = manifest(name, self.payload)
+        yield from listed.items()
+        for name in self.algorithms:
+            yield b"tagmanifest-%s.txt" % name.encode(), manifest(name, listed)
+
+    def printed(self):
+        """What the driver has to print, line by line."""
+        first, files = self.answer()
+        yield first
+        if files is not None:
+            yield "data"
+            yield from (f"{field(path, '')} {field(files[path], '')}" for path in sorted(files))
+        yield ""
+
+
+def field(octets, nothing="-"):
+    return octets.hex() or nothing
+
+
+def spelled(path):
+    """[4]"""
+    return path.replace(b"%", b"%25").replace(b"\n", b"%0A").replace(b"\r", b"%0D")
+
+
+def manifest(algorithm, files):
+    """[17.3] No path here begins with a mark or a blank."""
+    return b"".join(
+        b"%s  %s\n" % (hashlib.new(algorithm, files[path]).hexdigest().encode(), spelled(path)) for path in sorted(files))
+
+
+def random_order(rng):
+    names = rng.sample(PIECES, rng.choice([1, 3, 6, len(PIECES)]))
+    files = {"data/" + "/".join(rng.choices(names, k=rng.choice([1, 1, 1, 2, 3]))): content(rng) for _ in range(rng.randrange(9))}
+    files.update((name, content(rng)) for name in rng.sample(TAGS, rng.choice([0, 0, 2])))
+    payload = [path for path in files if path.startswith("data/")]
+    if rng.random() < 0.8:
+        payload = [path for path in payload if not any(other.startswith(path + "/") for other in payload)]
+    files = {path: files[path] for path in rng.sample(list(files), len(files)) if path in payload or not path.startswith("data/")}
+    holes = [(path, rng.choice(GOOD_URLS)) for path in rng.sample(payload, rng.randrange(len(payload) + 1) * rng.randrange(2))]
+    if rng.random() < 0.1:
+        bad = [("data/none", "x:y"), ("bagit.txt", "x:y")] + [(path, url) for path in payload for url in BAD_URLS] + holes
+        holes.insert(rng.randrange(len(holes) + 1), rng.choice(bad))
+    elements = [element(rng) for _ in range(rng.choice([0, 0, 1, 2, 5]))]
+    if rng.random() < 0.05:
+        elements.insert(rng.randrange(len(elements) + 1), (rng.choice(OXUM_LABELS), "0.0"))
+    return Order(files, rng.sample(ALGORITHMS, rng.choice([1] * 10 + [2, 3, 4] * 3 + [0])), elements, holes)
+
+
+def content(rng):
+    return rng.randbytes(rng.choice([0, 1, 3, 55, 64, 119, 200] * 5 + [65535, 65536, 65537, 131072]))
+
+
+def element(rng):
+    return rng.choice(LABELS), "\n".join([rng.choice(LINES), *rng.choices(FURTHER, k=rng.choice([0, 0, 1, 3]))])
+
+
+def chosen_orders():
+    """Cases that have to be there, by name."""
+    two = {"data/a": b"abc", "data/b": b""}
+    yield "no files", Order({})
+    yield "no files, each algorithm", Order({}, ALGORITHMS)
+    yield "an empty file", Order({"data/a": b""}, ["md5"])
+    yield "one octet", Order({"data/a": b"\0"}, ["sha1"])
+    yield "long file", Order({"data/a": bytes(range(256)) * 4096 + b"x"}, ALGORITHMS)
+    yield "tag files of the tree aren't taken", Order({**two, **{name: b"x" for name in TAGS}})
+    yield "line ends and percent", Order({"data/a\nb": b"1", "data/\r": b"2", "data/100%": b"3", "data/%0A": b"4", "data/%": b"5"})
+    yield "marks and blanks", Order({"data/*": b"1", "data/ x": b"2", "data/*x /\ty": b"3", "data/x ": b"4"}, ALGORITHMS)
+    yield "backslashes", Order({"data/\\": b"1", "data/a\\nb": b"2"})
+    yield "a path of 4096 octets", Order({"data/" + "/".join(["n" * 99] * 40) + "/" + "m" * 91: b"x"}, ["md5"])
+    yield "order of octets", Order({f"data/{name}": name.encode() for name in ["a.b", "a/b", "a0", "A", "\u00e9", "\uffff", "\U00010000"]})
+    yield "lines of elements", Order(two, elements=[("A", "one\ntwo\nthree"), ("B", ""), ("B", "\nsecond"), ("A", " x ")])
+    yield "holes", Order(two, ["md5", "sha512"], holes=[("data/b", "x:y"), ("data/a", "http://example.org/a")])
+    yield "every file a hole", Order({"data/a/b": b"abc"}, holes=[("data/a/b", "x:y")])
+    yield "a hole whose name is spelled", Order({"data/a\r\n%": b"abc", "data/*": b"1"}, holes=[("data/*", "x:*"), ("data/a\r\n%", "x:y")])
+    yield "no algorithm", Order(two, [])
+    yield "no algorithm comes first", Order({"data/a": b"", "data/a/b": b""}, [], [("Payload-Oxum", "3.2")], [("data/c", "x:y")])
+    for label in OXUM_LABELS:
+        yield "Oxum given as " + label, Order(two, elements=[("A", "b"), (label, "3.2")])
+    yield "Oxum comes before holes", Order({"data/a": b"", "data/a/b": b""}, elements=[("payload-OXUM", "")], holes=[("data/c", "x:y")])
+    yield "a label that is almost that", Order(two, elements=[("Payload-Oxu", "1"), ("Payload-Oxum-2", "2")])
+    yield "a hole that isn't there", Order(two, holes=[("data/a", "x:y"), ("data/c", "x:y")])
+    yield "a hole that is a tag file", Order({**two, "note": b"x"}, holes=[("note", "x:y")])
+    yield "a hole that is a folder", Order({"data/a/b": b"x"}, holes=[("data/a", "x:y")])
+    yield "a hole twice", Order(two, holes=[("data/a", "x:y"), ("data/b", "x:y"), ("data/a", "x:z")])
+    for url in BAD_URLS:
+        yield f"bad url {url!r}", Order(two, holes=[("data/b", "x:y"), ("data/a", url)])
+    for url in GOOD_URLS:
+        yield f"good url {url!r}", Order(two, holes=[("data/a", url)])
+    yield "holes come before clashes", Order({"data/a": b"", "data/a/b": b""}, holes=[("data/c", "x:y")])
+    yield "a clash", Order({"data/a": b"", "data/a/b": b""})
+    yield "a clash far away", Order({"data/a": b"", "data/a.b": b"", "data/a/b/c": b"", "data/a0": b""})
+    yield "the first of clashes", Order({"data/b": b"", "data/b/c": b"", "data/a\n%/b": b"", "data/a\n%": b""})
+    yield "a clash of a hole", Order({"data/a": b"", "data/a/b": b""}, holes=[("data/a", "x:y")])
+    yield "no clash of tag files", Order({"data/b": b"", "a": b"", "a/b": b""})
+    most = {f"data/{number:06}": b"" for number in range(MOST_FILES)}
+    yield "as many files as may be", Order(most, ["md5"])
+    yield "a file too many", Order({**most, "data/more": b""}, ["md5"])
+    rest = LARGEST_TAG_FILE - len("A: \nPayload-Oxum: 3.2\n")
+    yield "as long a tag file as may be", Order(two, elements=[("A", "x" * rest)])
+    yield "a tag file with an octet too many", Order(two, elements=[("A", "x" * (rest + 1))])
+    yield "a manifest that is too long", Order({f"data/{number:06}" + "n" * 40: b"" for number in range(MOST_FILES)}, ["md5", "sha512"])
+
+
+def fits_coreutils(line):
+    """Coreutils spell names with LF, CR, percent or a backslash otherwise."""
+    return b"%" not in line and b"\\" not in line
+
+
+class Held(reference.Bag):
+    """A written bag that lies in no folder."""
+
+    def __init__(self, files):
+        super().__init__(files, True)
+        self.files = files
+
+    def octets(self, path):
+        return self.files[path]
+
+    def length(self, path):
+        return len(self.files[path]) if path in self.files else None
+
+
+class Judges:
+    """Has written bags judged by tools that know nothing of the writer. What was judged is counted."""
+
+    def __init__(self, program):
+        self.program, self.counts = program, collections.Counter()
+
+    def fault(self, order, files):
+        """What is wrong with the written bag; None where nothing is."""
+        with tempfile.TemporaryDirectory() as folder:
+            fits = put(os.fsencode(folder), files)
+            self.counts["in a folder" if fits else "with a path that no folder takes"] += 1
+            found = self.listed_otherwise(os.fsencode(folder) if fits else None, order, files)
+            lines, status = verdict(order)
+            self.counts[lines[-1]] += 1
+            found = found or self.judged_otherwise(folder if fits else None, files, lines, status)
+            if found or not order.holes:
+                return found
+            # With its holes filled the bag is valid.
+            missing = {path: order.payload[path] for path, _ in order.holes}
+            fits = put(os.fsencode(folder), missing) and fits
+            self.counts["valid with its holes filled"] += 1
+            return self.judged_otherwise(folder if fits else None, {**files, **missing}, ["valid"], 0)
+
+    def judged_otherwise(self, folder, files, lines, status):
+        """By the second program, and by `bag check` where the bag is in a folder."""
+        if Held(files).judge() != (lines, status):
+            return f"tests/reference.py says {Held(files).judge()}, and {lines} is wanted"
+        if folder is None:
+            return None
+        ran = subprocess.run([self.program, "check", folder], capture_output=True, timeout=60, check=False)
+        wanted = "".join(line + "\n" for line in lines).encode()
+        if (ran.stdout, ran.stderr, ran.returncode) != (wanted, b"", status):
+            return f"bag check prints {ran.stdout + ran.stderr} with {ran.returncode}, and {wanted} is wanted"
+        return None
+
+    def listed_otherwise(self, base, order, files):
+        """Each digest that a manifest lists, by hashlib and, where they can read its line, by coreutils."""
+        holes = {path for path, _ in order.holes}
+        for algorithm in order.algorithms:
+            for name in f"manifest-{algorithm}.txt", f"tagmanifest-{algorithm}.txt":
+                lines = [line + b"\n" for line in files[name.encode()].split(b"\n")[:-1]]
+                lines = [line for line in lines if unspelled(line) not in holes]
+                if not all(is_listed(algorithm, line, files) for line in lines):
+                    return f"hashlib finds another digest than {name}"
+                plain = [line for line in lines if base and fits_coreutils(line)]
+                self.counts["digests by coreutils"] += len(plain)
+                self.counts["digests by hashlib alone"] += len(lines) - len(plain)
+                if plain and not accepted_by_coreutils(base, algorithm, plain):
+                    return f"{algorithm}sum finds another digest than {name}"
+        return None
+
+
+def verdict(order):
+    """What a check of the written bag has to print, and its status."""
+    missing = sorted(path for path, _ in order.holes)
+    if not missing:
+        return ["valid"], 0
+    lines = [f"manifest-{name}.txt: missing: {spelled(path).decode()}" for name in order.algorithms for path in missing]
+    return [*lines, "bag-info.txt: Payload-Oxum wrong", "not complete"], 1
+
+
+def unspelled(line):
+    """The path of a line of a manifest."""
+    _, _, text = line.removesuffix(b"\n").partition(b"  ")
+    return text.replace(b"%0A", b"\n").replace(b"%0D", b"\r").replace(b"%25", b"%")
+
+
+def is_listed(algorithm, line, files):
+    octets = files.get(unspelled(line))
+    return octets is not None and hashlib.new(algorithm, octets).hexdigest().encode() == line.partition(b"  ")[0]
+
+
+def accepted_by_coreutils(base, algorithm, lines):
+    ran = subprocess.run([f"{algorithm}sum", "--check", "--strict", "--quiet", "-"], input=b"".join(lines), cwd=base,
+                         capture_output=True, timeout=60, check=False)
+    return (ran.returncode, ran.stdout, ran.stderr) == (0, b"", b"")
+
+
+def put(base, files):
+    """Whether the files are in the folder now: one with a path that is too long for the system isn't."""
+    os.makedirs(os.path.join(base, b"data"), exist_ok=True)
+    if any(len(path) > LONGEST_IN_FOLDER for path in files):
+        return False
+    for path, octets in files.items():
+        place = os.path.join(base, path)
+        os.makedirs(os.path.dirname(place), exist_ok=True)
+        with open(place, "xb") as file:
+            file.write(octets)
+    return True
+
+
+def written(orders, driver):
+    """What the driver prints, as a file of lines, and how it ended."""
+    printed = tempfile.TemporaryFile("w+", encoding="utf-8", newline="\n")
+    with tempfile.TemporaryFile("w+", encoding="utf-8", newline="\n") as asked:
+        for _, order in orders:
+            asked.writelines(line + "\n" for line in order.lines())
+        asked.seek(0)
+        ran = subprocess.run(driver, stdin=asked, stdout=printed, stderr=subprocess.PIPE, timeout=600, check=False)
+    printed.seek(0)
+    return printed, ran.returncode, ran.stderr
+
+
+def kind(order):
+    """Of an answer. Paths and places don't matter."""
+    first, files = order.answer()
+    if first == "refused: too large" and files is not None:
+        return "refused after the payload: too large"
+    return re.sub("^(written|refused: bad hole|refused: clash).*", r"\1", first, flags=re.DOTALL)
+
+
+def difference(orders, printed):
+    """The first bag that is answered otherwise, with its lines; None where there is none."""
+    for name, order in orders:
+        for wanted in order.printed():
+            line = printed.readline()
+            if line != wanted + "\n":
+                told = f"{name}: {line[:1000]!r} is printed, and {wanted[:1000]!r} is wanted."
+                return "\n".join([told, *(line[:1000] for line in order.lines())])
+    rest = printed.readline()
+    return f"After the last bag {rest!r} is printed." if rest else None
+
+
+def main(count, seed, program, *driver):
+    orders = list(chosen_orders())
+    orders += [(f"bag {number} of seed {seed}", random_order(random.Random(f"{seed} {number}"))) for number in range(int(count))]
+    printed, status, said = written(orders, driver)
+    with printed:
+        found = difference(orders, printed)
+    if found or status or said:
+        print(found, f"The driver ends with {status} and says {said[-1000:]}.", sep="\n")
+        return 1
+    judges, kinds = Judges(program), collections.Counter(kind(order) for _, order in orders)
+    for name, order in orders:
+        first, files = order.answer()
+        fault = judges.fault(order, files) if first.startswith("written") else None
+        if fault:
+            print(f"{name}: {fault}", *(line[:1000] for line in order.lines()), sep="\n")
+            return 1
+    tried = {**{what: kinds[what] for what in KINDS}, **{what: judges.counts[what] for what in JUDGED}}
+    print(f"{len(orders)} bags: all written alike", *(f"{count} {what}" for what, count in tried.items()), sep="\n")
+    return 0 if all(tried.values()) else 1
+
+
+if __name__ == "__main__":
+    sys.exit(main(*sys.argv[1:]))
