@@ -1,15 +1,5 @@
-pub mod DatabaseExamples
 pub mod EntryLemmas
-pub mod GrowthLemmas
-pub mod InsertLemmas
 pub mod LedgerLemmas
-pub mod MakingLemmas
-pub mod MeaningLemmas
-pub mod NamesLemmas
-pub mod OneLedger
-pub mod QueryMeanings
-pub mod ReadingLemmas
 pub mod SoundLemmas
-pub mod SqlLemmas
 pub mod StoredLemmas
 pub mod TestingLemmas

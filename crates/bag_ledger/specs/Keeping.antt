@@ -23,10 +23,10 @@ module _ {K : Type 0} (holds may_leave : K → Ledger → Type 0) (clean : K →
     pub left : clean new → (ledger crashed : Ledger) → holds old ledger → such ledger
         → may_leave new crashed → crashed ≡ change ledger
 
-  -- The call left the ledger as it was. A crash leaves what it could leave before, or what the call was about to write.
+  -- The call left each such ledger as it was. A crash leaves what it could leave before, or what the call was about to write.
   pub record Leaves (such : Ledger → Type 0) (old new : K) (about_to : Ledger → Ledger) : Type 0 where
     pub was_clean : clean new → clean old
-    pub held : clean new → (ledger : Ledger) → holds old ledger → holds new ledger
+    pub held : clean new → (ledger : Ledger) → holds old ledger → such ledger → holds new ledger
     pub left : clean new → (ledger crashed : Ledger) → holds old ledger → such ledger
         → may_leave new crashed → may_leave old crashed ⊎ (crashed ≡ about_to ledger)
 

@@ -2,8 +2,3 @@ pub mod Ledgers
 pub mod Keeping
 pub mod PutFaults
 pub mod Stored
-pub mod Tables
-pub mod Databases
-pub mod Making
-pub mod SqlKeepers
-pub mod Reading

@@ -98,3 +98,14 @@ impl From<WantFault> for PutFault {
         }
     }
 }
+
+impl From<KeepFault> for PutFault {
+    ghost use Rattle.std.specs.Prelude.{◌≡◌};
+    ghost use Rattle.bag_ledger.specs.declared.fault.PutFault.TheVariants.{Keep};
+
+    ghost from_gives = { λ fault put. put ≡ Keep fault };
+
+    fn from(fault: KeepFault) -> PutFault {
+        PutFault::Keep(fault)
+    }
+}

@@ -21,8 +21,8 @@ use std::alloc::Global;
 /// Each call answers for one ledger, as long as the store is clean. After `Ok` a call that writes has made its whole change, and
 /// after a fault none of it. After `Store` the keeper answers nothing but `Store(Spent)`; after `Memory` it can be used on.
 ///
-/// A caller asks before it writes: of a name that is used already, and of a payload file that is held or isn't wanted, nothing is
-/// said but that a fault changes nothing.
+/// A caller asks before it writes: where a name is used already, and where a payload file is held or isn't wanted, `begin` and `put`
+/// promise nothing.
 pub trait Keeper {
     /// The calls answer for this ledger.
     ghost holds: { Self → Ledger → Type 0 };

@@ -1,11 +1,9 @@
 //! Laws on the definitions that the contracts of this crate cite. Each function's contract is one law, and its body is empty.
 ghost use Rattle.std.specs.Prelude.{◌≡◌, ◌≢◌, ◌↔◌, ℕ, List, Some};
 ghost use Rattle.std.specs.Map.{keys_of};
-ghost use Rattle.bag_ledger.specs.Databases.{AreTablesOf};
 ghost use Rattle.bag_ledger.specs.Ledgers.{IsSound, Ledger, Transfer, begun, content_of, holding, transfer_of, with_item, with_transfer};
 ghost use Rattle.bag_rules.specs.Files.{Files};
 ghost use Rattle.bag_rules.specs.Trees.{AreRising};
-ghost use Rattle.sqlite.specs.Tree.{Trees};
 
 use crate::keeper::Keeper;
 use crate::map_keeper::MapKeeper;
@@ -51,10 +49,4 @@ pub fn one_payload_file_more_changes_no_other_path()
     ensures others { (ledger : Ledger) (name path content other : List ℕ) → other ≢ path
         → content_of (with_item ledger name path content) name other
         ≡ content_of ledger name other }
-{}
-
-/// The tables of a database hold one ledger at most.
-pub fn tables_hold_one_ledger()
-    ensures { (trees : Trees) (ledger other : Ledger) → AreTablesOf trees ledger
-        → AreTablesOf trees other → ledger ≡ other }
 {}

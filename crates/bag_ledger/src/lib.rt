@@ -4,7 +4,6 @@
 pub use fault::{KeepFault, PutFault, StoreFault};
 pub use keeper::Keeper;
 pub use map_keeper::MapKeeper;
-pub use sql::{NotCreated, SqlKeeper};
 pub use testing::{test_content, test_reader};
 
 #[cfg(test)]
@@ -13,7 +12,6 @@ mod fault;
 mod keeper;
 pub mod laws;
 mod map_keeper;
-mod sql;
 mod stored;
 mod testing;
 #[cfg(test)]

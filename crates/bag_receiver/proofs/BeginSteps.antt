@@ -178,7 +178,7 @@ module _ {K : Type 0} (holds may_leave : K → Ledger → Type 0) (clean : K →
               with_doubtful_ledger now (with_transfer now.held name tags),
               record {
                 kept = record {
-                  held = leaves.held c now.held holding;
+                  held = leaves.held c now.held holding (unused m now.held in_state.kept.held);
                   left = λ crashed left. elim (leaves.left c now.held crashed holding (unused m now.held in_state.kept.held) left) [
                     | inl before ↦ elim (in_state.kept.left crashed (reads.left m crashed before)) [ inl same ↦ inl same | inr doubtful ↦ inr (inr doubtful) ]
                     | inr written ↦ inr (inl (sym written))

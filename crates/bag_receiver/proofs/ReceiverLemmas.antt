@@ -192,7 +192,7 @@ module _ {K : Type 0} (holds may_leave : K → Ledger → Type 0) (clean : K →
         → IsPlaceIn now.held name text place → InState (over new plans) (with_doubtful_ledger now (puts_to now content))
     may_be_put content fault h c now in_state at = record {
       kept = record {
-        held = h.leaves.held c now.held in_state.kept.held;
+        held = h.leaves.held c now.held in_state.kept.held (awaits now name text place at free);
         left = λ crashed left. elim (h.leaves.left c now.held crashed in_state.kept.held (awaits now name text place at free) left) [
           | inl before ↦ elim (in_state.kept.left crashed before) [ inl same ↦ inl same | inr doubtful ↦ inr (inr doubtful) ]
           | inr written ↦ inr (inl (sym (written ∙ with_path now content place.want.path.now at.wanted.path_is)))

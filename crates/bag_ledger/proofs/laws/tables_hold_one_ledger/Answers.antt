@@ -1,5 +1,0 @@
-use Rattle.bag_ledger.proofs.OneLedger.{one_ledger}
-use Rattle.bag_ledger.proofs.laws.tables_hold_one_ledger.Goals as goal
-
-pub returns : goal.returns
-returns c = one_ledger

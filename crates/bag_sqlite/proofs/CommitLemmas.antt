@@ -1,0 +1,108 @@
+-- A transaction over the tables of a ledger is committed, or it is undone.
+use Rattle.std.proofs.Common.{◌≡◌, ◌⊎◌, inl, inr, false, IsTrue, sym, ap, subst, ◌∙◌, arith}
+use Rattle.sqlite.specs.Effect.{Database}
+use Rattle.sqlite.specs.Held.{Held, state}
+use Rattle.sqlite.specs.State.{HasCleanDisk, KeepsCommit, Shows, State, Survives}
+use Rattle.sqlite.specs.Steps.{FailsToCommit}
+use Rattle.sqlite.specs.Store.{Ghosts}
+use Rattle.sqlite.specs.Tree.{Trees}
+use Rattle.sqlite.specs.declared.error.Error.{Error}
+use Rattle.sqlite.proofs.StateLemmas.{survives_then}
+use Rattle.bag_ledger.specs.Keeping.{Leaves, Writes}
+use Rattle.bag_ledger.specs.Ledgers.{IsSound, Ledger}
+use Rattle.bag_sqlite.specs.Databases.{AreTablesOf}
+use Rattle.bag_sqlite.specs.Making.{IsLeft}
+use Rattle.bag_sqlite.specs.Putting.{IsUnderWay}
+use Rattle.bag_sqlite.specs.SqlKeepers.{HoldsLedger, MayLeaveLedger}
+use Rattle.bag_sqlite.specs.Tables.{ledger_schema}
+use Rattle.bag_sqlite.proofs.MakingLemmas.{left_by_failing}
+use Rattle.bag_sqlite.proofs.OneLedger.{one_ledger}
+
+abbrev IsSettled : State → Type 0
+IsSettled s = (trees : Trees) → IsTrue s.is_open → s.may_leave trees → trees ≡ s.committed.trees
+
+-- what a transaction saw is committed
+module _ (mid end : State) (shows : Shows mid end mid.now mid.now false) (settled : IsSettled end) where
+  left_alone : (trees : Trees) → end.may_leave trees → trees ≡ mid.now.trees
+  left_alone trees may = settled trees shows.is_open may ∙ ap (λ (d : Database). d.trees) shows.committed_is
+
+  committed_holds : (ledger : Ledger) → IsSound ledger → mid.now.schema ≡ ledger_schema → AreTablesOf mid.now.trees ledger → HoldsLedger end ledger
+  committed_holds ledger sound schema tables = record {
+    sound = sound;
+    shows = λ _. record {
+      schema_is = ap (λ (d : Database). d.schema) shows.now_is ∙ schema;
+      tables = subst (λ (d : Database). AreTablesOf d.trees ledger) (sym shows.now_is) tables;
+      committed = shows.committed_is ∙ sym shows.now_is;
+    };
+    outcomes = λ trees may. (ledger, sound, subst (λ (t : Trees). AreTablesOf t ledger) (sym (left_alone trees may)) tables);
+  }
+
+-- nothing is committed
+left_holds : (old end : State) (ledger : Ledger) → old.in_transaction ≡ false → IsLeft old end → HoldsLedger old ledger
+    → ((trees : Trees) → end.may_leave trees → old.may_leave trees ⊎ ((left : Ledger) × IsSound left × AreTablesOf trees left)) → HoldsLedger end ledger
+left_holds old end ledger idle left holds crash = record {
+  sound = holds.sound;
+  shows = λ is_open.
+      let was = holds.shows (left.was_open is_open) in
+      let now = left.now is_open idle ∙ was.committed in
+      record {
+        schema_is = ap (λ (d : Database). d.schema) now ∙ was.schema_is;
+        tables = subst (λ (d : Database). AreTablesOf d.trees ledger) (sym now) was.tables;
+        committed = left.committed is_open ∙ sym (left.now is_open idle);
+      };
+  outcomes = λ trees may. elim (crash trees may) [ inl before ↦ holds.outcomes trees before | inr made ↦ made ];
+}
+
+-- what the steps of a transaction did that began at a connection, where each was taken
+module _ {S : Type 0} (g : Ghosts S) (such : Ledger → Type 0) (change : Ledger → Ledger) (old : Held S) where
+  pub record Prepares (mid : State) : Type 0 where
+    pub kept : HasCleanDisk mid → KeepsCommit (state g old) mid
+    pub survives : Survives (state g old) mid (λ _. ⊥)
+    pub sound : (ledger : Ledger) → IsSound ledger → such ledger → IsSound (change ledger)
+    pub tables : HasCleanDisk mid → (ledger : Ledger) → HoldsLedger (state g old) ledger → such ledger → IsUnderWay mid × AreTablesOf mid.now.trees (change ledger)
+
+module _ {S : Type 0} (g : Ghosts S) (such : Ledger → Type 0) (change : Ledger → Ledger) (old : Held S) (idle : (state g old).in_transaction ≡ false) (end : Held S) where
+  abbrev pub WritesLedger : Type 0
+  WritesLedger = Writes (λ (h : Held S). HoldsLedger (state g h)) (λ h. MayLeaveLedger (state g h)) (λ h. HasCleanDisk (state g h)) such old end change
+
+  abbrev pub LeavesLedger : Type 0
+  LeavesLedger = Leaves (λ (h : Held S). HoldsLedger (state g h)) (λ h. MayLeaveLedger (state g h)) (λ h. HasCleanDisk (state g h)) such old end change
+
+  module _ (mid : State) (prepares : Prepares g such change old mid) (survives : Survives mid (state g end) (λ db. db ≡ mid.now.trees)) where
+    mid_clean : HasCleanDisk (state g end) → HasCleanDisk mid
+    mid_clean clean = omega (arith, clean, survives.clean)
+
+    old_clean : HasCleanDisk (state g end) → HasCleanDisk (state g old)
+    old_clean clean = omega (arith, clean, survives.clean, prepares.survives.clean)
+
+    pub committed : (HasCleanDisk (state g end) → Shows mid (state g end) mid.now mid.now false) → IsSettled (state g end) → WritesLedger
+    committed shows settled = record {
+      was_clean = old_clean;
+      held = λ clean ledger holds fits.
+          let it = prepares.tables (mid_clean clean) ledger holds fits in
+          committed_holds mid (state g end) (shows clean) settled (change ledger) (prepares.sound ledger holds.sound fits) it.0.schema_is it.1;
+      left = λ clean ledger crashed holds fits may.
+          let it = prepares.tables (mid_clean clean) ledger holds fits in
+          one_ledger mid.now.trees crashed (change ledger) (subst (λ (t : Trees). AreTablesOf t crashed) (left_alone mid (state g end) (shows clean) settled may.0 may.1) may.2) it.1;
+    }
+
+    crash : HasCleanDisk (state g end) → (trees : Trees) → (state g end).may_leave trees → (state g old).may_leave trees ⊎ (trees ≡ mid.now.trees)
+    crash = (survives_then (state g old) mid (state g end) _ _ (λ db. db ≡ mid.now.trees) (λ _ db none. absurd none) (λ _ db is. is) prepares.survives survives).crash
+
+    pub failed : (e : Error) → (HasCleanDisk (state g end) → FailsToCommit mid (state g end) e) → LeavesLedger
+    failed e fails = record {
+      was_clean = old_clean;
+      held = λ clean ledger holds fits.
+          let it = prepares.tables (mid_clean clean) ledger holds fits in
+          let left = left_by_failing (state g old) mid (state g end) e idle it.0.mode (prepares.kept (mid_clean clean)) (fails clean) in
+          left_holds (state g old) (state g end) ledger idle left holds (λ trees may. elim (crash clean trees may) [
+            | inl before ↦ inl before
+            | inr is ↦ inr (change ledger, prepares.sound ledger holds.sound fits, subst (λ (t : Trees). AreTablesOf t (change ledger)) (sym is) it.1)
+          ]);
+      left = λ clean ledger crashed holds fits may.
+          let it = prepares.tables (mid_clean clean) ledger holds fits in
+          elim (crash clean may.0 may.1) [
+            | inl before ↦ inl (may.0, before, may.2)
+            | inr is ↦ inr (one_ledger mid.now.trees crashed (change ledger) (subst (λ (t : Trees). AreTablesOf t crashed) is may.2) it.1)
+          ];
+    }

@@ -1,0 +1,142 @@
+-- The tables of a ledger with one transfer more.
+use Rattle.std.proofs.Common.{◌≡◌, ◌≢◌, ℕ, Bool, true, false, List, [], ◌∷◌, ◌++◌, Option, Some, None, cond, is_eq, map, refl, sym, ap, subst, ◌∙◌}
+use Rattle.std.specs.Prelude.{ℤ, IsPermutation, flat_map}
+use Rattle.std.specs.BTreeMap.{insert_entry}
+use Rattle.std.specs.Cmp.Lexicographic.{slice_cmp}
+use Rattle.std.specs.List.{AllByRecursion}
+use Rattle.std.specs.List.Sorted.{IsStrictlySortedBy}
+use Rattle.std.specs.Map.{keys_of, lookup}
+use Rattle.std.specs.Ordering.{match_ordering, nat_cmp}
+use Rattle.std.specs.Str.{bytes_eq}
+use Rattle.std.specs.declared.cmp.Ordering.{Ordering}
+use Rattle.std.specs.declared.cmp.Ordering.TheVariants.{Equal, Greater, Less}
+use Rattle.std.proofs.lemmas.List.Sorted.{All-permutation, IsPermutation-append_right, IsPermutation-cons, IsPermutation-map, IsPermutation-middle, IsPermutation-sym, IsPermutation-trans}
+use Rattle.std.proofs.lemmas.List.Elements.{All-from_recursion, recursion_from_All}
+use Rattle.std.proofs.lemmas.Map.Text.{is_eq-slice_cmp}
+use Rattle.bag_rules.specs.Files.{Files}
+use Rattle.bag_rules.specs.Trees.{AreRising}
+use Rattle.sqlite.specs.Order.{Row, column}
+use Rattle.sqlite.specs.Tree.{Trees}
+use Rattle.sqlite.specs.declared.types.Value.TheVariants.{Int}
+use Rattle.sqlite_keyed.proofs.ListLemmas.{IsPermutation-flat_map}
+use Rattle.bag_sqlite.specs.Databases.{AreApart, AreTablesOf, NumberedTransfer, held_rows, items_in, tag_rows, transfer_row, without_number, without_rowids}
+use Rattle.bag_sqlite.specs.Opening.{HasOneTransferMore, opened_under}
+use Rattle.bag_ledger.specs.Keeping.{IsUnused}
+use Rattle.bag_ledger.specs.Ledgers.{Ledger, Transfer, begun, with_transfer}
+use Rattle.bag_ledger.proofs.LedgerLemmas.{entry_rising}
+
+-- ONE MORE IN THE MIDDLE
+
+module _ {X : Type 0} (x : X) where
+  flat_without : {Y : Type 0} (f : X → List Y) → f x ≡ [] → (fore bs : List X) → flat_map f (fore ++ x ∷ bs) ≡ flat_map f (fore ++ bs)
+  flat_without f none [] bs = ap (λ ys. ys ++ flat_map f bs) none
+  flat_without f none (a ∷ fore) bs = ap (λ ys. f a ++ ys) (flat_without f none fore bs)
+
+  all_middle : (P : X → Type 0) (fore bs : List X) → P x → AllByRecursion P (fore ++ bs) → AllByRecursion P (fore ++ x ∷ bs)
+  all_middle P [] bs new all = (new, all)
+  all_middle P (a ∷ fore) bs new all = (all.0, all_middle P fore bs new all.1)
+
+  all_mapped : {Y : Type 0} (f : X → Y) (P : Y → Type 0) (fore bs : List X) → P (f x) → AllByRecursion P (map f (fore ++ bs)) → AllByRecursion P (map f (fore ++ x ∷ bs))
+  all_mapped f P [] bs new all = (new, all)
+  all_mapped f P (a ∷ fore) bs new all = (all.0, all_mapped f P fore bs new all.1)
+
+  turned : (number : X → ℤ) (xs : List X) → AllByRecursion (λ y. number y ≢ number x) xs → AllByRecursion (λ y. number x ≢ number y) xs
+  turned number [] all = tt
+  turned number (y ∷ ys) all = ((λ e. all.0 (sym e)), turned number ys all.1)
+
+  apart_middle : (number : X → ℤ) (fore bs : List X) → AllByRecursion (λ y. number y ≢ number x) (fore ++ bs) → AreApart number (fore ++ bs) → AreApart number (fore ++ x ∷ bs)
+  apart_middle number [] bs fresh apart = (turned number bs fresh, apart)
+  apart_middle number (a ∷ fore) bs fresh apart = (all_middle (λ y. number a ≢ number y) fore bs fresh.0 apart.0, apart_middle number fore bs fresh.1 apart.1)
+
+-- ITS PLACE
+
+-- where a transfer goes among others
+record Place (t : NumberedTransfer) (us : List NumberedTransfer) : Type 0 where
+  pub before : List NumberedTransfer
+  pub after : List NumberedTransfer
+  pub split : us ≡ before ++ after
+  pub put : insert_entry (slice_cmp nat_cmp) (map without_number us) t.name (without_number t).1 ≡ map without_number (before ++ t ∷ after)
+
+module _ (t : NumberedTransfer) where
+  abbrev Entries : Type 0
+  Entries = List (List ℕ × Transfer)
+
+  absent : (b : Bool) (v : Transfer) (o : Option Transfer) → cond b (Some v) o ≡ None → (b ≡ false) × (o ≡ None)
+  absent true v o e = absurd cc
+  absent false v o e = (refl, e)
+
+  step : (o : Ordering) (u : NumberedTransfer) (us : List NumberedTransfer) → slice_cmp nat_cmp t.name u.name ≡ o → bytes_eq t.name u.name ≡ false → Place t us → Place t (u ∷ us)
+  step Less u us at other rest = record {
+    before = [];
+    after = u ∷ us;
+    split = refl;
+    put = ap (λ o. match_ordering o ((t.name, (without_number t).1) ∷ map without_number (u ∷ us)) ((u.name, (without_number t).1) ∷ map without_number us)
+        (without_number u ∷ insert_entry (slice_cmp nat_cmp) (map without_number us) t.name (without_number t).1)) at;
+  }
+  step Equal u us at other rest = absurd (let same : true ≡ false = sym (ap is_eq at) ∙ is_eq-slice_cmp t.name u.name ∙ other in cc)
+  step Greater u us at other rest = record {
+    before = u ∷ rest.before;
+    after = rest.after;
+    split = ap (λ xs. u ∷ xs) rest.split;
+    put = ap (λ o. match_ordering o ((t.name, (without_number t).1) ∷ map without_number (u ∷ us)) ((u.name, (without_number t).1) ∷ map without_number us)
+        (without_number u ∷ insert_entry (slice_cmp nat_cmp) (map without_number us) t.name (without_number t).1)) at ∙ ap (λ xs. without_number u ∷ xs) rest.put;
+  }
+
+  place : (us : List NumberedTransfer) → lookup (bytes_eq t.name) (map without_number us) ≡ None → Place t us
+  place [] none = record { before = []; after = []; split = refl; put = refl }
+  place (u ∷ us) none =
+      let both = absent (bytes_eq t.name u.name) (without_number u).1 (lookup (bytes_eq t.name) (map without_number us)) none in
+      step (slice_cmp nat_cmp t.name u.name) u us refl both.0 (place us both.1)
+
+-- ONE TRANSFER MORE
+
+module _ (old new : Trees) (ledger : Ledger) (number : ℤ) (name : List ℕ) (tags : Files) where
+  abbrev more : NumberedTransfer
+  more = opened_under number name tags
+
+  apart_from_all : (us : List NumberedTransfer) → AllByRecursion (λ (row : Row). column row 0 ≢ Int number) (map transfer_row us) → AllByRecursion (λ (u : NumberedTransfer). u.number ≢ number) us
+  apart_from_all [] all = tt
+  apart_from_all (u ∷ us) all = ((λ e. all.0 (ap Int e)), apart_from_all us all.1)
+
+  pub begun_tables : (p : AreTablesOf old ledger) → IsUnused name ledger → AreRising (keys_of tags) → HasOneTransferMore old new more
+      → AreTablesOf new (with_transfer ledger name tags)
+  unfolding IsStrictlySortedBy
+  begun_tables p unused rising rows =
+      let free = λ (row : Row). column row 0 ≢ Int number in
+      let were = map transfer_row p.transfers in
+      let fresh = apart_from_all p.transfers (recursion_from_All free were (All-permutation free (old 2) were (IsPermutation-sym were (old 2) p.rows.transfers) (All-from_recursion free (old 2) rows.fresh))) in
+      let at = place more p.transfers (subst (λ l. lookup (bytes_eq name) l ≡ None) p.is unused) in
+      let fore = at.before in
+      let bs = at.after in
+      let all = fore ++ more ∷ bs in
+      let is : with_transfer ledger name tags ≡ map without_number all = ap (λ l. insert_entry (slice_cmp nat_cmp) l name (begun tags)) p.is ∙ at.put in
+      let middle = IsPermutation-middle fore more bs in
+      let front : IsPermutation all (more ∷ p.transfers) = subst (λ us. IsPermutation all (more ∷ us)) (sym at.split) middle in
+      let items : items_in all ≡ items_in p.transfers = flat_without more (λ (u : NumberedTransfer). u.items) refl fore bs ∙ ap items_in (sym at.split) in
+      let kept : flat_map held_rows all ≡ flat_map held_rows p.transfers = flat_without more held_rows refl fore bs ∙ ap (flat_map held_rows) (sym at.split) in
+      record {
+        transfers = all;
+        rows = record {
+          format = ap without_rowids rows.kept.format ∙ p.rows.format;
+          transfers = IsPermutation-trans _ _ (new 2) (IsPermutation-map transfer_row all (more ∷ p.transfers) front)
+              (IsPermutation-trans _ _ (new 2) (IsPermutation-cons (transfer_row more) (map transfer_row p.transfers) (old 2) p.rows.transfers) rows.transfers);
+          tags = IsPermutation-trans _ _ (without_rowids (new 4)) (IsPermutation-flat_map tag_rows all (more ∷ p.transfers) front)
+              (IsPermutation-trans _ _ (without_rowids (new 4)) (IsPermutation-append_right (tag_rows more) (flat_map tag_rows p.transfers) (without_rowids (old 4)) p.rows.tags) rows.tags);
+          held = rw (kept, rows.kept.held) p.rows.held;
+          pieces = rw (items, rows.kept.pieces) p.rows.pieces;
+        };
+        numbers = apart_middle more (λ (u : NumberedTransfer). u.number) fore bs (subst (AllByRecursion (λ (u : NumberedTransfer). u.number ≢ number)) at.split fresh)
+            (subst (AreApart (λ (u : NumberedTransfer). u.number)) at.split p.numbers);
+        item_numbers = rw items p.item_numbers;
+        cut = rw items p.cut;
+        is = is;
+        order = record {
+          names = entry_rising name (begun tags) ledger p.order.names;
+          tags = subst (AllByRecursion (λ (e : List ℕ × Transfer). AreRising (keys_of e.1.tags))) (sym is)
+              (all_mapped more without_number (λ e. AreRising (keys_of e.1.tags)) fore bs rising
+              (subst (λ us. AllByRecursion (λ (e : List ℕ × Transfer). AreRising (keys_of e.1.tags)) (map without_number us)) at.split (subst (AllByRecursion (λ (e : List ℕ × Transfer). AreRising (keys_of e.1.tags))) p.is p.order.tags)));
+          items = subst (AllByRecursion (λ (e : List ℕ × Transfer). AreRising (keys_of e.1.items))) (sym is)
+              (all_mapped more without_number (λ e. AreRising (keys_of e.1.items)) fore bs tt
+              (subst (λ us. AllByRecursion (λ (e : List ℕ × Transfer). AreRising (keys_of e.1.items)) (map without_number us)) at.split (subst (AllByRecursion (λ (e : List ℕ × Transfer). AreRising (keys_of e.1.items))) p.is p.order.items)));
+        };
+      }

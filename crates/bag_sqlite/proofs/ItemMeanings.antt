@@ -1,0 +1,60 @@
+-- What the texts that read a payload file mean.
+use Rattle.std.proofs.Common.{◌≡◌, ℕ, List, [], ◌∷◌, codes, false, refl}
+use Rattle.sqlite.specs.Command.{Command}
+use Rattle.sqlite.specs.Command.TheVariants.{Select}
+use Rattle.sqlite.specs.Listing.{reads_listing, understood}
+use Rattle.sqlite.specs.Term.{Term, col}
+use Rattle.sqlite.proofs.Callers.{IsPlain, command_of}
+use Rattle.sqlite_tied.specs.Compute.{everything}
+use Rattle.bag_sqlite.specs.Tables.{ledger_schema}
+use Rattle.bag_sqlite.proofs.WhereLemmas.{equals, over}
+
+abbrev pub item_text : List ℕ
+item_text = codes "SELECT id, size FROM held WHERE transfer = ?1 AND path = ?2"
+
+-- the payload file of the transfer with the number and at the path that are given
+abbrev pub item_terms : List Term
+item_terms = equals (col 1 2) (col 0 0) ∷ equals (col 1 3) (col 0 1) ∷ []
+
+abbrev pub item_columns : List Term
+item_columns = col 1 0 ∷ col 1 4 ∷ []
+
+abbrev pub item_command : Command
+item_command = Select (record { lets = []; body = over 6 item_terms item_columns [] }) (codes "id" ∷ codes "size" ∷ [])
+
+pub item_is : command_of (understood ledger_schema item_text) ≡ item_command
+unfolding understood everything
+item_is = refl
+
+pub item_plain : IsPlain (understood ledger_schema item_text)
+unfolding understood everything
+item_plain = (refl, refl)
+
+pub item_unlisted : reads_listing ledger_schema item_text ≡ false
+unfolding everything
+item_unlisted = refl
+
+abbrev pub piece_text : List ℕ
+piece_text = codes "SELECT body FROM piece WHERE item = ?1 AND n = ?2"
+
+-- the piece of the payload file with the number that is given
+abbrev pub piece_terms : List Term
+piece_terms = equals (col 1 1) (col 0 0) ∷ equals (col 1 2) (col 0 1) ∷ []
+
+abbrev pub piece_columns : List Term
+piece_columns = col 1 3 ∷ []
+
+abbrev pub piece_command : Command
+piece_command = Select (record { lets = []; body = over 8 piece_terms piece_columns [] }) (codes "body" ∷ [])
+
+pub piece_is : command_of (understood ledger_schema piece_text) ≡ piece_command
+unfolding understood everything
+piece_is = refl
+
+pub piece_plain : IsPlain (understood ledger_schema piece_text)
+unfolding understood everything
+piece_plain = (refl, refl)
+
+pub piece_unlisted : reads_listing ledger_schema piece_text ≡ false
+unfolding everything
+piece_unlisted = refl

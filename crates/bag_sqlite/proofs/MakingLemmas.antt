@@ -1,0 +1,138 @@
+-- The tables of a ledger are made.
+use Rattle.std.proofs.Common.{◌≡◌, inl, inr, ℕ, List, [], ◌∷◌, ◌++◌, true, false, None, Ok, IsTrue, refl, sym, ap, subst, ◌∙◌, arith}
+use Rattle.std.specs.List.{AllByRecursion}
+use Rattle.std.specs.List.Sorted.{IsPermutation, IsStrictlySortedBy}
+use Rattle.std.proofs.lemmas.List.Sorted.{IsPermutation-refl}
+use Rattle.sqlite.specs.Change.{created, next_tree}
+use Rattle.sqlite.specs.Command.TheVariants.{CreateTable}
+use Rattle.sqlite.specs.Does.{Tally, lacks_sequence}
+use Rattle.sqlite.specs.Effect.{Database}
+use Rattle.sqlite.specs.Held.{Held, state}
+use Rattle.sqlite.specs.Schema.{Schema}
+use Rattle.sqlite.specs.Steps.{FailsToCommit}
+use Rattle.sqlite.specs.State.{ExecutesInside, IsRolledBack, KeepsCommit, Shows, State, Writes}
+use Rattle.sqlite.specs.Store.{Ghosts}
+use Rattle.sqlite.specs.Table.{Table}
+use Rattle.sqlite.specs.Tree.{Trees}
+use Rattle.sqlite.specs.declared.error.Error.{Error}
+use Rattle.sqlite.specs.declared.types.Value.TheVariants.{Int}
+use Rattle.sqlite.proofs.Callers.{one_permutation, runs_as}
+use Rattle.bag_sqlite.specs.Databases.{AreTablesOf, format_row, without_rowids}
+use Rattle.bag_sqlite.specs.Making.{IsCreated, IsLeft, IsMade, IsMaking, Makes}
+use Rattle.bag_sqlite.specs.SqlKeepers.{HoldsLedger}
+use Rattle.bag_sqlite.specs.Tables.{held_tree, ledger_schema, meta, meta_tree, no_schema, piece_tree, tag_tree, transfer_tree}
+use Rattle.bag_sqlite.proofs.InsertLemmas.{row_inserted, same_value, went}
+use Rattle.bag_sqlite.proofs.MeaningLemmas.{format_is, format_plain, format_terms, format_text}
+use Rattle.bag_ledger.proofs.SoundLemmas.{sound_nothing}
+use Rattle.bag_sqlite.proofs.SqlLemmas.{cast_int, cast_null}
+
+-- A TABLE
+
+abbrev pub AreEmptyIn : Trees → List Table → Type 0
+AreEmptyIn trees = AllByRecursion (λ (table : Table). trees table.tree ≡ [])
+
+stay_empty : (old new : Trees) (tables : List Table) → AllByRecursion (λ (t : Table). new t.tree ≡ old t.tree) tables → AreEmptyIn old tables → AreEmptyIn new tables
+stay_empty old new [] same empty = tt
+stay_empty old new (t ∷ ts) same empty = (same.0 ∙ empty.0, stay_empty old new ts same.1 empty.1)
+
+one_more : (trees : Trees) (tables : List Table) (last : Table) → AreEmptyIn trees tables → trees last.tree ≡ [] → AreEmptyIn trees (tables ++ last ∷ [])
+one_more trees [] last empty new = (new, tt)
+one_more trees (t ∷ ts) last empty new = (empty.0, one_more trees ts last empty.1 new)
+
+pub table_made : (old new : State) (text : List ℕ) (count : ℕ) (before : Schema) (table : Table) → Makes before text table → IsMaking before old → ExecutesInside 0 text [] old new (Ok count)
+    → IsMaking (created before table) new
+table_made old new text count before table makes making ran =
+    let w = subst (λ t. Writes old new None CreateTable t [] count) makes.statement (runs_as text [] old new before making.schema_is CreateTable makes.command makes.plain count ran.0) in
+    let all = went w.changed in
+    let first = went all.1 in
+    let made = first.1 in
+    let same : made.table ≡ table = same_value (sym made.defined ∙ makes.defined) in
+    let schema : first.0.schema ≡ created before table = made.is ∙ ap (λ s. created s made.table) making.schema_is ∙ ap (created before) same in
+    let plain : lacks_sequence first.0.schema ≡ false = ap lacks_sequence schema ∙ makes.uncounted in
+    let now : new.now ≡ first.0 = ap (λ (p : Tally × Database). p.1) (same_value all.2) ∙ same_value (rw plain at first.2) in
+    let others = subst (λ (s : Schema). AllByRecursion (λ (t : Table). first.0.trees t.tree ≡ old.now.trees t.tree) s.tables) making.schema_is made.others in
+    let empty : first.0.trees (next_tree before) ≡ [] = subst (λ s. first.0.trees (next_tree s) ≡ []) making.schema_is made.empty in
+    let done : AreEmptyIn first.0.trees (created before table).tables = one_more first.0.trees before.tables (record table { tree = next_tree before })
+    (stay_empty old.now.trees first.0.trees before.tables others making.empty) empty in
+    record {
+      mode = ran.1.mode;
+      schema_is = ap (λ (d : Database). d.schema) now ∙ schema;
+      empty = subst (λ (d : Database). AreEmptyIn d.trees (created before table).tables) (sym now) done;
+    }
+
+-- THE ROW OF THE FORMAT
+
+pub no_transfer : (trees : Trees) → without_rowids (trees meta_tree) ≡ format_row ∷ [] → trees transfer_tree ≡ [] → trees tag_tree ≡ [] → trees held_tree ≡ [] → trees piece_tree ≡ []
+    → AreTablesOf trees []
+unfolding IsStrictlySortedBy
+no_transfer trees format transfers tags held pieces = record {
+  transfers = [];
+  rows = record {
+    format = format;
+    transfers = subst (IsPermutation []) (sym transfers) (IsPermutation-refl []);
+    tags = subst (λ rows. IsPermutation [] (without_rowids rows)) (sym tags) (IsPermutation-refl []);
+    held = subst (IsPermutation []) (sym held) (IsPermutation-refl []);
+    pieces = subst (λ rows. IsPermutation [] (without_rowids rows)) (sym pieces) (IsPermutation-refl []);
+  };
+  numbers = tt;
+  item_numbers = tt;
+  cut = tt;
+  is = refl;
+  order = record { names = tt; tags = tt; items = tt };
+}
+
+pub format_written : (old new : State) (count : ℕ) → IsMaking ledger_schema old → ExecutesInside 0 format_text [] old new (Ok count) → IsMade new
+format_written old new count making ran =
+    let row = row_inserted meta 0 format_terms 3 format_text [] format_row old new count making.schema_is refl format_is format_plain (rw (cast_null, cast_int)) ran.0 in
+    let empty = making.empty in
+    let rows = one_permutation (Int new.last_rowid ∷ format_row) (new.now.trees 0) (rw empty.0 at row.rows) in
+    record {
+      mode = ran.1.mode;
+      schema_is = row.schema_is;
+      tables = no_transfer new.now.trees (ap without_rowids rows)
+          (row.others.1.0 (λ e. omega (arith, e)) ∙ empty.1.0)
+          (row.others.1.1.0 (λ e. omega (arith, e)) ∙ empty.1.1.0)
+          (row.others.1.1.1.0 (λ e. omega (arith, e)) ∙ empty.1.1.1.0)
+          (row.others.1.1.1.1.0 (λ e. omega (arith, e)) ∙ empty.1.1.1.1.0);
+    }
+
+-- THE COMMIT
+
+pub created_by : (mid end : State) → IsMade mid → Shows mid end mid.now mid.now false → IsCreated end
+created_by mid end made shows = record {
+  is_open = shows.is_open;
+  autocommit = shows.mode;
+  schema_is = ap (λ (d : Database). d.schema) shows.now_is ∙ made.schema_is;
+  tables = subst (λ (d : Database). AreTablesOf d.trees []) (sym shows.now_is) made.tables;
+  committed = shows.committed_is ∙ sym shows.now_is;
+}
+
+-- a transaction that began here was undone
+pub left_by_undoing : (old mid end : State) → old.in_transaction ≡ false → KeepsCommit old mid → IsRolledBack mid end → IsLeft old end
+left_by_undoing old mid end idle kept back = record {
+  mode = back.autocommit ∙ sym idle;
+  was_open = λ h. kept.was_open (back.was_open h);
+  committed = λ h. (back.undone h).1 ∙ kept.committed (back.was_open h);
+  now = λ h _. (back.undone h).0 ∙ kept.committed (back.was_open h);
+}
+
+pub left_by_failing : (old mid end : State) (e : Error) → old.in_transaction ≡ false → IsTrue mid.in_transaction → KeepsCommit old mid → FailsToCommit mid end e → IsLeft old end
+left_by_failing old mid end e idle inside kept (inl failed) = left_by_undoing old mid end idle kept failed.3
+left_by_failing old mid end e idle inside kept (inr late) = absurd (let f = late.1 in cc)
+
+-- THE TRANSACTION BEGINS
+
+pub begin_making : {S : Type 0} (g : Ghosts S) (old : Held S) → (state g old).now.schema ≡ no_schema → IsMaking no_schema (state g (record old { in_transaction = true }))
+begin_making g old blank = record { mode = refl; schema_is = blank; empty = tt }
+
+pub kept_since : {S : Type 0} (g : Ghosts S) (old : Held S) (mid : State) → KeepsCommit (state g (record old { in_transaction = true })) mid → KeepsCommit (state g old) mid
+kept_since g old mid kept = record { was_open = kept.was_open; committed = kept.committed }
+
+-- WHAT THE KEEPER OF A NEW LEDGER HOLDS
+
+pub holds_nothing : (s : State) → IsCreated s → ((trees : Trees) → IsTrue s.is_open → s.may_leave trees → trees ≡ s.committed.trees) → HoldsLedger s []
+holds_nothing s created settled = record {
+  sound = sound_nothing;
+  shows = λ _. record { schema_is = created.schema_is; tables = created.tables; committed = created.committed };
+  outcomes = λ trees left. ([], sound_nothing, subst (λ (t : Trees). AreTablesOf t []) (sym (settled trees created.is_open left ∙ ap (λ (d : Database). d.trees) created.committed)) created.tables);
+}

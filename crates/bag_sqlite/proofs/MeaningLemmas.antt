@@ -1,0 +1,88 @@
+-- What the texts of a ledger's statements mean.
+use Rattle.std.proofs.Common.{◌≡◌, ℕ, List, [], ◌∷◌, codes, pos, refl}
+use Rattle.sqlite.specs.Command.TheVariants.{Insert}
+use Rattle.sqlite.specs.Listing.{understood}
+use Rattle.sqlite.specs.Source.TheVariants.{Values}
+use Rattle.sqlite.specs.Term.{Term, col, lit}
+use Rattle.sqlite.specs.declared.types.Value.TheVariants.{Int, Null, Text}
+use Rattle.sqlite.proofs.Callers.{IsPlain, command_of}
+use Rattle.sqlite_tied.specs.Compute.{everything}
+use Rattle.bag_sqlite.specs.Making.{Makes}
+use Rattle.bag_sqlite.specs.Tables.{held, ledger_schema, meta, no_schema, piece, schema_to_held, schema_to_meta, schema_to_tag, schema_to_transfer, tag, transfer}
+
+abbrev pub meta_text : List ℕ
+meta_text = codes "CREATE TABLE meta (k TEXT NOT NULL PRIMARY KEY, v INTEGER NOT NULL) STRICT"
+
+pub makes_meta : Makes no_schema meta_text meta
+unfolding understood everything
+makes_meta = record { command = refl; statement = refl; plain = (refl, refl); defined = refl; uncounted = refl }
+
+abbrev pub transfer_text : List ℕ
+transfer_text = codes "CREATE TABLE transfer (id INTEGER PRIMARY KEY, name TEXT NOT NULL UNIQUE) STRICT"
+
+pub makes_transfer : Makes schema_to_meta transfer_text transfer
+unfolding understood everything
+makes_transfer = record { command = refl; statement = refl; plain = (refl, refl); defined = refl; uncounted = refl }
+
+abbrev pub tag_text : List ℕ
+tag_text = codes "CREATE TABLE tag (transfer INTEGER NOT NULL REFERENCES transfer(id), path TEXT NOT NULL, body BLOB NOT NULL, PRIMARY KEY (transfer, path)) STRICT"
+
+pub makes_tag : Makes schema_to_transfer tag_text tag
+unfolding understood everything
+makes_tag = record { command = refl; statement = refl; plain = (refl, refl); defined = refl; uncounted = refl }
+
+abbrev pub held_text : List ℕ
+held_text = codes "CREATE TABLE held (id INTEGER PRIMARY KEY, transfer INTEGER NOT NULL REFERENCES transfer(id), path TEXT NOT NULL, size INTEGER NOT NULL, UNIQUE (transfer, path)) STRICT"
+
+pub makes_held : Makes schema_to_tag held_text held
+unfolding understood everything
+makes_held = record { command = refl; statement = refl; plain = (refl, refl); defined = refl; uncounted = refl }
+
+abbrev pub piece_text : List ℕ
+piece_text = codes "CREATE TABLE piece (item INTEGER NOT NULL REFERENCES held(id), n INTEGER NOT NULL, body BLOB NOT NULL, PRIMARY KEY (item, n)) STRICT"
+
+pub makes_piece : Makes schema_to_held piece_text piece
+unfolding understood everything
+makes_piece = record { command = refl; statement = refl; plain = (refl, refl); defined = refl; uncounted = refl }
+
+abbrev pub format_text : List ℕ
+format_text = codes "INSERT INTO meta (k, v) VALUES ('bag-ledger', 2)"
+
+abbrev pub format_terms : List Term
+format_terms = lit Null ∷ lit (Text (codes "bag-ledger")) ∷ lit (Int (pos 2)) ∷ []
+
+pub format_is : command_of (understood ledger_schema format_text) ≡ Insert 0 (Values format_terms 3)
+unfolding understood everything
+format_is = refl
+
+pub format_plain : IsPlain (understood ledger_schema format_text)
+unfolding understood everything
+format_plain = (refl, refl)
+
+abbrev pub new_transfer_text : List ℕ
+new_transfer_text = codes "INSERT INTO transfer (name) VALUES (?1)"
+
+abbrev pub new_transfer_terms : List Term
+new_transfer_terms = lit Null ∷ lit Null ∷ col 0 0 ∷ []
+
+pub new_transfer_is : command_of (understood ledger_schema new_transfer_text) ≡ Insert 1 (Values new_transfer_terms 3)
+unfolding understood everything
+new_transfer_is = refl
+
+pub new_transfer_plain : IsPlain (understood ledger_schema new_transfer_text)
+unfolding understood everything
+new_transfer_plain = (refl, refl)
+
+abbrev pub new_tag_text : List ℕ
+new_tag_text = codes "INSERT INTO tag (transfer, path, body) VALUES (?1, ?2, ?3)"
+
+abbrev pub new_tag_terms : List Term
+new_tag_terms = lit Null ∷ col 0 0 ∷ col 0 1 ∷ col 0 2 ∷ []
+
+pub new_tag_is : command_of (understood ledger_schema new_tag_text) ≡ Insert 2 (Values new_tag_terms 4)
+unfolding understood everything
+new_tag_is = refl
+
+pub new_tag_plain : IsPlain (understood ledger_schema new_tag_text)
+unfolding understood everything
+new_tag_plain = (refl, refl)

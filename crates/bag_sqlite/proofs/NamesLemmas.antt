@@ -1,0 +1,111 @@
+-- The names that a query shows are those of the ledger, in order.
+use Rattle.std.proofs.Common.{◌≡◌, ◌<◌, ◌+◌, ℕ, List, [], ◌∷◌, Ordering, Less, Equal, Greater, drop, is_lt, length, map, refl, sym, ap, subst, ◌∙◌, arith}
+use Rattle.std.specs.Prelude.{IsPermutation, IsSorted, flat_map, slice_index_or}
+use Rattle.std.specs.Cmp.Lexicographic.{slice_cmp}
+use Rattle.std.specs.List.{AllByRecursion}
+use Rattle.std.specs.List.Sorted.{IsStrictlySortedBy}
+use Rattle.std.specs.Map.{keys_of}
+use Rattle.std.specs.Ordering.{nat_cmp, ordering_then}
+use Rattle.std.proofs.lemmas.Cmp.{nat_list_cmp_total}
+use Rattle.std.proofs.lemmas.List.{get_or-map, length-map}
+use Rattle.std.proofs.lemmas.List.Elements.{All-from_recursion, recursion_from_All}
+use Rattle.std.proofs.lemmas.List.Sorted.{All-permutation, IsPermutation-map, IsPermutation-trans}
+use Rattle.bag_rules.specs.Trees.{AreRising}
+use Rattle.sqlite.specs.Order.{Row}
+use Rattle.sqlite.specs.Program.{overlay}
+use Rattle.sqlite.specs.Query.{IsAnswer, Output, output, output_cmp}
+use Rattle.sqlite.specs.State.{Shown, State}
+use Rattle.sqlite.specs.Tree.{IsAscending}
+use Rattle.sqlite.specs.declared.types.Value.TheVariants.{Null, Text}
+use Rattle.sqlite.proofs.Callers.{reads_as}
+use Rattle.sqlite_keyed.proofs.SortLemmas.{sorted_unique}
+use Rattle.sqlite_value.specs.Order.{bytes, column}
+use Rattle.sqlite_value.proofs.OrderLemmas.{value_cmp-Text}
+use Rattle.bag_sqlite.specs.Databases.{AreTablesOf, NumberedTransfer, transfer_row, without_number}
+use Rattle.bag_ledger.specs.Ledgers.{Ledger}
+use Rattle.bag_sqlite.specs.Tables.{ledger_schema}
+use Rattle.bag_ledger.proofs.EntryLemmas.{map_twice}
+use Rattle.bag_sqlite.proofs.QueryMeanings.{names_command, names_is, names_plain, names_query, names_text, names_unlisted}
+
+-- LISTS
+
+pub flat_single : {X Y : Type 0} (f : X → Y) (xs : List X) → flat_map (λ x. f x ∷ []) xs ≡ map f xs
+flat_single f [] = refl
+flat_single f (x ∷ xs) = ap (λ ys. f x ∷ ys) (flat_single f xs)
+
+pub drop_zero : {X : Type 0} (xs : List X) → drop 0 xs ≡ xs
+drop_zero [] = refl
+drop_zero (x ∷ xs) = refl
+
+pub ascends : (names : List (List ℕ)) → AreRising names → IsAscending (λ a b. slice_cmp nat_cmp a b ≡ Less) names
+unfolding IsStrictlySortedBy
+ascends [] rising = tt
+ascends (n ∷ ns) rising = (rising.0, ascends ns rising.1)
+
+-- OUTPUTS OF ONE TEXT
+
+-- a text that is sorted by itself
+abbrev out : List ℕ → Output
+out name = (Text name ∷ [], Text name ∷ [])
+
+abbrev text : Output → List ℕ
+text o = bytes (column o.1 0)
+
+all_out : (names : List (List ℕ)) → AllByRecursion (λ o. o ≡ out (text o)) (map out names)
+all_out [] = tt
+all_out (n ∷ ns) = (refl, all_out ns)
+
+texts_back : (names : List (List ℕ)) → map text (map out names) ≡ names
+texts_back [] = refl
+texts_back (n ∷ ns) = ap (λ rest. n ∷ rest) (texts_back ns)
+
+outs_back : (os : List Output) → AllByRecursion (λ o. o ≡ out (text o)) os → os ≡ map out (map text os)
+outs_back [] all = refl
+outs_back (o ∷ os) all = ap (λ w. w ∷ os) all.0 ∙ ap (λ rest. out (text o) ∷ rest) (outs_back os all.1)
+
+then_equal : (o : Ordering) → ordering_then o Equal ≡ o
+then_equal Less = refl
+then_equal Equal = refl
+then_equal Greater = refl
+
+by_text : (a b : List ℕ) → output_cmp names_query (out a) (out b) ≡ slice_cmp nat_cmp a b
+by_text a b = then_equal _ ∙ value_cmp-Text a b
+
+sorted_texts : (names : List (List ℕ)) → IsSorted (output_cmp names_query) (map out names) → IsSorted (slice_cmp nat_cmp) names
+sorted_texts names sorted k d low high =
+    let within : k + 1 < length (map out names) = rw (length-map names out) high in
+    let e = sorted k (out d) low within in
+    let at = rw (get_or-map out names (k + 1) d (out d) high, get_or-map out names k d (out d) (omega (arith, high))) at e in
+    sym (ap is_lt (by_text (slice_index_or names (k + 1) d) (slice_index_or names k d))) ∙ at
+
+-- sorted outputs of names that rise are those names in order
+same_outs : (names : List (List ℕ)) (os : List Output) → AreRising names → IsPermutation (map out names) os → IsSorted (output_cmp names_query) os → os ≡ map out names
+same_outs names os rising moves sorted =
+    let all = recursion_from_All (λ o. o ≡ out (text o)) os (All-permutation (λ o. o ≡ out (text o)) (map out names) os moves (All-from_recursion (λ o. o ≡ out (text o)) (map out names) (all_out names))) in
+    let back : os ≡ map out (map text os) = outs_back os all in
+    let moved : IsPermutation names (map text os) = subst (λ ns. IsPermutation ns (map text os)) (texts_back names) (IsPermutation-map text (map out names) os moves) in
+    let texts : map text os ≡ names = sorted_unique (slice_cmp nat_cmp) nat_list_cmp_total names (map text os) (ascends names rising) moved
+    (sorted_texts (map text os) (subst (IsSorted (output_cmp names_query)) back sorted)) in
+    back ∙ ap (map out) texts
+
+-- THE QUERY
+
+abbrev made : Row → Output
+made r = output names_query ([] ∷ r ∷ [])
+
+pub names_shown : (s new : State) (rows : List Row) (ledger : Ledger) → s.now.schema ≡ ledger_schema → AreTablesOf s.now.trees ledger → Shown names_text [] s new rows
+    → rows ≡ map (λ name. Text name ∷ []) (keys_of ledger)
+names_shown s new rows ledger has tables shown =
+    let got = reads_as names_text [] s new ledger_schema has names_command names_is names_plain names_unlisted rows shown in
+    let a : IsAnswer names_query (overlay s.now.trees []) [] rows = got.answer Null in
+    let db = s.now.trees 2 in
+    let staged : a.staged ≡ map (λ r. [] ∷ r ∷ []) db = a.grouped ∙ flat_single (λ r. [] ∷ r ∷ []) db in
+    let kept : a.kept ≡ map made db = a.distinct ∙ ap (map (output names_query)) staged ∙ map_twice (λ r. [] ∷ r ∷ []) (output names_query) db in
+    let ts = tables.transfers in
+    let names : keys_of ledger ≡ map (λ (t : NumberedTransfer). t.name) ts = ap keys_of tables.is ∙ map_twice without_number (λ e. e.0) ts in
+    let start : map made (map transfer_row ts) ≡ map out (keys_of ledger) =
+    map_twice transfer_row made ts ∙ sym (map_twice (λ (t : NumberedTransfer). t.name) out ts) ∙ ap (map out) (sym names) in
+    let moves : IsPermutation (map out (keys_of ledger)) a.ordered =
+    subst (λ k. IsPermutation k a.ordered) start (IsPermutation-trans _ _ a.ordered (IsPermutation-map made (map transfer_row ts) db tables.rows.transfers) (subst (λ k. IsPermutation k a.ordered) kept a.same)) in
+    let ordered : a.ordered ≡ map out (keys_of ledger) = same_outs (keys_of ledger) a.ordered tables.order.names moves a.sorted in
+    a.shown ∙ drop_zero (map (λ (o : Output). o.1) a.ordered) ∙ ap (map (λ (o : Output). o.1)) ordered ∙ map_twice out (λ (o : Output). o.1) (keys_of ledger)

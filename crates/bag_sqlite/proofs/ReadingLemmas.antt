@@ -1,0 +1,124 @@
+-- A query commits nothing, and its texts are read in turn.
+use Rattle.std.proofs.Common.{false, ◌≡◌, ◌⊎◌, ◌<◌, ◌+◌, inl, inr, ℕ, suc, List, [], ◌∷◌, ◌++◌, Option, Some, None, Result, Ok, Err, IfOk, IsTrue, true, get_or, length, map, string_bytes, take, ap, refl, subst, sym, if◌then◌else◌, ◌∙◌, arith}
+use Rattle.std.specs.declared.alloc.Global.{Global}
+use Rattle.std.specs.declared.string.String.{String}
+use Rattle.std.proofs.Math.Seq.{take-suc}
+use Rattle.sqlite.specs.Effect.{Database}
+use Rattle.sqlite.specs.Held.{Held, state}
+use Rattle.sqlite.specs.Order.{Row}
+use Rattle.sqlite.specs.State.{FailsToQuery, FailsToShow, IsNotRun, IsRolledBack, IsTooLate, HasCleanDisk, IsUnchanged, KeepsCommit, Shown, ShowsRows, State, Survives}
+use Rattle.sqlite.specs.Store.{Ghosts}
+use Rattle.sqlite.specs.declared.error.Error.{Error}
+use Rattle.sqlite.specs.declared.types.Value.{Value}
+use Rattle.sqlite.specs.declared.types.Value.TheVariants.{Text}
+use Rattle.sqlite.proofs.InsideLemmas.{unchanged_keeps}
+use Rattle.sqlite_resolve.specs.declared.compiled.Compiled.{Compiled}
+use Rattle.sqlite_schema.specs.declared.command.Returning.{Returning}
+use Rattle.sqlite_value.specs.Order.{bytes, column}
+use Rattle.bag_ledger.specs.Ledgers.{Ledger}
+use Rattle.bag_ledger.proofs.EntryLemmas.{map_twice}
+use Rattle.bag_sqlite.specs.Databases.{AreTablesOf}
+use Rattle.bag_sqlite.specs.Making.{IsLeft}
+use Rattle.bag_sqlite.specs.SqlKeepers.{HoldsLedger}
+use Rattle.bag_sqlite.proofs.MakingLemmas.{kept_since}
+
+module _ (old new : State) (sql : List ℕ) (params : Row) where
+  kept_by : (c : Compiled) (given : Row) (rows : List Row) (o : Option Returning) → IsTrue old.in_transaction → ShowsRows old new sql c given rows o → KeepsCommit old new
+  kept_by c given rows None mode h = unchanged_keeps old new (inl h.3)
+  kept_by c given rows (Some what) mode h =
+      let shown = h.1.shown in
+      record { was_open = λ _. shown.was_open; committed = λ _. shown.committed_is ∙ ap (λ b. if b then old.committed else new.now) mode }
+
+  pub kept_shown : (rows : List Row) → IsTrue old.in_transaction → Shown sql params old new rows → KeepsCommit old new
+  unfolding Shown
+  kept_shown rows mode h = kept_by h.0 _ rows h.0.returning mode h.2
+
+  open_by : (c : Compiled) (given : Row) (rows : List Row) (o : Option Returning) → ShowsRows old new sql c given rows o → IsTrue old.is_open
+  open_by c given rows None h = h.3.0.was_open
+  open_by c given rows (Some what) h = h.1.shown.was_open
+
+  -- what shows rows is open
+  pub was_open : (rows : List Row) → Shown sql params old new rows → IsTrue old.is_open
+  unfolding Shown
+  was_open rows h = open_by h.0 _ rows h.0.returning h.2
+
+  stays_by : (c : Compiled) (given : Row) (e : Error) (o : Option Returning) → FailsToShow old new sql c given e o → IsUnchanged old new ⊎ IsRolledBack old new
+  stays_by c given e None h = inl h.3
+  stays_by c given e (Some what) (inl refused) = inl refused.1
+  stays_by c given e (Some what) (inr failed) = inr failed.3
+
+  stays : (e : Error) → FailsToQuery sql params old new e → IsUnchanged old new ⊎ IsRolledBack old new
+  unfolding FailsToQuery IsNotRun
+  stays e (inl (inl refused)) = inl refused.1
+  stays e (inl (inr failed)) = inr failed.3
+  stays e (inr shown) = stays_by shown.0 _ e shown.0.returning shown.2
+
+  pub kept_failed : (e : Error) → FailsToQuery sql params old new e ⊎ IsTooLate sql params old new e → KeepsCommit old new
+  kept_failed e (inl failed) = unchanged_keeps old new (stays e failed)
+  kept_failed e (inr late) = unchanged_keeps old new (inl late.5)
+
+-- in a transaction that began at this connection
+module _ {S : Type 0} (g : Ghosts S) (old begun : Held S) (mid : State) (sql : List ℕ) (params : Row) (is : begun ≡ record old { in_transaction = true }) where
+  pub kept_query : (rows : List Row) → Shown sql params (state g begun) mid rows → KeepsCommit (state g old) mid
+  kept_query rows shown =
+      let start = state g (record old { in_transaction = true }) in
+      kept_since g old mid (kept_shown start mid sql params rows refl (subst (λ (h : Held S). Shown sql params (state g h) mid rows) is shown))
+
+  pub kept_refusal : (e : Error) → FailsToQuery sql params (state g begun) mid e ⊎ IsTooLate sql params (state g begun) mid e → KeepsCommit (state g old) mid
+  kept_refusal e failed =
+      let start = state g (record old { in_transaction = true }) in
+      kept_since g old mid (kept_failed start mid sql params e (subst (λ (h : Held S). FailsToQuery sql params (state g h) mid e ⊎ IsTooLate sql params (state g h) mid e) is failed))
+
+-- A SECOND READ
+
+-- after a read the connection shows what it showed
+pub same_shown : (old new : State) → IsLeft old new → old.in_transaction ≡ false → IsTrue new.is_open → old.committed ≡ old.now → new.now ≡ old.now
+same_shown old new left idle is_open committed = left.now is_open idle ∙ committed
+
+-- and holds what it held
+pub still_holds : (old new : State) (ledger : Ledger) → HasCleanDisk new → IsLeft old new → old.in_transaction ≡ false → Survives old new (λ _. ⊥) → HoldsLedger old ledger → HoldsLedger new ledger
+still_holds old new ledger clean left idle survives holds = record {
+  sound = holds.sound;
+  shows = λ is_open.
+      let shows = holds.shows (left.was_open is_open) in
+      let same = same_shown old new left idle is_open shows.committed in
+      record {
+        schema_is = ap (λ (d : Database). d.schema) same ∙ shows.schema_is;
+        tables = subst (λ (d : Database). AreTablesOf d.trees ledger) (sym same) shows.tables;
+        committed = left.committed is_open ∙ sym (left.now is_open idle);
+      };
+  outcomes = λ trees may. holds.outcomes trees (elim (survives.crash clean trees may) [ inl before ↦ before | inr none ↦ absurd none ]);
+}
+
+-- TEXTS
+
+abbrev pub as_text : String Global → Value
+as_text text = Text (string_bytes text)
+
+abbrev pub first_of : Row → Value
+first_of row = column row 0
+
+map_push : {X Y : Type 0} (f : X → Y) (xs : List X) (y : X) → map f (xs ++ y ∷ []) ≡ map f xs ++ f y ∷ []
+map_push f [] y = refl
+map_push f (x ∷ xs) y = ap (λ rest. f x ∷ rest) (map_push f xs y)
+
+pub texts_grow : (rows : List Row) (i : ℕ) (row : Row) (texts : List (String Global)) (text : String Global) → i < length rows → row ≡ get_or rows i row → first_of row ≡ as_text text
+    → map as_text texts ≡ map first_of (take i rows) → map as_text (texts ++ text ∷ []) ≡ map first_of (take (i + 1) rows)
+texts_grow rows i row texts text low at is so_far =
+    let next : i + 1 ≡ suc i = omega arith in
+    let split : take (i + 1) rows ≡ take i rows ++ get_or rows i row ∷ [] = rw next (take-suc rows i row low) in
+    map_push as_text texts text ∙ ap (λ l. l ++ as_text text ∷ []) so_far ∙ ap (λ v. map first_of (take i rows) ++ v ∷ []) (sym is ∙ ap first_of at)
+    ∙ sym (map_push first_of (take i rows) (get_or rows i row)) ∙ ap (map first_of) (sym split)
+
+rows_named : (names : List (List ℕ)) → map bytes (map first_of (map (λ name. Text name ∷ []) names)) ≡ names
+rows_named [] = refl
+rows_named (n ∷ ns) = ap (λ rest. n ∷ rest) (rows_named ns)
+
+-- texts that were read from rows of one text each
+pub texts_named : (rows : List Row) (texts : List (String Global)) (names : List (List ℕ)) → rows ≡ map (λ name. Text name ∷ []) names → map as_text texts ≡ map first_of rows
+    → map string_bytes texts ≡ names
+texts_named rows texts names is read = sym (map_twice as_text bytes texts) ∙ ap (map bytes) (read ∙ ap (map first_of) is) ∙ rows_named names
+
+pub if_ok : {A E : Type 0} (r : Result A E) (P Q : A → Type 0) → ((a : A) → P a → Q a) → IfOk r P → IfOk r Q
+if_ok (Ok a) P Q f h = f a h
+if_ok (Err e) P Q f h = tt

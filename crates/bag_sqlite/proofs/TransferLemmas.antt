@@ -1,0 +1,127 @@
+-- The transfer with a name, in the ledger and among the rows.
+use Rattle.std.proofs.Common.{◌≡◌, ◌&&◌, ℕ, List, [], ◌∷◌, Bool, true, false, Option, Some, None, cond, inl, inr, map, refl, sym, ap, subst, ◌∙◌, slice_index_or}
+use Rattle.std.specs.Prelude.{MatchOption, ℤ}
+use Rattle.std.specs.Cmp.Lexicographic.{slice_cmp}
+use Rattle.std.specs.List.{IsDistinct}
+use Rattle.std.specs.Map.{keys_of, lookup}
+use Rattle.std.specs.Ordering.{nat_cmp}
+use Rattle.std.specs.Str.{bytes_eq}
+use Rattle.std.proofs.lemmas.Cmp.{nat_list_eq_equiv}
+use Rattle.std.proofs.lemmas.List.Sorted.{IsPermutation-sym}
+use Rattle.std.proofs.lemmas.Map.Entries.{lookup_from_place}
+use Rattle.std.proofs.lemmas.Map.Keys.{IsDistinct-from_sorted}
+use Rattle.std.proofs.lemmas.Map.Text.{is_eq-slice_cmp}
+use Rattle.std.proofs.lemmas.Option.{same_Some}
+use Rattle.std.proofs.lemmas.Slice.Eq.{bytes_eq-Decides}
+use Rattle.bag_rules.specs.Faults.{Has}
+use Rattle.bag_rules.specs.Trees.{AreRising}
+use Rattle.bag_rules.proofs.HasLemmas.{has_from_map, has_map, place_of_has}
+use Rattle.bag_ledger.specs.Ledgers.{Ledger, Transfer, transfer_of}
+use Rattle.sqlite.specs.Order.{Row, column}
+use Rattle.sqlite.specs.State.{Shown, State}
+use Rattle.sqlite.specs.Term.{Term, col}
+use Rattle.sqlite.specs.Tree.{Trees}
+use Rattle.sqlite.specs.declared.types.Value.TheVariants.{Int, Null, Text}
+use Rattle.sqlite.proofs.Callers.{reads_as}
+use Rattle.bag_sqlite.specs.Databases.{AreTablesOf, NumberedTransfer, transfer_row, without_number}
+use Rattle.bag_sqlite.specs.Reading.{HasTransferRow}
+use Rattle.bag_sqlite.specs.Tables.{ledger_schema}
+use Rattle.bag_sqlite.proofs.OneLedger.{has_moved}
+use Rattle.bag_sqlite.proofs.TransferMeanings.{number_command, number_is, number_plain, number_text, number_unlisted}
+use Rattle.bag_sqlite.proofs.WhereLemmas.{Lists, answer_lists, equal_texts, equals, has_from_shown, has_shown, passes}
+
+-- LOOK-UPS
+
+-- an entry that is among entries in order is the one that is found
+pub found_entry : {X : Type 0} (es : List (List ℕ × X)) (e : List ℕ × X) → AreRising (keys_of es) → Has es e → lookup (bytes_eq e.0) es ≡ Some e.1
+found_entry es e rising has =
+    let place = place_of_has es e has in
+    lookup_from_place nat_list_eq_equiv es place.0 e.0 e.1
+    (subst (λ eq. IsDistinct eq (keys_of es)) (λ t x y. is_eq-slice_cmp x y t) (IsDistinct-from_sorted (slice_cmp nat_cmp) (keys_of es) rising)) place.1
+
+found_by : {X : Type 0} (b : Bool) (key : List ℕ) (x : X) (e : List ℕ × X) (es : List (List ℕ × X)) → bytes_eq key e.0 ≡ b → cond b (Some e.1) (lookup (bytes_eq key) es) ≡ Some x
+    → (lookup (bytes_eq key) es ≡ Some x → Has es (key, x)) → Has (e ∷ es) (key, x)
+found_by true key x e es at here rest = inl (λ t. (sym ((bytes_eq-Decides key e.0).0 at) t, same_Some e.1 x here t))
+found_by false key x e es at here rest = inr (rest here)
+
+-- what is found is among the entries
+pub entry_found : {X : Type 0} (es : List (List ℕ × X)) (key : List ℕ) (x : X) → lookup (bytes_eq key) es ≡ Some x → Has es (key, x)
+entry_found {X} [] key x here = absurd (let e : ◌≡◌ {A = Option X} None (Some x) = here in cc)
+entry_found (e ∷ es) key x here = found_by (bytes_eq key e.0) key x e es refl here (entry_found es key x)
+
+-- TRANSFERS AND THEIR NUMBERS
+
+module _ (trees : Trees) (ledger : Ledger) (tables : AreTablesOf trees ledger) where
+  -- a transfer of the ledger has a number
+  pub numbered : (name : List ℕ) (transfer : Transfer) → transfer_of ledger name ≡ Some transfer → (t : NumberedTransfer) × Has tables.transfers t × (without_number t ≡ (name, transfer))
+  numbered name transfer there =
+      has_from_map without_number tables.transfers (name, transfer) (subst (λ l. Has l (name, transfer)) tables.is (entry_found ledger name transfer there))
+
+  pub row_there : (t : NumberedTransfer) → Has tables.transfers t → Has (trees 2) (transfer_row t)
+  row_there t has = has_moved (map transfer_row tables.transfers) (trees 2) (transfer_row t) tables.rows.transfers (has_map transfer_row tables.transfers t has)
+
+  pub row_of : (row : Row) → Has (trees 2) row → (t : NumberedTransfer) × Has tables.transfers t × (transfer_row t ≡ row)
+  row_of row has =
+      let rows = map transfer_row tables.transfers in
+      has_from_map transfer_row tables.transfers row (has_moved (trees 2) rows row (IsPermutation-sym rows (trees 2) tables.rows.transfers) has)
+
+  same_row : (a b : ℤ) (s t : List ℕ) → ◌≡◌ {A = Row} (Int a ∷ Null ∷ Text s ∷ []) (Int b ∷ Null ∷ Text t ∷ []) → (a ≡ b) × (s ≡ t)
+  same_row a b s t e = (cc, cc)
+
+  -- the transfer whose row has this name and number
+  pub transfer_at : (name : List ℕ) (number : ℤ) → HasTransferRow trees name number
+      → (t : NumberedTransfer) × Has tables.transfers t × (t.number ≡ number) × (transfer_of ledger name ≡ Some (without_number t).1)
+  transfer_at name number has =
+      let it = row_of (Int number ∷ Null ∷ Text name ∷ []) has in
+      let t = it.0 in
+      let same = same_row t.number number t.name name it.2 in
+      let entry : Has ledger (without_number t) = subst (λ l. Has l (without_number t)) (sym tables.is) (has_map without_number tables.transfers t it.1) in
+      (t, it.1, same.0, subst (λ n. transfer_of ledger n ≡ Some (without_number t).1) same.1 (found_entry ledger (without_number t) tables.order.names entry))
+
+-- THE NUMBER THAT IS SHOWN
+
+abbrev named : List Term
+named = equals (col 1 2) (col 0 0) ∷ []
+
+pub alone : (b : Bool) → (b && true) ≡ b
+alone true = refl
+alone false = refl
+
+name_tested : (name : List ℕ) (t : NumberedTransfer) → passes named (Text name ∷ []) (transfer_row t) ≡ bytes_eq t.name name
+name_tested name t = alone _ ∙ equal_texts t.name name
+
+module _ (s new : State) (rows : List Row) (ledger : Ledger) (name : List ℕ) (has : s.now.schema ≡ ledger_schema) (tables : AreTablesOf s.now.trees ledger)
+    (shown : Shown number_text (Text name ∷ []) s new rows) where
+  lists : Lists 2 named (col 1 0 ∷ []) [] (Text name ∷ []) (s.now.trees 2) rows
+  lists =
+      let got = reads_as number_text (Text name ∷ []) s new ledger_schema has number_command number_is number_plain number_unlisted rows shown in
+      answer_lists 2 named (col 1 0 ∷ []) [] (Text name ∷ []) s.now.trees rows (got.answer Null) refl
+
+  -- a transfer with this name would be shown
+  nowhere : (o : Option Transfer) → transfer_of ledger name ≡ o → rows ≡ [] → transfer_of ledger name ≡ None
+  nowhere None there none = there
+  nowhere (Some transfer) there none =
+      let it = numbered s.now.trees ledger tables name transfer there in
+      let same : it.0.name ≡ name = ap (λ (e : List ℕ × Transfer). e.0) it.2 in
+      let pass : passes named (Text name ∷ []) (transfer_row it.0) ≡ true = name_tested name it.0 ∙ (bytes_eq-Decides it.0.name name).1 same in
+      let one = has_shown 2 named (col 1 0 ∷ []) [] (Text name ∷ []) (s.now.trees 2) rows lists (transfer_row it.0) (row_there s.now.trees ledger tables it.0 it.1) pass in
+      absurd (subst (λ r. Has r (Int it.0.number ∷ [])) none one)
+
+  -- the number that is shown is that of the transfer with this name
+  found : (row : Row) (n : ℤ) → Has rows row → column row 0 ≡ Int n → HasTransferRow s.now.trees name n
+  found row n has_row at =
+      let from = has_from_shown 2 named (col 1 0 ∷ []) [] (Text name ∷ []) (s.now.trees 2) rows lists row has_row in
+      let it = row_of s.now.trees ledger tables from.0 from.1 in
+      let t = it.0 in
+      let same : t.name ≡ name = (bytes_eq-Decides t.name name).0 (sym (name_tested name t) ∙ subst (λ r. passes named (Text name ∷ []) r ≡ true) (sym it.2) from.2) in
+      let number : Int t.number ≡ Int n = ap (λ r. column r 0) it.2 ∙ ap (λ r. column r 0) from.3 ∙ at in
+      let is : transfer_row t ≡ (Int n ∷ Null ∷ Text name ∷ []) = λ i. number i ∷ Null ∷ Text (same i) ∷ [] in
+      subst (Has (s.now.trees 2)) is (subst (Has (s.now.trees 2)) (sym it.2) from.1)
+
+  first_found : (n : ℤ) (all : List Row) → all ≡ rows → column (slice_index_or all 0 []) 0 ≡ Int n → HasTransferRow s.now.trees name n
+  first_found n [] is at = absurd (let e : Null ≡ Int n = at in cc)
+  first_found n (row ∷ more) is at = found row n (subst (λ r. Has r row) is (inl refl)) at
+
+  pub number_shown : (o : Option ℤ) → MatchOption o (rows ≡ []) (λ n. column (slice_index_or rows 0 []) 0 ≡ Int n) → MatchOption o (transfer_of ledger name ≡ None) (HasTransferRow s.now.trees name)
+  number_shown None none = nowhere (transfer_of ledger name) refl none
+  number_shown (Some n) at = first_found n rows refl at

@@ -1,0 +1,245 @@
+-- The rows of a transfer's tag files and payload files, as they are shown and as they are read in turn.
+use Rattle.std.proofs.Common.{◌≡◌, ◌≢◌, ◌<◌, ◌+◌, ◌&&◌, ℕ, suc, List, [], ◌∷◌, ◌++◌, Bool, true, false, Some, Less, Greater, append-nil, drop, get_or, inl, inr, length, map, take, pos, refl, sym, ap, ap₂, subst, ◌∙◌, arith}
+use Rattle.std.specs.Prelude.{IsPermutation, filter, flat_map, sum_by, ℤ}
+use Rattle.std.specs.BTreeMap.{insert_entry}
+use Rattle.std.specs.Cmp.Lexicographic.{slice_cmp}
+use Rattle.std.specs.List.{AllByRecursion, concat}
+use Rattle.std.specs.List.Sorted.{IsStrictlySortedBy}
+use Rattle.std.specs.Map.{keys_of}
+use Rattle.std.specs.Option.{option_map, unwrap_or}
+use Rattle.std.specs.Ordering.{int_eq, match_ordering, nat_cmp, ordering_reverse}
+use Rattle.std.proofs.Math.Seq.{take-suc}
+use Rattle.std.proofs.lemmas.Cmp.{nat_list_cmp_total}
+use Rattle.std.proofs.lemmas.List.Elements.{filter-append}
+use Rattle.std.proofs.lemmas.List.Sorted.{IsPermutation-map}
+use Rattle.bag_rules.specs.Faults.{Has}
+use Rattle.bag_rules.specs.Files.{Files}
+use Rattle.bag_rules.specs.Plans.{sizes_of}
+use Rattle.bag_rules.specs.Trees.{AreRising}
+use Rattle.bag_rules.specs.declared.plan.ItemSize.{ItemSize}
+use Rattle.bag_rules.proofs.HasLemmas.{has_map}
+use Rattle.bag_rules.proofs.SameListLemmas.{all_has}
+use Rattle.bag_ledger.specs.Ledgers.{Ledger, Transfer, items_of, tags_of}
+use Rattle.bag_ledger.proofs.EntryLemmas.{map_twice}
+use Rattle.sqlite.specs.Collation.TheVariants.{Binary}
+use Rattle.sqlite.specs.Ops.{binary, is_true}
+use Rattle.sqlite.specs.Order.{Row}
+use Rattle.sqlite.specs.Query.{Output}
+use Rattle.sqlite.specs.State.{Shown, State}
+use Rattle.sqlite.specs.Term.{Term, col}
+use Rattle.sqlite.specs.declared.types.Value.{Value}
+use Rattle.sqlite.specs.declared.types.Value.TheVariants.{Blob, Int, Null, Text}
+use Rattle.sqlite.proofs.Callers.{reads_as}
+use Rattle.sqlite_keyed.proofs.ListLemmas.{IsPermutation-filter, all_map, all_weaker, filter-map, filter_all, filter_none, filter_same, map_same}
+use Rattle.sqlite_sql.specs.declared.ops.BinaryOp.TheVariants.{Compare}
+use Rattle.sqlite_sql.specs.declared.ops.CompareOp.TheVariants.{Eq}
+use Rattle.sqlite_value.specs.Keys.{ascending}
+use Rattle.sqlite_value.specs.Order.{bytes, column}
+use Rattle.bag_sqlite.specs.Databases.{AreApart, AreTablesOf, NumberedItem, NumberedTransfer, held_rows, size_of, tag_rows, without_rowids}
+use Rattle.bag_sqlite.specs.Reading.{HasTransferRow, size_shown, tag_shown}
+use Rattle.bag_sqlite.specs.Tables.{ledger_schema}
+use Rattle.bag_sqlite.proofs.CutLemmas.{length_concat}
+use Rattle.bag_sqlite.proofs.NamesLemmas.{drop_zero}
+use Rattle.bag_sqlite.proofs.OneLedger.{has_right, items_rise, tags_rise}
+use Rattle.bag_sqlite.proofs.TransferLemmas.{alone, transfer_at}
+use Rattle.bag_sqlite.proofs.TransferMeanings.{sizes_command, sizes_is, sizes_plain, sizes_text, sizes_unlisted, tags_command, tags_is, tags_plain, tags_text, tags_unlisted}
+use Rattle.bag_sqlite.proofs.WhereLemmas.{answer_lists, by_text, equal_numbers, equals, made, other_number, passes, same_number}
+
+-- ROWS THAT ARE READ IN TURN
+
+abbrev pub two_of : Row → Row
+two_of row = column row 0 ∷ column row 1 ∷ []
+
+-- the files with those of the rows put at their places
+abbrev pub files_put : Files → List Row → Files
+files_put files [] = files
+files_put files (row ∷ rows) = files_put (insert_entry (slice_cmp nat_cmp) files (bytes (column row 0)) (bytes (column row 1))) rows
+
+put_last : (files : Files) (rows : List Row) (row : Row) → files_put files (rows ++ row ∷ []) ≡ insert_entry (slice_cmp nat_cmp) (files_put files rows) (bytes (column row 0)) (bytes (column row 1))
+put_last files [] row = refl
+put_last files (r ∷ rows) row = put_last (insert_entry (slice_cmp nat_cmp) files (bytes (column r 0)) (bytes (column r 1))) rows row
+
+-- one row more
+pub put_more : (rows : List Row) (i : ℕ) (row : Row) (old new : Files) (path body : List ℕ) → i < length rows → row ≡ get_or rows i row → column row 0 ≡ Text path → column row 1 ≡ Blob body
+    → old ≡ files_put [] (take i rows) → new ≡ insert_entry (slice_cmp nat_cmp) old path body → new ≡ files_put [] (take (i + 1) rows)
+put_more rows i row old new path body low at named read so_far added =
+    let next : i + 1 ≡ suc i = omega arith in
+    let split : take (i + 1) rows ≡ take i rows ++ row ∷ [] = rw next (take-suc rows i row low) ∙ ap (λ r. take i rows ++ r ∷ []) (sym at) in
+    added ∙ (λ t. insert_entry (slice_cmp nat_cmp) (so_far t) (bytes (sym named t)) (bytes (sym read t))) ∙ sym (put_last [] (take i rows) row) ∙ ap (files_put []) (sym split)
+
+-- a file after all others goes to the end
+put_after : (front : Files) (file : List ℕ × List ℕ) → AllByRecursion (λ (f : List ℕ × List ℕ). slice_cmp nat_cmp f.0 file.0 ≡ Less) front → insert_entry (slice_cmp nat_cmp) front file.0 file.1 ≡ front ++ file ∷ []
+put_after [] file before = refl
+put_after (f ∷ fs) file before =
+    let after : slice_cmp nat_cmp file.0 f.0 ≡ Greater = nat_list_cmp_total.antisymm file.0 f.0 ∙ ap ordering_reverse before.0 in
+    ap (λ o. match_ordering o (file ∷ f ∷ fs) ((f.0, file.1) ∷ fs) (f ∷ insert_entry (slice_cmp nat_cmp) fs file.0 file.1)) after ∙ ap (λ rest. f ∷ rest) (put_after fs file before.1)
+
+before_it : (front : Files) (file : List ℕ × List ℕ) (back : Files) → AreRising (keys_of (front ++ file ∷ back)) → AllByRecursion (λ (f : List ℕ × List ℕ). slice_cmp nat_cmp f.0 file.0 ≡ Less) front
+unfolding IsStrictlySortedBy
+before_it [] file back rising = tt
+before_it (f ∷ fs) file back rising =
+    let has = has_map (λ (g : List ℕ × List ℕ). g.0) (fs ++ file ∷ back) file (has_right fs (file ∷ back) file (inl refl)) in
+    (all_has (λ key. slice_cmp nat_cmp f.0 key ≡ Less) (keys_of (fs ++ file ∷ back)) file.0 rising.0 has, before_it fs file back rising.1)
+
+joined : (front : Files) (file : List ℕ × List ℕ) (back : Files) → (front ++ file ∷ []) ++ back ≡ front ++ file ∷ back
+joined [] file back = refl
+joined (f ∷ fs) file back = ap (λ rest. f ∷ rest) (joined fs file back)
+
+files_follow : (front back : Files) → AreRising (keys_of (front ++ back)) → files_put front (map tag_shown back) ≡ front ++ back
+files_follow front [] rising = sym (append-nil front)
+files_follow front (file ∷ back) rising =
+    let longer = joined front file back in
+    ap (λ files. files_put files (map tag_shown back)) (put_after front file (before_it front file back rising))
+    ∙ files_follow (front ++ file ∷ []) back (subst (λ files. AreRising (keys_of files)) (sym longer) rising) ∙ longer
+
+-- rows of files in order give those files
+pub files_read : (files : Files) (rows : List Row) (tags : Files) → AreRising (keys_of files) → rows ≡ map tag_shown files → tags ≡ files_put [] rows → tags ≡ files
+files_read files rows tags rising is read = read ∙ ap (files_put []) is ∙ files_follow [] files rising
+
+same_size : (a b : ItemSize) → size_shown a ≡ size_shown b → a ≡ b
+same_size a b e = λ t. record { path = bytes (column (e t) 0); octets = number_in (column (e t) 1) }
+  where
+    number_in : Value → ℕ
+    number_in (Int (pos n)) = n
+    number_in _ = 0
+
+-- payload files that are read from their rows
+pub sizes_read : (sizes wanted : List ItemSize) (rows : List Row) → rows ≡ map size_shown wanted → map size_shown sizes ≡ map two_of rows → sizes ≡ wanted
+sizes_read [] [] rows is read = refl
+sizes_read [] (w ∷ ws) rows is read = absurd (let e = read ∙ ap (map two_of) is in cc)
+sizes_read (s ∷ ss) [] rows is read = absurd (let e = read ∙ ap (map two_of) is in cc)
+sizes_read (s ∷ ss) (w ∷ ws) rows is read =
+    let e : map size_shown (s ∷ ss) ≡ map two_of (map size_shown (w ∷ ws)) = read ∙ ap (map two_of) is in
+    let first : size_shown s ≡ size_shown w = cc in
+    let more : map size_shown ss ≡ map two_of (map size_shown ws) = cc in
+    ap₂ ◌∷◌ (same_size s w first) (sizes_read ss ws (map size_shown ws) refl more)
+
+-- THE ROWS OF ONE TRANSFER
+
+all_each : {X : Type 0} (P : X → Type 0) → ((x : X) → P x) → (xs : List X) → AllByRecursion P xs
+all_each P f [] = tt
+all_each P f (x ∷ xs) = (f x, all_each P f xs)
+
+-- a condition that keeps the rows of the transfer with a number, and no others
+module _ (rows_of : NumberedTransfer → List Row) (p : Row → Bool) (n : ℤ) (yes : (t : NumberedTransfer) → t.number ≡ n → AllByRecursion (λ row. p row ≡ true) (rows_of t))
+    (no : (t : NumberedTransfer) → t.number ≢ n → AllByRecursion (λ row. p row ≡ false) (rows_of t)) where
+  none_kept : (ts : List NumberedTransfer) → AllByRecursion (λ (t : NumberedTransfer). t.number ≢ n) ts → filter p (flat_map rows_of ts) ≡ []
+  none_kept [] others = refl
+  none_kept (t ∷ ts) others = filter-append p (rows_of t) (flat_map rows_of ts) ∙ ap₂ ◌++◌ (filter_none p (rows_of t) (no t others.0)) (none_kept ts others.1)
+
+  pub one_kept : (ts : List NumberedTransfer) (t : NumberedTransfer) → AreApart (λ (x : NumberedTransfer). x.number) ts → Has ts t → t.number ≡ n → filter p (flat_map rows_of ts) ≡ rows_of t
+  one_kept [] t apart has at = absurd has
+  one_kept (first ∷ ts) t apart (inl is) at =
+      let here : first.number ≡ n = ap (λ (x : NumberedTransfer). x.number) is ∙ at in
+      let others = all_weaker (λ (x : NumberedTransfer). first.number ≢ x.number) (λ (x : NumberedTransfer). x.number ≢ n) (λ x other same. other (here ∙ sym same)) ts apart.0 in
+      filter-append p (rows_of first) (flat_map rows_of ts) ∙ ap₂ ◌++◌ (filter_all p (rows_of first) (yes first here)) (none_kept ts others) ∙ append-nil (rows_of first) ∙ ap rows_of is
+  one_kept (first ∷ ts) t apart (inr has) at =
+      let other : first.number ≢ n = λ same. all_has (λ (x : NumberedTransfer). first.number ≢ x.number) ts t apart.0 has (same ∙ sym at) in
+      filter-append p (rows_of first) (flat_map rows_of ts) ∙ ap₂ ◌++◌ (filter_none p (rows_of first) (no first other)) (one_kept ts t apart.1 has at)
+
+-- THE TAG FILES THAT ARE SHOWN
+
+later : (row : Row) (i : ℕ) → column (drop 1 row) i ≡ column row (suc i)
+later [] i = refl
+later (v ∷ row) i = ap (λ r. column r i) (drop_zero row)
+
+abbrev tags_where : List Term
+tags_where = equals (col 1 1) (col 0 0) ∷ []
+
+-- the same of a row without its rowid
+abbrev tag_where : List Term
+tag_where = equals (col 1 0) (col 0 0) ∷ []
+
+abbrev tag_made : Row → Output
+tag_made row = (column row 1 ∷ [], column row 1 ∷ column row 2 ∷ [])
+
+number_tested : (t : NumberedTransfer) (n : ℤ) (path body : List ℕ) (b : Bool) → int_eq t.number n ≡ b → passes tag_where (Int n ∷ []) (Int t.number ∷ Text path ∷ Blob body ∷ []) ≡ b
+number_tested t n path body b is = alone _ ∙ equal_numbers t.number n ∙ is
+
+abbrev tags_shown_of : List Term
+tags_shown_of = col 1 2 ∷ col 1 3 ∷ []
+
+module _ (s new : State) (rows : List Row) (ledger : Ledger) (name : List ℕ) (n : ℤ) (has : s.now.schema ≡ ledger_schema) (tables : AreTablesOf s.now.trees ledger)
+    (there : HasTransferRow s.now.trees name n) where
+  tag_kept : (t : NumberedTransfer) (b : Bool) → int_eq t.number n ≡ b → AllByRecursion (λ row. passes tag_where (Int n ∷ []) row ≡ b) (tag_rows t)
+  tag_kept t b is =
+      all_map (λ row. passes tag_where (Int n ∷ []) row ≡ b) (λ (file : List ℕ × List ℕ). Int t.number ∷ Text file.0 ∷ Blob file.1 ∷ []) t.tags
+      (all_each (λ (file : List ℕ × List ℕ). passes tag_where (Int n ∷ []) (Int t.number ∷ Text file.0 ∷ Blob file.1 ∷ []) ≡ b) (λ file. number_tested t n file.0 file.1 b is) t.tags)
+
+  -- what the query makes of the rows is what is made of them without their rowids
+  tags_made : (table : List Row) → map (made 4 tags_where tags_shown_of ((col 1 2, ascending Binary) ∷ []) (Int n ∷ [])) (filter (passes tags_where (Int n ∷ [])) table)
+      ≡ map tag_made (filter (passes tag_where (Int n ∷ [])) (without_rowids table))
+  tags_made table =
+      let test = passes tag_where (Int n ∷ []) in
+      let same_test : (row : Row) → passes tags_where (Int n ∷ []) row ≡ test (drop 1 row) = λ row. ap (λ v. is_true (binary (Compare Eq Binary) v (Int n)) && true) (sym (later row 0)) in
+      let same_made : (row : Row) → made 4 tags_where tags_shown_of ((col 1 2, ascending Binary) ∷ []) (Int n ∷ []) row ≡ tag_made (drop 1 row) = λ row t. (sym (later row 1) t ∷ [], sym (later row 1) t ∷ sym (later row 2) t ∷ []) in
+      ap (map (made 4 tags_where tags_shown_of ((col 1 2, ascending Binary) ∷ []) (Int n ∷ []))) (filter_same (passes tags_where (Int n ∷ [])) (λ row. test (drop 1 row)) same_test table)
+      ∙ map_same _ (λ row. tag_made (drop 1 row)) same_made (filter (λ row. test (drop 1 row)) table)
+      ∙ sym (map_twice (drop 1) tag_made (filter (λ row. test (drop 1 row)) table))
+      ∙ ap (map tag_made) (sym (filter-map test (drop 1) table))
+
+  pub tags_shown : Shown tags_text (Int n ∷ []) s new rows → (files : Files) × (tags_of ledger name ≡ Some files) × AreRising (keys_of files) × (rows ≡ map tag_shown files)
+  tags_shown shown =
+      let it = transfer_at s.now.trees ledger tables name n there in
+      let t = it.0 in
+      let test = passes tag_where (Int n ∷ []) in
+      let table = s.now.trees 4 in
+      let got = reads_as tags_text (Int n ∷ []) s new ledger_schema has tags_command tags_is tags_plain tags_unlisted rows shown in
+      let lists = answer_lists 4 tags_where tags_shown_of ((col 1 2, ascending Binary) ∷ []) (Int n ∷ []) s.now.trees rows (got.answer Null) refl in
+      let kept : filter test (flat_map tag_rows tables.transfers) ≡ tag_rows t =
+      one_kept tag_rows test n (λ u same. tag_kept u true (same_number u.number n same)) (λ u other. tag_kept u false (other_number u.number n other)) tables.transfers t tables.numbers it.1 it.2 in
+      let moved = subst (λ l. IsPermutation l (filter test (without_rowids table))) kept (IsPermutation-filter test (flat_map tag_rows tables.transfers) (without_rowids table) tables.rows.tags) in
+      let start : map tag_made (tag_rows t) ≡ map (λ (file : List ℕ × List ℕ). (Text file.0 ∷ [], tag_shown file)) t.tags = map_twice (λ (file : List ℕ × List ℕ). Int t.number ∷ Text file.0 ∷ Blob file.1 ∷ []) tag_made t.tags in
+      let moves = subst (λ l. IsPermutation l (map tag_made (filter test (without_rowids table)))) start (IsPermutation-map tag_made (tag_rows t) (filter test (without_rowids table)) moved) in
+      let rising = tags_rise s.now.trees ledger tables t it.1 in
+      let all = by_text 4 tags_where tags_shown_of (col 1 2) (λ (file : List ℕ × List ℕ). file.0) tag_shown (Int n ∷ []) table rows t.tags rising
+      (subst (IsPermutation (map (λ (file : List ℕ × List ℕ). (Text file.0 ∷ [], tag_shown file)) t.tags)) (sym (tags_made table)) moves) lists in
+      (t.tags, ap (option_map (λ (transfer : Transfer). transfer.tags)) it.3, rising, all)
+
+-- THE SIZES THAT ARE SHOWN
+
+abbrev sizes_where : List Term
+sizes_where = equals (col 1 2) (col 0 0) ∷ []
+
+abbrev sizes_shown_of : List Term
+sizes_shown_of = col 1 3 ∷ col 1 4 ∷ []
+
+abbrev size_made : NumberedItem → ItemSize
+size_made item = record { path = item.path; octets = size_of item }
+
+-- a payload file's size is that of its pieces
+size_is : (item : NumberedItem) → size_made item ≡ record { path = item.path; octets = length (concat item.pieces) }
+size_is item = λ t. record { path = item.path; octets = sym (length_concat item.pieces) t }
+
+module _ (s new : State) (rows : List Row) (ledger : Ledger) (name : List ℕ) (n : ℤ) (has : s.now.schema ≡ ledger_schema) (tables : AreTablesOf s.now.trees ledger)
+    (there : HasTransferRow s.now.trees name n) where
+  abbrev row_of : NumberedTransfer → NumberedItem → Row
+  row_of t item = Int item.number ∷ Null ∷ Int t.number ∷ Text item.path ∷ Int (pos (size_of item)) ∷ []
+
+  size_kept : (t : NumberedTransfer) (b : Bool) → int_eq t.number n ≡ b → AllByRecursion (λ row. passes sizes_where (Int n ∷ []) row ≡ b) (held_rows t)
+  size_kept t b is =
+      all_map (λ row. passes sizes_where (Int n ∷ []) row ≡ b) (row_of t) t.items
+      (all_each (λ (item : NumberedItem). passes sizes_where (Int n ∷ []) (row_of t item) ≡ b) (λ item. alone _ ∙ equal_numbers t.number n ∙ is) t.items)
+
+  pub sizes_shown : Shown sizes_text (Int n ∷ []) s new rows → rows ≡ map size_shown (sizes_of (items_of ledger name))
+  sizes_shown shown =
+      let it = transfer_at s.now.trees ledger tables name n there in
+      let t = it.0 in
+      let test = passes sizes_where (Int n ∷ []) in
+      let table = s.now.trees 6 in
+      let query_made = made 6 sizes_where sizes_shown_of ((col 1 3, ascending Binary) ∷ []) (Int n ∷ []) in
+      let show : NumberedItem → Row = λ item. size_shown (size_made item) in
+      let out : NumberedItem → Output = λ item. (Text item.path ∷ [], show item) in
+      let got = reads_as sizes_text (Int n ∷ []) s new ledger_schema has sizes_command sizes_is sizes_plain sizes_unlisted rows shown in
+      let lists = answer_lists 6 sizes_where sizes_shown_of ((col 1 3, ascending Binary) ∷ []) (Int n ∷ []) s.now.trees rows (got.answer Null) refl in
+      let kept : filter test (flat_map held_rows tables.transfers) ≡ held_rows t =
+      one_kept held_rows test n (λ u same. size_kept u true (same_number u.number n same)) (λ u other. size_kept u false (other_number u.number n other)) tables.transfers t tables.numbers it.1 it.2 in
+      let moved = subst (λ l. IsPermutation l (filter test table)) kept (IsPermutation-filter test (flat_map held_rows tables.transfers) table tables.rows.held) in
+      let start : map query_made (held_rows t) ≡ map out t.items = map_twice (row_of t) query_made t.items in
+      let moves = subst (λ l. IsPermutation l (map query_made (filter test table))) start (IsPermutation-map query_made (held_rows t) (filter test table) moved) in
+      let rising = subst AreRising (map_twice (λ (item : NumberedItem). (item.path, concat item.pieces)) (λ (e : List ℕ × List ℕ). e.0) t.items) (items_rise s.now.trees ledger tables t it.1) in
+      let all = by_text 6 sizes_where sizes_shown_of (col 1 3) (λ (item : NumberedItem). item.path) show (Int n ∷ []) table rows t.items rising moves lists in
+      let items : items_of ledger name ≡ map (λ (item : NumberedItem). (item.path, concat item.pieces)) t.items = ap (λ o. unwrap_or (option_map (λ (transfer : Transfer). transfer.items) o) []) it.3 in
+      let sizes : sizes_of (items_of ledger name) ≡ map size_made t.items =
+      ap sizes_of items ∙ map_twice (λ (item : NumberedItem). (item.path, concat item.pieces)) (λ (e : List ℕ × List ℕ). record { path = e.0; octets = length e.1 }) t.items ∙ sym (map_same size_made _ size_is t.items) in
+      all ∙ sym (map_twice size_made size_shown t.items) ∙ ap (map size_shown) (sym sizes)

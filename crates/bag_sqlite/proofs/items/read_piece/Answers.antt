@@ -1,0 +1,44 @@
+use Rattle.std.proofs.Common.{FitsSigned, rules, sym, w64, arith, subst, ◌/◌, ◌%◌}
+use Rattle.std.proofs.lemmas.Int.{to_z-of_z}
+use Rattle.bag_digest.specs.declared.reading.TheConstants.{PIECE}
+use Rattle.sqlite.specs.Effect.{Database}
+use Rattle.sqlite.specs.Held.{state}
+use Rattle.sqlite.specs.State.{HasCleanDisk}
+use Rattle.bag_ledger.specs.Keeping.{IsPieceAt}
+use Rattle.bag_sqlite.specs.Items.{HasPieceRow}
+use Rattle.bag_sqlite.proofs.ContentLemmas.{no_piece_held, piece_held}
+use Rattle.bag_sqlite.proofs.ReadingLemmas.{same_shown, still_holds}
+use Rattle.bag_sqlite.proofs.items.read_piece.Goals as goal
+
+pub returns-in_default-2-clause-piece : goal.returns-in_default-2-clause-piece
+returns-in_default-2-clause-piece g c clean ledger holds =
+    let old = state g.S.Store c.args.connection.now in
+    let mid = state g.S.Store c.item_of.new.connection in
+    let fits : FitsSigned w64 c.in-Some.item.number = search rules in
+    let early : HasCleanDisk mid = omega (arith, clean, c.piece_at.ensures.survives.clean) in
+    let left = c.in_ok-item.ensures.left early in
+    let still = still_holds old mid ledger early left c.requires c.in_ok-item.ensures.survives holds in
+    let is_open = c.in_ok-piece.ensures.opened clean in
+    let shows = holds.shows (left.was_open is_open) in
+    let same = same_shown old mid left c.requires is_open shows.committed in
+    let item = rw c.in-Some.is at (c.in_ok-item.ensures.item early ledger holds) in
+    let none = rw (c.in_default-2.is, to_z-of_z w64 c.in-Some.item.number fits) at (c.in_ok-piece.ensures.piece clean ledger still) in
+    no_piece_held old.now.trees ledger shows.tables c.args.name.now c.args.path.now c.in-Some.item.number c.in-Some.item.size c.args.offset c.args.buf.now item
+    (λ body row. none body (subst (λ (d : Database). HasPieceRow d.trees c.in-Some.item.number (c.args.offset / PIECE) body) (sym same) row))
+
+pub returns-clause-piece : goal.returns-clause-piece
+returns-clause-piece g c clean ledger holds =
+    let old = state g.S.Store c.args.connection.now in
+    let mid = state g.S.Store c.item_of.new.connection in
+    let fits : FitsSigned w64 c.in-Some.item.number = search rules in
+    let early : HasCleanDisk mid = omega (arith, clean, c.piece_at.ensures.survives.clean) in
+    let left = c.in_ok-item.ensures.left early in
+    let still = still_holds old mid ledger early left c.requires c.in_ok-item.ensures.survives holds in
+    let is_open = c.in_ok-piece.ensures.opened clean in
+    let shows = holds.shows (left.was_open is_open) in
+    let same = same_shown old mid left c.requires is_open shows.committed in
+    let item = rw c.in-Some.is at (c.in_ok-item.ensures.item early ledger holds) in
+    let row = rw (c.in-Some-2.is, to_z-of_z w64 c.in-Some.item.number fits) at (c.in_ok-piece.ensures.piece clean ledger still) in
+    piece_held old.now.trees ledger shows.tables c.args.name.now c.args.path.now c.in-Some.item.number c.in-Some.item.size c.args.offset c.copy_from.new.buf item c.in-Some-2.piece.items c.copy_from.result
+    (subst (λ (d : Database). HasPieceRow d.trees c.in-Some.item.number (c.args.offset / PIECE) c.in-Some-2.piece.items) same row)
+    (subst (λ octets. IsPieceAt octets (c.args.offset % PIECE) c.copy_from.result c.copy_from.new.buf) c.as_slice.ensures.value c.copy_from.ensures)

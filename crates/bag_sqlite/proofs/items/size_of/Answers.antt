@@ -1,0 +1,10 @@
+use Rattle.std.proofs.Common.{IsTrue, refl}
+use Rattle.sqlite.specs.Held.{state}
+use Rattle.bag_sqlite.proofs.ContentLemmas.{size_held}
+use Rattle.bag_sqlite.proofs.items.size_of.Goals as goal
+
+pub returns-in-Some-clause-size : goal.returns-in-Some-clause-size
+returns-in-Some-clause-size g c clean ledger holds =
+    let old = state g.S.Store c.args.connection.now in
+    let is_open : IsTrue old.is_open = rw c.in-Some.is at (c.in_ok-item.ensures.opened clean) refl in
+    size_held old.now.trees ledger (holds.shows is_open).tables c.args.name.now c.args.path.now c.in-Some.item.number c.in-Some.item.size (rw c.in-Some.is at (c.in_ok-item.ensures.item clean ledger holds))

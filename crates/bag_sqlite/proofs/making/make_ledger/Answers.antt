@@ -1,0 +1,78 @@
+use Rattle.std.proofs.Common.{◌≡◌, [], false, OnErr, OnOk, IsTrue, refl, sym, subst, rules, arith}
+use Rattle.sqlite.specs.Held.{state}
+use Rattle.sqlite.specs.State.{HasCleanDisk, KeepsCommit, Survives}
+use Rattle.sqlite.specs.Tree.{Trees}
+use Rattle.sqlite.proofs.Callers.{survives_begin}
+use Rattle.sqlite.proofs.StateLemmas.{survives_then}
+use Rattle.bag_sqlite.specs.Databases.{AreTablesOf}
+use Rattle.bag_sqlite.specs.Making.{IsCreated, IsLeft, IsMade, MakesLedger}
+use Rattle.bag_sqlite.specs.Tables.{no_schema}
+use Rattle.bag_sqlite.proofs.MakingLemmas.{begin_making, created_by, kept_since, left_by_failing}
+use Rattle.bag_sqlite.proofs.SqlLemmas.{kept_then, on_err, on_ok}
+use Rattle.bag_sqlite.proofs.making.make_ledger.Given.{Over}
+use Rattle.bag_sqlite.proofs.making.make_ledger.Goals as goal
+
+made : (g : Over) (c : goal.After-connection-2-1 g) → HasCleanDisk (state g.S.Store c.write_format.new.tx.conn.now)
+    → (state g.S.Store c.args.connection.now).now.schema ≡ no_schema → IsMade (state g.S.Store c.write_format.new.tx.conn.now)
+made g c third blank =
+    let second : HasCleanDisk (state g.S.Store c.make_item_tables.new.tx.conn.now) = omega (arith, third, c.write_format.ensures.survives.clean) in
+    let first : HasCleanDisk (state g.S.Store c.make_transfer_tables.new.tx.conn.now) = omega (arith, second, c.make_item_tables.ensures.survives.clean) in
+    let one = rw c.transaction-transaction.ensures.begun at (c.in_ok-make_transfer_tables.ensures.made first) in
+    c.in_ok-write_format.ensures.made third (c.in_ok-make_item_tables.ensures.made second (one (begin_making g.S.Store c.args.connection.now blank)))
+
+kept : (g : Over) (c : goal.After-connection-2-1 g) → HasCleanDisk (state g.S.Store c.write_format.new.tx.conn.now)
+    → KeepsCommit (state g.S.Store c.args.connection.now) (state g.S.Store c.write_format.new.tx.conn.now)
+kept g c third =
+    let one = state g.S.Store c.make_transfer_tables.new.tx.conn.now in
+    let two = state g.S.Store c.make_item_tables.new.tx.conn.now in
+    let three = state g.S.Store c.write_format.new.tx.conn.now in
+    let second : HasCleanDisk two = omega (arith, third, c.write_format.ensures.survives.clean) in
+    let first : HasCleanDisk one = omega (arith, second, c.make_item_tables.ensures.survives.clean) in
+    kept_since g.S.Store c.args.connection.now three
+    (kept_then _ one three (rw c.transaction-transaction.ensures.begun at (c.make_transfer_tables.ensures.kept first)) (kept_then one two three (c.make_item_tables.ensures.kept second) (c.write_format.ensures.kept third)))
+
+inside : (g : Over) (c : goal.After-connection-2-1 g) → HasCleanDisk (state g.S.Store c.write_format.new.tx.conn.now) → IsTrue (state g.S.Store c.write_format.new.tx.conn.now).in_transaction
+inside g c third =
+    let second : HasCleanDisk (state g.S.Store c.make_item_tables.new.tx.conn.now) = omega (arith, third, c.write_format.ensures.survives.clean) in
+    let first : HasCleanDisk (state g.S.Store c.make_transfer_tables.new.tx.conn.now) = omega (arith, second, c.make_item_tables.ensures.survives.clean) in
+    let one = rw c.transaction-transaction.ensures.begun at (c.in_ok-make_transfer_tables.ensures.inside first) in
+    c.in_ok-write_format.ensures.inside third (c.in_ok-make_item_tables.ensures.inside second (one refl))
+
+pub returns-clause-made : goal.returns-clause-made
+returns-clause-made g c clean =
+    let old = state g.S.Store c.args.connection.now in
+    let mid = state g.S.Store c.write_format.new.tx.conn.now in
+    let end = c.commit.new.self.0 in
+    let same : end ≡ c.connection-2-1.given.0 = search rules in
+    let late : HasCleanDisk (state g.S.Store end) = search rules in
+    let third : HasCleanDisk mid = omega (arith, c.commit.ensures.survives.clean) in
+    subst (λ h. OnOk c.commit.result (old.now.schema ≡ no_schema → IsCreated (state g.S.Store h))) same
+    (on_ok c.commit.result (λ done blank. created_by mid (state g.S.Store end) (made g c third blank) done.1) (c.commit.ensures.ok late))
+
+pub returns-clause-unchanged : goal.returns-clause-unchanged
+returns-clause-unchanged g c clean =
+    let old = state g.S.Store c.args.connection.now in
+    let mid = state g.S.Store c.write_format.new.tx.conn.now in
+    let end = c.commit.new.self.0 in
+    let same : end ≡ c.connection-2-1.given.0 = search rules in
+    let late : HasCleanDisk (state g.S.Store end) = search rules in
+    let third : HasCleanDisk mid = omega (arith, c.commit.ensures.survives.clean) in
+    let idle : old.in_transaction ≡ false = search rules in
+    subst (λ h. OnErr c.commit.result (IsLeft old (state g.S.Store h))) same
+    (on_err c.commit.result (λ e failed. left_by_failing old mid (state g.S.Store end) e idle (inside g c third) (kept g c third) failed) (c.commit.ensures.err late))
+
+pub returns-clause-survives : goal.returns-clause-survives
+returns-clause-survives g c =
+    let old = c.args.connection.now in
+    let one = state g.S.Store c.make_transfer_tables.new.tx.conn.now in
+    let two = state g.S.Store c.make_item_tables.new.tx.conn.now in
+    let three = state g.S.Store c.write_format.new.tx.conn.now in
+    let end = c.commit.new.self.0 in
+    let same : end ≡ c.connection-2-1.given.0 = search rules in
+    let P = MakesLedger (state g.S.Store old) in
+    let last = survives_then one two three _ _ (λ _. ⊥) (λ _ db none. none) (λ _ db none. none) c.make_item_tables.ensures.survives c.write_format.ensures.survives in
+    let inside = survives_then _ one three _ _ (λ _. ⊥) (λ _ db none. none) (λ _ db none. none) (rw c.transaction-transaction.ensures.begun at c.make_transfer_tables.ensures.survives) last in
+    let whole = survives_then (state g.S.Store old) three (state g.S.Store end) _ _ P (λ _ db none. absurd none)
+    (λ clean db is blank. subst (λ (t : Trees). AreTablesOf t []) (sym is) (made g c (omega (arith, c.commit.ensures.survives.clean)) blank).tables)
+    (survives_begin g.S.Store old three _ inside) c.commit.ensures.survives in
+    subst (λ h. Survives (state g.S.Store old) (state g.S.Store h) P) same whole

@@ -1,0 +1,29 @@
+use Rattle.std.proofs.Common.{w64, ◌∙◌, arith}
+use Rattle.std.proofs.lemmas.Int.{to_z-of_z}
+use Rattle.std.proofs.lemmas.List.{take_all}
+use Rattle.sqlite.specs.Held.{state}
+use Rattle.sqlite.specs.State.{HasCleanDisk}
+use Rattle.sqlite.proofs.StateLemmas.{survives_then}
+use Rattle.bag_sqlite.proofs.OpeningLemmas.{tags_grow}
+use Rattle.bag_sqlite.proofs.SqlLemmas.{kept_then}
+use Rattle.bag_sqlite.proofs.opening.insert_tags.Goals as goal
+
+pub loop-file-preserved : goal.loop-file-preserved
+loop-file-preserved g c =
+    let old = state g.S.Store c.args.tx.now.conn.now in
+    let mid = state g.S.Store c.loop-file.tx.conn.now in
+    let new = state g.S.Store c.insert_tag.new.tx.conn.now in
+    let before = λ (clean : HasCleanDisk new). let early : HasCleanDisk mid = omega (arith, clean, c.insert_tag.ensures.survives.clean) in early in
+    let same = to_z-of_z w64 c.args.transfer c.ranges.transfer in
+    record {
+      reference = c.insert_tag.ensures.same_reference ∙ c.loop-file.invariant.reference;
+      survives = survives_then old mid new _ _ _ (λ _ db none. none) (λ _ db none. none) c.loop-file.invariant.survives c.insert_tag.ensures.survives;
+      kept = λ clean. kept_then old mid new (c.loop-file.invariant.kept (before clean)) (c.insert_tag.ensures.kept clean);
+      rows = λ clean way.
+          let so_far = rw same at (c.loop-file.invariant.rows (before clean) way) in
+          let one = rw (same, c.as_str.ensures.text, c.path.ensures, c.body.ensures) at (c.in_ok-insert_tag.ensures.added clean so_far.0) in
+          rw same (one.0, tags_grow old.now.trees mid.now.trees new.now.trees c.args.transfer c.args.files.now c.loop-file.file-index c.file-item.result c.loop-file-test.true c.file-item.is so_far.1 one.1);
+    }
+
+pub returns-clause-added : goal.returns-clause-added
+returns-clause-added g c clean way = rw (to_z-of_z w64 c.args.transfer c.ranges.transfer, take_all c.loop-file.file-index c.args.files.now c.loop-file-test.false) at (c.loop-file.invariant.rows clean way)

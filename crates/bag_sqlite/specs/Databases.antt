@@ -1,0 +1,114 @@
+-- A database of format 2, read as a ledger: the rows that a ledger has, and no others.
+use Rattle.std.specs.Prelude.{◌≡◌, ◌≢◌, ◌<◌, ◌≤◌, ℕ, ℤ, pos, List, [], ◌∷◌, IsPermutation, codes, drop, flat_map, length, map, sum_by, ⊤}
+use Rattle.std.specs.List.{AllByRecursion, concat, enumerate_from}
+use Rattle.std.specs.Map.{keys_of}
+use Rattle.bag_digest.specs.declared.reading.TheConstants.{PIECE}
+use Rattle.bag_rules.specs.Files.{Files}
+use Rattle.bag_rules.specs.Trees.{AreRising}
+use Rattle.sqlite.specs.Order.{Row}
+use Rattle.sqlite.specs.Tree.{Trees}
+use Rattle.sqlite.specs.declared.types.Value.TheVariants.{Blob, Int, Null, Text}
+use Rattle.bag_ledger.specs.Ledgers.{Ledger, Transfer}
+use Rattle.bag_sqlite.specs.Tables.{held_tree, meta_tree, piece_tree, tag_tree, transfer_tree}
+
+-- A LEDGER WITH NUMBERS
+
+-- a payload file under a number, in pieces
+pub record NumberedItem : Type 0 where
+  pub number : ℤ
+  pub path : List ℕ
+  pub pieces : List (List ℕ)
+
+-- a transfer under a number
+pub record NumberedTransfer : Type 0 where
+  pub number : ℤ
+  pub name : List ℕ
+  pub tags : Files
+  pub items : List NumberedItem
+
+-- each piece but the last has 65,536 octets, and the last has 1 to 65,536
+abbrev pub AreCut : List (List ℕ) → Type 0
+AreCut [] = ⊤
+AreCut (last ∷ []) = (0 < length last) × (length last ≤ PIECE)
+AreCut (piece ∷ next ∷ more) = (length piece ≡ PIECE) × AreCut (next ∷ more)
+
+-- the octets of all pieces
+abbrev pub size_of : NumberedItem → ℕ
+size_of item = sum_by length item.pieces
+
+abbrev pub items_in : List NumberedTransfer → List NumberedItem
+items_in transfers = flat_map (λ (transfer : NumberedTransfer). transfer.items) transfers
+
+-- without the numbers, each payload file whole
+abbrev pub without_number : NumberedTransfer → List ℕ × Transfer
+without_number transfer = (
+  transfer.name,
+  record {
+    tags = transfer.tags;
+    items = map (λ (item : NumberedItem). (item.path, concat item.pieces)) transfer.items;
+  },
+)
+
+-- THE ROWS
+
+-- A row begins with its rowid. A column that is the rowid holds NULL.
+
+-- the format and its number
+abbrev pub format_row : Row
+format_row = Text (codes "bag-ledger") ∷ Int (pos 2) ∷ []
+
+abbrev pub transfer_row : NumberedTransfer → Row
+transfer_row transfer = Int transfer.number ∷ Null ∷ Text transfer.name ∷ []
+
+-- without their rowids, which mean nothing
+abbrev pub tag_rows : NumberedTransfer → List Row
+tag_rows transfer = map (λ (file : List ℕ × List ℕ).
+    Int transfer.number ∷ Text file.0 ∷ Blob file.1 ∷ []) transfer.tags
+
+abbrev pub held_rows : NumberedTransfer → List Row
+held_rows transfer = map (λ (item : NumberedItem).
+    Int item.number ∷ Null ∷ Int transfer.number ∷ Text item.path ∷ Int (pos (size_of item)) ∷ [])
+    transfer.items
+
+-- numbered from 0, without their rowids
+abbrev pub piece_rows : NumberedItem → List Row
+piece_rows item = map (λ (piece : ℕ × List ℕ).
+    Int item.number ∷ Int (pos piece.0) ∷ Blob piece.1 ∷ []) (enumerate_from 0 item.pieces)
+
+abbrev pub without_rowids : List Row → List Row
+without_rowids rows = map (drop 1) rows
+
+-- the tables have these rows in any order, and no others
+pub record HaveRows (trees : Trees) (all : List NumberedTransfer) : Type 0 where
+  pub format : without_rowids (trees meta_tree) ≡ format_row ∷ []
+  pub transfers : IsPermutation (map transfer_row all) (trees transfer_tree)
+  pub tags : IsPermutation (flat_map tag_rows all) (without_rowids (trees tag_tree))
+  pub held : IsPermutation (flat_map held_rows all) (trees held_tree)
+  pub pieces : IsPermutation (flat_map piece_rows (items_in all))
+      (without_rowids (trees piece_tree))
+
+-- THE LEDGER
+
+-- no number comes twice
+abbrev pub AreApart : {X : Type 0} → (X → ℤ) → List X → Type 0
+AreApart number [] = ⊤
+AreApart number (x ∷ xs) = AllByRecursion (λ y. number x ≢ number y) xs × AreApart number xs
+
+-- transfers by name, and the files of each by path, none twice
+pub record IsInOrder (ledger : Ledger) : Type 0 where
+  pub names : AreRising (keys_of ledger)
+  pub tags : AllByRecursion
+      (λ (entry : List ℕ × Transfer). AreRising (keys_of entry.1.tags)) ledger
+  pub items : AllByRecursion
+      (λ (entry : List ℕ × Transfer). AreRising (keys_of entry.1.items)) ledger
+
+-- The tables hold this ledger: they have its rows under some numbers, each number once, and each payload file is cut
+-- into pieces.
+pub record AreTablesOf (trees : Trees) (ledger : Ledger) : Type 0 where
+  pub transfers : List NumberedTransfer
+  pub rows : HaveRows trees transfers
+  pub numbers : AreApart (λ (transfer : NumberedTransfer). transfer.number) transfers
+  pub item_numbers : AreApart (λ (item : NumberedItem). item.number) (items_in transfers)
+  pub cut : AllByRecursion (λ (item : NumberedItem). AreCut item.pieces) (items_in transfers)
+  pub is : ledger ≡ map without_number transfers
+  pub order : IsInOrder ledger

@@ -1,0 +1,30 @@
+-- What a read of a database is.
+use Rattle.std.specs.Prelude.{ℕ, ℤ, List, [], ◌∷◌, pos, true}
+use Rattle.bag_rules.specs.Faults.{Has}
+use Rattle.bag_rules.specs.declared.plan.ItemSize.{ItemSize}
+use Rattle.sqlite.specs.Held.{Held, state}
+use Rattle.sqlite.specs.Order.{Row}
+use Rattle.sqlite.specs.State.{Shown}
+use Rattle.sqlite.specs.Store.{Ghosts}
+use Rattle.sqlite.specs.Tree.{Trees}
+use Rattle.sqlite.specs.declared.types.Value.TheVariants.{Blob, Int, Null, Text}
+use Rattle.bag_sqlite.specs.Tables.{transfer_tree}
+
+-- the rows are those that the text shows, in a transaction that begins at this connection
+pub record ShowsRows {S : Type 0} (g : Ghosts S) (sql : List ℕ) (params : Row) (old : Held S)
+    (rows : List Row) : Type 0 where
+  pub then : Held S
+  pub shown : Shown sql params (state g (record old { in_transaction = true })) (state g then) rows
+
+-- the row of a transfer with this name and number is there
+abbrev pub HasTransferRow : Trees → List ℕ → ℤ → Type 0
+HasTransferRow trees name number =
+    Has (trees transfer_tree) (Int number ∷ Null ∷ Text name ∷ [])
+
+-- a tag file as its path and its octets
+abbrev pub tag_shown : List ℕ × List ℕ → Row
+tag_shown file = Text file.0 ∷ Blob file.1 ∷ []
+
+-- a payload file as its path and its size
+abbrev pub size_shown : ItemSize → Row
+size_shown item = Text item.path ∷ Int (pos item.octets) ∷ []

@@ -1,0 +1,68 @@
+//! Whether a store failed, and how often that was told.
+ghost use Rattle.std.specs.Prelude.{◌≡◌, ◌↔◌, IsErr, IsErrOf, IsTrue, OnOk, false};
+ghost use Rattle.bag_ledger.specs.Keeping.{UsesStore};
+ghost use Rattle.bag_ledger.specs.declared.fault.KeepFault.TheVariants.{Memory, Store};
+ghost use Rattle.bag_ledger.specs.declared.fault.StoreFault.TheVariants.{Spent};
+ghost use Rattle.bag_sqlite.specs.declared.health.Health.{Health};
+
+use bag_ledger::{KeepFault, StoreFault};
+use sqlite::{Error, ErrorCode};
+
+/// Whether the store failed, and how often a failure was told. The count stays at its greatest number, 2^64 - 1.
+#[derive(Drop)]
+pub(crate) struct Health {
+    is_spent: bool,
+    failures: u64,
+}
+
+impl Health {
+    /// Of a store that hasn't failed.
+    pub(crate) fn new() -> Health
+        ensures unspent { result.is_spent ≡ false }
+        ensures unfailed { result.failures ≡ 0 }
+    {
+        Health {
+            is_spent: false,
+            failures: 0,
+        }
+    }
+
+    /// Refuses a call to a store that failed before.
+    pub(crate) fn test(&mut self) -> Result<(), KeepFault>
+        ensures well { OnOk result ((self.old.is_spent ≡ false) × (self.new ≡ self.old)) }
+        ensures store { UsesStore (λ (health : Health). health.failures)
+            (λ (health : Health). IsTrue health.is_spent) self.old self.new
+            (λ fault. IsErrOf result (Store fault)) }
+        ensures spent { IsErr result → IsErrOf result (Store Spent) }
+    {
+        if !self.is_spent {
+            return Ok(());
+        }
+        self.failures = self.failures.saturating_add(1);
+        Err(KeepFault::Store(StoreFault::Spent))
+    }
+
+    /// What a refusal of the store is told as. One for another cause than memory is a failure of the store.
+    pub(crate) fn told(&mut self, error: &Error) -> KeepFault
+        requires { self.old.is_spent ≡ false }
+        ensures memory { (result ≡ Memory)
+            ↔ (error.now ≡ Error.SqliteFailure ErrorCode.OutOfMemory) }
+        ensures store { UsesStore (λ (health : Health). health.failures)
+            (λ (health : Health). IsTrue health.is_spent) self.old self.new
+            (λ fault. result ≡ Store fault) }
+    {
+        if matches!(error, Error::SqliteFailure(ErrorCode::OutOfMemory)) {
+            return KeepFault::Memory;
+        }
+        self.is_spent = true;
+        self.failures = self.failures.saturating_add(1);
+        KeepFault::Store(StoreFault::Refused)
+    }
+
+    /// How often a failure was told.
+    pub(crate) fn failures(&self) -> u64
+        ensures { result ≡ self.now.failures }
+    {
+        self.failures
+    }
+}

@@ -1,0 +1,190 @@
+//! A keeper in a database.
+ghost use Rattle.std.specs.Prelude.{◌≡◌, [], IfErr, IfOk, IsErrOf, IsTrue, MatchResult, false, map, string_bytes};
+ghost use Rattle.std.specs.Map.{keys_of};
+ghost use Rattle.bag_ledger.specs.Keeping.{Reads, UsesStore};
+ghost use Rattle.bag_ledger.specs.Ledgers.{Ledger};
+ghost use Rattle.bag_sqlite.specs.Making.{IsLeft, MakesLedger};
+ghost use Rattle.bag_sqlite.specs.SqlKeepers.{HoldsLedger, MayLeaveLedger};
+ghost use Rattle.bag_sqlite.specs.Tables.{no_schema};
+ghost use Rattle.bag_ledger.specs.declared.fault.KeepFault.TheVariants.{Store};
+ghost use Rattle.bag_sqlite.specs.declared.health.Health.{Health};
+ghost use Rattle.sqlite.specs.Held.{Held, state};
+ghost use Rattle.sqlite.specs.State.{HasCleanDisk, Survives};
+
+use crate::health::Health;
+use crate::making::make_ledger;
+use crate::opening::begin_transfer;
+use crate::{items, reading, transfers};
+use bag_digest::Source;
+use bag_ledger::{KeepFault, Keeper, PutFault};
+use bag_path::BagPath;
+use bag_rules::{ItemSize, TagSet, Want};
+use sqlite::{Alter, Connection};
+use std::alloc::Global;
+
+/// Transfers in a database, in ledger format 2.
+///
+/// What its calls answer is promised of a ledger that [`SqlKeeper::create`] made and that nobody else writes.
+#[derive(Drop)]
+pub struct SqlKeeper<S: Alter> {
+    connection: Connection<S>,
+    health: Health,
+    ghost idle: { connection.in_transaction ≡ false },
+}
+
+/// Why no ledger was made, and the connection, whose database is as it was.
+#[derive(Drop)]
+pub struct NotCreated<S: Alter> {
+    /// `Memory`, or `Store(Refused)`: a transaction was under way, a table has the name of one of the ledger's, or the
+    /// store failed.
+    pub fault: KeepFault,
+    /// The connection that was handed in.
+    pub connection: Connection<S>,
+}
+
+impl<S: Alter> SqlKeeper<S> {
+    /// Makes a ledger without a transfer in a database without a table. It is made whole, or not at all, also where a
+    /// crash ends the call.
+    ///
+    /// In a database that has other tables the ledger's are made beside them, and nothing is promised of the keeper.
+    pub fn create(connection: Connection<S>) -> Result<SqlKeeper<S>, NotCreated<S>>
+        ensures holds { IfOk result (λ keeper. HasCleanDisk (state S.Store keeper.connection)
+            → (state S.Store connection).now.schema ≡ no_schema
+            → HoldsLedger (state S.Store keeper.connection) []) }
+        ensures unfailed { IfOk result (λ keeper. (keeper.health.is_spent ≡ false)
+            × (keeper.health.failures ≡ 0)) }
+        ensures handed_back { IfErr result (λ refused.
+            HasCleanDisk (state S.Store refused.connection)
+            → IsLeft (state S.Store connection) (state S.Store refused.connection)) }
+        ensures survives { MatchResult result
+            (λ keeper. Survives (state S.Store connection) (state S.Store keeper.connection)
+            (MakesLedger (state S.Store connection)))
+            (λ refused. Survives (state S.Store connection) (state S.Store refused.connection)
+            (MakesLedger (state S.Store connection))) }
+    {
+        let mut connection = connection;
+        let mut health = Health::new();
+        match make_ledger(&mut connection) {
+            Ok(()) => Ok(SqlKeeper { connection, health }),
+            Err(error) => Err(NotCreated {
+                fault: health.told(&error),
+                connection,
+            }),
+        }
+    }
+
+    /// Gives the connection back, whose database is as it was.
+    pub fn release(self) -> Connection<S>
+        ensures { result ≡ self.connection }
+    {
+        let SqlKeeper {
+            connection,
+            health: _,
+        } = self;
+        connection
+    }
+}
+
+/// What is promised of a call that writes, and of what a crash leaves after it, is promised of a store that gives back what was written
+/// to it.
+///
+/// Payload files aren't put yet: `put` and `put_from` answer as where memory ran out. Until they are, no other crate can use this keeper.
+impl<S: Alter> Keeper for SqlKeeper<S> {
+    ghost holds = { λ keeper. HoldsLedger (state S.Store keeper.connection) };
+
+    ghost may_leave = { λ keeper. MayLeaveLedger (state S.Store keeper.connection) };
+
+    ghost clean = { λ keeper. HasCleanDisk (state S.Store keeper.connection) };
+
+    ghost spent = { λ keeper. IsTrue keeper.health.is_spent };
+
+    ghost failures = { λ keeper. keeper.health.failures };
+
+    fn begin(&mut self, _alloc: Global, name: &str, tags: &TagSet) -> Result<(), KeepFault> {
+        self.health.test()?;
+        match begin_transfer(&mut self.connection, name, tags) {
+            Ok(()) => Ok(()),
+            Err(error) => Err(self.health.told(&error)),
+        }
+    }
+
+    fn tags(&mut self, alloc: Global, name: &str) -> Result<Option<TagSet>, KeepFault> {
+        self.health.test()?;
+        match transfers::tags(alloc, &mut self.connection, name) {
+            Ok(tags) => Ok(tags),
+            Err(error) => Err(self.health.told(&error)),
+        }
+    }
+
+    fn size_of(
+        &mut self,
+        _alloc: Global,
+        name: &str,
+        path: &BagPath,
+    ) -> Result<Option<u64>, KeepFault> {
+        self.health.test()?;
+        match items::size_of(&mut self.connection, name, path.as_str()) {
+            Ok(size) => Ok(size),
+            Err(error) => Err(self.health.told(&error)),
+        }
+    }
+
+    fn sizes(&mut self, alloc: Global, name: &str) -> Result<Vec<ItemSize>, KeepFault> {
+        self.health.test()?;
+        match transfers::sizes(alloc, &mut self.connection, name) {
+            Ok(sizes) => Ok(sizes),
+            Err(error) => Err(self.health.told(&error)),
+        }
+    }
+
+    fn put(
+        &mut self,
+        _alloc: Global,
+        _name: &str,
+        _want: &Want<'_>,
+        _content: &[u8],
+    ) -> Result<(), PutFault> {
+        self.health.test()?;
+        Err(KeepFault::Memory)?
+    }
+
+    fn put_from<R: Source>(
+        &mut self,
+        _alloc: Global,
+        _name: &str,
+        _want: &Want<'_>,
+        _reader: &mut R,
+    ) -> Result<(), PutFault> {
+        self.health.test()?;
+        Err(KeepFault::Memory)?
+    }
+
+    fn read_piece(
+        &mut self,
+        _alloc: Global,
+        name: &str,
+        path: &BagPath,
+        offset: u64,
+        buf: &mut [u8],
+    ) -> Result<usize, KeepFault> {
+        self.health.test()?;
+        match items::read_piece(&mut self.connection, name, path.as_str(), offset, buf) {
+            Ok(n) => Ok(n),
+            Err(error) => Err(self.health.told(&error)),
+        }
+    }
+
+    fn names(&mut self, alloc: Global) -> Result<Vec<String>, KeepFault> {
+        self.health.test()?;
+        match reading::names(alloc, &mut self.connection) {
+            Ok(names) => Ok(names),
+            Err(error) => Err(self.health.told(&error)),
+        }
+    }
+
+    fn failures(&self) -> u64 {
+        self.health.failures()
+    }
+
+    ghost sound = { λ keeper ledger clean holds. holds.sound };
+}

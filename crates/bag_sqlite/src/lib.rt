@@ -1,0 +1,14 @@
+//! Transfers that are kept in a database of SQLite, in ledger format 2.
+#![tactic(auto)]
+
+mod health;
+mod items;
+mod keeper;
+pub mod laws;
+mod making;
+mod opening;
+mod putting;
+mod reading;
+#[cfg(test)]
+mod tests;
+mod transfers;

@@ -1,0 +1,121 @@
+//! The tables of a new ledger.
+ghost use Rattle.std.specs.Prelude.{◌≡◌, IsTrue, OnErr, OnOk, false};
+ghost use Rattle.bag_sqlite.specs.Making.{IsCreated, IsLeft, IsMade, IsMaking, Makes, MakesLedger};
+ghost use Rattle.bag_sqlite.specs.Tables.{ledger_schema, no_schema, schema_to_tag};
+ghost use Rattle.sqlite.specs.Change.{created};
+ghost use Rattle.sqlite.specs.Held.{state};
+ghost use Rattle.sqlite.specs.Schema.{Schema};
+ghost use Rattle.sqlite.specs.State.{HasCleanDisk, KeepsCommit, Survives};
+ghost use Rattle.sqlite.specs.Table.{Table};
+
+use sqlite::{Alter, Connection, Error, ErrorCode, Transaction};
+
+/// Makes the tables of a ledger without a transfer in one transaction.
+pub(crate) fn make_ledger<S: Alter>(connection: &mut Connection<S>) -> Result<(), Error>
+    ensures made { HasCleanDisk (state S.Store connection.new)
+        → OnOk result ((state S.Store connection.old).now.schema ≡ no_schema
+        → IsCreated (state S.Store connection.new)) }
+    ensures idle { OnOk result ((state S.Store connection.new).in_transaction ≡ false) }
+    ensures unchanged { HasCleanDisk (state S.Store connection.new)
+        → OnErr result (IsLeft (state S.Store connection.old) (state S.Store connection.new)) }
+    ensures survives { Survives (state S.Store connection.old) (state S.Store connection.new)
+        (MakesLedger (state S.Store connection.old)) }
+{
+    if !connection.is_autocommit() {
+        return Err(Error::SqliteFailure(ErrorCode::TransactionState));
+    }
+    let mut transaction = connection.transaction();
+    make_transfer_tables(&mut transaction)?;
+    make_item_tables(&mut transaction)?;
+    write_format(&mut transaction)?;
+    transaction.commit()
+}
+
+/// Makes the tables of formats, of transfers and of tag files.
+fn make_transfer_tables<S: Alter>(tx: &mut Transaction<'_, S>) -> Result<(), Error>
+    ensures same_reference { tx.new.conn.ghost_name ≡ tx.old.conn.ghost_name }
+    ensures made { HasCleanDisk (state S.Store tx.new.conn.now)
+        → OnOk result (IsMaking no_schema (state S.Store tx.old.conn.now)
+        → IsMaking schema_to_tag (state S.Store tx.new.conn.now)) }
+    ensures inside { HasCleanDisk (state S.Store tx.new.conn.now)
+        → OnOk result (IsTrue (state S.Store tx.old.conn.now).in_transaction
+        → IsTrue (state S.Store tx.new.conn.now).in_transaction) }
+    ensures kept { HasCleanDisk (state S.Store tx.new.conn.now)
+        → KeepsCommit (state S.Store tx.old.conn.now) (state S.Store tx.new.conn.now) }
+    ensures survives { Survives (state S.Store tx.old.conn.now) (state S.Store tx.new.conn.now)
+        (λ _. ⊥) }
+{
+    make_table(
+        tx,
+        "CREATE TABLE meta (k TEXT NOT NULL PRIMARY KEY, v INTEGER NOT NULL) STRICT",
+    )?;
+    make_table(
+        tx,
+        "CREATE TABLE transfer (id INTEGER PRIMARY KEY, name TEXT NOT NULL UNIQUE) STRICT",
+    )?;
+    make_table(
+        tx,
+        "CREATE TABLE tag (transfer INTEGER NOT NULL REFERENCES transfer(id), path TEXT NOT NULL, body BLOB NOT NULL, PRIMARY KEY (transfer, path)) STRICT",
+    )
+}
+
+/// Makes the tables of payload files and of their pieces.
+fn make_item_tables<S: Alter>(tx: &mut Transaction<'_, S>) -> Result<(), Error>
+    ensures same_reference { tx.new.conn.ghost_name ≡ tx.old.conn.ghost_name }
+    ensures made { HasCleanDisk (state S.Store tx.new.conn.now)
+        → OnOk result (IsMaking schema_to_tag (state S.Store tx.old.conn.now)
+        → IsMaking ledger_schema (state S.Store tx.new.conn.now)) }
+    ensures inside { HasCleanDisk (state S.Store tx.new.conn.now)
+        → OnOk result (IsTrue (state S.Store tx.old.conn.now).in_transaction
+        → IsTrue (state S.Store tx.new.conn.now).in_transaction) }
+    ensures kept { HasCleanDisk (state S.Store tx.new.conn.now)
+        → KeepsCommit (state S.Store tx.old.conn.now) (state S.Store tx.new.conn.now) }
+    ensures survives { Survives (state S.Store tx.old.conn.now) (state S.Store tx.new.conn.now)
+        (λ _. ⊥) }
+{
+    make_table(
+        tx,
+        "CREATE TABLE held (id INTEGER PRIMARY KEY, transfer INTEGER NOT NULL REFERENCES transfer(id), path TEXT NOT NULL, size INTEGER NOT NULL, UNIQUE (transfer, path)) STRICT",
+    )?;
+    make_table(
+        tx,
+        "CREATE TABLE piece (item INTEGER NOT NULL REFERENCES held(id), n INTEGER NOT NULL, body BLOB NOT NULL, PRIMARY KEY (item, n)) STRICT",
+    )
+}
+
+/// Makes a table.
+fn make_table<S: Alter>(tx: &mut Transaction<'_, S>, sql: &str) -> Result<(), Error>
+    ensures same_reference { tx.new.conn.ghost_name ≡ tx.old.conn.ghost_name }
+    ensures made { HasCleanDisk (state S.Store tx.new.conn.now)
+        → OnOk result ((before : Schema) (table : Table) → Makes before sql.now table
+        → IsMaking before (state S.Store tx.old.conn.now)
+        → IsMaking (created before table) (state S.Store tx.new.conn.now)) }
+    ensures inside { HasCleanDisk (state S.Store tx.new.conn.now)
+        → OnOk result (IsTrue (state S.Store tx.old.conn.now).in_transaction
+        → IsTrue (state S.Store tx.new.conn.now).in_transaction) }
+    ensures kept { HasCleanDisk (state S.Store tx.new.conn.now)
+        → KeepsCommit (state S.Store tx.old.conn.now) (state S.Store tx.new.conn.now) }
+    ensures survives { Survives (state S.Store tx.old.conn.now) (state S.Store tx.new.conn.now)
+        (λ _. ⊥) }
+{
+    tx.execute(sql, &[])?;
+    Ok(())
+}
+
+/// Writes the format's row.
+fn write_format<S: Alter>(tx: &mut Transaction<'_, S>) -> Result<(), Error>
+    ensures same_reference { tx.new.conn.ghost_name ≡ tx.old.conn.ghost_name }
+    ensures made { HasCleanDisk (state S.Store tx.new.conn.now)
+        → OnOk result (IsMaking ledger_schema (state S.Store tx.old.conn.now)
+        → IsMade (state S.Store tx.new.conn.now)) }
+    ensures inside { HasCleanDisk (state S.Store tx.new.conn.now)
+        → OnOk result (IsTrue (state S.Store tx.old.conn.now).in_transaction
+        → IsTrue (state S.Store tx.new.conn.now).in_transaction) }
+    ensures kept { HasCleanDisk (state S.Store tx.new.conn.now)
+        → KeepsCommit (state S.Store tx.old.conn.now) (state S.Store tx.new.conn.now) }
+    ensures survives { Survives (state S.Store tx.old.conn.now) (state S.Store tx.new.conn.now)
+        (λ _. ⊥) }
+{
+    tx.execute("INSERT INTO meta (k, v) VALUES ('bag-ledger', 2)", &[])?;
+    Ok(())
+}

@@ -1,0 +1,133 @@
+//! A transfer is opened in a database.
+ghost use Rattle.std.specs.Prelude.{◌≡◌, ℤ, [], ◌∷◌, IfOk, IsTrue, MatchResult, OnOk, false};
+ghost use Rattle.bag_ledger.specs.Keeping.{IsUnused, Leaves, Writes};
+ghost use Rattle.bag_ledger.specs.Ledgers.{with_transfer};
+ghost use Rattle.bag_rules.specs.Files.{files_of};
+ghost use Rattle.bag_rules.specs.Opening.{Opens};
+ghost use Rattle.bag_sqlite.specs.Opening.{AddsTags, AddsTransfer, HasOneTransferMore, opened_under};
+ghost use Rattle.bag_sqlite.specs.Putting.{IsUnderWay};
+ghost use Rattle.bag_sqlite.specs.SqlKeepers.{HoldsLedger, MayLeaveLedger};
+ghost use Rattle.sqlite.specs.Held.{Held, state};
+ghost use Rattle.sqlite.specs.State.{HasCleanDisk, KeepsCommit, Survives};
+
+use bag_rules::{File, TagSet};
+use sqlite::{Alter, Connection, Error, Transaction, params};
+
+/// Opens a transfer with a name that is unused, with these tag files, in one transaction.
+pub(crate) fn begin_transfer<S: Alter>(
+    connection: &mut Connection<S>,
+    name: &str,
+    tags: &TagSet,
+) -> Result<(), Error>
+    requires idle { connection.old.in_transaction ≡ false }
+    requires opens { Opens tags.now }
+    ensures begun { MatchResult result
+        (λ done. Writes (λ (connection : Held S). HoldsLedger (state S.Store connection))
+        (λ connection. MayLeaveLedger (state S.Store connection))
+        (λ connection. HasCleanDisk (state S.Store connection))
+        (IsUnused name.now) connection.old connection.new
+        (λ ledger. with_transfer ledger name.now tags.now))
+        (λ error. Leaves (λ (connection : Held S). HoldsLedger (state S.Store connection))
+        (λ connection. MayLeaveLedger (state S.Store connection))
+        (λ connection. HasCleanDisk (state S.Store connection))
+        (IsUnused name.now) connection.old connection.new
+        (λ ledger. with_transfer ledger name.now tags.now)) }
+    ensures idle { connection.new.in_transaction ≡ false }
+{
+    let mut transaction = connection.transaction();
+    write_transfer(&mut transaction, name, tags.files())?;
+    transaction.commit()
+}
+
+/// Writes a transfer's row and those of its tag files.
+fn write_transfer<S: Alter>(
+    tx: &mut Transaction<'_, S>,
+    name: &str,
+    files: &[File],
+) -> Result<(), Error>
+    ensures same_reference { tx.new.conn.ghost_name ≡ tx.old.conn.ghost_name }
+    ensures written { HasCleanDisk (state S.Store tx.new.conn.now)
+        → OnOk result (IsUnderWay (state S.Store tx.old.conn.now)
+        → IsUnderWay (state S.Store tx.new.conn.now)
+        × (number : ℤ) × HasOneTransferMore (state S.Store tx.old.conn.now).now.trees
+        (state S.Store tx.new.conn.now).now.trees
+        (opened_under number name.now (files_of files.now))) }
+    ensures opened { HasCleanDisk (state S.Store tx.new.conn.now)
+        → OnOk result (IsTrue (state S.Store tx.old.conn.now).in_transaction
+        → IsTrue (state S.Store tx.old.conn.now).is_open) }
+    ensures kept { HasCleanDisk (state S.Store tx.new.conn.now)
+        → KeepsCommit (state S.Store tx.old.conn.now) (state S.Store tx.new.conn.now) }
+    ensures survives { Survives (state S.Store tx.old.conn.now) (state S.Store tx.new.conn.now)
+        (λ _. ⊥) }
+{
+    let transfer = insert_transfer(tx, name)?;
+    insert_tags(tx, transfer, files)
+}
+
+/// Writes a transfer's row, and answers its number.
+fn insert_transfer<S: Alter>(tx: &mut Transaction<'_, S>, name: &str) -> Result<i64, Error>
+    ensures same_reference { tx.new.conn.ghost_name ≡ tx.old.conn.ghost_name }
+    ensures added { HasCleanDisk (state S.Store tx.new.conn.now)
+        → IfOk result (λ transfer. IsUnderWay (state S.Store tx.old.conn.now)
+        → IsUnderWay (state S.Store tx.new.conn.now)
+        × AddsTransfer (state S.Store tx.old.conn.now).now.trees
+        (state S.Store tx.new.conn.now).now.trees transfer name.now) }
+    ensures opened { HasCleanDisk (state S.Store tx.new.conn.now)
+        → OnOk result (IsTrue (state S.Store tx.old.conn.now).in_transaction
+        → IsTrue (state S.Store tx.old.conn.now).is_open) }
+    ensures kept { HasCleanDisk (state S.Store tx.new.conn.now)
+        → KeepsCommit (state S.Store tx.old.conn.now) (state S.Store tx.new.conn.now) }
+    ensures survives { Survives (state S.Store tx.old.conn.now) (state S.Store tx.new.conn.now)
+        (λ _. ⊥) }
+{
+    tx.execute("INSERT INTO transfer (name) VALUES (?1)", params![name])?;
+    Ok(tx.last_insert_rowid())
+}
+
+/// Writes the rows of a transfer's tag files.
+fn insert_tags<S: Alter>(
+    tx: &mut Transaction<'_, S>,
+    transfer: i64,
+    files: &[File],
+) -> Result<(), Error>
+    ensures same_reference { tx.new.conn.ghost_name ≡ tx.old.conn.ghost_name }
+    ensures added { HasCleanDisk (state S.Store tx.new.conn.now)
+        → OnOk result (IsUnderWay (state S.Store tx.old.conn.now)
+        → IsUnderWay (state S.Store tx.new.conn.now)
+        × AddsTags (state S.Store tx.old.conn.now).now.trees
+        (state S.Store tx.new.conn.now).now.trees transfer (files_of files.now)) }
+    ensures kept { HasCleanDisk (state S.Store tx.new.conn.now)
+        → KeepsCommit (state S.Store tx.old.conn.now) (state S.Store tx.new.conn.now) }
+    ensures survives { Survives (state S.Store tx.old.conn.now) (state S.Store tx.new.conn.now)
+        (λ _. ⊥) }
+{
+    for file in files {
+        insert_tag(tx, transfer, file.path().as_str(), file.body())?;
+    }
+    Ok(())
+}
+
+/// Writes the row of a tag file.
+fn insert_tag<S: Alter>(
+    tx: &mut Transaction<'_, S>,
+    transfer: i64,
+    path: &str,
+    body: &[u8],
+) -> Result<(), Error>
+    ensures same_reference { tx.new.conn.ghost_name ≡ tx.old.conn.ghost_name }
+    ensures added { HasCleanDisk (state S.Store tx.new.conn.now)
+        → OnOk result (IsUnderWay (state S.Store tx.old.conn.now)
+        → IsUnderWay (state S.Store tx.new.conn.now)
+        × AddsTags (state S.Store tx.old.conn.now).now.trees
+        (state S.Store tx.new.conn.now).now.trees transfer ((path.now, body.now) ∷ [])) }
+    ensures kept { HasCleanDisk (state S.Store tx.new.conn.now)
+        → KeepsCommit (state S.Store tx.old.conn.now) (state S.Store tx.new.conn.now) }
+    ensures survives { Survives (state S.Store tx.old.conn.now) (state S.Store tx.new.conn.now)
+        (λ _. ⊥) }
+{
+    tx.execute(
+        "INSERT INTO tag (transfer, path, body) VALUES (?1, ?2, ?3)",
+        params![transfer, path, body],
+    )?;
+    Ok(())
+}
