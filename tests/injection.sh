@@ -100,7 +100,7 @@ expect 'a file that takes a part' 3 '' small_file ./bag check "$work/many"
 short_of_memory() {
     local limit status printed answers=''
     for limit in $(seq 2000 500 20000) $(seq 22000 2000 64000); do
-        [ "$(ulimit -v "$limit" && "$program" 2>"$work/no start")" = 'bag: check' ] || continue
+        [ "$(ulimit -v "$limit" && "$program" 2>"$work/no start")" = 'bag: check, make' ] || continue
         status=0
         printed=$(ulimit -v "$limit" && exec "$program" check "$1") || status=$?
         case "$status $printed" in

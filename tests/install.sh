@@ -19,7 +19,7 @@ expect 'into a new folder' 0 '' ./install "$prefix"
 expect 'the files and their modes' 0 "$files" installed "$prefix"
 expect 'the program from anywhere' 0 valid env -i -C / "$prefix/bin/bag" check "$top/examples/first-bag"
 expect 'by its name' 1 $'no bagit.txt\nnot complete' env -C examples PATH="$prefix/bin" bag check no-declaration
-expect 'without words' 64 'bag: check' env -i "$prefix/bin/bag"
+expect 'without words' 64 'bag: check, make' env -i "$prefix/bin/bag"
 expect 'the page is that of the repository' 0 '' cmp docs/bag.1 "$prefix/share/man/man1/bag.1"
 expect 'again' 0 '' ./install "$prefix"
 expect 'again: the files and their modes' 0 "$files" installed "$prefix"
@@ -63,6 +63,11 @@ if [ -n "$(page 2>"$work/no page")" ]; then
         expect "the page names: $text" 0 '' grep -qF -- "$text" "$work/page"
     done <<'TEXTS'
 bag check DIR
+bag make SRC DST [ALG...]
+made N files, M octets
+unknown algorithm WORD
+bag: no algorithm
+bag: clash
 no bagit.txt
 byte order mark
 line count
@@ -93,7 +98,7 @@ bag: tag too large
 bag: too many
 bag: too large
 bag: memory
-bag: check
+bag: check, make
 TEXTS
 else
     echo 'skipped: texts of the page, for want of man'

@@ -16,13 +16,13 @@ new() {
 
 build_first
 
-expect 'no words' 64 'bag: check' bag
-expect 'a word that is no command' 64 'bag: check' bag verify examples/first-bag
-expect 'a command in other letters' 64 'bag: check' bag Check examples/first-bag
-expect 'an option in place of a command' 64 'bag: check' bag --help examples/first-bag
-expect 'a command without its folder' 64 'bag: check' bag check
-expect 'a command with two folders' 64 'bag: check' bag check examples/first-bag examples/first-bag
-expect 'a word that is not UTF-8' 64 'bag: check' bag check $'\377'
+expect 'no words' 64 'bag: check, make' bag
+expect 'a word that is no command' 64 'bag: check, make' bag verify examples/first-bag
+expect 'a command in other letters' 64 'bag: check, make' bag Check examples/first-bag
+expect 'an option in place of a command' 64 'bag: check, make' bag --help examples/first-bag
+expect 'a command without its folder' 64 'bag: check, make' bag check
+expect 'a command with two folders' 64 'bag: check, make' bag check examples/first-bag examples/first-bag
+expect 'a word that is not UTF-8' 64 'bag: check, make' bag check $'\377'
 
 expect 'a valid bag' 0 valid bag check examples/first-bag
 expect 'a slash at the end' 0 valid bag check examples/first-bag/

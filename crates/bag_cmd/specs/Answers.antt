@@ -19,7 +19,8 @@ use Rattle.bag_cmd.specs.declared.folder.place.Place.TheVariants.{Base}
 use Rattle.bag_cmd.specs.Directories.{Listing}
 use Rattle.bag_cmd.specs.Folders.{FolderShown, IsOpened, IsRefused}
 use Rattle.bag_cmd.specs.Printing.{Printed}
-use Rattle.bag_cmd.specs.Requests.{NamesCheck, NamesCommand}
+use Rattle.bag_cmd.specs.Making.{MakingShown, PrintsMake}
+use Rattle.bag_cmd.specs.Requests.{NamesCheck, NamesCommand, NamesMake}
 use Rattle.bag_cmd.specs.StopTexts.{stop_text}
 
 -- An answer of `check` about a tree: where its octets are known, the verdict on its bag, in which no fault means a valid bag and
@@ -60,14 +61,21 @@ pub data PrintsCheck {W : Type 0} (contents : W → Option (List ℕ)) (known : 
   NoMemory : Printed contents old new result (stop_text Memory ∷ []) FAILED
       → PrintsCheck contents known folder old new result
 
--- what a command line prints
+-- What a command line does: what it prints, and the folder that was made for a bag and not given up, which `make` alone changes.
 pub record RunsCommand {W : Type 0} (contents : W → Option (List ℕ)) (known : Option Listing)
-    (words : List (List ℕ)) (old new : Output W) (result : ℕ) : Type 0 where
+    (words : List (List ℕ)) (before after : Option (List ℕ)) (old new : Output W) (result : ℕ)
+    : Type 0 where
   pub check : (folder : List ℕ) → NamesCheck words folder
       → PrintsCheck contents known folder old new result
-  pub usage : ¬ NamesCommand words → Printed contents old new result (codes "bag: check" ∷ []) USAGE
+  pub make : (making : MakingShown)
+      → NamesMake words making.source making.destination making.names
+      → PrintsMake contents known making before after old new result
+  pub usage : ¬ NamesCommand words
+      → Printed contents old new result (codes "bag: check, make" ∷ []) USAGE
+  pub others : ((making : MakingShown)
+      → ¬ NamesMake words making.source making.destination making.names) → after ≡ before
 
 -- some command line was run over the directories of the system
 abbrev pub Ran : {W : Type 0} → (W → Option (List ℕ)) → Output W → Output W → ℕ → Type 0
-Ran contents old new result =
-    (words : List (List ℕ)) × RunsCommand contents None words old new result
+Ran contents old new result = (words : List (List ℕ)) × (after : Option (List ℕ))
+    × RunsCommand contents None words None after old new result

@@ -1,9 +1,9 @@
 -- What `make` does: the words that name algorithms, and the answers that a written bag allows.
-use Rattle.std.specs.Prelude.{◌≡◌, ◌↔◌, ◌++◌, ◌∷◌, ℕ, List, [], All, Contains, IsErrOf, MatchResult, Option, Result, Some, codes, slice_get, take, true}
+use Rattle.std.specs.Prelude.{◌≡◌, ◌↔◌, ◌++◌, ◌∷◌, ℕ, List, [], All, Contains, IsErrOf, MatchResult, None, Option, Result, Some, codes, false, if◌then◌else◌, is_some, map, nat_eq, slice_get, string_bytes, take, true}
 use Rattle.bag_digest.specs.Algorithm.{has, name_of}
 use Rattle.bag_digest.specs.declared.algorithm.Alg.{Alg}
 use Rattle.bag_digest.specs.declared.algorithm.AlgSet.{AlgSet}
-use Rattle.bag_rules.specs.Files.{Files}
+use Rattle.bag_rules.specs.Files as rules
 use Rattle.bag_rules.specs.Trees.{Shown, UsesTree}
 use Rattle.bag_tags.specs.declared.oxum.Oxum.{Oxum}
 use Rattle.bag_writer.specs.Sinks.{IsEmptySink, Stored, UsesSink}
@@ -12,9 +12,17 @@ use Rattle.bag_writer.specs.declared.fault.WriteFault.{WriteFault}
 use Rattle.bag_writer.specs.declared.fault.WriteFault.TheVariants.{Tree, Sink}
 use Rattle.bag_writer.specs.declared.spec.Spec.{Spec}
 use Rattle.bag_cmd.specs.declared.output.Output.{Output}
-use Rattle.bag_cmd.specs.declared.status.TheConstants.{USAGE}
+use Rattle.bag_cmd.specs.declared.commands.make.Making.{Making}
+use Rattle.bag_cmd.specs.declared.folder.OpenFault.{OpenFault}
+use Rattle.bag_cmd.specs.declared.folder.place.Place.TheVariants.{Payload}
+use Rattle.bag_cmd.specs.declared.status.TheConstants.{DONE, FAILED, USAGE}
+use Rattle.bag_cmd.specs.declared.stop.Stop.TheVariants as stop
+use Rattle.bag_cmd.specs.Directories.{Listing, in_payload}
+use Rattle.bag_cmd.specs.Folders.{FolderShown, IsOpened, IsRefused}
 use Rattle.bag_cmd.specs.MakeTexts.{make_status, make_text}
 use Rattle.bag_cmd.specs.Printing.{Printed}
+use Rattle.bag_cmd.specs.SinkFolders.{IsCreated, SinkShown}
+use Rattle.bag_cmd.specs.StopTexts.{stop_of_open, stop_text}
 
 -- THE NAMES OF ALGORITHMS
 
@@ -55,7 +63,7 @@ pub record IsWriting {T S : Type 0} (shown : T → Shown) (tree_failures : T →
       (Refuses (payload_paths (shown old_tree)) spec)
   pub unwritten : IsRefusedUnwritten (payload_paths (shown old_tree)) spec
       → (new_sink ≡ old_sink) × MatchResult answer (λ oxum. ⊥) (λ fault. ¬ IsOfDevice fault)
-  pub done : (payload : Files)
+  pub done : (payload : rules.Files)
       × IsDone (shown old_tree) spec answer (stored old_sink) (stored new_sink) payload
   pub tree : UsesTree shown tree_failures tree_sure old_tree new_tree (IsErrOf answer Tree)
   pub sink : UsesSink sink_failures sink_sure old_sink new_sink
@@ -79,3 +87,61 @@ pub data MakesOf {W : Type 0} (contents : W → Option (List ℕ))
   Unknown : (word : List ℕ) → IsFirstUnknown words word → untouched
       → Printed contents old new result (unknown_text word ∷ []) USAGE
       → MakesOf contents writing untouched words old new result
+
+-- THE FOLDER OF THE BAG
+
+-- the same of a folder that was made for the bag, from as it was then to as it is later
+abbrev pub MakesFolder : {T W : Type 0} → (W → Option (List ℕ)) → (T → Shown) → (T → ℕ)
+    → (T → Type 0) → T → T → List (List ℕ) → Output W → Output W → ℕ → SinkShown → SinkShown
+    → Type 0
+MakesFolder contents shown failures sure old_tree new_tree words old new result sink later =
+    MakesOf contents (IsWriting shown failures sure (λ _. None)
+    (λ (sink : SinkShown). is_some sink.written ≡ false) (λ (sink : SinkShown). sink.failures)
+    (λ _. ⊥) old_tree new_tree sink later) ((new_tree ≡ old_tree) × (later ≡ sink))
+    words old new result
+
+-- the folder that was made is kept where the status is that of a bag that was made, and given up else
+abbrev pub kept_folder : List ℕ → ℕ → Option (List ℕ)
+kept_folder folder status = if nat_eq status DONE then Some folder else None
+
+-- What was done with an open payload: a folder of this name was made, the making went on in it, and its answer decided whether it
+-- is kept; or it couldn't be made, which was printed.
+pub data MakesInto {W : Type 0} (contents : W → Option (List ℕ))
+    (makes : SinkShown → SinkShown → Type 0) (folder : List ℕ) (before after : Option (List ℕ))
+    (old new : Output W) (result : ℕ) : Type 0 where
+  Written : (sink later : SinkShown) → IsCreated folder sink → makes sink later
+      → after ≡ kept_folder folder result
+      → MakesInto contents makes folder before after old new result
+  NotMade : (fault : OpenFault) → after ≡ before
+      → Printed contents old new result (stop_text (stop_of_open fault) ∷ []) FAILED
+      → MakesInto contents makes folder before after old new result
+
+-- the words after `make`: the folder with the payload, the folder for the bag, and the names of algorithms
+pub record MakingShown : Type 0 where
+  pub source : List ℕ
+  pub destination : List ℕ
+  pub names : List (List ℕ)
+
+abbrev pub words_given : Making → MakingShown
+words_given making = record {
+  source = making.source.now;
+  destination = making.destination.now;
+  names = map string_bytes making.names.now;
+}
+
+-- What `make` did, where the directories are as listed (where that is known): what was done with what was opened of this payload;
+-- or no folder was made, and `bag: files` printed where something can't be in a bag, or that memory ran out.
+pub data PrintsMake {W : Type 0} (contents : W → Option (List ℕ)) (known : Option Listing)
+    (words : MakingShown) (before after : Option (List ℕ)) (old new : Output W) (result : ℕ)
+    : Type 0 where
+  Opened : (tree later : FolderShown)
+      → IsOpened (in_payload known words.source) words.source Payload tree
+      → MakesInto contents (MakesFolder contents (λ (tree : FolderShown). tree.shown)
+      (λ (tree : FolderShown). tree.failures) (λ (tree : FolderShown). ⊥) tree later words.names
+      old new result) words.destination before after old new result
+      → PrintsMake contents known words before after old new result
+  Refused : IsRefused (in_payload known words.source) words.source → after ≡ before
+      → Printed contents old new result (stop_text stop.Files ∷ []) FAILED
+      → PrintsMake contents known words before after old new result
+  NoMemory : after ≡ before → Printed contents old new result (stop_text stop.Memory ∷ []) FAILED
+      → PrintsMake contents known words before after old new result

@@ -1,6 +1,7 @@
 //! A folder on disk as a tree of files.
 
 use bag_path::PathFault;
+pub use destination::Destination;
 pub use directory::{Directories, Disk};
 pub use place::Place;
 pub use sink::FolderSink;
@@ -9,6 +10,7 @@ use std::io::{self, ErrorKind};
 use thiserror::Error;
 pub use tree::FolderTree;
 
+mod destination;
 pub mod directory;
 mod name;
 mod payload;

@@ -1,15 +1,15 @@
 //! The program `bag`: works with bags of the BagIt File Packaging Format, versions 1.0 (RFC 8493) and 0.97.
 //!
-//! `bag check DIR` judges the bag in a folder. What is printed goes to standard output, and the status tells the same: 0 valid,
-//! 1 not valid, 2 none that can be judged here, 3 a fault of files or memory, or an output that is full or closed, 64 an unknown
-//! command line.
+//! `bag check DIR` judges the bag in a folder, and `bag make SRC DST ALG..` writes the bag of the files in one. What is printed goes
+//! to standard output, and the status tells the same: 0 valid, or made; 1 not valid, or refused; 2 none that can be judged here; 3 a
+//! fault of files or memory, or an output that is full or closed; 64 an unknown command line.
 #![tactic(auto)]
 
 ghost use Rattle.std.specs.Prelude.{◌≡◌, ◌≢◌};
 ghost use Rattle.bag_cmd.specs.Answers.{Ran};
 
 use command::command;
-use folder::Disk;
+use folder::{Destination, Disk};
 use output::Output;
 use status::FAILED;
 use std::alloc::{AllocError, Global};
@@ -58,7 +58,7 @@ fn run_words<R: Files + Env + AllocGlobal, W: Write + Drop>(rt: &R, out: &mut Ou
 {
     let alloc = rt.alloc();
     match words(rt, alloc) {
-        Ok(words) => command(rt, &Disk(rt), alloc, words, out),
+        Ok(words) => command(rt, &Disk(rt), &mut Destination::new(rt), alloc, words, out),
         Err(AllocError) => print_stop(Stop::Memory, out),
     }
 }

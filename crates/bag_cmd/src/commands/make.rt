@@ -2,11 +2,13 @@
 ghost use Rattle.std.specs.Prelude.{◌≡◌, ◌∷◌, [], IfErr, IfOk, false, map, string_bytes};
 ghost use Rattle.bag_writer.specs.declared.spec.Spec.{Spec};
 ghost use Rattle.bag_cmd.specs.MakeTexts.{fault_line, make_status, make_text};
-ghost use Rattle.bag_cmd.specs.Making.{IsFirstUnknown, IsPlain, IsWriting, MakesOf, NamesSet};
+ghost use Rattle.bag_cmd.specs.Making.{IsFirstUnknown, IsPlain, IsWriting, MakesFolder, MakesInto, MakesOf, NamesSet, PrintsMake, words_given};
 ghost use Rattle.bag_cmd.specs.Printing.{Printed};
 
+use crate::folder::{Destination, Directories, FolderTree};
 use crate::output::Output;
 use crate::status::{DONE, FAILED, REFUSED, USAGE};
+use crate::stop::{Stop, print_stop};
 use bag_digest::{Alg, AlgSet};
 use bag_rules::Tree;
 use bag_tags::{Info, Oxum};
@@ -14,6 +16,64 @@ use bag_writer::{Sink, Spec, WriteFault, write_bag};
 use std::alloc::Global;
 use std::fmt::{self, Display, Formatter};
 use std::io::Write;
+use std::rt::Files;
+
+/// What `make` was asked for.
+#[derive(Clone, Copy)]
+pub struct Making<'a> {
+    /// The name of the folder with the payload.
+    pub source: &'a str,
+    /// The name of the folder for the bag, which must not be there yet.
+    pub destination: &'a str,
+    /// The names of algorithms.
+    pub names: &'a [String],
+}
+
+/// Writes the bag of the files in a folder into another, which is made for it, prints the answer and answers the status, as
+/// [`make_to`] does. Where the first can't be opened, or the second can't be made, it prints why.
+///
+/// The first is opened before the second is made, and that before the names are looked at. The second is given up unless the status
+/// is 0, and so removed where nothing was written into it.
+pub fn make_folder<R: Files, D: Directories, W: Write + Drop>(
+    rt: &R,
+    disk: &D,
+    made: &mut Destination<'_, R>,
+    alloc: Global,
+    making: &Making<'_>,
+    out: &mut Output<W>,
+) -> u8
+    ensures { PrintsMake W.contents (D.listing disk.now) (words_given making.now) made.old made.new
+        out.old out.new result }
+{
+    match FolderTree::open_payload(rt, disk, alloc, making.source) {
+        Ok(mut tree) => make_into(alloc, making, &mut tree, made, out),
+        Err(fault) => print_stop(Stop::from(fault), out),
+    }
+}
+
+/// Makes the folder for the bag, and the bag of a tree's payload files in it.
+fn make_into<T: Tree, R: Files, W: Write + Drop>(
+    alloc: Global,
+    making: &Making<'_>,
+    tree: &mut T,
+    made: &mut Destination<'_, R>,
+    out: &mut Output<W>,
+) -> u8
+    ensures { MakesInto W.contents (MakesFolder W.contents T.shown T.failures T.sure
+        tree.old tree.new (words_given making.now).names out.old out.new result)
+        making.now.destination.now made.old made.new out.old out.new result }
+{
+    match made.create(alloc, making.destination) {
+        Ok(mut sink) => {
+            let status = make_to(alloc, making.names, tree, &mut sink, out);
+            if status != DONE {
+                made.give_up();
+            }
+            status
+        }
+        Err(fault) => print_stop(Stop::from(fault), out),
+    }
+}
 
 /// Writes the bag of a tree's payload files to a sink, with manifests by the algorithms of these names, prints the answer and
 /// answers the status, as [`print_making`] does. An algorithm that is named twice counts once.

@@ -1,0 +1,56 @@
+#!/usr/bin/env python3
+"""The times of `bag make` beside those of copying the same folder by `cp -r` and taking the digests of the copy by coreutils, and
+its peak memory.
+
+Each row is a payload. The two take turns, three rounds by default, and the least time of each counts. Neither waits until the disk
+has what was written. Memory is the greatest resident set.
+
+    bench/make.py [ROUNDS]
+"""
+
+import pathlib
+import shutil
+import subprocess
+import sys
+import tempfile
+
+from check import PROGRAM, TOP, payload, run
+
+
+def row(name, sizes, folders, algorithms, rounds, work):
+    source, copied, made = work / "data", work / "copied", work / "made"
+    paths = [path.relative_to(source) for path in payload(work, sizes, folders)]
+    (work / "paths").write_bytes(b"".join(bytes(path) + b"\0" for path in paths))
+    copy = [["cp", "-r", source, copied]]
+    for algorithm in algorithms:
+        digests = f'cd "$1" && xargs -0 {algorithm}sum <"$2" >"$3"'
+        copy.append(["sh", "-c", digests, "sh", copied, work / "paths", work / f"manifest-{algorithm}.txt"])
+    ours, theirs, peak = [], [], 0
+    for _ in range(rounds):
+        seconds, memory = run([[PROGRAM, "make", source, made, *algorithms]], work)
+        ours.append(seconds)
+        peak = max(peak, memory)
+        shutil.rmtree(made)
+        theirs.append(run(copy, work)[0])
+        shutil.rmtree(copied)
+    print(
+        f"{name:<20} {min(ours):>9.2f} {min(theirs):>10.2f} {min(ours) / min(theirs):>6.2f} {peak / 1024:>8.1f}",
+        flush=True,
+    )
+    shutil.rmtree(source)
+
+
+def main():
+    rounds = int(sys.argv[1]) if len(sys.argv) > 1 else 3
+    # The first use of the program may build it.
+    subprocess.run([TOP / "bag"], stdout=subprocess.DEVNULL)
+    print(f"{'payload':<20} {'bag make':>9} {'cp and sum':>10} {'ratio':>6} {'peak MiB':>8}")
+    with tempfile.TemporaryDirectory() as folder:
+        work = pathlib.Path(folder)
+        for name, sizes, folders in (("large", [1 << 30], 1), ("small", [2048] * 20_000, 200)):
+            for algorithms in (["sha256"], ["md5", "sha256"]):
+                row(f"{name} {' '.join(algorithms)}", sizes, folders, algorithms, rounds, work)
+
+
+if __name__ == "__main__":
+    main()

@@ -1,0 +1,30 @@
+use Rattle.std.proofs.Common.{◌≡◌, ◌≢◌, ◌∙◌, ◌∷◌, ℕ, List, [], None, Option, Some, arith, subst}
+use Rattle.std.proofs.lemmas.Grind.{common_steps}
+use Rattle.bag_cmd.specs.declared.status.TheConstants.{DONE, FAILED}
+use Rattle.bag_cmd.specs.declared.stop.Stop.{Stop}
+use Rattle.bag_cmd.specs.Making.{NotMade, Written, kept_folder}
+use Rattle.bag_cmd.specs.Printing.{Printed}
+use Rattle.bag_cmd.specs.StopTexts.{stop_text}
+use Rattle.bag_cmd.proofs.commands.make.make_into.Goals.{then-status-ne-DONE, else-status-ne-DONE}
+use Rattle.bag_cmd.proofs.commands.make.make_into.Goals as goal
+
+given_up : (folder : List ℕ) (status : ℕ) (now given : Option (List ℕ)) → now ≡ given → given ≡ None → status ≢ DONE → now ≡ kept_folder folder status
+given_up folder status now given is none other = let left : None ≡ kept_folder folder status = grind (arith, common_steps) in is ∙ none ∙ left
+
+kept : (folder : List ℕ) (status : ℕ) (now made : Option (List ℕ)) → now ≡ made → made ≡ Some folder → status ≡ DONE → now ≡ kept_folder folder status
+kept folder status now made is some done = let left : Some folder ≡ kept_folder folder status = grind (arith, common_steps) in is ∙ some ∙ left
+
+pub returns-after-status-ne-DONE : goal.returns-after-status-ne-DONE
+returns-after-status-ne-DONE g c =
+    let status = c.make_to-status.result in
+    let folder = c.args.making.now.destination.now in
+    let after : c.if-status-ne-DONE.made ≡ kept_folder folder status = elim c.if-status-ne-DONE.branch [
+      | then-status-ne-DONE w ↦ given_up folder status c.if-status-ne-DONE.made w.give_up.new.self w.made-is w.give_up.ensures w.if-status-ne-DONE.true
+      | else-status-ne-DONE w ↦ kept folder status c.if-status-ne-DONE.made c.create.new.self w.made-is c.in-Ok.ensures.made w.if-status-ne-DONE.false
+    ] in
+    Written c.in-Ok.sink c.make_to-status.new.sink c.in-Ok.ensures.created c.make_to-status.ensures after
+
+pub returns-in-Err : goal.returns-in-Err
+returns-in-Err g c =
+    NotMade c.in-Err.fault c.in-Err.ensures.made
+    (subst (λ (stop : Stop). Printed g.W.Write.contents c.args.out.now c.print_stop.new.out c.print_stop.result (stop_text stop ∷ []) FAILED) c.from.ensures c.print_stop.ensures)

@@ -1,0 +1,58 @@
+//! Where a folder is made for a bag.
+ghost use Rattle.std.specs.Prelude.{◌≡◌, IfOk, MatchResult, None, Some};
+ghost use Rattle.bag_cmd.specs.SinkFolders.{IsCreated};
+
+use super::{FolderSink, OpenFault};
+use std::alloc::Global;
+use std::fs;
+use std::marker::Model;
+use std::rt::Files;
+
+/// The folders of the system, and the one among them that was made for a bag and not given up.
+#[derive(Drop)]
+pub struct Destination<'a, R: Files> {
+    rt: &'a R,
+    made: Option<String>,
+}
+
+impl<'a, R: Files> Model for Destination<'a, R> {
+    ghost use Rattle.std.specs.Prelude.{List, Option, ℕ, option_map, string_bytes};
+
+    ghost Value = { Option (List ℕ) };
+
+    ghost view = { λ destination. option_map string_bytes destination.made };
+}
+
+impl<'a, R: Files> Destination<'a, R> {
+    /// No folder was made yet.
+    pub fn new(rt: &'a R) -> Self
+        ensures { result ≡ None }
+    {
+        Destination { rt, made: None }
+    }
+
+    /// Makes a folder, as [`FolderSink::create`] does.
+    ///
+    /// # Errors
+    ///
+    /// As there. No folder is made then.
+    pub fn create(&mut self, alloc: Global, folder: &str) -> Result<FolderSink<&'a R>, OpenFault>
+        ensures created { IfOk result (IsCreated folder.now) }
+        ensures made { MatchResult result
+            (λ _. self.new ≡ Some folder.now) (λ _. self.new ≡ self.old) }
+    {
+        let name = String::from_str(alloc, folder)?;
+        let sink = FolderSink::create(self.rt, alloc, folder)?;
+        self.made = Some(name);
+        Ok(sink)
+    }
+
+    /// Gives up the folder that was made: it is removed, unless something is in it.
+    pub fn give_up(&mut self)
+        ensures { self.new ≡ None }
+    {
+        if let Some(name) = self.made.take() {
+            let _ = fs::remove_dir(self.rt, name.as_str());
+        }
+    }
+}

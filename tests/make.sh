@@ -1,0 +1,250 @@
+#!/usr/bin/env bash
+# `bag make` on real folders: what it prints, its status, what is left behind, and what other tools say of it.
+set -u
+cd "$(dirname -- "$0")/.." || exit 1
+. tests/common.bash
+
+# bag WORD..: the program, which is stopped where it hasn't ended after a minute.
+bag() {
+    timeout 60 ./bag "$@"
+}
+
+# below FOLDER: what stands below it, by name, each on a line; an LF in a name is written as a question mark.
+below() {
+    (cd "$1" && find . -mindepth 1 -printf '%P\0' | LC_ALL=C sort -z | tr '\n\0' '?\n')
+}
+
+# nothing FOLDER: the folder isn't there, nor anything else of its name.
+nothing() {
+    [ ! -e "$1" ] && [ ! -L "$1" ]
+}
+
+# valid_bag SRC DST: it is a valid bag, and its payload is the files of the folder.
+valid_bag() {
+    bag check "$2" && diff -r "$1" "$2/data"
+}
+
+# sums COMMAND DST MANIFEST: the command of coreutils accepts the digests and paths of the manifest.
+sums() {
+    (cd "$2" && "$1" --check --strict --quiet "$3")
+}
+
+# info DST: bag-info.txt.
+info() {
+    cat "$1/bag-info.txt"
+}
+
+build_first
+
+expect 'no folders' 64 'bag: check, make' bag make
+expect 'one folder' 64 'bag: check, make' bag make "$work/letters"
+expect 'in other letters' 64 'bag: check, make' bag Make "$work/letters" "$work/one" sha256
+
+mkdir -p "$work/letters/k"
+printf abc >"$work/letters/a.txt"
+printf defgh >"$work/letters/k/x"
+touch "$work/letters/k0"
+expect 'one algorithm' 0 'made 3 files, 8 octets' bag make "$work/letters" "$work/one" sha256
+expect 'one algorithm: it is valid' 0 valid valid_bag "$work/letters" "$work/one"
+expect 'one algorithm: the files' 0 'bag-info.txt
+bagit.txt
+data
+data/a.txt
+data/k
+data/k/x
+data/k0
+manifest-sha256.txt
+tagmanifest-sha256.txt' below "$work/one"
+expect 'one algorithm: the manifest' 0 '' sums sha256sum "$work/one" manifest-sha256.txt
+expect 'one algorithm: the tag manifest' 0 '' sums sha256sum "$work/one" tagmanifest-sha256.txt
+expect 'one algorithm: the elements' 0 'Payload-Oxum: 8.3' info "$work/one"
+
+expect 'all algorithms' 0 'made 3 files, 8 octets' bag make "$work/letters" "$work/all" sha512 md5 sha256 sha1
+expect 'all algorithms: it is valid' 0 valid valid_bag "$work/letters" "$work/all"
+for alg in md5 sha1 sha256 sha512; do
+    expect "$alg: the manifest" 0 '' sums "${alg}sum" "$work/all" "manifest-$alg.txt"
+    expect "$alg: the tag manifest" 0 '' sums "${alg}sum" "$work/all" "tagmanifest-$alg.txt"
+done
+expect 'an algorithm twice' 0 'made 3 files, 8 octets' bag make "$work/letters" "$work/twice" md5 md5
+expect 'an algorithm twice: it counts once' 0 'bag-info.txt
+bagit.txt
+data
+data/a.txt
+data/k
+data/k/x
+data/k0
+manifest-md5.txt
+tagmanifest-md5.txt' below "$work/twice"
+expect 'slashes at the ends' 0 'made 3 files, 8 octets' bag make "$work/letters/" "$work/slash/" md5
+expect 'slashes at the ends: it is valid' 0 valid valid_bag "$work/letters" "$work/slash"
+ln -s letters "$work/link"
+expect 'a link that leads to the folder' 0 'made 3 files, 8 octets' bag make "$work/link" "$work/linked" md5
+expect 'a link that leads to the folder: it is valid' 0 valid valid_bag "$work/letters" "$work/linked"
+expect 'from another directory' 0 'made 3 files, 8 octets' env -C "$work" "$PWD/bag" make letters here md5
+expect 'from another directory: it is valid' 0 valid valid_bag "$work/letters" "$work/here"
+expect 'a bag as a payload' 0 'made 7 files, 547 octets' bag make "$work/one" "$work/nested" sha256
+expect 'a bag as a payload: it is valid' 0 valid valid_bag "$work/one" "$work/nested"
+
+cp -r "$work/letters" "$work/inside"
+expect 'a bag in its payload' 0 'made 3 files, 8 octets' bag make "$work/inside" "$work/inside/bag" md5
+expect 'a bag in its payload: it is valid' 0 valid valid_bag "$work/letters" "$work/inside/bag"
+
+mkdir "$work/names" "$work/names/two  blanks"
+printf 1 >"$work/names/ first blank"
+printf 2 >"$work/names/two  blanks/last blank "
+printf 3 >"$work/names/100%"
+printf 4 >"$work/names/%0A"
+printf 5 >"$work/names/"$'line\nfeed'
+printf 6 >"$work/names/"$'return\r'
+printf 7 >"$work/names/*\\?[é]"
+printf 8 >"$work/names/-"
+printf 9 >"$work/names/data"
+printf 10 >"$work/names/manifest-sha256.txt"
+expect 'names' 0 'made 10 files, 11 octets' bag make "$work/names" "$work/named" sha256
+expect 'names: it is valid' 0 valid valid_bag "$work/names" "$work/named"
+expect 'names: the spellings' 0 ' data/ first blank
+ data/%250A
+ data/*\?[é]
+ data/-
+ data/100%25
+ data/data
+ data/line%0Afeed
+ data/manifest-sha256.txt
+ data/return%0D
+ data/two  blanks/last blank ' cut -c 66- "$work/named/manifest-sha256.txt"
+
+mkdir -p "$work/empty/none/at all"
+expect 'a folder without files' 0 'made 0 files, 0 octets' bag make "$work/empty" "$work/no files" sha1
+expect 'a folder without files: the files' 0 'bag-info.txt
+bagit.txt
+data
+manifest-sha1.txt
+tagmanifest-sha1.txt' below "$work/no files"
+expect 'a folder without files: it is valid' 0 valid bag check "$work/no files"
+
+mkdir "$work/many"
+(cd "$work/many" && seq 1000 | split -l 1 -a 3 -)
+expect 'a thousand files' 0 'made 1000 files, 3893 octets' bag make "$work/many" "$work/many bag" sha256
+expect 'a thousand files: it is valid' 0 valid valid_bag "$work/many" "$work/many bag"
+mkdir "$work/large"
+head -c 100000007 /dev/zero | tr '\0' A >"$work/large/A"
+expect 'a large file' 0 'made 1 files, 100000007 octets' bag make "$work/large" "$work/large bag" md5 sha512
+expect 'a large file: it is valid' 0 valid valid_bag "$work/large" "$work/large bag"
+
+# refused NAME STATUS LINE SRC DST ALG..: nothing is made.
+refused() {
+    expect "$1" "$2" "$3" bag make "${@:4}"
+    expect "$1: nothing is made" 0 '' nothing "$5"
+}
+refused 'no algorithm' 1 'bag: no algorithm' "$work/letters" "$work/new"
+refused 'an unknown algorithm' 64 'unknown algorithm sha224' "$work/letters" "$work/new" sha224
+refused 'the first unknown one' 64 'unknown algorithm SHA256' "$work/letters" "$work/new" md5 SHA256 sha3
+refused 'an unknown algorithm, and a name with a slash at its end' 64 'unknown algorithm ' "$work/letters" "$work/new/" ''
+refused 'no payload' 3 'bag: files' "$work/none" "$work/new" sha256
+refused 'no payload, and an unknown algorithm' 3 'bag: files' "$work/none" "$work/new" sha224
+refused 'a file in place of the payload' 3 'bag: files' "$work/letters/a.txt" "$work/new" sha256
+refused 'an empty name' 3 'bag: files' '' "$work/new" sha256
+mkdir "$work/with link" "$work/with fifo" "$work/other octets"
+ln -s ../letters/a.txt "$work/with link/b.txt"
+refused 'a link' 3 'bag: files' "$work/with link" "$work/new" sha256
+mkfifo "$work/with fifo/pipe"
+refused 'a fifo, which is never opened' 3 'bag: files' "$work/with fifo" "$work/new" sha256
+touch "$work/other octets/"$'\377'
+refused 'a name that is not UTF-8' 3 'bag: files' "$work/other octets" "$work/new" sha256
+refused 'a folder for the bag whose own is not there' 3 'bag: files' "$work/letters" "$work/none/new" sha256
+refused 'a folder for the bag below a file' 3 'bag: files' "$work/letters" "$work/letters/a.txt/new" sha256
+expect 'no name for the bag' 3 'bag: files' bag make "$work/letters" '' sha256
+
+# stays NAME DST: what is there already is left as it was.
+stays() {
+    find "$2" -printf '%P %y %T@ %s\n' 2>"$work/gone" | LC_ALL=C sort >"$work/before"
+    expect "$1" 3 'bag: files' bag make "$work/letters" "$2" sha256
+    expect "$1, and an unknown algorithm" 3 'bag: files' bag make "$work/letters" "$2" sha224
+    find "$2" -printf '%P %y %T@ %s\n' 2>"$work/gone" | LC_ALL=C sort >"$work/after"
+    expect "$1: it stays as it was" 0 '' diff "$work/before" "$work/after"
+}
+stays 'a bag that is there' "$work/one"
+mkdir "$work/empty folder"
+stays 'an empty folder that is there' "$work/empty folder"
+stays 'a file that is there' "$work/letters/a.txt"
+ln -s nowhere "$work/dangling"
+stays 'a link that leads nowhere' "$work/dangling"
+stays 'the payload itself' "$work/letters"
+
+# Root may write everywhere, so these are run as nobody where this script is run by root.
+nobody() {
+    if [ "$(id -u)" -eq 0 ]; then
+        timeout 60 setpriv --reuid=65534 --regid=65534 --clear-groups "$@"
+    else
+        timeout 60 "$@"
+    fi
+}
+chmod 711 "$work"
+cp crates/bag_cmd/out/bag_cmd "$work/program"
+mkdir "$work/open" "$work/locked"
+chmod 777 "$work/open"
+chmod 555 "$work/locked"
+cp -r "$work/letters" "$work/unread"
+chmod -R a+rX "$work/program" "$work/letters" "$work/unread"
+expect 'as nobody' 0 'made 3 files, 8 octets' nobody "$work/program" make "$work/letters" "$work/open/bag" sha256
+expect 'a folder that takes no other' 3 'bag: files' nobody "$work/program" make "$work/letters" "$work/locked/bag" sha256
+expect 'a folder that takes no other: nothing is made' 0 '' nothing "$work/locked/bag"
+chmod 000 "$work/unread/k"
+expect 'a directory that may not be read' 3 'bag: files' nobody "$work/program" make "$work/unread" "$work/open/new" sha256
+expect 'a directory that may not be read: nothing is made' 0 '' nothing "$work/open/new"
+chmod 755 "$work/unread/k"
+chmod 000 "$work/unread/k/x"
+expect 'a file that may not be read' 3 'bag: files' nobody "$work/program" make "$work/unread" "$work/open/part" sha256
+expect 'a file that may not be read: what was written stays' 0 'data
+data/a.txt' below "$work/open/part"
+expect 'a file that may not be read: no part is a bag' 1 $'no bagit.txt\nnot complete' bag check "$work/open/part"
+
+# small_files COMMAND..: no file takes more than 64 KiB.
+small_files() (
+    trap '' XFSZ
+    ulimit -f 64
+    exec "$@"
+)
+expect 'a file that takes a part' 3 'bag: files' small_files "$work/program" make "$work/large" "$work/part" sha256
+expect 'a file that takes a part: what was written stays' 0 'data
+data/A' below "$work/part"
+
+# On a disk that is full after some octets, or that has no room for one folder more.
+if unshare -m sh -c "mkdir '$work/disk' && mount -t tmpfs -o size=1m,nr_inodes=4 bag '$work/disk'" 2>"$work/no mount"; then
+    # on_disk SRC: a bag on a disk of 1 MiB and four files or folders, its own one too; and then what is on it.
+    on_disk() {
+        unshare -m sh -c '
+            mount -t tmpfs -o size=1m,nr_inodes="$4" bag "$1/disk"
+            status=0
+            "$1/program" make "$2" "$1/disk/bag" $3 || status=$?
+            cd "$1/disk" && find . -mindepth 1 -printf "%P\n" | LC_ALL=C sort
+            exit "$status"' sh "$work" "$@"
+    }
+    expect 'a full disk' 3 'bag: files
+bag
+bag/data
+bag/data/A' on_disk "$work/large" md5 100
+    expect 'a disk with no room for the folder' 3 'bag: files' on_disk "$work/letters" md5 1
+    expect 'a disk with room for the folder alone' 3 'bag: files' on_disk "$work/letters" md5 2
+    expect 'a disk with room for no file' 3 'bag: files
+bag
+bag/data' on_disk "$work/letters" md5 3
+    expect 'a disk with no room, and an unknown algorithm' 64 'unknown algorithm sha224' on_disk "$work/letters" sha224 2
+else
+    lacking 'a full disk, for want of leave to mount one'
+fi
+
+# closed COMMAND.. and full COMMAND..: the command where its standard output is closed, and where it takes no octet.
+closed() {
+    "$@" >&-
+}
+full() {
+    "$@" >/dev/full
+}
+expect 'a closed output' 3 '' closed bag make "$work/letters" "$work/closed" sha256
+expect 'a closed output: the bag is there' 0 valid valid_bag "$work/letters" "$work/closed"
+expect 'a full output' 3 '' full bag make "$work/letters" "$work/full" sha256
+expect 'a full output: the bag is there' 0 valid valid_bag "$work/letters" "$work/full"
+expect 'a full output, and an unknown algorithm' 3 '' full bag make "$work/letters" "$work/new" sha224
+expect 'a full output, and an unknown algorithm: nothing is made' 0 '' nothing "$work/new"
+finish
