@@ -119,7 +119,7 @@ if cc -shared -fPIC -O1 -o "$work/no_memory.so" tests/no_memory.c 2>"$work/no cc
     for bag in $bags; do
         expect "want of memory in $bag" 3 'bag: memory' each_growth "examples/$bag"
     done
-    for crate in bag_path bag_digest bag_tags bag_rules bag_ledger bag_cmd; do
+    for crate in bag_path bag_digest bag_tags bag_rules bag_ledger bag_commands bag_cmd; do
         tests=$PWD/crates/$crate/out/${crate}_tests
         if [ -x "$tests" ]; then
             expect "want of memory in the tests of $crate" 0 '' more_refusals in_each_test "$crate" "$tests"

@@ -6,6 +6,10 @@ use Rattle.bag_path.specs.Paths.{is_payload}
 use Rattle.bag_digest.specs.Device.{greatest_count}
 use Rattle.bag_rules.specs.Trees.{AreRising, KeepsTree, Shown, paths_in}
 use Rattle.bag_tags.specs.Words.{without}
+use Rattle.bag_commands.specs.declared.stop.Stop.{Stop}
+use Rattle.bag_commands.specs.declared.stop.Stop.TheVariants as stop
+use Rattle.bag_cmd.specs.declared.folder.OpenFault.{OpenFault}
+use Rattle.bag_cmd.specs.declared.folder.OpenFault.TheVariants as open_fault
 use Rattle.bag_cmd.specs.declared.folder.place.Place.{Place}
 use Rattle.bag_cmd.specs.declared.folder.place.Place.TheVariants.{Base, Payload}
 use Rattle.bag_cmd.specs.Directories.{IsBelow, IsUnfit, Listing, name_below}
@@ -51,6 +55,11 @@ pub record IsOpened (known : Option Listing) (folder : List ℕ) (place : Place)
 -- the folder can't be a bag's, where the entries of directories are known
 abbrev pub IsRefused : Option Listing → List ℕ → Type 0
 IsRefused known folder = (listing : Listing) → known ≡ Some listing → IsUnfit listing folder
+
+-- why a folder wasn't opened, as the end of a command
+abbrev pub stop_of_open : OpenFault → Stop
+stop_of_open open_fault.Files = stop.Files
+stop_of_open open_fault.Memory = stop.Memory
 
 -- a count of failures after one more
 abbrev pub one_more : ℕ → ℕ

@@ -1,94 +1,18 @@
--- What `make` does: the words that name algorithms, and the answers that a written bag allows.
-use Rattle.std.specs.Prelude.{◌≡◌, ◌↔◌, ◌++◌, ◌∷◌, ℕ, List, [], All, Contains, IsErrOf, MatchResult, None, Option, Result, Some, codes, false, if◌then◌else◌, is_some, map, nat_eq, slice_get, string_bytes, take, true}
-use Rattle.bag_digest.specs.Algorithm.{has, name_of}
-use Rattle.bag_digest.specs.declared.algorithm.Alg.{Alg}
-use Rattle.bag_digest.specs.declared.algorithm.AlgSet.{AlgSet}
-use Rattle.bag_rules.specs.Files as rules
-use Rattle.bag_rules.specs.Trees.{Shown, UsesTree}
-use Rattle.bag_tags.specs.declared.oxum.Oxum.{Oxum}
-use Rattle.bag_writer.specs.Sinks.{IsEmptySink, Stored, UsesSink}
-use Rattle.bag_writer.specs.Writing.{IsAccepted, IsDone, IsOfDevice, IsRefusedUnwritten, Refuses, payload_paths}
-use Rattle.bag_writer.specs.declared.fault.WriteFault.{WriteFault}
-use Rattle.bag_writer.specs.declared.fault.WriteFault.TheVariants.{Tree, Sink}
-use Rattle.bag_writer.specs.declared.spec.Spec.{Spec}
-use Rattle.bag_cmd.specs.declared.output.Output.{Output}
+-- What `make` does with folders: the payload that is opened, and the folder that is made for the bag.
+use Rattle.std.specs.Prelude.{◌≡◌, ◌∷◌, ℕ, List, [], None, Option, Some, false, if◌then◌else◌, is_some, map, nat_eq, string_bytes}
+use Rattle.bag_rules.specs.Trees.{Shown}
+use Rattle.bag_commands.specs.declared.output.Output.{Output}
+use Rattle.bag_commands.specs.declared.status.TheConstants.{DONE, FAILED}
+use Rattle.bag_commands.specs.declared.stop.Stop.TheVariants as stop
+use Rattle.bag_commands.specs.Making.{IsWriting, MakesOf}
+use Rattle.bag_commands.specs.Printing.{Printed}
+use Rattle.bag_commands.specs.StopTexts.{stop_text}
 use Rattle.bag_cmd.specs.declared.commands.make.Making.{Making}
 use Rattle.bag_cmd.specs.declared.folder.OpenFault.{OpenFault}
 use Rattle.bag_cmd.specs.declared.folder.place.Place.TheVariants.{Payload}
-use Rattle.bag_cmd.specs.declared.status.TheConstants.{DONE, FAILED, USAGE}
-use Rattle.bag_cmd.specs.declared.stop.Stop.TheVariants as stop
 use Rattle.bag_cmd.specs.Directories.{Listing, in_payload}
-use Rattle.bag_cmd.specs.Folders.{FolderShown, IsOpened, IsRefused}
-use Rattle.bag_cmd.specs.MakeTexts.{make_status, make_text}
-use Rattle.bag_cmd.specs.Printing.{Printed}
+use Rattle.bag_cmd.specs.Folders.{FolderShown, IsOpened, IsRefused, stop_of_open}
 use Rattle.bag_cmd.specs.SinkFolders.{IsCreated, SinkShown}
-use Rattle.bag_cmd.specs.StopTexts.{stop_of_open, stop_text}
-
--- THE NAMES OF ALGORITHMS
-
--- the word is the name of an algorithm
-abbrev pub NamesAlg : List ℕ → Type 0
-NamesAlg word = (alg : Alg) × (word ≡ name_of alg)
-
--- each word names an algorithm, and the set has those that are named
-pub record NamesSet (words : List (List ℕ)) (set : AlgSet) : Type 0 where
-  pub each : All NamesAlg words
-  pub exact : (alg : Alg) → (has set alg ≡ true) ↔ Contains words (name_of alg)
-
--- the first word that names no algorithm
-pub record IsFirstUnknown (words : List (List ℕ)) (word : List ℕ) : Type 0 where
-  pub place : ℕ
-  pub there : slice_get words place ≡ Some word
-  pub named : All NamesAlg (take place words)
-  pub unknown : ¬ NamesAlg word
-
-abbrev pub unknown_text : List ℕ → List ℕ
-unknown_text word = codes "unknown algorithm " ++ word
-
--- WHAT IS WRITTEN
-
--- these algorithms alone: no elements and no holes
-pub record IsPlain (set : AlgSet) (spec : Spec) : Type 0 where
-  pub algs : spec.algs ≡ set
-  pub no_elements : spec.info ≡ []
-  pub no_holes : spec.holes.items ≡ []
-
--- an answer of `write_bag`: the first refusal, before which nothing is written; or the payload that was read, whose Oxum is
--- answered and whose bag a sink that was empty holds then; and a failure of the tree or the sink exactly where it counted one
-pub record IsWriting {T S : Type 0} (shown : T → Shown) (tree_failures : T → ℕ)
-    (tree_sure : T → Type 0) (stored : S → Option Stored) (is_open : S → Type 0)
-    (sink_failures : S → ℕ) (sink_sure : S → Type 0) (old_tree new_tree : T)
-    (old_sink new_sink : S) (spec : Spec) (answer : Result Oxum WriteFault) : Type 0 where
-  pub refused : MatchResult answer (λ oxum. IsAccepted (payload_paths (shown old_tree)) spec)
-      (Refuses (payload_paths (shown old_tree)) spec)
-  pub unwritten : IsRefusedUnwritten (payload_paths (shown old_tree)) spec
-      → (new_sink ≡ old_sink) × MatchResult answer (λ oxum. ⊥) (λ fault. ¬ IsOfDevice fault)
-  pub done : (payload : rules.Files)
-      × IsDone (shown old_tree) spec answer (stored old_sink) (stored new_sink) payload
-  pub tree : UsesTree shown tree_failures tree_sure old_tree new_tree (IsErrOf answer Tree)
-  pub sink : UsesSink sink_failures sink_sure old_sink new_sink
-      (is_open old_sink × IsEmptySink (stored old_sink)) (IsErrOf answer Sink)
-
--- an answer of this kind was printed, with its status
-abbrev pub PrintedMaking : {W : Type 0} → (W → Option (List ℕ)) → Output W → Output W → ℕ
-    → (Result Oxum WriteFault → Type 0) → Type 0
-PrintedMaking contents old new result kind =
-    (answer : Result Oxum WriteFault) × kind answer
-    × Printed contents old new result (make_text answer ∷ []) (make_status answer)
-
--- What `make` did, given these words: it wrote with the algorithms that they name and printed the answer; or one names none, which
--- was printed with the status of a wrong command line, and nothing was read or written.
-pub data MakesOf {W : Type 0} (contents : W → Option (List ℕ))
-    (writing : Spec → Result Oxum WriteFault → Type 0) (untouched : Type 0)
-    (words : List (List ℕ)) (old new : Output W) (result : ℕ) : Type 0 where
-  Made : (set : AlgSet) (spec : Spec) → NamesSet words set → IsPlain set spec
-      → PrintedMaking contents old new result (writing spec)
-      → MakesOf contents writing untouched words old new result
-  Unknown : (word : List ℕ) → IsFirstUnknown words word → untouched
-      → Printed contents old new result (unknown_text word ∷ []) USAGE
-      → MakesOf contents writing untouched words old new result
-
--- THE FOLDER OF THE BAG
 
 -- the same of a folder that was made for the bag, from as it was then to as it is later
 abbrev pub MakesFolder : {T W : Type 0} → (W → Option (List ℕ)) → (T → Shown) → (T → ℕ)

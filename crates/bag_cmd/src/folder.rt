@@ -1,5 +1,6 @@
 //! A folder on disk as a tree of files.
 
+use bag_commands::Stop;
 use bag_path::PathFault;
 pub use destination::Destination;
 pub use directory::{Directories, Disk};
@@ -82,6 +83,20 @@ impl From<PathFault> for OpenFault {
         match fault {
             PathFault::Memory => OpenFault::Memory,
             _ => OpenFault::Files,
+        }
+    }
+}
+
+impl From<OpenFault> for Stop {
+    ghost use Rattle.std.specs.Prelude.{◌≡◌};
+    ghost use Rattle.bag_cmd.specs.Folders.{stop_of_open};
+
+    ghost from_gives = { λ fault stop. stop ≡ stop_of_open fault };
+
+    fn from(fault: OpenFault) -> Stop {
+        match fault {
+            OpenFault::Files => Stop::Files,
+            OpenFault::Memory => Stop::Memory,
         }
     }
 }

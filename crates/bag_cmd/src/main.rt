@@ -8,29 +8,21 @@
 ghost use Rattle.std.specs.Prelude.{◌≡◌, ◌≢◌};
 ghost use Rattle.bag_cmd.specs.Answers.{Ran};
 
+use bag_commands::status::FAILED;
+use bag_commands::{Output, Stop, print_stop};
 use command::command;
 use folder::{Destination, Disk};
-use output::Output;
-use status::FAILED;
 use std::alloc::{AllocError, Global};
 use std::env::Env;
 use std::io::{BufWriter, ErrorKind, Printer, Write};
 use std::process::ExitCode;
 use std::rt::Files;
 use std::{env, io};
-use stop::{Stop, print_stop};
 
 mod command;
 mod commands;
 mod folder;
-mod output;
 mod request;
-mod status;
-mod stop;
-#[cfg(test)]
-mod tests;
-mod text;
-mod verdict;
 
 fn main(rt: HostRuntime) -> ExitCode {
     ExitCode::from(run(&rt))

@@ -1,14 +1,14 @@
 use Rattle.std.proofs.Common.{◌≡◌, ℕ, List, [], ◌∷◌, Option, Err, ap, subst, refl}
 use Rattle.bag_cmd.specs.declared.folder.OpenFault.{OpenFault}
 use Rattle.bag_cmd.specs.declared.folder.OpenFault.TheVariants as open_fault
-use Rattle.bag_cmd.specs.declared.output.Output.{Output}
-use Rattle.bag_cmd.specs.declared.status.TheConstants.{FAILED}
-use Rattle.bag_cmd.specs.declared.stop.Stop.{Stop}
+use Rattle.bag_commands.specs.declared.output.Output.{Output}
+use Rattle.bag_commands.specs.declared.status.TheConstants.{FAILED}
+use Rattle.bag_commands.specs.declared.stop.Stop.{Stop}
 use Rattle.bag_cmd.specs.Answers.{PrintsCheck, Answered, Refused, NoMemory}
 use Rattle.bag_cmd.specs.Directories.{Listing}
-use Rattle.bag_cmd.specs.Folders.{IsRefused}
-use Rattle.bag_cmd.specs.Printing.{Printed}
-use Rattle.bag_cmd.specs.StopTexts.{stop_of_open, stop_text}
+use Rattle.bag_cmd.specs.Folders.{IsRefused, stop_of_open}
+use Rattle.bag_commands.specs.Printing.{Printed}
+use Rattle.bag_commands.specs.StopTexts.{stop_text}
 use Rattle.bag_cmd.proofs.commands.check.check_folder.Goals as goal
 
 -- why a folder wasn't opened was printed

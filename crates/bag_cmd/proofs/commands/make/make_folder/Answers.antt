@@ -1,14 +1,14 @@
 use Rattle.std.proofs.Common.{◌≡◌, ◌∷◌, ℕ, List, [], Err, Option, ap, refl, subst}
 use Rattle.bag_cmd.specs.declared.folder.OpenFault.{OpenFault}
 use Rattle.bag_cmd.specs.declared.folder.OpenFault.TheVariants as open_fault
-use Rattle.bag_cmd.specs.declared.output.Output.{Output}
-use Rattle.bag_cmd.specs.declared.status.TheConstants.{FAILED}
-use Rattle.bag_cmd.specs.declared.stop.Stop.{Stop}
+use Rattle.bag_commands.specs.declared.output.Output.{Output}
+use Rattle.bag_commands.specs.declared.status.TheConstants.{FAILED}
+use Rattle.bag_commands.specs.declared.stop.Stop.{Stop}
 use Rattle.bag_cmd.specs.Directories.{Listing, in_payload}
-use Rattle.bag_cmd.specs.Folders.{IsRefused}
+use Rattle.bag_cmd.specs.Folders.{IsRefused, stop_of_open}
 use Rattle.bag_cmd.specs.Making.{MakingShown, NoMemory, Opened, PrintsMake, Refused, words_given}
-use Rattle.bag_cmd.specs.Printing.{Printed}
-use Rattle.bag_cmd.specs.StopTexts.{stop_of_open, stop_text}
+use Rattle.bag_commands.specs.Printing.{Printed}
+use Rattle.bag_commands.specs.StopTexts.{stop_text}
 use Rattle.bag_cmd.proofs.commands.make.make_folder.Goals as goal
 
 -- why the payload wasn't opened was printed, and no folder was made

@@ -1,10 +1,10 @@
 use Rattle.std.proofs.Common.{◌≡◌, ◌≢◌, ◌∙◌, ◌∷◌, ℕ, List, [], None, Option, Some, arith, subst}
 use Rattle.std.proofs.lemmas.Grind.{common_steps}
-use Rattle.bag_cmd.specs.declared.status.TheConstants.{DONE, FAILED}
-use Rattle.bag_cmd.specs.declared.stop.Stop.{Stop}
+use Rattle.bag_commands.specs.declared.status.TheConstants.{DONE, FAILED}
+use Rattle.bag_commands.specs.declared.stop.Stop.{Stop}
 use Rattle.bag_cmd.specs.Making.{NotMade, Written, kept_folder}
-use Rattle.bag_cmd.specs.Printing.{Printed}
-use Rattle.bag_cmd.specs.StopTexts.{stop_text}
+use Rattle.bag_commands.specs.Printing.{Printed}
+use Rattle.bag_commands.specs.StopTexts.{stop_text}
 use Rattle.bag_cmd.proofs.commands.make.make_into.Goals.{then-status-ne-DONE, else-status-ne-DONE}
 use Rattle.bag_cmd.proofs.commands.make.make_into.Goals as goal
 

@@ -1,6 +1,0 @@
-use Rattle.std.proofs.Common.{map, string_bytes, take}
-use Rattle.bag_cmd.specs.Making.{NamesSet}
-use Rattle.bag_cmd.proofs.commands.make.named_algs.Given as goal
-
-abbrev pub invariant-loop-word : goal.invariant-loop-word
-invariant-loop-word l = NamesSet (map string_bytes (take l.word-index l.words)) l.algs

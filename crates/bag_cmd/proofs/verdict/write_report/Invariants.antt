@@ -1,7 +1,0 @@
-use Rattle.std.proofs.Common.{map, take}
-use Rattle.bag_cmd.specs.Printing.{WroteLines}
-use Rattle.bag_cmd.specs.FaultTexts.{fault_text}
-use Rattle.bag_cmd.proofs.verdict.write_report.Given as goal
-
-abbrev pub invariant-loop-fault : goal.invariant-loop-fault
-invariant-loop-fault g l = WroteLines g.W.Write.contents l.fn.out l.out (map fault_text (take l.fault-index l.fault-items))

@@ -1,0 +1,2 @@
+pub mod AlgNames
+pub mod VerdictLemmas

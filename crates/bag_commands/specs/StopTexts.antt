@@ -1,0 +1,21 @@
+-- Why a command ended before it had an answer, as it is printed.
+use Rattle.std.specs.Prelude.{ℕ, List, codes}
+use Rattle.bag_rules.specs.declared.outcome.CheckFault.{CheckFault}
+use Rattle.bag_rules.specs.declared.outcome.CheckFault.TheVariants as check
+use Rattle.bag_commands.specs.declared.stop.Stop.{Stop}
+use Rattle.bag_commands.specs.declared.stop.Stop.TheVariants as stop
+
+abbrev pub stop_text : Stop → List ℕ
+stop_text stop.Files = codes "bag: files"
+stop_text stop.Memory = codes "bag: memory"
+stop_text stop.TagTooLarge = codes "bag: tag too large"
+stop_text stop.TooLarge = codes "bag: too large"
+stop_text stop.TooMany = codes "bag: too many"
+
+-- why a check didn't come to an end
+abbrev pub stop_of_check : CheckFault → Stop
+stop_of_check check.Tree = stop.Files
+stop_of_check check.Memory = stop.Memory
+stop_of_check (check.TagTooLarge path) = stop.TagTooLarge
+stop_of_check (check.TooLarge path) = stop.TooLarge
+stop_of_check check.TooMany = stop.TooMany

@@ -1,0 +1,77 @@
+//! `check`: judges the bag that a tree holds.
+ghost use Rattle.std.specs.Prelude.{◌≡◌, ◌≤◌, [], OnErr, OnOk};
+ghost use Rattle.std.specs.Io.Buffered.{writer_buffer};
+ghost use Rattle.bag_digest.specs.Device.{Rises};
+ghost use Rattle.bag_rules.specs.Bags.{Bag, IsBagOf};
+ghost use Rattle.bag_rules.specs.Validity.{IsValid};
+ghost use Rattle.bag_commands.specs.Printing.{Printed, WroteLines};
+ghost use Rattle.bag_commands.specs.Checking.{IsAnswer, PrintedOf};
+ghost use Rattle.bag_commands.specs.CheckTexts.{check_lines, check_status};
+
+use crate::output::Output;
+use crate::status::{FAILED, OUTSIDE, VALID};
+use crate::stop::Stop;
+use crate::text::OutsideLine;
+use crate::verdict::{report_status, write_report};
+use bag_digest::Failed;
+use bag_rules::{CheckFault, Outcome, Tree, check};
+use std::alloc::Global;
+use std::io::Write;
+
+#[cfg(test)]
+mod tests;
+
+/// Checks the bag that a tree holds, prints the answer and answers the status, as [`print_outcome`] does.
+pub fn check_to<T: Tree, W: Write + Drop>(alloc: Global, tree: &mut T, out: &mut Output<W>) -> u8
+    // Status 0 is for valid bags alone.
+    ensures valid { result ≡ VALID
+        → (bag : Bag) → IsBagOf (T.shown tree.old) bag → IsValid bag }
+    ensures printed { PrintedOf W.contents out.old out.new result
+        (IsAnswer T.shown T.failures T.sure tree.old tree.new) }
+{
+    let answer = check(alloc, tree);
+    print_outcome(&answer, out)
+}
+
+/// Prints the answer of a check and answers the status: 0 for a valid bag, 1 for one that is not, 2 where the bag can't be
+/// judged, and 3 where the check didn't come to its end or a write failed.
+pub fn print_outcome<W: Write + Drop>(
+    outcome: &Result<Outcome, CheckFault>,
+    out: &mut Output<W>,
+) -> u8
+    ensures { Printed W.contents out.old out.new result
+        (check_lines outcome.now) (check_status outcome.now) }
+{
+    match write_outcome(outcome, out) {
+        Ok(()) => status_of(outcome),
+        Err(Failed) => FAILED,
+    }
+}
+
+/// Writes the lines of an answer, and hands them on.
+fn write_outcome<W: Write + Drop>(
+    outcome: &Result<Outcome, CheckFault>,
+    out: &mut Output<W>,
+) -> Result<(), Failed>
+    ensures ok { OnOk result (WroteLines W.contents out.old out.new (check_lines outcome.now)) }
+    ensures handed_on { OnOk result (writer_buffer out.new.writer ≡ []) }
+    ensures failed { OnErr result (Rises out.old.failures out.new.failures) }
+{
+    match outcome {
+        Ok(Outcome::Judged(report)) => write_report(report, out)?,
+        Ok(Outcome::Outside(cause)) => out.line(OutsideLine(cause))?,
+        Err(fault) => out.line(Stop::from(fault).text())?,
+    }
+    out.flush()
+}
+
+/// The status that goes with an answer.
+fn status_of(outcome: &Result<Outcome, CheckFault>) -> u8
+    ensures { result ≡ check_status outcome.now }
+{
+    match outcome {
+        Ok(Outcome::Judged(report)) => report_status(report),
+        Ok(Outcome::Outside(_)) => OUTSIDE,
+        Err(_) => FAILED,
+    }
+}

@@ -1,0 +1,47 @@
+//! A report as it is printed: a line for each fault, and the verdict.
+ghost use Rattle.std.specs.Prelude.{◌≡◌, OnErr, OnOk};
+ghost use Rattle.bag_digest.specs.Device.{Rises};
+ghost use Rattle.bag_commands.specs.Printing.{WroteLines};
+ghost use Rattle.bag_commands.specs.VerdictTexts.{report_lines, report_status, verdict_text};
+
+use crate::output::Output;
+use crate::status::{NOT_VALID, VALID};
+use crate::text::FaultLine;
+use bag_digest::Failed;
+use bag_rules::Report;
+use std::io::Write;
+
+/// Writes a line for each fault, and the verdict.
+///
+/// # Errors
+///
+/// The writer failed.
+pub fn write_report<W: Write + Drop>(report: &Report, out: &mut Output<W>) -> Result<(), Failed>
+    ensures ok { OnOk result (WroteLines W.contents out.old out.new (report_lines report.now)) }
+    ensures failed { OnErr result (Rises out.old.failures out.new.failures) }
+{
+    for fault in report.faults() {
+        out.line(FaultLine(fault))?;
+    }
+    out.line(verdict_text(report))
+}
+
+/// How a report ends: `valid`, `complete, not valid` or `not complete` (RFC 8493 section 3).
+pub fn verdict_text(report: &Report) -> &'static str
+    ensures { result.now ≡ verdict_text report.now }
+{
+    if report.is_valid() {
+        "valid"
+    } else if report.is_complete() {
+        "complete, not valid"
+    } else {
+        "not complete"
+    }
+}
+
+/// The status that goes with a report.
+pub fn report_status(report: &Report) -> u8
+    ensures { result ≡ report_status report.now }
+{
+    if report.is_valid() { VALID } else { NOT_VALID }
+}
