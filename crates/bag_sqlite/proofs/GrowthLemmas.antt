@@ -32,7 +32,7 @@ module _ {X : Type 0} (x : X) where
   flat_without f none [] bs = ap (λ ys. ys ++ flat_map f bs) none
   flat_without f none (a ∷ fore) bs = ap (λ ys. f a ++ ys) (flat_without f none fore bs)
 
-  all_middle : (P : X → Type 0) (fore bs : List X) → P x → AllByRecursion P (fore ++ bs) → AllByRecursion P (fore ++ x ∷ bs)
+  pub all_middle : (P : X → Type 0) (fore bs : List X) → P x → AllByRecursion P (fore ++ bs) → AllByRecursion P (fore ++ x ∷ bs)
   all_middle P [] bs new all = (new, all)
   all_middle P (a ∷ fore) bs new all = (all.0, all_middle P fore bs new all.1)
 
@@ -44,49 +44,43 @@ module _ {X : Type 0} (x : X) where
   turned number [] all = tt
   turned number (y ∷ ys) all = ((λ e. all.0 (sym e)), turned number ys all.1)
 
-  apart_middle : (number : X → ℤ) (fore bs : List X) → AllByRecursion (λ y. number y ≢ number x) (fore ++ bs) → AreApart number (fore ++ bs) → AreApart number (fore ++ x ∷ bs)
+  pub apart_middle : (number : X → ℤ) (fore bs : List X) → AllByRecursion (λ y. number y ≢ number x) (fore ++ bs) → AreApart number (fore ++ bs) → AreApart number (fore ++ x ∷ bs)
   apart_middle number [] bs fresh apart = (turned number bs fresh, apart)
   apart_middle number (a ∷ fore) bs fresh apart = (all_middle (λ y. number a ≢ number y) fore bs fresh.0 apart.0, apart_middle number fore bs fresh.1 apart.1)
 
 -- ITS PLACE
 
--- where a transfer goes among others
-record Place (t : NumberedTransfer) (us : List NumberedTransfer) : Type 0 where
-  pub before : List NumberedTransfer
-  pub after : List NumberedTransfer
+-- where one goes among others
+pub record Place {X Y : Type 0} (entry : X → List ℕ × Y) (x : X) (us : List X) : Type 0 where
+  pub before : List X
+  pub after : List X
   pub split : us ≡ before ++ after
-  pub put : insert_entry (slice_cmp nat_cmp) (map without_number us) t.name (without_number t).1 ≡ map without_number (before ++ t ∷ after)
+  pub put : insert_entry (slice_cmp nat_cmp) (map entry us) (entry x).0 (entry x).1 ≡ map entry (before ++ x ∷ after)
 
-module _ (t : NumberedTransfer) where
-  abbrev Entries : Type 0
-  Entries = List (List ℕ × Transfer)
-
-  absent : (b : Bool) (v : Transfer) (o : Option Transfer) → cond b (Some v) o ≡ None → (b ≡ false) × (o ≡ None)
+module _ {X Y : Type 0} (entry : X → List ℕ × Y) (x : X) where
+  absent : (b : Bool) (v : Y) (o : Option Y) → cond b (Some v) o ≡ None → (b ≡ false) × (o ≡ None)
   absent true v o e = absurd cc
   absent false v o e = (refl, e)
 
-  step : (o : Ordering) (u : NumberedTransfer) (us : List NumberedTransfer) → slice_cmp nat_cmp t.name u.name ≡ o → bytes_eq t.name u.name ≡ false → Place t us → Place t (u ∷ us)
-  step Less u us at other rest = record {
-    before = [];
-    after = u ∷ us;
-    split = refl;
-    put = ap (λ o. match_ordering o ((t.name, (without_number t).1) ∷ map without_number (u ∷ us)) ((u.name, (without_number t).1) ∷ map without_number us)
-        (without_number u ∷ insert_entry (slice_cmp nat_cmp) (map without_number us) t.name (without_number t).1)) at;
-  }
-  step Equal u us at other rest = absurd (let same : true ≡ false = sym (ap is_eq at) ∙ is_eq-slice_cmp t.name u.name ∙ other in cc)
+  -- the entries with that of `x`, where the first comes out in this order
+  abbrev put_by : Ordering → X → List X → List (List ℕ × Y)
+  put_by o u us = match_ordering o (entry x ∷ map entry (u ∷ us)) (((entry u).0, (entry x).1) ∷ map entry us) (entry u ∷ insert_entry (slice_cmp nat_cmp) (map entry us) (entry x).0 (entry x).1)
+
+  step : (o : Ordering) (u : X) (us : List X) → slice_cmp nat_cmp (entry x).0 (entry u).0 ≡ o → bytes_eq (entry x).0 (entry u).0 ≡ false → Place entry x us → Place entry x (u ∷ us)
+  step Less u us at other rest = record { before = []; after = u ∷ us; split = refl; put = ap (λ o. put_by o u us) at }
+  step Equal u us at other rest = absurd (let same : true ≡ false = sym (ap is_eq at) ∙ is_eq-slice_cmp (entry x).0 (entry u).0 ∙ other in cc)
   step Greater u us at other rest = record {
     before = u ∷ rest.before;
     after = rest.after;
     split = ap (λ xs. u ∷ xs) rest.split;
-    put = ap (λ o. match_ordering o ((t.name, (without_number t).1) ∷ map without_number (u ∷ us)) ((u.name, (without_number t).1) ∷ map without_number us)
-        (without_number u ∷ insert_entry (slice_cmp nat_cmp) (map without_number us) t.name (without_number t).1)) at ∙ ap (λ xs. without_number u ∷ xs) rest.put;
+    put = ap (λ o. put_by o u us) at ∙ ap (λ xs. entry u ∷ xs) rest.put;
   }
 
-  place : (us : List NumberedTransfer) → lookup (bytes_eq t.name) (map without_number us) ≡ None → Place t us
+  pub place : (us : List X) → lookup (bytes_eq (entry x).0) (map entry us) ≡ None → Place entry x us
   place [] none = record { before = []; after = []; split = refl; put = refl }
   place (u ∷ us) none =
-      let both = absent (bytes_eq t.name u.name) (without_number u).1 (lookup (bytes_eq t.name) (map without_number us)) none in
-      step (slice_cmp nat_cmp t.name u.name) u us refl both.0 (place us both.1)
+      let both = absent (bytes_eq (entry x).0 (entry u).0) (entry u).1 (lookup (bytes_eq (entry x).0) (map entry us)) none in
+      step (slice_cmp nat_cmp (entry x).0 (entry u).0) u us refl both.0 (place us both.1)
 
 -- ONE TRANSFER MORE
 
@@ -105,7 +99,7 @@ module _ (old new : Trees) (ledger : Ledger) (number : ℤ) (name : List ℕ) (t
       let free = λ (row : Row). column row 0 ≢ Int number in
       let were = map transfer_row p.transfers in
       let fresh = apart_from_all p.transfers (recursion_from_All free were (All-permutation free (old 2) were (IsPermutation-sym were (old 2) p.rows.transfers) (All-from_recursion free (old 2) rows.fresh))) in
-      let at = place more p.transfers (subst (λ l. lookup (bytes_eq name) l ≡ None) p.is unused) in
+      let at = place without_number more p.transfers (subst (λ l. lookup (bytes_eq name) l ≡ None) p.is unused) in
       let fore = at.before in
       let bs = at.after in
       let all = fore ++ more ∷ bs in

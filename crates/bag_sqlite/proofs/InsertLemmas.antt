@@ -26,6 +26,7 @@ use Rattle.sqlite.proofs.Callers.{IsPlain, command_of, one_step, runs_as, statem
 use Rattle.sqlite_rules.specs.Action.{Writes, works}
 use Rattle.sqlite_schema.specs.declared.schema.Keys.TheVariants.{Enforced}
 use Rattle.sqlite_value.proofs.OrderLemmas.{value_cmp_total}
+use Rattle.bag_sqlite.specs.Putting.{IsFree}
 use Rattle.bag_sqlite.specs.Tables.{ledger_schema}
 
 pub went : {B E R : Type 0} {b : B} {Stops : E → Type 0} → ((stop : E) × Stops stop × (Ok b ≡ Err stop)) ⊎ R → R
@@ -86,17 +87,17 @@ put_fresh new (r ∷ rows) free = go (value_cmp (rowid r) (rowid new)) (or_parts
     go Equal other rest = absurd (true≢false other)
     go Greater other rest = IsPermutation-refl (new ∷ r ∷ rows)
 
-pub apart_from : (number : ℤ) (values : Row) (rows : List Row) → is_taken rows (Int number ∷ values) ≡ false → AllByRecursion (λ row. column row 0 ≢ Int number) rows
-apart_from number values [] free = tt
-apart_from number values (r ∷ rows) free = (
+pub apart_from : (number : ℤ) (rows : List Row) → IsFree number rows → AllByRecursion (λ row. column row 0 ≢ Int number) rows
+apart_from number [] free = tt
+apart_from number (r ∷ rows) free = (
   (λ is. true≢false (sym (ap (λ v. is_eq (value_cmp v (Int number))) is ∙ ap is_eq (tied_itself value_cmp_total (Int number))) ∙ (or_parts _ _ free).0)),
-  apart_from number values rows (or_parts _ _ free).1,
+  apart_from number rows (or_parts _ _ free).1,
 )
 
 -- what an INSERT of one row without a rowid does: the row is there under a rowid that none had, which the connection tells
 pub record InsertsRow (tree : ℕ) (values : Row) (old new : State) : Type 0 where
   pub schema_is : new.now.schema ≡ ledger_schema
-  pub fresh : AllByRecursion (λ row. column row 0 ≢ Int new.last_rowid) (old.now.trees tree)
+  pub fresh : IsFree new.last_rowid (old.now.trees tree)
   pub rows : IsPermutation ((Int new.last_rowid ∷ values) ∷ old.now.trees tree) (new.now.trees tree)
   pub others : AllByRecursion (λ (t : Table). t.tree ≢ tree → new.now.trees t.tree ≡ old.now.trees t.tree) ledger_schema.tables
 
@@ -124,7 +125,7 @@ module _ (t : Table) (at : ℕ) (terms : List Term) (width : ℕ) (text : List �
       let rows : next t.tree ≡ put_row (Int number ∷ values) (old.now.trees t.tree) = step.rows ∙ ap (put_all (old.now.trees t.tree)) news in
       record {
         schema_is = ap (λ (d : Database). d.schema) now;
-        fresh = rw told (apart_from number values (old.now.trees t.tree) free);
+        fresh = rw told free;
         rows = rw (told, now, rows) (put_fresh (Int number ∷ values) (old.now.trees t.tree) free);
         others = rw now step.tables;
       }

@@ -3,6 +3,7 @@ pub mod ContentLemmas
 pub mod CutLemmas
 pub mod DatabaseExamples
 pub mod GrowthLemmas
+pub mod HoldingLemmas
 pub mod InsertLemmas
 pub mod ItemLemmas
 pub mod ItemMeanings
@@ -14,6 +15,8 @@ pub mod OpeningLemmas
 pub mod PieceLemmas
 pub mod QueryMeanings
 pub mod ReadingLemmas
+pub mod RowLemmas
+pub mod RowMeanings
 pub mod SqlLemmas
 pub mod TransferLemmas
 pub mod TransferMeanings

@@ -24,7 +24,7 @@ use Rattle.bag_sqlite.specs.Putting.{IsUnderWay}
 use Rattle.bag_sqlite.specs.Tables.{tag, tag_tree, transfer, transfer_tree}
 use Rattle.bag_sqlite.proofs.CommitLemmas.{Prepares}
 use Rattle.bag_sqlite.proofs.GrowthLemmas.{begun_tables}
-use Rattle.bag_sqlite.proofs.InsertLemmas.{row_inserted}
+use Rattle.bag_sqlite.proofs.InsertLemmas.{apart_from, row_inserted}
 use Rattle.bag_sqlite.proofs.MakingLemmas.{kept_since}
 use Rattle.bag_sqlite.proofs.MeaningLemmas.{new_tag_is, new_tag_plain, new_tag_terms, new_tag_text, new_transfer_is, new_transfer_plain, new_transfer_terms, new_transfer_text}
 use Rattle.bag_sqlite.proofs.SqlLemmas.{cast_int, cast_null}
@@ -44,7 +44,7 @@ transfer_inserted old new name count way ran =
       record { mode = ran.1.mode; schema_is = row.schema_is },
       record {
         kept = record { format = row.others.0 (λ e. omega (arith, e)); held = row.others.1.1.1.0 (λ e. omega (arith, e)); pieces = row.others.1.1.1.1.0 (λ e. omega (arith, e)) };
-        fresh = row.fresh;
+        fresh = apart_from new.last_rowid (old.now.trees transfer_tree) row.fresh;
         transfers = row.rows;
         tags = row.others.1.1.0 (λ e. omega (arith, e));
       },

@@ -65,7 +65,7 @@ module _ (trees : Trees) (ledger : Ledger) (tables : AreTablesOf trees ledger) w
       let rows = map transfer_row tables.transfers in
       has_from_map transfer_row tables.transfers row (has_moved (trees 2) rows row (IsPermutation-sym rows (trees 2) tables.rows.transfers) has)
 
-  same_row : (a b : ℤ) (s t : List ℕ) → ◌≡◌ {A = Row} (Int a ∷ Null ∷ Text s ∷ []) (Int b ∷ Null ∷ Text t ∷ []) → (a ≡ b) × (s ≡ t)
+  pub same_row : (a b : ℤ) (s t : List ℕ) → ◌≡◌ {A = Row} (Int a ∷ Null ∷ Text s ∷ []) (Int b ∷ Null ∷ Text t ∷ []) → (a ≡ b) × (s ≡ t)
   same_row a b s t e = (cc, cc)
 
   -- the transfer whose row has this name and number

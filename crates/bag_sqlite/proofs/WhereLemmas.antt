@@ -52,7 +52,7 @@ over tree conditions shown order = record {
 
 -- TESTS
 
-truth_kept : (b : Bool) → is_true (from_truth (Some b)) ≡ b
+pub truth_kept : (b : Bool) → is_true (from_truth (Some b)) ≡ b
 truth_kept true = refl
 truth_kept false = refl
 

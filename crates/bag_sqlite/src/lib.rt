@@ -9,6 +9,7 @@ mod making;
 mod opening;
 mod putting;
 mod reading;
+mod rows;
 #[cfg(test)]
 mod tests;
 mod transfers;

@@ -1,0 +1,184 @@
+-- The rows of a payload file are written.
+use Rattle.std.proofs.Common.{◌≡◌, ◌==◌, ℕ, ℤ, pos, List, [], ◌∷◌, Bool, true, false, not, cond, is_eq, Option, Some, None, Ok, length, map, drop, slice_get, refl, sym, ap, subst, ◌∙◌, arith}
+use Rattle.std.specs.Prelude.{filter, flat_map}
+use Rattle.std.specs.List.{AllByRecursion, filter_map}
+use Rattle.std.specs.List.Sorted.{IsPermutation}
+use Rattle.std.proofs.lemmas.Bool.{and_parts, not-true}
+use Rattle.std.proofs.lemmas.Cmp.{tied_itself}
+use Rattle.std.proofs.lemmas.List.Sorted.{IsPermutation-cons, IsPermutation-map, IsPermutation-trans}
+use Rattle.sqlite.specs.Collation.TheVariants.{Binary}
+use Rattle.sqlite.specs.Command.TheVariants.{Update}
+use Rattle.sqlite.specs.Does.{Does, OnRows, AtPlace, Tally}
+use Rattle.sqlite.specs.Edit.{Applies, Edit, are_fresh, edit_of, edited, is_taken, left_by, put_all, taken_by}
+use Rattle.sqlite.specs.Effect.{Answers, Database}
+use Rattle.sqlite.specs.Listing.{understood}
+use Rattle.sqlite.specs.Ops.{binary, is_true}
+use Rattle.sqlite.specs.Order.{Row, column, value_cmp}
+use Rattle.sqlite.specs.Query.{Output}
+use Rattle.sqlite.specs.Rowids.TheVariants.{Given}
+use Rattle.sqlite.specs.Rows.{Task, Written}
+use Rattle.sqlite.specs.Schema.{Schema}
+use Rattle.sqlite.specs.State.{ExecutesInside, State, mode_of}
+use Rattle.sqlite.specs.Table.{Table}
+use Rattle.sqlite.specs.Tree.{Trees, has_rowid, put_row, without_rowid}
+use Rattle.sqlite.specs.declared.run.Mode.{Mode}
+use Rattle.sqlite.specs.declared.types.Value.{Value}
+use Rattle.sqlite.specs.declared.types.Value.TheVariants.{Blob, Int, Null, Text}
+use Rattle.sqlite.proofs.Callers.{one_permutation, one_step, runs_as, statement_of}
+use Rattle.sqlite_keyed.proofs.ListLemmas.{IsPermutation-filter, all_weaker, filter_all, filter_none, none_from_any}
+use Rattle.sqlite_rules.specs.Action.{Writes, deed_of, pairs, work_by, works}
+use Rattle.sqlite_rules.specs.Calls.{ids_of}
+use Rattle.sqlite_schema.specs.Rules.{parent_key}
+use Rattle.sqlite_schema.specs.declared.program.Program.{Program}
+use Rattle.sqlite_schema.specs.declared.schema.Keys.TheVariants.{Enforced}
+use Rattle.sqlite_sql.specs.declared.ops.BinaryOp.TheVariants.{Compare}
+use Rattle.sqlite_sql.specs.declared.ops.CompareOp.TheVariants.{Eq}
+use Rattle.sqlite_value.proofs.OrderLemmas.{value_cmp_total}
+use Rattle.bag_sqlite.specs.Putting.{AddsItem, AddsPiece, IsFree, IsUnderWay, SetsSize, item_row}
+use Rattle.bag_sqlite.specs.Tables.{held, held_tree, ledger_schema, piece, piece_tree}
+use Rattle.bag_sqlite.proofs.InsertLemmas.{put_fresh, row_inserted, same_value, went}
+use Rattle.bag_sqlite.proofs.RowMeanings.{new_item_is, new_item_plain, new_item_terms, new_item_text, new_piece_is, new_piece_plain, new_piece_terms, new_piece_text, size_is, size_plain, size_query, size_terms, size_text, size_where}
+use Rattle.bag_sqlite.proofs.SqlLemmas.{cast_int, cast_null}
+use Rattle.bag_sqlite.proofs.TransferLemmas.{alone}
+use Rattle.bag_sqlite.proofs.WhereLemmas.{Lists, answer_lists, equal_numbers, made, passes, same_number, truth_kept}
+
+-- A ROW MORE
+
+abbrev stored_held : Table
+stored_held = record held { tree = held_tree }
+
+abbrev stored_piece : Table
+stored_piece = record piece { tree = piece_tree }
+
+pub item_inserted : (old new : State) (transfer : ℤ) (path : List ℕ) (count : ℕ) → IsUnderWay old → ExecutesInside 0 new_item_text (Int transfer ∷ Text path ∷ []) old new (Ok count)
+    → IsUnderWay new × AddsItem old.now.trees new.now.trees new.last_rowid transfer path 0
+item_inserted old new transfer path count way ran =
+    let values = Null ∷ Int transfer ∷ Text path ∷ Int (pos 0) ∷ [] in
+    let row = row_inserted stored_held 3 new_item_terms 5 new_item_text (Int transfer ∷ Text path ∷ []) values old new count way.schema_is refl new_item_is new_item_plain (rw (cast_null, cast_int transfer, cast_int (pos 0)) refl) ran.0 in (
+      record { mode = ran.1.mode; schema_is = row.schema_is },
+      record {
+        kept = record { format = row.others.0 (λ e. omega (arith, e)); transfers = row.others.1.0 (λ e. omega (arith, e)); tags = row.others.1.1.0 (λ e. omega (arith, e)) };
+        fresh = row.fresh;
+        held = row.rows;
+        pieces = row.others.1.1.1.1.0 (λ e. omega (arith, e));
+      },
+    )
+
+pub piece_inserted : (old new : State) (item : ℤ) (n : ℕ) (body : List ℕ) (count : ℕ) → IsUnderWay old → ExecutesInside 0 new_piece_text (Int item ∷ Int (pos n) ∷ Blob body ∷ []) old new (Ok count)
+    → IsUnderWay new × AddsPiece old.now.trees new.now.trees item n body
+piece_inserted old new item n body count way ran =
+    let values = Int item ∷ Int (pos n) ∷ Blob body ∷ [] in
+    let row = row_inserted stored_piece 4 new_piece_terms 4 new_piece_text values values old new count way.schema_is refl new_piece_is new_piece_plain (rw (cast_null, cast_int item, cast_int (pos n)) refl) ran.0 in (
+      record { mode = ran.1.mode; schema_is = row.schema_is },
+      record {
+        kept = record { format = row.others.0 (λ e. omega (arith, e)); transfers = row.others.1.0 (λ e. omega (arith, e)); tags = row.others.1.1.0 (λ e. omega (arith, e)) };
+        held = row.others.1.1.1.0 (λ e. omega (arith, e));
+        pieces = IsPermutation-map (drop 1) _ _ row.rows;
+      },
+    )
+
+-- A SIZE SET
+
+-- what an UPDATE writes
+module _ (limit : Option ℕ) (mode : Mode) (schema : Schema) (t : Table) (params : Row) (at : ℕ) (q : Program) (db : Trees) where
+  abbrev task : Task
+  task = record { limit = limit; keys = mode.keys; schema = schema; table = t; params = params }
+
+  abbrev pub changed_rows : List Row → Edit
+  changed_rows rows = edit_of db t (ids_of rows) Given 1 rows
+
+  pub update_gives : (after : Database) (text : List ℕ) (tally : Tally) → slice_get schema.tables at ≡ Some t → Does limit mode params (record { schema = schema; trees = db }) text None (Update at q) (Ok (tally, after))
+      → (rows : List Row) × (next : Trees) × Answers (record { schema = schema; trees = db }) q params rows × Writes schema mode.keys db (changed_rows rows) (Ok next) × (after ≡ record { schema = schema; trees = next })
+  update_gives after text tally found h =
+      let done = went (subst (λ o. AtPlace (λ table. OnRows (record { limit = limit; keys = mode.keys; schema = schema; table = table; params = params }) mode None (Update at q) db) o (Ok (tally, after))) found h) in
+      let last = went (went done.2).2 in
+      let updated = went done.1 in
+      let written = went updated.2 in
+      let trees : done.0.trees ≡ written.0 = ap (λ (w : Written). w.trees) (same_value written.2) in
+      (updated.0, written.0, updated.1, written.1, ap (λ (p : Tally × Database). p.1) (same_value last.2) ∙ ap (λ (now : Trees). record { schema = schema; trees = now }) trees)
+
+-- no foreign key acts where a row is changed
+quiet : (olds news : List Row) → works ledger_schema Enforced 0 held_tree olds news ≡ []
+quiet olds news = go (length news == 0)
+  where
+    go : (deletes : Bool) → flat_map (λ (child : Table). filter_map (λ ref. work_by 0 held_tree (pairs olds news) child ref (deed_of Enforced deletes (cond deletes ref.on_delete ref.on_update)) (parent_key ledger_schema.tables ref)) child.references) ledger_schema.tables ≡ []
+    go true = refl
+    go false = refl
+
+untested : (v : Value) (n : ℤ) → is_eq (value_cmp v (Int n)) ≡ false → is_true (binary (Compare Eq Binary) v (Int n)) ≡ false
+unfolding binary
+untested Null n other = refl
+untested v n other = truth_kept _ ∙ other
+
+module _ (trees : Trees) (item transfer : ℤ) (path : List ℕ) (before size : ℕ) (others : List Row) (free : IsFree item others)
+    (same : IsPermutation (item_row item transfer path before ∷ others) (trees held_tree)) where
+  abbrev was : Row
+  was = item_row item transfer path before
+
+  abbrev size_params : Row
+  size_params = Int item ∷ Int (pos size) ∷ []
+
+  -- the row that is selected, and what it becomes
+  abbrev selected : Row
+  selected = Int item ∷ item_row item transfer path size
+
+  apart : AllByRecursion (λ (row : Row). has_rowid item row ≡ false) others
+  apart = none_from_any (has_rowid item) others free
+
+  tied : is_eq (value_cmp (Int item) (Int item)) ≡ true
+  tied = ap is_eq (tied_itself value_cmp_total (Int item))
+
+  one_selected : (rows : List Row) → Lists held_tree size_where size_terms [] size_params (trees held_tree) rows → rows ≡ selected ∷ []
+  one_selected rows lists =
+      let test = passes size_where size_params in
+      let here : test was ≡ true = alone _ ∙ equal_numbers item item ∙ same_number item item refl in
+      let none = filter_none test others (all_weaker (λ (row : Row). has_rowid item row ≡ false) (λ (row : Row). test row ≡ false) (λ row other. alone _ ∙ untested (column row 0) item other) others apart) in
+      let kept : filter test (was ∷ others) ≡ was ∷ [] = rw (here, none) refl in
+      let moved = subst (λ l. IsPermutation l (filter test (trees held_tree))) kept (IsPermutation-filter test (was ∷ others) (trees held_tree) same) in
+      let one = one_permutation was (filter test (trees held_tree)) moved in
+      let show = made held_tree size_where size_terms [] size_params in
+      let ordered = one_permutation (show was) lists.ordered (subst (λ l. IsPermutation (map show l) lists.ordered) one lists.same) in
+      lists.shown ∙ ap (map (λ (o : Output). o.1)) ordered
+
+  left : IsPermutation others (without_rowid item (trees held_tree))
+  left =
+      let keep = λ (row : Row). not (has_rowid item row) in
+      let all = filter_all keep others (all_weaker (λ (row : Row). has_rowid item row ≡ false) (λ (row : Row). keep row ≡ true) (λ row other. ap not other) others apart) in
+      let gone : filter keep (was ∷ others) ≡ others = rw (tied, all) refl in
+      subst (λ l. IsPermutation l (filter keep (trees held_tree))) gone (IsPermutation-filter keep (was ∷ others) (trees held_tree) same)
+
+  abbrev edit : List Row → Edit
+  edit rows = edit_of trees stored_held (ids_of rows) Given 1 rows
+
+  changed_to : (rows : List Row) (next : Trees) → rows ≡ selected ∷ [] → Applies ledger_schema Enforced trees (edit rows) next → IsPermutation (item_row item transfer path size ∷ others) (next held_tree)
+  changed_to rows next is step =
+      let new = item_row item transfer path size in
+      let rest = without_rowid item (trees held_tree) in
+      let news : (edit (selected ∷ [])).news ≡ new ∷ [] = rw (cast_null, cast_int item, cast_int transfer, cast_int (pos size)) refl in
+      let fresh : are_fresh rest (new ∷ []) ≡ true = subst (λ l. are_fresh rest l ≡ true) news (subst (λ l. are_fresh (left_by trees (edit l)) (edit l).news ≡ true) is step.fresh) in
+      let free : is_taken rest new ≡ false = not-true _ (and_parts _ _ fresh).0 in
+      let rows_are : next held_tree ≡ put_row new rest = step.rows ∙ ap (λ l. edited trees (edit l)) is ∙ ap (put_all rest) news in
+      subst (IsPermutation (new ∷ others)) (sym rows_are) (IsPermutation-trans (new ∷ others) (new ∷ rest) (put_row new rest) (IsPermutation-cons new others rest left) (put_fresh new rest free))
+
+pub size_set : (old new : State) (item : ℤ) (size count : ℕ) → IsUnderWay old → ExecutesInside 0 size_text (Int item ∷ Int (pos size) ∷ []) old new (Ok count)
+    → IsUnderWay new × SetsSize old.now.trees new.now.trees item size
+size_set old new item size count way ran =
+    let params = Int item ∷ Int (pos size) ∷ [] in
+    let q : Program = record { lets = []; body = size_query } in
+    let command = Update 3 q in
+    let trees = old.now.trees in
+    let said = statement_of size_text (understood ledger_schema size_text) in
+    let w = runs_as size_text params old new ledger_schema way.schema_is command size_is size_plain count ran.0 in
+    let changed = subst (λ s. Does old.step_limit (mode_of old) params (record old.now { schema = s }) said None command (Ok (w.tally, new.now))) way.schema_is w.changed in
+    let (rows, next, answers, wrote, now) = update_gives old.step_limit (mode_of old) ledger_schema stored_held params 3 q trees new.now said w.tally refl changed in
+    let edit = edit_of trees stored_held (ids_of rows) Given 1 rows in
+    let step = one_step ledger_schema Enforced trees next edit (quiet (taken_by trees edit) edit.news) wrote in
+    let lists = answer_lists held_tree size_where size_terms [] params trees rows (answers.answer Null) refl in (
+      record { mode = ran.1.mode; schema_is = ap (λ (d : Database). d.schema) now },
+      record {
+        kept = rw now (record { format = step.tables.0 (λ e. omega (arith, e)); transfers = step.tables.1.0 (λ e. omega (arith, e)); tags = step.tables.1.1.0 (λ e. omega (arith, e)) });
+        held = λ others transfer path before free same.
+            rw now (changed_to trees item transfer path before size others free same rows next (one_selected trees item transfer path before size others free same rows lists) step);
+        pieces = rw now (step.tables.1.1.1.1.0 (λ e. omega (arith, e)));
+      },
+    )

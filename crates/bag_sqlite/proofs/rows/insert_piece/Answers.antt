@@ -1,0 +1,22 @@
+use Rattle.std.proofs.Common.{Ok, [], ◌∷◌, ◌<◌, ◌/◌, ◌^◌, ◌∙◌, ap, arith, pos, w64}
+use Rattle.std.proofs.Math.Facts.{to_z_pos}
+use Rattle.std.proofs.lemmas.Int.{to_z-of_z}
+use Rattle.bag_digest.specs.declared.reading.TheConstants.{PIECE}
+use Rattle.sqlite.specs.Held.{state}
+use Rattle.sqlite.specs.State.{ExecutesInside}
+use Rattle.sqlite.specs.declared.types.Value.TheVariants.{Blob, Int}
+use Rattle.bag_sqlite.proofs.RowLemmas.{piece_inserted}
+use Rattle.bag_sqlite.proofs.RowMeanings.{new_piece_text}
+use Rattle.bag_sqlite.proofs.rows.insert_piece.Goals as goal
+
+pub returns-clause-added : goal.returns-clause-added
+returns-clause-added g c clean way =
+    let old = state g.S.Store c.args.tx.now.conn.now in
+    let new = state g.S.Store c.execute.new.self.conn.now in
+    let n = c.args.offset / PIECE in
+    let low : n < 2 ^ 63 = omega (arith, c.ranges.offset.fits) in
+    let first = c.params-to_sql.ensures ∙ ap Int (to_z-of_z w64 c.args.item c.ranges.item) in
+    let second = c.params-to_sql-2.ensures ∙ ap Int (to_z_pos w64 low) in
+    let ran : ExecutesInside 0 new_piece_text (Int c.args.item ∷ Int (pos n) ∷ Blob c.args.body.now ∷ []) old new (Ok c.in_ok-execute.field-0) =
+    rw (first, second, c.params-to_sql-3.ensures) at (c.in_ok-execute.ensures.runs clean way.mode) in
+    piece_inserted old new c.args.item n c.args.body.now c.in_ok-execute.field-0 way ran

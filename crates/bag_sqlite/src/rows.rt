@@ -1,0 +1,85 @@
+//! The statements that put a payload file in a database.
+ghost use Rattle.std.specs.Prelude.{◌≡◌, ◌<◌, ◌/◌, ◌^◌, IfOk, IsTrue, OnOk};
+ghost use Rattle.bag_sqlite.specs.Putting.{AddsItem, AddsPiece, IsUnderWay, SetsSize};
+ghost use Rattle.sqlite.specs.Held.{state};
+ghost use Rattle.sqlite.specs.State.{HasCleanDisk, KeepsCommit, Survives};
+
+use bag_digest::PIECE;
+use sqlite::{Alter, Error, Transaction, params};
+
+/// Writes the row of a payload file without an octet, and answers its number.
+pub(crate) fn insert_item<S: Alter>(
+    tx: &mut Transaction<'_, S>,
+    transfer: i64,
+    path: &str,
+) -> Result<i64, Error>
+    ensures same_reference { tx.new.conn.ghost_name ≡ tx.old.conn.ghost_name }
+    ensures added { HasCleanDisk (state S.Store tx.new.conn.now)
+        → IfOk result (λ item. IsUnderWay (state S.Store tx.old.conn.now)
+        → IsUnderWay (state S.Store tx.new.conn.now)
+        × AddsItem (state S.Store tx.old.conn.now).now.trees
+        (state S.Store tx.new.conn.now).now.trees item transfer path.now 0) }
+    ensures opened { HasCleanDisk (state S.Store tx.new.conn.now)
+        → OnOk result (IsTrue (state S.Store tx.old.conn.now).in_transaction
+        → IsTrue (state S.Store tx.old.conn.now).is_open) }
+    ensures kept { HasCleanDisk (state S.Store tx.new.conn.now)
+        → KeepsCommit (state S.Store tx.old.conn.now) (state S.Store tx.new.conn.now) }
+    ensures survives { Survives (state S.Store tx.old.conn.now) (state S.Store tx.new.conn.now)
+        (λ _. ⊥) }
+{
+    tx.execute(
+        "INSERT INTO held (transfer, path, size) VALUES (?1, ?2, 0)",
+        params![transfer, path],
+    )?;
+    Ok(tx.last_insert_rowid())
+}
+
+/// Writes the row of the piece of a payload file that begins at this octet.
+pub(crate) fn insert_piece<S: Alter>(
+    tx: &mut Transaction<'_, S>,
+    item: i64,
+    offset: u64,
+    body: &[u8],
+) -> Result<(), Error>
+    ensures same_reference { tx.new.conn.ghost_name ≡ tx.old.conn.ghost_name }
+    ensures added { HasCleanDisk (state S.Store tx.new.conn.now)
+        → OnOk result (IsUnderWay (state S.Store tx.old.conn.now)
+        → IsUnderWay (state S.Store tx.new.conn.now)
+        × AddsPiece (state S.Store tx.old.conn.now).now.trees
+        (state S.Store tx.new.conn.now).now.trees item (offset / PIECE) body.now) }
+    ensures kept { HasCleanDisk (state S.Store tx.new.conn.now)
+        → KeepsCommit (state S.Store tx.old.conn.now) (state S.Store tx.new.conn.now) }
+    ensures survives { Survives (state S.Store tx.old.conn.now) (state S.Store tx.new.conn.now)
+        (λ _. ⊥) }
+{
+    tx.execute(
+        "INSERT INTO piece (item, n, body) VALUES (?1, ?2, ?3)",
+        params![item, (offset / PIECE as u64) as i64, body],
+    )?;
+    Ok(())
+}
+
+/// Writes the size of the payload file with this number.
+pub(crate) fn set_size<S: Alter>(
+    tx: &mut Transaction<'_, S>,
+    item: i64,
+    size: u64,
+) -> Result<(), Error>
+    requires { size < 2 ^ 63 }
+    ensures same_reference { tx.new.conn.ghost_name ≡ tx.old.conn.ghost_name }
+    ensures set { HasCleanDisk (state S.Store tx.new.conn.now)
+        → OnOk result (IsUnderWay (state S.Store tx.old.conn.now)
+        → IsUnderWay (state S.Store tx.new.conn.now)
+        × SetsSize (state S.Store tx.old.conn.now).now.trees
+        (state S.Store tx.new.conn.now).now.trees item size) }
+    ensures kept { HasCleanDisk (state S.Store tx.new.conn.now)
+        → KeepsCommit (state S.Store tx.old.conn.now) (state S.Store tx.new.conn.now) }
+    ensures survives { Survives (state S.Store tx.old.conn.now) (state S.Store tx.new.conn.now)
+        (λ _. ⊥) }
+{
+    tx.execute(
+        "UPDATE held SET size = ?2 WHERE id = ?1",
+        params![item, size as i64],
+    )?;
+    Ok(())
+}
