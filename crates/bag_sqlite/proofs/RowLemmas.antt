@@ -1,7 +1,7 @@
 -- The rows of a payload file are written.
-use Rattle.std.proofs.Common.{◌≡◌, ◌==◌, ℕ, ℤ, pos, List, [], ◌∷◌, Bool, true, false, not, cond, is_eq, Option, Some, None, Ok, length, map, drop, slice_get, refl, sym, ap, subst, ◌∙◌, arith}
+use Rattle.std.proofs.Common.{◌≡◌, ◌==◌, ℕ, ℤ, pos, List, [], ◌∷◌, ◌++◌, Bool, true, false, not, cond, is_eq, Option, Some, None, Ok, length, map, drop, slice_get, refl, sym, ap, subst, ◌∙◌, arith}
 use Rattle.std.specs.Prelude.{filter, flat_map}
-use Rattle.std.specs.List.{AllByRecursion, filter_map}
+use Rattle.std.specs.List.{AllByRecursion, concat, filter_map}
 use Rattle.std.specs.List.Sorted.{IsPermutation}
 use Rattle.std.proofs.lemmas.Bool.{and_parts, not-true}
 use Rattle.std.proofs.lemmas.Cmp.{tied_itself}
@@ -34,8 +34,10 @@ use Rattle.sqlite_schema.specs.declared.schema.Keys.TheVariants.{Enforced}
 use Rattle.sqlite_sql.specs.declared.ops.BinaryOp.TheVariants.{Compare}
 use Rattle.sqlite_sql.specs.declared.ops.CompareOp.TheVariants.{Eq}
 use Rattle.sqlite_value.proofs.OrderLemmas.{value_cmp_total}
-use Rattle.bag_sqlite.specs.Putting.{AddsItem, AddsPiece, IsFree, IsUnderWay, SetsSize, item_row}
+use Rattle.bag_sqlite.specs.Databases.{piece_rows, without_rowids}
+use Rattle.bag_sqlite.specs.Putting.{AddsItem, AddsPiece, AddsPieces, HasOneItemMore, IsFree, IsUnderWay, SetsSize, item_row}
 use Rattle.bag_sqlite.specs.Tables.{held, held_tree, ledger_schema, piece, piece_tree}
+use Rattle.bag_sqlite.proofs.CutLemmas.{length_concat}
 use Rattle.bag_sqlite.proofs.InsertLemmas.{put_fresh, row_inserted, same_value, went}
 use Rattle.bag_sqlite.proofs.RowMeanings.{new_item_is, new_item_plain, new_item_terms, new_item_text, new_piece_is, new_piece_plain, new_piece_terms, new_piece_text, size_is, size_plain, size_query, size_terms, size_text, size_where}
 use Rattle.bag_sqlite.proofs.SqlLemmas.{cast_int, cast_null}
@@ -182,3 +184,21 @@ size_set old new item size count way ran =
         pieces = rw now (step.tables.1.1.1.1.0 (λ e. omega (arith, e)));
       },
     )
+
+-- ONE AFTER ANOTHER
+
+-- the row, the pieces, and then the size
+pub item_written : (a b c d : Trees) (transfer number : ℤ) (path : List ℕ) (pieces : List (List ℕ)) (size : ℕ) → size ≡ length (concat pieces) → AddsItem a b number transfer path 0
+    → AddsPieces b c (record { number = number; path = []; pieces = pieces }) → SetsSize c d number size → HasOneItemMore a d transfer (record { number = number; path = path; pieces = pieces })
+item_written a b c d transfer number path pieces size is p q r = record {
+  kept = record {
+    format = r.kept.format ∙ q.kept.format ∙ p.kept.format;
+    transfers = r.kept.transfers ∙ q.kept.transfers ∙ p.kept.transfers;
+    tags = r.kept.tags ∙ q.kept.tags ∙ p.kept.tags;
+  };
+  fresh = p.fresh;
+  held = subst (λ n. IsPermutation (item_row number transfer path n ∷ a held_tree) (d held_tree)) (is ∙ length_concat pieces)
+      (r.held (a held_tree) transfer path 0 p.fresh (subst (IsPermutation (item_row number transfer path 0 ∷ a held_tree)) (sym q.held) p.held));
+  pieces = subst (λ rows. IsPermutation (piece_rows (record { number = number; path = path; pieces = pieces }) ++ without_rowids rows) (without_rowids (d piece_tree))) p.pieces
+      (subst (λ rows. IsPermutation (piece_rows (record { number = number; path = path; pieces = pieces }) ++ without_rowids (b piece_tree)) (without_rowids rows)) (sym r.pieces) q.pieces);
+}
