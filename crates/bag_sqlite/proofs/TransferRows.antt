@@ -1,6 +1,6 @@
 -- The rows of a transfer's tag files and payload files, as they are shown and as they are read in turn.
 use Rattle.std.proofs.Common.{◌≡◌, ◌≢◌, ◌<◌, ◌+◌, ◌&&◌, ℕ, suc, List, [], ◌∷◌, ◌++◌, Bool, true, false, Some, Less, Greater, append-nil, drop, get_or, inl, inr, length, map, take, pos, refl, sym, ap, ap₂, subst, ◌∙◌, arith}
-use Rattle.std.specs.Prelude.{IsPermutation, filter, flat_map, sum_by, ℤ}
+use Rattle.std.specs.Prelude.{IsPermutation, filter, flat_map, ℤ}
 use Rattle.std.specs.BTreeMap.{insert_entry}
 use Rattle.std.specs.Cmp.Lexicographic.{slice_cmp}
 use Rattle.std.specs.List.{AllByRecursion, concat}

@@ -1,3 +1,4 @@
+pub mod Contents
 pub mod Databases
 pub mod Items
 pub mod Making

@@ -1,11 +1,16 @@
 //! Whether a store failed, and how often that was told.
 ghost use Rattle.std.specs.Prelude.{◌≡◌, ◌↔◌, IsErr, IsErrOf, IsTrue, OnOk, false};
 ghost use Rattle.bag_ledger.specs.Keeping.{UsesStore};
+ghost use Rattle.bag_ledger.specs.declared.fault.KeepFault.{KeepFault};
 ghost use Rattle.bag_ledger.specs.declared.fault.KeepFault.TheVariants.{Memory, Store};
+ghost use Rattle.bag_ledger.specs.declared.fault.PutFault.TheVariants.{Keep};
 ghost use Rattle.bag_ledger.specs.declared.fault.StoreFault.TheVariants.{Spent};
+ghost use Rattle.bag_sqlite.specs.Contents.{put_fault_of};
 ghost use Rattle.bag_sqlite.specs.declared.health.Health.{Health};
 
-use bag_ledger::{KeepFault, StoreFault};
+use crate::putting::NotPut;
+use bag_digest::ReadFault;
+use bag_ledger::{KeepFault, PutFault, StoreFault};
 use sqlite::{Error, ErrorCode};
 
 /// Whether the store failed, and how often a failure was told. The count stays at its greatest number, 2^64 - 1.
@@ -57,6 +62,21 @@ impl Health {
         self.is_spent = true;
         self.failures = self.failures.saturating_add(1);
         KeepFault::Store(StoreFault::Refused)
+    }
+
+    /// What is told where a payload file isn't put.
+    pub(crate) fn told_of(&mut self, refusal: &NotPut) -> PutFault
+        requires { self.old.is_spent ≡ false }
+        ensures told { (fault : KeepFault) × (result ≡ put_fault_of fault refusal.now) }
+        ensures store { UsesStore (λ (health : Health). health.failures)
+            (λ (health : Health). IsTrue health.is_spent) self.old self.new
+            (λ fault. result ≡ Keep (Store fault)) }
+    {
+        match refusal {
+            NotPut::Source(fault) => PutFault::from(ReadFault::from(*fault)),
+            NotPut::Misfit(fault) => PutFault::from(*fault),
+            NotPut::Store(error) => PutFault::Keep(self.told(error)),
+        }
     }
 
     /// How often a failure was told.

@@ -13,9 +13,11 @@ ghost use Rattle.sqlite.specs.State.{HasCleanDisk, Survives};
 
 use crate::health::Health;
 use crate::making::make_ledger;
+use crate::octets::Octets;
 use crate::opening::begin_transfer;
+use crate::putting::put_content;
 use crate::{items, reading, transfers};
-use bag_digest::Source;
+use bag_digest::{Source, piece_buffer};
 use bag_ledger::{KeepFault, Keeper, PutFault};
 use bag_path::BagPath;
 use bag_rules::{ItemSize, TagSet, Want};
@@ -86,9 +88,9 @@ impl<S: Alter> SqlKeeper<S> {
 }
 
 /// What is promised of a call that writes, and of what a crash leaves after it, is promised of a store that gives back what was written
-/// to it.
+/// to it. A payload file is read through a buffer for one piece, and is written as it is read.
 ///
-/// Payload files aren't put yet: `put` and `put_from` answer as where memory ran out. Until they are, no other crate can use this keeper.
+/// A payload file for a transfer that isn't there, or one that it holds already, is refused as where the store failed.
 impl<S: Alter> Keeper for SqlKeeper<S> {
     ghost holds = { λ keeper. HoldsLedger (state S.Store keeper.connection) };
 
@@ -139,24 +141,34 @@ impl<S: Alter> Keeper for SqlKeeper<S> {
 
     fn put(
         &mut self,
-        _alloc: Global,
-        _name: &str,
-        _want: &Want<'_>,
-        _content: &[u8],
+        alloc: Global,
+        name: &str,
+        want: &Want<'_>,
+        content: &[u8],
     ) -> Result<(), PutFault> {
-        self.health.test()?;
-        Err(KeepFault::Memory)?
+        let mut octets = Octets::new(content);
+        self.put_from(alloc, name, want, &mut octets)
     }
 
     fn put_from<R: Source>(
         &mut self,
-        _alloc: Global,
-        _name: &str,
-        _want: &Want<'_>,
-        _reader: &mut R,
+        alloc: Global,
+        name: &str,
+        want: &Want<'_>,
+        reader: &mut R,
     ) -> Result<(), PutFault> {
         self.health.test()?;
-        Err(KeepFault::Memory)?
+        let mut buffer = piece_buffer(alloc)?;
+        match put_content(
+            &mut self.connection,
+            name,
+            want,
+            buffer.as_mut_slice(),
+            reader,
+        ) {
+            Ok(()) => Ok(()),
+            Err(refusal) => Err(self.health.told_of(&refusal)),
+        }
     }
 
     fn read_piece(

@@ -6,6 +6,7 @@ mod items;
 mod keeper;
 pub mod laws;
 mod making;
+mod octets;
 mod opening;
 mod putting;
 mod reading;
@@ -13,3 +14,5 @@ mod rows;
 #[cfg(test)]
 mod tests;
 mod transfers;
+
+pub use keeper::{NotCreated, SqlKeeper};

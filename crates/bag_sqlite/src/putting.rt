@@ -1,10 +1,176 @@
 //! A payload file is put: read, hashed and stored piece by piece.
-ghost use Rattle.std.specs.Prelude.{◌≡◌, ◌<◌, length, IfErr, IfOk, IsErrOf};
+ghost use Rattle.std.specs.Prelude.{◌≡◌, ◌<◌, List, [], ℕ, false, length, IfErr, IfOk, IsErrOf, IsTrue, MatchResult, OnOk};
 ghost use Rattle.std.specs.Io.KnownBytes.{IsAtEnd};
 ghost use Rattle.bag_digest.specs.Device.{UsesSource};
 ghost use Rattle.bag_digest.specs.Reading.{GaveBefore, GavePiece, read_fault};
+ghost use Rattle.bag_digest.specs.declared.reading.TheConstants.{PIECE};
+ghost use Rattle.bag_ledger.specs.Keeping.{IsGiven, Puts, RefusesGiven, given_by};
+ghost use Rattle.bag_ledger.specs.declared.fault.KeepFault.{KeepFault};
+ghost use Rattle.bag_sqlite.specs.Contents.{HasContentMore, HasRead, answer_of, in_pieces, put_fault_of};
+ghost use Rattle.bag_sqlite.specs.Putting.{AddsPieces, IsUnderWay};
+ghost use Rattle.bag_sqlite.specs.SqlKeepers.{HoldsLedger, MayLeaveLedger};
+ghost use Rattle.sqlite.specs.Held.{Held, state};
+ghost use Rattle.sqlite.specs.State.{HasCleanDisk, KeepsCommit, Survives};
 
-use bag_digest::{Source, SourceFault, read_piece};
+use crate::rows::{insert_item, insert_piece, set_size};
+use crate::transfers::transfer_number;
+use bag_digest::{Digests, Multi, Source, SourceFault, read_piece};
+use bag_rules::limits::LARGEST_ITEM;
+use bag_rules::{Want, WantFault};
+use sqlite::{Alter, Connection, Error, Transaction};
+
+/// Why a payload file isn't put.
+#[derive(Drop)]
+pub(crate) enum NotPut {
+    /// It can't be read to its end, or it is too large.
+    Source(SourceFault),
+    /// It isn't the one that is wanted.
+    Misfit(WantFault),
+    /// The store refused it.
+    Store(Error),
+}
+
+impl From<SourceFault> for NotPut {
+    ghost use Rattle.std.specs.Prelude.{◌≡◌};
+    ghost use Rattle.bag_sqlite.specs.declared.putting.NotPut.TheVariants.{Source};
+
+    ghost from_gives = { λ fault refusal. refusal ≡ Source fault };
+
+    fn from(fault: SourceFault) -> NotPut {
+        NotPut::Source(fault)
+    }
+}
+
+impl From<WantFault> for NotPut {
+    ghost use Rattle.std.specs.Prelude.{◌≡◌};
+    ghost use Rattle.bag_sqlite.specs.declared.putting.NotPut.TheVariants.{Misfit};
+
+    ghost from_gives = { λ fault refusal. refusal ≡ Misfit fault };
+
+    fn from(fault: WantFault) -> NotPut {
+        NotPut::Misfit(fault)
+    }
+}
+
+impl From<Error> for NotPut {
+    ghost use Rattle.std.specs.Prelude.{◌≡◌};
+    ghost use Rattle.bag_sqlite.specs.declared.putting.NotPut.TheVariants.{Store};
+
+    ghost from_gives = { λ error refusal. refusal ≡ Store error };
+
+    fn from(error: Error) -> NotPut {
+        NotPut::Store(error)
+    }
+}
+
+/// Puts what a reader gives into the transfer with this name, in one transaction, if it is what is wanted.
+pub(crate) fn put_content<S: Alter, R: Source>(
+    connection: &mut Connection<S>,
+    name: &str,
+    want: &Want<'_>,
+    buffer: &mut [u8],
+    reader: &mut R,
+) -> Result<(), NotPut>
+    requires idle { connection.old.in_transaction ≡ false }
+    requires room { length buffer.old ≡ PIECE }
+    ensures put { (told : KeepFault)
+        → Puts (λ (connection : Held S). HoldsLedger (state S.Store connection))
+        (λ connection. MayLeaveLedger (state S.Store connection))
+        (λ connection. HasCleanDisk (state S.Store connection)) connection.old connection.new
+        (given_by (R.remaining reader.old) (R.remaining reader.new)) name.now want.now
+        (answer_of told result) }
+    ensures uses { UsesSource R.failures R.ready R.keeps reader.old reader.new
+        (IsErrOf result (NotPut.Source SourceFault.Read)) }
+    ensures idle { connection.new.in_transaction ≡ false }
+{
+    let Some(transfer) = transfer_number(connection, name)? else {
+        return Err(NotPut::Store(Error::QueryReturnedNoRows));
+    };
+    let mut transaction = connection.transaction();
+    put_item(&mut transaction, transfer, want, buffer, reader)?;
+    transaction.commit()?;
+    Ok(())
+}
+
+/// Writes the rows of a payload file of what a reader gives, if it is what is wanted.
+fn put_item<S: Alter, R: Source>(
+    tx: &mut Transaction<'_, S>,
+    transfer: i64,
+    want: &Want<'_>,
+    buffer: &mut [u8],
+    reader: &mut R,
+) -> Result<(), NotPut>
+    requires room { length buffer.old ≡ PIECE }
+    ensures same_reference { tx.new.conn.ghost_name ≡ tx.old.conn.ghost_name }
+    ensures put { MatchResult result (λ done. (content : List ℕ)
+        × IsGiven (given_by (R.remaining reader.old) (R.remaining reader.new)) want.now content
+        × (HasCleanDisk (state S.Store tx.new.conn.now)
+        → IsUnderWay (state S.Store tx.old.conn.now)
+        → IsUnderWay (state S.Store tx.new.conn.now)
+        × HasContentMore (state S.Store tx.old.conn.now).now.trees
+        (state S.Store tx.new.conn.now).now.trees transfer want.now.path.now content))
+        (λ refusal. (told : KeepFault)
+        → RefusesGiven (given_by (R.remaining reader.old) (R.remaining reader.new)) want.now
+        (put_fault_of told refusal)) }
+    ensures uses { UsesSource R.failures R.ready R.keeps reader.old reader.new
+        (IsErrOf result (NotPut.Source SourceFault.Read)) }
+    ensures opened { HasCleanDisk (state S.Store tx.new.conn.now)
+        → OnOk result (IsTrue (state S.Store tx.old.conn.now).in_transaction
+        → IsTrue (state S.Store tx.old.conn.now).is_open) }
+    ensures kept { HasCleanDisk (state S.Store tx.new.conn.now)
+        → KeepsCommit (state S.Store tx.old.conn.now) (state S.Store tx.new.conn.now) }
+    ensures survives { Survives (state S.Store tx.old.conn.now) (state S.Store tx.new.conn.now)
+        (λ _. ⊥) }
+{
+    let item = insert_item(tx, transfer, want.path().as_str())?;
+    let (size, digests) = put_pieces(tx, item, want, buffer, reader)?;
+    want.test(size, &digests)?;
+    set_size(tx, item, size)?;
+    Ok(())
+}
+
+/// Reads to the end and writes each piece, and answers how many octets there were and their digests.
+fn put_pieces<S: Alter, R: Source>(
+    tx: &mut Transaction<'_, S>,
+    item: i64,
+    want: &Want<'_>,
+    buffer: &mut [u8],
+    reader: &mut R,
+) -> Result<(u64, Digests), NotPut>
+    requires room { length buffer.old ≡ PIECE }
+    ensures same_reference { tx.new.conn.ghost_name ≡ tx.old.conn.ghost_name }
+    ensures read { MatchResult result (λ found. (pieces : List (List ℕ))
+        × HasRead (R.remaining reader.old) (R.remaining reader.new) want.now found pieces
+        × (HasCleanDisk (state S.Store tx.new.conn.now)
+        → IsUnderWay (state S.Store tx.old.conn.now)
+        → IsUnderWay (state S.Store tx.new.conn.now)
+        × AddsPieces (state S.Store tx.old.conn.now).now.trees
+        (state S.Store tx.new.conn.now).now.trees (in_pieces item [] pieces)))
+        (λ refusal. (told : KeepFault)
+        → RefusesGiven (given_by (R.remaining reader.old) (R.remaining reader.new)) want.now
+        (put_fault_of told refusal)) }
+    ensures uses { UsesSource R.failures R.ready R.keeps reader.old reader.new
+        (IsErrOf result (NotPut.Source SourceFault.Read)) }
+    ensures kept { HasCleanDisk (state S.Store tx.new.conn.now)
+        → KeepsCommit (state S.Store tx.old.conn.now) (state S.Store tx.new.conn.now) }
+    ensures survives { Survives (state S.Store tx.old.conn.now) (state S.Store tx.new.conn.now)
+        (λ _. ⊥) }
+{
+    let mut multi = Multi::new(want.algs());
+    let mut total = 0u64;
+    'pieces: loop {
+        let n = fill_piece(buffer, reader, LARGEST_ITEM - total)?;
+        if n == 0 {
+            return Ok((total, multi.finish()));
+        }
+        multi.update(&buffer[..n]);
+        insert_piece(tx, item, total, &buffer[..n])?;
+        total += n as u64;
+        if n < buffer.len() {
+            return Ok((total, multi.finish()));
+        }
+    }
+}
 
 /// Reads until the buffer is full or the source is at its end, and answers how many octets it read.
 ///

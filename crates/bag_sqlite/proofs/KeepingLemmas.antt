@@ -1,0 +1,53 @@
+-- What a keeper puts that a store is used through.
+use Rattle.std.proofs.Common.{◌≡◌, ◌≤◌, ℕ, List, Option, Some, Result, Ok, Err, inl, inr, length, refl}
+use Rattle.bag_digest.specs.Reading.{GaveAll}
+use Rattle.bag_digest.proofs.Progress.{all_known, more_known}
+use Rattle.bag_ledger.specs.Keeping.{Given, Puts, RefusesGiven, given_by, known}
+use Rattle.bag_ledger.specs.Ledgers.{Ledger}
+use Rattle.bag_ledger.specs.declared.fault.PutFault.{PutFault}
+use Rattle.bag_ledger.specs.declared.fault.PutFault.TheVariants.{Digest, Keep, Length, Reader, TooLarge}
+use Rattle.bag_rules.specs.declared.limits.TheConstants.{LARGEST_ITEM}
+use Rattle.bag_rules.specs.declared.want.Want.{Want}
+
+-- the same of what has a part that is put through
+module _ {K L : Type 0} (part : L → K) (holds may_leave : K → Ledger → Type 0) (clean : K → Type 0) (old new : L) (given : Given) (name : List ℕ) (want : Want) where
+  pub puts_in : (result : Result Unit PutFault) → Puts holds may_leave clean (part old) (part new) given name want result
+      → Puts (λ l. holds (part l)) (λ l. may_leave (part l)) (λ l. clean (part l)) old new given name want result
+  puts_in (Ok done) put =
+      let writes = put.1.writes in
+      (put.0, record { is_given = put.1.is_given; writes = record { was_clean = writes.was_clean; held = writes.held; left = writes.left } })
+  puts_in (Err fault) put = (
+    put.0,
+    elim put.1 [
+      | inl reads ↦ inl (record { was_clean = reads.was_clean; held = reads.held; left = reads.left })
+      | inr may ↦ (
+          let leaves = may.1.leaves in
+          inr (may.0, record { keep = may.1.keep; is_given = may.1.is_given; leaves = record { was_clean = leaves.was_clean; held = leaves.held; left = leaves.left } })
+          )
+    ],
+  )
+
+-- THE SAME OF OCTETS THAT ARE KNOWN
+
+module _ (octets : List ℕ) (old new : Option (List ℕ)) (is : old ≡ Some octets) where
+  given_whole : (content : List ℕ) → GaveAll old new LARGEST_ITEM content → (content ≡ octets) × (length octets ≤ LARGEST_ITEM)
+  given_whole content gave = all_known octets content old new LARGEST_ITEM is gave
+
+  refused_known : (want : Want) (fault : PutFault) → ¬ (fault ≡ Reader) → RefusesGiven (given_by old new) want fault → RefusesGiven (known octets) want fault
+  refused_known want Reader other gave = absurd (other refl)
+  refused_known want TooLarge other gave = more_known octets old new LARGEST_ITEM is gave
+  refused_known want Length other it = (it.0, given_whole it.0 it.1, it.2)
+  refused_known want (Digest alg) other it = (it.0, given_whole it.0 it.1, it.2)
+  refused_known want (Keep fault) other gave = tt
+
+  module _ {K : Type 0} (holds may_leave : K → Ledger → Type 0) (clean : K → Type 0) (before after : K) (name : List ℕ) (want : Want) where
+    pub puts_known : (result : Result Unit PutFault) → ¬ (result ≡ Err Reader) → Puts holds may_leave clean before after (given_by old new) name want result
+        → Puts holds may_leave clean before after (known octets) name want result
+    puts_known (Ok done) other put = (put.0, record { is_given = (given_whole put.0 put.1.is_given.0, put.1.is_given.1); writes = put.1.writes })
+    puts_known (Err fault) other put = (
+      refused_known want fault (λ e. other (λ i. Err (e i))) put.0,
+      elim put.1 [
+        | inl reads ↦ inl reads
+        | inr may ↦ inr (may.0, record { keep = may.1.keep; is_given = (given_whole may.0 may.1.is_given.0, may.1.is_given.1); leaves = may.1.leaves })
+      ],
+    )

@@ -1,0 +1,214 @@
+-- A payload file is read and written piece by piece.
+use Rattle.std.proofs.Common.{◌≡◌, ◌≤◌, ◌<◌, ◌+◌, ◌-◌, ◌*◌, ◌/◌, ℕ, ℤ, List, [], ◌∷◌, ◌++◌, Option, length, map, take, pos, true, append_assoc, append-nil, arith, refl, sym, ap, subst, ◌∙◌, length-append}
+use Rattle.std.specs.Io.KnownBytes.{IsAtEnd}
+use Rattle.std.specs.List.{AllByRecursion, concat, enumerate_from}
+use Rattle.std.specs.List.Sorted.{IsPermutation}
+use Rattle.std.proofs.KnownBytes.{Consumes-nil}
+use Rattle.std.proofs.Math.Nat.{mul-div_cancel_left}
+use Rattle.std.proofs.lemmas.List.{length-take-le, map-append}
+use Rattle.std.proofs.lemmas.List.Folds.{concat-append}
+use Rattle.std.proofs.lemmas.List.Sorted.{IsPermutation-cons, IsPermutation-middle, IsPermutation-refl, IsPermutation-trans}
+use Rattle.bag_digest.specs.Algorithm.{has}
+use Rattle.bag_digest.specs.Hash.{AreDigests, Holds}
+use Rattle.bag_digest.specs.Reading.{GaveBefore, GavePiece, read_fault}
+use Rattle.bag_digest.specs.declared.algorithm.Alg.{Alg}
+use Rattle.bag_digest.specs.declared.algorithm.AlgSet.{AlgSet}
+use Rattle.bag_digest.specs.declared.multi.Digests.{Digests}
+use Rattle.bag_digest.specs.declared.multi.Multi.{Multi}
+use Rattle.bag_digest.specs.declared.reading.SourceFault.{SourceFault}
+use Rattle.bag_digest.specs.declared.reading.SourceFault.TheVariants as source
+use Rattle.bag_digest.specs.declared.reading.TheConstants.{PIECE}
+use Rattle.bag_digest.specs.Device.{UsesSource}
+use Rattle.bag_digest.proofs.Progress.{HasGiven, uses_as, uses_on}
+use Rattle.bag_ledger.specs.Keeping.{RefusesGiven, given_by}
+use Rattle.bag_ledger.specs.PutFaults.{put_fault}
+use Rattle.bag_rules.specs.Wants.{lists_by}
+use Rattle.bag_rules.specs.declared.limits.TheConstants.{LARGEST_ITEM}
+use Rattle.bag_rules.specs.declared.want.Want.{Want}
+use Rattle.sqlite.specs.Order.{Row}
+use Rattle.sqlite.specs.State.{State}
+use Rattle.sqlite.specs.Tree.{Trees}
+use Rattle.sqlite.specs.declared.types.Value.TheVariants.{Blob, Int}
+use Rattle.bag_sqlite.specs.Contents.{HasContentMore, HasRead, in_pieces}
+use Rattle.bag_sqlite.specs.Databases.{AreCut, piece_rows, without_rowids}
+use Rattle.bag_sqlite.specs.Putting.{AddsItem, AddsPiece, AddsPieces, IsUnderWay, SetsSize, item_row}
+use Rattle.bag_sqlite.specs.Tables.{held_tree, piece_tree}
+use Rattle.bag_sqlite.proofs.CutLemmas.{length_concat}
+use Rattle.bag_sqlite.proofs.PieceLemmas.{given_more}
+
+-- WHAT WAS READ
+
+-- full pieces were read so far, and hashed
+pub record HasReadOn (old new : Option (List ℕ)) (want : Want) (multi : Multi) (total : ℕ) (pieces : List (List ℕ)) : Type 0 where
+  pub full : AllByRecursion (λ piece. length piece ≡ PIECE) pieces
+  pub given : HasGiven old new total LARGEST_ITEM (concat pieces)
+  pub count : total ≡ PIECE * length pieces
+  pub set : AlgSet
+  pub covers : (alg : Alg) → lists_by want.manifests.now want.path.now alg ≡ true → has set alg ≡ true
+  pub hashed : Holds multi set (concat pieces)
+
+pub read_nothing : (source : Option (List ℕ)) (want : Want) (multi : Multi) (set : AlgSet) → ((alg : Alg) → has set alg ≡ lists_by want.manifests.now want.path.now alg) → Holds multi set []
+    → HasReadOn source source want multi 0 []
+read_nothing source want multi set covers hashed = record {
+  full = tt;
+  given = record { gave = Consumes-nil source; count = refl; within = omega arith };
+  count = refl;
+  set = set;
+  covers = λ alg lists. covers alg ∙ lists;
+  hashed = hashed;
+}
+
+joined_last : (pieces : List (List ℕ)) (last : List ℕ) → concat (pieces ++ last ∷ []) ≡ concat pieces ++ last
+joined_last pieces last = concat-append pieces (last ∷ []) ∙ ap (λ l. concat pieces ++ l) (append-nil last)
+
+full_last : (pieces : List (List ℕ)) (last : List ℕ) → AllByRecursion (λ piece. length piece ≡ PIECE) pieces → length last ≡ PIECE → AllByRecursion (λ piece. length piece ≡ PIECE) (pieces ++ last ∷ [])
+full_last [] last full is = (is, tt)
+full_last (p ∷ ps) last full is = (full.0, full_last ps last full.1 is)
+
+cut_full : (pieces : List (List ℕ)) → AllByRecursion (λ piece. length piece ≡ PIECE) pieces → AreCut pieces
+cut_full [] full = tt
+cut_full (p ∷ []) full = (omega (arith, full.0), omega (arith, full.0))
+cut_full (p ∷ q ∷ more) full = (full.0, cut_full (q ∷ more) full.1)
+
+cut_last : (pieces : List (List ℕ)) (last : List ℕ) → AllByRecursion (λ piece. length piece ≡ PIECE) pieces → 0 < length last → length last ≤ PIECE → AreCut (pieces ++ last ∷ [])
+cut_last [] last full some fits = (some, fits)
+cut_last (p ∷ []) last full some fits = (full.0, (some, fits))
+cut_last (p ∷ q ∷ more) last full some fits = (full.0, cut_last (q ∷ more) last full.1 some fits)
+
+-- the number of the piece that begins at the octet that comes next
+pub next_number : (old new : Option (List ℕ)) (want : Want) (multi : Multi) (total : ℕ) (pieces : List (List ℕ)) → HasReadOn old new want multi total pieces → total / PIECE ≡ length pieces
+next_number old new want multi total pieces read =
+    let some : 0 < PIECE = omega arith in
+    ap (λ n. n / PIECE) read.count ∙ mul-div_cancel_left (length pieces) some
+
+module _ (old mid new : Option (List ℕ)) (want : Want) (multi : Multi) (total n : ℕ) (pieces : List (List ℕ)) (buffer : List ℕ) (read : HasReadOn old mid want multi total pieces)
+    (piece : GavePiece mid new (LARGEST_ITEM - total) n buffer) where
+  more : HasGiven old new (total + n) LARGEST_ITEM (concat pieces ++ take n buffer)
+  more = given_more old mid new total LARGEST_ITEM n (concat pieces) buffer read.given piece
+
+  -- no octet came, which is the end
+  pub read_to_end : (digests : Digests) → n ≡ 0 → ((set : AlgSet) (octets : List ℕ) → Holds multi set octets → AreDigests digests set octets) → HasRead old new want (total, digests) pieces
+  read_to_end digests none finished =
+      let same : concat pieces ++ take n buffer ≡ concat pieces = ap (λ k. concat pieces ++ take k buffer) none ∙ append-nil (concat pieces) in
+      let given : HasGiven old new (total + n) LARGEST_ITEM (concat pieces) = subst (HasGiven old new (total + n) LARGEST_ITEM) same more in
+      record {
+        gave = record { gave = given.gave; none_left = piece.end none; within = omega (arith, given.count, given.within) };
+        cut = cut_full pieces read.full;
+        sums = record { set = read.set; length_is = read.given.count; digests_are = finished read.set (concat pieces) read.hashed; covers = read.covers };
+      }
+
+  module _ (after : Multi) (updated : (set : AlgSet) (octets : List ℕ) → Holds multi set octets → Holds after set (octets ++ take n buffer)) where
+    hashed : Holds after read.set (concat (pieces ++ take n buffer ∷ []))
+    hashed = subst (Holds after read.set) (sym (joined_last pieces (take n buffer))) (updated read.set (concat pieces) read.hashed)
+
+    given : HasGiven old new (total + n) LARGEST_ITEM (concat (pieces ++ take n buffer ∷ []))
+    given = subst (HasGiven old new (total + n) LARGEST_ITEM) (sym (joined_last pieces (take n buffer))) more
+
+    -- the last piece
+    pub read_last : (digests : Digests) → 0 < n → n < PIECE → IsAtEnd new → ((set : AlgSet) (octets : List ℕ) → Holds after set octets → AreDigests digests set octets)
+        → HasRead old new want (total + n, digests) (pieces ++ take n buffer ∷ [])
+    read_last digests some short end finished =
+        let size = length-take-le n buffer piece.bound in
+        record {
+          gave = record { gave = given.gave; none_left = end; within = omega (arith, given.count, given.within) };
+          cut = cut_last pieces (take n buffer) read.full (omega (arith, size, some)) (omega (arith, size, short));
+          sums = record { set = read.set; length_is = given.count; digests_are = finished read.set (concat (pieces ++ take n buffer ∷ [])) hashed; covers = read.covers };
+        }
+
+    -- a full piece more
+    pub read_more : n ≡ PIECE → HasReadOn old new want after (total + n) (pieces ++ take n buffer ∷ [])
+    read_more whole =
+        let size = length-take-le n buffer piece.bound in
+        record {
+          full = full_last pieces (take n buffer) read.full (size ∙ whole);
+          given = given;
+          count = omega (arith, read.count, whole, length-append pieces (take n buffer ∷ []));
+          set = read.set;
+          covers = read.covers;
+          hashed = hashed;
+        }
+
+-- a source's own fault
+pub refused_reading : (old new : Option (List ℕ)) (want : Want) (fault : SourceFault) → GaveBefore old new LARGEST_ITEM (read_fault fault) → RefusesGiven (given_by old new) want (put_fault (read_fault fault))
+refused_reading old new want source.Read gave = gave
+refused_reading old new want source.TooLarge gave = gave
+
+-- a reading that went well, and what came after it
+module _ {S : Type 0} {failures : S → ℕ} {ready : S → Type 0} {keeps : S → S → Type 0} {a b c : S} {failed told : Type 0} where
+  pub uses_then : (keeps a b → keeps b c → keeps a c) → UsesSource failures ready keeps a b ⊥ → UsesSource failures ready keeps b c failed → (told → failed) → (failed → told) → UsesSource failures ready keeps a c told
+  uses_then on before after to from = uses_as failures ready keeps a c failed told to from (uses_on failures ready keeps a b c failed on before after)
+
+module _ {S : Type 0} {failures : S → ℕ} {ready : S → Type 0} {keeps : S → S → Type 0} {a b : S} {failed told : Type 0} where
+  pub uses_told : UsesSource failures ready keeps a b failed → (told → failed) → (failed → told) → UsesSource failures ready keeps a b told
+  uses_told uses to from = uses_as failures ready keeps a b failed told to from uses
+
+-- THE ROWS
+
+pub no_pieces : (a : Trees) (item : ℤ) → AddsPieces a a (in_pieces item [] [])
+no_pieces a item = record { kept = record { format = refl; transfers = refl; tags = refl }; held = refl; pieces = IsPermutation-refl (without_rowids (a piece_tree)) }
+
+numbered_last : {X : Type 0} (k : ℕ) (xs : List X) (x : X) → enumerate_from k (xs ++ x ∷ []) ≡ enumerate_from k xs ++ (k + length xs, x) ∷ []
+numbered_last k [] x = ap (λ n. (n, x) ∷ []) (omega arith)
+numbered_last k (y ∷ ys) x =
+    let next : k + 1 + length ys ≡ k + length (y ∷ ys) = omega arith in
+    ap (λ l. (k, y) ∷ l) (numbered_last (k + 1) ys x ∙ ap (λ n. enumerate_from (k + 1) ys ++ (n, x) ∷ []) next)
+
+-- one piece more
+module _ (a b c : Trees) (item : ℤ) where
+  abbrev row_of : ℕ × List ℕ → Row
+  row_of piece = Int item ∷ Int (pos piece.0) ∷ Blob piece.1 ∷ []
+
+  pub pieces_grow : (pieces : List (List ℕ)) (body : List ℕ) → AddsPieces a b (in_pieces item [] pieces) → AddsPiece b c item (length pieces) body → AddsPieces a c (in_pieces item [] (pieces ++ body ∷ []))
+  pieces_grow pieces body p q =
+      let rows = piece_rows (in_pieces item [] pieces) in
+      let was = without_rowids (a piece_tree) in
+      let end = without_rowids (c piece_tree) in
+      let row = row_of (length pieces, body) in
+      let zero_on : 0 + length pieces ≡ length pieces = omega arith in
+      let listed : piece_rows (in_pieces item [] (pieces ++ body ∷ [])) ≡ rows ++ row ∷ [] = ap (map row_of) (numbered_last 0 pieces body ∙ ap (λ n. enumerate_from 0 pieces ++ (n, body) ∷ []) zero_on) ∙ map-append row_of (enumerate_from 0 pieces) ((length pieces, body) ∷ []) in
+      let split : piece_rows (in_pieces item [] (pieces ++ body ∷ [])) ++ was ≡ rows ++ row ∷ was = ap (λ l. l ++ was) listed ∙ append_assoc rows (row ∷ []) was in
+      record {
+        kept = record { format = q.kept.format ∙ p.kept.format; transfers = q.kept.transfers ∙ p.kept.transfers; tags = q.kept.tags ∙ p.kept.tags };
+        held = q.held ∙ p.held;
+        pieces = subst (λ l. IsPermutation l end) (sym split) (IsPermutation-trans _ _ end (IsPermutation-middle rows row was)
+            (IsPermutation-trans _ _ end (IsPermutation-cons row (rows ++ was) (without_rowids (b piece_tree)) p.pieces) q.pieces));
+      }
+
+pub rows_then : (a b c : State) (item : ℤ) (total : ℕ) (pieces : List (List ℕ)) (body : List ℕ) → total / PIECE ≡ length pieces → (IsUnderWay a → IsUnderWay b × AddsPieces a.now.trees b.now.trees (in_pieces item [] pieces))
+    → (IsUnderWay b → IsUnderWay c × AddsPiece b.now.trees c.now.trees item (total / PIECE) body) → IsUnderWay a → IsUnderWay c × AddsPieces a.now.trees c.now.trees (in_pieces item [] (pieces ++ body ∷ []))
+rows_then a b c item total pieces body number before one way =
+    let so_far = before way in
+    let more = one so_far.0 in
+    (more.0, pieces_grow a.now.trees b.now.trees c.now.trees item pieces body so_far.1 (subst (λ n. AddsPiece b.now.trees c.now.trees item n body) number more.1))
+
+-- the row of a payload file, its pieces and its size
+pub content_more : (a b c d : Trees) (item transfer : ℤ) (path : List ℕ) (pieces : List (List ℕ)) (size : ℕ) → AddsItem a b item transfer path 0 → AddsPieces b c (in_pieces item [] pieces) → SetsSize c d item size
+    → AreCut pieces → size ≡ length (concat pieces) → HasContentMore a d transfer path (concat pieces)
+content_more a b c d item transfer path pieces size p q r cut sized =
+    let before : IsPermutation (item_row item transfer path 0 ∷ a held_tree) (c held_tree) = subst (IsPermutation (item_row item transfer path 0 ∷ a held_tree)) (sym q.held) p.held in
+    record {
+      number = item;
+      pieces = pieces;
+      cut = cut;
+      joined = refl;
+      more = record {
+        kept = record {
+          format = r.kept.format ∙ q.kept.format ∙ p.kept.format;
+          transfers = r.kept.transfers ∙ q.kept.transfers ∙ p.kept.transfers;
+          tags = r.kept.tags ∙ q.kept.tags ∙ p.kept.tags;
+        };
+        fresh = p.fresh;
+        held = subst (λ n. IsPermutation (item_row item transfer path n ∷ a held_tree) (d held_tree)) (sized ∙ length_concat pieces) (r.held (a held_tree) transfer path 0 p.fresh before);
+        pieces = subst (λ rows. IsPermutation (piece_rows (in_pieces item path pieces) ++ without_rowids rows) (without_rowids (d piece_tree))) p.pieces
+            (subst (λ rows. IsPermutation (piece_rows (in_pieces item path pieces) ++ without_rowids (b piece_tree)) (without_rowids rows)) (sym r.pieces) q.pieces);
+      };
+    }
+
+pub content_then : (a b c d : State) (item transfer : ℤ) (path : List ℕ) (pieces : List (List ℕ)) (size : ℕ) → AreCut pieces → size ≡ length (concat pieces)
+    → (IsUnderWay a → IsUnderWay b × AddsItem a.now.trees b.now.trees item transfer path 0) → (IsUnderWay b → IsUnderWay c × AddsPieces b.now.trees c.now.trees (in_pieces item [] pieces))
+    → (IsUnderWay c → IsUnderWay d × SetsSize c.now.trees d.now.trees item size) → IsUnderWay a → IsUnderWay d × HasContentMore a.now.trees d.now.trees transfer path (concat pieces)
+content_then a b c d item transfer path pieces size cut sized first second third way =
+    let p = first way in
+    let q = second p.0 in
+    let r = third q.0 in
+    (r.0, content_more a.now.trees b.now.trees c.now.trees d.now.trees item transfer path pieces size p.1 q.1 r.1 cut sized)

@@ -1,0 +1,64 @@
+-- A payload file is put in one transaction.
+use Rattle.std.proofs.Common.{◌≡◌, ◌≤◌, true, false, ℕ, ℤ, List, IsTrue, length, refl, subst, sym, arith}
+use Rattle.bag_ledger.specs.Keeping.{Awaits}
+use Rattle.bag_ledger.specs.Ledgers.{Ledger, with_item}
+use Rattle.bag_ledger.proofs.SoundLemmas.{sound_put}
+use Rattle.bag_rules.specs.Wants.{IsWanted}
+use Rattle.bag_rules.specs.declared.limits.TheConstants.{LARGEST_ITEM}
+use Rattle.bag_rules.specs.declared.want.Want.{Want}
+use Rattle.sqlite.specs.Effect.{Database}
+use Rattle.sqlite.specs.Held.{Held, state}
+use Rattle.sqlite.specs.State.{HasCleanDisk, KeepsCommit, State, Survives}
+use Rattle.sqlite.specs.Store.{Ghosts}
+use Rattle.sqlite.specs.Tree.{Trees}
+use Rattle.sqlite.proofs.Callers.{survives_begin}
+use Rattle.sqlite.proofs.StateLemmas.{survives_then}
+use Rattle.bag_sqlite.specs.Contents.{HasContentMore, in_pieces}
+use Rattle.bag_sqlite.specs.Databases.{AreTablesOf}
+use Rattle.bag_sqlite.specs.Making.{IsLeft}
+use Rattle.bag_sqlite.specs.Putting.{IsUnderWay}
+use Rattle.bag_sqlite.specs.Reading.{HasTransferRow}
+use Rattle.bag_sqlite.specs.SqlKeepers.{HoldsLedger}
+use Rattle.bag_sqlite.proofs.CommitLemmas.{Prepares}
+use Rattle.bag_sqlite.proofs.HoldingLemmas.{held_tables}
+use Rattle.bag_sqlite.proofs.MakingLemmas.{kept_since}
+use Rattle.bag_sqlite.proofs.ReadingLemmas.{same_shown, still_holds}
+use Rattle.bag_sqlite.proofs.SqlLemmas.{kept_then}
+
+more_held : (old new : Trees) (ledger : Ledger) (name content : List ℕ) (want : Want) (number : ℤ) → AreTablesOf old ledger → HasTransferRow old name number → Awaits name want ledger
+    → HasContentMore old new number want.path.now content → AreTablesOf new (with_item ledger name want.path.now content)
+more_held old new ledger name content want number tables named awaits it =
+    subst (λ octets. AreTablesOf new (with_item ledger name want.path.now octets)) it.joined
+    (held_tables old new ledger name number (in_pieces it.number want.path.now it.pieces) tables named it.more it.cut awaits.not_held)
+
+-- the number of the transfer was asked for, and then the transaction began
+module _ {S : Type 0} (g : Ghosts S) (old asked : Held S) (mid : State) (name : List ℕ) (want : Want) (number : ℤ) (content : List ℕ) where
+  abbrev begun : State
+  begun = state g (record asked { in_transaction = true })
+
+  abbrev pub puts_it : Ledger → Ledger
+  puts_it ledger = with_item ledger name want.path.now content
+
+  pub prepares_put : (state g old).in_transaction ≡ false → (HasCleanDisk (state g asked) → IsLeft (state g old) (state g asked)) → Survives (state g old) (state g asked) (λ _. ⊥)
+      → (HasCleanDisk (state g asked) → (ledger : Ledger) → HoldsLedger (state g old) ledger → HasTransferRow (state g old).now.trees name number) → length content ≤ LARGEST_ITEM → IsWanted want content
+      → (HasCleanDisk mid → IsUnderWay begun → IsUnderWay mid × HasContentMore begun.now.trees mid.now.trees number want.path.now content) → (HasCleanDisk mid → IsTrue begun.in_transaction → IsTrue begun.is_open)
+      → (HasCleanDisk mid → KeepsCommit begun mid) → Survives begun mid (λ _. ⊥) → Prepares g (Awaits name want) puts_it old mid
+  prepares_put idle left stays named within wanted written opened kept survives =
+      let on = survives_begin g asked mid _ survives in
+      let early = λ (clean : HasCleanDisk mid). let it : HasCleanDisk (state g asked) = omega (arith, clean, on.clean) in it in
+      record {
+        kept = λ clean.
+            let was = left (early clean) in
+            kept_then (state g old) (state g asked) mid (record { was_open = was.was_open; committed = was.committed }) (kept_since g asked mid (kept clean));
+        survives = survives_then (state g old) (state g asked) mid _ _ _ (λ _ db none. none) (λ _ db none. none) stays on;
+        sound = λ ledger sound awaits. sound_put ledger name content want sound awaits within wanted;
+        tables = λ clean ledger holds awaits.
+            let was = left (early clean) in
+            let is_open = opened clean refl in
+            let still = still_holds (state g old) (state g asked) ledger (early clean) was idle stays holds in
+            let shows = still.shows is_open in
+            let same = same_shown (state g old) (state g asked) was idle is_open (holds.shows (was.was_open is_open)).committed in
+            let row = subst (λ (d : Database). HasTransferRow d.trees name number) (sym same) (named (early clean) ledger holds) in
+            let it = written clean (record { mode = refl; schema_is = shows.schema_is }) in
+            (it.0, more_held begun.now.trees mid.now.trees ledger name content want number shows.tables row awaits it.1);
+      }

@@ -1,0 +1,54 @@
+use Rattle.std.proofs.Common.{FitsSigned, rules, ◌≡◌, inr, subst, w64}
+use Rattle.std.proofs.lemmas.Int.{to_z-of_z}
+use Rattle.std.proofs.lemmas.Result.{err_from_is_err_and}
+use Rattle.bag_ledger.specs.Keeping.{Awaits}
+use Rattle.sqlite.specs.Held.{Held, state}
+use Rattle.bag_sqlite.proofs.CommitLemmas.{LeavesLedger, WritesLedger, committed, failed}
+use Rattle.bag_sqlite.proofs.StoringLemmas.{prepares_put, puts_it}
+use Rattle.bag_sqlite.proofs.putting.put_content.Goals as goal
+
+pub returns-in_err-commit-clause-put : goal.returns-in_err-commit-clause-put
+returns-in_err-commit-clause-put g c =
+    let p = err_from_is_err_and c.from_residual-in_err-commit.result c.from_residual-in_err-commit.ensures.1 in
+    let old = c.args.connection.now in
+    let asked = c.transfer_number.new.connection in
+    let mid = state g.S.Store c.put_item.new.tx.conn.now in
+    let end = c.commit.new.self.0 in
+    let name = c.args.name.now in
+    let want = c.args.want.now in
+    let transfer = c.in-Some.transfer in
+    let fits : FitsSigned w64 transfer = search rules in
+    let same : end ≡ c.connection-2-1.given.0 = search rules in
+    let it = c.in_ok-put_item.ensures.put in
+    let begun = c.transaction-transaction.ensures.begun in
+    let change = puts_it g.S.Store old asked mid name want transfer it.0 in
+    let steps = prepares_put g.S.Store old asked mid name want transfer it.0 c.requires.idle c.in_ok-transfer.ensures.left c.transfer_number.ensures.survives
+    (λ clean ledger holds. rw c.in-Some.is at (c.in_ok-transfer.ensures.number clean ledger holds)) it.1.0.within it.1.1
+    (rw (begun, to_z-of_z w64 transfer fits) at it.2) (rw begun at c.in_ok-put_item.ensures.opened)
+    (rw begun at c.put_item.ensures.kept) (rw begun at c.put_item.ensures.survives) in
+    let leaves = failed g.S.Store (Awaits name want) change old c.requires.idle end mid steps c.commit.ensures.survives c.in_err-commit.field-0.0 c.in_err-commit.ensures.err in
+    rw (p.1, p.2) (λ told. (
+      (it.0, it.1.0.gave, it.1.0.within),
+      inr (it.0, record { keep = tt; is_given = it.1; leaves = subst (λ (h : Held _). LeavesLedger g.S.Store (Awaits name want) change old c.requires.idle h) same leaves }),
+    ))
+
+pub returns-clause-put : goal.returns-clause-put
+returns-clause-put g c =
+    let old = c.args.connection.now in
+    let asked = c.transfer_number.new.connection in
+    let mid = state g.S.Store c.put_item.new.tx.conn.now in
+    let end = c.commit.new.self.0 in
+    let name = c.args.name.now in
+    let want = c.args.want.now in
+    let transfer = c.in-Some.transfer in
+    let fits : FitsSigned w64 transfer = search rules in
+    let same : end ≡ c.connection-2-1.given.0 = search rules in
+    let it = c.in_ok-put_item.ensures.put in
+    let begun = c.transaction-transaction.ensures.begun in
+    let change = puts_it g.S.Store old asked mid name want transfer it.0 in
+    let steps = prepares_put g.S.Store old asked mid name want transfer it.0 c.requires.idle c.in_ok-transfer.ensures.left c.transfer_number.ensures.survives
+    (λ clean ledger holds. rw c.in-Some.is at (c.in_ok-transfer.ensures.number clean ledger holds)) it.1.0.within it.1.1
+    (rw (begun, to_z-of_z w64 transfer fits) at it.2) (rw begun at c.in_ok-put_item.ensures.opened)
+    (rw begun at c.put_item.ensures.kept) (rw begun at c.put_item.ensures.survives) in
+    let writes = committed g.S.Store (Awaits name want) change old c.requires.idle end mid steps c.commit.ensures.survives (λ clean. (c.in_ok-commit.ensures.ok clean).1) (g.met.S.Store.settled end.store) in
+    λ told. (it.0, record { is_given = it.1; writes = subst (λ (h : Held _). WritesLedger g.S.Store (Awaits name want) change old c.requires.idle h) same writes })

@@ -1,0 +1,52 @@
+use Rattle.std.proofs.Common.{FitsSigned, rules, w64, arith}
+use Rattle.std.specs.List.{concat}
+use Rattle.std.proofs.lemmas.Int.{to_z-of_z}
+use Rattle.std.proofs.lemmas.Result.{err_from_is_err_and}
+use Rattle.sqlite.specs.Held.{state}
+use Rattle.sqlite.specs.State.{HasCleanDisk}
+use Rattle.bag_ledger.proofs.TestingLemmas.{read_tested}
+use Rattle.bag_sqlite.proofs.PuttingLemmas.{content_then, uses_told}
+use Rattle.bag_sqlite.proofs.putting.put_item.Goals as goal
+
+pub returns-in_err-test-clause-put : goal.returns-in_err-test-clause-put
+returns-in_err-test-clause-put g c =
+    let p = err_from_is_err_and c.from_residual-in_err-test.result c.from_residual-in_err-test.ensures.1 in
+    let it = c.in_ok-size.ensures.read in
+    rw (p.1, p.2) (λ told. read_tested c.args.want.now _ _ (concat it.0) c.in_err-test.field-0.0 it.1.gave (c.in_err-test.ensures.octets (concat it.0) it.1.sums))
+
+pub returns-in_err-test-clause-uses : goal.returns-in_err-test-clause-uses
+returns-in_err-test-clause-uses g c =
+    let p = err_from_is_err_and c.from_residual-in_err-test.result c.from_residual-in_err-test.ensures.1 in
+    let was = c.in_ok-size.was in
+    uses_told c.put_pieces.ensures.uses (λ e. cc (e, p.1, p.2)) (λ e. cc (e, was))
+
+pub returns-in_err-set_size-clause-uses : goal.returns-in_err-set_size-clause-uses
+returns-in_err-set_size-clause-uses g c =
+    let p = err_from_is_err_and c.from_residual-in_err-set_size.result c.from_residual-in_err-set_size.ensures.1 in
+    let was = c.in_ok-size.was in
+    uses_told c.put_pieces.ensures.uses (λ e. cc (e, p.1, p.2)) (λ e. cc (e, was))
+
+pub returns-clause-put : goal.returns-clause-put
+returns-clause-put g c =
+    let first = state g.S.Store c.args.tx.now.conn.now in
+    let second = state g.S.Store c.insert_item.new.tx.conn.now in
+    let third = state g.S.Store c.put_pieces.new.tx.conn.now in
+    let last = state g.S.Store c.set_size.new.tx.conn.now in
+    let it = c.in_ok-size.ensures.read in
+    let item = c.in_ok-item.item in
+    let fits : FitsSigned w64 item = search rules in
+    let same = to_z-of_z w64 item fits in (
+      concat it.0,
+      (it.1.gave, c.in_ok-test.ensures.octets (concat it.0) it.1.sums),
+      λ clean.
+          let late : HasCleanDisk third = omega (arith, clean, c.set_size.ensures.survives.clean) in
+          let early : HasCleanDisk second = omega (arith, late, c.put_pieces.ensures.survives.clean) in
+          content_then first second third last item c.args.transfer c.args.want.now.path.now it.0 c.in_ok-size.size it.1.cut it.1.sums.length_is
+          (rw (to_z-of_z w64 c.args.transfer c.ranges.transfer, c.as_str.ensures.text, c.path.ensures) at (c.in_ok-item.ensures.added early)) (rw same at (it.2 late))
+          (rw same at (c.in_ok-set_size.ensures.set clean)),
+    )
+
+pub returns-clause-uses : goal.returns-clause-uses
+returns-clause-uses g c =
+    let was = c.in_ok-size.was in
+    uses_told c.put_pieces.ensures.uses (λ e. cc e) (λ e. cc (e, was))

@@ -1,0 +1,29 @@
+use Rattle.std.proofs.Common.{◌≡◌, ◌+◌, ◌-◌, ℕ, List, [], length}
+use Rattle.bag_digest.specs.Device.{UsesSource}
+use Rattle.bag_digest.specs.declared.reading.TheConstants.{PIECE}
+use Rattle.bag_rules.specs.declared.limits.TheConstants.{LARGEST_ITEM}
+use Rattle.sqlite.specs.Held.{state}
+use Rattle.sqlite.specs.State.{HasCleanDisk, KeepsCommit, Survives}
+use Rattle.bag_sqlite.specs.Contents.{in_pieces}
+use Rattle.bag_sqlite.specs.Putting.{AddsPieces, IsUnderWay}
+use Rattle.bag_sqlite.proofs.PuttingLemmas.{HasReadOn}
+use Rattle.bag_sqlite.proofs.putting.put_pieces.Given as goal
+
+-- the pieces so far are written
+abbrev pub invariant-pieces : goal.invariant-pieces
+invariant-pieces g l =
+    let source = g.R.Source in
+    let old = state g.S.Store l.fn.tx.conn.now in
+    let now = state g.S.Store l.tx.conn.now in
+    record {
+      reference : l.tx.conn.ghost_name ≡ l.fn.tx.conn.ghost_name;
+      survives : Survives old now (λ _. ⊥);
+      kept : HasCleanDisk now → KeepsCommit old now;
+      used : UsesSource source.failures source.ready source.keeps l.fn.reader l.reader ⊥;
+      room : length l.buffer ≡ PIECE;
+      read : (pieces : List (List ℕ)) × HasReadOn (source.remaining l.fn.reader) (source.remaining l.reader) l.want l.multi l.total pieces
+          × (HasCleanDisk now → IsUnderWay old → IsUnderWay now × AddsPieces old.now.trees now.now.trees (in_pieces l.item [] pieces));
+    }
+
+abbrev pub decreases-pieces : goal.decreases-pieces
+decreases-pieces g l = LARGEST_ITEM + 1 - l.total

@@ -1,0 +1,46 @@
+-- What a transaction did that puts a payload file.
+use Rattle.std.specs.Prelude.{◌≡◌, ℕ, ℤ, List, Option, Ok, Err, Result}
+use Rattle.std.specs.List.{concat}
+use Rattle.bag_digest.specs.Reading.{GaveAll, read_fault}
+use Rattle.bag_digest.specs.declared.multi.Digests.{Digests}
+use Rattle.bag_ledger.specs.PutFaults.{misfit_fault, put_fault}
+use Rattle.bag_ledger.specs.declared.fault.KeepFault.{KeepFault}
+use Rattle.bag_ledger.specs.declared.fault.PutFault.{PutFault}
+use Rattle.bag_ledger.specs.declared.fault.PutFault.TheVariants.{Keep}
+use Rattle.bag_rules.specs.Wants.{AreSumsFor}
+use Rattle.bag_rules.specs.declared.limits.TheConstants.{LARGEST_ITEM}
+use Rattle.bag_rules.specs.declared.want.Want.{Want}
+use Rattle.sqlite.specs.Tree.{Trees}
+use Rattle.bag_sqlite.specs.Databases.{AreCut, NumberedItem}
+use Rattle.bag_sqlite.specs.Putting.{HasOneItemMore}
+use Rattle.bag_sqlite.specs.declared.putting.NotPut.{NotPut}
+use Rattle.bag_sqlite.specs.declared.putting.NotPut.TheVariants.{Source, Misfit, Store}
+
+-- a source was read to its end: the pieces that it gave, their length and their digests
+pub record HasRead (old new : Option (List ℕ)) (want : Want) (found : ℕ × Digests)
+    (pieces : List (List ℕ)) : Type 0 where
+  pub gave : GaveAll old new LARGEST_ITEM (concat pieces)
+  pub cut : AreCut pieces
+  pub sums : AreSumsFor want (concat pieces) found.0 found.1
+
+-- a payload file by its parts
+abbrev pub in_pieces : ℤ → List ℕ → List (List ℕ) → NumberedItem
+in_pieces number path pieces = record { number = number; path = path; pieces = pieces }
+
+-- one payload file more, with this path and this content
+pub record HasContentMore (old new : Trees) (transfer : ℤ) (path content : List ℕ) : Type 0 where
+  pub number : ℤ
+  pub pieces : List (List ℕ)
+  pub cut : AreCut pieces
+  pub joined : concat pieces ≡ content
+  pub more : HasOneItemMore old new transfer (in_pieces number path pieces)
+
+-- what a keeper answers that tells a fault of its store as this
+abbrev pub put_fault_of : KeepFault → NotPut → PutFault
+put_fault_of told (Source fault) = put_fault (read_fault fault)
+put_fault_of told (Misfit fault) = misfit_fault fault
+put_fault_of told (Store error) = Keep told
+
+abbrev pub answer_of : KeepFault → Result Unit NotPut → Result Unit PutFault
+answer_of told (Ok done) = Ok done
+answer_of told (Err refusal) = Err (put_fault_of told refusal)
