@@ -29,6 +29,16 @@ build_first() {
     [ "$status" -eq 64 ] || { echo "FAILED: ./bag without words: status $status, and 64 is wanted" && exit 1; }
 }
 
+# build_driver: builds the driver where it has to be, and names it. With no words it ends with status 64.
+build_driver() {
+    driver=crates/bag_bench/out/bag_bench
+    if [ ! -x "$driver" ] || [ -n "$(find crates.txt crates/*/{src,specs,proofs} -newer "$driver" -print -quit)" ]; then
+        local status=0
+        (cd crates/bag_bench && rt run </dev/null >"$work/printed" 2>&1) || status=$?
+        [ "$status" -eq 64 ] || { cat "$work/printed" && echo "FAILED: the driver was not built" && exit 1; }
+    fi
+}
+
 # lacking TEXT..: cases are left out, for want of what the text names. Where CI is set to true, that is a failure.
 lacking() {
     if [ "${CI-}" = true ]; then

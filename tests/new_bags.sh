@@ -6,13 +6,7 @@ cd "$(dirname -- "$0")/.." || exit 1
 . tests/common.bash
 
 build_first
-
-# The gate leaves the driver. Where a source is newer, it is built anew; with no words it ends with status 64.
-driver=crates/bag_bench/out/bag_bench
-if [ ! -x "$driver" ] || [ -n "$(find crates.txt crates/*/{src,specs,proofs} -newer "$driver" -print -quit)" ]; then
-    (cd crates/bag_bench && rt run </dev/null >"$work/printed" 2>&1)
-    [ $? -eq 64 ] || { cat "$work/printed" && echo "FAILED: the driver was not built" && exit 1; }
-fi
+build_driver
 
 if [ "$(command -v md5sum sha1sum sha256sum sha512sum | wc -l)" -eq 4 ]; then
     # It prints what it tried, or the first bag that is written or judged otherwise.

@@ -1,29 +1,31 @@
 //! Answers lists of deliveries, for `tests/deliveries.py`, which tells what is read and what is printed.
 use crate::event::{Event, bad_line};
+use crate::keepers::Anew;
 use crate::text::{AnswerText, FaultText, RefusalText, end_text, verdict_text};
-use bag_ledger::MapKeeper;
+use bag_ledger::Keeper;
 use bag_receiver::{Begun, Receiver};
 use std::alloc::Global;
 use std::io::{self, BufRead, BufReader, BufWriter, Write};
 
-type MapReceiver = Receiver<MapKeeper>;
-
-/// Answers each line of standard input by a line.
+/// Answers each line of standard input by a line, by a receiver over keepers of this kind.
 ///
 /// # Errors
 ///
 /// A line is no event; or memory ran out, or a read or a write failed.
-pub fn answer_all<R: Input + Print + AllocGlobal>(rt: &R) -> io::Result<()> {
+pub fn answer_all<K: Anew, R: Input + Print + AllocGlobal>(rt: &R) -> io::Result<()> {
     let mut out = BufWriter::new(rt.alloc(), io::writer(rt))?;
-    let answered = answer_lines(rt, &mut out);
+    let answered = answer_lines::<K, _, _>(rt, &mut out);
     // The answers before a line that is no event are printed.
     out.flush()?;
     answered
 }
 
-fn answer_lines<R: Input + AllocGlobal, W: Write + Drop>(rt: &R, out: &mut W) -> io::Result<()> {
+fn answer_lines<K: Anew, R: Input + AllocGlobal, W: Write + Drop>(
+    rt: &R,
+    out: &mut W,
+) -> io::Result<()> {
     let alloc = rt.alloc();
-    let mut receiver = empty(alloc);
+    let mut receiver = empty::<K>(alloc)?;
     for line in BufReader::new(alloc, rt.reader())?.lines(alloc) {
         let line = line?;
         answer(alloc, &mut receiver, &Event::parse(alloc, &line)?, out)?;
@@ -33,20 +35,20 @@ fn answer_lines<R: Input + AllocGlobal, W: Write + Drop>(rt: &R, out: &mut W) ->
 }
 
 /// A receiver with no transfer.
-fn empty(alloc: Global) -> MapReceiver {
-    Receiver::new(alloc, MapKeeper::new(alloc))
+fn empty<K: Anew>(alloc: Global) -> io::Result<Receiver<K>> {
+    Ok(Receiver::new(alloc, K::anew(alloc)?))
 }
 
 /// Writes what the event is answered.
-fn answer<W: Write + Drop>(
+fn answer<K: Anew, W: Write + Drop>(
     alloc: Global,
-    receiver: &mut MapReceiver,
+    receiver: &mut Receiver<K>,
     event: &Event<'_>,
     out: &mut W,
 ) -> io::Result<()> {
     match event.word {
         "start" => {
-            *receiver = empty(alloc);
+            *receiver = empty(alloc)?;
             write!(out, "started")
         }
         "begin" => begin(alloc, receiver, event, out),
@@ -58,9 +60,9 @@ fn answer<W: Write + Drop>(
     }
 }
 
-fn begin<W: Write + Drop>(
+fn begin<K: Keeper + Drop, W: Write + Drop>(
     alloc: Global,
-    receiver: &mut MapReceiver,
+    receiver: &mut Receiver<K>,
     event: &Event<'_>,
     out: &mut W,
 ) -> io::Result<()> {
@@ -71,9 +73,9 @@ fn begin<W: Write + Drop>(
     }
 }
 
-fn deliver<W: Write + Drop>(
+fn deliver<K: Keeper + Drop, W: Write + Drop>(
     alloc: Global,
-    receiver: &mut MapReceiver,
+    receiver: &mut Receiver<K>,
     event: &Event<'_>,
     out: &mut W,
 ) -> io::Result<()> {
@@ -90,9 +92,9 @@ fn deliver<W: Write + Drop>(
     write!(out, "{}", AnswerText(given))
 }
 
-fn run<W: Write + Drop>(
+fn run<K: Keeper + Drop, W: Write + Drop>(
     alloc: Global,
-    receiver: &mut MapReceiver,
+    receiver: &mut Receiver<K>,
     event: &Event<'_>,
     out: &mut W,
 ) -> io::Result<()> {
@@ -103,9 +105,9 @@ fn run<W: Write + Drop>(
     write!(out, "{}", end_text(run.ended))
 }
 
-fn report<W: Write + Drop>(
+fn report<K: Keeper + Drop, W: Write + Drop>(
     alloc: Global,
-    receiver: &mut MapReceiver,
+    receiver: &mut Receiver<K>,
     name: &str,
     out: &mut W,
 ) -> io::Result<()> {
@@ -120,9 +122,9 @@ fn report<W: Write + Drop>(
     }
 }
 
-fn names<W: Write + Drop>(
+fn names<K: Keeper + Drop, W: Write + Drop>(
     alloc: Global,
-    receiver: &mut MapReceiver,
+    receiver: &mut Receiver<K>,
     out: &mut W,
 ) -> io::Result<()> {
     let Ok(names) = receiver.names(alloc) else {

@@ -10,28 +10,39 @@
 //! FILES` in one run; `bag_bench copies FILES` takes their digests and copies them into a map; `bag_bench items FILES` makes them alone. The
 //! status is 0 where each was taken.
 //!
+//! `bag_bench put FILES DATABASE` makes so many payload files of 2,048 octets and takes them in, in one run, into a ledger in a database
+//! that is made; `bag_bench put-file FILE DIGEST DATABASE` takes in one file, which is listed by this SHA-256. The status is 0 where each
+//! was taken.
+//!
 //! `bag_bench ALG PIECES` takes the digest of so many pieces of 65,536 octets.
 //!
-//! `bag_bench deliveries` answers the lists of deliveries on standard input, as `tests/deliveries.py` tells. The status
-//! is 0 where each line was answered.
+//! `bag_bench deliveries KEEPER` answers the lists of deliveries on standard input, as `tests/deliveries.py` tells, over the keeper
+//! `map` or `sqlite`, both in memory. The status is 0 where each line was answered.
 //!
 //! `bag_bench write` writes in memory the bags that standard input asks for, as `tests/new_bags.py` tells. The status is 0 where each
 //! line was read.
 #![tactic(auto)]
 
 use bag_digest::{Alg, AlgSet, Multi, piece_buffer};
+use bag_ledger::MapKeeper;
 use bag_path::Version;
 use bag_rules::{Plan, TagSet};
+use bag_sqlite::SqlKeeper;
 use bag_tags::{Kind, read_fetch, read_info, read_manifest, write_declaration};
+use database::{put, put_file};
 use deliveries::answer_all;
 use receiving::receive;
+use sqlite::MemStore;
 use std::alloc::{AllocError, Global};
 use std::env::{self, Env};
+use std::io;
 use std::process::ExitCode;
 use writing::write_all;
 
+mod database;
 mod deliveries;
 mod event;
+mod keepers;
 mod receiving;
 mod text;
 mod writing;
@@ -57,33 +68,50 @@ fn main(rt: HostRuntime) -> ExitCode {
     ExitCode::from(run(&rt))
 }
 
-fn run<R: Env + Input + Print + AllocGlobal>(rt: &R) -> u8 {
-    let alloc = rt.alloc();
-    let Ok(words) = words(rt, alloc) else {
+fn run(rt: &HostRuntime) -> u8 {
+    let Ok(words) = words(rt, rt.alloc()) else {
         return 64;
     };
-    if words.len() == 1 && words[0].as_str() == "deliveries" {
-        return if answer_all(rt).is_ok() { 0 } else { 3 };
-    }
-    if words.len() == 1 && words[0].as_str() == "write" {
-        return if write_all(rt).is_ok() { 0 } else { 3 };
-    }
-    if words.len() != 2 {
-        return 64;
-    }
-    let Ok(number) = words[1].parse::<u32>() else {
-        return 64;
+    let done = match words.len() {
+        1 if words[0].as_str() == "write" => write_all(rt).map(|_| 0),
+        2 if words[0].as_str() == "deliveries" => answer_over(rt, words[1].as_str()),
+        2 => work(rt.alloc(), words[0].as_str(), words[1].as_str()),
+        3 if words[0].as_str() == "put" => put(rt, words[1].as_str(), words[2].as_str()),
+        4 if words[0].as_str() == "put-file" => put_file(
+            rt,
+            words[1].as_str(),
+            words[2].as_str(),
+            words[3].as_str(),
+        ),
+        _ => Ok(64),
     };
-    let work = words[0].as_str();
+    done.unwrap_or(3)
+}
+
+/// Answers the lists of deliveries over the keeper with this name.
+fn answer_over(rt: &HostRuntime, keeper: &str) -> io::Result<u8> {
+    match keeper {
+        "map" => answer_all::<MapKeeper, _>(rt)?,
+        "sqlite" => answer_all::<SqlKeeper<MemStore>, _>(rt)?,
+        _ => return Ok(64),
+    }
+    Ok(0)
+}
+
+/// Does work that takes a number.
+fn work(alloc: Global, work: &str, number: &str) -> io::Result<u8> {
+    let Ok(number) = number.parse::<u32>() else {
+        return Ok(64);
+    };
     let status = match Alg::from_name(work) {
-        Some(alg) => hash(alloc, alg, number),
-        None if work == "tags" || work == "plan" || work == "wants" => plan(alloc, work, number),
+        Some(alg) => hash(alloc, alg, number)?,
+        None if work == "tags" || work == "plan" || work == "wants" => plan(alloc, work, number)?,
         None if ["items", "copies", "deliver", "run"].contains(&work) => receive(
             alloc, work, number,
-        ),
-        None => read(alloc, work, number),
+        )?,
+        None => read(alloc, work, number)?,
     };
-    status.unwrap_or(3)
+    Ok(status)
 }
 
 fn words<R: Env + AllocGlobal>(rt: &R, alloc: Global) -> Result<Vec<String>, AllocError> {

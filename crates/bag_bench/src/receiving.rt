@@ -1,13 +1,14 @@
 //! Deliveries to one transfer, whose time is taken.
 
 use bag_digest::{Alg, AlgSet, Digest, Multi};
-use bag_ledger::MapKeeper;
+use bag_ledger::{Keeper, MapKeeper};
 use bag_receiver::{Answer, Receiver};
 use bag_tags::write_declaration;
 use std::alloc::{AllocError, Global};
 use std::collections::BTreeMap;
 
-type Items = Vec<(String, Vec<u8>)>;
+/// Files by their paths.
+pub(crate) type Items = Vec<(String, Vec<u8>)>;
 
 /// How many octets each payload file has.
 const OCTETS: usize = 2_048;
@@ -20,33 +21,42 @@ pub(crate) fn receive(alloc: Global, work: &str, number: u32) -> Result<u8, Allo
     match work {
         "items" => Ok(0),
         "copies" => copy(alloc, &items),
-        _ => take_in(alloc, work, &tags, &items),
+        _ => {
+            let mut receiver = Receiver::new(alloc, MapKeeper::new(alloc));
+            Ok(take_in(alloc, &mut receiver, work, &tags, &items))
+        }
     }
 }
 
-fn take_in(alloc: Global, work: &str, tags: &Items, items: &Items) -> Result<u8, AllocError> {
-    let mut receiver = Receiver::new(alloc, MapKeeper::new(alloc));
+/// Opens a transfer with these tag files and takes the payload files in, in a run or one by one. The status is 0 where each was taken.
+pub(crate) fn take_in<K: Keeper + Drop>(
+    alloc: Global,
+    receiver: &mut Receiver<K>,
+    work: &str,
+    tags: &Items,
+    items: &Items,
+) -> u8 {
     if receiver.begin(alloc, "bench", tags.as_slice()).is_err() {
-        return Ok(1);
+        return 1;
     }
     if work == "run" {
         let run = receiver.run(alloc, "bench", items.as_slice());
-        return Ok(if run.answers.iter().all(is_taken) {
+        return if run.answers.iter().all(is_taken) {
             0
         } else {
             1
-        });
+        };
     }
     for (path, content) in items {
         let answer = receiver.deliver(alloc, "bench", path.as_str(), content.as_slice());
         if !is_taken(&answer) {
-            return Ok(1);
+            return 1;
         }
     }
-    Ok(0)
+    0
 }
 
-fn is_taken(answer: &Answer) -> bool {
+pub(crate) fn is_taken(answer: &Answer) -> bool {
     *answer == Answer::Taken
 }
 
@@ -72,7 +82,7 @@ fn sha256(octets: &[u8]) -> Option<Digest> {
 }
 
 /// Payload files of 2,048 octets, each with another number at its front.
-fn payload(alloc: Global, number: u32) -> Result<Items, AllocError> {
+pub(crate) fn payload(alloc: Global, number: u32) -> Result<Items, AllocError> {
     let mut items = Vec::new(alloc);
     for place in 0..number {
         let path = format!(in alloc; "data/folder/{place}.txt")?;
@@ -87,7 +97,7 @@ fn payload(alloc: Global, number: u32) -> Result<Items, AllocError> {
 }
 
 /// The tag files of a transfer of these payload files.
-fn tag_files(alloc: Global, items: &Items) -> Result<Items, AllocError> {
+pub(crate) fn tag_files(alloc: Global, items: &Items) -> Result<Items, AllocError> {
     let mut manifest = Vec::new(alloc);
     for (path, content) in items {
         if let Some(digest) = sha256(content.as_slice()) {
@@ -96,6 +106,11 @@ fn tag_files(alloc: Global, items: &Items) -> Result<Items, AllocError> {
             manifest.extend_from_slice(line.as_bytes())?;
         }
     }
+    listing(alloc, manifest)
+}
+
+/// The tag files of a transfer with this text as its manifest by SHA-256.
+pub(crate) fn listing(alloc: Global, manifest: Vec<u8>) -> Result<Items, AllocError> {
     let mut tags = Vec::new(alloc);
     tags.push((
         String::from_str(alloc, "bagit.txt")?,

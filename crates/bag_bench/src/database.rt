@@ -1,0 +1,57 @@
+//! Payload files that are put into a ledger in a new database on the disk, whose time is taken.
+use crate::keepers::created;
+use crate::receiving::{Items, is_taken, listing, payload, tag_files, take_in};
+use bag_digest::Counted;
+use bag_receiver::Receiver;
+use bag_sqlite::SqlKeeper;
+use sqlite::{Connection, File, FileStore};
+use std::alloc::Global;
+use std::fs;
+use std::io::{self, ErrorKind};
+
+type DiskReceiver = Receiver<SqlKeeper<FileStore<File>>>;
+
+/// Makes so many payload files of 2,048 octets, and takes them in in one run. The status is 0 where each was taken.
+pub fn put(rt: &HostRuntime, files: &str, database: &str) -> io::Result<u8> {
+    let Ok(number) = files.parse::<u32>() else {
+        return Ok(64);
+    };
+    let alloc = rt.alloc();
+    let items = payload(alloc, number)?;
+    let tags = tag_files(alloc, &items)?;
+    let mut receiver = opened(rt, database)?;
+    let status = take_in(alloc, &mut receiver, "run", &tags, &items);
+    closed(receiver)?;
+    Ok(status)
+}
+
+/// Takes in the file as the one payload file of a transfer, which lists it by this SHA-256. The status is 0 where it was taken.
+pub fn put_file(rt: &HostRuntime, file: &str, digest: &str, database: &str) -> io::Result<u8> {
+    let alloc = rt.alloc();
+    let line = format!(in alloc; "{digest}  data/file\n")?;
+    let tags = listing(alloc, line.into_bytes())?;
+    let mut receiver = opened(rt, database)?;
+    if receiver.begin(alloc, "bench", tags.as_slice()).is_err() {
+        return Ok(1);
+    }
+    let mut reader = Counted::new(fs::File::open(rt, file)?);
+    let answer = receiver.deliver_from(alloc, "bench", "data/file", &mut reader);
+    closed(receiver)?;
+    Ok(if is_taken(&answer) { 0 } else { 1 })
+}
+
+/// A receiver over a ledger that is made in this database.
+fn opened(rt: &HostRuntime, database: &str) -> io::Result<DiskReceiver> {
+    match Connection::open(rt, database) {
+        Ok(connection) => Ok(Receiver::new(rt.alloc(), created(SqlKeeper::create(connection))?)),
+        Err(_) => Err(io::Error::from(ErrorKind::Other)),
+    }
+}
+
+/// Closes the database, which copies its log into it.
+fn closed(receiver: DiskReceiver) -> io::Result<()> {
+    match receiver.into_keeper().release().close() {
+        Ok(()) => Ok(()),
+        Err(_) => Err(io::Error::from(ErrorKind::Other)),
+    }
+}

@@ -1,0 +1,42 @@
+//! The keepers over which deliveries are answered.
+use bag_ledger::{KeepFault, Keeper, MapKeeper};
+use bag_sqlite::{NotCreated, SqlKeeper};
+use sqlite::{Alter, Connection, MemStore};
+use std::alloc::Global;
+use std::io::{self, ErrorKind};
+
+/// A keeper that can be made, without a transfer, from nothing.
+pub trait Anew: Keeper + Drop {
+    fn anew(alloc: Global) -> io::Result<Self>;
+}
+
+impl Anew for MapKeeper {
+    fn anew(alloc: Global) -> io::Result<MapKeeper> {
+        Ok(MapKeeper::new(alloc))
+    }
+}
+
+impl Anew for SqlKeeper<MemStore> {
+    fn anew(alloc: Global) -> io::Result<SqlKeeper<MemStore>> {
+        let connection = Connection::open_in_memory(alloc)?;
+        created(SqlKeeper::create(connection))
+    }
+}
+
+/// The keeper of a ledger that was made, with the fault of one that was not as an error.
+pub fn created<S: Alter + Drop>(
+    made: Result<SqlKeeper<S>, NotCreated<S>>,
+) -> io::Result<SqlKeeper<S>> {
+    match made {
+        Ok(keeper) => Ok(keeper),
+        Err(
+            NotCreated {
+                fault,
+                connection: _,
+            },
+        ) => Err(io::Error::from(match fault {
+            KeepFault::Memory => ErrorKind::OutOfMemory,
+            KeepFault::Store(_) => ErrorKind::Other,
+        })),
+    }
+}
