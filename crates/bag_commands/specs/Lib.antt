@@ -1,8 +1,12 @@
 pub mod CheckTexts
 pub mod Checking
 pub mod FaultTexts
+pub mod ListTexts
+pub mod Listing
 pub mod MakeTexts
 pub mod Making
 pub mod Printing
 pub mod StopTexts
 pub mod VerdictTexts
+pub mod ViewTexts
+pub mod Viewing

@@ -21,3 +21,9 @@ abbrev pub Printed : {W : Type 0} → (W → Option (List ℕ)) → Output W →
 Printed contents old new result lines status =
     (Rises old.failures new.failures × (result ≡ FAILED))
     ⊎ (WroteLines contents old new lines × (writer_buffer new.writer ≡ []) × (result ≡ status))
+
+-- an answer of this kind was printed, as its lines, with its status
+abbrev pub PrintedBy : {W A : Type 0} → (W → Option (List ℕ)) → (A → List (List ℕ)) → (A → ℕ)
+    → Output W → Output W → ℕ → (A → Type 0) → Type 0
+PrintedBy contents lines status old new result kind =
+    (answer : _) × kind answer × Printed contents old new result (lines answer) (status answer)

@@ -1,5 +1,7 @@
 -- Why a command ended before it had an answer, as it is printed.
 use Rattle.std.specs.Prelude.{ℕ, List, codes}
+use Rattle.bag_ledger.specs.declared.fault.KeepFault.{KeepFault}
+use Rattle.bag_ledger.specs.declared.fault.KeepFault.TheVariants as keep
 use Rattle.bag_rules.specs.declared.outcome.CheckFault.{CheckFault}
 use Rattle.bag_rules.specs.declared.outcome.CheckFault.TheVariants as check
 use Rattle.bag_commands.specs.declared.stop.Stop.{Stop}
@@ -11,6 +13,7 @@ stop_text stop.Memory = codes "bag: memory"
 stop_text stop.TagTooLarge = codes "bag: tag too large"
 stop_text stop.TooLarge = codes "bag: too large"
 stop_text stop.TooMany = codes "bag: too many"
+stop_text stop.Store = codes "bag: store"
 
 -- why a check didn't come to an end
 abbrev pub stop_of_check : CheckFault → Stop
@@ -19,3 +22,8 @@ stop_of_check check.Memory = stop.Memory
 stop_of_check (check.TagTooLarge path) = stop.TagTooLarge
 stop_of_check (check.TooLarge path) = stop.TooLarge
 stop_of_check check.TooMany = stop.TooMany
+
+-- why a keeper had no answer
+abbrev pub stop_of_keep : KeepFault → Stop
+stop_of_keep keep.Memory = stop.Memory
+stop_of_keep (keep.Store why) = stop.Store

@@ -2,13 +2,17 @@
 #![tactic(auto)]
 
 pub use check::{check_to, print_outcome};
+pub use list::list_to;
 pub use make::{make_to, print_making};
 pub use output::Output;
+pub use report::{print_view, report_to};
 pub use stop::{Stop, print_stop};
 
 mod check;
+mod list;
 mod make;
 mod output;
+mod report;
 pub mod status;
 mod stop;
 #[cfg(test)]

@@ -5,6 +5,7 @@ ghost use Rattle.bag_commands.specs.StopTexts.{stop_text};
 
 use crate::output::Output;
 use crate::status::FAILED;
+use bag_ledger::KeepFault;
 use bag_rules::CheckFault;
 use std::io::Write;
 
@@ -21,6 +22,8 @@ pub enum Stop {
     TooLarge,
     /// There are too many files, or too many lines in a tag file.
     TooMany,
+    /// What keeps the transfers failed.
+    Store,
 }
 
 impl Stop {
@@ -34,6 +37,7 @@ impl Stop {
             Stop::TagTooLarge => "bag: tag too large",
             Stop::TooLarge => "bag: too large",
             Stop::TooMany => "bag: too many",
+            Stop::Store => "bag: store",
         }
     }
 }
@@ -51,6 +55,20 @@ impl From<&CheckFault> for Stop {
             CheckFault::TagTooLarge(_) => Stop::TagTooLarge,
             CheckFault::TooLarge(_) => Stop::TooLarge,
             CheckFault::TooMany => Stop::TooMany,
+        }
+    }
+}
+
+impl From<KeepFault> for Stop {
+    ghost use Rattle.std.specs.Prelude.{◌≡◌};
+    ghost use Rattle.bag_commands.specs.StopTexts.{stop_of_keep};
+
+    ghost from_gives = { λ fault stop. stop ≡ stop_of_keep fault };
+
+    fn from(fault: KeepFault) -> Stop {
+        match fault {
+            KeepFault::Memory => Stop::Memory,
+            KeepFault::Store(_) => Stop::Store,
         }
     }
 }

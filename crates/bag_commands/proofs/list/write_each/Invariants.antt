@@ -1,0 +1,6 @@
+use Rattle.std.proofs.Common.{map, string_bytes, take}
+use Rattle.bag_commands.specs.Printing.{WroteLines}
+use Rattle.bag_commands.proofs.list.write_each.Given as goal
+
+abbrev pub invariant-loop-name : goal.invariant-loop-name
+invariant-loop-name g l = WroteLines g.W.Write.contents l.fn.out l.out (map string_bytes (take l.name-index l.names))

@@ -1,0 +1,17 @@
+-- The names of transfers as they are printed, and the status that goes with them.
+use Rattle.std.specs.Prelude.{ℕ, List, [], ◌∷◌, Result, Ok, Err, map, string_bytes}
+use Rattle.std.specs.declared.alloc.Global.{Global}
+use Rattle.std.specs.declared.string.String.{String}
+use Rattle.std.specs.declared.vec.Vec.{Vec}
+use Rattle.bag_ledger.specs.declared.fault.KeepFault.{KeepFault}
+use Rattle.bag_commands.specs.declared.status.TheConstants.{DONE, FAILED}
+use Rattle.bag_commands.specs.StopTexts.{stop_of_keep, stop_text}
+
+-- each on a line; or why they can't be told
+abbrev pub list_lines : Result (Vec (String Global) Global) KeepFault → List (List ℕ)
+list_lines (Ok names) = map string_bytes names.items
+list_lines (Err fault) = stop_text (stop_of_keep fault) ∷ []
+
+abbrev pub list_status : Result (Vec (String Global) Global) KeepFault → ℕ
+list_status (Ok names) = DONE
+list_status (Err fault) = FAILED

@@ -1,0 +1,69 @@
+//! `list`: the names of the transfers that are held.
+ghost use Rattle.std.specs.Prelude.{◌≡◌, [], OnErr, OnOk, map, string_bytes};
+ghost use Rattle.std.specs.Io.Buffered.{writer_buffer};
+ghost use Rattle.bag_digest.specs.Device.{Rises};
+ghost use Rattle.bag_commands.specs.ListTexts.{list_lines, list_status};
+ghost use Rattle.bag_commands.specs.Listing.{IsListing};
+ghost use Rattle.bag_commands.specs.Printing.{PrintedBy, WroteLines};
+
+use crate::output::Output;
+use crate::status::{DONE, FAILED};
+use crate::stop::Stop;
+use bag_digest::Failed;
+use bag_ledger::{KeepFault, Keeper};
+use bag_receiver::Receiver;
+use std::alloc::Global;
+use std::io::Write;
+
+/// Prints the name of each transfer on a line of its own, in order, or why they can't be told, and answers the status.
+pub fn list_to<K: Keeper, W: Write + Drop>(
+    alloc: Global,
+    receiver: &mut Receiver<K>,
+    out: &mut Output<W>,
+) -> u8
+    ensures { PrintedBy W.contents list_lines list_status out.old out.new result
+        (IsListing K.holds K.may_leave K.clean K.failures receiver.old receiver.new) }
+{
+    let names = receiver.names(alloc);
+    match write_names(&names, out) {
+        Ok(()) => list_status(&names),
+        Err(Failed) => FAILED,
+    }
+}
+
+/// Writes the lines, and hands them on.
+fn write_names<W: Write + Drop>(
+    names: &Result<Vec<String>, KeepFault>,
+    out: &mut Output<W>,
+) -> Result<(), Failed>
+    ensures ok { OnOk result (WroteLines W.contents out.old out.new (list_lines names.now)) }
+    ensures handed_on { OnOk result (writer_buffer out.new.writer ≡ []) }
+    ensures failed { OnErr result (Rises out.old.failures out.new.failures) }
+{
+    match names {
+        Ok(names) => write_each(names.as_slice(), out)?,
+        Err(fault) => out.line(Stop::from(*fault).text())?,
+    }
+    out.flush()
+}
+
+/// Writes each name on a line.
+fn write_each<W: Write + Drop>(names: &[String], out: &mut Output<W>) -> Result<(), Failed>
+    ensures ok { OnOk result (WroteLines W.contents out.old out.new (map string_bytes names.now)) }
+    ensures failed { OnErr result (Rises out.old.failures out.new.failures) }
+{
+    for name in names {
+        out.line(name.as_str())?;
+    }
+    Ok(())
+}
+
+/// The status that goes with the names.
+fn list_status(names: &Result<Vec<String>, KeepFault>) -> u8
+    ensures { result ≡ list_status names.now }
+{
+    match names {
+        Ok(_) => DONE,
+        Err(_) => FAILED,
+    }
+}

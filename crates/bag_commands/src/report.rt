@@ -1,0 +1,92 @@
+//! `report`: what is wrong with the bag of a transfer as it is held.
+ghost use Rattle.std.specs.Prelude.{◌≡◌, ◌∷◌, [], OnErr, OnOk, Some};
+ghost use Rattle.std.specs.Io.Buffered.{writer_buffer};
+ghost use Rattle.bag_digest.specs.Device.{Rises};
+ghost use Rattle.bag_ledger.specs.Ledgers.{Transfer};
+ghost use Rattle.bag_rules.specs.Transfers.{held_bag};
+ghost use Rattle.bag_rules.specs.Validity.{IsValid};
+ghost use Rattle.bag_receiver.specs.Names.{IsNamed};
+ghost use Rattle.bag_receiver.specs.Receivers.{IsInState};
+ghost use Rattle.bag_receiver.specs.Receiving.{LedgerState};
+ghost use Rattle.bag_commands.specs.Printing.{Printed, PrintedBy, WroteLines};
+ghost use Rattle.bag_commands.specs.Viewing.{IsReporting};
+ghost use Rattle.bag_commands.specs.ViewTexts.{view_fault_line, view_lines, view_status};
+
+use crate::output::Output;
+use crate::status::{FAILED, REFUSED, VALID};
+use crate::stop::Stop;
+use crate::verdict::{report_status, write_report};
+use bag_digest::Failed;
+use bag_ledger::Keeper;
+use bag_receiver::{Receiver, ViewFault};
+use bag_rules::Report;
+use std::alloc::Global;
+use std::io::Write;
+
+/// Prints the report on the bag of a transfer as it is held, and answers the status, as [`print_view`] does.
+pub fn report_to<K: Keeper, W: Write + Drop>(
+    alloc: Global,
+    receiver: &mut Receiver<K>,
+    name: &str,
+    out: &mut Output<W>,
+) -> u8
+    // Status 0 is for transfers alone that hold a valid bag.
+    ensures valid { result ≡ VALID → K.clean receiver.new.keeper → (now : LedgerState)
+        → IsInState K.holds K.may_leave receiver.old now
+        → (transfer : Transfer) × IsNamed now.held name.now (Some transfer)
+        × IsValid (held_bag transfer.tags transfer.items) }
+    ensures printed { PrintedBy W.contents view_lines view_status out.old out.new result
+        (IsReporting K.holds K.may_leave K.clean K.failures name.now receiver.old receiver.new) }
+{
+    let answer = receiver.report(alloc, name);
+    print_view(&answer, out)
+}
+
+/// Prints what is wrong with the bag of a transfer, and the verdict; or why that isn't known. Answers the status: 0 for a valid bag,
+/// 1 for one that is not and where there is no such transfer, 3 where the store or memory failed, or a write.
+pub fn print_view<W: Write + Drop>(answer: &Result<Report, ViewFault>, out: &mut Output<W>) -> u8
+    ensures { Printed W.contents out.old out.new result
+        (view_lines answer.now) (view_status answer.now) }
+{
+    match write_view(answer, out) {
+        Ok(()) => status_of(answer),
+        Err(Failed) => FAILED,
+    }
+}
+
+/// Writes the lines of an answer, and hands them on.
+fn write_view<W: Write + Drop>(
+    answer: &Result<Report, ViewFault>,
+    out: &mut Output<W>,
+) -> Result<(), Failed>
+    ensures ok { OnOk result (WroteLines W.contents out.old out.new (view_lines answer.now)) }
+    ensures handed_on { OnOk result (writer_buffer out.new.writer ≡ []) }
+    ensures failed { OnErr result (Rises out.old.failures out.new.failures) }
+{
+    match answer {
+        Ok(report) => write_report(report, out)?,
+        Err(fault) => out.line(fault_line(*fault))?,
+    }
+    out.flush()
+}
+
+/// Why nothing is known of the bag.
+fn fault_line(fault: ViewFault) -> &'static str
+    ensures { result.now ≡ view_fault_line fault }
+{
+    match fault {
+        ViewFault::NoTransfer => "bag: no transfer",
+        ViewFault::Keeper(why) => Stop::from(why).text(),
+    }
+}
+
+/// The status that goes with an answer.
+fn status_of(answer: &Result<Report, ViewFault>) -> u8
+    ensures { result ≡ view_status answer.now }
+{
+    match answer {
+        Ok(report) => report_status(report),
+        Err(ViewFault::NoTransfer) => REFUSED,
+        Err(ViewFault::Keeper(_)) => FAILED,
+    }
+}
