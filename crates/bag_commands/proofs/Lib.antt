@@ -1,2 +1,4 @@
 pub mod AlgNames
+pub mod IntakeLemmas
+pub mod RunsTaken
 pub mod VerdictLemmas

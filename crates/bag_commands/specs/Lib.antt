@@ -1,6 +1,10 @@
+pub mod AnswerTexts
 pub mod CheckTexts
 pub mod Checking
 pub mod FaultTexts
+pub mod IntakeTexts
+pub mod Intakes
+pub mod IntakesInside
 pub mod ListTexts
 pub mod Listing
 pub mod MakeTexts

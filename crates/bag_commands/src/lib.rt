@@ -2,17 +2,21 @@
 #![tactic(auto)]
 
 pub use check::{check_to, print_outcome};
+pub use intake::intake_to;
 pub use list::list_to;
 pub use make::{make_to, print_making};
 pub use output::Output;
 pub use report::{print_view, report_to};
 pub use stop::{Stop, print_stop};
 
+mod answer;
 mod check;
+mod intake;
 mod list;
 mod make;
 mod output;
 mod report;
+mod spelling;
 pub mod status;
 mod stop;
 #[cfg(test)]

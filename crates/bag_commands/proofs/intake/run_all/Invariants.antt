@@ -1,0 +1,14 @@
+use Rattle.std.proofs.Common.{◌≡◌, List, OnErr, OnOk, drop, take}
+use Rattle.bag_digest.specs.Device.{Rises}
+use Rattle.bag_commands.specs.Intakes.{IsRun}
+use Rattle.bag_commands.specs.IntakeTexts.{Told, intake_lines, intake_status}
+use Rattle.bag_commands.specs.Printing.{WroteLines}
+use Rattle.bag_commands.proofs.RunsTaken.{Ran}
+use Rattle.bag_commands.proofs.intake.run_all.Given as goal
+
+abbrev pub invariant-loop-courier : goal.invariant-loop-courier
+invariant-loop-courier g l = (told : List Told)
+    × Ran (IsRun g.K.Keeper.holds g.K.Keeper.may_leave g.K.Keeper.clean g.K.Keeper.failures g.C.Courier.coming g.C.Source.failures g.C.Courier.nexts g.C.Courier.steady l.name)
+    (take l.courier-index l.fn.couriers) (take l.courier-index l.couriers) told l.fn.receiver l.receiver
+    × (drop l.courier-index l.couriers ≡ drop l.courier-index l.fn.couriers) × (l.status ≡ intake_status told)
+    × OnOk l.written (WroteLines g.W.Write.contents l.fn.out l.out (intake_lines told)) × OnErr l.written (Rises l.fn.out.failures l.out.failures)

@@ -1,0 +1,56 @@
+-- What is printed of runs of deliveries, and the status that goes with it.
+use Rattle.std.specs.Prelude.{ℕ, List, [], ◌∷◌, ◌++◌, Option, Some, None, fold, map, max}
+use Rattle.std.specs.List.{flat_map, zip}
+use Rattle.bag_receiver.specs.declared.answer.Answer.{Answer}
+use Rattle.bag_receiver.specs.declared.run.End.{End}
+use Rattle.bag_receiver.specs.declared.run.End.TheVariants as end
+use Rattle.bag_commands.specs.declared.status.TheConstants.{DONE, FAILED}
+use Rattle.bag_commands.specs.declared.stop.Stop.{Stop}
+use Rattle.bag_commands.specs.declared.stop.Stop.TheVariants as stop
+use Rattle.bag_commands.specs.AnswerTexts.{answer_status, answer_text}
+use Rattle.bag_commands.specs.StopTexts.{stop_text}
+
+-- a run: the texts of the paths that something was delivered for, the answers, and how it ended
+pub record Told : Type 0 where
+  pub texts : List (List ℕ)
+  pub answers : List Answer
+  pub ended : End
+
+-- why a run ended before all was delivered
+abbrev pub stop_of_end : End → Option Stop
+stop_of_end end.Done = None
+stop_of_end end.TooMany = Some stop.TooMany
+stop_of_end end.Courier = Some stop.Files
+stop_of_end end.Memory = Some stop.Memory
+
+abbrev pub stop_lines : Option Stop → List (List ℕ)
+stop_lines None = []
+stop_lines (Some why) = stop_text why ∷ []
+
+-- a line for each delivery, in order
+abbrev pub answer_lines : List (List ℕ) → List Answer → List (List ℕ)
+answer_lines texts answers =
+    map (λ (told : List ℕ × Answer). answer_text told.0 told.1) (zip texts answers)
+
+-- and why there were no more
+abbrev pub run_lines : Told → List (List ℕ)
+run_lines told = answer_lines told.texts told.answers ++ stop_lines (stop_of_end told.ended)
+
+-- run by run
+abbrev pub intake_lines : List Told → List (List ℕ)
+intake_lines runs = flat_map run_lines runs
+
+-- 3 where one is, else 1 where one is, else 0
+abbrev pub greatest : List ℕ → ℕ
+greatest statuses = fold max DONE statuses
+
+-- a run that didn't end with its items failed
+abbrev pub end_status : End → ℕ
+end_status end.Done = DONE
+end_status ended = FAILED
+
+abbrev pub run_status : Told → ℕ
+run_status told = greatest (map answer_status told.answers ++ end_status told.ended ∷ [])
+
+abbrev pub intake_status : List Told → ℕ
+intake_status runs = greatest (map run_status runs)

@@ -1,0 +1,7 @@
+-- What is told of a run, of which the receiver answered this.
+use Rattle.std.specs.Prelude.{ℕ, List}
+use Rattle.bag_receiver.specs.declared.run.Run.{Run}
+use Rattle.bag_commands.specs.IntakeTexts.{Told}
+
+abbrev pub told_of : Run → List (List ℕ) → Told
+told_of run texts = record { texts = texts; answers = run.answers.items; ended = run.ended }

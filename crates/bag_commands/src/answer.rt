@@ -1,0 +1,71 @@
+//! Answers to deliveries, as lines.
+ghost use Rattle.std.specs.Prelude.{◌≡◌};
+ghost use Rattle.bag_commands.specs.AnswerTexts.{answer_status};
+
+use crate::spelling::TextSpelling;
+use crate::status::{DONE, FAILED, REFUSED};
+use bag_ledger::KeepFault;
+use bag_receiver::{Answer, DeliverFault};
+use std::fmt::{Display, Formatter, Result, Write};
+
+/// The answer to a delivery for the path that a text is, as its line.
+#[derive(Clone, Copy)]
+pub struct AnswerLine<'a> {
+    /// The text, which may be no path.
+    pub text: &'a str,
+    /// The answer.
+    pub answer: Answer,
+}
+
+impl Display for AnswerLine<'_> {
+    ghost use Rattle.std.specs.Prelude.{Some};
+    ghost use Rattle.bag_commands.specs.AnswerTexts.{answer_text};
+
+    ghost output = { λ line. Some (answer_text line.text.now line.answer) };
+
+    fn fmt<W: Write>(&self, f: &mut Formatter<W>) -> Result {
+        let path = TextSpelling(self.text);
+        match self.answer {
+            Answer::Taken => write!(f, "taken {path}"),
+            Answer::Repeated => write!(f, "repeated {path}"),
+            Answer::Refused(fault) => write!(f, "refused {path}: {}", RefusalText(fault)),
+        }
+    }
+}
+
+/// Why a delivery was refused.
+#[derive(Clone, Copy)]
+struct RefusalText(DeliverFault);
+
+impl Display for RefusalText {
+    ghost use Rattle.std.specs.Prelude.{Some};
+    ghost use Rattle.bag_commands.specs.AnswerTexts.{refusal_text};
+
+    ghost output = { λ refusal. Some (refusal_text refusal.0) };
+
+    fn fmt<W: Write>(&self, f: &mut Formatter<W>) -> Result {
+        match self.0 {
+            DeliverFault::NoTransfer => f.write_str("no transfer"),
+            DeliverFault::BadPath(_) => f.write_str("path"),
+            DeliverFault::NotListed => f.write_str("not listed"),
+            DeliverFault::Reader => f.write_str("reader"),
+            DeliverFault::TooLarge => f.write_str("too large"),
+            DeliverFault::Length => f.write_str("length"),
+            DeliverFault::Digest(alg) => write!(f, "digest {}", alg.name()),
+            DeliverFault::Keeper(KeepFault::Memory) => f.write_str("memory"),
+            DeliverFault::Keeper(KeepFault::Store(_)) => f.write_str("store"),
+        }
+    }
+}
+
+/// The status that goes with an answer: 0 where the content is held, 3 where a read, the store or memory failed, 1 for any other
+/// refusal.
+pub fn answer_status(answer: Answer) -> u8
+    ensures { result ≡ answer_status answer }
+{
+    match answer {
+        Answer::Taken | Answer::Repeated => DONE,
+        Answer::Refused(DeliverFault::Reader | DeliverFault::Keeper(_)) => FAILED,
+        Answer::Refused(_) => REFUSED,
+    }
+}

@@ -1,0 +1,142 @@
+//! `intake`: takes in the payload files that couriers bring.
+ghost use Rattle.std.specs.Prelude.{◌≡◌, IfOk, IsOk, List, OnErr, OnOk, length, map, string_bytes};
+ghost use Rattle.std.specs.Io.Buffered.{writer_buffer};
+ghost use Rattle.bag_digest.specs.Device.{Rises};
+ghost use Rattle.bag_commands.specs.Intakes.{IsRun, TakesIn};
+ghost use Rattle.bag_commands.specs.IntakesInside.{told_of};
+ghost use Rattle.bag_commands.specs.IntakeTexts.{Told, answer_lines, end_status, intake_lines, intake_status, run_lines, run_status, stop_of_end};
+ghost use Rattle.bag_commands.specs.Printing.{Printed, WroteLines};
+
+use crate::answer::{AnswerLine, answer_status};
+use crate::output::Output;
+use crate::status::{DONE, FAILED};
+use crate::stop::Stop;
+use bag_digest::Failed;
+use bag_ledger::Keeper;
+use bag_receiver::{Answer, Courier, End, Receiver, Run};
+use std::alloc::Global;
+use std::io::Write;
+
+/// Takes in what the couriers bring for a transfer, one courier after another, prints a line for each delivery when its courier's run
+/// has ended, and answers the status: 0 where all is held, 1 where something was refused, and 3 where a read, a courier, the store
+/// or memory failed, or a write.
+///
+/// What is refused ends nothing. A run that ends before all was delivered is the last, and a line says why. What is taken in doesn't
+/// depend on the output: after a write that failed no more is written, and the runs go on.
+pub fn intake_to<K: Keeper, C: Courier, W: Write + Drop>(
+    alloc: Global,
+    receiver: &mut Receiver<K>,
+    name: &str,
+    couriers: &mut [C],
+    out: &mut Output<W>,
+) -> u8
+    ensures { (told : List Told)
+        × TakesIn (IsRun K.holds K.may_leave K.clean K.failures C.coming C.failures C.nexts
+        C.steady name.now) couriers.old couriers.new told receiver.old receiver.new
+        × Printed W.contents out.old out.new result (intake_lines told) (intake_status told) }
+{
+    match run_all(alloc, receiver, name, couriers, out) {
+        Ok(status) if out.flush().is_ok() => status,
+        _ => FAILED,
+    }
+}
+
+/// Takes in what the couriers bring, and writes the lines of each run. Answers the status that goes with them.
+fn run_all<K: Keeper, C: Courier, W: Write + Drop>(
+    alloc: Global,
+    receiver: &mut Receiver<K>,
+    name: &str,
+    couriers: &mut [C],
+    out: &mut Output<W>,
+) -> Result<u8, Failed>
+    ensures { (told : List Told)
+        × TakesIn (IsRun K.holds K.may_leave K.clean K.failures C.coming C.failures C.nexts
+        C.steady name.now) couriers.old couriers.new told receiver.old receiver.new
+        × IfOk result (λ status. status ≡ intake_status told)
+        × OnOk result (WroteLines W.contents out.old out.new (intake_lines told))
+        × OnErr result (Rises out.old.failures out.new.failures) }
+{
+    let mut status = DONE;
+    let mut written = Ok(());
+    for courier in couriers.iter_mut() {
+        let (run, texts) = receiver.run_from(alloc, name, courier);
+        status = status.max(run_status(&run));
+        if written.is_ok() {
+            written = write_run(&run, texts.as_slice(), out);
+        }
+        if run.ended != End::Done {
+            break;
+        }
+    }
+    written.and(Ok(status))
+}
+
+/// Writes the lines of a run, of which these are the texts of the paths, and hands them on.
+fn write_run<W: Write + Drop>(
+    run: &Run,
+    texts: &[String],
+    out: &mut Output<W>,
+) -> Result<(), Failed>
+    requires { length texts.now ≡ length run.now.answers.items }
+    ensures ok { OnOk result (WroteLines W.contents out.old out.new
+        (run_lines (told_of run.now (map string_bytes texts.now)))) }
+    ensures failed { OnErr result (Rises out.old.failures out.new.failures) }
+{
+    write_answers(texts, run.answers.as_slice(), out)?;
+    if let Some(stop) = stop_of_end(run.ended) {
+        out.line(stop.text())?;
+    }
+    out.flush()
+}
+
+/// Writes a line for each delivery.
+fn write_answers<W: Write + Drop>(
+    texts: &[String],
+    answers: &[Answer],
+    out: &mut Output<W>,
+) -> Result<(), Failed>
+    requires { length texts.now ≡ length answers.now }
+    ensures ok { OnOk result (WroteLines W.contents out.old out.new
+        (answer_lines (map string_bytes texts.now) answers.now)) }
+    ensures failed { OnErr result (Rises out.old.failures out.new.failures) }
+{
+    for (n, text) in texts.iter().enumerate() {
+        let text = text.as_str();
+        let answer = answers[n];
+        out.line(AnswerLine { text, answer })?;
+    }
+    Ok(())
+}
+
+/// Why a run ended before all was delivered.
+fn stop_of_end(ended: End) -> Option<Stop>
+    ensures { result ≡ stop_of_end ended }
+{
+    match ended {
+        End::Done => None,
+        End::TooMany => Some(Stop::TooMany),
+        End::Courier => Some(Stop::Files),
+        End::Memory => Some(Stop::Memory),
+    }
+}
+
+/// The status that goes with a run: the greatest of those of its answers and its end.
+fn run_status(run: &Run) -> u8
+    ensures { (texts : _) → result ≡ run_status (told_of run.now texts) }
+{
+    let mut status = DONE;
+    for answer in &run.answers {
+        status = status.max(answer_status(*answer));
+    }
+    status.max(end_status(run.ended))
+}
+
+/// The status that goes with the end of a run.
+fn end_status(ended: End) -> u8
+    ensures { result ≡ end_status ended }
+{
+    match ended {
+        End::Done => DONE,
+        End::TooMany | End::Courier | End::Memory => FAILED,
+    }
+}
