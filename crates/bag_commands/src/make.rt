@@ -15,6 +15,9 @@ use std::alloc::Global;
 use std::fmt::{self, Display, Formatter};
 use std::io::Write;
 
+#[cfg(test)]
+mod tests;
+
 /// Writes the bag of a tree's payload files to a sink, with manifests by the algorithms of these names, prints the answer and
 /// answers the status, as [`print_making`] does. An algorithm that is named twice counts once.
 ///

@@ -3,8 +3,21 @@ use crate::output::Output;
 use crate::text::FaultLine;
 use bag_path::BagPath;
 use bag_rules::{CheckFault, Fault, Outcome, OutsideCause};
+use std::alloc::Global;
 use std::io::{self, BufWriter, Write};
 use std::test::Fail;
+
+mod transfers;
+
+/// An output that keeps what is written.
+pub fn kept(alloc: Global) -> Result<Output<Vec<u8>>, Fail> {
+    Ok(Output::new(BufWriter::new(alloc, Vec::new(alloc))?))
+}
+
+/// What was written to it.
+pub fn printed(out: &Output<Vec<u8>>) -> Option<&str> {
+    str::from_utf8(out.writer.get_ref().as_slice()).ok()
+}
 
 #[test]
 fn the_greatest_number_of_a_line_is_printed_whole(rt: HostRuntime) -> Result<(), Fail> {
@@ -23,10 +36,9 @@ fn the_greatest_number_of_a_line_is_printed_whole(rt: HostRuntime) -> Result<(),
 #[test]
 fn a_file_past_the_limit_is_told_by_one_line(rt: HostRuntime) -> Result<(), Fail> {
     let answer = Err(CheckFault::TooLarge(BagPath::parse(rt.alloc(), "data/a.txt")?));
-    let mut out = Output::new(BufWriter::new(rt.alloc(), Vec::new(rt.alloc()))?);
+    let mut out = kept(rt.alloc())?;
     let answered = print_outcome(&answer, &mut out);
-    let printed = str::from_utf8(out.writer.get_ref().as_slice()).ok();
-    assert_eq!(rt; (answered, printed), (3, Some("bag: too large\n")));
+    assert_eq!(rt; (answered, printed(&out)), (3, Some("bag: too large\n")));
     Ok(())
 }
 

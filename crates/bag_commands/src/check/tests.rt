@@ -1,9 +1,8 @@
 use super::check_to;
-use crate::output::Output;
+use crate::tests::{kept, printed};
 use bag_path::BagPath;
 use bag_rules::MemTree;
 use std::alloc::Global;
-use std::io::BufWriter;
 use std::test::Fail;
 
 /// The SHA-256 of `abc` (FIPS 180-4).
@@ -26,18 +25,12 @@ fn tree_of(alloc: Global, payload: &[u8]) -> Result<MemTree, Fail> {
     Ok(tree)
 }
 
-/// An output that keeps what is written.
-fn kept(alloc: Global) -> Result<Output<Vec<u8>>, Fail> {
-    Ok(Output::new(BufWriter::new(alloc, Vec::new(alloc))?))
-}
-
 #[test]
 fn the_answer_of_a_check_is_printed_with_its_status(rt: HostRuntime) -> Result<(), Fail> {
     let mut tree = tree_of(rt.alloc(), b"abd")?;
     let mut out = kept(rt.alloc())?;
     let answered = check_to(rt.alloc(), &mut tree, &mut out);
-    let printed = str::from_utf8(out.writer.get_ref().as_slice()).ok();
     let text = "manifest-sha256.txt: digest: data/a.txt\ncomplete, not valid\n";
-    assert_eq!(rt; (answered, printed), (1, Some(text)));
+    assert_eq!(rt; (answered, printed(&out)), (1, Some(text)));
     Ok(())
 }

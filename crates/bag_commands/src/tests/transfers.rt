@@ -1,0 +1,256 @@
+//! Transfers over a map: what is printed of them.
+use super::{kept, printed};
+use crate::intake::intake_to;
+use crate::list::list_to;
+use crate::report::report_to;
+use bag_digest::{Failed, Failures, Source};
+use bag_ledger::MapKeeper;
+use bag_receiver::{Courier, Receiver};
+use std::alloc::{AllocError, Global};
+use std::test::Fail;
+
+const DECLARATION: &str = "BagIt-Version: 1.0\nTag-File-Character-Encoding: UTF-8\n";
+
+// Two files, with the digests of `abc` and of nothing (FIPS 180-4, example B.1, and RFC 6234 section 8.5).
+const MANIFEST: &str = "ba7816bf8f01cfea414140de5dae2223b00361a396177a9cb410ff61f20015ad  data/a.txt
+e3b0c44298fc1c149afbf4c8996fb92427ae41e4649b934ca495991b7852b855  data/e.txt
+";
+
+/// The text of a path, and the octets that are still to be read.
+#[derive(Drop)]
+struct Item {
+    path: String,
+    content: Vec<u8>,
+}
+
+/// Brings items, the last first, and then fails unless it ends well. The octets of each come from its end, one a read; those of an item
+/// that begin with `!` fail there.
+#[derive(Drop)]
+struct Items {
+    left: Vec<Item>,
+    ends_well: bool,
+    path: String,
+    content: Option<Vec<u8>>,
+    failures: Failures,
+    nexts: u64,
+}
+
+impl Items {
+    /// These, each with its content, in their order.
+    fn new(alloc: Global, items: &[(&str, &str)], ends_well: bool) -> Result<Items, AllocError> {
+        let mut left = Vec::new(alloc);
+        for (path, text) in items.iter().rev().copied() {
+            let mut content = Vec::from_slice(alloc, text.as_bytes())?;
+            content.reverse();
+            left.push(Item {
+                path: String::from_str(alloc, path)?,
+                content,
+            })?;
+        }
+        Ok(Items {
+            left,
+            ends_well,
+            path: String::new(alloc),
+            content: None,
+            failures: Failures::none(),
+            nexts: 0,
+        })
+    }
+}
+
+impl Source for Items {
+    ghost use Rattle.std.specs.Prelude.{◌≡◌, None, refl, string_bytes};
+    ghost use Rattle.std.specs.Option.{is_some};
+    ghost use Rattle.std.proofs.Common.{◌∙◌};
+
+    ghost remaining = { λ _. None };
+
+    ghost failures = { λ it. it.failures };
+
+    ghost ready = { λ _. ⊥ };
+
+    ghost is_open = { λ it. is_some it.content };
+
+    ghost keeps = { λ a b. (string_bytes b.path ≡ string_bytes a.path) × (b.nexts ≡ a.nexts) };
+
+    fn read(&mut self, buf: &mut [u8]) -> Result<usize, Failed> {
+        let Some(content) = &mut self.content else {
+            return self.failures.counted(Err(Failed));
+        };
+        let Some(octet) = content.pop() else {
+            return Ok(0);
+        };
+        if octet == b'!' {
+            return self.failures.counted(Err(Failed));
+        }
+        let Some(first) = buf.first_mut() else {
+            return Ok(0);
+        };
+        *first = octet;
+        Ok(1)
+    }
+
+    fn failures(&self) -> u64 {
+        self.failures.count()
+    }
+
+    ghost keeps_itself = { λ a. (refl, refl) };
+
+    ghost keeps_on = { λ a b c p q. (q.0 ∙ p.0, q.1 ∙ p.1) };
+}
+
+impl Courier for Items {
+    ghost use Rattle.std.specs.Prelude.{None, refl, string_bytes};
+
+    ghost coming = { λ _. None };
+
+    ghost text = { λ it. string_bytes it.path };
+
+    ghost nexts = { λ it. it.nexts };
+
+    ghost steady = { λ _. ⊥ };
+
+    fn next(&mut self) -> Result<bool, Failed> {
+        self.nexts = self.nexts.saturating_add(1);
+        let Some(item) = self.left.pop() else {
+            self.path.clear();
+            self.content = None;
+            let answer = if self.ends_well {
+                Ok(false)
+            } else {
+                Err(Failed)
+            };
+            return self.failures.counted(answer);
+        };
+        self.path = item.path;
+        self.content = Some(item.content);
+        Ok(true)
+    }
+
+    fn path(&self) -> &str {
+        self.path.as_str()
+    }
+
+    fn nexts(&self) -> u64 {
+        self.nexts
+    }
+
+    ghost keeps_item = { λ old new kept. (refl, kept.0, kept.1, λ none. none) };
+}
+
+/// A receiver with transfers of these names, each of two files.
+fn opened(alloc: Global, names: &[&str]) -> Result<Receiver<MapKeeper>, Fail> {
+    let mut files = Vec::new(alloc);
+    for (path, text) in [
+        ("bagit.txt", DECLARATION),
+        ("manifest-sha256.txt", MANIFEST),
+    ] {
+        let octets = Vec::from_slice(alloc, text.as_bytes())?;
+        files.push((String::from_str(alloc, path)?, octets))?;
+    }
+    let mut receiver = Receiver::new(alloc, MapKeeper::new(alloc));
+    for name in names.iter().copied() {
+        receiver.begin(alloc, name, files.as_slice())?;
+    }
+    Ok(receiver)
+}
+
+/// Whether this is printed of the transfer, with this status.
+fn is_reported(
+    alloc: Global,
+    receiver: &mut Receiver<MapKeeper>,
+    name: &str,
+    expected: (u8, &str),
+) -> Result<bool, Fail> {
+    let mut out = kept(alloc)?;
+    let status = report_to(alloc, receiver, name, &mut out);
+    Ok((status, printed(&out)) == (expected.0, Some(expected.1)))
+}
+
+/// Whether this is printed of what these couriers bring, with this status.
+fn is_taken_in(
+    alloc: Global,
+    receiver: &mut Receiver<MapKeeper>,
+    name: &str,
+    couriers: &mut [Items],
+    expected: (u8, &str),
+) -> Result<bool, Fail> {
+    let mut out = kept(alloc)?;
+    let status = intake_to(alloc, receiver, name, couriers, &mut out);
+    Ok((status, printed(&out)) == (expected.0, Some(expected.1)))
+}
+
+#[test]
+fn the_names_of_transfers_are_listed_in_order(rt: HostRuntime) -> Result<(), Fail> {
+    let alloc = rt.alloc();
+    for (names, expected) in [(&["t3", "t1"], "t1\nt3\n"), (&["a", "a"], "a\n")] {
+        let mut receiver = opened(alloc, names)?;
+        let mut out = kept(alloc)?;
+        let status = list_to(alloc, &mut receiver, &mut out);
+        assert_eq!(rt; (status, printed(&out)), (0, Some(expected)));
+    }
+    Ok(())
+}
+
+#[test]
+fn what_is_taken_in_is_told_and_reported(rt: HostRuntime) -> Result<(), Fail> {
+    let alloc = rt.alloc();
+    let mut receiver = opened(alloc, &["t1"])?;
+    let missing = "manifest-sha256.txt: missing: data/a.txt
+manifest-sha256.txt: missing: data/e.txt
+not complete
+";
+    assert!(rt; is_reported(alloc, &mut receiver, "t1", (1, missing))?);
+    for (name, expected) in [
+        ("t1", (0, "taken data/a.txt\ntaken data/e.txt\n")),
+        ("t1", (0, "repeated data/a.txt\nrepeated data/e.txt\n")),
+        (
+            "t2",
+            (
+                1,
+                "refused data/a.txt: no transfer\nrefused data/e.txt: no transfer\n",
+            ),
+        ),
+    ] {
+        let items = Items::new(alloc, &[("data/a.txt", "abc"), ("data/e.txt", "")], true)?;
+        let mut couriers = [items];
+        let is_told = is_taken_in(alloc, &mut receiver, name, &mut couriers, expected)?;
+        assert!(rt; is_told);
+    }
+    assert!(rt; is_reported(alloc, &mut receiver, "t1", (0, "valid\n"))?);
+    assert!(rt; is_reported(alloc, &mut receiver, "t2", (1, "bag: no transfer\n"))?);
+    Ok(())
+}
+
+#[test]
+fn a_refusal_ends_nothing_and_a_courier_that_fails_is_the_last(
+    rt: HostRuntime,
+) -> Result<(), Fail> {
+    let alloc = rt.alloc();
+    let mut receiver = opened(alloc, &["t1"])?;
+    let damaged = [
+        ("data/a.txt", "abd"),
+        ("data/e.txt", ""),
+        ("../q", ""),
+        ("data/100%\n", ""),
+    ];
+    let mut couriers = [
+        Items::new(alloc, &damaged, true)?,
+        Items::new(alloc, &[("data/a.txt", "abc"), ("data/e.txt", "!")], false)?,
+        Items::new(alloc, &[("data/e.txt", "")], true)?,
+    ];
+    let expected = "refused data/a.txt: digest sha256
+taken data/e.txt
+refused ../q: path
+refused data/100%25%0A: not listed
+taken data/a.txt
+refused data/e.txt: reader
+bag: files
+";
+    let is_told = is_taken_in(alloc, &mut receiver, "t1", &mut couriers, (3, expected))?;
+    assert!(rt; is_told);
+    assert_eq!(rt; couriers[1].failures(), 2);
+    assert_eq!(rt; couriers[2].nexts(), 0);
+    assert!(rt; is_reported(alloc, &mut receiver, "t1", (0, "valid\n"))?);
+    Ok(())
+}
