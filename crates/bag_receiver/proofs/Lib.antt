@@ -19,3 +19,4 @@ pub mod RunLemmas
 pub mod CourierLemmas
 pub mod ReportLemmas
 pub mod ArrivalLemmas
+pub mod AuditLemmas

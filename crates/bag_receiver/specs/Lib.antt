@@ -11,4 +11,5 @@ pub mod BeginningInside
 pub mod Runs
 pub mod Couriers
 pub mod Reports
+pub mod Holdings
 pub mod Arrivals

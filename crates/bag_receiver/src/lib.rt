@@ -12,10 +12,12 @@ pub use run::{End, MOST_DELIVERIES, Run};
 
 mod answer;
 pub mod arrival;
+mod audit;
 mod begin;
 mod courier;
 mod deliver;
 pub mod examples;
+mod held;
 pub mod laws;
 mod name;
 mod receiver;

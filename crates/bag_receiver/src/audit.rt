@@ -1,0 +1,167 @@
+//! Audits: what is wrong with the bag of a transfer, by all that is held of it, read again.
+ghost use Rattle.std.specs.Prelude.{◌≡◌, ◌↔◌, ◌<◌, ℕ, List, None, IfOk, IsErrOf, IsTrue, MatchResult, length, map};
+ghost use Rattle.bag_digest.specs.Device.{CountsIf};
+ghost use Rattle.bag_rules.specs.Files.{Files};
+ghost use Rattle.bag_rules.specs.Plans.{IsPlanOf, sizes_of};
+ghost use Rattle.bag_rules.specs.Transfers.{Passes};
+ghost use Rattle.bag_rules.specs.Wants.{IsWanted};
+ghost use Rattle.bag_ledger.specs.Keeping.{Reads};
+ghost use Rattle.bag_ledger.specs.Ledgers.{Ledger, items_of};
+ghost use Rattle.bag_ledger.specs.declared.fault.StoreFault.{StoreFault};
+ghost use Rattle.bag_ledger.specs.declared.fault.KeepFault.TheVariants.{Store};
+ghost use Rattle.bag_receiver.specs.Deliveries.{AreAccepted, Delivery, OneContent};
+ghost use Rattle.bag_receiver.specs.Holdings.{HasItem, IsPlanFor};
+ghost use Rattle.bag_receiver.specs.Names.{IsNamed, IsTransferName};
+ghost use Rattle.bag_receiver.specs.Receivers.{Does, IsInState};
+ghost use Rattle.bag_receiver.specs.ReceiversInside.{Same};
+ghost use Rattle.bag_receiver.specs.Receiving.{Happened, LedgerState};
+ghost use Rattle.bag_receiver.specs.Reports.{IsReportOf, Reports};
+ghost use Rattle.bag_receiver.specs.Stops.{Answered, Event, StopRun};
+
+use crate::held::next_piece;
+use crate::receiver::Receiver;
+use crate::report::ViewFault;
+use bag_digest::{Multi, piece_buffer};
+use bag_ledger::{KeepFault, Keeper};
+use bag_rules::limits::LARGEST_ITEM;
+use bag_rules::{ItemSize, Plan, Report, Want};
+use std::alloc::Global;
+
+impl<K: Keeper> Receiver<K> {
+    /// What is wrong with the bag of the transfer, as [`report`](Receiver::report) says it; but all payload files that are held are
+    /// read and hashed again. One that isn't the listed one any more is told as missing.
+    ///
+    /// # Errors
+    ///
+    /// Those of [`report`](Receiver::report).
+    pub fn audit(&mut self, alloc: Global, name: &str) -> Result<Report, ViewFault>
+        ensures looks { Does K.holds K.may_leave K.clean self.old self.new Same }
+        ensures reported { K.clean self.new.keeper → (now : LedgerState)
+            → IsInState K.holds K.may_leave self.old now
+            → MatchResult result (Reports now.held name.now)
+            (λ fault. fault ≡ ViewFault.NoTransfer → IsNamed now.held name.now None) }
+        // A text that is no name names no transfer, whatever the store would answer.
+        ensures judged { ¬ IsTransferName name.now → IsErrOf result ViewFault.NoTransfer }
+        // After a transfer was opened, for any list of deliveries with losses, repeats and reorderings, as for a report.
+        ensures headline { K.clean self.new.keeper → (now : LedgerState)
+            → IsInState K.holds K.may_leave self.old now
+            → (tags : Files) (deliveries : List Delivery)
+            → Happened now name.now tags (map Answered deliveries) → OneContent tags deliveries
+            → IfOk result (λ report. (held : Files) × AreAccepted deliveries held
+            × IsReportOf tags held report) }
+        // And whatever happened since, stops too.
+        ensures stopped { K.clean self.new.keeper → (now : LedgerState)
+            → IsInState K.holds K.may_leave self.old now
+            → (tags : Files) (events : List Event)
+            → Happened now name.now tags events
+            → IfOk result (λ report. (held : Files) × StopRun tags events held
+            × IsReportOf tags held report) }
+        ensures store { CountsIf ((fault : StoreFault)
+            × IsErrOf result (ViewFault.Keeper (KeepFault.Store fault)))
+            (K.failures self.old.keeper) (K.failures self.new.keeper) }
+    {
+        if !self.has_plan(alloc, name)? {
+            return Err(ViewFault::NoTransfer);
+        }
+        let Some(plan) = self.plans.get(name) else {
+            return Err(ViewFault::NoTransfer);
+        };
+        let sizes = passing_sizes(&mut self.keeper, alloc, name, plan)?;
+        let report = plan.report(alloc, sizes.as_slice())?;
+        Ok(report)
+    }
+}
+
+/// The payload files that the transfer holds and that pass when they are read again, by path.
+fn passing_sizes<K: Keeper>(
+    keeper: &mut K,
+    alloc: Global,
+    name: &str,
+    plan: &Plan,
+) -> Result<Vec<ItemSize>, KeepFault>
+    ensures found { K.clean keeper.new → (ledger : Ledger) → K.holds keeper.old ledger
+        → IsPlanFor ledger name.now plan.now
+        → IfOk result (λ sizes. sizes.items ≡ sizes_of (items_of ledger name.now)) }
+    ensures reads { Reads K.holds K.may_leave K.clean keeper.old keeper.new }
+    ensures store { CountsIf ((fault : StoreFault) × IsErrOf result (Store fault))
+        (K.failures keeper.old) (K.failures keeper.new) }
+{
+    let sizes = keeper.sizes(alloc, name)?;
+    let mut buffer = piece_buffer(alloc)?;
+    let mut passing = Vec::new(alloc);
+    for size in sizes {
+        if !passes(keeper, alloc, name, plan, &size, buffer.as_mut_slice())? {
+            continue;
+        }
+        if passing.push(size).is_err() {
+            return Err(KeepFault::Memory);
+        }
+    }
+    Ok(passing)
+}
+
+/// Whether what is held at this path passes when it is read again.
+fn passes<K: Keeper>(
+    keeper: &mut K,
+    alloc: Global,
+    name: &str,
+    plan: &Plan,
+    item: &ItemSize,
+    buffer: &mut [u8],
+) -> Result<bool, KeepFault>
+    requires { 0 < length buffer.old }
+    ensures judged { K.clean keeper.new → (tags : Files) (content : List ℕ) → IsPlanOf tags plan.now
+        → HasItem K.holds keeper.old name.now item.now.path content
+        → item.now.octets ≡ length content
+        → IfOk result (λ is. IsTrue is ↔ Passes tags item.now.path content) }
+    ensures room { length buffer.new ≡ length buffer.old }
+    ensures reads { Reads K.holds K.may_leave K.clean keeper.old keeper.new }
+    ensures store { CountsIf ((fault : StoreFault) × IsErrOf result (Store fault))
+        (K.failures keeper.old) (K.failures keeper.new) }
+{
+    match plan.want(&item.path) {
+        Some(want) if item.octets <= LARGEST_ITEM => {
+            is_wanted(keeper, alloc, name, &want, item.octets, buffer)
+        }
+        _ => Ok(false),
+    }
+}
+
+/// Whether the payload file of so many octets that is held at the wanted path is the wanted one. It is read to its end.
+fn is_wanted<K: Keeper>(
+    keeper: &mut K,
+    alloc: Global,
+    name: &str,
+    want: &Want<'_>,
+    octets: u64,
+    buffer: &mut [u8],
+) -> Result<bool, KeepFault>
+    requires { 0 < length buffer.old }
+    ensures judged { K.clean keeper.new → (content : List ℕ)
+        → HasItem K.holds keeper.old name.now want.now.path.now content → octets ≡ length content
+        → IfOk result (λ is. IsTrue is ↔ IsWanted want.now content) }
+    ensures room { length buffer.new ≡ length buffer.old }
+    ensures reads { Reads K.holds K.may_leave K.clean keeper.old keeper.new }
+    ensures store { CountsIf ((fault : StoreFault) × IsErrOf result (Store fault))
+        (K.failures keeper.old) (K.failures keeper.new) }
+{
+    let mut multi = Multi::new(want.algs());
+    let mut read = 0u64;
+    while read < octets {
+        let n = next_piece(
+            keeper,
+            alloc,
+            name,
+            want.path(),
+            read,
+            octets - read,
+            buffer,
+        )?;
+        if n == 0 {
+            return Ok(false);
+        }
+        multi.update(&buffer[..n]);
+        read += n as u64;
+    }
+    Ok(want.test(read, &multi.finish()).is_ok())
+}

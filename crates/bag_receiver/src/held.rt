@@ -1,0 +1,47 @@
+//! Payload files that are held, read again piece by piece.
+ghost use Rattle.std.specs.Prelude.{◌≡◌, ◌<◌, ◌≤◌, ◌+◌, ℕ, List, IfOk, IsErrOf, drop, length, min, take};
+ghost use Rattle.bag_digest.specs.Device.{CountsIf};
+ghost use Rattle.bag_ledger.specs.Keeping.{Reads};
+ghost use Rattle.bag_ledger.specs.declared.fault.StoreFault.{StoreFault};
+ghost use Rattle.bag_ledger.specs.declared.fault.KeepFault.TheVariants.{Store};
+ghost use Rattle.bag_receiver.specs.Holdings.{HasItem};
+
+use bag_ledger::{KeepFault, Keeper};
+use bag_path::BagPath;
+use std::alloc::Global;
+
+/// Reads the next octets of a held payload file into the front of the buffer, where so many are left of it, and answers how many
+/// it read: none only where the file has fewer.
+pub(crate) fn next_piece<K: Keeper>(
+    keeper: &mut K,
+    alloc: Global,
+    name: &str,
+    path: &BagPath,
+    offset: u64,
+    left: u64,
+    buffer: &mut [u8],
+) -> Result<usize, KeepFault>
+    requires { (0 < left) × (0 < length buffer.old) }
+    ensures piece { K.clean keeper.new → (content : List ℕ)
+        → HasItem K.holds keeper.old name.now path.now content → offset + left ≡ length content
+        → IfOk result (λ n. (0 < n) × (take n buffer.new ≡ take n (drop offset content))) }
+    ensures bound { IfOk result (λ n. (n ≤ left) × (n ≤ length buffer.new)) }
+    ensures room { length buffer.new ≡ length buffer.old }
+    ensures reads { Reads K.holds K.may_leave K.clean keeper.old keeper.new }
+    ensures store { CountsIf ((fault : StoreFault) × IsErrOf result (Store fault))
+        (K.failures keeper.old) (K.failures keeper.new) }
+{
+    let room = room_for(buffer.len(), left);
+    keeper.read_piece(alloc, name, path, offset, &mut buffer[..room])
+}
+
+/// How much to read at a time, where so many octets are left.
+fn room_for(len: usize, left: u64) -> usize
+    ensures { result ≡ min len left }
+{
+    if left < len as u64 {
+        left as usize
+    } else {
+        len
+    }
+}
