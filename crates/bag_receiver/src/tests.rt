@@ -6,6 +6,7 @@ use std::alloc::{AllocError, Global};
 use std::io::{self, Read};
 use std::test::Fail;
 
+mod audits;
 mod large;
 
 type Items = Vec<(String, Vec<u8>)>;

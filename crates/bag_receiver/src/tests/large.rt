@@ -7,20 +7,20 @@ use bag_path::BagPath;
 use std::io::{self, Read};
 use std::test::Fail;
 
-const PATH: &str = "data/large.bin";
+pub(super) const PATH: &str = "data/large.bin";
 
 /// Two pieces of 65,536 octets, and one octet.
-const LENGTH: usize = 131_073;
+pub(super) const LENGTH: usize = 131_073;
 
 // What `sha256sum` tells of that many octets 0, 1, .., 250, 0, 1, ..
-const MANIFEST: (&str, &str) = (
+pub(super) const MANIFEST: (&str, &str) = (
     "manifest-sha256.txt",
     "dd84db969f4ff2abb79c8c2fbc06e8d8e02c46d6481c958e057f7ad7a24c58a7  data/large.bin\n",
 );
 
 /// Gives octets that count up to 250 and then from 0 again, and after them the end or an error.
 #[derive(Drop)]
-struct Counting {
+pub(super) struct Counting {
     given: usize,
     left: usize,
     /// The last octet is another one.
@@ -28,7 +28,7 @@ struct Counting {
     breaks: bool,
 }
 
-fn reader_of(length: usize, is_damaged: bool, breaks: bool) -> Counted<Counting> {
+pub(super) fn reader_of(length: usize, is_damaged: bool, breaks: bool) -> Counted<Counting> {
     Counted::new(Counting {
         given: 0,
         left: length,

@@ -1,0 +1,213 @@
+//! Audits: of what can be read again, and of what can't.
+use super::large::{self, LENGTH, reader_of};
+use super::{DECLARATION, MANIFEST, opened};
+use crate::{Answer, Receiver, ViewFault};
+use bag_digest::Source;
+use bag_ledger::{KeepFault, Keeper, MapKeeper, PutFault, StoreFault};
+use bag_path::BagPath;
+use bag_rules::{ItemSize, TagSet, Want};
+use std::alloc::Global;
+use std::test::Fail;
+
+/// The store of a keeper that takes so many reads of pieces, refuses the next, and has failed from then on.
+#[derive(Drop)]
+struct Fuse {
+    pieces_left: u64,
+    is_spent: bool,
+    failures: u64,
+}
+
+impl Fuse {
+    ghost use Rattle.std.specs.Prelude.{◌≡◌, IsTrue, MatchResult, false};
+    ghost use Rattle.bag_digest.specs.Device.{Rises};
+    ghost use Rattle.bag_ledger.specs.declared.fault.StoreFault.TheVariants.{Spent};
+    ghost use Rattle.bag_ledger.specs.declared.fault.KeepFault.TheVariants.{Store};
+
+    /// Whether the store takes one call more.
+    fn take(&mut self) -> Result<(), KeepFault>
+        ensures answer { MatchResult result
+            (λ done. (self.old.is_spent ≡ false) × (self.new.is_spent ≡ false)
+            × (self.new.failures ≡ self.old.failures))
+            (λ fault. (fault ≡ Store Spent) × IsTrue self.new.is_spent
+            × Rises self.old.failures self.new.failures) }
+    {
+        if !self.is_spent {
+            return Ok(());
+        }
+        self.failures = self.failures.saturating_add(1);
+        Err(KeepFault::Store(StoreFault::Spent))
+    }
+
+    /// Whether it takes one read of a piece more.
+    fn take_piece(&mut self) -> Result<(), KeepFault>
+        ensures answer { MatchResult result
+            (λ done. (self.old.is_spent ≡ false) × (self.new.is_spent ≡ false)
+            × (self.new.failures ≡ self.old.failures))
+            (λ fault. (fault ≡ Store Spent) × IsTrue self.new.is_spent
+            × Rises self.old.failures self.new.failures) }
+    {
+        if self.pieces_left == 0 {
+            self.is_spent = true;
+        } else {
+            self.pieces_left -= 1;
+        }
+        self.take()
+    }
+
+    /// What a call is answered that would write.
+    fn refuse(&mut self) -> KeepFault
+        ensures { (result ≡ Store Spent) × IsTrue self.new.is_spent
+            × Rises self.old.failures self.new.failures }
+    {
+        self.is_spent = true;
+        self.failures = self.failures.saturating_add(1);
+        KeepFault::Store(StoreFault::Spent)
+    }
+}
+
+/// What a keeper in memory holds, to be read as long as its store takes it.
+#[derive(Drop)]
+struct ReadKeeper {
+    inner: MapKeeper,
+    fuse: Fuse,
+}
+
+impl Keeper for ReadKeeper {
+    ghost use Rattle.std.specs.Prelude.{◌≡◌, IsTrue};
+    ghost use Rattle.bag_ledger.specs.Stored.{HoldsItself};
+
+    ghost holds = { λ keeper ledger. HoldsItself keeper.inner ledger };
+
+    ghost may_leave = { λ keeper ledger. ledger ≡ keeper.inner };
+
+    ghost clean = { λ keeper. Unit {0} };
+
+    ghost spent = { λ keeper. IsTrue keeper.fuse.is_spent };
+
+    ghost failures = { λ keeper. keeper.fuse.failures };
+
+    fn begin(&mut self, _alloc: Global, _name: &str, _tags: &TagSet) -> Result<(), KeepFault> {
+        Err(self.fuse.refuse())
+    }
+
+    fn tags(&mut self, alloc: Global, name: &str) -> Result<Option<TagSet>, KeepFault> {
+        match self.fuse.take() {
+            Ok(()) => self.inner.tags(alloc, name),
+            Err(fault) => Err(fault),
+        }
+    }
+
+    fn size_of(
+        &mut self,
+        alloc: Global,
+        name: &str,
+        path: &BagPath,
+    ) -> Result<Option<u64>, KeepFault> {
+        match self.fuse.take() {
+            Ok(()) => self.inner.size_of(alloc, name, path),
+            Err(fault) => Err(fault),
+        }
+    }
+
+    fn sizes(&mut self, alloc: Global, name: &str) -> Result<Vec<ItemSize>, KeepFault> {
+        match self.fuse.take() {
+            Ok(()) => self.inner.sizes(alloc, name),
+            Err(fault) => Err(fault),
+        }
+    }
+
+    fn put(
+        &mut self,
+        _alloc: Global,
+        _name: &str,
+        _want: &Want<'_>,
+        _content: &[u8],
+    ) -> Result<(), PutFault> {
+        Err(PutFault::Keep(self.fuse.refuse()))
+    }
+
+    fn put_from<S: Source>(
+        &mut self,
+        _alloc: Global,
+        _name: &str,
+        _want: &Want<'_>,
+        _reader: &mut S,
+    ) -> Result<(), PutFault> {
+        Err(PutFault::Keep(self.fuse.refuse()))
+    }
+
+    fn read_piece(
+        &mut self,
+        alloc: Global,
+        name: &str,
+        path: &BagPath,
+        offset: u64,
+        buf: &mut [u8],
+    ) -> Result<usize, KeepFault> {
+        match self.fuse.take_piece() {
+            Ok(()) => self.inner.read_piece(alloc, name, path, offset, buf),
+            Err(fault) => Err(fault),
+        }
+    }
+
+    fn names(&mut self, alloc: Global) -> Result<Vec<String>, KeepFault> {
+        match self.fuse.take() {
+            Ok(()) => self.inner.names(alloc),
+            Err(fault) => Err(fault),
+        }
+    }
+
+    fn failures(&self) -> u64 {
+        self.fuse.failures
+    }
+
+    ghost sound = { λ keeper ledger clean holds. holds.1 };
+}
+
+/// A receiver over what this keeper holds, of which so many pieces can be read.
+fn readable(alloc: Global, inner: MapKeeper, pieces: u64) -> Receiver<ReadKeeper> {
+    let fuse = Fuse {
+        pieces_left: pieces,
+        is_spent: false,
+        failures: 0,
+    };
+    Receiver::new(alloc, ReadKeeper { inner, fuse })
+}
+
+/// Whether the audit of a payload file of three pieces says valid, where its keeper gives so many of them.
+fn is_valid_by(alloc: Global, pieces: u64) -> Result<Result<bool, ViewFault>, Fail> {
+    let mut receiver = opened(alloc, &["t1"], &[DECLARATION, large::MANIFEST])?;
+    let mut reader = reader_of(LENGTH, false, false);
+    let _taken = receiver.deliver_from(alloc, "t1", large::PATH, &mut reader);
+    let mut receiver = readable(alloc, receiver.into_keeper(), pieces);
+    let is_reported = receiver.report(alloc, "t1")?.is_valid();
+    match receiver.audit(alloc, "t1") {
+        Ok(report) => Ok(Ok(is_reported && report.is_valid())),
+        Err(fault) => Ok(Err(fault)),
+    }
+}
+
+#[test]
+fn an_audit_reads_all_that_is_held(rt: HostRuntime) -> Result<(), Fail> {
+    let alloc = rt.alloc();
+    let spent = Err(ViewFault::Keeper(KeepFault::Store(StoreFault::Spent)));
+    for pieces in 0..3 {
+        assert_eq!(rt; is_valid_by(alloc, pieces)?, spent);
+    }
+    assert_eq!(rt; is_valid_by(alloc, 3)?, Ok(true));
+    Ok(())
+}
+
+#[test]
+fn an_audit_tells_what_is_missing(rt: HostRuntime) -> Result<(), Fail> {
+    let alloc = rt.alloc();
+    let mut receiver = opened(alloc, &["t1"], &[DECLARATION, MANIFEST])?;
+    for (path, content, missing) in [("data/e.txt", "", 1), ("data/a.txt", "abc", 0)] {
+        let answer = receiver.deliver(alloc, "t1", path, content.as_bytes());
+        assert_eq!(rt; answer, Answer::Taken);
+        assert_eq!(rt; receiver.audit(alloc, "t1")?.faults().len(), missing);
+    }
+    let other = receiver.audit(alloc, "t2");
+    assert!(rt; matches!(other, Err(ViewFault::NoTransfer)));
+    Ok(())
+}
