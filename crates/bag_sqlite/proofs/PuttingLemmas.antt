@@ -31,10 +31,10 @@ use Rattle.sqlite.specs.Tree.{Trees}
 use Rattle.sqlite.specs.declared.types.Value.TheVariants.{Blob, Int}
 use Rattle.bag_sqlite.specs.Contents.{HasContentMore, HasRead, in_pieces}
 use Rattle.bag_sqlite.specs.Databases.{AreCut, piece_rows, without_rowids}
-use Rattle.bag_sqlite.specs.Putting.{AddsItem, AddsPiece, AddsPieces, IsUnderWay, SetsSize, item_row}
-use Rattle.bag_sqlite.specs.Tables.{held_tree, piece_tree}
-use Rattle.bag_sqlite.proofs.CutLemmas.{length_concat}
+use Rattle.bag_sqlite.specs.Putting.{AddsItem, AddsPiece, AddsPieces, IsUnderWay, SetsSize}
+use Rattle.bag_sqlite.specs.Tables.{piece_tree}
 use Rattle.bag_sqlite.proofs.PieceLemmas.{given_more}
+use Rattle.bag_sqlite.proofs.RowLemmas.{item_written}
 
 -- WHAT WAS READ
 
@@ -182,33 +182,19 @@ rows_then a b c item total pieces body number before one way =
     (more.0, pieces_grow a.now.trees b.now.trees c.now.trees item pieces body so_far.1 (subst (λ n. AddsPiece b.now.trees c.now.trees item n body) number more.1))
 
 -- the row of a payload file, its pieces and its size
-pub content_more : (a b c d : Trees) (item transfer : ℤ) (path : List ℕ) (pieces : List (List ℕ)) (size : ℕ) → AddsItem a b item transfer path 0 → AddsPieces b c (in_pieces item [] pieces) → SetsSize c d item size
-    → AreCut pieces → size ≡ length (concat pieces) → HasContentMore a d transfer path (concat pieces)
-content_more a b c d item transfer path pieces size p q r cut sized =
-    let before : IsPermutation (item_row item transfer path 0 ∷ a held_tree) (c held_tree) = subst (IsPermutation (item_row item transfer path 0 ∷ a held_tree)) (sym q.held) p.held in
-    record {
-      number = item;
-      pieces = pieces;
-      cut = cut;
-      joined = refl;
-      more = record {
-        kept = record {
-          format = r.kept.format ∙ q.kept.format ∙ p.kept.format;
-          transfers = r.kept.transfers ∙ q.kept.transfers ∙ p.kept.transfers;
-          tags = r.kept.tags ∙ q.kept.tags ∙ p.kept.tags;
-        };
-        fresh = p.fresh;
-        held = subst (λ n. IsPermutation (item_row item transfer path n ∷ a held_tree) (d held_tree)) (sized ∙ length_concat pieces) (r.held (a held_tree) transfer path 0 p.fresh before);
-        pieces = subst (λ rows. IsPermutation (piece_rows (in_pieces item path pieces) ++ without_rowids rows) (without_rowids (d piece_tree))) p.pieces
-            (subst (λ rows. IsPermutation (piece_rows (in_pieces item path pieces) ++ without_rowids (b piece_tree)) (without_rowids rows)) (sym r.pieces) q.pieces);
-      };
-    }
-
 pub content_then : (a b c d : State) (item transfer : ℤ) (path : List ℕ) (pieces : List (List ℕ)) (size : ℕ) → AreCut pieces → size ≡ length (concat pieces)
     → (IsUnderWay a → IsUnderWay b × AddsItem a.now.trees b.now.trees item transfer path 0) → (IsUnderWay b → IsUnderWay c × AddsPieces b.now.trees c.now.trees (in_pieces item [] pieces))
     → (IsUnderWay c → IsUnderWay d × SetsSize c.now.trees d.now.trees item size) → IsUnderWay a → IsUnderWay d × HasContentMore a.now.trees d.now.trees transfer path (concat pieces)
 content_then a b c d item transfer path pieces size cut sized first second third way =
     let p = first way in
     let q = second p.0 in
-    let r = third q.0 in
-    (r.0, content_more a.now.trees b.now.trees c.now.trees d.now.trees item transfer path pieces size p.1 q.1 r.1 cut sized)
+    let r = third q.0 in (
+      r.0,
+      record {
+        number = item;
+        pieces = pieces;
+        cut = cut;
+        joined = refl;
+        more = item_written a.now.trees b.now.trees c.now.trees d.now.trees transfer item path pieces size sized p.1 q.1 r.1;
+      },
+    )

@@ -1,19 +1,24 @@
 use crate::keeper::{NotCreated, SqlKeeper};
 use crate::reading::names;
 use crate::transfers::sizes;
-use bag_ledger::{KeepFault, Keeper, StoreFault};
+use bag_digest::{Alg, Counted};
+use bag_ledger::{KeepFault, Keeper, PutFault, StoreFault};
+use bag_path::BagPath;
 use bag_rules::{Plan, TagSet};
 use sqlite::{Connection, Error, MemStore};
-use std::alloc::Global;
+use std::alloc::{AllocError, Global};
+use std::io::{self, Read};
 use std::test::Fail;
 
 const DECLARATION: &str = "BagIt-Version: 1.0\nTag-File-Character-Encoding: UTF-8\n";
 
-// The digest of nothing (RFC 6234 section 8.5).
-const MANIFEST: &str =
-    "e3b0c44298fc1c149afbf4c8996fb92427ae41e4649b934ca495991b7852b855  data/e.txt\n";
+// The digests of `abc` and of nothing (FIPS 180-4, example B.1, and RFC 6234 section 8.5), and of 131,073 times `a`.
+const MANIFEST: &str = "ba7816bf8f01cfea414140de5dae2223b00361a396177a9cb410ff61f20015ad  data/a.txt
+e3b0c44298fc1c149afbf4c8996fb92427ae41e4649b934ca495991b7852b855  data/e.txt
+7e009ea4ef882e385b3c0bcbbfa8d009bb0a633bdd764415c09182ee0e75da73  data/m.txt
+";
 
-/// Tag files of a transfer of `data/e.txt`, which is empty.
+/// Tag files of a transfer of `data/a.txt`, which is `abc`, of `data/e.txt`, which is empty, and of `data/m.txt`, which is long.
 fn tag_files(alloc: Global) -> Result<TagSet, Fail> {
     let mut tags = TagSet::new(alloc);
     tags.add("bagit.txt", Vec::from_slice(alloc, DECLARATION.as_bytes())?)?;
@@ -24,12 +29,72 @@ fn tag_files(alloc: Global) -> Result<TagSet, Fail> {
     Ok(tags)
 }
 
-/// Opens a transfer with these tag files.
-fn begin<K: Keeper>(alloc: Global, keeper: &mut K, name: &str) -> Result<(), Fail> {
+/// Opens a transfer with these tag files, and answers its plan.
+fn begin<K: Keeper>(alloc: Global, keeper: &mut K, name: &str) -> Result<Plan, Fail> {
     let tags = tag_files(alloc)?;
-    let _plan = Plan::from_tags(alloc, &tags)?;
+    let plan = Plan::from_tags(alloc, &tags)?;
     keeper.begin(alloc, name, &tags)?;
-    Ok(())
+    Ok(plan)
+}
+
+/// What putting this content into the transfer `t1` is answered.
+fn put<K: Keeper>(
+    alloc: Global,
+    keeper: &mut K,
+    plan: &Plan,
+    path: &str,
+    content: &[u8],
+) -> Result<Result<(), PutFault>, Fail> {
+    let path = BagPath::parse(alloc, path)?;
+    let want = plan.want(&path).ok_or("no manifest lists it")?;
+    Ok(keeper.put(alloc, "t1", &want, content))
+}
+
+/// The same of a reader.
+fn put_from<K: Keeper, R: Read + Drop>(
+    alloc: Global,
+    keeper: &mut K,
+    plan: &Plan,
+    path: &str,
+    reader: R,
+) -> Result<Result<(), PutFault>, Fail> {
+    let path = BagPath::parse(alloc, path)?;
+    let want = plan.want(&path).ok_or("no manifest lists it")?;
+    let mut source = Counted::new(reader);
+    Ok(keeper.put_from(alloc, "t1", &want, &mut source))
+}
+
+/// Fails at once.
+#[derive(Drop)]
+struct Broken;
+
+impl Read for Broken {
+    fn read(&mut self, _buf: &mut [u8]) -> io::Result<usize> {
+        Err(io::Error::from(io::ErrorKind::BrokenPipe))
+    }
+}
+
+/// This many times `a`.
+fn many(alloc: Global, len: usize) -> Result<Vec<u8>, AllocError> {
+    vec![in alloc; b'a'; len]
+}
+
+/// The paths of the payload files that a transfer holds, each with its number of octets.
+fn held<K: Keeper>(alloc: Global, keeper: &mut K, name: &str) -> Result<String, Fail> {
+    let mut text = String::new(alloc);
+    for size in keeper.sizes(alloc, name)? {
+        let line = format!(in alloc; "{} {} ", size.path.as_str(), size.octets)?;
+        text.push_str(line.as_str())?;
+    }
+    Ok(text)
+}
+
+/// The octets that are held of `data/m.txt` in the transfer `t1` from this octet on, up to four of them.
+fn read<K: Keeper>(alloc: Global, keeper: &mut K, offset: u64) -> Result<Vec<u8>, Fail> {
+    let path = BagPath::parse(alloc, "data/m.txt")?;
+    let mut buf = [0; 4];
+    let n = keeper.read_piece(alloc, "t1", &path, offset, &mut buf)?;
+    Ok(Vec::from_slice(alloc, &buf[..n])?)
 }
 
 /// Whether the tag files of this transfer are those that it was opened with.
@@ -156,5 +221,54 @@ fn sizes_are_read_in_the_order_of_paths(rt: HostRuntime) -> Result<(), Fail> {
     write_items(&mut ledger)?;
     let sizes = sizes_in(rt.alloc(), &mut ledger, "t2")?;
     assert_eq!(rt; sizes.as_str(), "data/a.txt 0 data/b.txt 2 ");
+    Ok(())
+}
+
+#[test]
+fn a_payload_file_is_put_that_has_its_digest(rt: HostRuntime) -> Result<(), Fail> {
+    let alloc = rt.alloc();
+    let mut keeper = new_keeper(in_memory(alloc)?)?;
+    let plan = begin(alloc, &mut keeper, "t1")?;
+    begin(alloc, &mut keeper, "t2")?;
+    let other = Err(PutFault::Digest(Alg::Sha256));
+    assert_eq!(rt;
+        put(alloc, &mut keeper, &plan, "data/a.txt", b"abd")?,
+        other
+    );
+    assert_eq!(rt; held(alloc, &mut keeper, "t1")?.as_str(), "");
+    assert_eq!(rt; put(alloc, &mut keeper, &plan, "data/e.txt", b"")?, Ok(()));
+    assert_eq!(rt;
+        put(alloc, &mut keeper, &plan, "data/a.txt", b"abc")?,
+        Ok(())
+    );
+    assert_eq!(rt;
+        held(alloc, &mut keeper, "t1")?.as_str(),
+        "data/a.txt 3 data/e.txt 0 "
+    );
+    assert_eq!(rt; held(alloc, &mut keeper, "t2")?.as_str(), "");
+    Ok(())
+}
+
+#[test]
+fn a_long_payload_file_is_put_in_pieces(rt: HostRuntime) -> Result<(), Fail> {
+    let alloc = rt.alloc();
+    let mut keeper = new_keeper(in_memory(alloc)?)?;
+    let plan = begin(alloc, &mut keeper, "t1")?;
+    let content = many(alloc, 131_073)?;
+    let failed = Err(PutFault::Reader);
+    assert_eq!(rt;
+        put_from(alloc, &mut keeper, &plan, "data/m.txt", Broken)?,
+        failed
+    );
+    assert_eq!(rt;
+        put_from(alloc, &mut keeper, &plan, "data/m.txt", content.as_slice())?,
+        Ok(())
+    );
+    assert_eq!(rt;
+        read(alloc, &mut keeper, 131_072)?.as_slice(),
+        b"a".as_slice()
+    );
+    let mut ledger = keeper.release();
+    assert_eq!(rt; number(&mut ledger, "SELECT count(*) FROM piece")?, 3);
     Ok(())
 }
