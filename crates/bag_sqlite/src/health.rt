@@ -68,6 +68,8 @@ impl Health {
     pub(crate) fn told_of(&mut self, refusal: &NotPut) -> PutFault
         requires { self.old.is_spent ≡ false }
         ensures told { (fault : KeepFault) × (result ≡ put_fault_of fault refusal.now) }
+        ensures memory { (result ≡ Keep Memory)
+            ↔ (refusal.now ≡ NotPut.Store (Error.SqliteFailure ErrorCode.OutOfMemory)) }
         ensures store { UsesStore (λ (health : Health). health.failures)
             (λ (health : Health). IsTrue health.is_spent) self.old self.new
             (λ fault. result ≡ Keep (Store fault)) }
