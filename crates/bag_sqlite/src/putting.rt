@@ -64,6 +64,11 @@ impl From<Error> for NotPut {
 }
 
 /// Puts what a reader gives into the transfer with this name, in one transaction, if it is what is wanted.
+///
+/// # Errors
+///
+/// The first reason why it isn't put. `Store` also where there is no such transfer, or where it holds the path already: then nothing
+/// is read.
 pub(crate) fn put_content<S: Alter, R: Source>(
     connection: &mut Connection<S>,
     name: &str,
