@@ -1,3 +1,4 @@
+pub mod AdoptingLemmas
 pub mod CommitLemmas
 pub mod ContentLemmas
 pub mod CutLemmas
@@ -14,6 +15,7 @@ pub mod NamesLemmas
 pub mod OneLedger
 pub mod OpeningLemmas
 pub mod PieceLemmas
+pub mod PiecesRead
 pub mod PuttingLemmas
 pub mod QueryMeanings
 pub mod ReadingLemmas

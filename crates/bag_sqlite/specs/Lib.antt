@@ -1,3 +1,4 @@
+pub mod Adopting
 pub mod Contents
 pub mod Databases
 pub mod Items

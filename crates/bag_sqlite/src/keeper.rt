@@ -29,8 +29,8 @@ use std::alloc::Global;
 /// What its calls answer is promised of a ledger that [`SqlKeeper::create`] made and that nobody else writes.
 #[derive(Drop)]
 pub struct SqlKeeper<S: Alter> {
-    connection: Connection<S>,
-    health: Health,
+    pub(crate) connection: Connection<S>,
+    pub(crate) health: Health,
     ghost idle: { connection.in_transaction ≡ false },
 }
 

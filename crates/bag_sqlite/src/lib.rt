@@ -1,6 +1,7 @@
 //! Transfers that are kept in a database of SQLite, in ledger format 2.
 #![tactic(auto)]
 
+mod adopting;
 mod health;
 mod items;
 mod keeper;
@@ -14,5 +15,7 @@ mod rows;
 #[cfg(test)]
 mod tests;
 mod transfers;
+mod verifying;
 
+pub use adopting::{AdoptFault, NotAdopted};
 pub use keeper::{NotCreated, SqlKeeper};

@@ -5,6 +5,7 @@ ghost use Rattle.bag_ledger.specs.Ledgers.{Ledger, items_of, tags_of, transfer_o
 ghost use Rattle.bag_rules.specs.Files.{Files};
 ghost use Rattle.bag_rules.specs.Plans.{sizes_of};
 ghost use Rattle.bag_rules.specs.Trees.{AreRising};
+ghost use Rattle.bag_sqlite.specs.Adopting.{files_in};
 ghost use Rattle.bag_sqlite.specs.Making.{IsLeft};
 ghost use Rattle.bag_sqlite.specs.Reading.{HasTransferRow, size_shown, tag_shown};
 ghost use Rattle.bag_sqlite.specs.SqlKeepers.{HoldsLedger};
@@ -126,8 +127,9 @@ fn tags_under<S: Alter>(
 }
 
 /// The tag files in rows that have a path and octets each. Rows of no tag files are a damaged database.
-fn tag_set_in(alloc: Global, rows: &[Row]) -> Result<TagSet, Error>
-    ensures { (files : Files) → AreRising (keys_of files) → rows.now ≡ map tag_shown files
+pub(crate) fn tag_set_in(alloc: Global, rows: &[Row]) -> Result<TagSet, Error>
+    ensures shown { IfOk result (λ tags. tags ≡ files_in rows.now) }
+    ensures files { (files : Files) → AreRising (keys_of files) → rows.now ≡ map tag_shown files
         → IfOk result (λ tags. tags ≡ files) }
 {
     let mut tags = TagSet::new(alloc);
@@ -185,7 +187,7 @@ fn sizes_in(alloc: Global, rows: &[Row]) -> Result<Vec<ItemSize>, Error>
 }
 
 /// The path with these octets. A text that is none is a damaged database.
-fn path_in(alloc: Global, text: &str) -> Result<BagPath, Error>
+pub(crate) fn path_in(alloc: Global, text: &str) -> Result<BagPath, Error>
     ensures { IfOk result (λ path. path ≡ text.now) }
 {
     match BagPath::parse(alloc, text) {

@@ -1,0 +1,114 @@
+-- What a database shows while it is read and verified.
+use Rattle.std.proofs.Common.{ap, Result, Ok, Err, MatchResult, true, IfOk, IfSome, IfNone, Option, None, Some, ◌≡◌, ◌<◌, ◌+◌, ◌++◌, ℕ, ℤ, get_or, suc, take, List, [], ◌∷◌, arith, length, map, inl, refl, subst, sym, ◌∙◌, false, IsTrue}
+use Rattle.std.specs.Prelude.{slice_index_or}
+use Rattle.std.specs.List.{AllByRecursion}
+use Rattle.std.specs.Result.{is_ok}
+use Rattle.std.proofs.Math.Seq.{take-suc}
+use Rattle.std.specs.BTreeMap.{insert_entry}
+use Rattle.std.specs.Cmp.Lexicographic.{slice_cmp}
+use Rattle.std.specs.Ordering.{nat_cmp}
+use Rattle.bag_rules.specs.Files.{Files}
+use Rattle.bag_rules.specs.Transfers.{with_files}
+use Rattle.sqlite.specs.Effect.{Database}
+use Rattle.sqlite.specs.Held.{Held, state}
+use Rattle.sqlite.specs.Order.{Row}
+use Rattle.sqlite.specs.State.{State, Survives}
+use Rattle.sqlite.specs.Store.{Ghosts}
+use Rattle.sqlite.specs.declared.types.Value.{Value}
+use Rattle.sqlite.specs.declared.types.Value.TheVariants.{Int}
+use Rattle.sqlite_value.specs.Order.{bytes, column}
+use Rattle.sqlite.proofs.StateLemmas.{survives_then}
+use Rattle.bag_sqlite.specs.Adopting.{IsRead, Stands, Tells, TellsOne, TransferPasses, file_in}
+use Rattle.bag_sqlite.specs.Making.{IsLeft}
+use Rattle.bag_sqlite.specs.Reading.{ShowsRows}
+use Rattle.bag_sqlite.proofs.ReadingLemmas.{was_open}
+use Rattle.bag_sqlite.proofs.TransferRows.{files_put}
+
+-- READS
+
+pub read_by : (old new : State) → old.in_transaction ≡ false → IsLeft old new → IsRead old new
+read_by old new idle left = record {
+  was_open = left.was_open;
+  committed = left.committed;
+  settled = λ before is_open. left.now is_open idle ∙ sym (left.committed is_open);
+}
+
+pub read_same : (s : State) → IsRead s s
+read_same s = record { was_open = λ h. h; committed = λ _. refl; settled = λ h. h }
+
+pub read_then : (a b c : State) → IsRead a b → IsRead b c → IsRead a c
+read_then a b c p q = record { was_open = λ h. p.was_open (q.was_open h); committed = λ h. q.committed h ∙ p.committed (q.was_open h); settled = λ h. q.settled (p.settled h) }
+
+pub survives_same : (s : State) → Survives s s (λ _. ⊥)
+survives_same s = record { clean = omega arith; shield = λ h. h; counts = omega arith; limit = refl; closes = λ _ h. inl h; crash = λ _ db h. inl h }
+
+pub survives_both : (a b c : State) → Survives a b (λ _. ⊥) → Survives b c (λ _. ⊥) → Survives a c (λ _. ⊥)
+survives_both a b c p q = survives_then a b c _ _ _ (λ _ db none. none) (λ _ db none. none) p q
+
+pub stands_still : (old new : State) (db : Database) → IsRead old new → Stands old db → Stands new db
+stands_still old new db read stands is_open =
+    let was = stands (read.was_open is_open) in
+    let committed = read.committed is_open ∙ was.1 in
+    (read.settled (λ _. was.0 ∙ sym was.1) is_open ∙ committed, committed)
+
+pub told_by : {S : Type 0} (g : Ghosts S) (db : Database) (old : Held S) (sql : List ℕ) (params : Row) (rows : List Row) → Stands (state g old) db → ShowsRows g sql params old rows → Tells g db sql params rows
+told_by g db old sql params rows stands shows =
+    let is_open : IsTrue (state g old).is_open = was_open (state g (record old { in_transaction = _ })) (state g shows.then) sql params rows shows.shown in
+    record { at = old; is = (stands is_open).0; shown = shows }
+
+-- the only row
+pub only_row : (rows : List Row) → length rows ≡ 1 → rows ≡ slice_index_or rows 0 [] ∷ []
+only_row [] one = absurd (omega (arith, one))
+only_row (row ∷ []) one = refl
+only_row (row ∷ next ∷ more) one = absurd (omega (arith, one))
+
+pub no_row : (rows : List Row) → length rows ≡ 0 → rows ≡ []
+no_row [] none = refl
+no_row (row ∷ rows) none = absurd (omega (arith, none))
+
+-- it is the one at its index
+pub row_at : (rows : List Row) (row : Row) → length rows ≡ 1 → row ≡ slice_index_or rows 0 row → slice_index_or rows 0 [] ≡ row
+row_at [] row one is = absurd (omega (arith, one))
+row_at (first ∷ rows) row one is = sym is
+
+pub one_told : {S : Type 0} (g : Ghosts S) (db : Database) (sql : List ℕ) (params : Row) (rows : List Row) (value : Value) → length rows ≡ 1 → column (slice_index_or rows 0 []) 0 ≡ value → Tells g db sql params rows
+    → TellsOne g db sql params value
+one_told g db sql params rows value one is told = record { row = slice_index_or rows 0 []; told = subst (Tells g db sql params) (only_row rows one) told; value_is = is }
+
+-- TAG FILES
+
+pub put_as_with : (files : Files) (rows : List Row) → files_put files rows ≡ with_files files (map file_in rows)
+put_as_with files [] = refl
+put_as_with files (row ∷ rows) = put_as_with (insert_entry (slice_cmp nat_cmp) files (bytes (column row 0)) (bytes (column row 1))) rows
+
+-- ROWS IN TURN
+
+-- the transfer of this row passes
+abbrev pub Verifies : {S : Type 0} → Ghosts S → Database → Row → Type 0
+Verifies g db row = (transfer : ℤ) × (column row 0 ≡ Int transfer) × TransferPasses g db transfer
+
+all_last : {X : Type 0} (P : X → Type 0) (xs : List X) (x : X) → AllByRecursion P xs → P x → AllByRecursion P (xs ++ x ∷ [])
+all_last P [] x all here = (here, tt)
+all_last P (y ∷ xs) x all here = (all.0, all_last P xs x all.1 here)
+
+-- one row more
+pub all_more : (P : Row → Type 0) (rows : List Row) (i : ℕ) (row : Row) → i < length rows → row ≡ get_or rows i row → AllByRecursion P (take i rows) → P row → AllByRecursion P (take (i + 1) rows)
+all_more P rows i row low at all here =
+    let next : i + 1 ≡ suc i = omega arith in
+    let split : take (i + 1) rows ≡ take i rows ++ row ∷ [] = rw next (take-suc rows i row low) ∙ ap (λ r. take i rows ++ r ∷ []) (sym at) in
+    subst (AllByRecursion P) (sym split) (all_last P (take i rows) row all here)
+
+-- what is so of each `Ok` that is there
+pub ok_some : {A E : Type 0} (r : Result (Option A) E) (P Q : A → Type 0) → ((a : A) → P a → Q a) → IfOk r (λ o. IfSome o P) → IfOk r (λ o. IfSome o Q)
+ok_some (Ok (Some a)) P Q f h = f a h
+ok_some (Ok None) P Q f h = tt
+ok_some (Err e) P Q f h = tt
+
+pub ok_none : {A E : Type 0} {P Q : Type 0} (r : Result (Option A) E) → (P → Q) → IfOk r (λ o. IfNone o P) → IfOk r (λ o. IfNone o Q)
+ok_none (Ok (Some a)) f h = tt
+ok_none (Ok None) f h = f h
+ok_none (Err e) f h = tt
+
+pub when_ok : {A E : Type 0} (r : Result A E) (P : A → Type 0) (Q : E → Type 0) → is_ok r ≡ true → MatchResult r P Q → (a : A) × P a
+when_ok (Ok a) P Q is h = (a, h)
+when_ok (Err e) P Q is h = absurd (let no : false ≡ true = is in cc)

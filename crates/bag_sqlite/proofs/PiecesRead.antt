@@ -1,0 +1,76 @@
+-- The pieces of a payload file are read in turn.
+use Rattle.std.proofs.Common.{◌≡◌, ◌<◌, ◌≤◌, ◌+◌, ℕ, zero, suc, ℤ, pos, List, [], ◌∷◌, ◌++◌, Option, Some, None, append-nil, ap, arith, length, length-append, refl, slice_get, subst, sym, ◌∙◌}
+use Rattle.std.specs.List.{AllByRecursion, concat}
+use Rattle.std.proofs.lemmas.List.{append_assoc}
+use Rattle.std.proofs.lemmas.Option.{same_Some}
+use Rattle.bag_digest.specs.Hash.{Holds}
+use Rattle.bag_digest.specs.declared.algorithm.AlgSet.{AlgSet}
+use Rattle.bag_digest.specs.declared.multi.Multi.{Multi}
+use Rattle.bag_digest.specs.declared.reading.TheConstants.{PIECE}
+use Rattle.sqlite.specs.Effect.{Database}
+use Rattle.sqlite.specs.Store.{Ghosts}
+use Rattle.sqlite.specs.declared.types.Value.TheVariants.{Blob, Int}
+use Rattle.bag_sqlite.specs.Adopting.{TellsOne, piece_text}
+use Rattle.bag_sqlite.specs.Databases.{AreCut}
+
+concat_last : (pieces : List (List ℕ)) (piece : List ℕ) → concat (pieces ++ piece ∷ []) ≡ concat pieces ++ piece
+concat_last [] piece = append-nil piece
+concat_last (first ∷ pieces) piece = ap (λ rest. first ++ rest) (concat_last pieces piece) ∙ sym (append_assoc first (concat pieces) piece)
+
+abbrev pub AreFull : List (List ℕ) → Type 0
+AreFull = AllByRecursion (λ piece. length piece ≡ PIECE)
+
+full_last : (pieces : List (List ℕ)) (piece : List ℕ) → AreFull pieces → length piece ≡ PIECE → AreFull (pieces ++ piece ∷ [])
+full_last [] piece full is = (is, tt)
+full_last (first ∷ pieces) piece full is = (full.0, full_last pieces piece full.1 is)
+
+cut_last : (pieces : List (List ℕ)) (piece : List ℕ) → AreFull pieces → 0 < length piece → length piece ≤ PIECE → AreCut (pieces ++ piece ∷ [])
+cut_last [] piece full some most = (some, most)
+cut_last (first ∷ []) piece full some most = (full.0, (some, most))
+cut_last (first ∷ next ∷ more) piece full some most = (full.0, cut_last (next ∷ more) piece full.1 some most)
+
+at_last : (pieces : List (List ℕ)) (last : List ℕ) (P : ℕ → List ℕ → Type 0) → ((n : ℕ) (piece : List ℕ) → slice_get pieces n ≡ Some piece → P n piece) → P (length pieces) last
+    → (n : ℕ) (piece : List ℕ) → slice_get (pieces ++ last ∷ []) n ≡ Some piece → P n piece
+at_last [] last P each here zero piece is = subst (P 0) (same_Some last piece is) here
+at_last [] last P each here (suc n) piece is = absurd (let e : ◌≡◌ {A = Option (List ℕ)} None (Some piece) = is in cc)
+at_last (first ∷ pieces) last P each here zero piece is = each 0 piece is
+at_last (first ∷ pieces) last P each here (suc n) piece is = at_last pieces last (λ m. P (suc m)) (λ m p at. each (suc m) p at) (subst (λ m. P m last) (omega arith) here) n piece is
+
+module _ {S : Type 0} (g : Ghosts S) (db : Database) (item : ℤ) where
+  pub record HasTaken (set : AlgSet) (multi : Multi) (size taken n : ℕ) : Type 0 where
+    pub pieces : List (List ℕ)
+    pub each : (k : ℕ) (piece : List ℕ) → slice_get pieces k ≡ Some piece → TellsOne g db piece_text (Int item ∷ Int (pos k) ∷ []) (Blob piece)
+    pub cut : AreCut pieces
+    pub full : taken < size → AreFull pieces
+    pub taken_is : taken ≡ length (concat pieces)
+    pub count : n ≡ length pieces
+    pub holds : Holds multi set (concat pieces)
+
+  pub nothing_taken : (set : AlgSet) (multi : Multi) (size : ℕ) → Holds multi set [] → HasTaken set multi size 0 0
+  nothing_taken set multi size holds = record {
+    pieces = [];
+    each = λ k piece is. absurd (let e : ◌≡◌ {A = Option (List ℕ)} None (Some piece) = is in cc);
+    cut = tt;
+    full = λ _. tt;
+    taken_is = refl;
+    count = refl;
+    holds = holds;
+  }
+
+  pub one_taken : (set : AlgSet) (multi next : Multi) (size taken n : ℕ) (piece : List ℕ) → HasTaken set multi size taken n → taken < size
+      → 0 < length piece → length piece ≤ PIECE → (taken + length piece < size → length piece ≡ PIECE)
+      → TellsOne g db piece_text (Int item ∷ Int (pos n) ∷ []) (Blob piece)
+      → ((octets : List ℕ) → Holds multi set octets → Holds next set (octets ++ piece))
+      → HasTaken set next size (taken + length piece) (n + 1)
+  one_taken set multi next size taken n piece so_far more some most whole told updates =
+      let joined = concat_last so_far.pieces piece in
+      record {
+        pieces = so_far.pieces ++ piece ∷ [];
+        each = at_last so_far.pieces piece (λ k body. TellsOne g db piece_text (Int item ∷ Int (pos k) ∷ []) (Blob body)) so_far.each
+            (subst (λ k. TellsOne g db piece_text (Int item ∷ Int (pos k) ∷ []) (Blob piece)) so_far.count told);
+        cut = cut_last so_far.pieces piece (so_far.full more) some most;
+        full = λ still. full_last so_far.pieces piece (so_far.full more) (whole still);
+        taken_is = omega (arith, so_far.taken_is, ap length joined, length-append (concat so_far.pieces) piece);
+        count = omega (arith, so_far.count, length-append so_far.pieces (piece ∷ []));
+        holds = subst (Holds next set) (sym joined) (updates (concat so_far.pieces) so_far.holds);
+      }

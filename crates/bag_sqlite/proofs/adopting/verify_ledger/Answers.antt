@@ -1,0 +1,22 @@
+use Rattle.std.proofs.Common.{IsTrue, arith, refl, rules}
+use Rattle.sqlite.specs.Held.{state}
+use Rattle.sqlite.specs.State.{HasCleanDisk}
+use Rattle.bag_sqlite.specs.Adopting.{Stands}
+use Rattle.bag_sqlite.proofs.AdoptingLemmas.{stands_still}
+use Rattle.bag_sqlite.proofs.SqlLemmas.{on_ok}
+use Rattle.bag_sqlite.proofs.adopting.verify_ledger.Goals as goal
+
+pub returns-clause-verified : goal.returns-clause-verified
+returns-clause-verified g c clean =
+    let s0 = state g.S.Store c.args.connection.now in
+    let s1 = state g.S.Store c.test_format.new.connection in
+    let s2 = state g.S.Store c.test_rows.new.connection in
+    let c2 : HasCleanDisk s2 = omega (arith, clean, c.verify_transfers.ensures.survives.clean) in
+    let c1 : HasCleanDisk s1 = omega (arith, c2, c.test_rows.ensures.survives.clean) in
+    let db = s0.committed in
+    let idle : IsTrue c.is_autocommit.result = search rules in
+    let d0 : Stands s0 db = λ is_open. (c.is_autocommit.ensures.settled idle is_open, refl) in
+    let d1 = stands_still s0 s1 db (c.test_format.ensures.read c1) d0 in
+    let d2 = stands_still s1 s2 db (c.test_rows.ensures.read c2) d1 in
+    on_ok c.verify_transfers.result (λ transfers. record { format = c.in_ok-test_format.ensures.format c1 db d0; none_stray = c.in_ok-test_rows.ensures.none c2 db d1; transfers = transfers })
+    (c.verify_transfers.ensures.verified clean db d2)

@@ -1,0 +1,68 @@
+use Rattle.std.proofs.Common.{FitsSigned, to_z, ap, subst, sym, [], ◌∷◌, ◌≡◌, ◌<◌, ◌≤◌, ◌^◌, ◌+◌, ◌∙◌, arith, length, pos, rules, w64}
+use Rattle.std.specs.List.{concat}
+use Rattle.std.proofs.Math.Facts.{to_z_pos}
+use Rattle.std.proofs.lemmas.Int.{to_z-of_z}
+use Rattle.bag_digest.specs.declared.reading.TheConstants.{PIECE}
+use Rattle.sqlite.specs.Held.{state}
+use Rattle.sqlite.specs.State.{HasCleanDisk}
+use Rattle.sqlite.specs.declared.types.Value.TheVariants.{Int}
+use Rattle.bag_sqlite.specs.Adopting.{TellsOne, count_text}
+use Rattle.bag_sqlite.proofs.AdoptingLemmas.{read_same, read_then, stands_still, survives_both, survives_same}
+use Rattle.bag_sqlite.proofs.PiecesRead.{nothing_taken, one_taken}
+use Rattle.bag_sqlite.proofs.verifying.digests_of.Goals as goal
+
+pub loop-taken-init : goal.loop-taken-init
+loop-taken-init g c =
+    let s = state g.S.Store c.args.connection.now in
+    record {
+      idle = c.requires.idle;
+      survives = survives_same s;
+      read = λ _. read_same s;
+      within = omega arith;
+      few = omega arith;
+      pieces = λ clean db stands. nothing_taken g.S.Store db _ c.args.set c.new-multi.result c.args.size c.new-multi.ensures;
+    }
+
+pub loop-taken-preserved : goal.loop-taken-preserved
+loop-taken-preserved g c =
+    let old = state g.S.Store c.args.connection.now in
+    let mid = state g.S.Store c.loop-taken.connection in
+    let new = state g.S.Store c.piece_of.new.connection in
+    let before = λ (clean : HasCleanDisk new). let early : HasCleanDisk mid = omega (arith, clean, c.piece_of.ensures.survives.clean) in early in
+    let taken = c.loop-taken.taken in
+    let so_far = c.loop-taken.invariant in
+    let body = c.in-Some.piece.items in
+    let size : length body ≡ c.min.result = rw c.in-Some.is at c.in_ok-piece.ensures.whole in
+    let some : 0 < length body = omega (arith, size, c.min.ensures, c.loop-taken-test.true) in
+    let most : length body ≤ PIECE = omega (arith, size, c.min.ensures) in
+    let fits : taken + length body ≤ c.args.size = omega (arith, size, c.min.ensures, c.loop-taken-test.true) in
+    let low : c.loop-taken.n < 2 ^ 63 = omega (arith, so_far.few, so_far.within, c.requires.within) in
+    let counted : c.len.result ≡ length body = search rules in
+    record {
+      idle = c.piece_of.ensures.idle;
+      survives = survives_both old mid new so_far.survives c.piece_of.ensures.survives;
+      read = λ clean. read_then old mid new (so_far.read (before clean)) (c.piece_of.ensures.read clean);
+      within = omega (arith, fits, counted);
+      few = omega (arith, so_far.few, some, counted);
+      pieces = λ clean db stands.
+          let still = stands_still old mid db (so_far.read (before clean)) stands in
+          let told = rw (c.in-Some.is, to_z-of_z w64 c.args.item c.ranges.item, to_z_pos w64 low) at (c.in_ok-piece.ensures.piece clean db still) in
+          let pieces = rw (to_z-of_z w64 c.args.item c.ranges.item) at (so_far.pieces (before clean) db stands) in
+          rw (to_z-of_z w64 c.args.item c.ranges.item, counted) (one_taken g.S.Store db c.args.item c.args.set c.loop-taken.multi c.update.new.self c.args.size taken c.loop-taken.n body pieces c.loop-taken-test.true some most
+          (λ more. omega (arith, more, size, c.min.ensures)) told (λ octets. rw c.as_slice.ensures.value at (c.update.ensures c.args.set octets)));
+    }
+
+pub returns-clause-digests : goal.returns-clause-digests
+returns-clause-digests g c clean db stands =
+    let old = state g.S.Store c.args.connection.now in
+    let mid = state g.S.Store c.loop-taken.connection in
+    let early : HasCleanDisk mid = omega (arith, clean, c.count_of.ensures.survives.clean) in
+    let so_far = rw (to_z-of_z w64 c.args.item c.ranges.item) at (c.loop-taken.invariant.pieces early db stands) in
+    let still = stands_still old mid db (c.loop-taken.invariant.read early) stands in
+    let count = rw (to_z-of_z w64 c.args.item c.ranges.item) at (c.in_ok-count_of.ensures.count clean db still) in
+    let all : c.args.size ≡ length (concat so_far.pieces) = omega (arith, so_far.taken_is, c.loop-taken.invariant.within, c.loop-taken-test.false) in
+    let low : c.loop-taken.n < 2 ^ 63 = omega (arith, c.loop-taken.invariant.few, c.loop-taken.invariant.within, c.requires.within) in
+    let number = c.in_ok-count_of.field-0 in
+    let fits : FitsSigned w64 number = search rules in
+    let same : number ≡ pos (length so_far.pieces) = sym (to_z-of_z w64 number fits) ∙ ap (to_z w64) c.if-branch-n.false ∙ to_z_pos w64 low ∙ ap pos so_far.count in
+    (so_far.pieces, record { each = so_far.each; count = subst (λ m. TellsOne g.S.Store db count_text (Int c.args.item ∷ []) (Int m)) same count; cut = so_far.cut }, all, c.finish.ensures c.args.set (concat so_far.pieces) so_far.holds)

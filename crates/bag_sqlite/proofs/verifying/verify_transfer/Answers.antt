@@ -1,0 +1,31 @@
+use Rattle.std.proofs.Common.{List, IfSome, [], ◌∷◌, arith, subst, w64}
+use Rattle.sqlite.specs.Order.{Row}
+use Rattle.bag_rules.specs.Plans.{IsPlanOf}
+use Rattle.bag_rules.specs.declared.plan.Plan.{Plan}
+use Rattle.std.proofs.lemmas.Int.{to_z-of_z}
+use Rattle.sqlite.specs.Held.{state}
+use Rattle.sqlite.specs.State.{HasCleanDisk}
+use Rattle.sqlite.specs.declared.types.Value.TheVariants.{Int}
+use Rattle.bag_sqlite.proofs.AdoptingLemmas.{stands_still}
+use Rattle.bag_sqlite.specs.Adopting.{Tells, files_in, tag_files_text}
+use Rattle.bag_sqlite.proofs.verifying.verify_transfer.Goals as goal
+
+pub returns-in-None-clause-verified : goal.returns-in-None-clause-verified
+returns-in-None-clause-verified g c clean db stands =
+    let old = state g.S.Store c.args.connection.now in
+    let mid = state g.S.Store c.plan_of.new.connection in
+    let early : HasCleanDisk mid = omega (arith, clean, c.first_damaged.ensures.survives.clean) in
+    let so : Plan → Type 0 = λ plan. (rows : List Row) × Tells g.S.Store db tag_files_text (Int c.args.transfer ∷ []) rows × IsPlanOf (files_in rows) plan in
+    let given : IfSome c.in_ok-plan.field-0 so = rw (to_z-of_z w64 c.args.transfer c.ranges.transfer) at (c.in_ok-plan.ensures.plan early db stands) in
+    let plan = subst (λ o. IfSome o so) c.in-Some.is given in
+    let still = stands_still old mid db (c.in_ok-plan.ensures.read early) stands in
+    let items = rw (c.in-None.is, to_z-of_z w64 c.args.transfer c.ranges.transfer) at (c.in_ok-path.ensures.passing clean db still (files_in plan.0) plan.2) in
+    record {
+      tag_rows = plan.0;
+      tags_told = plan.1;
+      tag_files = plan.2.tag_files;
+      opens = plan.2.opens;
+      item_rows = items.0;
+      items_told = items.1;
+      items = items.2;
+    }

@@ -1,0 +1,221 @@
+//! A database is taken as the ledger that it holds.
+ghost use Rattle.std.specs.Prelude.{◌≡◌, ℕ, ℤ, pos, [], ◌∷◌, IfErr, IfOk, MatchResult, OnOk, codes, false};
+ghost use Rattle.std.specs.List.{AllByRecursion};
+ghost use Rattle.bag_ledger.specs.Ledgers.{Ledger};
+ghost use Rattle.bag_sqlite.specs.Adopting.{HasFormat, IsRead, IsVerified, Stands, Tells, stray_texts};
+ghost use Rattle.bag_sqlite.specs.Making.{IsLeft};
+ghost use Rattle.bag_sqlite.specs.SqlKeepers.{HoldsLedger};
+ghost use Rattle.sqlite.specs.Effect.{Database};
+ghost use Rattle.sqlite.specs.Held.{state};
+ghost use Rattle.sqlite.specs.Order.{Row, column};
+ghost use Rattle.sqlite.specs.State.{HasCleanDisk, Survives};
+ghost use Rattle.sqlite.specs.Values.{bound};
+ghost use Rattle.sqlite.specs.declared.types.Value.TheVariants.{Int, Text};
+
+use crate::health::Health;
+use crate::keeper::SqlKeeper;
+use crate::reading::query;
+use crate::verifying::verify_transfers;
+use bag_ledger::{KeepFault, StoreFault};
+use sqlite::types::ValueRef;
+use sqlite::{Alter, Connection, Error, ErrorCode, Row};
+use thiserror::Error as ErrorText;
+
+#[cfg(test)]
+mod tests;
+
+/// Why a database isn't taken as a ledger. Where several hold, the first in this order is answered; `Keep` may come in place of any.
+#[derive(Debug, Drop, ErrorText)]
+pub enum AdoptFault {
+    /// It hasn't the tables of a ledger, or rows that no ledger has: of another format, or that belong to nothing.
+    #[error("not a ledger")]
+    NotALedger,
+    /// It is a ledger of format 1.
+    #[error("a ledger of an old format")]
+    OldFormat,
+    /// The tag files of a transfer open no transfer, or a payload file isn't listed, isn't there whole or doesn't pass: the least
+    /// such name, and the least such path.
+    #[error("damaged")]
+    Damaged {
+        /// The transfer's name.
+        name: String,
+        /// The path of the payload file; empty where it is the tag files.
+        path: String,
+    },
+    /// Memory ran out, or the store failed.
+    #[error("no answer")]
+    Keep(KeepFault),
+}
+
+impl From<Error> for AdoptFault {
+    fn from(error: Error) -> AdoptFault {
+        match error {
+            Error::SqliteFailure(ErrorCode::OutOfMemory) => AdoptFault::Keep(KeepFault::Memory),
+            Error::SqliteFailure(ErrorCode::NotADatabase) => AdoptFault::NotALedger,
+            Error::SqliteFailure(_) => AdoptFault::Keep(KeepFault::Store(StoreFault::Refused)),
+            _ => AdoptFault::NotALedger,
+        }
+    }
+}
+
+/// Why no ledger was taken, and the connection, whose database is as it was.
+#[derive(Drop)]
+pub struct NotAdopted<S: Alter> {
+    /// Why.
+    pub fault: AdoptFault,
+    /// The connection that was handed in.
+    pub connection: Connection<S>,
+}
+
+impl<S: Alter> SqlKeeper<S> {
+    /// Takes a database as the ledger that it holds, once each of its transfers and payload files was read and verified.
+    pub fn adopt(connection: Connection<S>) -> Result<SqlKeeper<S>, NotAdopted<S>>
+        ensures verified { IfOk result (λ keeper. HasCleanDisk (state S.Store keeper.connection)
+            → IsVerified S.Store (state S.Store connection).committed) }
+        ensures held { IfOk result (λ keeper. HasCleanDisk (state S.Store keeper.connection)
+            → (ledger : Ledger) → HoldsLedger (state S.Store connection) ledger
+            → HoldsLedger (state S.Store keeper.connection) ledger) }
+        ensures unfailed { IfOk result (λ keeper. (keeper.health.is_spent ≡ false)
+            × (keeper.health.failures ≡ 0)) }
+        ensures handed_back { IfErr result (λ refused.
+            HasCleanDisk (state S.Store refused.connection)
+            → IsLeft (state S.Store connection) (state S.Store refused.connection)) }
+        ensures survives { MatchResult result
+            (λ keeper. Survives (state S.Store connection) (state S.Store keeper.connection)
+            (λ _. ⊥))
+            (λ refused. Survives (state S.Store connection) (state S.Store refused.connection)
+            (λ _. ⊥)) }
+    {
+        let mut connection = connection;
+        match verify_ledger(&mut connection) {
+            Ok(()) => Ok(SqlKeeper {
+                connection,
+                health: Health::new(),
+            }),
+            Err(fault) => Err(NotAdopted { fault, connection }),
+        }
+    }
+}
+
+/// Reads a database and verifies what it holds.
+fn verify_ledger<S: Alter>(connection: &mut Connection<S>) -> Result<(), AdoptFault>
+    ensures verified { HasCleanDisk (state S.Store connection.new)
+        → OnOk result (IsVerified S.Store (state S.Store connection.old).committed) }
+    ensures left { HasCleanDisk (state S.Store connection.new)
+        → IsLeft (state S.Store connection.old) (state S.Store connection.new) }
+    ensures idle { OnOk result ((state S.Store connection.old).in_transaction ≡ false) }
+    ensures mode { (state S.Store connection.new).in_transaction
+        ≡ (state S.Store connection.old).in_transaction }
+    ensures survives { Survives (state S.Store connection.old) (state S.Store connection.new)
+        (λ _. ⊥) }
+{
+    if !connection.is_autocommit() {
+        return Err(AdoptFault::Keep(KeepFault::Store(StoreFault::Refused)));
+    }
+    test_format(connection)?;
+    test_rows(connection)?;
+    verify_transfers(connection)
+}
+
+/// Tells whether the one format that a database names is the one that is read here.
+fn test_format<S: Alter>(connection: &mut Connection<S>) -> Result<(), AdoptFault>
+    requires idle { connection.old.in_transaction ≡ false }
+    ensures format { HasCleanDisk (state S.Store connection.new) → (db : Database)
+        → Stands (state S.Store connection.old) db
+        → OnOk result (HasFormat S.Store db (pos 2)) }
+    ensures read { HasCleanDisk (state S.Store connection.new)
+        → IsRead (state S.Store connection.old) (state S.Store connection.new) }
+    ensures idle { connection.new.in_transaction ≡ false }
+    ensures survives { Survives (state S.Store connection.old) (state S.Store connection.new)
+        (λ _. ⊥) }
+{
+    let rows = rows_of(connection, "SELECT k, v FROM meta", &[])?;
+    match format_in(rows.as_slice())? {
+        2 => Ok(()),
+        1 => Err(AdoptFault::OldFormat),
+        _ => Err(AdoptFault::NotALedger),
+    }
+}
+
+/// The format's number in the only row.
+fn format_in(rows: &[Row]) -> Result<i64, AdoptFault>
+    ensures { IfOk result (λ format. (row : Row) × (rows.now ≡ row ∷ [])
+        × (column row 0 ≡ Text (codes "bag-ledger")) × (column row 1 ≡ Int format)) }
+{
+    if rows.len() != 1 {
+        return Err(AdoptFault::NotALedger);
+    }
+    let name: String = rows[0].get(0)?;
+    if name.as_str() != "bag-ledger" {
+        return Err(AdoptFault::NotALedger);
+    }
+    Ok(rows[0].get(1)?)
+}
+
+/// Tells whether each row belongs to something.
+fn test_rows<S: Alter>(connection: &mut Connection<S>) -> Result<(), AdoptFault>
+    requires idle { connection.old.in_transaction ≡ false }
+    ensures none { HasCleanDisk (state S.Store connection.new) → (db : Database)
+        → Stands (state S.Store connection.old) db
+        → OnOk result (AllByRecursion (λ text. Tells S.Store db text [] []) stray_texts) }
+    ensures read { HasCleanDisk (state S.Store connection.new)
+        → IsRead (state S.Store connection.old) (state S.Store connection.new) }
+    ensures idle { connection.new.in_transaction ≡ false }
+    ensures survives { Survives (state S.Store connection.old) (state S.Store connection.new)
+        (λ _. ⊥) }
+{
+    test_none(
+        connection,
+        "SELECT 1 FROM transfer WHERE typeof(id) <> 'integer' OR typeof(name) <> 'text'",
+    )?;
+    test_none(
+        connection,
+        "SELECT 1 FROM tag WHERE typeof(path) <> 'text' OR typeof(body) <> 'blob' OR NOT EXISTS (SELECT 1 FROM transfer WHERE id = tag.transfer)",
+    )?;
+    test_none(
+        connection,
+        "SELECT 1 FROM held WHERE typeof(id) <> 'integer' OR typeof(path) <> 'text' OR typeof(size) <> 'integer' OR NOT EXISTS (SELECT 1 FROM transfer WHERE id = held.transfer)",
+    )?;
+    test_none(
+        connection,
+        "SELECT 1 FROM piece WHERE typeof(n) <> 'integer' OR typeof(body) <> 'blob' OR NOT EXISTS (SELECT 1 FROM held WHERE id = piece.item)",
+    )
+}
+
+/// Tells whether a text shows no row.
+fn test_none<S: Alter>(connection: &mut Connection<S>, sql: &str) -> Result<(), AdoptFault>
+    requires idle { connection.old.in_transaction ≡ false }
+    ensures none { HasCleanDisk (state S.Store connection.new) → (db : Database)
+        → Stands (state S.Store connection.old) db
+        → OnOk result (Tells S.Store db sql.now [] []) }
+    ensures read { HasCleanDisk (state S.Store connection.new)
+        → IsRead (state S.Store connection.old) (state S.Store connection.new) }
+    ensures idle { connection.new.in_transaction ≡ false }
+    ensures survives { Survives (state S.Store connection.old) (state S.Store connection.new)
+        (λ _. ⊥) }
+{
+    if rows_of(connection, sql, &[])?.is_empty() {
+        Ok(())
+    } else {
+        Err(AdoptFault::NotALedger)
+    }
+}
+
+/// All rows that a text shows.
+pub(crate) fn rows_of<S: Alter>(
+    connection: &mut Connection<S>,
+    sql: &str,
+    params: &[ValueRef<'_>],
+) -> Result<Vec<Row>, AdoptFault>
+    requires idle { connection.old.in_transaction ≡ false }
+    ensures rows { HasCleanDisk (state S.Store connection.new) → (db : Database)
+        → Stands (state S.Store connection.old) db
+        → IfOk result (λ rows. Tells S.Store db sql.now (bound params.now) rows.items) }
+    ensures read { HasCleanDisk (state S.Store connection.new)
+        → IsRead (state S.Store connection.old) (state S.Store connection.new) }
+    ensures idle { connection.new.in_transaction ≡ false }
+    ensures survives { Survives (state S.Store connection.old) (state S.Store connection.new)
+        (λ _. ⊥) }
+{
+    Ok(query(connection, sql, params)?)
+}

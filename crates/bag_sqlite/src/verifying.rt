@@ -1,0 +1,341 @@
+//! The transfers of a database are read and verified, each payload file piece by piece.
+ghost use Rattle.std.specs.Prelude.{◌≡◌, ◌≤◌, ℕ, ℤ, pos, List, [], ◌∷◌, IfNone, IfOk, IfSome, IsTrue, OnOk, Ok, false, length};
+ghost use Rattle.std.specs.List.{AllByRecursion, concat};
+ghost use Rattle.bag_digest.specs.Hash.{AreDigests};
+ghost use Rattle.bag_rules.specs.Files.{Files};
+ghost use Rattle.bag_rules.specs.Plans.{IsPlanOf};
+ghost use Rattle.bag_rules.specs.declared.limits.TheConstants.{LARGEST_ITEM as LARGEST};
+ghost use Rattle.bag_sqlite.specs.Adopting.{HasPieces, IsRead, ItemPasses, RowPasses, Stands, Tells, TellsOne, TransferPasses, TransfersPass, count_text, files_in, items_text, piece_text, tag_files_text};
+ghost use Rattle.sqlite.specs.Effect.{Database};
+ghost use Rattle.sqlite.specs.Held.{state};
+ghost use Rattle.sqlite.specs.Order.{column, Row};
+ghost use Rattle.sqlite.specs.State.{HasCleanDisk, Survives};
+ghost use Rattle.sqlite.specs.declared.types.Value.TheVariants.{Blob, Int};
+
+use crate::adopting::{AdoptFault, rows_of};
+use crate::transfers::{path_in, tag_set_in};
+use bag_digest::{AlgSet, Digests, Multi, PIECE};
+use bag_ledger::KeepFault;
+use bag_rules::limits::LARGEST_ITEM;
+use bag_rules::{Plan, PlanFault};
+use sqlite::{Alter, Connection, Error, ErrorCode, Row, params};
+use std::alloc::Global;
+
+/// Verifies each transfer, by name.
+pub(crate) fn verify_transfers<S: Alter>(connection: &mut Connection<S>) -> Result<(), AdoptFault>
+    requires idle { connection.old.in_transaction ≡ false }
+    ensures verified { HasCleanDisk (state S.Store connection.new) → (db : Database)
+        → Stands (state S.Store connection.old) db
+        → OnOk result (TransfersPass S.Store db) }
+    ensures read { HasCleanDisk (state S.Store connection.new)
+        → IsRead (state S.Store connection.old) (state S.Store connection.new) }
+    ensures idle { connection.new.in_transaction ≡ false }
+    ensures survives { Survives (state S.Store connection.old) (state S.Store connection.new)
+        (λ _. ⊥) }
+{
+    let rows = rows_of(
+        connection,
+        "SELECT id, name FROM transfer ORDER BY name",
+        &[],
+    )?;
+    verify_rows(*rows.allocator(), connection, rows.as_slice())
+}
+
+/// Verifies the transfers that have these numbers and names.
+fn verify_rows<S: Alter>(
+    alloc: Global,
+    connection: &mut Connection<S>,
+    rows: &[Row],
+) -> Result<(), AdoptFault>
+    requires idle { connection.old.in_transaction ≡ false }
+    ensures verified { HasCleanDisk (state S.Store connection.new) → (db : Database)
+        → Stands (state S.Store connection.old) db
+        → OnOk result (AllByRecursion (λ row. (transfer : ℤ)
+        × (column row 0 ≡ Int transfer) × TransferPasses S.Store db transfer) rows.now) }
+    ensures read { HasCleanDisk (state S.Store connection.new)
+        → IsRead (state S.Store connection.old) (state S.Store connection.new) }
+    ensures idle { connection.new.in_transaction ≡ false }
+    ensures survives { Survives (state S.Store connection.old) (state S.Store connection.new)
+        (λ _. ⊥) }
+{
+    for row in rows {
+        verify_transfer(alloc, connection, row.get(0)?, row.get(1)?)?;
+    }
+    Ok(())
+}
+
+/// Verifies the tag files of a transfer, and then its payload files by path.
+fn verify_transfer<S: Alter>(
+    alloc: Global,
+    connection: &mut Connection<S>,
+    transfer: i64,
+    name: String,
+) -> Result<(), AdoptFault>
+    requires idle { connection.old.in_transaction ≡ false }
+    ensures verified { HasCleanDisk (state S.Store connection.new) → (db : Database)
+        → Stands (state S.Store connection.old) db
+        → OnOk result (TransferPasses S.Store db transfer) }
+    ensures read { HasCleanDisk (state S.Store connection.new)
+        → IsRead (state S.Store connection.old) (state S.Store connection.new) }
+    ensures idle { connection.new.in_transaction ≡ false }
+    ensures survives { Survives (state S.Store connection.old) (state S.Store connection.new)
+        (λ _. ⊥) }
+{
+    let Some(plan) = plan_of(alloc, connection, transfer)? else {
+        let path = String::new(alloc);
+        return Err(AdoptFault::Damaged { name, path });
+    };
+    match first_damaged(alloc, connection, transfer, &plan)? {
+        Some(path) => Err(AdoptFault::Damaged { name, path }),
+        None => Ok(()),
+    }
+}
+
+/// The plan of the transfer with this number, if its tag files open one.
+fn plan_of<S: Alter>(
+    alloc: Global,
+    connection: &mut Connection<S>,
+    transfer: i64,
+) -> Result<Option<Plan>, AdoptFault>
+    requires idle { connection.old.in_transaction ≡ false }
+    ensures plan { HasCleanDisk (state S.Store connection.new) → (db : Database)
+        → Stands (state S.Store connection.old) db
+        → IfOk result (λ plan. IfSome plan (λ plan. (rows : List Row)
+        × Tells S.Store db tag_files_text (Int transfer ∷ []) rows
+        × IsPlanOf (files_in rows) plan)) }
+    ensures read { HasCleanDisk (state S.Store connection.new)
+        → IsRead (state S.Store connection.old) (state S.Store connection.new) }
+    ensures idle { connection.new.in_transaction ≡ false }
+    ensures survives { Survives (state S.Store connection.old) (state S.Store connection.new)
+        (λ _. ⊥) }
+{
+    let rows = rows_of(
+        connection,
+        "SELECT path, body FROM tag WHERE transfer = ?1 ORDER BY path",
+        params![transfer],
+    )?;
+    plan_in(alloc, rows.as_slice())
+}
+
+/// The plan of the transfer with the tag files in these rows, if they open one.
+fn plan_in(alloc: Global, rows: &[Row]) -> Result<Option<Plan>, AdoptFault>
+    ensures { IfOk result (λ plan. IfSome plan (IsPlanOf (files_in rows.now))) }
+{
+    let Some(tags) = unless_corrupt(tag_set_in(alloc, rows))? else {
+        return Ok(None);
+    };
+    match Plan::from_tags(alloc, &tags) {
+        Ok(plan) => Ok(Some(plan)),
+        Err(PlanFault::Memory) => Err(AdoptFault::Keep(KeepFault::Memory)),
+        Err(_) => Ok(None),
+    }
+}
+
+/// What was read, unless it can't be read as what it is to be.
+fn unless_corrupt<T: Drop>(read: Result<T, Error>) -> Result<Option<T>, AdoptFault>
+    ensures { IfOk result (λ value. IfSome value (λ value. read ≡ Ok value)) }
+{
+    match read {
+        Ok(value) => Ok(Some(value)),
+        Err(Error::SqliteFailure(ErrorCode::DatabaseCorrupt)) => Ok(None),
+        Err(error) => Err(error)?,
+    }
+}
+
+/// The least path of a payload file of a transfer that doesn't pass, if there is one.
+fn first_damaged<S: Alter>(
+    alloc: Global,
+    connection: &mut Connection<S>,
+    transfer: i64,
+    plan: &Plan,
+) -> Result<Option<String>, AdoptFault>
+    requires idle { connection.old.in_transaction ≡ false }
+    ensures passing { HasCleanDisk (state S.Store connection.new) → (db : Database)
+        → Stands (state S.Store connection.old) db
+        → (tags : Files) → IsPlanOf tags plan.now
+        → IfOk result (λ path. IfNone path ((rows : List Row)
+        × Tells S.Store db items_text (Int transfer ∷ []) rows
+        × AllByRecursion (RowPasses S.Store db tags) rows)) }
+    ensures read { HasCleanDisk (state S.Store connection.new)
+        → IsRead (state S.Store connection.old) (state S.Store connection.new) }
+    ensures idle { connection.new.in_transaction ≡ false }
+    ensures survives { Survives (state S.Store connection.old) (state S.Store connection.new)
+        (λ _. ⊥) }
+{
+    let rows = rows_of(
+        connection,
+        "SELECT id, path, size FROM held WHERE transfer = ?1 ORDER BY path",
+        params![transfer],
+    )?;
+    damaged_in(alloc, connection, plan, rows.as_slice())
+}
+
+/// The path of the first payload file in these rows that doesn't pass, if there is one.
+fn damaged_in<S: Alter>(
+    alloc: Global,
+    connection: &mut Connection<S>,
+    plan: &Plan,
+    rows: &[Row],
+) -> Result<Option<String>, AdoptFault>
+    requires idle { connection.old.in_transaction ≡ false }
+    ensures passing { HasCleanDisk (state S.Store connection.new) → (db : Database)
+        → Stands (state S.Store connection.old) db
+        → (tags : Files) → IsPlanOf tags plan.now → IfOk result (λ path. IfNone path
+        (AllByRecursion (RowPasses S.Store db tags) rows.now)) }
+    ensures read { HasCleanDisk (state S.Store connection.new)
+        → IsRead (state S.Store connection.old) (state S.Store connection.new) }
+    ensures idle { connection.new.in_transaction ≡ false }
+    ensures survives { Survives (state S.Store connection.old) (state S.Store connection.new)
+        (λ _. ⊥) }
+{
+    for row in rows {
+        let item = row.get(0)?;
+        let path: String = row.get(1)?;
+        let size = row.get(2)?;
+        if !passes(alloc, connection, plan, item, path.as_str(), size)? {
+            return Ok(Some(path));
+        }
+    }
+    Ok(None)
+}
+
+/// Whether a payload file is listed, and is there whole with the content that is wanted.
+fn passes<S: Alter>(
+    alloc: Global,
+    connection: &mut Connection<S>,
+    plan: &Plan,
+    item: i64,
+    path: &str,
+    size: i64,
+) -> Result<bool, AdoptFault>
+    requires idle { connection.old.in_transaction ≡ false }
+    ensures passing { HasCleanDisk (state S.Store connection.new) → (db : Database)
+        → Stands (state S.Store connection.old) db
+        → (tags : Files) → IsPlanOf tags plan.now → IfOk result (λ passing. IsTrue passing
+        → ItemPasses S.Store db tags item path.now size) }
+    ensures read { HasCleanDisk (state S.Store connection.new)
+        → IsRead (state S.Store connection.old) (state S.Store connection.new) }
+    ensures idle { connection.new.in_transaction ≡ false }
+    ensures survives { Survives (state S.Store connection.old) (state S.Store connection.new)
+        (λ _. ⊥) }
+{
+    let Some(path) = unless_corrupt(path_in(alloc, path))? else {
+        return Ok(false);
+    };
+    let Some(want) = plan.want(&path) else {
+        return Ok(false);
+    };
+    let Some(size) = size_in(size) else {
+        return Ok(false);
+    };
+    match digests_of(connection, item, size, want.algs())? {
+        Some(digests) => Ok(want.test(size, &digests).is_ok()),
+        None => Ok(false),
+    }
+}
+
+/// The size of a payload file that is within the limit.
+fn size_in(size: i64) -> Option<u64>
+    ensures { IfSome result (λ octets. (size ≡ pos octets) × (octets ≤ LARGEST)) }
+{
+    if size < 0 || size as u64 > LARGEST_ITEM {
+        return None;
+    }
+    Some(size as u64)
+}
+
+/// The digests of the pieces of a payload file, if they are those of this size.
+fn digests_of<S: Alter>(
+    connection: &mut Connection<S>,
+    item: i64,
+    size: u64,
+    set: AlgSet,
+) -> Result<Option<Digests>, AdoptFault>
+    requires idle { connection.old.in_transaction ≡ false }
+    requires within { size ≤ LARGEST }
+    ensures digests { HasCleanDisk (state S.Store connection.new) → (db : Database)
+        → Stands (state S.Store connection.old) db
+        → IfOk result (λ digests. IfSome digests (λ digests. (pieces : List (List ℕ))
+        × HasPieces S.Store db item pieces × (size ≡ length (concat pieces))
+        × AreDigests digests set (concat pieces))) }
+    ensures read { HasCleanDisk (state S.Store connection.new)
+        → IsRead (state S.Store connection.old) (state S.Store connection.new) }
+    ensures idle { connection.new.in_transaction ≡ false }
+    ensures survives { Survives (state S.Store connection.old) (state S.Store connection.new)
+        (λ _. ⊥) }
+{
+    let mut multi = Multi::new(set);
+    let mut taken = 0;
+    let mut n: u64 = 0;
+    while taken < size {
+        let Some(piece) = piece_of(connection, item, n as i64, (size - taken).min(PIECE as u64))?
+        else {
+            return Ok(None);
+        };
+        multi.update(piece.as_slice());
+        taken += piece.len() as u64;
+        n += 1;
+    }
+    if count_of(connection, item)? != n as i64 {
+        return Ok(None);
+    }
+    Ok(Some(multi.finish()))
+}
+
+/// The piece of a payload file with this number, if there is one and it has so many octets.
+fn piece_of<S: Alter>(
+    connection: &mut Connection<S>,
+    item: i64,
+    n: i64,
+    octets: u64,
+) -> Result<Option<Vec<u8>>, AdoptFault>
+    requires idle { connection.old.in_transaction ≡ false }
+    ensures piece { HasCleanDisk (state S.Store connection.new) → (db : Database)
+        → Stands (state S.Store connection.old) db
+        → IfOk result (λ piece. IfSome piece (λ piece.
+        TellsOne S.Store db piece_text (Int item ∷ Int n ∷ []) (Blob piece.items))) }
+    ensures whole { IfOk result (λ piece. IfSome piece (λ piece. length piece.items ≡ octets)) }
+    ensures read { HasCleanDisk (state S.Store connection.new)
+        → IsRead (state S.Store connection.old) (state S.Store connection.new) }
+    ensures idle { connection.new.in_transaction ≡ false }
+    ensures survives { Survives (state S.Store connection.old) (state S.Store connection.new)
+        (λ _. ⊥) }
+{
+    let rows = rows_of(
+        connection,
+        "SELECT body FROM piece WHERE item = ?1 AND n = ?2",
+        params![item, n],
+    )?;
+    if rows.len() != 1 {
+        return Ok(None);
+    }
+    let piece: Vec<u8> = rows[0].get(0)?;
+    if piece.len() as u64 == octets {
+        Ok(Some(piece))
+    } else {
+        Ok(None)
+    }
+}
+
+/// How many pieces a payload file has.
+fn count_of<S: Alter>(connection: &mut Connection<S>, item: i64) -> Result<i64, AdoptFault>
+    requires idle { connection.old.in_transaction ≡ false }
+    ensures count { HasCleanDisk (state S.Store connection.new) → (db : Database)
+        → Stands (state S.Store connection.old) db
+        → IfOk result (λ count. TellsOne S.Store db count_text (Int item ∷ []) (Int count)) }
+    ensures read { HasCleanDisk (state S.Store connection.new)
+        → IsRead (state S.Store connection.old) (state S.Store connection.new) }
+    ensures idle { connection.new.in_transaction ≡ false }
+    ensures survives { Survives (state S.Store connection.old) (state S.Store connection.new)
+        (λ _. ⊥) }
+{
+    let rows = rows_of(
+        connection,
+        "SELECT count(*) FROM piece WHERE item = ?1",
+        params![item],
+    )?;
+    if rows.len() != 1 {
+        return Err(AdoptFault::NotALedger);
+    }
+    Ok(rows[0].get(0)?)
+}
