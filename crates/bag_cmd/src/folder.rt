@@ -2,6 +2,7 @@
 
 use bag_commands::Stop;
 use bag_path::PathFault;
+pub use courier::TreeCourier;
 pub use destination::Destination;
 pub use directory::{Directories, Disk};
 pub use place::Place;
@@ -11,6 +12,7 @@ use std::io::{self, ErrorKind};
 use thiserror::Error;
 pub use tree::FolderTree;
 
+mod courier;
 mod destination;
 pub mod directory;
 mod name;

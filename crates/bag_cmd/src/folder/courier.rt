@@ -1,0 +1,174 @@
+//! The payload files of a tree, brought one after another.
+ghost use Rattle.std.specs.Io.KnownBytes.{ReadConsumes};
+ghost use Rattle.std.specs.Prelude.{◌≡◌, ◌≤◌, [], IfNone, IfSome, IfOk, IsErr, None, Ok, false, is_some, length};
+ghost use Rattle.bag_cmd.specs.Bringing.{IsFoundAt, IsReady, SameItem, left_of, payload_from};
+
+use bag_digest::{Failed, Failures, Source};
+use bag_receiver::Courier;
+use bag_rules::Tree;
+use std::marker::Model;
+
+#[cfg(test)]
+mod tests;
+
+/// Brings the payload files of a tree, each once, in the order of their paths.
+///
+/// A file is started at its first read. So one of which nothing is read is never opened, and where one can't be opened
+/// that read fails.
+#[derive(Drop)]
+pub struct TreeCourier<T: Tree> {
+    tree: T,
+    // the place that the next file is sought from
+    place: usize,
+    // the place of the file that came last
+    came: Option<usize>,
+    is_started: bool,
+    failures: Failures,
+    nexts: u64,
+}
+
+impl<T: Tree> Model for TreeCourier<T> {
+    ghost use Rattle.bag_cmd.specs.Bringing.{Bringing, IsWithin};
+
+    ghost Value = { Bringing T };
+
+    ghost view = { λ courier. record {
+      tree = courier.tree;
+      place = courier.place;
+      came = courier.came;
+      is_started = courier.is_started;
+      failures = courier.failures;
+      nexts = courier.nexts;
+    } };
+
+    ghost invariant = { λ courier. IsWithin (T.shown courier.tree) courier.came };
+}
+
+impl<T: Tree> TreeCourier<T> {
+    /// A courier of this tree's payload files.
+    pub fn new(tree: T) -> TreeCourier<T>
+        ensures { result ≡ record {
+          tree = tree;
+          place = 0;
+          came = None;
+          is_started = false;
+          failures = 0;
+          nexts = 0;
+        } }
+    {
+        TreeCourier {
+            tree,
+            place: 0,
+            came: None,
+            is_started: false,
+            failures: Failures::none(),
+            nexts: 0,
+        }
+    }
+
+    /// Reads on in the file that came last, which is started where it isn't yet.
+    fn read_on(&mut self, buf: &mut [u8]) -> Result<usize, Failed>
+        ensures bound { IfOk result (λ n. n ≤ length buf.new) }
+        ensures octets { ReadConsumes (left_of T.shown T.remaining self.old)
+            (left_of T.shown T.remaining self.new) result buf.new }
+        ensures same { SameItem T.shown self.old self.new
+            × (self.new.failures ≡ self.old.failures) }
+        ensures closed { self.old.came ≡ None → IsErr result }
+        ensures ready { IsReady T.sure T.ready self.old → IsReady T.sure T.ready self.new
+            × ¬ IsErr result }
+    {
+        let Some(i) = self.came else {
+            return Err(Failed);
+        };
+        if !self.is_started {
+            self.tree.start(i)?;
+            self.is_started = true;
+        }
+        self.tree.read(buf)
+    }
+}
+
+impl<T: Tree> Source for TreeCourier<T> {
+    ghost use Rattle.bag_cmd.specs.Bringing.{same_itself, same_on};
+
+    ghost remaining = { left_of T.shown T.remaining };
+
+    ghost failures = { λ courier. courier.failures };
+
+    ghost ready = { IsReady T.sure T.ready };
+
+    ghost is_open = { λ courier. is_some courier.came };
+
+    ghost keeps = { SameItem T.shown };
+
+    fn read(&mut self, buf: &mut [u8]) -> Result<usize, Failed> {
+        let answer = self.read_on(buf);
+        self.failures.counted(answer)
+    }
+
+    fn failures(&self) -> u64 {
+        self.failures.count()
+    }
+
+    ghost keeps_itself = { same_itself T.shown };
+
+    ghost keeps_on = { same_on T.shown };
+}
+
+impl<T: Tree> Courier for TreeCourier<T> {
+    ghost use Rattle.bag_cmd.specs.Bringing.{BringsNext, keeps_item, text_at, to_come};
+    ghost use Rattle.bag_receiver.specs.Couriers.{ComesNext};
+
+    ghost coming = { λ courier. to_come (T.shown courier.tree) courier.place };
+
+    ghost text = { λ courier. text_at (T.shown courier.tree) courier.came };
+
+    ghost nexts = { λ courier. courier.nexts };
+
+    ghost steady = { λ _. Unit {0} };
+
+    /// Goes on to the next payload file. Nothing is started, and it never fails.
+    fn next(&mut self) -> Result<bool, Failed>
+        ensures came { IfOk result (λ more. ComesNext
+            (to_come (T.shown self.old.tree) self.old.place) more
+            (text_at (T.shown self.new.tree) self.new.came)
+            (left_of T.shown T.remaining self.new)
+            (to_come (T.shown self.new.tree) self.new.place)) }
+        ensures answered { result ≡ Ok (is_some self.new.came) }
+        ensures exactly { BringsNext T.shown self.old self.new }
+    {
+        self.nexts = self.nexts.saturating_add(1);
+        self.is_started = false;
+        self.came = next_payload(&self.tree, self.place);
+        if let Some(i) = self.came {
+            self.place = i + 1;
+        }
+        Ok(self.came.is_some())
+    }
+
+    fn path(&self) -> &str {
+        match self.came {
+            Some(i) => self.tree.path(i).as_str(),
+            None => "",
+        }
+    }
+
+    fn nexts(&self) -> u64 {
+        self.nexts
+    }
+
+    ghost keeps_item = { keeps_item T.shown };
+}
+
+/// The place of the first payload file from a place on.
+fn next_payload<T: Tree>(tree: &T, place: usize) -> Option<usize>
+    ensures found { IfSome result (IsFoundAt (T.shown tree.now) place) }
+    ensures none { IfNone result (payload_from (T.shown tree.now) place ≡ []) }
+{
+    for i in place..tree.count() {
+        if tree.path(i).is_payload() {
+            return Some(i);
+        }
+    }
+    None
+}
