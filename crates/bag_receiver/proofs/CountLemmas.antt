@@ -101,3 +101,10 @@ module _ {S : Type 0} (failures : S → ℕ) (ready : S → Type 0) (keeps : S �
   pub uses_answer : {T : Type 0} (fault : DeliverFault) (old new : S) → UsesSource failures ready keeps old new (Fails T fault Reader) → UsesSource failures ready keeps old new (Refused fault ≡ Refused Reader)
   uses_answer {T} fault old new = uses_as (Fails T fault Reader) (Refused fault ≡ Refused Reader) old new
       (λ h. ap Refused (is_fault {T = T} fault Reader h)) (λ h. fails fault Reader (let e : Refused fault ≡ Refused Reader = h in cc))
+
+-- the fault alone
+pub counts_err : {T E : Type 0} (fault : E) (as_store : StoreFault → E) (old new : ℕ) → CountsIf (Answered T fault as_store) old new → CountsIf ((store : StoreFault) × (fault ≡ as_store store)) old new
+counts_err {T} {E} fault as_store old new counts = record {
+  rises = λ h. counts.rises (answered fault as_store h.0 h.1);
+  stays = λ none. counts.stays (λ h. none (h.0, told {T = T} fault as_store h));
+}

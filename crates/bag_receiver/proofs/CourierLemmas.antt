@@ -12,7 +12,7 @@ use Rattle.bag_receiver.proofs.Words.{Answer, BadPath, Brought, CallsNext, Comes
 -- WHAT IS STILL TO COME
 
 -- what the courier brought is what a delivery of its octets brings
-is_of : (octets : List ℕ) (old new : Option (List ℕ)) (content : Content) → old ≡ Some octets → Brought old new content → IsOf octets content
+pub is_of : (octets : List ℕ) (old new : Option (List ℕ)) (content : Content) → old ≡ Some octets → Brought old new content → IsOf octets content
 is_of octets old new (Whole content) known brought = (all_known octets content old new LARGEST_ITEM known brought).0
 is_of octets old new TooLong known brought = more_known octets old new LARGEST_ITEM known brought
 is_of octets old new Unread known brought = tt
@@ -48,7 +48,7 @@ last_text paths texts text n path all number is =
 
 -- COUNTS
 
-counts_on : (n m old middle new : ℕ) → CountsAtLeast n old middle → CountsAtLeast m middle new → CountsAtLeast (n + m) old new
+pub counts_on : (n m old middle new : ℕ) → CountsAtLeast n old middle → CountsAtLeast m middle new → CountsAtLeast (n + m) old new
 counts_on n m old middle new before after = record {
   stays = λ none. (let h = before.stays (omega (arith, none)) in let k = after.stays (omega (arith, none)) in k ∙ h);
   rises = elim after.rises [
@@ -57,10 +57,10 @@ counts_on n m old middle new before after = record {
   ];
 }
 
-stayed : (old new : ℕ) → new ≡ old → CountsAtLeast 0 old new
+pub stayed : (old new : ℕ) → new ≡ old → CountsAtLeast 0 old new
 stayed old new same = record { stays = λ e. same; rises = inl (omega (arith, same)) }
 
-rose : (old new : ℕ) → Rises old new → CountsAtLeast 1 old new
+pub rose : (old new : ℕ) → Rises old new → CountsAtLeast 1 old new
 rose old new rises = record {
   stays = λ e. absurd (omega (arith, e));
   rises = elim rises [ inl more ↦ inl (omega (arith, more)) | inr full ↦ inr (omega (arith, full.0, full.1)) ];
@@ -70,7 +70,7 @@ reads_more : (answers : List Answer) (answer : Answer) → read_failures (answer
 reads_more [] answer = omega arith
 reads_more (one ∷ answers) answer = (let rest = reads_more answers answer in omega (arith, rest))
 
-read_counts : (answer : Answer) (old new : ℕ) → CountsIf (answer ≡ Refused Reader) old new → CountsAtLeast (read_failure answer) old new
+pub read_counts : (answer : Answer) (old new : ℕ) → CountsIf (answer ≡ Refused Reader) old new → CountsAtLeast (read_failure answer) old new
 read_counts (Refused Reader) old new counts = rose old new (counts.rises refl)
 read_counts Taken old new counts = stayed old new (counts.stays (λ e. (let h : Taken ≡ Refused Reader = e in cc)))
 read_counts Repeated old new counts = stayed old new (counts.stays (λ e. (let h : Repeated ≡ Refused Reader = e in cc)))

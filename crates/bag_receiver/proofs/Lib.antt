@@ -20,3 +20,4 @@ pub mod CourierLemmas
 pub mod ReportLemmas
 pub mod ArrivalLemmas
 pub mod AuditLemmas
+pub mod FetchLemmas

@@ -4,7 +4,7 @@ use Rattle.bag_receiver.specs.Runs.{store_failure, store_failures}
 use Rattle.bag_receiver.proofs.ReceivingLemmas.{receives}
 use Rattle.bag_receiver.proofs.Words.{AllByRecursion, Answer, BadPath, CountsAtLeast, CountsIf, Delivery, delivery_of, DeliverySteps, Digest, Does, Files, Global, greatest_count, IsAnswer, Keeper, Ledger, LedgerState, Length, Memory, NotListed, NoTransfer, Reader, Receiver, Receives, Refused, Repeated, Rises, Runs, Store, StoreFault, String, string_bytes, Taken, TooLarge, Whole, with_answers}
 
-steps_join : (name : List ℕ) (deliveries others : List Delivery) (old middle new : LedgerState) → DeliverySteps name deliveries old middle → DeliverySteps name others middle new
+pub steps_join : (name : List ℕ) (deliveries others : List Delivery) (old middle new : LedgerState) → DeliverySteps name deliveries old middle → DeliverySteps name others middle new
     → DeliverySteps name (deliveries ++ others) old new
 steps_join name [] others old middle new e k = subst (λ (s : LedgerState). DeliverySteps name others s new) e k
 steps_join name (delivery ∷ deliveries) others old middle new h k = (h.0, h.1, steps_join name deliveries others h.0 middle new h.2 k)

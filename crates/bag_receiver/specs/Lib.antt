@@ -13,3 +13,5 @@ pub mod Couriers
 pub mod Reports
 pub mod Holdings
 pub mod Arrivals
+pub mod Suppliers
+pub mod FetchingInside

@@ -98,7 +98,7 @@ impl<K: Keeper> Receiver<K> {
         }
     }
 
-    fn take_from<S: Source>(
+    pub(crate) fn take_from<S: Source>(
         &mut self,
         alloc: Global,
         name: &str,

@@ -5,10 +5,12 @@
 pub use answer::{Answer, DeliverFault};
 pub use begin::{BeginFault, Begun};
 pub use courier::Courier;
+pub use fetch::{FetchAnswer, FetchOutcome};
 pub use name::{LONGEST_NAME, is_name};
 pub use receiver::Receiver;
 pub use report::ViewFault;
 pub use run::{End, MOST_DELIVERIES, Run};
+pub use supplier::Supplier;
 
 mod answer;
 pub mod arrival;
@@ -17,6 +19,7 @@ mod begin;
 mod courier;
 mod deliver;
 pub mod examples;
+mod fetch;
 mod held;
 pub mod laws;
 mod name;
@@ -24,5 +27,6 @@ mod receiver;
 mod report;
 mod run;
 mod run_from;
+mod supplier;
 #[cfg(test)]
 mod tests;

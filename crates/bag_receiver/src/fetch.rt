@@ -1,0 +1,265 @@
+//! Fetching: what `fetch.txt` of a transfer lists and isn't held is asked of a supplier.
+ghost use Rattle.std.specs.Prelude.{◌≡◌, ◌≢◌, ◌↔◌, ◌+◌, ◌∷◌, [], ℕ, List, Some, None, IfErr, IfOk, IfNone, IfSome, IsErrOf, IsTrue, MatchResult, OnErr, length, map, min, slice_get, slice_set, string_bytes, true};
+ghost use Rattle.std.specs.List.{AllByRecursion};
+ghost use Rattle.bag_digest.specs.Device.{CountsIf, greatest_count};
+ghost use Rattle.bag_tags.specs.declared.fetch.FetchLine.{FetchLine};
+ghost use Rattle.bag_rules.specs.Faults.{Has};
+ghost use Rattle.bag_rules.specs.Files.{Files};
+ghost use Rattle.bag_rules.specs.Plans.{AreFetchLines, IsPlanOf, item_paths};
+ghost use Rattle.bag_rules.specs.Trees.{AreRising};
+ghost use Rattle.bag_ledger.specs.declared.fault.KeepFault.TheVariants.{Memory};
+ghost use Rattle.bag_ledger.specs.declared.fault.StoreFault.{StoreFault};
+ghost use Rattle.bag_receiver.specs.FetchingInside.{AreMarks, AreRequests, IsRequest, IsUnderWay};
+ghost use Rattle.bag_receiver.specs.Names.{IsNamed, IsTransferName};
+ghost use Rattle.bag_receiver.specs.Receivers.{Does, IsInState};
+ghost use Rattle.bag_receiver.specs.ReceiversInside.{Same};
+ghost use Rattle.bag_receiver.specs.Receiving.{LedgerState};
+ghost use Rattle.bag_receiver.specs.Runs.{CountsAtLeast, Runs};
+ghost use Rattle.bag_receiver.specs.Suppliers.{AreReached, AsksEach, IsGotFrom, IsReply, Reply, Round, deliveries_by, delivery_by, outcome_of, supplier_failure, supplier_failures, told};
+
+use crate::answer::DeliverFault;
+use crate::receiver::Receiver;
+use crate::report::ViewFault;
+use crate::supplier::Supplier;
+use bag_digest::Failed;
+use bag_ledger::{KeepFault, Keeper};
+use bag_path::BagPath;
+use bag_rules::{ItemSize, Plan};
+use bag_tags::FetchLine;
+use std::alloc::{AllocError, Global};
+
+/// What came of asking for an entry of `fetch.txt`.
+#[derive(Clone, Copy, Debug, PartialEq, Eq)]
+pub enum FetchAnswer {
+    /// What was supplied passes, and is held from now on.
+    Taken,
+    /// The supplier doesn't have it.
+    NotSupplied,
+    /// The supplier failed when it was asked.
+    SupplierFailed,
+    /// What was supplied isn't taken, and nothing changes.
+    Refused(DeliverFault),
+}
+
+/// An entry of `fetch.txt` that was asked for.
+#[derive(Debug, Drop)]
+pub struct FetchOutcome {
+    /// The number of its line, from 1 on.
+    pub line: u64,
+    /// The path of the payload file.
+    pub path: BagPath,
+    /// What came of it.
+    pub answer: FetchAnswer,
+}
+
+/// What is asked for, and the place of its path among those of the plan.
+#[derive(Drop)]
+struct Request {
+    line: u64,
+    url: String,
+    path: BagPath,
+    place: usize,
+}
+
+/// The entries of `fetch.txt`, and which paths of the plan are held.
+#[derive(Drop)]
+struct Requests {
+    list: Vec<Request>,
+    held: Vec<bool>,
+}
+
+impl<K: Keeper> Receiver<K> {
+    /// Asks the supplier for each entry of `fetch.txt` whose path isn't held when it is reached, in their order, and takes in what it
+    /// gives as [`deliver_from`](Receiver::deliver_from) does.
+    ///
+    /// # Errors
+    ///
+    /// Those of [`report`](Receiver::report), before the supplier is asked for anything. Once it was asked, a fault is the answer to
+    /// that entry, and the others follow.
+    pub fn fetch<S: Supplier>(
+        &mut self,
+        alloc: Global,
+        name: &str,
+        supplier: &mut S,
+    ) -> Result<Vec<FetchOutcome>, ViewFault>
+        ensures fetched { MatchResult result (λ outcomes. (rounds : List Round)
+            × (outcomes.items ≡ map outcome_of rounds)
+            × AllByRecursion (IsGotFrom (S.supply supplier.old)) rounds
+            × Runs K.holds K.may_leave K.clean K.failures self.old self.new name.now (deliveries_by rounds)
+            × (K.clean self.new.keeper → (now : LedgerState)
+            → IsInState K.holds K.may_leave self.old now → AreReached now.held name.now rounds))
+            (λ fault. Does K.holds K.may_leave K.clean self.old self.new Same × (supplier.new ≡ supplier.old)) }
+        ensures none { K.clean self.new.keeper → (now : LedgerState)
+            → IsInState K.holds K.may_leave self.old now
+            → IfErr result (λ fault. fault ≡ ViewFault.NoTransfer → IsNamed now.held name.now None) }
+        ensures judged { ¬ IsTransferName name.now → IsErrOf result ViewFault.NoTransfer }
+        ensures supplier { IfOk result (λ outcomes. CountsAtLeast (supplier_failures outcomes.items)
+            (S.failures supplier.old) (S.failures supplier.new)
+            × AsksEach (length outcomes.items) (S.asks supplier.old) (S.asks supplier.new)) }
+        ensures store { IfErr result (λ fault. CountsIf ((store : StoreFault)
+            × (fault ≡ ViewFault.Keeper (KeepFault.Store store)))
+            (K.failures self.old.keeper) (K.failures self.new.keeper)) }
+    {
+        let Requests { list, mut held } = self.requests(alloc, name)?;
+        let mut outcomes = Vec::with_capacity(alloc, list.len())?;
+        for request in list {
+            if is_marked(&held, request.place) {
+                continue;
+            }
+            let answer = self.fetch_one(alloc, name, &request, supplier);
+            mark_taken(&mut held, request.place, answer);
+            let Request { line, path, .. } = request;
+            // There is room for it.
+            let _pushed = outcomes.push(FetchOutcome { line, path, answer });
+        }
+        Ok(outcomes)
+    }
+
+    /// Asks for one payload file, and takes in what is given.
+    fn fetch_one<S: Supplier>(
+        &mut self,
+        alloc: Global,
+        name: &str,
+        request: &Request,
+        supplier: &mut S,
+    ) -> FetchAnswer
+        ensures got { (reply : Reply) × (result ≡ told reply)
+            × IsReply (S.supply supplier.old) (string_bytes request.now.url) request.now.path reply
+            × Runs K.holds K.may_leave K.clean K.failures self.old self.new name.now
+            (delivery_by request.now.path reply) }
+        ensures same { S.supply supplier.new ≡ S.supply supplier.old }
+        ensures failures { CountsAtLeast (supplier_failure result)
+            (S.failures supplier.old) (S.failures supplier.new) }
+        ensures asks { S.asks supplier.new ≡ min (S.asks supplier.old + 1) greatest_count }
+    {
+        let path = request.path.as_str();
+        match supplier.ask(request.url.as_str(), path) {
+            Err(Failed) => FetchAnswer::SupplierFailed,
+            Ok(false) => FetchAnswer::NotSupplied,
+            Ok(true) => match self.take_from(alloc, name, path, supplier) {
+                // What is held isn't asked for, so it isn't a repeat.
+                Ok(_) => FetchAnswer::Taken,
+                Err(fault) => FetchAnswer::Refused(fault),
+            },
+        }
+    }
+
+    /// What is to be asked for, and what is held.
+    fn requests(&mut self, alloc: Global, name: &str) -> Result<Requests, ViewFault>
+        ensures looks { Does K.holds K.may_leave K.clean self.old self.new Same }
+        ensures prepared { K.clean self.new.keeper → (now : LedgerState)
+            → IsInState K.holds K.may_leave self.old now
+            → MatchResult result (λ requests. IsUnderWay now.held name.now requests.held.items requests.list.items [])
+            (λ fault. fault ≡ ViewFault.NoTransfer → IsNamed now.held name.now None) }
+        ensures judged { ¬ IsTransferName name.now → IsErrOf result ViewFault.NoTransfer }
+        ensures store { CountsIf ((fault : StoreFault)
+            × IsErrOf result (ViewFault.Keeper (KeepFault.Store fault)))
+            (K.failures self.old.keeper) (K.failures self.new.keeper) }
+    {
+        if !self.has_plan(alloc, name)? {
+            return Err(ViewFault::NoTransfer);
+        }
+        let Some(plan) = self.plans.get(name) else {
+            return Err(ViewFault::NoTransfer);
+        };
+        let sizes = self.keeper.sizes(alloc, name)?;
+        let paths = plan.paths();
+        let held = held_marks(alloc, paths, sizes.as_slice())?;
+        let list = requests_of(alloc, plan, paths)?;
+        Ok(Requests { list, held })
+    }
+}
+
+/// Marks those of the paths that are held.
+fn held_marks(alloc: Global, paths: &[BagPath], sizes: &[ItemSize]) -> Result<Vec<bool>, AllocError>
+    ensures { AreRising paths.now
+        → IfOk result (λ marks. AreMarks paths.now marks.items (item_paths sizes.now)) }
+{
+    let mut marks = vec![in alloc; false; paths.len()]?;
+    for size in sizes {
+        mark_path(&mut marks, paths, &size.path);
+    }
+    Ok(marks)
+}
+
+/// Marks a path, if it is one of them.
+fn mark_path(marks: &mut Vec<bool>, paths: &[BagPath], path: &BagPath)
+    ensures { AreRising paths.now → (held : List (List ℕ))
+        → AreMarks paths.now marks.old.items held
+        → AreMarks paths.now marks.new.items (path.now ∷ held) }
+{
+    let Some(place) = place_in(paths, path) else {
+        return;
+    };
+    mark(marks, place);
+}
+
+/// The entries of `fetch.txt`, each with the place of its path.
+fn requests_of(alloc: Global, plan: &Plan, paths: &[BagPath]) -> Result<Vec<Request>, AllocError>
+    ensures { (tags : Files) → IsPlanOf tags plan.now → IfOk result (λ requests.
+        (lines : List FetchLine) × AreFetchLines tags lines
+        × AreRequests paths.now lines requests.items) }
+{
+    let mut requests = Vec::new(alloc);
+    for line in plan.fetch() {
+        requests.push(request_for(alloc, paths, line)?)?;
+    }
+    Ok(requests)
+}
+
+fn request_for(alloc: Global, paths: &[BagPath], line: &FetchLine) -> Result<Request, AllocError>
+    ensures { IfOk result (IsRequest paths.now line.now) }
+{
+    let FetchLine { line, entry } = line;
+    // What a plan has to fetch is listed.
+    let Some(place) = place_in(paths, entry.path()) else {
+        return Err(AllocError);
+    };
+    Ok(Request {
+        line: *line,
+        url: String::from_str(alloc, entry.url())?,
+        path: entry.path().clone()?,
+        place,
+    })
+}
+
+/// The place of the path among paths in order.
+fn place_in(paths: &[BagPath], path: &BagPath) -> Option<usize>
+    ensures found { IfSome result (λ place. slice_get paths.now place ≡ Some path.now) }
+    ensures absent { AreRising paths.now → IfNone result (¬ Has paths.now path.now) }
+{
+    match paths.binary_search_by(|own| own.cmp(path)) {
+        Ok(place) => Some(place),
+        Err(_) => None,
+    }
+}
+
+/// Whether this place is marked.
+fn is_marked(marks: &Vec<bool>, place: usize) -> bool
+    ensures { IsTrue result ↔ (slice_get marks.now.items place ≡ Some true) }
+{
+    match marks.get(place) {
+        Some(mark) => *mark,
+        None => false,
+    }
+}
+
+/// Marks this place, if its payload file was taken.
+fn mark_taken(marks: &mut Vec<bool>, place: usize, answer: FetchAnswer)
+    ensures taken { answer ≡ FetchAnswer.Taken
+        → marks.new.items ≡ slice_set marks.old.items place true }
+    ensures others { answer ≢ FetchAnswer.Taken → marks.new.items ≡ marks.old.items }
+{
+    if answer == FetchAnswer::Taken {
+        mark(marks, place);
+    }
+}
+
+/// Marks this place.
+fn mark(marks: &mut Vec<bool>, place: usize)
+    ensures { marks.new.items ≡ slice_set marks.old.items place true }
+{
+    if let Some(mark) = marks.get_mut(place) {
+        *mark = true;
+    }
+}
