@@ -8,7 +8,6 @@ use Rattle.bag_rules.proofs.HasLemmas.{has_at, has_push}
 use Rattle.bag_rules.proofs.RisingPaths.{one_place}
 use Rattle.bag_rules.specs.declared.plan.ItemSize.{ItemSize}
 use Rattle.bag_rules.specs.Plans.{AreFetchLines, item_paths, sizes_of}
-use Rattle.bag_receiver.specs.Couriers.{IsOf, read_failure}
 use Rattle.bag_receiver.specs.declared.answer.Answer.TheVariants as own
 use Rattle.bag_receiver.specs.declared.fetch.FetchAnswer.{FetchAnswer}
 use Rattle.bag_receiver.specs.declared.fetch.FetchAnswer.TheVariants as fetch
@@ -16,12 +15,12 @@ use Rattle.bag_receiver.specs.declared.fetch.FetchOutcome.{FetchOutcome}
 use Rattle.bag_receiver.specs.declared.fetch.Request.{Request}
 use Rattle.bag_receiver.specs.Runs.{store_failures}
 use Rattle.bag_receiver.specs.FetchingInside.{AreMarks, AreRequests, IsRequest, IsUnderWay}
-use Rattle.bag_receiver.specs.Suppliers.{AreReached, deliveries_by, delivery_by, Delivered, Failing, held_after, outcome_of, IsFor, IsGotFrom, IsReply, IsSupplied, Reaches, Reply, Round, supplier_failure, supplier_failures, Supply, told, Without}
+use Rattle.bag_receiver.specs.Suppliers.{AreReached, deliveries_by, delivery_by, Delivered, Failing, held_after, outcome_of, IsGotFrom, IsReply, IsSupplied, Reaches, Reply, Round, supplier_failure, supplier_failures, Supply, told, Without}
 use Rattle.bag_receiver.proofs.CourierLemmas.{counts_on, is_of}
 use Rattle.bag_receiver.proofs.ReceiverLemmas.{does_receive}
 use Rattle.bag_receiver.proofs.ReceivingLemmas.{named_there, receives}
 use Rattle.bag_receiver.proofs.RunLemmas.{ran_more, ran_nothing, steps_join}
-use Rattle.bag_receiver.proofs.Words.{AllByRecursion, Answer, AreRising, Brought, Content, CountsAtLeast, CountsIf, decided_equal, Delivery, delivery_of, DeliveryStep, Does, Files, Has, IsAcceptance, IsAnswer, IsNamed, items_of, Keeper, keys_of, Ledger, map-append, option_map, Receiver, Runs, Same, Store, StoreFault, string_bytes, Transfer, unwrap_or, Whole}
+use Rattle.bag_receiver.proofs.Words.{AllByRecursion, Answer, AreRising, Brought, Content, CountsAtLeast, CountsIf, decided_equal, Delivery, delivery_of, DeliveryStep, Does, Files, Has, IsAcceptance, IsAnswer, IsNamed, items_of, Keeper, keys_of, Ledger, map-append, option_map, Receiver, Runs, Same, Store, StoreFault, string_bytes, Transfer, unwrap_or}
 
 -- MARKS
 

@@ -1,5 +1,5 @@
 -- Suppliers, and what is fetched from them (RFC 8493 section 2.2.3).
-use Rattle.std.specs.Prelude.{◌≡◌, ◌⊎◌, ◌+◌, ◌++◌, ◌∷◌, [], ℕ, Bool, true, false, List, Option, Some, None, map, min}
+use Rattle.std.specs.Prelude.{◌≡◌, ◌⊎◌, ◌+◌, ◌++◌, ◌∷◌, [], ℕ, Bool, true, false, List, Option, Some, None, min}
 use Rattle.std.specs.Map.{keys_of}
 use Rattle.bag_digest.specs.Device.{greatest_count}
 use Rattle.bag_tags.specs.declared.fetch.FetchLine.{FetchLine}

@@ -1,4 +1,4 @@
-use Rattle.std.proofs.Common.{◌≡◌, ◌+◌, ◌++◌, ◌∷◌, ◌∙◌, [], List, true, false, length, refl, sym, ap, subst, rules, arith}
+use Rattle.std.proofs.Common.{◌≡◌, ◌++◌, ◌∷◌, ◌∙◌, [], List, true, false, length, refl, sym, ap, subst, rules, arith}
 use Rattle.bag_receiver.specs.declared.fetch.FetchOutcome.{FetchOutcome}
 use Rattle.bag_receiver.specs.declared.report.ViewFault.TheVariants.{Keeper}
 use Rattle.bag_receiver.specs.FetchingInside.{IsUnderWay}

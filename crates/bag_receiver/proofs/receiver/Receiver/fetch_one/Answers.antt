@@ -1,4 +1,4 @@
-use Rattle.std.proofs.Common.{refl, ◌≡◌, false, true, rules}
+use Rattle.std.proofs.Common.{refl, false, true}
 use Rattle.bag_receiver.specs.Suppliers.{Delivered, Failing, Without}
 use Rattle.bag_receiver.proofs.CountLemmas.{counts_answer, no_fault}
 use Rattle.bag_receiver.proofs.FetchLemmas.{accepted_counts, delivered, failing, got, supplied_as, told_taken, without}
