@@ -24,7 +24,7 @@ use Rattle.bag_receiver.proofs.Words.{Alg, AreHeldFor, ArePlansIn, bytes_eq, Cou
 -- WHAT WAS READ
 
 -- the next octets of a content
-take_next : (content : List ℕ) (i n : ℕ) → i ≤ length content → take (i + n) content ≡ take i content ++ take n (drop i content)
+pub take_next : (content : List ℕ) (i n : ℕ) → i ≤ length content → take (i + n) content ≡ take i content ++ take n (drop i content)
 take_next content i n within =
     let count : length (take i content) ≡ i = length-take-le i content within in
     let whole : take i content ++ drop i content ≡ content = take-append-drop i content in

@@ -21,3 +21,5 @@ pub mod ReportLemmas
 pub mod ArrivalLemmas
 pub mod AuditLemmas
 pub mod FetchLemmas
+pub mod ExportLemmas
+pub mod ExportedBags

@@ -15,3 +15,5 @@ pub mod Holdings
 pub mod Arrivals
 pub mod Suppliers
 pub mod FetchingInside
+pub mod Exports
+pub mod ExportsInside

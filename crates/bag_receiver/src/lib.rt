@@ -5,6 +5,7 @@
 pub use answer::{Answer, DeliverFault};
 pub use begin::{BeginFault, Begun};
 pub use courier::Courier;
+pub use export::ExportFault;
 pub use fetch::{FetchAnswer, FetchOutcome};
 pub use name::{LONGEST_NAME, is_name};
 pub use receiver::Receiver;
@@ -19,6 +20,7 @@ mod begin;
 mod courier;
 mod deliver;
 pub mod examples;
+mod export;
 mod fetch;
 mod held;
 pub mod laws;

@@ -32,7 +32,7 @@ has_join (first ∷ xs) ys x = let rest = has_join xs ys x in (
 
 -- NONE TWICE
 
-rising_new : (files : Files) → AreRising (keys_of files) → AreNew [] files
+pub rising_new : (files : Files) → AreRising (keys_of files) → AreNew [] files
 unfolding IsStrictlySortedBy
 rising_new [] rising = tt
 rising_new (file ∷ files) rising = (

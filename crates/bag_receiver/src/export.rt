@@ -1,0 +1,285 @@
+//! Exports: the bag of a transfer as it is held, written into a sink.
+ghost use Rattle.std.specs.Prelude.{◌≡◌, ◌<◌, ◌∷◌, ◌++◌, [], ℕ, List, IfErr, IsErr, IsErrOf, MatchResult, OnOk, false, length, true};
+ghost use Rattle.bag_digest.specs.Device.{CountsIf};
+ghost use Rattle.bag_rules.specs.Files.{Files};
+ghost use Rattle.bag_rules.specs.Plans.{sizes_of};
+ghost use Rattle.bag_ledger.specs.Keeping.{Reads};
+ghost use Rattle.bag_ledger.specs.declared.fault.StoreFault.{StoreFault};
+ghost use Rattle.bag_ledger.specs.declared.fault.KeepFault.TheVariants.{Store};
+ghost use Rattle.bag_writer.specs.Sinks.{IsEmptySink, IsFree, UsesSink};
+ghost use Rattle.bag_writer.specs.Steps.{ArePart, AreWhole};
+ghost use Rattle.bag_writer.specs.TagWriting.{AreFree};
+ghost use Rattle.bag_writer.specs.PayloadSteps.{Writes, WritesFront};
+ghost use Rattle.bag_receiver.specs.Exports.{Exports};
+ghost use Rattle.bag_receiver.specs.ExportsInside.{HasItems, IsMetWriting, IsPartOf, from_opened};
+ghost use Rattle.bag_receiver.specs.Holdings.{HasItem};
+ghost use Rattle.bag_receiver.specs.Names.{IsTransferName};
+ghost use Rattle.bag_receiver.specs.Receivers.{Does, IsInState};
+ghost use Rattle.bag_receiver.specs.ReceiversInside.{Same};
+ghost use Rattle.bag_receiver.specs.Receiving.{LedgerState};
+ghost use Rattle.bag_receiver.specs.declared.export.ExportFault.TheVariants.{Keeper as NotKept, NoTransfer, Sink as SinkFailed};
+
+use crate::held::next_piece;
+use crate::name::is_name;
+use crate::receiver::Receiver;
+use bag_digest::{Failed, piece_buffer};
+use bag_ledger::{KeepFault, Keeper};
+use bag_path::BagPath;
+use bag_rules::{ItemSize, TagSet};
+use bag_writer::Sink;
+use std::alloc::{AllocError, Global};
+use thiserror::Error;
+
+/// Why a bag isn't exported, or not to its end.
+#[derive(Clone, Copy, Debug, PartialEq, Eq, Error)]
+pub enum ExportFault {
+    /// No transfer has this name. Nothing was written.
+    #[error("no transfer")]
+    NoTransfer,
+    /// The sink failed, and counted it.
+    #[error("sink")]
+    Sink,
+    /// What keeps the transfers has no answer, or memory ran out.
+    #[error("keeper")]
+    Keeper(KeepFault),
+}
+
+impl From<KeepFault> for ExportFault {
+    ghost use Rattle.std.specs.Prelude.{◌≡◌};
+    ghost use Rattle.bag_receiver.specs.declared.export.ExportFault.TheVariants.{Keeper};
+
+    ghost from_gives = { λ keep fault. fault ≡ Keeper keep };
+
+    fn from(fault: KeepFault) -> ExportFault {
+        ExportFault::Keeper(fault)
+    }
+}
+
+impl From<AllocError> for ExportFault {
+    ghost use Rattle.std.specs.Prelude.{◌≡◌};
+    ghost use Rattle.bag_ledger.specs.declared.fault.KeepFault.TheVariants.{Memory};
+    ghost use Rattle.bag_receiver.specs.declared.export.ExportFault.TheVariants.{Keeper};
+
+    ghost from_gives = { λ error fault. fault ≡ Keeper Memory };
+
+    fn from(_: AllocError) -> ExportFault {
+        ExportFault::Keeper(KeepFault::Memory)
+    }
+}
+
+impl From<Failed> for ExportFault {
+    ghost use Rattle.std.specs.Prelude.{◌≡◌};
+    ghost use Rattle.bag_receiver.specs.declared.export.ExportFault.TheVariants.{Sink};
+
+    ghost from_gives = { λ failed fault. fault ≡ Sink };
+
+    fn from(_: Failed) -> ExportFault {
+        ExportFault::Sink
+    }
+}
+
+impl<K: Keeper> Receiver<K> {
+    /// Writes the bag of the transfer as it is held now: the payload directory, then the tag files and then the payload
+    /// files, each by path. Answers how many files it has.
+    ///
+    /// The sink is to be new: of one that holds a file already, or the payload directory, it isn't said what it holds then.
+    /// The payload files are read piece by piece through one buffer.
+    ///
+    /// # Errors
+    ///
+    /// [`ExportFault::NoTransfer`] for a text that is no name, too; [`ExportFault::Sink`] where the sink failed, as it does
+    /// where a file is begun already or one of the paths is taken; [`ExportFault::Keeper`] where the store failed or memory
+    /// ran out. After the last two the sink holds part of the bag.
+    pub fn export<S: Sink>(
+        &mut self,
+        alloc: Global,
+        name: &str,
+        sink: &mut S,
+    ) -> Result<u64, ExportFault>
+        ensures looks { Does K.holds K.may_leave K.clean self.old self.new Same }
+        ensures exported { K.clean self.new.keeper → (now : LedgerState)
+            → IsInState K.holds K.may_leave self.old now
+            → Exports now.held name.now result (S.stored sink.old) (S.stored sink.new) }
+        // A text that is no name names no transfer, whatever the store would answer; and where there is none, the sink isn't
+        // asked for anything.
+        ensures judged { (¬ IsTransferName name.now → IsErrOf result NoTransfer)
+            × (IsErrOf result NoTransfer → sink.new ≡ sink.old) }
+        ensures store { CountsIf ((fault : StoreFault) × IsErrOf result (NotKept (Store fault)))
+            (K.failures self.old.keeper) (K.failures self.new.keeper) }
+        ensures sink { UsesSink S.failures S.sure sink.old sink.new
+            ((K.clean self.new.keeper
+            × ((now : LedgerState) × IsInState K.holds K.may_leave self.old now))
+            × (S.is_open sink.old ≡ false) × IsEmptySink (S.stored sink.old))
+            (IsErrOf result SinkFailed) }
+        ensures closed { S.is_open sink.old ≡ false → OnOk result (S.is_open sink.new ≡ false) }
+    {
+        if !is_name(name) {
+            return Err(ExportFault::NoTransfer);
+        }
+        let Some(tags) = self.keeper.tags(alloc, name)? else {
+            return Err(ExportFault::NoTransfer);
+        };
+        let items = self.keeper.sizes(alloc, name)?;
+        write_bag(&mut self.keeper, alloc, name, &tags, items.as_slice(), sink)?;
+        Ok(tags.files().len() as u64 + items.len() as u64)
+    }
+}
+
+/// Writes the payload directory, these tag files, and the payload files that are held.
+fn write_bag<K: Keeper, S: Sink>(
+    keeper: &mut K,
+    alloc: Global,
+    name: &str,
+    tags: &TagSet,
+    items: &[ItemSize],
+    sink: &mut S,
+) -> Result<(), ExportFault>
+    ensures written { K.clean keeper.new → (files : Files)
+        → HasItems K.holds keeper.old name.now files → items.now ≡ sizes_of files
+        → MatchResult result
+        (λ _. AreWhole (tags.now ++ files) (from_opened (S.stored sink.old)) (S.stored sink.new))
+        (λ _. IsPartOf (tags.now ++ files) (S.stored sink.old) (S.stored sink.new)) }
+    ensures reads { Reads K.holds K.may_leave K.clean keeper.old keeper.new }
+    ensures store { CountsIf ((fault : StoreFault) × IsErrOf result (NotKept (Store fault)))
+        (K.failures keeper.old) (K.failures keeper.new) }
+    ensures sink { UsesSink S.failures S.sure sink.old sink.new
+        ((K.clean keeper.new × (S.is_open sink.old ≡ false)) × ((files : Files)
+        × HasItems K.holds keeper.old name.now files × (items.now ≡ sizes_of files)
+        × AreFree (from_opened (S.stored sink.old)) (tags.now ++ files)))
+        (IsErrOf result SinkFailed) }
+    ensures closed { S.is_open sink.old ≡ false → OnOk result (S.is_open sink.new ≡ false) }
+    ensures err { IfErr result IsMetWriting }
+{
+    let mut buffer = piece_buffer(alloc)?;
+    sink.payload_dir()?;
+    write_tags(tags, sink)?;
+    write_items(keeper, alloc, name, items, buffer.as_mut_slice(), sink)
+}
+
+/// Writes the tag files by path.
+fn write_tags<S: Sink>(tags: &TagSet, sink: &mut S) -> Result<(), Failed>
+    ensures written { MatchResult result
+        (λ _. AreWhole tags.now (S.stored sink.old) (S.stored sink.new))
+        (λ _. ArePart tags.now (S.stored sink.old) (S.stored sink.new)) }
+    ensures closed { S.is_open sink.old ≡ false → OnOk result (S.is_open sink.new ≡ false) }
+    ensures uses { UsesSink S.failures S.sure sink.old sink.new
+        ((S.is_open sink.old ≡ false) × AreFree (S.stored sink.old) tags.now) (IsErr result) }
+{
+    for file in tags.files() {
+        write_file(file.path(), file.body(), sink)?;
+    }
+    Ok(())
+}
+
+/// Begins a file, writes its octets and ends it.
+fn write_file<S: Sink>(path: &BagPath, octets: &[u8], sink: &mut S) -> Result<(), Failed>
+    ensures written { MatchResult result
+        (λ _. AreWhole ((path.now, octets.now) ∷ []) (S.stored sink.old) (S.stored sink.new))
+        (λ _. ArePart ((path.now, octets.now) ∷ []) (S.stored sink.old) (S.stored sink.new)) }
+    ensures closed { OnOk result (S.is_open sink.new ≡ false) }
+    ensures uses { UsesSink S.failures S.sure sink.old sink.new
+        ((S.is_open sink.old ≡ false) × IsFree (S.stored sink.old) path.now) (IsErr result) }
+{
+    sink.file(path)?;
+    sink.write(octets)?;
+    sink.end()
+}
+
+/// Reads these payload files, which are held, and writes each.
+fn write_items<K: Keeper, S: Sink>(
+    keeper: &mut K,
+    alloc: Global,
+    name: &str,
+    items: &[ItemSize],
+    buffer: &mut [u8],
+    sink: &mut S,
+) -> Result<(), ExportFault>
+    requires { 0 < length buffer.old }
+    ensures written { K.clean keeper.new → (files : Files)
+        → HasItems K.holds keeper.old name.now files → items.now ≡ sizes_of files
+        → MatchResult result
+        (λ _. AreWhole files (S.stored sink.old) (S.stored sink.new))
+        (λ _. ArePart files (S.stored sink.old) (S.stored sink.new)) }
+    ensures reads { Reads K.holds K.may_leave K.clean keeper.old keeper.new }
+    ensures store { CountsIf ((fault : StoreFault) × IsErrOf result (NotKept (Store fault)))
+        (K.failures keeper.old) (K.failures keeper.new) }
+    ensures sink { UsesSink S.failures S.sure sink.old sink.new
+        ((K.clean keeper.new × (S.is_open sink.old ≡ false)) × ((files : Files)
+        × HasItems K.holds keeper.old name.now files × (items.now ≡ sizes_of files)
+        × AreFree (S.stored sink.old) files))
+        (IsErrOf result SinkFailed) }
+    ensures closed { S.is_open sink.old ≡ false → OnOk result (S.is_open sink.new ≡ false) }
+    ensures err { IfErr result IsMetWriting }
+{
+    for item in items {
+        write_item(keeper, alloc, name, item, buffer, sink)?;
+    }
+    Ok(())
+}
+
+/// Reads a payload file that is held, and writes it.
+fn write_item<K: Keeper, S: Sink>(
+    keeper: &mut K,
+    alloc: Global,
+    name: &str,
+    item: &ItemSize,
+    buffer: &mut [u8],
+    sink: &mut S,
+) -> Result<(), ExportFault>
+    requires { 0 < length buffer.old }
+    ensures written { K.clean keeper.new → (content : List ℕ)
+        → HasItem K.holds keeper.old name.now item.now.path content
+        → item.now.octets ≡ length content → MatchResult result
+        (λ _. AreWhole ((item.now.path, content) ∷ []) (S.stored sink.old) (S.stored sink.new))
+        (λ _. ArePart ((item.now.path, content) ∷ []) (S.stored sink.old) (S.stored sink.new)) }
+    ensures reads { Reads K.holds K.may_leave K.clean keeper.old keeper.new }
+    ensures store { CountsIf ((fault : StoreFault) × IsErrOf result (NotKept (Store fault)))
+        (K.failures keeper.old) (K.failures keeper.new) }
+    ensures sink { UsesSink S.failures S.sure sink.old sink.new
+        ((S.is_open sink.old ≡ false) × IsFree (S.stored sink.old) item.now.path)
+        (IsErrOf result SinkFailed) }
+    ensures closed { OnOk result (S.is_open sink.new ≡ false) }
+    ensures err { IfErr result IsMetWriting }
+{
+    sink.file(&item.path)?;
+    write_content(keeper, alloc, name, item, buffer, sink)?;
+    sink.end()?;
+    Ok(())
+}
+
+/// Reads a payload file that is held, and writes what it has to the file that is begun.
+fn write_content<K: Keeper, S: Sink>(
+    keeper: &mut K,
+    alloc: Global,
+    name: &str,
+    item: &ItemSize,
+    buffer: &mut [u8],
+    sink: &mut S,
+) -> Result<(), ExportFault>
+    requires { 0 < length buffer.old }
+    ensures written { K.clean keeper.new → (content : List ℕ)
+        → HasItem K.holds keeper.old name.now item.now.path content
+        → item.now.octets ≡ length content → MatchResult result
+        (λ _. Writes content (S.stored sink.old) (S.stored sink.new))
+        (λ _. WritesFront content (S.stored sink.old) (S.stored sink.new)) }
+    ensures reads { Reads K.holds K.may_leave K.clean keeper.old keeper.new }
+    ensures store { CountsIf ((fault : StoreFault) × IsErrOf result (NotKept (Store fault)))
+        (K.failures keeper.old) (K.failures keeper.new) }
+    ensures sink { UsesSink S.failures S.sure sink.old sink.new
+        (S.is_open sink.old ≡ true) (IsErrOf result SinkFailed) }
+    ensures open { S.is_open sink.new ≡ S.is_open sink.old }
+    ensures err { IfErr result IsMetWriting }
+{
+    let mut read = 0u64;
+    while read < item.octets {
+        let left = item.octets - read;
+        let n = next_piece(keeper, alloc, name, &item.path, read, left, buffer)?;
+        if n == 0 {
+            // The store has less than it told.
+            return Err(ExportFault::Keeper(KeepFault::Memory));
+        }
+        sink.write(&buffer[..n])?;
+        read += n as u64;
+    }
+    Ok(())
+}
