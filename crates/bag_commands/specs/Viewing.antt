@@ -1,4 +1,4 @@
--- What a receiver answers that is asked for the report on a transfer.
+-- What a receiver answers that is asked for the report on a transfer, or for an audit of it.
 use Rattle.std.specs.Prelude.{◌≡◌, ℕ, List, None, IfOk, IsErrOf, MatchResult, Result, map}
 use Rattle.bag_digest.specs.Device.{CountsIf}
 use Rattle.bag_ledger.specs.Ledgers.{Ledger}

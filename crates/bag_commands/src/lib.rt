@@ -1,6 +1,7 @@
 //! The commands of the program over trees, sinks and writers: what each does, prints and answers as its status.
 #![tactic(auto)]
 
+pub use audit::audit_to;
 pub use check::{check_to, print_outcome};
 pub use intake::intake_to;
 pub use list::list_to;
@@ -10,6 +11,7 @@ pub use report::{print_view, report_to};
 pub use stop::{Stop, print_stop};
 
 mod answer;
+mod audit;
 mod check;
 mod intake;
 mod list;

@@ -1,5 +1,6 @@
 //! Transfers over a map: what is printed of them.
 use super::{kept, printed};
+use crate::audit::audit_to;
 use crate::intake::intake_to;
 use crate::list::list_to;
 use crate::report::report_to;
@@ -155,7 +156,7 @@ fn opened(alloc: Global, names: &[&str]) -> Result<Receiver<MapKeeper>, Fail> {
     Ok(receiver)
 }
 
-/// Whether this is printed of the transfer, with this status.
+/// Whether this is printed of the transfer, with this status, by a report and by an audit.
 fn is_reported(
     alloc: Global,
     receiver: &mut Receiver<MapKeeper>,
@@ -164,7 +165,10 @@ fn is_reported(
 ) -> Result<bool, Fail> {
     let mut out = kept(alloc)?;
     let status = report_to(alloc, receiver, name, &mut out);
-    Ok((status, printed(&out)) == (expected.0, Some(expected.1)))
+    let mut other = kept(alloc)?;
+    let again = audit_to(alloc, receiver, name, &mut other);
+    let is_same = (again, printed(&other)) == (status, printed(&out));
+    Ok(is_same && (status, printed(&out)) == (expected.0, Some(expected.1)))
 }
 
 /// Whether this is printed of what these couriers bring, with this status.

@@ -1,0 +1,39 @@
+//! `audit`: what is wrong with the bag of a transfer, by all that is held of it, read again.
+ghost use Rattle.std.specs.Prelude.{◌≡◌, Some};
+ghost use Rattle.bag_ledger.specs.Ledgers.{Transfer};
+ghost use Rattle.bag_rules.specs.Transfers.{held_bag};
+ghost use Rattle.bag_rules.specs.Validity.{IsValid};
+ghost use Rattle.bag_receiver.specs.Names.{IsNamed};
+ghost use Rattle.bag_receiver.specs.Receivers.{IsInState};
+ghost use Rattle.bag_receiver.specs.Receiving.{LedgerState};
+ghost use Rattle.bag_commands.specs.Printing.{PrintedBy};
+ghost use Rattle.bag_commands.specs.Viewing.{IsReporting};
+ghost use Rattle.bag_commands.specs.ViewTexts.{view_lines, view_status};
+
+use crate::output::Output;
+use crate::report::print_view;
+use crate::status::VALID;
+use bag_ledger::Keeper;
+use bag_receiver::Receiver;
+use std::alloc::Global;
+use std::io::Write;
+
+/// Prints what is wrong with the bag of a transfer, of which all payload files are read and hashed again, and answers the status, as
+/// [`print_view`] does.
+pub fn audit_to<K: Keeper, W: Write + Drop>(
+    alloc: Global,
+    receiver: &mut Receiver<K>,
+    name: &str,
+    out: &mut Output<W>,
+) -> u8
+    // Status 0 is for transfers alone that hold a valid bag.
+    ensures valid { result ≡ VALID → K.clean receiver.new.keeper → (now : LedgerState)
+        → IsInState K.holds K.may_leave receiver.old now
+        → (transfer : Transfer) × IsNamed now.held name.now (Some transfer)
+        × IsValid (held_bag transfer.tags transfer.items) }
+    ensures printed { PrintedBy W.contents view_lines view_status out.old out.new result
+        (IsReporting K.holds K.may_leave K.clean K.failures name.now receiver.old receiver.new) }
+{
+    let answer = receiver.audit(alloc, name);
+    print_view(&answer, out)
+}
