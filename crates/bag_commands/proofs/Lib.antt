@@ -1,4 +1,5 @@
 pub mod AlgNames
+pub mod BeginLemmas
 pub mod IntakeLemmas
 pub mod RunsTaken
 pub mod VerdictLemmas

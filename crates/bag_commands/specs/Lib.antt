@@ -1,4 +1,6 @@
 pub mod AnswerTexts
+pub mod BeginTexts
+pub mod Begins
 pub mod CheckTexts
 pub mod Checking
 pub mod FaultTexts

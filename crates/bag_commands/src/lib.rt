@@ -2,6 +2,7 @@
 #![tactic(auto)]
 
 pub use audit::audit_to;
+pub use begin::{begin_to, print_beginning};
 pub use check::{check_to, print_outcome};
 pub use intake::intake_to;
 pub use list::list_to;
@@ -12,6 +13,7 @@ pub use stop::{Stop, print_stop};
 
 mod answer;
 mod audit;
+mod begin;
 mod check;
 mod intake;
 mod list;
