@@ -1,12 +1,15 @@
 //! Transfers over a map: what is printed of them.
 use super::{kept, printed};
 use crate::audit::audit_to;
+use crate::begin::begin_to;
 use crate::intake::intake_to;
 use crate::list::list_to;
 use crate::report::report_to;
 use bag_digest::{Failed, Failures, Source};
 use bag_ledger::MapKeeper;
+use bag_path::BagPath;
 use bag_receiver::{Courier, Receiver};
+use bag_rules::MemTree;
 use std::alloc::{AllocError, Global};
 use std::test::Fail;
 
@@ -256,5 +259,57 @@ bag: files
     assert_eq!(rt; couriers[1].failures(), 2);
     assert_eq!(rt; couriers[2].nexts(), 0);
     assert!(rt; is_reported(alloc, &mut receiver, "t1", (0, "valid\n"))?);
+    Ok(())
+}
+
+/// Whether this is printed of a beginning with these files, and with a payload file that isn't read, and with this status.
+fn is_begun(
+    alloc: Global,
+    receiver: &mut Receiver<MapKeeper>,
+    name: &str,
+    files: &[(&str, &str)],
+    expected: (u8, &str),
+) -> Result<bool, Fail> {
+    let mut tree = MemTree::new(alloc);
+    for (path, text) in files.iter().copied() {
+        let octets = Vec::from_slice(alloc, text.as_bytes())?;
+        tree.add(BagPath::parse(alloc, path)?, octets)?;
+    }
+    tree.add(BagPath::parse(alloc, "data/a.txt")?, Vec::new(alloc))?;
+    let mut out = kept(alloc)?;
+    let status = begin_to(alloc, receiver, name, &mut tree, &mut out);
+    Ok((status, printed(&out)) == (expected.0, Some(expected.1)))
+}
+
+#[test]
+fn a_transfer_is_begun_once_with_the_tag_files_of_a_tree(rt: HostRuntime) -> Result<(), Fail> {
+    let alloc = rt.alloc();
+    let mut receiver = Receiver::new(alloc, MapKeeper::new(alloc));
+    let other = "BagIt-Version: 0.96\nTag-File-Character-Encoding: UTF-8\n";
+    let manifest = ("manifest-sha256.txt", MANIFEST);
+    let whole = [("bagit.txt", DECLARATION), manifest];
+    let note = [("bagit.txt", DECLARATION), manifest, ("note%.txt", "")];
+    let clash = [
+        ("bagit.txt", DECLARATION),
+        manifest,
+        ("a%", ""),
+        ("a%/b", ""),
+    ];
+    for (name, files, expected) in [
+        ("T1", &whole[..], (1, "refused: name\n")),
+        ("t1", &whole[..1], (1, "refused: no payload manifest\n")),
+        (
+            "t1",
+            &[("bagit.txt", other), manifest],
+            (2, "outside: version\n"),
+        ),
+        ("t1", &clash, (1, "refused: clash a%25\n")),
+        ("t1", &whole, (0, "new\n")),
+        ("t1", &whole, (0, "again\n")),
+        ("t1", &note, (1, "refused: differs\n")),
+    ] {
+        let is_told = is_begun(alloc, &mut receiver, name, files, expected)?;
+        assert!(rt; is_told, "{}", expected.1);
+    }
     Ok(())
 }
