@@ -7,6 +7,7 @@ use std::io::{self, Read};
 use std::test::Fail;
 
 mod audits;
+mod exports;
 mod large;
 
 type Items = Vec<(String, Vec<u8>)>;
