@@ -99,12 +99,12 @@ struct ShortSink {
 }
 
 impl ShortSink {
-    ghost use Rattle.std.specs.Prelude.{◌≡◌, IsErr};
+    ghost use Rattle.std.specs.Prelude.{◌≡◌, IsErr, false};
     ghost use Rattle.bag_digest.specs.Device.{CountsIf};
 
     /// Takes the call if it is in order.
     fn take(&mut self, in_order: bool) -> Result<(), Failed>
-        ensures order { (in_order ≡ false) → IsErr result }
+        ensures order { in_order ≡ false → IsErr result }
         ensures open { self.new.is_open ≡ self.old.is_open }
         ensures counted { CountsIf (IsErr result) self.old.failures self.new.failures }
     {
