@@ -27,8 +27,8 @@ struct Item {
     content: Vec<u8>,
 }
 
-/// Brings items, the last first, and then fails unless it ends well. The octets of each come from its end, one a read; those of an item
-/// that begin with `!` fail there.
+/// Brings items, the last first, and then fails unless it ends well. The octets of each come from its end, one a read; a read of `!`
+/// fails.
 #[derive(Drop)]
 struct Items {
     left: Vec<Item>,
