@@ -69,6 +69,12 @@ pub struct NotAdopted<S: Alter> {
 
 impl<S: Alter> SqlKeeper<S> {
     /// Takes a database as the ledger that it holds, once each of its transfers and payload files was read and verified.
+    ///
+    /// All octets of all payload files are read and hashed, a piece at a time.
+    ///
+    /// # Errors
+    ///
+    /// The first fault in the order of [`AdoptFault`]. Where a transaction is under way it is `Keep(Store(Refused))`.
     pub fn adopt(connection: Connection<S>) -> Result<SqlKeeper<S>, NotAdopted<S>>
         ensures verified { IfOk result (λ keeper. HasCleanDisk (state S.Store keeper.connection)
             → IsVerified S.Store (state S.Store connection).committed) }
