@@ -22,6 +22,19 @@ expect() {
     fi
 }
 
+# refuse NAME START COMMAND..: the command ends with status 64 and prints nothing; what it says on standard error begins so.
+refuse() {
+    local name=$1 start=$2 status=0
+    shift 2
+    "$@" </dev/null >"$work/printed" 2>"$work/said" || status=$?
+    if diff -u /dev/null "$work/printed" && [[ $(<"$work/said") == "$start"* ]] && [ "$status" -eq 64 ]; then
+        passed=$((passed + 1))
+    else
+        failed=$((failed + 1))
+        echo "FAILED: $name: status $status, and on standard error: $(<"$work/said")"
+    fi
+}
+
 # build_first: builds the program where it has to be. What a build says would be noise in the first case.
 build_first() {
     local status=0

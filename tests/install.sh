@@ -63,10 +63,9 @@ if [ -n "$(page 2>"$work/no page")" ]; then
         expect "the page names: $text" 0 '' grep -qF -- "$text" "$work/page"
     done <<'TEXTS'
 bag check DIR
-bag make SRC DST [ALG...]
+bag make SRC DST ALG...
 made N files, M octets
 unknown algorithm WORD
-bag: no algorithm
 bag: clash
 no bagit.txt
 byte order mark

@@ -36,9 +36,10 @@ info() {
 
 build_first
 
-expect 'no folders' 64 'bag: check, make' bag make
-expect 'one folder' 64 'bag: check, make' bag make "$work/letters"
-expect 'in other letters' 64 'bag: check, make' bag Make "$work/letters" "$work/one" sha256
+refuse 'no folders' 'error: the following required arguments were not provided:' bag make
+refuse 'one folder' 'error: the following required arguments were not provided:' bag make "$work/letters"
+refuse 'no algorithm' 'error: the following required arguments were not provided:' bag make "$work/letters" "$work/one"
+refuse 'in other letters' "error: unrecognized subcommand 'Make'" bag Make "$work/letters" "$work/one" sha256
 
 mkdir -p "$work/letters/k"
 printf abc >"$work/letters/a.txt"
@@ -136,7 +137,6 @@ refused() {
     expect "$1" "$2" "$3" bag make "${@:4}"
     expect "$1: nothing is made" 0 '' nothing "$5"
 }
-refused 'no algorithm' 1 'bag: no algorithm' "$work/letters" "$work/new"
 refused 'an unknown algorithm' 64 'unknown algorithm sha224' "$work/letters" "$work/new" sha224
 refused 'the first unknown one' 64 'unknown algorithm SHA256' "$work/letters" "$work/new" md5 SHA256 sha3
 refused 'an unknown algorithm, and a name with a slash at its end' 64 'unknown algorithm ' "$work/letters" "$work/new/" ''

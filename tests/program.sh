@@ -17,13 +17,25 @@ new() {
 build_first
 
 expect 'no words' 64 'bag: check, make' bag
-expect 'a word that is no command' 64 'bag: check, make' bag verify examples/first-bag
-expect 'a command in other letters' 64 'bag: check, make' bag Check examples/first-bag
-expect 'an option in place of a command' 64 'bag: check, make' bag --help examples/first-bag
-expect 'a command without its folder' 64 'bag: check, make' bag check
-expect 'a command with two folders' 64 'bag: check, make' bag check examples/first-bag examples/first-bag
-expect 'a word that is not UTF-8' 64 'bag: check, make' bag check $'\377'
+refuse 'a word that is no command' "error: unrecognized subcommand 'verify'" bag verify examples/first-bag
+refuse 'a command in other letters' "error: unrecognized subcommand 'Check'" bag Check examples/first-bag
+refuse 'an empty word' "error: " bag ''
+refuse 'an option in place of a command' "error: unexpected argument '--version' found" bag --version
+refuse 'a command after the mark' "error: " bag -- check examples/first-bag
+refuse 'a command without its folder' 'error: the following required arguments were not provided:' bag check
+refuse 'a command with two folders' "error: unexpected argument 'two' found" bag check examples/first-bag two
+refuse 'an option that is not there' "error: unexpected argument '-x' found" bag check -x examples/first-bag
+refuse 'a word that is not UTF-8' 'error: a word is not UTF-8' bag check $'\377'
+expect 'help' 0 "$help" bag --help
+expect 'help, whatever else is there' 0 "$help" bag --help examples/first-bag
+expect 'help by its command' 0 "$help" bag help
+expect 'help of a command' 0 "$help_of_check" bag check --help
+expect 'help of a command, by its letter' 0 "$help_of_check" bag check examples/first-bag -h
 
+expect 'a folder after the mark' 0 valid bag check -- examples/first-bag
+expect 'a folder before the mark' 0 valid bag check examples/first-bag --
+expect 'a folder that is named as an option' 3 'bag: files' bag check -- --help
+expect 'a folder that is named by a hyphen' 3 'bag: files' bag check -
 expect 'a valid bag' 0 valid bag check examples/first-bag
 expect 'a slash at the end' 0 valid bag check examples/first-bag/
 expect 'from another directory' 0 valid env -C examples ../bag check first-bag

@@ -12,7 +12,7 @@ use Rattle.bag_rules.specs.Files.{Files}
 use Rattle.bag_rules.specs.Trees.{Shown, octets_in, paths_in}
 use Rattle.bag_cmd.specs.Bringing.{IsFoundAt, TreeFile, all_known, known_file, left_to_read, payload_from, place_after, text_at, to_come}
 
-rest_from : {X : Type 0} (xs : List X) (n : ℕ) (x : X) → slice_get xs n ≡ Some x → drop n xs ≡ x ∷ drop (n + 1) xs
+pub rest_from : {X : Type 0} (xs : List X) (n : ℕ) (x : X) → slice_get xs n ≡ Some x → drop n xs ≡ x ∷ drop (n + 1) xs
 rest_from [] n x e = absurd (cc)
 rest_from (y ∷ xs) zero x e = let k : y ≡ x = cc in ap (λ z. z ∷ xs) k
 rest_from (y ∷ xs) (suc n) x e = let s : suc n + 1 ≡ suc (n + 1) = omega arith in rw s (rest_from xs n x e)

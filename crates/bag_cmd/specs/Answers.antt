@@ -1,8 +1,8 @@
 -- What a command leaves in the writer that it was handed.
-use Rattle.std.specs.Prelude.{◌≡◌, ℕ, List, [], ◌∷◌, Option, None, Result, codes}
+use Rattle.std.specs.Prelude.{◌≡◌, ◌≢◌, ℕ, List, [], ◌∷◌, Option, None, Result, codes}
 use Rattle.bag_rules.specs.declared.outcome.Outcome.{Outcome}
 use Rattle.bag_rules.specs.declared.outcome.CheckFault.{CheckFault}
-use Rattle.bag_commands.specs.declared.status.TheConstants.{FAILED, USAGE}
+use Rattle.bag_commands.specs.declared.status.TheConstants.{DONE, FAILED, USAGE}
 use Rattle.bag_commands.specs.declared.output.Output.{Output}
 use Rattle.bag_commands.specs.declared.stop.Stop.TheVariants.{Files, Memory}
 use Rattle.bag_commands.specs.Checking.{IsAnswer, PrintedOf}
@@ -30,6 +30,15 @@ pub data PrintsCheck {W : Type 0} (contents : W → Option (List ℕ)) (known : 
   NoMemory : Printed contents old new result (stop_text Memory ∷ []) FAILED
       → PrintsCheck contents known folder old new result
 
+-- What is said of words that name no command: help, on standard error what is wrong with them, or that memory ran out.
+pub data Refuses {W : Type 0} (contents : W → Option (List ℕ)) (old new : Output W) (result : ℕ)
+    : Type 0 where
+  Helped : (text : List ℕ) → Printed contents old new result (text ∷ []) DONE
+      → Refuses contents old new result
+  Told : new ≡ old → result ≡ USAGE → Refuses contents old new result
+  Unsaid : Printed contents old new result (stop_text Memory ∷ []) FAILED
+      → Refuses contents old new result
+
 -- What a command line does: what it prints, and the folder that was made for a bag and not given up, which `make` alone changes.
 pub record RunsCommand {W : Type 0} (contents : W → Option (List ℕ)) (known : Option Listing)
     (words : List (List ℕ)) (before after : Option (List ℕ)) (old new : Output W) (result : ℕ)
@@ -39,8 +48,9 @@ pub record RunsCommand {W : Type 0} (contents : W → Option (List ℕ)) (known 
   pub make : (making : MakingShown)
       → NamesMake words making.source making.destination making.names
       → PrintsMake contents known making before after old new result
-  pub usage : ¬ NamesCommand words
+  pub no_words : words ≡ []
       → Printed contents old new result (codes "bag: check, make" ∷ []) USAGE
+  pub usage : words ≢ [] → ¬ NamesCommand words → Refuses contents old new result
   pub others : ((making : MakingShown)
       → ¬ NamesMake words making.source making.destination making.names) → after ≡ before
 

@@ -8,7 +8,7 @@
 ghost use Rattle.std.specs.Prelude.{◌≡◌, ◌≢◌};
 ghost use Rattle.bag_cmd.specs.Answers.{Ran};
 
-use bag_commands::status::FAILED;
+use bag_commands::status::{FAILED, USAGE};
 use bag_commands::{Output, Stop, print_stop};
 use command::command;
 use folder::{Destination, Disk};
@@ -23,6 +23,7 @@ mod command;
 mod commands;
 mod folder;
 mod request;
+mod usage;
 
 fn main(rt: HostRuntime) -> ExitCode {
     ExitCode::from(run(&rt))
@@ -30,7 +31,7 @@ fn main(rt: HostRuntime) -> ExitCode {
 
 /// Runs the command that the words name, and answers the status. What is printed is held back until the command has ended or the
 /// buffer is full.
-fn run<R: Files + Env + Print + AllocGlobal>(rt: &R) -> u8
+fn run<R: Files + Env + Print + Eprint + AllocGlobal>(rt: &R) -> u8
     // Any other status than that of a failure is a command's own.
     ensures { result ≢ FAILED
         → (old : _) × (new : _) × Ran ⟦<Printer<'static, R> as Write>⟧.contents old new result }
@@ -45,21 +46,22 @@ fn run<R: Files + Env + Print + AllocGlobal>(rt: &R) -> u8
 }
 
 /// The same, with what is printed going to a writer.
-fn run_words<R: Files + Env + AllocGlobal, W: Write + Drop>(rt: &R, out: &mut Output<W>) -> u8
+fn run_words<R: Files + Env + Eprint + AllocGlobal, W: Write + Drop>(
+    rt: &R,
+    out: &mut Output<W>,
+) -> u8
     ensures { result ≢ FAILED → Ran W.contents out.old out.new result }
 {
     let alloc = rt.alloc();
-    match words(rt, alloc) {
-        Ok(words) => command(rt, &Disk(rt), &mut Destination::new(rt), alloc, words, out),
-        Err(AllocError) => print_stop(Stop::Memory, out),
-    }
-}
-
-/// The words after the program's name; none where one of them isn't UTF-8, since no command takes such a word.
-fn words<R: Env + AllocGlobal>(rt: &R, alloc: Global) -> Result<Vec<String>, AllocError> {
     match env::args(rt) {
-        Ok(words) => words.skip(1).collect(alloc),
-        Err(error) if error.kind() == ErrorKind::OutOfMemory => Err(AllocError),
-        Err(_) => Ok(Vec::new(alloc)),
+        Ok(words) => match words.skip(1).collect(alloc) {
+            Ok(words) => command(rt, &Disk(rt), &mut Destination::new(rt), alloc, words, out),
+            Err(AllocError) => print_stop(Stop::Memory, out),
+        },
+        Err(error) if error.kind() == ErrorKind::OutOfMemory => print_stop(Stop::Memory, out),
+        Err(_) => {
+            let _ = eprintln!(rt; "error: a word is not UTF-8");
+            USAGE
+        }
     }
 }

@@ -1,0 +1,137 @@
+-- The operands among words, word by word.
+use Rattle.std.proofs.Common.{◌≡◌, ◌∷◌, ◌++◌, ◌+◌, ◌<◌, ◌≤◌, ◌∙◌, [], ℕ, Bool, List, None, Option, Some, ap, append_assoc, arith, codes, drop, false, get_or, length, map, not, refl, remove, suc, sym, take, true, zero}
+use Rattle.std.specs.Prelude.{if◌then◌else◌, option_map, slice_get}
+use Rattle.std.specs.Str.{bytes_eq}
+use Rattle.std.proofs.lemmas.Option.{slice_get-map, slice_get_read}
+use Rattle.std.proofs.lemmas.List.{append-nil, drop_all, take_all}
+use Rattle.std.proofs.lemmas.Slice.Eq.{bytes_eq-Decides}
+use Rattle.bag_cmd.specs.Making.{MakingShown}
+use Rattle.bag_cmd.specs.Requests.{NamesMake, is_option, operands_of}
+use Rattle.bag_cmd.proofs.CourierLemmas.{rest_from}
+
+next_taken : {X : Type 0} (xs : List X) (n : ℕ) (x : X) → slice_get xs n ≡ Some x → take (n + 1) xs ≡ take n xs ++ x ∷ []
+next_taken [] n x e = absurd (cc)
+next_taken (y ∷ xs) zero x e = let k : y ≡ x = cc in ap (λ z. z ∷ []) k
+next_taken (y ∷ xs) (suc n) x e = let s : suc n + 1 ≡ suc (n + 1) = omega arith in rw s (ap (λ list. y ∷ list) (next_taken xs n x e))
+
+-- the first words are operands, and what follows decides on the rest
+abbrev pub IsFront : List (List ℕ) → ℕ → Type 0
+IsFront words i = operands_of words ≡ option_map (λ more. take i words ++ more) (operands_of (drop i words))
+
+as_it_is : (operands : Option (List (List ℕ))) → operands ≡ option_map (λ more. [] ++ more) operands
+as_it_is None = refl
+as_it_is (Some more) = refl
+
+pub front_begins : (words : List (List ℕ)) → IsFront words 0
+front_begins words = as_it_is (operands_of words)
+
+onward : (front after : List (List ℕ)) (word : List ℕ) (operands : Option (List (List ℕ))) → after ≡ front ++ word ∷ []
+    → option_map (λ more. front ++ more) (option_map (λ more. word ∷ more) operands) ≡ option_map (λ more. after ++ more) operands
+onward front after word None is = refl
+onward front after word (Some more) is = ap Some (sym (ap (λ (xs : List (List ℕ)). xs ++ more) is ∙ append_assoc front (word ∷ []) more))
+
+operands_at : (word : List ℕ) (rest : List (List ℕ)) (mark option : Bool) → bytes_eq word (codes "--") ≡ mark → is_option word ≡ option
+    → operands_of (word ∷ rest) ≡ (if mark then Some rest else if option then None else option_map (λ more. word ∷ more) (operands_of rest))
+operands_at word rest mark option is_mark is_option = rw (is_mark, is_option) refl
+
+pub front_next : (words : List (List ℕ)) (i : ℕ) (word : List ℕ) → slice_get words i ≡ Some word → bytes_eq word (codes "--") ≡ false → is_option word ≡ false → IsFront words i → IsFront words (i + 1)
+front_next words i word here no_mark no_option front =
+    let rest = drop (i + 1) words in
+    front ∙ ap (λ (ws : List (List ℕ)). option_map (λ more. take i words ++ more) (operands_of ws)) (rest_from words i word here)
+    ∙ ap (option_map (λ more. take i words ++ more)) (operands_at word rest false false no_mark no_option)
+    ∙ onward (take i words) (take (i + 1) words) word (operands_of rest) (next_taken words i word here)
+
+pub front_marked : (words : List (List ℕ)) (i : ℕ) (word : List ℕ) → slice_get words i ≡ Some word → bytes_eq word (codes "--") ≡ true → IsFront words i → operands_of words ≡ Some (take i words ++ drop (i + 1) words)
+front_marked words i word here mark front =
+    let rest = drop (i + 1) words in
+    front ∙ ap (λ (ws : List (List ℕ)). option_map (λ more. take i words ++ more) (operands_of ws)) (rest_from words i word here)
+    ∙ ap (option_map (λ more. take i words ++ more)) (operands_at word rest true (is_option word) mark refl)
+
+pub front_refused : (words : List (List ℕ)) (i : ℕ) (word : List ℕ) → slice_get words i ≡ Some word → bytes_eq word (codes "--") ≡ false → is_option word ≡ true → IsFront words i → operands_of words ≡ None
+front_refused words i word here no_mark option front =
+    let rest = drop (i + 1) words in
+    front ∙ ap (λ (ws : List (List ℕ)). option_map (λ more. take i words ++ more) (operands_of ws)) (rest_from words i word here)
+    ∙ ap (option_map (λ more. take i words ++ more)) (operands_at word rest false true no_mark option)
+
+pub front_ends : (words : List (List ℕ)) (i : ℕ) → i ≡ length words → IsFront words i → operands_of words ≡ Some words
+front_ends words i end front =
+    let past : length words ≤ i = omega (arith, end) in
+    front ∙ ap (λ (ws : List (List ℕ)). option_map (λ more. take i words ++ more) (operands_of ws)) (drop_all i words past)
+    ∙ ap Some (append-nil (take i words) ∙ take_all i words past)
+
+-- WORDS AS THEIR OCTETS
+
+module _ {X : Type 0} (octets : X → List ℕ) where
+  -- the octets of the word at a place
+  pub word_at : (all words : List X) (i n : ℕ) (word : X) (text : List ℕ) → words ≡ all → n ≡ length all → i < n → word ≡ get_or words i word → text ≡ octets word → slice_get (map octets all) i ≡ Some text
+  word_at all words i n word text same long within here is =
+      slice_get-map octets all i ∙ ap (option_map octets) (slice_get_read all n i word long within (here ∙ ap (λ (ws : List X). get_or ws i word) same)) ∙ ap Some (sym is)
+
+  cut : (xs : List X) (n : ℕ) → map octets (take n xs ++ drop (n + 1) xs) ≡ take n (map octets xs) ++ drop (n + 1) (map octets xs)
+  cut [] zero = refl
+  cut [] (suc n) = let s : suc n + 1 ≡ suc (n + 1) = omega arith in rw s refl
+  cut (x ∷ xs) zero = refl
+  cut (x ∷ xs) (suc n) = let s : suc n + 1 ≡ suc (n + 1) = omega arith in rw s (ap (λ list. octets x ∷ list) (cut xs n))
+
+  pub without_word : (all words : List X) (i : ℕ) → words ≡ take i all ++ drop (i + 1) all → map octets words ≡ take i (map octets all) ++ drop (i + 1) (map octets all)
+  without_word all words i is = ap (map octets) is ∙ cut all i
+
+-- the first of some, and the others
+pub first_taken : {X : Type 0} (xs rest : List X) (x : X) → 0 < length xs → x ≡ get_or xs 0 x → rest ≡ remove xs 0 → xs ≡ x ∷ rest
+first_taken [] rest x some first others = absurd (omega arith)
+first_taken (y ∷ ys) rest x some first others = let head : y ≡ x = sym first in let tail : ys ≡ rest = sym others in cc (head, tail)
+
+holds : (b : Bool) → not b ≡ false → b ≡ true
+holds true h = refl
+holds false h = sym h
+
+pub is_text : (text other : List ℕ) (differs : Bool) → differs ≡ not (bytes_eq text other) → differs ≡ false → text ≡ other
+is_text text other differs is same = (bytes_eq-Decides text other).0 (holds (bytes_eq text other) (sym is ∙ same))
+
+-- WHAT WORDS NAME
+
+some_left : {X : Type 0} (octets : X → List ℕ) (operands after names : List X) (source destination : X) → operands ≡ source ∷ after → after ≡ destination ∷ names → 3 ≤ length operands → map octets names ≡ [] → ⊥
+some_left octets operands after [] source destination is_source is_destination long none = absurd (omega (arith, ap length is_source, ap length is_destination, long))
+some_left octets operands after (name ∷ names) source destination is_source is_destination long none = cc
+
+pub asks_make : {X : Type 0} (octets : X → List ℕ) (all rest operands after names : List X) (name source destination : X) → all ≡ name ∷ rest → octets name ≡ codes "make" → Some (map octets operands) ≡ operands_of (map octets rest)
+    → operands ≡ source ∷ after → after ≡ destination ∷ names → 3 ≤ length operands → NamesMake (map octets all) (octets source) (octets destination) (map octets names)
+asks_make octets all rest operands after names name source destination is_all is_make found is_source is_destination long = (
+  (map octets rest, ap (map octets) is_all ∙ ap (λ (text : List ℕ). text ∷ map octets rest) is_make, sym found ∙ ap (λ (xs : List _). Some (map octets xs)) (is_source ∙ ap (λ xs. source ∷ xs) is_destination)),
+  some_left octets operands after names source destination is_source is_destination long,
+)
+
+pub no_words : {X : Type 0} (xs : List X) → length xs ≡ 0 → xs ≡ []
+no_words [] none = refl
+no_words (x ∷ xs) none = absurd (omega (arith, none))
+
+pub none_named : {X : Type 0} (octets : X → List ℕ) (xs : List X) → map octets xs ≡ [] → length xs ≡ 0
+none_named octets [] none = refl
+none_named octets (x ∷ xs) none = absurd (cc)
+
+pub not_both : (words rest others : List (List ℕ)) → words ≡ codes "make" ∷ rest → words ≡ codes "check" ∷ others → ⊥
+not_both words rest others is also = cc
+
+pub not_none : (words rest : List (List ℕ)) (word : List ℕ) → words ≡ word ∷ rest → words ≡ [] → ⊥
+not_none words rest word is none = cc
+
+abbrev making_of : List ℕ → List ℕ → List (List ℕ) → MakingShown
+making_of source destination names = record { source = source; destination = destination; names = names }
+
+same_operands : (making other : MakingShown) → Some (making.source ∷ making.destination ∷ making.names) ≡ Some (other.source ∷ other.destination ∷ other.names) → making ≡ other
+same_operands making other is =
+    let source : making.source ≡ other.source = cc in
+    let destination : making.destination ≡ other.destination = cc in
+    let names : making.names ≡ other.names = cc in
+    ap (λ (s : List ℕ). making_of s making.destination making.names) source
+    ∙ ap (λ (d : List ℕ). making_of other.source d making.names) destination
+    ∙ ap (λ (n : List (List ℕ)). making_of other.source other.destination n) names
+
+same_rest : (words rest others : List (List ℕ)) (word : List ℕ) → words ≡ word ∷ rest → words ≡ word ∷ others → rest ≡ others
+same_rest words rest others word is also = cc
+
+-- what the words after `make` are follows from the words
+pub same_making : (words : List (List ℕ)) (making other : MakingShown) → NamesMake words making.source making.destination making.names
+    → NamesMake words other.source other.destination other.names → making ≡ other
+same_making words making other is also =
+    same_operands making other (sym is.0.2 ∙ ap operands_of (same_rest words is.0.0 also.0.0 (codes "make") is.0.1 also.0.1) ∙ also.0.2)
