@@ -89,7 +89,8 @@ abbrev pub held_after : FetchAnswer → List ℕ → List (List ℕ) → List (L
 held_after Taken path held = path ∷ held
 held_after answer path held = held
 
--- Each line whose path isn't held when it is reached has its round, in their order, and no other has one.
+-- Each line whose path isn't held when it is reached has its round, in their order, and no other
+-- has one.
 abbrev pub Reaches : List (List ℕ) → List FetchLine → List Round → Type 0
 Reaches held [] rounds = rounds ≡ []
 Reaches held (line ∷ lines) rounds = (Has held line.entry.path × Reaches held lines rounds)
@@ -97,7 +98,8 @@ Reaches held (line ∷ lines) rounds = (Has held line.entry.path × Reaches held
     × (rounds ≡ round ∷ rest) × IsFor line round
     × Reaches (held_after (told round.reply) round.path held) lines rest))
 
--- the lines are those of `fetch.txt` of the transfer with this name, and what is held first is what it holds
+-- the lines are those of `fetch.txt` of the transfer with this name, and what is held first is what
+-- it holds
 abbrev pub AreReached : Ledger → List ℕ → List Round → Type 0
 AreReached ledger name rounds = (transfer : Transfer) × IsNamed ledger name (Some transfer)
     × ((lines : List FetchLine) × AreFetchLines transfer.tags lines

@@ -28,8 +28,8 @@ use bag_rules::{ItemSize, Plan, Report, Want};
 use std::alloc::Global;
 
 impl<K: Keeper> Receiver<K> {
-    /// What is wrong with the bag of the transfer, as [`report`](Receiver::report) says it; but all payload files that are held are
-    /// read and hashed again. One that isn't the listed one any more is told as missing.
+    /// What is wrong with the bag of the transfer, as [`report`](Receiver::report) says it; but all payload files that
+    /// are held are read and hashed again. One that isn't the listed one any more is told as missing.
     ///
     /// # Errors
     ///
@@ -42,7 +42,8 @@ impl<K: Keeper> Receiver<K> {
             (λ fault. fault ≡ ViewFault.NoTransfer → IsNamed now.held name.now None) }
         // A text that is no name names no transfer, whatever the store would answer.
         ensures judged { ¬ IsTransferName name.now → IsErrOf result ViewFault.NoTransfer }
-        // After a transfer was opened, for any list of deliveries with losses, repeats and reorderings, as for a report.
+        // After a transfer was opened, for any list of deliveries with losses, repeats and reorderings, as for a
+        // report.
         ensures headline { K.clean self.new.keeper → (now : LedgerState)
             → IsInState K.holds K.may_leave self.old now
             → (tags : Files) (deliveries : List Delivery)
@@ -127,7 +128,8 @@ fn passes<K: Keeper>(
     }
 }
 
-/// Whether the payload file of so many octets that is held at the wanted path is the wanted one. It is read to its end.
+/// Whether the payload file of so many octets that is held at the wanted path is the wanted one. It is read to its
+/// end.
 fn is_wanted<K: Keeper>(
     keeper: &mut K,
     alloc: Global,

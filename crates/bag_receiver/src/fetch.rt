@@ -69,13 +69,13 @@ struct Requests {
 }
 
 impl<K: Keeper> Receiver<K> {
-    /// Asks the supplier for each entry of `fetch.txt` whose path isn't held when it is reached, in their order, and takes in what it
-    /// gives as [`deliver_from`](Receiver::deliver_from) does.
+    /// Asks the supplier for each entry of `fetch.txt` whose path isn't held when it is reached, in their order, and
+    /// takes in what it gives as [`deliver_from`](Receiver::deliver_from) does (RFC 8493 section 2.2.3).
     ///
     /// # Errors
     ///
-    /// Those of [`report`](Receiver::report), before the supplier is asked for anything. Once it was asked, a fault is the answer to
-    /// that entry, and the others follow.
+    /// Those of [`report`](Receiver::report), before the supplier is asked for anything. Once it was asked, a fault is
+    /// the answer to that entry, and the others follow.
     pub fn fetch<S: Supplier>(
         &mut self,
         alloc: Global,
@@ -85,13 +85,16 @@ impl<K: Keeper> Receiver<K> {
         ensures fetched { MatchResult result (λ outcomes. (rounds : List Round)
             × (outcomes.items ≡ map outcome_of rounds)
             × AllByRecursion (IsGotFrom (S.supply supplier.old)) rounds
-            × Runs K.holds K.may_leave K.clean K.failures self.old self.new name.now (deliveries_by rounds)
+            × Runs K.holds K.may_leave K.clean K.failures self.old self.new name.now
+            (deliveries_by rounds)
             × (K.clean self.new.keeper → (now : LedgerState)
             → IsInState K.holds K.may_leave self.old now → AreReached now.held name.now rounds))
-            (λ fault. Does K.holds K.may_leave K.clean self.old self.new Same × (supplier.new ≡ supplier.old)) }
+            (λ fault. Does K.holds K.may_leave K.clean self.old self.new Same
+            × (supplier.new ≡ supplier.old)) }
         ensures none { K.clean self.new.keeper → (now : LedgerState)
             → IsInState K.holds K.may_leave self.old now
-            → IfErr result (λ fault. fault ≡ ViewFault.NoTransfer → IsNamed now.held name.now None) }
+            → IfErr result (λ fault. fault ≡ ViewFault.NoTransfer
+            → IsNamed now.held name.now None) }
         ensures judged { ¬ IsTransferName name.now → IsErrOf result ViewFault.NoTransfer }
         ensures supplier { IfOk result (λ outcomes. CountsAtLeast (supplier_failures outcomes.items)
             (S.failures supplier.old) (S.failures supplier.new)
@@ -149,7 +152,8 @@ impl<K: Keeper> Receiver<K> {
         ensures looks { Does K.holds K.may_leave K.clean self.old self.new Same }
         ensures prepared { K.clean self.new.keeper → (now : LedgerState)
             → IsInState K.holds K.may_leave self.old now
-            → MatchResult result (λ requests. IsUnderWay now.held name.now requests.held.items requests.list.items [])
+            → MatchResult result
+            (λ requests. IsUnderWay now.held name.now requests.held.items requests.list.items [])
             (λ fault. fault ≡ ViewFault.NoTransfer → IsNamed now.held name.now None) }
         ensures judged { ¬ IsTransferName name.now → IsErrOf result ViewFault.NoTransfer }
         ensures store { CountsIf ((fault : StoreFault)

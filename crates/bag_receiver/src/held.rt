@@ -10,8 +10,8 @@ use bag_ledger::{KeepFault, Keeper};
 use bag_path::BagPath;
 use std::alloc::Global;
 
-/// Reads the next octets of a held payload file into the front of the buffer, where so many are left of it, and answers how many
-/// it read: none only where the file has fewer.
+/// Reads the next octets of a held payload file into the front of the buffer, where so many are left of it, and answers
+/// how many it read: none only where the file has fewer.
 pub(crate) fn next_piece<K: Keeper>(
     keeper: &mut K,
     alloc: Global,

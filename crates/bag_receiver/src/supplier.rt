@@ -5,8 +5,8 @@ ghost use Rattle.bag_receiver.specs.Suppliers.{IsSupplied, Supply};
 
 use bag_digest::{Failed, Source};
 
-/// Has payload files, and is asked for one after another. Its reads give the content of the one that it was asked for last, where it
-/// said that it has it; else they fail.
+/// Has payload files, and is asked for one after another. Its reads give the content of the one that it was asked for
+/// last, where it said that it has it; else they fail.
 ///
 /// What a folder or a line has nobody knows, so nothing is claimed of it: its `supply` is `None`.
 pub trait Supplier: Source + Drop {

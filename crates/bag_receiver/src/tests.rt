@@ -8,6 +8,7 @@ use std::test::Fail;
 
 mod audits;
 mod exports;
+mod fetches;
 mod large;
 
 type Items = Vec<(String, Vec<u8>)>;
