@@ -14,6 +14,27 @@ new() {
     cp -r examples/first-bag "$work/$1"
 }
 
+help='Works with bags of the BagIt File Packaging Format (RFC 8493)
+
+Usage: bag <COMMAND>
+
+Commands:
+  check  Judges the bag in a folder
+  make   Writes the bag of the files in a folder into a new one
+  help   Print this message or the help of the given subcommand(s)
+
+Options:
+  -h, --help  Print help'
+help_of_check='Judges the bag in a folder
+
+Usage: bag check <DIR>
+
+Arguments:
+  <DIR>  The folder
+
+Options:
+  -h, --help  Print help'
+
 build_first
 
 expect 'no words' 64 'bag: check, make' bag

@@ -51,6 +51,7 @@ fn command_line<'a>(alloc: Global) -> Result<Command<'a>, AllocError> {
         )?;
     Command::new(alloc, "bag")
         .about("Works with bags of the BagIt File Packaging Format (RFC 8493)")
+        .bin_name("bag")?
         .no_binary_name(true)
         .subcommand_required(true)
         .subcommand(check)?
