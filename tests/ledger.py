@@ -1,12 +1,14 @@
 #!/usr/bin/env python3
-"""ledger.py DRIVER: has the driver make ledgers in databases on the disk, and reads them back by sqlite3, piece by piece.
+"""ledger.py DRIVER: has the driver make ledgers in databases on the disk, and reads them back by sqlite3, piece by piece. Then has it
+adopt them, as they are, after a VACUUM and after damage by sqlite3; and other files, which it has to leave as they are.
 
 Each is held against section 18 of docs/FORMAT.md: the rows that the transfer has, and no others. It also has to pass the tests that
-sqlite3 itself has for a database.
+sqlite3 itself has for a database. It ends with how many ledgers were read and how many files adopted or refused.
 """
 import hashlib
 import pathlib
 import random
+import shutil
 import sqlite3
 import subprocess
 import sys
@@ -58,6 +60,71 @@ def judge(file, tags, items):
     database.close()
 
 
+DAMAGES = [
+    ("UPDATE held SET size = size - 1", "damaged bench data/file"),
+    ("UPDATE piece SET n = n + 9; UPDATE piece SET n = 12 - n", "damaged bench data/file"),
+    ("UPDATE piece SET body = zeroblob(65536) WHERE n = 1", "damaged bench data/file"),
+    ("UPDATE piece SET body = zeroblob(65537) WHERE n = 1", "damaged bench data/file"),
+    ("DELETE FROM piece WHERE n = 2", "damaged bench data/file"),
+    ("UPDATE held SET path = 'data/other'", "damaged bench data/other"),
+    ("UPDATE tag SET path = 'tag.txt' WHERE path = 'bagit.txt'", "damaged bench "),
+    ("INSERT INTO meta VALUES ('more', 1)", "not a ledger"),
+    ("UPDATE meta SET v = 1", "old format"),
+    ("UPDATE meta SET v = 3", "not a ledger"),
+    ("PRAGMA foreign_keys = OFF; DELETE FROM held", "not a ledger"),
+    ("DROP TABLE piece", "not a ledger"),
+    ("VACUUM", "adopted"),
+]
+
+
+def adopted(driver, file):
+    """What adopting a file prints."""
+    ran = subprocess.run([driver, "adopt", file], capture_output=True, text=True, timeout=60, check=False)
+    assert not ran.stderr and ran.returncode == (0 if ran.stdout == "adopted\n" else 1), (file, ran)
+    return ran.stdout.removesuffix("\n")
+
+
+def adopt_damaged(driver, file):
+    """Adopts copies of this ledger with one damage each, and answers how many."""
+    for damage, wanted in DAMAGES:
+        for old in file.parent.glob("copy*"):
+            old.unlink()
+        copy = file.with_name("copy")
+        shutil.copy(file, copy)
+        database = sqlite3.connect(copy)
+        database.executescript(damage)
+        database.close()
+        found = adopted(driver, copy)
+        assert found == wanted, (damage, found, wanted)
+    return len(DAMAGES)
+
+
+def adopt_others(driver, file):
+    """Adopts what is no ledger, or can't be had; each stays as it was. Answers how many there were."""
+    whole = file.read_bytes()
+    application = sqlite3.connect(file.with_name("application"))
+    application.executescript("CREATE TABLE meta (k TEXT, v TEXT); CREATE TABLE held (id INTEGER PRIMARY KEY, what TEXT)")
+    application.close()
+    others = {
+        "text": (b"a text file, and longer than the header of a database" * 99, {"not a ledger", "store"}),
+        "cut": (whole[: len(whole) // 2], {"not a ledger", "store"}),
+        "application": (file.with_name("application").read_bytes(), {"not a ledger"}),
+    }
+    for name, (octets, wanted) in others.items():
+        other = file.with_name(name)
+        other.write_bytes(octets)
+        assert adopted(driver, other) in wanted, (name, adopted(driver, other))
+        assert other.read_bytes() == octets, name
+    locked = sqlite3.connect(file, isolation_level=None)
+    locked.execute("PRAGMA locking_mode = EXCLUSIVE")
+    locked.execute("BEGIN EXCLUSIVE")
+    locked.execute("SELECT * FROM meta").fetchall()
+    assert adopted(driver, file) == "store"
+    locked.close()
+    assert file.read_bytes() == whole and adopted(driver, file) == "adopted"
+    return len(others) + 2
+
+
 def main(driver):
     with tempfile.TemporaryDirectory() as folder:
         work = pathlib.Path(folder)
@@ -72,12 +139,15 @@ def main(driver):
             digest = hashlib.sha256(octets).hexdigest()
             subprocess.run([driver, "put-file", work / "octets", digest, ledgers[-1]], check=True)
             judge(ledgers[-1], tag_files({"data/file": octets}, ["data/file"]), {"data/file": octets})
+        large = ledgers[-1]
         # Of another content than the one that is listed nothing is held.
         ledgers.append(work / "none")
         words = [driver, "put-file", work / "octets", hashlib.sha256(b"").hexdigest(), ledgers[-1]]
         assert subprocess.run(words, check=False).returncode == 1
         judge(ledgers[-1], tag_files({"data/file": b""}, ["data/file"]), {})
-    print(f"{len(ledgers)} ledgers read by sqlite3")
+        assert all(adopted(driver, ledger) == "adopted" for ledger in ledgers)
+        tried = len(ledgers) + adopt_damaged(driver, large) + adopt_others(driver, large)
+    print(f"{len(ledgers)} ledgers read by sqlite3, {tried} files adopted or refused")
 
 
 if __name__ == "__main__":

@@ -1,10 +1,12 @@
 #!/usr/bin/env bash
-# Ledgers in databases on the disk, which sqlite3 reads back.
+# Ledgers in databases: on the disk, where sqlite3 reads them back, and in memory, where their work is stopped at each call of a file.
 set -u
 cd "$(dirname -- "$0")/.." || exit 1
 . tests/common.bash
 
 build_driver
-expect 'ledgers that sqlite3 reads' 0 '9 ledgers read by sqlite3' \
+expect 'ledgers on the disk' 0 '9 ledgers read by sqlite3, 27 files adopted or refused' \
     env TMPDIR="$work" python3 -B tests/ledger.py "$driver"
+expect 'stops' 0 '' python3 -B tests/stops.py "$driver" "$work/stops"
+cat "$work/stops"
 finish

@@ -2,12 +2,13 @@
 use crate::keepers::created;
 use crate::receiving::{Items, is_taken, listing, payload, tag_files, take_in};
 use bag_digest::Counted;
+use bag_ledger::KeepFault;
 use bag_receiver::Receiver;
-use bag_sqlite::SqlKeeper;
-use sqlite::{Connection, File, FileStore};
+use bag_sqlite::{AdoptFault, NotAdopted, SqlKeeper};
+use sqlite::{Connection, Error, ErrorCode, File, FileStore};
 use std::alloc::Global;
 use std::fs;
-use std::io::{self, ErrorKind};
+use std::io::{self, ErrorKind, Write};
 
 type DiskReceiver = Receiver<SqlKeeper<FileStore<File>>>;
 
@@ -38,6 +39,45 @@ pub fn put_file(rt: &HostRuntime, file: &str, digest: &str, database: &str) -> i
     let answer = receiver.deliver_from(alloc, "bench", "data/file", &mut reader);
     closed(receiver)?;
     Ok(if is_taken(&answer) { 0 } else { 1 })
+}
+
+/// Opens the database, adopts the ledger that it holds, and prints that it did or why it didn't. The status is 0 where it did.
+pub fn adopt(rt: &HostRuntime, database: &str) -> io::Result<u8> {
+    let mut out = io::writer(rt);
+    let connection = match Connection::open(rt, database) {
+        Ok(connection) => connection,
+        Err(Error::SqliteFailure(ErrorCode::NotADatabase)) => {
+            writeln!(out, "not a ledger")?;
+            return Ok(1);
+        }
+        Err(_) => {
+            writeln!(out, "store")?;
+            return Ok(1);
+        }
+    };
+    let fault = match SqlKeeper::adopt(connection) {
+        Ok(keeper) => {
+            writeln!(out, "adopted")?;
+            return match keeper.release().close() {
+                Ok(()) => Ok(0),
+                Err(_) => Ok(3),
+            };
+        }
+        Err(
+            NotAdopted {
+                fault,
+                connection: _,
+            },
+        ) => fault,
+    };
+    match fault {
+        AdoptFault::Damaged { name, path } => writeln!(out, "damaged {name} {path}")?,
+        AdoptFault::Keep(KeepFault::Memory) => writeln!(out, "memory")?,
+        AdoptFault::Keep(KeepFault::Store(_)) => writeln!(out, "store")?,
+        AdoptFault::OldFormat => writeln!(out, "old format")?,
+        AdoptFault::NotALedger => writeln!(out, "not a ledger")?,
+    }
+    Ok(1)
 }
 
 /// A receiver over a ledger that is made in this database.

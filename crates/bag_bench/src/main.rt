@@ -12,7 +12,9 @@
 //!
 //! `bag_bench put FILES DATABASE` makes so many payload files of 2,048 octets and takes them in, in one run, into a ledger in a database
 //! that is made; `bag_bench put-file FILE DIGEST DATABASE` takes in one file, which is listed by this SHA-256. The status is 0 where each
-//! was taken.
+//! was taken. `bag_bench adopt DATABASE` prints whether a ledger was adopted, or why not; the status is 0 where it was.
+//!
+//! `bag_bench stops` stops a ledger's work at each call of each of its two files, as `tests/stops.py` tells.
 //!
 //! `bag_bench ALG PIECES` takes the digest of so many pieces of 65,536 octets.
 //!
@@ -29,7 +31,7 @@ use bag_path::Version;
 use bag_rules::{Plan, TagSet};
 use bag_sqlite::SqlKeeper;
 use bag_tags::{Kind, read_fetch, read_info, read_manifest, write_declaration};
-use database::{put, put_file};
+use database::{adopt, put, put_file};
 use deliveries::answer_all;
 use receiving::receive;
 use sqlite::MemStore;
@@ -37,6 +39,7 @@ use std::alloc::{AllocError, Global};
 use std::env::{self, Env};
 use std::io;
 use std::process::ExitCode;
+use stops::stop_each;
 use writing::write_all;
 
 mod database;
@@ -44,6 +47,7 @@ mod deliveries;
 mod event;
 mod keepers;
 mod receiving;
+mod stops;
 mod text;
 mod writing;
 
@@ -74,7 +78,9 @@ fn run(rt: &HostRuntime) -> u8 {
     };
     let done = match words.len() {
         1 if words[0].as_str() == "write" => write_all(rt).map(|_| 0),
+        1 if words[0].as_str() == "stops" => stop_each(rt).map(|_| 0),
         2 if words[0].as_str() == "deliveries" => answer_over(rt, words[1].as_str()),
+        2 if words[0].as_str() == "adopt" => adopt(rt, words[1].as_str()),
         2 => work(rt.alloc(), words[0].as_str(), words[1].as_str()),
         3 if words[0].as_str() == "put" => put(rt, words[1].as_str(), words[2].as_str()),
         4 if words[0].as_str() == "put-file" => put_file(
