@@ -3,12 +3,14 @@
 adopt them, as they are, after a VACUUM and after damage by sqlite3; and other files, which it has to leave as they are.
 
 Each is held against section 18 of docs/FORMAT.md: the rows that the transfer has, and no others. It also has to pass the tests that
-sqlite3 itself has for a database. It ends with how many ledgers were read and how many files adopted or refused.
+sqlite3 itself has for a database. It ends with how many ledgers were read, how many files adopted or refused, and how many disks full.
 """
 import hashlib
 import pathlib
 import random
+import resource
 import shutil
+import signal
 import sqlite3
 import subprocess
 import sys
@@ -125,6 +127,35 @@ def adopt_others(driver, file):
     return len(others) + 2
 
 
+def put_on_a_full_disk(driver, work, octets, digest):
+    """Puts a file where no file may grow past a length, once for each of many lengths, and answers how many there were. Each time it is
+    held whole, or the ledger is there without it, or none is."""
+
+    def limited(length):
+        signal.signal(signal.SIGXFSZ, signal.SIG_IGN)
+        resource.setrlimit(resource.RLIMIT_FSIZE, (length, length))
+
+    lengths, seen = range(0, 400_000, 9_999), set()
+    for length in lengths:
+        for old in work.glob("full*"):
+            old.unlink()
+        full = work / "full"
+        words = [driver, "put-file", octets, digest, full]
+        ran = subprocess.run(words, preexec_fn=lambda: limited(length), capture_output=True, timeout=60, check=False)
+        after = adopted(driver, full)
+        assert after in ("adopted", "not a ledger") and ran.returncode in (0, 1, 3), (length, ran, after)
+        assert ran.returncode != 0 or after == "adopted", length
+        if after == "adopted":
+            database = sqlite3.connect(full)
+            [(held,)] = database.execute("SELECT count(*) FROM held").fetchall()
+            database.close()
+            assert held == 1 or ran.returncode != 0, length
+            after = f"{held} held"
+        seen.add(after)
+    assert seen == {"not a ledger", "0 held", "1 held"}, seen
+    return len(lengths)
+
+
 def main(driver):
     with tempfile.TemporaryDirectory() as folder:
         work = pathlib.Path(folder)
@@ -147,7 +178,8 @@ def main(driver):
         judge(ledgers[-1], tag_files({"data/file": b""}, ["data/file"]), {})
         assert all(adopted(driver, ledger) == "adopted" for ledger in ledgers)
         tried = len(ledgers) + adopt_damaged(driver, large) + adopt_others(driver, large)
-    print(f"{len(ledgers)} ledgers read by sqlite3, {tried} files adopted or refused")
+        full = put_on_a_full_disk(driver, work, work / "octets", hashlib.sha256((work / "octets").read_bytes()).hexdigest())
+    print(f"{len(ledgers)} ledgers read by sqlite3, {tried} files adopted or refused, {full} full disks")
 
 
 if __name__ == "__main__":
