@@ -82,11 +82,12 @@ tells() {
     esac
 }
 
-# in_each_test CRATE PROGRAM: runs each test of the crate once with no growth refused, and then with each of as many. It passes,
-# or fails for want of memory.
+# in_each_test CRATE PROGRAM PATTERN: runs each test of the crate whose name doesn't match once with no growth refused, and then with each of
+# as many. It passes, or fails for want of memory.
 in_each_test() {
     local name number status step
     list_tests "$1" "$2"
+    sed -i -E "/$3/d" "$work/names"
     while IFS= read -r name; do
         apart refusing 0 "$2" "$name" &>"$work/told" || { echo "$name fails" && cat "$work/told"; }
         count_asked || echo "$name: no growths were counted"
@@ -119,10 +120,12 @@ if cc -shared -fPIC -O1 -o "$work/no_memory.so" tests/no_memory.c 2>"$work/no cc
     for bag in $bags; do
         expect "want of memory in $bag" 3 'bag: memory' each_growth "examples/$bag"
     done
+    # Left out are tests that only tell whether something was printed or written as it has to be, and not what was, as all of the receiver's.
+    left_out='^make::|^tests::transfers::'
     for crate in bag_path bag_digest bag_tags bag_rules bag_ledger bag_commands bag_cmd; do
         tests=$PWD/crates/$crate/out/${crate}_tests
         if [ -x "$tests" ]; then
-            expect "want of memory in the tests of $crate" 0 '' more_refusals in_each_test "$crate" "$tests"
+            expect "want of memory in the tests of $crate" 0 '' more_refusals in_each_test "$crate" "$tests" "$left_out"
         else
             lacking "want of memory in the tests of $crate, whose program ./test builds"
         fi
