@@ -3,7 +3,11 @@ pub mod BeginTexts
 pub mod Begins
 pub mod CheckTexts
 pub mod Checking
+pub mod ExportTexts
+pub mod Exporting
 pub mod FaultTexts
+pub mod FetchTexts
+pub mod Fetching
 pub mod IntakeTexts
 pub mod Intakes
 pub mod IntakesInside

@@ -3,13 +3,18 @@ use Rattle.std.specs.Prelude.{ℕ, List, [], ◌∷◌, Result, Ok, Err, map, st
 use Rattle.std.specs.declared.alloc.Global.{Global}
 use Rattle.std.specs.declared.string.String.{String}
 use Rattle.std.specs.declared.vec.Vec.{Vec}
+use Rattle.bag_path.specs.Spellings.{written_spelling}
 use Rattle.bag_ledger.specs.declared.fault.KeepFault.{KeepFault}
 use Rattle.bag_commands.specs.declared.status.TheConstants.{DONE, FAILED}
 use Rattle.bag_commands.specs.StopTexts.{stop_of_keep, stop_text}
 
+-- a name stands as a path is written in a manifest, so that any text stays on its line
+abbrev pub name_text : String Global → List ℕ
+name_text name = written_spelling (string_bytes name)
+
 -- each on a line; or why they can't be told
 abbrev pub list_lines : Result (Vec (String Global) Global) KeepFault → List (List ℕ)
-list_lines (Ok names) = map string_bytes names.items
+list_lines (Ok names) = map name_text names.items
 list_lines (Err fault) = stop_text (stop_of_keep fault) ∷ []
 
 abbrev pub list_status : Result (Vec (String Global) Global) KeepFault → ℕ

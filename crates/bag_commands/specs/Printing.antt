@@ -1,5 +1,5 @@
 -- What a command leaves in the writer that it was handed.
-use Rattle.std.specs.Prelude.{◌≡◌, ◌⊎◌, ℕ, List, [], Option}
+use Rattle.std.specs.Prelude.{◌≡◌, ◌⊎◌, ◌∷◌, ℕ, List, [], Option}
 use Rattle.std.specs.Io.Buffered.{writer_buffer, writer_contents}
 use Rattle.std.specs.Io.KnownBytes.{Appends}
 use Rattle.bag_digest.specs.Device.{Rises}
@@ -27,3 +27,9 @@ abbrev pub PrintedBy : {W A : Type 0} → (W → Option (List ℕ)) → (A → L
     → Output W → Output W → ℕ → (A → Type 0) → Type 0
 PrintedBy contents lines status old new result kind =
     (answer : _) × kind answer × Printed contents old new result (lines answer) (status answer)
+
+-- the same, of an answer that has one line
+abbrev pub PrintedOne : {W A : Type 0} → (W → Option (List ℕ)) → (A → List ℕ) → (A → ℕ)
+    → Output W → Output W → ℕ → (A → Type 0) → Type 0
+PrintedOne contents text status old new result kind =
+    (answer : _) × kind answer × Printed contents old new result (text answer ∷ []) (status answer)

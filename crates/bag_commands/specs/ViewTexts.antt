@@ -12,11 +12,14 @@ abbrev pub view_fault_line : ViewFault → List ℕ
 view_fault_line NoTransfer = codes "bag: no transfer"
 view_fault_line (Keeper why) = stop_text (stop_of_keep why)
 
+abbrev pub view_fault_status : ViewFault → ℕ
+view_fault_status NoTransfer = REFUSED
+view_fault_status (Keeper why) = FAILED
+
 abbrev pub view_lines : Result Report ViewFault → List (List ℕ)
 view_lines (Ok report) = report_lines report
 view_lines (Err fault) = view_fault_line fault ∷ []
 
 abbrev pub view_status : Result Report ViewFault → ℕ
 view_status (Ok report) = report_status report
-view_status (Err NoTransfer) = REFUSED
-view_status (Err (Keeper why)) = FAILED
+view_status (Err fault) = view_fault_status fault

@@ -35,7 +35,7 @@ impl Display for AnswerLine<'_> {
 
 /// Why a delivery was refused.
 #[derive(Clone, Copy)]
-struct RefusalText(DeliverFault);
+pub struct RefusalText(pub DeliverFault);
 
 impl Display for RefusalText {
     ghost use Rattle.std.specs.Prelude.{Some};

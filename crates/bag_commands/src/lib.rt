@@ -4,18 +4,24 @@
 pub use audit::audit_to;
 pub use begin::{begin_to, print_beginning};
 pub use check::{check_to, print_outcome};
+pub use export::{export_to, print_export};
+pub use fetch::{fetch_to, print_fetch};
 pub use intake::intake_to;
 pub use list::list_to;
 pub use make::{make_to, print_making};
 pub use output::Output;
 pub use report::{print_view, report_to};
+pub use spelling::TextSpelling;
 pub use stop::{Stop, print_stop};
 
 mod answer;
 mod audit;
 mod begin;
 mod check;
+mod export;
+mod fetch;
 mod intake;
+pub mod laws;
 mod list;
 mod make;
 mod output;

@@ -1,12 +1,13 @@
 //! `list`: the names of the transfers that are held.
-ghost use Rattle.std.specs.Prelude.{◌≡◌, [], OnErr, OnOk, map, string_bytes};
+ghost use Rattle.std.specs.Prelude.{◌≡◌, [], OnErr, OnOk, map};
 ghost use Rattle.std.specs.Io.Buffered.{writer_buffer};
 ghost use Rattle.bag_digest.specs.Device.{Rises};
-ghost use Rattle.bag_commands.specs.ListTexts.{list_lines, list_status};
+ghost use Rattle.bag_commands.specs.ListTexts.{list_lines, list_status, name_text};
 ghost use Rattle.bag_commands.specs.Listing.{IsListing};
 ghost use Rattle.bag_commands.specs.Printing.{PrintedBy, WroteLines};
 
 use crate::output::Output;
+use crate::spelling::TextSpelling;
 use crate::status::{DONE, FAILED};
 use crate::stop::Stop;
 use bag_digest::Failed;
@@ -16,6 +17,8 @@ use std::alloc::Global;
 use std::io::Write;
 
 /// Prints the name of each transfer on a line of its own, in order, or why they can't be told, and answers the status.
+///
+/// A text that is no name, in a ledger that something else wrote, has the escapes of a path's spelling.
 pub fn list_to<K: Keeper, W: Write + Drop>(
     alloc: Global,
     receiver: &mut Receiver<K>,
@@ -49,11 +52,11 @@ fn write_names<W: Write + Drop>(
 
 /// Writes each name on a line.
 fn write_each<W: Write + Drop>(names: &[String], out: &mut Output<W>) -> Result<(), Failed>
-    ensures ok { OnOk result (WroteLines W.contents out.old out.new (map string_bytes names.now)) }
+    ensures ok { OnOk result (WroteLines W.contents out.old out.new (map name_text names.now)) }
     ensures failed { OnErr result (Rises out.old.failures out.new.failures) }
 {
     for name in names {
-        out.line(name.as_str())?;
+        out.line(TextSpelling(name.as_str()))?;
     }
     Ok(())
 }

@@ -10,7 +10,7 @@ ghost use Rattle.bag_receiver.specs.Receivers.{IsInState};
 ghost use Rattle.bag_receiver.specs.Receiving.{LedgerState};
 ghost use Rattle.bag_commands.specs.Printing.{Printed, PrintedBy, WroteLines};
 ghost use Rattle.bag_commands.specs.Viewing.{IsReporting};
-ghost use Rattle.bag_commands.specs.ViewTexts.{view_fault_line, view_lines, view_status};
+ghost use Rattle.bag_commands.specs.ViewTexts.{view_fault_line, view_fault_status, view_lines, view_status};
 
 use crate::output::Output;
 use crate::status::{FAILED, REFUSED, VALID};
@@ -71,12 +71,22 @@ fn write_view<W: Write + Drop>(
 }
 
 /// Why nothing is known of the bag.
-fn fault_line(fault: ViewFault) -> &'static str
+pub fn fault_line(fault: ViewFault) -> &'static str
     ensures { result.now ≡ view_fault_line fault }
 {
     match fault {
         ViewFault::NoTransfer => "bag: no transfer",
         ViewFault::Keeper(why) => Stop::from(why).text(),
+    }
+}
+
+/// The status that goes with it.
+pub fn fault_status(fault: ViewFault) -> u8
+    ensures { result ≡ view_fault_status fault }
+{
+    match fault {
+        ViewFault::NoTransfer => REFUSED,
+        ViewFault::Keeper(_) => FAILED,
     }
 }
 
@@ -86,7 +96,6 @@ fn status_of(answer: &Result<Report, ViewFault>) -> u8
 {
     match answer {
         Ok(report) => report_status(report),
-        Err(ViewFault::NoTransfer) => REFUSED,
-        Err(ViewFault::Keeper(_)) => FAILED,
+        Err(fault) => fault_status(*fault),
     }
 }

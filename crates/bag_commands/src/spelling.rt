@@ -1,11 +1,12 @@
-//! Paths as they are printed.
+//! Paths and names as they are printed.
 ghost use Rattle.std.specs.Prelude.{encode_utf8};
 ghost use Rattle.std.specs.Fmt.{WritesOnOk};
 ghost use Rattle.bag_path.specs.Spellings.{written_spelling};
 
 use std::fmt::{self, Display, Formatter, Write};
 
-/// A text that was delivered as a path, with the escapes of a path's spelling, so that it stays on its line. It need not be a path.
+/// A text that was delivered as a path, or stands in a ledger as a name, with the escapes of a path's spelling, so that it stays
+/// on its line. It need not be a path or a name.
 #[derive(Clone, Copy)]
 pub struct TextSpelling<'a>(pub &'a str);
 

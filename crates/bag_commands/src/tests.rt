@@ -7,6 +7,8 @@ use std::alloc::Global;
 use std::io::{self, BufWriter, Write};
 use std::test::Fail;
 
+mod exports;
+mod fetches;
 mod transfers;
 
 /// An output that keeps what is written.

@@ -6,10 +6,10 @@ use crate::intake::intake_to;
 use crate::list::list_to;
 use crate::report::report_to;
 use bag_digest::{Failed, Failures, Source};
-use bag_ledger::MapKeeper;
+use bag_ledger::{Keeper, MapKeeper};
 use bag_path::BagPath;
 use bag_receiver::{Courier, Receiver};
-use bag_rules::MemTree;
+use bag_rules::{MemTree, Plan, TagSet};
 use std::alloc::{AllocError, Global};
 use std::test::Fail;
 
@@ -19,6 +19,12 @@ const DECLARATION: &str = "BagIt-Version: 1.0\nTag-File-Character-Encoding: UTF-
 const MANIFEST: &str = "ba7816bf8f01cfea414140de5dae2223b00361a396177a9cb410ff61f20015ad  data/a.txt
 e3b0c44298fc1c149afbf4c8996fb92427ae41e4649b934ca495991b7852b855  data/e.txt
 ";
+
+/// The tag files of a transfer of these two.
+pub const TAG_FILES: [(&str, &str); 2] = [
+    ("bagit.txt", DECLARATION),
+    ("manifest-sha256.txt", MANIFEST),
+];
 
 /// The text of a path, and the octets that are still to be read.
 #[derive(Drop)]
@@ -144,11 +150,17 @@ impl Courier for Items {
 
 /// A receiver with transfers of these names, each of two files.
 fn opened(alloc: Global, names: &[&str]) -> Result<Receiver<MapKeeper>, Fail> {
+    opened_with(alloc, names, &TAG_FILES)
+}
+
+/// A receiver with transfers of these names, each opened with these tag files.
+pub fn opened_with(
+    alloc: Global,
+    names: &[&str],
+    tag_files: &[(&str, &str)],
+) -> Result<Receiver<MapKeeper>, Fail> {
     let mut files = Vec::new(alloc);
-    for (path, text) in [
-        ("bagit.txt", DECLARATION),
-        ("manifest-sha256.txt", MANIFEST),
-    ] {
+    for (path, text) in tag_files.iter().copied() {
         let octets = Vec::from_slice(alloc, text.as_bytes())?;
         files.push((String::from_str(alloc, path)?, octets))?;
     }
@@ -196,6 +208,23 @@ fn the_names_of_transfers_are_listed_in_order(rt: HostRuntime) -> Result<(), Fai
         let status = list_to(alloc, &mut receiver, &mut out);
         assert_eq!(rt; (status, printed(&out)), (0, Some(expected)));
     }
+    Ok(())
+}
+
+#[test]
+fn a_text_that_is_no_name_stays_on_its_line(rt: HostRuntime) -> Result<(), Fail> {
+    let alloc = rt.alloc();
+    let mut tags = TagSet::new(alloc);
+    for (path, text) in TAG_FILES {
+        tags.add(path, Vec::from_slice(alloc, text.as_bytes())?)?;
+    }
+    let _plan = Plan::from_tags(alloc, &tags)?;
+    let mut keeper = opened(alloc, &["t1"])?.into_keeper();
+    keeper.begin(alloc, "a\nt0\r%", &tags)?;
+    let mut receiver = Receiver::new(alloc, keeper);
+    let mut out = kept(alloc)?;
+    let status = list_to(alloc, &mut receiver, &mut out);
+    assert_eq!(rt; (status, printed(&out)), (0, Some("a%0At0%0D%25\nt1\n")));
     Ok(())
 }
 

@@ -1,0 +1,35 @@
+-- What a receiver answers that is to export a transfer into a sink, and what the sink holds then.
+use Rattle.std.specs.Prelude.{◌≡◌, ℕ, Bool, List, OnOk, Option, IsErrOf, Result, false}
+use Rattle.bag_digest.specs.Device.{CountsIf}
+use Rattle.bag_ledger.specs.Ledgers.{Ledger}
+use Rattle.bag_ledger.specs.declared.fault.KeepFault.TheVariants.{Store}
+use Rattle.bag_ledger.specs.declared.fault.StoreFault.{StoreFault}
+use Rattle.bag_receiver.specs.declared.export.ExportFault.{ExportFault}
+use Rattle.bag_receiver.specs.declared.export.ExportFault.TheVariants.{Keeper, NoTransfer, Sink}
+use Rattle.bag_receiver.specs.declared.receiver.Receiver.{Receiver}
+use Rattle.bag_receiver.specs.Exports.{Exports}
+use Rattle.bag_receiver.specs.Names.{IsTransferName}
+use Rattle.bag_receiver.specs.Receivers.{Does, IsInState}
+use Rattle.bag_receiver.specs.ReceiversInside.{Same}
+use Rattle.bag_receiver.specs.Receiving.{LedgerState}
+use Rattle.bag_writer.specs.Sinks.{IsEmptySink, Stored, UsesSink}
+
+-- Where the keeper is clean, a sink that was empty holds the whole bag that the transfer with this name holds, and its files were
+-- counted; or part of that bag, after a fault; or there is no such transfer. A text that is no name names none, and then the sink
+-- isn't asked for anything. A failure of the store exactly where the keeper counted one, and one of the sink exactly where the sink
+-- did; a sure sink that was empty and had no file begun doesn't fail. Nothing changes of what is held.
+pub record IsExporting {K S : Type 0} (holds may_leave : K → Ledger → Type 0) (clean : K → Type 0)
+    (failures : K → ℕ) (stored : S → Option Stored) (is_open : S → Bool) (sink_failures : S → ℕ)
+    (sink_sure : S → Type 0) (name : List ℕ) (old new : Receiver K) (old_sink new_sink : S)
+    (answer : Result ℕ ExportFault) : Type 0 where
+  pub looks : Does holds may_leave clean old new Same
+  pub exported : clean new.keeper → (now : LedgerState) → IsInState holds may_leave old now
+      → Exports now.held name answer (stored old_sink) (stored new_sink)
+  pub judged : (¬ IsTransferName name → IsErrOf answer NoTransfer)
+      × (IsErrOf answer NoTransfer → new_sink ≡ old_sink)
+  pub store : CountsIf ((fault : StoreFault) × IsErrOf answer (Keeper (Store fault)))
+      (failures old.keeper) (failures new.keeper)
+  pub sink : UsesSink sink_failures sink_sure old_sink new_sink
+      ((clean new.keeper × ((now : LedgerState) × IsInState holds may_leave old now))
+      × (is_open old_sink ≡ false) × IsEmptySink (stored old_sink)) (IsErrOf answer Sink)
+  pub closed : is_open old_sink ≡ false → OnOk answer (is_open new_sink ≡ false)

@@ -1,0 +1,44 @@
+-- What a receiver answers that is to fetch what `fetch.txt` of a transfer lists, and what it holds then.
+use Rattle.std.specs.Prelude.{◌≡◌, ℕ, List, None, Option, IfErr, IfOk, IsErrOf, MatchResult, Result, length, map}
+use Rattle.std.specs.List.{AllByRecursion}
+use Rattle.std.specs.declared.alloc.Global.{Global}
+use Rattle.std.specs.declared.vec.Vec.{Vec}
+use Rattle.bag_digest.specs.Device.{CountsIf}
+use Rattle.bag_ledger.specs.Ledgers.{Ledger}
+use Rattle.bag_ledger.specs.declared.fault.KeepFault.TheVariants.{Store}
+use Rattle.bag_ledger.specs.declared.fault.StoreFault.{StoreFault}
+use Rattle.bag_receiver.specs.declared.fetch.FetchOutcome.{FetchOutcome}
+use Rattle.bag_receiver.specs.declared.receiver.Receiver.{Receiver}
+use Rattle.bag_receiver.specs.declared.report.ViewFault.{ViewFault}
+use Rattle.bag_receiver.specs.declared.report.ViewFault.TheVariants.{NoTransfer, Keeper}
+use Rattle.bag_receiver.specs.Names.{IsNamed, IsTransferName}
+use Rattle.bag_receiver.specs.Receivers.{Does, IsInState}
+use Rattle.bag_receiver.specs.ReceiversInside.{Same}
+use Rattle.bag_receiver.specs.Receiving.{LedgerState}
+use Rattle.bag_receiver.specs.Runs.{CountsAtLeast, Runs}
+use Rattle.bag_receiver.specs.Suppliers.{AreReached, AsksEach, IsGotFrom, Round, Supply, deliveries_by, outcome_of, supplier_failures}
+
+-- Each entry of `fetch.txt` of the transfer with this name whose path isn't held when it is reached was asked for, in their order,
+-- and has its outcome: what the supplier has was delivered, and these deliveries are all that changes what is held. Before any was
+-- asked for there may be a fault, and then nothing changes: there is no such transfer, or the store or memory failed. A text that
+-- is no name names none. The supplier is asked once for each outcome, and it and the store are blamed only for failures that they
+-- counted.
+pub record IsFetching {K S : Type 0} (holds may_leave : K → Ledger → Type 0) (clean : K → Type 0)
+    (store_failures : K → ℕ) (supply : S → Option Supply) (failures asks : S → ℕ) (name : List ℕ)
+    (old new : Receiver K) (before after : S) (answer : Result (Vec FetchOutcome Global) ViewFault)
+    : Type 0 where
+  pub fetched : MatchResult answer (λ outcomes. (rounds : List Round)
+      × (outcomes.items ≡ map outcome_of rounds)
+      × AllByRecursion (IsGotFrom (supply before)) rounds
+      × Runs holds may_leave clean store_failures old new name (deliveries_by rounds)
+      × (clean new.keeper → (now : LedgerState) → IsInState holds may_leave old now
+      → AreReached now.held name rounds))
+      (λ fault. Does holds may_leave clean old new Same × (after ≡ before))
+  pub none : clean new.keeper → (now : LedgerState) → IsInState holds may_leave old now
+      → IfErr answer (λ fault. fault ≡ NoTransfer → IsNamed now.held name None)
+  pub judged : ¬ IsTransferName name → IsErrOf answer NoTransfer
+  pub supplier : IfOk answer (λ outcomes.
+      CountsAtLeast (supplier_failures outcomes.items) (failures before) (failures after)
+      × AsksEach (length outcomes.items) (asks before) (asks after))
+  pub store : IfErr answer (λ fault. CountsIf ((store : StoreFault)
+      × (fault ≡ Keeper (Store store))) (store_failures old.keeper) (store_failures new.keeper))

@@ -1,0 +1,83 @@
+//! `export`: writes the bag of a transfer, as it is held, into a sink.
+ghost use Rattle.std.specs.Prelude.{◌≡◌, ◌∷◌, []};
+ghost use Rattle.bag_commands.specs.Exporting.{IsExporting};
+ghost use Rattle.bag_commands.specs.ExportTexts.{export_fault_line, export_status, export_text};
+ghost use Rattle.bag_commands.specs.Printing.{Printed, PrintedOne};
+
+use crate::output::Output;
+use crate::status::{DONE, FAILED, REFUSED};
+use crate::stop::Stop;
+use bag_ledger::Keeper;
+use bag_receiver::{ExportFault, Receiver};
+use bag_writer::Sink;
+use std::alloc::Global;
+use std::fmt::{self, Display, Formatter};
+use std::io::Write;
+
+/// Writes the bag of a transfer as it is held into a sink, which is to be new, prints how many files it has, and answers the
+/// status, as [`print_export`] does.
+///
+/// After a fault of the sink, the store or memory the sink holds part of the bag.
+pub fn export_to<K: Keeper, S: Sink, W: Write + Drop>(
+    alloc: Global,
+    receiver: &mut Receiver<K>,
+    name: &str,
+    sink: &mut S,
+    out: &mut Output<W>,
+) -> u8
+    ensures { PrintedOne W.contents export_text export_status out.old out.new result
+        (IsExporting K.holds K.may_leave K.clean K.failures S.stored S.is_open S.failures S.sure
+        name.now receiver.old receiver.new sink.old sink.new) }
+{
+    let answer = receiver.export(alloc, name, sink);
+    print_export(answer, out)
+}
+
+/// Prints the answer of an export and answers the status: 0 for a bag that was exported, 1 where there is no such transfer, and 3
+/// where the sink, the store or memory failed, or a write of the answer.
+pub fn print_export<W: Write + Drop>(answer: Result<u64, ExportFault>, out: &mut Output<W>) -> u8
+    ensures { Printed W.contents out.old out.new result
+        (export_text answer ∷ []) (export_status answer) }
+{
+    out.print(ExportLine(answer), status_of(answer))
+}
+
+/// Why no bag was exported, or not to its end.
+fn fault_line(fault: ExportFault) -> &'static str
+    ensures { result.now ≡ export_fault_line fault }
+{
+    match fault {
+        ExportFault::NoTransfer => "bag: no transfer",
+        ExportFault::Sink => Stop::Files.text(),
+        ExportFault::Keeper(why) => Stop::from(why).text(),
+    }
+}
+
+/// The status that goes with an answer.
+fn status_of(answer: Result<u64, ExportFault>) -> u8
+    ensures { result ≡ export_status answer }
+{
+    match answer {
+        Ok(_) => DONE,
+        Err(ExportFault::NoTransfer) => REFUSED,
+        Err(ExportFault::Sink | ExportFault::Keeper(_)) => FAILED,
+    }
+}
+
+/// The answer of an export as its line.
+#[derive(Clone, Copy)]
+struct ExportLine(Result<u64, ExportFault>);
+
+impl Display for ExportLine {
+    ghost use Rattle.std.specs.Prelude.{Some};
+    ghost use Rattle.bag_commands.specs.ExportTexts.{export_text};
+
+    ghost output = { λ line. Some (export_text line.0) };
+
+    fn fmt<W: fmt::Write>(&self, f: &mut Formatter<W>) -> fmt::Result {
+        match self.0 {
+            Ok(count) => write!(f, "exported {count} files"),
+            Err(fault) => f.write_str(fault_line(fault)),
+        }
+    }
+}
