@@ -2,6 +2,7 @@ pub mod Adopting
 pub mod Contents
 pub mod Databases
 pub mod Items
+pub mod LedgerFiles
 pub mod Making
 pub mod Opening
 pub mod Putting

@@ -2,6 +2,7 @@
 #![tactic(auto)]
 
 mod adopting;
+mod file;
 mod health;
 mod items;
 mod keeper;
@@ -18,4 +19,6 @@ mod transfers;
 mod verifying;
 
 pub use adopting::{AdoptFault, NotAdopted};
+pub use file::{FileKeeper, LedgerFile};
 pub use keeper::{NotCreated, SqlKeeper};
+pub use sqlite::{Start, Unknown};
