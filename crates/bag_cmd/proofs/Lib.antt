@@ -3,3 +3,4 @@ pub mod Listings
 pub mod PayloadFolders
 pub mod RequestLemmas
 pub mod WalkLemmas
+pub mod WorkLemmas

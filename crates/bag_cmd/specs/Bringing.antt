@@ -17,6 +17,17 @@ pub record Bringing (T : Type 0) : Type 0 where
   pub failures : ℕ
   pub nexts : ℕ
 
+-- a courier of a tree's payload files, before any call
+abbrev pub courier_of : {T : Type 0} → T → Bringing T
+courier_of tree = record {
+  tree = tree;
+  place = 0;
+  came = None;
+  is_started = false;
+  failures = 0;
+  nexts = 0;
+}
+
 abbrev pub IsWithin : Shown → Option ℕ → Type 0
 IsWithin shown came = (i : ℕ) → came ≡ Some i → i < length (paths_in shown)
 

@@ -28,17 +28,17 @@ MakesFolder contents shown failures sure old_tree new_tree words old new result 
 abbrev pub kept_folder : List ℕ → ℕ → Option (List ℕ)
 kept_folder folder status = if nat_eq status DONE then Some folder else None
 
--- What was done with an open payload: a folder of this name was made, the making went on in it, and its answer decided whether it
--- is kept; or it couldn't be made, which was printed.
+-- What was done for a bag that was to be written: a folder of this name was made, the writing went on in it, and its answer decided
+-- whether it is kept; or it couldn't be made, which was printed, and nothing else was done.
 pub data MakesInto {W : Type 0} (contents : W → Option (List ℕ))
-    (makes : SinkShown → SinkShown → Type 0) (folder : List ℕ) (before after : Option (List ℕ))
-    (old new : Output W) (result : ℕ) : Type 0 where
-  Written : (sink later : SinkShown) → IsCreated folder sink → makes sink later
+    (writes : SinkShown → SinkShown → Type 0) (untouched : Type 0) (folder : List ℕ)
+    (before after : Option (List ℕ)) (old new : Output W) (result : ℕ) : Type 0 where
+  Written : (sink later : SinkShown) → IsCreated folder sink → writes sink later
       → after ≡ kept_folder folder result
-      → MakesInto contents makes folder before after old new result
-  NotMade : (fault : OpenFault) → after ≡ before
+      → MakesInto contents writes untouched folder before after old new result
+  NotMade : (fault : OpenFault) → after ≡ before → untouched
       → Printed contents old new result (stop_text (stop_of_open fault) ∷ []) FAILED
-      → MakesInto contents makes folder before after old new result
+      → MakesInto contents writes untouched folder before after old new result
 
 -- the words after `make`: the folder with the payload, the folder for the bag, and the names of algorithms
 pub record MakingShown : Type 0 where
@@ -62,7 +62,7 @@ pub data PrintsMake {W : Type 0} (contents : W → Option (List ℕ)) (known : O
       → IsOpened (in_payload known words.source) words.source Payload tree
       → MakesInto contents (MakesFolder contents (λ (tree : FolderShown). tree.shown)
       (λ (tree : FolderShown). tree.failures) (λ (tree : FolderShown). ⊥) tree later words.names
-      old new result) words.destination before after old new result
+      old new result) (later ≡ tree) words.destination before after old new result
       → PrintsMake contents known words before after old new result
   Refused : IsRefused (in_payload known words.source) words.source → after ≡ before
       → Printed contents old new result (stop_text stop.Files ∷ []) FAILED

@@ -1,9 +1,11 @@
 -- The command lines that the program knows.
-use Rattle.std.specs.Prelude.{◌≡◌, ◌≢◌, ◌⊎◌, ◌&&◌, ℕ, Bool, List, None, Option, Some, [], ◌∷◌, codes, if◌then◌else◌, length, map, nat_eq, nat_lt, option_map, string_bytes}
+use Rattle.std.specs.Prelude.{◌≡◌, ◌≢◌, ◌⊎◌, ◌&&◌, ⊤, ℕ, Bool, List, None, Option, Some, [], ◌∷◌, codes, if◌then◌else◌, length, map, nat_eq, nat_lt, option_map, string_bytes}
 use Rattle.std.specs.List.{starts_with}
 use Rattle.std.specs.Str.{bytes_eq}
 use Rattle.bag_cmd.specs.declared.request.Request.{Request}
 use Rattle.bag_cmd.specs.declared.request.Request.TheVariants.{Check, Make}
+use Rattle.bag_cmd.specs.declared.request.Work.{Work}
+use Rattle.bag_cmd.specs.declared.request.Work.TheVariants.{Begin, Intake, Report, Audit, Fetch, Export, List as Listing}
 
 -- a hyphen and more
 abbrev pub is_option : List ℕ → Bool
@@ -43,3 +45,33 @@ AsksFor words (Check folder) = NamesCheck words (string_bytes folder)
 AsksFor words (Make source destination algorithms) =
     NamesMake words (string_bytes source) (string_bytes destination)
     (map string_bytes algorithms.items)
+
+-- WORK ON A LEDGER
+
+abbrev pub work_name : Work → List ℕ
+work_name (Begin name folder) = codes "begin"
+work_name (Intake name folders) = codes "intake"
+work_name (Report name) = codes "report"
+work_name (Audit name) = codes "audit"
+work_name (Fetch name folder) = codes "fetch"
+work_name (Export name folder) = codes "export"
+work_name Listing = codes "list"
+
+-- its words after the ledger
+abbrev pub work_operands : Work → List (List ℕ)
+work_operands (Begin name folder) = string_bytes name ∷ string_bytes folder ∷ []
+work_operands (Intake name folders) = string_bytes name ∷ map string_bytes folders.items
+work_operands (Report name) = string_bytes name ∷ []
+work_operands (Audit name) = string_bytes name ∷ []
+work_operands (Fetch name folder) = string_bytes name ∷ string_bytes folder ∷ []
+work_operands (Export name folder) = string_bytes name ∷ string_bytes folder ∷ []
+work_operands Listing = []
+
+-- at least one folder
+abbrev pub IsWholeWork : Work → Type 0
+IsWholeWork (Intake name folders) = folders.items ≢ []
+IsWholeWork work = ⊤
+
+abbrev pub AsksForWork : List ℕ → List (List ℕ) → Work → Type 0
+AsksForWork command operands work =
+    (command ≡ work_name work) × (operands ≡ work_operands work) × IsWholeWork work

@@ -1,4 +1,9 @@
 //! The commands, a module each.
 
+pub mod begin;
 pub mod check;
+pub mod export;
+pub mod fetch;
+pub mod intake;
+pub mod ledger;
 pub mod make;

@@ -9,6 +9,7 @@ pub use place::Place;
 pub use sink::FolderSink;
 use std::alloc::{AllocError, AllocFailed};
 use std::io::{self, ErrorKind};
+pub use supplier::FolderSupplier;
 use thiserror::Error;
 pub use tree::FolderTree;
 
@@ -19,6 +20,7 @@ mod name;
 mod payload;
 mod place;
 mod sink;
+mod supplier;
 #[cfg(test)]
 mod tests;
 pub mod told;

@@ -22,6 +22,7 @@ use std::{env, io};
 mod command;
 mod commands;
 mod folder;
+mod ledger;
 mod request;
 mod usage;
 

@@ -1,6 +1,6 @@
 //! What the command line asks for.
-ghost use Rattle.std.specs.Prelude.{◌≡◌, IfNone, IfSome, map, option_map, string_bytes};
-ghost use Rattle.bag_cmd.specs.Requests.{AsksFor, NamesCommand, is_option, operands_of};
+ghost use Rattle.std.specs.Prelude.{◌≡◌, ◌≢◌, ◌∷◌, [], IfNone, IfSome, None, Some, codes, if◌then◌else◌, length, map, nat_eq, option_map, string_bytes};
+ghost use Rattle.bag_cmd.specs.Requests.{AsksFor, AsksForWork, NamesCommand, is_option, operands_of};
 
 /// A command with what it needs.
 #[derive(Debug, Drop, PartialEq, Eq)]
@@ -19,6 +19,25 @@ pub enum Request {
         /// The names of algorithms, as they were given: one or more; some may be no algorithm's, or be there twice.
         algorithms: Vec<String>,
     },
+}
+
+/// What is done on a ledger. A `name` is that of a transfer, or a text that may be none.
+#[derive(Debug, Drop, PartialEq, Eq)]
+pub enum Work {
+    /// `begin LEDGER NAME DIR`: a transfer is opened with the tag files of a folder.
+    Begin { name: String, folder: String },
+    /// `intake LEDGER NAME DIR..`: the payload files of one or more folders are delivered.
+    Intake { name: String, folders: Vec<String> },
+    /// `report LEDGER NAME`: the bag that is held is judged.
+    Report { name: String },
+    /// `audit LEDGER NAME`: the same, after all that is held was read again.
+    Audit { name: String },
+    /// `fetch LEDGER NAME DIR`: what `fetch.txt` lists and isn't held is sought in a folder.
+    Fetch { name: String, folder: String },
+    /// `export LEDGER NAME DIR`: the bag that is held is written into a new folder.
+    Export { name: String, folder: String },
+    /// `list LEDGER`: the transfers are named.
+    List,
 }
 
 impl Request {
@@ -46,6 +65,78 @@ impl Request {
             destination,
             algorithms: operands,
         })
+    }
+}
+
+impl Work {
+    /// Reads a command and the words after the ledger's name.
+    pub fn parse(command: &str, mut operands: Vec<String>) -> Option<Work>
+        ensures none { IfNone result ((work : Work)
+            → ¬ AsksForWork command.now (map string_bytes operands.items) work) }
+        ensures work { IfSome result (AsksForWork command.now (map string_bytes operands.items)) }
+    {
+        if operands.is_empty() {
+            return Work::of_ledger(command);
+        }
+        let name = operands.remove(0);
+        if command == "intake" {
+            return Work::intake(name, operands);
+        }
+        match operands.pop() {
+            None => Work::of_name(command, name),
+            Some(folder) if operands.is_empty() => Work::in_folder(command, name, folder),
+            Some(_) => None,
+        }
+    }
+
+    /// A command that has the ledger and no more.
+    fn of_ledger(command: &str) -> Option<Work>
+        ensures none { IfNone result (command.now ≢ codes "list") }
+        ensures work { IfSome result (AsksForWork command.now []) }
+    {
+        match command {
+            "list" => Some(Work::List),
+            _ => None,
+        }
+    }
+
+    /// `intake` with this name, and with these folders if there are any.
+    fn intake(name: String, folders: Vec<String>) -> Option<Work>
+        ensures { result ≡ (if nat_eq (length folders.items) 0 then None
+            else Some (Work.Intake name folders)) }
+    {
+        if folders.is_empty() {
+            None
+        } else {
+            Some(Work::Intake { name, folders })
+        }
+    }
+
+    /// A command that has a name and no more.
+    fn of_name(command: &str, name: String) -> Option<Work>
+        ensures none { IfNone result (command.now ≢ codes "report" × (command.now ≢ codes "audit")) }
+        ensures work { IfSome result (AsksForWork command.now (string_bytes name ∷ [])) }
+    {
+        match command {
+            "report" => Some(Work::Report { name }),
+            "audit" => Some(Work::Audit { name }),
+            _ => None,
+        }
+    }
+
+    /// A command that has a name and a folder.
+    fn in_folder(command: &str, name: String, folder: String) -> Option<Work>
+        ensures none { IfNone result (command.now ≢ codes "begin"
+            × (command.now ≢ codes "fetch") × (command.now ≢ codes "export")) }
+        ensures work { IfSome result
+            (AsksForWork command.now (string_bytes name ∷ string_bytes folder ∷ [])) }
+    {
+        match command {
+            "begin" => Some(Work::Begin { name, folder }),
+            "fetch" => Some(Work::Fetch { name, folder }),
+            "export" => Some(Work::Export { name, folder }),
+            _ => None,
+        }
     }
 }
 

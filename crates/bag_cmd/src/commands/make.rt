@@ -1,4 +1,5 @@
 //! `bag make SRC DST ALG..`: writes a bag of the files in a folder.
+ghost use Rattle.std.specs.Prelude.{◌≡◌};
 ghost use Rattle.bag_cmd.specs.Making.{MakesFolder, MakesInto, PrintsMake, words_given};
 
 use crate::folder::{Destination, Directories, FolderTree};
@@ -52,7 +53,7 @@ fn make_into<T: Tree, R: Files, W: Write + Drop>(
 ) -> u8
     ensures { MakesInto W.contents (MakesFolder W.contents T.shown T.failures T.sure
         tree.old tree.new (words_given making.now).names out.old out.new result)
-        making.now.destination.now made.old made.new out.old out.new result }
+        (tree.new ≡ tree.old) making.now.destination.now made.old made.new out.old out.new result }
 {
     match made.create(alloc, making.destination) {
         Ok(mut sink) => {

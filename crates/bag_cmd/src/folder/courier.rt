@@ -1,7 +1,7 @@
 //! The payload files of a tree, brought one after another.
 ghost use Rattle.std.specs.Io.KnownBytes.{ReadConsumes};
 ghost use Rattle.std.specs.Prelude.{◌≡◌, ◌≤◌, [], IfNone, IfSome, IfOk, IsErr, None, Ok, false, is_some, length};
-ghost use Rattle.bag_cmd.specs.Bringing.{IsFoundAt, IsReady, SameItem, left_of, payload_from};
+ghost use Rattle.bag_cmd.specs.Bringing.{courier_of, IsFoundAt, IsReady, SameItem, left_of, payload_from};
 
 use bag_digest::{Failed, Failures, Source};
 use bag_receiver::Courier;
@@ -47,14 +47,7 @@ impl<T: Tree> Model for TreeCourier<T> {
 impl<T: Tree> TreeCourier<T> {
     /// A courier of this tree's payload files.
     pub fn new(tree: T) -> TreeCourier<T>
-        ensures { result ≡ record {
-          tree = tree;
-          place = 0;
-          came = None;
-          is_started = false;
-          failures = 0;
-          nexts = 0;
-        } }
+        ensures { result ≡ courier_of tree }
     {
         TreeCourier {
             tree,

@@ -1,4 +1,4 @@
-use Rattle.std.proofs.Common.{◌≡◌, ◌≢◌, ◌∙◌, ◌∷◌, ℕ, List, [], None, Option, Some, arith, subst}
+use Rattle.std.proofs.Common.{◌≡◌, ◌≢◌, ◌∙◌, ◌∷◌, ℕ, List, [], None, Option, Some, arith, refl, subst}
 use Rattle.std.proofs.lemmas.Grind.{common_steps}
 use Rattle.bag_commands.specs.declared.status.TheConstants.{DONE, FAILED}
 use Rattle.bag_commands.specs.declared.stop.Stop.{Stop}
@@ -6,13 +6,8 @@ use Rattle.bag_cmd.specs.Making.{NotMade, Written, kept_folder}
 use Rattle.bag_commands.specs.Printing.{Printed}
 use Rattle.bag_commands.specs.StopTexts.{stop_text}
 use Rattle.bag_cmd.proofs.commands.make.make_into.Goals.{then-status-ne-DONE, else-status-ne-DONE}
+use Rattle.bag_cmd.proofs.WorkLemmas.{given_up, kept}
 use Rattle.bag_cmd.proofs.commands.make.make_into.Goals as goal
-
-given_up : (folder : List ℕ) (status : ℕ) (now given : Option (List ℕ)) → now ≡ given → given ≡ None → status ≢ DONE → now ≡ kept_folder folder status
-given_up folder status now given is none other = let left : None ≡ kept_folder folder status = grind (arith, common_steps) in is ∙ none ∙ left
-
-kept : (folder : List ℕ) (status : ℕ) (now made : Option (List ℕ)) → now ≡ made → made ≡ Some folder → status ≡ DONE → now ≡ kept_folder folder status
-kept folder status now made is some done = let left : Some folder ≡ kept_folder folder status = grind (arith, common_steps) in is ∙ some ∙ left
 
 pub returns-after-status-ne-DONE : goal.returns-after-status-ne-DONE
 returns-after-status-ne-DONE g c =
@@ -26,5 +21,5 @@ returns-after-status-ne-DONE g c =
 
 pub returns-in-Err : goal.returns-in-Err
 returns-in-Err g c =
-    NotMade c.in-Err.fault c.in-Err.ensures.made
+    NotMade c.in-Err.fault c.in-Err.ensures.made refl
     (subst (λ (stop : Stop). Printed g.W.Write.contents c.args.out.now c.print_stop.new.out c.print_stop.result (stop_text stop ∷ []) FAILED) c.from.ensures c.print_stop.ensures)

@@ -1,0 +1,65 @@
+-- What becomes of folders that aren't opened, and of one that was made for a bag.
+use Rattle.std.proofs.Common.{◌≡◌, ◌≢◌, ◌∙◌, ◌∷◌, ◌++◌, ◌+◌, ◌<◌, ℕ, Contains, List, [], None, Option, Some, ap, arith, get_or, length, map, refl, subst, suc, sym, take, zero}
+use Rattle.std.proofs.lemmas.List.{map-append}
+use Rattle.std.proofs.lemmas.List.Elements.{Contains-get_or}
+use Rattle.std.proofs.lemmas.Option.{get_or_from_slice_get, slice_get_within}
+use Rattle.std.proofs.lemmas.Grind.{common_steps}
+use Rattle.bag_commands.specs.declared.output.Output.{Output}
+use Rattle.bag_commands.specs.declared.status.TheConstants.{DONE, FAILED}
+use Rattle.bag_commands.specs.Intakes.{TakesIn}
+use Rattle.bag_commands.specs.IntakeTexts.{Told}
+use Rattle.bag_commands.specs.Printing.{Printed}
+use Rattle.bag_commands.specs.StopTexts.{stop_text}
+use Rattle.bag_cmd.specs.declared.folder.OpenFault.{OpenFault}
+use Rattle.bag_cmd.specs.declared.folder.OpenFault.TheVariants as open_fault
+use Rattle.bag_cmd.specs.declared.folder.place.Place.TheVariants.{Base}
+use Rattle.bag_cmd.specs.Bringing.{Bringing, courier_of}
+use Rattle.bag_cmd.specs.Directories.{Listing}
+use Rattle.bag_cmd.specs.Folders.{FolderShown, IsOpened, IsRefused, stop_of_open}
+use Rattle.bag_cmd.specs.Making.{kept_folder}
+use Rattle.bag_cmd.specs.Working.{AreOpened, NoMemory, OneRefused, OutOfMemory, Refused, SomeIsRefused, WithFolder, WithFolders}
+use Rattle.bag_cmd.proofs.RequestLemmas.{word_at}
+
+module _ {W : Type 0} (contents : W → Option (List ℕ)) (known : Option Listing) (untouched : Type 0) (old new : Output W) (result : ℕ) where
+  pub not_opened : (folder : List ℕ) (does : FolderShown → FolderShown → Type 0) (fault : OpenFault) → (fault ≡ open_fault.Files → IsRefused known folder) → untouched
+      → Printed contents old new result (stop_text (stop_of_open fault) ∷ []) FAILED → WithFolder contents known folder untouched does old new result
+  not_opened folder does open_fault.Files refused same printed = Refused (refused refl) same printed
+  not_opened folder does open_fault.Memory refused same printed = NoMemory same printed
+
+  pub none_opened : (folders : List (List ℕ)) (does : List FolderShown → Type 0) (fault : OpenFault) → (fault ≡ open_fault.Files → SomeIsRefused known folders) → untouched
+      → Printed contents old new result (stop_text (stop_of_open fault) ∷ []) FAILED → WithFolders contents known folders untouched does old new result
+  none_opened folders does open_fault.Files refused same printed = OneRefused (refused refl) same printed
+  none_opened folders does open_fault.Memory refused same printed = OutOfMemory same printed
+
+pub given_up : (folder : List ℕ) (status : ℕ) (now given : Option (List ℕ)) → now ≡ given → given ≡ None → status ≢ DONE → now ≡ kept_folder folder status
+given_up folder status now given is none other = let left : None ≡ kept_folder folder status = grind (arith, common_steps) in is ∙ none ∙ left
+
+pub kept : (folder : List ℕ) (status : ℕ) (now made : Option (List ℕ)) → now ≡ made → made ≡ Some folder → status ≡ DONE → now ≡ kept_folder folder status
+kept folder status now made is some done = let left : Some folder ≡ kept_folder folder status = grind (arith, common_steps) in is ∙ some ∙ left
+
+-- FOLDERS THAT ARE OPENED IN TURN
+
+module _ {X : Type 0} (octets : X → List ℕ) (known : Option Listing) where
+  pub opened_more : (folders : List X) (i : ℕ) (folder : X) (text : List ℕ) (trees : List FolderShown) (tree : FolderShown) → i < length folders → folder ≡ get_or folders i folder → text ≡ octets folder
+      → AreOpened known (map octets (take i folders)) trees → IsOpened known text Base tree → AreOpened known (map octets (take (i + 1) folders)) (trees ++ tree ∷ [])
+  opened_more [] i folder text trees tree inside item is opened this = absurd (omega (arith, inside))
+  opened_more (f ∷ fs) zero folder text [] tree inside item is opened this =
+      let same : text ≡ octets f = is ∙ ap octets item in
+      (subst (λ (t : List ℕ). IsOpened known t Base tree) same this, tt)
+  opened_more (f ∷ fs) zero folder text (t ∷ ts) tree inside item is opened this = absurd opened
+  opened_more (f ∷ fs) (suc i) folder text [] tree inside item is opened this = absurd opened
+  opened_more (f ∷ fs) (suc i) folder text (t ∷ ts) tree inside item is opened this =
+      let s : suc i + 1 ≡ suc (i + 1) = omega arith in
+      rw s (opened.0, opened_more fs i folder text ts tree (omega (arith, inside)) item is opened.1 this)
+
+  pub contained : (folders : List X) (i : ℕ) (folder : X) (text : List ℕ) → i < length folders → folder ≡ get_or folders i folder → text ≡ octets folder → Contains (map octets folders) text
+  contained folders i folder text inside item is =
+      let at = word_at octets folders folders i (length folders) folder text refl refl inside item is in
+      let texts = map octets folders in
+      subst (Contains texts) (get_or_from_slice_get texts i text text at) (Contains-get_or texts i text (slice_get_within texts i text at))
+
+pub couriers_more : (couriers : List (Bringing FolderShown)) (trees : List FolderShown) (tree : FolderShown) → couriers ≡ map courier_of trees → couriers ++ courier_of tree ∷ [] ≡ map courier_of (trees ++ tree ∷ [])
+couriers_more couriers trees tree is = ap (λ (cs : List (Bringing FolderShown)). cs ++ courier_of tree ∷ []) is ∙ sym (map-append courier_of trees (tree ∷ []))
+
+pub taken_from : {R C : Type 0} (runs : R → R → C → C → Told → Type 0) (before now laters : List C) (told : List Told) (old new : R) → before ≡ now → TakesIn runs before laters told old new → TakesIn runs now laters told old new
+taken_from runs before now laters told old new is takes = subst (λ couriers. TakesIn runs couriers laters told old new) is takes

@@ -1,0 +1,29 @@
+use Rattle.std.proofs.Common.{◌≡◌, ◌∙◌, ◌≤◌, ◌++◌, ◌∷◌, [], Err, ap, length, map, rules, string_bytes, subst, take}
+use Rattle.std.proofs.lemmas.List.{take_all}
+use Rattle.bag_cmd.specs.declared.folder.OpenFault.TheVariants.{Files}
+use Rattle.bag_cmd.specs.Bringing.{courier_of}
+use Rattle.bag_cmd.specs.Working.{AreOpened}
+use Rattle.bag_cmd.proofs.WorkLemmas.{contained, couriers_more, opened_more}
+use Rattle.bag_cmd.proofs.commands.intake.open_all.Goals as goal
+
+pub loop-folder-init : goal.loop-folder-init
+loop-folder-init g c = ([], tt, c.new-couriers.ensures.items)
+
+pub returns-in_err-tree-clause-refused : goal.returns-in_err-tree-clause-refused
+returns-in_err-tree-clause-refused g c = λ failed.
+    let was : c.open.result ≡ Err Files = search rules in
+    (c.as_str.result.now, contained string_bytes (g.D.Directories.listing c.args.disk.now) c.args.folders.now c.loop-folder.folder-index c.folder-item.result c.as_str.result.now c.loop-folder-test.true c.folder-item.is c.as_str.ensures.value, c.open.ensures.refused was)
+
+pub loop-folder-preserved : goal.loop-folder-preserved
+loop-folder-preserved g c =
+    let before = c.loop-folder.invariant in
+    let trees = before.0 in (
+      _,
+      opened_more string_bytes (g.D.Directories.listing c.args.disk.now) c.args.folders.now c.loop-folder.folder-index c.folder-item.result c.as_str.result.now trees c.in_ok-tree.tree c.loop-folder-test.true c.folder-item.is c.as_str.ensures.value c.loop-folder.invariant.1 c.in_ok-tree.ensures.opened,
+      c.in_ok-push.ensures.items ∙ ap (λ one. c.loop-folder.couriers.items ++ one ∷ []) c.new.ensures ∙ couriers_more c.loop-folder.couriers.items trees c.in_ok-tree.tree c.loop-folder.invariant.2,
+    )
+
+pub returns-clause-opened : goal.returns-clause-opened
+returns-clause-opened g c =
+    let past : length c.args.folders.now ≤ c.loop-folder.folder-index = search rules in
+    (c.loop-folder.invariant.0, subst (λ folders. AreOpened (g.D.Directories.listing c.args.disk.now) (map string_bytes folders) c.loop-folder.invariant.0) (take_all c.loop-folder.folder-index c.args.folders.now past) c.loop-folder.invariant.1, c.loop-folder.invariant.2)

@@ -1,0 +1,191 @@
+-- Work on a ledger: how it is opened, and what is done on it then.
+use Rattle.std.specs.Prelude.{◌≡◌, ◌⊎◌, ◌∷◌, ◌++◌, [], ℕ, Contains, List, None, Option, Some, codes, is_some, map, string_bytes}
+use Rattle.bag_ledger.specs.Ledgers.{Transfer}
+use Rattle.bag_ledger.specs.declared.keeper.Keeper.{Ghosts}
+use Rattle.bag_path.specs.Spellings.{written_spelling}
+use Rattle.bag_receiver.specs.declared.receiver.Receiver.{Receiver}
+use Rattle.bag_receiver.specs.Names.{IsNamed}
+use Rattle.bag_receiver.specs.Receivers.{IsInState, IsKept}
+use Rattle.bag_receiver.specs.Receiving.{LedgerState}
+use Rattle.bag_rules.specs.Transfers.{held_bag}
+use Rattle.bag_rules.specs.Trees.{UsesTree}
+use Rattle.bag_rules.specs.Validity.{IsValid}
+use Rattle.bag_sqlite.specs.declared.adopting.AdoptFault.{AdoptFault}
+use Rattle.bag_sqlite.specs.declared.adopting.AdoptFault.TheVariants.{Damaged, Keep, NotALedger, OldFormat}
+use Rattle.bag_commands.specs.declared.output.Output.{Output}
+use Rattle.bag_commands.specs.declared.status.TheConstants.{FAILED, VALID}
+use Rattle.bag_commands.specs.declared.stop.Stop.TheVariants as stop
+use Rattle.bag_commands.specs.Begins.{IsBeginning, PrintsBegin}
+use Rattle.bag_commands.specs.Exporting.{IsExporting}
+use Rattle.bag_commands.specs.ExportTexts.{export_status, export_text}
+use Rattle.bag_commands.specs.Fetching.{IsFetching}
+use Rattle.bag_commands.specs.FetchTexts.{fetch_lines, fetch_status}
+use Rattle.bag_commands.specs.Intakes.{IsRun, TakesIn}
+use Rattle.bag_commands.specs.IntakeTexts.{Told, intake_lines, intake_status}
+use Rattle.bag_commands.specs.Listing.{IsListing}
+use Rattle.bag_commands.specs.ListTexts.{list_lines, list_status}
+use Rattle.bag_commands.specs.Printing.{Printed, PrintedBy, PrintedOne}
+use Rattle.bag_commands.specs.StopTexts.{stop_of_keep, stop_text}
+use Rattle.bag_commands.specs.Viewing.{IsReporting}
+use Rattle.bag_commands.specs.ViewTexts.{view_lines, view_status}
+use Rattle.bag_cmd.specs.declared.folder.OpenFault.{OpenFault}
+use Rattle.bag_cmd.specs.declared.folder.place.Place.TheVariants.{Base}
+use Rattle.bag_cmd.specs.declared.request.Work.{Work}
+use Rattle.bag_cmd.specs.declared.request.Work.TheVariants.{Audit, Begin, Export, Fetch, Intake, List as ListNames, Report}
+use Rattle.bag_cmd.specs.Bringing.{Bringing, courier_of, to_come}
+use Rattle.bag_cmd.specs.Directories.{Listing}
+use Rattle.bag_cmd.specs.Folders.{FolderShown, IsOpened, IsRefused, stop_of_open}
+use Rattle.bag_cmd.specs.Making.{MakesInto}
+use Rattle.bag_cmd.specs.SinkFolders.{SinkShown}
+use Rattle.bag_cmd.specs.Supplying.{IsReadyFolder, SupplierShown, unknown}
+
+-- OPENING
+
+-- the ledger that was opened for this work; `begin` may have made it
+abbrev pub IsOpenFor : {K : Type 0} → (List ℕ → K → Type 0) → (List ℕ → K → Type 0) → List ℕ → Work
+    → K → Type 0
+IsOpenFor opened made ledger (Begin name folder) kept = opened ledger kept ⊎ made ledger kept
+IsOpenFor opened made ledger work kept = opened ledger kept
+
+-- why none was, as its line
+abbrev pub unopened_line : AdoptFault → List ℕ
+unopened_line NotALedger = codes "bag: not a ledger"
+unopened_line OldFormat = codes "bag: old format"
+unopened_line (Damaged name path) = codes "bag: damaged " ++ written_spelling (string_bytes name)
+    ++ codes " " ++ written_spelling (string_bytes path)
+unopened_line (Keep why) = stop_text (stop_of_keep why)
+
+-- FOLDERS
+
+-- What was done where a folder was to be opened as that of a bag, where the directories are as listed (where that is known): this with
+-- the open one; or nothing, and `bag: files` was printed where something can't be in a bag, or that memory ran out.
+pub data WithFolder {W : Type 0} (contents : W → Option (List ℕ)) (known : Option Listing)
+    (folder : List ℕ) (untouched : Type 0) (does : FolderShown → FolderShown → Type 0)
+    (old new : Output W) (result : ℕ) : Type 0 where
+  Opened : (tree later : FolderShown) → IsOpened known folder Base tree → does tree later
+      → WithFolder contents known folder untouched does old new result
+  Refused : IsRefused known folder → untouched
+      → Printed contents old new result (stop_text stop.Files ∷ []) FAILED
+      → WithFolder contents known folder untouched does old new result
+  NoMemory : untouched → Printed contents old new result (stop_text stop.Memory ∷ []) FAILED
+      → WithFolder contents known folder untouched does old new result
+
+-- each of these folders was opened, in their order
+abbrev pub AreOpened : Option Listing → List (List ℕ) → List FolderShown → Type 0
+AreOpened known [] [] = Unit {0}
+AreOpened known (folder ∷ folders) (tree ∷ trees) =
+    IsOpened known folder Base tree × AreOpened known folders trees
+AreOpened known folders trees = ⊥
+
+abbrev pub SomeIsRefused : Option Listing → List (List ℕ) → Type 0
+SomeIsRefused known folders =
+    (folder : List ℕ) × Contains folders folder × IsRefused known folder
+
+-- the same of several folders
+pub data WithFolders {W : Type 0} (contents : W → Option (List ℕ)) (known : Option Listing)
+    (folders : List (List ℕ)) (untouched : Type 0) (does : List FolderShown → Type 0)
+    (old new : Output W) (result : ℕ) : Type 0 where
+  AllOpened : (trees : List FolderShown) → AreOpened known folders trees → does trees
+      → WithFolders contents known folders untouched does old new result
+  OneRefused : SomeIsRefused known folders → untouched
+      → Printed contents old new result (stop_text stop.Files ∷ []) FAILED
+      → WithFolders contents known folders untouched does old new result
+  OutOfMemory : untouched → Printed contents old new result (stop_text stop.Memory ∷ []) FAILED
+      → WithFolders contents known folders untouched does old new result
+
+-- WORK
+
+-- a receiver over what this keeper holds
+pub record IsOver {K : Type 0} (k : Ghosts K) (kept : K) (receiver : Receiver K) : Type 0 where
+  pub keeper : receiver.keeper ≡ kept
+  pub in_state : (now : LedgerState) → IsKept k.holds k.may_leave kept now
+      → IsInState k.holds k.may_leave receiver now
+
+-- A report or an audit was printed. Status 0 is for transfers alone that hold a valid bag.
+pub record Views {K W : Type 0} (k : Ghosts K) (contents : W → Option (List ℕ)) (name : List ℕ)
+    (before after : Receiver K) (old new : Output W) (result : ℕ) : Type 0 where
+  pub valid : result ≡ VALID → k.clean after.keeper → (now : LedgerState)
+      → IsInState k.holds k.may_leave before now
+      → (transfer : Transfer) × IsNamed now.held name (Some transfer)
+      × IsValid (held_bag transfer.tags transfer.items)
+  pub printed : PrintedBy contents view_lines view_status old new result
+      (IsReporting k.holds k.may_leave k.clean k.failures name before after)
+
+-- What `fetch.txt` lists and isn't held was sought in this folder; or that couldn't be opened, which was printed.
+pub data FetchesFrom {K W : Type 0} (k : Ghosts K) (contents : W → Option (List ℕ))
+    (name folder : List ℕ) (before after : Receiver K) (old new : Output W) (result : ℕ)
+    : Type 0 where
+  Fetched : (supplier later : SupplierShown) → IsReadyFolder folder supplier
+      → PrintedBy contents fetch_lines fetch_status old new result (IsFetching k.holds
+      k.may_leave k.clean k.failures unknown (λ (supplier : SupplierShown). supplier.failures)
+      (λ (supplier : SupplierShown). supplier.asks) name before after supplier later)
+      → FetchesFrom k contents name folder before after old new result
+  NoFolder : (fault : OpenFault) → after ≡ before
+      → Printed contents old new result (stop_text (stop_of_open fault) ∷ []) FAILED
+      → FetchesFrom k contents name folder before after old new result
+
+-- the bag that is held was exported into a folder that was made for it
+abbrev pub ExportsInto : {K W : Type 0} → Ghosts K → (W → Option (List ℕ)) → List ℕ → List ℕ
+    → Option (List ℕ) → Option (List ℕ) → Receiver K → Receiver K → Output W → Output W → ℕ → Type 0
+ExportsInto k contents name folder made now before after old new result =
+    MakesInto contents (λ sink later. PrintedOne contents export_text export_status old new result
+    (IsExporting k.holds k.may_leave k.clean k.failures (λ (sink : SinkShown). None)
+    (λ (sink : SinkShown). is_some sink.written) (λ (sink : SinkShown). sink.failures)
+    (λ (sink : SinkShown). ⊥) name before after sink later)) (after ≡ before) folder made now
+    old new result
+
+module _ {K W : Type 0} (k : Ghosts K) (known : Option Listing) (contents : W → Option (List ℕ)) where
+  abbrev pub BeginsWith : List ℕ → List ℕ → Receiver K → Receiver K → Output W → Output W → ℕ
+      → Type 0
+  BeginsWith name folder before after old new result =
+      WithFolder contents known folder (after ≡ before) (λ tree later.
+      PrintsBegin contents tree.shown (UsesTree (λ (tree : FolderShown). tree.shown)
+      (λ (tree : FolderShown). tree.failures) (λ (tree : FolderShown). ⊥) tree later)
+      (IsBeginning k.holds k.may_leave k.clean k.failures name before after) (after ≡ before)
+      name old new result) old new result
+
+  -- what couriers of these folders' payload files brought was taken in
+  abbrev pub TakesInFrom : List ℕ → List (List ℕ) → Receiver K → Receiver K → Output W → Output W → ℕ
+      → Type 0
+  TakesInFrom name folders before after old new result =
+      WithFolders contents known folders (after ≡ before) (λ trees.
+      (laters : List (Bringing FolderShown)) × (told : List Told)
+      × TakesIn (IsRun k.holds k.may_leave k.clean k.failures
+      (λ (courier : Bringing FolderShown). to_come courier.tree.shown courier.place)
+      (λ (courier : Bringing FolderShown). courier.failures)
+      (λ (courier : Bringing FolderShown). courier.nexts)
+      (λ (courier : Bringing FolderShown). Unit {0}) name)
+      (map courier_of trees) laters told before after
+      × Printed contents old new result (intake_lines told) (intake_status told)) old new result
+
+  -- what was done on the ledger, and the folder that was made for a bag and not given up, which `export` alone changes
+  abbrev pub DoesWork : Work → Option (List ℕ) → Option (List ℕ) → Receiver K → Receiver K
+      → Output W → Output W → ℕ → Type 0
+  DoesWork (Begin name folder) made now before after old new result = (now ≡ made)
+      × BeginsWith (string_bytes name) (string_bytes folder) before after old new result
+  DoesWork (Intake name folders) made now before after old new result = (now ≡ made)
+      × TakesInFrom (string_bytes name) (map string_bytes folders.items) before after old new result
+  DoesWork (Report name) made now before after old new result =
+      (now ≡ made) × Views k contents (string_bytes name) before after old new result
+  DoesWork (Audit name) made now before after old new result =
+      (now ≡ made) × Views k contents (string_bytes name) before after old new result
+  DoesWork (Fetch name folder) made now before after old new result = (now ≡ made)
+      × FetchesFrom k contents (string_bytes name) (string_bytes folder) before after old new
+      result
+  DoesWork (Export name folder) made now before after old new result =
+      ExportsInto k contents (string_bytes name) (string_bytes folder) made now before after old new
+      result
+  DoesWork ListNames made now before after old new result = (now ≡ made)
+      × PrintedBy contents list_lines list_status old new result
+      (IsListing k.holds k.may_leave k.clean k.failures before after)
+
+-- What work on a ledger did: it was opened, and this was done by a receiver over what it holds; or it wasn't, which was printed.
+pub data WorksOn {K W : Type 0} (k : Ghosts K) (opened made : List ℕ → K → Type 0)
+    (known : Option Listing) (contents : W → Option (List ℕ)) (ledger : List ℕ) (work : Work)
+    (folder now : Option (List ℕ)) (old new : Output W) (result : ℕ) : Type 0 where
+  Worked : (kept : K) (before after : Receiver K) → IsOpenFor opened made ledger work kept
+      → IsOver k kept before → DoesWork k known contents work folder now before after old new result
+      → WorksOn k opened made known contents ledger work folder now old new result
+  Unopened : (fault : AdoptFault) → now ≡ folder
+      → Printed contents old new result (unopened_line fault ∷ []) FAILED
+      → WorksOn k opened made known contents ledger work folder now old new result

@@ -1,0 +1,30 @@
+//! `bag begin LEDGER NAME DIR`: opens a transfer with the tag files of a folder.
+ghost use Rattle.bag_cmd.specs.Working.{BeginsWith};
+
+use crate::folder::{Directories, FolderTree};
+use bag_commands::{Output, Stop, begin_to, print_stop};
+use bag_ledger::Keeper;
+use bag_receiver::Receiver;
+use std::alloc::Global;
+use std::io::Write;
+use std::rt::Files;
+
+/// Opens a transfer with the tag files of a folder, prints the answer and answers the status, as [`begin_to`] does. Where the folder can't
+/// be opened, it prints why.
+pub fn begin_with_folder<K: Keeper, R: Files + Drop, D: Directories, W: Write + Drop>(
+    rt: R,
+    disk: &D,
+    alloc: Global,
+    receiver: &mut Receiver<K>,
+    name: &str,
+    folder: &str,
+    out: &mut Output<W>,
+) -> u8
+    ensures { BeginsWith K.Keeper (D.listing disk.now) W.contents name.now folder.now
+        receiver.old receiver.new out.old out.new result }
+{
+    match FolderTree::open(rt, disk, alloc, folder) {
+        Ok(mut tree) => begin_to(alloc, receiver, name, &mut tree, out),
+        Err(fault) => print_stop(Stop::from(fault), out),
+    }
+}

@@ -1,0 +1,38 @@
+//! `bag export LEDGER NAME DIR`: writes the bag that is held into a new folder.
+ghost use Rattle.bag_cmd.specs.Working.{ExportsInto};
+
+use crate::folder::Destination;
+use bag_commands::status::DONE;
+use bag_commands::{Output, Stop, export_to, print_stop};
+use bag_ledger::Keeper;
+use bag_receiver::Receiver;
+use std::alloc::Global;
+use std::io::Write;
+use std::rt::Files;
+
+/// Writes the bag of a transfer as it is held into a folder that is made for it, prints the answer and answers the status, as
+/// [`export_to`] does. Where the folder can't be made, it prints why.
+///
+/// The folder is given up unless the status is 0, and so removed where nothing was written into it.
+pub fn export_into_folder<K: Keeper, R: Files, W: Write + Drop>(
+    made: &mut Destination<'_, R>,
+    alloc: Global,
+    receiver: &mut Receiver<K>,
+    name: &str,
+    folder: &str,
+    out: &mut Output<W>,
+) -> u8
+    ensures { ExportsInto K.Keeper W.contents name.now folder.now made.old made.new
+        receiver.old receiver.new out.old out.new result }
+{
+    match made.create(alloc, folder) {
+        Ok(mut sink) => {
+            let status = export_to(alloc, receiver, name, &mut sink, out);
+            if status != DONE {
+                made.give_up();
+            }
+            status
+        }
+        Err(fault) => print_stop(Stop::from(fault), out),
+    }
+}

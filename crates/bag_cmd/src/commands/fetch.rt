@@ -1,0 +1,29 @@
+//! `bag fetch LEDGER NAME DIR`: seeks what `fetch.txt` lists and isn't held in a folder.
+ghost use Rattle.bag_cmd.specs.Working.{FetchesFrom};
+
+use crate::folder::FolderSupplier;
+use bag_commands::{Output, Stop, fetch_to, print_stop};
+use bag_ledger::Keeper;
+use bag_receiver::Receiver;
+use std::alloc::Global;
+use std::io::Write;
+use std::rt::Files;
+
+/// Seeks each payload file that `fetch.txt` of a transfer lists and that isn't held in a folder, by its path and whatever its url, takes
+/// in what it finds, prints the answers and answers the status, as [`fetch_to`] does. Where the folder can't be opened, it prints why.
+pub fn fetch_from_folder<K: Keeper, R: Files + Drop, W: Write + Drop>(
+    rt: R,
+    alloc: Global,
+    receiver: &mut Receiver<K>,
+    name: &str,
+    folder: &str,
+    out: &mut Output<W>,
+) -> u8
+    ensures { FetchesFrom K.Keeper W.contents name.now folder.now receiver.old receiver.new
+        out.old out.new result }
+{
+    match FolderSupplier::open(rt, alloc, folder) {
+        Ok(mut supplier) => fetch_to(alloc, receiver, name, &mut supplier, out),
+        Err(fault) => print_stop(Stop::from(fault), out),
+    }
+}

@@ -1,0 +1,132 @@
+//! The commands on a ledger: it is opened, worked on and closed.
+ghost use Rattle.std.specs.Prelude.{IfOk};
+ghost use Rattle.bag_cmd.specs.Working.{DoesWork, IsOpenFor, WorksOn};
+
+use super::begin::begin_with_folder;
+use super::export::export_into_folder;
+use super::fetch::fetch_from_folder;
+use super::intake::intake_folders;
+use crate::folder::{Destination, Directories};
+use crate::ledger::Ledgers;
+use crate::request::Work;
+use bag_commands::status::FAILED;
+use bag_commands::{Output, Stop, TextSpelling, audit_to, list_to, report_to};
+use bag_ledger::Keeper;
+use bag_receiver::Receiver;
+use bag_sqlite::AdoptFault;
+use std::alloc::Global;
+use std::fmt::{self, Display, Formatter};
+use std::io::Write;
+use std::rt::Files;
+
+/// Opens a ledger, does work on it, prints the answer and answers the status; where the ledger can't be opened it prints why.
+///
+/// `begin` makes a ledger where none is there; one that it made is removed where no transfer was opened.
+pub fn work_on_ledger<R: Files, D: Directories, L: Ledgers, W: Write + Drop>(
+    rt: &R,
+    disk: &D,
+    ledgers: &mut L,
+    made: &mut Destination<'_, R>,
+    alloc: Global,
+    ledger: &str,
+    work: &Work,
+    out: &mut Output<W>,
+) -> u8
+    ensures { WorksOn L.Kept.Keeper L.opened L.made (D.listing disk.now) W.contents ledger.now
+        work.now made.old made.new out.old out.new result }
+{
+    match open(ledgers, ledger, work) {
+        Ok(kept) => {
+            let mut receiver = Receiver::new(alloc, kept);
+            let status = do_work(rt, disk, made, alloc, &mut receiver, work, out);
+            if has_no_transfer(alloc, &mut receiver) {
+                ledgers.give_up(receiver.into_keeper());
+            } else {
+                ledgers.close(receiver.into_keeper());
+            }
+            status
+        }
+        Err(fault) => out.print(UnopenedLine(&fault), FAILED),
+    }
+}
+
+/// Opens a ledger for this work.
+fn open<L: Ledgers>(ledgers: &mut L, ledger: &str, work: &Work) -> Result<L::Kept, AdoptFault>
+    ensures { IfOk result (IsOpenFor L.opened L.made ledger.now work.now) }
+{
+    match work {
+        Work::Begin { .. } => ledgers.open_or_make(ledger),
+        _ => ledgers.open(ledger),
+    }
+}
+
+/// Whether no transfer is open, as far as that is known.
+fn has_no_transfer<K: Keeper>(alloc: Global, receiver: &mut Receiver<K>) -> bool {
+    match receiver.names(alloc) {
+        Ok(names) => names.is_empty(),
+        Err(_) => false,
+    }
+}
+
+/// Does work on an open ledger.
+fn do_work<K: Keeper, R: Files, D: Directories, W: Write + Drop>(
+    rt: &R,
+    disk: &D,
+    made: &mut Destination<'_, R>,
+    alloc: Global,
+    receiver: &mut Receiver<K>,
+    work: &Work,
+    out: &mut Output<W>,
+) -> u8
+    ensures { DoesWork K.Keeper (D.listing disk.now) W.contents work.now made.old made.new
+        receiver.old receiver.new out.old out.new result }
+{
+    match work {
+        Work::Begin { name, folder } => {
+            begin_with_folder(
+                rt,
+                disk,
+                alloc,
+                receiver,
+                name.as_str(),
+                folder.as_str(),
+                out,
+            )
+        }
+        Work::Intake { name, folders } => {
+            intake_folders(rt, disk, alloc, receiver, name.as_str(), folders, out)
+        }
+        Work::Report { name } => report_to(alloc, receiver, name.as_str(), out),
+        Work::Audit { name } => audit_to(alloc, receiver, name.as_str(), out),
+        Work::Fetch { name, folder } => {
+            fetch_from_folder(rt, alloc, receiver, name.as_str(), folder.as_str(), out)
+        }
+        Work::Export { name, folder } => {
+            export_into_folder(made, alloc, receiver, name.as_str(), folder.as_str(), out)
+        }
+        Work::List => list_to(alloc, receiver, out),
+    }
+}
+
+/// Why a ledger wasn't opened, as its line.
+#[derive(Clone, Copy)]
+struct UnopenedLine<'a>(&'a AdoptFault);
+
+impl Display for UnopenedLine<'_> {
+    ghost use Rattle.std.specs.Prelude.{Some};
+    ghost use Rattle.bag_cmd.specs.Working.{unopened_line};
+
+    ghost output = { λ line. Some (unopened_line line.0.now) };
+
+    fn fmt<W: fmt::Write>(&self, f: &mut Formatter<W>) -> fmt::Result {
+        match self.0 {
+            AdoptFault::NotALedger => f.write_str("bag: not a ledger"),
+            AdoptFault::OldFormat => f.write_str("bag: old format"),
+            AdoptFault::Damaged { name, path } => {
+                let name = TextSpelling(name.as_str());
+                write!(f, "bag: damaged {name} {}", TextSpelling(path.as_str()))
+            }
+            AdoptFault::Keep(why) => f.write_str(Stop::from(*why).text()),
+        }
+    }
+}

@@ -1,0 +1,227 @@
+//! A folder on disk as a supplier of payload files.
+ghost use Rattle.std.specs.Prelude.{◌≡◌, ◌≤◌, [], Err, IfOk, IsErr, None, Ok, is_some, length, true};
+ghost use Rattle.bag_cmd.specs.Directories.{name_below};
+ghost use Rattle.bag_cmd.specs.Supplying.{IsReadyFolder};
+
+use super::OpenFault;
+use super::name::opened;
+use bag_digest::{Failed, Failures, Source};
+use bag_path::LONGEST_PATH;
+use bag_receiver::Supplier;
+use std::alloc::Global;
+use std::fs;
+use std::io::{ErrorKind, Read};
+use std::marker::Model;
+use std::rt::Files;
+
+#[cfg(test)]
+mod tests;
+
+/// Has the files below a folder, each by its path from it and whatever its url. Nothing is claimed of what they hold.
+#[derive(Drop)]
+pub struct FolderSupplier<R: Files> {
+    rt: R,
+    folder: String,
+    // the name of the file that was sought last; it has room for each
+    name: String,
+    file: Option<R::File>,
+    failures: Failures,
+    asks: u64,
+}
+
+impl<R: Files> Model for FolderSupplier<R> {
+    ghost use Rattle.std.specs.Prelude.{option_map, string_bytes};
+    ghost use Rattle.bag_cmd.specs.Supplying.{SupplierShown};
+
+    ghost Value = { SupplierShown };
+
+    ghost view = { λ supplier. record {
+      folder = string_bytes supplier.folder;
+      name = string_bytes supplier.name;
+      to_read = option_map R.File.remaining supplier.file;
+      failures = supplier.failures;
+      asks = supplier.asks;
+    } };
+}
+
+impl<R: Files + Drop> FolderSupplier<R> {
+    /// A supplier of what is below this folder, which may be named by a link. It isn't looked through.
+    ///
+    /// # Errors
+    ///
+    /// `Files` where it isn't there or is no folder. `Memory` where memory ran out.
+    pub fn open(rt: R, alloc: Global, folder: &str) -> Result<FolderSupplier<R>, OpenFault>
+        ensures no_name { folder.now ≡ [] → result ≡ Err OpenFault.Files }
+        ensures opened { IfOk result (IsReadyFolder folder.now) }
+    {
+        if folder.is_empty() {
+            return Err(OpenFault::Files);
+        }
+        if !fs::metadata(&rt, folder)?.is_dir() {
+            return Err(OpenFault::Files);
+        }
+        let name = String::with_capacity(alloc, folder.len().saturating_add(1 + LONGEST_PATH))?;
+        let folder = String::from_str(alloc, folder)?;
+        Ok(FolderSupplier {
+            rt,
+            folder,
+            name,
+            file: None,
+            failures: Failures::none(),
+            asks: 0,
+        })
+    }
+
+    /// Opens the file with this path, if there is one.
+    fn seek(&mut self, path: &str) -> Result<bool, Failed>
+        requires { self.old.to_read ≡ None }
+        ensures opened { is_some self.new.to_read ≡ true → (result ≡ Ok true)
+            × (self.new.name ≡ name_below self.old.folder path.now) }
+        ensures found { result ≡ Ok true → is_some self.new.to_read ≡ true }
+        ensures same { self.new
+            ≡ record self.old { name = self.new.name; to_read = self.new.to_read } }
+    {
+        match standing_below(&self.rt, &mut self.name, self.folder.as_str(), path)? {
+            Standing::Nothing => Ok(false),
+            Standing::Directory | Standing::Other => Err(Failed),
+            Standing::File => {
+                self.file = opened(&self.rt, &mut self.name, self.folder.as_str(), path);
+                if self.file.is_some() {
+                    Ok(true)
+                } else {
+                    Err(Failed)
+                }
+            }
+        }
+    }
+}
+
+impl<R: Files> Source for FolderSupplier<R> {
+    ghost use Rattle.std.specs.Io.KnownBytes.{ReadConsumes};
+    ghost use Rattle.bag_digest.specs.Device.{UsesSource};
+    ghost use Rattle.bag_cmd.specs.Folders.{ReadsOpen};
+    ghost use Rattle.bag_cmd.specs.Supplying.{AsOftenAsked, SupplierShown, asked_itself, asked_on};
+
+    ghost remaining = { λ _. None };
+
+    ghost failures = { λ supplier. supplier.failures };
+
+    ghost ready = { λ _. ⊥ };
+
+    ghost is_open = { λ supplier. is_some supplier.to_read };
+
+    ghost keeps = { AsOftenAsked };
+
+    /// Reads on in the file that is open. Where none is, it fails.
+    fn read(&mut self, buf: &mut [u8]) -> Result<usize, Failed>
+        ensures bound { IfOk result (λ n. n ≤ length buf.new) }
+        ensures octets { ReadConsumes None None result buf.new }
+        ensures uses { UsesSource (λ (supplier : SupplierShown). supplier.failures)
+            (λ (supplier : SupplierShown). ⊥) AsOftenAsked self.old self.new (IsErr result) }
+        ensures reads_on { ReadsOpen self.old.to_read self.new.to_read result buf.new }
+        ensures same { self.new ≡ record self.old {
+          to_read = self.new.to_read;
+          failures = self.new.failures;
+        } }
+    {
+        let answer = match &mut self.file {
+            Some(file) => file.read(buf).map_err(|_| Failed),
+            None => Err(Failed),
+        };
+        self.failures.counted(answer)
+    }
+
+    fn failures(&self) -> u64 {
+        self.failures.count()
+    }
+
+    ghost keeps_itself = { asked_itself };
+
+    ghost keeps_on = { asked_on };
+}
+
+impl<R: Files + Drop> Supplier for FolderSupplier<R> {
+    ghost use Rattle.std.specs.Prelude.{◌+◌, Ok, min, true};
+    ghost use Rattle.bag_digest.specs.Device.{CountsFailure, greatest_count};
+    ghost use Rattle.bag_receiver.specs.Suppliers.{IsSupplied};
+    ghost use Rattle.bag_cmd.specs.Supplying.{AsksFolder, keeps_nothing, unknown};
+
+    ghost supply = { unknown };
+
+    ghost asks = { λ supplier. supplier.asks };
+
+    /// Opens the file with this path below the folder, whatever the url. There is none where nothing has this path, also where a file
+    /// is on the way. It takes no memory.
+    ///
+    /// # Errors
+    ///
+    /// Something else than a plain file has this path, something else than a folder is on the way, as a link, or the file
+    /// can't be opened. No link is followed below the folder, and no fifo is opened.
+    fn ask(&mut self, _url: &str, path: &str) -> Result<bool, Failed>
+        ensures supplied { IfOk result (λ has. IsSupplied None _url.now path.now has None) }
+        ensures open { is_some self.new.to_read ≡ true → result ≡ Ok true }
+        ensures counted { CountsFailure result self.old.failures self.new.failures }
+        ensures asked { self.new.asks ≡ min (self.old.asks + 1) greatest_count }
+        ensures exactly { AsksFolder self.old self.new path.now result }
+    {
+        self.file = None;
+        self.asks = self.asks.saturating_add(1);
+        let answer = self.seek(path);
+        self.failures.counted(answer)
+    }
+
+    fn asks(&self) -> u64 {
+        self.asks
+    }
+
+    ghost keeps_supply = { keeps_nothing };
+}
+
+/// What stands under a name.
+#[derive(Clone, Copy, Debug, PartialEq, Eq)]
+enum Standing {
+    Nothing,
+    File,
+    Directory,
+    // as a link or a fifo
+    Other,
+}
+
+/// What stands under this path below the folder, which no link leads to: nothing, too, where a file is on the way.
+fn standing_below<R: Files>(
+    rt: &R,
+    name: &mut String,
+    folder: &str,
+    path: &str,
+) -> Result<Standing, Failed> {
+    let mut standing = Standing::Directory;
+    name.clear();
+    push(name, folder)?;
+    for segment in path.split('/') {
+        match standing {
+            Standing::Directory => {}
+            Standing::File => return Ok(Standing::Nothing),
+            Standing::Nothing | Standing::Other => return Ok(standing),
+        }
+        push(name, "/")?;
+        push(name, segment)?;
+        standing = standing_at(rt, name.as_str())?;
+    }
+    Ok(standing)
+}
+
+/// What stands under this name, where only directories are on the way.
+fn standing_at<R: Files>(rt: &R, name: &str) -> Result<Standing, Failed> {
+    match fs::symlink_metadata(rt, name) {
+        Ok(about) if about.is_file() => Ok(Standing::File),
+        Ok(about) if about.is_dir() => Ok(Standing::Directory),
+        Ok(_) => Ok(Standing::Other),
+        Err(error) if error.kind() == ErrorKind::NotFound => Ok(Standing::Nothing),
+        Err(_) => Err(Failed),
+    }
+}
+
+/// Adds a text to a name, which has room for it.
+fn push(name: &mut String, text: &str) -> Result<(), Failed> {
+    name.push_str(text).map_err(|_| Failed)
+}
