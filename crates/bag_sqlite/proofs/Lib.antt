@@ -19,6 +19,7 @@ pub mod PiecesRead
 pub mod PuttingLemmas
 pub mod QueryMeanings
 pub mod ReadingLemmas
+pub mod RefusingLemmas
 pub mod RowLemmas
 pub mod RowMeanings
 pub mod SqlLemmas

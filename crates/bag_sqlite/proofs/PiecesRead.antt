@@ -1,6 +1,6 @@
 -- The pieces of a payload file are read in turn.
 use Rattle.std.proofs.Common.{◌≡◌, ◌<◌, ◌≤◌, ◌+◌, ℕ, zero, suc, ℤ, pos, List, [], ◌∷◌, ◌++◌, Option, Some, None, append-nil, ap, arith, length, length-append, refl, slice_get, subst, sym, ◌∙◌}
-use Rattle.std.specs.List.{AllByRecursion, concat}
+use Rattle.std.specs.List.{concat}
 use Rattle.std.proofs.lemmas.List.{append_assoc}
 use Rattle.std.proofs.lemmas.Option.{same_Some}
 use Rattle.bag_digest.specs.Hash.{Holds}
@@ -12,13 +12,11 @@ use Rattle.sqlite.specs.Store.{Ghosts}
 use Rattle.sqlite.specs.declared.types.Value.TheVariants.{Blob, Int}
 use Rattle.bag_sqlite.specs.Adopting.{TellsOne, piece_text}
 use Rattle.bag_sqlite.specs.Databases.{AreCut}
+use Rattle.bag_sqlite.specs.Refusing.{AreFull}
 
 concat_last : (pieces : List (List ℕ)) (piece : List ℕ) → concat (pieces ++ piece ∷ []) ≡ concat pieces ++ piece
 concat_last [] piece = append-nil piece
 concat_last (first ∷ pieces) piece = ap (λ rest. first ++ rest) (concat_last pieces piece) ∙ sym (append_assoc first (concat pieces) piece)
-
-abbrev pub AreFull : List (List ℕ) → Type 0
-AreFull = AllByRecursion (λ piece. length piece ≡ PIECE)
 
 full_last : (pieces : List (List ℕ)) (piece : List ℕ) → AreFull pieces → length piece ≡ PIECE → AreFull (pieces ++ piece ∷ [])
 full_last [] piece full is = (is, tt)

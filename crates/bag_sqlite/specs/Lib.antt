@@ -7,5 +7,6 @@ pub mod Making
 pub mod Opening
 pub mod Putting
 pub mod Reading
+pub mod Refusing
 pub mod SqlKeepers
 pub mod Tables

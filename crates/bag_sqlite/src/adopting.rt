@@ -1,16 +1,15 @@
 //! A database is taken as the ledger that it holds.
-ghost use Rattle.std.specs.Prelude.{◌≡◌, ℕ, ℤ, pos, [], ◌∷◌, IfErr, IfOk, MatchResult, OnOk, codes, false};
+ghost use Rattle.std.specs.Prelude.{◌≡◌, pos, [], IfErr, IfOk, MatchResult, OnOk, false};
 ghost use Rattle.std.specs.List.{AllByRecursion};
 ghost use Rattle.bag_ledger.specs.Ledgers.{Ledger};
 ghost use Rattle.bag_sqlite.specs.Adopting.{HasFormat, IsRead, IsVerified, Stands, Tells, stray_texts};
 ghost use Rattle.bag_sqlite.specs.Making.{IsLeft};
+ghost use Rattle.bag_sqlite.specs.Refusing.{AreNoneFor, DoesNotShow, IsNoLedger, IsNoQuery, IsNoneFor, RefusesToAdopt, SayNoFormat, SaysFormat};
 ghost use Rattle.bag_sqlite.specs.SqlKeepers.{HoldsLedger};
 ghost use Rattle.sqlite.specs.Effect.{Database};
 ghost use Rattle.sqlite.specs.Held.{state};
-ghost use Rattle.sqlite.specs.Order.{Row, column};
 ghost use Rattle.sqlite.specs.State.{HasCleanDisk, Survives};
 ghost use Rattle.sqlite.specs.Values.{bound};
-ghost use Rattle.sqlite.specs.declared.types.Value.TheVariants.{Int, Text};
 
 use crate::health::Health;
 use crate::keeper::SqlKeeper;
@@ -48,12 +47,21 @@ pub enum AdoptFault {
 }
 
 impl From<Error> for AdoptFault {
+    ghost use Rattle.std.specs.Prelude.{◌≡◌};
+    ghost use Rattle.bag_sqlite.specs.Refusing.{adopt_fault};
+
+    ghost from_gives = { λ error fault. fault ≡ adopt_fault error };
+
     fn from(error: Error) -> AdoptFault {
         match error {
             Error::SqliteFailure(ErrorCode::OutOfMemory) => AdoptFault::Keep(KeepFault::Memory),
-            Error::SqliteFailure(ErrorCode::NotADatabase) => AdoptFault::NotALedger,
-            Error::SqliteFailure(_) => AdoptFault::Keep(KeepFault::Store(StoreFault::Refused)),
-            _ => AdoptFault::NotALedger,
+            Error::SqliteFailure(ErrorCode::NotADatabase)
+            | Error::SqlInputError(_)
+            | Error::InvalidColumnIndex(_)
+            | Error::InvalidColumnType(_, _)
+            | Error::IntegralValueOutOfRange(_)
+            | Error::Utf8Error(_) => AdoptFault::NotALedger,
+            _ => AdoptFault::Keep(KeepFault::Store(StoreFault::Refused)),
         }
     }
 }
@@ -86,6 +94,9 @@ impl<S: Alter> SqlKeeper<S> {
         ensures handed_back { IfErr result (λ refused.
             HasCleanDisk (state S.Store refused.connection)
             → IsLeft (state S.Store connection) (state S.Store refused.connection)) }
+        ensures refused { IfErr result (λ refused.
+            HasCleanDisk (state S.Store refused.connection)
+            → RefusesToAdopt S.Store (state S.Store connection).committed refused.fault) }
         ensures survives { MatchResult result
             (λ keeper. Survives (state S.Store connection) (state S.Store keeper.connection)
             (λ _. ⊥))
@@ -105,8 +116,9 @@ impl<S: Alter> SqlKeeper<S> {
 
 /// Reads a database and verifies what it holds.
 fn verify_ledger<S: Alter>(connection: &mut Connection<S>) -> Result<(), AdoptFault>
-    ensures verified { HasCleanDisk (state S.Store connection.new)
-        → OnOk result (IsVerified S.Store (state S.Store connection.old).committed) }
+    ensures verified { HasCleanDisk (state S.Store connection.new) → MatchResult result
+        (λ done. IsVerified S.Store (state S.Store connection.old).committed)
+        (RefusesToAdopt S.Store (state S.Store connection.old).committed) }
     ensures left { HasCleanDisk (state S.Store connection.new)
         → IsLeft (state S.Store connection.old) (state S.Store connection.new) }
     ensures idle { OnOk result ((state S.Store connection.old).in_transaction ≡ false) }
@@ -129,6 +141,9 @@ fn test_format<S: Alter>(connection: &mut Connection<S>) -> Result<(), AdoptFaul
     ensures format { HasCleanDisk (state S.Store connection.new) → (db : Database)
         → Stands (state S.Store connection.old) db
         → OnOk result (HasFormat S.Store db (pos 2)) }
+    ensures refused { HasCleanDisk (state S.Store connection.new) → (db : Database)
+        → Stands (state S.Store connection.old) db
+        → IfErr result (RefusesToAdopt S.Store db) }
     ensures read { HasCleanDisk (state S.Store connection.new)
         → IsRead (state S.Store connection.old) (state S.Store connection.new) }
     ensures idle { connection.new.in_transaction ≡ false }
@@ -145,8 +160,7 @@ fn test_format<S: Alter>(connection: &mut Connection<S>) -> Result<(), AdoptFaul
 
 /// The format's number in the only row.
 fn format_in(rows: &[Row]) -> Result<i64, AdoptFault>
-    ensures { IfOk result (λ format. (row : Row) × (rows.now ≡ row ∷ [])
-        × (column row 0 ≡ Text (codes "bag-ledger")) × (column row 1 ≡ Int format)) }
+    ensures { MatchResult result (SaysFormat rows.now) (AreNoneFor (SayNoFormat rows.now)) }
 {
     if rows.len() != 1 {
         return Err(AdoptFault::NotALedger);
@@ -164,6 +178,9 @@ fn test_rows<S: Alter>(connection: &mut Connection<S>) -> Result<(), AdoptFault>
     ensures none { HasCleanDisk (state S.Store connection.new) → (db : Database)
         → Stands (state S.Store connection.old) db
         → OnOk result (AllByRecursion (λ text. Tells S.Store db text [] []) stray_texts) }
+    ensures refused { HasCleanDisk (state S.Store connection.new) → (db : Database)
+        → Stands (state S.Store connection.old) db
+        → IfErr result (IsNoneFor (IsNoLedger S.Store db)) }
     ensures read { HasCleanDisk (state S.Store connection.new)
         → IsRead (state S.Store connection.old) (state S.Store connection.new) }
     ensures idle { connection.new.in_transaction ≡ false }
@@ -194,6 +211,9 @@ fn test_none<S: Alter>(connection: &mut Connection<S>, sql: &str) -> Result<(), 
     ensures none { HasCleanDisk (state S.Store connection.new) → (db : Database)
         → Stands (state S.Store connection.old) db
         → OnOk result (Tells S.Store db sql.now [] []) }
+    ensures refused { HasCleanDisk (state S.Store connection.new) → (db : Database)
+        → Stands (state S.Store connection.old) db
+        → IfErr result (IsNoneFor (DoesNotShow S.Store db sql.now [] (λ rows. rows ≡ []))) }
     ensures read { HasCleanDisk (state S.Store connection.new)
         → IsRead (state S.Store connection.old) (state S.Store connection.new) }
     ensures idle { connection.new.in_transaction ≡ false }
@@ -217,6 +237,9 @@ pub(crate) fn rows_of<S: Alter>(
     ensures rows { HasCleanDisk (state S.Store connection.new) → (db : Database)
         → Stands (state S.Store connection.old) db
         → IfOk result (λ rows. Tells S.Store db sql.now (bound params.now) rows.items) }
+    ensures refused { HasCleanDisk (state S.Store connection.new) → (db : Database)
+        → Stands (state S.Store connection.old) db
+        → IfErr result (IsNoneFor (IsNoQuery db.schema sql.now)) }
     ensures read { HasCleanDisk (state S.Store connection.new)
         → IsRead (state S.Store connection.old) (state S.Store connection.new) }
     ensures idle { connection.new.in_transaction ≡ false }

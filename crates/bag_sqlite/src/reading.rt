@@ -1,9 +1,10 @@
 //! What a database answers.
-ghost use Rattle.std.specs.Prelude.{◌≡◌, IfOk, List, false, map, string_bytes};
+ghost use Rattle.std.specs.Prelude.{◌≡◌, IfErr, IfOk, IsTrue, List, false, map, string_bytes};
 ghost use Rattle.std.specs.Map.{keys_of};
 ghost use Rattle.bag_ledger.specs.Ledgers.{Ledger};
 ghost use Rattle.bag_sqlite.specs.Making.{IsLeft};
 ghost use Rattle.bag_sqlite.specs.Reading.{ShowsRows};
+ghost use Rattle.bag_sqlite.specs.Refusing.{IsNoQuery, IsNoneFor, adopt_fault};
 ghost use Rattle.bag_sqlite.specs.SqlKeepers.{HoldsLedger};
 ghost use Rattle.sqlite.specs.Held.{state};
 ghost use Rattle.sqlite.specs.Order.{column};
@@ -57,6 +58,9 @@ pub(crate) fn query<S: Alter>(
     ensures shown { HasCleanDisk (state S.Store connection.new)
         → IfOk result (λ rows. ShowsRows S.Store sql.now (bound params.now) connection.old
         rows.items) }
+    ensures refused { HasCleanDisk (state S.Store connection.new)
+        → IfErr result (λ error. IsNoneFor (IsTrue (state S.Store connection.old).is_open
+        × IsNoQuery (state S.Store connection.old).now.schema sql.now) (adopt_fault error)) }
     ensures left { HasCleanDisk (state S.Store connection.new)
         → IsLeft (state S.Store connection.old) (state S.Store connection.new) }
     ensures idle { connection.new.in_transaction ≡ false }

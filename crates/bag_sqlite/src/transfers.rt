@@ -1,13 +1,15 @@
 //! What a database answers of a transfer.
-ghost use Rattle.std.specs.Prelude.{◌≡◌, ◌∷◌, ℕ, List, [], false, IfOk, IsTrue, MatchOption, None, OnOk, Some, map, slice_index_or};
+ghost use Rattle.std.specs.Prelude.{◌≡◌, ◌⊎◌, ◌↔◌, ◌∷◌, ℕ, List, [], false, IfErr, IfOk, IsTrue, MatchOption, None, OnOk, Some, map, slice_index_or};
 ghost use Rattle.std.specs.Map.{keys_of};
 ghost use Rattle.bag_ledger.specs.Ledgers.{Ledger, items_of, tags_of, transfer_of};
+ghost use Rattle.bag_path.specs.Paths.{IsPath};
 ghost use Rattle.bag_rules.specs.Files.{Files};
 ghost use Rattle.bag_rules.specs.Plans.{sizes_of};
 ghost use Rattle.bag_rules.specs.Trees.{AreRising};
 ghost use Rattle.bag_sqlite.specs.Adopting.{files_in};
 ghost use Rattle.bag_sqlite.specs.Making.{IsLeft};
 ghost use Rattle.bag_sqlite.specs.Reading.{HasTransferRow, size_shown, tag_shown};
+ghost use Rattle.bag_sqlite.specs.Refusing.{AreTags, HasBadTag, IsNoneFor, adopt_fault};
 ghost use Rattle.bag_sqlite.specs.SqlKeepers.{HoldsLedger};
 ghost use Rattle.sqlite.specs.Held.{state};
 ghost use Rattle.sqlite.specs.Order.{column};
@@ -131,17 +133,31 @@ pub(crate) fn tag_set_in(alloc: Global, rows: &[Row]) -> Result<TagSet, Error>
     ensures shown { IfOk result (λ tags. tags ≡ files_in rows.now) }
     ensures files { (files : Files) → AreRising (keys_of files) → rows.now ≡ map tag_shown files
         → IfOk result (λ tags. tags ≡ files) }
+    ensures refused { IfErr result (λ error.
+        (error ≡ Error.SqliteFailure ErrorCode.DatabaseCorrupt → HasBadTag rows.now)
+        × IsNoneFor (¬ AreTags rows.now) (adopt_fault error)) }
 {
     let mut tags = TagSet::new(alloc);
     for row in rows {
         let path: String = row.get(0)?;
         match tags.add(path.as_str(), row.get(1)?) {
             Ok(()) => {}
-            Err(TagSetFault::Memory) => return Err(Error::SqliteFailure(ErrorCode::OutOfMemory)),
-            Err(_) => return Err(Error::SqliteFailure(ErrorCode::DatabaseCorrupt)),
+            Err(fault) => {
+                if is_memory(fault) {
+                    return Err(Error::SqliteFailure(ErrorCode::OutOfMemory));
+                }
+                return Err(Error::SqliteFailure(ErrorCode::DatabaseCorrupt));
+            }
         }
     }
     Ok(tags)
+}
+
+/// Whether it is want of memory.
+fn is_memory(fault: TagSetFault) -> bool
+    ensures { IsTrue result ↔ (fault ≡ TagSetFault.Memory) }
+{
+    matches!(fault, TagSetFault::Memory)
 }
 
 /// The payload files that are held for the transfer with this number, by path.
@@ -188,7 +204,10 @@ fn sizes_in(alloc: Global, rows: &[Row]) -> Result<Vec<ItemSize>, Error>
 
 /// The path with these octets. A text that is none is a damaged database.
 pub(crate) fn path_in(alloc: Global, text: &str) -> Result<BagPath, Error>
-    ensures { IfOk result (λ path. path ≡ text.now) }
+    ensures path { IfOk result (λ path. path ≡ text.now) }
+    ensures refused { IfErr result (λ error.
+        ((error ≡ Error.SqliteFailure ErrorCode.DatabaseCorrupt) × ¬ IsPath text.now)
+        ⊎ (error ≡ Error.SqliteFailure ErrorCode.OutOfMemory)) }
 {
     match BagPath::parse(alloc, text) {
         Ok(path) => Ok(path),

@@ -1,15 +1,17 @@
 //! The transfers of a database are read and verified, each payload file piece by piece.
-ghost use Rattle.std.specs.Prelude.{◌≡◌, ◌≤◌, ℕ, ℤ, pos, List, [], ◌∷◌, IfNone, IfOk, IfSome, IsTrue, OnOk, Ok, false, length};
+ghost use Rattle.std.specs.Prelude.{◌≡◌, ◌≤◌, ◌⊎◌, ◌↔◌, ℕ, ℤ, pos, List, [], ◌∷◌, Err, IfErr, IfNone, IfOk, IfSome, IsTrue, MatchOption, MatchResult, OnOk, Ok, false, length, string_bytes};
 ghost use Rattle.std.specs.List.{AllByRecursion, concat};
 ghost use Rattle.bag_digest.specs.Hash.{AreDigests};
 ghost use Rattle.bag_rules.specs.Files.{Files};
 ghost use Rattle.bag_rules.specs.Plans.{IsPlanOf};
 ghost use Rattle.bag_rules.specs.declared.limits.TheConstants.{LARGEST_ITEM as LARGEST};
-ghost use Rattle.bag_sqlite.specs.Adopting.{HasPieces, IsRead, ItemPasses, RowPasses, Stands, Tells, TellsOne, TransferPasses, TransfersPass, count_text, files_in, items_text, piece_text, tag_files_text};
+ghost use Rattle.bag_sqlite.specs.Adopting.{HasPieces, IsRead, ItemPasses, RowPasses, Stands, Tells, TellsOne, TransferPasses, TransfersPass, count_text, files_in, items_text, piece_text, tag_files_text, transfers_text};
+ghost use Rattle.bag_sqlite.specs.Refusing.{AreTags, DoNotOpen, HasDamagedItem, HasMorePieces, IsNoLedger, IsNoneFor, IsSize, ItemFails, LacksPiece, OpensNone, RefusesTransfer, RefusesTransfers, ShowsOctets, adopt_fault};
 ghost use Rattle.sqlite.specs.Effect.{Database};
 ghost use Rattle.sqlite.specs.Held.{state};
 ghost use Rattle.sqlite.specs.Order.{column, Row};
 ghost use Rattle.sqlite.specs.State.{HasCleanDisk, Survives};
+ghost use Rattle.sqlite.specs.declared.error.Error.{Error as SqlError};
 ghost use Rattle.sqlite.specs.declared.types.Value.TheVariants.{Blob, Int};
 
 use crate::adopting::{AdoptFault, rows_of};
@@ -27,6 +29,9 @@ pub(crate) fn verify_transfers<S: Alter>(connection: &mut Connection<S>) -> Resu
     ensures verified { HasCleanDisk (state S.Store connection.new) → (db : Database)
         → Stands (state S.Store connection.old) db
         → OnOk result (TransfersPass S.Store db) }
+    ensures refused { HasCleanDisk (state S.Store connection.new) → (db : Database)
+        → Stands (state S.Store connection.old) db
+        → IfErr result (RefusesTransfers S.Store db) }
     ensures read { HasCleanDisk (state S.Store connection.new)
         → IsRead (state S.Store connection.old) (state S.Store connection.new) }
     ensures idle { connection.new.in_transaction ≡ false }
@@ -52,6 +57,9 @@ fn verify_rows<S: Alter>(
         → Stands (state S.Store connection.old) db
         → OnOk result (AllByRecursion (λ row. (transfer : ℤ)
         × (column row 0 ≡ Int transfer) × TransferPasses S.Store db transfer) rows.now) }
+    ensures refused { HasCleanDisk (state S.Store connection.new) → (db : Database)
+        → Stands (state S.Store connection.old) db → Tells S.Store db transfers_text [] rows.now
+        → IfErr result (RefusesTransfers S.Store db) }
     ensures read { HasCleanDisk (state S.Store connection.new)
         → IsRead (state S.Store connection.old) (state S.Store connection.new) }
     ensures idle { connection.new.in_transaction ≡ false }
@@ -75,6 +83,9 @@ fn verify_transfer<S: Alter>(
     ensures verified { HasCleanDisk (state S.Store connection.new) → (db : Database)
         → Stands (state S.Store connection.old) db
         → OnOk result (TransferPasses S.Store db transfer) }
+    ensures refused { HasCleanDisk (state S.Store connection.new) → (db : Database)
+        → Stands (state S.Store connection.old) db
+        → IfErr result (RefusesTransfer S.Store db transfer (string_bytes name)) }
     ensures read { HasCleanDisk (state S.Store connection.new)
         → IsRead (state S.Store connection.old) (state S.Store connection.new) }
     ensures idle { connection.new.in_transaction ≡ false }
@@ -103,6 +114,10 @@ fn plan_of<S: Alter>(
         → IfOk result (λ plan. IfSome plan (λ plan. (rows : List Row)
         × Tells S.Store db tag_files_text (Int transfer ∷ []) rows
         × IsPlanOf (files_in rows) plan)) }
+    ensures refused { HasCleanDisk (state S.Store connection.new) → (db : Database)
+        → Stands (state S.Store connection.old) db
+        → MatchResult result (λ plan. IfNone plan (OpensNone S.Store db transfer))
+        (IsNoneFor (IsNoLedger S.Store db)) }
     ensures read { HasCleanDisk (state S.Store connection.new)
         → IsRead (state S.Store connection.old) (state S.Store connection.new) }
     ensures idle { connection.new.in_transaction ≡ false }
@@ -119,21 +134,37 @@ fn plan_of<S: Alter>(
 
 /// The plan of the transfer with the tag files in these rows, if they open one.
 fn plan_in(alloc: Global, rows: &[Row]) -> Result<Option<Plan>, AdoptFault>
-    ensures { IfOk result (λ plan. IfSome plan (IsPlanOf (files_in rows.now))) }
+    ensures plan { IfOk result (λ plan. IfSome plan (IsPlanOf (files_in rows.now))) }
+    ensures refused { MatchResult result (λ plan. IfNone plan (DoNotOpen rows.now))
+        (IsNoneFor (¬ AreTags rows.now)) }
 {
     let Some(tags) = unless_corrupt(tag_set_in(alloc, rows))? else {
         return Ok(None);
     };
     match Plan::from_tags(alloc, &tags) {
         Ok(plan) => Ok(Some(plan)),
-        Err(PlanFault::Memory) => Err(AdoptFault::Keep(KeepFault::Memory)),
-        Err(_) => Ok(None),
+        Err(fault) => {
+            if is_memory(&fault) {
+                Err(AdoptFault::Keep(KeepFault::Memory))
+            } else {
+                Ok(None)
+            }
+        }
     }
+}
+
+/// Whether it is want of memory.
+fn is_memory(fault: &PlanFault) -> bool
+    ensures { IsTrue result ↔ (fault.now ≡ PlanFault.Memory) }
+{
+    matches!(fault, PlanFault::Memory)
 }
 
 /// What was read, unless it can't be read as what it is to be.
 fn unless_corrupt<T: Drop>(read: Result<T, Error>) -> Result<Option<T>, AdoptFault>
-    ensures { IfOk result (λ value. IfSome value (λ value. read ≡ Ok value)) }
+    ensures { MatchResult result (λ value. MatchOption value
+        (read ≡ Err (Error.SqliteFailure ErrorCode.DatabaseCorrupt)) (λ value. read ≡ Ok value))
+        (λ fault. (error : SqlError) × (read ≡ Err error) × (fault ≡ adopt_fault error)) }
 {
     match read {
         Ok(value) => Ok(Some(value)),
@@ -156,6 +187,11 @@ fn first_damaged<S: Alter>(
         → IfOk result (λ path. IfNone path ((rows : List Row)
         × Tells S.Store db items_text (Int transfer ∷ []) rows
         × AllByRecursion (RowPasses S.Store db tags) rows)) }
+    ensures refused { HasCleanDisk (state S.Store connection.new) → (db : Database)
+        → Stands (state S.Store connection.old) db → (tags : Files) → IsPlanOf tags plan.now
+        → MatchResult result (λ path. IfSome path (λ path.
+        HasDamagedItem S.Store db tags transfer (string_bytes path)))
+        (IsNoneFor (IsNoLedger S.Store db)) }
     ensures read { HasCleanDisk (state S.Store connection.new)
         → IsRead (state S.Store connection.old) (state S.Store connection.new) }
     ensures idle { connection.new.in_transaction ≡ false }
@@ -182,6 +218,12 @@ fn damaged_in<S: Alter>(
         → Stands (state S.Store connection.old) db
         → (tags : Files) → IsPlanOf tags plan.now → IfOk result (λ path. IfNone path
         (AllByRecursion (RowPasses S.Store db tags) rows.now)) }
+    ensures refused { HasCleanDisk (state S.Store connection.new) → (db : Database)
+        → Stands (state S.Store connection.old) db → (tags : Files) → IsPlanOf tags plan.now
+        → (transfer : ℤ) → Tells S.Store db items_text (Int transfer ∷ []) rows.now
+        → MatchResult result (λ path. IfSome path (λ path.
+        HasDamagedItem S.Store db tags transfer (string_bytes path)))
+        (IsNoneFor (IsNoLedger S.Store db)) }
     ensures read { HasCleanDisk (state S.Store connection.new)
         → IsRead (state S.Store connection.old) (state S.Store connection.new) }
     ensures idle { connection.new.in_transaction ≡ false }
@@ -213,6 +255,11 @@ fn passes<S: Alter>(
         → Stands (state S.Store connection.old) db
         → (tags : Files) → IsPlanOf tags plan.now → IfOk result (λ passing. IsTrue passing
         → ItemPasses S.Store db tags item path.now size) }
+    ensures refused { HasCleanDisk (state S.Store connection.new) → (db : Database)
+        → Stands (state S.Store connection.old) db → (tags : Files) → IsPlanOf tags plan.now
+        → MatchResult result (λ passing. passing ≡ false
+        → ItemFails S.Store db tags item path.now size)
+        (IsNoneFor (IsNoLedger S.Store db)) }
     ensures read { HasCleanDisk (state S.Store connection.new)
         → IsRead (state S.Store connection.old) (state S.Store connection.new) }
     ensures idle { connection.new.in_transaction ≡ false }
@@ -236,7 +283,8 @@ fn passes<S: Alter>(
 
 /// The size of a payload file that is within the limit.
 fn size_in(size: i64) -> Option<u64>
-    ensures { IfSome result (λ octets. (size ≡ pos octets) × (octets ≤ LARGEST)) }
+    ensures { MatchOption result (¬ IsSize size)
+        (λ octets. (size ≡ pos octets) × (octets ≤ LARGEST)) }
 {
     if size < 0 || size as u64 > LARGEST_ITEM {
         return None;
@@ -258,6 +306,11 @@ fn digests_of<S: Alter>(
         → IfOk result (λ digests. IfSome digests (λ digests. (pieces : List (List ℕ))
         × HasPieces S.Store db item pieces × (size ≡ length (concat pieces))
         × AreDigests digests set (concat pieces))) }
+    ensures refused { HasCleanDisk (state S.Store connection.new) → (db : Database)
+        → Stands (state S.Store connection.old) db
+        → MatchResult result (λ digests. IfNone digests (LacksPiece S.Store db item size
+        ⊎ HasMorePieces S.Store db item size))
+        (IsNoneFor (IsNoLedger S.Store db)) }
     ensures read { HasCleanDisk (state S.Store connection.new)
         → IsRead (state S.Store connection.old) (state S.Store connection.new) }
     ensures idle { connection.new.in_transaction ≡ false }
@@ -294,6 +347,11 @@ fn piece_of<S: Alter>(
         → Stands (state S.Store connection.old) db
         → IfOk result (λ piece. IfSome piece (λ piece.
         TellsOne S.Store db piece_text (Int item ∷ Int n ∷ []) (Blob piece.items))) }
+    ensures refused { HasCleanDisk (state S.Store connection.new) → (db : Database)
+        → Stands (state S.Store connection.old) db
+        → MatchResult result (λ piece. IfNone piece ((rows : List Row)
+        × Tells S.Store db piece_text (Int item ∷ Int n ∷ []) rows × ¬ ShowsOctets rows octets))
+        (IsNoneFor (IsNoLedger S.Store db)) }
     ensures whole { IfOk result (λ piece. IfSome piece (λ piece. length piece.items ≡ octets)) }
     ensures read { HasCleanDisk (state S.Store connection.new)
         → IsRead (state S.Store connection.old) (state S.Store connection.new) }
@@ -322,7 +380,9 @@ fn count_of<S: Alter>(connection: &mut Connection<S>, item: i64) -> Result<i64, 
     requires idle { connection.old.in_transaction ≡ false }
     ensures count { HasCleanDisk (state S.Store connection.new) → (db : Database)
         → Stands (state S.Store connection.old) db
-        → IfOk result (λ count. TellsOne S.Store db count_text (Int item ∷ []) (Int count)) }
+        → MatchResult result
+        (λ count. TellsOne S.Store db count_text (Int item ∷ []) (Int count))
+        (IsNoneFor (IsNoLedger S.Store db)) }
     ensures read { HasCleanDisk (state S.Store connection.new)
         → IsRead (state S.Store connection.old) (state S.Store connection.new) }
     ensures idle { connection.new.in_transaction ≡ false }

@@ -3,7 +3,9 @@ use Rattle.sqlite.specs.Held.{state}
 use Rattle.sqlite.specs.State.{HasCleanDisk}
 use Rattle.bag_sqlite.specs.Adopting.{Stands}
 use Rattle.bag_sqlite.proofs.AdoptingLemmas.{stands_still}
-use Rattle.bag_sqlite.proofs.SqlLemmas.{on_ok}
+use Rattle.std.proofs.lemmas.Result.{err_from_is_err_and}
+use Rattle.bag_sqlite.proofs.RefusingLemmas.{both_ways, in_order, to_adopt}
+use Rattle.bag_sqlite.specs.Refusing.{RefusesToAdopt, RefusesTransfers}
 use Rattle.bag_sqlite.proofs.adopting.verify_ledger.Goals as goal
 
 pub returns-clause-verified : goal.returns-clause-verified
@@ -18,5 +20,28 @@ returns-clause-verified g c clean =
     let d0 : Stands s0 db = λ is_open. (c.is_autocommit.ensures.settled idle is_open, refl) in
     let d1 = stands_still s0 s1 db (c.test_format.ensures.read c1) d0 in
     let d2 = stands_still s1 s2 db (c.test_rows.ensures.read c2) d1 in
-    on_ok c.verify_transfers.result (λ transfers. record { format = c.in_ok-test_format.ensures.format c1 db d0; none_stray = c.in_ok-test_rows.ensures.none c2 db d1; transfers = transfers })
-    (c.verify_transfers.ensures.verified clean db d2)
+    let format = c.in_ok-test_format.ensures.format c1 db d0 in
+    let none_stray = c.in_ok-test_rows.ensures.none c2 db d1 in
+    both_ways c.verify_transfers.result (RefusesTransfers g.S.Store db) (RefusesToAdopt g.S.Store db) (λ transfers. record { format = format; none_stray = none_stray; transfers = transfers }) (λ fault h. in_order g.S.Store db fault format none_stray h)
+    (c.verify_transfers.ensures.verified clean db d2) (c.verify_transfers.ensures.refused clean db d2)
+
+pub returns-in_err-test_format-clause-verified : goal.returns-in_err-test_format-clause-verified
+returns-in_err-test_format-clause-verified g c clean =
+    let s0 = state g.S.Store c.args.connection.now in
+    let s1 = state g.S.Store c.test_format.new.connection in
+    let db = s0.committed in
+    let idle : IsTrue c.is_autocommit.result = search rules in
+    let d0 : Stands s0 db = λ is_open. (c.is_autocommit.ensures.settled idle is_open, refl) in
+    let p = err_from_is_err_and c.from_residual.result c.from_residual.ensures.1 in
+    rw (p.1, p.2) (c.in_err-test_format.ensures.refused clean db d0)
+
+pub returns-in_err-test_rows-clause-verified : goal.returns-in_err-test_rows-clause-verified
+returns-in_err-test_rows-clause-verified g c clean =
+    let s0 = state g.S.Store c.args.connection.now in
+    let s1 = state g.S.Store c.test_format.new.connection in
+    let db = s0.committed in
+    let idle : IsTrue c.is_autocommit.result = search rules in
+    let d0 : Stands s0 db = λ is_open. (c.is_autocommit.ensures.settled idle is_open, refl) in
+    let p = err_from_is_err_and c.from_residual-in_err-test_rows.result c.from_residual-in_err-test_rows.ensures.1 in
+    let c1 : HasCleanDisk s1 = omega (arith, clean, c.test_rows.ensures.survives.clean) in
+    rw (p.1, p.2) (to_adopt g.S.Store db _ (c.in_err-test_rows.ensures.refused clean db (stands_still s0 s1 db (c.test_format.ensures.read c1) d0)))

@@ -1,4 +1,5 @@
-use Rattle.std.proofs.Common.{FitsSigned, to_z, ap, subst, sym, [], ◌∷◌, ◌≡◌, ◌<◌, ◌≤◌, ◌^◌, ◌+◌, ◌∙◌, arith, length, pos, rules, w64}
+use Rattle.std.proofs.Common.{FitsSigned, to_z, ap, subst, sym, [], ◌∷◌, ◌≡◌, ◌<◌, ◌≤◌, ◌^◌, ◌+◌, ◌∙◌, arith, length, pos, rules, w64, inl, inr, min, ◌-◌}
+use mir.Val.{of_z}
 use Rattle.std.specs.List.{concat}
 use Rattle.std.proofs.Math.Facts.{to_z_pos}
 use Rattle.std.proofs.lemmas.Int.{to_z-of_z}
@@ -6,9 +7,11 @@ use Rattle.bag_digest.specs.declared.reading.TheConstants.{PIECE}
 use Rattle.sqlite.specs.Held.{state}
 use Rattle.sqlite.specs.State.{HasCleanDisk}
 use Rattle.sqlite.specs.declared.types.Value.TheVariants.{Int}
-use Rattle.bag_sqlite.specs.Adopting.{TellsOne, count_text}
+use Rattle.bag_sqlite.specs.Adopting.{TellsOne, count_text, Tells, piece_text}
 use Rattle.bag_sqlite.proofs.AdoptingLemmas.{read_same, read_then, stands_still, survives_both, survives_same}
 use Rattle.bag_sqlite.proofs.PiecesRead.{nothing_taken, one_taken}
+use Rattle.std.proofs.lemmas.Result.{err_from_is_err_and}
+use Rattle.bag_sqlite.specs.Refusing.{ShowsOctets}
 use Rattle.bag_sqlite.proofs.verifying.digests_of.Goals as goal
 
 pub loop-taken-init : goal.loop-taken-init
@@ -66,3 +69,60 @@ returns-clause-digests g c clean db stands =
     let fits : FitsSigned w64 number = search rules in
     let same : number ≡ pos (length so_far.pieces) = sym (to_z-of_z w64 number fits) ∙ ap (to_z w64) c.if-branch-n.false ∙ to_z_pos w64 low ∙ ap pos so_far.count in
     (so_far.pieces, record { each = so_far.each; count = subst (λ m. TellsOne g.S.Store db count_text (Int c.args.item ∷ []) (Int m)) same count; cut = so_far.cut }, all, c.finish.ensures c.args.set (concat so_far.pieces) so_far.holds)
+
+pub returns-in_err-piece-clause-refused : goal.returns-in_err-piece-clause-refused
+returns-in_err-piece-clause-refused g c clean db stands =
+    let old = state g.S.Store c.args.connection.now in
+    let mid = state g.S.Store c.loop-taken.connection in
+    let early : HasCleanDisk mid = omega (arith, clean, c.piece_of.ensures.survives.clean) in
+    let still = stands_still old mid db (c.loop-taken.invariant.read early) stands in
+    let p = err_from_is_err_and c.from_residual.result c.from_residual.ensures.1 in
+    rw (p.1, p.2) (c.in_err-piece.ensures.refused clean db still)
+
+pub returns-in_default-clause-refused : goal.returns-in_default-clause-refused
+returns-in_default-clause-refused g c clean db stands =
+    let old = state g.S.Store c.args.connection.now in
+    let mid = state g.S.Store c.loop-taken.connection in
+    let early : HasCleanDisk mid = omega (arith, clean, c.piece_of.ensures.survives.clean) in
+    let still = stands_still old mid db (c.loop-taken.invariant.read early) stands in
+    let low : c.loop-taken.n < 2 ^ 63 = omega (arith, c.loop-taken.invariant.few, c.loop-taken.invariant.within, c.requires.within) in
+    let so_far = rw (to_z-of_z w64 c.args.item c.ranges.item) at (c.loop-taken.invariant.pieces early db stands) in
+    let it = rw (c.in_default.is, to_z-of_z w64 c.args.item c.ranges.item, to_z_pos w64 low) at (c.in_ok-piece.ensures.refused clean db still) in
+    let wanted : c.min.result ≡ min (c.args.size - length (concat so_far.pieces)) PIECE = omega (arith, c.min.ensures, so_far.taken_is) in
+    inl (record {
+      pieces = so_far.pieces;
+      each = so_far.each;
+      full = so_far.full c.loop-taken-test.true;
+      more = omega (arith, so_far.taken_is, c.loop-taken-test.true);
+      rows = it.0;
+      told = subst (λ k. Tells g.S.Store db piece_text (Int c.args.item ∷ Int (pos k) ∷ []) it.0) so_far.count it.1;
+      other = λ shows. it.2 (subst (ShowsOctets it.0) (sym wanted) shows);
+    })
+
+pub returns-in_err-count_of-clause-refused : goal.returns-in_err-count_of-clause-refused
+returns-in_err-count_of-clause-refused g c clean db stands =
+    let old = state g.S.Store c.args.connection.now in
+    let mid = state g.S.Store c.loop-taken.connection in
+    let early : HasCleanDisk mid = omega (arith, clean, c.count_of.ensures.survives.clean) in
+    let still = stands_still old mid db (c.loop-taken.invariant.read early) stands in
+    let p = err_from_is_err_and c.from_residual-in_err-count_of.result c.from_residual-in_err-count_of.ensures.1 in
+    rw (p.1, p.2) (c.in_err-count_of.ensures.count clean db still)
+
+pub returns-then-branch-n-clause-refused : goal.returns-then-branch-n-clause-refused
+returns-then-branch-n-clause-refused g c clean db stands =
+    let old = state g.S.Store c.args.connection.now in
+    let mid = state g.S.Store c.loop-taken.connection in
+    let early : HasCleanDisk mid = omega (arith, clean, c.count_of.ensures.survives.clean) in
+    let so_far = rw (to_z-of_z w64 c.args.item c.ranges.item) at (c.loop-taken.invariant.pieces early db stands) in
+    let still = stands_still old mid db (c.loop-taken.invariant.read early) stands in
+    let count = rw (to_z-of_z w64 c.args.item c.ranges.item) at (c.in_ok-count_of.ensures.count clean db still) in
+    let number = c.in_ok-count_of.field-0 in
+    inr (record {
+      pieces = so_far.pieces;
+      each = so_far.each;
+      cut = so_far.cut;
+      size_is = omega (arith, so_far.taken_is, c.loop-taken.invariant.within, c.loop-taken-test.false);
+      number = number;
+      count = count;
+      other = λ same. c.if-branch-n.true (ap (of_z w64) (same ∙ ap pos (sym so_far.count)));
+    })

@@ -1,8 +1,13 @@
-use Rattle.std.proofs.Common.{arith, w64}
+use Rattle.std.proofs.Common.{arith, w64, sym, subst, [], ◌∷◌}
 use Rattle.std.proofs.lemmas.Int.{to_z-of_z}
 use Rattle.sqlite.specs.Held.{state}
 use Rattle.sqlite.specs.State.{HasCleanDisk}
 use Rattle.bag_sqlite.proofs.AdoptingLemmas.{ok_none, stands_still}
+use Rattle.std.proofs.lemmas.Result.{err_from_is_err_and}
+use Rattle.bag_sqlite.proofs.RefusingLemmas.{no_query}
+use Rattle.bag_sqlite.specs.Refusing.{items_under}
+use Rattle.bag_sqlite.specs.Adopting.{Tells, items_text}
+use Rattle.sqlite.specs.declared.types.Value.TheVariants.{Int}
 use Rattle.bag_sqlite.proofs.verifying.first_damaged.Goals as goal
 
 pub returns-clause-passing : goal.returns-clause-passing
@@ -14,3 +19,17 @@ returns-clause-passing g c clean db stands tags plan =
     let told = rw (c.params-to_sql.ensures, to_z-of_z w64 c.args.transfer c.ranges.transfer) at (c.in_ok-rows.ensures.rows early db stands) in
     let still = stands_still old mid db (c.in_ok-rows.ensures.read early) stands in
     ok_none c.damaged_in.result (λ all. (rows, told, all)) (rw c.as_slice.ensures.value at (c.damaged_in.ensures.passing clean db still tags plan))
+
+pub returns-in_err-rows-clause-refused : goal.returns-in_err-rows-clause-refused
+returns-in_err-rows-clause-refused g c clean db stands tags plan =
+    let p = err_from_is_err_and c.from_residual.result c.from_residual.ensures.1 in
+    rw (p.1, p.2) (no_query g.S.Store db (items_under c.args.transfer) _ (c.in_err-rows.ensures.refused clean db stands))
+
+pub returns-clause-refused : goal.returns-clause-refused
+returns-clause-refused g c clean db stands tags plan =
+    let old = state g.S.Store c.args.connection.now in
+    let mid = state g.S.Store c.rows_of.new.connection in
+    let early : HasCleanDisk mid = omega (arith, clean, c.damaged_in.ensures.survives.clean) in
+    let told = rw (c.params-to_sql.ensures, to_z-of_z w64 c.args.transfer c.ranges.transfer) at (c.in_ok-rows.ensures.rows early db stands) in
+    let still = stands_still old mid db (c.in_ok-rows.ensures.read early) stands in
+    c.damaged_in.ensures.refused clean db still tags plan c.args.transfer (subst (Tells g.S.Store db items_text (Int c.args.transfer ∷ [])) (sym c.as_slice.ensures.value) told)

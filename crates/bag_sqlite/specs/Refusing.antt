@@ -1,0 +1,277 @@
+-- Why a database isn't taken as a ledger: what its texts show, and what those of a ledger don't.
+use Rattle.std.specs.Prelude.{◌≡◌, ◌≢◌, ◌⊎◌, ◌<◌, ◌≤◌, ◌-◌, ℕ, ℤ, min, pos, List, [], ◌∷◌, Some, IsUtf8, codes, length, slice_get, string_bytes, take}
+use Rattle.std.specs.List.{AllByRecursion, concat}
+use Rattle.bag_digest.specs.declared.reading.TheConstants.{PIECE}
+use Rattle.bag_ledger.specs.declared.fault.KeepFault.TheVariants.{Memory, Store}
+use Rattle.bag_ledger.specs.declared.fault.StoreFault.TheVariants.{Refused}
+use Rattle.bag_path.specs.Paths.{IsPath}
+use Rattle.bag_rules.specs.Faults.{Has}
+use Rattle.bag_rules.specs.Files.{AreTagFiles, Files}
+use Rattle.bag_rules.specs.Opening.{Opens, Refuses}
+use Rattle.bag_rules.specs.TagSets.{RefusesFile}
+use Rattle.bag_rules.specs.Transfers.{IsExpected, Passes}
+use Rattle.bag_rules.specs.declared.limits.TheConstants.{LARGEST_ITEM}
+use Rattle.bag_rules.specs.declared.plan.PlanFault.{PlanFault}
+use Rattle.bag_rules.specs.declared.plan.PlanFault.TheVariants.{Memory as NoMemory}
+use Rattle.bag_rules.specs.declared.tag_set.TagSetFault.{TagSetFault}
+use Rattle.bag_rules.specs.declared.tag_set.TagSetFault.TheVariants.{Memory as WantOfMemory}
+use Rattle.sqlite.specs.Effect.{Database}
+use Rattle.sqlite.specs.Given.{IsPlain}
+use Rattle.sqlite.specs.Listing.{understood}
+use Rattle.sqlite.specs.Order.{Row, column}
+use Rattle.sqlite.specs.Schema.{Schema}
+use Rattle.sqlite.specs.Store.{Ghosts}
+use Rattle.sqlite.specs.Values.{IsInt}
+use Rattle.sqlite.specs.declared.error.Error.{Error}
+use Rattle.sqlite.specs.declared.error.Error.TheVariants.{SqliteFailure, InvalidParameterCount, ExecuteReturnedResults, InvalidQuery, MultipleStatement, QueryReturnedNoRows}
+use Rattle.sqlite.specs.declared.error.ErrorCode.TheVariants.{OutOfMemory, NotADatabase}
+use Rattle.sqlite.specs.declared.types.Value.{Value}
+use Rattle.sqlite.specs.declared.types.Value.TheVariants.{Blob, Int, Text}
+use Rattle.bag_sqlite.specs.Adopting.{HasFormat, HasPieces, RowPasses, Tells, TellsOne, TransferPasses, count_text, files_in, format_text, items_text, piece_text, stray_texts, tag_files_text, transfers_text}
+use Rattle.bag_sqlite.specs.Databases.{AreCut}
+use Rattle.bag_sqlite.specs.declared.adopting.AdoptFault.{AdoptFault}
+use Rattle.bag_sqlite.specs.declared.adopting.AdoptFault.TheVariants.{NotALedger, OldFormat, Damaged, Keep}
+
+-- WHAT AN ERROR IS TOLD AS
+
+abbrev pub adopt_fault : Error → AdoptFault
+adopt_fault (SqliteFailure OutOfMemory) = Keep Memory
+adopt_fault (SqliteFailure NotADatabase) = NotALedger
+adopt_fault (SqliteFailure code) = Keep (Store Refused)
+adopt_fault (InvalidParameterCount given wanted) = Keep (Store Refused)
+adopt_fault ExecuteReturnedResults = Keep (Store Refused)
+adopt_fault InvalidQuery = Keep (Store Refused)
+adopt_fault MultipleStatement = Keep (Store Refused)
+adopt_fault QueryReturnedNoRows = Keep (Store Refused)
+adopt_fault error = NotALedger
+
+-- it isn't a ledger for this reason; want of memory and failures of the store say nothing
+abbrev pub IsNoneFor : Type 0 → AdoptFault → Type 0
+IsNoneFor reason NotALedger = reason
+IsNoneFor reason OldFormat = ⊥
+IsNoneFor reason (Damaged name path) = ⊥
+IsNoneFor reason (Keep fault) = Unit {0}
+
+-- The rows aren't a ledger's for this reason, or memory ran out. The store isn't asked.
+abbrev pub AreNoneFor : Type 0 → AdoptFault → Type 0
+AreNoneFor reason NotALedger = reason
+AreNoneFor reason OldFormat = ⊥
+AreNoneFor reason (Damaged name path) = ⊥
+AreNoneFor reason (Keep fault) = fault ≡ Memory
+
+-- the text isn't understood as a query, which shows rows and neither writes nor reads the time
+abbrev pub IsNoQuery : Schema → List ℕ → Type 0
+IsNoQuery schema sql = ¬ IsPlain (understood schema sql)
+
+-- WHAT IS ASKED, AND WHAT A LEDGER ANSWERS
+
+abbrev pub IsText : Value → Type 0
+IsText value = (text : List ℕ) × (value ≡ Text text) × IsUtf8 text
+
+abbrev pub IsBlob : Value → Type 0
+IsBlob value = (octets : List ℕ) × (value ≡ Blob octets)
+
+-- there is one row, which says that it is a ledger of this format
+abbrev pub SaysFormat : List Row → ℤ → Type 0
+SaysFormat rows format = (row : Row) × (rows ≡ row ∷ [])
+    × (column row 0 ≡ Text (codes "bag-ledger")) × (column row 1 ≡ Int format)
+
+-- they don't say that it is a ledger
+abbrev pub SayNoFormat : List Row → Type 0
+SayNoFormat rows = (format : ℤ) → ¬ SaysFormat rows format
+
+abbrev pub AreTransfers : List Row → Type 0
+AreTransfers = AllByRecursion (λ row. IsInt (column row 0) × IsText (column row 1))
+
+abbrev pub AreTags : List Row → Type 0
+AreTags = AllByRecursion (λ row. IsText (column row 0) × IsBlob (column row 1))
+
+abbrev pub AreItems : List Row → Type 0
+AreItems = AllByRecursion (λ row. IsInt (column row 0) × IsText (column row 1) × IsInt (column row 2))
+
+-- one of the texts, with its parameters
+pub data Question : Type 0 where
+  the_format : Question
+  the_transfers : Question
+  tags_under : ℤ → Question
+  items_under : ℤ → Question
+  piece_at : ℤ → ℤ → Question
+  count_under : ℤ → Question
+  strays : (text : List ℕ) → Has stray_texts text → Question
+
+abbrev pub text_of : Question → List ℕ
+text_of the_format = format_text
+text_of the_transfers = transfers_text
+text_of (tags_under transfer) = tag_files_text
+text_of (items_under transfer) = items_text
+text_of (piece_at item n) = piece_text
+text_of (count_under item) = count_text
+text_of (strays text one) = text
+
+abbrev pub params_of : Question → Row
+params_of the_format = []
+params_of the_transfers = []
+params_of (tags_under transfer) = Int transfer ∷ []
+params_of (items_under transfer) = Int transfer ∷ []
+params_of (piece_at item n) = Int item ∷ Int n ∷ []
+params_of (count_under item) = Int item ∷ []
+params_of (strays text one) = []
+
+-- the rows have the kinds of a ledger's, and are as many as one can show
+abbrev pub MayShow : Question → List Row → Type 0
+MayShow the_format rows = SaysFormat rows (pos 1) ⊎ SaysFormat rows (pos 2)
+MayShow the_transfers rows = AreTransfers rows
+MayShow (tags_under transfer) rows = AreTags rows
+MayShow (items_under transfer) rows = AreItems rows
+MayShow (piece_at item n) rows = AllByRecursion (λ row. IsBlob (column row 0)) rows
+MayShow (count_under item) rows = (row : Row) × (rows ≡ row ∷ []) × IsInt (column row 0)
+MayShow (strays text one) rows = rows ≡ []
+
+-- WHAT IS DAMAGED
+
+-- each has 65,536 octets
+abbrev pub AreFull : List (List ℕ) → Type 0
+AreFull = AllByRecursion (λ piece. length piece ≡ PIECE)
+
+-- there is one row, with so many octets
+abbrev pub ShowsOctets : List Row → ℕ → Type 0
+ShowsOctets rows n = (row : Row) × (rows ≡ row ∷ [])
+    × (octets : List ℕ) × (column row 0 ≡ Blob octets) × (length octets ≡ n)
+
+-- one of the rows is of no tag file that may stand beside those of the rows before it
+pub record HasBadTag (rows : List Row) : Type 0 where
+  pub at : ℕ
+  pub row : Row
+  pub here : slice_get rows at ≡ Some row
+  pub path : List ℕ
+  pub octets : List ℕ
+  pub row_is : (column row 0 ≡ Text path) × (column row 1 ≡ Blob octets)
+  pub fault : TagSetFault
+  pub no_memory : fault ≢ WantOfMemory
+  pub refuses : RefusesFile (files_in (take at rows)) path octets fault
+
+-- with tag files of these rows no transfer can be opened
+abbrev pub DoNotOpen : List Row → Type 0
+DoNotOpen rows = HasBadTag rows
+    ⊎ ((fault : PlanFault) × (fault ≢ NoMemory) × Refuses (files_in rows) fault)
+
+-- the size of a payload file that is within the limit
+abbrev pub IsSize : ℤ → Type 0
+IsSize size = (octets : ℕ) × (size ≡ pos octets) × (octets ≤ LARGEST_ITEM)
+
+module _ {S : Type 0} (g : Ghosts S) (db : Database) where
+  -- the text means nothing here, or it shows rows that aren't such
+  abbrev pub DoesNotShow : List ℕ → Row → (List Row → Type 0) → Type 0
+  DoesNotShow sql params such = IsNoQuery db.schema sql
+      ⊎ ((rows : List Row) × Tells g db sql params rows × ¬ such rows)
+
+  -- to one of the texts it doesn't show what a ledger may show
+  abbrev pub IsNoLedger : Type 0
+  IsNoLedger = (asked : Question)
+      × DoesNotShow (text_of asked) (params_of asked) (MayShow asked)
+
+  -- the pieces in turn from the first on
+  abbrev pub ArePieces : ℤ → List (List ℕ) → Type 0
+  ArePieces item pieces = (n : ℕ) (piece : List ℕ) → slice_get pieces n ≡ Some piece
+      → TellsOne g db piece_text (Int item ∷ Int (pos n) ∷ []) (Blob piece)
+
+  -- after some whole pieces, the next one isn't there as it would be in a payload file of this size
+  pub record LacksPiece (item : ℤ) (size : ℕ) : Type 0 where
+    pub pieces : List (List ℕ)
+    pub each : ArePieces item pieces
+    pub full : AreFull pieces
+    pub more : length (concat pieces) < size
+    pub rows : List Row
+    pub told : Tells g db piece_text (Int item ∷ Int (pos (length pieces)) ∷ []) rows
+    pub other : ¬ ShowsOctets rows (min (size - length (concat pieces)) PIECE)
+
+  -- there are other pieces beside those that have this size
+  pub record HasMorePieces (item : ℤ) (size : ℕ) : Type 0 where
+    pub pieces : List (List ℕ)
+    pub each : ArePieces item pieces
+    pub cut : AreCut pieces
+    pub size_is : size ≡ length (concat pieces)
+    pub number : ℤ
+    pub count : TellsOne g db count_text (Int item ∷ []) (Int number)
+    pub other : number ≢ pos (length pieces)
+
+  -- it is there whole, and its content doesn't pass
+  pub record HasOtherContent (tags : Files) (item : ℤ) (path : List ℕ) (size : ℕ) : Type 0 where
+    pub pieces : List (List ℕ)
+    pub has : HasPieces g db item pieces
+    pub size_is : size ≡ length (concat pieces)
+    pub other : ¬ Passes tags path (concat pieces)
+
+  -- a payload file isn't listed, isn't there whole or doesn't pass
+  abbrev pub ItemFails : Files → ℤ → List ℕ → ℤ → Type 0
+  ItemFails tags item path size = (¬ (IsPath path × IsExpected tags path))
+      ⊎ ((¬ IsSize size) ⊎ ((octets : ℕ) × (size ≡ pos octets) × (LacksPiece item octets
+      ⊎ (HasMorePieces item octets ⊎ HasOtherContent tags item path octets))))
+
+  -- the first payload file of a transfer that doesn't pass has this path
+  pub record HasDamagedItem (tags : Files) (transfer : ℤ) (path : List ℕ) : Type 0 where
+    pub rows : List Row
+    pub told : Tells g db items_text (Int transfer ∷ []) rows
+    pub at : ℕ
+    pub row : Row
+    pub here : slice_get rows at ≡ Some row
+    pub passing : AllByRecursion (RowPasses g db tags) (take at rows)
+    pub item : ℤ
+    pub size : ℤ
+    pub row_is : (column row 0 ≡ Int item) × (column row 1 ≡ Text path) × (column row 2 ≡ Int size)
+    pub fails : ItemFails tags item path size
+
+  -- the tag files of a transfer open one, and its first payload file that doesn't pass has this path
+  pub record HasDamage (transfer : ℤ) (path : List ℕ) : Type 0 where
+    pub tag_rows : List Row
+    pub tags_told : Tells g db tag_files_text (Int transfer ∷ []) tag_rows
+    pub tag_files : AreTagFiles (files_in tag_rows)
+    pub opens : Opens (files_in tag_rows)
+    pub item : HasDamagedItem (files_in tag_rows) transfer path
+
+  -- its tag files open none
+  pub record OpensNone (transfer : ℤ) : Type 0 where
+    pub tag_rows : List Row
+    pub tags_told : Tells g db tag_files_text (Int transfer ∷ []) tag_rows
+    pub none : DoNotOpen tag_rows
+
+  abbrev pub TransferFails : ℤ → List ℕ → Type 0
+  TransferFails transfer path = (OpensNone transfer × (path ≡ [])) ⊎ HasDamage transfer path
+
+  -- the first transfer that doesn't pass has this name, and its first payload file that doesn't has this path
+  pub record IsDamaged (name path : List ℕ) : Type 0 where
+    pub rows : List Row
+    pub told : Tells g db transfers_text [] rows
+    pub at : ℕ
+    pub row : Row
+    pub here : slice_get rows at ≡ Some row
+    pub passing : AllByRecursion (λ row. (transfer : ℤ)
+        × (column row 0 ≡ Int transfer) × TransferPasses g db transfer) (take at rows)
+    pub transfer : ℤ
+    pub row_is : (column row 0 ≡ Int transfer) × (column row 1 ≡ Text name)
+    pub fails : TransferFails transfer path
+
+  -- why the transfer with this number and name isn't taken
+  abbrev pub RefusesTransfer : ℤ → List ℕ → AdoptFault → Type 0
+  RefusesTransfer transfer name NotALedger = IsNoLedger
+  RefusesTransfer transfer name OldFormat = ⊥
+  RefusesTransfer transfer name (Damaged named path) = (string_bytes named ≡ name)
+      × TransferFails transfer (string_bytes path)
+  RefusesTransfer transfer name (Keep fault) = Unit {0}
+
+  -- why its transfers aren't taken
+  abbrev pub RefusesTransfers : AdoptFault → Type 0
+  RefusesTransfers NotALedger = IsNoLedger
+  RefusesTransfers OldFormat = ⊥
+  RefusesTransfers (Damaged name path) = IsDamaged (string_bytes name) (string_bytes path)
+  RefusesTransfers (Keep fault) = Unit {0}
+
+  -- Why it isn't taken. What is damaged has the format, and no row that belongs to nothing. Of memory and the store nothing is
+  -- said here.
+  abbrev pub RefusesToAdopt : AdoptFault → Type 0
+  RefusesToAdopt NotALedger = IsNoLedger
+  RefusesToAdopt OldFormat = HasFormat g db (pos 1)
+  RefusesToAdopt (Damaged name path) = HasFormat g db (pos 2)
+      × AllByRecursion (λ text. Tells g db text [] []) stray_texts
+      × IsDamaged (string_bytes name) (string_bytes path)
+  RefusesToAdopt (Keep fault) = Unit {0}
