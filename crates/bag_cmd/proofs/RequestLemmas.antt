@@ -5,8 +5,11 @@ use Rattle.std.specs.Str.{bytes_eq}
 use Rattle.std.proofs.lemmas.Option.{slice_get-map, slice_get_read}
 use Rattle.std.proofs.lemmas.List.{append-nil, drop_all, take_all}
 use Rattle.std.proofs.lemmas.Slice.Eq.{bytes_eq-Decides}
-use Rattle.bag_cmd.specs.Making.{MakingShown}
-use Rattle.bag_cmd.specs.Requests.{NamesMake, is_option, operands_of}
+use Rattle.bag_cmd.specs.declared.request.Request.{Request}
+use Rattle.bag_cmd.specs.declared.request.Request.TheVariants.{Check, Ledger, Make}
+use Rattle.bag_cmd.specs.declared.request.Work.{Work}
+use Rattle.bag_cmd.specs.declared.request.Work.TheVariants.{Audit, Begin, Export, Fetch, Intake, List as Listing, Report}
+use Rattle.bag_cmd.specs.Requests.{NamesCommand, is_option, operands_of, request_name, work_name}
 use Rattle.bag_cmd.proofs.CourierLemmas.{rest_from}
 
 next_taken : {X : Type 0} (xs : List X) (n : ℕ) (x : X) → slice_get xs n ≡ Some x → take (n + 1) xs ≡ take n xs ++ x ∷ []
@@ -88,19 +91,6 @@ holds false h = sym h
 pub is_text : (text other : List ℕ) (differs : Bool) → differs ≡ not (bytes_eq text other) → differs ≡ false → text ≡ other
 is_text text other differs is same = (bytes_eq-Decides text other).0 (holds (bytes_eq text other) (sym is ∙ same))
 
--- WHAT WORDS NAME
-
-some_left : {X : Type 0} (octets : X → List ℕ) (operands after names : List X) (source destination : X) → operands ≡ source ∷ after → after ≡ destination ∷ names → 3 ≤ length operands → map octets names ≡ [] → ⊥
-some_left octets operands after [] source destination is_source is_destination long none = absurd (omega (arith, ap length is_source, ap length is_destination, long))
-some_left octets operands after (name ∷ names) source destination is_source is_destination long none = cc
-
-pub asks_make : {X : Type 0} (octets : X → List ℕ) (all rest operands after names : List X) (name source destination : X) → all ≡ name ∷ rest → octets name ≡ codes "make" → Some (map octets operands) ≡ operands_of (map octets rest)
-    → operands ≡ source ∷ after → after ≡ destination ∷ names → 3 ≤ length operands → NamesMake (map octets all) (octets source) (octets destination) (map octets names)
-asks_make octets all rest operands after names name source destination is_all is_make found is_source is_destination long = (
-  (map octets rest, ap (map octets) is_all ∙ ap (λ (text : List ℕ). text ∷ map octets rest) is_make, sym found ∙ ap (λ (xs : List _). Some (map octets xs)) (is_source ∙ ap (λ xs. source ∷ xs) is_destination)),
-  some_left octets operands after names source destination is_source is_destination long,
-)
-
 pub no_words : {X : Type 0} (xs : List X) → length xs ≡ 0 → xs ≡ []
 no_words [] none = refl
 no_words (x ∷ xs) none = absurd (omega (arith, none))
@@ -109,29 +99,22 @@ pub none_named : {X : Type 0} (octets : X → List ℕ) (xs : List X) → map oc
 none_named octets [] none = refl
 none_named octets (x ∷ xs) none = absurd (cc)
 
-pub not_both : (words rest others : List (List ℕ)) → words ≡ codes "make" ∷ rest → words ≡ codes "check" ∷ others → ⊥
-not_both words rest others is also = cc
+no_work : (work : Work) → [] ≡ work_name work → ⊥
+no_work (Begin name folder) is = cc
+no_work (Intake name folders) is = cc
+no_work (Report name) is = cc
+no_work (Audit name) is = cc
+no_work (Fetch name folder) is = cc
+no_work (Export name folder) is = cc
+no_work Listing is = cc
 
-pub not_none : (words rest : List (List ℕ)) (word : List ℕ) → words ≡ word ∷ rest → words ≡ [] → ⊥
-not_none words rest word is none = cc
+no_request : (request : Request) → [] ≡ request_name request → ⊥
+no_request (Check folder) is = cc
+no_request (Make source destination algorithms) is = cc
+no_request (Ledger ledger work) is = no_work work is
 
-abbrev making_of : List ℕ → List ℕ → List (List ℕ) → MakingShown
-making_of source destination names = record { source = source; destination = destination; names = names }
-
-same_operands : (making other : MakingShown) → Some (making.source ∷ making.destination ∷ making.names) ≡ Some (other.source ∷ other.destination ∷ other.names) → making ≡ other
-same_operands making other is =
-    let source : making.source ≡ other.source = cc in
-    let destination : making.destination ≡ other.destination = cc in
-    let names : making.names ≡ other.names = cc in
-    ap (λ (s : List ℕ). making_of s making.destination making.names) source
-    ∙ ap (λ (d : List ℕ). making_of other.source d making.names) destination
-    ∙ ap (λ (n : List (List ℕ)). making_of other.source other.destination n) names
-
-same_rest : (words rest others : List (List ℕ)) (word : List ℕ) → words ≡ word ∷ rest → words ≡ word ∷ others → rest ≡ others
-same_rest words rest others word is also = cc
-
--- what the words after `make` are follows from the words
-pub same_making : (words : List (List ℕ)) (making other : MakingShown) → NamesMake words making.source making.destination making.names
-    → NamesMake words other.source other.destination other.names → making ≡ other
-same_making words making other is also =
-    same_operands making other (sym is.0.2 ∙ ap operands_of (same_rest words is.0.0 also.0.0 (codes "make") is.0.1 also.0.1) ∙ also.0.2)
+-- a word without a character names nothing
+pub unnamed : (words : List (List ℕ)) → words ≡ [] ∷ [] → ¬ NamesCommand words
+unnamed words is named =
+    let first : [] ≡ request_name named.0 = let at = named.1.0.1 in cc (is, at) in
+    no_request named.0 first

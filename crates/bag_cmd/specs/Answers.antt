@@ -1,5 +1,6 @@
 -- What a command leaves in the writer that it was handed.
-use Rattle.std.specs.Prelude.{◌≡◌, ◌≢◌, ℕ, List, [], ◌∷◌, Option, None, Result, codes}
+use Rattle.std.specs.Prelude.{◌≡◌, ◌≢◌, ℕ, List, [], ◌∷◌, Option, None, Result, codes, map, string_bytes}
+use Rattle.bag_ledger.specs.declared.keeper.Keeper.{Ghosts}
 use Rattle.bag_rules.specs.declared.outcome.Outcome.{Outcome}
 use Rattle.bag_rules.specs.declared.outcome.CheckFault.{CheckFault}
 use Rattle.bag_commands.specs.declared.status.TheConstants.{DONE, FAILED, USAGE}
@@ -11,8 +12,11 @@ use Rattle.bag_commands.specs.StopTexts.{stop_text}
 use Rattle.bag_cmd.specs.declared.folder.place.Place.TheVariants.{Base}
 use Rattle.bag_cmd.specs.Directories.{Listing}
 use Rattle.bag_cmd.specs.Folders.{FolderShown, IsOpened, IsRefused}
-use Rattle.bag_cmd.specs.Making.{MakingShown, PrintsMake}
-use Rattle.bag_cmd.specs.Requests.{NamesCheck, NamesCommand, NamesMake}
+use Rattle.bag_cmd.specs.declared.request.Request.{Request}
+use Rattle.bag_cmd.specs.declared.request.Request.TheVariants.{Check, Ledger, Make}
+use Rattle.bag_cmd.specs.Making.{PrintsMake}
+use Rattle.bag_cmd.specs.Requests.{AsksFor, NamesCommand}
+use Rattle.bag_cmd.specs.Working.{WorksOn}
 
 -- an answer of `check` about an open folder, which may fail
 abbrev pub IsFolderAnswer : FolderShown → FolderShown → Result Outcome CheckFault → Type 0
@@ -39,22 +43,45 @@ pub data Refuses {W : Type 0} (contents : W → Option (List ℕ)) (old new : Ou
   Unsaid : Printed contents old new result (stop_text Memory ∷ []) FAILED
       → Refuses contents old new result
 
--- What a command line does: what it prints, and the folder that was made for a bag and not given up, which `make` alone changes.
-pub record RunsCommand {W : Type 0} (contents : W → Option (List ℕ)) (known : Option Listing)
-    (words : List (List ℕ)) (before after : Option (List ℕ)) (old new : Output W) (result : ℕ)
-    : Type 0 where
-  pub check : (folder : List ℕ) → NamesCheck words folder
-      → PrintsCheck contents known folder old new result
-  pub make : (making : MakingShown)
-      → NamesMake words making.source making.destination making.names
-      → PrintsMake contents known making before after old new result
-  pub no_words : words ≡ []
-      → Printed contents old new result (codes "bag: check, make" ∷ []) USAGE
-  pub usage : words ≢ [] → ¬ NamesCommand words → Refuses contents old new result
-  pub others : ((making : MakingShown)
-      → ¬ NamesMake words making.source making.destination making.names) → after ≡ before
+-- the line for no words
+abbrev pub usage_line : List ℕ
+usage_line = codes "bag: check, make, begin, intake, report, audit, fetch, export, list"
+
+-- What a command did: what it printed, and the folder that was made for a bag and not given up, which `make` and `export` alone
+-- change.
+abbrev pub Runs : {K W : Type 0} → Ghosts K → (List ℕ → K → Type 0) → (List ℕ → K → Type 0)
+    → Option Listing → (W → Option (List ℕ)) → Request → Option (List ℕ) → Option (List ℕ)
+    → Output W → Output W → ℕ → Type 0
+Runs k opened made known contents (Check folder) before after old new result = (after ≡ before)
+    × PrintsCheck contents known (string_bytes folder) old new result
+Runs k opened made known contents (Make source destination algorithms) before after old new result =
+    PrintsMake contents known (record {
+      source = string_bytes source;
+      destination = string_bytes destination;
+      names = map string_bytes algorithms.items;
+    }) before after old new result
+Runs k opened made known contents (Ledger ledger work) before after old new result =
+    WorksOn k opened made known contents (string_bytes ledger) work before after old new result
+
+-- What a command line did: the command that its words name; or that they name none, which was said.
+pub data RunsCommand {K W : Type 0} (k : Ghosts K) (opened made : List ℕ → K → Type 0)
+    (known : Option Listing) (contents : W → Option (List ℕ)) (words : List (List ℕ))
+    (before after : Option (List ℕ)) (old new : Output W) (result : ℕ) : Type 0 where
+  Named : (request : Request) → AsksFor words request
+      → Runs k opened made known contents request before after old new result
+      → RunsCommand k opened made known contents words before after old new result
+  NoWords : words ≡ [] → after ≡ before
+      → Printed contents old new result (usage_line ∷ []) USAGE
+      → RunsCommand k opened made known contents words before after old new result
+  NoCommand : words ≢ [] → ¬ NamesCommand words → after ≡ before
+      → Refuses contents old new result
+      → RunsCommand k opened made known contents words before after old new result
+  NoMemory : words ≢ [] → after ≡ before
+      → Printed contents old new result (stop_text Memory ∷ []) FAILED
+      → RunsCommand k opened made known contents words before after old new result
 
 -- some command line was run over the directories of the system
-abbrev pub Ran : {W : Type 0} → (W → Option (List ℕ)) → Output W → Output W → ℕ → Type 0
-Ran contents old new result = (words : List (List ℕ)) × (after : Option (List ℕ))
-    × RunsCommand contents None words None after old new result
+abbrev pub Ran : {K W : Type 0} → Ghosts K → (List ℕ → K → Type 0) → (List ℕ → K → Type 0)
+    → (W → Option (List ℕ)) → Output W → Output W → ℕ → Type 0
+Ran k opened made contents old new result = (words : List (List ℕ)) × (after : Option (List ℕ))
+    × RunsCommand k opened made None contents words None after old new result

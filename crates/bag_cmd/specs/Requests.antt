@@ -1,9 +1,9 @@
 -- The command lines that the program knows.
-use Rattle.std.specs.Prelude.{◌≡◌, ◌≢◌, ◌⊎◌, ◌&&◌, ⊤, ℕ, Bool, List, None, Option, Some, [], ◌∷◌, codes, if◌then◌else◌, length, map, nat_eq, nat_lt, option_map, string_bytes}
+use Rattle.std.specs.Prelude.{◌≡◌, ◌≢◌, ◌&&◌, ⊤, ℕ, Bool, List, None, Option, Some, [], ◌∷◌, codes, if◌then◌else◌, length, map, nat_eq, nat_lt, option_map, string_bytes}
 use Rattle.std.specs.List.{starts_with}
 use Rattle.std.specs.Str.{bytes_eq}
 use Rattle.bag_cmd.specs.declared.request.Request.{Request}
-use Rattle.bag_cmd.specs.declared.request.Request.TheVariants.{Check, Make}
+use Rattle.bag_cmd.specs.declared.request.Request.TheVariants.{Check, Make, Ledger}
 use Rattle.bag_cmd.specs.declared.request.Work.{Work}
 use Rattle.bag_cmd.specs.declared.request.Work.TheVariants.{Begin, Intake, Report, Audit, Fetch, Export, List as Listing}
 
@@ -23,28 +23,6 @@ operands_of (word ∷ words) =
 abbrev pub Names : List ℕ → List (List ℕ) → List (List ℕ) → Type 0
 Names command words operands = (rest : List (List ℕ)) × (words ≡ command ∷ rest)
     × (operands_of rest ≡ Some operands)
-
--- `check` and the name of a folder
-abbrev pub NamesCheck : List (List ℕ) → List ℕ → Type 0
-NamesCheck words folder = Names (codes "check") words (folder ∷ [])
-
--- `make`, the names of two folders, and one word or more
-abbrev pub NamesMake : List (List ℕ) → List ℕ → List ℕ → List (List ℕ) → Type 0
-NamesMake words source destination names =
-    Names (codes "make") words (source ∷ destination ∷ names) × (names ≢ [])
-
--- the words name a command
-abbrev pub NamesCommand : List (List ℕ) → Type 0
-NamesCommand words = ((folder : List ℕ) × NamesCheck words folder)
-    ⊎ ((source : List ℕ) × (destination : List ℕ) × (names : List (List ℕ))
-    × NamesMake words source destination names)
-
--- the words ask for it
-abbrev pub AsksFor : List (List ℕ) → Request → Type 0
-AsksFor words (Check folder) = NamesCheck words (string_bytes folder)
-AsksFor words (Make source destination algorithms) =
-    NamesMake words (string_bytes source) (string_bytes destination)
-    (map string_bytes algorithms.items)
 
 -- WORK ON A LEDGER
 
@@ -75,3 +53,30 @@ IsWholeWork work = ⊤
 abbrev pub AsksForWork : List ℕ → List (List ℕ) → Work → Type 0
 AsksForWork command operands work =
     (command ≡ work_name work) × (operands ≡ work_operands work) × IsWholeWork work
+
+-- COMMANDS
+
+abbrev pub request_name : Request → List ℕ
+request_name (Check folder) = codes "check"
+request_name (Make source destination algorithms) = codes "make"
+request_name (Ledger ledger work) = work_name work
+
+abbrev pub operands_in : Request → List (List ℕ)
+operands_in (Check folder) = string_bytes folder ∷ []
+operands_in (Make source destination algorithms) =
+    string_bytes source ∷ string_bytes destination ∷ map string_bytes algorithms.items
+operands_in (Ledger ledger work) = string_bytes ledger ∷ work_operands work
+
+-- at least one algorithm
+abbrev pub IsWhole : Request → Type 0
+IsWhole (Check folder) = ⊤
+IsWhole (Make source destination algorithms) = algorithms.items ≢ []
+IsWhole (Ledger ledger work) = IsWholeWork work
+
+-- the words ask for it
+abbrev pub AsksFor : List (List ℕ) → Request → Type 0
+AsksFor words request = Names (request_name request) words (operands_in request) × IsWhole request
+
+-- the words name a command
+abbrev pub NamesCommand : List (List ℕ) → Type 0
+NamesCommand words = (request : Request) × AsksFor words request

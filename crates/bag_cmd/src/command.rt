@@ -1,10 +1,12 @@
 //! Runs what the command line asks for.
 ghost use Rattle.std.specs.Prelude.{map, string_bytes};
-ghost use Rattle.bag_cmd.specs.Answers.{Refuses, RunsCommand};
+ghost use Rattle.bag_cmd.specs.Answers.{Refuses, Runs, RunsCommand};
 
 use crate::commands::check::check_folder;
+use crate::commands::ledger::work_on_ledger;
 use crate::commands::make::{Making, make_folder};
 use crate::folder::{Destination, Directories};
+use crate::ledger::Ledgers;
 use crate::request::Request;
 use crate::usage::Usage;
 use bag_commands::status::{DONE, USAGE};
@@ -14,40 +16,63 @@ use std::io::Write;
 use std::rt::Files;
 
 /// Runs the command that these words name, and answers its status.
-pub fn command<R: Files + Eprint, D: Directories, W: Write + Drop>(
+pub fn command<R: Files + Eprint, D: Directories, L: Ledgers, W: Write + Drop>(
     rt: &R,
     disk: &D,
+    ledgers: &mut L,
     made: &mut Destination<'_, R>,
     alloc: Global,
     words: Vec<String>,
     out: &mut Output<W>,
 ) -> u8
-    ensures { RunsCommand W.contents (D.listing disk.now) (map string_bytes words.items)
-        made.old made.new out.old out.new result }
+    ensures { RunsCommand L.Kept.Keeper L.opened L.made (D.listing disk.now) W.contents
+        (map string_bytes words.items) made.old made.new out.old out.new result }
 {
     if words.is_empty() {
-        return out.print_line("bag: check, make", USAGE);
+        return out.print_line(
+            "bag: check, make, begin, intake, report, audit, fetch, export, list",
+            USAGE,
+        );
     }
     let Ok(given) = words.clone() else {
         return print_stop(Stop::Memory, out);
     };
     match Request::parse(words) {
-        Some(Request::Check { folder }) => check_folder(rt, disk, alloc, folder.as_str(), out),
-        Some(
-            Request::Make {
-                source,
-                destination,
-                algorithms,
-            },
-        ) => {
+        Some(request) => run_request(rt, disk, ledgers, made, alloc, &request, out),
+        None => refuse(rt, alloc, &given, out),
+    }
+}
+
+/// Runs a command, and answers its status.
+fn run_request<R: Files, D: Directories, L: Ledgers, W: Write + Drop>(
+    rt: &R,
+    disk: &D,
+    ledgers: &mut L,
+    made: &mut Destination<'_, R>,
+    alloc: Global,
+    request: &Request,
+    out: &mut Output<W>,
+) -> u8
+    ensures { Runs L.Kept.Keeper L.opened L.made (D.listing disk.now) W.contents request.now
+        made.old made.new out.old out.new result }
+{
+    match request {
+        Request::Check { folder } => check_folder(rt, disk, alloc, folder.as_str(), out),
+        Request::Make {
+            source,
+            destination,
+            algorithms,
+        } => {
             let making = Making {
                 source: source.as_str(),
                 destination: destination.as_str(),
-                names: &algorithms,
+                names: algorithms,
             };
             make_folder(rt, disk, made, alloc, &making, out)
         }
-        None => refuse(rt, alloc, &given, out),
+        Request::Ledger { ledger, work } => {
+            work_on_ledger(rt, disk, ledgers, made, alloc, ledger.as_str(), work, out)
+        }
     }
 }
 

@@ -1,6 +1,6 @@
 //! What the command line asks for.
-ghost use Rattle.std.specs.Prelude.{◌≡◌, ◌≢◌, ◌∷◌, [], IfNone, IfSome, None, Some, codes, if◌then◌else◌, length, map, nat_eq, option_map, string_bytes};
-ghost use Rattle.bag_cmd.specs.Requests.{AsksFor, AsksForWork, NamesCommand, is_option, operands_of};
+ghost use Rattle.std.specs.Prelude.{◌≡◌, ◌≢◌, ◌<◌, ◌∷◌, [], IfNone, IfSome, None, Some, codes, if◌then◌else◌, length, map, nat_eq, option_map, string_bytes};
+ghost use Rattle.bag_cmd.specs.Requests.{AsksFor, AsksForWork, IsWhole, NamesCommand, is_option, operands_in, operands_of, request_name};
 
 /// A command with what it needs.
 #[derive(Debug, Drop, PartialEq, Eq)]
@@ -19,9 +19,16 @@ pub enum Request {
         /// The names of algorithms, as they were given: one or more; some may be no algorithm's, or be there twice.
         algorithms: Vec<String>,
     },
+    /// A command on a ledger.
+    Ledger {
+        /// The name of the ledger's file.
+        ledger: String,
+        /// What is done on it.
+        work: Work,
+    },
 }
 
-/// What is done on a ledger. A `name` is that of a transfer, or a text that may be none.
+/// What is done on a ledger. A `name` is that of a transfer, or a text that may not be a name.
 #[derive(Debug, Drop, PartialEq, Eq)]
 pub enum Work {
     /// `begin LEDGER NAME DIR`: a transfer is opened with the tag files of a folder.
@@ -49,28 +56,47 @@ impl Request {
         if words.is_empty() {
             return None;
         }
-        let name = words.remove(0);
+        let command = words.remove(0);
         let mut operands = operands(words)?;
-        if name.as_str() == "check" && operands.len() == 1 {
-            let folder = operands.pop()?;
-            return Some(Request::Check { folder });
-        }
-        if name.as_str() != "make" || operands.len() < 3 {
+        if operands.is_empty() {
             return None;
         }
-        let source = operands.remove(0);
-        let destination = operands.remove(0);
-        Some(Request::Make {
-            source,
-            destination,
-            algorithms: operands,
-        })
+        let first = operands.remove(0);
+        match command.as_str() {
+            "check" if operands.is_empty() => Some(Request::Check { folder: first }),
+            "make" => make_request(first, operands),
+            command => {
+                let work = Work::parse(command, operands)?;
+                Some(Request::Ledger {
+                    ledger: first,
+                    work,
+                })
+            }
+        }
     }
+}
+
+/// `make SRC DST ALG..`, of which this is SRC and what follows it.
+fn make_request(source: String, mut operands: Vec<String>) -> Option<Request>
+    ensures none { IfNone result (length operands.items < 2) }
+    ensures request { IfSome result (λ request. (request_name request ≡ codes "make")
+        × (operands_in request ≡ string_bytes source ∷ map string_bytes operands.items)
+        × IsWhole request) }
+{
+    if operands.len() < 2 {
+        return None;
+    }
+    let destination = operands.remove(0);
+    Some(Request::Make {
+        source,
+        destination,
+        algorithms: operands,
+    })
 }
 
 impl Work {
     /// Reads a command and the words after the ledger's name.
-    pub fn parse(command: &str, mut operands: Vec<String>) -> Option<Work>
+    fn parse(command: &str, mut operands: Vec<String>) -> Option<Work>
         ensures none { IfNone result ((work : Work)
             → ¬ AsksForWork command.now (map string_bytes operands.items) work) }
         ensures work { IfSome result (AsksForWork command.now (map string_bytes operands.items)) }

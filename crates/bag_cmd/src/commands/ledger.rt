@@ -9,7 +9,7 @@ use super::intake::intake_folders;
 use crate::folder::{Destination, Directories};
 use crate::ledger::Ledgers;
 use crate::request::Work;
-use bag_commands::status::FAILED;
+use bag_commands::status::{DONE, FAILED};
 use bag_commands::{Output, Stop, TextSpelling, audit_to, list_to, report_to};
 use bag_ledger::Keeper;
 use bag_receiver::Receiver;
@@ -21,7 +21,7 @@ use std::rt::Files;
 
 /// Opens a ledger, does work on it, prints the answer and answers the status; where the ledger can't be opened it prints why.
 ///
-/// `begin` makes a ledger where none is there; one that it made is removed where no transfer was opened.
+/// `begin` makes a ledger if there is none; one that it made is removed if no transfer was opened.
 pub fn work_on_ledger<R: Files, D: Directories, L: Ledgers, W: Write + Drop>(
     rt: &R,
     disk: &D,
@@ -39,7 +39,7 @@ pub fn work_on_ledger<R: Files, D: Directories, L: Ledgers, W: Write + Drop>(
         Ok(kept) => {
             let mut receiver = Receiver::new(alloc, kept);
             let status = do_work(rt, disk, made, alloc, &mut receiver, work, out);
-            if has_no_transfer(alloc, &mut receiver) {
+            if has_no_transfer(alloc, &mut receiver, status) {
                 ledgers.give_up(receiver.into_keeper());
             } else {
                 ledgers.close(receiver.into_keeper());
@@ -60,11 +60,11 @@ fn open<L: Ledgers>(ledgers: &mut L, ledger: &str, work: &Work) -> Result<L::Kep
     }
 }
 
-/// Whether no transfer is open, as far as that is known.
-fn has_no_transfer<K: Keeper>(alloc: Global, receiver: &mut Receiver<K>) -> bool {
+/// Whether no transfer is open. Where that can't be read, none that was answered is: the work failed.
+fn has_no_transfer<K: Keeper>(alloc: Global, receiver: &mut Receiver<K>, status: u8) -> bool {
     match receiver.names(alloc) {
         Ok(names) => names.is_empty(),
-        Err(_) => false,
+        Err(_) => status != DONE,
     }
 }
 

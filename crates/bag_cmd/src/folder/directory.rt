@@ -66,7 +66,7 @@ pub trait Directories {
     /// The entries of all directories, where they are known.
     ghost listing: { Self → Option Listing };
 
-    /// The entries of the directory with this name, but for itself and the one that it stands in.
+    /// The entries of the directory with this name, but for itself and the one that it is in.
     ///
     /// # Errors
     ///

@@ -1,4 +1,4 @@
-//! The names of what stands below a folder.
+//! The names of what is below a folder.
 ghost use Rattle.std.specs.Prelude.{◌≡◌, ◌++◌, OnOk, OnSome, string_bytes};
 ghost use Rattle.bag_cmd.specs.Directories.{name_below};
 

@@ -177,7 +177,7 @@ impl<R: Files + Drop> Supplier for FolderSupplier<R> {
     ghost keeps_supply = { keeps_nothing };
 }
 
-/// What stands under a name.
+/// What is at a name.
 #[derive(Clone, Copy, Debug, PartialEq, Eq)]
 enum Standing {
     Nothing,
@@ -187,7 +187,7 @@ enum Standing {
     Other,
 }
 
-/// What stands under this path below the folder, which no link leads to: nothing, too, where a file is on the way.
+/// What is at this path below the folder, which no link leads to: nothing, too, where a file is on the way.
 fn standing_below<R: Files>(
     rt: &R,
     name: &mut String,
@@ -210,7 +210,7 @@ fn standing_below<R: Files>(
     Ok(standing)
 }
 
-/// What stands under this name, where only directories are on the way.
+/// What is at this name, where only directories are on the way.
 fn standing_at<R: Files>(rt: &R, name: &str) -> Result<Standing, Failed> {
     match fs::symlink_metadata(rt, name) {
         Ok(about) if about.is_file() => Ok(Standing::File),

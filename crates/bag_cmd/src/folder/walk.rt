@@ -10,7 +10,7 @@ use bag_path::BagPath;
 use std::alloc::Global;
 use std::marker::Model;
 
-/// What stands below a folder.
+/// What is below a folder.
 #[derive(Drop)]
 pub struct Below {
     /// The paths of the files.
@@ -44,7 +44,7 @@ impl Model for Found {
 impl Found {
     ghost use Rattle.bag_cmd.specs.Walks.{FitsBag, with_path};
 
-    /// Takes what stands under this path.
+    /// Takes what is at this path.
     fn take(&mut self, alloc: Global, path: String, kind: EntryKind) -> Result<(), OpenFault>
         ensures taken { OnOk result (self.new ≡ with_path self.old (string_bytes path) kind) }
         ensures fits { OnOk result (FitsBag (string_bytes path) kind) }
@@ -102,7 +102,7 @@ pub fn walk<D: Directories>(disk: &D, alloc: Global, folder: &str) -> Result<Bel
     Err(OpenFault::Memory)
 }
 
-/// Takes what stands in the directory under a front.
+/// Takes what is in the directory at a front.
 fn look_into<D: Directories>(
     disk: &D,
     alloc: Global,
