@@ -35,6 +35,45 @@ refuse() {
     fi
 }
 
+# bag WORD..: the program, which is stopped where it hasn't ended after five minutes.
+bag() {
+    timeout 300 ./bag "$@"
+}
+
+# below FOLDER: what stands below it, by name, each on a line; an LF in a name is written as a question mark.
+below() {
+    (cd "$1" && find . -mindepth 1 -printf '%P\0' | LC_ALL=C sort -z | tr '\n\0' '?\n')
+}
+
+# nothing FILE: it isn't there, nor anything else of its name.
+nothing() {
+    [ ! -e "$1" ] && [ ! -L "$1" ]
+}
+
+# nobody COMMAND..: the command as nobody where this script is run by root, who may read and write everything.
+nobody() {
+    if [ "$(id -u)" -eq 0 ]; then
+        timeout 60 setpriv --reuid=65534 --regid=65534 --clear-groups "$@"
+    else
+        timeout 60 "$@"
+    fi
+}
+
+# closed COMMAND.. and full COMMAND..: the command where its standard output is closed, and where it takes no octet.
+closed() {
+    "$@" >&-
+}
+full() {
+    "$@" >/dev/full
+}
+
+# small_files COMMAND..: no file takes more than 64 KiB.
+small_files() (
+    trap '' XFSZ
+    ulimit -f 64
+    exec "$@"
+)
+
 # build_first: builds the program where it has to be. What a build says would be noise in the first case.
 build_first() {
     local status=0

@@ -1,6 +1,7 @@
 #!/usr/bin/env bash
 # Faults of the machine while the program runs: files that change, calls that fail, little memory, outputs that take a part.
-# Each run ends with its status and one clear line, or with a verdict that the rules allow.
+# Each run ends with its status and one clear line, or with a verdict that the rules allow. Of a command on a ledger some calls of the
+# system fail, spread over all of a name; with the option --all each.
 set -u
 cd "$(dirname -- "$0")/.." || exit 1
 . tests/common.bash
@@ -100,7 +101,7 @@ expect 'a file that takes a part' 3 '' small_file ./bag check "$work/many"
 short_of_memory() {
     local limit status printed answers=''
     for limit in $(seq 2000 500 20000) $(seq 22000 2000 64000); do
-        [ "$(ulimit -v "$limit" && "$program" 2>"$work/no start")" = 'bag: check, make' ] || continue
+        [ "$(ulimit -v "$limit" && "$program" 2>"$work/no start")" = 'bag: check, make, begin, intake, report, audit, fetch, export, list' ] || continue
         status=0
         printed=$(ulimit -v "$limit" && exec "$program" check "$1") || status=$?
         case "$status $printed" in
@@ -174,6 +175,11 @@ if strace -o "$work/calls" true 2>"$work/no strace"; then
         injects inject=write:error=ENOSPC:when=1 "$program" check examples/whole-format
     echo "$injected calls of the system failed, one at a time"
     expect 'calls failed' 0 '' [ "$injected" -gt 20 ]
+    calls=5
+    [ "${1-}" != --all ] || calls=0
+    expect 'calls that fail in the commands' 0 '' env TMPDIR="$work" sh -c 'python3 -B tests/failing_commands.py "$@" >"$0"' \
+        "$work/tried" "$program" "$calls" calls
+    cat "$work/tried"
 else
     lacking 'calls that fail, for want of strace, or of leave to trace'
 fi

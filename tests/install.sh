@@ -19,7 +19,7 @@ expect 'into a new folder' 0 '' ./install "$prefix"
 expect 'the files and their modes' 0 "$files" installed "$prefix"
 expect 'the program from anywhere' 0 valid env -i -C / "$prefix/bin/bag" check "$top/examples/first-bag"
 expect 'by its name' 1 $'no bagit.txt\nnot complete' env -C examples PATH="$prefix/bin" bag check no-declaration
-expect 'without words' 64 'bag: check, make' env -i "$prefix/bin/bag"
+expect 'without words' 64 'bag: check, make, begin, intake, report, audit, fetch, export, list' env -i "$prefix/bin/bag"
 expect 'the page is that of the repository' 0 '' cmp docs/bag.1 "$prefix/share/man/man1/bag.1"
 expect 'again' 0 '' ./install "$prefix"
 expect 'again: the files and their modes' 0 "$files" installed "$prefix"
@@ -48,14 +48,14 @@ expect 'an empty word' 64 1 refused ./install ''
 
 # Tools for manual pages differ from system to system: the one that is there says whether the page is in order.
 page() {
-    MANWIDTH=100 MANPAGER=cat man -l "$prefix/share/man/man1/bag.1" | col -b | tr -s ' \n' '  '
+    MANWIDTH=100 MANPAGER=cat man -l "$prefix/share/man/man1/bag.1" | col -bx | tr -s ' \n' '  '
 }
 if command -v mandoc >"$work/tool"; then
     expect 'the page has no faults' 0 '' mandoc -T lint -W warning docs/bag.1
 elif command -v groff >"$work/tool"; then
     expect 'the page has no faults' 0 '' groff -man -ww -z -T utf8 docs/bag.1
 else
-    echo 'skipped: faults of the page, for want of mandoc and groff'
+    lacking 'faults of the page, for want of mandoc and groff'
 fi
 if [ -n "$(page 2>"$work/no page")" ]; then
     page >"$work/page"
@@ -64,6 +64,13 @@ if [ -n "$(page 2>"$work/no page")" ]; then
     done <<'TEXTS'
 bag check DIR
 bag make SRC DST ALG...
+bag begin LEDGER NAME DIR
+bag intake LEDGER NAME DIR...
+bag report LEDGER NAME
+bag audit LEDGER NAME
+bag fetch LEDGER NAME DIR
+bag export LEDGER NAME DIR
+bag list LEDGER
 made N files, M octets
 unknown algorithm WORD
 bag: clash
@@ -97,9 +104,30 @@ bag: tag too large
 bag: too many
 bag: too large
 bag: memory
-bag: check, make
+new
+again
+refused: CAUSE
+tag too large
+clash PATH
+differs
+taken PATH
+repeated PATH
+refused PATH: CAUSE
+no transfer
+not listed
+reader
+digest ALG
+not supplied
+supplier
+exported N files
+bag: no transfer
+bag: not a ledger
+bag: old format
+bag: damaged NAME PATH
+bag: store
+bag: check, make, begin, intake, report, audit, fetch, export, list
 TEXTS
 else
-    echo 'skipped: texts of the page, for want of man'
+    lacking 'texts of the page, for want of man'
 fi
 finish

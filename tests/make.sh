@@ -4,21 +4,6 @@ set -u
 cd "$(dirname -- "$0")/.." || exit 1
 . tests/common.bash
 
-# bag WORD..: the program, which is stopped where it hasn't ended after a minute.
-bag() {
-    timeout 60 ./bag "$@"
-}
-
-# below FOLDER: what stands below it, by name, each on a line; an LF in a name is written as a question mark.
-below() {
-    (cd "$1" && find . -mindepth 1 -printf '%P\0' | LC_ALL=C sort -z | tr '\n\0' '?\n')
-}
-
-# nothing FOLDER: the folder isn't there, nor anything else of its name.
-nothing() {
-    [ ! -e "$1" ] && [ ! -L "$1" ]
-}
-
 # valid_bag SRC DST: it is a valid bag, and its payload is the files of the folder.
 valid_bag() {
     bag check "$2" && diff -r "$1" "$2/data"
@@ -171,14 +156,6 @@ ln -s nowhere "$work/dangling"
 stays 'a link that leads nowhere' "$work/dangling"
 stays 'the payload itself' "$work/letters"
 
-# Root may write everywhere, so these are run as nobody where this script is run by root.
-nobody() {
-    if [ "$(id -u)" -eq 0 ]; then
-        timeout 60 setpriv --reuid=65534 --regid=65534 --clear-groups "$@"
-    else
-        timeout 60 "$@"
-    fi
-}
 chmod 711 "$work"
 cp crates/bag_cmd/out/bag_cmd "$work/program"
 mkdir "$work/open" "$work/locked"
@@ -199,12 +176,6 @@ expect 'a file that may not be read: what was written stays' 0 'data
 data/a.txt' below "$work/open/part"
 expect 'a file that may not be read: no part is a bag' 1 $'no bagit.txt\nnot complete' bag check "$work/open/part"
 
-# small_files COMMAND..: no file takes more than 64 KiB.
-small_files() (
-    trap '' XFSZ
-    ulimit -f 64
-    exec "$@"
-)
 expect 'a file that takes a part' 3 'bag: files' small_files "$work/program" make "$work/large" "$work/part" sha256
 expect 'a file that takes a part: what was written stays' 0 'data
 data/A' below "$work/part"
@@ -234,13 +205,6 @@ else
     lacking 'a full disk, for want of leave to mount one'
 fi
 
-# closed COMMAND.. and full COMMAND..: the command where its standard output is closed, and where it takes no octet.
-closed() {
-    "$@" >&-
-}
-full() {
-    "$@" >/dev/full
-}
 expect 'a closed output' 3 '' closed bag make "$work/letters" "$work/closed" sha256
 expect 'a closed output: the bag is there' 0 valid valid_bag "$work/letters" "$work/closed"
 expect 'a full output' 3 '' full bag make "$work/letters" "$work/full" sha256

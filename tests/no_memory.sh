@@ -1,6 +1,6 @@
 #!/usr/bin/env bash
 # Each growth of memory refused in turn: the program says so and nothing else, or gives the answer that it gives with memory. So
-# does each test of each crate.
+# does each test of each crate. Of a command on a ledger some growths are refused, spread over all; with the option --all each.
 set -u
 cd "$(dirname -- "$0")/.." || exit 1
 . tests/common.bash
@@ -120,6 +120,11 @@ if cc -shared -fPIC -O1 -o "$work/no_memory.so" tests/no_memory.c 2>"$work/no cc
     for bag in $bags; do
         expect "want of memory in $bag" 3 'bag: memory' each_growth "examples/$bag"
     done
+    growths=60
+    [ "${1-}" != --all ] || growths=0
+    expect 'want of memory in the commands' 0 '' env TMPDIR="$work" sh -c 'python3 -B tests/failing_commands.py "$@" >"$0"' \
+        "$work/tried" "$program" "$growths" growths "$work/no_memory.so"
+    cat "$work/tried"
     # Left out are tests that only tell whether something was printed or written as it has to be, and not what was, as all of the receiver's.
     left_out='^make::|^tests::transfers::'
     for crate in bag_path bag_digest bag_tags bag_rules bag_ledger bag_commands bag_cmd; do

@@ -4,27 +4,32 @@ set -u
 cd "$(dirname -- "$0")/.." || exit 1
 . tests/common.bash
 
-# bag WORD..: the program, which is stopped where it hasn't ended after a minute.
-bag() {
-    timeout 60 ./bag "$@"
-}
-
 # new NAME: a folder of this name with a copy of the first bag.
 new() {
     cp -r examples/first-bag "$work/$1"
 }
 
-help='Works with bags of the BagIt File Packaging Format (RFC 8493)
+help=$(cat <<'HELP'
+Checks, makes and receives bags of the BagIt File Packaging Format (RFC 8493)
 
 Usage: bag <COMMAND>
 
 Commands:
-  check  Judges the bag in a folder
-  make   Writes the bag of the files in a folder into a new one
-  help   Print this message or the help of the given subcommand(s)
+  check   Judges the bag in a folder
+  make    Writes the bag of the files in a folder into a new one
+  begin   Opens a transfer with the tag files of a bag; makes the ledger if there is none
+  intake  Takes in the delivered payload files that are as the tag files list them
+  fetch   Takes in the files that fetch.txt names and that are not held yet
+  report  Judges the bag that is held
+  audit   Judges the bag that is held, after reading and hashing all of it again
+  export  Writes the bag that is held into a new folder
+  list    Lists the names of the transfers
+  help    Print this message or the help of the given subcommand(s)
 
 Options:
-  -h, --help  Print help'
+  -h, --help  Print help
+HELP
+)
 help_of_check='Judges the bag in a folder
 
 Usage: bag check <DIR>
@@ -37,7 +42,7 @@ Options:
 
 build_first
 
-expect 'no words' 64 'bag: check, make' bag
+expect 'no words' 64 'bag: check, make, begin, intake, report, audit, fetch, export, list' bag
 refuse 'a word that is no command' "error: unrecognized subcommand 'verify'" bag verify examples/first-bag
 refuse 'a command in other letters' "error: unrecognized subcommand 'Check'" bag Check examples/first-bag
 refuse 'an empty word' "error: " bag ''
@@ -46,7 +51,7 @@ refuse 'a command after the mark' "error: " bag -- check examples/first-bag
 refuse 'a command without its folder' 'error: the following required arguments were not provided:' bag check
 refuse 'a command with two folders' "error: unexpected argument 'two' found" bag check examples/first-bag two
 refuse 'an option that is not there' "error: unexpected argument '-x' found" bag check -x examples/first-bag
-refuse 'a word that is not UTF-8' 'error: a word is not UTF-8' bag check $'\377'
+refuse 'an argument that is not UTF-8' 'error: an argument is not UTF-8' bag check $'\377'
 expect 'help' 0 "$help" bag --help
 expect 'help, whatever else is there' 0 "$help" bag --help examples/first-bag
 expect 'help by its command' 0 "$help" bag help
@@ -115,14 +120,6 @@ name=$(printf 'k%.0s' {1..200})
 (cd "$work/deep/data" && for _ in {1..21}; do mkdir "$name" && cd "$name" || exit; done && touch file)
 expect 'a path of more than 4,096 octets' 3 'bag: files' bag check "$work/deep"
 
-# Root may read everything, so these are run as nobody where this script is run by root.
-nobody() {
-    if [ "$(id -u)" -eq 0 ]; then
-        timeout 60 setpriv --reuid=65534 --regid=65534 --clear-groups "$@"
-    else
-        timeout 60 "$@"
-    fi
-}
 chmod 711 "$work"
 cp crates/bag_cmd/out/bag_cmd "$work/program"
 new locked
@@ -154,13 +151,6 @@ expect 'a folder of 200,000 files' 1 $'no bagit.txt\nnot complete' bag check "$w
 touch "$work/files/200001"
 expect 'a file more' 3 'bag: too many' bag check "$work/files"
 
-# closed COMMAND.. and full COMMAND..: the command where its standard output is closed, and where it takes no octet.
-closed() {
-    "$@" >&-
-}
-full() {
-    "$@" >/dev/full
-}
 expect 'a closed output' 3 '' closed bag check examples/first-bag
 expect 'a closed output, and no words' 3 '' closed bag
 expect 'a full output' 3 '' full bag check examples/first-bag

@@ -71,6 +71,7 @@ class Transfer:
             bag.judge_form()
         except reference.End as end:
             raise Refused(end.lines[0]) from None
+        self.fetch = [path for _, _, path in bag.fetch]
         self.lengths = [(path, length) for _, length, path in bag.fetch if length is not None]
         # The digests that are listed for each path, by algorithm.
         self.listed = {}

@@ -1,0 +1,323 @@
+#!/usr/bin/env python3
+"""command_ledgers.py PROGRAM: the commands on ledgers of every kind: none at all, what is no ledger, damaged and locked ones, on a
+disk that takes no more, each command after each other, and ledgers that sqlite3 reads back.
+
+Each command has to print its lines and end with its status; what is there afterwards is compared with what was there before, name by
+name and octet by octet. It ends with how much of each was tried.
+"""
+import hashlib
+import itertools
+import os
+import pathlib
+import resource
+import shutil
+import signal
+import sqlite3
+import subprocess
+import sys
+import tempfile
+
+PIECE = 65_536
+DECLARATION = b"BagIt-Version: 1.0\nTag-File-Character-Encoding: UTF-8\n"
+URL = "http://example.org/"
+
+
+class Place:
+    """A folder of its own with a ledger, beside the folders that the commands are given."""
+
+    def __init__(self, program, work, contents, fetched=()):
+        self.program, self.work, self.ledger = program, work, work / "at" / "ledger"
+        self.ledger.parent.mkdir(parents=True)
+        self.contents, self.bag, self.exports = contents, work / "bag", 0
+        lines = "".join(f"{hashlib.sha256(octets).hexdigest()}  {path.replace('%', '%25')}\n" for path, octets in contents.items())
+        self.tags = {"bagit.txt": DECLARATION, "manifest-sha256.txt": lines.encode()}
+        if fetched:
+            self.tags["fetch.txt"] = "".join(f"{URL}{path} - {path}\n" for path in fetched).encode()
+        for path, octets in {**self.tags, **contents}.items():
+            (self.bag / path).parent.mkdir(parents=True, exist_ok=True)
+            (self.bag / path).write_bytes(octets)
+
+    def run(self, *words, limit=None):
+        """The status and the lines of a command. Nothing may be said on standard error."""
+
+        def limited():
+            if limit is not None:
+                signal.signal(signal.SIGXFSZ, signal.SIG_IGN)
+                resource.setrlimit(resource.RLIMIT_FSIZE, (limit, limit))
+
+        ran = subprocess.run([self.program, *words], preexec_fn=limited, capture_output=True, timeout=60, check=False)
+        assert not ran.stderr, (words, ran)
+        return ran.returncode, ran.stdout.decode().splitlines()
+
+    def words(self, command):
+        """The words of a command on the ledger and its transfer t1, for which there is a new folder to export into."""
+        self.exports += 1
+        folders = {"begin": [self.bag], "intake": [self.bag], "fetch": [self.bag], "export": [self.work / f"out{self.exports}"]}
+        name = [] if command == "list" else ["t1"]
+        return [command, self.ledger, *name, *folders.get(command, [])]
+
+    def there(self):
+        """What is beside the ledger, each file with its digest, and which folders there are."""
+        digest = lambda file: hashlib.sha256(file.read_bytes()).hexdigest()
+        beside = {file.name: (file.lstat().st_mode, file.is_file() and digest(file)) for file in self.ledger.parent.iterdir()}
+        return beside, sorted(file.name for file in self.work.iterdir())
+
+    def refuses(self, *lines, but=()):
+        """Each command, but those, prints one of these lines alone, with status 3, and leaves all as it was."""
+        before = self.there()
+        for command in ALL:
+            if command not in but:
+                found = self.run(*self.words(command))
+                assert found in [(3, [line]) for line in lines], (command, found, lines)
+                assert self.there() == before, (command, lines, self.there(), before)
+
+    def sql(self, text):
+        database = sqlite3.connect(self.ledger)
+        rows = database.execute(text).fetchall()
+        database.close()
+        return rows
+
+
+ALL = ["begin", "intake", "report", "audit", "fetch", "export", "list"]
+SMALL = {"data/a.txt": b"abc", "data/e.txt": b""}
+
+
+def no_ledgers(make):
+    """What is no ledger: nothing is made of it, and it stays. Answers how many there were, the locked one too."""
+    whole = make(SMALL)
+    assert whole.run(*whole.words("begin")) == (0, ["new"])
+    assert whole.run(*whole.words("intake")) == (0, ["taken data/a.txt", "taken data/e.txt"])
+    database = sqlite3.connect(whole.ledger)
+    database.execute("PRAGMA wal_checkpoint(TRUNCATE)")
+    database.close()
+    octets = whole.ledger.read_bytes()
+
+    nothing = make(SMALL)
+    nothing.refuses("bag: not a ledger", but=["begin"])
+    assert not list(nothing.ledger.parent.iterdir())
+    empty = make(SMALL)
+    empty.ledger.touch()
+    empty.refuses("bag: not a ledger", but=["begin"])
+    tables = make(SMALL)
+    tables.sql("PRAGMA user_version = 1")
+    tables.refuses("bag: not a ledger", but=["begin"])
+    lost = make(SMALL)
+    lost.ledger.symlink_to("nowhere")
+    lost.refuses("bag: not a ledger", but=["begin"])
+    before = lost.there()
+    assert lost.run(*lost.words("begin")) == (3, ["bag: store"]) and lost.there() == before
+    before = nothing.there()
+    assert nothing.run("begin", nothing.ledger, "T1", nothing.bag) == (1, ["refused: name"])
+    assert nothing.run("begin", nothing.ledger, "t1", nothing.work / "none") == (3, ["bag: files"])
+    assert nothing.there() == before, (nothing.there(), before)
+    for begun in (nothing, empty, tables):
+        assert begun.run(*begun.words("begin")) == (0, ["new"])
+        assert begun.run(*begun.words("intake")) == (0, ["taken data/a.txt", "taken data/e.txt"])
+        assert begun.run(*begun.words("report")) == (0, ["valid"])
+    for other in (b"x", b"a text file, and longer than the header of a database" * 99, bytes(4_096)):
+        file = make(SMALL)
+        file.ledger.write_bytes(other)
+        file.refuses("bag: not a ledger")
+    # Of a ledger that was cut off the store doesn't tell whether it is a database.
+    cut = make(SMALL)
+    cut.ledger.write_bytes(octets[: len(octets) // 2])
+    cut.refuses("bag: not a ledger", "bag: store")
+    application = make(SMALL)
+    application.sql("CREATE TABLE meta (k TEXT, v TEXT)")
+    application.refuses("bag: not a ledger")
+    directory = make(SMALL)
+    directory.ledger.mkdir()
+    directory.refuses("bag: not a ledger")
+    linked = make(SMALL)
+    shutil.copy(whole.ledger, linked.work / "elsewhere")
+    linked.ledger.symlink_to(linked.work / "elsewhere")
+    assert linked.run(*linked.words("report")) == (0, ["valid"])
+    locked(whole)
+    return 11
+
+
+LOCK = """
+import sqlite3, sys
+other = sqlite3.connect(sys.argv[1], isolation_level=None)
+for text in ("PRAGMA locking_mode = EXCLUSIVE", "BEGIN EXCLUSIVE", "SELECT * FROM meta"):
+    other.execute(text).fetchall()
+print("locked", flush=True)
+sys.stdin.read()
+"""
+
+
+def locked(place):
+    """While another program has the ledger, no command does anything with it; after that all is as it was."""
+    # Of a process of its own: where this one closed the file, having read it, its locks would be gone.
+    words = [sys.executable, "-c", LOCK, place.ledger]
+    with subprocess.Popen(words, stdin=subprocess.PIPE, stdout=subprocess.PIPE, text=True) as other:
+        assert other.stdout.readline() == "locked\n"
+        place.refuses("bag: store")
+        other.stdin.close()
+    assert place.run(*place.words("audit")) == (0, ["valid"])
+
+
+DAMAGES = [
+    ("DELETE FROM piece", "bag: damaged t1 data/a.txt"),
+    ("UPDATE piece SET n = 1", "bag: damaged t1 data/a.txt"),
+    ("UPDATE piece SET body = x'616264'", "bag: damaged t1 data/a.txt"),
+    ("UPDATE held SET size = 4 WHERE path = 'data/a.txt'", "bag: damaged t1 data/a.txt"),
+    ("INSERT INTO held (transfer, path, size) VALUES (1, 'data/q', 0)", "bag: damaged t1 data/q"),
+    ("INSERT INTO held (transfer, path, size) VALUES (1, 'data/%' || char(10), 0)", "bag: damaged t1 data/%25%0A"),
+    ("UPDATE tag SET body = x'' WHERE path = 'bagit.txt'", "bag: damaged t1 "),
+    ("UPDATE tag SET path = '../x' WHERE path = 'bagit.txt'", "bag: damaged t1 "),
+    ("UPDATE meta SET v = 9", "bag: not a ledger"),
+    ("UPDATE meta SET v = 1", "bag: old format"),
+    ("INSERT INTO meta VALUES ('more', 1)", "bag: not a ledger"),
+    ("DELETE FROM meta", "bag: not a ledger"),
+    ("DROP TABLE piece", "bag: not a ledger"),
+    ("INSERT INTO piece VALUES (99, 0, x'00')", "bag: not a ledger"),
+    ("INSERT INTO tag VALUES (99, 'x', x'00')", "bag: not a ledger"),
+]
+
+
+def damaged(make):
+    """Ledgers that another program changed are told, by every command, and not touched. Answers how many there were."""
+    for damage, line in DAMAGES:
+        place = make(SMALL)
+        place.run(*place.words("begin"))
+        place.run(*place.words("intake"))
+        database = sqlite3.connect(place.ledger)
+        database.executescript(damage)
+        database.execute("PRAGMA wal_checkpoint(TRUNCATE)")
+        database.close()
+        place.refuses(line)
+    vacuumed = make(SMALL)
+    vacuumed.run(*vacuumed.words("begin"))
+    vacuumed.run(*vacuumed.words("intake"))
+    vacuumed.sql("VACUUM")
+    assert vacuumed.run(*vacuumed.words("audit")) == (0, ["valid"])
+    return len(DAMAGES)
+
+
+def expected(place, command, held):
+    """What a command answers where the transfer is open (`held` isn't None) and holds these payload files; and what it then holds."""
+    missing = [f"manifest-sha256.txt: missing: {path}" for path in sorted(SMALL) if held is not None and path not in held]
+    if command == "begin":
+        return (0, ["new"] if held is None else ["again"]), held or set()
+    if held is None:
+        return (3, ["bag: not a ledger"]), None
+    if command in ("report", "audit"):
+        return ((1, [*missing, "not complete"]) if missing else (0, ["valid"])), held
+    if command == "list":
+        return (0, ["t1"]), held
+    if command == "export":
+        return (0, [f"exported {len(place.tags) + len(held)} files"]), held
+    if command == "fetch":
+        return (0, [] if "data/e.txt" in held else ["taken data/e.txt"]), held | {"data/e.txt"}
+    lines = [f"repeated {path}" if path in held else f"taken {path}" for path in sorted(SMALL)]
+    return (0, lines), held | set(SMALL)
+
+
+def each_after_each(make):
+    """Each command after each other, in a ledger that isn't there at first, or that has the transfer. Answers how many orders that is."""
+    orders = list(itertools.product([False, True], ALL, ALL))
+    for begun, *commands in orders:
+        place, held = make(SMALL, fetched=["data/e.txt"]), None
+        for command in ["begin"] * begun + commands:
+            found = place.run(*place.words(command))
+            wanted, held = expected(place, command, held)
+            assert found == wanted, (begun, commands, command, found, wanted)
+            if command == "export" and held is not None:
+                exported(place, place.work / f"out{place.exports}", held)
+        assert place.ledger.exists() == (held is not None), commands
+        shutil.rmtree(place.work)
+    return len(orders)
+
+
+def exported(place, folder, held):
+    """The folder has the tag files and those that are held, and nothing else."""
+    files = {str(file.relative_to(folder)): file.read_bytes() for file in folder.rglob("*") if file.is_file()}
+    assert files == {**place.tags, **{path: place.contents[path] for path in held}} and (folder / "data").is_dir(), folder
+
+
+def judge(place, held):
+    """The tables have the rows of one transfer with these payload files, and no others, by FORMAT.md, section 18."""
+    assert place.sql("PRAGMA integrity_check") == [("ok",)] and place.sql("PRAGMA foreign_key_check") == []
+    assert place.sql("SELECT k, v FROM meta") == [("bag-ledger", 2)]
+    [(transfer, name)] = place.sql("SELECT id, name FROM transfer")
+    assert name == "t1"
+    assert sorted(place.sql("SELECT transfer, path, body FROM tag")) == sorted((transfer, *tag) for tag in place.tags.items())
+    rows = place.sql("SELECT transfer, path, size FROM held")
+    assert sorted(rows) == sorted((transfer, path, len(place.contents[path])) for path in held), (rows, held)
+    pieces = [
+        (path, n, place.contents[path][at : at + PIECE])
+        for path in held
+        for n, at in enumerate(range(0, len(place.contents[path]), PIECE))
+    ]
+    assert sorted(place.sql("SELECT path, n, body FROM piece JOIN held ON held.id = item")) == sorted(pieces)
+    assert place.sql("SELECT count(*) FROM piece") == [(len(pieces),)]
+
+
+def read_back(make):
+    """Files of all lengths around those of pieces, read by sqlite3 after each command that writes. Answers how many there were."""
+    lengths = [0, 1, PIECE - 1, PIECE, PIECE + 1, 2 * PIECE, 3 * PIECE + 17]
+    contents = {f"data/{length} %": os.urandom(length) for length in lengths}
+    place = make(contents)
+    assert place.run(*place.words("begin")) == (0, ["new"])
+    judge(place, [])
+    one = place.work / "one"
+    path = f"data/{3 * PIECE + 17} %"
+    (one / "data").mkdir(parents=True)
+    (one / path).write_bytes(contents[path][:-1])
+    spelled = path.replace("%", "%25")
+    assert place.run("intake", place.ledger, "t1", one) == (1, [f"refused {spelled}: digest sha256"])
+    judge(place, [])
+    (one / path).write_bytes(contents[path])
+    assert place.run("intake", place.ledger, "t1", one) == (0, [f"taken {spelled}"])
+    judge(place, [path])
+    assert place.run(*place.words("intake"))[0] == 0
+    judge(place, contents)
+    assert place.run(*place.words("export")) == (0, [f"exported {2 + len(contents)} files"])
+    exported(place, place.work / f"out{place.exports}", contents)
+    return len(contents)
+
+
+def full_disks(make):
+    """Begin and intake where no file may grow past a length: what was answered is held, and the next command works. Answers for how many
+    lengths."""
+    contents = {"data/a": os.urandom(20_000), "data/b": b"", "data/c": os.urandom(3 * PIECE), "data/d": os.urandom(90_000)}
+    limits, seen = range(0, 800_000, 19_997), set()
+    for limit in limits:
+        place = make(contents)
+        begun = place.run(*place.words("begin"), limit=limit)
+        if begun != (0, ["new"]):
+            assert begun == (3, ["bag: store"]), begun
+            seen.add("no ledger")
+            assert not place.ledger.exists(), limit
+            assert place.run(*place.words("begin")) == (0, ["new"])
+        status, lines = place.run(*place.words("intake"), limit=limit)
+        taken = [line.removeprefix("taken ") for line in lines if line.startswith("taken ")]
+        if lines == ["bag: store"] or "refused" in "".join(lines):
+            assert status == 3 and (len(lines) == 1 or len(lines) == len(contents)), lines
+            assert lines[len(taken) :] in ([f"refused {path}: store" for path in list(contents)[len(taken) :]], ["bag: store"]), lines
+            seen.add("full")
+        else:
+            assert status == 0 and taken == list(contents), lines
+            seen.add("all")
+        judge(place, taken)
+        missing = [f"manifest-sha256.txt: missing: {path}" for path in contents if path not in taken]
+        wanted = (1, [*missing, "not complete"]) if missing else (0, ["valid"])
+        assert place.run(*place.words("audit")) == wanted, (limit, wanted)
+        assert place.run(*place.words("intake"))[0] == 0
+        assert place.run(*place.words("report")) == (0, ["valid"])
+        shutil.rmtree(place.work)
+    assert seen == {"no ledger", "full", "all"}, seen
+    return len(limits)
+
+
+def main(program):
+    with tempfile.TemporaryDirectory() as folder:
+        number = itertools.count()
+        make = lambda contents, fetched=(): Place(os.path.abspath(program), pathlib.Path(folder) / str(next(number)), contents, fetched)
+        none, damages, orders, files, disks = (kind(make) for kind in (no_ledgers, damaged, each_after_each, read_back, full_disks))
+    print(f"{none} that are no ledger, {damages} damaged, {orders} orders, {files} files read by sqlite3, {disks} full disks")
+
+
+if __name__ == "__main__":
+    main(*sys.argv[1:])

@@ -1,0 +1,10 @@
+#!/usr/bin/env bash
+# The commands on ledgers of every kind, and one after another.
+set -u
+cd "$(dirname -- "$0")/.." || exit 1
+. tests/common.bash
+
+build_first
+expect 'ledgers of every kind' 0 '11 that are no ledger, 15 damaged, 98 orders, 7 files read by sqlite3, 41 full disks' \
+    env TMPDIR="$work" python3 -B tests/command_ledgers.py crates/bag_cmd/out/bag_cmd
+finish

@@ -1,0 +1,303 @@
+#!/usr/bin/env python3
+"""failing_commands.py PROGRAM MOST growths LIBRARY, or failing_commands.py PROGRAM MOST calls: runs each command on a ledger with one growth
+of memory refused, or with one call of the system that fails, once for each (of one command for MOST of them, spread over all; 0: all).
+
+After each the answer is the command's, or names what failed; what was answered is held, as sqlite3 reads it, and nothing else but what
+failed; and the same command and a report, with nothing refused, answer as tests/reference_commands.py does for what is then held. It
+ends with how many commands were run and how often one failed.
+"""
+import collections
+import copy
+import os
+import re
+import shutil
+import subprocess
+import sys
+import tempfile
+
+import new_bags
+import reference
+import reference_commands
+from reference_commands import Answer, Commands, read_ledger
+from small_bags import DECLARATION
+
+PAYLOAD = {b"data/a.txt": b"abc", b"data/e.txt": b"", b"data/k/big": b"0123456789" * 7000, b"data/z%": b"a line\n"}
+FETCH = b"http://example.org/e 0 data/e.txt\nhttp://example.org/k - data/k/big\nhttp://example.org/z - data/z%25\n"
+TAGS = {b"bagit.txt": DECLARATION, b"bag-info.txt": b"Payload-Oxum: 70010.4\n", b"fetch.txt": FETCH,
+        b"manifest-md5.txt": new_bags.manifest("md5", PAYLOAD), b"manifest-sha256.txt": new_bags.manifest("sha256", PAYLOAD)}
+TAGS[b"tagmanifest-sha256.txt"] = new_bags.manifest("sha256", TAGS)
+OTHER_TAGS = {b"bagit.txt": DECLARATION, b"manifest-sha256.txt": new_bags.manifest("sha256", {b"data/a.txt": b"abc"})}
+FOLDERS = {
+    "sender": TAGS,
+    "whole": {**TAGS, **PAYLOAD},
+    "other": OTHER_TAGS,
+    "first": {b"data/a.txt": b"abc", b"data/k/big": PAYLOAD[b"data/k/big"], b"data/more": b"", b"data/z%": b"another line\n"},
+    "second": {b"data/a.txt": b"abc", b"data/e.txt": b"", b"data/z%": PAYLOAD[b"data/z%"]},
+    "supplier": {b"data/e.txt": b"", b"data/z%": b"another line\n"},
+    "letters": {b"a.txt": b"abc", b"k/x": b"defgh", b"k0": b""},
+}
+# The ledgers that are there, by the commands that make them.
+LEDGERS = {
+    "begun": [["begin", "t1", "sender"]],
+    "half": [["begin", "t1", "sender"], ["intake", "t1", "first"]],
+    "full": [["begin", "t1", "sender"], ["intake", "t1", "first", "second"], ["begin", "t2", "other"]],
+}
+# The commands, each with the ledger that it finds. The folder that it makes is `out`.
+CASES = [
+    (None, "begin ledger t1 ../sender"), (None, "begin ledger t1 ../first"), ("full", "begin ledger t3 ../whole"),
+    ("full", "begin ledger t1 ../sender"), ("full", "begin ledger t1 ../other"), ("begun", "intake ledger t1 ../first ../second"),
+    ("full", "intake ledger t1 ../second"), ("full", "intake ledger t9 ../second"), ("half", "report ledger t1"),
+    ("full", "report ledger t1"), ("half", "audit ledger t1"), ("full", "audit ledger t1"), ("half", "fetch ledger t1 ../supplier"),
+    ("begun", "fetch ledger t1 ../whole"), ("full", "export ledger t1 out"), ("full", "export ledger t9 out"), ("full", "list ledger"),
+    (None, "list ledger"), (None, "make ../letters out sha256 md5"), (None, "make ../letters out sha224"), (None, "check ../whole"),
+]
+# How calls of the system fail.
+ERRORS = {
+    "openat": ["EACCES", "EMFILE"], "read": ["EIO"], "pread64": ["EIO"], "write": ["ENOSPC"], "pwrite64": ["ENOSPC", "EIO"],
+    "fsync": ["EIO"], "fdatasync": ["EIO"], "ftruncate": ["EIO"], "unlink": ["EACCES"], "unlinkat": ["EACCES"], "rmdir": ["EACCES"],
+    "mkdir": ["EACCES"], "mkdirat": ["EACCES"], "fcntl": ["EIO"], "statx": ["EIO"], "fstat": ["EIO"], "newfstatat": ["EIO"],
+    "lseek": ["EIO"], "getdents64": ["EIO"], "close": ["EIO"], "mmap": ["ENOMEM"], "mremap": ["ENOMEM"], "brk": ["ENOMEM"],
+    "getrandom": ["EIO"], "readlink": ["EIO"], "readlinkat": ["EIO"], "fchmod": ["EPERM"], "fchown": ["EPERM"], "fadvise64": ["EINVAL"]}
+CALL = re.compile(r"([a-z0-9_]+)\(")
+
+
+class Otherwise(Exception):
+    """A command did other than it may."""
+
+
+def prepare(program):
+    """The folders and ledgers that the commands find, in the folder where the process is."""
+    for name, files in FOLDERS.items():
+        assert new_bags.put(os.fsencode(name), files)
+        if not any(path.startswith(b"data/") for path in files):
+            os.rmdir(os.path.join(name, "data"))
+    for name, commands in LEDGERS.items():
+        for command, transfer, *folders in commands:
+            ran = subprocess.run([program, command, name, transfer, *folders], capture_output=True, timeout=60, check=False)
+            assert ran.returncode in (0, 1) and not ran.stderr, ran
+    os.mkdir("run")
+    os.chdir("run")
+
+
+class Case:
+    """A command, the transfers that it finds, and what it answers where nothing fails."""
+
+    def __init__(self, program, ledger, words):
+        self.program, self.ledger, self.words, self.faults = program, ledger, words.encode().split(), []
+        self.start()
+        self.commands = Commands()
+        self.wanted = self.commands.answer(self.words)
+        self.found = read_ledger("ledger") if ledger else None
+        self.left = next(iter(self.commands.receivers.values()), None)
+        ran = self.run([], {})
+        if (ran.returncode, ran.stdout) != (self.wanted.status, text_of(self.wanted.lines)):
+            raise Otherwise(f"with nothing refused: {ran}, and {self.wanted[:2]} is wanted")
+        self.judge_left("nothing", self.wanted.lines, ran.returncode)
+
+    def start(self):
+        """As it is before the command."""
+        for name in os.listdir("."):
+            shutil.rmtree(name) if os.path.isdir(name) else os.unlink(name)
+        if self.ledger:
+            reference_commands.copy_ledger(f"../{self.ledger}", "ledger")
+
+    def run(self, before, variables):
+        words = [*before, self.program, *self.words]
+        return subprocess.run(words, env={**os.environ, **variables}, capture_output=True, timeout=60, check=False)
+
+    def judge(self, ran, failed):
+        """Whether this may come where this failed, a growth or the text of a call; and what follows."""
+        lines = ran.stdout.decode().split("\n")
+        if ran.stderr or lines.pop() or ran.returncode not in (3, self.wanted.status):
+            raise Otherwise(f"{ran}")
+        is_whole = (lines, ran.returncode) == (self.wanted.lines, self.wanted.status)
+        is_unwritten = failed.startswith("write(1, ") and lines == self.wanted.lines[:len(lines)]
+        if is_whole or is_unwritten:
+            self.judge_left(failed, self.wanted.lines, ran.returncode)
+        elif ran.returncode != 3:
+            raise Otherwise(f"{ran}")
+        else:
+            self.judge_refusal(failed, lines)
+            self.judge_left(failed, lines, ran.returncode)
+        self.judge_next()
+
+    def judge_refusal(self, failed, lines):
+        """It says what failed: alone, or of one payload file among others, which `replayed` judges."""
+        words = ["memory"] if is_memory(failed) else ["files", "store", "not a ledger"]
+        if lines not in [["bag: " + word] for word in words] and not (lines and lines[0].startswith(("taken ", "repeated ", "refused "))):
+            raise Otherwise(f"{lines}")
+
+    def judge_left(self, failed, lines, status):
+        """What is there after the command."""
+        names = set(os.listdir("."))
+        self.judge_made(names, lines == self.wanted.lines, failed)
+        begins = self.words[0] == b"begin" and status == 0
+        is_due = self.ledger or begins or ("ledger" in names and lines in (["bag: store"], ["bag: memory"]) and self.is_unopened(names))
+        wanted = {"ledger"} if is_due else set()
+        if names - {"out", "ledger-wal" if wanted else "out"} != wanted and not failed.startswith("unlink"):
+            raise Otherwise(f"{lines}: there are {names}")
+        if self.ledger:
+            self.judge_held(failed, lines)
+
+    def is_unopened(self, names):
+        """Whether the ledger that was to be made has no octet: who couldn't open a file doesn't know that it is his alone, and leaves
+        it."""
+        return all(os.path.getsize(name) == 0 for name in names)
+
+    def judge_made(self, names, is_done, failed):
+        """The folder that is made holds its files, or the fronts of some; it is given up where it would hold nothing."""
+        is_made = is_done and self.wanted.made is not None
+        whole, needed = ({}, set()) if self.wanted.made is None else reference_commands.folder_of(self.wanted.made)
+        files, directories = reference_commands.found_in(b"out") if "out" in names else ({}, set())
+        if is_made and (files, directories) != (whole, needed):
+            raise Otherwise(f"{files.keys()} in {directories} is made")
+        is_front = all(whole[path].startswith(octets) for path, octets in files.items() if path in whole)
+        is_kept = "out" not in names or directories or failed.startswith("rmdir")
+        if not is_front or files.keys() - whole.keys() or directories - needed or not is_kept:
+            raise Otherwise(f"{files.keys()} in {directories} is left")
+
+    def judge_held(self, failed, lines):
+        """What was answered is held, and nothing else but what failed."""
+        now = held(read_ledger("ledger"))
+        if lines == self.wanted.lines:
+            may_be = [held(self.left)]
+        elif self.words[0] in (b"intake", b"fetch"):
+            may_be = self.replayed(failed, lines)
+        else:
+            may_be = [held(self.found), held(self.left)]
+        if now not in may_be:
+            raise Otherwise(f"{lines}: what is held is none of {len(may_be)}")
+
+    def replayed(self, failed, lines):
+        """What may be held after these lines: what they answer; and where the store failed, that with which it failed."""
+        receiver, rest, doubtful = copy.deepcopy(self.found), list(lines), []
+        causes = ["memory"] if is_memory(failed) else ["store", "reader", "supplier"]
+        for path, deliver in self.attempts(receiver):
+            if not rest or rest[0].startswith("bag: "):
+                break
+            line = rest.pop(0)
+            if line in [f"refused {reference_commands.printed(path)}: {cause}" for cause in causes]:
+                after = copy.deepcopy(receiver)
+                deliver(after)
+                doubtful += [held(after)] if line.endswith("store") and not doubtful else []
+            elif line != deliver(receiver):
+                raise Otherwise(f"{lines}: {line}")
+        # A run that breaks off is told in one more line.
+        ends = [[], lines, ["bag: memory" if is_memory(failed) else "bag: files"]]
+        if rest not in ends or sum(line.endswith("memory") for line in lines) > 1:
+            raise Otherwise(f"{lines}")
+        return [held(receiver), *doubtful]
+
+    def attempts(self, receiver):
+        """Each path that is reached, and what delivers it."""
+        command, (_, name, *folders) = reference_commands.request(self.words)
+        if command == "intake":
+            for bag in map(reference.Folder, folders):
+                for path in bag.payload:
+                    yield path, lambda to, path=path, bag=bag: reference_commands.deliver(to, name, path, bag.octets(path))
+            return
+        for path in receiver.transfers[name].fetch:
+            if path not in receiver.transfers[name].held:
+                yield path, lambda to, path=path: reference_commands.ask_for(to, name, path, folders[0])
+
+    def judge_next(self):
+        """The same command once more, which makes another folder, and a report."""
+        again = [b"again" if word == b"out" else word for word in self.words]
+        for words in [again, [b"report", b"ledger", b"t1"]]:
+            wanted = Commands().answer(words)
+            ran = subprocess.run([self.program, *words], capture_output=True, timeout=60, check=False)
+            if (ran.stdout, ran.returncode, ran.stderr) != (text_of(wanted.lines), wanted.status, b""):
+                raise Otherwise(f"then: {ran}, and {wanted[:2]} is wanted")
+
+
+def text_of(lines):
+    return "".join(line + "\n" for line in lines).encode()
+
+
+def held(receiver):
+    return {name: (transfer.tags, transfer.held) for name, transfer in receiver.transfers.items()}
+
+
+def is_memory(failed):
+    """Whether what failed was to give memory."""
+    return failed.startswith(("growth", "mmap(", "mremap(", "brk("))
+
+
+def spread(numbers, most):
+    """So many of them, or all where that is 0."""
+    return numbers if not most else numbers[::max(1, -(-len(numbers) // most))]
+
+
+def refuse_growths(case, most, library):
+    """How many growths were refused."""
+    variables = {"LD_PRELOAD": library, "ASKED": "../asked", "REFUSED": "../refused"}
+    case.start()
+    case.run([], {**variables, "REFUSE": "0"})
+    with open("../asked", encoding="ascii") as file:
+        numbers = spread(range(1, int(file.read()) + 1), most)
+    for number in numbers:
+        case.start()
+        ran = case.run([], {**variables, "REFUSE": str(number)})
+        if not os.path.exists("../refused"):
+            raise Otherwise(f"growth {number} was never asked for")
+        os.unlink("../refused")
+        told(case, f"growth {number}", ran, "growth")
+    return len(numbers)
+
+
+def fail_calls(case, most):
+    """How many calls failed."""
+    case.start()
+    all_calls, of_start = traced(case.run, []), traced(subprocess.run, [[case.program]])
+    failed = 0
+    for name, errors in ERRORS.items():
+        for number in spread(range(of_start[name] + 1, all_calls[name] + 1), most):
+            for error in errors:
+                case.start()
+                ran = case.run(["strace", "-o", "../trace", "-e", f"inject={name}:error={error}:when={number}"], {})
+                with open("../trace", encoding="utf-8", errors="replace") as file:
+                    calls = [line for line in file if "(INJECTED)" in line]
+                if not calls:
+                    raise Otherwise(f"call {number} of {name} was never made")
+                told(case, f"{name} {number}: {calls[0]}", ran, calls[0])
+                failed += 1
+    return failed
+
+
+def traced(run, words):
+    """How often each call of the system is made."""
+    before = ["strace", "-o", "../trace"]
+    if words:
+        run(before + words[0], capture_output=True, timeout=60, check=False)
+    else:
+        run(before, {})
+    with open("../trace", encoding="utf-8", errors="replace") as file:
+        return collections.Counter(found[1] for found in map(CALL.match, file) if found)
+
+
+def told(case, what, ran, failed):
+    try:
+        case.judge(ran, failed)
+    except Otherwise as otherwise:
+        case.faults.append(f"{b' '.join(case.words).decode()}, on {case.ledger}: {what}: {otherwise}")
+
+
+def main(program, most, kind, *library):
+    program = os.path.abspath(program)
+    work = {"growths": refuse_growths, "calls": fail_calls}[kind]
+    failed, faults = 0, []
+    libraries = list(map(os.path.abspath, library))
+    with tempfile.TemporaryDirectory() as folder:
+        os.chdir(folder)
+        prepare(program)
+        for ledger, words in CASES:
+            case = Case(program, ledger, words)
+            failed += work(case, int(most), *libraries)
+            faults += case.faults
+        os.chdir("/")
+    print(*faults, f"{len(CASES)} commands, of which {failed} {kind} failed", sep="\n")
+    return 1 if faults or not failed else 0
+
+
+if __name__ == "__main__":
+    sys.exit(main(*sys.argv[1:]))

@@ -1,0 +1,10 @@
+#!/usr/bin/env bash
+# Commands on ledgers that are killed at random moments. KILLS, 150 where it isn't set, is how often.
+set -u
+cd "$(dirname -- "$0")/.." || exit 1
+. tests/common.bash
+
+build_first
+expect 'kills' 0 '' env TMPDIR="$work" python3 -B tests/kills.py crates/bag_cmd/out/bag_cmd "${KILLS-150}" '' "$work/kills"
+cat "$work/kills"
+finish
