@@ -1,4 +1,4 @@
--- The lines of octets are one list.
+-- Octets have exactly one list of lines.
 use Rattle.std.proofs.Common.{◌≡◌, ◌≢◌, ℕ, true, false, List, [], ◌∷◌, ◌++◌, ◌⊎◌, if◌then◌else◌, refl, sym, ap, ◌∙◌, append_assoc, append-nil, arith, subst, inl, inr, length, ◌<◌, ◌-◌, get_or, take, drop, map}
 use Rattle.std.specs.List.{All, AllByRecursion}
 use Rattle.std.proofs.lemmas.List.Elements.{recursion_from_All}
@@ -11,17 +11,17 @@ use Rattle.bag_path.specs.declared.lines.Ending.{Ending}
 use Rattle.bag_path.specs.declared.lines.Ending.TheVariants.{Lf, Cr, CrLf, Nothing}
 use Rattle.bag_path.specs.Lines.{Text, line, ending_octets, octets_of_line, octets_of_lines, IsPlain, is_lone_lf, MayStand, AreLines, HasLines, lines_with_cr, lines_with_octet, lines_of, written_lines}
 
--- a plain octet
+-- a plain octet goes to the first line
 plain_step : (octet : ℕ) (octets : List ℕ) → IsPlain octet → lines_of (octet ∷ octets) ≡ lines_with_octet octet (lines_of octets)
 unfolding lines_of
 plain_step octet octets h = rw (ne_eqb octet 10 h.0, ne_eqb octet 13 h.1) refl
 
--- a text before lines goes onto the first
+-- a text in front of lines goes to the first line
 text_step : (text rest : List ℕ) (next : Text) (lines : List Text) → AllByRecursion IsPlain text → lines_of rest ≡ next ∷ lines → lines_of (text ++ rest) ≡ line (text ++ next.text) next.ending ∷ lines
 text_step [] rest next lines h e = e
 text_step (x ∷ text) rest next lines h e = plain_step x (text ++ rest) h.0 ∙ ap (lines_with_octet x) (text_step text rest next lines h.1 e)
 
--- a text and nothing else
+-- a text alone is one line without an ending
 last_step : (x : ℕ) (text : List ℕ) → IsPlain x → AllByRecursion IsPlain text → lines_of (x ∷ text) ≡ line (x ∷ text) Nothing ∷ []
 unfolding lines_of
 last_step x [] p h = plain_step x [] p
@@ -67,7 +67,7 @@ first_step (x ∷ text) Nothing rest lines p h e j =
     ∙ ap lines_of (append-nil ((x ∷ text) ++ []) ∙ append-nil (x ∷ text))
     ∙ last_step x text p.0 p.1 ∙ ap (λ ls. line (x ∷ text) Nothing ∷ ls) (sym h.1)
 
--- no other lines are
+-- the octets of lines have no other lines
 pub only_lines : (lines : List Text) → AreLines lines → lines_of (octets_of_lines lines) ≡ lines
 unfolding lines_of
 only_lines [] h = refl
@@ -152,7 +152,7 @@ first_nothing octets text (x ∷ rest) some e p n = absurd (omega (arith, n))
 all_of : (n : ℕ) (rest : List ℕ) → n ≡ length rest → take n rest ≡ rest
 all_of n rest e = rw e (take-length rest)
 
--- where the text ends, LF or CR stands
+-- the octet after the text is CR if it isn't LF
 pub get_first : (octets rest : List ℕ) (n : ℕ) → rest ≡ drop n octets → (get_or octets n 0 ≡ 10) ⊎ (get_or octets n 0 ≡ 13) → get_or rest 0 0 ≢ 10 → get_or rest 0 0 ≡ 13
 get_first octets rest n e h k =
     let same : get_or rest 0 0 ≡ get_or octets n 0 = ap (λ r. get_or r 0 0) e ∙ get_or-drop n octets 0 0 ∙ ap (λ i. get_or octets i 0) (omega arith) in
@@ -173,13 +173,13 @@ first_cr octets text [] e p some h k = absurd (omega (arith, some))
 first_cr octets text (x ∷ []) e p some h k = first_of octets text Cr [] (e ∙ ap (λ z. text ++ z ∷ []) h ∙ sym (append-nil (text ++ 13 ∷ []))) p tt
 first_cr octets text (x ∷ y ∷ rest) e p some h k = rw (all_of (length (x ∷ y ∷ rest) - 1) (y ∷ rest) (omega arith)) (first_of octets text Cr (y ∷ rest) (e ∙ ap (λ z. text ++ z ∷ y ∷ rest) h ∙ sym (append_assoc text (13 ∷ []) (y ∷ rest))) p (begins y rest (k (omega arith)) text))
 
--- no octets have no line
+-- if there are no octets, there are no lines
 pub none_left : (octets : List ℕ) → length octets ≡ 0 → lines_of octets ≡ []
 unfolding lines_of
 none_left [] e = refl
 none_left (x ∷ octets) e = absurd (omega (arith, e))
 
--- texts ended by LF are lines
+-- texts with LF after each are lines
 are_lf_lines : (texts : List (List ℕ)) → AllByRecursion (All IsPlain) texts → AreLines (map (λ text. line text Lf) texts)
 are_lf_lines [] h = tt
 are_lf_lines (text ∷ texts) h = (recursion_from_All IsPlain text h.0, tt, are_lf_lines texts h.1)

@@ -10,7 +10,7 @@ use Rattle.bag_path.specs.declared.path.PathFault.{PathFault}
 use Rattle.bag_path.specs.declared.path.PathFault.TheVariants.{Empty, TooLong, EmptySegment, DotSegment, Nul, PayloadRoot, BadEscape}
 use Rattle.bag_path.specs.Paths.{IsPath, segments, path_fault, has_segment, is_empty_segment, is_dot_segment}
 
--- a test that is false just where a fact doesn't hold
+-- the test is false exactly if the fact holds
 abbrev Refutes : Bool → Type 0 → Type 0
 Refutes b P = (b ≡ false → P) × (P → b ≡ false)
 
@@ -45,7 +45,7 @@ Refutes-long xs = Refutes-from (nat_lt 4096 (length xs)) (Decides-ltb 4096 (leng
 Refutes-text : (xs ys : List ℕ) → Refutes (bytes_eq xs ys) (xs ≢ ys)
 Refutes-text xs ys = Refutes-from (bytes_eq xs ys) (bytes_eq-Decides xs ys) (λ h. h) (λ h. h)
 
--- a choice is none exactly if its test is false and the rest is none
+-- a choice is `None` exactly if its test is false and the rest is `None`
 no_first : (b : Bool) (fault : PathFault) (rest : Option PathFault) → ((if b then Some fault else rest) ≡ None → (b ≡ false) × (rest ≡ None)) × (b ≡ false → rest ≡ None → (if b then Some fault else rest) ≡ None)
 no_first true fault rest = (λ e. absurd (let h : Some fault ≡ None = e in cc), λ h. absurd (let e : true ≡ false = h in cc))
 no_first false fault rest = (λ e. (refl, e), λ h. λ e. e)
@@ -96,7 +96,7 @@ other_fault : (wrong : PathFault) (b : Bool) (fault : PathFault) (rest : Option 
 other_fault wrong true fault rest n m e = n (cc)
 other_fault wrong false fault rest n m e = m e
 
--- a path's fault is none of its escapes'
+-- the fault of a path is never `BadEscape`
 pub no_bad_escape : (path : List ℕ) → path_fault path ≢ Some BadEscape
 unfolding path_fault
 no_bad_escape path =

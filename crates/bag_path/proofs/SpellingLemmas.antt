@@ -82,7 +82,7 @@ in_text (x ∷ y ∷ text) octet h = (omega arith, h.1, h.2)
 pub escape_in_text : (version : Version) (text : List ℕ) (octet : ℕ) → octet_of_escape version (take 2 text) ≡ Some octet → (1 < length text) × (get_or text 1 0 < 128) × (octet < 128)
 escape_in_text version text octet e = in_text text octet (code_short version (take 2 text) octet (code_if_escaped version (take 2 text) octet e))
 
--- octets before those that are read
+-- octets put in front of those that are read
 abbrev pub onto : List ℕ → Option (List ℕ) → Option (List ℕ)
 onto octets (Some more) = Some (octets ++ more)
 onto octets None = None
@@ -124,7 +124,7 @@ unfolding octets_spelled_after
 all_plain version octets h =
     ap (octets_spelled version) (sym (append-nil octets)) ∙ plain_step version octets [] h ∙ ap Some (append-nil octets)
 
--- octets are taken
+-- octets that belong to an escape are skipped
 after_taken : (version : Version) (text : List ℕ) (taken : ℕ) → octets_spelled_after taken version text ≡ octets_spelled version (drop taken text)
 unfolding octets_spelled_after
 after_taken version [] zero = refl

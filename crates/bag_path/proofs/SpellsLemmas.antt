@@ -1,4 +1,4 @@
--- What is read is spelled, and what is spelled is read.
+-- Reading gives what is spelled, and what is spelled is read.
 use Rattle.std.proofs.Common.{◌≡◌, ◌≢◌, ◌↔◌, ℕ, zero, suc, List, [], ◌∷◌, ◌++◌, Option, Some, None, refl, sym, subst, ap, ◌∙◌, inl, inr, get_or, take, drop}
 use Rattle.std.proofs.lemmas.Bool.Decides.{eqb_tells}
 use Rattle.bag_path.specs.declared.version.Version.{Version}
@@ -15,12 +15,12 @@ octets_with_first-Some (Some octet) None path e = absurd (let h : None ≡ Some 
 octets_with_first-Some None (Some rest) path e = absurd (let h : None ≡ Some path = e in cc)
 octets_with_first-Some None None path e = absurd (let h : None ≡ Some path = e in cc)
 
--- `%` and a code of LF or CR are a part
+-- `%` and a code of LF or CR are an escape
 line_code_stands : (code : List ℕ) (octet : ℕ) → IsLineCode code octet → IsLineEscape (37 ∷ code) octet
 line_code_stands code octet (inl h) = inl (h.0, elim h.1 [ inl k ↦ inl (ap (λ code. 37 ∷ code) k) | inr k ↦ inr (ap (λ code. 37 ∷ code) k) ])
 line_code_stands code octet (inr h) = inr (h.0, elim h.1 [ inl k ↦ inl (ap (λ code. 37 ∷ code) k) | inr k ↦ inr (ap (λ code. 37 ∷ code) k) ])
 
--- `%` and a code are a part
+-- `%` and a code stand for the octet of the code
 code_stands : (version : Version) (code : List ℕ) (octet : ℕ) (rest : List ℕ) → IsCode version code octet → StandsFor version (37 ∷ code) octet rest
 code_stands V1 code octet rest (inl h) = inr (inl (h.0, ap (λ code. 37 ∷ code) h.1))
 code_stands V1 code octet rest (inr h) = inr (inr (line_code_stands code octet h))
@@ -52,7 +52,7 @@ plain_stands : (version : Version) (octet : ℕ) (rest : List ℕ) → octet ≢
 plain_stands V1 octet rest plain = inl (plain, refl)
 plain_stands V097 octet rest plain = inl (refl, λ h. plain (escape_begun octet rest h).1)
 
--- `%` and its escape, or `%` alone, are a part
+-- `%` and its escape, or `%` alone, stand for the octet
 percent_stands : (version : Version) (text : List ℕ) (octet : ℕ) (escape : Option ℕ) → octet_of_escape version (take 2 text) ≡ escape → octet_of_percent version escape ≡ Some octet → (part : List ℕ) × (37 ∷ text ≡ part ++ drop (taken_by escape) text) × StandsFor version part octet (drop (taken_by escape) text)
 percent_stands version text octet (Some escaped) e h =
     let same : Some escaped ≡ Some octet = h in
@@ -142,7 +142,7 @@ read_if_spells version (octet ∷ path) text h =
 pub spells_exactly : (version : Version) (path text : List ℕ) → Spells version path text ↔ (octets_spelled version text ≡ Some path)
 spells_exactly version path text = (read_if_spells version path text, spells_if_read version path text)
 
--- a text spells one list of octets at most
+-- a text spells at most one list of octets
 pub one_path : (version : Version) (path other text : List ℕ) → Spells version path text → Spells version other text → path ≡ other
 one_path version path other text h k =
     let a = read_if_spells version path text h in
@@ -159,7 +159,7 @@ none version text h (Some path) e = absurd (h path (spells_if_read version path 
 pub none_if_nothing : (version : Version) (text : List ℕ) → SpellsNothing version text → octets_spelled version text ≡ None
 none_if_nothing version text h = none version text h (octets_spelled version text) refl
 
--- the written spelling
+-- what is written for an octet stands for it
 written_stands : (octet : ℕ) (rest : List ℕ) → StandsFor V1 (written_part octet) octet rest
 written_stands octet rest = by_part (λ octet. StandsFor V1 (written_part octet) octet rest)
     (inr (inl (refl, refl))) (inr (inr (inl (refl, inl refl)))) (inr (inr (inr (refl, inl refl))))
@@ -169,6 +169,6 @@ pub written_spells : (path : List ℕ) → Spells V1 path (written_spelling path
 written_spells [] = refl
 written_spells (octet ∷ path) = one_part V1 octet path (written_part octet) (written_spelling path) (written_spelling (octet ∷ path)) refl (written_stands octet (written_spelling path)) (written_spells path)
 
--- what is written is read again
+-- what is written is read back
 pub written_again : (path : List ℕ) → octets_spelled V1 (written_spelling path) ≡ Some path
 written_again path = read_if_spells V1 path (written_spelling path) (written_spells path)

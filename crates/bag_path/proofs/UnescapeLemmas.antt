@@ -1,4 +1,4 @@
--- What `unescape` answers, from the octets that it read.
+-- What `unescape` returns, given the octets that it read.
 use Rattle.std.proofs.Common.{◌≡◌, ◌⊎◌, ℕ, List, Some, None, Result, Ok, Err, IfOk, IfErr, refl, sym, subst, ap, ◌∙◌, inl, inr}
 use Rattle.bag_path.specs.declared.path.PathFault.{PathFault}
 use Rattle.bag_path.specs.declared.path.PathFault.TheVariants.{Empty, TooLong, EmptySegment, DotSegment, Nul, PayloadRoot, Memory, BadEscape}
@@ -9,7 +9,7 @@ use Rattle.bag_path.specs.Spellings.{Spells, SpellsNothing, RefusesSpelling}
 use Rattle.bag_path.proofs.PathLemmas.{no_fault_if_path, no_bad_escape}
 use Rattle.bag_path.proofs.SpellsLemmas.{spells_if_read, one_path, nothing_if_none}
 
--- what is answered for octets that a text spells
+-- what is returned for octets that a text spells
 pub record IsAnswer (octets : List ℕ) (answer : Result (List ℕ) PathFault) : Type 0 where
   pub text : IfOk answer (λ path. path ≡ octets)
   pub path : IfOk answer IsPath

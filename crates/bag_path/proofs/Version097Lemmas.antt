@@ -10,7 +10,7 @@ use Rattle.bag_path.specs.Spellings.{IsLineEscape, BeginsLineEscape, StandsFor, 
 use Rattle.bag_path.proofs.SpellingLemmas.{plain_octet, percent_after, percent_of}
 use Rattle.bag_path.proofs.SpellsLemmas.{begun, spells_if_read}
 
--- some octets are read
+-- reading the text gives some octets
 abbrev Reads : ℕ → List ℕ → Type 0
 Reads taken text = (path : List ℕ) × (octets_spelled_after taken V097 text ≡ Some path)
 
@@ -67,7 +67,7 @@ pub no_spelling : (before part after text : List ℕ) (octet : ℕ) → IsLineEs
 no_spelling [] part after text octet e h = no_escape part after text octet e h
 no_spelling (x ∷ before) part after text octet e h = no_spelling before part after h.1 octet e h.4
 
--- no escape of LF or CR stands in it
+-- the path contains no escape of LF or CR
 abbrev HasNoLineEscape : List ℕ → Type 0
 HasNoLineEscape path = (before part after : List ℕ) (octet : ℕ) → IsLineEscape part octet → path ≢ (before ++ part ++ after)
 
@@ -91,7 +91,7 @@ by_line_part P lf cr itself x = elim (eqb_tells x 10) [ inl a ↦ subst P (sym a
 first_of_texts : (x y : ℕ) (xs ys : List ℕ) → (x ∷ xs) ≡ (y ∷ ys) → x ≡ y
 first_of_texts x y xs ys e = ap (λ text. get_or text 0 0) e
 
--- an octet that isn't `%` stands in the text as it does in the path
+-- an octet other than `%` is the same in the text and in the path
 raw : (path : List ℕ) (x : ℕ) (more : List ℕ) → x ≢ 37 → line_text path ≡ x ∷ more → (rest : List ℕ) × (path ≡ x ∷ rest) × (line_text rest ≡ more)
 raw [] x more other e = absurd (let h : [] ≡ x ∷ more = e in cc)
 raw (y ∷ path) x more other e = by_line_part (λ y. line_text (y ∷ path) ≡ x ∷ more → (rest : List ℕ) × (y ∷ path ≡ x ∷ rest) × (line_text rest ≡ more))
@@ -102,7 +102,7 @@ raw (y ∷ path) x more other e = by_line_part (λ y. line_text (y ∷ path) ≡
     (path, ap (λ y. y ∷ path) (first_of_texts y x _ more cut), ap (drop 1) cut))
     y e
 
--- where the text begins with an escape, the path begins with it or with its octet
+-- if the text begins with an escape, the path begins with it or with its octet
 begun_raw : (x letter : ℕ) (path part rest : List ℕ) → letter ≢ 37 → part ≡ 37 ∷ 48 ∷ letter ∷ [] → x ∷ line_text path ≡ part ++ rest → (after : List ℕ) × (x ∷ path ≡ part ++ after)
 begun_raw x letter path part rest other e cut =
     let same : x ∷ line_text path ≡ 37 ∷ 48 ∷ letter ∷ rest = cut ∙ ap (λ part. part ++ rest) e in

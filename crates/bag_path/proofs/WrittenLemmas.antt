@@ -9,7 +9,7 @@ use Rattle.std.proofs.lemmas.Bool.Decides.{eqb_tells}
 use Rattle.bag_path.specs.Lines.{IsPlain}
 use Rattle.bag_path.specs.Spellings.{written_spelling, written_part}
 
--- written as itself
+-- the octet is written as itself
 abbrev pub IsWritten : ℕ → Type 0
 IsWritten octet = (octet ≢ 37) × (octet ≢ 10) × (octet ≢ 13)
 
@@ -17,7 +17,7 @@ written_itself : (octets : List ℕ) → AllByRecursion IsWritten octets → wri
 written_itself [] h = refl
 written_itself (x ∷ octets) h = rw (ne_eqb x 37 h.0.0, ne_eqb x 10 h.0.1, ne_eqb x 13 h.0.2) (ap (λ octets. x ∷ octets) (written_itself octets h.1))
 
--- each octet of a character is the character, or none that is escaped
+-- if a character is written as itself, so is each of its octets
 octet_of : (c : ℕ) → IsWritten c → (k : ℕ) → k < length (encode_utf8 c) → IsWritten (get_or (encode_utf8 c) k 0)
 octet_of c h k within =
     let same = inside_one c [] (encode_utf8 c) k (sym (append-nil (encode_utf8 c))) within in
@@ -46,7 +46,7 @@ part_plain octet = by_part (λ octet. AllByRecursion IsPlain (written_part octet
     ((λ e. cc, λ e. cc), ((λ e. cc, λ e. cc), ((λ e. cc, λ e. cc), tt)))
     (λ octet h e. rw e ((h.1, h.2), tt)) octet
 
--- nothing that is written ends a line
+-- a written spelling contains no line end
 pub written_plain : (path : List ℕ) → All IsPlain (written_spelling path)
 written_plain [] = All-nil IsPlain
 written_plain (octet ∷ path) = All-append IsPlain (written_part octet) (written_spelling path) (All-from_recursion IsPlain (written_part octet) (part_plain octet)) (written_plain path)

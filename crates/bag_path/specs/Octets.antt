@@ -1,7 +1,7 @@
--- Octets that mean something in paths, in their spellings and between lines.
+-- Octets with a meaning in paths, in their spellings and between lines.
 use Rattle.std.specs.Prelude.{ℕ}
 
--- NUL, which no path has
+-- NUL, which no path contains
 abbrev pub nul : ℕ
 nul = 0
 
@@ -17,6 +17,6 @@ cr = 13
 abbrev pub percent : ℕ
 percent = 37
 
--- `/`, which stands between the segments of a path
+-- `/`, which separates the segments of a path
 abbrev pub slash : ℕ
 slash = 47

@@ -1,5 +1,5 @@
--- Paths of files below a bag's base directory, as octets (RFC 8493 section 2.1.3; what a segment may be, and the greatest
--- length, are this project's own).
+-- Paths of files below a bag's base directory, as octets (RFC 8493 section 2.1.3). The rules for segments and the
+-- greatest length are this project's own.
 use Rattle.std.specs.Prelude.{◌≡◌, ◌≢◌, ◌≤◌, ◌==◌, ◌||◌, ℕ, Bool, List, [], Option, Some, None, All, length, nat_lt, nat_eq, if◌then◌else◌, codes}
 use Rattle.std.specs.List.{list_any, slice_split, starts_with}
 use Rattle.std.specs.Str.{IsUtf8, bytes_eq}
@@ -8,7 +8,7 @@ use Rattle.bag_path.specs.declared.path.PathFault.{PathFault}
 use Rattle.bag_path.specs.declared.path.PathFault.TheVariants.{Empty, TooLong, EmptySegment, DotSegment, Nul, PayloadRoot, Memory}
 use Rattle.bag_path.specs.Octets.{nul, slash}
 
--- what stands between, before and after the slashes
+-- the parts of a path between its slashes, before the first and after the last
 abbrev pub segments : List ℕ → List (List ℕ)
 segments path = slice_split (λ octet. octet == slash) path
 
@@ -32,11 +32,11 @@ is_empty_segment segment = length segment == 0
 abbrev pub is_dot_segment : List ℕ → Bool
 is_dot_segment segment = bytes_eq segment (codes ".") || bytes_eq segment (codes "..")
 
--- whether some segment passes
+-- whether some segment passes the test
 abbrev pub has_segment : (List ℕ → Bool) → List ℕ → Bool
 has_segment test path = list_any test (segments path)
 
--- the first fault that holds of octets, if one does
+-- the first fault of these octets, if they have one
 unfoldable pub path_fault : List ℕ → Option PathFault
 path_fault path =
     if length path == 0 then Some Empty
@@ -51,7 +51,7 @@ path_fault path =
 abbrev pub is_payload : List ℕ → Bool
 is_payload path = starts_with nat_eq path (codes "data/")
 
--- a fault that is answered for octets is their first one, but want of memory may come in its place
+-- a fault that is returned for these octets: their first one, or `Memory`
 abbrev pub Refuses : PathFault → List ℕ → Type 0
 Refuses Memory path = Unit {0}
 Refuses fault path = path_fault path ≡ Some fault

@@ -1,4 +1,4 @@
--- Reading the spelling of a path, as functions on lists. A law ties them to what a spelling is.
+-- How the spelling of a path is read, as functions on lists. A law relates them to the definition of a spelling.
 use Rattle.std.specs.Prelude.{◌==◌, ◌||◌, ℕ, zero, suc, List, [], ◌∷◌, Option, Some, None, take, if◌then◌else◌, codes}
 use Rattle.std.specs.Str.{bytes_eq}
 use Rattle.bag_path.specs.declared.version.Version.{Version}
@@ -19,13 +19,13 @@ octet_of_escape V1 code =
     else octet_of_line_escape code
 octet_of_escape V097 code = octet_of_line_escape code
 
--- the octet that `%` stands for, from that of the escape that it begins, if it begins one
+-- the octet that `%` stands for, given the octet of the escape that it begins, if it begins one
 abbrev pub octet_of_percent : Version → Option ℕ → Option ℕ
 octet_of_percent version (Some octet) = Some octet
 octet_of_percent V1 None = None
 octet_of_percent V097 None = Some percent
 
--- how many octets an escape takes after its `%`
+-- how many octets after its `%` belong to an escape
 abbrev pub taken_by : Option ℕ → ℕ
 taken_by (Some octet) = 2
 taken_by None = 0
@@ -34,7 +34,7 @@ abbrev pub octets_with_first : Option ℕ → Option (List ℕ) → Option (List
 octets_with_first (Some octet) (Some octets) = Some (octet ∷ octets)
 octets_with_first _ _ = None
 
--- the octets that a text spells, from the place after this many octets, which an escape took
+-- the octets that a text spells after this many octets, which belong to an escape, are skipped
 unfoldable pub octets_spelled_after : ℕ → Version → List ℕ → Option (List ℕ)
 octets_spelled_after taken version [] = Some []
 octets_spelled_after (suc taken) version (octet ∷ text) = octets_spelled_after taken version text

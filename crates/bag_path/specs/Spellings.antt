@@ -1,4 +1,5 @@
--- How paths are spelled in manifests and in fetch.txt: which texts spell a path, and which is written (RFC 8493 section 2.1.3).
+-- Spellings of paths in manifests and in `fetch.txt`: which texts spell a path, and which one is written (RFC 8493
+-- section 2.1.3).
 use Rattle.std.specs.Prelude.{◌≡◌, ◌≢◌, ◌⊎◌, ◌==◌, ℕ, List, [], ◌∷◌, ◌++◌, if◌then◌else◌, codes}
 use Rattle.std.specs.List.{flat_map}
 use Rattle.bag_path.specs.declared.path.PathFault.{PathFault}
@@ -8,7 +9,7 @@ use Rattle.bag_path.specs.declared.version.Version.TheVariants.{V1, V097}
 use Rattle.bag_path.specs.Octets.{lf, cr, percent}
 use Rattle.bag_path.specs.Paths.{Refuses}
 
--- an escape of LF or CR, its letter in either case
+-- an escape of LF or CR, with its letter in either case
 abbrev pub IsLineEscape : List ℕ → ℕ → Type 0
 IsLineEscape part octet =
     ((octet ≡ lf) × ((part ≡ codes "%0A") ⊎ (part ≡ codes "%0a")))
@@ -19,8 +20,8 @@ abbrev pub BeginsLineEscape : List ℕ → Type 0
 BeginsLineEscape text =
     (part rest : List ℕ) × (octet : ℕ) × (text ≡ part ++ rest) × IsLineEscape part octet
 
--- The part stands for the octet, where this rest follows it. In version 1.0 a `%` is always escaped; in version 0.97 it
--- stands for itself, but where it would begin an escape of LF or CR.
+-- The part stands for the octet if it is followed by this rest. In version 1.0 `%` is always escaped. In version 0.97
+-- it stands for itself unless it begins an escape of LF or CR.
 abbrev pub StandsFor : Version → List ℕ → ℕ → List ℕ → Type 0
 StandsFor V1 part octet rest =
     ((octet ≢ percent) × (part ≡ octet ∷ []))
@@ -30,7 +31,7 @@ StandsFor V097 part octet rest =
     ((part ≡ octet ∷ []) × ¬ BeginsLineEscape (octet ∷ rest))
     ⊎ IsLineEscape part octet
 
--- The text is a joining of parts that stand for the octets of the path, one for each and in order.
+-- The text consists of parts that stand for the octets of the path, one part for each octet, in order.
 abbrev pub Spells : Version → List ℕ → List ℕ → Type 0
 Spells version [] text = text ≡ []
 Spells version (octet ∷ path) text =
@@ -53,8 +54,8 @@ written_part octet =
 abbrev pub written_spelling : List ℕ → List ℕ
 written_spelling path = flat_map written_part path
 
--- A fault that is answered for a text: it spells no octets, or it spells some, and this is their first fault; but want of
--- memory may come in its place.
+-- A fault that is returned for a text: `BadEscape` if it spells no octets, otherwise the first fault of the octets that
+-- it spells, or `Memory`.
 abbrev pub RefusesSpelling : PathFault → Version → List ℕ → Type 0
 RefusesSpelling Memory version text = Unit {0}
 RefusesSpelling BadEscape version text = SpellsNothing version text

@@ -1,4 +1,4 @@
-//! The lines of octets, as tag files have them (RFC 8493 section 2.3). Octets that aren't UTF-8 have lines too.
+//! Splits octets into lines, as in tag files (RFC 8493 section 2.3). The octets need not be UTF-8.
 ghost use Rattle.std.specs.Prelude.{◌≡◌, ◌+◌, ◌<◌, ◌≤◌, ◌^◌, ◌⊎◌, ◌∷◌, length, take, slice_index};
 ghost use Rattle.std.specs.List.{All};
 ghost use Rattle.bag_path.specs.Lines.{IsPlain, line, lines_of};
@@ -13,14 +13,14 @@ pub enum Ending {
     Cr,
     /// A carriage return and a newline, which are one ending.
     CrLf,
-    /// The octets end. Only the last line ends so, and it has some text.
+    /// The end of the octets. Only the last line can end this way, and then it isn't empty.
     Nothing,
 }
 
 /// A line.
 #[derive(Clone, Copy, Debug)]
 pub struct Line<'a> {
-    /// Its number. The first line has 1.
+    /// Its number, counted from 1.
     pub number: u64,
     /// Its octets before the ending.
     pub text: &'a [u8],
@@ -42,7 +42,7 @@ impl<'a> Lines<'a> {
     ghost use Rattle.bag_path.specs.Lines.{lines_of};
     ghost use Rattle.bag_path.specs.LinesLeft.{lines_left};
 
-    /// The lines of these octets. No octets have no line.
+    /// The lines of these octets. If there are no octets, there are no lines.
     pub fn new(octets: &'a [u8]) -> Lines<'a>
         ensures { lines_left result ≡ enumerate_from 1 (lines_of octets.now) }
     {
@@ -79,7 +79,7 @@ impl<'a> Iterator for Lines<'a> {
     }
 }
 
-/// How far the octets have neither LF nor CR.
+/// The number of octets before the first LF or CR.
 fn text_len(octets: &[u8]) -> usize
     ensures within { result ≤ length octets.now }
     ensures plain { All IsPlain (take result octets.now) }
@@ -94,7 +94,7 @@ fn text_len(octets: &[u8]) -> usize
     octets.len()
 }
 
-/// The first line, and what follows it.
+/// The text and the ending of the first line, and the octets after it.
 fn first_line(octets: &[u8]) -> (&[u8], Ending, &[u8])
     requires { 0 < length octets.now }
     ensures first { lines_of octets.now ≡ line result.0.now result.1 ∷ lines_of result.2.now }

@@ -14,8 +14,8 @@ use thiserror::Error;
 /// The greatest length of a path in octets. It is this project's own: the RFC sets none.
 pub const LONGEST_PATH: usize = 4096;
 
-/// Why a text is no path, or spells none. Of the first six that hold the first is answered, but `BadEscape` before them, and
-/// `Memory` may come in place of any.
+/// Why a text is no path, or spells none. If several of the first six apply, the first in this order is returned.
+/// `BadEscape` comes before all of them, and `Memory` may be returned in place of any other.
 #[derive(Clone, Copy, Debug, PartialEq, Eq, PartialOrd, Ord, Error)]
 pub enum PathFault {
     /// The path has no octet.
@@ -24,13 +24,13 @@ pub enum PathFault {
     /// The path has more than [`LONGEST_PATH`] octets.
     #[error("the path has more than 4,096 octets")]
     TooLong,
-    /// Nothing stands between two slashes, before the first or after the last.
+    /// There is nothing between two slashes, before the first slash or after the last.
     #[error("the path has an empty segment")]
     EmptySegment,
     /// A segment is `.` or `..`.
     #[error("the path has a segment `.` or `..`")]
     DotSegment,
-    /// The path has an octet 0.
+    /// The path contains a NUL (octet 0).
     #[error("the path has a NUL")]
     Nul,
     /// The path is `data`, which names the payload directory.
@@ -39,7 +39,7 @@ pub enum PathFault {
     /// Memory ran out.
     #[error("memory ran out")]
     Memory,
-    /// A `%` begins no escape, in version 1.0 (RFC 8493 section 2.1.3). Only `unescape` answers it.
+    /// In version 1.0 a `%` doesn't begin an escape (RFC 8493 section 2.1.3). Only `unescape` returns it.
     #[error("a `%` begins no escape")]
     BadEscape,
 }
@@ -55,7 +55,7 @@ impl From<AllocError> for PathFault {
     }
 }
 
-/// The path of a file below a bag's base directory, in UTF-8 with slashes between its segments, as plain text (no escapes).
+/// The path of a file below a bag's base directory: UTF-8, with slashes between its segments and without escapes.
 ///
 /// A clone shares the text. Paths are ordered by their octets.
 #[derive(Drop)]
@@ -83,7 +83,7 @@ impl BagPath {
     ///
     /// # Errors
     ///
-    /// The first fault of the text in the order of [`PathFault`], or `Memory`.
+    /// The first fault of the text in the order of [`PathFault`], or `Memory` if memory runs out.
     pub fn parse(alloc: Global, text: &str) -> Result<BagPath, PathFault>
         ensures text { IfOk result (λ path. path ≡ text.now) }
         ensures path { IfOk result IsPath }
@@ -98,7 +98,7 @@ impl BagPath {
         Ok(BagPath { text })
     }
 
-    /// The same as `parse`, of a text that is given away.
+    /// Does the same as `parse` for a string that it takes over.
     pub(crate) fn from_string(text: String) -> Result<BagPath, PathFault>
         ensures text { IfOk result (λ path. path ≡ string_bytes text) }
         ensures path { IfOk result IsPath }
@@ -119,7 +119,8 @@ impl BagPath {
         self.text.as_str()
     }
 
-    /// Whether it is the path of a payload file, below `data/` (RFC 8493 section 2.1.2). Others are paths of tag files.
+    /// Whether this is the path of a payload file, below `data/` (RFC 8493 section 2.1.2). Every other path is that of
+    /// a tag file.
     pub fn is_payload(&self) -> bool
         ensures { result ≡ is_payload self.now }
     {

@@ -14,8 +14,8 @@ use std::fmt::{self, Display, Formatter, Write};
 ///
 /// # Errors
 ///
-/// `BadEscape` where a `%` begins no escape in version 1.0, and never in version 0.97; else the first fault of the octets that the
-/// text spells, as [`BagPath::parse`] answers it; or `Memory`.
+/// `BadEscape` if a `%` begins no escape, which is a fault in version 1.0 alone; otherwise the first fault of the
+/// octets that the text spells, as in [`BagPath::parse`]; or `Memory` if memory runs out.
 pub fn unescape(alloc: Global, text: &str, version: Version) -> Result<BagPath, PathFault>
     ensures path { IfOk result (λ path. Spells version path text.now × IsPath path) }
     ensures accepted { (path : List ℕ) → Spells version path text.now → IsPath path
@@ -27,8 +27,8 @@ pub fn unescape(alloc: Global, text: &str, version: Version) -> Result<BagPath, 
     BagPath::from_string(octets_spelled(alloc, text, version)?)
 }
 
-/// A path as its spelling is written: LF is `%0A`, CR is `%0D`, `%` is `%25`, and nothing else changes (RFC 8493 section
-/// 2.1.3). [`unescape`] answers the path again in version 1.0, in which it is written.
+/// A path that is displayed in its written spelling: LF is `%0A`, CR is `%0D`, `%` is `%25`, and nothing else changes
+/// (RFC 8493 section 2.1.3). This is the spelling of version 1.0, in which [`unescape`] returns the same path.
 #[derive(Clone, Copy)]
 pub struct Spelling<'a>(pub &'a BagPath);
 
@@ -46,7 +46,7 @@ impl Display for Spelling<'_> {
     }
 }
 
-/// Writes what a character of a path is spelled by.
+/// Writes the spelling of one character of a path.
 fn write_part<W: Write>(f: &mut Formatter<W>, c: char) -> fmt::Result
     ensures { WritesOnOk W.write_str_gives f.old result (written_spelling (encode_utf8 c)) f.new }
 {
@@ -58,11 +58,11 @@ fn write_part<W: Write>(f: &mut Formatter<W>, c: char) -> fmt::Result
     }
 }
 
-/// The text of [`Spelling`].
+/// The written spelling of a path, as [`Spelling`] displays it.
 ///
 /// # Errors
 ///
-/// `AllocError` where memory runs out.
+/// `AllocError` if memory runs out.
 pub fn escape(alloc: Global, path: &BagPath) -> Result<String, AllocError>
     ensures { IfOk result (λ text. string_bytes text ≡ written_spelling path.now) }
 {
@@ -90,7 +90,7 @@ fn octets_spelled(alloc: Global, text: &str, version: Version) -> Result<String,
     Ok(octets)
 }
 
-/// The octet that `%` before a text stands for, and what follows the `%` and its escape.
+/// The octet that a `%` before this text stands for, and the text after the `%` and its escape.
 fn split_percent(text: &str, version: Version) -> Option<(char, &str)>
     ensures { let escape = octet_of_escape version (take 2 text.now) in
         MatchOption result (octet_of_percent version escape ≡ None)
@@ -104,7 +104,7 @@ fn split_percent(text: &str, version: Version) -> Option<(char, &str)>
     }
 }
 
-/// The octet of the escape that `%` begins before a text.
+/// The octet of the escape that a `%` before this text begins, if it begins one.
 fn escape_before(text: &str, version: Version) -> Option<char>
     ensures { result ≡ octet_of_escape version (take 2 text.now) }
 {
@@ -115,7 +115,7 @@ fn escape_before(text: &str, version: Version) -> Option<char>
     octet_of_escape(octets[0], octets[1], version)
 }
 
-/// The octet that `%` and two octets stand for.
+/// The octet that `%` and these two octets stand for, if they are an escape.
 fn octet_of_escape(first: u8, second: u8, version: Version) -> Option<char>
     ensures { result ≡ octet_of_escape version (first ∷ second ∷ []) }
 {
