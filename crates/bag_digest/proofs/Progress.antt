@@ -23,7 +23,7 @@ given_on old mid new total limit octets more given gave within = (
   omega (arith, given.count, given.within, within, length-append octets more),
 )
 
--- what was given before a fault, after what was given before
+-- what was given before a fault, together with what was given earlier
 pub given_before : (old mid new : Option (List ℕ)) (total limit : ℕ) (octets : List ℕ) (fault : ReadFault)
     → HasGiven old mid total limit octets → GaveBefore mid new (limit - total) fault → GaveBefore old new limit fault
 given_before old mid new total limit octets read.Read given more = given_on old mid new total limit octets more.0 given more.1 more.2
@@ -34,7 +34,7 @@ given_before old mid new total limit octets read.TooLarge given more = (
   omega (arith, given.count, given.within, more.2, length-append octets more.0),
 )
 
--- a piece more, of no more octets than were left
+-- one more piece, of no more octets than were left
 pub given_piece : (old mid new : Option (List ℕ)) (total limit n : ℕ) (octets buffer : List ℕ)
     → HasGiven old mid total limit octets → GavePiece mid new (limit - total) n buffer → GaveWithin old new limit
 given_piece old mid new total limit n octets buffer given piece =
@@ -48,7 +48,7 @@ all_of : (known given : List ℕ) (new : Option (List ℕ)) (limit : ℕ) → Ga
 all_of known given None limit gave = absurd gave.gave
 all_of known given (Some rest) limit gave = whole known given rest gave.gave gave.none_left
 
--- where the octets of a source are known, those that it gave to its end are all of them
+-- if the octets of a source are known, those that it gave up to its end are all of them
 pub all_known : (known given : List ℕ) (old new : Option (List ℕ)) (limit : ℕ)
     → old ≡ Some known → GaveAll old new limit given → (given ≡ known) × (length known ≤ limit)
 all_known known given old new limit e gave =
@@ -59,7 +59,7 @@ more_of : (known given : List ℕ) (new : Option (List ℕ)) → Consumes (Some 
 more_of known given None gave = absurd gave
 more_of known given (Some rest) gave = omega (arith, ap length gave, length-append given rest)
 
--- and where it gave more octets than a limit, it holds more
+-- if it gave more octets than a limit, it holds more
 pub more_known : (known : List ℕ) (old new : Option (List ℕ)) (limit : ℕ)
     → old ≡ Some known → GaveMoreThan old new limit → limit < length known
 more_known known old new limit e (given, gave, count) =
@@ -74,7 +74,7 @@ module _ {S : Type 0} (failures : S → ℕ) (ready : S → Type 0) (keeps : S �
     stays_ready = λ h. (h, λ no. no);
   }
 
-  -- reads that didn't fail, and one more
+  -- one more read after reads that didn't fail
   pub uses_on : (a b c : S) (failed : Type 0) → (keeps a b → keeps b c → keeps a c)
       → UsesSource failures ready keeps a b ⊥ → UsesSource failures ready keeps b c failed → UsesSource failures ready keeps a c failed
   uses_on a b c failed on before after =
@@ -84,7 +84,7 @@ module _ {S : Type 0} (failures : S → ℕ) (ready : S → Type 0) (keeps : S �
         stays_ready = λ h. after.stays_ready (before.stays_ready h).0;
       }
 
-  -- the same, told of another fact
+  -- the same with an equivalent fact
   pub uses_as : (a b : S) (failed told : Type 0) → (told → failed) → (failed → told)
       → UsesSource failures ready keeps a b failed → UsesSource failures ready keeps a b told
   uses_as a b failed told to from uses = record {

@@ -1,4 +1,4 @@
--- Facts on digests written in hex.
+-- Facts about digests written in hex.
 use Rattle.std.proofs.Common.{◌≡◌, ℕ, List, Result, ap, sym, ◌∙◌, refl}
 use Rattle.std.specs.Result.{result_unwrap_or}
 use Rattle.std.specs.Prelude.{[]}

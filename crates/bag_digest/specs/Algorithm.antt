@@ -4,7 +4,7 @@ use Rattle.bag_digest.specs.declared.algorithm.Alg.{Alg}
 use Rattle.bag_digest.specs.declared.algorithm.Alg.TheVariants.{Md5, Sha1, Sha256, Sha512}
 use Rattle.bag_digest.specs.declared.algorithm.AlgSet.{AlgSet}
 
--- the name that stands in the names of manifests (RFC 8493 section 2.4)
+-- the name that appears in the names of manifests (RFC 8493 section 2.4)
 abbrev pub name_of : Alg → List ℕ
 name_of Md5 = codes "md5"
 name_of Sha1 = codes "sha1"
@@ -18,7 +18,7 @@ size_of Sha1 = 20
 size_of Sha256 = 32
 size_of Sha512 = 64
 
--- the place of an algorithm among the four, in the order in which a bag's algorithms are gone through
+-- the place of an algorithm among the four, in the order in which the algorithms of a bag are processed
 abbrev pub place_of : Alg → ℕ
 place_of Md5 = 0
 place_of Sha1 = 1

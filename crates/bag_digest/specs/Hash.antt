@@ -1,4 +1,4 @@
--- What the digests of octets are, and what the hashers of several algorithms stand for.
+-- The digests of octets, and what the hashers of several algorithms hold.
 use Rattle.std.specs.Prelude.{◌≡◌, ℕ, List, Bool, true, false, Option, Some, None, if◌then◌else◌}
 use Rattle.std.specs.Option.{option_map}
 use Rattle.md5.specs.Md5.{md5}
@@ -31,7 +31,7 @@ alg_of (digest.Sha1 octets) = Sha1
 alg_of (digest.Sha256 octets) = Sha256
 alg_of (digest.Sha512 octets) = Sha512
 
--- the digest by an algorithm, where it was taken
+-- the digest by an algorithm, if it was computed
 abbrev pub digest_in : Digests → Alg → Option Digest
 digest_in digests Md5 = option_map (λ d. digest.Md5 d) digests.md5
 digest_in digests Sha1 = option_map (λ d. digest.Sha1 d) digests.sha1
@@ -43,7 +43,7 @@ abbrev pub AreDigests : Digests → AlgSet → List ℕ → Type 0
 AreDigests digests set octets = (alg : Alg)
     → digest_in digests alg ≡ (if has set alg then Some (hash alg octets) else None)
 
--- a hasher is there exactly where it is wanted, and there it holds the octets
+-- a hasher exists exactly if it is wanted, and then it holds the octets
 abbrev pub HoldsIf : {H : Type 0} → (H → List ℕ → Type 0) → Bool → Option H → List ℕ → Type 0
 HoldsIf holds wanted None octets = wanted ≡ false
 HoldsIf holds wanted (Some hasher) octets = (wanted ≡ true) × holds hasher octets

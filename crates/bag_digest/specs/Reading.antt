@@ -1,4 +1,4 @@
--- What a source gave, whether or not it is known beforehand.
+-- What a source gave, whether or not this is known in advance.
 use Rattle.std.specs.Prelude.{◌≡◌, ◌+◌, ◌≤◌, ℕ, List, Option, length, take}
 use Rattle.std.specs.Io.KnownBytes.{Consumes, IsAtEnd}
 use Rattle.bag_digest.specs.declared.algorithm.AlgSet.{AlgSet}
@@ -9,7 +9,7 @@ use Rattle.bag_digest.specs.declared.reading.ReadFault.{ReadFault}
 use Rattle.bag_digest.specs.declared.reading.ReadFault.TheVariants as read
 use Rattle.bag_digest.specs.Hash.{AreDigests}
 
--- the source gave these octets and has no others left, and they are within the limit
+-- the source gave these octets, which are within the limit, and has none left
 pub record GaveAll (old new : Option (List ℕ)) (limit : ℕ) (octets : List ℕ) : Type 0 where
   pub gave : Consumes old new octets
   pub none_left : IsAtEnd new
@@ -19,12 +19,12 @@ pub record GaveAll (old new : Option (List ℕ)) (limit : ℕ) (octets : List �
 abbrev pub GaveWithin : Option (List ℕ) → Option (List ℕ) → ℕ → Type 0
 GaveWithin old new limit = (octets : List ℕ) × Consumes old new octets × (length octets ≤ limit)
 
--- the source gave one octet more than the limit, and none after it was taken
+-- the source gave one octet more than the limit, and none after that
 abbrev pub GaveMoreThan : Option (List ℕ) → Option (List ℕ) → ℕ → Type 0
 GaveMoreThan old new limit = (octets : List ℕ) × Consumes old new octets
     × (length octets ≡ limit + 1)
 
--- the source gave one piece, the front of the buffer, of at most this many octets: none only at the end
+-- the source gave one piece of at most this many octets, the front of the buffer; it is empty only at the end
 pub record GavePiece (old new : Option (List ℕ)) (left n : ℕ) (buffer : List ℕ) : Type 0 where
   pub gave : Consumes old new (take n buffer)
   pub bound : n ≤ length buffer
@@ -40,14 +40,14 @@ abbrev pub GaveDigests : Option (List ℕ) → Option (List ℕ) → ℕ → Alg
 GaveDigests old new limit set found =
     (octets : List ℕ) × GaveAll old new limit octets × IsCountAndDigests found set octets
 
--- What the source gave before a reading ended with a fault: octets within the limit where a read failed or memory ran out,
--- and else the first octet past it and none after.
+-- What the source gave before reading ended with a fault. If a read failed or memory ran out, this is within the limit.
+-- Otherwise it is one octet more than the limit, and none after that.
 abbrev pub GaveBefore : Option (List ℕ) → Option (List ℕ) → ℕ → ReadFault → Type 0
 GaveBefore old new limit read.Read = GaveWithin old new limit
 GaveBefore old new limit read.TooLarge = GaveMoreThan old new limit
 GaveBefore old new limit read.Memory = GaveWithin old new limit
 
--- a fault of a source among the faults of a reading that takes memory
+-- the fault of a source, as a fault of a function that allocates memory
 abbrev pub read_fault : SourceFault → ReadFault
 read_fault source.Read = read.Read
 read_fault source.TooLarge = read.TooLarge

@@ -14,8 +14,8 @@ octets_of (Sha1 octets) = octets
 octets_of (Sha256 octets) = octets
 octets_of (Sha512 octets) = octets
 
--- The text is hex, its letters in either case, for the octets of a digest by this algorithm: two digits
--- for each octet, and as many octets as the algorithm gives (RFC 8493 section 2.1.3).
+-- The text is a digest by this algorithm in hex, with letters in either case: two digits for each octet, and as many
+-- octets as the algorithm gives (RFC 8493 section 2.1.3).
 pub record SpellsDigest (alg : Alg) (text : List ℕ) (digest : Digest) : Type 0 where
   pub by_alg : alg_of digest ≡ alg
   pub digits : decode_sized text (size_of alg) ≡ Ok (octets_of digest)
@@ -24,7 +24,7 @@ pub record SpellsDigest (alg : Alg) (text : List ℕ) (digest : Digest) : Type 0
 abbrev pub lower_case_of : Digest → List ℕ
 lower_case_of digest = encode_lower (octets_of digest)
 
--- a digest has octets, as many as its algorithm gives (each value of the Rust type is so)
+-- the digest has as many octets as its algorithm gives (as each value of the Rust type has)
 pub record IsWhole (digest : Digest) : Type 0 where
   pub size : length (octets_of digest) ≡ size_of (alg_of digest)
   pub octets : IsBytes (octets_of digest)

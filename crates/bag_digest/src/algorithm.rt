@@ -1,10 +1,9 @@
-//! The algorithms, and sets of them.
+//! The digest algorithms, and sets of them.
 ghost use Rattle.std.specs.Prelude.{◌≡◌, ◌||◌, ◌↔◌, IsTrue, IfSome, Some, false};
 
-/// A digest algorithm that a manifest may be made by: MD5 of RFC 1321, or SHA-1, SHA-256 or SHA-512 of
-/// FIPS 180-4.
+/// A digest algorithm of manifests: MD5 (RFC 1321), or SHA-1, SHA-256 or SHA-512 (FIPS 180-4).
 ///
-/// The order of the variants is the order in which a bag's algorithms are gone through.
+/// The order of the variants is the order in which the algorithms of a bag are processed.
 #[derive(Clone, Copy, Debug, PartialEq, Eq, PartialOrd, Ord)]
 pub enum Alg {
     Md5,
@@ -20,8 +19,8 @@ impl Alg {
     /// All four algorithms, in order.
     pub const ALL: [Alg; 4] = [Alg::Md5, Alg::Sha1, Alg::Sha256, Alg::Sha512];
 
-    /// The algorithm of this name, as it stands in the name of a manifest (RFC 8493 section 2.4): `md5`,
-    /// `sha1`, `sha256` or `sha512`. No other spelling is taken, upper case letters aren't either.
+    /// The algorithm with this name, as it appears in the name of a manifest (RFC 8493 section 2.4): `md5`, `sha1`,
+    /// `sha256` or `sha512`. Any other text gives `None`, including a name in upper case.
     pub fn from_name(text: &str) -> Option<Alg>
         ensures found { IfSome result (λ alg. text.now ≡ name_of alg) }
         ensures each { (alg : Alg) → text.now ≡ name_of alg → result ≡ Some alg }
@@ -35,7 +34,7 @@ impl Alg {
         }
     }
 
-    /// The name, as it stands in the name of a manifest.
+    /// The name, as it appears in the name of a manifest.
     pub fn name(self) -> &'static str
         ensures { result.now ≡ name_of self }
     {
@@ -47,7 +46,7 @@ impl Alg {
         }
     }
 
-    /// The length of a digest in octets: half the number of its hex digits.
+    /// The length of a digest in octets, which is half the number of its hex digits.
     pub fn len(self) -> usize
         ensures { result ≡ size_of self }
     {
@@ -72,7 +71,7 @@ pub struct AlgSet {
 impl AlgSet {
     ghost use Rattle.bag_digest.specs.Algorithm.{has, is_alg};
 
-    /// No algorithm.
+    /// The empty set.
     pub fn empty() -> AlgSet
         ensures { (alg : Alg) → has result alg ≡ false }
     {
@@ -84,7 +83,7 @@ impl AlgSet {
         }
     }
 
-    /// This set and one algorithm more, or the same set if it was in it.
+    /// This set with the algorithm added. If the algorithm is in it already, this is the same set.
     pub fn with(self, alg: Alg) -> AlgSet
         ensures { (other : Alg) → has result other ≡ (is_alg alg other || has self other) }
     {

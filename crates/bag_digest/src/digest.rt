@@ -26,8 +26,8 @@ impl Digest {
     ghost use Rattle.bag_digest.specs.Hash.{alg_of};
     ghost use Rattle.bag_digest.specs.Spelling.{octets_of, lower_case_of, SpellsDigest, IsWhole};
 
-    /// The digest by this algorithm that a text spells: 32, 40, 64 or 128 hex digits in the order of the
-    /// algorithms, with letters in either case (RFC 8493 section 2.1.3). No other text spells one.
+    /// The digest by this algorithm that a text spells: 32, 40, 64 or 128 hex digits for MD5, SHA-1, SHA-256 or
+    /// SHA-512, with letters in either case (RFC 8493 section 2.1.3). No other text spells a digest.
     pub fn from_hex(alg: Alg, text: &[u8]) -> Option<Digest>
         ensures spelled { IfSome result (SpellsDigest alg text.now) }
         ensures each { (digest : Digest) → SpellsDigest alg text.now digest → result ≡ Some digest }
@@ -49,7 +49,7 @@ impl Digest {
     ///
     /// # Errors
     ///
-    /// `AllocError` where memory runs out.
+    /// `AllocError` if memory runs out.
     pub fn to_hex(&self, alloc: Global) -> Result<String, AllocError>
         ensures lower_case { IfOk result (λ text. string_bytes text ≡ lower_case_of self.now) }
         ensures spells { IfOk result (λ text.
@@ -58,7 +58,7 @@ impl Digest {
         hex::encode(alloc, self.octets())
     }
 
-    /// The algorithm that the digest is by.
+    /// The algorithm of the digest.
     pub fn alg(&self) -> Alg
         ensures { result ≡ alg_of self.now }
     {
@@ -93,8 +93,8 @@ fn read_hex<const N: usize>(text: &[u8]) -> Option<[u8; N]>
     <[u8; N] as FromHex>::from_hex(text).ok()
 }
 
-// The octets of an array. A proof knows of an argument that it has this many elements and that each is an octet; of a
-// variant's field it doesn't. So `Digest::octets` passes its fields through these two.
+// The octets of an array. In a proof, an argument is known to have this many elements, each of them an octet. This is
+// not known of the field of a variant, so `Digest::octets` passes its fields through these two functions.
 fn slice_of<const N: usize>(octets: &[u8; N]) -> &[u8]
     ensures octets { result.now ≡ octets.now }
     ensures size { length octets.now ≡ N }

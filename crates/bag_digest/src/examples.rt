@@ -1,4 +1,4 @@
-//! Telling cases of the definitions, worked out: each function's contract is one, and its body is empty.
+//! Worked examples of the definitions. The contract of each function states one, and its body is empty.
 ghost use Rattle.std.specs.Prelude.{◌≡◌, ◌≢◌, ℕ, List, [], ◌∷◌, codes};
 ghost use Rattle.bag_digest.specs.declared.algorithm.Alg.TheVariants.{Md5, Sha1, Sha256, Sha512};
 ghost use Rattle.bag_digest.specs.declared.digest.Digest.{Digest};
@@ -30,7 +30,8 @@ pub fn abc_has_its_published_digests()
         ∷ 0x2A ∷ 0x9A ∷ 0xC9 ∷ 0x4F ∷ 0xA5 ∷ 0x4C ∷ 0xA4 ∷ 0x9F ∷ [])) }
 {}
 
-/// Hex digits in either case spell a digest, but not one digit fewer, an octet more, or another letter (RFC 8493 section 2.1.3).
+/// Hex digits in either case spell a digest (RFC 8493 section 2.1.3). With a digit missing, with two more digits or
+/// with another letter they spell none.
 pub fn a_digest_is_spelled_in_full()
     ensures { SpellsDigest Md5 (codes "900150983cd24fb0D6963F7D28E17F72") (digest.Md5 (
         0x90 ∷ 0x01 ∷ 0x50 ∷ 0x98 ∷ 0x3C ∷ 0xD2 ∷ 0x4F ∷ 0xB0

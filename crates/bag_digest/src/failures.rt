@@ -1,11 +1,11 @@
-//! How often a device has failed.
+//! Counts of failures.
 ghost use Rattle.std.specs.Prelude.{◌≡◌, ◌+◌, IsErr, MatchResult, OnErr, Ok, min};
 ghost use Rattle.bag_digest.specs.Device.{CountsFailure, greatest_count};
 
 use crate::source::Failed;
 use std::marker::Model;
 
-/// How often a device has failed. The count stays at its greatest number, 2^64 - 1.
+/// How often a device has failed. The count stops at its maximum, 2^64 - 1.
 #[derive(Debug, Drop)]
 pub struct Failures {
     count: u64,
@@ -34,7 +34,11 @@ impl Failures {
         self.count
     }
 
-    /// The answer of one call of the device, whose error is counted. What was wrong is not kept.
+    /// Counts the result of one call of the device if it is an error, and returns it without the error's reason.
+    ///
+    /// # Errors
+    ///
+    /// `Failed` if the call returned an error.
     pub fn counted<A, E: Drop>(&mut self, answer: Result<A, E>) -> Result<A, Failed>
         ensures answer { MatchResult answer (λ value. result ≡ Ok value) (λ _. IsErr result) }
         ensures counted { CountsFailure answer self.old self.new }

@@ -1,4 +1,4 @@
-//! Several digests of the same octets, taken in pieces.
+//! Several digests of the same octets, which come in pieces.
 ghost use Rattle.std.specs.Prelude.{◌≡◌, ℕ, List, [], ◌++◌, if◌then◌else◌, Bool, ◌↔◌, IsTrue, Some};
 ghost use Rattle.md5.specs.Md5 as MD5;
 ghost use Rattle.md5.specs.Md5.{md5};
@@ -27,7 +27,7 @@ pub struct Digests {
 impl Digests {
     ghost use Rattle.bag_digest.specs.Hash.{digest_in, alg_of};
 
-    /// The digest by this algorithm, where the algorithm is of the set.
+    /// The digest by this algorithm, if the algorithm is in the set.
     pub fn get(&self, alg: Alg) -> Option<Digest>
         ensures { result ≡ digest_in self.now alg }
     {
@@ -39,7 +39,7 @@ impl Digests {
         }
     }
 
-    /// Whether this digest is among them: its algorithm is of the set, and its octets are the same.
+    /// Whether this digest is among them: its algorithm is in the set, and its octets are the same.
     pub fn contains(&self, digest: Digest) -> bool
         ensures { IsTrue result ↔ (digest_in self.now (alg_of digest) ≡ Some digest) }
     {
@@ -75,7 +75,7 @@ impl Multi {
     ghost use Rattle.bag_digest.specs.declared.algorithm.AlgSet.{AlgSet};
     ghost use Rattle.bag_digest.specs.Hash.{Holds, AreDigests};
 
-    /// Hashers for the algorithms of the set, which have taken no octets yet.
+    /// Hashers for the algorithms of the set, which haven't taken any octets yet.
     pub fn new(set: AlgSet) -> Multi
         ensures { Holds result set [] }
     {
@@ -103,7 +103,7 @@ impl Multi {
         }
     }
 
-    /// Takes the next octets: they follow those of the earlier pieces.
+    /// Takes the next piece, which follows the earlier ones.
     pub fn update(&mut self, piece: &[u8])
         ensures { (set : AlgSet) (octets : List ℕ) → Holds self.old set octets
             → Holds self.new set (octets ++ piece.now) }
@@ -142,7 +142,7 @@ impl Multi {
     }
 }
 
-// The four differ in the hasher's type, whose trait and specification are the algorithm's own.
+// The four functions differ in the type of the hasher, whose trait and specification are those of its algorithm.
 
 fn finish_md5(hasher: Option<Md5>) -> Option<[u8; 16]>
     ensures { (wanted : Bool) (octets : List ℕ) → HoldsIf MD5.Holds wanted hasher octets

@@ -1,4 +1,4 @@
-//! Sources read to their end: the digests of what they give, or all of it.
+//! Reads sources to their end, for the digests of what they give or for all of it.
 ghost use Rattle.std.specs.Prelude.{◌≡◌, ◌+◌, ◌<◌, ◌≤◌, length, min, vec_len, take, IfErr, IfOk, IsErrOf};
 ghost use Rattle.std.specs.Io.KnownBytes.{Consumes, IsAtEnd};
 ghost use Rattle.bag_digest.specs.Device.{UsesSource};
@@ -22,7 +22,7 @@ pub enum SourceFault {
     TooLarge,
 }
 
-/// Why a source wasn't read to its end, where memory was taken for it.
+/// Why a source wasn't read to its end by a function that allocates memory.
 #[derive(Clone, Copy, Debug, PartialEq, Eq, Error)]
 pub enum ReadFault {
     /// A read failed, and the source counted it.
@@ -31,7 +31,7 @@ pub enum ReadFault {
     /// The source gave more octets than the limit.
     #[error("more octets than the limit")]
     TooLarge,
-    /// There was no memory for the buffer, or for what was read.
+    /// Memory ran out for the buffer or for what was read.
     #[error("out of memory")]
     Memory,
 }
@@ -55,10 +55,14 @@ impl From<AllocError> for ReadFault {
     }
 }
 
-/// The number of octets in a piece: how much is read at a time.
+/// The number of octets in a piece, which is the most that is read at a time.
 pub const PIECE: usize = 65_536;
 
-/// A buffer for one piece, which serves any number of sources in turn.
+/// A buffer for one piece. It can be used for any number of sources, one after the other.
+///
+/// # Errors
+///
+/// `AllocError` if memory runs out.
 pub fn piece_buffer(alloc: Global) -> Result<Vec<u8>, AllocError>
     ensures { IfOk result (λ buffer. vec_len buffer ≡ PIECE) }
 {
@@ -72,15 +76,15 @@ fn zeros(alloc: Global, len: usize) -> Result<Vec<u8>, AllocError>
     vec![in alloc; 0u8; len]
 }
 
-/// Reads a source to its end through the caller's buffer, and answers how many octets it gave and their
-/// digests by each algorithm of the set. It takes no memory.
+/// Reads a source to its end through the caller's buffer. Returns how many octets it gave, and their digests by each
+/// algorithm of the set. Allocates no memory.
 ///
-/// A source that has more than `limit` octets is left right after the first one past it. So of a failing
-/// read and a source too large, whichever comes first in the stream is answered.
+/// If the source has more than `limit` octets, reading stops right after the first octet past the limit. So if a read
+/// fails and the source is too large as well, the error is the one that comes first in the stream.
 ///
 /// # Errors
 ///
-/// `Read` where a read failed; `TooLarge` where the source gave more than `limit` octets.
+/// `Read` if a read failed; `TooLarge` if the source gave more than `limit` octets.
 pub fn digest_through<S: Source>(
     buffer: &mut [u8],
     reader: &mut S,
@@ -107,11 +111,11 @@ pub fn digest_through<S: Source>(
     }
 }
 
-/// Reads a source to its end as [`digest_through`] does, through a buffer of its own of [`PIECE`] octets.
+/// Reads a source to its end as [`digest_through`] does, through a buffer of [`PIECE`] octets that it allocates.
 ///
 /// # Errors
 ///
-/// Those of [`digest_through`], and `Memory` where there was none for the buffer: then the source wasn't read.
+/// Those of [`digest_through`], and `Memory` if memory for the buffer ran out. The source was then not read.
 pub fn digest_reader<S: Source>(
     alloc: Global,
     reader: &mut S,
@@ -131,14 +135,14 @@ pub fn digest_reader<S: Source>(
     Ok(found)
 }
 
-/// Reads a source to its end through the caller's buffer, and answers all that it gave.
+/// Reads a source to its end through the caller's buffer and returns all that it gave.
 ///
-/// A source that has more than `limit` octets is left right after the first one past it.
+/// If the source has more than `limit` octets, reading stops right after the first octet past the limit.
 ///
 /// # Errors
 ///
-/// `Read` where a read failed; `TooLarge` where the source gave more than `limit` octets; `Memory` where there was none
-/// for what was read, which is lost: then the source gave at most `limit` octets.
+/// `Read` if a read failed; `TooLarge` if the source gave more than `limit` octets; `Memory` if memory ran out for what
+/// was read. What was read is then lost, and it was within the limit.
 pub fn read_to_end_within<S: Source>(
     alloc: Global,
     buffer: &mut [u8],
@@ -165,12 +169,12 @@ pub fn read_to_end_within<S: Source>(
     }
 }
 
-/// Reads one piece into the front of the buffer, and answers how many octets it read: none is the end.
+/// Reads one piece into the front of the buffer and returns how many octets it read. The number 0 means the end.
 ///
 /// # Errors
 ///
-/// `Read` where the read failed; `TooLarge` where the source gave more octets than are `left` within a limit: it gave one more, and
-/// none after it was taken.
+/// `Read` if the read failed; `TooLarge` if the source gave more octets than `left`, which is what remains of a limit.
+/// It then gave one octet more and no other.
 pub fn read_piece<S: Source>(
     buffer: &mut [u8],
     reader: &mut S,
@@ -192,7 +196,7 @@ pub fn read_piece<S: Source>(
     }
 }
 
-/// How much to read at a time, where this many octets may still come: one more, or the whole buffer.
+/// How many octets to read at a time if `left` octets remain of a limit: one more than these, or the whole buffer.
 fn room_for(len: usize, left: u64) -> usize
     ensures { result ≡ min len (left + 1) }
 {

@@ -1,19 +1,20 @@
-//! Sources: what gives octets, piece by piece.
+//! Sources of octets, which are read piece by piece.
 ghost use Rattle.std.specs.Prelude.{◌≡◌, ◌≤◌, ℕ, Bool, false, List, Option, length, IfOk, IsErr};
 ghost use Rattle.std.specs.Io.KnownBytes.{ReadConsumes};
 ghost use Rattle.bag_digest.specs.Device.{UsesSource};
 
 use thiserror::Error;
 
-/// A device didn't do what it was asked for. Why, it doesn't say; its count of failures rose.
+/// A device failed to do what it was asked to do. The reason isn't kept. The device has counted the failure.
 #[derive(Clone, Copy, Debug, PartialEq, Eq, Error)]
 #[error("the device failed")]
 pub struct Failed;
 
-/// What gives octets, piece by piece, and counts its failures.
+/// Something that gives octets piece by piece and counts its failures.
 ///
-/// A file is one, and so is what is in memory. What a file will give nobody knows, so nothing is claimed
-/// of it: its `remaining` is `None`, and it is never `ready`. A source in memory is known, and its reads give what it holds.
+/// Files and octets in memory are sources. What a file will give isn't known, so nothing is claimed of it: its
+/// `remaining` is `None`, and it is never `ready`. What a source in memory holds is known, and its reads give exactly
+/// that.
 pub trait Source {
     /// The octets that reads will still give, where they are known.
     ghost remaining: { Self → Option (List ℕ) };
@@ -21,21 +22,21 @@ pub trait Source {
     /// How often the source has failed.
     ghost failures: { Self → ℕ };
 
-    /// Reads don't fail.
+    /// That reads don't fail.
     ghost ready: { Self → Type 0 };
 
-    /// Whether there is something to read, of which the end may have been reached: where there isn't, each read fails.
+    /// Whether the source is open. If it isn't, every read fails. An open source may have been read to its end.
     ghost is_open: { Self → Bool };
 
-    /// What reads leave as it was.
+    /// What a read leaves unchanged, as a relation between the source before it and after it.
     ghost keeps: { Self → Self → Type 0 };
 
-    /// Reads into the front of the buffer, and answers how many octets it read. None is the end, unless
-    /// the buffer is empty.
+    /// Reads octets into the front of the buffer and returns how many it read. The number 0 means the end, unless the
+    /// buffer is empty.
     ///
     /// # Errors
     ///
-    /// The source failed, and counted it. What the buffer then holds isn't known.
+    /// `Failed` if the source failed; it has counted the failure. The contents of the buffer are then unspecified.
     fn read(&mut self, buf: &mut [u8]) -> Result<usize, Failed>
         ensures bound { IfOk result (λ n. n ≤ length buf.new) }
         ensures octets { ReadConsumes (remaining self.old) (remaining self.new) result buf.new }
@@ -43,7 +44,7 @@ pub trait Source {
         ensures closed { is_open self.old ≡ false → IsErr result }
         ensures open { is_open self.new ≡ is_open self.old };
 
-    /// How often the source has failed. The count stays at its greatest number, 2^64 - 1.
+    /// How often the source has failed. The count stops at its maximum, 2^64 - 1.
     fn failures(&self) -> u64
         ensures { result ≡ failures self.now };
 

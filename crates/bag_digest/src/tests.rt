@@ -69,7 +69,7 @@ impl Read for Breaking {
     }
 }
 
-// A reader whose answers are these, in turn: how many octets `a` it gives, or an error of this kind.
+// A reader with these results, in turn: how many octets `a` it gives, or an error of this kind.
 #[derive(Drop)]
 struct Scripted {
     answers: [Result<usize, io::ErrorKind>; 6],
@@ -100,7 +100,7 @@ fn zeros(alloc: Global, len: usize) -> Result<Vec<u8>, AllocError>
     vec![in alloc; 0u8; len]
 }
 
-// A source of so many octets, which it doesn't write.
+// A source of this many octets. It doesn't write them to the buffer.
 #[derive(Drop)]
 struct Blank {
     left: u64,
