@@ -1,4 +1,4 @@
--- A line is refused for one cause at most: the facts that it needs stand in an order, each with the cause where it fails.
+-- A line is refused for at most one cause. The facts that it needs are in an order, each with its cause if it fails.
 use Rattle.std.proofs.Common.{◌≡◌, ◌⊎◌, Option, Some, None, sym, ◌∙◌, inl, inr}
 use Rattle.bag_tags.specs.declared.fault.LineCause.{LineCause}
 
@@ -19,7 +19,7 @@ AtMostOne P = (fate other : Fate) → P fate → P other → fate ≡ other
 abbrev pub Is : Fate → Fate → Type 0
 Is fate other = other ≡ fate
 
--- a fate of the first kind where the fact fails, and else one of the second
+-- a fate of the first kind if the fact fails, and otherwise one of the second
 abbrev pub Unless : Type 0 → (Fate → Type 0) → (Fate → Type 0) → Fate → Type 0
 Unless fact first later fate = (¬ fact × first fate) ⊎ (fact × later fate)
 

@@ -88,7 +88,7 @@ one_labels octets a b c d h k =
       ap (drop 29) (sym h.second_is ∙ ap (λ (line : Text). line.text) two ∙ k.second_is),
     )
 
--- what `strip_prefix` tells of a label
+-- what the result of `strip_prefix` says about a label
 pub label_gone : (text label : List ℕ) → pointwise nat_eq (take (length label) text) label ≡ false → starts_with nat_eq text label ≡ false
 label_gone text label h = unlike (take (length label) text) label h
 
@@ -116,7 +116,7 @@ given_texts lines given e = sym (numbered_texts 1 lines) ∙ ap (map (λ (p : �
 pub given_length : (lines : List Text) (given : List (ℕ × Text)) → enumerate_from 1 lines ≡ given → length lines ≡ length given
 given_length lines given e = sym (numbered_length 1 lines) ∙ ap length e
 
--- what `from_utf8` tells
+-- what the result of `from_utf8` says
 pub text_from : {A E : Type 0} (octets : List ℕ) (P : A → Type 0) (Q : E → Type 0) (r : Result A E) → MatchResult r (λ s. P s × IsUtf8 octets) Q → is_err r ≡ false → is_utf8 octets ≡ true
 text_from octets P Q (Ok s) h e = is_utf8-from_IsUtf8 octets h.1
 text_from octets P Q (Err s) h e = cc
@@ -207,7 +207,7 @@ same_truth false b P h k = sym (false_from_ne_true b (λ t. let f : false ≡ tr
 abbrev declares : ℕ → ℕ → Bool → Declaration
 declares major minor utf8 = record { major = major; minor = minor; utf8 = utf8 }
 
--- octets declare one thing at most
+-- octets make at most one declaration
 pub one_declaration : (octets : List ℕ) (a b : Declaration) → IsDeclaration octets a → IsDeclaration octets b → a ≡ b
 one_declaration octets a b h k =
     let same = one_labels octets h.version h.encoding k.version k.encoding h.labels k.labels in
@@ -229,7 +229,7 @@ version_excludes : (octets version encoding other name : List ℕ) (major minor 
 version_excludes octets version encoding other name major minor h none k v =
     none major minor (subst (λ t. IsVersion t major minor) (one_labels octets other name version encoding k h).0 v)
 
--- octets have one first fault at most
+-- octets have at most one first fault
 pub one_fault : (octets : List ℕ) (a b : DeclFault) → IsDeclarationFault octets a → IsDeclarationFault octets b → a ≡ b
 one_fault octets LineCount LineCount f g = refl
 one_fault octets LineCount Label f g = absurd (count_excludes octets f.1.0 g.1.0 g.1.1 f.1.1 f.1.2 g.1.2)
@@ -278,7 +278,7 @@ written_declares = read_so written_declaration (codes "1.0") (codes "UTF-8") 1 0
     (λ e. cc, search rules)
     (λ e. refl, λ e. refl)
 
--- what a copy of them declares
+-- a copy of what is written declares the same
 pub copy_declares : {V E : Type 0} (items : V → List ℕ) (r : Result V E) → IfOk r (λ v. ((x y : ℕ) → y ≡ x → y ≡ x) → items v ≡ written_declaration) → IfOk r (λ v. IsDeclaration (items v) current)
 copy_declares items (Ok v) h = subst (λ octets. IsDeclaration octets current) (sym (h (λ x y e. e))) written_declares
 copy_declares items (Err e) h = tt

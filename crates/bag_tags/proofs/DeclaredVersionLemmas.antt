@@ -48,7 +48,7 @@ octets_are octets declaration h = (
       ∙ ap (λ version. (version_label ++ version) ++ rest_of octets h.version h.encoding h.labels) (version_text h.version declaration.major declaration.minor h.version_is),
 )
 
--- the version of these numbers, where it is one that is known
+-- the version of these numbers, if it is known
 same_number : (m n : ℕ) → (m == n) ≡ true → m ≡ n
 same_number m n e = elim (eqb_tells m n) [ inl same ↦ same.1 | inr other ↦ absurd (let k : true ≡ false = sym e ∙ other.0 in cc) ]
 
@@ -62,7 +62,7 @@ chosen false b true true version e = inr (refl, refl, cc)
 chosen false b true false version e = absurd (let none : None ≡ Some version = e in cc)
 chosen false b false d version e = absurd (let none : None ≡ Some version = e in cc)
 
--- the numbers are those of a version that is known
+-- the numbers are those of a known version
 abbrev AreOf : ℕ → ℕ → Version → Type 0
 AreOf major minor version = ((major ≡ 1) × (minor ≡ 0) × (version ≡ V1)) ⊎ ((major ≡ 0) × (minor ≡ 97) × (version ≡ V097))
 

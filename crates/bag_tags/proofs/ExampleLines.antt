@@ -1,4 +1,4 @@
--- Lines of worked examples, in ASCII: what they give, by their parts as these are computed.
+-- Lines of worked examples in ASCII. What they give is computed from their parts.
 use Rattle.std.proofs.Common.{◌≡◌, ◌-◌, ◌==◌, ℕ, true, false, List, ◌∷◌, [], ◌++◌, length, nat_eq, slice_index, Option, Some, refl, inl, inr}
 use Rattle.std.specs.List.{starts_with}
 use Rattle.bag_path.specs.Lines.{lines_of}

@@ -45,11 +45,11 @@ module _ (version : Version) (text : List ℕ) where
   abbrev OfPayload : Type 0
   OfPayload = (entry : FetchItem) × GivesEntry version text entry × (is_payload entry.path ≡ true)
 
-  -- the fate of a path's text
+  -- the fate of the text of a path
   abbrev OfPath : Fate → Type 0
   OfPath fate = (fault : PathFault) × (fate ≡ for (BadPath fault)) × HasNoPath version text fault
 
-  -- the fate that a line has, by the first of these that it lacks
+  -- the fate of a line, by the first of these that it lacks
   abbrev AfterLength : Fate → Type 0
   AfterLength = Unless SomeEntry OfPath (Unless OfPayload (Is (for WrongPlace)) (Is on))
 
@@ -131,7 +131,7 @@ decided_url url =
     decided_as (UrlParts scheme rest) (IsUrl url) (λ h. url_of url scheme rest refl h.0 h.1) (λ h. url_parts url scheme rest refl h)
     (decided_both _ _ (decided_scheme scheme) (decided_both _ _ (decided_below 1 (length rest)) (decided_all IsUrlOctet decided_url_octet (drop 1 rest))))
 
--- a text is a length, or is none
+-- a text either is a length or isn't
 no_length : (text : List ℕ) → ¬ (text ≡ codes "-") → ((n : ℕ) → IsNumeral text n → n < 2 ^ 64 → ⊥) → (octets : Option ℕ) → ¬ IsLength text octets
 no_length text other none None h = other h
 no_length text other none (Some n) h = none n h.0 h.1

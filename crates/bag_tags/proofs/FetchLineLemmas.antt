@@ -101,7 +101,7 @@ words_utf8 text url len path h u =
     let first = cut_utf8 text url h.after_url h.rest h.url_cut u in
     (first.0, (cut_utf8 h.rest len h.after_length path h.length_cut first.1).1)
 
--- an entry of the parts that were read
+-- the entry of the parts that were read
 pub gives_of : (version : Version) (text url len path_text : List ℕ) (octets : Option ℕ) (path : List ℕ) → AreWords text url len path_text → IsUrl url → IsLength len octets → Spells version path path_text → IsPath path → GivesEntry version text (fetch_item url octets path)
 gives_of version text url len path_text octets path w u l s p = record { length = len; path_text = path_text; words = w; is_url = u; is_length = l; spells = s; is_path = p }
 

@@ -35,7 +35,7 @@ pub fetch_written : (lines : List FetchLine) → written_fetch lines ≡ written
 fetch_written [] = refl
 fetch_written (line ∷ lines) = flat_map-cons written_line line lines ∙ ap (λ xs. written_line line ++ xs) (fetch_written lines) ∙ sym (lines_cons (line_text line) (map line_text lines))
 
--- what stands in a url
+-- the octets of a URL
 all_graphic : (scheme : List ℕ) → IsScheme scheme → AllByRecursion (λ x. 32 < x) scheme
 all_graphic [] h = absurd h
 all_graphic (x ∷ scheme) h = (omega (arith, h.0), each IsSchemeOctet (λ x. 32 < x) (λ x o. omega (arith, o)) scheme h.1)
@@ -49,7 +49,7 @@ graphic_not_blank x h = grind (arith, nat_tests)
 graphic_plain : (x : ℕ) → 32 < x → IsPlain x
 graphic_plain x h = (λ e. omega arith, λ e. omega arith)
 
--- and in a length
+-- the octets of a length
 length_graphic : (octets : Option ℕ) → IfSome octets (λ n. n < 2 ^ 64) → AllByRecursion (λ x. 32 < x) (written_length octets)
 length_graphic None h = (omega arith, tt)
 length_graphic (Some n) h = each IsAsciiDigit (λ x. 32 < x) (λ x d. omega (arith, d)) (decimal n) (decimal_numeral n h).digits
@@ -88,7 +88,7 @@ pub texts_plain : (lines : List FetchLine) → AllByRecursion CanBeFetched lines
 texts_plain [] h = tt
 texts_plain (line ∷ lines) h = (text_plain line h.0, texts_plain lines h.1)
 
--- it begins with a letter
+-- a line begins with a letter
 scheme_unmarked : (scheme rest : List ℕ) → IsScheme scheme → starts_with nat_eq (scheme ++ rest) mark ≡ false
 scheme_unmarked [] rest h = absurd h
 scheme_unmarked (x ∷ scheme) rest h = rw (ne_eqb 239 x (λ e. omega (arith, h.0))) refl

@@ -24,7 +24,7 @@ module _ (version : Version) (before : List MetadataElement) (text : List ℕ) w
   abbrev SomeElement : Type 0
   SomeElement = (element : MetadataElement) × GivesElement version text element
 
-  -- the fate that a line has, by the first of these that it lacks
+  -- the fate of a line, by the first of these that it lacks
   abbrev OfIndented : Fate → Type 0
   OfIndented = Unless (before ≢ []) (Is (for NothingToContinue)) (Is on)
 

@@ -92,7 +92,7 @@ one_parts version text l f m g h k =
       one_first version k.after f g (subst (λ a. HasFirstLine version a f) s.1 h.first_line) k.first_line,
     )
 
--- a text has a colon, or none
+-- a text contains a colon, or doesn't
 abbrev ColonOrNone : List ℕ → Type 0
 ColonOrNone text = ((before : List ℕ) × ((after : List ℕ) × HasColon text before after)) ⊎ AllByRecursion IsNotColon text
 
@@ -103,7 +103,7 @@ colon_cases text before (x ∷ after) e = inl (before, (after, colon_of text bef
 pub colon_or_none : (text : List ℕ) → ColonOrNone text
 colon_or_none text = colon_cases text (until is_colon text).0 (until is_colon text).1 refl
 
--- the same, by indices
+-- the same in terms of indices
 pub none_where : (text : List ℕ) → ((i : ℕ) → i < length text → get_or text i 0 ≢ 58) → AllByRecursion IsNotColon text
 none_where text none = recursion_from_All IsNotColon text (All-from_get_or IsNotColon text 0 none)
 

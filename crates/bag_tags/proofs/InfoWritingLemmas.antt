@@ -65,7 +65,7 @@ info_written (e ∷ elements) h =
     ∙ ap (λ xs. written_lines (texts_of e h.0.is_value) ++ xs) (info_written elements h.1)
     ∙ sym (lines_append (texts_of e h.0.is_value) (info_texts elements h.1))
 
--- no line end stands in these lines
+-- these lines contain no line end
 plain_label : (label : List ℕ) → AllByRecursion IsLabelOctet label → AllByRecursion IsPlain label
 plain_label [] h = tt
 plain_label (x ∷ label) h = (h.0.1, plain_label label h.1)

@@ -1,4 +1,4 @@
--- What stands before the colon has one label, and what follows it one first line at most.
+-- What comes before the colon has one label, and what follows it has at most one first line.
 use Rattle.std.proofs.Common.{◌≡◌, ◌<◌, ◌+◌, ◌⊎◌, ℕ, zero, suc, true, false, List, [], ◌∷◌, ◌++◌, length, length-drop, take, drop, take-append-drop, get_or, refl, sym, ap, ◌∙◌, subst, inl, inr, arith, append-nil}
 use Rattle.std.specs.List.{AllByRecursion}
 use Rattle.std.proofs.lemmas.Bool.{cases_Bool}
@@ -39,7 +39,7 @@ pub one_label : (version : Version) (before l m : List ℕ) → HasLabel version
 one_label V1 before l m h k = sym h ∙ k
 one_label V097 before l m h k = one_end l m h.0 k.0 (sym h.1 ∙ k.1) h.2 k.2 h.3 k.3
 
--- what stands before the colon is the label and what follows it
+-- what comes before the colon is the label and what follows the label
 pub label_front : (version : Version) (before label : List ℕ) → HasLabel version before label → (rest : List ℕ) × (before ≡ label ++ rest)
 label_front V1 before label h = ([], h ∙ sym (append-nil label))
 label_front V097 before label h = (h.0, h.1)

@@ -16,7 +16,7 @@ use Rattle.bag_tags.specs.declared.listing.Pair.{Pair}
 use Rattle.bag_tags.specs.Listings.{lists_path, listed_digest, NoneTwice, IsInPlace}
 use Rattle.bag_tags.specs.ManifestView.{place_from, IsIndexOf, FitEach}
 
--- where no pair has the path, none is listed for it
+-- if no pair has the path, no digest is listed for it
 pub none_placed : (n : ℕ) (pairs : List Pair) (path : List ℕ) → place_from n pairs path ≡ None → listed_digest pairs path ≡ None
 none_placed n [] path e = refl
 none_placed n (p ∷ pairs) path e = elim (cases_Bool (bytes_eq p.path path)) [
@@ -41,7 +41,7 @@ found_is_listed places pairs path k index found =
 pub none_is_listed : (places : BTreeMap (List ℕ) ℕ) (pairs : List Pair) (path : List ℕ) → IsIndexOf places pairs → get (slice_cmp nat_cmp) places path ≡ None → listed_digest pairs path ≡ None
 none_is_listed places pairs path index none = none_placed 0 pairs path (sym (index path) ∙ none)
 
--- a path has a place exactly where it is listed
+-- a path has a place exactly if it is listed
 is_placed : (n : ℕ) (pairs : List Pair) (path : List ℕ) → is_some (place_from n pairs path) ≡ lists_path pairs path
 is_placed n [] path = refl
 is_placed n (p ∷ pairs) path = elim (cases_Bool (bytes_eq p.path path)) [ inl h ↦ rw h refl | inr h ↦ rw h (is_placed (n + 1) pairs path) ]
@@ -52,7 +52,7 @@ is_listed places pairs path index = ap (λ (o : Option ℕ). is_some o) (index p
 head_absent : (p : Pair) (pairs : List Pair) (path : List ℕ) → lists_path (p ∷ pairs) path ≡ false → (bytes_eq p.path path ≡ false) × (lists_path pairs path ≡ false)
 head_absent p pairs path e = or_parts (bytes_eq p.path path) (lists_path pairs path) e
 
--- the places after one pair more, whose path wasn't listed
+-- the places after adding a pair whose path wasn't listed
 placed_more : (n : ℕ) (pairs : List Pair) (new : Pair) (path : List ℕ) → lists_path pairs new.path ≡ false → place_from n (pairs ++ new ∷ []) path ≡ (if bytes_eq new.path path then Some (n + length pairs) else place_from n pairs path)
 placed_more n [] new path absent = ap (λ k. if bytes_eq new.path path then Some k else None) (let e : n ≡ n + 0 = omega arith in e)
 placed_more n (p ∷ pairs) new path absent =
@@ -65,7 +65,7 @@ placed_more n (p ∷ pairs) new path absent =
       | inr e ↦ rw e (placed_more (n + 1) pairs new path h.1 ∙ ap (λ k. if bytes_eq new.path path then Some k else place_from (n + 1) pairs path) (let q : n + 1 + length pairs ≡ n + length (p ∷ pairs) = omega arith in q))
     ]
 
--- the index with one place more
+-- the index with one more place
 pub index_more : (places more : BTreeMap (List ℕ) ℕ) (pairs : List Pair) (new : Pair) → IsIndexOf places pairs → lists_path pairs new.path ≡ false → Updates (slice_cmp nat_cmp) places more new.path (Some (length pairs)) → IsIndexOf more (pairs ++ new ∷ [])
 index_more places more pairs new index absent update path =
     update.0 path
@@ -73,7 +73,7 @@ index_more places more pairs new index absent update path =
     ∙ ap (λ (o : Option ℕ). cond (bytes_eq new.path path) (Some (length pairs)) o) (index path)
     ∙ sym (placed_more 0 pairs new path absent ∙ ap (λ k. if bytes_eq new.path path then Some k else place_from 0 pairs path) (let e : 0 + length pairs ≡ length pairs = omega arith in e))
 
--- no path twice, with one more that wasn't listed
+-- no path is listed twice after adding one that wasn't listed
 lists_more : (pairs : List Pair) (new : Pair) (path : List ℕ) → lists_path (pairs ++ new ∷ []) path ≡ (lists_path pairs path || bytes_eq new.path path)
 lists_more [] new path = elim (cases_Bool (bytes_eq new.path path)) [ inl e ↦ rw e refl | inr e ↦ rw e refl ]
 lists_more (p ∷ pairs) new path = elim (cases_Bool (bytes_eq p.path path)) [ inl e ↦ rw e refl | inr e ↦ rw e (lists_more pairs new path) ]

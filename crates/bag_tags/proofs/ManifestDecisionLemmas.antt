@@ -51,11 +51,11 @@ module _ (version : Version) (before : Listing) (text : List ℕ) where
   abbrev NotListed : Type 0
   NotListed = (path : List ℕ) × ((digest : Digest) × Gives version before.alg text path digest × (lists_path before.pairs path ≡ false))
 
-  -- the fate of a path's text
+  -- the fate of the text of a path
   abbrev OfPath : Fate → Type 0
   OfPath fate = (fault : PathFault) × (fate ≡ for (BadPath fault)) × HasBadPath version before.alg text fault
 
-  -- the fate that a line has, by the first of these that it lacks
+  -- the fate of a line, by the first of these that it lacks
   abbrev AfterPath : Fate → Type 0
   AfterPath = Unless InPlace (Is (for WrongPlace)) (Unless NotListed (Is (for Twice)) (Is on))
 

@@ -34,7 +34,7 @@ no_cut text w b r p h =
     let none : b ++ r ≡ [] = sym (ap (λ (u : List ℕ × List ℕ). u.1) (cut_word text w b r p)) ∙ nothing_left is_blank text h in
     let k : true ≡ false = sym (ap (λ xs. length xs == 0) none) ∙ cut_some text w b r p in cc
 
--- one digest, one path's text
+-- a line has one digest and one text of a path
 pub checksum_one : (alg : Alg) (text : List ℕ) (d e : Digest) (p q : List ℕ) → HasChecksum alg text d p → HasChecksum alg text e q → (d ≡ e) × (p ≡ q)
 checksum_one alg text d e p q h k = (
   one_digest_spelled alg k.checksum d e (subst (λ w. SpellsDigest alg w d) (same_word text h.checksum h.blanks p k.checksum k.blanks q h.cut k.cut).0 h.spells_digest) k.spells_digest,
@@ -62,7 +62,7 @@ cut_by text word rest blanks more e some f =
 pub checksum_by : (alg : Alg) (text word rest blanks path_text : List ℕ) (digest : Digest) → until is_blank text ≡ (word, rest) → (length rest == 0) ≡ false → until is_not_blank rest ≡ (blanks, path_text) → SpellsDigest alg word digest → HasChecksum alg text digest path_text
 checksum_by alg text word rest blanks path_text digest e some f spells = record { checksum = word; blanks = blanks; cut = cut_by text word rest blanks path_text e some f; spells_digest = spells }
 
--- a path's cause is that of its line
+-- the cause of a path's text is the cause of its line
 pub path_cause : (version : Version) (alg : Alg) (text path_text : List ℕ) (digest : Digest) (e : TagCause) → HasChecksum alg text digest path_text → Causes (PathCause version (plain_path path_text)) e → Causes (GivesNothing version alg text) e
 path_cause version alg text path_text digest tag.Memory c h = tt
 path_cause version alg text path_text digest (tag.Line cause) c h = subst (GivesNothing version alg text) (sym h.1) (record { digest = digest; path_text = path_text; checksum = c; no_path = h.2 })

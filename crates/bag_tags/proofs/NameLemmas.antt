@@ -34,7 +34,7 @@ tag_word path a b h k = append_cancel_left (codes "tagmanifest-") a b (append_ca
 pub payload_or_tag : (path a b : List ℕ) → path ≡ payload_manifest a → path ≡ tag_manifest b → ⊥
 payload_or_tag path a b h k = apart path _ _ h k refl
 
--- an unknown algorithm's name isn't a known one's
+-- the name of an unknown algorithm isn't that of a known one
 pub payload_known : (path : List ℕ) (alg : Alg) (word : List ℕ) → IsUnknownManifest path word → path ≡ payload_manifest (name_of alg) → ⊥
 payload_known path alg word u k = elim u.form [ inl e ↦ u.unknown alg (payload_word path _ _ e k) | inr e ↦ payload_or_tag path _ _ k e ]
 
@@ -75,7 +75,7 @@ reserved path Info h = inl h
 reserved path FetchList h = inl h
 reserved path Other h = inr (refl, h)
 
--- a path names one thing at most
+-- a path names at most one thing
 pub one_name : (path : List ℕ) (a b : TagName) → Names path a → Names path b → a ≡ b
 one_name path a b h k = elim (reserved path a h) [
   | inl r ↦ elim (reserved path b k) [ inl s ↦ one_reserved path a b r s | inr s ↦ absurd (s.1 a r) ]
@@ -89,7 +89,7 @@ decided_word_octet octet = decided_either (IsAsciiAlphanumeric octet) (octet ≡
 decided_word : (word : List ℕ) → Decided (IsWord word)
 decided_word word = decided_both (word ≢ []) (AllByRecursion IsWordOctet word) (decided_some word) (decided_all IsWordOctet decided_word_octet word)
 
--- what stands between `tagmanifest-` and `.txt`, where they are there
+-- what is between `tagmanifest-` and `.txt`, if the path has both
 abbrev between : List ℕ → List ℕ
 between path = take (length path - 16) (drop 12 path)
 

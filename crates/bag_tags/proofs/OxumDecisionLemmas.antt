@@ -1,4 +1,4 @@
--- A text is an oxum, or is none.
+-- A text either is an oxum or isn't.
 use Rattle.std.proofs.Common.{◌<◌, ◌^◌, ◌⊎◌, ℕ, List, [], ◌∷◌, take, drop, refl, subst, inl, inr}
 use Rattle.std.specs.Char.{IsAsciiDigit}
 use Rattle.std.specs.Str.{bytes_eq}
@@ -11,7 +11,7 @@ use Rattle.bag_tags.specs.WordsReading.{until, is_not_blank, is_dot}
 use Rattle.bag_tags.proofs.DecisionLemmas.{decided_some, decided_all, decided_digit, decided_below}
 use Rattle.bag_tags.proofs.OxumLemmas.{IsCutOxum, cut_by, no_dot, no_back, no_octets, no_streams, oxum_read}
 
--- a text is a numeral of a number below 2^64, or of none
+-- a text either is a numeral of a number below 2^64 or isn't
 pub numeral_or_none : (text : List ℕ) → ((n : ℕ) × IsNumeral text n × (n < 2 ^ 64)) ⊎ ((n : ℕ) → IsNumeral text n → n < 2 ^ 64 → ⊥)
 numeral_or_none text = elim (decided_some text) [
   | inr empty ↦ inr (λ n h below. empty h.some)
@@ -24,7 +24,7 @@ numeral_or_none text = elim (decided_some text) [
   ]
 ]
 
--- a text that is cut as one
+-- a text that is cut like an oxum
 cut_or_none : (text before after back : List ℕ) → IsCutOxum text before after back → ((octets streams : ℕ) × OxumText text octets streams) ⊎ ((octets streams : ℕ) → ¬ OxumText text octets streams)
 cut_or_none text before after back cut = elim (cases_Bool (is_blank_line back)) [
   | inr other ↦ inr (no_back text before after back cut other)

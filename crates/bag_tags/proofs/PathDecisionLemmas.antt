@@ -44,7 +44,7 @@ part_of V1 part octet rest h = elim h [
 ]
 part_of V097 part octet rest h = elim h [ inl h ↦ inl h.0 | inr h ↦ inr (line_escape part octet h) ]
 
--- what UTF-8 spells is UTF-8, also after a front
+-- what UTF-8 spells is UTF-8, even after a front
 spelled_utf8_after : (version : Version) (path text front : List ℕ) → Spells version path text → IsUtf8 (front ++ text) → IsUtf8 (front ++ path)
 spelled_utf8_after version [] text front h u = subst (λ t. IsUtf8 (front ++ t)) h u
 spelled_utf8_after version (octet ∷ path) text front h u =
@@ -69,7 +69,7 @@ spelled_utf8 version path text h u = spelled_utf8_after version path text [] h u
 abbrev pub PathOrFault : Version → List ℕ → Type 0
 PathOrFault version text = ((path : List ℕ) × Spells version path text × IsPath path) ⊎ ((fault : PathFault) × SpellsNoPath fault version text)
 
--- want of memory is no fault of octets
+-- `Memory` is not a fault of octets
 other_fault : (wrong : PathFault) (b : Bool) (fault : PathFault) (rest : Option PathFault) → fault ≢ wrong → rest ≢ Some wrong → (if b then Some fault else rest) ≢ Some wrong
 other_fault wrong true fault rest n m e = n (cc)
 other_fault wrong false fault rest n m e = m e
@@ -117,7 +117,7 @@ pub one_path_fault : (version : Version) (text : List ℕ) (fault other : PathFa
 one_path_fault version text fault other h k =
     let e : Some fault ≡ Some other = sym (no_path_read version text fault h) ∙ no_path_read version text other k in cc
 
--- a text that spells a path has none
+-- a text that spells a path has no fault
 pub no_path : (version : Version) (text p : List ℕ) (fault : PathFault) → Spells version p text → IsPath p → SpellsNoPath fault version text → ⊥
 no_path version text p fault h is refused =
     let e : None ≡ Some fault = sym (ap fault_of_octets (read_if_spells version p text h) ∙ no_fault_if_path p is) ∙ no_path_read version text fault refused in cc

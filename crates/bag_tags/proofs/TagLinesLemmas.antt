@@ -1,4 +1,4 @@
--- A text tag file is read exactly as its lines lead.
+-- A text tag file is read exactly as its lines lead on.
 use Rattle.std.proofs.Common.{◌≡◌, ◌⊎◌, ◌+◌, ℕ, true, false, List, [], ◌∷◌, ◌++◌, map, Err, refl, sym, ap, ◌∙◌, subst, inl, inr, append_assoc, append-nil}
 use Rattle.std.specs.List.{AllByRecursion, enumerate_from}
 use Rattle.std.specs.Result.{IsErrOf}
@@ -18,7 +18,7 @@ use Rattle.bag_tags.proofs.DecisionLemmas.{decided_utf8}
 abbrev pub numbered : List ℕ → List TagLine
 numbered octets = tag_lines (lines_of (without mark octets))
 
--- the lines of octets are theirs, and no others
+-- octets have their own lines and no others
 own_lines : (octets : List ℕ) → HasLines octets (lines_of octets)
 own_lines octets = (one_list octets (lines_of octets)).1 refl
 
@@ -36,7 +36,7 @@ pub record HasLed {A : Type 0} (leads : A → ℕ → List ℕ → A → Type 0)
 pub none_led : {A : Type 0} (leads : A → ℕ → List ℕ → A → Type 0) (start : A) (all : List TagLine) → HasLed leads start all all start
 none_led leads start all = record { before = []; cut = refl; lead = refl }
 
--- one line more at the end
+-- one more line at the end
 lead_more : {A : Type 0} (step : A → TagLine → A → Type 0) (start value next : A) (before : List TagLine) (line : TagLine) → Lead step start before value → step value line next → Lead step start (before ++ line ∷ []) next
 lead_more step start value next [] line led on = (next, subst (λ v. step v line next) led on, refl)
 lead_more step start value next (first ∷ before) line led on = (led.0, led.1, lead_more step led.0 value next before line led.2 on)
@@ -163,7 +163,7 @@ module _ {A : Type 0} (leads : A → ℕ → List ℕ → A → Type 0) (refuses
       let same = same_lines (without mark octets) t.lines s.lines t.has_lines s.has_lines in
       lead_none s.before s.after s.faulty start s.so_far value s.lead f.no_further (subst (λ ls. Lead Step start ls value) (same ∙ s.cut) t.lead)
 
-  -- the first faulty line among lines is one, for one cause
+  -- at most one line is the first faulty one, for one cause
   stop_one : (before others after rest : List TagLine) (line other : TagLine) (start so_far value : A) (c d : LineCause) → before ++ line ∷ after ≡ others ++ other ∷ rest → Lead Step start before so_far → Lead Step start others value → IsFaulty so_far line c → IsFaulty value other d → (line ≡ other) × (c ≡ d)
   stop_one [] [] after rest line other start so_far value c d e h k f g =
       let here : line ≡ other = cc in
@@ -184,7 +184,7 @@ module _ {A : Type 0} (leads : A → ℕ → List ℕ → A → Type 0) (refuses
   abbrev fault_at : ℕ → LineCause → LineFault
   fault_at line cause = record { line = line; cause = cause }
 
-  -- a text has one first fault at most
+  -- a text has at most one first fault
   pub text_one_fault : (start : A) (octets : List ℕ) (fault other : LineFault) → IsFirstFault leads refuses start octets fault → IsFirstFault leads refuses start octets other → fault ≡ other
   text_one_fault start octets fault other f g =
       let s = f.stops in

@@ -19,7 +19,7 @@ scalars_rest : (cs ds : List ℕ) → scalars (cs ++ ds) ≡ true → scalars ds
 scalars_rest [] ds h = h
 scalars_rest (c ∷ cs) ds h = scalars_rest cs ds (and_parts _ (scalars (cs ++ ds)) h).1
 
--- what follows UTF-8 in UTF-8 is UTF-8
+-- what follows UTF-8 within UTF-8 is UTF-8
 pub IsUtf8-rest : (front rest : List ℕ) → IsUtf8 front → IsUtf8 (front ++ rest) → IsUtf8 rest
 IsUtf8-rest front rest f whole = (
   chars rest,
@@ -47,7 +47,7 @@ IsAscii-from_each (b ∷ bs) h = below-cons b bs h.0 (IsAscii-from_each bs h.1)
 starts_whole : (text front : List ℕ) → starts_with nat_eq text front ≡ true → text ≡ front ++ drop (length front) text
 starts_whole text front h = sym (take-append-drop (length front) text) ∙ ap (λ xs. xs ++ drop (length front) text) (sym ((bytes_eq-Decides front (take (length front) text)).0 h))
 
--- and so is what follows a front in ASCII that is dropped
+-- what follows a front in ASCII that is dropped is UTF-8
 pub without_utf8 : (front text : List ℕ) → IsAscii front → IsUtf8 text → IsUtf8 (without front text)
 without_utf8 front text ascii utf8 = elim (cases_Bool (starts_with nat_eq text front)) [
   | inl h ↦ rw h (IsUtf8-rest front (drop (length front) text) (IsUtf8-from_ascii front ascii) (subst IsUtf8 (starts_whole text front h) utf8))
@@ -111,7 +111,7 @@ pub blank_line_of : (xs : List ℕ) → AllByRecursion IsBlank xs → is_blank_l
 blank_line_of [] h = refl
 blank_line_of (x ∷ xs) h = rw h.0 (blank_line_of xs h.1)
 
--- what follows where a text is cut
+-- what follows the place where a text is cut
 ascii_rest : (test : ℕ → Bool) → ((x : ℕ) → test x ≡ true → x < 128) → (text front rest : List ℕ) → until test text ≡ (front, rest) → IsUtf8 text → IsUtf8 rest
 ascii_rest test below text front [] e u = IsUtf8-from_ascii [] (IsAscii-from_each [] tt)
 ascii_rest test below text front (y ∷ ys) e u =

@@ -22,7 +22,7 @@ manifest_named Tag alg = tag.TagManifest alg
 abbrev no_manifest_name : Option ManifestName
 no_manifest_name = None
 
--- what the path of such a file names
+-- what the path of one of these files names
 abbrev named : LineFile → TagName
 named Info = tag.Info
 named FetchList = tag.FetchList
@@ -52,7 +52,7 @@ names path Info e = e
 names path FetchList e = e
 names path (Manifest name) e = names_manifest path name.kind name.alg e
 
--- a path is that of one such file at most
+-- a path is that of at most one of these files
 pub one_file : (path : List ℕ) (a b : LineFile) → path ≡ text_file a → path ≡ text_file b → a ≡ b
 one_file path a b p q = sym (back a) ∙ ap file_named (one_name path (named a) (named b) (names path a p) (names path b q)) ∙ back b
 
@@ -60,7 +60,7 @@ known_named : (kind : Kind) (alg : Alg) → known_manifest (manifest_named kind 
 known_named Payload alg = refl
 known_named Tag alg = refl
 
--- a path that names another thing is that of no such file
+-- a path that names another thing is that of none of these files
 pub no_file : (path : List ℕ) (name : TagName) → Names path name → name ≢ tag.Info → name ≢ tag.FetchList → known_manifest name ≡ None → (file : LineFile) → path ≢ text_file file
 no_file path name h info fetch none Info e = info (one_name path name tag.Info h e)
 no_file path name h info fetch none FetchList e = fetch (one_name path name tag.FetchList h e)
@@ -101,7 +101,7 @@ no_text path info fetch manifest Info = info
 no_text path info fetch manifest FetchList = fetch
 no_text path info fetch manifest (Manifest name) = manifest name.kind name.alg
 
--- a path is that of such a file, or of none
+-- a path either is that of one of these files or isn't
 pub text_or_not : (path : List ℕ) → ((file : LineFile) × (path ≡ text_file file)) ⊎ ((file : LineFile) → path ≢ text_file file)
 text_or_not path = elim (octets_same path (text_file Info)) [
   | inl e ↦ inl (Info, e)

@@ -10,7 +10,7 @@ use Rattle.bag_tags.specs.Words.{is_blank}
 use Rattle.bag_tags.specs.InfoReading.{stops_value}
 use Rattle.bag_tags.specs.Infos.{IsFurtherLine, IsValue, after_lf}
 
--- whether what is left of a value is good, after an LF or not
+-- whether what is left of a value is good; the flag says whether an LF comes before it
 unfoldable pub value_ok : Bool → List ℕ → Bool
 value_ok after [] = not after
 value_ok after (x ∷ xs) = cond (stops_value after x) false (value_ok (x == 10) xs)
@@ -37,7 +37,7 @@ nothing_after (x ∷ rest) after h = absurd (omega arith)
 pub value_ends : (text : List ℕ) (after : Bool) (n : ℕ) → length text ≤ n → value_ok false text ≡ value_ok after (drop n text) → value_ok false text ≡ not after
 value_ends text after n h e = e ∙ nothing_after (drop n text) after (simp length-drop (omega arith))
 
--- the lines of what is left of a value: the first is a further one, where it stands after an LF
+-- the lines of what is left of a value; the first is a further line if it comes after an LF
 record HasRest (after : Bool) (text : List ℕ) : Type 0 where
   first : List ℕ
   further : List (List ℕ)
@@ -46,7 +46,7 @@ record HasRest (after : Bool) (text : List ℕ) : Type 0 where
   lines : AllByRecursion IsFurtherLine further
   begins : IsTrue after → IsFurtherLine first
 
--- an octet that may stand in a value
+-- an octet that a value may contain
 abbrev Stands : Bool → ℕ → Type 0
 Stands after x = (x ≢ 13) × (IsTrue after → (is_blank x ≡ false) × (x ≢ 10))
 
@@ -99,7 +99,7 @@ value_is text h =
     let r = rest_of text false h in
     record { first = r.first; further = r.further; lines = record { whole = r.whole; first_line = r.plain; further_lines = r.lines } }
 
--- a first line that may stand here, and further ones, are good
+-- a first line that may come here, followed by further ones, is good
 ok_from : (first : List ℕ) (after : Bool) (rest : List ℕ) → AllByRecursion IsPlain first → (IsTrue after → IsFurtherLine first) → value_ok false rest ≡ true → value_ok after (first ++ rest) ≡ true
 ok_from [] true rest p b h = absurd ((b refl).some refl)
 ok_from [] false rest p b h = h
@@ -120,7 +120,7 @@ further_ok (line ∷ further) h =
 pub is_ok : (text : List ℕ) → IsValue text → value_ok false text ≡ true
 is_ok text v = ap (value_ok false) v.lines.whole ∙ ok_from v.first false (flat_map after_lf v.further) v.lines.first_line (λ t. absurd (let k : false ≡ true = t in cc)) (further_ok v.further v.lines.further_lines)
 
--- one further line more
+-- one more further line
 further_more : (further : List (List ℕ)) (line : List ℕ) → AllByRecursion IsFurtherLine further → IsFurtherLine line → AllByRecursion IsFurtherLine (further ++ line ∷ [])
 further_more [] line h l = (l, tt)
 further_more (x ∷ further) line h l = (h.0, further_more further line h.1 l)

@@ -42,7 +42,7 @@ begins_with test (x ∷ xs) y ys e = elim (cases_Bool (test x)) [
   | inr h ↦ begins_with test xs y ys (rw h at e)
 ]
 
--- nothing passes where nothing is left
+-- nothing passes if nothing is left
 pub none_passes : (test : ℕ → Bool) (xs : List ℕ) → (length (until test xs).1 == 0) ≡ true → AllByRecursion (λ x. test x ≡ false) xs
 unfolding until
 none_passes test [] e = tt
@@ -51,13 +51,13 @@ none_passes test (x ∷ xs) e = elim (cases_Bool (test x)) [
   | inr h ↦ (h, none_passes test xs (rw h at e))
 ]
 
--- and nothing is left where nothing passes
+-- nothing is left if nothing passes
 pub nothing_left : (test : ℕ → Bool) (xs : List ℕ) → AllByRecursion (λ x. test x ≡ false) xs → (until test xs).1 ≡ []
 unfolding until
 nothing_left test [] h = refl
 nothing_left test (x ∷ xs) h = rw h.0 (nothing_left test xs h.1)
 
--- what follows a front, where there is something, begins with an element that passes
+-- what follows a front, if there is something, begins with an element that passes
 then_passes : (p : ℕ → Bool) (text : List ℕ) → (length (until p text).1 == 0) ≡ false → (until (λ x. not (p x)) (until p text).1).0 ≢ []
 unfolding until
 then_passes p [] h = absurd (let k : true ≡ false = h in cc)
@@ -116,7 +116,7 @@ cut_at text some =
       rest_begins = unblank_rest rest;
     }
 
--- and nowhere else
+-- a line is cut nowhere else
 pub cut_word : (text word blanks rest : List ℕ) → IsCut text word blanks rest → until is_blank text ≡ (word, blanks ++ rest)
 cut_word text word blanks rest cut =
     ap (until is_blank) (cut.whole ∙ append_assoc word blanks rest)
@@ -128,11 +128,12 @@ cut_blanks text word blanks rest cut = blanks_cut blanks rest cut.only_blanks cu
 pub cut_some : (text word blanks rest : List ℕ) → IsCut text word blanks rest → (length (blanks ++ rest) == 0) ≡ false
 cut_some text word blanks rest cut = not_empty blanks rest cut.some_blank
 
--- A list that is gone through up to the first element that passes: the first n elements don't pass, and then it goes on as at what follows
+-- Going through a list up to the first element that passes: the first n elements don't pass, and the rest is cut as a
+-- list of its own.
 abbrev pub Spans : (ℕ → Bool) → List ℕ → ℕ → Type 0
 Spans test text n = until test text ≡ (take n text ++ (until test (drop n text)).0, (until test (drop n text)).1)
 
--- one element that doesn't pass goes onto the front
+-- an element that doesn't pass is added to the front
 onto : (test : ℕ → Bool) (x : ℕ) (xs : List ℕ) → test x ≡ false → until test (x ∷ xs) ≡ (x ∷ (until test xs).0, (until test xs).1)
 unfolding until
 onto test x xs h = rw h refl

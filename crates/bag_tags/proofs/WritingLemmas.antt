@@ -20,7 +20,7 @@ use Rattle.bag_path.specs.Spellings.{written_spelling, written_part}
 use Rattle.bag_path.proofs.WrittenLemmas.{written_char, written_plain}
 use Rattle.bag_tags.proofs.TextCutLemmas.{IsAscii-from_each}
 
--- a fact of the pieces so far is one of all, once all were gone through
+-- a fact about the pieces so far is one about all of them at the end
 pub all_of : {A : Type 0} (xs : List A) (n : ℕ) → n ≡ length xs → take n xs ≡ xs
 all_of xs n e = ap (λ k. take k xs) e ∙ take-length xs
 
@@ -54,7 +54,7 @@ written_text leads start value texts u h l = record {
   lead = l;
 }
 
--- one text more is one line more
+-- one more text is one more line
 pub lines_cons : (text : List ℕ) (texts : List (List ℕ)) → written_lines (text ∷ texts) ≡ (text ++ 10 ∷ []) ++ written_lines texts
 lines_cons text texts = flat_map-cons (λ t. t ++ 10 ∷ []) text texts
 
@@ -65,7 +65,7 @@ pub each_append : {A : Type 0} (P : A → Type 0) (xs ys : List A) → AllByRecu
 each_append P [] ys h k = k
 each_append P (x ∷ xs) ys h k = (h.0, each_append P xs ys h.1 k)
 
--- a word without a mark, and then an ASCII octet, have none
+-- a word without a mark, followed by an ASCII octet, has no mark
 pub no_mark : (word rest : List ℕ) (x : ℕ) → x ≢ 187 → x ≢ 191 → x ≢ 239 → starts_with nat_eq word mark ≡ false → starts_with nat_eq (word ++ x ∷ rest) mark ≡ false
 no_mark [] rest x a b c h = rw (ne_eqb 239 x (λ e. c (sym e))) refl
 no_mark (p ∷ []) rest x a b c h = rw (ne_eqb 187 x (λ e. a (sym e))) (elim (cases_Bool (239 == p)) [ inl e ↦ rw e refl | inr e ↦ rw e refl ])

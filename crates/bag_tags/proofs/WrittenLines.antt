@@ -1,4 +1,4 @@
--- How many lines is written: one for each pair or entry.
+-- How many lines are written: one for each pair or entry.
 use Rattle.std.proofs.Common.{◌≡◌, ◌∙◌, ℕ, List, length, map, ap, sym}
 use Rattle.std.proofs.lemmas.List.{length-map}
 use Rattle.std.specs.List.{AllByRecursion}

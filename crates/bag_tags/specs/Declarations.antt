@@ -21,7 +21,7 @@ version_label = codes "BagIt-Version: "
 abbrev pub encoding_label : List ℕ
 encoding_label = codes "Tag-File-Character-Encoding: "
 
--- one to nine digits, without a leading zero but in `0` itself
+-- one to nine digits, without a leading zero except in `0` itself
 pub record IsVersionPart (text : List ℕ) (value : ℕ) : Type 0 where
   pub numeral : IsNumeral text value
   pub short : length text ≤ 9
@@ -42,7 +42,7 @@ IsVisible octet = (first_visible ≤ octet) × (octet ≤ last_visible)
 abbrev pub IsEncodingName : List ℕ → Type 0
 IsEncodingName name = (name ≢ []) × AllByRecursion IsVisible name
 
--- the name is that of UTF-8, without regard to ASCII case
+-- the name is `UTF-8`, without regard to ASCII case
 abbrev pub NamesUtf8 : List ℕ → Type 0
 NamesUtf8 name = map to_ascii_lowercase name ≡ codes "utf-8"
 
@@ -89,14 +89,15 @@ IsDeclarationFault octets EncodingName = (version : List ℕ) × (encoding : Lis
     × (minor : ℕ) × HasLabels octets version encoding
     × IsVersion version major minor × (IsEncodingName encoding → ⊥)
 
--- the version that is declared, where it is one that is known
+-- the version that is declared, if it is known
 abbrev pub version_of : Declaration → Option Version
 version_of declaration =
     if declaration.major == 1 && declaration.minor == 0 then Some V1
     else if declaration.major == 0 && declaration.minor == 97 then Some V097
     else None
 
--- the version by whose rules tag files are read, where the octets declare one that is known
+-- the version by whose rules tag files are read, by how the octets begin; if they declare a known version, it is that
+-- one
 abbrev pub declared_version : List ℕ → Version
 declared_version octets =
     if starts_with nat_eq octets (codes "BagIt-Version: 0.97") then V097 else V1
@@ -105,7 +106,7 @@ declared_version octets =
 abbrev pub current : Declaration
 current = record { major = 1; minor = 0; utf8 = true }
 
--- the octets that declare it here
+-- the octets that are written to declare it
 abbrev pub written_declaration : List ℕ
 written_declaration = codes "BagIt-Version: 1.0" ++ lf ∷ codes "Tag-File-Character-Encoding: UTF-8"
     ++ lf ∷ []

@@ -11,7 +11,7 @@ use Rattle.bag_path.specs.Spellings.{written_spelling}
 use Rattle.bag_tags.specs.declared.fetch.FetchEntryFault.{FetchEntryFault}
 use Rattle.bag_tags.specs.declared.fetch.FetchEntryFault.TheVariants.{BadUrl, NotPayload, Memory}
 
--- a file to be fetched: where it can be had, its length in octets, where one is given, and its path
+-- a file to be fetched: its URL, its length in octets if one is given, and its path
 pub record FetchItem : Type 0 where
   pub url : List ℕ
   pub octets : Option ℕ
@@ -34,8 +34,7 @@ IsScheme (octet ∷ octets) = IsAsciiAlphabetic octet × AllByRecursion IsScheme
 abbrev pub IsUrlOctet : ℕ → Type 0
 IsUrlOctet octet = (space < octet) × (octet ≢ delete)
 
--- a scheme, a colon and something more (RFC 3986 section 3; that nothing else is asked of a url is
--- this project's own)
+-- a scheme, a colon and something more (RFC 3986 section 3; that no more is required of a URL is this project's own)
 pub record IsUrl (url : List ℕ) : Type 0 where
   pub scheme : List ℕ
   pub rest : List ℕ
@@ -51,7 +50,7 @@ pub record IsEntry (entry : FetchItem) : Type 0 where
   pub path : IsPath entry.path
   pub payload : is_payload entry.path ≡ true
 
--- the first reason why a url and a path make no entry; want of memory says nothing of them
+-- the first reason why a URL and a path make no entry; `Memory` says nothing of them
 abbrev pub RefusesEntry : List ℕ → List ℕ → FetchEntryFault → Type 0
 RefusesEntry url path BadUrl = ¬ IsUrl url
 RefusesEntry url path NotPayload = IsUrl url × ¬ (is_payload path ≡ true)
@@ -62,7 +61,7 @@ abbrev pub written_length : Option ℕ → List ℕ
 written_length None = codes "-"
 written_length (Some n) = decimal n
 
--- a line as it is written: url, space, length or `-`, space, the path's written spelling and LF
+-- a line as it is written: URL, space, length or `-`, space, the written spelling of the path and LF
 abbrev pub written_entry : FetchItem → List ℕ
 written_entry entry = entry.url ++ codes " " ++ written_length entry.octets ++ codes " "
     ++ written_spelling entry.path ++ lf ∷ []

@@ -16,7 +16,7 @@ use Rattle.bag_tags.specs.declared.fetch.FetchLine.{FetchLine}
 use Rattle.bag_tags.specs.FetchEntries.{FetchItem, IsUrl}
 use Rattle.bag_tags.specs.Fetches.{fetch_line}
 
--- The line is a url, blanks, a length, blanks and a path's text.
+-- The line is a URL, blanks, a length, blanks and the text of a path.
 pub record AreWords (text url length path_text : List ℕ) : Type 0 where
   pub after_url : List ℕ
   pub rest : List ℕ
@@ -24,8 +24,7 @@ pub record AreWords (text url length path_text : List ℕ) : Type 0 where
   pub url_cut : IsCut text url after_url rest
   pub length_cut : IsCut rest length after_length path_text
 
--- a length: `-`, or a numeral of a number below 2^64 (that leading zeros are accepted is this
--- project's own)
+-- a length: `-`, or a numeral of a number below 2^64 (that leading zeros are accepted is this project's own)
 abbrev pub IsLength : List ℕ → Option ℕ → Type 0
 IsLength text None = text ≡ codes "-"
 IsLength text (Some n) = IsNumeral text n × (n < 2 ^ 64)
@@ -40,7 +39,7 @@ pub record GivesEntry (version : Version) (text : List ℕ) (entry : FetchItem) 
   pub spells : Spells version entry.path path_text
   pub is_path : IsPath entry.path
 
--- a line adds the entry that it gives, for a payload file, with the line's number
+-- a line adds the entry that it gives, if it is for a payload file, with the number of the line
 pub record AddsEntry (version : Version) (before : List FetchLine) (number : ℕ) (text : List ℕ)
     (after : List FetchLine) : Type 0 where
   pub entry : FetchItem
@@ -48,17 +47,17 @@ pub record AddsEntry (version : Version) (before : List FetchLine) (number : ℕ
   pub payload : is_payload entry.path ≡ true
   pub adds : after ≡ before ++ fetch_line number entry ∷ []
 
--- the octets are a text of these entries, in this order
+-- the octets are the text of these entries, in this order
 abbrev pub FetchText : Version → List ℕ → List FetchLine → Type 0
 FetchText version octets lines = IsTextOf (AddsEntry version) [] octets lines
 
--- no blank after the url, or none after the length
+-- there is no blank after the URL, or none after the length
 abbrev pub LacksWord : List ℕ → Type 0
 LacksWord text = AllByRecursion IsNotBlank text
     ⊎ ((url : List ℕ) × ((blanks : List ℕ) × ((rest : List ℕ)
     × IsCut text url blanks rest × AllByRecursion IsNotBlank rest)))
 
--- The line has its words, but the first is no url.
+-- The line has its words, but the first is not a URL.
 pub record HasBadUrl (text : List ℕ) : Type 0 where
   pub url : List ℕ
   pub length : List ℕ
@@ -66,7 +65,7 @@ pub record HasBadUrl (text : List ℕ) : Type 0 where
   pub words : AreWords text url length path_text
   pub no_url : ¬ IsUrl url
 
--- The line has a url, but the word after it is no length.
+-- The line has a URL, but the word after it is not a length.
 pub record HasBadLength (text : List ℕ) : Type 0 where
   pub url : List ℕ
   pub length : List ℕ
@@ -75,7 +74,7 @@ pub record HasBadLength (text : List ℕ) : Type 0 where
   pub is_url : IsUrl url
   pub no_length : (number : Option ℕ) → ¬ IsLength length number
 
--- The line has a url and a length, but the text after them spells no path.
+-- The line has a URL and a length, but the text after them spells no path.
 pub record HasNoPath (version : Version) (text : List ℕ) (fault : PathFault) : Type 0 where
   pub url : List ℕ
   pub length : List ℕ
@@ -101,7 +100,7 @@ GivesNoEntry version text (BadPath fault) = HasNoPath version text fault
 GivesNoEntry version text WrongPlace = HasOtherPath version text
 GivesNoEntry version text _ = ⊥
 
--- which doesn't depend on the lines before it
+-- the same; it doesn't depend on the lines before this one
 abbrev pub RefusesFetchLine : Version → List FetchLine → List ℕ → LineCause → Type 0
 RefusesFetchLine version before text cause = GivesNoEntry version text cause
 

@@ -11,7 +11,7 @@ use Rattle.bag_tags.specs.Words.{IsBlank, IsNotBlank, begins_blank, ends_blank}
 use Rattle.bag_tags.specs.TagLines.{IsTextOf, IsFirstFault}
 use Rattle.bag_tags.specs.Infos.{MetadataElement, element_with_line, IsFit, IsNotColon}
 
--- The line is indented: blanks, and then this, which begins with no blank.
+-- The line is indented: it is blanks followed by this, which begins with no blank.
 pub record IsIndented (text line : List ℕ) : Type 0 where
   pub blanks : List ℕ
   pub whole : text ≡ blanks ++ line
@@ -19,20 +19,20 @@ pub record IsIndented (text line : List ℕ) : Type 0 where
   pub only_blanks : AllByRecursion IsBlank blanks
   pub line_begins : begins_blank line ≡ false
 
--- The line is what stands before its first colon, the colon, and what follows.
+-- The line is what comes before its first colon, the colon, and what follows.
 pub record HasColon (text before after : List ℕ) : Type 0 where
   pub whole : text ≡ before ++ colon ∷ after
   pub first_colon : AllByRecursion IsNotColon before
 
--- What stands before the colon is the label; in version 0.97 blanks may follow it.
+-- What comes before the colon is the label. In version 0.97 blanks may follow the label.
 abbrev pub HasLabel : Version → List ℕ → List ℕ → Type 0
 HasLabel V1 before label = before ≡ label
 HasLabel V097 before label = (blanks : List ℕ) × (before ≡ label ++ blanks)
     × AllByRecursion IsBlank blanks × (ends_blank label ≡ false)
 
--- What follows the colon is one blank and the first line of the value; or nothing, and then the
--- first line is empty (this project's own: the RFC asks for the blank). In version 0.97 it is any
--- number of blanks and the first line, which begins with none.
+-- What follows the colon is one blank and the first line of the value. It may also be nothing, and then the first line
+-- is empty (this project's own: the RFC requires the blank). In version 0.97 it is any number of blanks and the first
+-- line, which begins with no blank.
 abbrev pub HasFirstLine : Version → List ℕ → List ℕ → Type 0
 HasFirstLine V1 [] first = first ≡ []
 HasFirstLine V1 (blank ∷ rest) first = IsBlank blank × (first ≡ rest)
@@ -70,7 +70,7 @@ pub record AddsElement (version : Version) (before : List MetadataElement) (text
   pub gives : GivesElement version text element
   pub adds : after ≡ before ++ element ∷ []
 
--- what a line that isn't blank makes of the elements before it
+-- what a line that isn't blank adds to the elements before it
 abbrev pub AddsInfo : Version → List MetadataElement → ℕ → List ℕ → List MetadataElement → Type 0
 AddsInfo version before number text after = Continues before text after
     ⊎ AddsElement version before text after
@@ -79,7 +79,7 @@ AddsInfo version before number text after = Continues before text after
 abbrev pub InfoText : Version → List ℕ → List MetadataElement → Type 0
 InfoText version octets elements = IsTextOf (AddsInfo version) [] octets elements
 
--- A line without a separator: it has no colon; or, in version 1.0, something other than a blank after the first.
+-- A line without a separator: it has no colon or, in version 1.0, something other than a blank after the first colon.
 abbrev pub LacksSeparator : Version → List ℕ → Type 0
 LacksSeparator V1 text = AllByRecursion IsNotColon text
     ⊎ ((label : List ℕ) × ((octet : ℕ) × ((rest : List ℕ)

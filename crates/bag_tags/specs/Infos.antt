@@ -11,7 +11,7 @@ use Rattle.bag_tags.specs.declared.info.ElementFault.TheVariants.{BadLabel, BadV
 use Rattle.bag_tags.specs.TagLines.{mark}
 use Rattle.bag_tags.specs.Words.{IsNotBlank, begins_blank}
 
--- a metadata element; a line break in its value is one LF (this project's own)
+-- a metadata element; each line break in its value is one LF (this project's own)
 pub record MetadataElement : Type 0 where
   pub label : List ℕ
   pub value : List ℕ
@@ -19,9 +19,8 @@ pub record MetadataElement : Type 0 where
 abbrev pub element : List ℕ → List ℕ → MetadataElement
 element label value = record { label = label; value = value }
 
--- The label is not empty, and begins and ends with no blank. (That it doesn't begin with U+FEFF is
--- this project's own: at
--- the front of the file that is a byte order mark.)
+-- The label is not empty, and neither begins nor ends with a blank. That it doesn't begin with U+FEFF is this project's
+-- own: at the start of the file this would be a byte order mark.
 pub record IsFit (label : List ℕ) : Type 0 where
   pub some : label ≢ []
   pub begins : IsNotBlank (slice_index label 0)
@@ -40,7 +39,7 @@ pub record IsLabel (label : List ℕ) : Type 0 where
   pub fit : IsFit label
   pub octets : AllByRecursion IsLabelOctet label
 
--- a line of a value after the first: it has some text, and begins with no blank
+-- a line of a value after the first: it isn't empty and begins with no blank
 pub record IsFurtherLine (line : List ℕ) : Type 0 where
   pub some : line ≢ []
   pub begins : begins_blank line ≡ false
@@ -49,8 +48,8 @@ pub record IsFurtherLine (line : List ℕ) : Type 0 where
 abbrev pub after_lf : List ℕ → List ℕ
 after_lf line = lf ∷ line
 
--- The lines of a value: a first one, which may be empty and may begin with blanks, and further
--- ones, each after an LF.
+-- The lines of a value: a first line, which may be empty and may begin with blanks, and further lines, each after an
+-- LF.
 pub record HasValueLines (value first : List ℕ) (further : List (List ℕ)) : Type 0 where
   pub whole : value ≡ first ++ flat_map after_lf further
   pub first_line : AllByRecursion IsPlain first
@@ -69,31 +68,29 @@ pub record IsElement (element : MetadataElement) : Type 0 where
   pub is_label : IsLabel element.label
   pub is_value : IsValue element.value
 
--- the first reason why a label and a value make no element; want of memory says nothing of them
+-- the first reason why a label and a value make no element; `Memory` says nothing of them
 abbrev pub RefusesElement : List ℕ → List ℕ → ElementFault → Type 0
 RefusesElement label value BadLabel = ¬ IsLabel label
 RefusesElement label value BadValue = IsLabel label × ¬ IsValue value
 RefusesElement label value Memory = Unit {0}
 
--- the value with one line more
+-- the value with one more line
 abbrev pub element_with_line : MetadataElement → List ℕ → MetadataElement
 element_with_line element line = record element { value = element.value ++ after_lf line }
 
--- whether the element is a `Payload-Oxum` (section 2.2.2): labels are compared without regard to
--- ASCII case
+-- whether the element is a `Payload-Oxum` (section 2.2.2); labels are compared without regard to ASCII case
 abbrev pub is_oxum : MetadataElement → Bool
 is_oxum element = bytes_eq (map to_ascii_lowercase element.label) (codes "payload-oxum")
 
--- the octets of a value as they are written: each LF before a space
+-- an octet of a value as it is written: a space is added after each LF
 abbrev pub written_octet : ℕ → List ℕ
 written_octet octet = if octet == lf then lf ∷ space ∷ [] else octet ∷ []
 
 abbrev pub written_value : List ℕ → List ℕ
 written_value value = flat_map written_octet value
 
--- an element as it is written: its label, a colon, a space, its value and LF; each further line of
--- the value is indented by a
--- space, and nothing is folded
+-- an element as it is written: its label, a colon, a space, its value and LF; each further line of the value is
+-- indented by a space, and nothing is folded
 abbrev pub written_element : MetadataElement → List ℕ
 written_element element = element.label ++ codes ": " ++ written_value element.value ++ lf ∷ []
 

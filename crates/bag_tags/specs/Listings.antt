@@ -25,12 +25,11 @@ nothing_listed alg kind = record { alg = alg; kind = kind; pairs = [] }
 abbrev pub pair : List ℕ → Digest → Pair
 pair path digest = record { path = path; digest = digest }
 
--- one pair more, at the end
+-- the listing with one more pair at the end
 abbrev pub with_pair : Listing → Pair → Listing
 with_pair listing pair = record listing { pairs = listing.pairs ++ pair ∷ [] }
 
--- A payload manifest lists payload files alone. A tag manifest lists tag files that are no tag
--- manifests.
+-- A payload manifest lists only payload files. A tag manifest lists tag files that aren't tag manifests.
 abbrev pub IsInPlace : Kind → List ℕ → Type 0
 IsInPlace Payload path = is_payload path ≡ true
 IsInPlace Tag path = (is_payload path ≡ false) × ¬ NamesTagManifest path
@@ -45,7 +44,7 @@ listed_digest [] path = None
 listed_digest (pair ∷ pairs) path = if bytes_eq pair.path path then Some pair.digest
     else listed_digest pairs path
 
--- no path stands twice
+-- no path is listed twice
 abbrev pub NoneTwice : List Pair → Type 0
 NoneTwice [] = Unit {0}
 NoneTwice (pair ∷ pairs) = (lists_path pairs pair.path ≡ false) × NoneTwice pairs
@@ -56,7 +55,7 @@ pub record Admits (listing : Listing) (path : List ℕ) (digest : Digest) : Type
   pub in_place : IsInPlace listing.kind path
   pub not_listed : lists_path listing.pairs path ≡ false
 
--- the first reason why it may not; want of memory says nothing
+-- the first reason why the pair may not be added; `Memory` says nothing of it
 abbrev pub RefusesPair : Listing → List ℕ → Digest → PushFault → Type 0
 RefusesPair listing path digest WrongAlg = ¬ (alg_of digest ≡ listing.alg)
 RefusesPair listing path digest WrongPlace = (alg_of digest ≡ listing.alg)

@@ -1,4 +1,4 @@
--- What a manifest shows, and how its index finds the pairs.
+-- What a manifest lists, and how its index finds the pairs.
 use Rattle.std.specs.Prelude.{◌≡◌, ◌+◌, ℕ, List, [], ◌∷◌, Option, Some, None, if◌then◌else◌}
 use Rattle.std.specs.Str.{bytes_eq}
 use Rattle.std.specs.BTreeMap.{BTreeMap, get}
@@ -16,13 +16,13 @@ abbrev pub listing_of : Inside → Listing
 listing_of manifest =
     record { alg = manifest.alg; kind = manifest.kind; pairs = manifest.pairs.items }
 
--- where the first pair with this path stands, counted from n
+-- the place of the first pair with this path, counted from n
 abbrev pub place_from : ℕ → List Pair → List ℕ → Option ℕ
 place_from n [] path = None
 place_from n (pair ∷ pairs) path = if bytes_eq pair.path path then Some n
     else place_from (n + 1) pairs path
 
--- the index has the place of each path that is listed, and no other path
+-- the index has the place of each listed path, and no other path
 abbrev pub IsIndexOf : BTreeMap (List ℕ) ℕ → List Pair → Type 0
 IsIndexOf places pairs = (path : List ℕ) → get (slice_cmp nat_cmp) places path
     ≡ place_from 0 pairs path

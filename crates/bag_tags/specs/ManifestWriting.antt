@@ -15,7 +15,7 @@ abbrev pub needs_dot : List ℕ → Bool
 needs_dot [] = false
 needs_dot (octet ∷ octets) = octet == star || is_blank octet
 
--- the path's written spelling, in that case after `./` (this project's own)
+-- the written spelling of a path, after `./` if the path begins so (this project's own)
 abbrev pub written_path : List ℕ → List ℕ
 written_path path = (if needs_dot path then codes "./" else []) ++ written_spelling path
 
@@ -26,8 +26,8 @@ written_pair pair = lower_case_of pair.digest ++ codes "  " ++ written_path pair
 abbrev pub written_manifest : List Pair → List ℕ
 written_manifest pairs = flat_map written_pair pairs
 
--- a pair that can be written: a path, and a digest whose spelling spells it (each value of the
--- Rust types is such)
+-- a pair that can be written: a path, and a digest that its lower case spelling spells (as each value of the Rust types
+-- is)
 abbrev pub CanBeWritten : Pair → Type 0
 CanBeWritten pair = IsPath pair.path × SpellsDigest (alg_of pair.digest)
     (lower_case_of pair.digest) pair.digest

@@ -18,11 +18,11 @@ use Rattle.bag_tags.specs.Words.{IsNotBlank, IsCut, without}
 use Rattle.bag_tags.specs.TagLines.{IsTextOf, IsFirstFault}
 use Rattle.bag_tags.specs.Listings.{Listing, nothing_listed, with_pair, pair, Admits, IsInPlace, lists_path}
 
--- the path text of a line without one star and then one dot and slash (both this project's own)
+-- the text of a path without one `*` at its start and then without one `./` (both this project's own)
 abbrev pub plain_path : List ℕ → List ℕ
 plain_path text = without (codes "./") (without (codes "*") text)
 
--- The line is a checksum, blanks and a path's text; the checksum is this digest in hex.
+-- The line is a checksum, blanks and the text of a path. The checksum is this digest in hex.
 pub record HasChecksum (alg : Alg) (text : List ℕ) (digest : Digest)
     (path_text : List ℕ) : Type 0 where
   pub checksum : List ℕ
@@ -59,12 +59,12 @@ abbrev pub SpellsNoPath : PathFault → Version → List ℕ → Type 0
 SpellsNoPath path.Memory version text = ⊥
 SpellsNoPath fault version text = RefusesSpelling fault version text
 
--- the cause of a path's text that spells no path
+-- the cause for which the text of a path spells no path
 abbrev pub PathCause : Version → List ℕ → LineCause → Type 0
 PathCause version text cause = (fault : PathFault) × (cause ≡ BadPath fault)
     × SpellsNoPath fault version text
 
--- The line has a blank, but what stands before it is no digest's.
+-- The line has a blank, but what comes before it spells no digest.
 pub record HasBadDigest (alg : Alg) (text : List ℕ) : Type 0 where
   pub checksum : List ℕ
   pub blanks : List ℕ
@@ -87,7 +87,7 @@ GivesNothing version alg text BadDigest = HasBadDigest alg text
 GivesNothing version alg text (BadPath fault) = HasBadPath version alg text fault
 GivesNothing version alg text _ = ⊥
 
--- The line gives a path that this manifest may not list.
+-- The line gives a path that a manifest of this kind may not list.
 pub record HasWrongPlace (version : Version) (before : Listing) (text : List ℕ) : Type 0 where
   pub path : List ℕ
   pub digest : Digest

@@ -1,5 +1,4 @@
--- What the files of a bag are, by their paths: names at the base directory, matched exactly (RFC
--- 8493 section 2).
+-- What the files of a bag are, by their paths: names in the base directory, matched exactly (RFC 8493 section 2).
 use Rattle.std.specs.Prelude.{◌≡◌, ◌≢◌, ◌⊎◌, ℕ, List, [], ◌++◌, Option, Some, None, codes}
 use Rattle.bag_tags.specs.Octets.{underscore}
 use Rattle.std.specs.Char.{IsAsciiAlphanumeric}
@@ -18,8 +17,7 @@ use Rattle.bag_tags.specs.declared.name.TagName.TheVariants.{Declaration, Payloa
 abbrev pub IsWordOctet : ℕ → Type 0
 IsWordOctet octet = IsAsciiAlphanumeric octet ⊎ (octet ≡ underscore)
 
--- what may stand for an algorithm in a manifest's name: one or more of these (section 2.4; the
--- underscore is this
+-- what may be the algorithm in the name of a manifest: one or more of these (section 2.4; the underscore is this
 -- project's own)
 abbrev pub IsWord : List ℕ → Type 0
 IsWord word = (word ≢ []) × AllByRecursion IsWordOctet word
@@ -31,11 +29,11 @@ payload_manifest word = codes "manifest-" ++ word ++ codes ".txt"
 abbrev pub tag_manifest : List ℕ → List ℕ
 tag_manifest word = codes "tagmanifest-" ++ word ++ codes ".txt"
 
--- a tag manifest's name, whether its algorithm is known or not
+-- the name of a tag manifest, whether its algorithm is known or not
 abbrev pub NamesTagManifest : List ℕ → Type 0
 NamesTagManifest path = (word : List ℕ) × IsWord word × (path ≡ tag_manifest word)
 
--- a manifest's name whose word is that of no known algorithm
+-- the name of a manifest whose word isn't the name of a known algorithm
 pub record IsUnknownManifest (path word : List ℕ) : Type 0 where
   pub form : (path ≡ payload_manifest word) ⊎ (path ≡ tag_manifest word)
   pub is_word : IsWord word
@@ -64,7 +62,7 @@ manifest_file Tag alg = tag_manifest (name_of alg)
 abbrev pub manifest_name : Kind → Alg → ManifestName
 manifest_name kind alg = record { kind = kind; alg = alg }
 
--- the manifest that has a name, where its algorithm is known
+-- the manifest with this name, if its algorithm is known
 abbrev pub known_manifest : TagName → Option ManifestName
 known_manifest (PayloadManifest alg) = Some (manifest_name Payload alg)
 known_manifest (TagManifest alg) = Some (manifest_name Tag alg)

@@ -1,4 +1,4 @@
--- Octets that mean something in tag files.
+-- Octets with a meaning in tag files.
 use Rattle.std.specs.Prelude.{ℕ}
 
 abbrev pub space : ℕ

@@ -6,9 +6,8 @@ use Rattle.std.specs.Fmt.{decimal}
 use Rattle.bag_tags.specs.Numerals.{IsNumeral}
 use Rattle.bag_tags.specs.Words.{IsBlank}
 
--- Blanks, the number of octets, a dot, the number of files and blanks, each number below 2^64
--- (that blanks are dropped at
--- both ends, and that leading zeros are accepted, is this project's own).
+-- Blanks, the number of octets, a dot, the number of files and blanks, each number below 2^64. That blanks at both ends
+-- are dropped and leading zeros accepted is this project's own.
 pub record OxumText (text : List ℕ) (octets streams : ℕ) : Type 0 where
   pub front : List ℕ
   pub before_dot : List ℕ

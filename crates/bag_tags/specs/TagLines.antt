@@ -1,7 +1,5 @@
--- Text tag files, which are read line by line onto a value: manifests, `bag-info.txt` and
--- `fetch.txt`
--- (RFC 8493 sections 2.1.3, 2.2.2 and 2.2.3; that blank lines are skipped and a byte order mark is
--- dropped is this project's own).
+-- Text tag files, which are read line by line: manifests, `bag-info.txt` and `fetch.txt` (RFC 8493 sections 2.1.3,
+-- 2.2.2 and 2.2.3). That blank lines are skipped and a byte order mark is dropped is this project's own.
 use Rattle.std.specs.Prelude.{◌≡◌, ◌⊎◌, ℕ, true, false, List, [], ◌∷◌, ◌++◌, map}
 use Rattle.std.specs.List.{enumerate_from}
 use Rattle.std.specs.Str.{IsUtf8}
@@ -19,7 +17,7 @@ use Rattle.bag_tags.specs.Words.{is_blank_line, without}
 abbrev pub mark : List ℕ
 mark = 0xEF ∷ 0xBB ∷ 0xBF ∷ []
 
--- a line's number, and its octets without the line end
+-- the number of a line, and its octets without the line end
 pub record TagLine : Type 0 where
   pub number : ℕ
   pub text : List ℕ
@@ -31,14 +29,14 @@ tag_line line = record { number = line.0; text = line.1.text }
 abbrev pub tag_lines : List Text → List TagLine
 tag_lines lines = map tag_line (enumerate_from 1 lines)
 
--- What a line makes of the value before it: nothing where it is blank; any other is UTF-8, and
--- leads to the value after it.
+-- The value that a line leads to from the value before it. A blank line changes nothing. Any other line is UTF-8 and
+-- adds what it says.
 abbrev pub LeadsOn : {A : Type 0} → (A → ℕ → List ℕ → A → Type 0) → A → TagLine → A → Type 0
 LeadsOn leads before line after = ((is_blank_line line.text ≡ true) × (after ≡ before))
     ⊎ ((is_blank_line line.text ≡ false) × IsUtf8 line.text
     × leads before line.number line.text after)
 
--- Why a text that isn't blank is faulty after a value: it is not UTF-8, or it is and is refused.
+-- Why a text that isn't blank is faulty after a value: it is not UTF-8, or it is UTF-8 and is refused.
 abbrev pub HasCause : {A : Type 0} → (A → List ℕ → LineCause → Type 0) → A → List ℕ → LineCause
     → Type 0
 HasCause refuses before text cause =
@@ -49,20 +47,20 @@ abbrev pub IsRefused : {A : Type 0} → (A → List ℕ → LineCause → Type 0
 IsRefused refuses before line cause =
     (is_blank_line line.text ≡ false) × HasCause refuses before line.text cause
 
--- Lines lead from a value to another, each from the value so far to the next.
+-- Lines lead from one value to another, each from the value so far to the next.
 abbrev pub Lead : {A : Type 0} → (A → TagLine → A → Type 0) → A → List TagLine → A → Type 0
 Lead step before [] after = after ≡ before
 Lead step before (line ∷ lines) after = (next : _) × step before line next
     × Lead step next lines after
 
--- The octets, without one leading byte order mark, are a text of the value: their lines lead to it.
+-- Without one byte order mark at their start, the octets are a text of the value: their lines lead to it.
 pub record IsTextOf {A : Type 0} (leads : A → ℕ → List ℕ → A → Type 0) (start : A) (octets : List ℕ)
     (value : A) : Type 0 where
   pub lines : List Text
   pub has_lines : HasLines (without mark octets) lines
   pub lead : Lead (LeadsOn leads) start (tag_lines lines) value
 
--- The lines before this one lead to a value, after which it is refused for this cause.
+-- The lines before this one lead to a value, after which this one is refused for this cause.
 pub record StopsAt {A : Type 0} (leads : A → ℕ → List ℕ → A → Type 0)
     (refuses : A → List ℕ → LineCause → Type 0)
     (start : A) (octets : List ℕ) (fault : LineFault) : Type 0 where
@@ -77,16 +75,14 @@ pub record StopsAt {A : Type 0} (leads : A → ℕ → List ℕ → A → Type 0
   pub number : fault.line ≡ faulty.number
   pub refused : IsRefused refuses so_far faulty fault.cause
 
--- The first fault of a text: the lines before the faulty one lead to a value, and with it they
--- lead to none.
+-- The first fault of a text: the lines before the faulty one lead to a value, and from there it leads to none.
 pub record IsFirstFault {A : Type 0} (leads : A → ℕ → List ℕ → A → Type 0)
     (refuses : A → List ℕ → LineCause → Type 0)
     (start : A) (octets : List ℕ) (fault : LineFault) : Type 0 where
   pub stops : StopsAt leads refuses start octets fault
   pub no_further : (next : A) → LeadsOn leads stops.so_far stops.faulty next → ⊥
 
--- What makes a text have one value or one first fault: a line in UTF-8 leads to one value or is
--- refused for one cause.
+-- Why a text has either one value or one first fault: a line in UTF-8 leads to one value or is refused for one cause.
 pub record AreExact {A : Type 0} (leads : A → ℕ → List ℕ → A → Type 0)
     (refuses : A → List ℕ → LineCause → Type 0)
     : Type 0 where
@@ -100,8 +96,7 @@ pub record AreExact {A : Type 0} (leads : A → ℕ → List ℕ → A → Type 
       → ((next : A) × leads before number text next)
       ⊎ ((cause : LineCause) × refuses before text cause)
 
--- a fact of a faulty line's cause, or of the first faulty line; want of memory says nothing of the
--- text
+-- a fact about the cause of a faulty line or about the first faulty line; `Memory` says nothing of the text
 abbrev pub Causes : (LineCause → Type 0) → TagCause → Type 0
 Causes P (cause.Line c) = P c
 Causes P cause.Memory = Unit {0}

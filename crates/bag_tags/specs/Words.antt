@@ -1,4 +1,4 @@
--- The words of a line: what stands before, between and after its blanks.
+-- The words of a line: what is before, between and after its blanks.
 use Rattle.std.specs.Prelude.{◌≡◌, ◌≢◌, ◌==◌, ◌||◌, ℕ, Bool, true, false, List, [], ◌∷◌, ◌++◌, length, drop, nat_eq, if◌then◌else◌}
 use Rattle.bag_tags.specs.Octets.{space, tab}
 use Rattle.std.specs.List.{AllByRecursion, list_all, starts_with}
@@ -13,7 +13,7 @@ IsBlank octet = is_blank octet ≡ true
 abbrev pub IsNotBlank : ℕ → Type 0
 IsNotBlank octet = is_blank octet ≡ false
 
--- a line of blanks alone, or of nothing
+-- a line that is empty or only blanks
 abbrev pub is_blank_line : List ℕ → Bool
 is_blank_line text = list_all is_blank text
 
@@ -26,8 +26,7 @@ ends_blank [] = false
 ends_blank (octet ∷ []) = is_blank octet
 ends_blank (octet ∷ octets) = ends_blank octets
 
--- The text is a word without blanks, all the blanks after it, of which there is one at least, and
--- what follows them.
+-- The text is a word without blanks, the blanks after it, of which there is at least one, and what follows them.
 pub record IsCut (text word blanks rest : List ℕ) : Type 0 where
   pub whole : text ≡ word ++ blanks ++ rest
   pub word_ends : AllByRecursion IsNotBlank word
@@ -35,6 +34,6 @@ pub record IsCut (text word blanks rest : List ℕ) : Type 0 where
   pub only_blanks : AllByRecursion IsBlank blanks
   pub rest_begins : begins_blank rest ≡ false
 
--- the rest of a text without this at its front, where it is there
+-- the rest of a text after this front, or the whole text if it doesn't begin with it
 abbrev pub without : List ℕ → List ℕ → List ℕ
 without front text = if starts_with nat_eq text front then drop (length front) text else text

@@ -1,5 +1,4 @@
--- How a line is cut: the front of a list up to the first element that passes a test, and what
--- follows.
+-- How a line is cut: the list up to the first element that passes a test, and what follows.
 use Rattle.std.specs.Prelude.{◌==◌, ℕ, Bool, not, List, [], ◌∷◌, if◌then◌else◌}
 use Rattle.bag_tags.specs.Octets.{colon, dot}
 use Rattle.bag_tags.specs.declared.words.Stop.{Stop}
@@ -19,7 +18,7 @@ is_dot octet = octet == dot
 abbrev pub is_colon : ℕ → Bool
 is_colon octet = octet == colon
 
--- the octets before which a cut is made
+-- the octets at which a text is cut
 abbrev pub stops : Stop → ℕ → Bool
 stops Blank = is_blank
 stops NoBlank = is_not_blank

@@ -18,13 +18,12 @@ const ENCODING_LABEL: &[u8] = b"Tag-File-Character-Encoding: ";
 
 const CURRENT: &[u8] = b"BagIt-Version: 1.0\nTag-File-Character-Encoding: UTF-8\n";
 
-/// What `bagit.txt` declares: the version of the format, as major and minor number, and whether the tag
-/// files' encoding is UTF-8.
+/// What `bagit.txt` declares: the version of the format and the encoding of the tag files.
 #[derive(Clone, Copy, Debug, PartialEq, Eq)]
 pub struct Declaration {
     /// The number before the dot of the version.
     pub major: u32,
-    /// The number after it.
+    /// The number after the dot.
     pub minor: u32,
     /// Whether the tag files' encoding is UTF-8.
     pub utf8: bool,
@@ -34,7 +33,7 @@ impl Declaration {
     ghost use Rattle.std.specs.Prelude.{◌≡◌};
     ghost use Rattle.bag_tags.specs.Declarations.{version_of};
 
-    /// The version of the format, where it is one that is known: 1.0 or 0.97.
+    /// The version of the format, if it is known: 1.0 or 0.97.
     pub fn version(self) -> Option<Version>
         ensures { result ≡ version_of self }
     {
@@ -46,7 +45,7 @@ impl Declaration {
     }
 }
 
-/// Why `bagit.txt` can't be read. Where several hold of it, the first in this order is answered.
+/// Why `bagit.txt` can't be read. If several causes apply, the first in this order is returned.
 #[derive(Clone, Copy, Debug, PartialEq, Eq, PartialOrd, Ord, Error)]
 pub enum DeclFault {
     /// The file is not UTF-8.
@@ -55,10 +54,10 @@ pub enum DeclFault {
     /// The file begins with a byte order mark.
     #[error("byte order mark")]
     Mark,
-    /// The file has not exactly two lines.
+    /// The file doesn't have exactly two lines.
     #[error("line count")]
     LineCount,
-    /// The lines don't begin `BagIt-Version: ` and `Tag-File-Character-Encoding: `.
+    /// The two lines don't begin with `BagIt-Version: ` and `Tag-File-Character-Encoding: `, in this order.
     #[error("label")]
     Label,
     /// The version is not two numbers of one to nine digits, joined by a dot, without leading zeros.
@@ -69,8 +68,8 @@ pub enum DeclFault {
     EncodingName,
 }
 
-/// Reads `bagit.txt`. Any version and any encoding are read: whether they are ones that can be judged is the
-/// caller's question.
+/// Reads `bagit.txt`, with any version and any encoding. The caller decides whether a bag that declares them can be
+/// judged.
 ///
 /// # Errors
 ///
@@ -106,12 +105,11 @@ pub fn read_declaration(octets: &[u8]) -> Result<Declaration, DeclFault>
     })
 }
 
-/// Writes the `bagit.txt` of a bag of version 1.0 whose tag files are UTF-8: 54 octets, with LF after each
-/// line.
+/// Writes the `bagit.txt` of a bag of version 1.0 whose tag files are in UTF-8: 54 octets, with LF after each line.
 ///
 /// # Errors
 ///
-/// `AllocError` where memory runs out.
+/// `AllocError` if memory runs out.
 pub fn write_declaration(alloc: Global) -> Result<Vec<u8>, AllocError>
     ensures octets { IfOk result (λ octets. octets.items ≡ written_declaration) }
     ensures declares { IfOk result (λ octets. IsDeclaration octets.items current) }
@@ -119,32 +117,32 @@ pub fn write_declaration(alloc: Global) -> Result<Vec<u8>, AllocError>
     CURRENT.to_vec(alloc)
 }
 
-/// Octets declare one thing at most.
+/// Octets make at most one declaration.
 pub fn octets_declare_one_thing_at_most()
     ensures { (octets : List ℕ) (a b : Declaration) → IsDeclaration octets a
         → IsDeclaration octets b → a ≡ b }
 {}
 
-/// Octets have one first fault at most.
+/// Octets have at most one first fault.
 pub fn octets_have_one_declaration_fault_at_most()
     ensures { (octets : List ℕ) (a b : DeclFault) → IsDeclarationFault octets a
         → IsDeclarationFault octets b → a ≡ b }
 {}
 
-/// Octets that declare something have no fault.
+/// Octets that make a declaration have no fault.
 pub fn a_declaration_has_no_fault()
     ensures { (octets : List ℕ) (declaration : Declaration) (fault : DeclFault)
         → IsDeclaration octets declaration → IsDeclarationFault octets fault → ⊥ }
 {}
 
-/// The octets of a declaration begin with its version, where that is one that is known.
+/// If octets declare a known version, tag files are read by its rules.
 pub fn a_declaration_begins_with_its_version()
     ensures { (octets : List ℕ) (declaration : Declaration) (version : Version)
         → IsDeclaration octets declaration → version_of declaration ≡ Some version
         → version ≡ declared_version octets }
 {}
 
-/// The texts of the lines, where there are exactly two.
+/// The texts of the lines, if there are exactly two.
 fn two_lines(octets: &[u8]) -> Option<(&[u8], &[u8])>
     ensures { MatchOption result (length (lines_of octets.now) ≢ 2)
         (λ pair. map (λ (line : Text). line.text) (lines_of octets.now) ≡ pair.0.now ∷ pair.1.now
@@ -159,7 +157,7 @@ fn two_lines(octets: &[u8]) -> Option<(&[u8], &[u8])>
     }
 }
 
-/// What follows the labels of the two lines, where they have them.
+/// What follows the labels of the two lines, if both have theirs.
 fn after_labels<'a>(first: &'a [u8], second: &'a [u8]) -> Option<(&'a [u8], &'a [u8])>
     ensures { MatchOption result (HaveNoLabels first.now second.now)
         (λ pair. (first.now ≡ version_label ++ pair.0.now)
@@ -171,7 +169,7 @@ fn after_labels<'a>(first: &'a [u8], second: &'a [u8]) -> Option<(&'a [u8], &'a 
     ))
 }
 
-/// The major and the minor number.
+/// The major and the minor number of a version.
 fn read_version(text: &[u8]) -> Option<(u32, u32)>
     ensures { MatchOption result ((major minor : ℕ) → IsVersion text.now major minor → ⊥)
         (λ pair. IsVersion text.now pair.0 pair.1) }

@@ -1,4 +1,4 @@
-//! Telling cases of the definitions, worked out: each function's contract is one, and its body is empty.
+//! Worked examples of the definitions. The contract of each function states one, and its body is empty.
 ghost use Rattle.std.specs.Prelude.{◌≡◌, ℕ, true, false, [], ◌∷◌, ◌++◌, Some, None, codes};
 ghost use Rattle.bag_digest.specs.declared.algorithm.Alg.TheVariants.{Md5, Sha256};
 ghost use Rattle.bag_digest.specs.declared.digest.Digest.TheVariants as digest;
@@ -20,7 +20,7 @@ ghost use Rattle.bag_tags.specs.Names.{Names};
 ghost use Rattle.bag_tags.specs.Oxums.{OxumText};
 ghost use Rattle.bag_tags.specs.TagLines.{mark};
 
-/// The names of manifests have an algorithm's name, which is known or is not (RFC 8493 sections 2.1.3, 2.2.1 and 2.4).
+/// Manifests are named by their algorithm, which is known or not (RFC 8493 sections 2.1.3, 2.2.1 and 2.4).
 pub fn manifests_are_named_by_their_algorithm()
     ensures { Names (codes "manifest-sha256.txt") (name.PayloadManifest Sha256)
         × Names (codes "tagmanifest-md5.txt") (name.TagManifest Md5)
@@ -28,18 +28,19 @@ pub fn manifests_are_named_by_their_algorithm()
         × Names (codes "manifest-SHA256.txt") name.UnknownManifest }
 {}
 
-/// A manifest's name with no algorithm names nothing, nor does a tag file's name below a directory.
+/// The name of a manifest without an algorithm has no meaning. Neither has the name of a tag file below another
+/// directory.
 pub fn like_names_name_nothing()
     ensures { Names (codes "manifest-.txt") name.Other × Names (codes "x/bagit.txt") name.Other }
 {}
 
-/// Version 1.0 in UTF-8 (RFC 8493 section 2.1.1).
+/// Version 1.0 and UTF-8 are declared (RFC 8493 section 2.1.1).
 pub fn the_current_version_is_declared()
     ensures { IsDeclaration (codes "BagIt-Version: 1.0" ++ 10
         ∷ codes "Tag-File-Character-Encoding: UTF-8" ++ 10 ∷ []) current }
 {}
 
-/// An earlier version and another encoding are declared, with other line endings (RFC 8493 section 2.1.1).
+/// An earlier version and another encoding are declared, with other line ends (RFC 8493 section 2.1.1).
 pub fn an_earlier_version_is_declared()
     ensures { IsDeclaration (codes "BagIt-Version: 0.97" ++ 13 ∷ 10
         ∷ codes "Tag-File-Character-Encoding: ISO-8859-1")
@@ -58,7 +59,7 @@ pub fn a_declaration_of_one_line_is_faulty()
     ensures { IsDeclarationFault (codes "BagIt-Version: 1.0" ++ 10 ∷ []) declaration.LineCount }
 {}
 
-/// Version 0.97 is known where it is declared, and 0.96 is not.
+/// Version 0.97 is known, and version 0.96 isn't.
 pub fn version_0_97_is_known()
     ensures { IsDeclaration (codes "BagIt-Version: 0.97" ++ 10
         ∷ codes "Tag-File-Character-Encoding: UTF-8" ++ 10 ∷ [])
@@ -67,26 +68,27 @@ pub fn version_0_97_is_known()
         × (version_of (record { major = 0; minor = 96; utf8 = true }) ≡ None) }
 {}
 
-/// The label is not matched without its space.
+/// A label needs its space.
 pub fn a_declaration_with_other_labels_is_faulty()
     ensures { IsDeclarationFault (codes "BagIt-Version:1.0" ++ 10
         ∷ codes "Tag-File-Character-Encoding: UTF-8" ++ 10 ∷ []) declaration.Label }
 {}
 
-/// A version's number begins with no zero but its own.
+/// The numbers of a version have no leading zeros.
 pub fn a_version_with_a_leading_zero_is_faulty()
     ensures { IsDeclarationFault (codes "BagIt-Version: 01.0" ++ 10
         ∷ codes "Tag-File-Character-Encoding: UTF-8" ++ 10 ∷ []) declaration.Version }
 {}
 
-/// Two numbers below 2^64 and a dot (RFC 8493 section 2.2.2). Blanks at both ends and leading zeros are dropped.
+/// An oxum is two numbers below 2^64, joined by a dot (RFC 8493 section 2.2.2). Blanks at both ends and leading zeros
+/// are dropped.
 pub fn oxums_are_two_numbers_and_a_dot()
     ensures { OxumText (codes " 3.2" ++ 9 ∷ []) 3 2
         × OxumText (codes "007.02") 7 2
         × OxumText (codes "18446744073709551615.0") 18446744073709551615 0 }
 {}
 
-/// A number is missing, has a sign, or isn't below 2^64.
+/// A text is no oxum if a number is missing, has a sign, contains a blank or isn't below 2^64.
 pub fn other_texts_are_no_oxums()
     ensures { ((octets streams : ℕ) → ¬ OxumText (codes "3.") octets streams)
         × ((octets streams : ℕ) → ¬ OxumText (codes "+3.2") octets streams)
@@ -94,7 +96,8 @@ pub fn other_texts_are_no_oxums()
         × ((octets streams : ℕ) → ¬ OxumText (codes "18446744073709551616.0") octets streams) }
 {}
 
-/// Hex digits in either case, blanks, and a path, with any line end (RFC 8493 section 2.1.3). One `*` and one `./` are dropped.
+/// A line is hex digits in either case, blanks and a path, with any line end (RFC 8493 section 2.1.3). One `*` and one
+/// `./` before the path are dropped.
 pub fn a_manifest_lists_a_path_with_its_digest()
     ensures { ManifestText V1 Sha256 Payload
         (codes "BA7816BF8F01CFEA414140DE5DAE2223B00361A396177A9CB410FF61F20015AD" ++ 9
@@ -106,13 +109,13 @@ pub fn a_manifest_lists_a_path_with_its_digest()
         ∷ 0x00 ∷ 0x15 ∷ 0xAD ∷ [])) ∷ []) }
 {}
 
-/// A manifest may list nothing, and blank lines are skipped.
+/// A manifest may list nothing. Blank lines are skipped.
 pub fn a_manifest_may_list_nothing()
     ensures { ManifestText V1 Sha256 Payload [] []
         × ManifestText V1 Md5 Tag (10 ∷ 32 ∷ 9 ∷ 13 ∷ 10 ∷ []) [] }
 {}
 
-/// A path stands in one line at most (RFC 8493 section 2.1.3).
+/// A path is listed at most once (RFC 8493 section 2.1.3).
 pub fn a_path_that_is_listed_twice_is_a_fault()
     ensures { ManifestFault V1 Md5 Payload
         (codes "900150983cd24fb0d6963f7d28e17f72  data/a" ++ 10
@@ -121,7 +124,8 @@ pub fn a_path_that_is_listed_twice_is_a_fault()
         (record { line = 3; cause = cause.Twice }) }
 {}
 
-/// A payload manifest lists payload files alone (RFC 8493 section 2.1.3), and a tag manifest no tag manifests (section 2.2.1).
+/// A payload manifest lists only payload files (RFC 8493 section 2.1.3), and a tag manifest lists no tag manifests
+/// (section 2.2.1).
 pub fn a_path_of_the_other_kind_is_a_fault()
     ensures { ManifestFault V1 Md5 Payload (codes "900150983cd24fb0d6963f7d28e17f72  k")
         (record { line = 1; cause = cause.WrongPlace })
@@ -131,7 +135,7 @@ pub fn a_path_of_the_other_kind_is_a_fault()
         (record { line = 1; cause = cause.WrongPlace }) }
 {}
 
-/// A line needs a blank, a digest of the algorithm's length and a path that leads nowhere else.
+/// A line needs a blank, a digest of the algorithm's length and a path without faults.
 pub fn other_lines_of_a_manifest_are_faults()
     ensures { ManifestFault V1 Md5 Payload (codes "900150983cd24fb0d6963f7d28e17f72")
         (record { line = 1; cause = cause.NoSeparator })
@@ -143,7 +147,7 @@ pub fn other_lines_of_a_manifest_are_faults()
         (record { line = 1; cause = cause.BadPath path.BadEscape }) }
 {}
 
-/// Labels may come again, a value may go on in indented lines, and may be empty (RFC 8493 section 2.2.2).
+/// A label may be repeated. A value may be empty, or continue on indented lines (RFC 8493 section 2.2.2).
 pub fn a_bag_info_says_its_elements()
     ensures { InfoText V1 (codes "Note: one" ++ 10 ∷ codes "Note: two" ++ 10 ∷ 9 ∷ codes " three"
         ++ 10 ∷ codes "Empty:" ++ 10 ∷ [])
@@ -151,8 +155,8 @@ pub fn a_bag_info_says_its_elements()
         (codes "two" ++ 10 ∷ codes "three") ∷ element (codes "Empty") [] ∷ []) }
 {}
 
-/// A first line that is indented continues nothing, a line needs a colon and a blank, and a label ends with no blank (RFC 8493
-/// section 2.2.2).
+/// An indented first line has nothing to continue, a line needs a colon and a blank, and a label doesn't end in a blank
+/// (RFC 8493 section 2.2.2).
 pub fn other_lines_of_a_bag_info_are_faults()
     ensures { InfoFault V1 (codes " x") (record { line = 1; cause = cause.NothingToContinue })
         × InfoFault V1 (codes "a b") (record { line = 1; cause = cause.NoSeparator })
@@ -160,7 +164,7 @@ pub fn other_lines_of_a_bag_info_are_faults()
         × InfoFault V1 (codes "L : v") (record { line = 1; cause = cause.BadLabel }) }
 {}
 
-/// In version 0.97 blanks may stand on both sides of the colon, and are dropped.
+/// In version 0.97 there may be blanks on both sides of the colon. They are dropped.
 pub fn a_bag_info_of_version_0_97_says_its_elements()
     ensures { InfoText V097 (codes "L : v" ++ 10 ∷ codes "L:v" ++ 10 ∷ codes "L:" ++ 32 ∷ 9 ∷ 32
         ∷ codes "v" ++ 10 ∷ [])
@@ -175,7 +179,7 @@ pub fn other_lines_of_a_bag_info_of_version_0_97_are_faults()
         × InfoFault V097 (codes ": v") (record { line = 1; cause = cause.BadLabel }) }
 {}
 
-/// A length is a number of octets, or `-` where none is given (RFC 8493 section 2.2.3).
+/// A length is a number of octets, or `-` if none is given (RFC 8493 section 2.2.3).
 pub fn a_fetch_list_lists_its_entries()
     ensures { FetchText V1 (codes "http:x - data/a" ++ 10 ∷ codes "https://example.org/b" ++ 9
         ∷ codes "05" ++ 9 ∷ codes "data/b c" ++ 10 ∷ [])
@@ -184,7 +188,7 @@ pub fn a_fetch_list_lists_its_entries()
         ∷ []) }
 {}
 
-/// An entry needs a url, a length and a payload file's path (RFC 8493 section 2.2.3).
+/// An entry needs a URL, a length and the path of a payload file (RFC 8493 section 2.2.3).
 pub fn other_lines_of_a_fetch_list_are_faults()
     ensures { FetchFault V1 (codes "1http:x - data/a") (record { line = 1; cause = cause.BadUrl })
         × FetchFault V1 (codes "http:x -1 data/a") (record { line = 1; cause = cause.BadLength })

@@ -3,17 +3,18 @@ use bag_path::PathFault;
 use std::alloc::AllocError;
 use thiserror::Error;
 
-/// Why a line can't be read. Where several hold of a line, one is answered: `read_manifest`, `read_info` and `read_fetch`
-/// tell in which order they are looked for.
+/// Why a line can't be read. If several causes apply to a line, one of them is returned: `read_manifest`, `read_info`
+/// and `read_fetch` say in which order they look for them.
 #[derive(Clone, Copy, Debug, PartialEq, Eq, PartialOrd, Ord, Error)]
 pub enum LineCause {
     /// The line is not UTF-8 (RFC 8493 section 2.1.1: the tag files' encoding).
     #[error("not UTF-8")]
     NotUtf8,
-    /// A blank, or in `bag-info.txt` a colon, that the line needs isn't there.
+    /// The line lacks a blank that it needs or, in `bag-info.txt`, a colon.
     #[error("separator")]
     NoSeparator,
-    /// The checksum isn't the hex digits of a digest by the manifest's algorithm.
+    /// The checksum isn't in the form of a digest by the manifest's algorithm: it has another length, or an octet that
+    /// isn't a hex digit.
     #[error("digest form")]
     BadDigest,
     /// The text after the blanks spells no path.
@@ -22,16 +23,16 @@ pub enum LineCause {
     /// The path is one that this file may not list.
     #[error("wrong place")]
     WrongPlace,
-    /// The path stands in an earlier line of the manifest.
+    /// An earlier line of the manifest lists the same path.
     #[error("twice")]
     Twice,
     /// The label is empty, begins or ends with a blank, or begins with U+FEFF.
     #[error("label")]
     BadLabel,
-    /// A continuation line with no element before it.
+    /// The line is a continuation, and no element comes before it.
     #[error("nothing to continue")]
     NothingToContinue,
-    /// The URL has not the form of RFC 3986 section 3.
+    /// The URL isn't a scheme, a colon and something more without blanks and controls (RFC 3986 section 3).
     #[error("url")]
     BadUrl,
     /// The length is neither `-` nor a number of octets below 2^64.
@@ -39,13 +40,13 @@ pub enum LineCause {
     BadLength,
 }
 
-/// The first faulty line of a file, counted from 1, and why.
+/// The first faulty line of a file, and what is wrong with it.
 #[derive(Clone, Copy, Debug, PartialEq, Eq, Error)]
 #[error("line {line}: {cause}")]
 pub struct LineFault {
-    /// The number of the line, from 1 on.
+    /// The number of the line, counted from 1.
     pub line: u64,
-    /// The first cause that holds of it.
+    /// The first cause that applies to the line.
     pub cause: LineCause,
 }
 

@@ -9,7 +9,7 @@ use std::alloc::{AllocError, Global};
 use std::marker::Model;
 use thiserror::Error;
 
-/// A payload file that isn't sent with the bag: where it can be had, and its length in octets, where one is given.
+/// A payload file that isn't sent with the bag: its URL, its length in octets if one is given, and its path.
 #[derive(Debug, Drop)]
 pub struct FetchEntry {
     url: String,
@@ -28,20 +28,21 @@ impl Model for FetchEntry {
     ghost invariant = { λ e. IsEntry (fetch_item (string_bytes e.url) e.octets e.path) };
 }
 
-/// An entry, and the number of the line that lists it. In a list that was built by [`Fetch::push`] that is its place from 1.
+/// An entry and the number of the line that lists it. In a list that was built by [`Fetch::push`] this is its place,
+/// counted from 1.
 #[derive(Debug, Drop)]
 pub struct FetchLine {
-    /// The number of the line, from 1 on.
+    /// The number of the line, counted from 1.
     pub line: u64,
-    /// What it lists.
+    /// The entry that the line lists.
     pub entry: FetchEntry,
 }
 
-/// Why a url and a path make no entry. Where several hold, the first in this order is answered, but `Memory` may come in
-/// place of any other.
+/// Why a URL and a path make no entry. If several causes apply, the first in this order is returned, but `Memory` may
+/// be returned in place of any other.
 #[derive(Clone, Copy, Debug, PartialEq, Eq, Error)]
 pub enum FetchEntryFault {
-    /// The url is not a scheme, a colon and something more without blanks and controls (RFC 3986 section 3).
+    /// The URL isn't a scheme, a colon and something more without blanks and controls (RFC 3986 section 3).
     #[error("url")]
     BadUrl,
     /// The path is not that of a payload file.
@@ -67,11 +68,11 @@ impl FetchEntry {
     ghost use Rattle.std.specs.Prelude.{◌≡◌, IfOk, IfErr};
     ghost use Rattle.bag_tags.specs.FetchEntries.{fetch_item, IsEntry, RefusesEntry};
 
-    /// The entry of a payload file, with its length in octets or none.
+    /// The entry of a payload file, with its length in octets if that is known.
     ///
     /// # Errors
     ///
-    /// The first of `BadUrl` and `NotPayload` that holds, or `Memory`.
+    /// The first of `BadUrl` and `NotPayload` that applies, or `Memory` if memory runs out.
     pub fn new(
         alloc: Global,
         url: &str,
@@ -88,7 +89,7 @@ impl FetchEntry {
         if !path.is_payload() {
             return Err(FetchEntryFault::NotPayload);
         }
-        // The contract of `as_str` says that it is a path.
+        // By the contract of `as_str` this is a path, which a proof needs here.
         let _text = path.as_str();
         Ok(FetchEntry {
             url: String::from_str(alloc, url)?,
@@ -97,7 +98,7 @@ impl FetchEntry {
         })
     }
 
-    /// Where the file can be had.
+    /// The URL of the file.
     pub fn url(&self) -> &str
         ensures url { result.now ≡ self.now.url }
         ensures is_entry { IsEntry self.now }
@@ -105,7 +106,7 @@ impl FetchEntry {
         self.url.as_str()
     }
 
-    /// The file's length in octets, where one is given.
+    /// The length of the file in octets, if one is given.
     pub fn length(&self) -> Option<u64>
         ensures { result ≡ self.now.octets }
     {
@@ -121,7 +122,7 @@ impl FetchEntry {
     }
 }
 
-/// The entries of `fetch.txt`, in its order. A path may stand in several of them.
+/// The entries of `fetch.txt`, in its order. Several entries may have the same path.
 #[derive(Drop)]
 pub struct Fetch {
     lines: Vec<FetchLine>,
@@ -140,7 +141,7 @@ impl Fetch {
     ghost use Rattle.std.specs.Prelude.{◌≡◌, ◌+◌, ◌++◌, ◌∷◌, [], length, OnOk, OnErr};
     ghost use Rattle.bag_tags.specs.Fetches.{fetch_line};
 
-    /// No entries yet.
+    /// A list without entries.
     pub fn new(alloc: Global) -> Fetch
         ensures { result ≡ [] }
     {
@@ -161,11 +162,11 @@ impl Fetch {
         self.lines.as_slice()
     }
 
-    /// Adds an entry after the others. Its line is its place from 1.
+    /// Adds an entry after the others. The number of its line is its place, counted from 1.
     ///
     /// # Errors
     ///
-    /// `AllocError` where memory runs out; the entries then stay as they were.
+    /// `AllocError` if memory runs out. The entries are then unchanged.
     pub fn push(&mut self, entry: FetchEntry) -> Result<(), AllocError>
         ensures added { OnOk result (self.new ≡ self.old ++ fetch_line (length self.old + 1) entry
             ∷ []) }
@@ -175,7 +176,7 @@ impl Fetch {
         self.push_line(place, entry)
     }
 
-    /// Adds an entry that stands on the line of this number.
+    /// Adds an entry with the number of the line that lists it.
     pub(crate) fn push_line(&mut self, line: u64, entry: FetchEntry) -> Result<(), AllocError>
         ensures added { OnOk result (self.new ≡ self.old ++ fetch_line line entry ∷ []) }
         ensures unchanged { OnErr result (self.new ≡ self.old) }

@@ -18,16 +18,18 @@ use crate::words::{Stop, split_text};
 use bag_path::{Version, escape};
 use std::alloc::{AllocError, Global};
 
-/// The entries of a text: on each line a url, blanks, a length in octets or `-`, blanks and the path of a payload file.
+/// Reads the entries of a text. Each line is a URL, blanks, a length in octets or `-`, blanks, and the path of a
+/// payload file.
 ///
-/// One byte order mark at the front is dropped, and lines of blanks alone are skipped.
+/// One byte order mark at the start is dropped. Lines that are empty or only blanks are skipped.
 ///
 /// # Errors
 ///
-/// The first faulty line, counted from 1, with the first cause that holds of it: it is not UTF-8, it has no blank after the
-/// url or none after the length, its url, its length or its path is bad, the path is not that of a payload file; or `Memory`.
+/// The first faulty line, counted from 1, with the first cause that applies: it is not UTF-8; it has no blank after the
+/// URL, or none after the length; its URL, its length or its path is bad; its path is not that of a payload file. Or
+/// `Memory`, if memory runs out.
 pub fn read_fetch(alloc: Global, octets: &[u8], version: Version) -> Result<Fetch, TagFault>
-    // What is read is what the text lists, and what it lists is read.
+    // The result is what the text lists, and every text that lists something is read.
     ensures listed { IfOk result (λ fetch. FetchText version octets.now fetch) }
     ensures only { (lines : List FetchLine) → FetchText version octets.now lines
         → MatchResult result (λ fetch. fetch ≡ lines) (λ fault. fault ≡ TagFault.Memory) }
@@ -92,7 +94,7 @@ fn split_words(text: &str) -> Option<(&str, &str, &str)>
     Some((url, length, path))
 }
 
-/// The length that a text says: none for `-`.
+/// The length that a text gives, which is `None` for `-`.
 fn read_length(text: &[u8]) -> Option<Option<u64>>
     ensures some { IfSome result (λ length. IsLength text.now length) }
     ensures none { IfNone result ((length : Option ℕ) → ¬ IsLength text.now length) }
@@ -103,12 +105,12 @@ fn read_length(text: &[u8]) -> Option<Option<u64>>
     Some(Some(read_number(text)?))
 }
 
-/// The text of these entries: each url, a space, the length or `-`, a space and the escaped path, with LF at the end.
-/// `read_fetch` reads the same entries again, on the lines from 1 on.
+/// Writes these entries. Each line is a URL, a space, the length or `-`, a space and the escaped path, and ends in LF.
+/// In version 1.0 `read_fetch` reads the same entries back, on lines numbered from 1.
 ///
 /// # Errors
 ///
-/// `AllocError` where memory runs out.
+/// `AllocError` if memory runs out.
 pub fn write_fetch(alloc: Global, fetch: &Fetch) -> Result<Vec<u8>, AllocError>
     ensures written { IfOk result (λ octets. octets.items ≡ written_fetch fetch.now) }
     ensures reads { IfOk result (λ octets. FetchText V1 octets.items (numbered_from 1 fetch.now)) }

@@ -9,7 +9,7 @@ use std::alloc::{AllocError, Global};
 use std::marker::Model;
 use thiserror::Error;
 
-/// A metadata element of `bag-info.txt`: a label and its value. A line break in the value is one LF.
+/// A metadata element of `bag-info.txt`: a label and its value. Each line break in the value is one LF.
 #[derive(Debug, Drop)]
 pub struct Element {
     label: String,
@@ -27,14 +27,14 @@ impl Model for Element {
     ghost invariant = { λ e. IsElement (element (string_bytes e.label) (string_bytes e.value)) };
 }
 
-/// Why a label and a value make no element. Where several hold, the first in this order is answered, but `Memory` may come in
-/// place of any other.
+/// Why a label and a value make no element. If several causes apply, the first in this order is returned, but `Memory`
+/// may be returned in place of any other.
 #[derive(Clone, Copy, Debug, PartialEq, Eq, Error)]
 pub enum ElementFault {
-    /// The label is empty, begins or ends with a blank, begins with U+FEFF, or has a colon, CR or LF.
+    /// The label is empty, begins or ends with a blank, begins with U+FEFF, or contains a colon, CR or LF.
     #[error("label")]
     BadLabel,
-    /// The value has a CR, or after an LF a line that is empty or begins with a blank.
+    /// The value contains a CR, or a line after an LF that is empty or begins with a blank.
     #[error("value")]
     BadValue,
     /// Memory ran out.
@@ -61,7 +61,7 @@ impl Element {
     ///
     /// # Errors
     ///
-    /// The first of `BadLabel` and `BadValue` that holds, or `Memory`.
+    /// The first of `BadLabel` and `BadValue` that applies, or `Memory` if memory runs out.
     pub fn new(alloc: Global, label: &str, value: &str) -> Result<Element, ElementFault>
         ensures made { IfOk result (λ made. made ≡ element label.now value.now) }
         ensures is_element { IfOk result IsElement }
@@ -79,7 +79,8 @@ impl Element {
         })
     }
 
-    /// The label, in the case of its letters that was given. (The reserved labels are compared without regard to case.)
+    /// The label, with its letters in the case in which they were given. Reserved labels are compared without regard to
+    /// case.
     pub fn label(&self) -> &str
         ensures label { result.now ≡ self.now.label }
         ensures is_element { IsElement self.now }
@@ -95,14 +96,14 @@ impl Element {
         self.value.as_str()
     }
 
-    /// Whether it is a `Payload-Oxum`. Its label is compared without regard to ASCII case.
+    /// Whether this is a `Payload-Oxum`. The label is compared without regard to ASCII case.
     pub fn is_oxum(&self) -> bool
         ensures { result ≡ is_oxum self.now }
     {
         self.label().eq_ignore_ascii_case("Payload-Oxum")
     }
 
-    /// The element with one line more at the end of its value.
+    /// The element with one more line at the end of its value.
     pub(crate) fn with_line(self, line: &str) -> Result<Element, AllocError>
         requires { IsFurtherLine line.now }
         ensures { IfOk result (λ more. more ≡ element_with_line self line.now) }
@@ -114,7 +115,7 @@ impl Element {
     }
 }
 
-/// The elements of `bag-info.txt`, in its order. A label may stand in several of them.
+/// The elements of `bag-info.txt`, in its order. Several elements may have the same label.
 #[derive(Drop)]
 pub struct Info {
     elements: Vec<Element>,
@@ -133,7 +134,7 @@ impl Info {
     ghost use Rattle.std.specs.Prelude.{◌≡◌, ◌++◌, ◌∷◌, [], OnOk, OnErr, IfSome, IfNone};
     ghost use Rattle.bag_tags.specs.Infos.{MetadataElement};
 
-    /// No elements yet.
+    /// A list without elements.
     pub fn new(alloc: Global) -> Info
         ensures { result ≡ [] }
     {
@@ -158,7 +159,7 @@ impl Info {
     ///
     /// # Errors
     ///
-    /// `AllocError` where memory runs out; the elements then stay as they were.
+    /// `AllocError` if memory runs out. The elements are then unchanged.
     pub fn push(&mut self, element: Element) -> Result<(), AllocError>
         ensures added { OnOk result (self.new ≡ self.old ++ element ∷ []) }
         ensures unchanged { OnErr result (self.new ≡ self.old) }
@@ -167,7 +168,7 @@ impl Info {
         Ok(())
     }
 
-    /// Takes the last element away.
+    /// Removes the last element and returns it.
     pub(crate) fn pop(&mut self) -> Option<Element>
         ensures last { IfSome result (λ last. self.old ≡ self.new ++ last ∷ []) }
         ensures none { IfNone result (self.old ≡ []) }
@@ -204,7 +205,7 @@ fn is_fit(text: &[u8]) -> bool
         && !text.starts_with(MARK)
 }
 
-/// Whether each line after the first has some text and begins with no blank, and no CR is there.
+/// Whether the text contains no CR, and no line after the first is empty or begins with a blank.
 fn is_value(text: &[u8]) -> bool
     ensures { IsTrue result ↔ IsValue text.now }
 {

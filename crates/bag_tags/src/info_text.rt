@@ -17,18 +17,18 @@ use crate::words::{Stop, begins_blank, is_blank, split_text};
 use bag_path::Version;
 use std::alloc::{AllocError, Global};
 
-/// The elements of a text: each is a line with a label, a colon, a blank and the first line of the value, and then the
-/// indented lines, if there are any, each a further line of the value. In version 0.97 any number of blanks stands
-/// before and after the colon, and is dropped.
+/// Reads the elements of a text. Each element is a line with a label, a colon, a blank and the first line of the value.
+/// Indented lines may follow, each of which is a further line of the value. In version 0.97 there may be any number of
+/// blanks before and after the colon, which are dropped.
 ///
-/// One byte order mark at the front is dropped, and lines of blanks alone are skipped.
+/// One byte order mark at the start is dropped. Lines that are empty or only blanks are skipped.
 ///
 /// # Errors
 ///
-/// The first faulty line, counted from 1, with the first cause that holds of it: it is not UTF-8, it is indented and no
-/// element stands before it, it has no separator, its label is bad; or `Memory`.
+/// The first faulty line, counted from 1, with the first cause that applies: it is not UTF-8; it is indented, and no
+/// element comes before it; it has no separator; its label is bad. Or `Memory`, if memory runs out.
 pub fn read_info(alloc: Global, octets: &[u8], version: Version) -> Result<Info, TagFault>
-    // What is read is what the text says, and what it says is read.
+    // The result is what the text says, and every text that says something is read.
     ensures read { IfOk result (λ info. InfoText version octets.now info) }
     ensures only { (elements : List MetadataElement) → InfoText version octets.now elements
         → MatchResult result (λ info. info ≡ elements) (λ fault. fault ≡ TagFault.Memory) }
@@ -92,7 +92,7 @@ fn read_element(alloc: Global, version: Version, text: &str) -> Result<Element, 
     }
 }
 
-/// The label of a line and the first line of a value, where it has a separator.
+/// The label of a line and the first line of the value, if the line has a separator.
 fn split_parts(version: Version, text: &str) -> Option<(&str, &str)>
     ensures { MatchOption result (LacksSeparator version text.now)
         (λ parts. HasParts version text.now parts.0.now parts.1.now) }
@@ -102,7 +102,7 @@ fn split_parts(version: Version, text: &str) -> Option<(&str, &str)>
     Some((label(version, before), first))
 }
 
-/// The label, which stands before the colon.
+/// The label, which is what comes before the colon.
 fn label(version: Version, before: &str) -> &str
     ensures { HasLabel version before.now result.now }
 {
@@ -112,7 +112,7 @@ fn label(version: Version, before: &str) -> &str
     }
 }
 
-/// The first line of the value, where what follows the colon has one.
+/// The first line of the value, if what follows the colon has the form of one.
 fn first_line(version: Version, after: &str) -> Option<&str>
     ensures { MatchOption result ((first : List ℕ) → ¬ HasFirstLine version after.now first)
         (λ first. HasFirstLine version after.now first.now) }
@@ -123,7 +123,7 @@ fn first_line(version: Version, after: &str) -> Option<&str>
     }
 }
 
-/// What follows a blank, or nothing where there is nothing.
+/// What follows a blank, or nothing if the text is empty.
 fn after_blank(text: &str) -> Option<&str>
     ensures { MatchOption result ((first : List ℕ) → ¬ HasFirstLine V1 text.now first)
         (λ first. HasFirstLine V1 text.now first.now) }
@@ -150,12 +150,12 @@ fn without_last_blanks(text: &str) -> &str
     }
 }
 
-/// The text of these elements: each label, a colon, a space and the value, whose further lines are indented by a space, with
-/// LF after each line. Nothing is folded. `read_info` reads the same elements again.
+/// Writes these elements. Each is a label, a colon, a space and the value, whose further lines are indented by a space.
+/// Each line ends in LF, and long lines are not folded. In version 1.0 `read_info` reads the same elements back.
 ///
 /// # Errors
 ///
-/// `AllocError` where memory runs out.
+/// `AllocError` if memory runs out.
 pub fn write_info(alloc: Global, info: &Info) -> Result<Vec<u8>, AllocError>
     ensures written { IfOk result (λ octets. octets.items ≡ written_info info.now) }
     ensures reads { IfOk result (λ octets. InfoText V1 octets.items info.now) }
@@ -179,7 +179,7 @@ fn write_element(octets: &mut Vec<u8>, element: &Element) -> Result<(), AllocErr
     Ok(())
 }
 
-/// Writes the lines of a value, each after the first indented by a space.
+/// Writes the lines of a value, with each line after the first indented by a space.
 fn write_value(octets: &mut Vec<u8>, value: &[u8]) -> Result<(), AllocError>
     ensures { OnOk result (octets.new.items ≡ octets.old.items ++ written_value value.now) }
 {

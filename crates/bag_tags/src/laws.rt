@@ -1,4 +1,5 @@
-//! Laws on the definitions that the contracts of this crate cite. Each function's contract is one law, and its body is empty.
+//! Laws about the definitions that the contracts of this crate cite. The contract of each function states one law, and
+//! its body is empty.
 ghost use Rattle.std.specs.Prelude.{◌≡◌, ◌⊎◌, ℕ, List};
 ghost use Rattle.std.specs.List.{AllByRecursion};
 ghost use Rattle.std.specs.Ordering.{nat_cmp};
@@ -31,19 +32,19 @@ pub use crate::declaration::{
 };
 pub use crate::name::{a_path_has_one_unknown_algorithm_at_most, a_path_names_one_thing_at_most};
 
-/// Manifests stand in the order of their file names.
+/// Manifests are ordered by their file names.
 pub fn manifests_stand_in_the_order_of_their_names()
     ensures { (name other : ManifestName)
         → manifests.ghosts.cmp name other ≡ slice_cmp nat_cmp (file_of name) (file_of other) }
 {}
 
-/// Tag files that are read line by line stand in the order of their names.
+/// Tag files that are read line by line are ordered by their names.
 pub fn tag_files_stand_in_the_order_of_their_names()
     ensures { (file other : LineFile)
         → files.ghosts.cmp file other ≡ slice_cmp nat_cmp (text_file file) (text_file other) }
 {}
 
-/// A text is that of one manifest at most.
+/// A text is that of at most one manifest.
 pub fn a_text_lists_one_list_of_pairs_at_most()
     ensures { (version : Version) (alg : Alg) (kind : Kind) (octets : List ℕ)
         (pairs others : List Pair)
@@ -51,13 +52,13 @@ pub fn a_text_lists_one_list_of_pairs_at_most()
         → pairs ≡ others }
 {}
 
-/// A text is that of one `bag-info.txt` at most.
+/// A text is that of at most one `bag-info.txt`.
 pub fn a_text_says_one_list_of_elements_at_most()
     ensures { (version : Version) (octets : List ℕ) (elements others : List MetadataElement)
         → InfoText version octets elements → InfoText version octets others → elements ≡ others }
 {}
 
-/// A text is that of one `fetch.txt` at most.
+/// A text is that of at most one `fetch.txt`.
 pub fn a_text_lists_one_list_of_entries_at_most()
     ensures { (version : Version) (octets : List ℕ) (lines others : List FetchLine)
         → FetchText version octets lines → FetchText version octets others → lines ≡ others }
@@ -71,7 +72,7 @@ pub fn a_faulty_manifest_lists_nothing()
         → ⊥ }
 {}
 
-/// A manifest has one first fault at most.
+/// The text of a manifest has at most one first fault.
 pub fn a_manifest_has_one_first_fault_at_most()
     ensures { (version : Version) (alg : Alg) (kind : Kind) (octets : List ℕ)
         (fault other : LineFault)
@@ -86,7 +87,7 @@ pub fn a_faulty_bag_info_says_nothing()
         → InfoText version octets elements → InfoFault version octets fault → ⊥ }
 {}
 
-/// A `bag-info.txt` has one first fault at most.
+/// The text of a `bag-info.txt` has at most one first fault.
 pub fn a_bag_info_has_one_first_fault_at_most()
     ensures { (version : Version) (octets : List ℕ) (fault other : LineFault)
         → InfoFault version octets fault → InfoFault version octets other → fault ≡ other }
@@ -98,13 +99,13 @@ pub fn a_faulty_fetch_list_lists_nothing()
         → FetchText version octets lines → FetchFault version octets fault → ⊥ }
 {}
 
-/// A `fetch.txt` has one first fault at most.
+/// The text of a `fetch.txt` has at most one first fault.
 pub fn a_fetch_list_has_one_first_fault_at_most()
     ensures { (version : Version) (octets : List ℕ) (fault other : LineFault)
         → FetchFault version octets fault → FetchFault version octets other → fault ≡ other }
 {}
 
-/// A text is the value of a `Payload-Oxum`, or is none.
+/// A text either is the value of a `Payload-Oxum` or isn't.
 pub fn a_text_is_an_oxum_or_is_none()
     ensures { (text : List ℕ) → ((octets streams : ℕ) × OxumText text octets streams)
         ⊎ ((octets streams : ℕ) → ¬ OxumText text octets streams) }
@@ -144,7 +145,7 @@ pub fn a_written_bag_info_says_its_elements()
         → InfoText V1 (written_info elements) elements }
 {}
 
-/// What is written for entries is the text of a `fetch.txt` that lists them, on lines from 1 on.
+/// What is written for entries is the text of a `fetch.txt` that lists them, on lines numbered from 1.
 pub fn a_written_fetch_list_lists_its_entries()
     ensures { (lines : List FetchLine) → AllByRecursion CanBeFetched lines
         → FetchText V1 (written_fetch lines) (numbered_from 1 lines) }

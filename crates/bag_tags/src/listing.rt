@@ -32,17 +32,17 @@ impl Kind {
 /// A listed file.
 #[derive(Debug, Drop)]
 pub struct Pair {
-    /// Where the file is, from the base directory on.
+    /// The path of the file from the base directory.
     pub path: BagPath,
     /// The digest of its octets.
     pub digest: Digest,
 }
 
-/// Why a pair isn't added to a manifest. Where several hold, the first in this order is answered; `Memory` may come in
-/// place of any other.
+/// Why a pair isn't added to a manifest. If several causes apply, the first in this order is returned, but `Memory` may
+/// be returned in place of any other.
 #[derive(Clone, Copy, Debug, PartialEq, Eq, Error)]
 pub enum PushFault {
-    /// The digest is by another algorithm than the manifest's.
+    /// The algorithm of the digest isn't that of the manifest.
     #[error("a digest by another algorithm")]
     WrongAlg,
     /// A manifest of this kind may not list the path.

@@ -13,7 +13,7 @@ use std::alloc::{AllocError, Global};
 use std::collections::BTreeMap;
 use std::marker::Model;
 
-/// The files that a manifest lists, in its order, each once and with its digest.
+/// The files that a manifest lists, in its order. Each is listed once, with its digest.
 #[derive(Drop)]
 pub struct Manifest {
     alg: Alg,
@@ -72,7 +72,7 @@ impl Manifest {
         self.kind
     }
 
-    /// What the manifest lists and its algorithm, by which its file is named.
+    /// The kind and the algorithm of the manifest, which determine its file name.
     pub fn name(&self) -> ManifestName
         ensures { result ≡ manifest_name self.now.kind self.now.alg }
     {
@@ -88,7 +88,7 @@ impl Manifest {
         ensures none_twice { NoneTwice self.now.pairs }
         ensures fit { FitEach self.now.alg self.now.kind self.now.pairs }
     {
-        // The index says that no pair stands twice.
+        // By the invariant of the index no path is listed twice, which a proof needs here.
         let _places = &self.places;
         self.pairs.as_slice()
     }
@@ -104,11 +104,12 @@ impl Manifest {
         }
     }
 
-    /// Lists one file more, after the others.
+    /// Adds a file at the end of the list.
     ///
     /// # Errors
     ///
-    /// The first of `WrongAlg`, `WrongPlace` and `Twice` that holds, or `Memory`; the manifest then stays as it was.
+    /// The first of `WrongAlg`, `WrongPlace` and `Twice` that applies, or `Memory` if memory runs out. The manifest is
+    /// then unchanged.
     pub fn push(&mut self, path: BagPath, digest: Digest) -> Result<(), PushFault>
         ensures admitted { OnOk result (Admits self.old path digest) }
         ensures added { OnOk result (self.new ≡ with_pair self.old (pair path digest)) }

@@ -15,15 +15,16 @@ use bag_digest::{Alg, Digest};
 use bag_path::Version;
 use std::alloc::Global;
 
-/// The manifest of a text: a line for each file, with its checksum in hex, blanks and its path.
+/// Reads the manifest of a text. Each line is the checksum of a file in hex, blanks, and the path of the file.
 ///
-/// One byte order mark at the front is dropped, and lines of blanks alone are skipped. Of a path's text one leading `*`
-/// and then one leading `./` are dropped, as other tools write them.
+/// One byte order mark at the start is dropped. Lines that are empty or only blanks are skipped. One `*` before a path
+/// and then one `./` are dropped, since other tools write them.
 ///
 /// # Errors
 ///
-/// The first faulty line, counted from 1, with the first cause that holds of it: it is not UTF-8, it has no blank after the
-/// checksum, its checksum or its path is bad, the path is in the wrong place, it stands in an earlier line; or `Memory`.
+/// The first faulty line, counted from 1, with the first cause that applies: it is not UTF-8; it has no blank after the
+/// checksum; its checksum or its path is bad; this manifest may not list its path; an earlier line lists its path. Or
+/// `Memory`, if memory runs out.
 pub fn read_manifest(
     alloc: Global,
     octets: &[u8],
@@ -31,7 +32,7 @@ pub fn read_manifest(
     kind: Kind,
     version: Version,
 ) -> Result<Manifest, TagFault>
-    // What is read is what the text lists, and what it lists is read.
+    // The result is what the text lists, and every text that lists something is read.
     ensures listed { IfOk result (λ manifest. (manifest.alg ≡ alg) × (manifest.kind ≡ kind)
         × ManifestText version alg kind octets.now manifest.pairs) }
     ensures only { (pairs : List Pair) → ManifestText version alg kind octets.now pairs
@@ -65,7 +66,7 @@ impl TagLines for Manifest {
     }
 }
 
-/// What a line gives: a path, and its digest.
+/// The path and the digest that a line gives.
 fn read_pair(alloc: Global, alg: Alg, version: Version, text: &str) -> Result<Pair, TagCause>
     ensures ok { IfOk result (λ pair. Gives version alg text.now pair.path pair.digest) }
     ensures err { IfErr result (Causes (GivesNothing version alg text.now)) }
@@ -82,7 +83,7 @@ fn read_pair(alloc: Global, alg: Alg, version: Version, text: &str) -> Result<Pa
     Ok(Pair { path, digest })
 }
 
-/// The text of a path without one star, and then without one dot and slash.
+/// The text of a path without one `*` at its start, and then without one `./`.
 fn plain_path(text: &str) -> &str
     ensures { result.now ≡ plain_path text.now }
 {

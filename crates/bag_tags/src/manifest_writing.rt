@@ -1,4 +1,4 @@
-//! Manifests as they are written (RFC 8493 section 2.1.3).
+//! Writes manifests (RFC 8493 section 2.1.3).
 ghost use Rattle.std.specs.Prelude.{◌≡◌, ◌++◌, IfOk, OnOk};
 ghost use Rattle.bag_path.specs.Paths.{IsPath};
 ghost use Rattle.bag_path.specs.declared.version.Version.TheVariants.{V1};
@@ -13,12 +13,13 @@ use crate::words::is_blank;
 use bag_path::{BagPath, escape};
 use std::alloc::{AllocError, Global};
 
-/// The text of a manifest, its pairs in their order: on each line the digest in lower case hex, two spaces and the escaped
-/// path, after `./` where it begins with `*` or a blank. `read_manifest` reads the same pairs again.
+/// Writes a manifest, its pairs in their order. Each line is a digest in lower case hex, two spaces and the escaped
+/// path, and ends in LF. A path that begins with `*` or a blank is written after `./`. In version 1.0 `read_manifest`
+/// reads the same pairs back.
 ///
 /// # Errors
 ///
-/// `AllocError` where memory runs out.
+/// `AllocError` if memory runs out.
 pub fn write_manifest(alloc: Global, manifest: &Manifest) -> Result<Vec<u8>, AllocError>
     ensures written { IfOk result (λ octets. octets.items ≡ written_manifest manifest.now.pairs) }
     ensures reads { IfOk result (λ octets.
@@ -44,7 +45,7 @@ fn write_pair(alloc: Global, octets: &mut Vec<u8>, pair: &Pair) -> Result<(), Al
     Ok(())
 }
 
-/// Writes a path so that nothing of it is dropped when it is read.
+/// Writes a path so that a reader drops nothing of it.
 fn write_path(alloc: Global, octets: &mut Vec<u8>, path: &BagPath) -> Result<(), AllocError>
     ensures written { OnOk result (octets.new.items ≡ octets.old.items ++ written_path path.now) }
     ensures path { IsPath path.now }
@@ -56,7 +57,7 @@ fn write_path(alloc: Global, octets: &mut Vec<u8>, path: &BagPath) -> Result<(),
     Ok(())
 }
 
-/// Whether a path begins with `*` or a blank, which a reader would drop.
+/// Whether a path begins with `*` or a blank. Without `./` before it a reader would drop that.
 fn needs_dot(path: &[u8]) -> bool
     ensures { result ≡ needs_dot path.now }
 {

@@ -1,4 +1,4 @@
-//! What the files of a bag are, by their names (RFC 8493 section 2).
+//! What the files of a bag are, by their paths (RFC 8493 section 2).
 ghost use Rattle.std.specs.Prelude.{◌≡◌, ◌↔◌, ◌++◌, ℕ, List, IsTrue, MatchOption, codes};
 ghost use Rattle.bag_tags.specs.declared.name.TagName.{TagName};
 ghost use Rattle.bag_tags.specs.Names.{IsWord, IsWordOctet, IsUnknownManifest, Names, NamesTagManifest};
@@ -8,18 +8,18 @@ use bag_digest::Alg;
 use bag_path::BagPath;
 use std::fmt::{self, Display, Formatter, Write};
 
-/// What a file of a bag is, by its path. All but `Other` stand at the base directory, and their names are
-/// matched exactly.
+/// What a file of a bag is, by its path. All but `Other` are in the base directory itself, and their names are matched
+/// exactly.
 #[derive(Clone, Copy, Debug, PartialEq, Eq)]
 pub enum TagName {
     /// `bagit.txt` (RFC 8493 section 2.1.1).
     Declaration,
-    /// `manifest-ALG.txt`, where the algorithm is one of the four that are known (RFC 8493 section 2.1.3).
+    /// `manifest-ALG.txt`, with one of the four known algorithms (RFC 8493 section 2.1.3).
     PayloadManifest(Alg),
-    /// `tagmanifest-ALG.txt`, where the algorithm is one of the four that are known (RFC 8493 section 2.2.1).
+    /// `tagmanifest-ALG.txt`, with one of the four known algorithms (RFC 8493 section 2.2.1).
     TagManifest(Alg),
-    /// `manifest-X.txt` or `tagmanifest-X.txt` where X is one or more ASCII letters, digits or `_`, and
-    /// the name of no algorithm that is known. `unknown_algorithm` gives X.
+    /// `manifest-X.txt` or `tagmanifest-X.txt`, where X is one or more ASCII letters, digits or `_` and not the name of
+    /// a known algorithm. `unknown_algorithm` returns X.
     UnknownManifest,
     /// `bag-info.txt` (RFC 8493 section 2.2.2).
     Info,
@@ -64,7 +64,7 @@ impl TagName {
         TagName::Other
     }
 
-    /// The manifest that has this name, where its algorithm is known.
+    /// The manifest with this name, if its algorithm is known.
     pub fn manifest(self) -> Option<ManifestName>
         ensures { result ≡ known_manifest self }
     {
@@ -77,10 +77,10 @@ impl TagName {
     }
 }
 
-/// A manifest, by what it lists and its algorithm. The order is that of the file names.
+/// The name of a manifest: what it lists and its algorithm. Names are ordered as the file names are.
 #[derive(Clone, Copy, Debug, PartialEq, Eq, PartialOrd, Ord)]
 pub struct ManifestName {
-    /// Whether it is a payload manifest, `manifest-ALG.txt`, or a tag manifest, `tagmanifest-ALG.txt`.
+    /// Whether this is a payload manifest, `manifest-ALG.txt`, or a tag manifest, `tagmanifest-ALG.txt`.
     pub kind: Kind,
     /// The algorithm of its digests.
     pub alg: Alg,
@@ -117,7 +117,7 @@ impl LineFile {
     ghost use Rattle.bag_tags.specs.Names.{text_file};
     ghost use Rattle.bag_tags.specs.declared.name.LineFile.{LineFile};
 
-    /// The tag file that has this path, if it is one that is read line by line.
+    /// The tag file with this path, if it is one that is read line by line.
     pub fn of(path: &BagPath) -> Option<LineFile>
         ensures { MatchOption result ((file : LineFile) → path.now ≢ text_file file)
             (λ file. path.now ≡ text_file file) }
@@ -146,8 +146,8 @@ impl Display for LineFile {
     }
 }
 
-/// The X of `manifest-X.txt` or `tagmanifest-X.txt`, where it is one or more ASCII letters, digits or `_`, and
-/// the name of no algorithm that is known.
+/// The X of `manifest-X.txt` or `tagmanifest-X.txt`, if it is one or more ASCII letters, digits or `_` and not the name
+/// of a known algorithm.
 pub fn unknown_algorithm(path: &BagPath) -> Option<&str>
     ensures { MatchOption result ((word : List ℕ) → IsUnknownManifest path.now word → ⊥)
         (λ word. IsUnknownManifest path.now word.now) }
@@ -170,17 +170,17 @@ pub(crate) fn names_tag_manifest(path: &BagPath) -> bool
     manifest_word(path.as_str(), "tagmanifest-").is_some()
 }
 
-/// A path names one thing at most.
+/// A path names at most one thing.
 pub fn a_path_names_one_thing_at_most()
     ensures { (path : List ℕ) (a b : TagName) → Names path a → Names path b → a ≡ b }
 {}
 
-/// A path has one word for an unknown algorithm at most.
+/// A path has at most one name of an unknown algorithm.
 pub fn a_path_has_one_unknown_algorithm_at_most()
     ensures { (path a b : List ℕ) → IsUnknownManifest path a → IsUnknownManifest path b → a ≡ b }
 {}
 
-/// What stands between this front and `.txt`, where they are there and it is a word.
+/// What is between this front and `.txt`, if the text has both and it is a word.
 fn manifest_word<'a>(text: &'a str, front: &str) -> Option<&'a str>
     ensures word { MatchOption result
         ((word : List ℕ) → IsWord word → text.now ≡ front.now ++ word ++ codes ".txt" → ⊥)

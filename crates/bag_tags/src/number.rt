@@ -4,7 +4,7 @@ ghost use Rattle.std.specs.Char.{IsAsciiDigit};
 ghost use Rattle.std.specs.List.{AllByRecursion};
 ghost use Rattle.bag_tags.specs.Numerals.{IsNumeral};
 
-/// The value of one or more ASCII digits, where it is below 2^64. Leading zeros are accepted.
+/// The value of one or more ASCII digits, if it is below 2^64. Leading zeros are accepted.
 pub(crate) fn read_number(text: &[u8]) -> Option<u64>
     ensures { MatchOption result ((n : ℕ) → IsNumeral text.now n → n < 2 ^ 64 → ⊥)
         (λ n. IsNumeral text.now n) }

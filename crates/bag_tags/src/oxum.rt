@@ -1,4 +1,4 @@
-//! `Payload-Oxum`, by which a bag's payload is told at a glance (RFC 8493 section 2.2.2).
+//! `Payload-Oxum`, which gives the size of a bag's payload (RFC 8493 section 2.2.2).
 ghost use Rattle.std.specs.Prelude.{◌≡◌, Some, IfOk, IfSome, string_bytes};
 ghost use Rattle.bag_tags.specs.Oxums.{OxumText, written_oxum};
 ghost use Rattle.bag_tags.specs.declared.oxum.Oxum.{Oxum};
@@ -7,18 +7,18 @@ use crate::number::read_number;
 use crate::words::{Stop, is_blank_line, split_at_first};
 use std::alloc::{AllocError, Global};
 
-/// How many octets a payload has, and how many files (streams).
+/// The size of a payload: how many octets it has, in how many files (streams).
 #[derive(Clone, Copy, Debug, PartialEq, Eq)]
 pub struct Oxum {
-    /// How many octets the payload files have together.
+    /// How many octets the payload files have in total.
     pub octets: u64,
     /// How many payload files there are.
     pub streams: u64,
 }
 
 impl Oxum {
-    /// The oxum that the value of an element says: two numbers below 2^64 in ASCII digits, joined by a dot. Blanks at both
-    /// ends and leading zeros are accepted.
+    /// Reads the value of an element: two numbers below 2^64 in ASCII digits, joined by a dot. Blanks at both ends and
+    /// leading zeros are accepted. Any other text gives `None`.
     pub fn parse(text: &str) -> Option<Oxum>
         ensures read { IfSome result (λ oxum. OxumText text.now oxum.octets oxum.streams) }
         ensures only { (oxum : Oxum) → OxumText text.now oxum.octets oxum.streams → result
@@ -37,11 +37,11 @@ impl Oxum {
         })
     }
 
-    /// The value that is written for it: the two numbers without leading zeros, joined by a dot.
+    /// The value as it is written: the two numbers without leading zeros, joined by a dot.
     ///
     /// # Errors
     ///
-    /// `AllocError` where memory runs out.
+    /// `AllocError` if memory runs out.
     pub fn to_text(self, alloc: Global) -> Result<String, AllocError>
         ensures written { IfOk result (λ text. string_bytes text
             ≡ written_oxum self.octets self.streams) }

@@ -1,4 +1,4 @@
-//! The text of a path in a manifest and in `fetch.txt` (RFC 8493 sections 2.1.3 and 2.2.3).
+//! Reads the text of a path in a manifest or in `fetch.txt` (RFC 8493 sections 2.1.3 and 2.2.3).
 ghost use Rattle.std.specs.Prelude.{IfErr, IfOk};
 ghost use Rattle.bag_path.specs.Paths.{IsPath};
 ghost use Rattle.bag_path.specs.Spellings.{Spells};

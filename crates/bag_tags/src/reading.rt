@@ -1,4 +1,4 @@
-//! How text tag files are read: line by line, onto a value.
+//! Reads text tag files, line by line.
 ghost use Rattle.std.specs.Prelude.{◌≡◌, ℕ, false, List, IfErr, IsErrOf, MatchResult, OnOk};
 ghost use Rattle.std.specs.List.{AllByRecursion};
 ghost use Rattle.std.specs.Str.{IsUtf8};
@@ -25,9 +25,9 @@ use crate::words::{MARK, is_blank_line, without};
 use bag_path::{Line, Lines, Version};
 use std::str;
 
-/// The value of a text tag file, onto which its lines are read in order.
+/// The value of a text tag file, to which its lines are added in order.
 pub(crate) trait TagLines {
-    /// What a line that is UTF-8 and not blank makes of the value so far.
+    /// The value that a line that is UTF-8 and not blank leads to from this value.
     ghost leads: { Version → Self → ℕ → List ℕ → Self → Type 0 };
 
     /// Why such a line is faulty after this value.
@@ -41,7 +41,7 @@ pub(crate) trait TagLines {
         ensures err { IfErr result (Causes (refuses version self.old text.now)) };
 }
 
-/// Reads a whole text onto a value. After an `Err` the value is not used again.
+/// Adds all lines of a text to a value. After an `Err` the value is not used again.
 pub(crate) fn read_onto<V: TagLines>(
     value: &mut V,
     version: Version,
@@ -84,7 +84,7 @@ fn read_numbered<V: TagLines>(
     }
 }
 
-/// Adds what a line says that isn't blank, where it is UTF-8.
+/// Adds what a line says that isn't blank, if it is UTF-8.
 fn read_octets<V: TagLines>(
     value: &mut V,
     version: Version,

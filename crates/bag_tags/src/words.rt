@@ -1,4 +1,4 @@
-//! The words of a line.
+//! Splits lines at blanks and at other octets.
 ghost use Rattle.std.specs.Prelude.{◌≡◌, ◌≤◌, length, take, drop};
 ghost use Rattle.bag_tags.specs.Words.{begins_blank, is_blank, is_blank_line, without};
 ghost use Rattle.bag_tags.specs.WordsReading.{until, stops};
@@ -31,14 +31,14 @@ impl Stop {
     }
 }
 
-/// The octets before the first one at which the text is cut, and the rest.
+/// The octets before the first one at which the text is cut, and the rest with that one.
 pub(crate) fn split_at_first(text: &[u8], stop: Stop) -> (&[u8], &[u8])
     ensures { until (stops stop) text.now ≡ (result.0.now, result.1.now) }
 {
     text.split_at(front_len(text, stop))
 }
 
-/// The same of a text.
+/// Does the same for a `str`.
 pub(crate) fn split_text(text: &str, stop: Stop) -> (&str, &str)
     ensures { until (stops stop) text.now ≡ (result.0.now, result.1.now) }
 {
@@ -74,14 +74,14 @@ pub(crate) fn begins_blank(text: &[u8]) -> bool
     }
 }
 
-/// Whether a line has blanks alone, or nothing.
+/// Whether a line is empty or only blanks.
 pub(crate) fn is_blank_line(text: &[u8]) -> bool
     ensures { result ≡ is_blank_line text.now }
 {
     text.iter().all(|octet| is_blank(*octet))
 }
 
-/// The text without this at its front, where it is there.
+/// The text without this front, or the whole text if it doesn't begin with it.
 pub(crate) fn without<'a>(front: &[u8], text: &'a [u8]) -> &'a [u8]
     ensures { result.now ≡ without front.now text.now }
 {

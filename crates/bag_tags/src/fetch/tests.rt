@@ -1,7 +1,7 @@
 use super::*;
 use std::test::Fail;
 
-/// Why no entry is made of this url and path.
+/// Why this URL and this path make no entry.
 fn refused(alloc: Global, url: &str, path: &str) -> Result<Option<FetchEntryFault>, Fail> {
     let path = BagPath::parse(alloc, path)?;
     Ok(FetchEntry::new(alloc, url, Some(5), path).err())

@@ -2,7 +2,7 @@ use super::*;
 use bag_path::BagPath;
 use std::test::Fail;
 
-/// Whether these are the entries, each with its line.
+/// Whether these are the entries, each with the number of its line.
 fn are(entries: &[FetchLine], rows: &[(u64, &str, Option<u64>, &str)]) -> bool {
     entries.len() == rows.len()
         && entries.iter().zip(rows).all(|(read, (line, url, length, path))| {

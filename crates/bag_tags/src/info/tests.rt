@@ -1,6 +1,6 @@
 use super::*;
 
-/// Why no element is made of this label and value.
+/// Why this label and this value make no element.
 fn refused(alloc: Global, label: &str, value: &str) -> Option<ElementFault> {
     Element::new(alloc, label, value).err()
 }

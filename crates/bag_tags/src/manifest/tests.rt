@@ -7,7 +7,7 @@ const MD5_OF_NOTHING: &[u8] = b"d41d8cd98f00b204e9800998ecf8427e";
 
 const SHA256_OF_ABC: &[u8] = b"ba7816bf8f01cfea414140de5dae2223b00361a396177a9cb410ff61f20015ad";
 
-/// What `push` answers for a path and the digest that these digits spell.
+/// What `push` returns for a path and the digest that these digits spell.
 fn answer(
     alloc: Global,
     manifest: &mut Manifest,
@@ -24,7 +24,7 @@ fn answer(
     Ok(manifest.push(path, digest))
 }
 
-/// Whether a manifest lists for each path the digest that the digits spell, and none for no digits.
+/// Whether a manifest lists for each path the digest that the digits spell, or none if there are no digits.
 fn has_digests(alloc: Global, manifest: &Manifest, rows: &[(&str, &[u8])]) -> Result<bool, Fail> {
     for (path, hex) in rows {
         let path = BagPath::parse(alloc, path)?;

@@ -35,7 +35,7 @@ payload h = let e : true ≡ false = h.0 in cc
 tag_manifest : ¬ IsInPlace Tag (codes "tagmanifest-md5.txt")
 tag_manifest h = h.1 (codes "md5", ((λ e. cc), search rules), refl)
 
--- one line alone, that gives a path this digest where it may not
+-- a single line that gives a path this digest although the manifest may not list it
 wrong_place : (kind : Kind) (path : List ℕ) → numbered (listing path) ≡ at 1 (listing path) ∷ [] → is_blank_line (listing path) ≡ false → is_ascii_text (listing path) ≡ true
     → Gives V1 Md5 (listing path) path of_abc → ¬ IsInPlace kind path → ManifestFault V1 Md5 kind (listing path) (record { line = 1; cause = WrongPlace })
 wrong_place kind path one not_blank ascii given wrong =
