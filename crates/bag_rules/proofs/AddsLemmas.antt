@@ -19,7 +19,7 @@ adds_none faults P none f = (λ h. inl h, λ h. elim h [ inl k ↦ k | inr p ↦
 pub adds_same : (old new : List Fault) (P : Fault → Type 0) → new ≡ old → ((f : Fault) → P f → ⊥) → Adds old new P
 adds_same old new P same none = subst (λ fs. Adds old fs P) (sym same) (adds_none old P none)
 
--- one fault more, which is just what P says
+-- one more fault, which is the only one of which P is true
 pub adds_one : (old new : List Fault) (fault : Fault) (P : Fault → Type 0) → new ≡ old ++ fault ∷ [] → P fault → ((f : Fault) → P f → fault ≡ f) → Adds old new P
 adds_one old new fault P e here only = adds_so old new (λ f. fault ≡ f) P (λ f same. subst P same here) only (adds_push old new fault e)
 
@@ -48,6 +48,6 @@ adds_kinds_by P xs ys old mid new a b = adds_on old mid new _ _ _
 pub adds_of : (bag : Bag) (xs ys : List ℕ) (old new : List Fault) → ((f : Fault) → list_any (λ kind. kind == number_of f) xs ≡ list_any (λ kind. kind == number_of f) ys) → Adds old new (HasFaultOf bag xs) → Adds old new (HasFaultOf bag ys)
 adds_of bag xs ys old new same a = adds_so old new (HasFaultOf bag xs) (HasFaultOf bag ys) (λ f h. (h.0, sym (same f) ∙ h.1)) (λ f h. (h.0, same f ∙ h.1)) a
 
--- the broken faults of some kinds, and then those of others
+-- the faults that the bag has of some kinds, and then those of others
 pub adds_kinds : (bag : Bag) (xs ys : List ℕ) (old mid new : List Fault) → Adds old mid (HasFaultOf bag xs) → Adds mid new (HasFaultOf bag ys) → Adds old new (HasFaultOf bag (xs ++ ys))
 adds_kinds bag xs ys old mid new a b = adds_kinds_by (HasFault bag) xs ys old mid new a b

@@ -1,4 +1,4 @@
--- What `any` says of a list.
+-- What `any` says about a list.
 use Rattle.std.proofs.Common.{◌≡◌, ◌<◌, ℕ, Bool, true, false, List, length, sym, subst, arith}
 use Rattle.bag_rules.proofs.Words.{AllWithin, get_or_from_slice_get, Has, HoldsAt, MatchBool, slice_get_within}
 use Rattle.bag_rules.proofs.HasLemmas.{has_at, place_of_has, stands}

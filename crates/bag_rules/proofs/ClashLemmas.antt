@@ -17,7 +17,7 @@ pub record AreInOrder (all paths : List (List ℕ)) : Type 0 where
   pub moved : IsPermutation all paths
 
 module _ (all paths : List (List ℕ)) (are : AreInOrder all paths) where
-  -- such a path stands at some place, and some path is inside
+  -- such a path is at some place, and some path is inside
   folder_at : (path : List ℕ) → IsFolderAmong all path → (k : ℕ) × (k < length paths) × (get_or paths k [] ≡ path) × HasInside paths (get_or paths k [])
   folder_at path is =
       let at = Contains-permutation all paths path are.moved is.0 in
@@ -25,7 +25,7 @@ module _ (all paths : List (List ℕ)) (are : AreInOrder all paths) where
       let other = is.1 in
       (at.0, at.1, here, subst (HasInside paths) (sym here) (other.0, Contains-permutation all paths other.0 are.moved other.1, other.2))
 
-  -- where none has a path inside, none is that of a folder
+  -- if none has a path inside, none is that of a folder
   pub no_folder : ((k : ℕ) → k < length paths → ¬ HasInside paths (get_or paths k [])) → (path : List ℕ) → ¬ IsFolderAmong all path
   no_folder none path is = let at = folder_at path is in none at.0 at.1 at.3
 
@@ -86,7 +86,7 @@ module _ (tags : Files) (expected : List (List ℕ)) (listed : AreExpected tags 
   clash_told (Ok found) all same told = first_clashes found (subst (λ (paths : List (List ℕ)). MatchOption found ((path : List ℕ) → ¬ IsFolderAmong paths path) (IsFirstPath (IsFolderAmong paths))) same told)
   clash_told (Err fault) all same told = tt
 
--- where no file is a payload manifest, no payload file is to come
+-- if no file is a payload manifest, no payload file is expected
 pub none_expected : (tags : Files) → ((alg : Alg) → list_any (bytes_eq (manifest_file Payload alg)) (keys_of tags) ≡ false) → AreExpected tags []
 unfolding IsStrictlySortedBy
 none_expected tags none = record {

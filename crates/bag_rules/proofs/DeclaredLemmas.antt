@@ -31,7 +31,7 @@ bad_verdict bag octets cause rising holds bad = one_fault_is bag (BadDeclaration
     (λ fault below broken. only_declaration bag (BadDeclaration cause) fault below (λ e b. absurd (b (octets, holds)))
     (λ other b. ap BadDeclaration (one_fault octets cause other bad (subst (λ o. IsDeclarationFault o other) (one_octets bag declaration_file b.0 octets rising b.1 holds) b.2))) broken)
 
--- the declaration is there once
+-- there is only one declaration
 pub first_declaration : (bag : Bag) (i : ℕ) (octets : List ℕ) (fault : CheckFault) → AreRising (paths_of bag) → slice_get bag.files i ≡ Some (declaration_file, octets) → IsLongTag declaration_file octets fault → FirstStops bag DeclarationStops fault
 first_declaration bag i octets fault rising there long = record {
   place = i;
@@ -71,7 +71,7 @@ no_declaration bag absent = (none_verdict bag absent, not_declared bag absent)
 pub bad_declaration : (bag : Bag) (octets : List ℕ) (cause : DeclFault) → AreRising (paths_of bag) → Holds bag declaration_file octets → IsDeclarationFault octets cause → IsProfile bag (Broken (BadDeclaration cause))
 bad_declaration bag octets cause rising holds bad = (bad_verdict bag octets cause rising holds bad, bad_out bag octets cause rising holds bad)
 
--- the version that is read by is the one that is declared
+-- tag files are read by the version that is declared
 declared_by : (bag : Bag) (declaration : Declaration) (version : format.Version) → AreRising (paths_of bag) → Declares bag declaration → known_version declaration ≡ Some version → version_of bag ≡ version
 declared_by bag declaration version rising declares known =
     ap version_in (text_of bag declaration_file declares.0 rising declares.1) ∙ sym (begins_with_version declares.0 declaration version declares.2 known)

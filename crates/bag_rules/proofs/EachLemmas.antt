@@ -5,7 +5,7 @@ use Rattle.bag_rules.specs.FilesInside.{OfSome}
 use Rattle.bag_rules.proofs.HasLemmas.{has_push}
 use Rattle.bag_rules.proofs.AddsLemmas.{adds_on}
 
--- the faults of one item more
+-- the faults of one more item
 pub each_more : {X : Type 0} (xs : List X) (i : ℕ) (x : X) (of : X → Fault → Type 0) (old mid new : List Fault) → i < length xs → x ≡ get_or xs i x → Adds old mid (OfSome (take i xs) of) → Adds mid new (of x) → Adds old new (OfSome (take (i + 1) xs) of)
 each_more {X} xs i x of old mid new inside is a b =
     let more : take (i + 1) xs ≡ take i xs ++ x ∷ [] = take_more xs i x inside ∙ ap (λ (y : X). take i xs ++ y ∷ []) (sym is) in

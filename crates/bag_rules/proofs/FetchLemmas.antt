@@ -22,7 +22,7 @@ module _ (bag : Bag) (texts : Texts) (are : AreTextsOf (length bag.files) bag te
         | inr none ↦ absurd (let k : None ≡ Some entry.lines = sym none.0 ∙ own in cc)
       ]
 
-  -- entries that aren't listed as they have to be
+  -- entries that aren't listed as required
   abbrev pub IsLineUnlisted : FetchLine → Fault → Type 0
   IsLineUnlisted line = IsEntryUnlisted (version_of bag) texts.manifests.items line.entry.path
 

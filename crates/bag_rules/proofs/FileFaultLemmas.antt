@@ -31,7 +31,7 @@ lists_push : (listings : List Listing) (new : Listing) (path : List ℕ) (alg : 
 lists_push [] new path alg = or_false (is_alg new.alg alg && lists_path new.pairs path)
 lists_push (l ∷ listings) new path alg = ap (λ b. (is_alg l.alg alg && lists_path l.pairs path) || b) (lists_push listings new path alg) ∙ or_assoc (is_alg l.alg alg && lists_path l.pairs path) (lists_by listings path alg) (is_alg new.alg alg && lists_path new.pairs path)
 
--- one manifest more, which lists the path
+-- one more manifest, which lists the path
 pub one_lists : (listings : List Listing) (new : Listing) (path : List ℕ) (old set : AlgSet) → lists_path new.pairs path ≡ true → ((alg : Alg) → has old alg ≡ lists_by listings path alg) → ((alg : Alg) → has set alg ≡ (is_alg new.alg alg || has old alg)) → (alg : Alg) → has set alg ≡ lists_by (listings ++ new ∷ []) path alg
 one_lists listings new path old set lists before with_alg alg =
     with_alg alg
@@ -59,7 +59,7 @@ lists_here (l ∷ listings) listing path (inr h) lists =
     or_turned (is_alg l.alg listing.alg && lists_path l.pairs path) (lists_by listings path listing.alg)
     ∙ ap (λ b. b || (is_alg l.alg listing.alg && lists_path l.pairs path)) (lists_here listings listing path h lists)
 
--- and where the path is listed by an algorithm, some manifest lists it
+-- if the path is listed by an algorithm, some manifest by it lists the path
 some_lists : (listings : List Listing) (path : List ℕ) (alg : Alg) → lists_by listings path alg ≡ true → (listing : Listing) × Has listings listing × (lists_path listing.pairs path ≡ true)
 some_lists [] path alg h = absurd (false≢true h)
 some_lists (l ∷ listings) path alg h = elim (or_cases (is_alg l.alg alg && lists_path l.pairs path) (lists_by listings path alg) h) [
@@ -69,7 +69,7 @@ some_lists (l ∷ listings) path alg h = elim (or_cases (is_alg l.alg alg && lis
 
 -- FILES THAT ARE READ
 
--- a file that is no payload file and that no manifest lists isn't read
+-- a file that isn't a payload file and that no manifest lists isn't read
 pub not_read : (listings : List Listing) (path : List ℕ) (set : AlgSet) → ((alg : Alg) → has set alg ≡ lists_by listings path alg) → ((alg : Alg) → has set alg ≡ false) → is_payload path ≡ false → ¬ IsReadBy listings path
 not_read listings path set lists none other (inl payload) = false≢true (sym other ∙ payload)
 not_read listings path set lists none other (inr listed) = false≢true (sym (none listed.0.alg) ∙ lists listed.0.alg ∙ lists_here listings listed.0 path listed.1 listed.2)
@@ -89,7 +89,7 @@ some_or_none test = elim (cases_Bool (test Md5)) [
   ]
 ]
 
--- a file that some manifest lists is
+-- a file that some manifest lists is read
 pub listed_is_read : (listings : List Listing) (path : List ℕ) (set : AlgSet) → ((alg : Alg) → has set alg ≡ lists_by listings path alg) → ¬ ((alg : Alg) → has set alg ≡ false) → IsReadBy listings path
 listed_is_read listings path set lists some = elim (some_or_none (lists_by listings path)) [
   | inl h ↦ inr (some_lists listings path h.0 h.1)

@@ -1,4 +1,4 @@
--- The faults of the files, by what was read, are those that are broken.
+-- The faults of the files, in terms of what was read, are those that the bag has.
 use Rattle.std.proofs.Common.{◌≡◌, ℕ, true, false, List, [], ◌∷◌, length, refl, sym, ap, inl, inr, subst}
 use Rattle.bag_rules.specs.Bags.{version_of}
 use Rattle.bag_rules.proofs.Words.{Alg, AreLinesOf, AreTextsOf, AreWantsOf, Bag, CheckFault, Fault, FetchLength, FetchLine, FileStops, FirstStops, GivenLength, Has, HasFaultOf, IsBagOf, IsChecked, IsFileFault, IsLongRead, IsMissing, IsReadBy, IsUnlistedIn, Listing, Lists, ManifestName, Missing, name_in, NoneStops, NoneStopsBefore, Pair, paths_in, Shown, Stopped, Texts, Unlisted, Wants, WrongDigest}

@@ -13,7 +13,7 @@ IsFaultBefore n bag wants fault = (i : ℕ) × ((path : List ℕ) × ((octets : 
 pub no_faults : (bag : Bag) (wants : Wants) (faults : List Fault) → Adds faults faults (IsFaultBefore 0 bag wants)
 no_faults bag wants faults = adds_none faults (IsFaultBefore 0 bag wants) (λ f h. absurd (omega (arith, h.1.1.1)))
 
--- those of one file more
+-- the faults of one more file
 pub file_faults_more : (bag : Bag) (wants : Wants) (n : ℕ) (path octets : List ℕ) (old mid new : List Fault) → slice_get bag.files n ≡ Some (path, octets) → Adds old mid (IsFaultBefore n bag wants) → Adds mid new (IsFaultIn wants path octets) → Adds old new (IsFaultBefore (n + 1) bag wants)
 file_faults_more bag wants n path octets old mid new here a b =
     adds_on old mid new (IsFaultBefore n bag wants) (IsFaultIn wants path octets) (IsFaultBefore (n + 1) bag wants)
@@ -28,7 +28,7 @@ file_faults_more bag wants n path octets old mid new here a b =
     (λ f h. (n, (path, (octets, omega arith, here, h))))
     a b
 
--- and those of all
+-- the faults of all files
 pub all_faults : (bag : Bag) (wants : Wants) (f : Fault) → IsFaultBefore (length bag.files) bag wants f → IsFileFault bag wants f
 all_faults bag wants f h = (h.0, (h.1.0, (h.1.1.0, h.1.1.2, h.1.1.3)))
 

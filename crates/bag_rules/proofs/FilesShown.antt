@@ -42,7 +42,7 @@ module _ (files : List File) (path : List ℕ) where
   path_of : (k : ℕ) (d : File) → k < length files → slice_get (paths_of files) k ≡ Some (get_or files k d).path
   path_of k d within = path_at files k (get_or files k d) within (get_or_default files k d (get_or files k d) within)
 
-  -- the answers of the comparison rise along files in order
+  -- the results of the comparison ascend along files in order
   answers_rise : AreRising (paths_of files) → IsNonDecreasingBy (λ file. ordering_index (against file)) files
   answers_rise rising = searchable_from_sorted nat_list_cmp_total (λ (file : File). file.path) files path (λ k d _ next.
       let below : k + 1 < length files = omega (arith, next) in
@@ -70,7 +70,7 @@ module _ (files : List File) (path : List ℕ) where
     greater_from = λ j other from here. (let m = met j other here in m.2 ∙ ap ordering_reverse ((parted (answers_rise rising)).1 j m.0 from m.1));
   }
 
--- what is shown, once a file was put at a place
+-- what is shown after a file was inserted at a place
 pub shown_insert : (files : List File) (place : ℕ) (file : File) → files_of (insert files place file) ≡ insert (files_of files) place (file.path, file.body.items)
 shown_insert files place file = map-insert (λ (f : File). (f.path, f.body.items)) files place file
 

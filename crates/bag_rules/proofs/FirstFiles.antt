@@ -11,7 +11,7 @@ File = List ℕ × List ℕ
 abbrev pub Says : Bag → LineFile → (List ℕ → Type 0) → Type 0
 Says bag file P = (octets : List ℕ) × Holds bag (text_file file) octets × P octets
 
--- the first n stand where they stood
+-- the first n files are where they were
 pub in_front : {X : Type 0} (xs : List X) (n i : ℕ) (x : X) → slice_get (take n xs) i ≡ Some x → (i < n) × (slice_get xs i ≡ Some x)
 in_front [] zero i x e = absurd (let k : None ≡ Some x = e in cc)
 in_front [] (suc n) i x e = absurd (let k : None ≡ Some x = e in cc)
@@ -26,18 +26,18 @@ to_front (y ∷ xs) (suc n) zero x h e = e
 to_front (y ∷ xs) (suc n) (suc i) x h e = to_front xs n i x (omega (arith, h)) e
 
 module _ (bag : Bag) (n : ℕ) where
-  -- what the first n files hold stands before n
+  -- the first n files are before place n
   pub held_before : (path octets : List ℕ) → Holds (front n bag) path octets → (i : ℕ) × (i < n) × (slice_get bag.files i ≡ Some (path, octets))
   held_before path octets h = let r = in_front bag.files n h.0 (path, octets) h.1 in (h.0, r.0, r.1)
 
   pub holds_before : (path octets : List ℕ) (i : ℕ) → i < n → slice_get bag.files i ≡ Some (path, octets) → Holds (front n bag) path octets
   holds_before path octets i h e = (i, to_front bag.files n i (path, octets) h e)
 
--- a tree's bag has each path once
+-- the bag of a tree has each path once
 pub once_at : {shown : Shown} (bag : Bag) → IsBagOf shown bag → AreRising (paths_in shown) → (n : ℕ) (path octets : List ℕ) → slice_get bag.files n ≡ Some (path, octets) → (i : ℕ) (other : List ℕ) → slice_get bag.files i ≡ Some (path, other) → i ≡ n
 once_at {shown} bag is rising n path octets there i other e = one_place (paths_in shown) rising i n path (path_at bag is i path other e) (path_at bag is n path octets there)
 
--- one file more, whose path no file before it has
+-- one more file, whose path no file before it has
 module _ (bag : Bag) (n : ℕ) (path octets : List ℕ) (there : slice_get bag.files n ≡ Some (path, octets)) (once : (i : ℕ) (other : List ℕ) → slice_get bag.files i ≡ Some (path, other) → i ≡ n) where
   pub held_more : (p o : List ℕ) → Holds (front n bag) p o → Holds (front (n + 1) bag) p o
   held_more p o h = let r = held_before bag n p o h in holds_before bag (n + 1) p o r.0 (omega (arith, r.1)) r.2
@@ -72,7 +72,7 @@ module _ (bag : Bag) (n : ℕ) (path octets : List ℕ) (there : slice_get bag.f
   pub not_said : (file : LineFile) (P : List ℕ → Type 0) → path ≡ text_file file → Says (front n bag) file P → ⊥
   not_said file P is s = not_held s.0 (subst (λ p. Holds (front n bag) p s.0) (sym is) s.1)
 
-  -- a value that stays, where the file is another
+  -- a value stays if the file is another
   pub value_stays : {V : Type 0} (file : LineFile) (P : V → List ℕ → Type 0) (old new : Option V) → path ≢ text_file file → new ≡ old
       → ((v : V) → (old ≡ Some v) ↔ Says (front n bag) file (P v)) → (v : V) → (new ≡ Some v) ↔ Says (front (n + 1) bag) file (P v)
   value_stays file P old new other same tells v = (

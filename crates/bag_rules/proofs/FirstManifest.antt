@@ -1,4 +1,4 @@
--- Which paths are listed as they have to be, in version 0.97 by some payload manifest.
+-- Which paths are listed as required, in version 0.97 by some payload manifest.
 use Rattle.std.proofs.Common.{◌≡◌, ◌≢◌, ◌⊎◌, ℕ, true, false, List, Contains, refl, sym, subst, inl, inr, ◌∙◌, ap}
 use Rattle.bag_path.specs.declared.version.Version.{Version}
 use Rattle.bag_path.specs.declared.version.Version.TheVariants.{V1, V097}
@@ -14,7 +14,7 @@ decided_there bag path =
     let paths = paths_in (shown_of bag) in
     decided_as (Contains paths path) (IsThere bag path) (is_there bag refl path) (shows bag refl path) (decided_by (Contains paths path) (list_any (bytes_eq path) paths) (is_member-Decides bytes_eq-Decides paths path))
 
--- some algorithm, or none
+-- some algorithm is such, or none is
 pub decided_alg : (P : Alg → Type 0) → ((alg : Alg) → Decided (P alg)) → Decided ((alg : Alg) × P alg)
 decided_alg P each = decided_as (P Md5 ⊎ (P Sha1 ⊎ (P Sha256 ⊎ P Sha512))) ((alg : Alg) × P alg) to (λ some. from some.0 some.1) (decided_either _ _ (each Md5) (decided_either _ _ (each Sha1) (decided_either _ _ (each Sha256) (each Sha512))))
   where
@@ -32,7 +32,7 @@ decided_alg P each = decided_as (P Md5 ⊎ (P Sha1 ⊎ (P Sha256 ⊎ P Sha512)))
 
 -- THE FIRST MANIFEST
 
--- no payload manifest's name comes before that of this algorithm's, where those before it haven't P
+-- if no earlier algorithm has P, the name of no such payload manifest comes before that of this algorithm
 abbrev IsFirst : (Alg → Type 0) → Alg → Type 0
 IsFirst P alg = (other : Alg) → P other → slice_cmp nat_cmp (manifest_file Payload alg) (manifest_file Payload other) ≢ Greater
 
@@ -60,7 +60,7 @@ first_sha512 P no_md5 no_sha1 no_sha256 Sha1 has = absurd (no_sha1 has)
 first_sha512 P no_md5 no_sha1 no_sha256 Sha256 has = absurd (no_sha256 has)
 first_sha512 P no_md5 no_sha1 no_sha256 Sha512 has = λ e. (let k : Equal ≡ Greater = e in cc)
 
--- the first algorithm that has P, if some has
+-- the first algorithm that has P, if one has
 pub first_of : (P : Alg → Type 0) → ((alg : Alg) → Decided (P alg)) → ((alg : Alg) × P alg) → (alg : Alg) × (P alg × IsFirst P alg)
 first_of P each some = elim (each Md5) [
   | inl has ↦ (Md5, (has, first_md5 P))
@@ -109,7 +109,7 @@ module _ (bag : Bag) (rising : AreRising (paths_of bag)) (reads : (name : Manife
     ]
   ]
 
-  -- a path is listed where no manifest is told for it
+  -- a path is listed if no manifest is reported for it
   pub listed_unless : (version : Version) (path : List ℕ) → ((alg : Alg) → ¬ IsUnlisted version bag alg path) → IsListed version bag path
   listed_unless V1 path none = λ alg pairs lists. elim (cases_Bool (lists_path pairs path)) [ inl lists_it ↦ lists_it | inr other ↦ absurd (none alg (pairs, lists, other)) ]
   listed_unless V097 path none = elim (decided_alg (ListsIt path) (decided_lists path)) [

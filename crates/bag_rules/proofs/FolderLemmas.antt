@@ -1,4 +1,4 @@
--- Where a path stands beside those in a folder, and how one in the folder is found.
+-- The place of a path relative to those in a folder, and how one in the folder is found.
 use Rattle.std.proofs.Common.{◌≡◌, ◌≢◌, ℕ, suc, ◌<◌, ◌≤◌, ◌++◌, true, false, Bool, List, [], ◌∷◌, Result, Ok, Err, is_ok, Contains, IsTrue, None, Some, get_or, slice_get, length, refl, sym, ap, subst, ◌∙◌, arith, inl, inr}
 use Rattle.std.proofs.lemmas.Cmp.{nat_cmp_total, nat_list_cmp_total, ranked, tied_itself}
 use Rattle.std.proofs.lemmas.List.{get_or_default}
@@ -42,7 +42,7 @@ pub nothing_decides : (rest : List ℕ) → None ≡ slice_get rest 0 → Less �
 nothing_decides [] here = refl
 nothing_decides (y ∷ rest) here = absurd (cc)
 
--- and where it doesn't begin so, the order of the paths
+-- if it doesn't begin so, the order of the paths
 pub beside_other : (folder path : List ℕ) → ((rest : List ℕ) → path ≢ folder ++ rest) → slice_cmp nat_cmp path folder ≡ beside_folder folder path
 beside_other [] path other = absurd (other path refl)
 beside_other (x ∷ folder) [] other = refl
@@ -62,7 +62,7 @@ in_folder (x ∷ folder) (y ∷ path) e =
 pub among_those : (folder path : List ℕ) → IsFolderOf folder path → beside_folder folder path ≡ Equal
 among_those folder path is = ap (beside_folder folder) is.1 ∙ beside_longer folder (slash ∷ is.0) ∙ tied_itself nat_cmp_total slash
 
--- ALONG PATHS IN ORDER THE ANSWERS RISE
+-- ALONG PATHS IN ORDER THE RESULTS ASCEND
 
 index_most : (o : Ordering) → ordering_index o ≤ 2
 index_most Less = omega arith
@@ -101,7 +101,7 @@ beside_rises (x ∷ folder) (a ∷ p) (b ∷ q) not_below =
     (head_upto a b (nat_cmp b a) (slice_cmp nat_cmp q p) (ranked b a (nat_cmp b a) refl) not_below)
     (λ same. beside_rises folder p q (tail_upto a b (slice_cmp nat_cmp q p) same not_below))
 
--- SEARCHES BY HALVES
+-- BINARY SEARCHES
 
 module _ (paths : List (List ℕ)) (folder : List ℕ) (sorted : IsSorted (slice_cmp nat_cmp) paths) where
   answers_rise : IsNonDecreasingBy (λ path. ordering_index (beside_folder folder path)) paths
@@ -115,7 +115,7 @@ module _ (paths : List (List ℕ)) (folder : List ℕ) (sorted : IsSorted (slice
       (path, (i, within, get_or_default paths i path [] within), in_folder folder path (equal []))
   found_inside (Err i) within parted ok = absurd (cc)
 
-  -- and where it finds nothing, nothing is
+  -- if it finds nothing, there is nothing
   pub inside_found : (r : Result ℕ ℕ) → IsSearchInRange r (length paths) → IsBinarySearchResult (beside_folder folder) paths r → HasInside paths folder → is_ok r ≡ true
   inside_found (Ok i) within equal inside = refl
   inside_found (Err i) within parted inside =

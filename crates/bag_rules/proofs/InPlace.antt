@@ -22,7 +22,7 @@ all_lines leads P keeps (line ∷ lines) before after (next, step, rest) p = all
 abbrev AreInPlace : Listing → Type 0
 AreInPlace listing = (path : List ℕ) → lists_path listing.pairs path ≡ true → IsInPlace listing.kind path
 
--- one pair more
+-- one more pair
 in_place_push : (listing : Listing) (new : Pair) → AreInPlace listing → IsInPlace listing.kind new.path → AreInPlace (with_pair listing new)
 in_place_push listing new before here path listed = elim (or_cases (lists_path listing.pairs path) (bytes_eq new.path path || false) (sym (list_any-append (λ (pair : Pair). bytes_eq pair.path path) listing.pairs (new ∷ [])) ∙ listed)) [
   | inl earlier ↦ before path earlier

@@ -27,7 +27,7 @@ on_ok_both (Err e) P Q p q = tt
 pub none_kept : (shown : Shown) (kept : Kept) → kept.files.items ≡ [] → AreKept shown kept
 none_kept shown kept none = record { each = λ i file here. absurd (let k : None ≡ Some file = subst (λ files. slice_get files i ≡ Some file) none here in cc) }
 
--- one file more
+-- one more file
 pub kept_push : (shown : Shown) (old new : Kept) (file : KeptFile) → AreKept shown old → new.set ≡ old.set → new.files.items ≡ old.files.items ++ file ∷ [] → IsKeptOf shown old.set file → AreKept shown new
 kept_push shown old new file are set files here = record {
   each = λ i other there.

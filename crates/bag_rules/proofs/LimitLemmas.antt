@@ -13,17 +13,17 @@ stopped_so P Q _ there h = there h
 pub stopped_memory : (P : CheckFault → Type 0) (fault : CheckFault) → fault ≡ Memory → Stopped P fault
 stopped_memory P fault e = rw e tt
 
--- where no file stops the work, none is the first to do so
+-- if no file stops the work, none is the first to do so
 pub none_first : (bag : Bag) (stops : List ℕ → List ℕ → CheckFault → Type 0) (fault : CheckFault) → NoneStops bag stops → FirstStops bag stops fault → ⊥
 none_first bag stops fault none first = none first.place first.path first.octets fault (slice_get_within bag.files first.place (first.path, first.octets) first.there) first.there first.reason
 
--- where there are not too many files, the rest of the work decides
+-- if there are not too many files, the rest of the work decides
 pub within_count : (bag : Bag) (r : Result Outcome CheckFault) → length bag.files ≤ 200000 → MatchResult r (λ outcome. (fault : CheckFault) → ¬ WorkStops bag fault) (Stopped (WorkStops bag))
     → MatchResult r (λ outcome. (fault : CheckFault) → ¬ Stops bag fault) (Stopped (Stops bag))
 within_count bag (Ok outcome) few rest = λ fault stops. elim stops [ inl many ↦ absurd (omega (arith, few, many.0)) | inr later ↦ rest fault later.1 ]
 within_count bag (Err fault) few rest = stopped_so (WorkStops bag) (Stops bag) fault (λ stops. inr (few, stops)) rest
 
--- one file more that doesn't stop the work, and one that does
+-- one more file that doesn't stop the work, and one that does
 pub none_more : (bag : Bag) (stops : List ℕ → List ℕ → CheckFault → Type 0) (n : ℕ) (path octets : List ℕ) → slice_get bag.files n ≡ Some (path, octets) → ((fault : CheckFault) → ¬ stops path octets fault) → NoneStopsBefore n bag stops → NoneStopsBefore (n + 1) bag stops
 none_more bag stops n path octets here none before i p o fault h at = elim (cases_lt i n) [
   | inl below ↦ before i p o fault below at

@@ -4,7 +4,7 @@ use Rattle.bag_rules.proofs.Words.{Adds, BadLine, Fault, Line, line_fault, LineC
 use Rattle.bag_tags.specs.declared.fault.TagFault.TheVariants.{Memory}
 use Rattle.bag_rules.proofs.AddsLemmas.{adds_none, adds_one}
 
--- a reader's answer: what it read is what the text says, and its fault is the text's first
+-- the result of a reader: what it read is what the text says, and its fault is the first one of the text
 pub record Reads {V : Type 0} (says : V → Type 0) (faulty : LineFault → Type 0) (answer : Result V TagFault) : Type 0 where
   pub read : IfOk answer says
   pub only : (value : V) → says value → MatchResult answer (λ v. v ≡ value) (λ fault. fault ≡ Memory)

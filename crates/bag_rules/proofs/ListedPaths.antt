@@ -22,7 +22,7 @@ paths_of_pairs pairs path = (
   λ listed. (let r = pair_of pairs path listed in subst (Has (map (λ (pair : Pair). pair.path) pairs)) r.2 (has_map (λ (pair : Pair). pair.path) pairs r.0 r.1)),
 )
 
--- one manifest more
+-- one more manifest
 module _ (listings : List Listing) (new : Listing) (old : List (List ℕ)) (before : (path : List ℕ) → Has old path ↔ IsListedIn listings path) where
   kept : (path : List ℕ) → Has old path → IsListedIn (listings ++ new ∷ []) path
   kept path h = let l = (before path).0 h in (l.0, (has_push listings new l.0).1 (inl l.1), l.2, l.3)
@@ -48,7 +48,7 @@ module _ (listings : List Listing) (new : Listing) (old : List (List ℕ)) (befo
   pub listed_same : new.kind ≢ Payload → (path : List ℕ) → Has old path ↔ IsListedIn (listings ++ new ∷ []) path
   listed_same other path = (kept path, λ l. elim (kept_or_new path l) [ inl earlier ↦ earlier | inr this ↦ absurd (other this.0) ])
 
--- by what was read, and in the bag
+-- in terms of what was read, and in the bag
 pub expected_as : (tags : Files) (texts : Texts) → AreTextsOf (length tags) (tag_bag tags) texts → (path : List ℕ) → IsListedIn texts.manifests.items path ↔ IsExpected tags path
 expected_as tags texts are path = (
   λ l. (l.0.alg, (l.0.pairs, subst (λ k. Lists (tag_bag tags) (manifest_name k l.0.alg) l.0.pairs) l.2 (lists_of_has (tag_bag tags) texts are l.0 l.1), l.3)),

@@ -1,4 +1,4 @@
--- A tree in memory once a file was put among its files.
+-- A tree in memory after a file was inserted.
 use Rattle.std.proofs.Common.{◌≡◌, ℕ, ◌+◌, ◌≤◌, ◌||◌, true, cond, List, Option, Some, All, length, refl, sym, ap, subst, ◌∙◌, arith, nat_le, ◌<◌, None}
 use Rattle.std.proofs.lemmas.Bool.{cond_both}
 use Rattle.std.proofs.lemmas.Map.{lookup-insert, none_passes_from_lookup}
@@ -9,7 +9,7 @@ use Rattle.bag_rules.proofs.MemoryFiles.{All-insert, lookup_in_gap, map-insert, 
 use Rattle.bag_rules.proofs.FilesShown.{length_shown, shown_insert}
 use Rattle.bag_rules.proofs.MemoryShown.{rest_moved}
 
--- the same fields but for a file more
+-- the same fields except for one more file
 pub record HasAdded (old new : Inside) (place : ℕ) (file : File) : Type 0 where
   pub gap : IsGapFor (paths_of old.files.items) file.path place
   pub files : new.files.items ≡ insert old.files.items place file

@@ -1,4 +1,4 @@
--- Files by path in rising order: what is there once a file was put in its place, and what a look-up finds.
+-- Files by path in ascending order: what is there after a file was inserted at its place, and what a look-up finds.
 use Rattle.std.proofs.Common.{◌≡◌, ℕ, zero, suc, ◌+◌, ◌<◌, ◌≤◌, true, false, Bool, List, [], ◌∷◌, Some, None, All, Contains, map, slice_get, length, take, drop, refl, sym, ap, subst, ◌∙◌, arith, nat_le, is_some, if◌then◌else◌}
 use Rattle.std.proofs.lemmas.Bool.{cond_both}
 use Rattle.std.proofs.lemmas.List.{drop-map, map-append, take-map}
@@ -21,7 +21,7 @@ gap_tail path x paths i gap = record {
   greater_from = λ j other above here. gap.greater_from (suc j) other (omega arith) here;
 }
 
--- what is put into the gap is put in its place
+-- what is inserted into the gap is inserted at its place
 module _ (path octets : List ℕ) where
   pub put_step : (file : List ℕ × List ℕ) (files : Files) (r : Ordering) → slice_cmp nat_cmp path file.0 ≡ r → insert_entry (slice_cmp nat_cmp) (file ∷ files) path octets ≡ match_ordering r ((path, octets) ∷ file ∷ files) ((file.0, octets) ∷ files) (file ∷ insert_entry (slice_cmp nat_cmp) files path octets)
   put_step file files r h = ap (λ o. match_ordering o ((path, octets) ∷ file ∷ files) ((file.0, octets) ∷ files) (file ∷ insert_entry (slice_cmp nat_cmp) files path octets)) h
@@ -73,7 +73,7 @@ module _ (path : List ℕ) (files : Files) (i : ℕ) (rising : AreRising (keys_o
       lookup_from_place nat_list_eq_equiv files i path file.0 distinct file.1
       ∙ sym (slice_get-map (λ file. file.1) files i ∙ ap (option_map (λ file. file.1)) file.1)
 
--- what stands at a place, once something was put before it or there
+-- what is at a place after something was inserted before it or there
 pub slice_get-insert_moved : {X : Type 0} (xs : List X) (i : ℕ) (x : X) (k : ℕ) → i ≤ length xs → k < length xs → slice_get (insert xs i x) (if nat_le i k then k + 1 else k) ≡ slice_get xs k
 slice_get-insert_moved xs i x k upto within = cond_both (nat_le i k) (k + 1) k (λ at. slice_get (insert xs i x) at ≡ slice_get xs k)
     (λ from. slice_get-get_or (insert xs i x) (k + 1) x (omega (arith, length-insert xs i x upto, within)) ∙ ap Some (get_or-insert_above xs i x x k (leb-true i k from) upto) ∙ sym (slice_get-get_or xs k x within))

@@ -1,4 +1,4 @@
--- What the fields of a tree in memory show, once a file was put among them, and what a search finds.
+-- What the fields of a tree in memory show after a file was inserted, and what a search finds.
 use Rattle.std.proofs.Common.{◌≡◌, ℕ, zero, suc, ◌+◌, ◌<◌, ◌≤◌, ◌++◌, ◌-◌, add-zero, take, take-append-drop, true, List, [], ◌∷◌, Option, Some, None, All, slice_get, drop, is_some, length, refl, sym, ap, subst, ◌∙◌, arith}
 use Rattle.bag_rules.proofs.Words.{All-nil, AreRising, Consumes, drop-drop, File, ForSome, insert, Inside, is_payload, IsAtEnd, IsSound, mem_octets, mem_paths, mem_shown, MemFiles, moved_up, no_files, octets_in, option_map, paths_in, Reading, rest_of, files_of, take-append_seam, values_of, view_of}
 use Rattle.std.specs.List.Sorted.{IsStrictlySortedBy}
@@ -33,7 +33,7 @@ started_there tree inside i view below =
     let body = stands bodies i (omega (arith, below, ap length (shown_is tree inside view), length_shown files, length_bodies files)) in
     ap is_some (not_dropped (slice_get bodies i) ∙ body.1)
 
--- what is left of the file that is read, once another was put at a place
+-- what is left of the file that is being read after another one was inserted at a place
 module _ (files : List File) (place : ℕ) (file : File) (upto : place ≤ length files) where
   body_moved : (r : Reading) → r.place < length files → slice_get (values_of (files_of (insert files place file))) (moved_up place r).place ≡ slice_get (values_of (files_of files)) r.place
   body_moved r within =
@@ -45,7 +45,7 @@ module _ (files : List File) (place : ℕ) (file : File) (upto : place ≤ lengt
   rest_moved None within = refl
   rest_moved (Some r) within = ap (option_map (drop r.at)) (body_moved r (within r refl))
 
--- nothing is wrong where there are no files
+-- nothing is wrong if there are no files
 pub empty_sound : (inside : Inside) → inside.files.items ≡ [] → inside.reading ≡ None → IsSound inside
 unfolding IsStrictlySortedBy
 empty_sound inside no_file none = record {
@@ -54,14 +54,14 @@ empty_sound inside no_file none = record {
   reading = subst (λ reading. ForSome reading (λ r. r.place < length inside.files.items)) (sym none) (λ r here. cc);
 }
 
--- what was copied and what follows it are what stood there
+-- what was copied, followed by what comes after it, is what was there
 pub copied : (body buf src : List ℕ) (at n : ℕ) → src ≡ take (at + n - at) (drop at body) → length src ≡ n → drop at body ≡ take n (src ++ drop n buf) ++ drop (at + n) body
 copied body buf src at n e size =
     sym (take-append-drop n (drop at body))
     ∙ ap (λ xs. xs ++ drop n (drop at body)) (ap (λ m. take m (drop at body)) (let k : n ≡ at + n - at = omega arith in k) ∙ sym e ∙ sym (ap (λ m. take m (src ++ drop n buf)) (sym size) ∙ take-append_seam src (drop n buf)))
     ∙ ap (λ xs. take n (src ++ drop n buf) ++ xs) (drop-drop n at body)
 
--- what is shown of a file that is read
+-- what is shown of a file that is being read
 pub started_is : (tree : MemFiles) (inside : Inside) (reading : Reading) (body : List ℕ) → view_of inside ≡ tree → inside.reading ≡ Some reading → slice_get (values_of (files_of inside.files.items)) reading.place ≡ Some body → tree.started ≡ Some (drop reading.at body)
 started_is tree inside reading body view at here =
     ap (λ t. t.started) (sym view)

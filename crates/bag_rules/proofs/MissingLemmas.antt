@@ -4,7 +4,7 @@ use Rattle.bag_rules.proofs.Words.{Adds, bytes_eq, bytes_eq-Decides, cases_Bool,
 use Rattle.bag_rules.proofs.AddsLemmas.{adds_so, adds_one}
 use Rattle.bag_rules.specs.FilesInside.{OfSome}
 
--- a path is listed where some pair has it
+-- a path is listed if some pair has it
 pub pair_of : (pairs : List Pair) (path : List ℕ) → lists_path pairs path ≡ true → (pair : Pair) × Has pairs pair × (pair.path ≡ path)
 pair_of [] path h = absurd (let k : false ≡ true = h in cc)
 pair_of (p ∷ pairs) path h = elim (cases_Bool (bytes_eq p.path path)) [

@@ -21,7 +21,7 @@ pub judged_none : (bag : Bag) → ((fault : Fault) → ¬ HasFault bag fault) �
 unfolding IsStrictlySortedBy
 judged_none bag none profile = record { in_order = tt; exact = λ fault. (λ h. absurd h, λ h. none fault h.0); in_profile = λ below. profile }
 
--- the one fault that is broken
+-- the one fault that the bag has
 pub judged_one : (bag : Bag) (fault : Fault) → HasFault bag fault → ((other : Fault) → HasFault bag other → fault ≡ other) → IsInProfile bag → IsJudged bag (fault ∷ [])
 judged_one bag fault broken only profile =
     judged_by_one bag fault (fault ∷ []) broken (λ other less b. omega (arith, subst (λ f. tier_of f < tier_of fault) (sym (only other b)) less)) (λ other tier. only other)

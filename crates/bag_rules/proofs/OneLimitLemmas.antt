@@ -1,4 +1,4 @@
--- A check meets one limit first at most.
+-- At most one limit is the first that a check meets.
 use Rattle.std.proofs.Common.{◌≡◌, ◌∙◌, ℕ, List, Some, slice_get, sym, ap, subst, inl, inr, arith}
 use Rattle.bag_rules.proofs.Words.{Bag, cases_order, CheckFault, DeclarationStops, FileStops, FirstStops, ProfileStops, Stops, TextStops, WorkStops}
 use Rattle.bag_rules.proofs.LimitLemmas.{none_first}
@@ -6,7 +6,7 @@ use Rattle.bag_rules.proofs.LimitLemmas.{none_first}
 abbrev File : Type 0
 File = List ℕ × List ℕ
 
--- a file stops the work for one reason at most
+-- a file stops the work for at most one reason
 abbrev IsOneReason : (List ℕ → List ℕ → CheckFault → Type 0) → Type 0
 IsOneReason stops = (path octets : List ℕ) (a b : CheckFault) → stops path octets a → stops path octets b → a ≡ b
 

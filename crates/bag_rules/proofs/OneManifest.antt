@@ -31,14 +31,14 @@ pub record HasOneManifest (bag : Bag) (manifest content : List ℕ) (pairs : Lis
   pub text : ManifestText V1 Sha256 Payload manifest pairs
   pub listed : (path : List ℕ) → lists_path pairs path ≡ true → path ≡ payload_file
 
--- all that can be wrong has P
+-- everything that can be wrong has P
 pub record CanBe (bag : Bag) (content : List ℕ) (pairs : List Pair) (P : Fault → Type 0) : Type 0 where
   pub no_dir : bag.has_payload_dir ≡ false → P NoPayloadDir
   pub missing : lists_path pairs payload_file ≡ true → ¬ IsThere bag payload_file → P (Missing by_sha256 payload_file)
   pub unlisted : lists_path pairs payload_file ≡ false → IsThere bag payload_file → P (Unlisted Sha256 payload_file)
   pub wrong : (digest : Digest) → listed_digest pairs payload_file ≡ Some digest → IsThere bag payload_file → hash Sha256 content ≢ digest → P (WrongDigest by_sha256 payload_file)
 
--- a manifest's name begins with `m` or `t`
+-- the name of a manifest begins with `m` or `t`
 word_apart : (path word : List ℕ) → nat_eq 109 (get_or path 0 0) ≡ false → nat_eq 116 (get_or path 0 0) ≡ false → (path ≡ payload_manifest word) ⊎ (path ≡ tag_manifest word) → ⊥
 word_apart path word m t (inl e) = differ_at 0 (payload_manifest word) path m (sym e)
 word_apart path word m t (inr e) = differ_at 0 (tag_manifest word) path t (sym e)

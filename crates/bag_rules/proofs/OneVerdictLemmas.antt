@@ -1,4 +1,4 @@
--- A bag has one verdict at most, and its files stand in one order.
+-- A bag has at most one verdict, and its files have one order.
 use Rattle.std.proofs.Common.{◌≡◌, ◌≢◌, ◌↔◌, ◌∙◌, ℕ, true, false, List, [], ◌∷◌, Some, None, is_some, refl, sym, ap, subst, string_bytes}
 use Rattle.bag_rules.proofs.Words.{Algorithm, AreInOrder, AreRising, Bag, Declaration, declaration_file, Declares, Encoding, Equal, exact_bytes, Fault, Greater, Has, Holds, IsDeclaration, IsFirstUnknown, IsInProfile, IsJudged, IsOutside, IsUnknownManifest, IsVerdict, Judged, Less, nat_cmp, nat_list_cmp_total, one_word, Ordering, ordering_reverse, Outcome, Outside, OutsideCause, SameCause, SameVerdict, slice_cmp}
 use Rattle.std.specs.List.Sorted.{IsStrictlySortedBy}

@@ -1,4 +1,4 @@
--- The faults of tag files, as they are found, are those that no payload file can mend.
+-- The faults of tag files, as they are found, are those that payload files can't mend.
 use Rattle.std.proofs.Common.{◌≡◌, ◌≢◌, ◌↔◌, ◌==◌, ◌∙◌, ◌∷◌, ◌++◌, [], ℕ, true, false, List, length, refl, sym, subst, inl, inr, arith}
 use Rattle.bag_path.specs.declared.version.Version.{Version}
 use Rattle.bag_rules.specs.Bags.{version_of}
@@ -36,7 +36,7 @@ module _ (tags : Files) where
   form_back OxumTwice h = (h.0.0, h.1)
   form_back _ h = absurd (let k : false ≡ true = h.1 in cc)
 
-  -- each has one of these kinds, where the declaration is right
+  -- each has one of these kinds if the declaration is right
   every_kind : (f : Fault) → NoneBelow 2 (tag_bag tags) → HasOpeningFault tags f → list_any (λ kind. kind == number_of f) (kinds_of_form ++ kinds_of_files) ≡ true
   every_kind NoDeclaration none h = absurd (none NoDeclaration (omega arith) h.0)
   every_kind (BadDeclaration cause) none h = absurd (none (BadDeclaration cause) (omega arith) h.0)

@@ -1,4 +1,4 @@
--- For what tag files are refused.
+-- Why tag files are refused.
 use Rattle.std.proofs.Common.{◌≡◌, ◌≢◌, ◌↔◌, ◌<◌, ◌≤◌, ◌∷◌, ◌∙◌, [], ap, refl, subst, sym, inl, inr, arith, string_bytes}
 use Rattle.std.specs.declared.cmp.Ordering.{Ordering}
 use Rattle.bag_rules.specs.contracts.fault.FaultOrd.TheImpl as order
@@ -27,7 +27,7 @@ itself x y same e =
     let k : Equal ≡ Greater = sym tied ∙ ap (order.ghosts.cmp x) same ∙ e in
     cc
 
--- the first of these is the first of those, where they are the same
+-- the first of these is the first of those if they are the same
 pub first_as : {X : Type 0} (compare : X → X → Ordering) (P Q : X → Type 0) (x : X) → ((y : X) → P y ↔ Q y) → IsFirst compare P x → IsFirst compare Q x
 first_as compare P Q x same is = record { has = (same x).0 is.has; first = λ other has. is.first other ((same other).1 has) }
 

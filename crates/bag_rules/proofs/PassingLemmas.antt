@@ -11,7 +11,7 @@ use Rattle.bag_rules.proofs.ListedLemmas.{some_listed}
 
 -- LENGTHS
 
--- where not each length that is given is this one, some is another
+-- if not every length that is given is this one, some length is another
 some_other : (given : List GivenLength) (n : ℕ) → ¬ ((one : GivenLength) → Has given one → one.length ≡ n) → (one : GivenLength) × Has given one × (one.length ≢ n)
 some_other [] n not = absurd (not (λ one has. absurd has))
 some_other (first ∷ given) n not = elim (decided_equal first.length n) [

@@ -1,4 +1,4 @@
--- The size of the payload, and what `Payload-Oxum` says of it.
+-- The size of the payload, and what `Payload-Oxum` says about it.
 use Rattle.std.proofs.Common.{◌≡◌, ◌↔◌, ◌+◌, ℕ, true, false, not, List, [], ◌∷◌, ◌++◌, Option, Some, None, IsTrue, nat_eq, length, take, get_or, slice_get, cond, refl, sym, ap, ◌∙◌, inl, inr, subst, arith}
 use Rattle.std.specs.Bool.{then_some}
 use Rattle.bag_rules.proofs.Words.{Adds, append-nil, AreTextsOf, Bag, cases_Bool, Decides-eqb, Fault, filter_more, get_or_from_slice_get, Has, HasFault, HasFaultOf, is_oxum, is_payload, IsOtherOxum, IsSizeOf, length_push, MetadataElement, Oxum, OxumText, OxumWrong, payload_length, payload_of, PayloadSize, same_Some, slice_get_within, Texts}
@@ -41,7 +41,7 @@ module _ (files : List File) (i : ℕ) (path octets : List ℕ) (at : slice_get 
   pub files_more : is_payload path ≡ true → length (payload_of (take (i + 1) files)) ≡ length (payload_of (take i files)) + 1
   files_more payload = ap length (payload_more payload) ∙ length_push (payload_of (take i files)) (path, octets)
 
--- the size with one file more
+-- the size with one more file
 module _ (files : List File) (i : ℕ) (path octets : List ℕ) (at : slice_get files i ≡ Some (path, octets)) (old : PayloadSize) (before : IsSizeOf (take i files) old) where
   pub size_more : (new : PayloadSize) → is_payload path ≡ true → new.octets ≡ old.octets + length octets → new.streams ≡ old.streams + 1 → IsSizeOf (take (i + 1) files) new
   size_more new payload o s = (omega (arith, o, before.0, octets_more files i path octets at payload), omega (arith, s, before.1, files_more files i path octets at payload))

@@ -1,8 +1,8 @@
--- What stands at a place of a list.
+-- What is at a place of a list.
 use Rattle.std.proofs.Common.{◌≡◌, ℕ, List, Option, Some, sym, ◌∙◌}
 use Rattle.bag_rules.proofs.Words.{some_pair_parts}
 
--- one thing stands at a place
+-- there is one thing at a place
 pub path_here : {X : Type 0} (o : Option X) (own other : X) → o ≡ Some own → o ≡ Some other → own ≡ other
 path_here o own other h k = let e : Some own ≡ Some other = sym h ∙ k in let s : own ≡ other = cc in s
 

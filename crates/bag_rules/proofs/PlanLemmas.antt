@@ -1,4 +1,4 @@
--- What a plan says of the payload.
+-- What a plan says about the payload.
 use Rattle.std.proofs.Common.{◌≡◌, ◌∙◌, ℕ, List, None, Some, sym, inl, inr}
 use Rattle.bag_rules.proofs.Words.{AreLinesOf, BadLine, entries_or_fault, FetchLine, FetchList, Files, Has, IsThere, IsWantBy, ListsFetch, text_file, Want}
 use Rattle.bag_rules.specs.declared.plan.Plan.{Plan}
@@ -9,7 +9,7 @@ use Rattle.bag_rules.specs.Transfers.{tag_bag}
 use Rattle.bag_rules.proofs.FrontLemmas.{fetch_listed, manifest_listed}
 use Rattle.bag_rules.proofs.HasLemmas.{contains_from_has}
 
--- where tag files open, `fetch.txt` reads
+-- if tag files open, `fetch.txt` can be read
 pub fetch_reads : (tags : Files) → Opens tags → IsThere (tag_bag tags) (text_file FetchList) → (lines : List FetchLine) × ListsFetch (tag_bag tags) lines
 fetch_reads tags opens there = elim (entries_or_fault (version_of (tag_bag tags)) there.0) [
   | inl read ↦ (read.0, record { octets = there.0; there = there.1; text = read.1 })

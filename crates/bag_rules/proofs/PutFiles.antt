@@ -1,4 +1,4 @@
--- Files that are put among others, each at its place in the order of the paths.
+-- Files that are inserted among others, each at its place in the order of the paths.
 use Rattle.std.proofs.Common.{◌≡◌, ◌≢◌, ◌⊎◌, ◌↔◌, ◌+◌, ◌∙◌, ℕ, true, List, [], ◌∷◌, length, refl, sym, ap, subst, inl, inr, arith}
 use Rattle.std.proofs.lemmas.List.Elements.{All-from_recursion, recursion_from_All}
 use Rattle.std.proofs.lemmas.Map.Views.{All-keys-insert_entry}
@@ -18,12 +18,12 @@ put files path octets = insert_entry (slice_cmp nat_cmp) files path octets
 abbrev pub IsNew : Files → List ℕ → Type 0
 IsNew files path = (octets : List ℕ) → ¬ Has files (path, octets)
 
--- the files can be put among the others: no path stands twice
+-- the files can be inserted among the others: no path is there twice
 abbrev pub AreNew : Files → Files → Type 0
 AreNew files [] = Unit {0}
 AreNew files (item ∷ items) = IsNew files item.0 × IsNew items item.0 × AreNew files items
 
--- ONE FILE MORE
+-- ONE MORE FILE
 
 module _ (path octets : List ℕ) where
   not_first : (first : File) (files : Files) → IsNew (first ∷ files) path → slice_cmp nat_cmp path first.0 ≢ Equal
@@ -95,9 +95,9 @@ module _ (path octets : List ℕ) where
   grows_put payload [] new = grows_ahead payload []
   grows_put payload (first ∷ files) new = grows_step payload first files (slice_cmp nat_cmp path first.0) new (grows_put payload files (later first files new)) refl
 
--- SEVERAL FILES MORE
+-- SEVERAL MORE FILES
 
--- those that are still to come are still new
+-- those that are still to be inserted are still new
 new_yet : (files items : Files) (path octets : List ℕ) → IsNew files path → IsNew items path → AreNew files items → AreNew (put files path octets) items
 new_yet files [] path octets new other are = tt
 new_yet files (item ∷ items) path octets new other are = (

@@ -30,7 +30,7 @@ sizes_sum (item ∷ items) = sum_by-cons (λ (size : ItemSize). size.octets) (re
 sizes_count : (items : Files) → length (sizes_of items) ≡ length items
 sizes_count items = length-map items (λ (item : List ℕ × List ℕ). (let size : ItemSize = record { path = item.0; octets = length item.1 } in size))
 
--- a payload file has no name of a manifest
+-- a payload file doesn't have the name of a manifest
 not_unknown : (path word : List ℕ) → is_payload path ≡ true → ¬ IsUnknownManifest path word
 not_unknown path word payload unknown = elim unknown.form [
   | inl named ↦ (let k : false ≡ true = ap is_payload (sym named) ∙ payload in cc)

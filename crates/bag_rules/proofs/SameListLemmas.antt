@@ -3,7 +3,7 @@ use Rattle.std.proofs.Common.{◌≡◌, List, [], ◌∷◌, map, refl, sym, ap
 use Rattle.bag_rules.proofs.Words.{AllByRecursion, Greater, Has, IsTotalOrder, Less, Ordering, ordering_reverse}
 use Rattle.std.specs.List.Sorted.{IsStrictlySortedBy}
 
--- of two, one is less at most
+-- at most one of two is less than the other
 abbrev pub IsAsymmetric : {X : Type 0} → (X → X → Ordering) → Type 0
 IsAsymmetric {X} cmp = (x y : X) → cmp x y ≡ Less → cmp y x ≡ Less → ⊥
 

@@ -21,7 +21,7 @@ plain_text Info = refl
 plain_text FetchList = refl
 plain_text (Manifest name) = plain_manifest name.kind name.alg
 
--- what the one bag says the other says, which has its tag files
+-- what one bag says is said by another that has its tag files
 module _ (one other : Bag) (same : version_of one ≡ version_of other) (to : (path octets : List ℕ) → is_payload path ≡ false → Holds one path octets → Holds other path octets) where
   pub there_too : (path : List ℕ) → is_payload path ≡ false → IsThere one path → IsThere other path
   there_too path plain there = (there.0, to path there.0 plain there.1)

@@ -1,4 +1,4 @@
--- What a search by halves finds among items in the order of their paths.
+-- What a binary search finds among items in the order of their paths.
 use Rattle.std.proofs.Common.{◌≡◌, ◌≢◌, ◌<◌, ◌+◌, ◌∙◌, ◌↔◌, ℕ, List, Contains, Some, Result, Ok, Err, IsTrue, is_ok, get_or, length, map, slice_get, refl, sym, ap, subst, inl, inr, arith}
 use Rattle.bag_rules.proofs.Words.{AreRising, cases_lt, Equal, exact_bytes, false≢true, get_or_from_slice_get, Greater, Has, HoldsAt, is_lt, IsBinarySearchResult, IsNonDecreasingBy, IsSearchInRange, Less, nat_cmp, nat_list_cmp_total, option_map, Ordering, ordering_index, ordering_reverse, searchable_from_sorted, slice_cmp, slice_get-map, slice_get_within, tied_itself}
 use Rattle.bag_rules.proofs.EachLemmas.{stands_at}
@@ -13,7 +13,7 @@ module _ {X : Type 0} (path_of : X → List ℕ) (items : List X) (path : List �
   path_at : (k : ℕ) (d : X) → k < length items → slice_get (map path_of items) k ≡ Some (path_of (get_or items k d))
   path_at k d within = slice_get-map path_of items k ∙ ap (option_map path_of) (stands_at items k d within)
 
-  -- the answers of the comparison rise along items in order
+  -- the results of the comparison ascend along items in order
   answers_rise : AreRising (map path_of items) → IsNonDecreasingBy (λ x. ordering_index (against x)) items
   answers_rise rising = searchable_from_sorted nat_list_cmp_total path_of items path (λ k d _ next.
       let below : k + 1 < length items = omega (arith, next) in

@@ -1,4 +1,4 @@
--- The algorithms of the manifests that are such, with one manifest more.
+-- The algorithms of the manifests that are such, with one more manifest.
 use Rattle.std.proofs.Common.{◌≡◌, ◌↔◌, ◌⊎◌, ◌||◌, ◌∙◌, ◌++◌, ◌∷◌, [], true, List, refl, sym, subst, inl, inr}
 use Rattle.bag_rules.specs.Wants.{HasSuch}
 use Rattle.bag_rules.proofs.Words.{Alg, AlgSet, has, is_alg, Listing, or_cases, or_left, or_right}

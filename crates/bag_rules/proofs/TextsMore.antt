@@ -1,4 +1,4 @@
--- What the tag files say, with one file more.
+-- What the tag files say, with one more file.
 use Rattle.std.proofs.Common.{◌≡◌, ◌≢◌, ◌⊎◌, ◌↔◌, ◌+◌, ℕ, true, false, List, [], ◌∷◌, Some, length, slice_get, refl, sym, ap, ◌∙◌, inl, inr, subst}
 use Rattle.bag_path.specs.declared.version.Version.{Version}
 use Rattle.bag_rules.proofs.Words.{Adds, AreTextsOf, BadLine, Bag, Fault, FetchLine, FetchList, FetchText, front, GivesListing, Has, HasBadLine, HasFaultOf, Holds, Info, InfoText, IsBadLineOf, IsFirstBadLine, LineFile, Listing, Manifest, ManifestName, ManifestText, MetadataElement, name_in, one_file, ReadsOn, ReadsText, text_file, text_or_not, Texts}
@@ -7,7 +7,7 @@ use Rattle.bag_rules.proofs.AddsLemmas.{adds_on}
 use Rattle.bag_rules.proofs.FrontLemmas.{whole_front}
 use Rattle.bag_rules.proofs.FirstFiles.{Says, says_more, says_here, says_split, value_stays, value_given}
 
--- the three kinds of tag files, each said alike
+-- the three kinds of tag files, each in the same way
 abbrev InfoSays : Version → List MetadataElement → List ℕ → Type 0
 InfoSays version elements octets = InfoText version octets elements
 
@@ -43,7 +43,7 @@ all_bad_lines bag f = (
     bad_line_in (BadLine file line cause) h = record { file = file; octets = h.0.0; there = subst (λ (b : Bag). Holds b (text_file file) h.0.0) (sym (whole_front bag)) h.0.1; bad = (line, (cause, h.0.2, refl)) }
     bad_line_in _ h = absurd (let k : false ≡ true = h.1 in cc)
 
--- one file more, whose path no file before it has
+-- one more file, whose path no file before it has
 module _ (bag : Bag) (n : ℕ) (path octets : List ℕ) (there : slice_get bag.files n ≡ Some (path, octets)) (once : (i : ℕ) (other : List ℕ) → slice_get bag.files i ≡ Some (path, other) → i ≡ n) where
   bad_of : (k : ℕ) (f : Fault) (file : LineFile) → Says (front k bag) file (λ o. IsFirstBadLine (version_of bag) file o f) → HasBadLine k bag f
   bad_of k f file says = record { file = file; octets = says.0; there = says.1; bad = says.2 }

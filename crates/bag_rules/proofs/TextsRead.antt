@@ -1,4 +1,4 @@
--- What the readers of the three kinds of tag files answer.
+-- What the readers of the three kinds of tag files return.
 use Rattle.std.proofs.Common.{◌≡◌, ◌⊎◌, ◌↔◌, ◌++◌, ℕ, List, [], ◌∷◌, Option, Some, None, Result, Ok, Err, MatchResult, IfOk, IsErrOf, sym, ap, ◌∙◌, inl, inr, subst}
 use Rattle.bag_path.specs.declared.version.Version.{Version}
 use Rattle.bag_rules.proofs.Words.{Adds, Fault, FetchFault, FetchLine, FetchList, FetchText, GivesListing, Has, Info, InfoFault, InfoText, IsFirstBadLine, Line, LineFault, LineFile, Listing, Manifest, ManifestFault, ManifestName, ManifestText, MetadataElement, name_in, Pair, ReadsText, TagFault, Texts, ValueOf}
@@ -40,7 +40,7 @@ module _ (version : Version) where
     one = exact.one_manifest_fault version name.alg name.kind octets;
   }
 
-  -- what a manifest's reader answers, said of listings
+  -- what the reader of a manifest returns, in terms of listings
   pub manifest_reads : (name : ManifestName) (octets : List ℕ) (read : Result Listing TagFault)
       → IfOk read (λ listing. (listing.alg ≡ name.alg) × (listing.kind ≡ name.kind) × ManifestText version name.alg name.kind octets listing.pairs)
       → ((pairs : List Pair) → ManifestText version name.alg name.kind octets pairs → MatchResult read (λ listing. listing.pairs ≡ pairs) (λ fault. fault ≡ Memory))

@@ -63,11 +63,11 @@ module _ {shown : Shown} (bag : Bag) (is : IsBagOf shown bag) where
   pub same_count : length (paths_in shown) ≡ length bag.files
   same_count = ap length paths_same ∙ length-map bag.files (λ (file : File). file.0)
 
-  -- the bag's paths rise as the tree's do
+  -- the bag's paths ascend as the tree's do
   pub rises : AreRising (paths_in shown) → AreRising (paths_of bag)
   rises h = subst AreRising paths_same h
 
-  -- a file of the bag stands at the same place of the tree
+  -- a file of the bag is at the same place of the tree
   pub file_at : (i : ℕ) (path octets : List ℕ) → slice_get bag.files i ≡ Some (path, octets) → HasFileAt shown i path octets
   file_at i path octets e = record {
     there = ap (λ (s : Shown). slice_get s.files i) is

@@ -15,7 +15,7 @@ module _ {T : Type 0} {shown : T → Shown} {failures : T → ℕ} {sure : T →
     stays_sure = λ s. (s, not);
   }
 
-  -- the same, of another answer
+  -- the same for another result
   uses_so : {a b : T} {F G : Type 0} → UsesTree shown failures sure a b F → (F → G) → (G → F) → UsesTree shown failures sure a b G
   uses_so p there back = record {
     same = p.same;
@@ -23,7 +23,7 @@ module _ {T : Type 0} {shown : T → Shown} {failures : T → ℕ} {sure : T →
     stays_sure = λ s. ((p.stays_sure s).0, (λ g. (p.stays_sure s).1 (back g)));
   }
 
-  -- where neither answer is the tree's fault, and where an error is handed on
+  -- if neither result is a failure of the tree, and if an error is passed on
   pub uses_kept : {a b : T} {F G : Type 0} → UsesTree shown failures sure a b F → ¬ F → ¬ G → UsesTree shown failures sure a b G
   uses_kept p not other = uses_so p (λ f. absurd (not f)) (λ g. absurd (other g))
 
@@ -38,7 +38,7 @@ module _ {T : Type 0} {shown : T → Shown} {failures : T → ℕ} {sure : T →
     stays_sure = λ s. q.stays_sure (p.stays_sure s).0;
   }
 
--- want of memory is no fault of the tree
+-- `Memory` is not a failure of the tree
 pub not_tree : {X : Type 0} (r : Result X CheckFault) → IfErr r (λ fault. fault ≡ Memory) → ¬ IsErrOf r Tree
 not_tree (Ok x) memory e = cc
 not_tree (Err fault) memory e = let k : fault ≡ Tree = cc in let m : Memory ≡ Tree = sym memory ∙ k in cc

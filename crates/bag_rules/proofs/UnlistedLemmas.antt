@@ -1,4 +1,5 @@
--- Which payload manifests are told where a path isn't listed as it has to be, by what was read and in the bag.
+-- Which payload manifests are reported because a path isn't listed as required, in terms of what was read and in the
+-- bag.
 use Rattle.std.proofs.Common.{◌≡◌, ◌≢◌, ◌<◌, ◌≤◌, ◌↔◌, ◌+◌, ◌∙◌, ◌++◌, ◌∷◌, [], ℕ, Bool, true, false, List, length, take, get_or, refl, sym, subst, inl, inr, arith}
 use Rattle.std.proofs.lemmas.Cmp.{ranked}
 use Rattle.std.specs.Cmp.{nat_cmp_is}
@@ -80,18 +81,18 @@ module _ (bag : Bag) (texts : Texts) (are : AreTextsOf (length bag.files) bag te
     λ other l. (let said = (listing_said path true other).0 l in h.1 (other, said.0, said.1, said.2)),
   )
 
-  -- the same manifests are told
+  -- the same manifests are reported
   pub same_told : (alg : Alg) (path : List ℕ) → IsUnlistedIn (version_of bag) texts.manifests.items alg path ↔ IsUnlisted (version_of bag) bag alg path
   same_told alg path = (told (version_of bag) alg path, told_back (version_of bag) alg path)
 
 -- FAULTS BY ALGORITHM
 
--- the fault that tells of the manifest by an algorithm of the set
+-- the fault that reports the manifest by an algorithm of the set
 abbrev pub IsTold : AlgSet → (Alg → Fault) → Alg → Fault → Type 0
 IsTold set of alg fault = (has set alg ≡ true) × (fault ≡ of alg)
 
 module _ (set : AlgSet) (of : Alg → Fault) where
-  -- one algorithm more, which is in the set or isn't
+  -- one more algorithm, which is in the set or isn't
   module _ (i : ℕ) (default : Alg) (old mid new : List Fault) (inside : i < 4) (before : Adds old mid (OfSome (take i ALL) (IsTold set of))) where
     abbrev alg : Alg
     alg = get_or ALL i default

@@ -24,12 +24,12 @@ decided_digest _ _ = inr (λ e. cc)
 
 -- FROM COMPLETE TO NO FAULT
 
--- a path that is listed as it has to be isn't told
+-- for a path that is listed as required nothing is reported
 listed_or_not : (version : Version) (bag : Bag) (alg : Alg) (path : List ℕ) → IsListed version bag path → IsUnlisted version bag alg path → ⊥
 listed_or_not V1 bag alg path listed unlisted = both_ways _ unlisted.2 (listed alg unlisted.0 unlisted.1)
 listed_or_not V097 bag alg path listed unlisted = unlisted.1 listed
 
--- a text that reads has no faulty line
+-- a text that can be read has no faulty line
 reads_well : (bag : Bag) (file : LineFile) (octets : List ℕ) (fault : LineFault) → AreRising (paths_of bag) → Conforms bag → Holds bag (text_file file) octets → ¬ IsFaultyText (version_of bag) file octets fault
 reads_well bag Info octets fault rising conforms holds bad =
     let read = conforms.info_reads (octets, holds) in
@@ -71,7 +71,7 @@ valid_none bag rising valid fault broken = complete_none bag rising valid.comple
 
 -- a bag that has no fault up to the 13th kind is complete
 module _ (bag : Bag) (rising : AreRising (paths_of bag)) (none : (fault : Fault) → number_of fault ≤ 13 → ¬ HasFault bag fault) where
-  -- what is decided holds where a fault is broken without it
+  -- what is decided is true if without it the bag has a fault
   unless : {P : Type 0} → Decided P → (fault : Fault) → number_of fault ≤ 13 → (¬ P → HasFault bag fault) → P
   unless (inl holds) fault upto broken = holds
   unless (inr not) fault upto broken = absurd (none fault upto (broken not))
@@ -89,14 +89,14 @@ module _ (bag : Bag) (rising : AreRising (paths_of bag)) (none : (fault : Fault)
         subst (λ s. OxumText element.value (octet_count (payload_of bag.files)) s) alike (subst (λ o. OxumText element.value o streams) same text)
   ]
 
-  -- manifests read where they are there
+  -- manifests that are there can be read
   manifests_read : (name : ManifestName) → IsThere bag (file_of name) → (pairs : List Pair) × Lists bag name pairs
   manifests_read name there = let read = reads (Manifest name) there (pairs_or_fault (version_of bag) name.alg name.kind there.0) in (read.0, record { octets = there.0; there = there.1; text = read.1 })
 
   has_manifest : (alg : Alg) × IsThere bag (manifest_file Payload alg)
   has_manifest = unless (decided_alg _ (λ alg. decided_there bag (manifest_file Payload alg))) NoManifest (omega arith) (λ no alg there. no (alg, there))
 
-  -- a path is listed where no manifest is told for it
+  -- a path is listed if no manifest is reported for it
   listed : (path : List ℕ) → ((alg : Alg) → ¬ IsUnlisted (version_of bag) bag alg path) → IsListed (version_of bag) bag path
   listed = listed_unless bag rising manifests_read has_manifest (version_of bag)
 

@@ -14,7 +14,7 @@ pub found_files : (fault : Fault) → list_any (λ kind. kind == number_of fault
 found_files NoDeclaration = refl
 found_files _ = refl
 
--- which tier a kind is of
+-- the tier of a kind
 tiers : (fault : Fault) → (list_any (λ kind. kind == number_of fault) kinds_of_form ≡ (tier_of fault == 2)) × (list_any (λ kind. kind == number_of fault) kinds_of_files ≡ (tier_of fault == 3))
 tiers NoDeclaration = (refl, refl)
 tiers _ = (refl, refl)
@@ -72,7 +72,7 @@ tier_found bag kinds tier faults tells adds fault = (
   λ h. (adds fault).1 (inr (h.0, (tells fault).1 h.1)),
 )
 
--- the faults of one tier, where no fault of a lower one is broken
+-- the faults of one tier, if there is no fault of a lower one
 tier_judged : (tier : ℕ) (bag : Bag) (faults report : List Fault) → (NoneBelow 2 bag → IsInProfile bag) → NoneBelow tier bag
     → ((fault : Fault) → Has faults fault ↔ (HasFault bag fault × (tier_of fault ≡ tier))) → ((fault : Fault) → tier < tier_of fault → ¬ NoneBelow (tier_of fault) bag)
     → AreInOrder report → ((fault : Fault) → Has report fault ↔ Has faults fault) → IsJudged bag report

@@ -1,4 +1,4 @@
--- What the tag files say of a file, by its path.
+-- What the tag files say about a file, by its path.
 use Rattle.std.proofs.Common.{◌≡◌, ◌≢◌, ◌⊎◌, ◌++◌, ◌∷◌, ◌∙◌, [], ℕ, true, false, List, Some, None, Vec, cond, is_eq, refl, sym, ap, subst, inl, inr}
 use Rattle.std.specs.BTreeMap.{get}
 use Rattle.std.specs.declared.alloc.Global.{Global}
@@ -12,7 +12,7 @@ same_or_not xs ys = elim (cases_Bool (bytes_eq xs ys)) [
   | inr h ↦ inr ((λ e. let k : true ≡ false = sym ((bytes_eq-Decides xs ys).1 e) ∙ h in cc), h)
 ]
 
--- a key that was taken out, and put in with another value
+-- a key that was removed, and inserted with another value
 pub length_added : (old mid new : Lengths) (path : List ℕ) (given : GivenLength) (lengths : Vec GivenLength Global)
     → ((q : List ℕ) → get (slice_cmp nat_cmp) mid q ≡ cond (is_eq (slice_cmp nat_cmp path q)) None (get (slice_cmp nat_cmp) old q))
     → ((q : List ℕ) → get (slice_cmp nat_cmp) new q ≡ cond (is_eq (slice_cmp nat_cmp path q)) (Some lengths) (get (slice_cmp nat_cmp) mid q))

@@ -13,7 +13,7 @@ decided_taken : (taken : Option Digest) (digest : Digest) → Decided (taken ≡
 decided_taken None digest = inr (λ e. cc)
 decided_taken (Some own) digest = elim (decided_digest own digest) [ inl same ↦ inl (ap Some same) | inr other ↦ inr (λ e. other (same_Some own digest e)) ]
 
--- where no algorithm is wrong, the digests fit
+-- if no algorithm is wrong, the digests fit
 pub none_wrong : (want : Want) (digests : Digests) → ((alg : Alg) → ¬ IsWrongBy want digests alg) → FitsDigests want digests
 none_wrong want digests none listing has digest listed = elim (decided_taken (digest_in digests listing.alg) digest) [
   | inl same ↦ same

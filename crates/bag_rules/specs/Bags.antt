@@ -19,8 +19,8 @@ use Rattle.bag_tags.specs.declared.name.ManifestName.{ManifestName}
 use Rattle.bag_tags.specs.declared.name.LineFile.TheVariants.{Info, FetchList}
 use Rattle.bag_rules.specs.Trees.{Shown}
 
--- The files of a base directory by path, each with its octets, and whether the payload directory is there. The paths of a
--- tree's bag rise by their bytes, as the tree's do, so that a bag has one such list.
+-- The files of a base directory by path, each with its octets, and whether the payload directory is there. The paths in
+-- the bag of a tree are in ascending order, so the list is determined by the files.
 pub record Bag : Type 0 where
   pub files : List (List ℕ × List ℕ)
   pub has_payload_dir : Bool
@@ -36,7 +36,7 @@ Holds bag path octets = (i : ℕ) × (slice_get bag.files i ≡ Some (path, octe
 abbrev pub IsThere : Bag → List ℕ → Type 0
 IsThere bag path = (octets : List ℕ) × Holds bag path octets
 
--- what a tree of these files shows, each of them known
+-- what a tree of these files shows if all octets are known
 abbrev pub shown_of : Bag → Shown
 shown_of bag = record {
   files = map (λ (file : List ℕ × List ℕ). (file.0, Some file.1)) bag.files;
@@ -58,7 +58,8 @@ abbrev pub Declares : Bag → Declaration → Type 0
 Declares bag declaration = (octets : List ℕ) × Holds bag declaration_file octets
     × IsDeclaration octets declaration
 
--- the version that is declared by the text of `bagit.txt` (without one, no file is read by a version)
+-- the version that the text of `bagit.txt` declares (without this file no tag file is read, so the version doesn't
+-- matter)
 abbrev pub version_in : Option (List ℕ) → Version
 version_in (Some octets) = declared_version octets
 version_in None = V1
@@ -67,28 +68,28 @@ version_in None = V1
 abbrev pub version_of : Bag → Version
 version_of bag = version_in (lookup (bytes_eq declaration_file) bag.files)
 
--- the bag declares a version that is known, and this is `version_of`; and UTF-8
+-- the bag declares UTF-8 and a known version, which is `version_of`
 pub record IsDeclared (bag : Bag) : Type 0 where
   pub declaration : Declaration
   pub declares : Declares bag declaration
   pub version_is : known_version declaration ≡ Some (version_of bag)
   pub in_utf8 : declaration.utf8 ≡ true
 
--- the bag has the manifest, and by this version it lists these pairs
+-- the bag has the manifest, which lists these pairs if read by this version
 pub record ListsBy (version : Version) (bag : Bag) (name : ManifestName) (pairs : List Pair)
     : Type 0 where
   pub octets : List ℕ
   pub there : Holds bag (file_of name) octets
   pub text : ManifestText version name.alg name.kind octets pairs
 
--- the bag has `bag-info.txt`, and by this version it says these elements
+-- the bag has `bag-info.txt`, which says these elements if read by this version
 pub record SaysInfoBy (version : Version) (bag : Bag) (elements : List MetadataElement)
     : Type 0 where
   pub octets : List ℕ
   pub there : Holds bag (text_file Info) octets
   pub text : InfoText version octets elements
 
--- the bag has `fetch.txt`, and by this version these are its entries, each with its line number
+-- the bag has `fetch.txt`; these are its entries if read by this version, each with its line number
 pub record ListsFetchBy (version : Version) (bag : Bag) (lines : List FetchLine) : Type 0 where
   pub octets : List ℕ
   pub there : Holds bag (text_file FetchList) octets

@@ -5,7 +5,8 @@ use Rattle.std.specs.declared.cmp.Ordering.{Ordering}
 use Rattle.std.specs.declared.cmp.Ordering.TheVariants.{Less}
 use Rattle.bag_path.specs.Octets.{slash}
 
--- where the second path stands beside those in the folder with the first: before them, among them, or after them
+-- the place of the second path relative to those in the folder with the first path: before them, among them, or after
+-- them
 abbrev pub beside_folder : List ℕ → List ℕ → Ordering
 beside_folder [] [] = Less
 beside_folder [] (octet ∷ rest) = nat_cmp octet slash

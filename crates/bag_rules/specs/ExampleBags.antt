@@ -1,4 +1,4 @@
--- Texts and bags that several worked cases name.
+-- Texts and bags that several worked examples use.
 use Rattle.std.specs.Prelude.{◌++◌, ◌∷◌, [], ℕ, List, true, codes}
 use Rattle.bag_path.specs.Octets.{lf}
 use Rattle.bag_tags.specs.Declarations.{written_declaration}
@@ -11,8 +11,8 @@ manifest_of_abc =
     codes "ba7816bf8f01cfea414140de5dae2223b00361a396177a9cb410ff61f20015ad  data/a.txt"
     ++ lf ∷ []
 
--- A bag of version 0.97 with one payload file, a `fetch.txt` of another, a manifest by MD5 that lists nothing, and this one by
--- SHA-256.
+-- A bag of version 0.97 with one payload file, a `fetch.txt` for another file, a manifest by MD5 that lists nothing,
+-- and this manifest by SHA-256.
 abbrev pub bag_of_0_97 : List ℕ → Bag
 bag_of_0_97 manifest = record {
   files = (
@@ -42,12 +42,12 @@ manifest_of_two =
     ∷ codes "e3b0c44298fc1c149afbf4c8996fb92427ae41e4649b934ca495991b7852b855  data/e.txt"
     ++ lf ∷ []
 
--- the least tag files of a transfer of both
+-- the fewest tag files of a transfer of both
 abbrev pub tags_of_two : Files
 tags_of_two = (codes "bagit.txt", written_declaration)
     ∷ (codes "manifest-sha256.txt", manifest_of_two) ∷ []
 
--- the same where both may be fetched, and the length of the first is given
+-- the same, with both files in `fetch.txt` and the length of the first given
 abbrev pub tags_with_fetch : Files
 tags_with_fetch = (codes "bagit.txt", written_declaration)
     ∷ (

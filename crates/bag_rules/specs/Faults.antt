@@ -34,7 +34,7 @@ kinds_of_form = 3 ∷ 4 ∷ 5 ∷ 6 ∷ 7 ∷ 8 ∷ []
 abbrev pub kinds_of_files : List ℕ
 kinds_of_files = 9 ∷ 10 ∷ 11 ∷ 12 ∷ 13 ∷ 14 ∷ []
 
--- the last kinds of the declaration, of the form, and of those with which a bag is not complete
+-- the last kind of fault of the declaration, of the form, and of a bag that is not complete
 abbrev pub last_of_declaration : ℕ
 last_of_declaration = 2
 
@@ -44,7 +44,7 @@ last_of_form = 8
 abbrev pub last_of_completeness : ℕ
 last_of_completeness = 13
 
--- those of the form that a line has, and those that it hasn't
+-- the kinds of fault of the form that concern a line, and the others
 abbrev pub kind_of_lines : List ℕ
 kind_of_lines = 5 ∷ []
 
@@ -63,8 +63,8 @@ kind_of_lengths = 12 ∷ []
 abbrev pub kind_of_oxum : List ℕ
 kind_of_oxum = 13 ∷ []
 
--- By what a report is sorted: the kind, and then the file name, the line, and the path or second file name, as far as the
--- fault has them. The order is that of the octets; for kind 11 the file name is the manifest's.
+-- The key by which a report is sorted: the kind, then the file name, the line, and the path or second file name, as far
+-- as the fault has them. Each is compared by its octets. For kind 11 the file name is that of the manifest.
 abbrev pub key_of : Fault → List (List ℕ)
 key_of (BadLine file line cause) = (5 ∷ []) ∷ text_file file ∷ (line ∷ []) ∷ []
 key_of (ManifestNotListed tag_manifest manifest) =
@@ -76,7 +76,7 @@ key_of (FetchLength line path) = (12 ∷ []) ∷ (line ∷ []) ∷ path ∷ []
 key_of (WrongDigest manifest path) = (14 ∷ []) ∷ file_of manifest ∷ path ∷ []
 key_of fault = (number_of fault ∷ []) ∷ []
 
--- it is in the list
+-- the list contains it
 abbrev pub Has : {X : Type 0} → List X → X → Type 0
 Has [] x = ⊥
 Has (first ∷ xs) x = (first ≡ x) ⊎ Has xs x

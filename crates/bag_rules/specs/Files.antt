@@ -1,4 +1,4 @@
--- Files in memory, as their paths and octets.
+-- Files in memory, as paths with octets.
 use Rattle.std.specs.Prelude.{◌≡◌, ◌<◌, ◌≤◌, ℕ, List, Some, false, length, map, slice_get}
 use Rattle.std.specs.List.{AllByRecursion}
 use Rattle.std.specs.Map.{keys_of}
@@ -35,7 +35,7 @@ pub record AreTagFiles (files : Files) : Type 0 where
   pub rising : AreRising (keys_of files)
   pub each : AllByRecursion IsTagFile files
 
--- the path would go to place i: lesser paths before it, and greater ones from it on
+-- inserting the path at place i keeps the order: the paths before it are less, and those from i on are greater
 pub record IsGapFor (paths : List (List ℕ)) (path : List ℕ) (i : ℕ) : Type 0 where
   pub within : i ≤ length paths
   pub less_before : (j : ℕ) (other : List ℕ) → j < i → slice_get paths j ≡ Some other

@@ -1,4 +1,4 @@
--- Faults of the files, by what was read. Private functions alone cite these: what a fault is stands in HasFault.
+-- Faults of the files, in terms of what was read. Only private functions cite these; HasFault defines what a fault is.
 use Rattle.std.specs.Prelude.{◌≡◌, ◌≢◌, ◌⊎◌, ℕ, Bool, true, false, List, Option, Some, Contains, length, slice_get}
 use Rattle.std.specs.Bool.{then_some}
 use Rattle.bag_path.specs.declared.version.Version.{Version}
@@ -29,7 +29,7 @@ use Rattle.bag_rules.specs.declared.oxum_faults.PayloadSize.{PayloadSize}
 
 -- LISTED FILES
 
--- the file of one pair, where it is not there
+-- the file of one pair is missing
 abbrev pub IsPairMissing : List (List ℕ) → ManifestName → List ℕ → Fault → Type 0
 IsPairMissing paths name path fault = (¬ Contains paths path) × (fault ≡ Missing name path)
 
@@ -56,25 +56,25 @@ HasPayloadListing listings path lists =
     HasSuch listings (λ listing. (listing.kind ≡ Payload)
     × (lists_path listing.pairs path ≡ lists))
 
--- the payload manifest that is told where the path isn't listed as it has to be
+-- the payload manifest that is reported because the path isn't listed as required
 abbrev pub IsUnlistedIn : Version → List Listing → Alg → List ℕ → Type 0
 IsUnlistedIn V1 listings alg path = HasPayloadListing listings path false alg
 IsUnlistedIn V097 listings alg path = IsFirstAmong (HasPayloadListing listings path false) alg
     × ((other : Alg) → ¬ HasPayloadListing listings path true other)
 
--- an entry of `fetch.txt` for this path isn't listed as it has to be
+-- an entry of `fetch.txt` for this path isn't listed as required
 abbrev pub IsEntryUnlisted : Version → List Listing → List ℕ → Fault → Type 0
 IsEntryUnlisted version listings path fault = (alg : Alg)
     × IsUnlistedIn version listings alg path × (fault ≡ FetchNotListed alg path)
 
--- a payload file that isn't listed as it has to be
+-- a payload file isn't listed as required
 abbrev pub IsFileUnlisted : Version → List Listing → List ℕ → Fault → Type 0
 IsFileUnlisted version listings path fault = (is_payload path ≡ true) × ((alg : Alg)
     × IsUnlistedIn version listings alg path × (fault ≡ Unlisted alg path))
 
 -- FILES THAT ARE THERE
 
--- a file is read where it is a payload file, or some manifest lists it
+-- a file is read if it is a payload file or some manifest lists it
 abbrev pub IsReadBy : List Listing → List ℕ → Type 0
 IsReadBy listings path = (is_payload path ≡ true)
     ⊎ ((listing : Listing) × Has listings listing × (lists_path listing.pairs path ≡ true))
@@ -103,7 +103,7 @@ IsOtherLength path n given fault = (given.length ≢ n) × (fault ≡ FetchLengt
 abbrev pub OfSome : {X : Type 0} → List X → (X → Fault → Type 0) → Fault → Type 0
 OfSome {X} xs of fault = (x : X) × Has xs x × of x fault
 
--- the faults of a file with these octets, by what is said of it
+-- the faults of a file with these octets, by what the tag files say about it
 abbrev pub IsFaultBy : Version → List Listing → List GivenLength → List ℕ → List ℕ → Fault → Type 0
 IsFaultBy version listings lengths path octets fault =
     IsFileUnlisted version listings path fault
@@ -122,7 +122,7 @@ IsFileFault bag wants fault = (i : ℕ) ×
 
 -- THE SIZE OF THE PAYLOAD
 
--- the length of a payload file, and nothing of another
+-- the length of a payload file; `None` for another file
 abbrev pub payload_length : List ℕ → List ℕ → Option ℕ
 payload_length path octets = then_some (is_payload path) (length octets)
 
@@ -131,7 +131,7 @@ abbrev pub IsSizeOf : List (List ℕ × List ℕ) → PayloadSize → Type 0
 IsSizeOf files size = (size.octets ≡ octet_count (payload_of files))
     × (size.streams ≡ length (payload_of files))
 
--- a `Payload-Oxum` that says another size
+-- a `Payload-Oxum` that gives another size
 abbrev pub IsOtherOxum : PayloadSize → MetadataElement → Type 0
 IsOtherOxum size element = (is_oxum element ≡ true)
     × ((o : ℕ) × ((s : ℕ) × OxumText element.value o s × ((o ≢ size.octets) ⊎ (s ≢ size.streams))))

@@ -1,4 +1,4 @@
--- Faults of the form, by what was read. Private functions alone cite these: what a fault is stands in HasFault.
+-- Faults of the form, in terms of what was read. Only private functions cite these; HasFault defines what a fault is.
 use Rattle.std.specs.Prelude.{◌≡◌, ◌⊎◌, ◌≤◌, ℕ, true, false, List, length}
 use Rattle.std.specs.List.{filter}
 use Rattle.bag_digest.specs.declared.algorithm.Alg.{Alg}
@@ -18,7 +18,7 @@ IsUnlistedBy listings path fault = (alg : Alg)
     × (listing.kind ≡ Tag)
     × (lists_path listing.pairs path ≡ false) × (fault ≡ ManifestNotListed listing.alg alg))
 
--- some path among these is
+-- this is true of one of these paths
 abbrev pub IsUnlistedManifest : List (List ℕ) → List Listing → Fault → Type 0
 IsUnlistedManifest paths listings fault = (path : List ℕ) × Has paths path
     × IsUnlistedBy listings path fault
@@ -28,7 +28,7 @@ abbrev pub IsBadOxum : MetadataElement → Type 0
 IsBadOxum element = (is_oxum element ≡ true)
     × ((octets streams : ℕ) → ¬ OxumText element.value octets streams)
 
--- one among these elements is such, or two of them are `Payload-Oxum`
+-- one of these elements is such, or two of them are `Payload-Oxum`
 abbrev pub IsOxumFault : List MetadataElement → Fault → Type 0
 IsOxumFault elements fault =
     ((element : MetadataElement) × Has elements element × IsBadOxum element × (fault ≡ OxumForm))

@@ -1,4 +1,4 @@
--- What is wrong with a bag (RFC 8493 sections 2 and 3): for each fault, what it is for it to be broken.
+-- What is wrong with a bag (RFC 8493 sections 2 and 3): for each fault, when a bag has it.
 use Rattle.std.specs.Prelude.{◌≡◌, ◌≢◌, ◌⊎◌, ◌≤◌, ◌==◌, ℕ, true, false, List, Some, length}
 use Rattle.std.specs.List.{filter, list_any}
 use Rattle.bag_path.specs.declared.version.Version.{Version}
@@ -55,7 +55,7 @@ abbrev pub IsOtherPayload : Bag → ℕ → ℕ → Type 0
 IsOtherPayload bag octets streams = (octets ≢ octet_count (payload_of bag.files))
     ⊎ (streams ≢ length (payload_of bag.files))
 
--- the fault is broken in the bag
+-- the bag has the fault
 abbrev pub HasFault : Bag → Fault → Type 0
 HasFault bag NoDeclaration = ¬ IsThere bag declaration_file  -- section 2.1.1
 HasFault bag (BadDeclaration cause) = (octets : List ℕ) × Holds bag declaration_file octets
@@ -92,7 +92,7 @@ HasFault bag (WrongDigest manifest path) = (pairs : List Pair) × Lists bag mani
     × ((octets : List ℕ) × Holds bag path octets
     × (hash manifest.alg octets ≢ digest)))  -- section 3
 
--- the fault is broken, and its kind is one of these
+-- the bag has the fault, and its kind is one of these
 abbrev pub HasFaultOf : Bag → List ℕ → Fault → Type 0
 HasFaultOf bag kinds fault = HasFault bag fault
     × (list_any (λ kind. kind == number_of fault) kinds ≡ true)

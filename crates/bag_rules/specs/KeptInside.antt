@@ -1,4 +1,4 @@
--- What is kept of the tag files that were read. Private functions alone cite these.
+-- What is kept of the tag files that were read. Only private functions cite these.
 use Rattle.std.specs.Prelude.{◌≡◌, ◌≤◌, ℕ, true, List, Some, length, slice_get}
 use Rattle.bag_digest.specs.declared.algorithm.Alg.{Alg}
 use Rattle.bag_digest.specs.declared.algorithm.AlgSet.{AlgSet}
@@ -10,24 +10,24 @@ use Rattle.bag_rules.specs.declared.kept.KeptFile.{KeptFile}
 use Rattle.bag_rules.specs.declared.limits.TheConstants.{LARGEST_FILE, LARGEST_TAG_FILE}
 use Rattle.bag_rules.specs.Trees.{HasFileAt, Shown}
 
--- the length of these octets, and their digests by all the algorithms of the set, and maybe by others
+-- the length of these octets, and their digests by all algorithms of the set and possibly by others
 pub record HasSums (found : ℕ × Digests) (set : AlgSet) (octets : List ℕ) : Type 0 where
   pub taken : AlgSet
   pub count : found.0 ≡ length octets
   pub digests : AreDigests found.1 taken octets
   pub covers : (alg : Alg) → has set alg ≡ true → has taken alg ≡ true
 
--- the same, of a file within the limit
+-- the same for a file within the limit
 pub record HasSumsWithin (found : ℕ × Digests) (set : AlgSet) (octets : List ℕ) : Type 0 where
   pub sums : HasSums found set octets
   pub within : length octets ≤ LARGEST_FILE
 
--- the file at the place has this text, where it is known
+-- the file at the place has this text, if it is known
 abbrev pub IsTextAt : Shown → ℕ → List ℕ → Type 0
 IsTextAt shown place text = (path octets : List ℕ) → HasFileAt shown place path octets
     → (text ≡ octets) × (length octets ≤ LARGEST_TAG_FILE)
 
--- what is kept of a file is that of its octets, where they are known
+-- what is kept of a file belongs to its octets, if they are known
 abbrev pub IsKeptOf : Shown → AlgSet → KeptFile → Type 0
 IsKeptOf shown set file = (path octets : List ℕ) → HasFileAt shown file.place path octets
     → (file.length ≡ length octets) × AreDigests file.digests set octets

@@ -15,30 +15,30 @@ use Rattle.bag_rules.specs.Bags.{Bag, Lists, declaration_file}
 use Rattle.bag_tags.specs.Names.{text_file}
 use Rattle.bag_rules.specs.Verdicts.{NoneBelow, IsInProfile}
 
--- what says something of the bag; a failure of the tree and want of memory say nothing of it
+-- a limit that says something about the bag; a failure of the tree and `Memory` say nothing about it
 abbrev pub Stopped : (CheckFault → Type 0) → CheckFault → Type 0
 Stopped stops Tree = Unit {0}
 Stopped stops Memory = Unit {0}
 Stopped stops fault = stops fault
 
--- a tag file that is read whole: 16,777,216 octets at most
+-- a tag file that is read whole has at most 16,777,216 octets
 abbrev pub IsLongTag : List ℕ → List ℕ → CheckFault → Type 0
 IsLongTag path octets fault = (LARGEST_TAG_FILE < length octets) × (fault ≡ TagTooLarge path)
 
--- a file that is checked: 2^40 octets at most
+-- a file that is checked has at most 2^40 octets
 abbrev pub IsLongFile : List ℕ → List ℕ → CheckFault → Type 0
 IsLongFile path octets fault = (LARGEST_FILE < length octets) × (fault ≡ TooLarge path)
 
 abbrev pub DeclarationStops : List ℕ → List ℕ → CheckFault → Type 0
 DeclarationStops path octets fault = (path ≡ declaration_file) × IsLongTag path octets fault
 
--- the lines of these are counted
+-- the lines of these files are counted
 abbrev pub HasCountedLines : LineFile → Type 0
 HasCountedLines Info = ⊥
 HasCountedLines FetchList = Unit {0}
 HasCountedLines (Manifest name) = Unit {0}
 
--- a manifest or `fetch.txt`: 100,000 lines at most
+-- a manifest or `fetch.txt` has at most 100,000 lines
 abbrev pub HasManyLines : LineFile → List ℕ → CheckFault → Type 0
 HasManyLines file octets fault = HasCountedLines file × (MOST_LINES < length (lines_of octets))
     × (fault ≡ TooMany)
@@ -58,7 +58,7 @@ IsChecked bag path = (is_payload path ≡ true)
 abbrev pub FileStops : Bag → List ℕ → List ℕ → CheckFault → Type 0
 FileStops bag path octets fault = IsChecked bag path × IsLongFile path octets fault
 
--- none of the first n files, by path, stops the work
+-- none of the first n files by path stops the work
 abbrev pub NoneStopsBefore : ℕ → Bag → (List ℕ → List ℕ → CheckFault → Type 0) → Type 0
 NoneStopsBefore n bag stops = (i : ℕ) (path octets : List ℕ) (fault : CheckFault) → i < n
     → slice_get bag.files i ≡ Some (path, octets) → ¬ stops path octets fault
@@ -66,7 +66,7 @@ NoneStopsBefore n bag stops = (i : ℕ) (path octets : List ℕ) (fault : CheckF
 abbrev pub NoneStops : Bag → (List ℕ → List ℕ → CheckFault → Type 0) → Type 0
 NoneStops bag stops = NoneStopsBefore (length bag.files) bag stops
 
--- the first file, by path, that stops the work, and why
+-- the first file by path that stops the work, and why
 pub record FirstStops (bag : Bag) (stops : List ℕ → List ℕ → CheckFault → Type 0)
     (fault : CheckFault) : Type 0 where
   pub place : ℕ
@@ -76,17 +76,17 @@ pub record FirstStops (bag : Bag) (stops : List ℕ → List ℕ → CheckFault 
   pub reason : stops path octets fault
   pub first : NoneStopsBefore place bag stops
 
--- In the profile: the tag files by name, and then, where the form is right, the files by path.
+-- In the profile: the tag files by name and then, if the form is right, the files by path.
 abbrev pub ProfileStops : Bag → CheckFault → Type 0
 ProfileStops bag fault = FirstStops bag TextStops fault
     ⊎ (NoneStops bag TextStops × NoneBelow 3 bag × FirstStops bag (FileStops bag) fault)
 
--- The declaration, and then, in the profile, the rest.
+-- The declaration and then, in the profile, the rest.
 abbrev pub WorkStops : Bag → CheckFault → Type 0
 WorkStops bag fault = FirstStops bag DeclarationStops fault
     ⊎ (NoneStops bag DeclarationStops × IsInProfile bag × ProfileStops bag fault)
 
--- The number of files, 200,000 at most, and then the rest: the first limit that a check of the bag meets.
+-- The number of files, at most 200,000, and then the rest. This is the first limit that a check of the bag meets.
 abbrev pub Stops : Bag → CheckFault → Type 0
 Stops bag fault = ((MOST_FILES < length bag.files) × (fault ≡ TooMany))
     ⊎ ((length bag.files ≤ MOST_FILES) × WorkStops bag fault)

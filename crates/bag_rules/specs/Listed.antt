@@ -17,7 +17,7 @@ use Rattle.bag_rules.specs.Bags.{Bag, Lists}
 abbrev pub IsFirstAmong : (Alg → Type 0) → Alg → Type 0
 IsFirstAmong some alg = some alg × ((other : Alg) → some other → place_of alg ≤ place_of other)
 
--- The path is listed as it has to be: in version 1.0 by every payload manifest (RFC 8493 sections 2.2.3 and 3), in version
+-- The path is listed as required: in version 1.0 by every payload manifest (RFC 8493 sections 2.2.3 and 3), in version
 -- 0.97 by some payload manifest (this project's own).
 abbrev pub IsListed : Version → Bag → List ℕ → Type 0
 IsListed V1 bag path = (alg : Alg) (pairs : List Pair)
@@ -25,14 +25,14 @@ IsListed V1 bag path = (alg : Alg) (pairs : List Pair)
 IsListed V097 bag path = (alg : Alg) × (pairs : List Pair)
     × Lists bag (manifest_name Payload alg) pairs × (lists_path pairs path ≡ true)
 
--- the payload manifest is there and reads, and is the first such one by file name
+-- the payload manifest is there and can be read, and is the first such one by file name
 pub record IsFirstManifest (bag : Bag) (alg : Alg) : Type 0 where
   pub there : (pairs : List Pair) × Lists bag (manifest_name Payload alg) pairs
   pub first : (other : Alg) (pairs : List Pair) → Lists bag (manifest_name Payload other) pairs
       → slice_cmp nat_cmp (manifest_file Payload alg) (manifest_file Payload other) ≢ Greater
 
--- The payload manifest that is told where the path isn't listed as it has to be: in version 1.0 each that doesn't list it, in
--- version 0.97 the first one, where none lists it.
+-- The payload manifest that is reported because the path isn't listed as required: in version 1.0 each one that doesn't
+-- list it, in version 0.97 the first one, if none lists it.
 abbrev pub IsUnlisted : Version → Bag → Alg → List ℕ → Type 0
 IsUnlisted V1 bag alg path = (pairs : List Pair)
     × Lists bag (manifest_name Payload alg) pairs × (lists_path pairs path ≡ false)

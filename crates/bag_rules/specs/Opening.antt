@@ -1,4 +1,4 @@
--- How the tag files of a transfer open: what can't be begun is refused before any payload file comes.
+-- How transfers are opened: which tag files are refused before any payload file comes.
 use Rattle.std.specs.Prelude.{◌≡◌, ◌≢◌, ◌⊎◌, ◌<◌, ◌++◌, ◌∷◌, ℕ, List, Contains, length}
 use Rattle.std.specs.Ordering.{nat_cmp}
 use Rattle.std.specs.Cmp.Lexicographic.{slice_cmp}
@@ -26,13 +26,13 @@ use Rattle.bag_rules.specs.Listed.{IsUnlisted}
 use Rattle.bag_rules.specs.Transfers.{IsExpected, tag_bag}
 use Rattle.bag_rules.specs.Verdicts.{IsInProfile, IsOutside}
 
--- it has this, and nothing before it in the order has
+-- it is such, and nothing before it in the order is
 pub record IsFirst {X : Type 0} (compare : X → X → Ordering) (some : X → Type 0) (x : X)
     : Type 0 where
   pub has : some x
   pub first : (other : X) → some other → compare x other ≢ Greater
 
--- the same of paths, in the order of their octets
+-- the same for paths, in the order of their octets
 abbrev pub IsFirstPath : (List ℕ → Type 0) → List ℕ → Type 0
 IsFirstPath some path = IsFirst (slice_cmp nat_cmp) some path
 
@@ -46,14 +46,14 @@ HasManyLinesAt tags path = (file : LineFile) × ((octets : List ℕ) × (path �
 
 -- FAULTS THAT NO PAYLOAD FILE CAN MEND
 
--- the faults that payload files which are still to come may mend
+-- the faults that payload files which are still expected may mend
 abbrev pub MayBeMended : Fault → Type 0
 MayBeMended (Missing manifest path) = manifest.kind ≡ Payload
 MayBeMended OxumWrong = Unit {0}
 MayBeMended fault = ⊥
 
--- What keeps the bag from being valid, whichever payload files come: a fault of the bag that has no payload file yet, or a payload
--- path that a manifest lists and that isn't listed as it has to be.
+-- What keeps the bag from being valid, whichever payload files come: a fault of the bag without payload files that they
+-- can't mend, or a payload path that a manifest lists and that isn't listed as required.
 abbrev pub HasOpeningFault : Files → Fault → Type 0
 HasOpeningFault tags (Unlisted manifest path) = IsExpected tags path
     × IsUnlisted (version_of (tag_bag tags)) (tag_bag tags) manifest path
@@ -63,9 +63,9 @@ HasOpeningFault tags fault = HasFault (tag_bag tags) fault × ¬ MayBeMended fau
 abbrev pub IsFirstOpeningFault : Files → Fault → Type 0
 IsFirstOpeningFault tags fault = IsFirst order.ghosts.cmp (HasOpeningFault tags) fault
 
--- PATHS THAT CAN'T STAND BESIDE EACH OTHER
+-- PATHS THAT CLASH
 
--- the path of a tag file, or of a payload file that is to come
+-- the path of a tag file or of an expected payload file
 abbrev pub IsPathOf : Files → List ℕ → Type 0
 IsPathOf tags path = IsThere (tag_bag tags) path ⊎ IsExpected tags path
 
@@ -77,7 +77,7 @@ IsFolderOf path other = (rest : List ℕ) × (other ≡ path ++ slash ∷ rest)
 abbrev pub HasInside : List (List ℕ) → List ℕ → Type 0
 HasInside paths folder = (path : List ℕ) × Contains paths path × IsFolderOf folder path
 
--- it is one of them, and that of a folder in which another is
+-- it is one of them, and is that of a folder in which another one is
 abbrev pub IsFolderAmong : List (List ℕ) → List ℕ → Type 0
 IsFolderAmong paths path = Contains paths path × HasInside paths path
 
@@ -90,7 +90,7 @@ IsClash tags path = IsPathOf tags path
 abbrev pub FewLines : Files → Type 0
 FewLines tags = (path : List ℕ) → ¬ HasManyLinesAt tags path
 
--- the bag can be judged by more than its declaration, or already fails by that
+-- the bag can be judged by more than its declaration, or has a fault of the declaration
 abbrev pub NotOutside : Files → Type 0
 NotOutside tags = (cause : OutsideCause) → ¬ IsOutside (tag_bag tags) cause
 
@@ -104,7 +104,7 @@ pub record Opens (tags : Files) : Type 0 where
   pub no_fault : NoOpeningFault tags
   pub no_clash : (path : List ℕ) → ¬ IsClash tags path
 
--- the first reason why it can't, in this order; want of memory says nothing
+-- the first reason in this order why it can't; `Memory` says nothing
 abbrev pub Refuses : Files → PlanFault → Type 0
 Refuses tags (TagTooLarge path) = IsFirstPath (HasManyLinesAt tags) path
 Refuses tags (Outside cause) = FewLines tags × IsOutside (tag_bag tags) cause

@@ -1,4 +1,5 @@
--- What the tag files of a transfer say, as they are read. Private functions alone cite these: how they open stands in Opening.
+-- What the tag files of a transfer say, as they are read. Only private functions cite these; Opening defines how they
+-- open.
 use Rattle.std.specs.Prelude.{◌≡◌, ◌<◌, ◌==◌, ℕ, true, List, length}
 use Rattle.std.specs.List.{list_any}
 use Rattle.bag_path.specs.declared.version.Version.{Version}
@@ -18,7 +19,7 @@ use Rattle.bag_rules.specs.Opening.{HasOpeningFault}
 use Rattle.bag_rules.specs.Transfers.{tag_bag}
 use Rattle.bag_rules.specs.Verdicts.{IsInProfile}
 
--- a manifest or `fetch.txt` by its path, with more than 100,000 lines
+-- this is the path of a manifest or of `fetch.txt`, which has more than 100,000 lines
 abbrev pub HasTooManyLines : List ℕ → List ℕ → Type 0
 HasTooManyLines path octets = (file : LineFile) × (path ≡ text_file file) × HasCountedLines file
     × (MOST_LINES < length (lines_of octets))
@@ -34,7 +35,7 @@ pub record AreReadBy (version : Version) (tags : Files) : Type 0 where
   pub in_profile : IsInProfile (tag_bag tags)
   pub version_is : version_of (tag_bag tags) ≡ version
 
--- a fault of one of these kinds that no payload file can mend
+-- a fault of one of these kinds that payload files can't mend
 abbrev pub HasOpeningFaultOf : Files → List ℕ → Fault → Type 0
 HasOpeningFaultOf tags kinds fault = HasOpeningFault tags fault
     × (list_any (λ kind. kind == number_of fault) kinds ≡ true)
@@ -43,6 +44,6 @@ HasOpeningFaultOf tags kinds fault = HasOpeningFault tags fault
 abbrev pub IsTagMissing : List (List ℕ) → Listing → Fault → Type 0
 IsTagMissing paths listing fault = (listing.kind ≡ Tag) × IsMissingBy paths listing fault
 
--- the file has another digest than some manifest lists for it
+-- some manifest lists another digest for the file than it has
 abbrev pub IsWrongFile : List Listing → List ℕ × List ℕ → Fault → Type 0
 IsWrongFile listings file = OfSome listings (IsWrongIn file.0 file.1)

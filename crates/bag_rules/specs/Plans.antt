@@ -1,4 +1,4 @@
--- Plans of transfers, and what they say of each payload file.
+-- Plans of transfers, and what they say about each payload file.
 use Rattle.std.specs.Prelude.{◌≡◌, ◌⊎◌, ◌↔◌, [], ℕ, List, length, map}
 use Rattle.bag_tags.specs.declared.fetch.FetchLine.{FetchLine}
 use Rattle.bag_tags.specs.Listings.{Listing}
@@ -22,7 +22,7 @@ abbrev pub IsLengthFor : Files → List ℕ → GivenLength → Type 0
 IsLengthFor tags path given = (line : FetchLine) × HasEntry (tag_bag tags) line
     × GivesLength line path given
 
--- the path is listed, and this is what the tag files say of it
+-- the path is listed, and this is what the tag files say about it
 pub record IsWantOf (tags : Files) (path : List ℕ) (want : Want) : Type 0 where
   pub expected : IsExpected tags path
   pub path_is : want.path.now ≡ path
@@ -39,14 +39,15 @@ pub record IsPlanOf (tags : Files) (plan : Plan) : Type 0 where
   pub lengths : (path : List ℕ) (given : GivenLength) → Has (given_at plan.lengths path) given
       ↔ IsLengthFor tags path given
 
--- these are the lines of `fetch.txt`, or it isn't there
+-- these are the lines of `fetch.txt`; there are none if it isn't there
 abbrev pub AreFetchLines : Files → List FetchLine → Type 0
 AreFetchLines tags lines = ListsFetch (tag_bag tags) lines
     ⊎ ((¬ IsThere (tag_bag tags) (text_file FetchList)) × (lines ≡ []))
 
 -- the lengths of these files, by path
 abbrev pub sizes_of : Files → List ItemSize
-sizes_of items = map (λ (item : List ℕ × List ℕ). record { path = item.0; octets = length item.1 }) items
+sizes_of items =
+    map (λ (item : List ℕ × List ℕ). record { path = item.0; octets = length item.1 }) items
 
 -- their paths
 abbrev pub item_paths : List ItemSize → List (List ℕ)

@@ -1,4 +1,5 @@
--- What the reading of a bag's tag files adds to what was read, and to the faults. Private functions alone cite these, and what says of which tag files a plan is.
+-- What reading the tag files of a bag adds to what was read and to the faults. Only private functions and the
+-- definition of a plan cite these.
 use Rattle.std.specs.Prelude.{◌≡◌, ◌≢◌, ◌⊎◌, ◌↔◌, ◌++◌, ℕ, List, [], ◌∷◌, Option, Some, None, Result, Ok, Err, take}
 use Rattle.bag_path.specs.declared.version.Version.{Version}
 use Rattle.bag_tags.specs.declared.fault.LineCause.{LineCause}
@@ -22,7 +23,7 @@ use Rattle.bag_tags.specs.Names.{manifest_name, text_file}
 use Rattle.bag_rules.specs.HasFault.{IsFaultyText, line_fault}
 use Rattle.bag_rules.specs.Faults.{Has}
 
--- the new list has these faults beside those of the old one, and no others
+-- the new list has these faults in addition to those of the old one, and no others
 abbrev pub Adds : List Fault → List Fault → (Fault → Type 0) → Type 0
 Adds old new faults = (fault : Fault) → Has new fault ↔ (Has old fault ⊎ faults fault)
 
@@ -51,7 +52,7 @@ abbrev pub GivesListing : Version → ManifestName → List ℕ → Listing → 
 GivesListing version name octets listing = (name_in listing ≡ name)
     × ManifestText version listing.alg listing.kind octets listing.pairs
 
--- the text of a tag file gives its value in place of what was there, and a manifest one listing more
+-- the text of a tag file replaces the value that was there, or adds a listing if it is a manifest
 abbrev pub ReadsText : Version → LineFile → List ℕ → Texts → Texts → Type 0
 ReadsText version Info octets old new = ((elements : List MetadataElement)
     → (new.info ≡ Some elements) ↔ InfoText version octets elements)
@@ -64,7 +65,7 @@ ReadsText version (Manifest name) octets old new =
     ↔ (Has old.manifests.items listing ⊎ GivesListing version name octets listing))
     × (new.info ≡ old.info) × (new.fetch ≡ old.fetch)
 
--- a file is read where it is such a tag file; else nothing changes
+-- a file is read if it is such a tag file; otherwise nothing changes
 pub record ReadsOn (version : Version) (path octets : List ℕ) (old new : Texts) : Type 0 where
   pub reads : (file : LineFile) → path ≡ text_file file → ReadsText version file octets old new
   pub leaves : ((file : LineFile) → path ≢ text_file file) → (new.info ≡ old.info)
@@ -87,7 +88,7 @@ abbrev pub IsBadLineOf : Version → List ℕ → List ℕ → Fault → Type 0
 IsBadLineOf version path octets fault = (file : LineFile) × (path ≡ text_file file)
     × IsFirstBadLine version file octets fault
 
--- the value that was read, and the same faults; or none, and its first faulty line
+-- the value that was read, and the same faults; or no value, and a fault for its first faulty line
 abbrev pub ValueOf : {V : Type 0} → Result V TagFault → LineFile → List Fault → List Fault
     → Option V → Type 0
 ValueOf read file old new (Some value) = (read ≡ Ok value) × (new ≡ old)

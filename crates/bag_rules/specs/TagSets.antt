@@ -1,4 +1,4 @@
--- Why a tag file isn't taken.
+-- Why a tag file is refused.
 use Rattle.std.specs.Prelude.{◌≡◌, ◌<◌, ℕ, List, Some, Contains, false, length, true}
 use Rattle.std.specs.Map.{keys_of}
 use Rattle.bag_path.specs.Paths.{IsPath, is_payload, path_fault}
@@ -11,7 +11,7 @@ use Rattle.bag_rules.specs.Files.{Files}
 abbrev pub IsTagPath : List ℕ → Type 0
 IsTagPath path = IsPath path × (is_payload path ≡ false)
 
--- The first reason why the file isn't taken beside these, in this order; want of memory says nothing.
+-- The first reason in this order why the file is refused beside these; `Memory` says nothing.
 abbrev pub RefusesFile : Files → List ℕ → List ℕ → TagSetFault → Type 0
 RefusesFile files path octets (BadPath fault) = path_fault path ≡ Some fault
 RefusesFile files path octets Payload = IsPath path × (is_payload path ≡ true)

@@ -1,5 +1,5 @@
--- What a transfer is about: the tag files with which it was opened, and the payload files that it holds (this project's own;
--- the RFC speaks of bags that are there whole).
+-- The subject of a transfer: the tag files with which it was opened, and the payload files that it holds (this
+-- project's own: the RFC speaks only of bags that are there as a whole).
 use Rattle.std.specs.Prelude.{◌≡◌, ◌≢◌, ◌≤◌, ◌↔◌, ℕ, List, [], true, Contains, Some, length}
 use Rattle.std.specs.List.{fold}
 use Rattle.std.specs.Map.{keys_of}
@@ -25,10 +25,11 @@ use Rattle.bag_rules.specs.HasFault.{HasEntry}
 use Rattle.bag_rules.specs.Listed.{IsFirstAmong}
 use Rattle.bag_rules.specs.Trees.{AreRising}
 
--- with these files too, each at its place in the order of the paths
+-- these files and the others, each at its place in the order of the paths
 abbrev pub with_files : Files → Files → Files
 with_files files others =
-    fold (λ all (file : List ℕ × List ℕ). insert_entry (slice_cmp nat_cmp) all file.0 file.1) files others
+    fold (λ all (file : List ℕ × List ℕ). insert_entry (slice_cmp nat_cmp) all file.0 file.1)
+        files others
 
 -- THE BAG
 
@@ -40,7 +41,7 @@ held_bag tags items = record { files = with_files tags items; has_payload_dir = 
 abbrev pub tag_bag : Files → Bag
 tag_bag tags = held_bag tags []
 
--- WHAT IS ASKED OF A PAYLOAD FILE
+-- WHAT IS REQUIRED OF A PAYLOAD FILE
 
 -- some payload manifest of the tag files lists the path (RFC 8493 section 2.1.3)
 abbrev pub IsExpected : Files → List ℕ → Type 0
@@ -52,8 +53,9 @@ pub record AreExpected (tags : Files) (paths : List (List ℕ)) : Type 0 where
   pub rising : AreRising paths
   pub exact : (path : List ℕ) → Contains paths path ↔ IsExpected tags path
 
--- The content is taken for the path: it is listed, the content is within the limit, it has each digest that a payload
--- manifest lists for it (section 2.1.3), and each length that a line of `fetch.txt` gives for it (section 2.2.3).
+-- The content is accepted for the path: the path is listed, the content is within the limit, and it has each digest
+-- that a payload manifest lists for it (section 2.1.3) and each length that a line of `fetch.txt` gives for it (section
+-- 2.2.3).
 pub record Passes (tags : Files) (path content : List ℕ) : Type 0 where
   pub expected : IsExpected tags path
   pub within : length content ≤ LARGEST_ITEM
@@ -75,8 +77,8 @@ ListsOther tags path content alg = (pairs : List Pair)
     × Lists (tag_bag tags) (manifest_name Payload alg) pairs
     × ((digest : Digest) × (listed_digest pairs path ≡ Some digest) × (hash alg content ≢ digest))
 
--- The first reason, beside the limit, why the content isn't taken for a listed path: its length, or its digest by the first
--- algorithm by which another is listed.
+-- The first reason, apart from the limit, why the content is not accepted for a listed path: its length, or its digest
+-- by the first algorithm by which another digest is listed.
 abbrev pub IsMisfit : Files → List ℕ → List ℕ → WantFault → Type 0
 IsMisfit tags path content Length = HasOtherLength tags path content
 IsMisfit tags path content (WrongDigest alg) = (¬ HasOtherLength tags path content)

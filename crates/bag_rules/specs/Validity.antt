@@ -22,7 +22,7 @@ use Rattle.bag_rules.specs.HasFault.{SaysOxum, HasEntry}
 use Rattle.bag_rules.specs.Listed.{IsListed}
 use Rattle.bag_rules.specs.Faults.{NoneUpTo, last_of_completeness}
 
--- Section 2: what is there conforms.
+-- Section 2: what is there conforms to the format.
 pub record Conforms (bag : Bag) : Type 0 where
   pub declared : IsDeclared bag  -- section 2.1.1
   pub has_payload_dir : bag.has_payload_dir ≡ true  -- section 2.1.2
@@ -38,13 +38,12 @@ pub record Conforms (bag : Bag) : Type 0 where
       → Lists bag (manifest_name Tag tag_manifest) pairs
       → IsThere bag (manifest_file Payload manifest)
       → lists_path pairs (manifest_file Payload manifest) ≡ true
-  -- one `Payload-Oxum` at most, with the numbers of the payload's octets and files (section 2.2.2)
+  -- at most one `Payload-Oxum`, with the numbers of the payload's octets and files (section 2.2.2)
   pub one_oxum : (elements : List MetadataElement) → SaysInfo bag elements
       → length (filter is_oxum elements) ≤ 1
   pub oxum_right : (element : MetadataElement) → SaysOxum bag element
       → OxumText element.value (octet_count (payload_of bag.files)) (length (payload_of bag.files))
-  -- each file of `fetch.txt` is listed, and has the length that is given, if it is there
-  -- (section 2.2.3)
+  -- each file of `fetch.txt` is listed and, if it is there, has the length that is given (section 2.2.3)
   pub fetch_listed : (line : FetchLine) → HasEntry bag line
       → IsListed (version_of bag) bag line.entry.path
   pub fetch_lengths : (line : FetchLine) (octets : List ℕ) → HasEntry bag line
@@ -68,7 +67,7 @@ pub record IsValid (bag : Bag) : Type 0 where
       → Lists bag name pairs → listed_digest pairs path ≡ Some digest → Holds bag path octets
       → hash name.alg octets ≡ digest
 
--- In a bag that was judged, no fault means that it is valid, and none but wrong digests that it is complete.
+-- If a judged bag has no faults, it is valid. If it has no faults but wrong digests, it is complete.
 abbrev pub Means : Bag → Outcome → Type 0
 Means bag (Judged faults) = (IsValid bag ↔ (faults ≡ []))
     × (IsComplete bag ↔ NoneUpTo last_of_completeness faults)

@@ -15,31 +15,31 @@ use Rattle.bag_rules.specs.Bags.{Bag, IsThere, Declares, IsDeclared}
 use Rattle.bag_rules.specs.HasFault.{HasFault}
 use Rattle.bag_rules.specs.Faults.{Has, AreInOrder, last_of_declaration, last_of_form, number_of}
 
--- Faults come in three tiers: those of the declaration (kinds 1 and 2), of the form (3 to 8), and of the
--- files (9 to 14). A report has those of the first tier that is broken.
+-- Faults come in three tiers: those of the declaration (kinds 1 and 2), of the form (3 to 8), and of the files (9 to
+-- 14). A report has the faults of the first tier in which there are any.
 abbrev pub tier_of : Fault → ℕ
 tier_of fault =
     if nat_le (number_of fault) last_of_declaration then 1
     else if nat_le (number_of fault) last_of_form then 2 else 3
 
--- no fault of a lower tier is broken
+-- the bag has no fault of a lower tier
 abbrev pub NoneBelow : ℕ → Bag → Type 0
 NoneBelow tier bag = (fault : Fault) → tier_of fault < tier → ¬ HasFault bag fault
 
--- the bag declares a version that is known and UTF-8, and the algorithm of each manifest is known
+-- the bag declares UTF-8 and a known version, and the algorithm of each manifest is known
 pub record IsInProfile (bag : Bag) : Type 0 where
   pub declared : IsDeclared bag
   pub known : (path word : List ℕ) → IsThere bag path → ¬ IsUnknownManifest path word
 
--- The faults are those of the first tier that is broken, in order and each once. Only a bag in the profile is judged by more
--- than its declaration.
+-- The faults are those of the first tier in which the bag has any, in order and each once. Only a bag in the profile is
+-- judged by more than its declaration.
 pub record IsJudged (bag : Bag) (faults : List Fault) : Type 0 where
   pub in_order : AreInOrder faults
   pub exact : (fault : Fault) → Has faults fault
       ↔ (HasFault bag fault × NoneBelow (tier_of fault) bag)
   pub in_profile : NoneBelow 2 bag → IsInProfile bag
 
--- the algorithm of the first manifest, by file name, whose algorithm isn't known
+-- the algorithm of the first manifest by file name whose algorithm isn't known
 pub record IsFirstUnknown (bag : Bag) (word : List ℕ) : Type 0 where
   pub path : List ℕ
   pub there : IsThere bag path
@@ -47,7 +47,7 @@ pub record IsFirstUnknown (bag : Bag) (word : List ℕ) : Type 0 where
   pub first : (other other_word : List ℕ) → IsThere bag other → IsUnknownManifest other other_word
       → slice_cmp nat_cmp path other ≢ Greater
 
--- the bag has a declaration that reads, and this is the first cause for which it can't be judged
+-- the bag has a declaration that can be read, and this is the first cause for which it can't be judged
 abbrev pub IsOutside : Bag → OutsideCause → Type 0
 IsOutside bag Version = (declaration : Declaration) × Declares bag declaration
     × (version_of declaration ≡ None)

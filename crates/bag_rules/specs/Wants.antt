@@ -15,7 +15,7 @@ use Rattle.bag_rules.specs.declared.want.WantFault.TheVariants.{Length, Digest a
 use Rattle.bag_rules.specs.Faults.{Has}
 use Rattle.bag_rules.specs.Listed.{IsFirstAmong}
 
--- some of these manifests is by this algorithm, and such
+-- some manifest by this algorithm is such
 pub record HasSuch (listings : List Listing) (such : Listing → Type 0) (alg : Alg) : Type 0 where
   pub listing : Listing
   pub has : Has listings listing
@@ -28,7 +28,7 @@ lists_by listings path alg =
     list_any (λ
     (listing : Listing). is_alg listing.alg alg && lists_path listing.pairs path) listings
 
--- each length that is given is this one
+-- every length that is given is this one
 abbrev pub FitsLength : Want → ℕ → Type 0
 FitsLength want n = (given : GivenLength) → Has want.lengths.now given → given.length ≡ n
 
@@ -37,7 +37,7 @@ abbrev pub FitsListing : List ℕ → Digests → Listing → Type 0
 FitsListing path digests listing = (digest : Digest)
     → listed_digest listing.pairs path ≡ Some digest → digest_in digests listing.alg ≡ Some digest
 
--- the same of several
+-- the same for several manifests
 abbrev pub FitsListings : List ℕ → Digests → List Listing → Type 0
 FitsListings path digests listings = (listing : Listing) → Has listings listing
     → FitsListing path digests listing
@@ -54,13 +54,13 @@ abbrev pub IsWrongBy : Want → Digests → Alg → Type 0
 IsWrongBy want digests =
     HasSuch want.manifests.now (λ listing. ¬ FitsListing want.path.now digests listing)
 
--- the first reason why it isn't
+-- the first reason why it isn't the one that is wanted
 abbrev pub IsFirstMisfit : Want → ℕ → Digests → WantFault → Type 0
 IsFirstMisfit want n digests Length = ¬ FitsLength want n
 IsFirstMisfit want n digests (WrongDigest alg) = FitsLength want n
     × IsFirstAmong (IsWrongBy want digests) alg
 
--- THE SAME OF OCTETS
+-- THE SAME FOR OCTETS
 
 -- the length of these octets, and their digests by each algorithm by which the path is listed
 pub record AreSumsFor (want : Want) (octets : List ℕ) (n : ℕ) (digests : Digests) : Type 0 where
@@ -70,7 +70,7 @@ pub record AreSumsFor (want : Want) (octets : List ℕ) (n : ℕ) (digests : Dig
   pub covers : (alg : Alg) → lists_by want.manifests.now want.path.now alg ≡ true
       → has set alg ≡ true
 
--- a file of these octets is the one that is wanted
+-- a file with these octets is the one that is wanted
 pub record IsWanted (want : Want) (octets : List ℕ) : Type 0 where
   pub lengths : FitsLength want (length octets)
   pub digests : (listing : Listing) (digest : Digest) → Has want.manifests.now listing
@@ -82,7 +82,7 @@ IsOtherBy want octets = HasSuch want.manifests.now (λ listing. (digest : Digest
     × (listed_digest listing.pairs want.path.now ≡ Some digest)
     × (hash listing.alg octets ≢ digest))
 
--- the first reason why it isn't
+-- the first reason why it isn't the one that is wanted
 abbrev pub IsFirstMisfitOf : Want → List ℕ → WantFault → Type 0
 IsFirstMisfitOf want octets Length = ¬ FitsLength want (length octets)
 IsFirstMisfitOf want octets (WrongDigest alg) = FitsLength want (length octets)

@@ -1,4 +1,4 @@
--- How what the tag files say of files is kept. Private functions alone cite these, and what says of which tag files a plan is.
+-- How what the tag files say about files is kept. Only private functions and the definition of a plan cite these.
 use Rattle.std.specs.Prelude.{◌≡◌, ◌≢◌, ◌↔◌, ◌++◌, ◌∷◌, [], ℕ, false, List, Option, Some, None, Vec}
 use Rattle.std.specs.BTreeMap.{BTreeMap, get}
 use Rattle.std.specs.Ordering.{nat_cmp}
@@ -24,7 +24,7 @@ items_of (Some lengths) = lengths.items
 abbrev pub given_at : Lengths → List ℕ → List GivenLength
 given_at lengths path = items_of (get (slice_cmp nat_cmp) lengths path)
 
--- one length more for this path, and the same for others
+-- one more length for this path, and the same ones for others
 pub record AddsLength (old new : Lengths) (path : List ℕ) (given : GivenLength) : Type 0 where
   pub added : given_at new path ≡ given_at old path ++ given ∷ []
   pub others : (other : List ℕ) → other ≢ path → given_at new other ≡ given_at old other
@@ -39,7 +39,7 @@ abbrev pub AreGivenIn : List FetchLine → List ℕ → List GivenLength → Typ
 AreGivenIn lines path lengths = (given : GivenLength) → Has lengths given
     ↔ ((line : FetchLine) × Has lines line × GivesLength line path given)
 
--- these are the lengths that the lines give, by path; they give those of payload files alone
+-- these are the lengths that the lines give, by path; they are only for payload files
 pub record AreByPath (lines : List FetchLine) (lengths : Lengths) : Type 0 where
   pub given : (path : List ℕ) → AreGivenIn lines path (given_at lengths path)
   pub payload : (path : List ℕ) → is_payload path ≡ false → given_at lengths path ≡ []
@@ -50,11 +50,11 @@ pub record AreWantsOf (version : Version) (listings : List Listing) (lines : Lis
   pub manifests : wants.manifests.now ≡ listings
   pub lengths : AreByPath lines wants.lengths
 
--- lengths are given for payload files alone
+-- lengths are given only for payload files
 abbrev pub GivesPayload : Wants → Type 0
 GivesPayload wants = (path : List ℕ) → is_payload path ≡ false → given_at wants.lengths path ≡ []
 
--- the want of a path says what these manifests and lengths say of it
+-- the want of a path is what these manifests and lengths say about it
 pub record IsWantBy (listings : List Listing) (lengths : Lengths) (path : List ℕ) (want : Want)
     : Type 0 where
   pub path_is : want.path.now ≡ path

@@ -1,4 +1,4 @@
-//! What is wrong with the bag that a tree holds (RFC 8493 section 3).
+//! Checks the bag that a tree holds (RFC 8493 section 3).
 ghost use Rattle.std.specs.Prelude.{◌≡◌, ◌<◌, ◌≤◌, ◌∷◌, [], Contains, IfErr, IfOk, IsErrOf, MatchResult, length, true};
 ghost use Rattle.bag_digest.specs.Algorithm.{has};
 ghost use Rattle.bag_digest.specs.declared.algorithm.Alg.{Alg};
@@ -34,28 +34,30 @@ use std::alloc::Global;
 #[cfg(test)]
 mod tests;
 
-/// Judges a tree as a bag (RFC 8493 section 3): its faults in order, or why it can't be judged.
+/// Judges a tree as a bag (RFC 8493 section 3). Returns the faults of the bag in order, or why it can't be judged.
 ///
-/// The tree is read in this order, and the first limit or fault of the tree that is met ends the work: the number of files;
-/// `bagit.txt`; the manifests, `bag-info.txt` and `fetch.txt` by file name; and then the payload files and the listed files by
-/// path, each once. Faults of the declaration end the work, a bag that can't be judged does, and so do faults of the form.
+/// The order of work is: the number of files; `bagit.txt`; the manifests, `bag-info.txt` and `fetch.txt` by file name;
+/// then the payload files and the listed files by path, each read once. The first limit that is exceeded and the first
+/// failure of the tree end the work. So do faults of the declaration, a bag that can't be judged, and faults of the
+/// form.
 ///
 /// # Errors
 ///
-/// `TooMany`: more than 200,000 files, or more than 100,000 lines in a manifest or in `fetch.txt`. `TagTooLarge`: a tag file that is
-/// read line by line has more than 16,777,216 octets. `TooLarge`: a payload file or a listed file has more than 2^40. `Tree`: a call of
-/// the tree failed, and it counted that. `Memory`.
+/// `TooMany`: there are more than 200,000 files, or more than 100,000 lines in a manifest or in `fetch.txt`.
+/// `TagTooLarge`: `bagit.txt`, or a tag file that is read line by line, has more than 16,777,216 octets. `TooLarge`: a
+/// payload file or a listed file has more than 2^40 octets. `Tree`: a call of the tree failed, and the tree has counted
+/// it. `Memory`: memory ran out.
 pub fn check<T: Tree>(alloc: Global, tree: &mut T) -> Result<Outcome, CheckFault>
-    // What is answered of a bag is the verdict on it.
+    // What is returned for a bag is the verdict on it.
     ensures verdict { (bag : Bag) → IsBagOf (T.shown tree.old) bag → IfOk result (IsVerdict bag) }
-    // A report without faults is that of a valid bag, and one with none but wrong digests that of a complete one.
+    // A report without faults means a valid bag, and one with no faults but wrong digests a complete bag.
     ensures meaning { (bag : Bag) → IsBagOf (T.shown tree.old) bag → IfOk result (Means bag) }
-    // A limit is answered exactly where it is the first that is met.
+    // A limit is returned exactly if it is the first one that the check meets.
     ensures limits { (bag : Bag) → IsBagOf (T.shown tree.old) bag → MatchResult result
         (λ outcome. (fault : CheckFault) → ¬ Stops bag fault) (Stopped (Stops bag)) }
     ensures tree { UsesTree T.shown T.failures T.sure tree.old tree.new
         (IsErrOf result CheckFault.Tree) }
-    // What needs no known octets: too many files, and no declaration.
+    // Two cases in which the octets need not be known: there are too many files, or there is no declaration.
     ensures too_many { MOST_FILES < length (paths_in (T.shown tree.old))
         → IsErrOf result CheckFault.TooMany }
     ensures undeclared { length (paths_in (T.shown tree.old)) ≤ MOST_FILES
@@ -87,7 +89,7 @@ fn judged_by_one(alloc: Global, fault: Fault) -> Result<Outcome, CheckFault>
     Ok(Outcome::Judged(Report::new(faults)))
 }
 
-/// The form of a bag in the profile, and then its files, where the form is right.
+/// Checks the form of a bag in the profile and then, if the form is right, its files.
 fn check_in_profile<T: Tree>(
     alloc: Global,
     buffer: &mut [u8],
@@ -114,7 +116,7 @@ fn check_in_profile<T: Tree>(
     Ok(Outcome::Judged(Report::new(faults)))
 }
 
-/// The algorithms of the tag manifests that are there: a tag file may be listed by these.
+/// The algorithms of the tag manifests that are there. Any of them may list a tag file.
 fn tag_algorithms<T: Paths>(tree: &T) -> AlgSet
     ensures { (alg : Alg) → Contains (paths_in (T.shown tree.now)) (manifest_file Tag alg)
         → has result alg ≡ true }

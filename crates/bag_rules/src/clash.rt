@@ -1,4 +1,4 @@
-//! Paths of which one is that of a folder in which another is. Both can't be there.
+//! Clashes of paths: one path is that of a folder in which another one is, so both files can't exist.
 ghost use Rattle.std.specs.Prelude.{◌≡◌, ◌++◌, ◌↔◌, IfOk, IsTrue, MatchOption, ℕ, List};
 ghost use Rattle.std.specs.Cmp.Lexicographic.{slice_cmp};
 ghost use Rattle.std.specs.List.Sorted.{IsSorted};
@@ -17,7 +17,8 @@ use std::cmp::Ordering;
 #[cfg(test)]
 mod tests;
 
-/// The first path, of the tag files and of the payload files that are to come, that is that of a folder in which another of them is.
+/// The first clash among the paths of the tag files and of the expected payload files: a path that is that of a folder
+/// in which another of them is.
 pub(crate) fn first_clash(
     alloc: Global,
     tags: &TagSet,
@@ -30,7 +31,7 @@ pub(crate) fn first_clash(
     first_folder(paths_with(alloc, tags.files(), expected)?)
 }
 
-/// The paths of the files, and these.
+/// The paths of the files, followed by these.
 fn paths_with(alloc: Global, files: &[File], others: &[BagPath]) -> Result<Vec<BagPath>, AllocError>
     ensures { IfOk result (λ paths. paths.items ≡ paths_of files.now ++ others.now) }
 {
@@ -42,11 +43,11 @@ fn paths_with(alloc: Global, files: &[File], others: &[BagPath]) -> Result<Vec<B
     Ok(paths)
 }
 
-/// The first of these paths that is that of a folder in which another of them is: both can't be there.
+/// The first of these paths that is that of a folder in which another of them is. Both files can't exist.
 ///
 /// # Errors
 ///
-/// `AllocError` where memory runs out.
+/// `AllocError` if memory runs out.
 pub fn first_folder(mut paths: Vec<BagPath>) -> Result<Option<BagPath>, AllocError>
     ensures { IfOk result (λ found. MatchOption found
         ((path : List ℕ) → ¬ IsFolderAmong paths.items path)
@@ -61,7 +62,7 @@ pub fn first_folder(mut paths: Vec<BagPath>) -> Result<Option<BagPath>, AllocErr
     Ok(None)
 }
 
-/// Whether one of the paths, which are in order, is in the folder with this one: by halves.
+/// Whether one of the paths, which are in order, is in the folder with this path. This is a binary search.
 fn has_inside(paths: &[BagPath], folder: &BagPath) -> bool
     requires { IsSorted (slice_cmp nat_cmp) paths.now }
     ensures { IsTrue result ↔ HasInside paths.now folder.now }
@@ -72,9 +73,9 @@ fn has_inside(paths: &[BagPath], folder: &BagPath) -> bool
         .is_ok()
 }
 
-/// Where the path stands beside those in the folder: before them, among them, or after them.
+/// The place of a path relative to those in the folder: before them, among them, or after them.
 ///
-/// What follows a folder isn't what is in it: `k.txt` stands between `k` and `k/x`.
+/// The paths in a folder don't follow its own path directly: `k.txt` is between `k` and `k/x`.
 fn beside_folder(folder: &[u8], path: &[u8]) -> Ordering
     ensures { result ≡ beside_folder folder.now path.now }
 {

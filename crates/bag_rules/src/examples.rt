@@ -1,4 +1,4 @@
-//! Telling cases of the definitions, worked out: each function's contract is one, and its body is empty.
+//! Worked examples of the definitions. The contract of each function states one, and its body is empty.
 ghost use Rattle.std.specs.Prelude.{◌≡◌, true, false, [], ◌∷◌, ◌++◌, codes};
 ghost use Rattle.bag_path.specs.Octets.{cr, lf};
 ghost use Rattle.bag_path.specs.declared.version.Version.TheVariants.{V1, V097};
@@ -18,7 +18,8 @@ ghost use Rattle.bag_rules.specs.Transfers.{IsExpected, IsMisfit, Passes};
 ghost use Rattle.bag_rules.specs.Validity.{IsComplete, IsValid};
 ghost use Rattle.bag_rules.specs.Verdicts.{IsJudged, IsOutside};
 
-/// The least bag: a declaration, a payload manifest that lists nothing, and an empty payload directory (RFC 8493 section 2.1).
+/// The smallest bag: a declaration, a payload manifest that lists nothing, and an empty payload directory (RFC 8493
+/// section 2.1).
 pub fn the_least_bag_is_valid()
     ensures { let declaration = codes "BagIt-Version: 1.0" ++ lf
         ∷ codes "Tag-File-Character-Encoding: UTF-8" ++ lf ∷ [] in
@@ -30,7 +31,7 @@ pub fn the_least_bag_is_valid()
         IsValid bag × IsJudged bag [] }
 {}
 
-/// The same files without the payload directory have that one fault (RFC 8493 section 2.1.2).
+/// The same files without the payload directory have this one fault (RFC 8493 section 2.1.2).
 pub fn the_least_bag_needs_its_payload_directory()
     ensures { let declaration = codes "BagIt-Version: 1.0" ++ lf
         ∷ codes "Tag-File-Character-Encoding: UTF-8" ++ lf ∷ [] in
@@ -42,7 +43,7 @@ pub fn the_least_bag_needs_its_payload_directory()
         IsJudged bag (NoPayloadDir ∷ []) }
 {}
 
-/// A payload file that the manifest lists with its SHA-256 (RFC 8493 section 3).
+/// A bag is valid if its manifest lists its payload file with its SHA-256 (RFC 8493 section 3).
 pub fn a_bag_with_one_payload_file_is_valid()
     ensures { let manifest = manifest_of_abc in
         let bag : Bag = record {
@@ -54,7 +55,7 @@ pub fn a_bag_with_one_payload_file_is_valid()
         IsValid bag × IsJudged bag [] }
 {}
 
-/// With one octet of the payload changed, the bag is complete and not valid (RFC 8493 section 3).
+/// If one octet of the payload is changed, the bag is complete but not valid (RFC 8493 section 3).
 pub fn a_changed_payload_file_has_a_wrong_digest()
     ensures { let manifest = manifest_of_abc in
         let bag : Bag = record {
@@ -78,7 +79,7 @@ pub fn a_payload_file_that_is_not_listed_is_a_fault()
         (¬ IsComplete bag) × IsJudged bag (Unlisted Sha256 (codes "data/a.txt") ∷ []) }
 {}
 
-/// And so does a listed file that isn't there (RFC 8493 section 3).
+/// A listed file that isn't there makes the bag incomplete too (RFC 8493 section 3).
 pub fn a_listed_file_that_is_not_there_is_a_fault()
     ensures { let manifest = manifest_of_abc in
         let bag : Bag = record {
@@ -90,13 +91,13 @@ pub fn a_listed_file_that_is_not_there_is_a_fault()
         (Missing (manifest_name Payload Sha256) (codes "data/a.txt") ∷ []) }
 {}
 
-/// Of a bag with no files and no payload directory only the first tier's fault is reported.
+/// For a bag with no files and no payload directory only the fault of the declaration is reported.
 pub fn no_files_have_no_declaration()
     ensures { let bag : Bag = record { files = []; has_payload_dir = false } in
         IsJudged bag (NoDeclaration ∷ []) }
 {}
 
-/// A bag of another version is not judged, whatever else holds of it.
+/// A bag of another version is not judged, whatever else is wrong with it.
 pub fn an_earlier_version_is_outside()
     ensures { let declaration = codes "BagIt-Version: 0.96" ++ cr ∷ lf
         ∷ codes "Tag-File-Character-Encoding: ISO-8859-1" in
@@ -108,8 +109,8 @@ pub fn an_earlier_version_is_outside()
         IsOutside bag outside.Version }
 {}
 
-/// A bag that declares version 0.97 is read by it, and its payload file has to be listed in some payload manifest: of these two
-/// the second lists it. By the rules of version 1.0 the first would be told.
+/// A bag that declares version 0.97 is read by that version, in which its payload file has to be listed in some payload
+/// manifest. Of these two manifests the second lists it. By the rules of version 1.0 the first one would be reported.
 pub fn in_version_0_97_some_manifest_lists_a_payload_file()
     ensures { let bag = bag_of_0_97 manifest_of_abc in
         let path = codes "data/a.txt" in
@@ -117,7 +118,8 @@ pub fn in_version_0_97_some_manifest_lists_a_payload_file()
         × IsUnlisted V1 bag Md5 path × ((alg : Alg) → ¬ HasFault bag (Unlisted alg path)) }
 {}
 
-/// Where no payload manifest lists it, the first one is told, and no other; and so it is with a path of `fetch.txt`.
+/// If no payload manifest lists the file, the first manifest is reported and no other. The same is true of a path in
+/// `fetch.txt`.
 pub fn in_version_0_97_the_first_manifest_is_told_of_an_unlisted_file()
     ensures { let bag = bag_of_0_97 [] in
         let unlisted = Unlisted Md5 (codes "data/a.txt") in
@@ -127,13 +129,14 @@ pub fn in_version_0_97_the_first_manifest_is_told_of_an_unlisted_file()
         × (HasFault bag (FetchNotListed alg (codes "data/z")) → alg ≡ Md5)) }
 {}
 
-/// What the manifest of a transfer lists with its digest passes, whether a length is given or not.
+/// Content with the digest that the manifest of a transfer lists passes, whether or not a length is given.
 pub fn what_is_listed_passes()
     ensures { Passes tags_of_two file_a (codes "abc") × Passes tags_of_two file_e []
         × Passes tags_with_fetch file_a (codes "abc") × Passes tags_with_fetch file_e [] }
 {}
 
-/// Another length than that of `fetch.txt` is told before another digest, and no file is expected that isn't listed.
+/// If the length differs from that in `fetch.txt`, this is reported before a digest that differs. A file that isn't
+/// listed is not expected.
 pub fn what_is_not_listed_does_not_pass()
     ensures { IsMisfit tags_with_fetch file_a (codes "abcd") wanted.Length
         × IsMisfit tags_with_fetch file_a (codes "abd") (wanted.Digest Sha256)

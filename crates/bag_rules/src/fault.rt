@@ -3,7 +3,7 @@ use bag_digest::Alg;
 use bag_path::BagPath;
 use bag_tags::{DeclFault, LineCause, LineFile, ManifestName};
 
-/// What is wrong with a bag, in the order in which a report gives it: by kind of fault, then by file, line and path.
+/// What is wrong with a bag. A report gives faults in this order: by kind of fault, then by file, line and path.
 #[derive(Debug, PartialEq, Eq, PartialOrd, Ord, Drop)]
 pub enum Fault {
     /// There is no `bagit.txt` (RFC 8493 section 2.1.1).
@@ -14,8 +14,8 @@ pub enum Fault {
     NoPayloadDir,
     /// There is no payload manifest (section 2.1.3).
     NoManifest,
-    /// A line of a manifest, of `bag-info.txt` or of `fetch.txt` can't be read: the first such line of the file, counted
-    /// from 1.
+    /// A line of a manifest, of `bag-info.txt` or of `fetch.txt` can't be read. This is the first such line of the
+    /// file, counted from 1.
     BadLine {
         file: LineFile,
         line: u64,
@@ -28,33 +28,33 @@ pub enum Fault {
     },
     /// A `Payload-Oxum` is not two numbers joined by a dot (section 2.2.2).
     OxumForm,
-    /// `Payload-Oxum` stands more than once.
+    /// There is more than one `Payload-Oxum`.
     OxumTwice,
     /// A file that a manifest lists is not there (section 3).
     Missing {
         manifest: ManifestName,
         path: BagPath,
     },
-    /// A payload file is not listed in this payload manifest (section 3); in version 0.97 in none, of which this is the first by
-    /// file name.
+    /// A payload file is not listed in this payload manifest (section 3). In version 0.97 it is listed in none, and
+    /// this is the first one by file name.
     Unlisted {
         manifest: Alg,
         path: BagPath,
     },
-    /// A path of `fetch.txt` is not listed in this payload manifest (section 2.2.3); in version 0.97 in none, of which this is the
-    /// first by file name.
+    /// A path of `fetch.txt` is not listed in this payload manifest (section 2.2.3). In version 0.97 it is listed in
+    /// none, and this is the first one by file name.
     FetchNotListed {
         manifest: Alg,
         path: BagPath,
     },
-    /// A file has another length than a line of `fetch.txt`, counted from 1, gives it (section 2.2.3).
+    /// The length of a file differs from the one that this line of `fetch.txt`, counted from 1, gives (section 2.2.3).
     FetchLength {
         line: u64,
         path: BagPath,
     },
-    /// The payload has another number of octets or of files than `Payload-Oxum` says (section 2.2.2).
+    /// The number of octets or of files in the payload differs from `Payload-Oxum` (section 2.2.2).
     OxumWrong,
-    /// A file has another digest than a manifest gives it (section 3).
+    /// The digest of a file differs from the one that this manifest lists (section 3).
     WrongDigest {
         manifest: ManifestName,
         path: BagPath,
@@ -65,8 +65,8 @@ impl Fault {
     ghost use Rattle.std.specs.Prelude.{◌≡◌};
     ghost use Rattle.bag_rules.specs.Faults.{number_of};
 
-    /// The number of the kind of fault, from 1 to 14: 1 and 2 are the declaration's, 3 to 8 the form's and 9 to 14 the files'.
-    /// A bag with one up to 13 is not complete; 14 is a wrong digest.
+    /// The number of the kind of fault, from 1 to 14. Kinds 1 and 2 are faults of the declaration, 3 to 8 of the form
+    /// and 9 to 14 of the files. A bag with a fault of kind 1 to 13 is not complete. Kind 14 is a wrong digest.
     pub fn number(&self) -> u8
         ensures { result ≡ number_of self.now }
     {

@@ -9,7 +9,7 @@ ghost use Rattle.bag_rules.specs.Trees.{AreRising};
 use bag_path::BagPath;
 use std::alloc::AllocError;
 
-/// A file by its path.
+/// A file with its path.
 #[derive(Drop, PartialEq, Eq)]
 pub struct File {
     pub(crate) path: BagPath,
@@ -44,7 +44,7 @@ impl Clone for File {
     }
 }
 
-/// Where the path is among files in order, or where it would go.
+/// The place of the path among files in order, or the place where it would be inserted.
 pub(crate) fn search(files: &[File], path: &str) -> Result<usize, usize>
     requires { AreRising (paths_of files.now) }
     ensures found { IfOk result (λ i. slice_get (paths_of files.now) i ≡ Some path.now) }

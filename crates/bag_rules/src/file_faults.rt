@@ -1,4 +1,4 @@
-//! The files of a bag against what its tag files list (RFC 8493 section 3).
+//! Compares the files of a bag with what its tag files list (RFC 8493 section 3).
 ghost use Rattle.std.specs.Prelude.{true, ◌≡◌, ◌<◌, ℕ, List, IfOk, IfErr, IsErrOf, MatchResult, OnOk, length};
 ghost use Rattle.bag_digest.specs.Algorithm.{has};
 ghost use Rattle.bag_digest.specs.declared.algorithm.Alg.{Alg};
@@ -31,7 +31,7 @@ use bag_path::{BagPath, Version};
 use bag_tags::Manifest;
 use std::alloc::Global;
 
-/// Adds what is wrong with the files of a bag of the right form, each of which is read once.
+/// Adds what is wrong with the files of a bag whose form is right. Each file is read once.
 pub(crate) fn add_file_faults<T: Tree>(
     alloc: Global,
     buffer: &mut [u8],
@@ -60,7 +60,8 @@ pub(crate) fn add_file_faults<T: Tree>(
     add_wrong_oxum(texts, size, faults)
 }
 
-/// Reads the payload files and the listed files by path, and adds what is wrong with each. Answers the size of the payload.
+/// Reads the payload files and the listed files by path, and adds what is wrong with each. Returns the size of the
+/// payload.
 fn read_files<T: Tree>(
     buffer: &mut [u8],
     tree: &mut T,
@@ -92,8 +93,8 @@ fn read_files<T: Tree>(
     Ok(size)
 }
 
-/// Reads one file, if it is a payload file or is listed, and adds what is wrong with it. Answers the length of a payload file
-/// in octets.
+/// Reads one file if it is a payload file or is listed, and adds what is wrong with it. Returns the length of a payload
+/// file in octets.
 fn read_file<T: Tree>(
     buffer: &mut [u8],
     tree: &mut T,
@@ -126,8 +127,8 @@ fn read_file<T: Tree>(
     Ok(path.is_payload().then_some(sums.0))
 }
 
-/// The length of a file in octets, and its digests by the algorithms of the set: those that were kept, or else those of what is
-/// read now.
+/// The length of a file in octets, and its digests by the algorithms of the set. They are taken from what was kept, or
+/// from the file, which is then read.
 fn sums_of<T: Tree>(
     buffer: &mut [u8],
     tree: &mut T,
@@ -150,7 +151,7 @@ fn sums_of<T: Tree>(
     }
 }
 
-/// The length of a file in octets, and its digests by the algorithms of the set.
+/// Reads a file for its length in octets and its digests by the algorithms of the set.
 fn digests_of<T: Tree>(
     buffer: &mut [u8],
     tree: &mut T,
@@ -197,7 +198,7 @@ fn add_faults_of(
     add_other_digests(want, digests, faults)
 }
 
-/// Adds the payload manifests that are told where the file isn't listed as it has to be, if it is a payload file.
+/// Adds a fault for each payload manifest that is reported because it doesn't list this file, if it is a payload file.
 pub(crate) fn add_unlisted(
     version: Version,
     manifests: &[Manifest],
@@ -221,7 +222,7 @@ pub(crate) fn add_unlisted(
     Ok(())
 }
 
-/// Adds the lines of `fetch.txt` that give the file another length.
+/// Adds a fault for each line of `fetch.txt` that gives the file another length.
 fn add_other_lengths(want: &Want<'_>, found: u64, faults: &mut Vec<Fault>) -> Result<(), CheckFault>
     ensures added { OnOk result (Adds faults.old.items faults.new.items
         (OfSome want.now.lengths.now (IsOtherLength want.now.path.now found))) }
@@ -237,7 +238,7 @@ fn add_other_lengths(want: &Want<'_>, found: u64, faults: &mut Vec<Fault>) -> Re
     Ok(())
 }
 
-/// Adds the manifests that list another digest for the file.
+/// Adds a fault for each manifest that lists another digest for the file.
 pub(crate) fn add_other_digests(
     want: &Want<'_>,
     digests: &Digests,

@@ -1,4 +1,4 @@
-//! The form of a bag, beside the lines of its tag files (RFC 8493 section 2).
+//! Checks the form of a bag, except for the lines of its tag files (RFC 8493 section 2).
 ghost use Rattle.std.specs.Prelude.{◌≡◌, ◌<◌, ◌↔◌, ◌∷◌, [], IfErr, IsTrue, OnOk, Contains, length};
 ghost use Rattle.bag_digest.specs.declared.algorithm.Alg.{Alg};
 ghost use Rattle.bag_tags.specs.declared.listing.Kind.TheVariants.{Payload};
@@ -17,7 +17,7 @@ use crate::tree::Paths;
 use bag_path::BagPath;
 use bag_tags::{Element, Kind, Manifest, Oxum, TagName};
 
-/// Adds what is wrong with the form of a bag whose tag files were read, beside their lines.
+/// Adds what is wrong with the form of a bag whose tag files were read, except for their lines.
 pub(crate) fn add_form_faults<T: Paths>(
     tree: &T,
     texts: &Texts,
@@ -38,7 +38,7 @@ pub(crate) fn add_form_faults<T: Paths>(
     add_oxum_faults(texts, faults)
 }
 
-/// Whether some payload manifest is there.
+/// Whether there is a payload manifest.
 fn has_payload_manifest<T: Paths>(tree: &T) -> bool
     ensures { IsTrue result ↔ ((alg : Alg)
         × Contains (paths_in (T.shown tree.now)) (manifest_file Payload alg)) }
@@ -51,7 +51,7 @@ fn has_payload_manifest<T: Paths>(tree: &T) -> bool
     false
 }
 
-/// Adds the payload manifests that a tag manifest doesn't list.
+/// Adds a fault for each payload manifest that a tag manifest doesn't list.
 fn add_unlisted_manifests<T: Paths>(
     tree: &T,
     manifests: &[Manifest],
@@ -67,7 +67,7 @@ fn add_unlisted_manifests<T: Paths>(
     Ok(())
 }
 
-/// Adds the tag manifests that don't list this file, if it is a payload manifest.
+/// Adds a fault for each tag manifest that doesn't list this file, if it is a payload manifest.
 fn add_unlisted_by(
     path: &BagPath,
     manifests: &[Manifest],

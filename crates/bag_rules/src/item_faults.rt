@@ -1,4 +1,4 @@
-//! What the payload files that a transfer holds leave wrong with its bag.
+//! Finds what is wrong with the bag of a transfer because of the payload files that it holds.
 ghost use Rattle.std.specs.Prelude.{◌≡◌, ◌↔◌, Contains, IsTrue, OnOk, length};
 ghost use Rattle.std.specs.List.{sum_by};
 ghost use Rattle.bag_rules.specs.Faults.{kinds_of_files};
@@ -20,8 +20,8 @@ use crate::tag_files::Texts;
 use bag_path::BagPath;
 use bag_tags::{Kind, Manifest, ManifestName, Pair};
 
-/// Adds what is wrong with the bag of a transfer that could be opened, and that holds payload files of these sizes, by path: files
-/// that are still to come, and the size of the payload.
+/// Adds the faults of the bag of a transfer that could be opened and holds payload files of these sizes, by path. These
+/// can only be missing files and the size of the payload.
 pub(crate) fn add_item_faults(
     texts: &Texts,
     sizes: &[ItemSize],
@@ -36,7 +36,7 @@ pub(crate) fn add_item_faults(
     add_wrong_oxum(texts, payload_size(sizes), faults)
 }
 
-/// Adds the payload files that the payload manifests list and that are not there.
+/// Adds a fault for each file that a payload manifest lists and that is not there.
 fn add_missing_items(
     manifests: &[Manifest],
     sizes: &[ItemSize],
@@ -53,7 +53,7 @@ fn add_missing_items(
     Ok(())
 }
 
-/// Adds the files that a manifest lists and that are not there.
+/// Adds a fault for each file that this manifest lists and that is not there.
 fn add_missing_by(
     manifest: &Manifest,
     sizes: &[ItemSize],
@@ -69,7 +69,7 @@ fn add_missing_by(
     Ok(())
 }
 
-/// Adds the file of one pair, if it is not there.
+/// Adds a fault for the file of one pair if it is not there.
 fn add_missing_pair(
     manifest: ManifestName,
     pair: &Pair,
@@ -86,7 +86,7 @@ fn add_missing_pair(
     Ok(())
 }
 
-/// Whether a file with this path is among these, which stand in the order of their paths.
+/// Whether one of these files, which are in the order of their paths, has this path.
 fn is_held(sizes: &[ItemSize], path: &BagPath) -> bool
     ensures { AreRising (item_paths sizes.now)
         → IsTrue result ↔ Contains (item_paths sizes.now) path.now }
@@ -94,7 +94,7 @@ fn is_held(sizes: &[ItemSize], path: &BagPath) -> bool
     sizes.binary_search_by(|size| size.path.cmp(path)).is_ok()
 }
 
-/// How many octets these files have together, and how many they are.
+/// How many octets these files have in total, and how many files there are.
 fn payload_size(sizes: &[ItemSize]) -> PayloadSize
     ensures octets { result.octets ≡ sum_by (λ (size : ItemSize). size.octets) sizes.now }
     ensures streams { result.streams ≡ length sizes.now }

@@ -1,4 +1,4 @@
-//! What is kept of the tag files that were read as text.
+//! Keeps the lengths and digests of the tag files that were read as text.
 ghost use Rattle.std.specs.Prelude.{◌≡◌, ℕ, List, IfErr, IfSome, IsTrue, OnOk, true};
 ghost use Rattle.bag_digest.specs.Algorithm.{has};
 ghost use Rattle.bag_digest.specs.declared.algorithm.Alg.{Alg};
@@ -10,8 +10,8 @@ use crate::outcome::CheckFault;
 use bag_digest::{Alg, AlgSet, Digests, Multi};
 use std::alloc::Global;
 
-/// The lengths and digests of the tag files that were read as text, by their places: eleven files at most. So what was
-/// read is what is verified, and none of them is read again.
+/// The lengths and digests of the tag files that were read as text, by their places. There are at most eleven such
+/// files. They are not read again, so what is verified is what was read as text.
 #[derive(Drop)]
 pub(crate) struct Kept {
     set: AlgSet,
@@ -27,7 +27,7 @@ struct KeptFile {
 }
 
 impl Kept {
-    /// Nothing yet; the digests will be those of this set.
+    /// Keeps nothing yet. The digests will be by the algorithms of this set.
     pub(crate) fn new(alloc: Global, set: AlgSet) -> Kept
         ensures { (shown : Shown) → AreKept shown result }
     {
@@ -54,7 +54,7 @@ impl Kept {
         Ok(())
     }
 
-    /// The length of the file at this place, and its digests by the algorithms of the set, where they were kept.
+    /// The length of the file at this place and its digests by the algorithms of the set, if they were kept.
     pub(crate) fn find(&self, place: usize, set: AlgSet) -> Option<(u64, Digests)>
         ensures { (shown : Shown) (path octets : List ℕ) → AreKept shown self.now
             → HasFileAt shown place path octets
@@ -72,7 +72,7 @@ impl Kept {
     }
 }
 
-/// Whether the first set has each algorithm of the second.
+/// Whether the first set contains every algorithm of the second.
 fn covers(all: AlgSet, part: AlgSet) -> bool
     ensures { IsTrue result → (alg : Alg) → has part alg ≡ true → has all alg ≡ true }
 {
@@ -82,7 +82,7 @@ fn covers(all: AlgSet, part: AlgSet) -> bool
         && has_if(all, part, Alg::Sha512)
 }
 
-/// Whether the first set has the algorithm, if the second has it.
+/// Whether the first set contains the algorithm if the second does.
 fn has_if(all: AlgSet, part: AlgSet, alg: Alg) -> bool
     ensures { IsTrue result → has part alg ≡ true → has all alg ≡ true }
 {

@@ -1,4 +1,5 @@
-//! Laws on the definitions that the contracts of this crate cite. Each function's contract is one law, and its body is empty.
+//! Laws about the definitions that the contracts of this crate cite. The contract of each function states one law, and
+//! its body is empty.
 ghost use Rattle.std.specs.Prelude.{◌≡◌, ◌≢◌, ◌≤◌, ◌↔◌, ◌^◌, ℕ, List, [], length};
 ghost use Rattle.std.specs.Ordering.{nat_cmp};
 ghost use Rattle.std.specs.Cmp.Lexicographic.{slice_cmp};
@@ -26,42 +27,43 @@ ghost use Rattle.bag_rules.specs.Validity.{IsComplete, IsValid};
 ghost use Rattle.bag_rules.specs.Verdicts.{IsJudged, IsVerdict};
 ghost use Rattle.bag_rules.specs.Wants.{IsFirstMisfitOf, IsWanted};
 
-/// A bag that is judged is valid exactly if it has no fault.
+/// A bag that is judged is valid exactly if it has no faults.
 pub fn a_judged_bag_is_valid_exactly_if_it_has_no_fault()
     ensures { (bag : Bag) (faults : List Fault) → AreRising (paths_of bag) → IsJudged bag faults
         → IsValid bag ↔ (faults ≡ []) }
 {}
 
-/// A bag that is judged is complete exactly if it has no fault but wrong digests.
+/// A bag that is judged is complete exactly if it has no faults but wrong digests.
 pub fn a_judged_bag_is_complete_exactly_if_only_digests_are_wrong()
     ensures { (bag : Bag) (faults : List Fault) → AreRising (paths_of bag) → IsJudged bag faults
         → IsComplete bag ↔ NoneUpTo last_of_completeness faults }
 {}
 
-/// A bag has one verdict at most.
+/// A bag has at most one verdict.
 pub fn a_bag_has_one_verdict_at_most()
     ensures { (bag : Bag) (a b : Outcome) → AreRising (paths_of bag) → IsVerdict bag a
         → IsVerdict bag b → SameVerdict a b }
 {}
 
-/// Two bags that hold the same files are the same: whatever the order in which its files were given, a bag has one verdict.
+/// Bags that hold the same files are the same. So the verdict on a bag doesn't depend on the order in which its files
+/// were given.
 pub fn the_same_files_are_the_same_bag()
     ensures { (a b : Bag) → AreRising (paths_of a) → AreRising (paths_of b)
         → ((path octets : List ℕ) → Holds a path octets ↔ Holds b path octets)
         → a.has_payload_dir ≡ b.has_payload_dir → a ≡ b }
 {}
 
-/// A check of a bag meets one limit first at most.
+/// At most one limit is the first one that the check of a bag meets.
 pub fn a_bag_meets_one_limit_first_at_most()
     ensures { (bag : Bag) (a b : CheckFault) → Stops bag a → Stops bag b → a ≡ b }
 {}
 
-/// A tree in memory is that of the bag of its files.
+/// A tree in memory shows the bag of its files.
 pub fn a_tree_in_memory_is_that_of_a_bag()
     ensures { (tree : MemFiles) → IsBagOf (mem_shown tree) (bag_in tree) }
 {}
 
-/// The faults of a report stand by kind, then by file name, then by line, path or second file name.
+/// The faults of a report are in order of kind, then of file name, then of line, path or second file name.
 pub fn the_order_of_faults_is_by_kind_file_line_and_path()
     ensures { (fault other : Fault) → order.ghosts.cmp fault other ≡ Less
         → slice_cmp (slice_cmp nat_cmp) (key_of fault) (key_of other) ≢ Greater }
@@ -73,21 +75,21 @@ pub fn what_is_wanted_and_within_the_limit_passes()
         → Passes tags path content ↔ ((length content ≤ LARGEST_ITEM) × IsWanted want content) }
 {}
 
-/// And where it isn't what they want, the first reason by the want is that by the tag files.
+/// If it isn't what they want, the first reason by the want is also the first by the tag files.
 pub fn what_is_not_wanted_is_a_misfit()
     ensures { (tags : Files) (path content : List ℕ) (want : Want) (fault : WantFault)
         → IsWantOf tags path want
         → IsFirstMisfitOf want content fault ↔ IsMisfit tags path content fault }
 {}
 
-/// The limits are these: files, lines, the octets of a tag file, those of any file that is checked, and those of a payload file that
-/// a transfer holds.
+/// The limits are: the number of files, the number of lines, and the number of octets in a tag file, in any file that
+/// is checked and in a payload file that a transfer holds.
 pub fn the_limits_are_these()
     ensures { (MOST_FILES ≡ 200000) × (MOST_LINES ≡ 100000)
         × (LARGEST_TAG_FILE ≡ 16777216) × (LARGEST_FILE ≡ 2 ^ 40) × (LARGEST_ITEM ≡ 2 ^ 30) }
 {}
 
-/// Where a transfer can be opened with these tag files, there is no reason why not.
+/// If a transfer can be opened with these tag files, they are refused for no other reason than that memory runs out.
 pub fn tag_files_that_open_are_not_refused()
     ensures { (tags : Files) (fault : PlanFault) → AreTagFiles tags → Opens tags
         → Refuses tags fault → fault ≡ Memory }

@@ -9,8 +9,8 @@ use bag_digest::{Alg, AlgSet};
 use bag_path::{BagPath, Version};
 use bag_tags::{Kind, Manifest};
 
-/// The algorithms of the payload manifests that are told where a path isn't listed as it has to be: in version 1.0 of each that
-/// doesn't list it, in version 0.97 of the first by file name, where none lists it.
+/// The algorithms of the payload manifests that are reported because a path isn't listed as required. In version 1.0
+/// these are all manifests that don't list it. In version 0.97 it is the first one by file name, if none lists it.
 pub(crate) fn unlisted_in(version: Version, manifests: &[Manifest], path: &BagPath) -> AlgSet
     ensures { (alg : Alg)
         → (has result alg ≡ true) ↔ IsUnlistedIn version manifests.now alg path.now }
@@ -37,7 +37,7 @@ fn payload_algs(manifests: &[Manifest], path: &BagPath, lists: bool) -> AlgSet
     set
 }
 
-/// The first algorithm of a set, alone, if it has any.
+/// The first algorithm of a set as a set of its own, or the empty set.
 fn only_first(set: AlgSet) -> AlgSet
     ensures { (alg : Alg)
         → (has result alg ≡ true) ↔ IsFirstAmong (λ other. has set other ≡ true) alg }
@@ -48,7 +48,7 @@ fn only_first(set: AlgSet) -> AlgSet
     }
 }
 
-/// The first algorithm of a set, if it has any. `Alg::ALL` has them in the order of the file names of their manifests.
+/// The first algorithm of a set, if it has any. The order of `Alg::ALL` is that of the file names of the manifests.
 pub(crate) fn first_of(set: AlgSet) -> Option<Alg>
     ensures { MatchOption result ((alg : Alg) → has set alg ≡ false)
         (IsFirstAmong (λ alg. has set alg ≡ true)) }

@@ -1,4 +1,5 @@
-//! What the tag files list against the files that are there, and against each other (RFC 8493 sections 2.2.3 and 3).
+//! Compares what the tag files list with the files that are there, and the tag files with each other (RFC 8493 sections
+//! 2.2.3 and 3).
 ghost use Rattle.std.specs.Prelude.{◌≡◌, ◌∷◌, [], IfErr, OnOk, length};
 ghost use Rattle.bag_rules.specs.Bags.{Bag, version_of};
 ghost use Rattle.bag_rules.specs.Faults.{kind_of_unlisted_entries};
@@ -16,7 +17,7 @@ use bag_digest::Alg;
 use bag_path::{BagPath, Version};
 use bag_tags::{Manifest, ManifestName, Pair};
 
-/// Adds the files that the manifests list and that are not there.
+/// Adds a fault for each file that a manifest lists and that is not there.
 pub(crate) fn add_missing<T: Paths>(
     tree: &T,
     manifests: &[Manifest],
@@ -32,7 +33,7 @@ pub(crate) fn add_missing<T: Paths>(
     Ok(())
 }
 
-/// Adds the files that a manifest lists and that are not there.
+/// Adds a fault for each file that this manifest lists and that is not there.
 pub(crate) fn add_missing_by<T: Paths>(
     tree: &T,
     manifest: &Manifest,
@@ -52,7 +53,7 @@ pub(crate) fn add_missing_by<T: Paths>(
     Ok(())
 }
 
-/// Adds the file of one pair, if it is not there.
+/// Adds a fault for the file of one pair if it is not there.
 fn add_missing_pair<T: Paths>(
     tree: &T,
     manifest: ManifestName,
@@ -73,7 +74,7 @@ fn add_missing_pair<T: Paths>(
     }
 }
 
-/// Adds the entries of `fetch.txt` that aren't listed as they have to be.
+/// Adds a fault for each entry of `fetch.txt` that isn't listed as required.
 pub(crate) fn add_fetch_unlisted(
     version: Version,
     texts: &Texts,
@@ -91,7 +92,7 @@ pub(crate) fn add_fetch_unlisted(
     Ok(())
 }
 
-/// Adds the payload manifests that are told where the path of an entry of `fetch.txt` isn't listed as it has to be.
+/// Adds a fault for each payload manifest that is reported because it doesn't list the path of this entry.
 fn add_entry_unlisted(
     version: Version,
     manifests: &[Manifest],

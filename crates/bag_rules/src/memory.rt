@@ -1,4 +1,4 @@
-//! A tree of files in memory.
+//! Trees of files in memory.
 ghost use Rattle.std.specs.Prelude.{◌≡◌, ◌+◌, ◌-◌, ◌^◌, ◌<◌, ◌≤◌, ◌++◌, ◌↔◌, [], Contains, IfErr, IfOk, IsErr, IsOk, OnErr, OnOk, drop, is_some, length, max, slice_get, take, true};
 ghost use Rattle.std.specs.Io.KnownBytes.{ReadConsumes};
 ghost use Rattle.std.specs.Option.{ForSome, option_copied, option_map};
@@ -21,7 +21,7 @@ mod tests;
 /// Why a file was not added.
 #[derive(Clone, Copy, Debug, PartialEq, Eq, Error)]
 pub enum AddFault {
-    /// A file with this path is there already.
+    /// A file with this path already exists.
     #[error("a file with this path is there already")]
     Twice,
     /// Memory ran out.
@@ -29,16 +29,16 @@ pub enum AddFault {
     Memory,
 }
 
-/// The place of the file that is read, and how far it was read.
+/// The place of the file that is being read, and how many of its octets were read.
 #[derive(Clone, Copy)]
 struct Reading {
     place: usize,
     at: usize,
 }
 
-/// Files in memory, by path. A tree whose octets are all known, and which never fails where a file was started.
+/// Files in memory, by path. All octets of this tree are known, and it never fails once a file was started.
 ///
-/// It is empty at first; `add` and `set_payload_dir` make it, and nothing takes a file away.
+/// It is empty at first and is built by `add` and `set_payload_dir`. Files can't be removed.
 #[derive(Drop)]
 pub struct MemTree {
     files: Vec<File>,
@@ -75,16 +75,20 @@ impl MemTree {
         }
     }
 
-    /// Puts a file at its place in the order of the paths. A payload file brings the payload directory with it.
+    /// Inserts a file at its place in the order of the paths. Adding a payload file creates the payload directory.
     ///
-    /// What is left to read of a started file stays. After a fault the tree is as it was.
-    /// Files that come in rising order cost a look-up by halves each; another one moves all that come after it.
+    /// A file that is being read stays the same file, read as far as before. If the paths are added in ascending order,
+    /// each costs a binary search. Otherwise all files that come after the new one are moved as well.
+    ///
+    /// # Errors
+    ///
+    /// `Twice` if a file with this path already exists, or `Memory` if memory runs out. The tree is then unchanged.
     pub fn add(&mut self, path: BagPath, body: Vec<u8>) -> Result<(), AddFault>
         ensures added { OnOk result (self.new ≡ with_file self.old path body.items) }
         ensures twice { (result ≡ Err AddFault.Twice) ↔ Contains (mem_paths self.old) path }
         ensures refused { OnErr result (self.new ≡ self.old) }
 
-        // What a look-up finds then, and that the order stays.
+        // What a look-up finds afterwards, and that the paths stay in order.
         ensures found { OnOk result (FindsAlso self.old self.new path body.items) }
         ensures rising { AreRising (mem_paths self.new) }
     {
@@ -101,14 +105,14 @@ impl MemTree {
         Ok(())
     }
 
-    /// Puts the payload directory there. It may stay without a file.
+    /// Creates the payload directory, which may stay empty.
     pub fn set_payload_dir(&mut self)
         ensures { self.new ≡ record self.old { has_payload_dir = true } }
     {
         self.has_payload_dir = true;
     }
 
-    /// The octets of the file with this path.
+    /// The octets of the file with this path, if there is one.
     pub fn get(&self, path: &BagPath) -> Option<&[u8]>
         ensures { option_copied result ≡ octets_at self.now path.now }
     {
@@ -130,7 +134,8 @@ impl Source for MemTree {
 
     ghost keeps = { SameMemFiles };
 
-    /// Reads on in the file that was started last. It fails, and counts that, where none was started yet, and only there.
+    /// Reads on in the file that was started last. If no file was started, it fails and counts the failure. It doesn't
+    /// fail otherwise.
     fn read(&mut self, buf: &mut [u8]) -> Result<usize, Failed>
         ensures bound { IfOk result (λ n. n ≤ length buf.new) }
         ensures octets { ReadConsumes self.old.started self.new.started result buf.new }
@@ -138,7 +143,7 @@ impl Source for MemTree {
             self.old self.new (IsErr result) }
         ensures open { KeepsOpen (is_some self.old.started) (is_some self.new.started)
             (IsErr result) }
-        // It fails just where nothing was started, and then counts one failure, up to the greatest number.
+        // It fails exactly if no file was started. It then counts one failure, up to the maximum.
         ensures exactly { MatchRead self.old self.new result }
     {
         let Some(reading) = self.reading else {
@@ -184,7 +189,7 @@ impl Tree for MemTree {
 
     ghost sure = { IsSure };
 
-    /// Goes to the start of a file. It doesn't fail.
+    /// Starts reading a file from its beginning. This doesn't fail.
     fn start(&mut self, i: usize) -> Result<(), Failed>
         requires { i < length (paths_in (mem_shown self.old)) }
         ensures started { OnOk result (self.new.started ≡ octets_in (mem_shown self.old) i) }
@@ -200,7 +205,7 @@ impl Tree for MemTree {
     ghost reads_keep = { keeps_tree };
 }
 
-/// Copies what stands from `at` on to the front of the buffer, as far as both go, and says how far.
+/// Copies octets from `at` on to the front of the buffer, as many as there are and as fit. Returns their number.
 fn copy_from(body: &[u8], at: usize, buf: &mut [u8]) -> usize
     ensures copied { drop at body.now ≡ take result buf.new ++ drop (at + result) body.now }
     ensures fits { result ≤ length buf.new }
@@ -215,7 +220,7 @@ fn copy_from(body: &[u8], at: usize, buf: &mut [u8]) -> usize
     n
 }
 
-/// The same file and the same octet, once a file was put at `place`.
+/// The same place in the same file after another file was inserted at `place`.
 fn moved_up(reading: Option<Reading>, place: usize) -> Option<Reading>
     requires { ForSome reading (λ r. r.place < 2 ^ 64 - 1) }
     ensures { result ≡ option_map (moved_up place) reading }

@@ -1,4 +1,4 @@
-//! How the tag files of a transfer are read, and what is wrong with them whatever payload files come.
+//! Reads the tag files of a transfer, and finds what is wrong with them whichever payload files come.
 ghost use Rattle.std.specs.Prelude.{◌≡◌, ◌↔◌, ◌++◌, [], ℕ, List, Contains, IfErr, IfOk, IsTrue, MatchOption, OnOk, length, map};
 ghost use Rattle.bag_tags.specs.declared.listing.Pair.{Pair};
 ghost use Rattle.bag_rules.specs.declared.fault.Fault.{Fault};
@@ -32,7 +32,7 @@ use bag_path::{BagPath, Version};
 use bag_tags::{Kind, LineFile, Manifest, Pair};
 use std::alloc::{AllocError, Global};
 
-/// The first manifest or `fetch.txt` by path that has more lines than it may.
+/// The first manifest or `fetch.txt` by path that has more lines than the limit.
 pub(crate) fn first_large(tags: &TagSet) -> Option<&File>
     ensures { MatchOption result (FewLines tags.now)
         (λ file. IsFirstPath (HasManyLinesAt tags.now) file.now.path) }
@@ -45,7 +45,7 @@ pub(crate) fn first_large(tags: &TagSet) -> Option<&File>
     None
 }
 
-/// Whether it is a manifest or `fetch.txt` and has more lines than it may.
+/// Whether this is a manifest or `fetch.txt` with more lines than the limit.
 fn is_large(file: &File) -> bool
     ensures { IsTrue result ↔ HasTooManyLines file.now.path file.now.body.items }
 {
@@ -80,7 +80,7 @@ fn profile_of_tags(alloc: Global, tags: &TagSet) -> Result<Profile, CheckFault>
     }
 }
 
-/// What the tag files say, and the paths of the payload files that are to come, in order.
+/// What the tag files say, and the paths of the expected payload files, in order.
 pub(crate) fn open_texts(
     alloc: Global,
     tags: &TagSet,
@@ -102,7 +102,7 @@ pub(crate) fn open_texts(
     }
 }
 
-/// The same, with the faults that no payload file can mend, if there are any.
+/// The same, together with any faults that payload files can't mend.
 fn find_faults(
     alloc: Global,
     tags: &TagSet,
@@ -130,7 +130,7 @@ fn first_of(faults: Vec<Fault>) -> Option<Fault>
     faults.into_iter().min()
 }
 
-/// Reads the tag files by path, and adds the first faulty line of each that has one.
+/// Reads the tag files by path, and adds a fault for the first faulty line of each that has one.
 fn read_tags(
     alloc: Global,
     tags: &TagSet,
@@ -149,7 +149,7 @@ fn read_tags(
     Ok(texts)
 }
 
-/// Reads a tag file, if it is one that is read line by line.
+/// Reads a tag file if it is one that is read line by line.
 fn read_tag(
     alloc: Global,
     file: &File,
@@ -204,7 +204,7 @@ fn add_paths(pairs: &[Pair], paths: &mut Vec<BagPath>) -> Result<(), AllocError>
     Ok(())
 }
 
-/// Adds what no payload file can mend of the faults that are those of files and of what is listed.
+/// Adds the faults of files and of listings that payload files can't mend.
 fn add_opening_faults(
     tags: &TagSet,
     version: Version,
@@ -224,7 +224,7 @@ fn add_opening_faults(
     add_wrong_tags(tags, &texts.manifests, faults)
 }
 
-/// Adds the files that a tag manifest lists and that are not there.
+/// Adds a fault for each file that a tag manifest lists and that is not there.
 fn add_missing_tags<T: Paths>(
     tags: &T,
     manifests: &[Manifest],
@@ -241,7 +241,7 @@ fn add_missing_tags<T: Paths>(
     Ok(())
 }
 
-/// Adds the payload manifests that are told where one of these paths isn't listed as it has to be.
+/// Adds a fault for each payload manifest that is reported because it doesn't list one of these paths.
 fn add_unlisted_paths(
     version: Version,
     manifests: &[Manifest],
@@ -257,7 +257,7 @@ fn add_unlisted_paths(
     Ok(())
 }
 
-/// Adds the manifests that list another digest for a tag file than it has.
+/// Adds a fault for each manifest that lists another digest for a tag file than the file has.
 fn add_wrong_tags(
     tags: &TagSet,
     manifests: &[Manifest],
@@ -272,7 +272,7 @@ fn add_wrong_tags(
     Ok(())
 }
 
-/// Adds the manifests that list another digest for a file than it has.
+/// Adds a fault for each manifest that lists another digest for this file than it has.
 fn add_wrong_file(
     file: &File,
     manifests: &[Manifest],

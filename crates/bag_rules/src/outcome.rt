@@ -5,12 +5,12 @@ use bag_path::BagPath;
 use std::alloc::{AllocError, AllocFailed};
 use thiserror::Error;
 
-/// What a check answers.
+/// The result of a check.
 #[derive(Debug, Drop)]
 pub enum Outcome {
-    /// The bag was judged: these are its faults.
+    /// The bag was judged. The report has its faults.
     Judged(Report),
-    /// The bag is none that can be judged here, which is not to say that it is invalid.
+    /// The bag can't be judged here. This doesn't mean that it is invalid.
     Outside(OutsideCause),
 }
 
@@ -21,14 +21,15 @@ pub enum OutsideCause {
     Version,
     /// `bagit.txt` declares another encoding of tag files than UTF-8.
     Encoding,
-    /// A manifest is by another algorithm than md5, sha1, sha256 and sha512: its name, of the least such file.
+    /// The algorithm of a manifest is not md5, sha1, sha256 or sha512. This is its name in the first such manifest by
+    /// file name.
     Algorithm(String),
 }
 
-/// Why a check didn't come to an end.
+/// Why a check ended early.
 #[derive(Debug, Drop, Error)]
 pub enum CheckFault {
-    /// The tree failed, and counted it.
+    /// The tree failed, and it has counted the failure.
     #[error("the tree failed")]
     Tree,
     /// A tag file that has to be read has more than 16,777,216 octets.

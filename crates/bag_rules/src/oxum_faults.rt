@@ -1,4 +1,4 @@
-//! The size of the payload against `Payload-Oxum` (RFC 8493 section 2.2.2).
+//! Compares the size of the payload with `Payload-Oxum` (RFC 8493 section 2.2.2).
 ghost use Rattle.std.specs.Prelude.{◌≡◌, ◌↔◌, IfErr, IsTrue, OnOk, length};
 ghost use Rattle.bag_rules.specs.Bags.{Bag};
 ghost use Rattle.bag_rules.specs.Faults.{kind_of_oxum};
@@ -14,13 +14,13 @@ use bag_tags::{Element, Oxum};
 /// How large the payload is.
 #[derive(Clone, Copy, Drop)]
 pub(crate) struct PayloadSize {
-    /// How many octets its files have together.
+    /// How many octets its files have in total.
     pub octets: u128,
     /// How many files it has.
     pub streams: u64,
 }
 
-/// Adds that `Payload-Oxum` says another size.
+/// Adds a fault if `Payload-Oxum` gives another size.
 pub(crate) fn add_wrong_oxum(
     texts: &Texts,
     size: PayloadSize,
@@ -44,7 +44,7 @@ pub(crate) fn add_wrong_oxum(
     Ok(())
 }
 
-/// Whether the element is a `Payload-Oxum` that says another size.
+/// Whether the element is a `Payload-Oxum` that gives another size.
 fn is_other_oxum(element: &Element, size: PayloadSize) -> bool
     ensures { IsTrue result ↔ IsOtherOxum size element.now }
 {

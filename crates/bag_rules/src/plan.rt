@@ -1,4 +1,4 @@
-//! Plans: what the tag files of a transfer say of its payload.
+//! Plans: what the tag files of a transfer say about its payload.
 ghost use Rattle.std.specs.Prelude.{◌≡◌, IfNone, IfSome};
 ghost use Rattle.bag_rules.specs.Faults.{Has};
 ghost use Rattle.bag_rules.specs.Trees.{AreRising};
@@ -18,20 +18,21 @@ use bag_tags::FetchLine;
 use std::alloc::{AllocError, Global};
 use thiserror::Error;
 
-/// Why no transfer can be opened with these tag files. Where several hold, the first in this order is answered; `Memory` may come in
-/// place of any other.
+/// Why no transfer can be opened with these tag files. If several causes apply, the first in this order is returned,
+/// but `Memory` may be returned in place of any other.
 #[derive(Debug, Drop, Error)]
 pub enum PlanFault {
     /// A manifest or `fetch.txt` has more than 100,000 lines: the first such file by path.
     #[error("a tag file is too large")]
     TagTooLarge(BagPath),
-    /// The bag can't be judged here, which is not to say that it is invalid.
+    /// The bag can't be judged here. This doesn't mean that it is invalid.
     #[error("outside the profile")]
     Outside(OutsideCause),
-    /// The tag files have a fault that no payload file can mend: the first such fault in the order of a report.
+    /// The tag files have a fault that payload files can't mend. This is the first such fault in the order of a report.
     #[error("a fault of the tag files")]
     Rules(Fault),
-    /// The path of a tag file or of a listed payload file is that of a folder in which another one is: the first such path.
+    /// The path of a tag file or of a listed payload file is that of a folder in which another of them is. This is the
+    /// first such path.
     #[error("a file in the place of a folder")]
     Clash(BagPath),
     /// Memory ran out.
@@ -50,7 +51,7 @@ impl From<AllocError> for PlanFault {
     }
 }
 
-/// How large a payload file is that a transfer holds.
+/// The size of a payload file that a transfer holds.
 #[derive(Debug, Drop)]
 pub struct ItemSize {
     /// The path of the file.
@@ -59,7 +60,7 @@ pub struct ItemSize {
     pub octets: u64,
 }
 
-/// What the tag files of a transfer say of its payload: which files are to come, and what each has to be.
+/// What the tag files of a transfer say about its payload: which files are expected, and what each has to be.
 #[derive(Drop)]
 pub struct Plan {
     texts: Texts,
@@ -81,7 +82,7 @@ impl Plan {
     ///
     /// # Errors
     ///
-    /// The first reason, in the order of [`PlanFault`], for which no transfer can be opened with them.
+    /// The first cause, in the order of [`PlanFault`], for which no transfer can be opened with them.
     pub fn from_tags(alloc: Global, tags: &TagSet) -> Result<Plan, PlanFault>
         ensures opened { IfOk result (IsPlanOf tags.now) }
         ensures refused { IfErr result (Refuses tags.now) }
@@ -102,14 +103,14 @@ impl Plan {
         })
     }
 
-    /// The paths of the payload files that are to come: those that a payload manifest lists, in order.
+    /// The paths of the expected payload files: those that a payload manifest lists, in order.
     pub fn paths(&self) -> &[BagPath]
         ensures { (tags : Files) → IsPlanOf tags self.now → AreExpected tags result.now }
     {
         self.paths.as_slice()
     }
 
-    /// What the payload file at this path has to be; nothing where no payload manifest lists the path.
+    /// What the payload file at this path has to be. `None` if no payload manifest lists the path.
     pub fn want(&self, path: &BagPath) -> Option<Want<'_>>
         ensures { (tags : Files) → IsPlanOf tags self.now
             → MatchOption result (¬ IsExpected tags path.now) (IsWantOf tags path.now) }
@@ -125,10 +126,14 @@ impl Plan {
         self.texts.fetch_lines()
     }
 
-    /// The report of a bag of these tag files and of the payload files that a transfer holds, by their sizes alone: what was taken has
-    /// its digests and lengths.
+    /// The report on the bag with these tag files and the payload files that a transfer holds. Only the sizes of the
+    /// payload files are needed, since each was accepted with its digests and lengths.
     ///
-    /// `sizes` are those of all files that it holds, by path.
+    /// `sizes` are the sizes of all payload files that the transfer holds, by path.
+    ///
+    /// # Errors
+    ///
+    /// `AllocError` if memory runs out.
     pub fn report(&self, alloc: Global, sizes: &[ItemSize]) -> Result<Report, AllocError>
         ensures verdict { (tags items : Files) → IsPlanOf tags self.now → AreHeldFor tags items
             → sizes.now ≡ sizes_of items
@@ -145,7 +150,7 @@ impl Plan {
     }
 }
 
-/// The same path among paths in order.
+/// The same path among paths in order, if it is one of them.
 fn same_in<'a>(paths: &'a [BagPath], path: &BagPath) -> Option<&'a BagPath>
     ensures found { IfSome result (λ own. (own.now ≡ path.now) × Has paths.now path.now) }
     ensures absent { AreRising paths.now → IfNone result (¬ Has paths.now path.now) }

@@ -1,4 +1,4 @@
-//! Whether a bag can be judged by more than its declaration (RFC 8493 section 2.1.1).
+//! Finds out whether a bag can be judged by more than its declaration (RFC 8493 section 2.1.1).
 ghost use Rattle.std.specs.Prelude.{◌≡◌, ◌<◌, Contains, IfErr, IfOk, IsErrOf, MatchOption, MatchResult, Ok, OnOk, Some, length, slice_get, string_bytes, true};
 ghost use Rattle.bag_tags.specs.Declarations.{version_of};
 ghost use Rattle.bag_rules.specs.Bags.{Bag, Holds, IsBagOf, declaration_file};
@@ -20,14 +20,14 @@ use bag_path::Version;
 use bag_tags::{Declaration, read_declaration, unknown_algorithm};
 use std::alloc::Global;
 
-/// What the declaration and the names of the manifests say of a bag.
+/// What the declaration and the names of the manifests say about a bag.
 #[derive(Debug, Drop)]
 pub(crate) enum Profile {
-    /// The bag declares this version and UTF-8, and the algorithm of each of its manifests is known.
+    /// The bag declares this version and UTF-8, and the algorithms of all its manifests are known.
     Known(Version),
-    /// It can't be judged, for this cause.
+    /// The bag can't be judged, for this cause.
     Unknown(OutsideCause),
-    /// Its declaration is not there or has this fault, and so it is judged by this alone.
+    /// The declaration is missing or can't be read. This is the only fault that is reported.
     Broken(Fault),
 }
 
@@ -45,7 +45,7 @@ pub(crate) fn read_profile<T: Tree>(
         (Stopped (FirstStops bag DeclarationStops)) }
     ensures tree { UsesTree T.shown T.failures T.sure tree.old tree.new
         (IsErrOf result CheckFault.Tree) }
-    // What needs no known octets: where there is no declaration, that is the answer.
+    // A case in which the octets need not be known: there is no declaration.
     ensures undeclared { ¬ Contains (paths_in (T.shown tree.old)) declaration_file
         → result ≡ Ok (Broken NoDeclaration) }
     ensures kept { AreKept (T.shown tree.old) kept.old

@@ -1,4 +1,4 @@
-//! What a check finds of a bag.
+//! Reports: the faults that a check finds.
 ghost use Rattle.std.specs.Prelude.{◌↔◌};
 ghost use Rattle.bag_rules.specs.declared.fault.Fault.{Fault};
 ghost use Rattle.bag_rules.specs.Faults.{Has};
@@ -33,7 +33,7 @@ impl Report {
     ghost use Rattle.std.specs.List.Sorted.{IsNonDecreasingBy};
     ghost use Rattle.bag_rules.specs.Faults.{Has, AreInOrder, NoneUpTo, last_of_completeness, number_of};
 
-    /// The report of these faults, whatever their order and however often each stands.
+    /// The report of these faults, which may be in any order and may be repeated.
     pub(crate) fn new(mut faults: Vec<Fault>) -> Report
         ensures same { (fault : Fault) → Has result fault ↔ Has faults.items fault }
         ensures in_order { AreInOrder result }

@@ -1,4 +1,4 @@
-//! The tag files of a bag that are read line by line (RFC 8493 sections 2.1.3 and 2.2).
+//! Reads the tag files of a bag that are read line by line (RFC 8493 sections 2.1.3 and 2.2).
 ghost use Rattle.std.specs.Prelude.{◌≡◌, ◌<◌, ◌≤◌, ◌↔◌, ◌∷◌, [], ℕ, List, IfOk, IfErr, IsErrOf, IsTrue, MatchResult, OnOk, Some, length, slice_get};
 ghost use Rattle.bag_path.specs.Lines.{lines_of};
 ghost use Rattle.bag_rules.specs.Bags.{Bag, IsBagOf, version_of};
@@ -22,7 +22,7 @@ use bag_tags::{
 };
 use std::alloc::Global;
 
-/// What the tag files say that are read line by line: those that are there and have no faulty line.
+/// What the tag files that are read line by line say. It includes those that are there and have no faulty line.
 #[derive(Drop)]
 pub(crate) struct Texts {
     /// What `bag-info.txt` says.
@@ -37,7 +37,7 @@ impl Texts {
     ghost use Rattle.std.specs.Prelude.{◌≡◌, [], None};
     ghost use Rattle.bag_rules.specs.ReadingInside.{AreLinesOf};
 
-    /// What no tag files say.
+    /// What is said if there are no tag files.
     pub(crate) fn none(alloc: Global) -> Texts
         ensures optional { (result.info ≡ None) × (result.fetch ≡ None) }
         ensures manifests { result.manifests.items ≡ [] }
@@ -49,7 +49,7 @@ impl Texts {
         }
     }
 
-    /// What `fetch.txt` lists; nothing where it isn't there.
+    /// The entries of `fetch.txt`. There are none if the file isn't there.
     pub(crate) fn fetch_lines(&self) -> &[FetchLine]
         ensures { AreLinesOf self.now result.now }
     {
@@ -60,7 +60,7 @@ impl Texts {
     }
 }
 
-/// Reads the tag files by name, and adds the first faulty line of each that has one.
+/// Reads the tag files by name, and adds a fault for the first faulty line of each that has one.
 pub(crate) fn read_texts<T: Tree>(
     alloc: Global,
     buffer: &mut [u8],
@@ -89,7 +89,7 @@ pub(crate) fn read_texts<T: Tree>(
     Ok(texts)
 }
 
-/// Reads the file at this place, if it is one that is read line by line.
+/// Reads the file at this place if it is one that is read line by line.
 fn read_text<T: Tree>(
     alloc: Global,
     buffer: &mut [u8],
@@ -124,7 +124,7 @@ fn read_text<T: Tree>(
     read_lines(alloc, &text, file, version, texts, faults)
 }
 
-/// Reads a tag file whole.
+/// Reads a whole tag file.
 pub(crate) fn read_tag_file<T: Tree>(
     alloc: Global,
     buffer: &mut [u8],
@@ -148,7 +148,7 @@ pub(crate) fn read_tag_file<T: Tree>(
     }
 }
 
-/// Whether a file of this name with this text has more lines than it may.
+/// Whether a file of this name with this text has more lines than the limit.
 pub(crate) fn has_too_many_lines(file: LineFile, text: &[u8]) -> bool
     ensures { IsTrue result ↔ (HasCountedLines file × (MOST_LINES < length (lines_of text.now))) }
 {
@@ -162,14 +162,14 @@ fn has_counted_lines(file: LineFile) -> bool
     !matches!(file, LineFile::Info)
 }
 
-/// Whether a text has more lines than these.
+/// Whether a text has more lines than this number.
 fn has_more_lines(text: &[u8], most: usize) -> bool
     ensures { IsTrue result ↔ (most < length (lines_of text.now)) }
 {
     Lines::new(text).nth(most).is_some()
 }
 
-/// Reads the text of a tag file: adds what it says, or its first faulty line.
+/// Reads the text of a tag file. Adds what it says, or a fault for its first faulty line.
 pub(crate) fn read_lines(
     alloc: Global,
     text: &[u8],
@@ -200,7 +200,7 @@ pub(crate) fn read_lines(
     Ok(())
 }
 
-/// The value of a text; where it has none, its first faulty line is added.
+/// The value of a text. If it has none, a fault for its first faulty line is added.
 fn value_of<V: Drop>(
     read: Result<V, TagFault>,
     file: LineFile,

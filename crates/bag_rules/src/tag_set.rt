@@ -1,4 +1,4 @@
-//! The tag files of a transfer.
+//! Sets of tag files, with which transfers are opened.
 
 use crate::file::{File, body_of, search};
 use crate::limits::LARGEST_TAG_FILE;
@@ -11,17 +11,17 @@ use thiserror::Error;
 #[cfg(test)]
 mod tests;
 
-/// Why a tag file was not added. Where several hold, the first in this order is answered; `Memory` may come in place of any
-/// other.
+/// Why a tag file was not added. If several causes apply, the first in this order is returned, but `Memory` may be
+/// returned in place of any other.
 #[derive(Clone, Copy, Debug, PartialEq, Eq, Error)]
 pub enum TagSetFault {
-    /// The text is no path. Want of memory is `Memory` below, and never in here.
+    /// The text is not a path. If memory ran out, `Memory` below is returned and not this variant.
     #[error(transparent)]
     BadPath(PathFault),
     /// The path is that of a payload file.
     #[error("the path is that of a payload file")]
     Payload,
-    /// A file with this path is there already.
+    /// A file with this path already exists.
     #[error("a file with this path is there already")]
     Twice,
     /// The file has more than [`LARGEST_TAG_FILE`] octets.
@@ -32,7 +32,8 @@ pub enum TagSetFault {
     Memory,
 }
 
-/// The tag files that a transfer is opened with, by path. None is at a payload path, and none has more than 16,777,216 octets.
+/// The tag files that a transfer is opened with, by path. None has a payload path, and none has more than 16,777,216
+/// octets.
 #[derive(Drop)]
 pub struct TagSet {
     files: Vec<File>,
@@ -60,7 +61,7 @@ impl TagSet {
     ghost use Rattle.bag_rules.specs.Files.{AreTagFiles, files_of};
     ghost use Rattle.bag_rules.specs.TagSets.{RefusesFile};
 
-    /// No tag files.
+    /// A set without tag files.
     pub fn new(alloc: Global) -> TagSet
         ensures { result ≡ [] }
     {
@@ -69,11 +70,11 @@ impl TagSet {
         }
     }
 
-    /// Puts a tag file at its place in the order of the paths.
+    /// Inserts a tag file at its place in the order of the paths.
     ///
     /// # Errors
     ///
-    /// The first fault in the order of [`TagSetFault`], or `Memory`. The tag files stay as they were then.
+    /// The first fault in the order of [`TagSetFault`], or `Memory` if memory runs out. The set is then unchanged.
     pub fn add(&mut self, path: &str, body: Vec<u8>) -> Result<(), TagSetFault>
         ensures added { OnOk result
             (self.new ≡ insert_entry (slice_cmp nat_cmp) self.old path.now body.items) }
@@ -103,7 +104,7 @@ impl TagSet {
         Ok(())
     }
 
-    /// The octets of the tag file with this path.
+    /// The octets of the tag file with this path, if there is one.
     pub fn get(&self, path: &str) -> Option<&[u8]>
         ensures { option_copied result ≡ lookup (bytes_eq path.now) self.now }
     {
@@ -118,7 +119,7 @@ impl TagSet {
         self.files.as_slice()
     }
 
-    /// Whether the paths and the octets are the same.
+    /// Whether both sets have the same paths and octets.
     pub fn is_same(&self, other: &TagSet) -> bool
         ensures { IsTrue result ↔ (self.now ≡ other.now) }
     {
@@ -137,7 +138,7 @@ impl Clone for TagSet {
     }
 }
 
-/// The paths of the tag files. With them the payload directory is shown, which a transfer has from its start.
+/// The paths of the tag files. The payload directory counts as there, since a transfer has one from its start.
 impl Paths for TagSet {
     ghost use Rattle.bag_rules.specs.Bags.{shown_of};
     ghost use Rattle.bag_rules.specs.Transfers.{tag_bag};

@@ -9,7 +9,7 @@ use std::cmp::Ordering;
 
 /// The paths of the files below one base directory, in order.
 pub trait Paths {
-    /// The files in the order of their paths' bytes, each with its octets where they are known, and whether the payload
+    /// The files in the order of their paths' octets, each with its octets if they are known, and whether the payload
     /// directory `data/` is there.
     ghost shown: { Self → Shown };
 
@@ -18,29 +18,35 @@ pub trait Paths {
         ensures files { result ≡ length (paths_in (shown self.now)) }
         ensures rising { AreRising (paths_in (shown self.now)) };
 
-    /// The path of a file by its place in the order.
+    /// The path of a file, by its place in the order.
     fn path(&self, i: usize) -> &BagPath
         requires { i < length (paths_in (shown self.now)) }
         ensures { slice_get (paths_in (shown self.now)) i ≡ Some result.now };
 
-    /// Whether the payload directory `data/` is there. It is where some path is a payload path.
+    /// Whether the payload directory `data/` is there. It always is if some path is a payload path.
     fn has_payload_dir(&self) -> bool
         ensures dir { result ≡ (shown self.now).has_payload_dir }
         ensures payload { (path : List ℕ) → Contains (paths_in (shown self.now)) path
             → is_payload path ≡ true → IsTrue result };
 }
 
-/// The files below one base directory, by path. Reads are in the file that was started last.
+/// The files below one base directory, by path. Reads are from the file that was started last.
 ///
-/// Of a tree whose octets are known the theorems say what is answered; a folder on a disk claims nothing of its octets.
+/// What is proved about results is proved for a tree whose octets are known. For a folder on a disk nothing is claimed
+/// about its octets.
 pub trait Tree: Paths + Source {
-    /// The tree never fails: a file that is started can be read.
+    /// That the tree never fails: a file that was started can be read.
     ghost sure: { Self → Type 0 };
 
-    /// Goes to the start of a file, from which `read` then gives the octets. Reads fail after a start that failed.
+    /// Starts reading a file from its beginning; `read` then gives its octets. After a start that failed, reads fail.
+    ///
+    /// # Errors
+    ///
+    /// `Failed` if the tree failed; it has counted the failure.
     fn start(&mut self, i: usize) -> Result<(), Failed>
         requires { i < length (paths_in (Self.shown self.old)) }
-        ensures started { OnOk result (Self.remaining self.new ≡ octets_in (Self.shown self.old) i) }
+        ensures started { OnOk result
+            (Self.remaining self.new ≡ octets_in (Self.shown self.old) i) }
         ensures uses { UsesTree Self.shown Self.failures sure self.old self.new (IsErr result) }
         ensures ready { sure self.old → Self.ready self.new }
         ensures open { Self.is_open self.new ≡ is_ok result };
@@ -48,11 +54,13 @@ pub trait Tree: Paths + Source {
     ghost reads_keep: { (a b : Self) → Self.keeps a b → KeepsTree Self.shown sure a b };
 }
 
-/// The place of the file with this path, by halves: looks at about as many paths as the number of files has binary digits.
+/// The place of the file with this path. This is a binary search, so it compares about as many paths as the number of
+/// files has binary digits.
 ///
-/// `path` need not be a bag's path; then no file has it.
+/// `path` need not be a valid path. If it isn't, no file has it.
 pub fn find<P: Paths>(paths: &P, path: &str) -> Option<usize>
-    ensures found { IfSome result (λ i. slice_get (paths_in (P.shown paths.now)) i ≡ Some path.now) }
+    ensures found { IfSome result
+        (λ i. slice_get (paths_in (P.shown paths.now)) i ≡ Some path.now) }
     ensures absent { IfNone result (¬ Contains (paths_in (P.shown paths.now)) path.now) }
     ensures only { IfSome result (λ i. (k : ℕ)
         → slice_get (paths_in (P.shown paths.now)) k ≡ Some path.now → k ≡ i) }

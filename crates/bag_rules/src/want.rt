@@ -5,17 +5,17 @@ use bag_path::BagPath;
 use bag_tags::Manifest;
 use thiserror::Error;
 
-/// A length that `fetch.txt` gives for a file, in octets, and the number of the line that gives it.
+/// A length in octets that `fetch.txt` gives for a file, and the number of the line that gives it.
 #[derive(Clone, Copy, Debug, Drop)]
 pub struct GivenLength {
-    /// The number of the line, from 1 on.
+    /// The number of the line, counted from 1.
     pub line: u64,
-    /// The file's length in octets.
+    /// The length of the file in octets.
     pub length: u64,
 }
 
-/// What the file at a path has to be: as long as each line of `fetch.txt` says that gives its length, and of the digest that
-/// each manifest lists for it.
+/// What the file at a path has to be. Its length is the one that each line of `fetch.txt` gives, if it gives one. Its
+/// digests are those that the manifests list.
 #[derive(Clone, Copy, Drop)]
 pub struct Want<'a> {
     pub(crate) path: &'a BagPath,
@@ -23,13 +23,14 @@ pub struct Want<'a> {
     pub(crate) lengths: &'a [GivenLength],
 }
 
-/// Why a file isn't the one that is wanted. Where several hold, the first in this order is answered.
+/// Why a file isn't the one that is wanted. If several causes apply, the first in this order is returned.
 #[derive(Clone, Copy, Debug, PartialEq, Eq, Error)]
 pub enum WantFault {
     /// A line of `fetch.txt` gives another length.
     #[error("length")]
     Length,
-    /// The digest by this algorithm is another than the listed one: the first such algorithm, in their order.
+    /// The digest by this algorithm differs from the listed one. This is the first such algorithm in the order of
+    /// [`Alg`].
     #[error("digest")]
     Digest(Alg),
 }
@@ -61,17 +62,18 @@ impl Want<'_> {
         set
     }
 
-    /// Tells whether a file of this length in octets and with these digests is the one that is wanted.
+    /// Tests whether a file of this length in octets and with these digests is the one that is wanted.
     ///
     /// # Errors
     ///
-    /// The first of `Length` and `Digest` that holds.
+    /// The first of `Length` and `Digest` that applies.
     pub fn test(&self, length: u64, digests: &Digests) -> Result<(), WantFault>
         ensures fits { MatchResult result (λ done. Fits self.now length digests.now)
             (IsFirstMisfit self.now length digests.now) }
-        // The same of the octets that have this length and these digests.
+        // The same for octets that have this length and these digests.
         ensures octets { (octets : List ℕ) → AreSumsFor self.now octets length digests.now
-            → MatchResult result (λ done. IsWanted self.now octets) (IsFirstMisfitOf self.now octets) }
+            → MatchResult result (λ done. IsWanted self.now octets)
+            (IsFirstMisfitOf self.now octets) }
     {
         if !self.fits_length(length) {
             return Err(WantFault::Length);
@@ -82,7 +84,7 @@ impl Want<'_> {
         }
     }
 
-    /// Whether each length that is given is this one.
+    /// Whether every length that is given is this one.
     fn fits_length(&self, length: u64) -> bool
         ensures { IsTrue result ↔ FitsLength self.now length }
     {
@@ -94,7 +96,7 @@ impl Want<'_> {
         true
     }
 
-    /// The algorithms by which a digest is listed that isn't among these.
+    /// The algorithms by which the listed digest isn't among these.
     fn wrong(&self, digests: &Digests) -> AlgSet
         ensures { (alg : Alg)
             → (has result alg ≡ true) ↔ IsWrongBy self.now digests.now alg }

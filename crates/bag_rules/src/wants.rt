@@ -1,4 +1,4 @@
-//! What the tag files say of the files that are there, by path.
+//! What the tag files say about each file, by path.
 ghost use Rattle.std.specs.Prelude.{IfOk, OnOk};
 ghost use Rattle.bag_rules.specs.WantsInside.{AddsLength, AreByPath, IsWantBy};
 
@@ -8,7 +8,7 @@ use bag_tags::{FetchLine, Manifest};
 use std::alloc::{AllocError, Global};
 use std::collections::BTreeMap;
 
-/// The lengths that `fetch.txt` gives, by path, those of one path in the order of their lines.
+/// The lengths that `fetch.txt` gives, by path. Those for the same path are in the order of their lines.
 pub(crate) type Lengths = BTreeMap<BagPath, Vec<GivenLength>>;
 
 /// What the manifests list, and the lengths that `fetch.txt` gives.
@@ -84,7 +84,7 @@ pub(crate) fn lengths_by_path(alloc: Global, lines: &[FetchLine]) -> Result<Leng
     Ok(lengths)
 }
 
-/// Adds a length of the file at this path, after the others.
+/// Adds a length for the file at this path, after the others.
 fn add_length(
     alloc: Global,
     lengths: &mut Lengths,

@@ -38,7 +38,7 @@ fn a_bag_whose_files_have_their_digests_is_valid(rt: HostRuntime) -> Result<(), 
     Ok(())
 }
 
-// A bag in memory, of which each call fails after so many.
+// A bag in memory. After this many calls every call fails.
 #[derive(Drop)]
 struct Failing {
     tree: MemTree,
@@ -113,7 +113,7 @@ impl Tree for Failing {
 #[test]
 fn a_call_that_fails_ends_the_work_and_is_counted(rt: HostRuntime) -> Result<(), Fail> {
     let alloc = rt.alloc();
-    // Three files are started, read and read to their ends, and one is started and has its end at once.
+    // Three files are started, read and read to their ends. One is started and is at its end at once.
     for calls in 0..12 {
         let mut tree = Failing {
             tree: valid_bag(alloc)?,

@@ -4,7 +4,7 @@ use bag_path::BagPath;
 use std::alloc::Global;
 use std::test::Fail;
 
-/// The first of these paths that is that of a folder, or nothing.
+/// The first of these paths that is that of a folder, if there is one.
 fn folder_among(alloc: Global, texts: &[&str]) -> Result<Option<BagPath>, Fail> {
     let mut paths = Vec::new(alloc);
     for text in texts {

@@ -26,7 +26,7 @@ fn tags_of(alloc: Global, files: &[(&str, &str)]) -> Result<TagSet, Fail> {
     Ok(tags)
 }
 
-/// Why no transfer can be opened with these tag files; nothing where one can.
+/// Why no transfer can be opened with these tag files; `None` if one can be opened.
 fn refusal(alloc: Global, files: &[(&str, &str)]) -> Result<Option<PlanFault>, Fail> {
     match Plan::from_tags(alloc, &tags_of(alloc, files)?).err() {
         Some(PlanFault::Memory) => Err(AllocError.into()),
@@ -120,7 +120,7 @@ e3b0c44298fc1c149afbf4c8996fb92427ae41e4649b934ca495991b7852b855  data/a/b
     Ok(())
 }
 
-/// What the plan says of content at a path; nothing where the path isn't listed.
+/// What the plan says about content at a path; `None` if the path isn't listed.
 fn told_of(plan: &Plan, path: &BagPath, content: &[u8]) -> Option<Result<(), WantFault>> {
     let want = plan.want(path)?;
     let mut multi = Multi::new(want.algs());

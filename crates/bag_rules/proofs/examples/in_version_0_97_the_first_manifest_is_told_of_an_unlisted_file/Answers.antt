@@ -17,7 +17,7 @@ use Rattle.bag_rules.proofs.examples.in_version_0_97_the_first_manifest_is_told_
 abbrev bag : Bag
 bag = bag_of_0_97 []
 
--- no manifest lists anything, and the first is told
+-- no manifest lists anything, and the first is reported
 none : (path : List ℕ) → ¬ IsListed V097 bag path
 none path h = let k : false ≡ true = ap (λ pairs. lists_path pairs path) (sym (none_lists h.0 h.1 h.2)) ∙ h.3 in cc
 

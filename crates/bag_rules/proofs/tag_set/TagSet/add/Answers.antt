@@ -10,7 +10,7 @@ use Rattle.bag_rules.proofs.TagSetLemmas.{files_put, not_refused, tags_put}
 use Rattle.bag_rules.proofs.tag_set.TagSet.add.Goals.{In-Err-search}
 use Rattle.bag_rules.proofs.tag_set.TagSet.add.Goals as goal
 
--- it is the path of a tag file, and there is none with it
+-- it is the path of a tag file, and no file has it yet
 is_tag : (c : In-Err-search) → IsTagPath c.in-Ok.path
 is_tag c = (c.in-Ok.ensures.path, sym c.is_payload.ensures ∙ c.if-is_payload.false)
 
