@@ -1,4 +1,4 @@
--- Holes that stand before, and which hole is bad.
+-- Holes that repeat an earlier one, and which hole is bad.
 use Rattle.std.proofs.Common.{◌≡◌, ℕ, zero, suc, ◌+◌, ◌<◌, ◌⊎◌, true, false, List, [], ◌∷◌, Some, Contains, slice_get, take, refl, sym, ap, subst, ◌∙◌, arith, inl, inr, below_more, string_bytes}
 use Rattle.std.proofs.lemmas.Bool.{false≢true, or_cases, or_left, or_right}
 use Rattle.std.proofs.lemmas.Option.{same_Some}
@@ -32,7 +32,7 @@ is_hole_before (h ∷ holes) (suc i) path passed =
       | inr r ↦ let before = is_hole_before holes i path r in (suc before.0, (before.1.0, omega (arith, before.1.1), before.1.2, before.1.3))
     ]
 
--- what can stand after those before it isn't bad, and what can't is
+-- a hole that may follow those before it isn't bad, and one that may not is
 module _ (payload : List (List ℕ)) (holes : List Hole) (i : ℕ) (hole : Hole) (here : slice_get holes i ≡ Some hole) where
   not_bad_for : IsFurtherHole payload (take i holes) hole → (other : Hole) → hole ≡ other → ((¬ Contains payload other.path) ⊎ (¬ IsUrl (string_bytes other.url)) ⊎ IsHoleBefore holes i other.path) → ⊥
   not_bad_for fits other same (inl absent) = absent (subst (λ (h : Hole). Contains payload h.path) same fits.there)
@@ -53,6 +53,6 @@ module _ (payload : List (List ℕ)) (holes : List Hole) (i : ℕ) (hole : Hole)
   pub is_bad : IsBadAfter payload (take i holes) hole → IsBadHole payload holes i
   is_bad bad = (hole, here, bad_for bad)
 
--- one hole more that is good
+-- one more hole, which is good
 pub none_bad_more : (payload : List (List ℕ)) (holes : List Hole) (i : ℕ) → ((j : ℕ) → j < i → ¬ IsBadHole payload holes j) → ¬ IsBadHole payload holes i → (j : ℕ) → j < i + 1 → ¬ IsBadHole payload holes j
 none_bad_more payload holes i before here = below_more (λ j. IsBadHole payload holes j → ⊥) i before here

@@ -21,7 +21,7 @@ use Rattle.bag_writer.proofs.WholeBags.{holds_whole, opened, rising_whole, whole
 use Rattle.bag_writer.proofs.WrittenFiles.{all_files, all_new, has_all, take_has, take_new, written_are}
 
 module _ (spec : Spec) (payload : Files) where
-  -- nothing is there, or the payload directory alone
+  -- nothing is there, or only the payload directory
   pub part_nothing : HasPart spec payload nothing_stored
   part_nothing = record { files = λ path octets holds. absurd (has_at [] holds.0 (path, octets) holds.1); begun = λ file e. absurd (cc) }
 
@@ -103,7 +103,7 @@ same_number : (shown : Shown) (payload : Files) → IsReadFrom shown payload →
 same_number shown payload read = sym (length-map payload (λ (file : List ℕ × List ℕ). file.0)) ∙ ap (λ (paths : List (List ℕ)). length paths) read.paths
 
 module _ (shown : Shown) (spec : Spec) where
-  -- payload files alone are there
+  -- only payload files are there
   pub written_alone : (payload : Files) → IsReadFrom shown payload → (mid new : Option Stored) → AreWhole (written_payload spec payload) mid new → HasNoFile mid → HasPayloadAlone new
   written_alone payload read mid new whole none = payload_alone (written_payload spec payload) mid new whole (written_are spec payload (paths_are shown payload read)) none
 

@@ -1,4 +1,4 @@
--- Of the worked payloads bags can be written.
+-- Bags can be written of the worked payloads.
 use Rattle.std.proofs.Common.{◌≡◌, ◌∙◌, ◌≤◌, ℕ, zero, suc, true, false, List, [], ◌∷◌, Some, None, codes, length, map, slice_get, inl, inr, refl, sym, ap, subst, arith, rules, string_bytes, length-append}
 use Rattle.std.specs.List.Sorted.{IsStrictlySortedBy}
 use Rattle.bag_path.proofs.AsciiLemmas.{ascii_path, ascii_utf8}
@@ -21,7 +21,7 @@ use Rattle.bag_writer.specs.declared.spec.Spec.{Spec}
 abbrev File : Type 0
 File = List ℕ × List ℕ
 
--- none is long whose length is none of the long ones
+-- no file is too long if none of the known lengths is
 none_long : (files : Files) (ends : List (List ℕ × ℕ)) (limit : ℕ) → map (λ (file : File). (file.0, length file.1)) files ≡ ends → AllByRecursion (λ (e : List ℕ × ℕ). e.1 ≤ limit) ends → ¬ HasLongFile files limit
 none_long files ends limit same short (path, (octets, h, long)) =
     let there : Has ends (path, length octets) = subst (λ es. Has es (path, length octets)) same (has_map (λ (file : File). (file.0, length file.1)) files (path, octets) h) in

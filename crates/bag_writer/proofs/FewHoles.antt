@@ -1,4 +1,4 @@
--- There are no more holes than files of the payload, since none stands twice.
+-- There are at most as many holes as payload files, since no hole is there twice.
 use Rattle.std.proofs.Common.{◌≡◌, ◌<◌, ◌≤◌, ℕ, suc, Bool, false, not, List, [], ◌∷◌, Some, length, slice_get, inl, inr, refl, ap, ◌∙◌, arith}
 use Rattle.std.specs.List.{filter}
 use Rattle.bag_rules.proofs.HasLemmas.{place_of_has}
@@ -29,7 +29,7 @@ shorter p (y ∷ xs) x (inr h) out = elim (cases_Bool (p y)) [
 pub at_most : {X : Type 0} (p : X → Bool) (xs : List X) → length (filter p xs) ≤ length xs
 at_most p xs = no_longer p xs
 
--- no hole stands before another with its path
+-- no earlier hole has the path of another
 abbrev pub NoneBefore : List Hole → Type 0
 NoneBefore holes = (i : ℕ) (hole : Hole) → slice_get holes i ≡ Some hole → ¬ IsHoleBefore holes i hole.path
 

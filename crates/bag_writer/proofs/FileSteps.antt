@@ -1,4 +1,4 @@
--- One payload file that is read, and written unless it is a hole.
+-- One payload file, which is read, and written unless it is a hole.
 use Rattle.std.proofs.Common.{◌≡◌, ℕ, Bool, false, List, [], ◌∷◌, ◌++◌, Option, Some, None, Result, Ok, Err, MatchResult, slice_get, take, drop, arith, length-append, refl, sym, ap, ◌∙◌, subst, append-nil, append_assoc}
 use Rattle.std.proofs.lemmas.List.{take-append-drop}
 use Rattle.std.specs.Io.KnownBytes.{Consumes}
@@ -39,7 +39,7 @@ module _ (path octets : List ℕ) {old mid new : Option Stored} (begun : mid ≡
 pub until_sink : {set : AlgSet} {source left : Option (List ℕ)} {found : ℕ × Digests} {octets : List ℕ} → IsReadWhole set source left found octets → IsReadUntil source left Sink octets
 until_sink whole = record { gave = whole.gave.gave; long = λ e. cc }
 
--- a file that is no hole is taken where it is copied
+-- a file that isn't a hole is processed if it is copied
 pub taken_as_file : (set : AlgSet) (source left : Option (List ℕ)) (path octets : List ℕ) (old new : Option Stored) (is_hole : Bool) → is_hole ≡ false → (result : Result (ℕ × Digests) WriteFault)
     → MatchResult result (λ found. IsReadWhole set source left found octets × AreWhole ((path, octets) ∷ []) old new) (λ fault. IsReadUntil source left fault octets × HasFrontFrom path octets old new)
     → MatchResult result (λ found. IsReadWhole set source left found octets × AreWhole (unless_hole is_hole (path, octets)) old new) (λ fault. IsReadUntil source left fault octets × ((rest : List ℕ) → ArePart (unless_hole is_hole (path, octets ++ rest)) old new))
@@ -48,7 +48,7 @@ taken_as_file set source left path octets old new is_hole e (Err fault) copied =
 
 -- A FILE OF A TREE
 
--- octets that were given begin those that are known, and if they were all that there were they are those
+-- octets that were given begin those that are known; if all were given, they are the same
 pub some_octets : (known left : Option (List ℕ)) (given : List ℕ) → Consumes known left given → (rest : List ℕ) × AreOctetsOf known (given ++ rest)
 some_octets None left given gave = ([], tt)
 some_octets (Some known) None given gave = absurd gave
@@ -83,7 +83,7 @@ module _ (is_hole : Bool) (set : AlgSet) (shown : List ℕ × Option (List ℕ))
         },
       )
 
-  -- and one that was read whole
+  -- a file that was read whole
   pub taken_whole : (item : Item) (found : ℕ × Digests) → item.path ≡ path → item.octets ≡ found.0 → item.digests ≡ found.1 → IsReadWhole set source left found octets → AreWhole (unless_hole is_hole (path, octets)) old new
       → (file : List ℕ × List ℕ) × IsReadAs shown file × IsTaken set is_hole file old new item
   taken_whole item found own count digested whole written = (

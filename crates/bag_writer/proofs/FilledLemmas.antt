@@ -47,7 +47,7 @@ File = List ℕ × List ℕ
 by_path : (files : Files) → AreRising (keys_of files) → IsStrictlySortedBy (λ (x : File) (y : File). slice_cmp nat_cmp x.0 y.0) files
 by_path files rising = sorted_by_key (λ (file : File). file.0) (slice_cmp nat_cmp) files rising
 
--- two lists of files by path that have the same ones
+-- two lists of files by path that contain the same files
 pub same_files : (files others : Files) → AreRising (keys_of files) → AreRising (keys_of others) → (p : File → Bool) → ((file : File) → Has files file → p file ≡ true → Has others file) → ((file : File) → Has others file → Has files file × (p file ≡ true)) → filter p files ≡ others
 same_files files others rising rises p to from =
     same_list (λ (x : File) (y : File). slice_cmp nat_cmp x.0 y.0) (λ x y. asymmetric nat_list_cmp_total x.0 y.0) (filter p files) others

@@ -11,7 +11,7 @@ use Rattle.bag_writer.specs.FilledBags.{IsPayloadFor, IsPayloadPath}
 use Rattle.bag_writer.specs.Writing.{IsAccepted, IsReadFrom, IsTooLarge, payload_paths}
 use Rattle.bag_writer.specs.declared.spec.Spec.{Spec}
 
--- one path more
+-- one more path
 pub path_more : (paths : List (List ℕ)) (i : ℕ) (path : List ℕ) → slice_get paths i ≡ Some path → AllByRecursion IsPath (take i paths) → IsPath path → AllByRecursion IsPath (take (i + 1) paths)
 path_more paths i path at before here =
     let same : get_or paths i path ≡ path = get_or_from_slice_get paths i path path at in

@@ -1,4 +1,4 @@
--- The marks of holes: one hole more, and what a mark says.
+-- The marks of holes: one more hole, and what a mark says.
 use Rattle.std.proofs.Common.{◌≡◌, ℕ, zero, suc, ◌||◌, ◌++◌, true, false, Bool, List, [], ◌∷◌, Some, get_or, map, slice_get, length, take, refl, sym, ap, ◌∙◌, arith}
 use Rattle.std.proofs.Math.ListN.{replicate, set}
 use Rattle.std.proofs.lemmas.Bool.{false_from_ne_true, or_right}
@@ -32,7 +32,7 @@ module _ (before : List Hole) (hole : Hole) where
   kept [] none = refl
   kept (path ∷ paths) none = λ t. kept_there path (λ e. none zero (ap Some e)) t ∷ kept paths (λ k there. none (suc k) there) t
 
-  -- the mark at the one place of its path is what one more hole makes
+  -- the mark at the place of its path is the only one that one more hole sets
   pub marked : (paths : List (List ℕ)) (i : ℕ) → slice_get paths i ≡ Some hole.path → ((k : ℕ) → slice_get paths k ≡ Some hole.path → k ≡ i) → set (map (is_hole before) paths) i true ≡ map (is_hole (before ++ hole ∷ [])) paths
   marked [] i here only = cc
   marked (path ∷ paths) zero here only = λ t. marked_here path (same_Some path hole.path here) t ∷ kept paths (λ k there. absurd (omega (arith, only (suc k) there))) t

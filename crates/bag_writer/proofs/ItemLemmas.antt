@@ -75,7 +75,7 @@ alg_of_hash Sha512 octets = refl
 pub item_digest : (set : AlgSet) (item : Item) (file : File) (alg : Alg) → IsItemOf set item file.0 file.1 → has set alg ≡ true → digest_in item.digests alg ≡ Some (hash alg file.1)
 item_digest set item file alg is wanted = rw wanted at (is.digests_are alg)
 
--- what holds of each path holds of that at a place
+-- what holds for each path holds for the one at a place
 pub each_at : (P : List ℕ → Type 0) (files : Files) (i : ℕ) (file : File) → AllByRecursion P (keys_of files) → slice_get files i ≡ Some file → P file.0
 each_at P [] i file all at = (let no : None ≡ Some file = at in cc)
 each_at P (first ∷ files) zero file all at = (let same : first ≡ file = cc in subst (λ (f : File). P f.0) same all.0)
@@ -84,7 +84,7 @@ each_at P (first ∷ files) (suc i) file all at = each_at P files i file all.1 a
 other_path : (a b : List ℕ) → slice_cmp nat_cmp a b ≡ Less → bytes_eq a b ≡ false
 other_path a b less = sym (is_eq-slice_cmp a b) ∙ ap is_eq less
 
--- a path isn't among those before it
+-- a path isn't among the earlier ones
 pub not_before : (alg : Alg) (files : Files) (i : ℕ) (file : File) → AreRising (keys_of files) → slice_get files i ≡ Some file → lists_path (pairs_by alg (take i files)) file.0 ≡ false
 unfolding IsStrictlySortedBy
 not_before alg [] i file rising at = (let no : None ≡ Some file = at in cc)

@@ -26,7 +26,7 @@ not_true : (b : Bool) → not b ≡ true → b ≡ false
 not_true true h = absurd (false≢true h)
 not_true false h = refl
 
--- a path in ASCII that is no payload and doesn't begin with `t`, as tag manifests do
+-- a path in ASCII that isn't payload and doesn't begin with `t`, as tag manifests do
 is_listed_name : List ℕ → Bool
 is_listed_name path = (is_ascii_text path && is_none (path_fault path)) && (not (is_payload path) && not (nat_eq (get_or path 0 0) 116))
 

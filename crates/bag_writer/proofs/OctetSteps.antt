@@ -1,4 +1,4 @@
--- Octets that were read of a source, hashed and written so far.
+-- Octets that were read from a source, hashed and written so far.
 use Rattle.std.proofs.Common.{◌≡◌, ◌<◌, ◌-◌, ◌+◌, ℕ, List, [], ◌++◌, Option, Some, None, length, take, arith, refl, sym, ap, ◌∙◌, subst, length-append, append-nil, append_assoc}
 use Rattle.std.specs.Io.KnownBytes.{Consumes}
 use Rattle.std.specs.Option.{option_map}
@@ -58,7 +58,7 @@ pub record HasCopied (set : AlgSet) (source left : Option (List ℕ)) (old new :
   pub written : Writes octets old new
 
 module _ {set : AlgSet} {source left : Option (List ℕ)} {old new : Option Stored} {multi : Multi} {total : ℕ} {octets : List ℕ} (so_far : HasCopied set source left old new multi total octets) where
-  -- a piece more, of which some front is written
+  -- one more piece, of which a front is written
   pub piece_given : {after : Option (List ℕ)} {n : ℕ} {buffer : List ℕ} → GavePiece left after (LARGEST_FILE - total) n buffer → HasGiven source after (total + n) LARGEST_FILE (octets ++ take n buffer)
   piece_given {after} {n} {buffer} piece =
       let e = length-take-le n buffer piece.bound in record {
@@ -67,11 +67,11 @@ module _ {set : AlgSet} {source left : Option (List ℕ)} {old new : Option Stor
         within = omega (arith, so_far.given.within, piece.within);
       }
 
-  -- and it was given before a fault
+  -- what was given before a fault
   pub until_fault : (last : List ℕ) (after : Option (List ℕ)) (fault : WriteFault) → Consumes left after last → (fault ≡ TooLarge → LARGEST_FILE < length (octets ++ last)) → IsReadUntil source after fault (octets ++ last)
   until_fault last after fault gave long = record { gave = Consumes-trans source left after octets last so_far.given.gave gave; long = long }
 
-  -- where a read failed, where a piece was too long, and where the sink failed
+  -- a read failed, a piece was too long, or the sink failed
   pub read_failed : {after : Option (List ℕ)} → GaveWithin left after (LARGEST_FILE - total) → (all : List ℕ) × (IsReadUntil source after Tree all × WritesFront all old new)
   read_failed {after} (last, gave, within) = (octets ++ last, (until_fault last after Tree gave (λ e. cc), front_whole octets last old new so_far.written))
 
@@ -106,7 +106,7 @@ module _ {set : AlgSet} {source left : Option (List ℕ)} {old new : Option Stor
         ),
       )
 
-  -- the same, of what a reading answers
+  -- the same for the result of reading
   pub read_fails : {after : Option (List ℕ)} (fault : SourceFault) → fault ≡ cause.Read → GaveBefore left after (LARGEST_FILE - total) (read_fault fault) → (all : List ℕ) × (IsReadUntil source after Tree all × WritesFront all old new)
   read_fails {after} fault e gave = read_failed (subst (λ f. GaveBefore left after (LARGEST_FILE - total) (read_fault f)) e gave)
 

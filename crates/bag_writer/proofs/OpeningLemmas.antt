@@ -1,4 +1,4 @@
--- The tag files of a written bag open, and what passes then.
+-- The tag files of a written bag open, and what then passes.
 use Rattle.std.proofs.Common.{◌≡◌, ◌≢◌, ◌∙◌, ◌++◌, ◌≤◌, ◌<◌, ◌==◌, ℕ, Bool, true, false, List, [], ◌∷◌, Some, length, map, inl, inr, refl, sym, ap, subst, arith, length-append}
 use Rattle.std.specs.List.{filter, list_any}
 use Rattle.bag_path.specs.Octets.{slash}
@@ -218,7 +218,7 @@ module _ (spec : Spec) (payload : Files) (fits : IsPayloadFor spec payload) wher
 
   -- FAULTS
 
-  -- a listed path isn't told
+  -- for a listed path nothing is reported
   never_unlisted : (alg : Alg) (path octets : List ℕ) → Has payload (path, octets) → ¬ IsUnlisted (version_of alone) alone alg path
   never_unlisted alg path octets h unlisted =
       let is = version_is spec payload fits alone tags in
@@ -249,7 +249,7 @@ module _ (spec : Spec) (payload : Files) (fits : IsPayloadFor spec payload) wher
       let file = listed_has alg (listed_tags spec payload) path (subst (λ ps. lists_path ps path ≡ true) (lists_only spec payload fits alone tags (manifest_name Tag alg) pairs lists).1 listed) in
       absurd (absent (file.0, tags.there path file.0 (listed_tag spec payload path file.0 file.1)))
 
-  -- and have their digests
+  -- these files have their listed digests
   none_wrong : (kind : Kind) (alg : Alg) (path octets : List ℕ) (pairs : List Pair) (digest : Digest) → Lists alone (manifest_name kind alg) pairs → listed_digest pairs path ≡ Some digest → Holds alone path octets → hash alg octets ≡ digest
   none_wrong Payload alg path octets pairs digest lists some holds =
       let file = digest_has alg payload path digest (subst (λ ps. listed_digest ps path ≡ Some digest) (lists_only spec payload fits alone tags (manifest_name Payload alg) pairs lists).1 some) in

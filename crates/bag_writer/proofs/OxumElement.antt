@@ -34,6 +34,6 @@ is_value octets streams says =
       };
     }
 
--- label and value are such
+-- its label and its value are valid
 pub fits : (text : List ℕ) (octets streams : ℕ) → text ≡ written_oxum octets streams → OxumText (written_oxum octets streams) octets streams → IsLabel (codes "Payload-Oxum") × IsValue text
 fits text octets streams is says = (is_label, subst IsValue (sym is) (is_value octets streams says))

@@ -1,4 +1,4 @@
--- What a bag says that has the tag files which are written, and of the payload some files or all.
+-- What a bag says if it has the tag files that are written, and some or all of the payload files.
 use Rattle.std.proofs.Common.{◌≡◌, ◌≢◌, ◌⊎◌, ◌∙◌, ℕ, true, false, List, [], ◌∷◌, inl, inr, refl, sym, ap, subst}
 use Rattle.bag_tags.proofs.ExactTexts.{one_list_of_pairs}
 use Rattle.bag_tags.proofs.DeclaredVersionLemmas.{begins_with_version}
@@ -23,7 +23,7 @@ use Rattle.bag_writer.specs.FilledBags.{IsPayloadFor, IsPayloadPath}
 use Rattle.bag_writer.specs.WrittenBags.{info_file, pairs_by, tag_files}
 use Rattle.bag_writer.specs.declared.spec.Spec.{Spec}
 
--- the bag has each tag file, and beside them none but files of the payload
+-- the bag has each tag file and, apart from these, only payload files
 pub record HasTags (spec : Spec) (payload : Files) (bag : Bag) : Type 0 where
   pub rising : AreRising (paths_of bag)
   pub there : (path octets : List ℕ) → Has (tag_files spec payload) (path, octets) → Holds bag path octets
@@ -109,7 +109,7 @@ module _ (spec : Spec) (payload : Files) (fits : IsPayloadFor spec payload) wher
   text kind alg = manifest_text alg kind (files_in spec payload kind) (may_be_listed kind) (rise kind)
 
   module _ (bag : Bag) (tags : HasTags spec payload bag) where
-    -- a file that is no payload
+    -- a file that isn't payload
     pub other_case : (path octets : List ℕ) → is_payload path ≡ false → Holds bag path octets → TagCase spec payload path octets
     other_case path octets plain holds = elim (tags.only path octets holds) [
       | inl item ↦ absurd (false≢true (sym plain ∙ (payload_path path octets item).1))

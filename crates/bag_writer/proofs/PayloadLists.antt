@@ -30,7 +30,7 @@ read_on [] more (file ∷ files) others h k = absurd h
 read_on (s ∷ shown) more [] others h k = absurd h
 read_on (s ∷ shown) more (file ∷ files) others h k = (h.0, read_on shown more files others h.1 k)
 
--- files of which nothing was read: with the octets that are known, where they are
+-- files of which nothing was read, with the octets that are known, if any are
 abbrev pub unread : List ShownFile → Files
 unread shown = map (λ (s : ShownFile). (s.0, (octets_unread s.1).0)) shown
 
@@ -102,7 +102,7 @@ rest_from [] n x e = absurd (cc)
 rest_from (y ∷ xs) zero x e = let k : y ≡ x = cc in ap (λ z. z ∷ xs) k
 rest_from (y ∷ xs) (suc n) x e = let s : suc n + 1 ≡ suc (n + 1) = omega arith in rw s (rest_from xs n x e)
 
--- a path of a rising list isn't among those before it
+-- a path of a list in ascending order isn't among the earlier ones
 absent_before : (paths : List (List ℕ)) → AreRising paths → (i : ℕ) (path : List ℕ) → slice_get paths i ≡ Some path → ¬ Contains (take i paths) path
 absent_before paths rising i path here found =
     let (j, at) = place_of (take i paths) path found in
@@ -125,7 +125,7 @@ absent_kept q files path absent found =
     (kept_keys (λ p. ¬ (p ≡ path)) q files (recursion_from_All (λ p. ¬ (p ≡ path)) (keys_of files) (none_is (keys_of files) path absent))))
     found refl
 
--- the path of the next file isn't among those of files that were written before
+-- the path of the next file isn't among those of the files that were written earlier
 pub absent_written : (shown : Shown) (spec : Spec) (files : Files) (i : ℕ) (path : List ℕ) → AreRising (paths_in shown) → AreReadAs (take i shown.files) files → slice_get (paths_in shown) i ≡ Some path → ¬ Contains (keys_of (written_of spec files)) path
 absent_written shown spec files i path rising read here =
     absent_kept _ (payload_of files) path

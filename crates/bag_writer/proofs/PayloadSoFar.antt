@@ -17,7 +17,7 @@ use Rattle.bag_writer.proofs.FileSteps.{octets_unread, path_here}
 use Rattle.bag_writer.proofs.PayloadLists.{absent_written, AreReadAs, File, next_taken, payload_next, payload_on, payload_passed, payload_read, read_on, rest_from, ShownFile, unread, unread_is, written_next, written_of, written_on}
 use Rattle.bag_writer.proofs.StepLemmas.{free_at_first, free_still, part_after, part_more, part_whole, whole_none, whole_on}
 
--- these files of a tree were read, and the payload among them was written but for the holes, and these are its items
+-- these files of a tree were read, the payload among them was written except for the holes, and these are its items
 pub record HasWritten (spec : Spec) (shown : List ShownFile) (old new : Option Stored) (items : List Item) (files : Files) : Type 0 where
   pub read : AreReadAs shown files
   pub items_are : AreItemsOf spec.algs items (payload_of files)
@@ -47,7 +47,7 @@ has_middle [] rest file = inl refl
 has_middle (f ∷ files) rest file = inr (has_middle files rest file)
 
 module _ (spec : Spec) (tree : Shown) (n : ℕ) (old new : Option Stored) (items : List Item) (files : Files) (so_far : HasWritten spec (take n tree.files) old new items files) where
-  -- where all files were read
+  -- all files were read
   pub all_written : length tree.files ≤ n → IsReadFrom tree (payload_of files)
   all_written all = payload_read tree files (subst (λ shown. AreReadAs shown files) (take_all n tree.files all) so_far.read)
 
@@ -69,7 +69,7 @@ module _ (spec : Spec) (tree : Shown) (n : ℕ) (old new : Option Stored) (items
     next : take (n + 1) tree.files ≡ take n tree.files ++ shown ∷ []
     next = next_taken tree.files n shown here
 
-    -- a file that is none of the payload
+    -- a file that isn't payload
     pub passed : is_payload shown.0 ≡ false → (more : Files) × HasWritten spec (take (n + 1) tree.files) old new items more
     passed other =
         let file : File = (shown.0, (octets_unread shown.1).0) in
@@ -96,7 +96,7 @@ module _ (spec : Spec) (tree : Shown) (n : ℕ) (old new : Option Stored) (items
       next_written : (rest : Files) → written_of spec (files ++ file ∷ rest) ≡ written_of spec files ++ (unless_hole mark file ++ written_of spec rest)
       next_written rest = written_on spec files (file ∷ rest) ∙ ap (λ list. written_of spec files ++ list) (written_next spec file rest mark is_one is_marked)
 
-      -- a payload file that was taken
+      -- a payload file that was processed
       pub one_more : (end : Option Stored) (item : Item) → IsTaken spec.algs mark file new end item → HasWritten spec (take (n + 1) tree.files) old end (items ++ item ∷ []) (files ++ file ∷ [])
       one_more end item taken = record {
         read = subst (λ list. AreReadAs list (files ++ file ∷ [])) (sym next) (read_on (take n tree.files) (shown ∷ []) files (file ∷ []) so_far.read (read_as, tt));
@@ -105,7 +105,7 @@ module _ (spec : Spec) (tree : Shown) (n : ℕ) (old new : Option Stored) (items
         whole = subst (λ list. AreWhole list old end) (sym (next_written [] ∙ ap (λ list. written_of spec files ++ list) (append-nil (unless_hole mark file)))) (whole_on (written_of spec files) (unless_hole mark file) old new end so_far.whole taken.written);
       }
 
-      -- and one at which the writing stopped
+      -- a payload file at which writing stopped
       pub stopped_in : (end : Option Stored) (fault : WriteFault) → IsCutShort mark file new end fault
           → (all : Files) × IsReadFrom tree all × ((fault ≡ TooLarge → HasLongFile all LARGEST_FILE) × ArePart (written_payload spec all) old end)
       stopped_in end fault cut =
@@ -134,7 +134,7 @@ found_shown : (o : Option ShownFile) (path : List ℕ) → option_map (λ (s : S
 found_shown None path e = absurd (cc)
 found_shown (Some s) path e = let k : s.0 ≡ path = cc in (s, (refl, k))
 
--- the file at the place of a path, where what a tree shows is still the same
+-- the file at the place of a path, if the tree still shows the same
 pub shown_at : (tree now : Shown) → now ≡ tree → (i : ℕ) (path : List ℕ) → slice_get (paths_in now) i ≡ Some path → (s : ShownFile) × ((slice_get tree.files i ≡ Some s) × (s.0 ≡ path))
 shown_at tree now same i path e =
     found_shown (slice_get tree.files i) path (sym (slice_get-map (λ (s : ShownFile). s.0) tree.files i) ∙ subst (λ (s : Shown). slice_get (paths_in s) i ≡ Some path) same e)

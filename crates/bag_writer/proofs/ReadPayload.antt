@@ -1,4 +1,4 @@
--- That some payload can have been read of a tree.
+-- There is a payload that can have been read from a tree.
 use Rattle.std.proofs.Common.{◌≡◌, ◌∙◌, ◌∷◌, [], ℕ, List, Option, Some, map, refl, ap, inl, inr}
 use Rattle.std.specs.List.{filter}
 use Rattle.std.specs.Option.{unwrap_or}
@@ -8,7 +8,7 @@ use Rattle.bag_writer.specs.Writing.{IsReadFrom}
 abbrev ShownFile : Type 0
 ShownFile = List ℕ × Option (List ℕ)
 
--- the payload files that are shown, each with its octets where they are known
+-- the payload files that are shown, each with its octets if they are known
 abbrev payload_shown : List ShownFile → Files
 payload_shown files = map (λ (file : ShownFile). (file.0, unwrap_or file.1 [])) (filter (λ (file : ShownFile). is_payload file.0) files)
 

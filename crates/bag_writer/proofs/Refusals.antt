@@ -26,7 +26,7 @@ has_some (first ∷ elements) element (inr has) passed = or_right (is_oxum first
 pub no_oxum : (elements : List MetadataElement) → list_any is_oxum elements ≡ false → ¬ ((element : MetadataElement) × Has elements element × (is_oxum element ≡ true))
 no_oxum elements none found = false≢true (sym none ∙ has_some elements found.0 found.1 found.2)
 
--- what the marking of holes refuses is the first reason, where none comes before it
+-- what marking the holes refuses is the first reason, if none comes before it
 pub refused_holes : (payload : List (List ℕ)) (spec : Spec) → HasAlgorithm spec → ¬ GivesOxum spec → (fault : WriteFault) → RefusesHoles payload spec.holes.items fault → Refuses payload spec fault × IsMetBefore fault
 refused_holes payload spec some none NoAlgorithm refused = absurd refused
 refused_holes payload spec some none OxumGiven refused = absurd refused

@@ -13,7 +13,7 @@ pub ok_is_no_error : {X E : Type 0} {fault : E} (x : X) → IsErrOf {T = X} (Ok 
 ok_is_no_error x e = cc
 
 module _ {S : Type 0} {failures : S → ℕ} {sure : S → Type 0} where
-  -- the same, of another answer
+  -- the same for another result
   pub sink_so : {a b : S} {In F G : Type 0} → UsesSink failures sure a b In F → (F → G) → (G → F) → UsesSink failures sure a b In G
   sink_so p there back = record {
     counted = record { rises = λ g. p.counted.rises (back g); stays = λ n. p.counted.stays (λ f. n (there f)) };
@@ -27,14 +27,14 @@ module _ {S : Type 0} {failures : S → ℕ} {sure : S → Type 0} where
     stays_sure = λ s. (s, (λ i. not));
   }
 
-  -- a call that didn't fail, and then another, which is in order where both are to be
+  -- a call that didn't fail and then another, which is in the right order if both have to be
   pub sink_on : {a b c : S} {In Then F G : Type 0} → UsesSink failures sure a b In F → ¬ F → UsesSink failures sure b c Then G → (In → Then) → UsesSink failures sure a c In G
   sink_on {a} {b} {c} {In} {Then} {F} {G} p not q goes = record {
     counted = subst (λ n. CountsIf G n (failures c)) (p.counted.stays not) q.counted;
     stays_sure = λ s. (let t = q.stays_sure (p.stays_sure s).0 in (t.0, (λ i. t.1 (goes i))));
   }
 
-  -- more is asked of what is in order
+  -- more is required of the order
   pub sink_if : {a b : S} {In More F : Type 0} → UsesSink failures sure a b In F → (More → In) → UsesSink failures sure a b More F
   sink_if p less = record {
     counted = p.counted;
@@ -49,7 +49,7 @@ no_file_yet (Some before) mid made empty stored e =
     let same : with_payload_dir before ≡ stored = cc in
     sym (ap (λ (s : Stored). s.bag.files) same) ∙ ap (λ (s : Stored). s.bag.files) nothing
 
--- payload files alone were written
+-- only payload files were written
 pub payload_alone : (files : Files) (mid new : Option Stored) → AreWhole files mid new → AllByRecursion (λ path. is_payload path ≡ true) (keys_of files) → HasNoFile mid → HasPayloadAlone new
 payload_alone files None new whole are none stored e = absurd (cc)
 payload_alone files (Some before) new whole are none stored e =

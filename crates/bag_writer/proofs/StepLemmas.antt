@@ -1,4 +1,4 @@
--- Files that are written one after another: what a sink holds after them.
+-- Files that are written one after another, and what a sink holds after them.
 use Rattle.std.proofs.Common.{◌≡◌, ◌<◌, ◌≤◌, ◌+◌, ℕ, zero, suc, List, [], ◌∷◌, ◌++◌, Option, Some, None, length, take, slice_get, Contains, refl, sym, ap, ◌∙◌, subst, inl, inr, arith}
 use Rattle.std.proofs.Math.Seq.{take-append-add, take-append_seam}
 use Rattle.std.proofs.lemmas.List.{take-append-le, take_all}
@@ -22,11 +22,11 @@ File = List ℕ × List ℕ
 
 -- ONE FILE
 
--- a file is begun, of which these octets are written
+-- a file was begun, and these octets of it were written
 abbrev pub with_front : List ℕ → List ℕ → Stored → Stored
 with_front path octets stored = with_octets octets (with_begun path stored)
 
--- A file was begun, and these octets of it were written, where it is known what the sink holds.
+-- A file was begun and these octets of it were written, if it is known what the sink holds.
 pub record HasBegun (path octets : List ℕ) (old new : Option Stored) : Type 0 where
   pub front : new ≡ option_map (with_front path octets) old
 
@@ -38,17 +38,17 @@ itself : (o : Option Stored) → option_map (λ s. s) o ≡ o
 itself None = refl
 itself (Some stored) = refl
 
--- it is begun, and has no octets yet
+-- the file was begun and is empty
 pub begun_empty : {old new : Option Stored} (path : List ℕ) → new ≡ option_map (with_begun path) old → HasBegun path [] old new
 begun_empty path e = record { front = e }
 
--- octets more, after those that were written
+-- more octets after those that were written
 pub begun_more : {old mid new : Option Stored} {path octets : List ℕ} (more : List ℕ) → HasBegun path octets old mid → new ≡ option_map (with_octets more) mid → HasBegun path (octets ++ more) old new
 begun_more {old} {mid} {new} {path} {octets} more begun e = record {
   front = e ∙ ap (option_map (with_octets more)) begun.front ∙ twice (with_front path octets) (with_octets more) old;
 }
 
--- it is ended, and is whole
+-- the file was ended and is whole
 pub begun_ended : {old mid new : Option Stored} {path octets : List ℕ} → HasBegun path octets old mid → new ≡ option_map with_ended mid → AreWhole ((path, octets) ∷ []) old new
 begun_ended {old} {mid} {new} {path} {octets} begun e =
     e ∙ ap (option_map with_ended) begun.front ∙ twice (with_front path octets) with_ended old
@@ -60,7 +60,7 @@ begun_front {old} {new} {path} {octets} rest begun = inr (inl (
   subst (λ front. new ≡ option_map (with_front path front) old) (sym (take-append_seam octets rest)) begun.front,
 ))
 
--- where it couldn't be ended, it is begun still or is lost
+-- if it couldn't be ended, it still is begun or is lost
 pub begun_lost : {old mid new : Option Stored} {path octets : List ℕ} (rest : List ℕ) → HasBegun path octets old mid → StaysOrIsLost mid new → HasFrontOf (Some (path, octets ++ rest)) old new
 begun_lost {old} {mid} {new} {path} {octets} rest begun (inl stays) = begun_front rest (record { front = stays ∙ begun.front })
 begun_lost {old} {mid} {new} {path} {octets} rest begun (inr lost) =
@@ -130,7 +130,7 @@ part_more files more old new (n, front) = elim (cases_lt n (length files)) [
 
 -- THE PATHS THAT ARE THERE
 
--- what is so of the paths that are there and of those that are written is so of all
+-- what holds for the paths that are there and for those that are written holds for all
 pub all_paths : (P : List ℕ → Type 0) (files : Files) (stored : Stored) → All P (paths_of stored.bag) → All P (keys_of files) → All P (paths_of (with_wholes files stored).bag)
 all_paths P [] stored there more = there
 all_paths P (file ∷ files) stored there more =
@@ -148,10 +148,10 @@ free_in files path (Some before) free absent stored e =
     let all = all_paths (λ p. ¬ (p ≡ path)) files before (none_is (paths_of before.bag) path (free before refl)) (none_is (keys_of files) path absent) in
     λ found. All-contains (λ p. ¬ (p ≡ path)) (paths_of stored.bag) path (subst (λ (s : Stored). All (λ p. ¬ (p ≡ path)) (paths_of s.bag)) same all) found refl
 
--- a path is free still where none of the files that were written has it
+-- a path stays free if none of the files that were written has it
 pub free_still : (files : Files) (path : List ℕ) (old new : Option Stored) → IsFree old path → ¬ Contains (keys_of files) path → AreWhole files old new → IsFree new path
 free_still files path old new free absent whole = subst (λ s. IsFree s path) (sym whole) (free_in files path old free absent)
 
--- each path is free where no file is there
+-- every path is free if no file is there
 pub free_at_first : (known : Option Stored) (path : List ℕ) → HasNoFile known → IsFree known path
 free_at_first known path none stored e = λ found. All-contains (λ p. ¬ (p ≡ path)) (paths_of stored.bag) path (subst (λ files. All (λ p. ¬ (p ≡ path)) (keys_of files)) (sym (none stored e)) (All-nil (λ p. ¬ (p ≡ path)))) found refl

@@ -1,4 +1,4 @@
--- The names of the tag files that are written: none stands twice, and none is a payload path.
+-- The names of the tag files that are written: none is there twice, and none is a payload path.
 use Rattle.std.proofs.Common.{◌≡◌, ◌∙◌, ◌++◌, ◌∷◌, [], ℕ, Bool, true, false, List, length, map, refl, sym, ap, subst, inl, inr, arith}
 use Rattle.std.specs.List.{AllByRecursion}
 use Rattle.std.specs.List.Sorted.{IsStrictlySortedBy}
@@ -13,7 +13,7 @@ use Rattle.bag_writer.specs.declared.spec.Hole.{Hole}
 use Rattle.bag_writer.specs.declared.spec.Spec.{Spec}
 use Rattle.bag_writer.specs.WrittenBags.{algs_in, fetch_files, listed_tags, manifest_of, tag_files}
 
--- those of the list at whose place is yes
+-- the elements of the list whose place is marked
 abbrev chosen : {X : Type 0} → List Bool → List X → List X
 chosen (true ∷ bs) (x ∷ xs) = x ∷ chosen bs xs
 chosen (false ∷ bs) (x ∷ xs) = chosen bs xs
@@ -120,13 +120,13 @@ module _ (spec : Spec) (payload : Files) where
       ∙ (λ t. listed_names t ++ manifest_names Tag spec.algs (listed_tags spec payload) t)
       ∙ chosen_join (true ∷ true ∷ has_some spec.holes.items ∷ by) (text_file Info ∷ declaration_file ∷ text_file FetchList ∷ manifests Payload) by (manifests Tag) refl
 
-  -- the names of the tag files rise
+  -- the names of the tag files are in ascending order
   pub tags_rise : AreRising (keys_of (tag_files spec payload))
   tags_rise = subst AreRising (sym tag_names) (rising_chosen (which spec) names names_rise)
 
   pub listed_rise : AreRising (keys_of (listed_tags spec payload))
   listed_rise = subst AreRising (sym listed_names) (rising_chosen (true ∷ true ∷ has_some spec.holes.items ∷ by) (text_file Info ∷ declaration_file ∷ text_file FetchList ∷ manifests Payload) listed_names_rise)
 
-  -- and are no payload paths
+  -- the names of the tag files are not payload paths
   pub tags_plain : AllByRecursion (λ path. is_payload path ≡ false) (keys_of (tag_files spec payload))
   tags_plain = subst (AllByRecursion (λ path. is_payload path ≡ false)) (sym tag_names) (all_chosen (λ path. is_payload path ≡ false) (which spec) names names_plain)

@@ -19,7 +19,7 @@ File = List ℕ × List ℕ
 
 -- WHAT A SINK HOLDS
 
--- with one whole file more, where it is known
+-- one more whole file, if it is known what the sink holds
 abbrev pub step : File → Option Stored → Option Stored
 step file known = option_map (λ (stored : Stored). with_whole stored file) known
 
@@ -104,7 +104,7 @@ module _ {S : Type 0} (stored : S → Option Stored) (is_open : S → Bool) (fai
   no_fault : None ≡ Some Sink → ⊥
   no_fault is = cc
 
-  -- nothing to write, and nothing written for want of memory
+  -- nothing is to be written, or nothing was since memory ran out
   pub writes_none : (now : S) → Writes [] now now None
   writes_none now = record {
     written = (whole_none (stored now), λ long. long.1.1);
@@ -136,7 +136,7 @@ module _ {S : Type 0} (stored : S → Option Stored) (is_open : S → Bool) (fai
     };
   }
 
-  -- all was written, and then there was no memory
+  -- all was written, and then memory ran out
   pub writes_forgotten : (files : Files) (old new : S) → Writes files old new None → Writes files old new (Some Memory)
   writes_forgotten files old new all = record {
     written = (whole_part files (stored old) (stored new) all.written.0, (tt, λ is. (let no : Memory ≡ Tree = is in cc)), λ is. (let no : Memory ≡ TooLarge = is in cc));
@@ -178,7 +178,7 @@ module _ {S : Type 0} (stored : S → Option Stored) (is_open : S → Bool) (fai
     };
   }
 
-  -- one file more, and then none or others
+  -- one more file, followed by others or none
   pub writes_more : (files : Files) (file : File) (all : Files) (old mid new : S) → all ≡ files ++ file ∷ [] → Writes files old mid None → Writes (file ∷ []) mid new None → Writes all old new None
   writes_more files file all old mid new is first second = subst (λ (fs : Files). Writes fs old new None) (sym is) (writes_after files (file ∷ []) old mid new None first second)
 

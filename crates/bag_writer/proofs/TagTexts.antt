@@ -52,7 +52,7 @@ module _ (set : AlgSet) (items : List Item) (payload : Files) (are : AreItemsOf 
       ap (λ (n : ℕ). fetch_item (string_bytes hole.url) (Some n) hole.path) octets_are
       ∙ ap (λ (octets : Option (List ℕ)). fetch_item (string_bytes hole.url) (option_map length octets) hole.path) (sym found)
 
-  -- as it is made of what a search found
+  -- the entry of a hole as it is made from what a search found
   pub entry_found : (hole : Hole) (i : ℕ) (item d : Item) (entry : FetchItem) (url path : List ℕ) → AreRising (keys_of payload) → slice_get items i ≡ Some item → item.path ≡ hole.path → url ≡ string_bytes hole.url → path ≡ hole.path → entry ≡ fetch_item url (Some (get_or items i d).octets) path → entry ≡ entry_of payload hole
   entry_found hole i item d entry url path rising there same url_is path_is made =
       let here : get_or items i d ≡ item = get_or_from_slice_get items i item d there in
@@ -127,7 +127,7 @@ module _ (set : AlgSet) (items : List Item) (files : Files) (are : AreItemsOf se
         subst (λ (l : Listing). Admits l item.path (hash alg file.1)) (sym is) (subst (λ (p : List ℕ). Admits (listing_by alg kind (take i files)) p (hash alg file.1)) (sym path_is) admitted),
       )
 
-  -- and is listed
+  -- the next item is listed
   pub next_listed : (old new : Listing) → old ≡ listing_by alg kind (take i files) → ((digest : Digest) → digest_in item.digests old.alg ≡ Some digest → new ≡ with_pair old (pair item.path digest)) → i < length files → new ≡ listing_by alg kind (take (i + 1) files)
   next_listed old new is adds within =
       let file = at.0 in

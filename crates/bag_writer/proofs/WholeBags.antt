@@ -1,4 +1,4 @@
--- What a sink holds to which whole files were written, one after another.
+-- What a sink holds after whole files were written to it, one after another.
 use Rattle.std.proofs.Common.{◌≡◌, ◌↔◌, ◌∷◌, [], ℕ, true, List, None, refl, sym, subst, inl, inr}
 use Rattle.std.specs.List.Sorted.{IsStrictlySortedBy}
 use Rattle.bag_rules.specs.Transfers.{with_files}
@@ -20,11 +20,11 @@ pub wholes_dir : (files : Files) (stored : Stored) → stored.bag.has_payload_di
 wholes_dir [] stored dir = dir
 wholes_dir (file ∷ files) stored dir = wholes_dir files (with_whole stored file) (rw dir refl)
 
--- the sink that has its payload directory alone
+-- the sink that has only its payload directory
 abbrev pub opened : Stored
 opened = with_payload_dir nothing_stored
 
--- the files, of which none has the path of another, are what it holds then
+-- the sink then holds these files, if no two have the same path
 module _ (files : Files) (new : AreNew [] files) where
   pub holds_whole : (path octets : List ℕ) → Holds (with_wholes files opened).bag path octets ↔ Has files (path, octets)
   holds_whole path octets =

@@ -1,4 +1,4 @@
--- The files that are written of a payload: none twice, and just those of its bag.
+-- The files that are written of a payload: none is there twice, and they are exactly those of its bag.
 use Rattle.std.proofs.Common.{◌≡◌, ◌∙◌, ◌⊎◌, ◌↔◌, ◌++◌, ◌∷◌, [], ℕ, Bool, true, false, not, zero, suc, List, take, refl, sym, ap, subst, inl, inr}
 use Rattle.std.specs.List.{AllByRecursion, filter}
 use Rattle.std.specs.List.Sorted.{IsStrictlySortedBy}
@@ -44,7 +44,7 @@ rising_new (file ∷ files) rising = (
   rising_new files rising.1,
 )
 
--- files that are no payload come after those that are
+-- files that aren't payload come after those that are
 join_new : (payload tags : Files) → AreNew [] payload → AllByRecursion (λ path. is_payload path ≡ true) (keys_of payload) → AllByRecursion (λ path. is_payload path ≡ false) (keys_of tags) → AreNew [] tags → AreNew [] (payload ++ tags)
 join_new [] tags new are plain others = others
 join_new (file ∷ payload) tags new are plain others = (

@@ -1,4 +1,4 @@
--- A payload that several worked cases name.
+-- A payload that several worked examples use.
 use Rattle.std.specs.Prelude.{◌≡◌, ◌∷◌, [], ℕ, List, codes, false, length, map, string_bytes, true}
 use Rattle.bag_tags.specs.Infos.{element}
 use Rattle.bag_rules.specs.Files.{Files}
@@ -15,11 +15,11 @@ file_e = codes "data/e.txt"
 abbrev pub payload_of_two : Files
 payload_of_two = (file_a, codes "abc") ∷ (file_e, []) ∷ []
 
--- each path with the number of octets
+-- each path with the number of its octets
 abbrev pub lengths_of : Files → List (List ℕ × ℕ)
 lengths_of files = map (λ (file : List ℕ × List ℕ). (file.0, length file.1)) files
 
--- It is written with manifests by MD5 and SHA-512 and with one element, and the empty file is a hole.
+-- It is written with manifests by MD5 and SHA-512 and with one element. The empty file is a hole.
 pub record IsWithHole (spec : Spec) : Type 0 where
   pub algs : spec.algs ≡ record { md5 = true; sha1 = false; sha256 = false; sha512 = true }
   pub info : spec.info ≡ element (codes "Source-Organization") (codes "Test") ∷ []
@@ -28,7 +28,7 @@ pub record IsWithHole (spec : Spec) : Type 0 where
   pub path : hole.path ≡ file_e
   pub url : string_bytes hole.url ≡ codes "http://example.org/e"
 
--- By SHA-256 alone, without elements and holes.
+-- It is written with a manifest by SHA-256 and without elements and holes.
 pub record IsPlain (spec : Spec) : Type 0 where
   pub algs : spec.algs ≡ record { md5 = false; sha1 = false; sha256 = true; sha512 = false }
   pub info : spec.info ≡ []

@@ -1,5 +1,5 @@
--- Of which payloads a bag is written, and the bag with its holes filled: what is to be there once each file was fetched (RFC 8493
--- section 2.2.3).
+-- The payloads of which a bag can be written, and the bag with its holes filled, which is what is there once each file
+-- was fetched (RFC 8493 section 2.2.3).
 use Rattle.std.specs.Prelude.{◌≡◌, ◌⊎◌, ◌↔◌, ℕ, List, true}
 use Rattle.std.specs.List.{AllByRecursion}
 use Rattle.std.specs.Map.{keys_of}
@@ -16,7 +16,8 @@ use Rattle.bag_writer.specs.declared.spec.Spec.{Spec}
 abbrev pub IsPayloadPath : List ℕ → Type 0
 IsPayloadPath path = IsPath path × (is_payload path ≡ true)
 
--- Of this payload a bag can be written so. (The paths of a tree and the elements of an `Info` are such by their types.)
+-- A bag can be written of this payload as specified. (The paths of a tree and the elements of an `Info` are valid by
+-- their types.)
 pub record IsPayloadFor (spec : Spec) (payload : Files) : Type 0 where
   pub rising : AreRising (keys_of payload)
   pub paths : AllByRecursion IsPayloadPath (keys_of payload)
@@ -24,7 +25,7 @@ pub record IsPayloadFor (spec : Spec) (payload : Files) : Type 0 where
   pub accepted : IsAccepted (keys_of payload) spec
   pub not_too_large : ¬ IsTooLarge spec payload
 
--- the bag that is written of this payload, and each of its holes is filled
+-- the bag that is written of this payload, with each of its holes filled
 pub record IsFilled (spec : Spec) (payload : Files) (bag : Bag) : Type 0 where
   pub rising : AreRising (paths_of bag)
   pub has_payload_dir : bag.has_payload_dir ≡ true

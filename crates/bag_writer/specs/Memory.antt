@@ -1,4 +1,4 @@
--- A sink in memory, as what it holds.
+-- A sink in memory, in terms of what it holds.
 use Rattle.std.specs.Prelude.{◌+◌, ℕ, Bool, Option, Some, None, is_some, min}
 use Rattle.bag_digest.specs.Device.{greatest_count}
 use Rattle.bag_rules.specs.Bags.{Bag}
@@ -10,26 +10,26 @@ pub record MemStored : Type 0 where
   pub stored : Stored
   pub failures : ℕ
 
--- nothing was written yet, and nothing has failed
+-- nothing was written yet, and the sink hasn't failed
 abbrev pub nothing_held : MemStored
 nothing_held = record { stored = nothing_stored; failures = 0 }
 
--- it is always known what it holds
+-- what it holds is always known
 abbrev pub known : MemStored → Option Stored
 known sink = Some sink.stored
 
 abbrev pub has_begun : MemStored → Bool
 has_begun sink = is_some sink.stored.begun
 
--- any call that takes memory may fail
+-- any call that allocates memory may fail
 abbrev pub IsNeverSure : MemStored → Type 0
 IsNeverSure sink = ⊥
 
--- one failure more, up to the greatest number
+-- one more failure, up to the maximum
 abbrev pub with_failure : MemStored → MemStored
 with_failure sink = record sink { failures = min (sink.failures + 1) greatest_count }
 
--- a tree of the files of a bag, of which none was started and none has failed
+-- the tree of the files of a bag, in which no file was started and no read has failed
 abbrev pub tree_of : Bag → MemFiles
 tree_of bag = record {
   files = bag.files;

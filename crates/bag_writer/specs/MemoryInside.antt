@@ -1,4 +1,4 @@
--- How the fields of a sink in memory show what it holds, and what is true of them.
+-- How the fields of a sink in memory show what it holds, and what is always true of them.
 use Rattle.std.specs.Prelude.{◌≡◌}
 use Rattle.std.specs.Option.{option_map}
 use Rattle.bag_rules.specs.Memory.{bag_in}
@@ -16,6 +16,6 @@ view_of sink = record {
   failures = sink.failures;
 }
 
--- no file of the tree was started, and none has failed
+-- no file of the tree was started, and no read has failed
 pub record IsSound (sink : Inside) : Type 0 where
   pub tree : sink.ended ≡ tree_of (bag_in sink.ended)

@@ -1,4 +1,4 @@
--- How the payload is read and written, file by file. (These are said of private functions.)
+-- How the payload is read and written, file by file. Only private functions cite these.
 use Rattle.std.specs.Prelude.{◌≡◌, ◌++◌, ◌∷◌, ◌<◌, ◌≤◌, [], ℕ, Bool, true, false, List, Option, Some, None, length, take}
 use Rattle.std.specs.Io.KnownBytes.{Consumes}
 use Rattle.std.specs.Option.{option_map}
@@ -15,19 +15,19 @@ use Rattle.bag_writer.specs.declared.item.Item.{Item}
 
 -- OCTETS FROM A SOURCE TO A SINK
 
--- the source was read to its end, within the limit of a file; this is the number of its octets, with their digests
+-- the source was read to its end, within the limit of a file; this is the number of its octets with their digests
 pub record IsReadWhole (set : AlgSet) (source left : Option (List ℕ)) (found : ℕ × Digests)
     (octets : List ℕ) : Type 0 where
   pub gave : GaveAll source left LARGEST_FILE octets
   pub sums : IsCountAndDigests found set octets
 
--- the source gave these octets until a fault, more than a file may have where that is the fault
+-- the source gave these octets before the fault; if the fault is `TooLarge`, they are more than a file may have
 pub record IsReadUntil (source left : Option (List ℕ)) (fault : WriteFault)
     (octets : List ℕ) : Type 0 where
   pub gave : Consumes source left octets
   pub long : fault ≡ TooLarge → LARGEST_FILE < length octets
 
--- all of the octets, or some first ones, were written to the file that is begun
+-- all of the octets, or some of the first ones, were written to the file that was begun
 abbrev pub Writes : List ℕ → Option Stored → Option Stored → Type 0
 Writes octets old new = new ≡ option_map (with_octets octets) old
 
@@ -36,7 +36,7 @@ WritesFront octets old new = (n : ℕ) × Writes (take n octets) old new
 
 -- ONE FILE
 
--- some front of the file is there, whatever comes after these octets in it
+-- a front of the file is there, whatever follows these octets in it
 abbrev pub HasFrontFrom : List ℕ → List ℕ → Option Stored → Option Stored → Type 0
 HasFrontFrom path octets old new = (rest : List ℕ)
     → HasFrontOf (Some (path, octets ++ rest)) old new
@@ -46,12 +46,12 @@ abbrev pub unless_hole : Bool → List ℕ × List ℕ → Files
 unless_hole true file = []
 unless_hole false file = file ∷ []
 
--- they are the octets that are known, where some are
+-- these are the octets that are known, if any are
 abbrev pub AreOctetsOf : Option (List ℕ) → List ℕ → Type 0
 AreOctetsOf None octets = Unit {0}
 AreOctetsOf (Some known) octets = octets ≡ known
 
--- the file is that which a tree shows
+-- the file is the one that a tree shows
 abbrev pub IsReadAs : List ℕ × Option (List ℕ) → List ℕ × List ℕ → Type 0
 IsReadAs shown file = (file.0 ≡ shown.0) × AreOctetsOf shown.1 file.1
 
@@ -62,7 +62,7 @@ pub record IsTaken (set : AlgSet) (is_hole : Bool) (file : List ℕ × List ℕ)
   pub within : length file.1 ≤ LARGEST_FILE
   pub written : AreWhole (unless_hole is_hole file) old new
 
--- the file is too large where that is the fault, and some front of it was written unless it is a hole
+-- the file is too large if that is the fault, and a front of it was written unless it is a hole
 pub record IsCutShort (is_hole : Bool) (file : List ℕ × List ℕ)
     (old new : Option Stored) (fault : WriteFault) : Type 0 where
   pub long : fault ≡ TooLarge → LARGEST_FILE < length file.1

@@ -1,4 +1,4 @@
--- How a bag is written: one whole file after another. (These are said of private functions.)
+-- How a bag is written, one whole file after another. Only private functions cite these.
 use Rattle.std.specs.Prelude.{◌≡◌, ◌⊎◌, ◌∷◌, ◌≤◌, [], ℕ, Bool, true, List, Option, Some, None, Contains, length, map, not, slice_get, take}
 use Rattle.std.specs.List.{AllByRecursion, filter, fold, list_any}
 use Rattle.std.specs.Map.{keys_of}
@@ -28,7 +28,7 @@ abbrev pub written_payload : Spec → Files → Files
 written_payload spec payload =
     filter (λ (file : List ℕ × List ℕ). not (is_hole spec.holes.items file.0)) payload
 
--- one whole file more
+-- one more whole file
 abbrev pub with_whole : Stored → List ℕ × List ℕ → Stored
 with_whole stored file = with_ended (with_octets file.1 (with_begun file.0 stored))
 
@@ -36,23 +36,24 @@ with_whole stored file = with_ended (with_octets file.1 (with_begun file.0 store
 abbrev pub with_wholes : Files → Stored → Stored
 with_wholes files stored = fold with_whole stored files
 
--- each of the files was written whole, where it is known what the sink holds
+-- each of the files was written whole, if it is known what the sink holds
 abbrev pub AreWhole : Files → Option Stored → Option Stored → Type 0
 AreWhole files old new = new ≡ option_map (with_wholes files) old
 
--- The next file wasn't begun, some first octets of it were written, or it was begun and is lost.
+-- The next file wasn't begun, some of its first octets were written, or it was begun and is lost.
 abbrev pub HasFrontOf : Option (List ℕ × List ℕ) → Option Stored → Option Stored → Type 0
 HasFrontOf None old new = new ≡ old
 HasFrontOf (Some file) old new = (new ≡ old)
-    ⊎ ((n : ℕ) × (new ≡ option_map (λ stored. with_octets (take n file.1) (with_begun file.0 stored)) old))
+    ⊎ ((n : ℕ)
+    × (new ≡ option_map (λ stored. with_octets (take n file.1) (with_begun file.0 stored)) old))
     ⊎ (new ≡ option_map without_begun old)
 
--- some first ones of these files were written whole, and of the next one some front
+-- some of the first of these files were written whole, and a front of the next one
 abbrev pub ArePart : Files → Option Stored → Option Stored → Type 0
 ArePart files old new = (n : ℕ)
     × HasFrontOf (slice_get files n) (option_map (with_wholes (take n files)) old) new
 
--- no file is there yet, where it is known which are; and none but payload files
+-- no file is there yet, or (below) only payload files, if it is known which files are there
 abbrev pub HasNoFile : Option Stored → Type 0
 HasNoFile known = (stored : Stored) → known ≡ Some stored → stored.bag.files ≡ []
 
@@ -79,7 +80,7 @@ AreItemsOf set _ _ = ⊥
 pub record AreHoleMarks (paths : List (List ℕ)) (spec : Spec) (marks : List Bool) : Type 0 where
   pub each : marks ≡ map (is_hole spec.holes.items) paths
 
--- a payload of which a bag can be written so, within the limits of its files
+-- a payload of which a bag can be written as specified, within the limits of its files
 pub record IsWritable (spec : Spec) (payload : Files) : Type 0 where
   pub rising : AreRising (keys_of payload)
   pub payload_paths : AllByRecursion (λ path. is_payload path ≡ true) (keys_of payload)

@@ -1,4 +1,4 @@
--- How the tag files are made and written. (These are said of private functions.)
+-- How the tag files are made and written. Only private functions cite these.
 use Rattle.std.specs.Prelude.{◌≡◌, ◌≢◌, ◌++◌, [], ◌∷◌, ℕ, Bool, true, false, List, Option, Some, None, Contains, string_bytes}
 use Rattle.std.specs.List.{AllByRecursion}
 use Rattle.std.specs.Map.{keys_of}
@@ -22,12 +22,12 @@ use Rattle.bag_writer.specs.declared.spec.Hole.{Hole}
 
 -- WHAT CAN BE LISTED
 
--- files of which a manifest of this kind can be made, by path
+-- files that a manifest of this kind can list, by path
 pub record CanBeListed (kind : Kind) (files : Files) : Type 0 where
   pub rising : AreRising (keys_of files)
   pub in_place : AllByRecursion (IsInPlace kind) (keys_of files)
 
--- holes of which a `fetch.txt` can be made: each is a payload file's, and its url is one
+-- holes that `fetch.txt` can list: each is that of a payload file, and its URL is valid
 pub record CanBeFetched (payload : Files) (holes : List Hole) : Type 0 where
   pub rising : AreRising (keys_of payload)
   pub payload_paths : AllByRecursion (λ path. is_payload path ≡ true) (keys_of payload)
@@ -36,24 +36,24 @@ pub record CanBeFetched (payload : Files) (holes : List Hole) : Type 0 where
 
 -- WHAT IS WRITTEN
 
--- no file with its path is there when it is a file's turn
+-- when it is a file's turn, no file with its path is there
 abbrev pub AreFree : Option Stored → Files → Type 0
 AreFree known [] = Unit {0}
 AreFree known (file ∷ files) = IsFree known file.0
     × AreFree (option_map (λ (stored : Stored). with_whole stored file) known) files
 
--- what is met where tag files are written
+-- the faults that writing tag files can meet
 abbrev pub IsMetHere : WriteFault → Type 0
 IsMetHere fault = IsMetLater fault × (fault ≢ Tree)
 
--- The files were written whole and are within the limit, where no fault is answered. Else part of
--- them was written, and one of them is beyond the limit where that is answered.
+-- If there is no fault, the files were written whole and are within the limit. Otherwise part of them was written, and
+-- if the fault is `TooLarge`, one of them is beyond the limit.
 abbrev pub WritesAll : Files → Option Stored → Option Stored → Option WriteFault → Type 0
 WritesAll files old new None = AreWhole files old new × ¬ HasLongFile files LARGEST_TAG_FILE
 WritesAll files old new (Some fault) = ArePart files old new × IsMetHere fault
     × (fault ≡ TooLarge → HasLongFile files LARGEST_TAG_FILE)
 
--- what the writing of these tag files does to a sink, with this fault or none
+-- what writing these tag files does to a sink, with this fault or none
 pub record WritesFiles {S : Type 0} (stored : S → Option Stored) (is_open : S → Bool)
     (failures : S → ℕ) (sure : S → Type 0) (files : Files) (old new : S)
     (fault : Option WriteFault) : Type 0 where
@@ -62,7 +62,7 @@ pub record WritesFiles {S : Type 0} (stored : S → Option Stored) (is_open : S 
   pub uses : UsesSink failures sure old new
       ((is_open old ≡ false) × AreFree (stored old) files) (fault ≡ Some Sink)
 
--- the items of these files come after those that were there
+-- the items of these files are added after those that were there
 abbrev pub AddsItems : AlgSet → Files → List Item → List Item → Type 0
 AddsItems set files old new = (before : Files) → AreItemsOf set old before
     → AreItemsOf set new (before ++ files)

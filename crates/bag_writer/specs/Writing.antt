@@ -1,4 +1,4 @@
--- What is refused before anything is written, and what is there after the writing.
+-- What is refused before anything is written, and what is there after writing.
 use Rattle.std.specs.Prelude.{◌≡◌, ◌⊎◌, ◌<◌, ◌++◌, ℕ, List, Option, Some, None, Result, Contains, MatchResult, false, length, slice_get, string_bytes, true}
 use Rattle.std.specs.List.{filter}
 use Rattle.std.specs.Map.{keys_of}
@@ -37,7 +37,7 @@ abbrev pub IsHoleBefore : List Hole → ℕ → List ℕ → Type 0
 IsHoleBefore holes i path = (j : ℕ) × ((other : Hole) × (j < i)
     × (slice_get holes j ≡ Some other) × (other.path ≡ path))
 
--- the hole at this place isn't one of the payload, its url is none, or it is a hole already
+-- the hole at this place isn't a payload file, its URL is not valid, or its path is that of an earlier hole
 abbrev pub IsBadHole : List (List ℕ) → List Hole → ℕ → Type 0
 IsBadHole paths holes i = (hole : Hole) × (slice_get holes i ≡ Some hole)
     × ((¬ Contains paths hole.path) ⊎ (¬ IsUrl (string_bytes hole.url))
@@ -47,14 +47,14 @@ abbrev pub IsFirstBadHole : List (List ℕ) → List Hole → ℕ → Type 0
 IsFirstBadHole paths holes i = IsBadHole paths holes i
     × ((j : ℕ) → j < i → ¬ IsBadHole paths holes j)
 
--- of a payload at these paths a bag can be written so
+-- a bag can be written as specified of a payload at these paths
 pub record IsAccepted (paths : List (List ℕ)) (spec : Spec) : Type 0 where
   pub has_algorithm : HasAlgorithm spec
   pub no_oxum : ¬ GivesOxum spec
   pub holes : (i : ℕ) → ¬ IsBadHole paths spec.holes.items i
   pub no_clash : (path : List ℕ) → ¬ IsFolderAmong paths path
 
--- the first reason why it can't, in this order; want of memory says nothing, and the others come later
+-- the first reason in this order why it can't; `Memory` says nothing, and other faults come later
 abbrev pub Refuses : List (List ℕ) → Spec → WriteFault → Type 0
 Refuses paths spec NoAlgorithm = (alg : Alg) → has spec.algs alg ≡ false
 Refuses paths spec OxumGiven = HasAlgorithm spec × GivesOxum spec
@@ -65,7 +65,7 @@ Refuses paths spec (Clash path) = HasAlgorithm spec × (¬ GivesOxum spec)
 Refuses paths spec Memory = Unit {0}
 Refuses paths spec fault = IsAccepted paths spec
 
--- it isn't accepted, or has more payload files than a manifest may list: nothing is written
+-- it isn't accepted, or has more payload files than a manifest may list; nothing is written
 abbrev pub IsRefusedUnwritten : List (List ℕ) → Spec → Type 0
 IsRefusedUnwritten paths spec = (¬ IsAccepted paths spec) ⊎ (MOST_LINES < length paths)
 
@@ -75,7 +75,7 @@ IsOfDevice Tree = Unit {0}
 IsOfDevice Sink = Unit {0}
 IsOfDevice fault = ⊥
 
--- what is met before anything is written, or when it is
+-- a fault that is met before anything is written, or while it is
 abbrev pub IsMetLater : WriteFault → Type 0
 IsMetLater TooLarge = Unit {0}
 IsMetLater Memory = Unit {0}
@@ -96,12 +96,12 @@ abbrev pub IsTooLarge : Spec → Files → Type 0
 IsTooLarge spec payload = (MOST_LINES < length payload) ⊎ HasLongFile payload LARGEST_FILE
     ⊎ HasLongFile (tag_files spec payload) LARGEST_TAG_FILE
 
--- WHAT IS THERE AFTER IT
+-- WHAT IS THERE AFTERWARDS
 
 abbrev pub oxum_of : Files → Oxum
 oxum_of payload = record { octets = octet_count payload; streams = length payload }
 
--- The answer is the Oxum of the payload, of which nothing is too large; or something is, where that is answered.
+-- The result is the Oxum of the payload, and nothing in it is too large; or it is `TooLarge`, and something is.
 abbrev pub Answers : Spec → Files → Result Oxum WriteFault → Type 0
 Answers spec payload result = MatchResult result
     (λ oxum. (oxum ≡ oxum_of payload) × ¬ IsTooLarge spec payload)
@@ -112,25 +112,25 @@ pub record HasWhole (spec : Spec) (payload : Files) (stored : Stored) : Type 0 w
   pub written : IsWritten spec payload stored.bag
   pub none_begun : stored.begun ≡ None
 
--- part of the bag is there: some of its files, and the front of one more
+-- part of the bag is there: some of its files, and a front of one more
 pub record HasPart (spec : Spec) (payload : Files) (stored : Stored) : Type 0 where
   pub files : (path octets : List ℕ) → Holds stored.bag path octets
       → IsFileOf spec payload path octets
   pub begun : (file : Begun) → stored.begun ≡ Some file
       → (rest : List ℕ) × IsFileOf spec payload file.path (file.octets ++ rest)
 
--- what a sink holds after it that was empty, and of which it is known what it holds
+-- what a sink holds afterwards if it was empty and what it holds is known
 abbrev pub Stores : Spec → Files → Result Oxum WriteFault → Option Stored → Option Stored → Type 0
 Stores spec payload result old new = old ≡ Some nothing_stored → (stored : Stored)
     × (new ≡ Some stored) × MatchResult result (λ oxum. HasWhole spec payload stored)
     (λ fault. HasPart spec payload stored)
 
--- the files of a payload by path, as they were read: those of the tree's bag, where it is known
+-- the files of a payload by path, as they were read: those of the tree's bag, if it is known
 pub record IsReadFrom (shown : Shown) (payload : Files) : Type 0 where
   pub paths : keys_of payload ≡ payload_paths shown
   pub known : (bag : Bag) → IsBagOf shown bag → payload ≡ payload_of bag.files
 
--- this payload was read, answered and stored
+-- this payload was read, and the result and the sink are those for it
 pub record IsDone (shown : Shown) (spec : Spec) (result : Result Oxum WriteFault)
     (old new : Option Stored) (payload : Files) : Type 0 where
   pub read : IsReadFrom shown payload

@@ -1,4 +1,4 @@
--- The bag that is written of a payload (RFC 8493 section 2), as its files.
+-- The bag that is written of a payload (RFC 8493 section 2), in terms of its files.
 use Rattle.std.specs.Prelude.{◌≡◌, ◌⊎◌, ◌↔◌, ◌++◌, ◌∷◌, [], ℕ, List, codes, length, map, string_bytes, true}
 use Rattle.std.specs.List.{filter, flat_map}
 use Rattle.std.specs.Map.{lookup}
@@ -29,7 +29,7 @@ use Rattle.bag_writer.specs.declared.spec.Spec.{Spec}
 
 -- TAG FILES, in the order of their names
 
--- `bag-info.txt`: the elements that were given, and then the Oxum of the whole payload, the holes too (section 2.2.2)
+-- `bag-info.txt`: the elements that were given and then the Oxum of the whole payload, including holes (section 2.2.2)
 abbrev pub oxum_element : Files → MetadataElement
 oxum_element payload =
     element (codes "Payload-Oxum") (written_oxum (octet_count payload) (length payload))
@@ -41,7 +41,7 @@ info_file spec payload = (text_file Info, written_info (spec.info ++ oxum_elemen
 abbrev pub bagit_file : List ℕ × List ℕ
 bagit_file = (declaration_file, written_declaration)
 
--- `fetch.txt`, where there are holes: each with its length, in their order (section 2.2.3)
+-- `fetch.txt`, if there are holes: each with its length, in their order (section 2.2.3)
 abbrev pub entry_of : Files → Hole → FetchItem
 entry_of payload hole = fetch_item (string_bytes hole.url)
     (option_map length (lookup (bytes_eq hole.path) payload)) hole.path
@@ -65,7 +65,8 @@ algs_in set = filter (has set) (Md5 ∷ Sha1 ∷ Sha256 ∷ Sha512 ∷ [])
 
 -- the tag files that tag manifests list: all but tag manifests
 abbrev pub listed_tags : Spec → Files → Files
-listed_tags spec payload = info_file spec payload ∷ bagit_file ∷ fetch_files payload spec.holes.items
+listed_tags spec payload =
+    info_file spec payload ∷ bagit_file ∷ fetch_files payload spec.holes.items
     ++ map (manifest_of Payload payload) (algs_in spec.algs)
 
 abbrev pub tag_files : Spec → Files → Files
@@ -74,11 +75,11 @@ tag_files spec payload = listed_tags spec payload
 
 -- THE BAG
 
--- the file isn't written but is to be fetched
+-- the file isn't written and has to be fetched
 abbrev pub IsHole : Spec → List ℕ → Type 0
 IsHole spec path = (hole : Hole) × Has spec.holes.items hole × (hole.path ≡ path)
 
--- a file of the bag: one of the payload that is no hole, or a tag file
+-- a file of the bag: a payload file that isn't a hole, or a tag file
 abbrev pub IsFileOf : Spec → Files → List ℕ → List ℕ → Type 0
 IsFileOf spec payload path octets = (Has payload (path, octets) × ¬ IsHole spec path)
     ⊎ Has (tag_files spec payload) (path, octets)

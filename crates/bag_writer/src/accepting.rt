@@ -1,4 +1,4 @@
-//! What is refused before anything is written.
+//! Refuses bags that can't be written, before anything is written.
 ghost use Rattle.std.specs.Prelude.{◌≡◌, IfErr, IfOk, List, MatchResult, length, ℕ};
 ghost use Rattle.std.specs.List.{list_any};
 ghost use Rattle.bag_rules.specs.Trees.{paths_in};
@@ -18,11 +18,11 @@ use std::alloc::{AllocError, Global};
 #[cfg(test)]
 mod tests;
 
-/// Marks the files of the tree that are holes, if a bag can be written so.
+/// Marks the files of the tree that are holes, if a bag with them can be written.
 ///
 /// # Errors
 ///
-/// The first of `NoAlgorithm`, `OxumGiven`, `BadHole` and `Clash` that holds, or `Memory`.
+/// The first of `NoAlgorithm`, `OxumGiven`, `BadHole` and `Clash` that applies, or `Memory` if memory runs out.
 pub(crate) fn accepted_holes<P: Paths>(
     alloc: Global,
     tree: &P,
@@ -48,7 +48,7 @@ pub(crate) fn accepted_holes<P: Paths>(
     }
 }
 
-/// Whether an element is a `Payload-Oxum`, whatever the case of its label.
+/// Whether an element is a `Payload-Oxum`. The case of its label doesn't matter.
 fn gives_oxum(spec: &Spec) -> bool
     ensures { result ≡ list_any is_oxum spec.now.info }
 {
@@ -59,7 +59,7 @@ fn gives_oxum(spec: &Spec) -> bool
 ///
 /// # Errors
 ///
-/// `BadHole` of the first that is bad, or `Memory`.
+/// `BadHole` for the first hole that is bad, or `Memory` if memory runs out.
 fn hole_marks<P: Paths>(alloc: Global, tree: &P, holes: &[Hole]) -> Result<Vec<bool>, WriteFault>
     ensures marks { IfOk result (λ marks.
         AreMarks (paths_in (P.shown tree.now)) holes.now marks.items) }
@@ -76,7 +76,7 @@ fn hole_marks<P: Paths>(alloc: Global, tree: &P, holes: &[Hole]) -> Result<Vec<b
     Ok(marks)
 }
 
-/// Marks a hole, if it is a payload file that has a url and no mark yet.
+/// Marks a hole and returns whether it is good: it is a payload file, has a URL and isn't marked yet.
 fn mark<P: Paths>(tree: &P, hole: &Hole, marks: &mut [bool]) -> bool
     requires { length marks.old ≡ length (paths_in (P.shown tree.now)) }
     ensures { (before : List Hole) → AreMarks (paths_in (P.shown tree.now)) before marks.old

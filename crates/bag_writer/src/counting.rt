@@ -1,4 +1,4 @@
-//! A sink that keeps nothing of what it is given and counts it. It takes no memory, so that no call in order fails.
+//! A sink that only counts what it is given. It allocates no memory, so no call in the right order fails.
 ghost use Rattle.std.specs.Prelude.{◌≡◌, false};
 
 use crate::sink::Sink;
@@ -15,7 +15,7 @@ pub(crate) struct CountingSink {
 }
 
 impl CountingSink {
-    /// Nothing was written yet.
+    /// A sink to which nothing was written yet.
     pub(crate) fn new() -> CountingSink
         ensures { result.begun ≡ false }
     {

@@ -1,4 +1,4 @@
-//! Telling cases of the definitions, worked out: each function's contract is one, and its body is empty.
+//! Worked examples of the definitions. The contract of each function states one, and its body is empty.
 ghost use Rattle.std.specs.Prelude.{◌≡◌, ◌++◌, ◌∷◌, [], codes};
 ghost use Rattle.bag_path.specs.Octets.{lf};
 ghost use Rattle.bag_writer.specs.ExampleBags.{IsPlain, IsWithHole, lengths_of, payload_of_two};
@@ -6,8 +6,8 @@ ghost use Rattle.bag_writer.specs.FilledBags.{IsPayloadFor};
 ghost use Rattle.bag_writer.specs.WrittenBags.{fetch_files, info_file, tag_files};
 ghost use Rattle.bag_writer.specs.declared.spec.Spec.{Spec};
 
-/// The tag files of a payload of two files, of which one is a hole: their names in order, and their lengths (RFC 8493 sections
-/// 2.1 and 2.2).
+/// The tag files of a payload of two files, one of which is a hole: their names in order, and their lengths (RFC 8493
+/// sections 2.1 and 2.2).
 pub fn a_bag_with_a_hole_has_these_tag_files()
     ensures names { (spec : Spec) → IsWithHole spec
         → lengths_of (tag_files spec payload_of_two)
@@ -21,7 +21,7 @@ pub fn a_bag_with_a_hole_has_these_tag_files()
         ≡ (codes "fetch.txt", codes "http://example.org/e 0 data/e.txt" ++ lf ∷ []) ∷ [] }
 {}
 
-/// Without files the Oxum is that of no octets in no files, and the manifest lists nothing.
+/// Without payload files the Oxum says no octets in no files, and the manifest lists nothing.
 pub fn an_empty_bag_has_these_tag_files()
     ensures { (spec : Spec) → IsPlain spec
         → lengths_of (tag_files spec [])
@@ -29,7 +29,7 @@ pub fn an_empty_bag_has_these_tag_files()
         ∷ (codes "tagmanifest-sha256.txt", 241) ∷ [] }
 {}
 
-/// Of such payloads a bag can be written.
+/// Bags can be written of these payloads.
 pub fn such_bags_are_written()
     ensures hole { (spec : Spec) → IsWithHole spec → IsPayloadFor spec payload_of_two }
     ensures plain { (spec : Spec) → IsPlain spec → IsPayloadFor spec [] }

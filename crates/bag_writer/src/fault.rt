@@ -1,31 +1,32 @@
-//! Why a bag isn't written.
+//! Why a bag can't be written.
 use bag_digest::Failed;
 use bag_path::BagPath;
 use std::alloc::{AllocError, AllocFailed};
 use thiserror::Error;
 
-/// Why a bag isn't written, or not to its end.
+/// Why a bag was not written, or only a part of it.
 #[derive(Debug, Drop, Error)]
 pub enum WriteFault {
     /// No algorithm is given.
     #[error("no algorithm")]
     NoAlgorithm,
-    /// An element is a `Payload-Oxum`, which is written for the payload that is there.
+    /// An element is a `Payload-Oxum`. That element is computed from the payload and can't be given.
     #[error("a Payload-Oxum is given")]
     OxumGiven,
-    /// The hole at this place, from 0 on, isn't a file of the payload, has no url, or stands before.
+    /// The hole at this place, counted from 0, isn't a payload file, has no valid URL, or repeats an earlier hole.
     #[error("a bad hole")]
     BadHole(usize),
-    /// One payload file is at the path of a folder in which another is: the least such path.
+    /// The path of a payload file is that of a folder in which another one is. This is the least such path.
     #[error("a file and a folder of one path")]
     Clash(BagPath),
-    /// The tree failed, and counted it.
+    /// The tree failed, and it has counted the failure.
     #[error("the tree failed")]
     Tree,
-    /// The sink failed, and counted it.
+    /// The sink failed, and it has counted the failure.
     #[error("the sink failed")]
     Sink,
-    /// More than 100,000 payload files, one of more than 2^40 octets, or a tag file of more than 16,777,216.
+    /// There are more than 100,000 payload files, a payload file has more than 2^40 octets, or a tag file has more than
+    /// 16,777,216 octets.
     #[error("too large")]
     TooLarge,
     /// Memory ran out.

@@ -1,4 +1,4 @@
-//! What the values of the Rust types say of a payload, beside what is tested.
+//! What the Rust types guarantee about a payload, in addition to what is tested.
 ghost use Rattle.std.specs.List.{AllByRecursion};
 ghost use Rattle.bag_path.specs.Paths.{IsPath};
 ghost use Rattle.bag_rules.specs.Files.{Files};
@@ -11,8 +11,9 @@ use crate::spec::Spec;
 use bag_rules::Paths;
 use bag_tags::Info;
 
-/// What is read of a tree, isn't refused and isn't too large is a payload of which a bag can be written: the laws on written bags
-/// ask no more, and [`write_bag`](crate::write_bag) tells each of these. Goes over the paths and the elements, and reads no file.
+/// If a payload was read from a tree, is accepted and isn't too large, a bag can be written of it.
+/// [`write_bag`](crate::write_bag) ensures these conditions, and the laws about written bags require no more. This
+/// function goes over the paths and the elements, and reads no file.
 pub fn what_is_read_of_a_tree_fits<P: Paths>(tree: &P, spec: &Spec)
     ensures { (payload : Files) → IsReadFrom (P.shown tree.now) payload
         → IsAccepted (payload_paths (P.shown tree.now)) spec.now

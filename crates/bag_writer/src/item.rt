@@ -5,10 +5,10 @@ use bag_path::BagPath;
 /// A file, as manifests and `fetch.txt` need it.
 #[derive(Drop)]
 pub(crate) struct Item {
-    /// Where the file is, from the base directory on.
+    /// The path of the file from the base directory.
     pub(crate) path: BagPath,
     /// The number of its octets.
     pub(crate) octets: u64,
-    /// Their digests by the algorithms of the bag.
+    /// The digests of its octets by the algorithms of the bag.
     pub(crate) digests: Digests,
 }

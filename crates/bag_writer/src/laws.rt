@@ -1,4 +1,5 @@
-//! Laws on the definitions that the contracts of this crate cite. Each function's contract is one law, and its body is empty.
+//! Laws about the definitions that the contracts of this crate cite. The contract of each function states one law, and
+//! its body is empty.
 ghost use Rattle.std.specs.Prelude.{◌≡◌, ◌≤◌, [], ℕ, List, length, not};
 ghost use Rattle.std.specs.List.{filter};
 ghost use Rattle.std.specs.Map.{keys_of};
@@ -28,13 +29,13 @@ pub fn a_written_bag_without_holes_is_valid()
         → spec.holes.items ≡ [] → IsWritten spec payload bag → IsValid bag }
 {}
 
-/// And no limit stops a check of it.
+/// No limit stops a check of such a bag.
 pub fn no_limit_stops_a_check_of_a_written_bag()
     ensures { (spec : Spec) (payload : Files) (bag : Bag) (fault : CheckFault)
         → IsPayloadFor spec payload → IsFilled spec payload bag → ¬ Stops bag fault }
 {}
 
-/// The tag files of a written bag are those of its files that are no payload.
+/// The tag files of a written bag are its files that aren't payload.
 pub fn the_tag_files_of_a_written_bag_are_its_other_files()
     ensures { (spec : Spec) (payload : Files) (bag : Bag) → IsPayloadFor spec payload
         → IsWritten spec payload bag
@@ -42,7 +43,8 @@ pub fn the_tag_files_of_a_written_bag_are_its_other_files()
         ≡ tag_files spec payload }
 {}
 
-/// A transfer can be opened with them, and expects the files of the payload; of these each that is within the limit passes.
+/// A transfer can be opened with these tag files. It expects the files of the payload, and each of them that is within
+/// the limit passes.
 pub fn the_tag_files_of_a_written_bag_open()
     ensures files { (spec : Spec) (payload : Files) → IsPayloadFor spec payload
         → AreTagFiles (tag_files spec payload) }

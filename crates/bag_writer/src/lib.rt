@@ -1,4 +1,4 @@
-//! The writer of bags: a payload and what is said of it become a bag of version 1.0 (RFC 8493 section 2).
+//! The writer of bags: makes a bag of version 1.0 from a payload and a specification (RFC 8493 section 2).
 #![tactic(auto)]
 
 pub use fault::WriteFault;

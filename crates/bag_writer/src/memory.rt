@@ -1,4 +1,4 @@
-//! A sink in memory.
+//! Sinks in memory.
 ghost use Rattle.std.specs.Prelude.{◌≡◌, ◌||◌, IsErr, IsOk, MatchResult, OnErr, OnOk, Some, false, is_ok, take, true, ℕ};
 ghost use Rattle.std.specs.Option.{option_map};
 ghost use Rattle.bag_rules.specs.Memory.{MemFiles};
@@ -15,14 +15,14 @@ use std::marker::Model;
 #[cfg(test)]
 mod tests;
 
-/// A file that is begun: where it is to be, and the octets that it has so far.
+/// A file that was begun: its path, and the octets that it has so far.
 #[derive(Drop)]
 struct OpenFile {
     path: BagPath,
     octets: Vec<u8>,
 }
 
-/// A sink that holds the files of a bag in memory. It fails where a call is out of order, and where memory runs out.
+/// A sink that holds the files of a bag in memory. It fails if a call is out of order or memory runs out.
 #[derive(Drop)]
 pub struct MemSink {
     alloc: Global,
@@ -44,7 +44,7 @@ impl Model for MemSink {
 }
 
 impl MemSink {
-    /// No files, no payload directory, and none begun.
+    /// A sink without files and without a payload directory, in which no file was begun.
     pub fn new(alloc: Global) -> MemSink
         ensures { result ≡ nothing_held }
     {
@@ -56,7 +56,7 @@ impl MemSink {
         }
     }
 
-    /// The tree of the files that were ended. One that is begun is lost.
+    /// The tree of the files that were ended. A file that was only begun is lost.
     pub fn into_tree(self) -> MemTree
         ensures { result ≡ tree_of self.stored.bag }
     {
@@ -87,7 +87,7 @@ impl Sink for MemSink {
         Ok(())
     }
 
-    /// Begins a file. Where no file is begun and none with this path is there, it fails only for want of memory.
+    /// Begins a file. If no file is begun and none with this path exists, it fails only if memory runs out.
     fn file(&mut self, path: &BagPath) -> Result<(), Failed>
         ensures begun { OnOk result
             (known self.new ≡ option_map (with_begun path.now) (known self.old)) }
@@ -116,7 +116,7 @@ impl Sink for MemSink {
         }
     }
 
-    /// Writes all of the octets, or none of them. Where a file is begun, it fails only for want of memory.
+    /// Writes either all of the octets or none. If a file is begun, it fails only if memory runs out.
     fn write(&mut self, octets: &[u8]) -> Result<(), Failed>
         ensures written { OnOk result
             (known self.new ≡ option_map (with_octets octets.now) (known self.old)) }
@@ -138,7 +138,8 @@ impl Sink for MemSink {
         self.failures.counted(grown)
     }
 
-    /// Ends the file that is begun. It fails where none is, and else only for want of memory: the file is then lost.
+    /// Ends the file that was begun. It fails if there is none. Otherwise it fails only if memory runs out, and the
+    /// file is then lost.
     fn end(&mut self) -> Result<(), Failed>
         ensures ended { OnOk result (known self.new ≡ option_map with_ended (known self.old)) }
         ensures lost { OnErr result (StaysOrIsLost (known self.old) (known self.new)) }

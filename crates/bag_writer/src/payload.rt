@@ -1,4 +1,4 @@
-//! The payload as it is written: each file is read once, for the sink and for its digests.
+//! Writes the payload. Each file is read once, for the sink and for its digests.
 ghost use Rattle.std.specs.Prelude.{◌≡◌, ◌⊎◌, ◌++◌, ◌∷◌, ◌<◌, [], ℕ, List, Option, Some, IfErr, IsErrOf, MatchResult, OnOk, false, length, slice_get, true};
 ghost use Rattle.bag_digest.specs.Device.{UsesSource};
 ghost use Rattle.bag_rules.specs.Files.{Files};
@@ -20,11 +20,12 @@ use bag_rules::Tree;
 use bag_rules::limits::LARGEST_FILE;
 use std::alloc::Global;
 
-/// Reads the payload files by path, writes each that is no hole, and answers what manifests need of each.
+/// Reads the payload files by path, writes each that isn't a hole, and returns what manifests need to know about each.
 ///
 /// # Errors
 ///
-/// `Tree`, `Sink`, `Memory`; `TooLarge` where a file has more than 2^40 octets.
+/// `Tree`, `Sink` or `Memory` if the tree or the sink failed or memory ran out; `TooLarge` if a file has more than 2^40
+/// octets.
 pub(crate) fn write_payload<T: Tree, S: Sink>(
     alloc: Global,
     buffer: &mut [u8],
@@ -35,7 +36,7 @@ pub(crate) fn write_payload<T: Tree, S: Sink>(
 ) -> Result<Vec<Item>, WriteFault>
     requires room { 0 < length buffer.old }
     requires marks { AreHoleMarks (paths_in (T.shown tree.old)) spec.now marks.now }
-    // There is a payload, that of the tree's bag where it is known, of which this was written.
+    // There is a payload, of which this was written. It is that of the tree's bag, if that is known.
     ensures written { (payload : Files) × IsReadFrom (T.shown tree.old) payload
         × MatchResult result (λ items. AreItemsOf spec.now.algs items.items payload
         × (¬ HasLongFile payload LARGEST_FILE)
@@ -62,7 +63,7 @@ pub(crate) fn write_payload<T: Tree, S: Sink>(
     Ok(items)
 }
 
-/// Reads the file at this place, writes it unless it is a hole, and answers what manifests need of it.
+/// Reads the file at this place, writes it unless it is a hole, and returns what manifests need to know about it.
 ///
 /// # Errors
 ///
@@ -104,8 +105,8 @@ fn write_file<T: Tree, S: Sink>(
     })
 }
 
-/// Reads a source to its end, writes what it gives as a file unless that is a hole, and answers how many octets it gave
-/// and their digests by each algorithm of the set.
+/// Reads a source to its end, and writes what it gives as a file unless that is a hole. Returns how many octets it
+/// gave, and their digests by each algorithm of the set.
 fn sums_of<R: Source, S: Sink>(
     buffer: &mut [u8],
     source: &mut R,
@@ -137,7 +138,7 @@ fn sums_of<R: Source, S: Sink>(
     }
 }
 
-/// Reads a source to its end, and answers how many octets it gave and their digests by each algorithm of the set.
+/// Reads a source to its end. Returns how many octets it gave, and their digests by each algorithm of the set.
 fn digests_of<R: Source>(
     buffer: &mut [u8],
     source: &mut R,
@@ -159,7 +160,7 @@ fn digests_of<R: Source>(
     }
 }
 
-/// Writes a file of what a source gives to its end, and answers how many octets it gave and their digests by each
+/// Writes what a source gives up to its end as a file. Returns how many octets it gave, and their digests by each
 /// algorithm of the set.
 fn copy_file<R: Source, S: Sink>(
     buffer: &mut [u8],
@@ -192,12 +193,12 @@ fn copy_file<R: Source, S: Sink>(
     }
 }
 
-/// Reads a source to its end, writes what it gives to the file that is begun, and answers how many octets it gave and
+/// Reads a source to its end, and writes what it gives to the file that was begun. Returns how many octets it gave, and
 /// their digests by each algorithm of the set.
 ///
 /// # Errors
 ///
-/// `Tree` where a read failed, `Sink`; `TooLarge` where the source gave more than 2^40 octets.
+/// `Tree` if a read failed; `Sink` if a write failed; `TooLarge` if the source gave more than 2^40 octets.
 fn copy_octets<R: Source, S: Sink>(
     buffer: &mut [u8],
     source: &mut R,

@@ -1,4 +1,4 @@
-//! Sinks: where a bag is written to.
+//! Sinks, to which bags are written.
 ghost use Rattle.std.specs.Prelude.{◌≡◌, ◌||◌, ℕ, Bool, List, Option, IsErr, OnErr, OnOk, false, is_ok, take, true};
 ghost use Rattle.std.specs.Option.{option_map};
 ghost use Rattle.bag_writer.specs.Sinks.{IsFree, StaysOrIsLost, Stored, UsesSink, with_begun, with_ended, with_octets, with_payload_dir};
@@ -6,27 +6,28 @@ ghost use Rattle.bag_writer.specs.Sinks.{IsFree, StaysOrIsLost, Stored, UsesSink
 use bag_digest::Failed;
 use bag_path::BagPath;
 
-/// Where a bag is written to: one file after another, each begun, written in pieces and ended.
+/// Something that a bag is written to. Files are written one after the other: each is begun, written in pieces and
+/// ended.
 ///
-/// Of a sink in memory it is known what it holds; a folder on a disk claims nothing of that: its `stored` is `None`.
+/// What a sink in memory holds is known. For a folder on a disk nothing is claimed about that: its `stored` is `None`.
 pub trait Sink {
-    /// What the sink holds, where that is known.
+    /// What the sink holds, if that is known.
     ghost stored: { Self → Option Stored };
 
     /// Whether a file is begun.
     ghost is_open: { Self → Bool };
 
-    /// A call that is in order doesn't fail.
+    /// That calls in the right order don't fail.
     ghost sure: { Self → Type 0 };
 
     /// How often the sink has failed.
     ghost failures: { Self → ℕ };
 
-    /// Makes the payload directory `data/`, which may stay without a file. It may be made already.
+    /// Creates the payload directory `data/`, which may stay empty. It may exist already.
     ///
     /// # Errors
     ///
-    /// The sink failed, and counted it. What it holds is as it was.
+    /// `Failed` if the sink failed; it has counted the failure. What it holds is unchanged.
     fn payload_dir(&mut self) -> Result<(), Failed>
         ensures made { OnOk result
             (stored self.new ≡ option_map with_payload_dir (stored self.old)) }
@@ -34,12 +35,12 @@ pub trait Sink {
         ensures open { is_open self.new ≡ is_open self.old }
         ensures uses { UsesSink failures sure self.old self.new Unit (IsErr result) };
 
-    /// Begins a file, which has no octets yet.
+    /// Begins a file, which is empty at first.
     ///
     /// # Errors
     ///
-    /// The sink failed, and counted it. It does so where a file is begun already, and where one with this path is there. What it
-    /// holds is as it was.
+    /// `Failed` if the sink failed; it has counted the failure. It fails if a file is already begun or one with this
+    /// path exists. What it holds is unchanged.
     fn file(&mut self, path: &BagPath) -> Result<(), Failed>
         ensures begun { OnOk result
             (stored self.new ≡ option_map (with_begun path.now) (stored self.old)) }
@@ -50,11 +51,12 @@ pub trait Sink {
         ensures uses { UsesSink failures sure self.old self.new
             ((is_open self.old ≡ false) × IsFree (stored self.old) path.now) (IsErr result) };
 
-    /// Writes all of these octets to the end of the file that is begun.
+    /// Appends all of these octets to the file that was begun.
     ///
     /// # Errors
     ///
-    /// The sink failed, and counted it. It does so where no file is begun. Some first octets may have been written.
+    /// `Failed` if the sink failed; it has counted the failure. It fails if no file is begun. Some of the first octets
+    /// may have been written.
     fn write(&mut self, octets: &[u8]) -> Result<(), Failed>
         ensures written { OnOk result
             (stored self.new ≡ option_map (with_octets octets.now) (stored self.old)) }
@@ -65,11 +67,12 @@ pub trait Sink {
         ensures uses { UsesSink failures sure self.old self.new
             (is_open self.old ≡ true) (IsErr result) };
 
-    /// Ends the file that is begun: it is one of the bag's then.
+    /// Ends the file that was begun, which then belongs to the bag.
     ///
     /// # Errors
     ///
-    /// The sink failed, and counted it. It does so where no file is begun. The file is begun still, or is lost.
+    /// `Failed` if the sink failed; it has counted the failure. It fails if no file is begun. The file that was begun
+    /// either still is or is lost.
     fn end(&mut self) -> Result<(), Failed>
         ensures ended { OnOk result
             (stored self.new ≡ option_map with_ended (stored self.old)) }
@@ -79,7 +82,7 @@ pub trait Sink {
         ensures uses { UsesSink failures sure self.old self.new
             (is_open self.old ≡ true) (IsErr result) };
 
-    /// How often the sink has failed. The count stays at its greatest number, 2^64 - 1.
+    /// How often the sink has failed. The count stops at its maximum, 2^64 - 1.
     fn failures(&self) -> u64
         ensures { result ≡ failures self.now };
 }

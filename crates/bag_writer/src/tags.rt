@@ -1,4 +1,4 @@
-//! The tag files as they are written, after the payload.
+//! Writes the tag files, after the payload.
 ghost use Rattle.std.specs.Prelude.{◌≡◌, ◌≢◌, ◌∷◌, [], IfErr, IfOk, IsErrOf, MatchResult, OnOk, false, map, true};
 ghost use Rattle.std.specs.Result.{result_err};
 ghost use Rattle.bag_digest.specs.Algorithm.{has};
@@ -26,11 +26,11 @@ use texts::{fetch_text, info_text, manifest_text, total_octets};
 mod tag_file;
 mod texts;
 
-/// Writes the tag files of a payload that was written, and answers its Oxum.
+/// Writes the tag files of a payload that was written, and returns its Oxum.
 ///
 /// # Errors
 ///
-/// `Sink`, `Memory`; `TooLarge` where a tag file has more than 16,777,216 octets.
+/// `Sink` or `Memory` if the sink failed or memory ran out; `TooLarge` if a tag file has more than 16,777,216 octets.
 pub(crate) fn write_tag_files<S: Sink>(
     alloc: Global,
     spec: &Spec,
@@ -127,7 +127,7 @@ fn write_bagit_file<S: Sink>(
     write_listed(path, text.as_slice(), set, listed, sink)
 }
 
-/// Writes `fetch.txt`, where there are holes.
+/// Writes `fetch.txt` if there are holes.
 fn write_fetch_file<S: Sink>(
     alloc: Global,
     spec: &Spec,

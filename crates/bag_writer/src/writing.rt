@@ -1,4 +1,4 @@
-//! A bag, written from a payload.
+//! Writes a bag from a payload.
 ghost use Rattle.std.specs.Prelude.{◌≡◌, ◌≤◌, IfErr, IsErrOf, MatchResult, OnOk, false, length};
 ghost use Rattle.bag_rules.specs.Files.{Files};
 ghost use Rattle.bag_rules.specs.Trees.{AreRising, UsesTree, paths_in};
@@ -23,22 +23,25 @@ use std::alloc::Global;
 #[cfg(test)]
 mod tests;
 
-/// Writes the payload files of a tree as a bag of version 1.0 with the manifests and tag manifests by the given
-/// algorithms, and answers the `Payload-Oxum` of the payload (RFC 8493 section 2).
+/// Writes the payload files of a tree as a bag of version 1.0 with manifests and tag manifests by the given algorithms
+/// (RFC 8493 section 2). Returns the `Payload-Oxum` of the payload.
 ///
-/// Written are, in this order: the payload directory; each payload file that is no hole, by path; `bag-info.txt` with the given
-/// elements and then the `Payload-Oxum` of the whole payload, holes too; `bagit.txt`; where there are holes, `fetch.txt` with the
-/// length of each; and for each algorithm `manifest-ALG.txt`, by path, over the whole payload, and `tagmanifest-ALG.txt`, by path,
-/// over all tag files but tag manifests. Other files of the tree are not taken. Each payload file is read once.
+/// The bag is written in this order: the payload directory; each payload file that isn't a hole, by path;
+/// `bag-info.txt` with the given elements and then the `Payload-Oxum` of the whole payload, including holes;
+/// `bagit.txt`; if there are holes, `fetch.txt` with the length of each; for each algorithm `manifest-ALG.txt`, by
+/// path, for the whole payload; for each algorithm `tagmanifest-ALG.txt`, by path, for all tag files except tag
+/// manifests. Other files of the tree are ignored. Each payload file is read once.
 ///
-/// The sink is to be new: of one that holds a file or its payload directory already, it isn't said what it holds then.
+/// The sink should be new. If it already holds a file or the payload directory, nothing is claimed about what it holds
+/// afterwards.
 ///
 /// # Errors
 ///
-/// Before anything is written, the first that holds: `NoAlgorithm`; `OxumGiven`; `BadHole` of the first bad one; `Clash` of the
-/// least path; and then `TooLarge` for more than 100,000 payload files. After that, where the work meets them: `Tree` and `Sink`,
-/// which that device counted; `TooLarge` for a payload file of more than 2^40 octets or a tag file of more than 16,777,216; the
-/// sink then holds part of the bag. `Memory` may come in place of any other.
+/// Before anything is written, the first that applies: `NoAlgorithm`; `OxumGiven`; `BadHole` for the first bad hole;
+/// `Clash` for the least path; `TooLarge` for more than 100,000 payload files. After that, as the work meets them:
+/// `Tree` and `Sink`, which the tree or the sink has counted; `TooLarge` for a payload file of more than 2^40 octets or
+/// a tag file of more than 16,777,216. The sink then holds part of the bag. `Memory` may be returned in place of any
+/// other.
 pub fn write_bag<T: Tree, S: Sink>(
     alloc: Global,
     tree: &mut T,
@@ -50,8 +53,8 @@ pub fn write_bag<T: Tree, S: Sink>(
         (Refuses (payload_paths (T.shown tree.old)) spec.now) }
     ensures unwritten { IsRefusedUnwritten (payload_paths (T.shown tree.old)) spec.now
         → (sink.new ≡ sink.old) × MatchResult result (λ oxum. ⊥) (λ fault. ¬ IsOfDevice fault) }
-    // There is a payload, that of the tree's bag where it is known, whose Oxum is answered, and whose bag a sink that was empty
-    // holds then: the whole bag, or part of it.
+    // There is a payload, whose Oxum is returned. It is that of the tree's bag, if that is known. A sink that was empty
+    // then holds the bag of this payload, as a whole or in part.
     ensures done { (payload : Files) × IsDone (T.shown tree.old) spec.now result
         (S.stored sink.old) (S.stored sink.new) payload }
     ensures tree { UsesTree T.shown T.failures T.sure tree.old tree.new
@@ -68,7 +71,7 @@ pub fn write_bag<T: Tree, S: Sink>(
     write_accepted(alloc, tree, spec, marks.as_slice(), sink)
 }
 
-/// Writes a bag that can be written so.
+/// Writes a bag that was accepted.
 fn write_accepted<T: Tree, S: Sink>(
     alloc: Global,
     tree: &mut T,

@@ -25,7 +25,7 @@ fn hole(alloc: Global, path: &str, url: &str) -> Result<Hole, Fail> {
     })
 }
 
-/// By SHA-512, with holes at these paths.
+/// A specification with SHA-512 and with holes at these paths.
 fn spec_with(alloc: Global, holes: &[&str]) -> Result<Spec, Fail> {
     let mut spec = Spec {
         algs: AlgSet::empty().with(Alg::Sha512),
@@ -38,13 +38,13 @@ fn spec_with(alloc: Global, holes: &[&str]) -> Result<Spec, Fail> {
     Ok(spec)
 }
 
-/// The marks of the files at these paths where those are to be holes.
+/// The marks of the files at these paths if those are the holes.
 fn marks_of(alloc: Global, paths: &[&str], holes: &[&str]) -> Result<Vec<bool>, Fail> {
     let tree = tree_of(alloc, paths)?;
     Ok(accepted_holes(alloc, &tree, &spec_with(alloc, holes)?)?)
 }
 
-/// Why no bag can be written of the files at these paths where those are to be holes.
+/// Why no bag can be written of the files at these paths if those are the holes.
 fn fault_of(alloc: Global, paths: &[&str], holes: &[&str]) -> Result<Option<WriteFault>, Fail> {
     let tree = tree_of(alloc, paths)?;
     let spec = spec_with(alloc, holes)?;

@@ -6,7 +6,7 @@ use bag_rules::{MemTree, Paths};
 use std::alloc::Global;
 use std::test::Fail;
 
-/// One whole file, its octets in two pieces.
+/// Writes a whole file, its octets in two pieces.
 fn put<S: Sink>(sink: &mut S, path: &BagPath, octets: &[u8], more: &[u8]) -> Result<(), Failed> {
     sink.file(path)?;
     sink.write(octets)?;

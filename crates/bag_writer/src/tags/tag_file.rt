@@ -1,4 +1,4 @@
-//! One tag file: measured, written whole, and listed.
+//! Writes one tag file: checks its size, writes it whole and lists it.
 ghost use Rattle.std.specs.Prelude.{◌≡◌, ◌∷◌, [], IfOk, IsErr, MatchResult, OnOk, false};
 ghost use Rattle.std.specs.Result.{result_err};
 ghost use Rattle.bag_path.specs.Paths.{IsPath};
@@ -21,7 +21,8 @@ use std::alloc::{AllocError, Global};
 ///
 /// # Errors
 ///
-/// `Sink`, `Memory`; `TooLarge` where it has more than 16,777,216 octets: it isn't begun then.
+/// `Sink` or `Memory` if the sink failed or memory ran out; `TooLarge` if the file has more than 16,777,216 octets. It
+/// is then not begun.
 pub(crate) fn write_listed<S: Sink>(
     path: BagPath,
     octets: &[u8],
@@ -45,7 +46,7 @@ pub(crate) fn write_listed<S: Sink>(
 ///
 /// # Errors
 ///
-/// `Sink`; `TooLarge` where it has more than 16,777,216 octets: it isn't begun then.
+/// `Sink` if the sink failed; `TooLarge` if the file has more than 16,777,216 octets. It is then not begun.
 pub(crate) fn write_whole<S: Sink>(
     path: &BagPath,
     octets: &[u8],

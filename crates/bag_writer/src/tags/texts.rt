@@ -1,4 +1,4 @@
-//! The texts of the tag files, made of the files that they speak of (RFC 8493 sections 2.1.3, 2.2.1, 2.2.2 and 2.2.3).
+//! Makes the texts of the tag files from the files that they list (RFC 8493 sections 2.1.3, 2.2.1, 2.2.2 and 2.2.3).
 ghost use Rattle.std.specs.Prelude.{◌≡◌, ◌<◌, ◌^◌, ◌++◌, ◌∷◌, [], IfOk, OnOk, Some, codes, true};
 ghost use Rattle.std.specs.List.{flat_map, sum_by};
 ghost use Rattle.bag_digest.specs.Algorithm.{has};
@@ -25,7 +25,7 @@ use bag_tags::{
 };
 use std::alloc::{AllocError, Global};
 
-/// The number of octets that these files have together.
+/// How many octets these files have in total.
 pub(crate) fn total_octets(items: &[Item]) -> u64
     requires { sum_by (λ (item : Item). item.octets) items.now < 2 ^ 64 }
     ensures { result ≡ sum_by (λ (item : Item). item.octets) items.now }
@@ -45,7 +45,7 @@ pub(crate) fn info_text(alloc: Global, info: &Info, oxum: Oxum) -> Result<Vec<u8
     Ok(octets)
 }
 
-/// The element that says an Oxum.
+/// The element that gives an Oxum.
 fn oxum_element(alloc: Global, oxum: Oxum) -> Result<Element, AllocError>
     ensures { IfOk result (λ made. made
         ≡ element (codes "Payload-Oxum") (written_oxum oxum.octets oxum.streams)) }
@@ -120,7 +120,7 @@ pub(crate) fn manifest_text(
     write_manifest(alloc, &manifest)
 }
 
-/// Lists one file more.
+/// Adds one more file to the list of a manifest.
 fn list_item(manifest: &mut Manifest, item: &Item) -> Result<(), AllocError>
     requires { (digest : Digest) × (digest_in item.now.digests manifest.old.alg ≡ Some digest)
         × Admits manifest.old item.now.path digest }

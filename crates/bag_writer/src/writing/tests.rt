@@ -15,7 +15,7 @@ fn add(alloc: Global, tree: &mut MemTree, path: &str, octets: &[u8]) -> Result<(
     Ok(())
 }
 
-/// Two payload files of three octets and of none, and a file that is no payload.
+/// Two payload files, one of three octets and an empty one, and a file that isn't payload.
 fn payload(alloc: Global) -> Result<MemTree, Fail> {
     let mut tree = MemTree::new(alloc);
     add(alloc, &mut tree, "data/a.txt", b"abc")?;
@@ -32,7 +32,7 @@ fn spec_by(alloc: Global, algs: AlgSet) -> Spec {
     }
 }
 
-/// What is written of the tree, from the first file to the last.
+/// What is written of the tree, read back from the sink.
 fn written(alloc: Global, tree: &mut MemTree, spec: &Spec) -> Result<(Oxum, MemTree), Fail> {
     let mut sink = MemSink::new(alloc);
     let oxum = write_bag(alloc, tree, spec, &mut sink)?;
@@ -119,7 +119,7 @@ fn a_bag_with_a_hole_lists_it_and_leaves_it_out(rt: HostRuntime) -> Result<(), F
     assert_eq!(rt; tag_md5, Some(240));
     let tag_sha512 = size(alloc, &bag, "tagmanifest-sha512.txt")?;
     assert_eq!(rt; tag_sha512, Some(720));
-    // The hole is missing by both manifests, and from the payload that `Payload-Oxum` counts.
+    // Both manifests list the missing hole, and `Payload-Oxum` counts it.
     let faults = faults_of(alloc, &mut bag)?;
     assert_eq!(rt; faults.as_slice(), [9, 9, 13].as_slice());
     Ok(())

@@ -26,7 +26,7 @@ is_url = record {
   no_control = (visible 47 (lit< tt) (lit< tt), (visible 47 (lit< tt) (lit< tt), (visible 101 (lit< tt) (lit< tt), (visible 120 (lit< tt) (lit< tt), (visible 97 (lit< tt) (lit< tt), (visible 109 (lit< tt) (lit< tt), (visible 112 (lit< tt) (lit< tt), (visible 108 (lit< tt) (lit< tt), (visible 101 (lit< tt) (lit< tt), (visible 46 (lit< tt) (lit< tt), (visible 111 (lit< tt) (lit< tt), (visible 114 (lit< tt) (lit< tt), (visible 103 (lit< tt) (lit< tt), (visible 47 (lit< tt) (lit< tt), (visible 101 (lit< tt) (lit< tt), tt)))))))))))))));
 }
 
--- what is told of a hole with this path and this url
+-- a hole with this path and this URL can be listed in `fetch.txt`
 fetched : (hole : Hole) → hole.path ≡ codes "data/e.txt" → string_bytes hole.url ≡ codes "http://example.org/e" → CanBeFetched files (hole ∷ [])
 unfolding IsStrictlySortedBy
 fetched hole path url = record {
