@@ -1,4 +1,5 @@
-//! Laws on the algorithms and on the spelling of digests. Each function's contract is one law, and its body is empty.
+//! Laws about the algorithms and the spelling of digests. The contract of each function states one law, and its body is
+//! empty.
 ghost use Rattle.std.specs.Prelude.{◌≡◌, ℕ, List, [], ◌∷◌};
 ghost use Rattle.bag_digest.specs.declared.algorithm.Alg.{Alg};
 ghost use Rattle.bag_digest.specs.declared.algorithm.Alg.TheVariants.{Md5, Sha1, Sha256, Sha512};

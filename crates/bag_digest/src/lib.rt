@@ -1,5 +1,5 @@
-//! The checksums of bags (RFC 8493 section 2.4): digests by MD5, SHA-1, SHA-256 and SHA-512, taken of
-//! octets in pieces and spelled in hex, and the sources that octets come from.
+//! The checksums of bags (RFC 8493 section 2.4): digests by MD5, SHA-1, SHA-256 and SHA-512, computed
+//! from octets in pieces and spelled in hex, and the sources that octets come from.
 #![tactic(auto)]
 
 pub use algorithm::{Alg, AlgSet};

@@ -16,7 +16,7 @@ pub struct Failed;
 /// `remaining` is `None`, and it is never `ready`. What a source in memory holds is known, and its reads give exactly
 /// that.
 pub trait Source {
-    /// The octets that reads will still give, where they are known.
+    /// The octets that reads will still give, if they are known.
     ghost remaining: { Self → Option (List ℕ) };
 
     /// How often the source has failed.

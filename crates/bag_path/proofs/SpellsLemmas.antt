@@ -38,7 +38,7 @@ take-two [] = refl
 take-two (x ∷ []) = refl
 take-two (x ∷ y ∷ text) = refl
 
--- a text begins with an escape of LF or CR exactly where `%` and its code are read so
+-- if a text begins with an escape of LF or CR, `%` and its code are read as one
 escape_begun : (x : ℕ) (text : List ℕ) → BeginsLineEscape (x ∷ text) → (octet : ℕ) × (x ≡ 37) × (octet_of_escape V097 (take 2 text) ≡ Some octet)
 escape_begun x text h =
     let p = line_part V097 h.0 h.2 h.4 in

@@ -28,7 +28,7 @@ written_char c a b d =
     let each : (k : ℕ) → k < length (encode_utf8 c) → IsWritten (get_or (encode_utf8 c) k 0) = octet_of c (a, b, d) in
     written_itself (encode_utf8 c) (recursion_from_All IsWritten (encode_utf8 c) (All-from_get_or IsWritten (encode_utf8 c) 0 each))
 
--- one character more
+-- one more character
 pub written_more : (c : ℕ) (chars octets more : List ℕ) → octets ≡ written_spelling (encode_utf8_all chars) → more ≡ octets ++ written_spelling (encode_utf8 c) → more ≡ written_spelling (encode_utf8_all (chars ++ c ∷ []))
 written_more c chars octets more e f =
     f ∙ ap (λ octets. octets ++ written_spelling (encode_utf8 c)) e

@@ -62,7 +62,7 @@ pub fn a_literal_line_escape_has_no_spelling_in_version_0_97()
         × Spells V1 (codes "data/%0A") (codes "data/%250A") }
 {}
 
-/// Paths are always written by version 1.0, whichever version they were read by.
+/// Paths are always written by the rules of version 1.0, whichever version they were read in.
 pub fn paths_of_version_0_97_are_written_in_version_1()
     ensures { (written_spelling (codes "data/%41") ≡ codes "data/%2541")
         × (written_spelling (codes "data/%25") ≡ codes "data/%2525")

@@ -18,7 +18,7 @@ pub const LONGEST_PATH: usize = 4096;
 /// `BadEscape` comes before all of them, and `Memory` may be returned in place of any other.
 #[derive(Clone, Copy, Debug, PartialEq, Eq, PartialOrd, Ord, Error)]
 pub enum PathFault {
-    /// The path has no octet.
+    /// The path is empty.
     #[error("the path is empty")]
     Empty,
     /// The path has more than [`LONGEST_PATH`] octets.

@@ -1,5 +1,5 @@
--- Bags with a declaration, a payload manifest by SHA-256 that lists no other file than `data/a.txt`, and no other payload file:
--- what can be wrong with them.
+-- What can be wrong with bags that have a declaration, a payload manifest by SHA-256 that lists no file except possibly
+-- `data/a.txt`, and no other payload file.
 use Rattle.std.proofs.Common.{◌≡◌, ◌≢◌, ◌⊎◌, ℕ, true, false, List, [], ◌∷◌, Some, codes, nat_eq, get_or, refl, sym, ap, ◌∙◌, subst, inl, inr}
 use Rattle.bag_rules.proofs.Words.{Alg, BadDeclaration, BadLine, Bag, bytes_eq, current, differ_at, Digest, excludes, Fault, FetchLength, FetchList, FetchNotListed, file_of, Has, HasFault, hash, Holds, Info, is_payload, IsDeclaration, IsInProfile, IsThere, IsUnknownManifest, Kind, line_fault, LineCause, listed_digest, Lists, lists_path, Manifest, manifest_file, manifest_name, ManifestFault, ManifestName, ManifestNotListed, ManifestText, Missing, NoDeclaration, NoManifest, no_pairs, NoPayloadDir, one_file, one_list_of_pairs, other_text, OxumForm, OxumTwice, OxumWrong, Pair, Payload, payload_known, payload_manifest, Sha256, Tag, tag_manifest, Unlisted, V1, written_declaration, written_declares, WrongDigest}
 use Rattle.bag_rules.specs.Bags.{version_of}

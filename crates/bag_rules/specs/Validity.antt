@@ -43,7 +43,8 @@ pub record Conforms (bag : Bag) : Type 0 where
       → length (filter is_oxum elements) ≤ 1
   pub oxum_right : (element : MetadataElement) → SaysOxum bag element
       → OxumText element.value (octet_count (payload_of bag.files)) (length (payload_of bag.files))
-  -- each file of `fetch.txt` is listed and, if it is there, has the length that is given (section 2.2.3)
+  -- each file of `fetch.txt` is listed and, if it is there, has the length that is given
+  -- (section 2.2.3)
   pub fetch_listed : (line : FetchLine) → HasEntry bag line
       → IsListed (version_of bag) bag line.entry.path
   pub fetch_lengths : (line : FetchLine) (octets : List ℕ) → HasEntry bag line
@@ -51,7 +52,8 @@ pub record Conforms (bag : Bag) : Type 0 where
       → ForSome line.entry.octets (λ given. length octets ≡ given)
 
 -- Section 3: every required element is there; every file listed in every tag manifest and in every payload manifest is
--- there; every payload file is listed in every payload manifest (in version 0.97: in some); and every element present conforms.
+-- there; every payload file is listed in every payload manifest (in version 0.97: in some); and every element present
+-- conforms.
 pub record IsComplete (bag : Bag) : Type 0 where
   pub conforms : Conforms bag
   pub each_there : (name : ManifestName) (pairs : List Pair) (path : List ℕ) → Lists bag name pairs

@@ -21,7 +21,7 @@ use bag_path::BagPath;
 use bag_tags::{Kind, Manifest, ManifestName, Pair};
 
 /// Adds the faults of the bag of a transfer that could be opened and holds payload files of these sizes, by path. These
-/// can only be missing files and the size of the payload.
+/// can only be files that are missing and a wrong size of the payload.
 pub(crate) fn add_item_faults(
     texts: &Texts,
     sizes: &[ItemSize],

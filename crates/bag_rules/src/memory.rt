@@ -63,7 +63,7 @@ impl MemTree {
     ghost use Rattle.std.specs.Prelude.{Some};
     ghost use Rattle.bag_rules.specs.Memory.{FindsAlso, mem_paths, no_files, octets_at, with_file};
 
-    /// No files, and no payload directory.
+    /// A tree without files and without a payload directory.
     pub fn new(alloc: Global) -> MemTree
         ensures { result ≡ no_files }
     {

@@ -19,7 +19,7 @@ pub enum Outcome {
 pub enum OutsideCause {
     /// `bagit.txt` declares a version that is neither 1.0 nor 0.97.
     Version,
-    /// `bagit.txt` declares another encoding of tag files than UTF-8.
+    /// `bagit.txt` declares an encoding of the tag files other than UTF-8.
     Encoding,
     /// The algorithm of a manifest is not md5, sha1, sha256 or sha512. This is its name in the first such manifest by
     /// file name.

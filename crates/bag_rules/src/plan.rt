@@ -22,7 +22,7 @@ use thiserror::Error;
 /// but `Memory` may be returned in place of any other.
 #[derive(Debug, Drop, Error)]
 pub enum PlanFault {
-    /// A manifest or `fetch.txt` has more than 100,000 lines: the first such file by path.
+    /// A manifest or `fetch.txt` has more than 100,000 lines. This is the first such file by path.
     #[error("a tag file is too large")]
     TagTooLarge(BagPath),
     /// The bag can't be judged here. This doesn't mean that it is invalid.

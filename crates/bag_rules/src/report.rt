@@ -52,14 +52,14 @@ impl Report {
         self.faults.as_slice()
     }
 
-    /// Whether the bag is complete (RFC 8493 section 3): no fault but wrong digests.
+    /// Whether the bag is complete (RFC 8493 section 3), which it is if it has no faults but wrong digests.
     pub fn is_complete(&self) -> bool
         ensures { IsTrue result ↔ NoneUpTo last_of_completeness self.now }
     {
         self.faults.iter().all(|fault| fault.number() > 13)
     }
 
-    /// Whether the bag is valid (RFC 8493 section 3): no fault.
+    /// Whether the bag is valid (RFC 8493 section 3), which it is if it has no faults.
     pub fn is_valid(&self) -> bool
         ensures { IsTrue result ↔ (self.now ≡ []) }
     {

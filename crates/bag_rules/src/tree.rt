@@ -54,8 +54,8 @@ pub trait Tree: Paths + Source {
     ghost reads_keep: { (a b : Self) → Self.keeps a b → KeepsTree Self.shown sure a b };
 }
 
-/// The place of the file with this path. This is a binary search, so it compares about as many paths as the number of
-/// files has binary digits.
+/// The place of the file with this path. This is a binary search, so it looks at no more than about as many paths
+/// as the number of files has binary digits.
 ///
 /// `path` need not be a valid path. If it isn't, no file has it.
 pub fn find<P: Paths>(paths: &P, path: &str) -> Option<usize>

@@ -120,7 +120,7 @@ decided_scheme (octet ∷ octets) = decided_both (IsAsciiAlphabetic octet) (AllB
 decided_url_octet : (octet : ℕ) → Decided (IsUrlOctet octet)
 decided_url_octet octet = decided_both (32 < octet) (octet ≢ 127) (decided_below 32 octet) (decided_not (octet ≡ 127) (decided_equal octet 127))
 
--- a url, by its parts
+-- a URL, by its parts
 abbrev UrlParts : List ℕ → List ℕ → Type 0
 UrlParts scheme rest = IsScheme scheme × ((1 < length rest) × AllByRecursion IsUrlOctet (drop 1 rest))
 
@@ -156,7 +156,7 @@ module _ (version : Version) (before : List FetchLine) (number : ℕ) (text : Li
     | inr other ↦ inr (WrongPlace, record { entry = entry; gives = gives; no_payload = other })
   ]
 
-  -- a line with a url and a length
+  -- a line with a URL and a length
   of_length : (url len path_text : List ℕ) (octets : Option ℕ) → IsUtf8 text → AreWords text url len path_text → IsUrl url → IsLength len octets → EntryOrCause
   of_length url len path_text octets utf8 words is_url is_length = elim (path_or_fault version path_text (words_utf8 text url len path_text words utf8).1) [
     | inl p ↦ of_entry (fetch_item url octets p.0) (gives_of version text url len path_text octets p.0 words is_url is_length p.1 p.2)

@@ -105,7 +105,7 @@ words_utf8 text url len path h u =
 pub gives_of : (version : Version) (text url len path_text : List ℕ) (octets : Option ℕ) (path : List ℕ) → AreWords text url len path_text → IsUrl url → IsLength len octets → Spells version path path_text → IsPath path → GivesEntry version text (fetch_item url octets path)
 gives_of version text url len path_text octets path w u l s p = record { length = len; path_text = path_text; words = w; is_url = u; is_length = l; spells = s; is_path = p }
 
--- a url is cut at its first colon
+-- a URL is cut at its first colon
 scheme_no_colon : (scheme : List ℕ) → IsScheme scheme → AllByRecursion (λ x. is_colon x ≡ false) scheme
 scheme_no_colon [] h = absurd h
 scheme_no_colon (x ∷ scheme) h = (ne_eqb x 58 (λ e. omega (arith, h.0)), each IsSchemeOctet _ (λ y o. ne_eqb y 58 (λ e. omega (arith, o))) scheme h.1)

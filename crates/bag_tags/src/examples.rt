@@ -88,7 +88,7 @@ pub fn oxums_are_two_numbers_and_a_dot()
         × OxumText (codes "18446744073709551615.0") 18446744073709551615 0 }
 {}
 
-/// A text is no oxum if a number is missing, has a sign, contains a blank or isn't below 2^64.
+/// A text isn't an oxum if a number is missing, has a sign, contains a blank or isn't below 2^64.
 pub fn other_texts_are_no_oxums()
     ensures { ((octets streams : ℕ) → ¬ OxumText (codes "3.") octets streams)
         × ((octets streams : ℕ) → ¬ OxumText (codes "+3.2") octets streams)

@@ -79,7 +79,7 @@ fn read_entry(alloc: Global, version: Version, text: &str) -> Result<FetchEntry,
     }
 }
 
-/// The url, the length and the path's text of a line.
+/// The URL, the length and the text of the path on a line.
 fn split_words(text: &str) -> Option<(&str, &str, &str)>
     ensures some { IfSome result (λ words. AreWords text.now words.0.now words.1.now words.2.now) }
     ensures none { IfNone result (LacksWord text.now) }

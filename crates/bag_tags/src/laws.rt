@@ -64,7 +64,7 @@ pub fn a_text_lists_one_list_of_entries_at_most()
         → FetchText version octets lines → FetchText version octets others → lines ≡ others }
 {}
 
-/// A text with a fault is that of no manifest.
+/// A text with a fault isn't that of a manifest.
 pub fn a_faulty_manifest_lists_nothing()
     ensures { (version : Version) (alg : Alg) (kind : Kind) (octets : List ℕ) (pairs : List Pair)
         (fault : LineFault)
@@ -80,7 +80,7 @@ pub fn a_manifest_has_one_first_fault_at_most()
         → fault ≡ other }
 {}
 
-/// A text with a fault is that of no `bag-info.txt`.
+/// A text with a fault isn't that of a `bag-info.txt`.
 pub fn a_faulty_bag_info_says_nothing()
     ensures { (version : Version) (octets : List ℕ) (elements : List MetadataElement)
         (fault : LineFault)
@@ -93,7 +93,7 @@ pub fn a_bag_info_has_one_first_fault_at_most()
         → InfoFault version octets fault → InfoFault version octets other → fault ≡ other }
 {}
 
-/// A text with a fault is that of no `fetch.txt`.
+/// A text with a fault isn't that of a `fetch.txt`.
 pub fn a_faulty_fetch_list_lists_nothing()
     ensures { (version : Version) (octets : List ℕ) (lines : List FetchLine) (fault : LineFault)
         → FetchText version octets lines → FetchFault version octets fault → ⊥ }

@@ -95,7 +95,7 @@ fetch_more payload holes i d lines n entry within there is so_far =
 pub fetch_all : (payload : Files) (holes : List Hole) (i : ℕ) (lines : List FetchLine) → i ≡ length holes → written_fetch lines ≡ hole_lines payload (take i holes) → written_fetch lines ≡ hole_lines payload holes
 fetch_all payload holes i lines all so_far = so_far ∙ ap (hole_lines payload) (ap (λ (n : ℕ). take n holes) all ∙ take-length holes)
 
--- `fetch.txt`, where there are holes
+-- `fetch.txt`, if there are holes
 abbrev pub fetch_file : Files → List Hole → File
 fetch_file payload holes = (text_file FetchList, hole_lines payload holes)
 

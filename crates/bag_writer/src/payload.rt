@@ -36,7 +36,7 @@ pub(crate) fn write_payload<T: Tree, S: Sink>(
 ) -> Result<Vec<Item>, WriteFault>
     requires room { 0 < length buffer.old }
     requires marks { AreHoleMarks (paths_in (T.shown tree.old)) spec.now marks.now }
-    // There is a payload, of which this was written. It is that of the tree's bag, if that is known.
+    // This was written of some payload, which is that of the tree's bag if that is known.
     ensures written { (payload : Files) × IsReadFrom (T.shown tree.old) payload
         × MatchResult result (λ items. AreItemsOf spec.now.algs items.items payload
         × (¬ HasLongFile payload LARGEST_FILE)

@@ -39,9 +39,9 @@ mod tests;
 ///
 /// Before anything is written, the first that applies: `NoAlgorithm`; `OxumGiven`; `BadHole` for the first bad hole;
 /// `Clash` for the least path; `TooLarge` for more than 100,000 payload files. After that, as the work meets them:
-/// `Tree` and `Sink`, which the tree or the sink has counted; `TooLarge` for a payload file of more than 2^40 octets or
-/// a tag file of more than 16,777,216. The sink then holds part of the bag. `Memory` may be returned in place of any
-/// other.
+/// `Tree` or `Sink` if the tree or the sink failed, and it has counted the failure; `TooLarge` for a payload file of
+/// more than 2^40 octets or a tag file of more than 16,777,216. The sink then holds part of the bag. `Memory` may be
+/// returned in place of any other.
 pub fn write_bag<T: Tree, S: Sink>(
     alloc: Global,
     tree: &mut T,
@@ -53,8 +53,8 @@ pub fn write_bag<T: Tree, S: Sink>(
         (Refuses (payload_paths (T.shown tree.old)) spec.now) }
     ensures unwritten { IsRefusedUnwritten (payload_paths (T.shown tree.old)) spec.now
         → (sink.new ≡ sink.old) × MatchResult result (λ oxum. ⊥) (λ fault. ¬ IsOfDevice fault) }
-    // There is a payload, whose Oxum is returned. It is that of the tree's bag, if that is known. A sink that was empty
-    // then holds the bag of this payload, as a whole or in part.
+    // This holds of some payload, which is that of the tree's bag if that is known: its Oxum is returned, and a sink
+    // that was empty then holds its bag, as a whole or in part.
     ensures done { (payload : Files) × IsDone (T.shown tree.old) spec.now result
         (S.stored sink.old) (S.stored sink.new) payload }
     ensures tree { UsesTree T.shown T.failures T.sure tree.old tree.new

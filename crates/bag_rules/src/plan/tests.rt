@@ -137,7 +137,7 @@ fn sizes_of(alloc: Global, rows: &[(&str, u64)]) -> Result<Vec<ItemSize>, Fail> 
     Ok(sizes)
 }
 
-/// The faults of a report that lacks these files, each listed in the manifest by its algorithm.
+/// The faults of a report in which these files are missing, each of them listed in the manifest by its algorithm.
 fn missing(alloc: Global, rows: &[(Alg, &str)]) -> Result<Vec<Fault>, Fail> {
     let mut faults = Vec::new(alloc);
     for (alg, path) in rows.iter().copied() {
