@@ -16,7 +16,7 @@ use Rattle.std.proofs.lemmas.Map.Text.{is_eq-slice_cmp}
 use Rattle.std.proofs.lemmas.Option.{same_Some}
 use Rattle.std.proofs.lemmas.Slice.Eq.{bytes_eq-Decides}
 
--- each key by its octets, and what its value stands for
+-- each key as octets, with the meaning of its value
 abbrev pub shown : {K X Y : Type 0} → (K → List ℕ) → (X → Y) → List (K × X) → List (List ℕ × Y)
 shown {K} {X} {Y} octets means es = map (λ (e : K × X). (octets e.0, means e.1)) es
 
@@ -24,7 +24,7 @@ shown {K} {X} {Y} octets means es = map (λ (e : K × X). (octets e.0, means e.1
 abbrev pub changed : {Y : Type 0} → List ℕ → (Y → Y) → List (List ℕ × Y) → List (List ℕ × Y)
 changed {Y} bs h es = map (λ (e : List ℕ × Y). (e.0, if bytes_eq bs e.0 then h e.1 else e.1)) es
 
--- the test is that for these octets
+-- the test compares with these octets
 abbrev pub IsTestFor : {K : Type 0} → (K → List ℕ) → (K → Bool) → List ℕ → Type 0
 IsTestFor {K} octets test bs = (k : K) → test k ≡ bytes_eq bs (octets k)
 
@@ -66,7 +66,7 @@ module _ {K X Y : Type 0} (octets : K → List ℕ) (means : X → Y) (test : K 
   changed_nowhere es absent = unchanged es (none_passes_from_lookup test es absent)
 
   module _ (cmp : K → K → Ordering) (order : (k q : K) → cmp k q ≡ slice_cmp nat_cmp (octets k) (octets q)) where
-    -- a key after the one with these octets has others
+    -- a key after the one with these octets has different octets
     others : (k : K) → test k ≡ true → (es : List (K × X)) → AllByRecursion (λ y. cmp k y ≡ Less) (keys_of es) → AllByRecursion (λ (e : K × X). test e.0 ≡ false) es
     others k here [] after = tt
     others k here (e ∷ es) after =
@@ -81,7 +81,7 @@ module _ {K X Y : Type 0} (octets : K → List ℕ) (means : X → Y) (test : K 
         ∙ ap (λ tail. (octets e.0, h (means e.1)) ∷ tail) (sym (unchanged es (others e.0 at es (sorted_head cmp e.0 (keys_of es) sorted))))
     step false e es x w at value sorted here rest = ap (λ tail. (octets e.0, means e.1) ∷ tail) (rest here)
 
-    -- a value that is written at octets that a key has
+    -- a value written at octets that a key has
     pub set_shown : (es : List (K × X)) (x w : X) → lookup test es ≡ Some x → means w ≡ h (means x) → IsStrictlySortedBy cmp (keys_of es)
         → shown octets means (set_value test es w) ≡ changed bs h (shown octets means es)
     set_shown [] x w here value sorted = absurd (let e : ◌≡◌ {A = Option X} None (Some x) = here in cc)
@@ -97,7 +97,7 @@ pub changed_to_same : {Y : Type 0} (bs : List ℕ) (es : List (List ℕ × Y)) �
 changed_to_same bs [] = refl
 changed_to_same bs (e ∷ es) = ap (λ y. (e.0, y) ∷ changed bs (λ y. y) es) (either (bytes_eq bs e.0) e.1) ∙ ap (λ rest. e ∷ rest) (changed_to_same bs es)
 
--- a list made of another that is made of a third
+-- a list mapped from a list that is itself mapped
 pub map_twice : {A B C : Type 0} (f : A → B) (g : B → C) (xs : List A) → map g (map f xs) ≡ map (λ x. g (f x)) xs
 map_twice f g [] = refl
 map_twice f g (x ∷ xs) = ap (λ rest. g (f x) ∷ rest) (map_twice f g xs)

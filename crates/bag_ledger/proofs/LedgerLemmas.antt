@@ -1,4 +1,4 @@
--- What look-ups find once a ledger has one transfer or one payload file more.
+-- What look-ups find after a transfer or a payload file is added.
 use Rattle.std.proofs.Common.{◌≡◌, ◌≢◌, ℕ, Bool, true, false, List, [], ◌∷◌, Option, Some, None, cond, map, refl, sym, ap, subst, ◌∙◌, is_eq, if◌then◌else◌}
 use Rattle.std.specs.BTreeMap.{insert_entry}
 use Rattle.std.specs.Cmp.Lexicographic.{slice_cmp}
@@ -24,13 +24,13 @@ differs x y apart = false_from_ne_true (bytes_eq x y) (λ e. apart ((bytes_eq-De
 same : (x : List ℕ) → bytes_eq x x ≡ true
 same x = (bytes_eq-Decides x x).1 refl
 
--- ONE ENTRY MORE
+-- ONE ENTRY ADDED
 
 module _ {X : Type 0} (key : List ℕ) (value : X) where
   abbrev Entries : Type 0
   Entries = List (List ℕ × X)
 
-  -- which entries are there once one was put before, in the place of or after the first
+  -- which entries there are after one was put before, in place of, or after the first
   abbrev put_by : Ordering → List ℕ × X → Entries → Entries
   put_by o e es = match_ordering o ((key, value) ∷ e ∷ es) ((e.0, value) ∷ es) (e ∷ insert_entry (slice_cmp nat_cmp) es key value)
 
@@ -56,7 +56,7 @@ module _ {X : Type 0} (key : List ℕ) (value : X) where
   entry_others other apart [] = ap (λ b. cond b (Some value) None) (differs other key apart)
   entry_others other apart (e ∷ es) = other_by (slice_cmp nat_cmp key e.0) other apart e es refl (entry_others other apart es)
 
-  -- THE ORDER STAYS
+  -- THE ORDER IS KEPT
 
   after_by : (x : List ℕ) → slice_cmp nat_cmp x key ≡ Less → (o : Ordering) (e : List ℕ × X) (es : Entries) → AllByRecursion (λ y. slice_cmp nat_cmp x y ≡ Less) (keys_of (e ∷ es))
       → AllByRecursion (λ y. slice_cmp nat_cmp x y ≡ Less) (keys_of (insert_entry (slice_cmp nat_cmp) es key value)) → AllByRecursion (λ y. slice_cmp nat_cmp x y ≡ Less) (keys_of (put_by o e es))
@@ -85,7 +85,7 @@ module _ {X : Type 0} (key : List ℕ) (value : X) where
   entry_rising [] rising = (tt, tt)
   entry_rising (e ∷ es) rising = rising_by (slice_cmp nat_cmp key e.0) e es refl rising (entry_rising es rising.1)
 
--- ONE PAYLOAD FILE MORE
+-- ONE PAYLOAD FILE ADDED
 
 module _ (name path content : List ℕ) where
   step : (b : Bool) (entry : List ℕ × Transfer) (found : Option Transfer) → cond b (Some (if b then holding entry.1 path content else entry.1)) (option_map (λ (t : Transfer). holding t path content) found)
@@ -113,7 +113,7 @@ module _ (name path content : List ℕ) where
   item_names [] = refl
   item_names (entry ∷ ledger) = ap (λ names. entry.0 ∷ names) (item_names ledger)
 
-  -- what the path has then
+  -- what the path has afterwards
   pub content_here : (ledger : Ledger) (transfer : Transfer) → transfer_of ledger name ≡ Some transfer → content_of (with_item ledger name path content) name path ≡ Some content
   content_here ledger transfer there =
       ap (λ (t : Option Transfer). lookup (bytes_eq path) (unwrap_or (option_map (λ (transfer : Transfer). transfer.items) t) [])) (item_here ledger ∙ ap (option_map (λ (t : Transfer). holding t path content)) there)

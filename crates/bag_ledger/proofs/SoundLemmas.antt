@@ -1,4 +1,4 @@
--- A sound ledger with one transfer or one payload file more is sound.
+-- A sound ledger stays sound when a transfer or a payload file is added.
 use Rattle.std.proofs.Common.{◌≡◌, ◌≢◌, ◌≤◌, ◌⊎◌, ℕ, Bool, true, false, List, [], ◌∷◌, Option, Some, None, length, refl, sym, ap, subst, ◌∙◌, inl, inr}
 use Rattle.std.specs.BTreeMap.{insert_entry}
 use Rattle.std.specs.Cmp.Lexicographic.{slice_cmp}
@@ -25,7 +25,7 @@ use Rattle.bag_ledger.specs.Ledgers.{IsSound, IsSoundTransfer, Ledger, Transfer,
 use Rattle.bag_ledger.specs.Stored.{HoldsItself}
 use Rattle.bag_ledger.proofs.LedgerLemmas.{entry_here, entry_others, entry_rising, item_here, item_names, item_others}
 
--- two names are the same, or they aren't
+-- two names are equal or they aren't
 either : (x y : List ℕ) (b : Bool) → bytes_eq x y ≡ b → (x ≡ y) ⊎ (x ≢ y)
 either x y true e = inl ((bytes_eq-Decides x y).0 e)
 either x y false e = inr (λ h. let t : bytes_eq x y ≡ true = (bytes_eq-Decides x y).1 h in let f : true ≡ false = sym t ∙ e in cc)
@@ -50,7 +50,7 @@ sound_begun ledger name tags sound tag_files opens = record {
   ];
 }
 
--- what is among the files once one was put
+-- what is among the files after one was added
 module _ (path content : List ℕ) (file : List ℕ × List ℕ) where
   has_by : (o : Ordering) (e : List ℕ × List ℕ) (es : Files) → slice_cmp nat_cmp path e.0 ≡ o
       → (Has (insert_entry (slice_cmp nat_cmp) es path content) file → ((path, content) ≡ file) ⊎ Has es file)

@@ -1,4 +1,4 @@
--- What changes and look-ups in a map of transfers are to the ledger that it is.
+-- How changes and look-ups in a map of transfers correspond to the ledger.
 use Rattle.std.proofs.Common.{◌≡◌, ℕ, List, [], Option, Some, None, Bor, Vec, length, map, refl, sym, ap, ◌∙◌}
 use Rattle.std.specs.BTreeMap.{BTreeMap, IsOrdered, get_by, insert_entry, is_at, keys}
 use Rattle.std.specs.Cmp.Lexicographic.{slice_cmp}
@@ -61,14 +61,14 @@ transfer_added old new key stored name tags entries named is_begun =
 pub new_transfer : (copy tags : Files) (items : Items) → copy ≡ tags → items.entries ≡ [] → transfer_in (record { tags = copy; items = items }) ≡ begun tags
 new_transfer copy tags items same empty = λ t. record { tags = same t; items = ap (map (λ (item : List ℕ × Vec ℕ Global). (item.0, item.1.items))) empty t }
 
--- a payload file of a transfer that is there
+-- a payload file of a transfer that exists
 pub item_added : (old new : Transfers) (name path content : List ℕ) (before after : Stored) → new.entries ≡ set_value (is_at (by_name name)) old.entries after → get_by (by_name name) old ≡ Some before
     → IsOrdered string_cmp old → transfer_in after ≡ holding (transfer_in before) path content → ledger_in new ≡ with_item (ledger_in old) name path content
 item_added old new name path content before after entries there ordered one_more =
     ap (map (λ (entry : String Global × Stored). (string_bytes entry.0, transfer_in entry.1))) entries
     ∙ set_shown string_bytes transfer_in (is_at (by_name name)) name (λ k. is_eq-slice_cmp name (string_bytes k)) (λ transfer. holding transfer path content) string_cmp (λ k q. refl) old.entries before after there one_more ordered
 
--- a transfer with one payload file more
+-- a transfer with a payload file added
 pub holds_one_more : (tags : Files) (old new : Items) (path : List ℕ) (content : Vec ℕ Global) → new.entries ≡ insert_entry (slice_cmp nat_cmp) old.entries path content
     → transfer_in (record { tags = tags; items = new }) ≡ holding (transfer_in (record { tags = tags; items = old })) path content.items
 holds_one_more tags old new path content entries = λ t. record { tags = tags; items = file_added old new path content entries t }
@@ -76,12 +76,12 @@ holds_one_more tags old new path content entries = λ t. record { tags = tags; i
 pub holds_the_same : (tags : Files) (old new : Items) → new.entries ≡ old.entries → transfer_in (record { tags = tags; items = new }) ≡ transfer_in (record { tags = tags; items = old })
 holds_the_same tags old new entries = λ t. record { tags = tags; items = ap (map (λ (item : List ℕ × Vec ℕ Global). (item.0, item.1.items))) entries t }
 
--- a payload file of a transfer that isn't there
+-- a payload file of a transfer that doesn't exist
 pub item_nowhere : (transfers : Transfers) (name path content : List ℕ) → get_by (by_name name) transfers ≡ None → ledger_in transfers ≡ with_item (ledger_in transfers) name path content
 item_nowhere transfers name path content absent =
     sym (changed_nowhere string_bytes transfer_in (is_at (by_name name)) name (λ k. is_eq-slice_cmp name (string_bytes k)) (λ transfer. holding transfer path content) transfers.entries absent)
 
--- a transfer that is written as it was
+-- a transfer that is written unchanged
 pub same_stored : (old new : Transfers) (name : List ℕ) (before after : Stored) → new.entries ≡ set_value (is_at (by_name name)) old.entries after → get_by (by_name name) old ≡ Some before
     → IsOrdered string_cmp old → transfer_in after ≡ transfer_in before → ledger_in new ≡ ledger_in old
 same_stored old new name before after entries there ordered same =

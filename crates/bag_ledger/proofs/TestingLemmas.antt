@@ -1,4 +1,4 @@
--- What was read and isn't wanted.
+-- Content that was read and isn't the wanted one.
 use Rattle.std.proofs.Common.{ℕ, List, Option}
 use Rattle.bag_digest.specs.Reading.{GaveAll}
 use Rattle.bag_rules.specs.declared.limits.TheConstants.{LARGEST_ITEM}

@@ -1,4 +1,4 @@
--- What a ledger holds: transfers by name, each with its tag files and the payload files that it has taken.
+-- What a ledger holds: transfers by name, each with its tag files and the payload files received so far.
 use Rattle.std.specs.Prelude.{◌≡◌, ℕ, List, [], Option, Some, None, map, if◌then◌else◌}
 use Rattle.std.specs.Option.{option_map, unwrap_or}
 use Rattle.std.specs.Map.{keys_of, lookup}
@@ -23,7 +23,7 @@ Ledger = List (List ℕ × Transfer)
 abbrev pub transfer_of : Ledger → List ℕ → Option Transfer
 transfer_of ledger name = lookup (bytes_eq name) ledger
 
--- with these tag files and no payload file
+-- a transfer with these tag files and no payload files
 abbrev pub begun : Files → Transfer
 begun tags = record { tags = tags; items = [] }
 
@@ -31,7 +31,7 @@ begun tags = record { tags = tags; items = [] }
 abbrev pub tags_of : Ledger → List ℕ → Option Files
 tags_of ledger name = option_map (λ (transfer : Transfer). transfer.tags) (transfer_of ledger name)
 
--- the payload files that it holds; none where there is no such transfer
+-- the payload files that it holds; empty if there is no such transfer
 abbrev pub items_of : Ledger → List ℕ → Files
 items_of ledger name =
     unwrap_or (option_map (λ (transfer : Transfer). transfer.items) (transfer_of ledger name)) []
@@ -40,17 +40,17 @@ items_of ledger name =
 abbrev pub content_of : Ledger → List ℕ → List ℕ → Option (List ℕ)
 content_of ledger name path = lookup (bytes_eq path) (items_of ledger name)
 
--- one transfer more
+-- the ledger with a transfer added
 abbrev pub with_transfer : Ledger → List ℕ → Files → Ledger
 with_transfer ledger name tags = insert_entry (slice_cmp nat_cmp) ledger name (begun tags)
 
--- one payload file more
+-- the transfer with a payload file added
 abbrev pub holding : Transfer → List ℕ → List ℕ → Transfer
 holding transfer path content = record transfer {
   items = insert_entry (slice_cmp nat_cmp) transfer.items path content;
 }
 
--- one payload file more of the transfer with this name
+-- the ledger with a payload file added to the transfer with this name
 abbrev pub with_item : Ledger → List ℕ → List ℕ → List ℕ → Ledger
 with_item ledger name path content =
     map (λ (entry : List ℕ × Transfer).
@@ -58,13 +58,13 @@ with_item ledger name path content =
 
 -- WHAT A LEDGER MAY HOLD
 
--- tag files that open, and payload files that pass
+-- the tag files can open a transfer, and the payload files are valid for them
 pub record IsSoundTransfer (transfer : Transfer) : Type 0 where
   pub tag_files : AreTagFiles transfer.tags
   pub opens : Opens transfer.tags
   pub held : AreHeldFor transfer.tags transfer.items
 
--- transfers in the order of their names, none twice, and each of them sound
+-- the names are in order, no name occurs twice, and each transfer is sound
 pub record IsSound (ledger : Ledger) : Type 0 where
   pub rising : AreRising (keys_of ledger)
   pub each : (name : List ℕ) (transfer : Transfer) → transfer_of ledger name ≡ Some transfer

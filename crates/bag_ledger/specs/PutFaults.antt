@@ -1,4 +1,4 @@
--- The faults of reading and of a want, among those of putting.
+-- The faults of reading and of checking a content, as faults of `put`.
 use Rattle.bag_digest.specs.declared.reading.ReadFault.{ReadFault}
 use Rattle.bag_digest.specs.declared.reading.ReadFault.TheVariants as read
 use Rattle.bag_rules.specs.declared.want.WantFault.{WantFault}

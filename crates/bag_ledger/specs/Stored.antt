@@ -17,8 +17,9 @@ transfer_in stored = record { tags = stored.tags; items = files_in stored.items 
 -- each name with its transfer
 abbrev pub ledger_in : BTreeMap (String Global) Stored → Ledger
 ledger_in transfers =
-    map (λ (entry : String Global × Stored). (string_bytes entry.0, transfer_in entry.1)) transfers.entries
+    map (λ (entry : String Global × Stored). (string_bytes entry.0, transfer_in entry.1))
+    transfers.entries
 
--- a keeper in memory answers for the ledger that it is, and that is sound
+-- a keeper in memory answers for the ledger that it is, and that ledger is sound
 abbrev pub HoldsItself : Ledger → Ledger → Type 0
 HoldsItself keeper ledger = (ledger ≡ keeper) × IsSound ledger

@@ -1,4 +1,4 @@
-//! A keeper whose store fails at one of its calls, round one in memory.
+//! A keeper for tests: a keeper in memory whose store fails at a chosen call.
 ghost use Rattle.std.specs.Prelude.{◌≡◌, ◌↔◌, IsTrue, MatchResult, false};
 ghost use Rattle.bag_digest.specs.Device.{Rises};
 ghost use Rattle.bag_ledger.specs.Stored.{HoldsItself};
@@ -12,7 +12,7 @@ use bag_path::BagPath;
 use bag_rules::{ItemSize, TagSet, Want};
 use std::alloc::Global;
 
-/// The store of a failing keeper: it takes so many calls, refuses the next, and has failed from then on.
+/// The state of the failing store: it accepts a number of calls, refuses the next one, and fails from then on.
 #[derive(Drop)]
 pub(crate) struct Fuse {
     calls_left: u64,
@@ -21,7 +21,7 @@ pub(crate) struct Fuse {
 }
 
 impl Fuse {
-    /// Whether the store takes one call more.
+    /// Counts one call, which the store accepts or refuses.
     fn take(&mut self) -> Result<(), StoreFault>
         ensures answer { MatchResult result
             (λ done. (self.old.is_spent ≡ false) × (self.new.is_spent ≡ false)
@@ -44,7 +44,7 @@ impl Fuse {
     }
 }
 
-/// A keeper in memory whose store fails. What it holds then stays, and so does what a crash may leave.
+/// A keeper in memory whose store fails. A failure changes neither what it holds nor what a crash may leave.
 #[derive(Drop)]
 pub(crate) struct FailingKeeper {
     inner: MapKeeper,
@@ -52,7 +52,7 @@ pub(crate) struct FailingKeeper {
 }
 
 impl FailingKeeper {
-    /// A keeper without transfers, of which so many calls go well.
+    /// A keeper without transfers whose first `calls` calls succeed.
     pub(crate) fn new(alloc: Global, calls: u64) -> FailingKeeper {
         FailingKeeper {
             inner: MapKeeper::new(alloc),

@@ -1,16 +1,16 @@
-//! Why something isn't kept.
+//! Why a call of a keeper fails.
 use bag_digest::{Alg, ReadFault};
 use bag_rules::WantFault;
 use std::alloc::AllocError;
 use thiserror::Error;
 
-/// Why a store didn't do what it was asked for.
+/// Why a store didn't carry out a call.
 #[derive(Clone, Copy, Debug, PartialEq, Eq, Error)]
 pub enum StoreFault {
     /// The store refused a call.
     #[error("the store refused a call")]
     Refused,
-    /// The store failed before. It is opened again first.
+    /// The store failed before. It has to be opened again first.
     #[error("the store failed before")]
     Spent,
 }
@@ -18,10 +18,10 @@ pub enum StoreFault {
 /// Why a keeper has no answer.
 #[derive(Clone, Copy, Debug, PartialEq, Eq, Error)]
 pub enum KeepFault {
-    /// Memory ran out. The keeper can be used on.
+    /// Memory ran out. The keeper can still be used.
     #[error("out of memory")]
     Memory,
-    /// The store failed, and the keeper counted it. From then on it answers nothing but that it is spent.
+    /// The store failed, and the keeper counted the failure. From then on it answers only `Spent`.
     #[error("the store failed")]
     Store(StoreFault),
 }
@@ -37,8 +37,8 @@ impl From<AllocError> for KeepFault {
     }
 }
 
-/// Why a payload file isn't taken. Of `Reader` and `TooLarge` the one that comes first in the stream is answered, and of those after
-/// them the first that holds; `Keep` may come in place of any.
+/// Why a payload file isn't stored. Of `Reader` and `TooLarge`, the one that occurs first in the stream is reported; of
+/// the variants after them, the first that applies. `Keep` may be reported in place of any of them.
 #[derive(Clone, Copy, Debug, PartialEq, Eq, Error)]
 pub enum PutFault {
     /// A read of its content failed.
@@ -50,7 +50,7 @@ pub enum PutFault {
     /// A line of `fetch.txt` gives it another length (RFC 8493 section 2.2.3).
     #[error("length")]
     Length,
-    /// A payload manifest lists another digest for it: the first such algorithm (section 2.1.3).
+    /// A payload manifest lists another digest for it (section 2.1.3). This is the first such algorithm.
     #[error("digest")]
     Digest(Alg),
     /// The keeper has no answer.

@@ -1,4 +1,4 @@
-//! What keeps transfers, whatever it is: a map in memory, a database.
+//! The interface of a store of transfers, such as a map in memory or a database.
 ghost use Rattle.std.specs.Prelude.{◌≡◌, ◌≤◌, ℕ, List, [], IfOk, IsErrOf, MatchResult, length, map, string_bytes};
 ghost use Rattle.std.specs.Map.{keys_of};
 ghost use Rattle.std.specs.Option.{option_map, unwrap_or};
@@ -16,30 +16,31 @@ use bag_path::BagPath;
 use bag_rules::{ItemSize, TagSet, Want};
 use std::alloc::Global;
 
-/// Transfers by name, each with its tag files and the payload files that it has taken.
+/// A store of transfers by name, each with its tag files and the payload files received so far.
 ///
-/// Each call answers for one ledger, as long as the store is clean. After `Ok` a call that writes has made its whole change, and
-/// after a fault none of it. After `Store` the keeper answers nothing but `Store(Spent)`; after `Memory` it can be used on.
+/// As long as the store is clean, every call answers for one ledger. A call that writes makes its whole change if it
+/// returns `Ok`, and none of it if it returns a fault. After `Store`, every further call returns `Store(Spent)`; after
+/// `Memory` the keeper can still be used.
 ///
-/// A caller asks before it writes: where a name is used already, and where a payload file is held or isn't wanted, `begin` and `put`
-/// promise nothing.
+/// The caller checks before it writes: `begin` promises nothing if the name is already used, and `put` promises nothing
+/// if the payload file is already held or isn't wanted.
 pub trait Keeper {
     /// The calls answer for this ledger.
     ghost holds: { Self → Ledger → Type 0 };
 
-    /// Whoever opens the store after a crash at this moment finds one of these.
+    /// Opening the store after a crash at this moment gives one of these ledgers.
     ghost may_leave: { Self → Ledger → Type 0 };
 
-    /// The store gave back what was written.
+    /// The store has returned what was written to it.
     ghost clean: { Self → Type 0 };
 
-    /// The store failed.
+    /// The store has failed.
     ghost spent: { Self → Type 0 };
 
-    /// How often the keeper has answered `Store`.
+    /// How many times the keeper has answered `Store`.
     ghost failures: { Self → ℕ };
 
-    /// Opens a transfer with a name that is unused, with these tag files and no payload file yet.
+    /// Opens a transfer with an unused name, with these tag files and no payload files yet.
     fn begin(&mut self, alloc: Global, name: &str, tags: &TagSet) -> Result<(), KeepFault>
         requires { Opens tags.now }
         ensures begun { MatchResult result
@@ -50,7 +51,7 @@ pub trait Keeper {
         ensures store { UsesStore failures spent self.old self.new
             (λ fault. IsErrOf result (Store fault)) };
 
-    /// The tag files of a transfer; none where there is no transfer with this name.
+    /// The tag files of the transfer with this name, if there is one.
     fn tags(&mut self, alloc: Global, name: &str) -> Result<Option<TagSet>, KeepFault>
         ensures tags { clean self.new → (ledger : Ledger) → holds self.old ledger
             → IfOk result (λ tags. tags ≡ tags_of ledger name.now) }
@@ -58,7 +59,7 @@ pub trait Keeper {
         ensures store { UsesStore failures spent self.old self.new
             (λ fault. IsErrOf result (Store fault)) };
 
-    /// How many octets the payload file at this path has, if the transfer holds one.
+    /// The length in octets of the payload file at this path, if the transfer holds it.
     fn size_of(
         &mut self,
         alloc: Global,
@@ -71,7 +72,7 @@ pub trait Keeper {
         ensures store { UsesStore failures spent self.old self.new
             (λ fault. IsErrOf result (Store fault)) };
 
-    /// The payload files that a transfer holds, by path; none where there is no transfer with this name.
+    /// The paths and lengths of the payload files that a transfer holds, by path; empty if no transfer has this name.
     fn sizes(&mut self, alloc: Global, name: &str) -> Result<Vec<ItemSize>, KeepFault>
         ensures sizes { clean self.new → (ledger : Ledger) → holds self.old ledger
             → IfOk result (λ sizes. sizes.items ≡ sizes_of (items_of ledger name.now)) }
@@ -79,7 +80,7 @@ pub trait Keeper {
         ensures store { UsesStore failures spent self.old self.new
             (λ fault. IsErrOf result (Store fault)) };
 
-    /// Puts a payload file that a transfer wants and doesn't hold yet, if its content is the one that is wanted.
+    /// Stores a payload file that a transfer wants and doesn't hold yet, if its content is the wanted one.
     fn put(
         &mut self,
         alloc: Global,
@@ -92,8 +93,8 @@ pub trait Keeper {
         ensures store { UsesStore failures spent self.old self.new
             (λ fault. IsErrOf result (Keep (Store fault))) };
 
-    /// Puts a payload file as `put` does, which a reader gives. It is read piece by piece, to its end or to the first octet past the
-    /// limit, and is never held whole but by what keeps it.
+    /// Stores a payload file as `put` does, but reads its content from a source. It reads piece by piece, to the end or
+    /// to the first octet beyond the limit, and doesn't hold the whole content in memory unless the store itself does.
     fn put_from<S: Source>(
         &mut self,
         alloc: Global,
@@ -108,8 +109,8 @@ pub trait Keeper {
         ensures store { UsesStore failures spent self.old self.new
             (λ fault. IsErrOf result (Keep (Store fault))) };
 
-    /// Reads from a held payload file into the front of the buffer, from this octet on, and answers how many octets it read: none is
-    /// the end, unless the buffer is empty. Of a payload file that isn't held it reads none.
+    /// Reads octets of a held payload file, starting at `offset`, into the front of the buffer, and returns how many it
+    /// read. Zero means the end, unless the buffer is empty. If the payload file isn't held, it reads none.
     fn read_piece(
         &mut self,
         alloc: Global,
@@ -126,7 +127,7 @@ pub trait Keeper {
         ensures store { UsesStore failures spent self.old self.new
             (λ fault. IsErrOf result (Store fault)) };
 
-    /// The names of the transfers in order.
+    /// The names of the transfers, in order.
     fn names(&mut self, alloc: Global) -> Result<Vec<String>, KeepFault>
         ensures names { clean self.new → (ledger : Ledger) → holds self.old ledger
             → IfOk result (λ names. map string_bytes names.items ≡ keys_of ledger) }
@@ -134,7 +135,7 @@ pub trait Keeper {
         ensures store { UsesStore failures spent self.old self.new
             (λ fault. IsErrOf result (Store fault)) };
 
-    /// How often the keeper has answered `Store`. The count stays at its greatest number, 2^64 - 1.
+    /// How many times the keeper has answered `Store`. The count saturates at 2^64 - 1.
     fn failures(&self) -> u64
         ensures { result ≡ failures self.now };
 

@@ -8,7 +8,8 @@ ghost use Rattle.bag_rules.specs.Trees.{AreRising};
 use crate::keeper::Keeper;
 use crate::map_keeper::MapKeeper;
 
-/// A keeper in memory holds the ledger that it is, if that is sound, and a crash leaves it. It is clean, its store doesn't fail, and it has counted no failure.
+/// A keeper in memory holds the ledger that it is, if that ledger is sound, and a crash leaves that ledger. It is
+/// clean, its store doesn't fail, and its count of failures is zero.
 pub fn a_keeper_in_memory_never_fails()
     ensures holds { (keeper ledger : Ledger)
         → ⟦<MapKeeper as Keeper>⟧.holds keeper ledger ↔ ((ledger ≡ keeper) × IsSound ledger) }
@@ -19,7 +20,7 @@ pub fn a_keeper_in_memory_never_fails()
     ensures unfailed { (keeper : Ledger) → ⟦<MapKeeper as Keeper>⟧.failures keeper ≡ 0 }
 {}
 
-/// After one transfer more its name has these tag files and no payload file; other names have what they had.
+/// After a transfer is added, its name has these tag files and no payload files, and other names have what they had.
 pub fn one_transfer_more_changes_no_other()
     ensures here { (ledger : Ledger) (name : List ℕ) (tags : Files)
         → transfer_of (with_transfer ledger name tags) name ≡ Some (begun tags) }
@@ -29,7 +30,8 @@ pub fn one_transfer_more_changes_no_other()
         → AreRising (keys_of ledger) → AreRising (keys_of (with_transfer ledger name tags)) }
 {}
 
-/// After one payload file more its transfer holds it; other transfers are as they were, and no name comes or goes.
+/// After a payload file is added, its transfer holds it. Other transfers are unchanged, and no name is added or
+/// removed.
 pub fn one_payload_file_more_changes_no_other_transfer()
     ensures here { (ledger : Ledger) (name path content : List ℕ) (transfer : Transfer)
         → transfer_of ledger name ≡ Some transfer
@@ -41,7 +43,7 @@ pub fn one_payload_file_more_changes_no_other_transfer()
         → keys_of (with_item ledger name path content) ≡ keys_of ledger }
 {}
 
-/// After one payload file more its path has this content; other paths of the transfer have what they had.
+/// After a payload file is added, its path has this content, and other paths of the transfer have what they had.
 pub fn one_payload_file_more_changes_no_other_path()
     ensures here { (ledger : Ledger) (name path content : List ℕ) (transfer : Transfer)
         → transfer_of ledger name ≡ Some transfer

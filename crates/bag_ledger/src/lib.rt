@@ -1,4 +1,4 @@
-//! Transfers that are kept: tag files, and the payload files that came for them and pass.
+//! Ledgers: stored transfers, each with its tag files and the valid payload files received for it.
 #![tactic(auto)]
 
 pub use fault::{KeepFault, PutFault, StoreFault};

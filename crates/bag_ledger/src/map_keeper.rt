@@ -15,7 +15,8 @@ use std::alloc::Global;
 use std::collections::BTreeMap;
 use std::marker::Model;
 
-/// A keeper that holds its transfers in memory. It is always clean, it never answers `Store`, and a crash leaves what it holds.
+/// A keeper that holds its transfers in memory. It is always clean, it never answers `Store`, and a crash leaves what
+/// it holds.
 #[derive(Drop)]
 pub struct MapKeeper {
     transfers: Transfers,
@@ -32,7 +33,7 @@ impl Model for MapKeeper {
 }
 
 impl MapKeeper {
-    /// A keeper that holds no transfer.
+    /// A keeper that holds no transfers.
     pub fn new(alloc: Global) -> MapKeeper
         ensures nothing { result ≡ [] }
         ensures holds { HoldsItself result [] }
@@ -55,7 +56,7 @@ impl Keeper for MapKeeper {
     ghost failures = { λ keeper. 0 };
 
     fn begin(&mut self, alloc: Global, name: &str, tags: &TagSet) -> Result<(), KeepFault> {
-        // Its clause says that these are tag files.
+        // Called for its contract, which says that these are tag files.
         let _files = tags.files();
         add_transfer(alloc, &mut self.transfers, name, tags)?;
         Ok(())
@@ -143,7 +144,8 @@ impl Keeper for MapKeeper {
     ghost sound = { λ keeper ledger clean holds. holds.1 };
 }
 
-/// Copies the octets from `offset` on to the front of the buffer, as far as both go, and says how far.
+/// Copies the octets from `offset` on to the front of the buffer, as many as there are and as fit, and returns the
+/// number.
 fn copy_from(content: &[u8], offset: u64, buf: &mut [u8]) -> usize
     ensures { IsPieceAt content.now offset result buf.new }
 {

@@ -18,14 +18,14 @@ pub(crate) type Items = BTreeMap<BagPath, Vec<u8>>;
 /// Transfers by name.
 pub(crate) type Transfers = BTreeMap<String, Stored>;
 
-/// A transfer: its tag files, and the payload files that it has taken.
+/// A transfer: its tag files and the payload files received so far.
 #[derive(Drop)]
 pub(crate) struct Stored {
     pub(crate) tags: TagSet,
     pub(crate) items: Items,
 }
 
-/// Puts a transfer at its place, with these tag files and no payload file.
+/// Adds a transfer with these tag files and no payload files.
 pub(crate) fn add_transfer(
     alloc: Global,
     transfers: &mut Transfers,
@@ -45,7 +45,7 @@ pub(crate) fn add_transfer(
     }
 }
 
-/// Puts a payload file of the transfer with this name at its place. Where there is no such transfer nothing changes.
+/// Adds a payload file to the transfer with this name. Changes nothing if there is no such transfer.
 pub(crate) fn add_item(
     transfers: &mut Transfers,
     name: &str,
@@ -99,7 +99,8 @@ pub(crate) fn sizes_in(alloc: Global, items: &Items) -> Result<Vec<ItemSize>, Al
 
 /// The names of the transfers, in order.
 pub(crate) fn names_in(alloc: Global, transfers: &Transfers) -> Result<Vec<String>, AllocError>
-    ensures { IfOk result (λ names. map string_bytes names.items ≡ keys_of (ledger_in transfers.now)) }
+    ensures { IfOk result (λ names. map string_bytes names.items
+        ≡ keys_of (ledger_in transfers.now)) }
 {
     let mut names = Vec::new(alloc);
     for name in transfers.keys() {

@@ -1,4 +1,4 @@
-//! Tests of what is given to be put, whether or not it is put then.
+//! Checks of whether a content would be stored, without storing it.
 ghost use Rattle.std.specs.Prelude.{◌≡◌, IsErrOf, MatchResult};
 ghost use Rattle.bag_digest.specs.Device.{UsesSource};
 ghost use Rattle.bag_ledger.specs.Keeping.{Tests, given_by, known};
@@ -14,11 +14,11 @@ use bag_rules::limits::LARGEST_ITEM;
 use bag_rules::{Want, WantFault};
 use std::alloc::Global;
 
-/// Tells whether this content would be put.
+/// Checks whether this content would be stored.
 ///
 /// # Errors
 ///
-/// As [`Keeper::put`](crate::Keeper::put), but for the keeper's own.
+/// Those of [`Keeper::put`](crate::Keeper::put), except `Keep`.
 pub fn test_content(want: &Want<'_>, content: &[u8]) -> Result<(), PutFault>
     ensures test { Tests (known content.now) want.now result }
     ensures own { (fault : KeepFault) → ¬ IsErrOf result (Keep fault) }
@@ -30,17 +30,19 @@ pub fn test_content(want: &Want<'_>, content: &[u8]) -> Result<(), PutFault>
     Ok(())
 }
 
-/// Tells whether what the reader gives would be put. It is read piece by piece, to its end or to the first octet past the limit.
+/// Checks whether the content that the reader gives would be stored. It reads piece by piece, to the end or to the
+/// first octet beyond the limit.
 ///
 /// # Errors
 ///
-/// As [`Keeper::put_from`](crate::Keeper::put_from); the keeper's own only for want of memory.
+/// Those of [`Keeper::put_from`](crate::Keeper::put_from), but the only `Keep` fault is `Memory`.
 pub fn test_reader<S: Source>(
     alloc: Global,
     want: &Want<'_>,
     reader: &mut S,
 ) -> Result<(), PutFault>
-    ensures test { Tests (given_by (S.remaining reader.old) (S.remaining reader.new)) want.now result }
+    ensures test { Tests (given_by (S.remaining reader.old) (S.remaining reader.new)) want.now
+        result }
     ensures reader { UsesSource S.failures S.ready S.keeps reader.old reader.new
         (IsErrOf result Reader) }
     ensures unread { IsErrOf result (Keep Memory) → reader.new ≡ reader.old }
@@ -51,7 +53,7 @@ pub fn test_reader<S: Source>(
     Ok(())
 }
 
-/// Tells whether these octets are those that are wanted.
+/// Checks whether these octets are the wanted ones.
 pub(crate) fn test_octets(want: &Want<'_>, octets: &[u8]) -> Result<(), WantFault>
     ensures { MatchResult result (λ done. IsWanted want.now octets.now)
         (IsFirstMisfitOf want.now octets.now) }

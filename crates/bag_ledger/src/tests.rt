@@ -11,7 +11,7 @@ use std::test::Fail;
 
 const DECLARATION: &str = "BagIt-Version: 1.0\nTag-File-Character-Encoding: UTF-8\n";
 
-// The digests of `abc` and of nothing (FIPS 180-4, example B.1, and RFC 6234 section 8.5).
+// The digests of `abc` and of the empty message (FIPS 180-4, example B.1, and RFC 6234 section 8.5).
 const MANIFEST: &str = "ba7816bf8f01cfea414140de5dae2223b00361a396177a9cb410ff61f20015ad  data/a.txt
 e3b0c44298fc1c149afbf4c8996fb92427ae41e4649b934ca495991b7852b855  data/e.txt
 ";
@@ -31,7 +31,7 @@ fn tag_files(alloc: Global) -> Result<TagSet, Fail> {
     Ok(tags)
 }
 
-/// Opens transfers with these tag files, and answers their plan.
+/// Opens a transfer with these tag files, and returns its plan.
 fn begin<K: Keeper>(alloc: Global, keeper: &mut K, names: &[&str]) -> Result<Plan, Fail> {
     let tags = tag_files(alloc)?;
     let plan = Plan::from_tags(alloc, &tags)?;
@@ -41,7 +41,7 @@ fn begin<K: Keeper>(alloc: Global, keeper: &mut K, names: &[&str]) -> Result<Pla
     Ok(plan)
 }
 
-/// What putting this content is answered; nothing where no manifest lists the path.
+/// The answer of `put` for this content, or `None` if no manifest lists the path.
 fn put<K: Keeper>(
     alloc: Global,
     keeper: &mut K,
@@ -56,7 +56,7 @@ fn put<K: Keeper>(
     }
 }
 
-/// The same of a source.
+/// The same, with the content read from a source.
 fn put_from<K: Keeper, S: Source>(
     alloc: Global,
     keeper: &mut K,
@@ -71,7 +71,7 @@ fn put_from<K: Keeper, S: Source>(
     }
 }
 
-/// What is held at a path, read piece by piece through a buffer of two octets.
+/// The content held at a path, read piece by piece through a buffer of two octets.
 fn read<K: Keeper>(alloc: Global, keeper: &mut K, name: &str, path: &str) -> Result<Vec<u8>, Fail> {
     let path = BagPath::parse(alloc, path)?;
     let mut all = Vec::new(alloc);
@@ -83,7 +83,7 @@ fn read<K: Keeper>(alloc: Global, keeper: &mut K, name: &str, path: &str) -> Res
     Ok(all)
 }
 
-/// Gives one octet at a read, and then the end or an error.
+/// Gives one octet per read, and then the end or an error.
 #[derive(Drop)]
 struct Trickle {
     octets: &'static [u8],
@@ -137,7 +137,7 @@ fn sizes<K: Keeper>(alloc: Global, keeper: &mut K, name: &str) -> Result<String,
     Ok(text)
 }
 
-/// Whether the tag files of this transfer are those that it was opened with.
+/// Whether the tag files of this transfer are the ones that it was opened with.
 fn has_tag_files<K: Keeper>(alloc: Global, keeper: &mut K, name: &str) -> Result<bool, Fail> {
     let tags = tag_files(alloc)?;
     match keeper.tags(alloc, name)? {

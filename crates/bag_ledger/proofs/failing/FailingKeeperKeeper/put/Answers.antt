@@ -10,7 +10,7 @@ use Rattle.bag_ledger.proofs.failing.FailingKeeperKeeper.put.Goals as goal
 abbrev Own : Ledger → Ledger → Type 0
 Own keeper ledger = ledger ≡ keeper
 
--- what the keeper inside does is what the one round it does
+-- what the inner keeper does, the failing keeper does
 round : (old new : FailingKeeper) (given : Given) (name : List ℕ) (want : Want) (result : Result (Unit {0}) PutFault)
     → Puts HoldsItself Own (λ keeper. Unit {0}) old.inner new.inner given name want result
     → Puts (λ (keeper : FailingKeeper) ledger. HoldsItself keeper.inner ledger) (λ (keeper : FailingKeeper) ledger. Own keeper.inner ledger) (λ (keeper : FailingKeeper). Unit {0}) old new given name want result
