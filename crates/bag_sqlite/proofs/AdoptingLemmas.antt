@@ -81,9 +81,9 @@ pub put_as_with : (files : Files) (rows : List Row) → files_put files rows ≡
 put_as_with files [] = refl
 put_as_with files (row ∷ rows) = put_as_with (insert_entry (slice_cmp nat_cmp) files (bytes (column row 0)) (bytes (column row 1))) rows
 
--- ROWS IN TURN
+-- ROWS IN SEQUENCE
 
--- the transfer of this row passes
+-- the transfer in this row is valid
 abbrev pub Verifies : {S : Type 0} → Ghosts S → Database → Row → Type 0
 Verifies g db row = (transfer : ℤ) × (column row 0 ≡ Int transfer) × TransferPasses g db transfer
 
@@ -91,14 +91,14 @@ all_last : {X : Type 0} (P : X → Type 0) (xs : List X) (x : X) → AllByRecurs
 all_last P [] x all here = (here, tt)
 all_last P (y ∷ xs) x all here = (all.0, all_last P xs x all.1 here)
 
--- one row more
+-- one more row
 pub all_more : (P : Row → Type 0) (rows : List Row) (i : ℕ) (row : Row) → i < length rows → row ≡ get_or rows i row → AllByRecursion P (take i rows) → P row → AllByRecursion P (take (i + 1) rows)
 all_more P rows i row low at all here =
     let next : i + 1 ≡ suc i = omega arith in
     let split : take (i + 1) rows ≡ take i rows ++ row ∷ [] = rw next (take-suc rows i row low) ∙ ap (λ r. take i rows ++ r ∷ []) (sym at) in
     subst (AllByRecursion P) (sym split) (all_last P (take i rows) row all here)
 
--- what is so of each `Ok` that is there
+-- what holds of every `Ok`
 pub ok_some : {A E : Type 0} (r : Result (Option A) E) (P Q : A → Type 0) → ((a : A) → P a → Q a) → IfOk r (λ o. IfSome o P) → IfOk r (λ o. IfSome o Q)
 ok_some (Ok (Some a)) P Q f h = f a h
 ok_some (Ok None) P Q f h = tt

@@ -1,4 +1,4 @@
--- A transaction over the tables of a ledger is committed, or it is undone.
+-- A transaction on the tables of a ledger is committed or rolled back.
 use Rattle.std.proofs.Common.{◌≡◌, ◌⊎◌, inl, inr, false, IsTrue, sym, ap, subst, ◌∙◌, arith}
 use Rattle.sqlite.specs.Effect.{Database}
 use Rattle.sqlite.specs.Held.{Held, state}
@@ -53,7 +53,7 @@ left_holds old end ledger idle left holds crash = record {
   outcomes = λ trees may. elim (crash trees may) [ inl before ↦ holds.outcomes trees before | inr made ↦ made ];
 }
 
--- what the steps of a transaction did that began at a connection, where each was taken
+-- what the steps of a transaction that began at a connection did, if all of them were taken
 module _ {S : Type 0} (g : Ghosts S) (such : Ledger → Type 0) (change : Ledger → Ledger) (old : Held S) where
   pub record Prepares (mid : State) : Type 0 where
     pub kept : HasCleanDisk mid → KeepsCommit (state g old) mid

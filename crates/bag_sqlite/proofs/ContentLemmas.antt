@@ -1,4 +1,4 @@
--- What a ledger holds for a path, by the rows of its tables.
+-- What a ledger holds for a path, according to the rows of its tables.
 use Rattle.std.proofs.Common.{◌+◌, ◌*◌, ◌≡◌, ◌≤◌, ◌/◌, ◌%◌, ℕ, ℤ, List, [], ◌∷◌, Option, Some, None, arith, length, map, pos, refl, slice_get, sym, ap, subst, ◌∙◌}
 use Rattle.std.specs.Prelude.{flat_map, MatchOption}
 use Rattle.std.specs.List.{concat, enumerate_from}
@@ -26,14 +26,14 @@ use Rattle.bag_sqlite.proofs.OneLedger.{has_flat, has_from_flat, has_moved, item
 use Rattle.bag_sqlite.proofs.TransferLemmas.{entry_found, found_entry, transfer_at}
 
 module _ (trees : Trees) (ledger : Ledger) (tables : AreTablesOf trees ledger) (name path : List ℕ) where
-  -- of a transfer that is there
+  -- of a transfer that exists
   held_by : (t : NumberedTransfer) → transfer_of ledger name ≡ Some (record { tags = t.tags; items = map read t.items }) → content_of ledger name path ≡ lookup (bytes_eq path) (map read t.items)
   held_by t there = ap (λ o. lookup (bytes_eq path) (unwrap_or (option_map (λ (transfer : Transfer). transfer.items) o) [])) there
 
   pub no_transfer : transfer_of ledger name ≡ None → content_of ledger name path ≡ None
   no_transfer none = ap (λ o. lookup (bytes_eq path) (unwrap_or (option_map (λ (transfer : Transfer). transfer.items) o) [])) none
 
-  -- where the transfer has no row for the path
+  -- the transfer has no row for the path
   pub no_item : (transfer : ℤ) → HasTransferRow trees name transfer → ((number : ℤ) (size : ℕ) → ¬ HasItemRow trees number transfer path size) → content_of ledger name path ≡ None
   no_item transfer named none = go (content_of ledger name path) refl
     where
@@ -57,7 +57,7 @@ module _ (trees : Trees) (ledger : Ledger) (tables : AreTablesOf trees ledger) (
   item_told transfer named None none = no_item transfer named none
   item_told transfer named (Some item) row = record { transfer = transfer; named = named; held = row }
 
-  -- the payload file that the rows are of
+  -- the payload file that the rows belong to
   pub record IsNumbered (number : ℤ) (size : ℕ) : Type 0 where
     pub item : NumberedItem
     pub there : Has (items_in tables.transfers) item
@@ -85,7 +85,7 @@ module _ (trees : Trees) (ledger : Ledger) (tables : AreTablesOf trees ledger) (
         content = held_by t.0 t.3 ∙ subst (λ p. lookup (bytes_eq p) (map read t.0.items) ≡ Some (concat item.pieces)) same.2 found;
       }
 
-  -- HOW LARGE IT IS
+  -- ITS SIZE
 
   pub size_held : (number : ℤ) (size : ℕ) → HasItem trees name path number size → Some size ≡ option_map length (content_of ledger name path)
   size_held number size rows =
@@ -131,7 +131,7 @@ module _ (trees : Trees) (ledger : Ledger) (tables : AreTablesOf trees ledger) (
         let here = piece_there it.item it.there (offset / PIECE) body (subst (λ k. HasPieceRow trees k (offset / PIECE) body) (sym it.number_is) row) in
         as_held (PIECE * (offset / PIECE) + offset % PIECE) n (div-add-mod offset PIECE) (piece_in it.item.pieces cut (offset / PIECE) (offset % PIECE) n body buffer (omega arith) here at)
 
-    -- no row is past the end
+    -- there is no row past the end
     pub no_piece_held : ((body : List ℕ) → ¬ HasPieceRow trees number (offset / PIECE) body) → IsPieceAt held offset 0 buffer
     no_piece_held none = as_held offset 0 refl (past_pieces it.item.pieces cut offset buffer (past (offset / PIECE) none))
       where

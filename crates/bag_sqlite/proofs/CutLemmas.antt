@@ -1,4 +1,4 @@
--- A content in pieces, and where an octet is among them.
+-- A content in pieces, and which piece an octet is in.
 use Rattle.std.proofs.Common.{◌≡◌, ◌≤◌, ◌<◌, ◌+◌, ◌*◌, ◌/◌, ℕ, zero, suc, List, [], ◌∷◌, ◌++◌, Option, Some, None, append-nil, arith, drop, inl, inr, length, length-append, refl, slice_get, sym, ap, subst, take, ◌∙◌}
 use Rattle.std.specs.List.{concat, enumerate_from}
 use Rattle.std.specs.Prelude.{flat_map, sum_by}
@@ -57,7 +57,7 @@ no_number (suc n) (x ∷ xs) none = omega (arith, no_number n xs none)
 
 -- PIECES OF A CONTENT
 
--- from the front of a content, short of its end
+-- from the front of a content, before its end
 in_front : (front rest : List ℕ) (r n : ℕ) (buffer : List ℕ) → r < length front → IsPieceAt front r n buffer → IsPieceAt (front ++ rest) r n buffer
 in_front front rest r n buffer low at =
     let counted : length (take n (drop r front)) ≡ n = ap length (sym at.octets) ∙ length-take-le n buffer at.bound in
@@ -97,7 +97,7 @@ all_within [] cut = omega arith
 all_within (last ∷ []) cut = omega (arith, length-append last [], cut.1)
 all_within (piece ∷ next ∷ more) cut = omega (arith, length-append piece (concat (next ∷ more)), cut.0, all_within (next ∷ more) cut.1)
 
--- nothing is read where no piece is
+-- nothing is read if there is no piece
 pub past_pieces : (pieces : List (List ℕ)) → AreCut pieces → (offset : ℕ) (buffer : List ℕ) → length pieces ≤ offset / PIECE → IsPieceAt (concat pieces) offset 0 buffer
 past_pieces pieces cut offset buffer past = record {
   bound = omega arith;

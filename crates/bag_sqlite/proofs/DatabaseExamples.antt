@@ -11,7 +11,7 @@ use Rattle.bag_ledger.specs.Ledgers.{Ledger}
 
 -- A DATABASE WITH A LEDGER
 
--- numbers have gaps, and rows stand in the order of their rowids, not in that of names and paths
+-- numbers have gaps, and rows are in the order of their rowids, not of names and paths
 abbrev meta_rows : List Row
 meta_rows = (Int (pos 1) ∷ Text (codes "bag-ledger") ∷ Int (pos 2) ∷ []) ∷ []
 
@@ -74,7 +74,7 @@ none_numbered : (trees : Trees) (all : List NumberedTransfer) → IsPermutation 
 none_numbered trees [] h = refl
 none_numbered trees (t ∷ ts) h = absurd (let e = length_permutation (map transfer_row (t ∷ ts)) [] h in omega (arith, e))
 
--- a payload file that is held for no transfer
+-- a payload file whose transfer doesn't exist
 held_for_none : (trees : Trees) (l : Ledger) (row : Row) → trees 2 ≡ [] → trees 6 ≡ row ∷ [] → ¬ AreTablesOf trees l
 held_for_none trees l row none rows h =
     let all = none_numbered trees h.transfers (rw none at h.rows.transfers) in
@@ -82,7 +82,7 @@ held_for_none trees l row none rows h =
     let e = length_permutation [] (row ∷ []) moved in
     absurd (omega (arith, e))
 
--- a tag file of no transfer
+-- a tag file whose transfer doesn't exist
 tag_of_none : (trees : Trees) (l : Ledger) (row : Row) → trees 2 ≡ [] → trees 4 ≡ row ∷ [] → ¬ AreTablesOf trees l
 tag_of_none trees l row none rows h =
     let all = none_numbered trees h.transfers (rw none at h.rows.transfers) in

@@ -1,4 +1,4 @@
--- The tables of a ledger with one transfer more.
+-- The tables of a ledger after a transfer is added.
 use Rattle.std.proofs.Common.{◌≡◌, ◌≢◌, ℕ, Bool, true, false, List, [], ◌∷◌, ◌++◌, Option, Some, None, cond, is_eq, map, refl, sym, ap, subst, ◌∙◌}
 use Rattle.std.specs.Prelude.{ℤ, IsPermutation, flat_map}
 use Rattle.std.specs.BTreeMap.{insert_entry}
@@ -25,7 +25,7 @@ use Rattle.bag_ledger.specs.Keeping.{IsUnused}
 use Rattle.bag_ledger.specs.Ledgers.{Ledger, Transfer, begun, with_transfer}
 use Rattle.bag_ledger.proofs.LedgerLemmas.{entry_rising}
 
--- ONE MORE IN THE MIDDLE
+-- ONE ENTRY ADDED IN THE MIDDLE
 
 module _ {X : Type 0} (x : X) where
   flat_without : {Y : Type 0} (f : X → List Y) → f x ≡ [] → (fore bs : List X) → flat_map f (fore ++ x ∷ bs) ≡ flat_map f (fore ++ bs)
@@ -50,7 +50,7 @@ module _ {X : Type 0} (x : X) where
 
 -- ITS PLACE
 
--- where one goes among others
+-- where an entry goes among others
 pub record Place {X Y : Type 0} (entry : X → List ℕ × Y) (x : X) (us : List X) : Type 0 where
   pub before : List X
   pub after : List X
@@ -62,7 +62,7 @@ module _ {X Y : Type 0} (entry : X → List ℕ × Y) (x : X) where
   absent true v o e = absurd cc
   absent false v o e = (refl, e)
 
-  -- the entries with that of `x`, where the first comes out in this order
+  -- the entries with that of `x` added, whichever place it has in this order
   abbrev put_by : Ordering → X → List X → List (List ℕ × Y)
   put_by o u us = match_ordering o (entry x ∷ map entry (u ∷ us)) (((entry u).0, (entry x).1) ∷ map entry us) (entry u ∷ insert_entry (slice_cmp nat_cmp) (map entry us) (entry x).0 (entry x).1)
 
@@ -82,7 +82,7 @@ module _ {X Y : Type 0} (entry : X → List ℕ × Y) (x : X) where
       let both = absent (bytes_eq (entry x).0 (entry u).0) (entry u).1 (lookup (bytes_eq (entry x).0) (map entry us)) none in
       step (slice_cmp nat_cmp (entry x).0 (entry u).0) u us refl both.0 (place us both.1)
 
--- ONE TRANSFER MORE
+-- ONE TRANSFER ADDED
 
 module _ (old new : Trees) (ledger : Ledger) (number : ℤ) (name : List ℕ) (tags : Files) where
   abbrev more : NumberedTransfer

@@ -1,4 +1,4 @@
--- The tables of a ledger with one payload file more.
+-- The tables of a ledger after a payload file is added.
 use Rattle.std.proofs.Common.{◌≡◌, ◌≢◌, cond, ℕ, ℤ, List, [], ◌∷◌, ◌++◌, Bool, true, false, Some, None, Less, append_assoc, inl, inr, is_eq, map, refl, sym, ap, subst, ◌∙◌}
 use Rattle.std.specs.Prelude.{IsPermutation, flat_map}
 use Rattle.std.specs.Cmp.Lexicographic.{slice_cmp}
@@ -34,7 +34,7 @@ use Rattle.bag_ledger.specs.Ledgers.{Ledger, Transfer, content_of, holding, tran
 use Rattle.bag_ledger.proofs.EntryLemmas.{map_twice}
 use Rattle.bag_ledger.proofs.LedgerLemmas.{entry_rising, item_names}
 
--- ONE CHANGED IN THE MIDDLE
+-- ONE ENTRY CHANGED IN THE MIDDLE
 
 module _ {X : Type 0} (x y : X) where
   same_map : {Y : Type 0} (f : X → Y) → f y ≡ f x → (fore back : List X) → map f (fore ++ y ∷ back) ≡ map f (fore ++ x ∷ back)
@@ -53,7 +53,7 @@ module _ {X : Type 0} (x y : X) where
   apart_changed number same [] back apart = (all_weaker (λ z. number x ≢ number z) (λ z. number y ≢ number z) (λ z other is. other (sym same ∙ is)) back apart.0, apart.1)
   apart_changed number same (a ∷ fore) back apart = (all_changed (λ z. number a ≢ number z) (λ other is. other (is ∙ same)) fore back apart.0, apart_changed number same fore back apart.1)
 
--- what the middle one gives stands in the middle
+-- what the entry in the middle gives is in the middle
 flat_at : {X Y : Type 0} (f : X → List Y) (fore back : List X) (x : X) (before mid after : List Y) → f x ≡ before ++ (mid ++ after)
     → flat_map f (fore ++ x ∷ back) ≡ (flat_map f fore ++ before) ++ (mid ++ (after ++ flat_map f back))
 flat_at f fore back x before mid after is =
@@ -65,7 +65,7 @@ all_of : {X : Type 0} (P : X → Type 0) (xs : List X) → ((x : X) → Has xs x
 all_of P [] each = tt
 all_of P (x ∷ xs) each = (each x (inl refl), all_of P xs (λ y has. each y (inr has)))
 
--- THE TRANSFER THAT TAKES IT
+-- THE TRANSFER THAT THE FILE IS ADDED TO
 
 other_before : (a b : List ℕ) → slice_cmp nat_cmp a b ≡ Less → bytes_eq a b ≡ false
 other_before a b less = sym (is_eq-slice_cmp a b) ∙ ap is_eq less
@@ -77,14 +77,14 @@ module _ (t : NumberedTransfer) (item : NumberedItem) (at : Place read item t.it
   abbrev whole : List ℕ
   whole = concat item.pieces
 
-  -- with that payload file
+  -- after that payload file is added
   abbrev pub more : NumberedTransfer
   more = record t { items = at.before ++ item ∷ at.after }
 
   abbrev holds_it : Ledger → Ledger
   holds_it ledger = with_item ledger t.name item.path whole
 
-  -- where the transfer stands among others
+  -- the place of the transfer among the others
   record Taken (us : List NumberedTransfer) : Type 0 where
     pub fore : List NumberedTransfer
     pub back : List NumberedTransfer
@@ -127,7 +127,7 @@ module _ (t : NumberedTransfer) (item : NumberedItem) (at : Place read item t.it
         put = λ i. (u.name, cond (no i) (holding (without_number u).1 item.path whole) (without_number u).1) ∷ rest.put i;
       }
 
--- ONE PAYLOAD FILE MORE
+-- ONE PAYLOAD FILE ADDED
 
 kept_tags : (b : Bool) (transfer : Transfer) (path content : List ℕ) → AreRising (keys_of transfer.tags) → AreRising (keys_of (cond b (holding transfer path content) transfer).tags)
 kept_tags true transfer path content rising = rising
@@ -148,7 +148,7 @@ in_order ledger name path content order =
       items = all_map items change ledger (all_weaker items (λ e. items (change e)) (λ e rising. more_items (bytes_eq name e.0) e.1 path content rising) ledger order.items);
     }
 
--- no payload file has a number that is free
+-- no payload file has a free number
 fresh : (trees : Trees) (ledger : Ledger) (p : AreTablesOf trees ledger) (number : ℤ) → IsFree number (trees held_tree) → AllByRecursion (λ (i : NumberedItem). i.number ≢ number) (items_in p.transfers)
 fresh trees ledger p number free = all_of (λ (i : NumberedItem). i.number ≢ number) (items_in p.transfers) (λ i has same.
     let from = has_from_flat (λ (t : NumberedTransfer). t.items) p.transfers i has in

@@ -1,4 +1,4 @@
--- What an INSERT of values writes, whatever the table.
+-- What an INSERT of values writes, for any table.
 use Rattle.std.proofs.Common.{◌≡◌, ◌≢◌, ◌⊎◌, inl, inr, ℕ, ℤ, ◌/◌, List, [], ◌∷◌, length, false, Option, Some, None, slice_get, unwrap_or, Ok, Err, Result, Ordering, Less, Equal, Greater, true≢false, refl, sym, ap, subst, ◌∙◌}
 use Rattle.std.specs.List.{AllByRecursion}
 use Rattle.std.specs.List.Sorted.{IsPermutation}
@@ -44,14 +44,14 @@ module _ (limit : Option ℕ) (mode : Mode) (schema : Schema) (t : Table) (param
   abbrev task : Task
   task = record { limit = limit; keys = mode.keys; schema = schema; table = uncounted t; params = params }
 
-  -- the rows that it is given, under their rowids
+  -- the rows that it inserts, under their rowids
   abbrev pub given_rows : List Row → Edit
   given_rows rows = edit_of db (uncounted t) [] Chosen 0 rows
 
   abbrev pub given : Edit
   given = given_rows (value_rows (stamped (uncounted t) params) width (length terms / width) terms)
 
-  -- the trees that it leaves, and the last rowid
+  -- the trees afterwards, and the last rowid
   abbrev Gives : Trees → Option ℤ → Edit → Type 0
   Gives next last edit = Writes schema mode.keys db edit (Ok next) × (last ≡ last_id edit.news)
 
@@ -94,7 +94,8 @@ apart_from number (r ∷ rows) free = (
   apart_from number rows (or_parts _ _ free).1,
 )
 
--- what an INSERT of one row without a rowid does: the row is there under a rowid that none had, which the connection tells
+-- what an INSERT of one row without a rowid does: the row is added under a rowid that was free, and the connection
+-- reports that rowid
 pub record InsertsRow (tree : ℕ) (values : Row) (old new : State) : Type 0 where
   pub schema_is : new.now.schema ≡ ledger_schema
   pub fresh : IsFree new.last_rowid (old.now.trees tree)

@@ -1,4 +1,4 @@
--- What the texts that read a payload file mean.
+-- The meanings of the queries for a payload file.
 use Rattle.std.proofs.Common.{◌≡◌, ℕ, List, [], ◌∷◌, codes, false, refl}
 use Rattle.sqlite.specs.Command.{Command}
 use Rattle.sqlite.specs.Command.TheVariants.{Select}
@@ -12,7 +12,7 @@ use Rattle.bag_sqlite.proofs.WhereLemmas.{equals, over}
 abbrev pub item_text : List ℕ
 item_text = codes "SELECT id, size FROM held WHERE transfer = ?1 AND path = ?2"
 
--- the payload file of the transfer with the number and at the path that are given
+-- the payload file of the transfer with the given number, at the given path
 abbrev pub item_terms : List Term
 item_terms = equals (col 1 2) (col 0 0) ∷ equals (col 1 3) (col 0 1) ∷ []
 
@@ -37,7 +37,7 @@ item_unlisted = refl
 abbrev pub piece_text : List ℕ
 piece_text = codes "SELECT body FROM piece WHERE item = ?1 AND n = ?2"
 
--- the piece of the payload file with the number that is given
+-- the piece of the payload file with the given number
 abbrev pub piece_terms : List Term
 piece_terms = equals (col 1 1) (col 0 0) ∷ equals (col 1 2) (col 0 1) ∷ []
 

@@ -1,4 +1,4 @@
--- What a keeper puts that a store is used through.
+-- What a keeper that contains the store puts.
 use Rattle.std.proofs.Common.{◌≡◌, ◌≤◌, ℕ, List, Option, Some, Result, Ok, Err, inl, inr, length, refl}
 use Rattle.bag_digest.specs.Reading.{GaveAll}
 use Rattle.bag_digest.proofs.Progress.{all_known, more_known}
@@ -9,7 +9,7 @@ use Rattle.bag_ledger.specs.declared.fault.PutFault.TheVariants.{Digest, Keep, L
 use Rattle.bag_rules.specs.declared.limits.TheConstants.{LARGEST_ITEM}
 use Rattle.bag_rules.specs.declared.want.Want.{Want}
 
--- the same of what has a part that is put through
+-- the same for a structure that contains the store
 module _ {K L : Type 0} (part : L → K) (holds may_leave : K → Ledger → Type 0) (clean : K → Type 0) (old new : L) (given : Given) (name : List ℕ) (want : Want) where
   pub puts_in : (result : Result Unit PutFault) → Puts holds may_leave clean (part old) (part new) given name want result
       → Puts (λ l. holds (part l)) (λ l. may_leave (part l)) (λ l. clean (part l)) old new given name want result
@@ -27,7 +27,7 @@ module _ {K L : Type 0} (part : L → K) (holds may_leave : K → Ledger → Typ
     ],
   )
 
--- THE SAME OF OCTETS THAT ARE KNOWN
+-- THE SAME FOR OCTETS IN MEMORY
 
 module _ (octets : List ℕ) (old new : Option (List ℕ)) (is : old ≡ Some octets) where
   given_whole : (content : List ℕ) → GaveAll old new LARGEST_ITEM content → (content ≡ octets) × (length octets ≤ LARGEST_ITEM)

@@ -1,4 +1,4 @@
--- The tables of a ledger are made.
+-- Creating the tables of a ledger.
 use Rattle.std.proofs.Common.{◌≡◌, inl, inr, ℕ, List, [], ◌∷◌, ◌++◌, true, false, None, Ok, IsTrue, refl, sym, ap, subst, ◌∙◌, arith}
 use Rattle.std.specs.List.{AllByRecursion}
 use Rattle.std.specs.List.Sorted.{IsPermutation, IsStrictlySortedBy}
@@ -107,7 +107,7 @@ created_by mid end made shows = record {
   committed = shows.committed_is ∙ sym shows.now_is;
 }
 
--- a transaction that began here was undone
+-- a transaction that began here was rolled back
 pub left_by_undoing : (old mid end : State) → old.in_transaction ≡ false → KeepsCommit old mid → IsRolledBack mid end → IsLeft old end
 left_by_undoing old mid end idle kept back = record {
   mode = back.autocommit ∙ sym idle;

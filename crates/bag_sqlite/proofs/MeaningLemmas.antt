@@ -1,4 +1,4 @@
--- What the texts of a ledger's statements mean.
+-- The meanings of a ledger's statements.
 use Rattle.std.proofs.Common.{◌≡◌, ℕ, List, [], ◌∷◌, codes, pos, refl}
 use Rattle.sqlite.specs.Command.TheVariants.{Insert}
 use Rattle.sqlite.specs.Listing.{understood}

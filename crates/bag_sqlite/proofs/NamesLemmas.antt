@@ -42,9 +42,9 @@ unfolding IsStrictlySortedBy
 ascends [] rising = tt
 ascends (n ∷ ns) rising = (rising.0, ascends ns rising.1)
 
--- OUTPUTS OF ONE TEXT
+-- ROWS OF ONE TEXT
 
--- a text that is sorted by itself
+-- rows of one text, sorted by that text
 abbrev out : List ℕ → Output
 out name = (Text name ∷ [], Text name ∷ [])
 
@@ -78,7 +78,7 @@ sorted_texts names sorted k d low high =
     let at = rw (get_or-map out names (k + 1) d (out d) high, get_or-map out names k d (out d) (omega (arith, high))) at e in
     sym (ap is_lt (by_text (slice_index_or names (k + 1) d) (slice_index_or names k d))) ∙ at
 
--- sorted outputs of names that rise are those names in order
+-- sorted rows of ascending names are those names in order
 same_outs : (names : List (List ℕ)) (os : List Output) → AreRising names → IsPermutation (map out names) os → IsSorted (output_cmp names_query) os → os ≡ map out names
 same_outs names os rising moves sorted =
     let all = recursion_from_All (λ o. o ≡ out (text o)) os (All-permutation (λ o. o ≡ out (text o)) (map out names) os moves (All-from_recursion (λ o. o ≡ out (text o)) (map out names) (all_out names))) in

@@ -1,4 +1,4 @@
--- Tables hold one ledger at most.
+-- Tables hold at most one ledger.
 use Rattle.std.proofs.Common.{◌≡◌, ◌≢◌, ◌⊎◌, ◌≤◌, ◌+◌, inl, inr, ℕ, List, [], ◌∷◌, ◌++◌, map, refl, sym, ap, subst, ◌∙◌, arith, pos}
 use Rattle.std.specs.Prelude.{ℤ, flat_map}
 use Rattle.std.specs.Cmp.Lexicographic.{slice_cmp}
@@ -49,7 +49,7 @@ has_from_flat f (first ∷ xs) y h = elim (has_either (f first) (flat_map f xs) 
 pub has_moved : {X : Type 0} (xs ys : List X) (x : X) → IsPermutation xs ys → Has xs x → Has ys x
 has_moved xs ys x moves h = has_from_contains ys x (Contains-permutation xs ys x moves (contains_from_has xs x h))
 
--- what one list of rows has, another has that is the same in another order
+-- what is in one list of rows is in a permutation of it
 has_through : {X : Type 0} (xs rows ys : List X) (x : X) → IsPermutation xs rows → IsPermutation ys rows → Has xs x → Has ys x
 has_through xs rows ys x p q h = has_moved rows ys x (IsPermutation-sym ys rows q) (has_moved xs rows x p h)
 
@@ -109,7 +109,7 @@ same_held_row a b c d s t m n e = (cc, cc, cc, cc)
 pub same_piece_row : (a b : ℤ) (m n : ℕ) (s t : List ℕ) → ◌≡◌ {A = Row} (Int a ∷ Int (pos m) ∷ Blob s ∷ []) (Int b ∷ Int (pos n) ∷ Blob t ∷ []) → (a ≡ b) × (m ≡ n) × (s ≡ t)
 same_piece_row a b m n s t e = (cc, cc, cc)
 
--- LEDGERS OVER THE SAME TABLES
+-- LEDGERS ON THE SAME TABLES
 
 abbrev number_of : NumberedTransfer → ℤ
 number_of transfer = transfer.number
@@ -147,7 +147,7 @@ module _ (trees : Trees) (a b : Ledger) (p : AreTablesOf trees a) (q : AreTables
       let one : v ≡ j = one_of item_number (items_in q.transfers) v j q.item_numbers yours.1 in_q (rows.0 ∙ same) in
       subst (λ (w : NumberedItem). Has (enumerate_from 0 w.pieces) piece) one (subst (Has (enumerate_from 0 v.pieces)) is found.1)
 
--- each entry that one ledger has, the other has
+-- each entry of one ledger is in the other
 module _ (trees : Trees) (a b : Ledger) (p : AreTablesOf trees a) (q : AreTablesOf trees b) where
   -- the transfer of the other ledger with the same number
   other_of : (t : NumberedTransfer) → Has p.transfers t → (u : NumberedTransfer) × Has q.transfers u × (u.number ≡ t.number) × (u.name ≡ t.name)
@@ -178,7 +178,7 @@ module _ (trees : Trees) (a b : Ledger) (p : AreTablesOf trees a) (q : AreTables
       let found = has_from_map read t.items e has in
       subst (Has (map read u.items)) found.2 (item_inside t u in_p in_q same found.0 found.1)
 
--- the files of a transfer in a ledger stand in order
+-- the files of a transfer in a ledger are in order
 pub tags_rise : (trees : Trees) (a : Ledger) (p : AreTablesOf trees a) (t : NumberedTransfer) → Has p.transfers t → AreRising (keys_of t.tags)
 tags_rise trees a p t has =
     all_has (λ (e : List ℕ × Transfer). AreRising (keys_of e.1.tags)) (map without_number p.transfers) (without_number t)

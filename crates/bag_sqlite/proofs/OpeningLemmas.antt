@@ -1,4 +1,4 @@
--- The rows of a transfer are written.
+-- Writing the rows of a transfer.
 use Rattle.std.proofs.Common.{◌≡◌, ◌<◌, ◌+◌, ℕ, ℤ, suc, List, [], ◌∷◌, ◌++◌, IsTrue, Ok, true, append_assoc, drop, get_or, length, take, refl, sym, ap, subst, ◌∙◌, arith}
 use Rattle.std.specs.List.Sorted.{IsPermutation}
 use Rattle.std.proofs.Math.Seq.{take-suc}
@@ -63,7 +63,7 @@ tag_inserted old new number path body count way ran =
       },
     )
 
--- ONE AFTER ANOTHER
+-- IN SEQUENCE
 
 keeps_same : (a : Trees) → KeepsItems a a
 keeps_same a = record { format = refl; held = refl; pieces = refl }
@@ -74,7 +74,7 @@ keeps_then a b c p q = record { format = q.format ∙ p.format; held = q.held �
 pub no_tags : (a : Trees) (number : ℤ) → AddsTags a a number []
 no_tags a number = record { kept = keeps_same a; transfers = refl; tags = IsPermutation-refl (without_rowids (a tag_tree)) }
 
--- one tag file more
+-- one more tag file
 module _ (a b c : Trees) (number : ℤ) where
   abbrev row_of : List ℕ × List ℕ → Row
   row_of file = Int number ∷ Text file.0 ∷ Blob file.1 ∷ []

@@ -1,4 +1,4 @@
--- A source that is read through a buffer, piece by piece.
+-- A source read through a buffer, piece by piece.
 use Rattle.std.proofs.Common.{◌≡◌, ◌≤◌, ◌+◌, ◌-◌, ℕ, List, ◌++◌, Option, length, take, arith, refl, sym, ap, subst, ◌∙◌, length-append}
 use Rattle.std.proofs.KnownBytes.{Consumes-trans}
 use Rattle.std.proofs.Math.Seq.{take-append-add, take-take}
@@ -8,7 +8,7 @@ use borrow.Rule.Slice.PartMut.{put_mid}
 use Rattle.bag_digest.specs.Reading.{GavePiece}
 use Rattle.bag_digest.proofs.Progress.{HasGiven}
 
--- a piece more
+-- one more piece
 pub given_more : (old mid new : Option (List ℕ)) (total limit n : ℕ) (octets buffer : List ℕ) → HasGiven old mid total limit octets → GavePiece mid new (limit - total) n buffer
     → HasGiven old new (total + n) limit (octets ++ take n buffer)
 given_more old mid new total limit n octets buffer given piece = record {
@@ -23,7 +23,7 @@ take_filled filled k n buffer part low fits =
     sym (take-take (filled + n) (filled + length part) (put_mid filled k buffer part) (omega arith)) ∙ ap (take (filled + n)) (take-put_mid filled k buffer part (filled + length part) refl low)
     ∙ ap (λ m. take (m + n) (take filled buffer ++ part)) (sym front) ∙ take-append-add (take filled buffer) part n
 
--- the front of the buffer is filled further
+-- more octets are read into the buffer
 pub filled_more : (old mid new : Option (List ℕ)) (filled limit n k : ℕ) (buffer part : List ℕ) → filled ≤ length buffer → HasGiven old mid filled limit (take filled buffer)
     → GavePiece mid new (limit - filled) n part → HasGiven old new (filled + n) limit (take (filled + n) (put_mid filled k buffer part))
 filled_more old mid new filled limit n k buffer part low given piece =

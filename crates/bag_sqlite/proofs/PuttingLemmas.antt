@@ -1,4 +1,4 @@
--- A payload file is read and written piece by piece.
+-- Reading and writing a payload file piece by piece.
 use Rattle.std.proofs.Common.{◌≡◌, ◌≤◌, ◌<◌, ◌+◌, ◌-◌, ◌*◌, ◌/◌, ℕ, ℤ, List, [], ◌∷◌, ◌++◌, Option, length, map, take, pos, true, append_assoc, append-nil, arith, refl, sym, ap, subst, ◌∙◌, length-append}
 use Rattle.std.specs.Io.KnownBytes.{IsAtEnd}
 use Rattle.std.specs.List.{AllByRecursion, concat, enumerate_from}
@@ -38,7 +38,7 @@ use Rattle.bag_sqlite.proofs.RowLemmas.{item_written}
 
 -- WHAT WAS READ
 
--- full pieces were read so far, and hashed
+-- so far, full pieces were read and hashed
 pub record HasReadOn (old new : Option (List ℕ)) (want : Want) (multi : Multi) (total : ℕ) (pieces : List (List ℕ)) : Type 0 where
   pub full : AllByRecursion (λ piece. length piece ≡ PIECE) pieces
   pub given : HasGiven old new total LARGEST_ITEM (concat pieces)
@@ -75,7 +75,7 @@ cut_last [] last full some fits = (some, fits)
 cut_last (p ∷ []) last full some fits = (full.0, (some, fits))
 cut_last (p ∷ q ∷ more) last full some fits = (full.0, cut_last (q ∷ more) last full.1 some fits)
 
--- the number of the piece that begins at the octet that comes next
+-- the number of the piece that begins at the next octet
 pub next_number : (old new : Option (List ℕ)) (want : Want) (multi : Multi) (total : ℕ) (pieces : List (List ℕ)) → HasReadOn old new want multi total pieces → total / PIECE ≡ length pieces
 next_number old new want multi total pieces read =
     let some : 0 < PIECE = omega arith in
@@ -86,7 +86,7 @@ module _ (old mid new : Option (List ℕ)) (want : Want) (multi : Multi) (total 
   more : HasGiven old new (total + n) LARGEST_ITEM (concat pieces ++ take n buffer)
   more = given_more old mid new total LARGEST_ITEM n (concat pieces) buffer read.given piece
 
-  -- no octet came, which is the end
+  -- no octet was read, which is the end
   pub read_to_end : (digests : Digests) → n ≡ 0 → ((set : AlgSet) (octets : List ℕ) → Holds multi set octets → AreDigests digests set octets) → HasRead old new want (total, digests) pieces
   read_to_end digests none finished =
       let same : concat pieces ++ take n buffer ≡ concat pieces = ap (λ k. concat pieces ++ take k buffer) none ∙ append-nil (concat pieces) in
@@ -115,7 +115,7 @@ module _ (old mid new : Option (List ℕ)) (want : Want) (multi : Multi) (total 
           sums = record { set = read.set; length_is = given.count; digests_are = finished read.set (concat (pieces ++ take n buffer ∷ [])) hashed; covers = read.covers };
         }
 
-    -- a full piece more
+    -- one more full piece
     pub read_more : n ≡ PIECE → HasReadOn old new want after (total + n) (pieces ++ take n buffer ∷ [])
     read_more whole =
         let size = length-take-le n buffer piece.bound in
@@ -128,12 +128,12 @@ module _ (old mid new : Option (List ℕ)) (want : Want) (multi : Multi) (total 
           hashed = hashed;
         }
 
--- a source's own fault
+-- a fault of the source itself
 pub refused_reading : (old new : Option (List ℕ)) (want : Want) (fault : SourceFault) → GaveBefore old new LARGEST_ITEM (read_fault fault) → RefusesGiven (given_by old new) want (put_fault (read_fault fault))
 refused_reading old new want source.Read gave = gave
 refused_reading old new want source.TooLarge gave = gave
 
--- a reading that went well, and what came after it
+-- a successful read, and what came after it
 module _ {S : Type 0} {failures : S → ℕ} {ready : S → Type 0} {keeps : S → S → Type 0} {a b c : S} {failed told : Type 0} where
   pub uses_then : (keeps a b → keeps b c → keeps a c) → UsesSource failures ready keeps a b ⊥ → UsesSource failures ready keeps b c failed → (told → failed) → (failed → told) → UsesSource failures ready keeps a c told
   uses_then on before after to from = uses_as failures ready keeps a c failed told to from (uses_on failures ready keeps a b c failed on before after)
@@ -153,7 +153,7 @@ numbered_last k (y ∷ ys) x =
     let next : k + 1 + length ys ≡ k + length (y ∷ ys) = omega arith in
     ap (λ l. (k, y) ∷ l) (numbered_last (k + 1) ys x ∙ ap (λ n. enumerate_from (k + 1) ys ++ (n, x) ∷ []) next)
 
--- one piece more
+-- one more piece
 module _ (a b c : Trees) (item : ℤ) where
   abbrev row_of : ℕ × List ℕ → Row
   row_of piece = Int item ∷ Int (pos piece.0) ∷ Blob piece.1 ∷ []

@@ -1,4 +1,4 @@
--- What the texts of a ledger's queries mean.
+-- The meanings of a ledger's queries.
 use Rattle.std.proofs.Common.{◌≡◌, ℕ, List, [], ◌∷◌, None, codes, false, negsuc, pos, refl}
 use Rattle.sqlite.specs.Collation.TheVariants.{Binary}
 use Rattle.sqlite.specs.Command.{Command}

@@ -1,4 +1,4 @@
--- A query commits nothing, and its texts are read in turn.
+-- A query commits nothing, and queries are read in sequence.
 use Rattle.std.proofs.Common.{false, ◌≡◌, ◌⊎◌, ◌<◌, ◌+◌, inl, inr, ℕ, suc, List, [], ◌∷◌, ◌++◌, Option, Some, None, Result, Ok, Err, IfOk, IsTrue, true, get_or, length, map, string_bytes, take, ap, refl, subst, sym, if◌then◌else◌, ◌∙◌, arith}
 use Rattle.std.specs.declared.alloc.Global.{Global}
 use Rattle.std.specs.declared.string.String.{String}
@@ -37,7 +37,7 @@ module _ (old new : State) (sql : List ℕ) (params : Row) where
   open_by c given rows None h = h.3.0.was_open
   open_by c given rows (Some what) h = h.1.shown.was_open
 
-  -- what shows rows is open
+  -- a connection that shows rows is open
   pub was_open : (rows : List Row) → Shown sql params old new rows → IsTrue old.is_open
   unfolding Shown
   was_open rows h = open_by h.0 _ rows h.0.returning h.2
@@ -71,11 +71,11 @@ module _ {S : Type 0} (g : Ghosts S) (old begun : Held S) (mid : State) (sql : L
 
 -- A SECOND READ
 
--- after a read the connection shows what it showed
+-- after a read the connection shows what it showed before
 pub same_shown : (old new : State) → IsLeft old new → old.in_transaction ≡ false → IsTrue new.is_open → old.committed ≡ old.now → new.now ≡ old.now
 same_shown old new left idle is_open committed = left.now is_open idle ∙ committed
 
--- and holds what it held
+-- and holds what it held before
 pub still_holds : (old new : State) (ledger : Ledger) → HasCleanDisk new → IsLeft old new → old.in_transaction ≡ false → Survives old new (λ _. ⊥) → HoldsLedger old ledger → HoldsLedger new ledger
 still_holds old new ledger clean left idle survives holds = record {
   sound = holds.sound;
@@ -90,7 +90,7 @@ still_holds old new ledger clean left idle survives holds = record {
   outcomes = λ trees may. holds.outcomes trees (elim (survives.crash clean trees may) [ inl before ↦ before | inr none ↦ absurd none ]);
 }
 
--- TEXTS
+-- QUERIES
 
 abbrev pub as_text : String Global → Value
 as_text text = Text (string_bytes text)
@@ -114,7 +114,7 @@ rows_named : (names : List (List ℕ)) → map bytes (map first_of (map (λ name
 rows_named [] = refl
 rows_named (n ∷ ns) = ap (λ rest. n ∷ rest) (rows_named ns)
 
--- texts that were read from rows of one text each
+-- texts read from rows of one text each
 pub texts_named : (rows : List Row) (texts : List (String Global)) (names : List (List ℕ)) → rows ≡ map (λ name. Text name ∷ []) names → map as_text texts ≡ map first_of rows
     → map string_bytes texts ≡ names
 texts_named rows texts names is read = sym (map_twice as_text bytes texts) ∙ ap (map bytes) (read ∙ ap (map first_of) is) ∙ rows_named names

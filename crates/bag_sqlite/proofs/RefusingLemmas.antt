@@ -1,4 +1,4 @@
--- Why a database isn't taken, from how its reads end.
+-- Why a database isn't opened, from the results of its reads.
 use Rattle.std.proofs.Common.{◌↔◌, ◌∙◌, Bool, ◌≡◌, ◌≢◌, ◌⊎◌, ◌<◌, ◌≤◌, ℕ, ℤ, pos, zero, suc, List, [], ◌∷◌, Option, None, Some, Err, IfErr, IfNone, MatchResult, Ok, OnOk, false, true, string_bytes, Result, IsTrue, ap, arith, codes, get_or, inl, inr, length, refl, subst, sym}
 use Rattle.std.specs.Prelude.{slice_index_or}
 use Rattle.std.specs.Result.{is_ok}
@@ -43,7 +43,7 @@ by_cause R Full = tt
 by_cause R Broken = tt
 by_cause R Unstorable = tt
 
--- an error of any kind is told as one of the two
+-- an error of any kind is reported as one of the two
 pub either_fault : (R : Type 0) → R → (e : Error) → IsNoneFor R (adopt_fault e)
 either_fault R r (SqliteFailure code.OutOfMemory) = tt
 either_fault R r (SqliteFailure code.NotADatabase) = r
@@ -96,7 +96,7 @@ module _ (sql : List ℕ) (params : Row) (old new : State) where
   query_error e (inl (inr it)) = not_shown it.0 _ e it.0.returning refl it.1.is it.2
   query_error e (inr late) = told_as Reason e (SqliteFailure code.TransactionState) late.4 tt
 
--- COLUMNS THAT AREN'T READ
+-- COLUMNS THAT CAN'T BE READ
 
 past_columns : (row : Row) (at : ℕ) → length row ≤ at → column row at ≡ Null
 past_columns [] at past = refl
@@ -122,7 +122,7 @@ misread P none row at e named kind = elim named [
       | inr high ↦ none (subst P (past_columns row at high) p)
     ]
 
--- another reason, with the store
+-- another reason, if the store is involved
 pub rows_for : (P Q : Type 0) → (P → Q) → (fault : AdoptFault) → AreNoneFor P fault → AreNoneFor Q fault
 rows_for P Q f NotALedger h = f h
 rows_for P Q f OldFormat h = absurd h
@@ -155,14 +155,14 @@ none_for P Q f (Keep fault) h = tt
 pub null_int : ¬ IsInt Null
 null_int it = let e = it.1 in cc
 
--- WHAT IS TOLD FOR A COLUMN OR A TEXT
+-- WHAT IS REPORTED FOR A COLUMN OR A QUERY
 
 module _ {S : Type 0} (g : Ghosts S) (db : Database) where
-  -- the text isn't understood
+  -- the query can't be understood
   pub no_query : (asked : Question) (fault : AdoptFault) → IsNoneFor (IsNoQuery db.schema (text_of asked)) fault → IsNoneFor (IsNoLedger g db) fault
   no_query asked fault h = none_for _ _ (λ no. (asked, inl no)) fault h
 
-  -- a column isn't read
+  -- a column can't be read
   pub no_column : (asked : Question) (P : Value → Type 0) → ¬ P Null → (row : Row) (at : ℕ) (e : Error) (rows : List Row) → Tells g db (text_of asked) (params_of asked) rows → (MayShow asked rows → P (column row at))
       → IsReadError at (column row at) e → (e ≢ SqliteFailure code.OutOfMemory → at < length row → ¬ P (column row at)) → IsNoneFor (IsNoLedger g db) (adopt_fault e)
   no_column asked P none row at e rows told such named kind =
@@ -180,7 +180,7 @@ module _ {S : Type 0} (g : Ghosts S) (db : Database) where
   to_transfers (Damaged name path) h = absurd h
   to_transfers (Keep fault) h = tt
 
-  -- once the format and the rows that belong to nothing were looked for
+  -- once the format and the rows without an owner were checked
   pub in_order : (fault : AdoptFault) → HasFormat g db (pos 2) → AllByRecursion (λ text. Tells g db text [] []) stray_texts → RefusesTransfers g db fault → RefusesToAdopt g db fault
   in_order NotALedger format none h = h
   in_order OldFormat format none h = absurd h
@@ -193,7 +193,7 @@ module _ {S : Type 0} (g : Ghosts S) (db : Database) where
   to_transfer transfer name (Damaged named path) h = absurd h
   to_transfer transfer name (Keep fault) h = tt
 
--- what is so of each row is so of the one at an index
+-- what holds of each row holds of the one at an index
 pub all_at : {X : Type 0} (P : X → Type 0) (xs : List X) (i : ℕ) (x : X) → AllByRecursion P xs → i < length xs → x ≡ get_or xs i x → P x
 all_at P [] i x all low is = absurd (omega (arith, low))
 all_at P (first ∷ xs) zero x all low is = subst P (sym is) all.0
@@ -215,7 +215,7 @@ pub when_err : {A E : Type 0} (r : Result A E) (P : A → Type 0) (Q : E → Typ
 when_err (Ok a) P Q is h = absurd (let no : true ≡ false = is in cc)
 when_err (Err e) P Q is h = (e, h)
 
--- an error of reading a column is none of damage
+-- an error of reading a column is never reported as damage
 pub not_damage : (at : ℕ) (v : Value) (e : Error) → IsReadError at v e → e ≢ SqliteFailure code.DatabaseCorrupt
 not_damage at v e (inl h) d = absurd (cc (h, d))
 not_damage at v e (inr (inl h)) d = absurd (cc (h, d))
@@ -223,7 +223,7 @@ not_damage at v e (inr (inr (inl h))) d = absurd (cc (h, d))
 not_damage at v e (inr (inr (inr (inl h)))) d = absurd (cc (h, d))
 not_damage at v e (inr (inr (inr (inr h)))) d = absurd (cc (h, d))
 
--- a path that isn't read is told as the store's
+-- a path that can't be read is reported as an error of the store
 pub path_error : {A : Type 0} (R X : Type 0) (r : Result A Error) (e : Error) (fault : AdoptFault) → r ≡ Err e → IfErr r (λ x. ((x ≡ SqliteFailure code.DatabaseCorrupt) × X) ⊎ (x ≡ SqliteFailure code.OutOfMemory)) → fault ≡ adopt_fault e → IsNoneFor R fault
 path_error R X r e fault is said told = subst (IsNoneFor R) (sym told) (elim (rw is at said) [
   | inl damaged ↦ told_as R e (SqliteFailure code.DatabaseCorrupt) damaged.0 tt
@@ -239,13 +239,13 @@ tags_error R X r e fault is said told = subst (IsNoneFor R) (sym told) (rw is at
 pub bad_tag : {A : Type 0} (R X : Type 0) (r : Result A Error) → r ≡ Err (SqliteFailure code.DatabaseCorrupt) → IfErr r (λ x. (x ≡ SqliteFailure code.DatabaseCorrupt → X) × IsNoneFor R (adopt_fault x)) → X
 bad_tag R X r is said = (rw is at said).0 refl
 
--- what passes has no misfit
+-- what is valid has no misfit
 pub never_misfit : (tags : Files) (path content : List ℕ) (fault : WantFault) → Passes tags path content → IsMisfit tags path content fault → ⊥
 never_misfit tags path content Length passes (line, entry, named, (given, gives, other)) = other (passes.lengths line entry named given gives)
 never_misfit tags path content (WrongDigest alg) passes (none, ((pairs, lists, (digest, some, other)), least)) = other (passes.digests alg pairs digest lists some)
 
 module _ {S : Type 0} (g : Ghosts S) (db : Database) where
-  -- a transfer that isn't taken, with what stands of it
+  -- a transfer that isn't accepted, with what is known of it
   pub adopt_transfer : (transfer : ℤ) (name : List ℕ) (fault : AdoptFault) → ((path : List ℕ) → TransferFails g db transfer path → IsDamaged g db name path) → RefusesTransfer g db transfer name fault → RefusesTransfers g db fault
   adopt_transfer transfer name NotALedger damaged h = h
   adopt_transfer transfer name OldFormat damaged h = absurd h

@@ -1,4 +1,4 @@
--- The rows of a payload file are written.
+-- Writing the rows of a payload file.
 use Rattle.std.proofs.Common.{◌≡◌, ◌==◌, ℕ, ℤ, pos, List, [], ◌∷◌, ◌++◌, Bool, true, false, not, cond, is_eq, Option, Some, None, Ok, length, map, drop, slice_get, refl, sym, ap, subst, ◌∙◌, arith}
 use Rattle.std.specs.Prelude.{filter, flat_map}
 use Rattle.std.specs.List.{AllByRecursion, concat, filter_map}
@@ -44,7 +44,7 @@ use Rattle.bag_sqlite.proofs.SqlLemmas.{cast_int, cast_null}
 use Rattle.bag_sqlite.proofs.TransferLemmas.{alone}
 use Rattle.bag_sqlite.proofs.WhereLemmas.{Lists, answer_lists, equal_numbers, made, passes, same_number, truth_kept}
 
--- A ROW MORE
+-- ONE ROW ADDED
 
 abbrev stored_held : Table
 stored_held = record held { tree = held_tree }
@@ -79,7 +79,7 @@ piece_inserted old new item n body count way ran =
       },
     )
 
--- A SIZE SET
+-- SETTING A SIZE
 
 -- what an UPDATE writes
 module _ (limit : Option ℕ) (mode : Mode) (schema : Schema) (t : Table) (params : Row) (at : ℕ) (q : Program) (db : Trees) where
@@ -99,7 +99,7 @@ module _ (limit : Option ℕ) (mode : Mode) (schema : Schema) (t : Table) (param
       let trees : done.0.trees ≡ written.0 = ap (λ (w : Written). w.trees) (same_value written.2) in
       (updated.0, written.0, updated.1, written.1, ap (λ (p : Tally × Database). p.1) (same_value last.2) ∙ ap (λ (now : Trees). record { schema = schema; trees = now }) trees)
 
--- no foreign key acts where a row is changed
+-- no foreign key takes effect when a row is changed
 quiet : (olds news : List Row) → works ledger_schema Enforced 0 held_tree olds news ≡ []
 quiet olds news = go (length news == 0)
   where
@@ -185,9 +185,9 @@ size_set old new item size count way ran =
       },
     )
 
--- ONE AFTER ANOTHER
+-- IN SEQUENCE
 
--- the row, the pieces, and then the size
+-- the row, the pieces and then the size
 pub item_written : (a b c d : Trees) (transfer number : ℤ) (path : List ℕ) (pieces : List (List ℕ)) (size : ℕ) → size ≡ length (concat pieces) → AddsItem a b number transfer path 0
     → AddsPieces b c (record { number = number; path = []; pieces = pieces }) → SetsSize c d number size → HasOneItemMore a d transfer (record { number = number; path = path; pieces = pieces })
 item_written a b c d transfer number path pieces size is p q r = record {

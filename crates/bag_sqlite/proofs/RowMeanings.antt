@@ -1,4 +1,4 @@
--- What the texts that put a payload file mean.
+-- The meanings of the statements that write a payload file.
 use Rattle.std.proofs.Common.{◌≡◌, ℕ, List, [], ◌∷◌, codes, pos, refl}
 use Rattle.sqlite.specs.Command.TheVariants.{Insert, Update}
 use Rattle.sqlite.specs.Listing.{understood}
@@ -42,11 +42,11 @@ new_piece_plain = (refl, refl)
 abbrev pub size_text : List ℕ
 size_text = codes "UPDATE held SET size = ?2 WHERE id = ?1"
 
--- the payload file with the number that is given
+-- the payload file with the given number
 abbrev pub size_where : List Term
 size_where = equals (col 1 0) (col 0 0) ∷ []
 
--- its rowid, and then what its row becomes
+-- its rowid, and then the new values of its row
 abbrev pub size_terms : List Term
 size_terms = col 1 0 ∷ col 1 0 ∷ lit Null ∷ col 1 2 ∷ col 1 3 ∷ col 0 1 ∷ []
 

@@ -1,4 +1,4 @@
--- Statements in turn, in a transaction.
+-- Statements in sequence, in a transaction.
 use Rattle.std.proofs.Common.{ℕ, ◌≡◌, Bool, true, false, cond, Ok, Err, Result, OnOk, OnErr, IfErr, IfOk, MatchResult, refl, ◌∙◌}
 use Rattle.sqlite.specs.Cast.{cast}
 use Rattle.sqlite.specs.Kind.TheVariants.{Integer}
@@ -32,7 +32,7 @@ pub by_result : {A E D P : Type 0} {F : E → Type 0} {Q R : Type 0} (r : Result
 by_result (Ok a) ok err f g = f ok
 by_result (Err e) ok err f g = g e err
 
--- WHAT A COLUMN MAKES OF A VALUE
+-- WHAT A COLUMN STORES FOR A VALUE
 
 either : (b : Bool) (x : Value) → cond b x x ≡ x
 either true x = refl
@@ -46,14 +46,14 @@ pub cast_int : (n : ℤ) → cast Integer (Int n) ≡ Int n
 unfolding unary
 cast_int n = either _ (Int n)
 
--- THE COMMIT STAYS
+-- THE COMMITTED DATABASE IS UNCHANGED
 
 pub kept_then : (a b c : State) → KeepsCommit a b → KeepsCommit b c → KeepsCommit a c
 kept_then a b c p q = record { was_open = λ h. p.was_open (q.was_open h); committed = λ h. q.committed h ∙ p.committed (q.was_open h) }
 
--- WHAT A FAILURE IS TOLD AS
+-- HOW A FAILURE IS REPORTED
 
--- the same failure, of what has a part that the store is used through, in other words
+-- the same failure, stated for a structure that contains the store
 pub uses_as : {K L : Type 0} (part : L → K) (failures : K → ℕ) (spent : K → Type 0) (old new : L) (F G : StoreFault → Type 0) → ((fault : StoreFault) → F fault → G fault) → ((fault : StoreFault) → G fault → F fault)
     → UsesStore failures spent (part old) (part new) F → UsesStore (λ l. failures (part l)) (λ l. spent (part l)) old new G
 uses_as part failures spent old new F G to from uses = record {
@@ -68,7 +68,7 @@ uses_as part failures spent old new F G to from uses = record {
 pub same_fault : {A E : Type 0} {a b : E} → ◌≡◌ {A = Result A E} (Err a) (Err b) → a ≡ b
 same_fault e = cc
 
--- what follows from what holds whenever it is `Ok`
+-- what follows from a property that holds in every `Ok`
 pub if_open : {A E P : Type 0} (r : Result A E) (Q : A → Type 0) → OnOk r P → (P → IfOk r Q) → IfOk r Q
 if_open (Ok a) Q h f = f h
 if_open (Err e) Q h f = tt

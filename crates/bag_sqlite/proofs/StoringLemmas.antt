@@ -1,4 +1,4 @@
--- A payload file is put in one transaction.
+-- Storing a payload file in one transaction.
 use Rattle.std.proofs.Common.{◌≡◌, ◌≤◌, true, false, ℕ, ℤ, List, IsTrue, length, refl, subst, sym, arith}
 use Rattle.bag_ledger.specs.Keeping.{Awaits}
 use Rattle.bag_ledger.specs.Ledgers.{Ledger, with_item}
@@ -31,7 +31,7 @@ more_held old new ledger name content want number tables named awaits it =
     subst (λ octets. AreTablesOf new (with_item ledger name want.path.now octets)) it.joined
     (held_tables old new ledger name number (in_pieces it.number want.path.now it.pieces) tables named it.more it.cut awaits.not_held)
 
--- the number of the transfer was asked for, and then the transaction began
+-- the number of the transfer was looked up before the transaction began
 module _ {S : Type 0} (g : Ghosts S) (old asked : Held S) (mid : State) (name : List ℕ) (want : Want) (number : ℤ) (content : List ℕ) where
   abbrev begun : State
   begun = state g (record asked { in_transaction = true })

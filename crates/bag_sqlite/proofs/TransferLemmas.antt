@@ -32,7 +32,7 @@ use Rattle.bag_sqlite.proofs.WhereLemmas.{Lists, answer_lists, equal_texts, equa
 
 -- LOOK-UPS
 
--- an entry that is among entries in order is the one that is found
+-- in a list in order, an entry is the one that is found by its name
 pub found_entry : {X : Type 0} (es : List (List ℕ × X)) (e : List ℕ × X) → AreRising (keys_of es) → Has es e → lookup (bytes_eq e.0) es ≡ Some e.1
 found_entry es e rising has =
     let place = place_of_has es e has in
@@ -52,7 +52,7 @@ entry_found (e ∷ es) key x here = found_by (bytes_eq key e.0) key x e es refl 
 -- TRANSFERS AND THEIR NUMBERS
 
 module _ (trees : Trees) (ledger : Ledger) (tables : AreTablesOf trees ledger) where
-  -- a transfer of the ledger has a number
+  -- every transfer of the ledger has a number
   pub numbered : (name : List ℕ) (transfer : Transfer) → transfer_of ledger name ≡ Some transfer → (t : NumberedTransfer) × Has tables.transfers t × (without_number t ≡ (name, transfer))
   numbered name transfer there =
       has_from_map without_number tables.transfers (name, transfer) (subst (λ l. Has l (name, transfer)) tables.is (entry_found ledger name transfer there))

@@ -1,4 +1,4 @@
--- What the texts that read a transfer mean.
+-- The meanings of the queries for a transfer.
 use Rattle.std.proofs.Common.{◌≡◌, ℕ, List, [], ◌∷◌, codes, false, refl}
 use Rattle.sqlite.specs.Collation.TheVariants.{Binary}
 use Rattle.sqlite.specs.Command.{Command}
@@ -15,7 +15,7 @@ use Rattle.bag_sqlite.proofs.WhereLemmas.{equals, over}
 abbrev pub number_text : List ℕ
 number_text = codes "SELECT id FROM transfer WHERE name = ?1"
 
--- the number of the transfer with the name that is given
+-- the number of the transfer with the given name
 abbrev pub number_query : Query
 number_query = over 2 (equals (col 1 2) (col 0 0) ∷ []) (col 1 0 ∷ []) []
 
@@ -37,7 +37,7 @@ number_unlisted = refl
 abbrev pub tags_text : List ℕ
 tags_text = codes "SELECT path, body FROM tag WHERE transfer = ?1 ORDER BY path"
 
--- the tag files of the transfer with the number that is given
+-- the tag files of the transfer with the given number
 abbrev pub tags_query : Query
 tags_query = over 4 (equals (col 1 1) (col 0 0) ∷ []) (col 1 2 ∷ col 1 3 ∷ []) ((col 1 2, ascending Binary) ∷ [])
 
@@ -59,7 +59,7 @@ tags_unlisted = refl
 abbrev pub sizes_text : List ℕ
 sizes_text = codes "SELECT path, size FROM held WHERE transfer = ?1 ORDER BY path"
 
--- the payload files of the transfer with the number that is given
+-- the payload files of the transfer with the given number
 abbrev pub sizes_query : Query
 sizes_query = over 6 (equals (col 1 2) (col 0 0) ∷ []) (col 1 3 ∷ col 1 4 ∷ []) ((col 1 3, ascending Binary) ∷ [])
 

@@ -1,4 +1,4 @@
--- The rows of a transfer's tag files and payload files, as they are shown and as they are read in turn.
+-- The rows of a transfer's tag files and payload files, as they are shown and as they are read in sequence.
 use Rattle.std.proofs.Common.{◌≡◌, ◌≢◌, ◌<◌, ◌+◌, ◌&&◌, ℕ, suc, List, [], ◌∷◌, ◌++◌, Bool, true, false, Some, Less, Greater, append-nil, drop, get_or, inl, inr, length, map, take, pos, refl, sym, ap, ap₂, subst, ◌∙◌, arith}
 use Rattle.std.specs.Prelude.{IsPermutation, filter, flat_map, ℤ}
 use Rattle.std.specs.BTreeMap.{insert_entry}
@@ -45,12 +45,12 @@ use Rattle.bag_sqlite.proofs.TransferLemmas.{alone, transfer_at}
 use Rattle.bag_sqlite.proofs.TransferMeanings.{sizes_command, sizes_is, sizes_plain, sizes_text, sizes_unlisted, tags_command, tags_is, tags_plain, tags_text, tags_unlisted}
 use Rattle.bag_sqlite.proofs.WhereLemmas.{answer_lists, by_text, equal_numbers, equals, made, other_number, passes, same_number}
 
--- ROWS THAT ARE READ IN TURN
+-- READING ROWS IN SEQUENCE
 
 abbrev pub two_of : Row → Row
 two_of row = column row 0 ∷ column row 1 ∷ []
 
--- the files with those of the rows put at their places
+-- the files, with those of the rows inserted at their places
 abbrev pub files_put : Files → List Row → Files
 files_put files [] = files
 files_put files (row ∷ rows) = files_put (insert_entry (slice_cmp nat_cmp) files (bytes (column row 0)) (bytes (column row 1))) rows
@@ -59,7 +59,7 @@ put_last : (files : Files) (rows : List Row) (row : Row) → files_put files (ro
 put_last files [] row = refl
 put_last files (r ∷ rows) row = put_last (insert_entry (slice_cmp nat_cmp) files (bytes (column r 0)) (bytes (column r 1))) rows row
 
--- one row more
+-- one more row
 pub put_more : (rows : List Row) (i : ℕ) (row : Row) (old new : Files) (path body : List ℕ) → i < length rows → row ≡ get_or rows i row → column row 0 ≡ Text path → column row 1 ≡ Blob body
     → old ≡ files_put [] (take i rows) → new ≡ insert_entry (slice_cmp nat_cmp) old path body → new ≡ files_put [] (take (i + 1) rows)
 put_more rows i row old new path body low at named read so_far added =
@@ -67,7 +67,7 @@ put_more rows i row old new path body low at named read so_far added =
     let split : take (i + 1) rows ≡ take i rows ++ row ∷ [] = rw next (take-suc rows i row low) ∙ ap (λ r. take i rows ++ r ∷ []) (sym at) in
     added ∙ (λ t. insert_entry (slice_cmp nat_cmp) (so_far t) (bytes (sym named t)) (bytes (sym read t))) ∙ sym (put_last [] (take i rows) row) ∙ ap (files_put []) (sym split)
 
--- a file after all others goes to the end
+-- a file after all others is inserted at the end
 put_after : (front : Files) (file : List ℕ × List ℕ) → AllByRecursion (λ (f : List ℕ × List ℕ). slice_cmp nat_cmp f.0 file.0 ≡ Less) front → insert_entry (slice_cmp nat_cmp) front file.0 file.1 ≡ front ++ file ∷ []
 put_after [] file before = refl
 put_after (f ∷ fs) file before =
@@ -103,7 +103,7 @@ same_size a b e = λ t. record { path = bytes (column (e t) 0); octets = number_
     number_in (Int (pos n)) = n
     number_in _ = 0
 
--- payload files that are read from their rows
+-- payload files read from their rows
 pub sizes_read : (sizes wanted : List ItemSize) (rows : List Row) → rows ≡ map size_shown wanted → map size_shown sizes ≡ map two_of rows → sizes ≡ wanted
 sizes_read [] [] rows is read = refl
 sizes_read [] (w ∷ ws) rows is read = absurd (let e = read ∙ ap (map two_of) is in cc)
@@ -120,7 +120,7 @@ all_each : {X : Type 0} (P : X → Type 0) → ((x : X) → P x) → (xs : List 
 all_each P f [] = tt
 all_each P f (x ∷ xs) = (f x, all_each P f xs)
 
--- a condition that keeps the rows of the transfer with a number, and no others
+-- a condition that keeps exactly the rows of the transfer with a number
 module _ (rows_of : NumberedTransfer → List Row) (p : Row → Bool) (n : ℤ) (yes : (t : NumberedTransfer) → t.number ≡ n → AllByRecursion (λ row. p row ≡ true) (rows_of t))
     (no : (t : NumberedTransfer) → t.number ≢ n → AllByRecursion (λ row. p row ≡ false) (rows_of t)) where
   none_kept : (ts : List NumberedTransfer) → AllByRecursion (λ (t : NumberedTransfer). t.number ≢ n) ts → filter p (flat_map rows_of ts) ≡ []
@@ -146,7 +146,7 @@ later (v ∷ row) i = ap (λ r. column r i) (drop_zero row)
 abbrev tags_where : List Term
 tags_where = equals (col 1 1) (col 0 0) ∷ []
 
--- the same of a row without its rowid
+-- the same for a row without its rowid
 abbrev tag_where : List Term
 tag_where = equals (col 1 0) (col 0 0) ∷ []
 
@@ -166,7 +166,7 @@ module _ (s new : State) (rows : List Row) (ledger : Ledger) (name : List ℕ) (
       all_map (λ row. passes tag_where (Int n ∷ []) row ≡ b) (λ (file : List ℕ × List ℕ). Int t.number ∷ Text file.0 ∷ Blob file.1 ∷ []) t.tags
       (all_each (λ (file : List ℕ × List ℕ). passes tag_where (Int n ∷ []) (Int t.number ∷ Text file.0 ∷ Blob file.1 ∷ []) ≡ b) (λ file. number_tested t n file.0 file.1 b is) t.tags)
 
-  -- what the query makes of the rows is what is made of them without their rowids
+  -- the query computes the same from the rows with and without their rowids
   tags_made : (table : List Row) → map (made 4 tags_where tags_shown_of ((col 1 2, ascending Binary) ∷ []) (Int n ∷ [])) (filter (passes tags_where (Int n ∷ [])) table)
       ≡ map tag_made (filter (passes tag_where (Int n ∷ [])) (without_rowids table))
   tags_made table =
@@ -207,7 +207,7 @@ sizes_shown_of = col 1 3 ∷ col 1 4 ∷ []
 abbrev size_made : NumberedItem → ItemSize
 size_made item = record { path = item.path; octets = size_of item }
 
--- a payload file's size is that of its pieces
+-- the size of a payload file is that of its pieces
 size_is : (item : NumberedItem) → size_made item ≡ record { path = item.path; octets = length (concat item.pieces) }
 size_is item = λ t. record { path = item.path; octets = sym (length_concat item.pieces) t }
 

@@ -1,4 +1,4 @@
--- What a query over one table shows: the rows that pass its conditions, in its order.
+-- What a query on one table shows: the rows that pass its conditions, in its order.
 use Rattle.std.proofs.Common.{◌≡◌, ◌≢◌, ℕ, List, [], ◌∷◌, ◌++◌, Bool, true, false, None, Some, Ordering, Less, Equal, Greater, cond, inl, inr, is_eq, map, negsuc, pos, refl, sym, ap, subst, ◌∙◌}
 use Rattle.std.specs.Prelude.{IsPermutation, IsSorted, filter, flat_map, ℤ}
 use Rattle.std.specs.Cmp.Lexicographic.{slice_cmp}
@@ -36,7 +36,7 @@ use Rattle.bag_sqlite.proofs.OneLedger.{has_moved}
 abbrev pub equals : Term → Term → Term
 equals a b = op2 (Compare Eq Binary) a b
 
--- a query over the rows of one table
+-- a query on the rows of one table
 abbrev pub over : ℕ → List Term → List Term → List (Term × Key) → Query
 over tree conditions shown order = record {
   from = inner tree end;
@@ -56,7 +56,7 @@ pub truth_kept : (b : Bool) → is_true (from_truth (Some b)) ≡ b
 truth_kept true = refl
 truth_kept false = refl
 
--- two texts are equal where their octets are
+-- two texts are equal if their octets are
 pub equal_texts : (a b : List ℕ) → is_true (binary (Compare Eq Binary) (Text a) (Text b)) ≡ bytes_eq a b
 unfolding binary
 equal_texts a b = truth_kept _ ∙ ap is_eq (value_cmp-Text a b) ∙ is_eq-slice_cmp a b
@@ -78,7 +78,7 @@ other_number m n other = go (int_cmp m n) refl
 
 -- THE ROWS THAT PASS
 
--- what the conditions say of a row
+-- what the conditions say about a row
 abbrev pub passes : List Term → Row → Row → Bool
 passes conditions params row = list_all (holds (params ∷ row ∷ [])) conditions
 
@@ -89,7 +89,7 @@ module _ {X : Type 0} (p : X → Bool) where
   has_by false first x xs at pass (inl is) rest = absurd (let f : true ≡ false = sym pass ∙ ap p (sym is) ∙ at in cc)
   has_by false first x xs at pass (inr has) rest = rest has
 
-  -- what passes is kept
+  -- a row that passes is kept
   pub has_kept : (xs : List X) (x : X) → Has xs x → p x ≡ true → Has (filter p xs) x
   has_kept [] x has pass = has
   has_kept (first ∷ xs) x has pass = has_by (p first) first x xs refl pass has (λ later. has_kept xs x later pass)
@@ -99,7 +99,7 @@ module _ {X : Type 0} (p : X → Bool) where
   from_by true first x xs at (inr has) rest = let r = rest has in (inr r.0, r.1)
   from_by false first x xs at has rest = let r = rest has in (inr r.0, r.1)
 
-  -- what is kept passes
+  -- a row that is kept passes
   pub has_from_kept : (xs : List X) (x : X) → Has (filter p xs) x → Has xs x × (p x ≡ true)
   has_from_kept [] x has = absurd has
   has_from_kept (first ∷ xs) x has = from_by (p first) first x xs refl has (has_from_kept xs x)
@@ -121,11 +121,11 @@ module _ (tree : ℕ) (conditions project : List Term) (order : List (Term × Ke
   abbrev env : Row → Env
   env row = params ∷ row ∷ []
 
-  -- what the query makes of a row
+  -- what the query computes from a row
   abbrev pub made : Row → Output
   made row = output query (env row)
 
-  -- what is made of the rows that pass, in an order of the query's
+  -- what is computed from the rows that pass, in the order of the query
   pub record Lists (table rows : List Row) : Type 0 where
     pub ordered : List Output
     pub same : IsPermutation (map made (filter (passes conditions params) table)) ordered
@@ -146,7 +146,7 @@ module _ (tree : ℕ) (conditions project : List Term) (order : List (Term × Ke
         let kept = has_map made (filter (passes conditions params) table) row (has_kept (passes conditions params) table row has pass) in
         subst (λ r. Has r (made row).1) (sym lists.shown) (has_map (λ (o : Output). o.1) lists.ordered (made row) (has_moved _ lists.ordered (made row) lists.same kept))
 
-    -- a row that is shown is made of one that passes
+    -- a row that is shown is computed from one that passes
     pub has_from_shown : (shown : Row) → Has rows shown → (row : Row) × Has table row × (passes conditions params row ≡ true) × ((made row).1 ≡ shown)
     has_from_shown shown has =
         let by_out = has_from_map (λ (o : Output). o.1) lists.ordered shown (subst (λ r. Has r shown) lists.shown has) in
@@ -161,11 +161,11 @@ module _ {X : Type 0} (tree : ℕ) (conditions project : List Term) (term : Term
   abbrev by : Query
   by = over tree conditions project ((term, ascending Binary) ∷ [])
 
-  -- what is sorted by its text
+  -- rows that are sorted by a text
   abbrev pub out : X → Output
   out x = (Text (text x) ∷ [], show x)
 
-  -- texts that rise are sorted in one way
+  -- ascending texts can be sorted in only one way
   pub sorted_once : (xs : List X) (os : List Output) → AreRising (map text xs) → IsPermutation (map out xs) os → IsSorted (output_cmp by) os → os ≡ map out xs
   sorted_once xs os rising moves sorted =
       let less : (x y : X) → slice_cmp nat_cmp (text x) (text y) ≡ Less → output_cmp by (out x) (out y) ≡ Less = λ x y e. then-Equal _ ∙ value_cmp-Text (text x) (text y) ∙ e in
@@ -173,7 +173,7 @@ module _ {X : Type 0} (tree : ℕ) (conditions project : List Term) (term : Term
       let strict = ascending-map (λ a b. output_cmp by a b ≡ Less) out xs (ascending_weaker _ (λ x y. output_cmp by (out x) (out y) ≡ Less) less xs up) in
       sorted_unique (output_cmp by) (output_cmp_total by) (map out xs) os strict moves sorted
 
-  -- rows that are made of these are shown by their text
+  -- rows computed from these are shown by their text
   pub by_text : (params : Row) (table rows : List Row) (xs : List X) → AreRising (map text xs) → IsPermutation (map out xs) (map (made tree conditions project ((term, ascending Binary) ∷ []) params) (filter (passes conditions params) table))
       → Lists tree conditions project ((term, ascending Binary) ∷ []) params table rows → rows ≡ map show xs
   by_text params table rows xs rising moves lists =

@@ -1,4 +1,4 @@
--- How a database is taken as a ledger: what its texts show of it.
+-- How a database is opened as a ledger: what its queries show.
 use Rattle.std.specs.Prelude.{◌≡◌, ℕ, ℤ, pos, List, [], ◌∷◌, Some, IsTrue, codes, length, map, slice_get}
 use Rattle.std.specs.List.{AllByRecursion, concat}
 use Rattle.bag_rules.specs.Files.{AreTagFiles, Files}
@@ -15,13 +15,13 @@ use Rattle.sqlite_value.specs.Order.{bytes}
 use Rattle.bag_sqlite.specs.Databases.{AreCut}
 use Rattle.bag_sqlite.specs.Reading.{ShowsRows}
 
--- WHAT A READ LEAVES
+-- WHAT A READ CHANGES
 
 -- it shows what was committed, as long as it is open
 abbrev pub IsSettled : State → Type 0
 IsSettled s = IsTrue s.is_open → s.now ≡ s.committed
 
--- Nothing was committed, and what showed the last commit shows it still.
+-- Nothing was committed, and what showed the last commit still shows it.
 pub record IsRead (old new : State) : Type 0 where
   pub was_open : IsTrue new.is_open → IsTrue old.is_open
   pub committed : IsTrue new.is_open → new.committed ≡ old.committed
@@ -31,7 +31,7 @@ pub record IsRead (old new : State) : Type 0 where
 abbrev pub Stands : State → Database → Type 0
 Stands s db = IsTrue s.is_open → (s.now ≡ db) × (s.committed ≡ db)
 
--- THE TEXTS
+-- THE QUERIES
 
 abbrev pub format_text : List ℕ
 format_text = codes "SELECT k, v FROM meta"
@@ -51,7 +51,7 @@ piece_text = codes "SELECT body FROM piece WHERE item = ?1 AND n = ?2"
 abbrev pub count_text : List ℕ
 count_text = codes "SELECT count(*) FROM piece WHERE item = ?1"
 
--- rows that no ledger has: with values of another kind, or that belong to nothing
+-- rows that no ledger has: with values of another type, or without an owner
 abbrev pub stray_texts : List (List ℕ)
 stray_texts = codes "SELECT 1 FROM transfer WHERE typeof(id) <> 'integer' OR typeof(name) <> 'text'"
     ∷ codes "SELECT 1 FROM tag WHERE typeof(path) <> 'text' OR typeof(body) <> 'blob' OR NOT EXISTS (SELECT 1 FROM transfer WHERE id = tag.transfer)"
@@ -70,7 +70,7 @@ files_in rows = with_files [] (map file_in rows)
 -- WHAT A DATABASE SHOWS
 
 module _ {S : Type 0} (g : Ghosts S) (db : Database) where
-  -- at a connection that shows this database, the text shows these rows
+  -- on a connection that shows this database, the query shows these rows
   pub record Tells (sql : List ℕ) (params : Row) (rows : List Row) : Type 0 where
     pub at : Held S
     pub is : (state g at).now ≡ db
@@ -82,21 +82,21 @@ module _ {S : Type 0} (g : Ghosts S) (db : Database) where
     pub told : Tells sql params (row ∷ [])
     pub value_is : column row 0 ≡ value
 
-  -- the pieces of the payload file with this number, in turn, are these, and there is no other
+  -- these are all pieces of the payload file with this number, in order
   pub record HasPieces (item : ℤ) (pieces : List (List ℕ)) : Type 0 where
     pub each : (n : ℕ) (piece : List ℕ) → slice_get pieces n ≡ Some piece
         → TellsOne piece_text (Int item ∷ Int (pos n) ∷ []) (Blob piece)
     pub count : TellsOne count_text (Int item ∷ []) (Int (pos (length pieces)))
     pub cut : AreCut pieces
 
-  -- the payload file with this number has this size, and its content passes for the path
+  -- the payload file with this number has this size, and its content is valid for the path
   pub record ItemPasses (tags : Files) (item : ℤ) (path : List ℕ) (size : ℤ) : Type 0 where
     pub pieces : List (List ℕ)
     pub has : HasPieces item pieces
     pub size_is : size ≡ pos (length (concat pieces))
     pub passes : Passes tags path (concat pieces)
 
-  -- the same of a row
+  -- the same for a row
   pub record RowPasses (tags : Files) (row : Row) : Type 0 where
     pub item : ℤ
     pub path : List ℕ
@@ -104,7 +104,8 @@ module _ {S : Type 0} (g : Ghosts S) (db : Database) where
     pub row_is : (column row 0 ≡ Int item) × (column row 1 ≡ Text path) × (column row 2 ≡ Int size)
     pub passes : ItemPasses tags item path size
 
-  -- the tag files of the transfer with this number open one, and each of its payload files passes
+  -- the tag files of the transfer with this number open a transfer, and all of its payload files
+  -- are valid
   pub record TransferPasses (transfer : ℤ) : Type 0 where
     pub tag_rows : List Row
     pub tags_told : Tells tag_files_text (Int transfer ∷ []) tag_rows
@@ -114,21 +115,21 @@ module _ {S : Type 0} (g : Ghosts S) (db : Database) where
     pub items_told : Tells items_text (Int transfer ∷ []) item_rows
     pub items : AllByRecursion (RowPasses (files_in tag_rows)) item_rows
 
-  -- each transfer does
+  -- this is true of every transfer
   pub record TransfersPass : Type 0 where
     pub rows : List Row
     pub told : Tells transfers_text [] rows
     pub each : AllByRecursion (λ row. (transfer : ℤ)
         × (column row 0 ≡ Int transfer) × TransferPasses transfer) rows
 
-  -- there is one format, with this number
+  -- it names one format, with this number
   pub record HasFormat (format : ℤ) : Type 0 where
     pub row : Row
     pub told : Tells format_text [] (row ∷ [])
     pub name_is : column row 0 ≡ Text (codes "bag-ledger")
     pub number_is : column row 1 ≡ Int format
 
-  -- it is a ledger of format 2, without a row that belongs to nothing, in which each transfer passes
+  -- it is a ledger of format 2 without rows that lack an owner, and all of its transfers are valid
   pub record IsVerified : Type 0 where
     pub format : HasFormat (pos 2)
     pub none_stray : AllByRecursion (λ text. Tells text [] []) stray_texts

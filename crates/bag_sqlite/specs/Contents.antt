@@ -1,4 +1,4 @@
--- What a transaction did that puts a payload file.
+-- What a transaction that stores a payload file did.
 use Rattle.std.specs.Prelude.{◌≡◌, ℕ, ℤ, List, Option, Ok, Err, Result}
 use Rattle.std.specs.List.{concat}
 use Rattle.bag_digest.specs.Reading.{GaveAll, read_fault}
@@ -16,7 +16,7 @@ use Rattle.bag_sqlite.specs.Putting.{HasOneItemMore}
 use Rattle.bag_sqlite.specs.declared.putting.NotPut.{NotPut}
 use Rattle.bag_sqlite.specs.declared.putting.NotPut.TheVariants.{Source, Misfit, Store}
 
--- a source was read to its end: the pieces that it gave, their length and their digests
+-- a source was read to its end: the pieces that it gave, their total length and their digests
 pub record HasRead (old new : Option (List ℕ)) (want : Want) (found : ℕ × Digests)
     (pieces : List (List ℕ)) : Type 0 where
   pub gave : GaveAll old new LARGEST_ITEM (concat pieces)
@@ -27,7 +27,7 @@ pub record HasRead (old new : Option (List ℕ)) (want : Want) (found : ℕ × D
 abbrev pub in_pieces : ℤ → List ℕ → List (List ℕ) → NumberedItem
 in_pieces number path pieces = record { number = number; path = path; pieces = pieces }
 
--- one payload file more, with this path and this content
+-- a payload file with this path and this content is added
 pub record HasContentMore (old new : Trees) (transfer : ℤ) (path content : List ℕ) : Type 0 where
   pub number : ℤ
   pub pieces : List (List ℕ)
@@ -35,7 +35,7 @@ pub record HasContentMore (old new : Trees) (transfer : ℤ) (path content : Lis
   pub joined : concat pieces ≡ content
   pub more : HasOneItemMore old new transfer (in_pieces number path pieces)
 
--- what a keeper answers that tells a fault of its store as this
+-- what a keeper answers, if it reports a failure of its store as this fault
 abbrev pub put_fault_of : KeepFault → NotPut → PutFault
 put_fault_of told (Source fault) = put_fault (read_fault fault)
 put_fault_of told (Misfit fault) = misfit_fault fault

@@ -1,4 +1,4 @@
--- A database of format 2, read as a ledger: the rows that a ledger has, and no others.
+-- A database of format 2, read as a ledger: it has exactly the rows of the ledger.
 use Rattle.std.specs.Prelude.{◌≡◌, ◌≢◌, ◌<◌, ◌≤◌, ℕ, ℤ, pos, List, [], ◌∷◌, IsPermutation, codes, drop, flat_map, length, map, sum_by, ⊤}
 use Rattle.std.specs.List.{AllByRecursion, concat, enumerate_from}
 use Rattle.std.specs.Map.{keys_of}
@@ -11,15 +11,15 @@ use Rattle.sqlite.specs.declared.types.Value.TheVariants.{Blob, Int, Null, Text}
 use Rattle.bag_ledger.specs.Ledgers.{Ledger, Transfer}
 use Rattle.bag_sqlite.specs.Tables.{held_tree, meta_tree, piece_tree, tag_tree, transfer_tree}
 
--- A LEDGER WITH NUMBERS
+-- A LEDGER WITH ROW NUMBERS
 
--- a payload file under a number, in pieces
+-- a payload file with its number, in pieces
 pub record NumberedItem : Type 0 where
   pub number : ℤ
   pub path : List ℕ
   pub pieces : List (List ℕ)
 
--- a transfer under a number
+-- a transfer with its number
 pub record NumberedTransfer : Type 0 where
   pub number : ℤ
   pub name : List ℕ
@@ -39,7 +39,7 @@ size_of item = sum_by length item.pieces
 abbrev pub items_in : List NumberedTransfer → List NumberedItem
 items_in transfers = flat_map (λ (transfer : NumberedTransfer). transfer.items) transfers
 
--- without the numbers, each payload file whole
+-- the ledger without the numbers, each payload file as a whole
 abbrev pub without_number : NumberedTransfer → List ℕ × Transfer
 without_number transfer = (
   transfer.name,
@@ -51,7 +51,7 @@ without_number transfer = (
 
 -- THE ROWS
 
--- A row begins with its rowid. A column that is the rowid holds NULL.
+-- A row begins with its rowid. A column that is an alias of the rowid holds NULL.
 
 -- the format and its number
 abbrev pub format_row : Row
@@ -60,7 +60,7 @@ format_row = Text (codes "bag-ledger") ∷ Int (pos 2) ∷ []
 abbrev pub transfer_row : NumberedTransfer → Row
 transfer_row transfer = Int transfer.number ∷ Null ∷ Text transfer.name ∷ []
 
--- without their rowids, which mean nothing
+-- without their rowids, which have no meaning here
 abbrev pub tag_rows : NumberedTransfer → List Row
 tag_rows transfer = map (λ (file : List ℕ × List ℕ).
     Int transfer.number ∷ Text file.0 ∷ Blob file.1 ∷ []) transfer.tags
@@ -78,7 +78,7 @@ piece_rows item = map (λ (piece : ℕ × List ℕ).
 abbrev pub without_rowids : List Row → List Row
 without_rowids rows = map (drop 1) rows
 
--- the tables have these rows in any order, and no others
+-- the tables have exactly these rows, in any order
 pub record HaveRows (trees : Trees) (all : List NumberedTransfer) : Type 0 where
   pub format : without_rowids (trees meta_tree) ≡ format_row ∷ []
   pub transfers : IsPermutation (map transfer_row all) (trees transfer_tree)
@@ -89,7 +89,7 @@ pub record HaveRows (trees : Trees) (all : List NumberedTransfer) : Type 0 where
 
 -- THE LEDGER
 
--- no number comes twice
+-- no number occurs twice
 abbrev pub AreApart : {X : Type 0} → (X → ℤ) → List X → Type 0
 AreApart number [] = ⊤
 AreApart number (x ∷ xs) = AllByRecursion (λ y. number x ≢ number y) xs × AreApart number xs
@@ -102,8 +102,8 @@ pub record IsInOrder (ledger : Ledger) : Type 0 where
   pub items : AllByRecursion
       (λ (entry : List ℕ × Transfer). AreRising (keys_of entry.1.items)) ledger
 
--- The tables hold this ledger: they have its rows under some numbers, each number once, and each payload file is cut
--- into pieces.
+-- The tables hold this ledger: they have its rows under some numbers, each number used once, and each payload file is
+-- cut into pieces.
 pub record AreTablesOf (trees : Trees) (ledger : Ledger) : Type 0 where
   pub transfers : List NumberedTransfer
   pub rows : HaveRows trees transfers

@@ -8,16 +8,16 @@ use Rattle.bag_sqlite.specs.Putting.{item_row}
 use Rattle.bag_sqlite.specs.Reading.{HasTransferRow}
 use Rattle.bag_sqlite.specs.Tables.{held_tree, piece_tree}
 
--- the row of a payload file of this transfer is there
+-- there is a row of a payload file of this transfer
 abbrev pub HasItemRow : Trees → ℤ → ℤ → List ℕ → ℕ → Type 0
 HasItemRow trees item transfer path size = Has (trees held_tree) (item_row item transfer path size)
 
--- the row of this piece of a payload file is there
+-- there is a row of this piece of a payload file
 abbrev pub HasPieceRow : Trees → ℤ → ℕ → List ℕ → Type 0
 HasPieceRow trees item n body =
     Has (without_rowids (trees piece_tree)) (Int item ∷ Int (pos n) ∷ Blob body ∷ [])
 
--- the rows of a transfer with this name and of its payload file at this path are there
+-- there are rows of a transfer with this name and of its payload file at this path
 pub record HasItem (trees : Trees) (name path : List ℕ) (item : ℤ) (size : ℕ) : Type 0 where
   pub transfer : ℤ
   pub named : HasTransferRow trees name transfer

@@ -1,4 +1,4 @@
--- Ledgers in files: what is known of a keeper by what the files held when they were opened.
+-- Ledgers in files: what is known of a keeper from what the files held when they were opened.
 use Rattle.std.specs.Prelude.{◌≡◌, []}
 use Rattle.bag_ledger.specs.Ledgers.{Ledger}
 use Rattle.bag_sqlite.specs.Adopting.{IsVerified}
@@ -13,20 +13,22 @@ use Rattle.sqlite_store.specs.declared.store.FileStore.{FileStore}
 use Rattle.sqlite_wal.specs.Recovery.{Image}
 
 module _ {D : Type 0} {g : Ghosts D} where
-  -- a connection found what the files held, and its database was verified; if that is a ledger, it is kept
+  -- a connection found what the files held, its database was verified, and if that is a ledger, the
+  -- keeper holds it
   pub record IsAdoption (image : Image) (opened kept : Held (FileStore D g)) : Type 0 where
     pub found : FindsIn image (file_state opened)
     pub verified : IsVerified (over_files {D = D} {g = g}) (file_state opened).committed
     pub held : (ledger : Ledger) → HoldsLedger (file_state opened) ledger
         → HoldsLedger (file_state kept) ledger
 
-  -- a connection found what the files held, in which no table was; the ledger without a transfer is kept
+  -- a connection found what the files held, they had no tables, and the keeper holds the ledger
+  -- without transfers
   pub record IsMaking (image : Image) (opened kept : Held (FileStore D g)) : Type 0 where
     pub found : FindsIn image (file_state opened)
     pub none : (file_state opened).now.schema ≡ no_schema
     pub held : HoldsLedger (file_state kept) []
 
-  -- the same, of a store that gives back what was written to it
+  -- the same, for a store that returns what was written to it
   abbrev pub IsAdoptedFrom : Image → Held (FileStore D g) → Type 0
   IsAdoptedFrom image kept = HasCleanDisk (file_state kept)
       → (opened : Held (FileStore D g)) × IsAdoption image opened kept

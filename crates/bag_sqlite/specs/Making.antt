@@ -1,4 +1,4 @@
--- How the tables of a ledger are made.
+-- How the tables of a ledger are created.
 use Rattle.std.specs.Prelude.{◌≡◌, ℕ, List, [], Ok, IsTrue, false}
 use Rattle.std.specs.List.{AllByRecursion}
 use Rattle.sqlite.specs.Change.{created}
@@ -14,7 +14,7 @@ use Rattle.sqlite.proofs.Callers.{IsPlain, command_of, statement_of}
 use Rattle.bag_sqlite.specs.Databases.{AreTablesOf}
 use Rattle.bag_sqlite.specs.Tables.{ledger_schema, no_schema}
 
--- under this schema the text makes this table
+-- under this schema the statement creates this table
 pub record Makes (before : Schema) (text : List ℕ) (table : Table) : Type 0 where
   pub command : command_of (understood before text) ≡ CreateTable
   pub statement : statement_of text (understood before text) ≡ text
@@ -22,19 +22,19 @@ pub record Makes (before : Schema) (text : List ℕ) (table : Table) : Type 0 wh
   pub defined : table_defined_by text ≡ Ok table
   pub uncounted : lacks_sequence (created before table) ≡ false
 
--- a transaction is under way, and sees the tables of this schema, each without a row
+-- a transaction is open, and sees the tables of this schema, without rows
 pub record IsMaking (schema : Schema) (s : State) : Type 0 where
   pub mode : IsTrue s.in_transaction
   pub schema_is : s.now.schema ≡ schema
   pub empty : AllByRecursion (λ (table : Table). s.now.trees table.tree ≡ []) schema.tables
 
--- a transaction is under way, and sees the tables of a ledger without a transfer
+-- a transaction is open, and sees the tables of a ledger without transfers
 pub record IsMade (s : State) : Type 0 where
   pub mode : IsTrue s.in_transaction
   pub schema_is : s.now.schema ≡ ledger_schema
   pub tables : AreTablesOf s.now.trees []
 
--- the tables of a ledger without a transfer are there, and committed
+-- the tables of a ledger without transfers exist and are committed
 pub record IsCreated (s : State) : Type 0 where
   pub is_open : IsTrue s.is_open
   pub autocommit : s.in_transaction ≡ false
@@ -42,13 +42,13 @@ pub record IsCreated (s : State) : Type 0 where
   pub tables : AreTablesOf s.now.trees []
   pub committed : s.committed ≡ s.now
 
--- Nothing was committed, and as long as the connection is open it shows what was committed.
+-- Nothing was committed. As long as the connection is open, it shows what was committed.
 pub record IsLeft (old new : State) : Type 0 where
   pub mode : new.in_transaction ≡ old.in_transaction
   pub was_open : IsTrue new.is_open → IsTrue old.is_open
   pub committed : IsTrue new.is_open → new.committed ≡ old.committed
   pub now : IsTrue new.is_open → old.in_transaction ≡ false → new.now ≡ old.committed
 
--- where there was no table, a ledger without a transfer is committed
+-- a database without tables has committed a ledger without transfers
 abbrev pub MakesLedger : State → Trees → Type 0
 MakesLedger s trees = s.now.schema ≡ no_schema → AreTablesOf trees []

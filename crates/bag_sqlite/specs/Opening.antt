@@ -8,17 +8,17 @@ use Rattle.sqlite.specs.declared.types.Value.TheVariants.{Int, Null, Text}
 use Rattle.bag_sqlite.specs.Databases.{NumberedTransfer, tag_rows, transfer_row, without_rowids}
 use Rattle.bag_sqlite.specs.Tables.{held_tree, meta_tree, piece_tree, tag_tree, transfer_tree}
 
--- a transfer without a payload file
+-- a transfer without payload files
 abbrev pub opened_under : ℤ → List ℕ → Files → NumberedTransfer
 opened_under number name tags = record { number = number; name = name; tags = tags; items = [] }
 
--- formats, payload files and their pieces are as they were
+-- formats, payload files and their pieces are unchanged
 pub record KeepsItems (old new : Trees) : Type 0 where
   pub format : new meta_tree ≡ old meta_tree
   pub held : new held_tree ≡ old held_tree
   pub pieces : new piece_tree ≡ old piece_tree
 
--- one transfer more, under a number that none has had
+-- a transfer is added, with a number that no transfer has had
 pub record AddsTransfer (old new : Trees) (number : ℤ) (name : List ℕ) : Type 0 where
   pub kept : KeepsItems old new
   pub fresh : AllByRecursion (λ row. column row 0 ≢ Int number) (old transfer_tree)
@@ -26,14 +26,15 @@ pub record AddsTransfer (old new : Trees) (number : ℤ) (name : List ℕ) : Typ
       (new transfer_tree)
   pub tags : new tag_tree ≡ old tag_tree
 
--- these tag files more, of the transfer with this number
+-- these tag files are added to the transfer with this number
 pub record AddsTags (old new : Trees) (number : ℤ) (files : Files) : Type 0 where
   pub kept : KeepsItems old new
   pub transfers : new transfer_tree ≡ old transfer_tree
-  pub tags : IsPermutation (tag_rows (opened_under number [] files) ++ without_rowids (old tag_tree))
+  pub tags : IsPermutation
+      (tag_rows (opened_under number [] files) ++ without_rowids (old tag_tree))
       (without_rowids (new tag_tree))
 
--- one transfer more, whole
+-- a whole transfer is added
 pub record HasOneTransferMore (old new : Trees) (transfer : NumberedTransfer) : Type 0 where
   pub kept : KeepsItems old new
   pub fresh : AllByRecursion (λ row. column row 0 ≢ Int transfer.number) (old transfer_tree)

@@ -1,4 +1,4 @@
--- What the statements that put a payload file do to the tables.
+-- What the statements that write a payload file do to the tables.
 use Rattle.std.specs.Prelude.{◌≡◌, ℕ, ℤ, pos, List, [], ◌∷◌, ◌++◌, IsPermutation, IsTrue, false, sum_by, length}
 use Rattle.std.specs.List.{list_any}
 use Rattle.sqlite.specs.Order.{Row}
@@ -8,7 +8,7 @@ use Rattle.sqlite.specs.declared.types.Value.TheVariants.{Blob, Int, Null, Text}
 use Rattle.bag_sqlite.specs.Databases.{NumberedItem, piece_rows, without_rowids}
 use Rattle.bag_sqlite.specs.Tables.{held_tree, ledger_schema, meta_tree, piece_tree, tag_tree, transfer_tree}
 
--- a transaction is under way over the tables of a ledger
+-- a transaction is open on the tables of a ledger
 pub record IsUnderWay (s : State) : Type 0 where
   pub mode : IsTrue s.in_transaction
   pub schema_is : s.now.schema ≡ ledger_schema
@@ -17,7 +17,7 @@ pub record IsUnderWay (s : State) : Type 0 where
 abbrev pub item_row : ℤ → ℤ → List ℕ → ℕ → Row
 item_row item transfer path size = Int item ∷ Null ∷ Int transfer ∷ Text path ∷ Int (pos size) ∷ []
 
--- formats, transfers and tag files are as they were
+-- formats, transfers and tag files are unchanged
 pub record KeepsTransfers (old new : Trees) : Type 0 where
   pub format : new meta_tree ≡ old meta_tree
   pub transfers : new transfer_tree ≡ old transfer_tree
@@ -27,14 +27,14 @@ pub record KeepsTransfers (old new : Trees) : Type 0 where
 abbrev pub IsFree : ℤ → List Row → Type 0
 IsFree number rows = list_any (has_rowid number) rows ≡ false
 
--- one payload file more, under a number that none has
+-- a payload file is added, with a number that was free
 pub record AddsItem (old new : Trees) (item transfer : ℤ) (path : List ℕ) (size : ℕ) : Type 0 where
   pub kept : KeepsTransfers old new
   pub fresh : IsFree item (old held_tree)
   pub held : IsPermutation (item_row item transfer path size ∷ old held_tree) (new held_tree)
   pub pieces : new piece_tree ≡ old piece_tree
 
--- one piece more
+-- a piece is added
 pub record AddsPiece (old new : Trees) (item : ℤ) (n : ℕ) (body : List ℕ) : Type 0 where
   pub kept : KeepsTransfers old new
   pub held : new held_tree ≡ old held_tree
@@ -42,7 +42,7 @@ pub record AddsPiece (old new : Trees) (item : ℤ) (n : ℕ) (body : List ℕ) 
       ((Int item ∷ Int (pos n) ∷ Blob body ∷ []) ∷ without_rowids (old piece_tree))
       (without_rowids (new piece_tree))
 
--- the payload file of this number is given its size
+-- the payload file with this number gets its size
 pub record SetsSize (old new : Trees) (item : ℤ) (size : ℕ) : Type 0 where
   pub kept : KeepsTransfers old new
   pub held : (others : List Row) (transfer : ℤ) (path : List ℕ) (before : ℕ)
@@ -51,14 +51,14 @@ pub record SetsSize (old new : Trees) (item : ℤ) (size : ℕ) : Type 0 where
       → IsPermutation (item_row item transfer path size ∷ others) (new held_tree)
   pub pieces : new piece_tree ≡ old piece_tree
 
--- these pieces more
+-- these pieces are added
 pub record AddsPieces (old new : Trees) (item : NumberedItem) : Type 0 where
   pub kept : KeepsTransfers old new
   pub held : new held_tree ≡ old held_tree
   pub pieces : IsPermutation (piece_rows item ++ without_rowids (old piece_tree))
       (without_rowids (new piece_tree))
 
--- one payload file more, whole
+-- a whole payload file is added
 pub record HasOneItemMore (old new : Trees) (transfer : ℤ) (item : NumberedItem) : Type 0 where
   pub kept : KeepsTransfers old new
   pub fresh : IsFree item.number (old held_tree)

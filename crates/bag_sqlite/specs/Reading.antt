@@ -10,13 +10,13 @@ use Rattle.sqlite.specs.Tree.{Trees}
 use Rattle.sqlite.specs.declared.types.Value.TheVariants.{Blob, Int, Null, Text}
 use Rattle.bag_sqlite.specs.Tables.{transfer_tree}
 
--- the rows are those that the text shows, in a transaction that begins at this connection
+-- the rows are the ones that the query shows, in a transaction that begins at this connection
 pub record ShowsRows {S : Type 0} (g : Ghosts S) (sql : List ℕ) (params : Row) (old : Held S)
     (rows : List Row) : Type 0 where
   pub then : Held S
   pub shown : Shown sql params (state g (record old { in_transaction = true })) (state g then) rows
 
--- the row of a transfer with this name and number is there
+-- there is a row of a transfer with this name and number
 abbrev pub HasTransferRow : Trees → List ℕ → ℤ → Type 0
 HasTransferRow trees name number =
     Has (trees transfer_tree) (Int number ∷ Null ∷ Text name ∷ [])

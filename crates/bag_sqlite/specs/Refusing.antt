@@ -1,4 +1,4 @@
--- Why a database isn't taken as a ledger: what its texts show, and what those of a ledger don't.
+-- Why a database isn't opened as a ledger: what its queries show that those of a ledger don't.
 use Rattle.std.specs.Prelude.{◌≡◌, ◌≢◌, ◌⊎◌, ◌<◌, ◌≤◌, ◌-◌, ℕ, ℤ, min, pos, List, [], ◌∷◌, Some, IsUtf8, codes, length, slice_get, string_bytes, take}
 use Rattle.std.specs.List.{AllByRecursion, concat}
 use Rattle.bag_digest.specs.declared.reading.TheConstants.{PIECE}
@@ -32,7 +32,7 @@ use Rattle.bag_sqlite.specs.Databases.{AreCut}
 use Rattle.bag_sqlite.specs.declared.adopting.AdoptFault.{AdoptFault}
 use Rattle.bag_sqlite.specs.declared.adopting.AdoptFault.TheVariants.{NotALedger, OldFormat, Damaged, Keep}
 
--- WHAT AN ERROR IS TOLD AS
+-- HOW AN ERROR IS REPORTED
 
 abbrev pub adopt_fault : Error → AdoptFault
 adopt_fault (SqliteFailure OutOfMemory) = Keep Memory
@@ -45,25 +45,25 @@ adopt_fault MultipleStatement = Keep (Store Refused)
 adopt_fault QueryReturnedNoRows = Keep (Store Refused)
 adopt_fault error = NotALedger
 
--- it isn't a ledger for this reason; want of memory and failures of the store say nothing
+-- if the fault is `NotALedger`, this is the reason; out of memory and failures of the store say nothing
 abbrev pub IsNoneFor : Type 0 → AdoptFault → Type 0
 IsNoneFor reason NotALedger = reason
 IsNoneFor reason OldFormat = ⊥
 IsNoneFor reason (Damaged name path) = ⊥
 IsNoneFor reason (Keep fault) = Unit {0}
 
--- The rows aren't a ledger's for this reason, or memory ran out. The store isn't asked.
+-- If the fault is `NotALedger`, this is the reason; otherwise memory ran out. The store isn't involved.
 abbrev pub AreNoneFor : Type 0 → AdoptFault → Type 0
 AreNoneFor reason NotALedger = reason
 AreNoneFor reason OldFormat = ⊥
 AreNoneFor reason (Damaged name path) = ⊥
 AreNoneFor reason (Keep fault) = fault ≡ Memory
 
--- the text isn't understood as a query, which shows rows and neither writes nor reads the time
+-- the text can't be understood as a query that shows rows, writes nothing and doesn't read the time
 abbrev pub IsNoQuery : Schema → List ℕ → Type 0
 IsNoQuery schema sql = ¬ IsPlain (understood schema sql)
 
--- WHAT IS ASKED, AND WHAT A LEDGER ANSWERS
+-- THE QUERIES, AND WHAT A LEDGER SHOWS
 
 abbrev pub IsText : Value → Type 0
 IsText value = (text : List ℕ) × (value ≡ Text text) × IsUtf8 text
@@ -87,9 +87,10 @@ abbrev pub AreTags : List Row → Type 0
 AreTags = AllByRecursion (λ row. IsText (column row 0) × IsBlob (column row 1))
 
 abbrev pub AreItems : List Row → Type 0
-AreItems = AllByRecursion (λ row. IsInt (column row 0) × IsText (column row 1) × IsInt (column row 2))
+AreItems = AllByRecursion (λ row. IsInt (column row 0) × IsText (column row 1)
+    × IsInt (column row 2))
 
--- one of the texts, with its parameters
+-- one of the queries, with its parameters
 pub data Question : Type 0 where
   the_format : Question
   the_transfers : Question
@@ -117,7 +118,7 @@ params_of (piece_at item n) = Int item ∷ Int n ∷ []
 params_of (count_under item) = Int item ∷ []
 params_of (strays text one) = []
 
--- the rows have the kinds of a ledger's, and are as many as one can show
+-- the rows have the types that a ledger's rows have, and as many rows as a ledger can show
 abbrev pub MayShow : Question → List Row → Type 0
 MayShow the_format rows = SaysFormat rows (pos 1) ⊎ SaysFormat rows (pos 2)
 MayShow the_transfers rows = AreTransfers rows
@@ -133,12 +134,12 @@ MayShow (strays text one) rows = rows ≡ []
 abbrev pub AreFull : List (List ℕ) → Type 0
 AreFull = AllByRecursion (λ piece. length piece ≡ PIECE)
 
--- there is one row, with so many octets
+-- there is one row, with this many octets
 abbrev pub ShowsOctets : List Row → ℕ → Type 0
 ShowsOctets rows n = (row : Row) × (rows ≡ row ∷ [])
     × (octets : List ℕ) × (column row 0 ≡ Blob octets) × (length octets ≡ n)
 
--- one of the rows is of no tag file that may stand beside those of the rows before it
+-- one of the rows is no tag file that is allowed together with those of the rows before it
 pub record HasBadTag (rows : List Row) : Type 0 where
   pub at : ℕ
   pub row : Row
@@ -150,32 +151,32 @@ pub record HasBadTag (rows : List Row) : Type 0 where
   pub no_memory : fault ≢ WantOfMemory
   pub refuses : RefusesFile (files_in (take at rows)) path octets fault
 
--- with tag files of these rows no transfer can be opened
+-- the tag files in these rows can't open a transfer
 abbrev pub DoNotOpen : List Row → Type 0
 DoNotOpen rows = HasBadTag rows
     ⊎ ((fault : PlanFault) × (fault ≢ NoMemory) × Refuses (files_in rows) fault)
 
--- the size of a payload file that is within the limit
+-- a size that is within the limits of a payload file
 abbrev pub IsSize : ℤ → Type 0
 IsSize size = (octets : ℕ) × (size ≡ pos octets) × (octets ≤ LARGEST_ITEM)
 
 module _ {S : Type 0} (g : Ghosts S) (db : Database) where
-  -- the text means nothing here, or it shows rows that aren't such
+  -- the query can't be understood here, or it shows rows of which this isn't true
   abbrev pub DoesNotShow : List ℕ → Row → (List Row → Type 0) → Type 0
   DoesNotShow sql params such = IsNoQuery db.schema sql
       ⊎ ((rows : List Row) × Tells g db sql params rows × ¬ such rows)
 
-  -- to one of the texts it doesn't show what a ledger may show
+  -- one of the queries doesn't show what a ledger may show
   abbrev pub IsNoLedger : Type 0
   IsNoLedger = (asked : Question)
       × DoesNotShow (text_of asked) (params_of asked) (MayShow asked)
 
-  -- the pieces in turn from the first on
+  -- these are the pieces, in order from the first
   abbrev pub ArePieces : ℤ → List (List ℕ) → Type 0
   ArePieces item pieces = (n : ℕ) (piece : List ℕ) → slice_get pieces n ≡ Some piece
       → TellsOne g db piece_text (Int item ∷ Int (pos n) ∷ []) (Blob piece)
 
-  -- after some whole pieces, the next one isn't there as it would be in a payload file of this size
+  -- after some full pieces, the next one isn't as a payload file of this size would have it
   pub record LacksPiece (item : ℤ) (size : ℕ) : Type 0 where
     pub pieces : List (List ℕ)
     pub each : ArePieces item pieces
@@ -185,7 +186,7 @@ module _ {S : Type 0} (g : Ghosts S) (db : Database) where
     pub told : Tells g db piece_text (Int item ∷ Int (pos (length pieces)) ∷ []) rows
     pub other : ¬ ShowsOctets rows (min (size - length (concat pieces)) PIECE)
 
-  -- there are other pieces beside those that have this size
+  -- there are more pieces than the ones that have this size in all
   pub record HasMorePieces (item : ℤ) (size : ℕ) : Type 0 where
     pub pieces : List (List ℕ)
     pub each : ArePieces item pieces
@@ -195,20 +196,20 @@ module _ {S : Type 0} (g : Ghosts S) (db : Database) where
     pub count : TellsOne g db count_text (Int item ∷ []) (Int number)
     pub other : number ≢ pos (length pieces)
 
-  -- it is there whole, and its content doesn't pass
+  -- it is complete, and its content isn't valid
   pub record HasOtherContent (tags : Files) (item : ℤ) (path : List ℕ) (size : ℕ) : Type 0 where
     pub pieces : List (List ℕ)
     pub has : HasPieces g db item pieces
     pub size_is : size ≡ length (concat pieces)
     pub other : ¬ Passes tags path (concat pieces)
 
-  -- a payload file isn't listed, isn't there whole or doesn't pass
+  -- a payload file isn't listed, isn't complete or isn't valid
   abbrev pub ItemFails : Files → ℤ → List ℕ → ℤ → Type 0
   ItemFails tags item path size = (¬ (IsPath path × IsExpected tags path))
       ⊎ ((¬ IsSize size) ⊎ ((octets : ℕ) × (size ≡ pos octets) × (LacksPiece item octets
       ⊎ (HasMorePieces item octets ⊎ HasOtherContent tags item path octets))))
 
-  -- the first payload file of a transfer that doesn't pass has this path
+  -- the first payload file of the transfer that isn't valid has this path
   pub record HasDamagedItem (tags : Files) (transfer : ℤ) (path : List ℕ) : Type 0 where
     pub rows : List Row
     pub told : Tells g db items_text (Int transfer ∷ []) rows
@@ -221,7 +222,7 @@ module _ {S : Type 0} (g : Ghosts S) (db : Database) where
     pub row_is : (column row 0 ≡ Int item) × (column row 1 ≡ Text path) × (column row 2 ≡ Int size)
     pub fails : ItemFails tags item path size
 
-  -- the tag files of a transfer open one, and its first payload file that doesn't pass has this path
+  -- the tag files open a transfer, and its first payload file that isn't valid has this path
   pub record HasDamage (transfer : ℤ) (path : List ℕ) : Type 0 where
     pub tag_rows : List Row
     pub tags_told : Tells g db tag_files_text (Int transfer ∷ []) tag_rows
@@ -229,7 +230,7 @@ module _ {S : Type 0} (g : Ghosts S) (db : Database) where
     pub opens : Opens (files_in tag_rows)
     pub item : HasDamagedItem (files_in tag_rows) transfer path
 
-  -- its tag files open none
+  -- its tag files can't open a transfer
   pub record OpensNone (transfer : ℤ) : Type 0 where
     pub tag_rows : List Row
     pub tags_told : Tells g db tag_files_text (Int transfer ∷ []) tag_rows
@@ -238,7 +239,8 @@ module _ {S : Type 0} (g : Ghosts S) (db : Database) where
   abbrev pub TransferFails : ℤ → List ℕ → Type 0
   TransferFails transfer path = (OpensNone transfer × (path ≡ [])) ⊎ HasDamage transfer path
 
-  -- the first transfer that doesn't pass has this name, and its first payload file that doesn't has this path
+  -- the first transfer that isn't valid has this name; the path is that of its first invalid
+  -- payload file, or empty if its tag files are at fault
   pub record IsDamaged (name path : List ℕ) : Type 0 where
     pub rows : List Row
     pub told : Tells g db transfers_text [] rows
@@ -251,7 +253,7 @@ module _ {S : Type 0} (g : Ghosts S) (db : Database) where
     pub row_is : (column row 0 ≡ Int transfer) × (column row 1 ≡ Text name)
     pub fails : TransferFails transfer path
 
-  -- why the transfer with this number and name isn't taken
+  -- why the transfer with this number and name isn't accepted
   abbrev pub RefusesTransfer : ℤ → List ℕ → AdoptFault → Type 0
   RefusesTransfer transfer name NotALedger = IsNoLedger
   RefusesTransfer transfer name OldFormat = ⊥
@@ -259,15 +261,15 @@ module _ {S : Type 0} (g : Ghosts S) (db : Database) where
       × TransferFails transfer (string_bytes path)
   RefusesTransfer transfer name (Keep fault) = Unit {0}
 
-  -- why its transfers aren't taken
+  -- why its transfers aren't accepted
   abbrev pub RefusesTransfers : AdoptFault → Type 0
   RefusesTransfers NotALedger = IsNoLedger
   RefusesTransfers OldFormat = ⊥
   RefusesTransfers (Damaged name path) = IsDamaged (string_bytes name) (string_bytes path)
   RefusesTransfers (Keep fault) = Unit {0}
 
-  -- Why it isn't taken. What is damaged has the format, and no row that belongs to nothing. Of memory and the store nothing is
-  -- said here.
+  -- Why it isn't opened. If it is damaged, it has format 2 and no row without an owner. Nothing is
+  -- said here about memory and the store.
   abbrev pub RefusesToAdopt : AdoptFault → Type 0
   RefusesToAdopt NotALedger = IsNoLedger
   RefusesToAdopt OldFormat = HasFormat g db (pos 1)

@@ -20,6 +20,6 @@ pub record HoldsLedger (s : State) (ledger : Ledger) : Type 0 where
   pub outcomes : (trees : Trees) → s.may_leave trees
       → (left : Ledger) × IsSound left × AreTablesOf trees left
 
--- whoever opens the database after a crash may find this ledger
+-- opening the database after a crash may give this ledger
 abbrev pub MayLeaveLedger : State → Ledger → Type 0
 MayLeaveLedger s ledger = (trees : Trees) × s.may_leave trees × AreTablesOf trees ledger

@@ -12,7 +12,7 @@ use Rattle.sqlite_schema.specs.declared.schema.Column.{Column}
 use Rattle.sqlite_schema.specs.declared.schema.Reference.{Reference}
 use Rattle.sqlite_value.specs.Keys.{plain}
 
--- WORDS FOR TABLES
+-- VOCABULARY FOR TABLES
 
 -- a column of a strict table
 abbrev pub column_of : List ℕ → Kind → Column
@@ -46,7 +46,7 @@ table_of name columns = record {
   is_counted = false;
 }
 
--- the column at a place names the `id` of a row of another table
+-- the column at this place references the `id` of a row of another table
 abbrev pub refers : ℕ → List ℕ → Reference
 refers place parent = record {
   columns = place ∷ [];
@@ -107,7 +107,7 @@ piece = record (table_of (codes "piece")
       references = refers 1 (codes "held") ∷ [];
     }
 
--- a database without a table
+-- a database without tables
 abbrev pub no_schema : Schema
 no_schema = record { tables = []; indexes = []; views = [] }
 
@@ -123,11 +123,11 @@ schema_to_tag = created schema_to_transfer tag
 abbrev pub schema_to_held : Schema
 schema_to_held = created schema_to_tag held
 
--- the tables were made in this order
+-- the tables were created in this order
 abbrev pub ledger_schema : Schema
 ledger_schema = created schema_to_held piece
 
--- the tree of each table; the tree after it has the index of its key
+-- the tree of each table; the next tree holds the index of its key
 abbrev pub meta_tree : ℕ
 meta_tree = 0
 

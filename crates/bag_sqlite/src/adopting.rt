@@ -1,4 +1,4 @@
-//! A database is taken as the ledger that it holds.
+//! Opens a database as the ledger that it holds.
 ghost use Rattle.std.specs.Prelude.{◌≡◌, pos, [], IfErr, IfOk, MatchResult, OnOk, false};
 ghost use Rattle.std.specs.List.{AllByRecursion};
 ghost use Rattle.bag_ledger.specs.Ledgers.{Ledger};
@@ -23,22 +23,24 @@ use thiserror::Error as ErrorText;
 #[cfg(test)]
 mod tests;
 
-/// Why a database isn't taken as a ledger. Where several hold, the first in this order is answered; `Keep` may come in place of any.
+/// Why a database isn't opened as a ledger. If several reasons apply, the first in this order is reported; `Keep` may
+/// be reported in place of any of them.
 #[derive(Debug, Drop, ErrorText)]
 pub enum AdoptFault {
-    /// It hasn't the tables of a ledger, or rows that no ledger has: of another format, or that belong to nothing.
+    /// It doesn't have the tables of a ledger, or it has rows that no ledger has: of another format, or without an
+    /// owner.
     #[error("not a ledger")]
     NotALedger,
     /// It is a ledger of format 1.
     #[error("a ledger of an old format")]
     OldFormat,
-    /// The tag files of a transfer open no transfer, or a payload file isn't listed, isn't there whole or doesn't pass: the least
-    /// such name, and the least such path.
+    /// The tag files of a transfer can't open a transfer; or a payload file isn't listed, is incomplete or isn't valid.
+    /// The first such transfer by name is reported, and its first such payload file by path.
     #[error("damaged")]
     Damaged {
         /// The transfer's name.
         name: String,
-        /// The path of the payload file; empty where it is the tag files.
+        /// The path of the payload file; empty if the tag files are at fault.
         path: String,
     },
     /// Memory ran out, or the store failed.
@@ -66,23 +68,24 @@ impl From<Error> for AdoptFault {
     }
 }
 
-/// Why no ledger was taken, and the connection, whose database is as it was.
+/// Why the ledger wasn't opened, and the connection. Its database is unchanged.
 #[derive(Drop)]
 pub struct NotAdopted<S: Alter> {
-    /// Why.
+    /// The reason.
     pub fault: AdoptFault,
-    /// The connection that was handed in.
+    /// The connection that was passed in.
     pub connection: Connection<S>,
 }
 
 impl<S: Alter> SqlKeeper<S> {
-    /// Takes a database as the ledger that it holds, once each of its transfers and payload files was read and verified.
+    /// Opens a database as the ledger that it holds, after reading and verifying all of its transfers and payload
+    /// files.
     ///
-    /// All octets of all payload files are read and hashed, a piece at a time.
+    /// All octets of all payload files are read and hashed, one piece at a time.
     ///
     /// # Errors
     ///
-    /// The first fault in the order of [`AdoptFault`]. Where a transaction is under way it is `Keep(Store(Refused))`.
+    /// The first fault in the order of [`AdoptFault`]. If a transaction is open, `Keep(Store(Refused))`.
     pub fn adopt(connection: Connection<S>) -> Result<SqlKeeper<S>, NotAdopted<S>>
         ensures verified { IfOk result (λ keeper. HasCleanDisk (state S.Store keeper.connection)
             → IsVerified S.Store (state S.Store connection).committed) }
@@ -135,7 +138,7 @@ fn verify_ledger<S: Alter>(connection: &mut Connection<S>) -> Result<(), AdoptFa
     verify_transfers(connection)
 }
 
-/// Tells whether the one format that a database names is the one that is read here.
+/// Checks that the database names one format, and that it is format 2.
 fn test_format<S: Alter>(connection: &mut Connection<S>) -> Result<(), AdoptFault>
     requires idle { connection.old.in_transaction ≡ false }
     ensures format { HasCleanDisk (state S.Store connection.new) → (db : Database)
@@ -158,7 +161,7 @@ fn test_format<S: Alter>(connection: &mut Connection<S>) -> Result<(), AdoptFaul
     }
 }
 
-/// The format's number in the only row.
+/// The number of the format, from the only row.
 fn format_in(rows: &[Row]) -> Result<i64, AdoptFault>
     ensures { MatchResult result (SaysFormat rows.now) (AreNoneFor (SayNoFormat rows.now)) }
 {
@@ -172,7 +175,8 @@ fn format_in(rows: &[Row]) -> Result<i64, AdoptFault>
     Ok(rows[0].get(1)?)
 }
 
-/// Tells whether each row belongs to something.
+/// Checks that the values have the types of a ledger's, and that each row has an owner: tag files and payload files a
+/// transfer, and pieces a payload file.
 fn test_rows<S: Alter>(connection: &mut Connection<S>) -> Result<(), AdoptFault>
     requires idle { connection.old.in_transaction ≡ false }
     ensures none { HasCleanDisk (state S.Store connection.new) → (db : Database)
@@ -205,7 +209,7 @@ fn test_rows<S: Alter>(connection: &mut Connection<S>) -> Result<(), AdoptFault>
     )
 }
 
-/// Tells whether a text shows no row.
+/// Checks that a query shows no rows.
 fn test_none<S: Alter>(connection: &mut Connection<S>, sql: &str) -> Result<(), AdoptFault>
     requires idle { connection.old.in_transaction ≡ false }
     ensures none { HasCleanDisk (state S.Store connection.new) → (db : Database)
@@ -227,7 +231,7 @@ fn test_none<S: Alter>(connection: &mut Connection<S>, sql: &str) -> Result<(), 
     }
 }
 
-/// All rows that a text shows.
+/// All rows that a query shows.
 pub(crate) fn rows_of<S: Alter>(
     connection: &mut Connection<S>,
     sql: &str,

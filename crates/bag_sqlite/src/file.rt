@@ -1,4 +1,4 @@
-//! Ledgers in files on the disk.
+//! Ledgers in files on disk.
 ghost use Rattle.std.specs.Prelude.{◌≡◌, ◌⊎◌, Err, IfOk, false, true};
 ghost use Rattle.bag_sqlite.specs.LedgerFiles.{IsAdoptedFrom, IsConnectedTo, IsMadeIn};
 ghost use Rattle.bag_sqlite.specs.Tables.{no_schema};
@@ -13,29 +13,30 @@ use std::alloc::AllocError;
 use std::fs;
 use std::io::{self, ErrorKind};
 
-/// A keeper in a file, which held what `S` says when it was opened.
+/// A keeper in a file. `S` says what the file held when it was opened.
 pub type FileKeeper<S> = SqlKeeper<FileStore<FileFrom<S>>>;
 
-/// What stands under a name.
+/// What is found at a file name.
 #[derive(Clone, Copy, Debug, PartialEq, Eq)]
 pub enum Found {
     /// Nothing.
     Nothing,
-    /// A file without an octet, and no log.
+    /// A file of zero octets without a log.
     Empty,
     /// A file that may be a database.
     File,
-    /// Something that is none, as a directory.
+    /// Anything else, such as a directory.
     Other,
 }
 
-/// The file of a ledger and its log, which has the file's name and `-wal` at its end.
+/// The file of a ledger and its log, whose name is the file's name followed by `-wal`.
 ///
-/// While a ledger is open nobody else can open it. What a call leaves behind is removed while that is so.
+/// While a ledger is open, no other program can open it. Files that have to be removed are removed while it is still
+/// open.
 #[derive(Drop)]
 pub struct LedgerFile<'a> {
     rt: &'a HostRuntime,
-    // without a link on the way, where it is there
+    // the path without symbolic links, if the file exists
     name: String,
     log: String,
     found: Found,
@@ -44,11 +45,11 @@ pub struct LedgerFile<'a> {
 }
 
 impl<'a> LedgerFile<'a> {
-    /// Looks at what stands under this name, and opens nothing.
+    /// Looks up what exists at this name, without opening it.
     ///
     /// # Errors
     ///
-    /// `Keep`: memory ran out, or the system doesn't tell.
+    /// `Keep`: memory ran out, or the operating system doesn't give the information.
     pub fn find(rt: &'a HostRuntime, name: &str) -> Result<LedgerFile<'a>, AdoptFault> {
         let alloc = rt.alloc();
         let (name, is_there) = match fs::canonicalize(rt, name) {
@@ -77,10 +78,12 @@ impl<'a> LedgerFile<'a> {
     ///
     /// # Errors
     ///
-    /// Those of [`SqlKeeper::adopt`]; `NotALedger` also where there is no file, or no octet in it, and `Keep(Store(Refused))`
-    /// where the file can't be opened to be written, or another program has it open. Nothing is made or changed then.
+    /// Those of [`SqlKeeper::adopt`]. Also `NotALedger` if there is no file or it is empty, and `Keep(Store(Refused))`
+    /// if the file can't be opened for writing or another program has it open; in these cases nothing is created or
+    /// changed.
     pub fn open<S: Start>(&self, start: S) -> Result<FileKeeper<S>, AdoptFault>
-        ensures opened { IfOk result (λ keeper. IsAdoptedFrom (image_at S.Start) keeper.connection) }
+        ensures opened { IfOk result (λ keeper.
+            IsAdoptedFrom (image_at S.Start) keeper.connection) }
         ensures nothing { self.now.found ≡ Found.Nothing → result ≡ Err AdoptFault.NotALedger }
     {
         if self.found != Found::File {
@@ -90,11 +93,12 @@ impl<'a> LedgerFile<'a> {
         self.adopt(connection)
     }
 
-    /// The same; but where no table is there, also no file, a ledger without a transfer is made.
+    /// Opens the ledger in the file. If there is no file, or no table in it, makes a ledger without transfers.
     ///
     /// # Errors
     ///
-    /// As there, but that a file may be wanting. What was made until then is removed.
+    /// Those of [`LedgerFile::open`], except that the file may be missing or empty. Whatever was created until the
+    /// error is removed.
     pub fn open_or_make<S: Start>(&mut self, start: S) -> Result<FileKeeper<S>, AdoptFault>
         ensures { IfOk result (λ keeper. IsAdoptedFrom (image_at S.Start) keeper.connection
             ⊎ IsMadeIn (image_at S.Start) keeper.connection) }
@@ -119,8 +123,8 @@ impl<'a> LedgerFile<'a> {
         }
     }
 
-    /// Closes a ledger that this opened. What its log has is copied into the file, and the log is removed; where that fails both
-    /// stay, and nothing is lost.
+    /// Closes a ledger that this opened. The content of the log is copied into the file, and the log is removed. If
+    /// that fails, both remain and nothing is lost.
     pub fn close<S: Start>(&self, keeper: FileKeeper<S>) {
         if let Ok(files) = keeper.release().close_files() {
             let _ = fs::remove_file(self.rt, self.log.as_str());
@@ -128,7 +132,7 @@ impl<'a> LedgerFile<'a> {
         }
     }
 
-    /// The same; but a ledger that this made is removed.
+    /// Closes the ledger, but removes it if this made it.
     pub fn give_up<S: Start>(&self, keeper: FileKeeper<S>) {
         if self.is_made {
             self.remove_made();
@@ -138,7 +142,7 @@ impl<'a> LedgerFile<'a> {
         }
     }
 
-    /// Opens the file and its log, which are made where they are wanting.
+    /// Opens the file and its log, and creates them if they don't exist.
     fn connect<S: Start>(&self, start: S) -> Result<Connection<FileStore<FileFrom<S>>>, AdoptFault>
         ensures { IfOk result (IsConnectedTo (image_at S.Start)) }
     {
@@ -154,7 +158,7 @@ impl<'a> LedgerFile<'a> {
         }
     }
 
-    /// Takes the database as the ledger that it holds.
+    /// Opens the database as the ledger that it holds.
     fn adopt<S: Start>(
         &self,
         connection: Connection<FileStore<FileFrom<S>>>,
@@ -172,7 +176,7 @@ impl<'a> LedgerFile<'a> {
         }
     }
 
-    /// Removes the file and the log, each unless it was there before. Nobody else may have opened them.
+    /// Removes the file and the log, except those that existed before. No other program may have opened them.
     fn remove_made(&self) {
         if !self.had_log {
             let _ = fs::remove_file(self.rt, self.log.as_str());
@@ -183,9 +187,10 @@ impl<'a> LedgerFile<'a> {
     }
 }
 
-/// What stands under this name, which no link has, and beside which the log stands or not.
+/// What exists at this name, which contains no symbolic link. `had_log` says whether the log exists.
 ///
-/// A file of one octet without a log is told apart, since the store would take it for a database that it was about to make.
+/// A file of one octet without a log is `Other`, because the store would take it for a database that it was about to
+/// create.
 fn found_at(rt: &HostRuntime, name: &str, had_log: bool) -> io::Result<Found> {
     let about = fs::metadata(rt, name)?;
     Ok(match about.len() {
@@ -196,7 +201,7 @@ fn found_at(rt: &HostRuntime, name: &str, had_log: bool) -> io::Result<Found> {
     })
 }
 
-/// Whether something stands under this name.
+/// Whether anything exists at this name.
 fn is_there_at(rt: &HostRuntime, name: &str) -> io::Result<bool> {
     match fs::metadata(rt, name) {
         Ok(_) => Ok(true),
@@ -205,12 +210,12 @@ fn is_there_at(rt: &HostRuntime, name: &str) -> io::Result<bool> {
     }
 }
 
-/// Whether the error says that nothing is there.
+/// Whether the error means that nothing exists at the name.
 fn is_absence(error: &io::Error) -> bool {
     matches!(error.kind(), ErrorKind::NotFound | ErrorKind::NotADirectory)
 }
 
-/// Whether a database has no table, index or view.
+/// Whether a database has no tables, indexes or views.
 fn has_nothing<S: Alter>(connection: &Connection<S>) -> bool
     ensures { result ≡ true → (state S.Store connection.now).now.schema ≡ no_schema }
 {

@@ -1,4 +1,4 @@
-//! Whether a store failed, and how often that was told.
+//! Whether a store has failed, and how many failures were reported.
 ghost use Rattle.std.specs.Prelude.{◌≡◌, ◌↔◌, IsErr, IsErrOf, IsTrue, OnOk, false};
 ghost use Rattle.bag_ledger.specs.Keeping.{UsesStore};
 ghost use Rattle.bag_ledger.specs.declared.fault.KeepFault.{KeepFault};
@@ -13,7 +13,7 @@ use bag_digest::ReadFault;
 use bag_ledger::{KeepFault, PutFault, StoreFault};
 use sqlite::{Error, ErrorCode};
 
-/// Whether the store failed, and how often a failure was told. The count stays at its greatest number, 2^64 - 1.
+/// Whether the store has failed, and how many failures were reported. The count saturates at 2^64 - 1.
 #[derive(Drop)]
 pub(crate) struct Health {
     is_spent: bool,
@@ -21,7 +21,7 @@ pub(crate) struct Health {
 }
 
 impl Health {
-    /// Of a store that hasn't failed.
+    /// The health of a store that hasn't failed.
     pub(crate) fn new() -> Health
         ensures unspent { result.is_spent ≡ false }
         ensures unfailed { result.failures ≡ 0 }
@@ -32,7 +32,7 @@ impl Health {
         }
     }
 
-    /// Refuses a call to a store that failed before.
+    /// Refuses the call if the store has failed before.
     pub(crate) fn test(&mut self) -> Result<(), KeepFault>
         ensures well { OnOk result ((self.old.is_spent ≡ false) × (self.new ≡ self.old)) }
         ensures store { UsesStore (λ (health : Health). health.failures)
@@ -47,7 +47,8 @@ impl Health {
         Err(KeepFault::Store(StoreFault::Spent))
     }
 
-    /// What a refusal of the store is told as. One for another cause than memory is a failure of the store.
+    /// The fault to report for an error of the store. Every error except out of memory counts as a failure of the
+    /// store.
     pub(crate) fn told(&mut self, error: &Error) -> KeepFault
         requires { self.old.is_spent ≡ false }
         ensures memory { (result ≡ Memory)
@@ -64,7 +65,7 @@ impl Health {
         KeepFault::Store(StoreFault::Refused)
     }
 
-    /// What is told where a payload file isn't put.
+    /// The fault to report for a payload file that isn't stored.
     pub(crate) fn told_of(&mut self, refusal: &NotPut) -> PutFault
         requires { self.old.is_spent ≡ false }
         ensures told { (fault : KeepFault) × (result ≡ put_fault_of fault refusal.now) }
@@ -81,7 +82,7 @@ impl Health {
         }
     }
 
-    /// How often a failure was told.
+    /// How many failures were reported.
     pub(crate) fn failures(&self) -> u64
         ensures { result ≡ self.now.failures }
     {

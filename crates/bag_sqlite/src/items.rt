@@ -1,4 +1,4 @@
-//! What a database answers of one payload file.
+//! Queries for one payload file.
 ghost use Rattle.std.specs.Prelude.{◌≡◌, ◌≤◌, ◌/◌, ℕ, ℤ, false, IfOk, IsSome, IsTrue, List, MatchOption, None, OnOk, [], length, pos, slice_index_or};
 ghost use Rattle.std.specs.Option.{option_map, unwrap_or};
 ghost use Rattle.bag_ledger.specs.Keeping.{IsPieceAt};
@@ -16,14 +16,14 @@ use crate::transfers::transfer_number;
 use bag_digest::PIECE;
 use sqlite::{Alter, Connection, Error, Row, params};
 
-/// A payload file in a database: its number, and how many octets it has.
+/// A payload file in a database: its number and its size in octets.
 #[derive(Clone, Copy)]
 pub(crate) struct Item {
     pub(crate) number: i64,
     pub(crate) size: u64,
 }
 
-/// How many octets the payload file at this path has, if the transfer holds one.
+/// The size in octets of the payload file at this path, if the transfer holds it.
 pub(crate) fn size_of<S: Alter>(
     connection: &mut Connection<S>,
     name: &str,
@@ -45,8 +45,8 @@ pub(crate) fn size_of<S: Alter>(
     }
 }
 
-/// Reads from a held payload file into the front of the buffer, from this octet on and to the end of a piece at most, and
-/// answers how many octets it read. Of a payload file that isn't held it reads none.
+/// Reads octets of a held payload file, starting at `offset` and at most to the end of that piece, into the front of
+/// the buffer. Returns how many it read. If the payload file isn't held, it reads none.
 pub(crate) fn read_piece<S: Alter>(
     connection: &mut Connection<S>,
     name: &str,
@@ -75,7 +75,7 @@ pub(crate) fn read_piece<S: Alter>(
     Ok(copy_from(piece.as_slice(), offset % PIECE as u64, buf))
 }
 
-/// The payload file that a transfer holds at this path, if it holds one.
+/// The payload file that a transfer holds at this path, if there is one.
 fn item_of<S: Alter>(
     connection: &mut Connection<S>,
     name: &str,
@@ -101,7 +101,7 @@ fn item_of<S: Alter>(
     item_in(connection, transfer, path)
 }
 
-/// The payload file with this path that is held for the transfer of this number, if there is one.
+/// The payload file with this path that the transfer with this number holds, if there is one.
 fn item_in<S: Alter>(
     connection: &mut Connection<S>,
     transfer: i64,
@@ -131,7 +131,7 @@ fn item_in<S: Alter>(
     first_item(rows.as_slice())
 }
 
-/// The number and the size in the first two columns of the first row, if there is a row.
+/// The payload file whose number and size are in the first two columns of the first row, if there is a row.
 fn first_item(rows: &[Row]) -> Result<Option<Item>, Error>
     ensures { IfOk result (λ item. MatchOption item (rows.now ≡ [])
         (λ item. (column (slice_index_or rows.now 0 []) 0 ≡ Int item.number)
@@ -145,7 +145,7 @@ fn first_item(rows: &[Row]) -> Result<Option<Item>, Error>
     Ok(Some(Item { number, size }))
 }
 
-/// The piece of the payload file with this number in which this octet is, if it has that piece.
+/// The piece of the payload file with this number that contains this offset, if there is one.
 fn piece_at<S: Alter>(
     connection: &mut Connection<S>,
     item: i64,
@@ -186,7 +186,8 @@ fn first_octets(rows: &[Row]) -> Result<Option<Vec<u8>>, Error>
     }
 }
 
-/// Copies the octets from `offset` on to the front of the buffer, as far as both go, and says how far.
+/// Copies the octets from `offset` on to the front of the buffer, as many as there are and as fit, and returns the
+/// number.
 fn copy_from(content: &[u8], offset: u64, buf: &mut [u8]) -> usize
     ensures { IsPieceAt content.now offset result buf.new }
 {

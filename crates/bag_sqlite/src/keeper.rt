@@ -26,7 +26,7 @@ use std::alloc::Global;
 
 /// Transfers in a database, in ledger format 2.
 ///
-/// What its calls answer is promised of a ledger that [`SqlKeeper::create`] made and that nobody else writes.
+/// The contracts of its calls apply to a ledger that [`SqlKeeper::create`] made and that no other program writes to.
 #[derive(Drop)]
 pub struct SqlKeeper<S: Alter> {
     pub(crate) connection: Connection<S>,
@@ -34,21 +34,22 @@ pub struct SqlKeeper<S: Alter> {
     ghost idle: { connection.in_transaction ≡ false },
 }
 
-/// Why no ledger was made, and the connection, whose database is as it was.
+/// Why no ledger was made, and the connection. Its database is unchanged.
 #[derive(Drop)]
 pub struct NotCreated<S: Alter> {
-    /// `Memory`, or `Store(Refused)`: a transaction was under way, a table has the name of one of the ledger's, or the
-    /// store failed.
+    /// `Memory`, or `Store(Refused)`: a transaction was open, a table already has the name of one of the ledger's
+    /// tables, or the store failed.
     pub fault: KeepFault,
-    /// The connection that was handed in.
+    /// The connection that was passed in.
     pub connection: Connection<S>,
 }
 
 impl<S: Alter> SqlKeeper<S> {
-    /// Makes a ledger without a transfer in a database without a table. It is made whole, or not at all, also where a
-    /// crash ends the call.
+    /// Makes a ledger without transfers in a database without tables. The ledger is made completely or not at all, even
+    /// if a crash ends the call.
     ///
-    /// In a database that has other tables the ledger's are made beside them, and nothing is promised of the keeper.
+    /// If the database has other tables, the ledger's tables are created as well, and nothing is promised of the
+    /// keeper.
     pub fn create(connection: Connection<S>) -> Result<SqlKeeper<S>, NotCreated<S>>
         ensures holds { IfOk result (λ keeper. HasCleanDisk (state S.Store keeper.connection)
             → (state S.Store connection).now.schema ≡ no_schema
@@ -75,7 +76,7 @@ impl<S: Alter> SqlKeeper<S> {
         }
     }
 
-    /// Gives the connection back, whose database is as it was.
+    /// Returns the connection. Its database is unchanged.
     pub fn release(self) -> Connection<S>
         ensures { result ≡ self.connection }
     {
@@ -87,10 +88,10 @@ impl<S: Alter> SqlKeeper<S> {
     }
 }
 
-/// What is promised of a call that writes, and of what a crash leaves after it, is promised of a store that gives back what was written
-/// to it. A payload file is read through a buffer for one piece, and is written as it is read.
+/// What is promised of a call that writes, and of what a crash leaves after it, assumes a store that returns what was
+/// written to it. A payload file is written as it is read, through a buffer that holds one piece.
 ///
-/// A payload file for a transfer that isn't there, or one that it holds already, is refused as where the store failed.
+/// If the transfer doesn't exist or already holds the payload file, the call fails as if the store had failed.
 impl<S: Alter> Keeper for SqlKeeper<S> {
     ghost holds = { λ keeper. HoldsLedger (state S.Store keeper.connection) };
 

@@ -1,4 +1,4 @@
-//! Transfers that are kept in a database of SQLite, in ledger format 2.
+//! Ledgers kept in an SQLite database, in ledger format 2.
 #![tactic(auto)]
 
 mod adopting;

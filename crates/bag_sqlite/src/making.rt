@@ -1,4 +1,4 @@
-//! The tables of a new ledger.
+//! Creates the tables of a new ledger.
 ghost use Rattle.std.specs.Prelude.{◌≡◌, IsTrue, OnErr, OnOk, false};
 ghost use Rattle.bag_sqlite.specs.Making.{IsCreated, IsLeft, IsMade, IsMaking, Makes, MakesLedger};
 ghost use Rattle.bag_sqlite.specs.Tables.{ledger_schema, no_schema, schema_to_tag};
@@ -10,7 +10,7 @@ ghost use Rattle.sqlite.specs.Table.{Table};
 
 use sqlite::{Alter, Connection, Error, ErrorCode, Transaction};
 
-/// Makes the tables of a ledger without a transfer in one transaction.
+/// Creates the tables of a ledger without transfers, in one transaction.
 pub(crate) fn make_ledger<S: Alter>(connection: &mut Connection<S>) -> Result<(), Error>
     ensures made { HasCleanDisk (state S.Store connection.new)
         → OnOk result ((state S.Store connection.old).now.schema ≡ no_schema
@@ -31,7 +31,7 @@ pub(crate) fn make_ledger<S: Alter>(connection: &mut Connection<S>) -> Result<()
     transaction.commit()
 }
 
-/// Makes the tables of formats, of transfers and of tag files.
+/// Creates the tables of formats, transfers and tag files.
 fn make_transfer_tables<S: Alter>(tx: &mut Transaction<'_, S>) -> Result<(), Error>
     ensures same_reference { tx.new.conn.ghost_name ≡ tx.old.conn.ghost_name }
     ensures made { HasCleanDisk (state S.Store tx.new.conn.now)
@@ -59,7 +59,7 @@ fn make_transfer_tables<S: Alter>(tx: &mut Transaction<'_, S>) -> Result<(), Err
     )
 }
 
-/// Makes the tables of payload files and of their pieces.
+/// Creates the tables of payload files and their pieces.
 fn make_item_tables<S: Alter>(tx: &mut Transaction<'_, S>) -> Result<(), Error>
     ensures same_reference { tx.new.conn.ghost_name ≡ tx.old.conn.ghost_name }
     ensures made { HasCleanDisk (state S.Store tx.new.conn.now)
@@ -83,7 +83,7 @@ fn make_item_tables<S: Alter>(tx: &mut Transaction<'_, S>) -> Result<(), Error>
     )
 }
 
-/// Makes a table.
+/// Creates a table.
 fn make_table<S: Alter>(tx: &mut Transaction<'_, S>, sql: &str) -> Result<(), Error>
     ensures same_reference { tx.new.conn.ghost_name ≡ tx.old.conn.ghost_name }
     ensures made { HasCleanDisk (state S.Store tx.new.conn.now)
@@ -102,7 +102,7 @@ fn make_table<S: Alter>(tx: &mut Transaction<'_, S>, sql: &str) -> Result<(), Er
     Ok(())
 }
 
-/// Writes the format's row.
+/// Inserts the row of the format.
 fn write_format<S: Alter>(tx: &mut Transaction<'_, S>) -> Result<(), Error>
     ensures same_reference { tx.new.conn.ghost_name ≡ tx.old.conn.ghost_name }
     ensures made { HasCleanDisk (state S.Store tx.new.conn.now)

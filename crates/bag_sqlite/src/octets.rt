@@ -3,7 +3,7 @@ ghost use Rattle.std.specs.Prelude.{◌≡◌, Some, true};
 
 use bag_digest::{Failed, Source};
 
-/// A source of these octets, which doesn't fail.
+/// A source that gives these octets and doesn't fail.
 #[derive(Drop)]
 pub(crate) struct Octets<'a> {
     rest: &'a [u8],

@@ -1,4 +1,4 @@
-//! A transfer is opened in a database.
+//! Opens a transfer in a database.
 ghost use Rattle.std.specs.Prelude.{◌≡◌, ℤ, [], ◌∷◌, IfOk, IsTrue, MatchResult, OnOk, false};
 ghost use Rattle.bag_ledger.specs.Keeping.{IsUnused, Leaves, Writes};
 ghost use Rattle.bag_ledger.specs.Ledgers.{with_transfer};
@@ -13,7 +13,7 @@ ghost use Rattle.sqlite.specs.State.{HasCleanDisk, KeepsCommit, Survives};
 use bag_rules::{File, TagSet};
 use sqlite::{Alter, Connection, Error, Transaction, params};
 
-/// Opens a transfer with a name that is unused, with these tag files, in one transaction.
+/// Opens a transfer with an unused name, with these tag files, in one transaction.
 pub(crate) fn begin_transfer<S: Alter>(
     connection: &mut Connection<S>,
     name: &str,
@@ -39,7 +39,7 @@ pub(crate) fn begin_transfer<S: Alter>(
     transaction.commit()
 }
 
-/// Writes a transfer's row and those of its tag files.
+/// Inserts the row of a transfer and those of its tag files.
 fn write_transfer<S: Alter>(
     tx: &mut Transaction<'_, S>,
     name: &str,
@@ -64,7 +64,7 @@ fn write_transfer<S: Alter>(
     insert_tags(tx, transfer, files)
 }
 
-/// Writes a transfer's row, and answers its number.
+/// Inserts the row of a transfer, and returns its number.
 fn insert_transfer<S: Alter>(tx: &mut Transaction<'_, S>, name: &str) -> Result<i64, Error>
     ensures same_reference { tx.new.conn.ghost_name ≡ tx.old.conn.ghost_name }
     ensures added { HasCleanDisk (state S.Store tx.new.conn.now)
@@ -84,7 +84,7 @@ fn insert_transfer<S: Alter>(tx: &mut Transaction<'_, S>, name: &str) -> Result<
     Ok(tx.last_insert_rowid())
 }
 
-/// Writes the rows of a transfer's tag files.
+/// Inserts the rows of a transfer's tag files.
 fn insert_tags<S: Alter>(
     tx: &mut Transaction<'_, S>,
     transfer: i64,
@@ -107,7 +107,7 @@ fn insert_tags<S: Alter>(
     Ok(())
 }
 
-/// Writes the row of a tag file.
+/// Inserts the row of a tag file.
 fn insert_tag<S: Alter>(
     tx: &mut Transaction<'_, S>,
     transfer: i64,

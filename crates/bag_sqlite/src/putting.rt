@@ -1,4 +1,4 @@
-//! A payload file is put: read, hashed and stored piece by piece.
+//! Stores a payload file: its content is read, hashed and written piece by piece.
 ghost use Rattle.std.specs.Prelude.{◌≡◌, ◌<◌, List, [], ℕ, false, length, IfErr, IfOk, IsErrOf, IsTrue, MatchResult, OnOk};
 ghost use Rattle.std.specs.Io.KnownBytes.{IsAtEnd};
 ghost use Rattle.bag_digest.specs.Device.{UsesSource};
@@ -19,14 +19,14 @@ use bag_rules::limits::LARGEST_ITEM;
 use bag_rules::{Want, WantFault};
 use sqlite::{Alter, Connection, Error, Transaction};
 
-/// Why a payload file isn't put.
+/// Why a payload file isn't stored.
 #[derive(Drop)]
 pub(crate) enum NotPut {
-    /// It can't be read to its end, or it is too large.
+    /// Its content can't be read to the end, or it is too large.
     Source(SourceFault),
-    /// It isn't the one that is wanted.
+    /// Its content isn't the wanted one.
     Misfit(WantFault),
-    /// The store refused it.
+    /// The store refused a statement.
     Store(Error),
 }
 
@@ -63,12 +63,13 @@ impl From<Error> for NotPut {
     }
 }
 
-/// Puts what a reader gives into the transfer with this name, in one transaction, if it is what is wanted.
+/// Stores a payload file, read from the source, in the transfer with this name, in one transaction, if its content is
+/// the wanted one.
 ///
 /// # Errors
 ///
-/// The first reason why it isn't put. `Store` also where there is no such transfer, or where it holds the path already: then nothing
-/// is read.
+/// The first reason why it isn't stored. Also `Store` if there is no such transfer or it already holds the path;
+/// nothing is read then.
 pub(crate) fn put_content<S: Alter, R: Source>(
     connection: &mut Connection<S>,
     name: &str,
@@ -97,7 +98,7 @@ pub(crate) fn put_content<S: Alter, R: Source>(
     Ok(())
 }
 
-/// Writes the rows of a payload file of what a reader gives, if it is what is wanted.
+/// Inserts the rows of a payload file read from the source, if its content is the wanted one.
 fn put_item<S: Alter, R: Source>(
     tx: &mut Transaction<'_, S>,
     transfer: i64,
@@ -134,7 +135,7 @@ fn put_item<S: Alter, R: Source>(
     Ok(())
 }
 
-/// Reads to the end and writes each piece, and answers how many octets there were and their digests.
+/// Reads to the end and inserts each piece. Returns the number of octets and their digests.
 fn put_pieces<S: Alter, R: Source>(
     tx: &mut Transaction<'_, S>,
     item: i64,
@@ -177,7 +178,7 @@ fn put_pieces<S: Alter, R: Source>(
     }
 }
 
-/// Reads until the buffer is full or the source is at its end, and answers how many octets it read.
+/// Reads until the buffer is full or the source ends, and returns the number of octets read.
 ///
 /// # Errors
 ///

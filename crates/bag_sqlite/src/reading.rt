@@ -1,4 +1,4 @@
-//! What a database answers.
+//! Queries on a database.
 ghost use Rattle.std.specs.Prelude.{◌≡◌, IfErr, IfOk, IsTrue, List, false, map, string_bytes};
 ghost use Rattle.std.specs.Map.{keys_of};
 ghost use Rattle.bag_ledger.specs.Ledgers.{Ledger};
@@ -16,7 +16,7 @@ use sqlite::types::ValueRef;
 use sqlite::{Alter, Connection, Error, Row};
 use std::alloc::Global;
 
-/// The names of the transfers in order.
+/// The names of the transfers, in order.
 pub(crate) fn names<S: Alter>(
     alloc: Global,
     connection: &mut Connection<S>,
@@ -35,7 +35,7 @@ pub(crate) fn names<S: Alter>(
     texts_in(alloc, rows.as_slice())
 }
 
-/// The texts in the first column.
+/// The texts in the first column of the rows.
 fn texts_in(alloc: Global, rows: &[Row]) -> Result<Vec<String>, Error>
     ensures { IfOk result (λ texts. map (λ text. Text (string_bytes text)) texts.items
         ≡ map (λ row. column row 0) rows.now) }
@@ -48,7 +48,7 @@ fn texts_in(alloc: Global, rows: &[Row]) -> Result<Vec<String>, Error>
     Ok(texts)
 }
 
-/// All rows that a text shows. The transaction that it is run in is undone, and writes nothing.
+/// All rows that a query shows. It runs in a transaction that is rolled back and writes nothing.
 pub(crate) fn query<S: Alter>(
     connection: &mut Connection<S>,
     sql: &str,

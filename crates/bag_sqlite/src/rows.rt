@@ -1,4 +1,4 @@
-//! The statements that put a payload file in a database.
+//! The statements that write a payload file to a database.
 ghost use Rattle.std.specs.Prelude.{◌≡◌, ◌<◌, ◌/◌, ◌^◌, IfOk, IsTrue, OnOk};
 ghost use Rattle.bag_sqlite.specs.Putting.{AddsItem, AddsPiece, IsUnderWay, SetsSize};
 ghost use Rattle.sqlite.specs.Held.{state};
@@ -7,7 +7,7 @@ ghost use Rattle.sqlite.specs.State.{HasCleanDisk, KeepsCommit, Survives};
 use bag_digest::PIECE;
 use sqlite::{Alter, Error, Transaction, params};
 
-/// Writes the row of a payload file without an octet, and answers its number.
+/// Inserts the row of a payload file with size 0, and returns its number.
 pub(crate) fn insert_item<S: Alter>(
     tx: &mut Transaction<'_, S>,
     transfer: i64,
@@ -34,7 +34,7 @@ pub(crate) fn insert_item<S: Alter>(
     Ok(tx.last_insert_rowid())
 }
 
-/// Writes the row of the piece of a payload file that begins at this octet.
+/// Inserts the row of the piece of a payload file that begins at this offset in octets.
 pub(crate) fn insert_piece<S: Alter>(
     tx: &mut Transaction<'_, S>,
     item: i64,
@@ -59,7 +59,7 @@ pub(crate) fn insert_piece<S: Alter>(
     Ok(())
 }
 
-/// Writes the size of the payload file with this number.
+/// Sets the size in octets of the payload file with this number.
 pub(crate) fn set_size<S: Alter>(
     tx: &mut Transaction<'_, S>,
     item: i64,

@@ -12,7 +12,8 @@ use std::test::Fail;
 
 const DECLARATION: &str = "BagIt-Version: 1.0\nTag-File-Character-Encoding: UTF-8\n";
 
-// The digests of `abc` and of nothing (FIPS 180-4, example B.1, and RFC 6234 section 8.5), and of 131,073 times `a`.
+// The digests of `abc` and of the empty message (FIPS 180-4, example B.1, and RFC 6234 section 8.5), and of `a`
+// repeated 131,073 times.
 const MANIFEST: &str = "ba7816bf8f01cfea414140de5dae2223b00361a396177a9cb410ff61f20015ad  data/a.txt
 e3b0c44298fc1c149afbf4c8996fb92427ae41e4649b934ca495991b7852b855  data/e.txt
 7e009ea4ef882e385b3c0bcbbfa8d009bb0a633bdd764415c09182ee0e75da73  data/m.txt
@@ -29,7 +30,7 @@ fn tag_files(alloc: Global) -> Result<TagSet, Fail> {
     Ok(tags)
 }
 
-/// Opens a transfer with these tag files, and answers its plan.
+/// Opens a transfer with these tag files, and returns its plan.
 fn begin<K: Keeper>(alloc: Global, keeper: &mut K, name: &str) -> Result<Plan, Fail> {
     let tags = tag_files(alloc)?;
     let plan = Plan::from_tags(alloc, &tags)?;
@@ -37,7 +38,7 @@ fn begin<K: Keeper>(alloc: Global, keeper: &mut K, name: &str) -> Result<Plan, F
     Ok(plan)
 }
 
-/// What putting this content into the transfer `t1` is answered.
+/// The result of putting this content into the transfer `t1`.
 fn put<K: Keeper>(
     alloc: Global,
     keeper: &mut K,
@@ -50,7 +51,7 @@ fn put<K: Keeper>(
     Ok(keeper.put(alloc, "t1", &want, content))
 }
 
-/// The same of a reader.
+/// The same, with the content read from a reader.
 fn put_from<K: Keeper, R: Read + Drop>(
     alloc: Global,
     keeper: &mut K,
@@ -64,7 +65,7 @@ fn put_from<K: Keeper, R: Read + Drop>(
     Ok(keeper.put_from(alloc, "t1", &want, &mut source))
 }
 
-/// Fails at once.
+/// A reader that fails at once.
 #[derive(Drop)]
 struct Broken;
 
@@ -74,7 +75,7 @@ impl Read for Broken {
     }
 }
 
-/// This many times `a`.
+/// `a`, repeated this many times.
 fn many(alloc: Global, len: usize) -> Result<Vec<u8>, AllocError> {
     vec![in alloc; b'a'; len]
 }
@@ -89,7 +90,7 @@ fn held<K: Keeper>(alloc: Global, keeper: &mut K, name: &str) -> Result<String, 
     Ok(text)
 }
 
-/// The octets that are held of `data/m.txt` in the transfer `t1` from this octet on, up to four of them.
+/// Up to four octets of `data/m.txt` as held in the transfer `t1`, from this offset on.
 fn read<K: Keeper>(alloc: Global, keeper: &mut K, offset: u64) -> Result<Vec<u8>, Fail> {
     let path = BagPath::parse(alloc, "data/m.txt")?;
     let mut buf = [0; 4];
@@ -97,7 +98,7 @@ fn read<K: Keeper>(alloc: Global, keeper: &mut K, offset: u64) -> Result<Vec<u8>
     Ok(Vec::from_slice(alloc, &buf[..n])?)
 }
 
-/// Whether the tag files of this transfer are those that it was opened with.
+/// Whether the tag files of this transfer are the ones that it was opened with.
 fn has_tag_files<K: Keeper>(alloc: Global, keeper: &mut K, name: &str) -> Result<bool, Fail> {
     let tags = tag_files(alloc)?;
     match keeper.tags(alloc, name)? {
@@ -162,7 +163,7 @@ fn number(connection: &mut Connection<MemStore>, sql: &str) -> Result<i64, Error
     connection.query_row(sql, &[])?.get(0)
 }
 
-/// The names that are read, with a blank after each.
+/// The names that are read, each followed by a space.
 fn names_in(alloc: Global, connection: &mut Connection<MemStore>) -> Result<String, Fail> {
     if !connection.is_autocommit() {
         Err("a transaction is under way")?;

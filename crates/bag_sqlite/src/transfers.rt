@@ -1,4 +1,4 @@
-//! What a database answers of a transfer.
+//! Queries for one transfer.
 ghost use Rattle.std.specs.Prelude.{◌≡◌, ◌⊎◌, ◌↔◌, ◌∷◌, ℕ, List, [], false, IfErr, IfOk, IsTrue, MatchOption, None, OnOk, Some, map, slice_index_or};
 ghost use Rattle.std.specs.Map.{keys_of};
 ghost use Rattle.bag_ledger.specs.Ledgers.{Ledger, items_of, tags_of, transfer_of};
@@ -44,7 +44,7 @@ pub(crate) fn tags<S: Alter>(
     }
 }
 
-/// The payload files that the transfer with this name holds, by path; none where there is no such transfer.
+/// The payload files that the transfer with this name holds, by path; empty if there is no such transfer.
 pub(crate) fn sizes<S: Alter>(
     alloc: Global,
     connection: &mut Connection<S>,
@@ -128,7 +128,7 @@ fn tags_under<S: Alter>(
     tag_set_in(alloc, rows.as_slice())
 }
 
-/// The tag files in rows that have a path and octets each. Rows of no tag files are a damaged database.
+/// The tag files whose paths and octets are in these rows. Rows that can't be tag files are a damaged database.
 pub(crate) fn tag_set_in(alloc: Global, rows: &[Row]) -> Result<TagSet, Error>
     ensures shown { IfOk result (λ tags. tags ≡ files_in rows.now) }
     ensures files { (files : Files) → AreRising (keys_of files) → rows.now ≡ map tag_shown files
@@ -153,14 +153,14 @@ pub(crate) fn tag_set_in(alloc: Global, rows: &[Row]) -> Result<TagSet, Error>
     Ok(tags)
 }
 
-/// Whether it is want of memory.
+/// Whether memory ran out.
 fn is_memory(fault: TagSetFault) -> bool
     ensures { IsTrue result ↔ (fault ≡ TagSetFault.Memory) }
 {
     matches!(fault, TagSetFault::Memory)
 }
 
-/// The payload files that are held for the transfer with this number, by path.
+/// The payload files that the transfer with this number holds, by path.
 fn sizes_under<S: Alter>(
     alloc: Global,
     connection: &mut Connection<S>,
@@ -187,7 +187,7 @@ fn sizes_under<S: Alter>(
     sizes_in(alloc, rows.as_slice())
 }
 
-/// The payload files in rows that have a path and a size each.
+/// The payload files whose paths and sizes are in these rows.
 fn sizes_in(alloc: Global, rows: &[Row]) -> Result<Vec<ItemSize>, Error>
     ensures { IfOk result (λ sizes. map size_shown sizes.items
         ≡ map (λ row. column row 0 ∷ column row 1 ∷ []) rows.now) }
@@ -202,7 +202,7 @@ fn sizes_in(alloc: Global, rows: &[Row]) -> Result<Vec<ItemSize>, Error>
     Ok(sizes)
 }
 
-/// The path with these octets. A text that is none is a damaged database.
+/// The path that this text spells. A text that is no valid path is a damaged database.
 pub(crate) fn path_in(alloc: Global, text: &str) -> Result<BagPath, Error>
     ensures path { IfOk result (λ path. path ≡ text.now) }
     ensures refused { IfErr result (λ error.

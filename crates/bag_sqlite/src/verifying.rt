@@ -1,4 +1,4 @@
-//! The transfers of a database are read and verified, each payload file piece by piece.
+//! Reads and verifies the transfers of a database, each payload file piece by piece.
 ghost use Rattle.std.specs.Prelude.{◌≡◌, ◌≤◌, ◌⊎◌, ◌↔◌, ℕ, ℤ, pos, List, [], ◌∷◌, Err, IfErr, IfNone, IfOk, IfSome, IsTrue, MatchOption, MatchResult, OnOk, Ok, false, length, string_bytes};
 ghost use Rattle.std.specs.List.{AllByRecursion, concat};
 ghost use Rattle.bag_digest.specs.Hash.{AreDigests};
@@ -23,7 +23,7 @@ use bag_rules::{Plan, PlanFault};
 use sqlite::{Alter, Connection, Error, ErrorCode, Row, params};
 use std::alloc::Global;
 
-/// Verifies each transfer, by name.
+/// Verifies all transfers, by name.
 pub(crate) fn verify_transfers<S: Alter>(connection: &mut Connection<S>) -> Result<(), AdoptFault>
     requires idle { connection.old.in_transaction ≡ false }
     ensures verified { HasCleanDisk (state S.Store connection.new) → (db : Database)
@@ -46,7 +46,7 @@ pub(crate) fn verify_transfers<S: Alter>(connection: &mut Connection<S>) -> Resu
     verify_rows(*rows.allocator(), connection, rows.as_slice())
 }
 
-/// Verifies the transfers that have these numbers and names.
+/// Verifies the transfers with these numbers and names.
 fn verify_rows<S: Alter>(
     alloc: Global,
     connection: &mut Connection<S>,
@@ -102,7 +102,7 @@ fn verify_transfer<S: Alter>(
     }
 }
 
-/// The plan of the transfer with this number, if its tag files open one.
+/// The plan of the transfer with this number, if its tag files can open a transfer.
 fn plan_of<S: Alter>(
     alloc: Global,
     connection: &mut Connection<S>,
@@ -132,7 +132,7 @@ fn plan_of<S: Alter>(
     plan_in(alloc, rows.as_slice())
 }
 
-/// The plan of the transfer with the tag files in these rows, if they open one.
+/// The plan of the transfer with the tag files in these rows, if they can open a transfer.
 fn plan_in(alloc: Global, rows: &[Row]) -> Result<Option<Plan>, AdoptFault>
     ensures plan { IfOk result (λ plan. IfSome plan (IsPlanOf (files_in rows.now))) }
     ensures refused { MatchResult result (λ plan. IfNone plan (DoNotOpen rows.now))
@@ -153,14 +153,14 @@ fn plan_in(alloc: Global, rows: &[Row]) -> Result<Option<Plan>, AdoptFault>
     }
 }
 
-/// Whether it is want of memory.
+/// Whether memory ran out.
 fn is_memory(fault: &PlanFault) -> bool
     ensures { IsTrue result ↔ (fault.now ≡ PlanFault.Memory) }
 {
     matches!(fault, PlanFault::Memory)
 }
 
-/// What was read, unless it can't be read as what it is to be.
+/// The value that was read, or `None` if the database is corrupt there.
 fn unless_corrupt<T: Drop>(read: Result<T, Error>) -> Result<Option<T>, AdoptFault>
     ensures { MatchResult result (λ value. MatchOption value
         (read ≡ Err (Error.SqliteFailure ErrorCode.DatabaseCorrupt)) (λ value. read ≡ Ok value))
@@ -173,7 +173,7 @@ fn unless_corrupt<T: Drop>(read: Result<T, Error>) -> Result<Option<T>, AdoptFau
     }
 }
 
-/// The least path of a payload file of a transfer that doesn't pass, if there is one.
+/// The first path of a payload file of the transfer that isn't valid, if there is one.
 fn first_damaged<S: Alter>(
     alloc: Global,
     connection: &mut Connection<S>,
@@ -206,7 +206,7 @@ fn first_damaged<S: Alter>(
     damaged_in(alloc, connection, plan, rows.as_slice())
 }
 
-/// The path of the first payload file in these rows that doesn't pass, if there is one.
+/// The path of the first payload file in these rows that isn't valid, if there is one.
 fn damaged_in<S: Alter>(
     alloc: Global,
     connection: &mut Connection<S>,
@@ -241,7 +241,7 @@ fn damaged_in<S: Alter>(
     Ok(None)
 }
 
-/// Whether a payload file is listed, and is there whole with the content that is wanted.
+/// Whether a payload file is listed and complete, and has the wanted content.
 fn passes<S: Alter>(
     alloc: Global,
     connection: &mut Connection<S>,
@@ -281,7 +281,7 @@ fn passes<S: Alter>(
     }
 }
 
-/// The size of a payload file that is within the limit.
+/// The size of a payload file, if it is within the limits.
 fn size_in(size: i64) -> Option<u64>
     ensures { MatchOption result (¬ IsSize size)
         (λ octets. (size ≡ pos octets) × (octets ≤ LARGEST)) }
@@ -292,7 +292,7 @@ fn size_in(size: i64) -> Option<u64>
     Some(size as u64)
 }
 
-/// The digests of the pieces of a payload file, if they are those of this size.
+/// The digests of the content of a payload file, if its pieces are complete and have this size in all.
 fn digests_of<S: Alter>(
     connection: &mut Connection<S>,
     item: i64,
@@ -335,7 +335,7 @@ fn digests_of<S: Alter>(
     Ok(Some(multi.finish()))
 }
 
-/// The piece of a payload file with this number, if there is one and it has so many octets.
+/// The piece of a payload file with this number, if it exists and has this many octets.
 fn piece_of<S: Alter>(
     connection: &mut Connection<S>,
     item: i64,
@@ -375,7 +375,7 @@ fn piece_of<S: Alter>(
     }
 }
 
-/// How many pieces a payload file has.
+/// The number of pieces of a payload file.
 fn count_of<S: Alter>(connection: &mut Connection<S>, item: i64) -> Result<i64, AdoptFault>
     requires idle { connection.old.in_transaction ≡ false }
     ensures count { HasCleanDisk (state S.Store connection.new) → (db : Database)

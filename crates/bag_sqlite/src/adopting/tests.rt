@@ -18,7 +18,7 @@ const TRANSFERS: &str = "INSERT INTO transfer (id, name) VALUES (1, 't1'), (2, '
     (4, 2, 'data/a.txt', 3);
     INSERT INTO piece (item, n, body) VALUES (1, 0, x'616263'), (3, 1, x'00'), (4, 0, x'616263')";
 
-/// A change of that ledger, and what is answered when it is adopted.
+/// A change to that ledger, and the result of adopting it afterwards.
 const CHANGES: [(&str, &str); 27] = [
     ("", "Ok"),
     ("DELETE FROM held WHERE id = 2", "Ok"),
@@ -122,7 +122,7 @@ fn put_zeros(alloc: Global, connection: &mut Connection<MemStore>) -> Result<(),
     Ok(())
 }
 
-/// What a fault is told as here.
+/// A fault, as these tests write it.
 fn told(alloc: Global, fault: &AdoptFault) -> Result<String, Fail> {
     Ok(match fault {
         AdoptFault::NotALedger => String::from_str(alloc, "NotALedger")?,
@@ -133,7 +133,7 @@ fn told(alloc: Global, fault: &AdoptFault) -> Result<String, Fail> {
     })
 }
 
-/// What is answered when this database is adopted.
+/// The result of adopting this database.
 fn answered(alloc: Global, connection: Connection<MemStore>) -> Result<String, Fail> {
     match SqlKeeper::adopt(connection) {
         Ok(_) => Ok(String::from_str(alloc, "Ok")?),
@@ -146,7 +146,7 @@ fn answered(alloc: Global, connection: Connection<MemStore>) -> Result<String, F
     }
 }
 
-/// The same of the ledger with a change.
+/// The same for that ledger after a change.
 fn answered_after(alloc: Global, change: &str) -> Result<String, Fail> {
     let mut connection = ledger(alloc)?;
     connection.execute_batch(change)?;
