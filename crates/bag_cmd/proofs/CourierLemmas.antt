@@ -1,4 +1,4 @@
--- The payload files that a courier of a tree goes through.
+-- The payload files that a courier of a tree delivers.
 use Rattle.std.proofs.Common.{◌≡◌, ◌<◌, ◌≤◌, ◌∷◌, ◌+◌, ◌∙◌, [], ℕ, Bool, List, None, Option, Some, arith, ap, cond, drop, false, length, map, refl, suc, sym, true, zero}
 use Rattle.std.specs.Prelude.{IfNone, IfSome, filter, if◌then◌else◌, is_some, slice_get, unwrap_or}
 use Rattle.std.specs.List.{list_all}
@@ -17,7 +17,7 @@ rest_from [] n x e = absurd (cc)
 rest_from (y ∷ xs) zero x e = let k : y ≡ x = cc in ap (λ z. z ∷ xs) k
 rest_from (y ∷ xs) (suc n) x e = let s : suc n + 1 ≡ suc (n + 1) = omega arith in rw s (rest_from xs n x e)
 
--- the file at a place has the path there
+-- the file at an index has the path there
 pub file_at : (files : List TreeFile) (i : ℕ) (path : List ℕ) → slice_get (map (λ (file : TreeFile). file.0) files) i ≡ Some path
     → (file : TreeFile) × (slice_get files i ≡ Some file) × (file.0 ≡ path)
 file_at [] i path h = absurd (cc)
@@ -29,7 +29,7 @@ path_at [] i file h = absurd (cc)
 path_at (first ∷ files) zero file h = let is : first ≡ file = cc in ap (λ (f : TreeFile). Some f.0) is
 path_at (first ∷ files) (suc i) file h = path_at files i file h
 
--- a payload file is the first from its place on, and another file is passed over
+-- a payload file is the first from its index on, and another file is skipped
 pub taken_from : (shown : Shown) (i : ℕ) (file : TreeFile) → slice_get shown.files i ≡ Some file → is_payload file.0 ≡ true → payload_from shown i ≡ file ∷ payload_from shown (i + 1)
 taken_from shown i file here is =
     ap (filter (λ (f : TreeFile). is_payload f.0)) (rest_from shown.files i file here)
@@ -43,7 +43,7 @@ passed_from shown i file here is =
 pub none_from : (shown : Shown) (i : ℕ) → length shown.files ≤ i → payload_from shown i ≡ []
 none_from shown i past = ap (filter (λ (f : TreeFile). is_payload f.0)) (drop_all i shown.files past)
 
--- WHAT COMES NEXT
+-- THE NEXT FILE
 
 known_at : (files : List TreeFile) (i : ℕ) (file : TreeFile) → list_all (λ (f : TreeFile). is_some f.1) files ≡ true → slice_get files i ≡ Some file → is_some file.1 ≡ true
 known_at [] i file all here = absurd (cc)
@@ -71,7 +71,7 @@ none_if : (known : Bool) (files : List TreeFile) (content : Option (List ℕ)) �
 none_if true files content is = (ap (map known_file) is, ap (λ (fs : List TreeFile). Some (map known_file fs)) is)
 none_if false files content is = refl
 
--- none was left
+-- no file was left
 pub none_next : (shown : Shown) (place : ℕ) (content : Option (List ℕ)) → payload_from shown place ≡ [] → ComesNext (to_come shown place) false [] content (to_come shown place)
 none_next shown place content none = none_if (all_known shown) (payload_from shown place) content none
 

@@ -1,4 +1,4 @@
--- Paths that were put in order, whether one is a payload path, and what stands below a folder with them.
+-- Paths that were sorted, whether one is a payload path, and what is below a folder with them.
 use Rattle.std.proofs.Common.{◌≡◌, ◌↔◌, ℕ, List, [], ◌∷◌, Bool, true, false, ◌||◌, All, Contains, sym, subst, ◌∙◌, inl, inr, None, ap, refl, zero, suc}
 use Rattle.std.specs.Prelude.{nat_eq}
 use Rattle.std.specs.Ordering.{nat_cmp}
@@ -19,13 +19,13 @@ use Rattle.bag_rules.specs.Trees.{AreRising, octets_in, paths_in}
 use Rattle.bag_cmd.specs.Directories.{IsBelow, Listing}
 use Rattle.bag_cmd.specs.Folders.{FolderShown, shown_by}
 
--- sorted paths rise once repeats are dropped
+-- sorted paths are in strict order once repeats are dropped
 pub rising_once : (sorted once : List (List ℕ)) → IsSorted (slice_cmp nat_cmp) sorted → IsFiltered (DiffersFromLast (pointwise nat_eq)) [] sorted once → AreRising once
 rising_once sorted once order filtered =
     subst AreRising (sym (dedup_is (pointwise nat_eq) sorted once filtered))
     (IsStrictlySortedBy-dedup nat_list_cmp_total (λ x y. sym (is_eq-slice_cmp x y)) sorted order)
 
--- the same paths are there
+-- the set of paths is the same
 pub kept_once : (paths sorted once : List (List ℕ)) → IsPermutation paths sorted → IsFiltered (DiffersFromLast (pointwise nat_eq)) [] sorted once → (path : List ℕ) → Contains once path ↔ Contains paths path
 kept_once paths sorted once moved filtered path =
     let once_is = dedup_is (pointwise nat_eq) sorted once filtered in (
@@ -33,7 +33,7 @@ kept_once paths sorted once moved filtered path =
       λ found. subst (λ xs. Contains xs path) (sym once_is) (Contains-dedup nat_list_eq_equiv (λ x y h. (bytes_eq-Decides x y).0 h) sorted path (Contains-permutation paths sorted path moved found)),
     )
 
--- where a path passes, some path passes
+-- if a path passes, some path passes
 any_passes : (test : List ℕ → Bool) (paths : List (List ℕ)) → All (λ path. test path ≡ true → list_any test paths ≡ true) paths
 any_passes test [] = All-nil (λ path. test path ≡ true → false ≡ true)
 any_passes test (first ∷ paths) =
@@ -41,7 +41,7 @@ any_passes test (first ∷ paths) =
     (λ passes. or_left (test first) (list_any test paths) passes)
     (All-weaker (λ path. test path ≡ true → list_any test paths ≡ true) (λ path. test path ≡ true → (test first || list_any test paths) ≡ true) (λ path here passes. or_right (test first) (list_any test paths) (here passes)) paths (any_passes test paths))
 
--- a payload file has its directory, where one was found or some path is a payload path
+-- a payload file has its directory, if one was found or some path is a payload path
 pub has_its_dir : (found has_dir : Bool) (paths : List (List ℕ)) → has_dir ≡ (found || list_any is_payload paths) → All (λ path. is_payload path ≡ true → has_dir ≡ true) paths
 has_its_dir found has_dir paths is =
     All-weaker (λ path. is_payload path ≡ true → list_any is_payload paths ≡ true) (λ path. is_payload path ≡ true → has_dir ≡ true) (λ path here payload. is ∙ or_right found (list_any is_payload paths) (here payload)) paths (any_passes is_payload paths)
@@ -56,7 +56,7 @@ some_passes test (first ∷ paths) h = elim (or_cases (test first) (list_any tes
   | inr later ↦ let found = some_passes test paths later in (found.0, Contains-append_right (first ∷ []) paths found.0 found.1, found.2)
 ]
 
--- the same paths in order, and the payload directory where a path is in it
+-- the same paths in order, and the payload directory if a path is in it
 pub below_in_order : (listing : Listing) (folder : List ℕ) (found once : List (List ℕ)) (found_dir has_dir : Bool) → IsBelow listing folder found found_dir
     → ((path : List ℕ) → Contains once path ↔ Contains found path) → has_dir ≡ (found_dir || list_any is_payload found) → IsBelow listing folder once has_dir
 below_in_order listing folder found once found_dir has_dir below kept is = record {
@@ -81,6 +81,6 @@ octets_shown [] has_dir i = refl
 octets_shown (path ∷ paths) has_dir zero = refl
 octets_shown (path ∷ paths) has_dir (suc i) = octets_shown paths has_dir i
 
--- the paths that a folder shows are those that it holds
+-- the paths that a folder shows are the ones that it holds
 pub paths_seen : (tree : FolderShown) (paths : List (List ℕ)) (has_dir : Bool) → shown_by paths has_dir ≡ tree.shown → paths_in tree.shown ≡ paths
 paths_seen tree paths has_dir is = ap paths_in (sym is) ∙ paths_shown paths has_dir

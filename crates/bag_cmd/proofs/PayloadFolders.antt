@@ -27,7 +27,7 @@ listed_below folder directory name inner not_base named =
     let outside = inner (name_below folder (without (name_below folder (codes "data/")) directory)) in
     subst (λ (b : Bool). (if b then Some (data_entry ∷ []) else outside) ≡ inner name) (sym not_base) (ap inner (sym named))
 
--- what is answered for a directory outside is what is to be answered for the one in the payload directory
+-- the answer for a directory outside is the right answer for the one in the payload directory
 pub answers_below : {Entries : Type 0} (shown : Entries → List EntryShown) (folder directory name : List ℕ) (listed : Option Listing) (answer : Result Entries OpenFault)
     → bytes_eq directory (name_below folder []) ≡ false → name ≡ name_below folder (without (name_below folder (codes "data/")) directory)
     → ((inner : Listing) → listed ≡ Some inner → AnswersEntries shown inner name answer)

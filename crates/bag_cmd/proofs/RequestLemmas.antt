@@ -1,4 +1,4 @@
--- The operands among words, word by word.
+-- The operands among the arguments, one argument at a time.
 use Rattle.std.proofs.Common.{◌≡◌, ◌∷◌, ◌++◌, ◌+◌, ◌<◌, ◌≤◌, ◌∙◌, [], ℕ, Bool, List, None, Option, Some, ap, append_assoc, arith, codes, drop, false, get_or, length, map, not, refl, remove, suc, sym, take, true, zero}
 use Rattle.std.specs.Prelude.{if◌then◌else◌, option_map, slice_get}
 use Rattle.std.specs.Str.{bytes_eq}
@@ -17,7 +17,7 @@ next_taken [] n x e = absurd (cc)
 next_taken (y ∷ xs) zero x e = let k : y ≡ x = cc in ap (λ z. z ∷ []) k
 next_taken (y ∷ xs) (suc n) x e = let s : suc n + 1 ≡ suc (n + 1) = omega arith in rw s (ap (λ list. y ∷ list) (next_taken xs n x e))
 
--- the first words are operands, and what follows decides on the rest
+-- the first arguments are operands, and what follows decides about the rest
 abbrev pub IsFront : List (List ℕ) → ℕ → Type 0
 IsFront words i = operands_of words ≡ option_map (λ more. take i words ++ more) (operands_of (drop i words))
 
@@ -62,10 +62,10 @@ front_ends words i end front =
     front ∙ ap (λ (ws : List (List ℕ)). option_map (λ more. take i words ++ more) (operands_of ws)) (drop_all i words past)
     ∙ ap Some (append-nil (take i words) ∙ take_all i words past)
 
--- WORDS AS THEIR OCTETS
+-- ARGUMENTS AS OCTETS
 
 module _ {X : Type 0} (octets : X → List ℕ) where
-  -- the octets of the word at a place
+  -- the octets of the argument at an index
   pub word_at : (all words : List X) (i n : ℕ) (word : X) (text : List ℕ) → words ≡ all → n ≡ length all → i < n → word ≡ get_or words i word → text ≡ octets word → slice_get (map octets all) i ≡ Some text
   word_at all words i n word text same long within here is =
       slice_get-map octets all i ∙ ap (option_map octets) (slice_get_read all n i word long within (here ∙ ap (λ (ws : List X). get_or ws i word) same)) ∙ ap Some (sym is)
@@ -79,7 +79,7 @@ module _ {X : Type 0} (octets : X → List ℕ) where
   pub without_word : (all words : List X) (i : ℕ) → words ≡ take i all ++ drop (i + 1) all → map octets words ≡ take i (map octets all) ++ drop (i + 1) (map octets all)
   without_word all words i is = ap (map octets) is ∙ cut all i
 
--- the first of some, and the others
+-- the first of some arguments, and the others
 pub first_taken : {X : Type 0} (xs rest : List X) (x : X) → 0 < length xs → x ≡ get_or xs 0 x → rest ≡ remove xs 0 → xs ≡ x ∷ rest
 first_taken [] rest x some first others = absurd (omega arith)
 first_taken (y ∷ ys) rest x some first others = let head : y ≡ x = sym first in let tail : ys ≡ rest = sym others in cc (head, tail)
@@ -113,7 +113,7 @@ no_request (Check folder) is = cc
 no_request (Make source destination algorithms) is = cc
 no_request (Ledger ledger work) is = no_work work is
 
--- a word without a character names nothing
+-- an empty argument is no command
 pub unnamed : (words : List (List ℕ)) → words ≡ [] ∷ [] → ¬ NamesCommand words
 unnamed words is named =
     let first : [] ≡ request_name named.0 = let at = named.1.0.1 in cc (is, at) in

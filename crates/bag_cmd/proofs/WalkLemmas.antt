@@ -1,4 +1,4 @@
--- A walk that leaves no directory has found what stands below the folder.
+-- A walk that leaves no directory unread has found what is below the folder.
 use Rattle.std.proofs.Common.{◌≡◌, ◌++◌, ℕ, Bool, true, false, List, [], ◌∷◌, All, Contains, Some, codes, refl, sym, subst, ◌∙◌, inl, inr, arith}
 use Rattle.std.specs.Prelude.{fold}
 use Rattle.std.specs.Str.{bytes_eq}
@@ -19,7 +19,7 @@ nothing_in_none front here = omega (arith, here.1)
 some_same : (a b : List EntryShown) → Some a ≡ Some b → a ≡ b
 some_same a b h = cc
 
--- WHAT IS TAKEN STAYS
+-- WHAT WAS ADDED STAYS
 
 record Grows (old new : Walked) : Type 0 where
   paths : (path : List ℕ) → Contains old.paths path → Contains new.paths path
@@ -42,7 +42,7 @@ grows_by_all front (entry ∷ entries) walked =
     let on = grows_by_all front entries (with_entry front walked entry) in
     record { paths = λ p h. on.paths p (once.paths p h); left = λ f h. on.left f (once.left f h); has_dir = λ h. on.has_dir (once.has_dir h) }
 
--- what stands under this path was taken: a file among the paths, a directory by its front among those that were seen
+-- what is at this path was added: a file to the paths, a directory to the fronts that were seen
 abbrev pub IsTaken : List (List ℕ) → Bool → List (List ℕ) → List ℕ → EntryKind → Type 0
 IsTaken paths has_dir seen path File = Contains paths path
 IsTaken paths has_dir seen path Directory = Contains seen (path ++ codes "/") × (path ≡ codes "data" → has_dir ≡ true)
@@ -54,7 +54,7 @@ taken_on old new before after path File grows seen h = grows.paths path h
 taken_on old new before after path Directory grows seen h = (seen (path ++ codes "/") h.0, λ is. grows.has_dir (h.1 is))
 taken_on old new before after path Other grows seen h = h
 
--- the entries of the directory under this front were taken
+-- the entries of the directory at this front were added
 abbrev pub AllTaken : Walked → List (List ℕ) → List ℕ → List EntryShown → Type 0
 AllTaken walked seen front entries = All (λ entry. IsTaken walked.paths walked.has_dir seen (front ++ entry.name) entry.kind) entries
 
@@ -82,7 +82,7 @@ taken_all front (entry ∷ entries) walked fit =
     (taken_on once end once.left end.left (front ++ entry.name) entry.kind on on.left (taken_once walked (front ++ entry.name) entry.kind (All-head (EntryFits front) entry entries fit)))
     (taken_all front entries once (All-tail (EntryFits front) entry entries fit))
 
--- a front that was left is looked into now
+-- a front that was left is read now
 seen_on : (done left new : List (List ℕ)) (now : List ℕ) → ((front : List ℕ) → Contains left front → Contains new front)
     → (front : List ℕ) → Contains (done ++ (left ++ now ∷ [])) front → Contains ((done ++ now ∷ []) ++ new) front
 seen_on done left new now grows front here = elim (Contains-append_cases done (left ++ now ∷ []) front here) [
@@ -131,15 +131,15 @@ module _ (listing : Listing) (folder : List ℕ) where
   each_entry front entries listed =
       All-weaker (Contains entries) (λ entry. HasEntry listing folder front entry.name entry.kind) (λ entry there. record { entries = entries; listed = listed; there = there }) entries (All-contains_itself entries)
 
-  -- A WALK ON ITS WAY
+  -- A WALK IN PROGRESS
 
-  -- the directory under this front was looked into, and each of its entries was taken
+  -- the directory at this front was read, and each of its entries was added
   pub record IsCovered (walked : Walked) (seen : List (List ℕ)) (front : List ℕ) : Type 0 where
     pub entries : List EntryShown
     pub listed : listing (name_below folder front) ≡ Some entries
     pub taken : AllTaken walked seen front entries
 
-  -- these directories were looked into
+  -- these directories were read
   pub record IsWalking (walked : Walked) (done : List (List ℕ)) : Type 0 where
     pub started : Contains (done ++ walked.left) []
     pub sound : IsSound walked
@@ -164,7 +164,7 @@ module _ (listing : Listing) (folder : List ℕ) where
     covered = All-nil (IsCovered (record { paths = []; has_dir = false; left = [] ∷ [] }) ([] ∷ []));
   })
 
-  -- one directory more
+  -- one more directory
   pub walking_on : (old walked new : Walked) (done : List (List ℕ)) (front : List ℕ) → old ≡ record walked { left = walked.left ++ front ∷ [] } → IsWalking old done
       → LooksInto listing folder front walked new → IsWalking new (done ++ front ∷ [])
   walking_on old walked new done front is was looks =

@@ -1,4 +1,4 @@
--- What becomes of folders that aren't opened, and of one that was made for a bag.
+-- What happens to folders that aren't opened, and to one that was made for a bag.
 use Rattle.std.proofs.Common.{◌≡◌, ◌≢◌, ◌∙◌, ◌∷◌, ◌++◌, ◌+◌, ◌<◌, ℕ, Contains, List, [], None, Option, Some, ap, arith, get_or, length, map, refl, subst, suc, sym, take, zero}
 use Rattle.std.proofs.lemmas.List.{map-append}
 use Rattle.std.proofs.lemmas.List.Elements.{Contains-get_or}
@@ -37,7 +37,7 @@ given_up folder status now given is none other = let left : None ≡ kept_folder
 pub kept : (folder : List ℕ) (status : ℕ) (now made : Option (List ℕ)) → now ≡ made → made ≡ Some folder → status ≡ DONE → now ≡ kept_folder folder status
 kept folder status now made is some done = let left : Some folder ≡ kept_folder folder status = grind (arith, common_steps) in is ∙ some ∙ left
 
--- FOLDERS THAT ARE OPENED IN TURN
+-- FOLDERS OPENED IN SEQUENCE
 
 module _ {X : Type 0} (octets : X → List ℕ) (known : Option Listing) where
   pub opened_more : (folders : List X) (i : ℕ) (folder : X) (text : List ℕ) (trees : List FolderShown) (tree : FolderShown) → i < length folders → folder ≡ get_or folders i folder → text ≡ octets folder

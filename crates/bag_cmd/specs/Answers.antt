@@ -1,4 +1,4 @@
--- What a command leaves in the writer that it was handed.
+-- What a command prints.
 use Rattle.std.specs.Prelude.{◌≡◌, ◌≢◌, ℕ, List, [], ◌∷◌, Option, None, Result, codes, map, string_bytes}
 use Rattle.bag_ledger.specs.declared.keeper.Keeper.{Ghosts}
 use Rattle.bag_rules.specs.declared.outcome.Outcome.{Outcome}
@@ -18,12 +18,12 @@ use Rattle.bag_cmd.specs.Making.{PrintsMake}
 use Rattle.bag_cmd.specs.Requests.{AsksFor, NamesCommand}
 use Rattle.bag_cmd.specs.Working.{WorksOn}
 
--- an answer of `check` about an open folder, which may fail
+-- a result of `check` for an open folder, which may fail
 abbrev pub IsFolderAnswer : FolderShown → FolderShown → Result Outcome CheckFault → Type 0
 IsFolderAnswer = IsAnswer (λ tree. tree.shown) (λ tree. tree.failures) (λ tree. ⊥)
 
--- What `check` prints of a folder, where the directories are as listed (where that is known): an answer about what was opened under
--- this name; `bag: files` where something can't be in a bag; or that memory ran out.
+-- What `check` prints for a folder. The entries of directories may be known. Either a result for what was opened under
+-- this name; or `bag: files` because something isn't allowed in a bag; or that memory ran out.
 pub data PrintsCheck {W : Type 0} (contents : W → Option (List ℕ)) (known : Option Listing)
     (folder : List ℕ) (old new : Output W) (result : ℕ) : Type 0 where
   Answered : (tree later : FolderShown) → IsOpened known folder Base tree
@@ -34,7 +34,7 @@ pub data PrintsCheck {W : Type 0} (contents : W → Option (List ℕ)) (known : 
   NoMemory : Printed contents old new result (stop_text Memory ∷ []) FAILED
       → PrintsCheck contents known folder old new result
 
--- What is said of words that name no command: help, on standard error what is wrong with them, or that memory ran out.
+-- The answer to arguments that are no known command: help, a usage error on standard error, or that memory ran out.
 pub data Refuses {W : Type 0} (contents : W → Option (List ℕ)) (old new : Output W) (result : ℕ)
     : Type 0 where
   Helped : (text : List ℕ) → Printed contents old new result (text ∷ []) DONE
@@ -43,12 +43,12 @@ pub data Refuses {W : Type 0} (contents : W → Option (List ℕ)) (old new : Ou
   Unsaid : Printed contents old new result (stop_text Memory ∷ []) FAILED
       → Refuses contents old new result
 
--- the line for no words
+-- the line for an empty command line
 abbrev pub usage_line : List ℕ
 usage_line = codes "bag: check, make, begin, intake, report, audit, fetch, export, list"
 
--- What a command did: what it printed, and the folder that was made for a bag and not given up, which `make` and `export` alone
--- change.
+-- What a command did: what it printed, and the folder that was made for a bag and not given up, which only `make` and
+-- `export` change.
 abbrev pub Runs : {K W : Type 0} → Ghosts K → (List ℕ → K → Type 0) → (List ℕ → K → Type 0)
     → Option Listing → (W → Option (List ℕ)) → Request → Option (List ℕ) → Option (List ℕ)
     → Output W → Output W → ℕ → Type 0
@@ -63,7 +63,8 @@ Runs k opened made known contents (Make source destination algorithms) before af
 Runs k opened made known contents (Ledger ledger work) before after old new result =
     WorksOn k opened made known contents (string_bytes ledger) work before after old new result
 
--- What a command line did: the command that its words name; or that they name none, which was said.
+-- What a command line did: either it ran the command that its arguments ask for, or they are no known command, which
+-- was reported.
 pub data RunsCommand {K W : Type 0} (k : Ghosts K) (opened made : List ℕ → K → Type 0)
     (known : Option Listing) (contents : W → Option (List ℕ)) (words : List (List ℕ))
     (before after : Option (List ℕ)) (old new : Output W) (result : ℕ) : Type 0 where
@@ -80,7 +81,7 @@ pub data RunsCommand {K W : Type 0} (k : Ghosts K) (opened made : List ℕ → K
       → Printed contents old new result (stop_text Memory ∷ []) FAILED
       → RunsCommand k opened made known contents words before after old new result
 
--- some command line was run over the directories of the system
+-- some command line was run on the directories of the file system
 abbrev pub Ran : {K W : Type 0} → Ghosts K → (List ℕ → K → Type 0) → (List ℕ → K → Type 0)
     → (W → Option (List ℕ)) → Output W → Output W → ℕ → Type 0
 Ran k opened made contents old new result = (words : List (List ℕ)) × (after : Option (List ℕ))

@@ -7,8 +7,8 @@ use Rattle.bag_digest.specs.Device.{greatest_count}
 use Rattle.bag_rules.specs.Files.{Files}
 use Rattle.bag_rules.specs.Trees.{Shown, octets_in, paths_in}
 
--- the tree, the place that the next file is sought from, that of the file that came last, and whether this one was started; how often
--- the courier failed, and how often `next` was called
+-- the tree, where the search for the next file begins, the index of the current file, and whether it was started; how
+-- many times the courier failed, and how many times `next` was called
 pub record Bringing (T : Type 0) : Type 0 where
   pub tree : T
   pub place : ℕ
@@ -31,22 +31,22 @@ courier_of tree = record {
 abbrev pub IsWithin : Shown → Option ℕ → Type 0
 IsWithin shown came = (i : ℕ) → came ≡ Some i → i < length (paths_in shown)
 
--- a file of a tree, with its octets where they are known
+-- a file of a tree, with its octets if they are known
 abbrev pub TreeFile : Type 0
 TreeFile = List ℕ × Option (List ℕ)
 
--- the payload files from a place on
+-- the payload files from an index on
 abbrev pub payload_from : Shown → ℕ → List TreeFile
 payload_from shown place = filter (λ file. is_payload file.0) (drop place shown.files)
 
--- the first payload file from a place on stands at this one
+-- the first payload file from an index on is the one at this index
 pub record IsFoundAt (shown : Shown) (place i : ℕ) : Type 0 where
   pub file : TreeFile
   pub here : slice_get shown.files i ≡ Some file
   pub first : payload_from shown place ≡ file ∷ payload_from shown (i + 1)
   pub room : i < 2 ^ 64 - 1
 
--- the place that the file after the one that was found is sought from
+-- where the search for the file after the one found begins
 abbrev pub place_after : ℕ → Option ℕ → ℕ
 place_after place None = place
 place_after place (Some i) = i + 1
@@ -58,17 +58,17 @@ all_known shown = list_all (λ (file : TreeFile). is_some file.1) shown.files
 abbrev pub known_file : TreeFile → List ℕ × List ℕ
 known_file file = (file.0, unwrap_or file.1 [])
 
--- the payload files from a place on with their octets, where those of the tree are known
+-- the payload files from an index on with their octets, if those of the tree are known
 abbrev pub to_come : Shown → ℕ → Option Files
 to_come shown place =
     if all_known shown then Some (map known_file (payload_from shown place)) else None
 
--- the path of the file that came
+-- the path of the current file
 abbrev pub text_at : Shown → Option ℕ → List ℕ
 text_at shown None = []
 text_at shown (Some i) = unwrap_or (slice_get (paths_in shown) i) []
 
--- what is left of the file that came: all of it until it is started, and then what is left in the tree
+-- what is left of the current file: all of it until it is started, and then what is left in the tree
 abbrev pub left_to_read : Shown → Option (List ℕ) → Option ℕ → Bool → Option (List ℕ)
 left_to_read shown in_tree None is_started = None
 left_to_read shown in_tree (Some i) false = octets_in shown i
@@ -79,7 +79,8 @@ abbrev pub left_of : {T : Type 0} → (T → Shown) → (T → Option (List ℕ)
 left_of shown remaining courier =
     left_to_read (shown courier.tree) (remaining courier.tree) courier.came courier.is_started
 
--- What `next` does: the first payload file from the place came, if there is one. Nothing was started or read.
+-- What `next` does: the first payload file from the index on becomes the current file, if there is one. Nothing is
+-- started or read.
 pub record BringsNext {T : Type 0} (shown : T → Shown) (old new : Bringing T) : Type 0 where
   pub found : MatchOption new.came (payload_from (shown old.tree) old.place ≡ [])
       (IsFoundAt (shown old.tree) old.place)
@@ -90,13 +91,13 @@ pub record BringsNext {T : Type 0} (shown : T → Shown) (old new : Bringing T) 
     nexts = min (old.nexts + 1) greatest_count;
   }
 
--- a file came, and of its tree no start fails, and no read once it is started
+-- there is a current file, and its tree fails neither at a start nor at a read after it
 pub record IsReady {T : Type 0} (Sure Ready : T → Type 0) (courier : Bringing T) : Type 0 where
   pub came : is_some courier.came ≡ true
   pub sure : Sure courier.tree
   pub started : courier.is_started ≡ true → Ready courier.tree
 
--- the same files, and the same of them came last
+-- the same files, and the same current file
 pub record SameItem {T : Type 0} (shown : T → Shown) (old new : Bringing T) : Type 0 where
   pub files : shown new.tree ≡ shown old.tree
   pub place : new.place ≡ old.place

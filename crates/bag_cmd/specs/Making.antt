@@ -1,4 +1,4 @@
--- What `make` does with folders: the payload that is opened, and the folder that is made for the bag.
+-- What `make` does with folders: the payload that it opens, and the folder that it makes for the bag.
 use Rattle.std.specs.Prelude.{◌≡◌, ◌∷◌, ℕ, List, [], None, Option, Some, false, if◌then◌else◌, is_some, map, nat_eq, string_bytes}
 use Rattle.bag_rules.specs.Trees.{Shown}
 use Rattle.bag_commands.specs.declared.output.Output.{Output}
@@ -14,7 +14,7 @@ use Rattle.bag_cmd.specs.Directories.{Listing, in_payload}
 use Rattle.bag_cmd.specs.Folders.{FolderShown, IsOpened, IsRefused, stop_of_open}
 use Rattle.bag_cmd.specs.SinkFolders.{IsCreated, SinkShown}
 
--- the same of a folder that was made for the bag, from as it was then to as it is later
+-- the same for a folder that was made for the bag, from its state then to a later state
 abbrev pub MakesFolder : {T W : Type 0} → (W → Option (List ℕ)) → (T → Shown) → (T → ℕ)
     → (T → Type 0) → T → T → List (List ℕ) → Output W → Output W → ℕ → SinkShown → SinkShown
     → Type 0
@@ -24,12 +24,12 @@ MakesFolder contents shown failures sure old_tree new_tree words old new result 
     (λ _. ⊥) old_tree new_tree sink later) ((new_tree ≡ old_tree) × (later ≡ sink))
     words old new result
 
--- the folder that was made is kept where the status is that of a bag that was made, and given up else
+-- the folder is kept if the status says that the bag was made, and otherwise given up
 abbrev pub kept_folder : List ℕ → ℕ → Option (List ℕ)
 kept_folder folder status = if nat_eq status DONE then Some folder else None
 
--- What was done for a bag that was to be written: a folder of this name was made, the writing went on in it, and its answer decided
--- whether it is kept; or it couldn't be made, which was printed, and nothing else was done.
+-- What was done to write a bag: either a folder with this name was made, the bag was written to it, and the result
+-- decided whether it is kept; or the folder couldn't be made, which was printed, and nothing else was done.
 pub data MakesInto {W : Type 0} (contents : W → Option (List ℕ))
     (writes : SinkShown → SinkShown → Type 0) (untouched : Type 0) (folder : List ℕ)
     (before after : Option (List ℕ)) (old new : Output W) (result : ℕ) : Type 0 where
@@ -40,7 +40,7 @@ pub data MakesInto {W : Type 0} (contents : W → Option (List ℕ))
       → Printed contents old new result (stop_text (stop_of_open fault) ∷ []) FAILED
       → MakesInto contents writes untouched folder before after old new result
 
--- the words after `make`: the folder with the payload, the folder for the bag, and the names of algorithms
+-- the operands of `make`: the folder that contains the payload, the folder for the bag, and the names of algorithms
 pub record MakingShown : Type 0 where
   pub source : List ℕ
   pub destination : List ℕ
@@ -53,8 +53,8 @@ words_given making = record {
   names = map string_bytes making.names.now;
 }
 
--- What `make` did, where the directories are as listed (where that is known): what was done with what was opened of this payload;
--- or no folder was made, and `bag: files` printed where something can't be in a bag, or that memory ran out.
+-- What `make` did. The entries of directories may be known. Either the payload was opened, and this was done with it;
+-- or no folder was made, and `bag: files` was printed because something isn't allowed in a bag, or that memory ran out.
 pub data PrintsMake {W : Type 0} (contents : W → Option (List ℕ)) (known : Option Listing)
     (words : MakingShown) (before after : Option (List ℕ)) (old new : Output W) (result : ℕ)
     : Type 0 where

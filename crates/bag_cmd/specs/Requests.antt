@@ -7,11 +7,12 @@ use Rattle.bag_cmd.specs.declared.request.Request.TheVariants.{Check, Make, Ledg
 use Rattle.bag_cmd.specs.declared.request.Work.{Work}
 use Rattle.bag_cmd.specs.declared.request.Work.TheVariants.{Begin, Intake, Report, Audit, Fetch, Export, List as Listing}
 
--- a hyphen and more
+-- a hyphen followed by anything else
 abbrev pub is_option : List ℕ → Bool
 is_option word = nat_lt 1 (length word) && starts_with nat_eq word (codes "-")
 
--- The operands among the words after a command's name: those before the first `--`, of which none is an option, and all after it.
+-- The operands among the arguments after a command's name: those before the first `--`, none of which may be an option,
+-- and all after it.
 abbrev pub operands_of : List (List ℕ) → Option (List (List ℕ))
 operands_of [] = Some []
 operands_of (word ∷ words) =
@@ -19,7 +20,7 @@ operands_of (word ∷ words) =
     else if is_option word then None
     else option_map (λ operands. word ∷ operands) (operands_of words)
 
--- the words are this command's name, and such with these operands
+-- the arguments are this command's name, followed by arguments with these operands
 abbrev pub Names : List ℕ → List (List ℕ) → List (List ℕ) → Type 0
 Names command words operands = (rest : List (List ℕ)) × (words ≡ command ∷ rest)
     × (operands_of rest ≡ Some operands)
@@ -35,7 +36,7 @@ work_name (Fetch name folder) = codes "fetch"
 work_name (Export name folder) = codes "export"
 work_name Listing = codes "list"
 
--- its words after the ledger
+-- its operands after the ledger
 abbrev pub work_operands : Work → List (List ℕ)
 work_operands (Begin name folder) = string_bytes name ∷ string_bytes folder ∷ []
 work_operands (Intake name folders) = string_bytes name ∷ map string_bytes folders.items
@@ -73,10 +74,10 @@ IsWhole (Check folder) = ⊤
 IsWhole (Make source destination algorithms) = algorithms.items ≢ []
 IsWhole (Ledger ledger work) = IsWholeWork work
 
--- the words ask for it
+-- the arguments ask for this request
 abbrev pub AsksFor : List (List ℕ) → Request → Type 0
 AsksFor words request = Names (request_name request) words (operands_in request) × IsWhole request
 
--- the words name a command
+-- the arguments are a known command with its operands
 abbrev pub NamesCommand : List (List ℕ) → Type 0
 NamesCommand words = (request : Request) × AsksFor words request

@@ -1,12 +1,12 @@
--- A folder as a supplier, as what it shows. What its files hold isn't known.
+-- What is visible of a folder as a supplier. The content of its files isn't known.
 use Rattle.std.specs.Prelude.{◌≡◌, ◌+◌, ℕ, Bool, true, List, Option, None, Ok, Result, is_some, min, refl}
 use Rattle.std.proofs.Common.{◌∙◌}
 use Rattle.bag_digest.specs.Device.{greatest_count}
 use Rattle.bag_receiver.specs.Suppliers.{Supply}
 use Rattle.bag_cmd.specs.Directories.{name_below}
 
--- the folder's name, and that of the file that was sought last; what the open file will still give (where one is open, and where that is
--- known); how often the folder failed, and how often it was asked
+-- the name of the folder, and of the last file looked up; what the open file will still give (if one is open, and if
+-- that is known); how many times the folder failed, and how many times it was asked
 pub record SupplierShown : Type 0 where
   pub folder : List ℕ
   pub name : List ℕ
@@ -14,14 +14,15 @@ pub record SupplierShown : Type 0 where
   pub failures : ℕ
   pub asks : ℕ
 
--- a supplier of what is below this folder, before any call
+-- a supplier of the files below this folder, before any call
 pub record IsReadyFolder (folder : List ℕ) (supplier : SupplierShown) : Type 0 where
   pub named : supplier.folder ≡ folder
   pub closed : supplier.to_read ≡ None
   pub not_failed : supplier.failures ≡ 0
   pub not_asked : supplier.asks ≡ 0
 
--- The question is counted. A file is open then exactly where the folder has it, and it is the one with this path below the folder.
+-- The request is counted. Afterwards a file is open exactly if the folder has it, and it is the one with this path
+-- below the folder.
 pub record AsksFolder {E : Type 0} (old new : SupplierShown) (path : List ℕ)
     (result : Result Bool E) : Type 0 where
   pub opened : is_some new.to_read ≡ true
@@ -34,7 +35,7 @@ pub record AsksFolder {E : Type 0} (old new : SupplierShown) (path : List ℕ)
     asks = min (old.asks + 1) greatest_count;
   }
 
--- as often asked
+-- asked the same number of times
 abbrev pub AsOftenAsked : SupplierShown → SupplierShown → Type 0
 AsOftenAsked old new = new.asks ≡ old.asks
 
@@ -44,7 +45,7 @@ asked_itself a = refl
 pub asked_on : (a b c : SupplierShown) → AsOftenAsked a b → AsOftenAsked b c → AsOftenAsked a c
 asked_on a b c p q = q ∙ p
 
--- nobody knows what a folder has
+-- what a folder has isn't known
 abbrev pub unknown : SupplierShown → Option Supply
 unknown supplier = None
 

@@ -1,4 +1,4 @@
--- Work on a ledger: how it is opened, and what is done on it then.
+-- Work on a ledger: how it is opened, and what is done with it.
 use Rattle.std.specs.Prelude.{◌≡◌, ◌⊎◌, ◌∷◌, ◌++◌, [], ℕ, Contains, List, None, Option, Some, codes, is_some, map, string_bytes}
 use Rattle.bag_ledger.specs.Ledgers.{Transfer}
 use Rattle.bag_ledger.specs.declared.keeper.Keeper.{Ghosts}
@@ -47,7 +47,7 @@ abbrev pub IsOpenFor : {K : Type 0} → (List ℕ → K → Type 0) → (List �
 IsOpenFor opened made ledger (Begin name folder) kept = opened ledger kept ⊎ made ledger kept
 IsOpenFor opened made ledger work kept = opened ledger kept
 
--- why none was, as its line
+-- the line that says why it wasn't opened
 abbrev pub unopened_line : AdoptFault → List ℕ
 unopened_line NotALedger = codes "bag: not a ledger"
 unopened_line OldFormat = codes "bag: old format"
@@ -57,8 +57,9 @@ unopened_line (Keep why) = stop_text (stop_of_keep why)
 
 -- FOLDERS
 
--- What was done where a folder was to be opened as that of a bag, where the directories are as listed (where that is known): this with
--- the open one; or nothing, and `bag: files` was printed where something can't be in a bag, or that memory ran out.
+-- What a command on the bag in a folder did. The entries of directories may be known. Either the folder was opened, and
+-- this was done with it; or nothing was done, and `bag: files` was printed because something isn't allowed in a bag, or
+-- that memory ran out.
 pub data WithFolder {W : Type 0} (contents : W → Option (List ℕ)) (known : Option Listing)
     (folder : List ℕ) (untouched : Type 0) (does : FolderShown → FolderShown → Type 0)
     (old new : Output W) (result : ℕ) : Type 0 where
@@ -70,7 +71,7 @@ pub data WithFolder {W : Type 0} (contents : W → Option (List ℕ)) (known : O
   NoMemory : untouched → Printed contents old new result (stop_text stop.Memory ∷ []) FAILED
       → WithFolder contents known folder untouched does old new result
 
--- each of these folders was opened, in their order
+-- these folders were opened, in this order
 abbrev pub AreOpened : Option Listing → List (List ℕ) → List FolderShown → Type 0
 AreOpened known [] [] = Unit {0}
 AreOpened known (folder ∷ folders) (tree ∷ trees) =
@@ -81,7 +82,7 @@ abbrev pub SomeIsRefused : Option Listing → List (List ℕ) → Type 0
 SomeIsRefused known folders =
     (folder : List ℕ) × Contains folders folder × IsRefused known folder
 
--- the same of several folders
+-- the same for several folders
 pub data WithFolders {W : Type 0} (contents : W → Option (List ℕ)) (known : Option Listing)
     (folders : List (List ℕ)) (untouched : Type 0) (does : List FolderShown → Type 0)
     (old new : Output W) (result : ℕ) : Type 0 where
@@ -95,13 +96,13 @@ pub data WithFolders {W : Type 0} (contents : W → Option (List ℕ)) (known : 
 
 -- WORK
 
--- a receiver over what this keeper holds
+-- a receiver that uses this keeper
 pub record IsOver {K : Type 0} (k : Ghosts K) (kept : K) (receiver : Receiver K) : Type 0 where
   pub keeper : receiver.keeper ≡ kept
   pub in_state : (now : LedgerState) → IsKept k.holds k.may_leave kept now
       → IsInState k.holds k.may_leave receiver now
 
--- A report or an audit was printed. Status 0 is for transfers alone that hold a valid bag.
+-- A report or an audit was printed. The status is 0 only if the transfer holds a valid bag.
 pub record Views {K W : Type 0} (k : Ghosts K) (contents : W → Option (List ℕ)) (name : List ℕ)
     (before after : Receiver K) (old new : Output W) (result : ℕ) : Type 0 where
   pub valid : result ≡ VALID → k.clean after.keeper → (now : LedgerState)
@@ -111,7 +112,8 @@ pub record Views {K W : Type 0} (k : Ghosts K) (contents : W → Option (List �
   pub printed : PrintedBy contents view_lines view_status old new result
       (IsReporting k.holds k.may_leave k.clean k.failures name before after)
 
--- What `fetch.txt` lists and isn't held was sought in this folder; or that couldn't be opened, which was printed.
+-- Either the folder was searched for what `fetch.txt` lists and isn't held, or it couldn't be opened and that was
+-- printed.
 pub data FetchesFrom {K W : Type 0} (k : Ghosts K) (contents : W → Option (List ℕ))
     (name folder : List ℕ) (before after : Receiver K) (old new : Output W) (result : ℕ)
     : Type 0 where
@@ -124,7 +126,7 @@ pub data FetchesFrom {K W : Type 0} (k : Ghosts K) (contents : W → Option (Lis
       → Printed contents old new result (stop_text (stop_of_open fault) ∷ []) FAILED
       → FetchesFrom k contents name folder before after old new result
 
--- the bag that is held was exported into a folder that was made for it
+-- the bag that is held was exported to a folder that was made for it
 abbrev pub ExportsInto : {K W : Type 0} → Ghosts K → (W → Option (List ℕ)) → List ℕ → List ℕ
     → Option (List ℕ) → Option (List ℕ) → Receiver K → Receiver K → Output W → Output W → ℕ → Type 0
 ExportsInto k contents name folder made now before after old new result =
@@ -134,7 +136,8 @@ ExportsInto k contents name folder made now before after old new result =
     (λ (sink : SinkShown). ⊥) name before after sink later)) (after ≡ before) folder made now
     old new result
 
-module _ {K W : Type 0} (k : Ghosts K) (known : Option Listing) (contents : W → Option (List ℕ)) where
+module _ {K W : Type 0} (k : Ghosts K) (known : Option Listing)
+    (contents : W → Option (List ℕ)) where
   abbrev pub BeginsWith : List ℕ → List ℕ → Receiver K → Receiver K → Output W → Output W → ℕ
       → Type 0
   BeginsWith name folder before after old new result =
@@ -144,9 +147,9 @@ module _ {K W : Type 0} (k : Ghosts K) (known : Option Listing) (contents : W �
       (IsBeginning k.holds k.may_leave k.clean k.failures name before after) (after ≡ before)
       name old new result) old new result
 
-  -- what couriers of these folders' payload files brought was taken in
-  abbrev pub TakesInFrom : List ℕ → List (List ℕ) → Receiver K → Receiver K → Output W → Output W → ℕ
-      → Type 0
+  -- the payload files of these folders were taken in
+  abbrev pub TakesInFrom : List ℕ → List (List ℕ) → Receiver K → Receiver K → Output W → Output W
+      → ℕ → Type 0
   TakesInFrom name folders before after old new result =
       WithFolders contents known folders (after ≡ before) (λ trees.
       (laters : List (Bringing FolderShown)) × (told : List Told)
@@ -158,7 +161,8 @@ module _ {K W : Type 0} (k : Ghosts K) (known : Option Listing) (contents : W �
       (map courier_of trees) laters told before after
       × Printed contents old new result (intake_lines told) (intake_status told)) old new result
 
-  -- what was done on the ledger, and the folder that was made for a bag and not given up, which `export` alone changes
+  -- what was done on the ledger, and the folder that was made for a bag and not given up, which
+  -- only `export` changes
   abbrev pub DoesWork : Work → Option (List ℕ) → Option (List ℕ) → Receiver K → Receiver K
       → Output W → Output W → ℕ → Type 0
   DoesWork (Begin name folder) made now before after old new result = (now ≡ made)
@@ -179,7 +183,8 @@ module _ {K W : Type 0} (k : Ghosts K) (known : Option Listing) (contents : W �
       × PrintedBy contents list_lines list_status old new result
       (IsListing k.holds k.may_leave k.clean k.failures before after)
 
--- What work on a ledger did: it was opened, and this was done by a receiver over what it holds; or it wasn't, which was printed.
+-- What work on a ledger did: either the ledger was opened and this was done with it, or it wasn't, and the reason was
+-- printed.
 pub data WorksOn {K W : Type 0} (k : Ghosts K) (opened made : List ℕ → K → Type 0)
     (known : Option Listing) (contents : W → Option (List ℕ)) (ledger : List ℕ) (work : Work)
     (folder now : Option (List ℕ)) (old new : Output W) (result : ℕ) : Type 0 where

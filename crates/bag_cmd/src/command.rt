@@ -1,4 +1,4 @@
-//! Runs what the command line asks for.
+//! Runs the command on the command line.
 ghost use Rattle.std.specs.Prelude.{map, string_bytes};
 ghost use Rattle.bag_cmd.specs.Answers.{Refuses, Runs, RunsCommand};
 
@@ -15,7 +15,7 @@ use std::alloc::{AllocError, Global};
 use std::io::Write;
 use std::rt::Files;
 
-/// Runs the command that these words name, and answers its status.
+/// Runs the command that these arguments ask for, and returns its status.
 pub fn command<R: Files + Eprint, D: Directories, L: Ledgers, W: Write + Drop>(
     rt: &R,
     disk: &D,
@@ -43,7 +43,7 @@ pub fn command<R: Files + Eprint, D: Directories, L: Ledgers, W: Write + Drop>(
     }
 }
 
-/// Runs a command, and answers its status.
+/// Runs a command, and returns its status.
 fn run_request<R: Files, D: Directories, L: Ledgers, W: Write + Drop>(
     rt: &R,
     disk: &D,
@@ -76,7 +76,7 @@ fn run_request<R: Files, D: Directories, L: Ledgers, W: Write + Drop>(
     }
 }
 
-/// Prints the help that the words ask for; of other words that name no command it says on standard error what is wrong with them.
+/// Prints help if the arguments ask for it; otherwise says on standard error why they are no known command.
 fn refuse<R: Eprint, W: Write + Drop>(
     rt: &R,
     alloc: Global,

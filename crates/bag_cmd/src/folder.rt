@@ -27,10 +27,10 @@ pub mod told;
 mod tree;
 mod walk;
 
-/// Why a folder was not opened as a tree.
+/// Why a folder wasn't opened as a tree.
 #[derive(Clone, Copy, Debug, PartialEq, Eq, Error)]
 pub enum OpenFault {
-    /// The folder isn't there, isn't a folder or can't be read, or something below it can't be in a bag.
+    /// The folder doesn't exist, isn't a folder or can't be read, or something below it isn't allowed in a bag.
     #[error("the folder can't be read as a bag's files")]
     Files,
     /// Memory ran out.

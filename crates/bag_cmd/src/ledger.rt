@@ -1,4 +1,4 @@
-//! Ledgers by their names.
+//! Opens and closes ledgers by name.
 ghost use Rattle.std.specs.Prelude.{◌⊎◌, ℕ, IfOk, List};
 
 use bag_ledger::{KeepFault, Keeper, StoreFault};
@@ -6,50 +6,50 @@ use bag_sqlite::{AdoptFault, FileKeeper, LedgerFile, Start};
 
 /// Opens a ledger by its name.
 pub trait Ledgers {
-    /// What keeps the transfers of an open ledger.
+    /// The keeper of an open ledger.
     type Kept: Keeper;
 
-    /// What is known of the ledger that was opened under this name.
+    /// What is known of a ledger that was opened under this name.
     ghost opened: { List ℕ → Self.Kept → Type 0 };
 
-    /// What is known of the ledger that was made under this name.
+    /// What is known of a ledger that was made under this name.
     ghost made: { List ℕ → Self.Kept → Type 0 };
 
-    /// Opens the ledger with this name. Where there is none, nothing is made.
+    /// Opens the ledger with this name. If it doesn't exist, it isn't made.
     ///
     /// # Errors
     ///
-    /// It isn't there or isn't a ledger, is damaged, can't be read or written, or another program has it open.
+    /// It doesn't exist, isn't a ledger, is damaged or can't be read or written, or another program has it open.
     fn open(&mut self, ledger: &str) -> Result<Self::Kept, AdoptFault>
         ensures { IfOk result (opened ledger.now) };
 
-    /// The same; but where nothing is there, or no table, a ledger without a transfer is made.
+    /// Opens the ledger with this name. If it doesn't exist or has no tables, makes a ledger without transfers.
     ///
     /// # Errors
     ///
-    /// As there. What was made until then is removed.
+    /// Those of `open`, except that the ledger may be missing. Whatever was created until the error is removed.
     fn open_or_make(&mut self, ledger: &str) -> Result<Self::Kept, AdoptFault>
         ensures { IfOk result (λ kept. opened ledger.now kept ⊎ made ledger.now kept) };
 
     /// Closes the ledger that was opened.
     fn close(&mut self, kept: Self::Kept);
 
-    /// The same; but one that was made is removed.
+    /// Closes the ledger, but removes it if it was made by `open_or_make`.
     fn give_up(&mut self, kept: Self::Kept);
 }
 
-/// Opens a ledger in a file, which holds what `S` says; another one isn't opened.
+/// Opens one ledger in a file. `S` says what the file holds. A second ledger isn't opened.
 #[derive(Drop)]
 pub struct LedgerFiles<'a, S: Start> {
     rt: &'a HostRuntime,
-    // what the file holds, until it is opened
+    // what the file holds; `None` once a ledger was opened
     start: Option<S>,
     // the file that was opened
     file: Option<LedgerFile<'a>>,
 }
 
 impl<'a, S: Start> LedgerFiles<'a, S> {
-    /// No ledger was opened yet.
+    /// No ledger is open yet.
     pub fn new(rt: &'a HostRuntime, start: S) -> Self {
         LedgerFiles {
             rt,
@@ -58,7 +58,7 @@ impl<'a, S: Start> LedgerFiles<'a, S> {
         }
     }
 
-    /// What the file holds, and the file with this name.
+    /// What the file holds, and the file with this name. Only the first call succeeds.
     fn find(&mut self, ledger: &str) -> Result<(S, LedgerFile<'a>), AdoptFault> {
         match self.start.take() {
             Some(start) => Ok((start, LedgerFile::find(self.rt, ledger)?)),

@@ -1,9 +1,13 @@
 //! The program `bag`: works with bags of the BagIt File Packaging Format, versions 1.0 (RFC 8493) and 0.97.
 //!
-//! `bag check DIR` judges the bag in a folder, and `bag make SRC DST ALG..` writes the bag of the files in one. The other commands
-//! receive a bag file by file: `begin`, `intake`, `report`, `audit`, `fetch`, `export` and `list`, on a ledger in a file. What is printed
-//! goes to standard output, and the status tells the same: 0 valid, or done; 1 not valid, or refused; 2 none that can be judged here; 3
-//! a fault of files, memory or the ledger, or an output that is full or closed; 64 an unknown command line.
+//! `bag check DIR` judges the bag in a folder, and `bag make SRC DST ALG..` writes a bag of the files in a folder. The
+//! other commands receive a bag file by file, using a ledger in a file: `begin`, `intake`, `report`, `audit`, `fetch`,
+//! `export` and `list`.
+//!
+//! Results are printed on standard output, and the exit status says the same: 0 if the bag is valid or the command
+//! succeeded; 1 if the bag isn't valid or something was refused; 2 if the bag can't be judged here; 3 if files or the
+//! ledger can't be used, a limit was exceeded, memory ran out, or the output is full or closed; 64 for an unknown
+//! command line.
 #![tactic(auto)]
 
 ghost use Rattle.std.specs.Prelude.{◌≡◌, ◌≢◌};
@@ -34,7 +38,7 @@ fn main(rt: HostRuntime) -> ExitCode {
     ExitCode::from(run_on_disk(&rt, Unknown))
 }
 
-/// Runs the command that the words name, with ledgers in files, of which the one that is opened holds what `S` says.
+/// Runs the command on the command line, with ledgers in files. `S` says what the opened ledger's file holds.
 fn run_on_disk<S: Start>(rt: &HostRuntime, start: S) -> u8
     ensures { result ≢ FAILED → (old : _) × (new : _)
         × Ran ⟦<FileKeeper<S> as Keeper>⟧ ⟦<LedgerFiles<'static, S> as Ledgers>⟧.opened
@@ -45,10 +49,10 @@ fn run_on_disk<S: Start>(rt: &HostRuntime, start: S) -> u8
     run(rt, &mut ledgers)
 }
 
-/// Runs the command that the words name, and answers the status. What is printed is held back until the command has ended or the
-/// buffer is full.
+/// Runs the command on the command line, and returns the exit status. The output is buffered until the command has
+/// ended or the buffer is full.
 fn run<R: Files + Env + Print + Eprint + AllocGlobal, L: Ledgers>(rt: &R, ledgers: &mut L) -> u8
-    // Any other status than that of a failure is a command's own.
+    // Every status except that of a failure comes from a command.
     ensures { result ≢ FAILED
         → (old : _) × (new : _) × Ran L.Kept.Keeper L.opened L.made
         ⟦<Printer<'static, R> as Write>⟧.contents old new result }
@@ -62,7 +66,7 @@ fn run<R: Files + Env + Print + Eprint + AllocGlobal, L: Ledgers>(rt: &R, ledger
     }
 }
 
-/// The same, with what is printed going to a writer.
+/// The same, with the output written to `out`.
 fn run_words<R: Files + Env + Eprint + AllocGlobal, L: Ledgers, W: Write + Drop>(
     rt: &R,
     ledgers: &mut L,

@@ -1,54 +1,54 @@
-//! What the command line asks for.
+//! The request on the command line.
 ghost use Rattle.std.specs.Prelude.{◌≡◌, ◌≢◌, ◌<◌, ◌∷◌, [], IfNone, IfSome, None, Some, codes, if◌then◌else◌, length, map, nat_eq, option_map, string_bytes};
 ghost use Rattle.bag_cmd.specs.Requests.{AsksFor, AsksForWork, IsWhole, NamesCommand, is_option, operands_in, operands_of, request_name};
 
-/// A command with what it needs.
+/// A command with its operands.
 #[derive(Debug, Drop, PartialEq, Eq)]
 pub enum Request {
     /// `check DIR`
     Check {
-        /// The folder's name.
+        /// The name of the folder.
         folder: String,
     },
     /// `make SRC DST ALG..`
     Make {
-        /// The name of the folder with the payload.
+        /// The name of the folder that contains the payload.
         source: String,
-        /// The name of the folder that the bag is made in.
+        /// The name of the folder to make the bag in.
         destination: String,
-        /// The names of algorithms, as they were given: one or more; some may be no algorithm's, or be there twice.
+        /// One or more names of algorithms, as given. A name may be unknown, or occur twice.
         algorithms: Vec<String>,
     },
     /// A command on a ledger.
     Ledger {
         /// The name of the ledger's file.
         ledger: String,
-        /// What is done on it.
+        /// What to do with it.
         work: Work,
     },
 }
 
-/// What is done on a ledger. A `name` is that of a transfer, or a text that may not be a name.
+/// What to do with a ledger. `name` is the name of a transfer, or a text that isn't valid as one.
 #[derive(Debug, Drop, PartialEq, Eq)]
 pub enum Work {
-    /// `begin LEDGER NAME DIR`: a transfer is opened with the tag files of a folder.
+    /// `begin LEDGER NAME DIR`: opens a transfer with the tag files in a folder.
     Begin { name: String, folder: String },
-    /// `intake LEDGER NAME DIR..`: the payload files of one or more folders are delivered.
+    /// `intake LEDGER NAME DIR..`: takes in the payload files of one or more folders.
     Intake { name: String, folders: Vec<String> },
-    /// `report LEDGER NAME`: the bag that is held is judged.
+    /// `report LEDGER NAME`: judges the bag that is held.
     Report { name: String },
-    /// `audit LEDGER NAME`: the same, after all that is held was read again.
+    /// `audit LEDGER NAME`: does the same after reading again everything that is held.
     Audit { name: String },
-    /// `fetch LEDGER NAME DIR`: what `fetch.txt` lists and isn't held is sought in a folder.
+    /// `fetch LEDGER NAME DIR`: looks in a folder for the files that `fetch.txt` lists and that aren't held.
     Fetch { name: String, folder: String },
-    /// `export LEDGER NAME DIR`: the bag that is held is written into a new folder.
+    /// `export LEDGER NAME DIR`: writes the bag that is held to a new folder.
     Export { name: String, folder: String },
-    /// `list LEDGER`: the transfers are named.
+    /// `list LEDGER`: lists the names of the transfers.
     List,
 }
 
 impl Request {
-    /// Reads the words after the program's name; none where they name no command.
+    /// Parses the arguments after the program's name. `None` if they aren't a known command with its operands.
     pub fn parse(mut words: Vec<String>) -> Option<Request>
         ensures none { IfNone result (¬ NamesCommand (map string_bytes words.items)) }
         ensures request { IfSome result (AsksFor (map string_bytes words.items)) }
@@ -76,7 +76,7 @@ impl Request {
     }
 }
 
-/// `make SRC DST ALG..`, of which this is SRC and what follows it.
+/// The request of `make SRC DST ALG..`, from SRC and the operands after it.
 fn make_request(source: String, mut operands: Vec<String>) -> Option<Request>
     ensures none { IfNone result (length operands.items < 2) }
     ensures request { IfSome result (λ request. (request_name request ≡ codes "make")
@@ -95,7 +95,7 @@ fn make_request(source: String, mut operands: Vec<String>) -> Option<Request>
 }
 
 impl Work {
-    /// Reads a command and the words after the ledger's name.
+    /// Parses a command and the operands after the ledger's name.
     fn parse(command: &str, mut operands: Vec<String>) -> Option<Work>
         ensures none { IfNone result ((work : Work)
             → ¬ AsksForWork command.now (map string_bytes operands.items) work) }
@@ -115,7 +115,7 @@ impl Work {
         }
     }
 
-    /// A command that has the ledger and no more.
+    /// A command whose only operand is the ledger.
     fn of_ledger(command: &str) -> Option<Work>
         ensures none { IfNone result (command.now ≢ codes "list") }
         ensures work { IfSome result (AsksForWork command.now []) }
@@ -126,7 +126,7 @@ impl Work {
         }
     }
 
-    /// `intake` with this name, and with these folders if there are any.
+    /// `intake` for this name; `None` if there are no folders.
     fn intake(name: String, folders: Vec<String>) -> Option<Work>
         ensures { result ≡ (if nat_eq (length folders.items) 0 then None
             else Some (Work.Intake name folders)) }
@@ -138,9 +138,10 @@ impl Work {
         }
     }
 
-    /// A command that has a name and no more.
+    /// A command on a transfer without further operands.
     fn of_name(command: &str, name: String) -> Option<Work>
-        ensures none { IfNone result (command.now ≢ codes "report" × (command.now ≢ codes "audit")) }
+        ensures none { IfNone result (command.now ≢ codes "report"
+            × (command.now ≢ codes "audit")) }
         ensures work { IfSome result (AsksForWork command.now (string_bytes name ∷ [])) }
     {
         match command {
@@ -150,7 +151,7 @@ impl Work {
         }
     }
 
-    /// A command that has a name and a folder.
+    /// A command on a transfer with a folder.
     fn in_folder(command: &str, name: String, folder: String) -> Option<Work>
         ensures none { IfNone result (command.now ≢ codes "begin"
             × (command.now ≢ codes "fetch") × (command.now ≢ codes "export")) }
@@ -166,9 +167,9 @@ impl Work {
     }
 }
 
-/// The operands among the words after a command's name; none where one is an option.
+/// The operands among the arguments after a command's name, or `None` if one of them is an option.
 ///
-/// The words after the first `--` are operands as they stand.
+/// All arguments after the first `--` are operands.
 fn operands(mut words: Vec<String>) -> Option<Vec<String>>
     ensures { option_map (λ operands. map string_bytes operands.items) result
         ≡ operands_of (map string_bytes words.items) }
@@ -185,7 +186,7 @@ fn operands(mut words: Vec<String>) -> Option<Vec<String>>
     Some(words)
 }
 
-/// Whether a word is an option: a hyphen and more.
+/// Whether an argument is an option: a hyphen followed by anything else.
 fn is_option(word: &str) -> bool
     ensures { result ≡ is_option word.now }
 {

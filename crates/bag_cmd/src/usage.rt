@@ -1,20 +1,20 @@
-//! What is said of a command line that names no command: the texts of help and of refusals.
+//! The texts for a command line that is no known command: help and usage errors.
 
 use clap::error::ErrorKind;
 use clap::{Arg, Command};
 use std::alloc::{AllocError, Global};
 
-/// What is said of a command line that names no command.
+/// The answer to a command line that is no known command.
 #[derive(Debug, Drop)]
 pub enum Usage {
-    /// They ask for help, which this is.
+    /// The help text that was asked for.
     Help(String),
-    /// They are refused, for this reason.
+    /// The usage error.
     Refused(String),
 }
 
 impl Usage {
-    /// What is said of these words, which name no command.
+    /// The answer to these arguments, which are no known command.
     ///
     /// # Errors
     ///
@@ -47,7 +47,7 @@ fn command_line<'a>(alloc: Global) -> Result<Command<'a>, AllocError> {
     with_transfer_commands(alloc, command)
 }
 
-/// With the commands on folders.
+/// Adds the commands on folders.
 fn with_folder_commands<'a>(
     alloc: Global,
     command: Command<'a>,
@@ -67,7 +67,7 @@ fn with_folder_commands<'a>(
     command.subcommand(check)?.subcommand(make)
 }
 
-/// With the commands that bring something into a ledger.
+/// Adds the commands that write to a ledger.
 fn with_delivery_commands<'a>(
     alloc: Global,
     command: Command<'a>,
@@ -91,7 +91,7 @@ fn with_delivery_commands<'a>(
         .subcommand(fetch)
 }
 
-/// With the commands that tell or give out what is in a ledger.
+/// Adds the commands that read a ledger.
 fn with_transfer_commands<'a>(
     alloc: Global,
     command: Command<'a>,
@@ -122,7 +122,7 @@ fn on_transfer<'a>(alloc: Global, name: &'a str) -> Result<Command<'a>, AllocErr
         ))
 }
 
-/// A word that a command needs.
+/// A required operand.
 fn operand<'a>(alloc: Global, name: &'a str) -> Arg<'a> {
     Arg::new(alloc, name).required(true)
 }

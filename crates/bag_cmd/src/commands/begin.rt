@@ -1,4 +1,4 @@
-//! `bag begin LEDGER NAME DIR`: opens a transfer with the tag files of a folder.
+//! `bag begin LEDGER NAME DIR`: opens a transfer with the tag files in a folder.
 ghost use Rattle.bag_cmd.specs.Working.{BeginsWith};
 
 use crate::folder::{Directories, FolderTree};
@@ -9,8 +9,8 @@ use std::alloc::Global;
 use std::io::Write;
 use std::rt::Files;
 
-/// Opens a transfer with the tag files of a folder, prints the answer and answers the status, as [`begin_to`] does. Where the folder can't
-/// be opened, it prints why.
+/// Opens a transfer with the tag files in a folder, prints the result and returns the status, as [`begin_to`] does. If
+/// the folder can't be opened, prints why.
 pub fn begin_with_folder<K: Keeper, R: Files + Drop, D: Directories, W: Write + Drop>(
     rt: R,
     disk: &D,

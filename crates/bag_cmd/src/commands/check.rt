@@ -10,8 +10,8 @@ use std::rt::Files;
 #[cfg(test)]
 mod tests;
 
-/// Checks the bag in a folder, prints the answer and answers the status, as [`check_to`] does. Where the folder can't be
-/// opened, it prints why.
+/// Checks the bag in a folder, prints the result and returns the status, as [`check_to`] does. If the folder can't be
+/// opened, prints why.
 pub fn check_folder<R: Files + Drop, D: Directories, W: Write + Drop>(
     rt: R,
     disk: &D,

@@ -1,4 +1,4 @@
-//! `bag export LEDGER NAME DIR`: writes the bag that is held into a new folder.
+//! `bag export LEDGER NAME DIR`: writes the bag that is held to a new folder.
 ghost use Rattle.bag_cmd.specs.Working.{ExportsInto};
 
 use crate::folder::Destination;
@@ -10,10 +10,10 @@ use std::alloc::Global;
 use std::io::Write;
 use std::rt::Files;
 
-/// Writes the bag of a transfer as it is held into a folder that is made for it, prints the answer and answers the status, as
-/// [`export_to`] does. Where the folder can't be made, it prints why.
+/// Writes the bag of a transfer, as it is held, to a new folder, prints the result and returns the status, as
+/// [`export_to`] does. If the folder can't be made, prints why.
 ///
-/// The folder is given up unless the status is 0, and so removed where nothing was written into it.
+/// If the status isn't 0, the folder is given up, that is, removed if it is empty.
 pub fn export_into_folder<K: Keeper, R: Files, W: Write + Drop>(
     made: &mut Destination<'_, R>,
     alloc: Global,

@@ -1,4 +1,4 @@
-//! `bag fetch LEDGER NAME DIR`: seeks what `fetch.txt` lists and isn't held in a folder.
+//! `bag fetch LEDGER NAME DIR`: looks in a folder for the files that `fetch.txt` lists and that aren't held.
 ghost use Rattle.bag_cmd.specs.Working.{FetchesFrom};
 
 use crate::folder::FolderSupplier;
@@ -9,8 +9,9 @@ use std::alloc::Global;
 use std::io::Write;
 use std::rt::Files;
 
-/// Seeks each payload file that `fetch.txt` of a transfer lists and that isn't held in a folder, by its path and whatever its url, takes
-/// in what it finds, prints the answers and answers the status, as [`fetch_to`] does. Where the folder can't be opened, it prints why.
+/// Looks in a folder for each payload file that the transfer's `fetch.txt` lists and that isn't held, by its path and
+/// whatever its url. Takes in the files found, prints the results and returns the status, as [`fetch_to`] does. If the
+/// folder can't be opened, prints why.
 pub fn fetch_from_folder<K: Keeper, R: Files + Drop, W: Write + Drop>(
     rt: R,
     alloc: Global,

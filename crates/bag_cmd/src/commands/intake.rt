@@ -12,8 +12,8 @@ use std::alloc::Global;
 use std::io::Write;
 use std::rt::Files;
 
-/// Takes in the payload files of these folders for a transfer, prints the answers and answers the status, as [`intake_to`] does. Where
-/// one of them can't be opened, nothing is taken in, and it prints why.
+/// Takes in the payload files of these folders for a transfer, prints the results and returns the status, as
+/// [`intake_to`] does. If one of the folders can't be opened, takes in nothing and prints why.
 pub fn intake_folders<K: Keeper, R: Files, D: Directories, W: Write + Drop>(
     rt: &R,
     disk: &D,
@@ -32,7 +32,7 @@ pub fn intake_folders<K: Keeper, R: Files, D: Directories, W: Write + Drop>(
     }
 }
 
-/// Opens each folder, as a courier of its payload files.
+/// Opens each folder as a courier of its payload files.
 fn open_all<'a, R: Files, D: Directories>(
     rt: &'a R,
     disk: &D,

@@ -1,4 +1,4 @@
-//! The commands on a ledger: it is opened, worked on and closed.
+//! The commands on a ledger: opens it, does the work and closes it.
 ghost use Rattle.std.specs.Prelude.{IfOk};
 ghost use Rattle.bag_cmd.specs.Working.{DoesWork, IsOpenFor, WorksOn};
 
@@ -19,9 +19,9 @@ use std::fmt::{self, Display, Formatter};
 use std::io::Write;
 use std::rt::Files;
 
-/// Opens a ledger, does work on it, prints the answer and answers the status; where the ledger can't be opened it prints why.
+/// Opens a ledger, does the work, prints the result and returns the status. If the ledger can't be opened, prints why.
 ///
-/// `begin` makes a ledger if there is none; one that it made is removed if no transfer was opened.
+/// `begin` makes the ledger if there is none. A ledger that it made is removed if no transfer was opened.
 pub fn work_on_ledger<R: Files, D: Directories, L: Ledgers, W: Write + Drop>(
     rt: &R,
     disk: &D,
@@ -60,7 +60,7 @@ fn open<L: Ledgers>(ledgers: &mut L, ledger: &str, work: &Work) -> Result<L::Kep
     }
 }
 
-/// Whether no transfer is open. Where that can't be read, none that was answered is: the work failed.
+/// Whether the ledger has no transfers. If that can't be read, assumes so if the work failed.
 fn has_no_transfer<K: Keeper>(alloc: Global, receiver: &mut Receiver<K>, status: u8) -> bool {
     match receiver.names(alloc) {
         Ok(names) => names.is_empty(),
@@ -68,7 +68,7 @@ fn has_no_transfer<K: Keeper>(alloc: Global, receiver: &mut Receiver<K>, status:
     }
 }
 
-/// Does work on an open ledger.
+/// Does the work on an open ledger.
 fn do_work<K: Keeper, R: Files, D: Directories, W: Write + Drop>(
     rt: &R,
     disk: &D,
@@ -108,7 +108,7 @@ fn do_work<K: Keeper, R: Files, D: Directories, W: Write + Drop>(
     }
 }
 
-/// Why a ledger wasn't opened, as its line.
+/// The line that says why a ledger wasn't opened.
 #[derive(Clone, Copy)]
 struct UnopenedLine<'a>(&'a AdoptFault);
 

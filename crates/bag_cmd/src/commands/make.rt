@@ -10,22 +10,22 @@ use std::alloc::Global;
 use std::io::Write;
 use std::rt::Files;
 
-/// What `make` was asked for.
+/// The operands of `make`.
 #[derive(Clone, Copy)]
 pub struct Making<'a> {
-    /// The name of the folder with the payload.
+    /// The name of the folder that contains the payload.
     pub source: &'a str,
-    /// The name of the folder for the bag, which must not be there yet.
+    /// The name of the folder to make for the bag. It must not exist yet.
     pub destination: &'a str,
     /// The names of algorithms.
     pub names: &'a [String],
 }
 
-/// Writes the bag of the files in a folder into another, which is made for it, prints the answer and answers the status, as
-/// [`make_to`] does. Where the first can't be opened, or the second can't be made, it prints why.
+/// Writes a bag of the files in a folder to a new folder, prints the result and returns the status, as [`make_to`]
+/// does. If the source can't be opened or the destination can't be made, prints why.
 ///
-/// The first is opened before the second is made, and that before the names are looked at. The second is given up unless the status
-/// is 0, and so removed where nothing was written into it.
+/// The source is opened first, then the destination is made, and then the names of the algorithms are checked. If the
+/// status isn't 0, the destination is given up, that is, removed if it is empty.
 pub fn make_folder<R: Files, D: Directories, W: Write + Drop>(
     rt: &R,
     disk: &D,
@@ -43,7 +43,7 @@ pub fn make_folder<R: Files, D: Directories, W: Write + Drop>(
     }
 }
 
-/// Makes the folder for the bag, and the bag of a tree's payload files in it.
+/// Makes the folder for the bag, and in it the bag of a tree's files.
 fn make_into<T: Tree, R: Files, W: Write + Drop>(
     alloc: Global,
     making: &Making<'_>,

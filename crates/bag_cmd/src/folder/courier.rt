@@ -1,4 +1,4 @@
-//! The payload files of a tree, brought one after another.
+//! Delivers the payload files of a tree one after another.
 ghost use Rattle.std.specs.Io.KnownBytes.{ReadConsumes};
 ghost use Rattle.std.specs.Prelude.{◌≡◌, ◌≤◌, [], IfNone, IfSome, IfOk, IsErr, None, Ok, false, is_some, length};
 ghost use Rattle.bag_cmd.specs.Bringing.{courier_of, IsFoundAt, IsReady, SameItem, left_of, payload_from};
@@ -11,16 +11,16 @@ use std::marker::Model;
 #[cfg(test)]
 mod tests;
 
-/// Brings the payload files of a tree, each once, in the order of their paths.
+/// Delivers the payload files of a tree, each once, in the order of their paths.
 ///
-/// A file is started at its first read. So one of which nothing is read is never opened, and where one can't be opened
-/// that read fails.
+/// A file is opened at its first read. So a file of which nothing is read is never opened, and if a file can't be
+/// opened, its first read fails.
 #[derive(Drop)]
 pub struct TreeCourier<T: Tree> {
     tree: T,
-    // the place that the next file is sought from
+    // where the search for the next file begins
     place: usize,
-    // the place of the file that came last
+    // the index of the current file
     came: Option<usize>,
     is_started: bool,
     failures: Failures,
@@ -59,7 +59,7 @@ impl<T: Tree> TreeCourier<T> {
         }
     }
 
-    /// Reads on in the file that came last, which is started where it isn't yet.
+    /// Reads from the current file, and opens it first if necessary.
     fn read_on(&mut self, buf: &mut [u8]) -> Result<usize, Failed>
         ensures bound { IfOk result (λ n. n ≤ length buf.new) }
         ensures octets { ReadConsumes (left_of T.shown T.remaining self.old)
@@ -120,7 +120,7 @@ impl<T: Tree> Courier for TreeCourier<T> {
 
     ghost steady = { λ _. Unit {0} };
 
-    /// Goes on to the next payload file. Nothing is started, and it never fails.
+    /// Goes on to the next payload file, without opening it. Never fails.
     fn next(&mut self) -> Result<bool, Failed>
         ensures came { IfOk result (λ more. ComesNext
             (to_come (T.shown self.old.tree) self.old.place) more
@@ -153,7 +153,7 @@ impl<T: Tree> Courier for TreeCourier<T> {
     ghost keeps_item = { keeps_item T.shown };
 }
 
-/// The place of the first payload file from a place on.
+/// The index of the first payload file from `place` on.
 fn next_payload<T: Tree>(tree: &T, place: usize) -> Option<usize>
     ensures found { IfSome result (IsFoundAt (T.shown tree.now) place) }
     ensures none { IfNone result (payload_from (T.shown tree.now) place ≡ []) }

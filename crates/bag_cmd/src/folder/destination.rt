@@ -1,4 +1,4 @@
-//! Where a folder is made for a bag.
+//! Makes the folder for a new bag.
 ghost use Rattle.std.specs.Prelude.{◌≡◌, IfOk, MatchResult, None, Some};
 ghost use Rattle.bag_cmd.specs.SinkFolders.{IsCreated};
 
@@ -8,7 +8,7 @@ use std::fs;
 use std::marker::Model;
 use std::rt::Files;
 
-/// The folders of the system, and the one among them that was made for a bag and not given up.
+/// The file system, and the folder in it that was made for a bag and hasn't been given up.
 #[derive(Drop)]
 pub struct Destination<'a, R: Files> {
     rt: &'a R,
@@ -24,7 +24,7 @@ impl<'a, R: Files> Model for Destination<'a, R> {
 }
 
 impl<'a, R: Files> Destination<'a, R> {
-    /// No folder was made yet.
+    /// No folder is made yet.
     pub fn new(rt: &'a R) -> Self
         ensures { result ≡ None }
     {
@@ -35,7 +35,7 @@ impl<'a, R: Files> Destination<'a, R> {
     ///
     /// # Errors
     ///
-    /// As there. No folder is made then.
+    /// Those of [`FolderSink::create`]. No folder is made then.
     pub fn create(&mut self, alloc: Global, folder: &str) -> Result<FolderSink<&'a R>, OpenFault>
         ensures created { IfOk result (IsCreated folder.now) }
         ensures made { MatchResult result
@@ -47,7 +47,7 @@ impl<'a, R: Files> Destination<'a, R> {
         Ok(sink)
     }
 
-    /// Gives up the folder that was made: it is removed, unless something is in it.
+    /// Gives up the folder that was made: removes it if it is empty.
     pub fn give_up(&mut self)
         ensures { self.new ≡ None }
     {

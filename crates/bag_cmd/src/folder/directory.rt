@@ -1,4 +1,4 @@
-//! What gives the entries of directories.
+//! Looks up the entries of directories.
 ghost use Rattle.std.specs.Prelude.{◌≡◌, IfOk, List};
 ghost use Rattle.std.specs.Iterator.{Drains, IsFinite};
 ghost use Rattle.bag_cmd.specs.Directories.{AreGiven};
@@ -10,14 +10,14 @@ use std::io;
 use std::marker::Model;
 use std::rt::Files;
 
-/// What an entry of a directory is. A link is neither a file nor a directory here, wherever it leads.
+/// The kind of a directory entry. A symbolic link is `Other`, wherever it leads.
 #[derive(Clone, Copy, Debug, PartialEq, Eq)]
 pub enum EntryKind {
-    /// A plain file.
+    /// A regular file.
     File,
     /// A directory.
     Directory,
-    /// A link, a fifo, a socket or a device.
+    /// A symbolic link, a named pipe, a socket or a device.
     Other,
 }
 
@@ -25,7 +25,7 @@ impl EntryKind {
     ghost use Rattle.std.specs.Fs.{IsDir, IsFile};
     ghost use Rattle.std.specs.Prelude.{◌↔◌};
 
-    /// What a file type of the system is.
+    /// The kind for a file type of the operating system.
     pub fn of(kind: FileType) -> EntryKind
         ensures file { (result ≡ EntryKind.File) ↔ IsFile kind }
         ensures directory { (result ≡ EntryKind.Directory) ↔ IsDir kind }
@@ -45,7 +45,7 @@ impl EntryKind {
 pub struct Entry {
     /// The file name.
     pub name: String,
-    /// What it is.
+    /// The kind.
     pub kind: EntryKind,
 }
 
@@ -58,25 +58,26 @@ impl Model for Entry {
     ghost view = { λ entry. record { name = string_bytes entry.name; kind = entry.kind } };
 }
 
-/// Where directories are looked up.
+/// A source of directory entries.
 pub trait Directories {
     ghost use Rattle.std.specs.Prelude.{◌≡◌, Option, Some};
     ghost use Rattle.bag_cmd.specs.Directories.{AnswersEntries, Listing};
 
-    /// The entries of all directories, where they are known.
+    /// The entries of all directories, if they are known.
     ghost listing: { Self → Option Listing };
 
-    /// The entries of the directory with this name, but for itself and the one that it is in.
+    /// The entries of the directory with this name, without `.` and `..`.
     ///
     /// # Errors
     ///
-    /// `Files` where the directory isn't there or can't be read, or one of its names isn't UTF-8. `Memory` where memory ran out.
+    /// `Files` if the directory doesn't exist or can't be read, or one of its names isn't UTF-8. `Memory` if memory
+    /// runs out.
     fn entries(&self, alloc: Global, directory: &str) -> Result<Vec<Entry>, OpenFault>
         ensures { (known : Listing) → listing self.now ≡ Some known
             → AnswersEntries (λ entries. entries.items) known directory.now result };
 }
 
-/// The directories of the system. Nothing is known of their entries.
+/// The directories of the file system. Nothing is known of their entries.
 #[derive(Drop)]
 pub struct Disk<'a, R>(pub &'a R);
 
@@ -90,11 +91,11 @@ impl<R: Files> Directories for Disk<'_, R> {
     }
 }
 
-/// The entries that a directory of the system gives, each by its name, up to the end. What it gives nobody knows.
+/// All the entries that the operating system gives for a directory. Nothing is known of them.
 ///
 /// # Errors
 ///
-/// `Files` where an error was given for an entry, or what it is can't be looked up. `Memory` where memory ran out.
+/// `Files` if reading an entry fails, or its type can't be determined. `Memory` if memory runs out.
 fn gathered<R: Files + Drop, I: Iterator<Item = io::Result<DirEntry<R>>>>(
     alloc: Global,
     directory: I,

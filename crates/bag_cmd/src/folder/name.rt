@@ -1,4 +1,4 @@
-//! The names of what is below a folder.
+//! The names of files below a folder.
 ghost use Rattle.std.specs.Prelude.{◌≡◌, ◌++◌, OnOk, OnSome, string_bytes};
 ghost use Rattle.bag_cmd.specs.Directories.{name_below};
 
@@ -6,7 +6,8 @@ use std::alloc::AllocError;
 use std::fs;
 use std::rt::Files;
 
-/// The file with this path from the folder, open to be read. `name` is written over, and grows only where it has no room.
+/// Opens the file with this path in the folder for reading. `name` is overwritten, and grows only if its capacity isn't
+/// enough.
 pub fn opened<R: Files>(rt: &R, name: &mut String, folder: &str, path: &str) -> Option<R::File>
     ensures { OnSome result (string_bytes name.new ≡ name_below folder.now path.now) }
 {
@@ -15,9 +16,9 @@ pub fn opened<R: Files>(rt: &R, name: &mut String, folder: &str, path: &str) -> 
     fs::File::open(rt, name.as_str()).ok()
 }
 
-/// The file with this path from the folder, made and open to be written. It must not be there yet. The directories on the way are
-/// made too, unless `made` names the one that the file is in; it names that one then. `name` and `made` are written over, and grow
-/// only where they have no room.
+/// Creates the file with this path in the folder and opens it for writing. It must not exist yet. The parent
+/// directories are created too, unless `made` is already the file's directory; afterwards `made` is that directory.
+/// `name` and `made` are overwritten, and grow only if their capacity isn't enough.
 pub fn created<R: Files>(
     rt: &R,
     name: &mut String,
@@ -38,7 +39,7 @@ pub fn created<R: Files>(
     fs::File::create_new(rt, name.as_str()).ok()
 }
 
-/// Writes a path below a folder.
+/// Appends the name of a path below a folder.
 pub fn spell(name: &mut String, folder: &str, path: &str) -> Result<(), AllocError>
     ensures { OnOk result (string_bytes name.new
         ≡ string_bytes name.old ++ name_below folder.now path.now) }

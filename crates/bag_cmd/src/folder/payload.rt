@@ -8,7 +8,7 @@ use super::directory::{Directories, Entry, EntryKind};
 use super::name::spell;
 use std::alloc::{AllocError, Global};
 
-/// The directories where one folder is the payload directory of the one that it is named as.
+/// The directories as seen from a bag whose payload directory is the given folder.
 #[derive(Drop)]
 pub struct InPayload<'a, D> {
     /// Where directories are looked up.
@@ -31,7 +31,7 @@ impl<D: Directories> Directories for InPayload<'_, D> {
     }
 }
 
-/// The name outside the bag of a directory in the payload directory.
+/// The name outside the bag of a directory inside the payload directory.
 fn name_outside(alloc: Global, folder: &str, directory: &str) -> Result<String, AllocError>
     ensures { IfOk result (λ name. string_bytes name
         ≡ name_below folder.now (without (name_below folder.now (codes "data/")) directory.now)) }
@@ -44,7 +44,7 @@ fn name_outside(alloc: Global, folder: &str, directory: &str) -> Result<String, 
     Ok(name)
 }
 
-/// The text without this at its front, where it is there.
+/// The text without this prefix, if it has it.
 fn without<'a>(front: &str, text: &'a str) -> &'a str
     ensures { result.now ≡ without front.now text.now }
 {
@@ -54,7 +54,7 @@ fn without<'a>(front: &str, text: &'a str) -> &'a str
     }
 }
 
-/// The payload directory alone.
+/// The payload directory as the only entry.
 fn payload_alone(alloc: Global) -> Result<Vec<Entry>, OpenFault>
     ensures alone { IfOk result (λ entries. entries.items
         ≡ data_entry ∷ []) }

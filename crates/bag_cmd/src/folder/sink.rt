@@ -1,4 +1,4 @@
-//! A folder on disk that a bag is written into.
+//! A folder on disk that a bag is written to.
 ghost use Rattle.std.specs.Prelude.{◌≡◌, ◌||◌, IfOk, IsErr, None, OnErr, OnOk, [], codes, false, is_ok, is_some, true};
 ghost use Rattle.std.specs.Option.{option_map};
 ghost use Rattle.bag_cmd.specs.SinkFolders.{IsCreated};
@@ -14,14 +14,14 @@ use std::io::Write;
 use std::marker::Model;
 use std::rt::Files;
 
-/// A folder that files are written into, each under its path. Nothing is claimed of what it holds.
+/// A folder that files are written to, each at its path. Nothing is claimed about its content.
 #[derive(Drop)]
 pub struct FolderSink<R: Files> {
     rt: R,
     folder: String,
-    // the name of the file or directory that was made last; it has room for each
+    // the name of the last file or directory made; its capacity is enough for all names
     name: String,
-    // the name of the directory that a file was made in last; it has room for each
+    // the name of the directory that the last file was made in; its capacity is enough for all names
     made: String,
     file: Option<R::File>,
     failures: Failures,
@@ -42,12 +42,12 @@ impl<R: Files> Model for FolderSink<R> {
 }
 
 impl<R: Files + Drop> FolderSink<R> {
-    /// Makes the folder, which must not be there yet. The one that it is to stand in must be.
+    /// Makes the folder. It must not exist yet, but its parent must.
     ///
     /// # Errors
     ///
-    /// `Files` where the folder can't be made, as where something with its name is there. `Memory` where memory ran out; no folder
-    /// is made then.
+    /// `Files` if the folder can't be made, for example because something with its name exists. `Memory` if memory runs
+    /// out; no folder is made then.
     pub fn create(rt: R, alloc: Global, folder: &str) -> Result<FolderSink<R>, OpenFault>
         ensures no_name { folder.now ≡ [] → result ≡ Err OpenFault.Files }
         ensures created { IfOk result (IsCreated folder.now) }
@@ -97,7 +97,7 @@ impl<R: Files> Sink for FolderSink<R> {
         self.failures.counted(answer)
     }
 
-    /// Makes the directories on the way to the file, and the file, which must not be there yet. It takes no memory.
+    /// Creates the file, which must not exist yet, and its parent directories. Allocates no memory.
     fn file(&mut self, path: &BagPath) -> Result<(), Failed>
         ensures free { OnOk result ((is_some self.old.written ≡ false)
             × IsFree None path.now) }
@@ -126,7 +126,7 @@ impl<R: Files> Sink for FolderSink<R> {
         self.failures.counted(answer)
     }
 
-    /// Hands the octets to the system.
+    /// Passes the octets to the operating system.
     fn write(&mut self, octets: &[u8]) -> Result<(), Failed>
         ensures closed { is_some self.old.written ≡ false → IsErr result }
         ensures open { is_some self.new.written ≡ is_some self.old.written }
@@ -141,7 +141,7 @@ impl<R: Files> Sink for FolderSink<R> {
         self.failures.counted(answer)
     }
 
-    /// Closes the file. It isn't waited for that it is on the disk.
+    /// Closes the file, without waiting until its content is on the disk.
     fn end(&mut self) -> Result<(), Failed>
         ensures closed { is_some self.old.written ≡ false → IsErr result }
         ensures open { OnOk result (is_some self.new.written ≡ false) }

@@ -17,12 +17,12 @@ use std::rt::Files;
 #[cfg(test)]
 mod tests;
 
-/// Has the files below a folder, each by its path from it and whatever its url. Nothing is claimed of what they hold.
+/// Supplies the files below a folder by their paths, whatever their urls. Nothing is claimed about their content.
 #[derive(Drop)]
 pub struct FolderSupplier<R: Files> {
     rt: R,
     folder: String,
-    // the name of the file that was sought last; it has room for each
+    // the name of the last file looked up; its capacity is enough for all names
     name: String,
     file: Option<R::File>,
     failures: Failures,
@@ -45,11 +45,12 @@ impl<R: Files> Model for FolderSupplier<R> {
 }
 
 impl<R: Files + Drop> FolderSupplier<R> {
-    /// A supplier of what is below this folder, which may be named by a link. It isn't looked through.
+    /// A supplier of the files below this folder, which may be given as a symbolic link. Nothing below the folder is
+    /// read.
     ///
     /// # Errors
     ///
-    /// `Files` where it isn't there or is no folder. `Memory` where memory ran out.
+    /// `Files` if it doesn't exist or isn't a folder. `Memory` if memory runs out.
     pub fn open(rt: R, alloc: Global, folder: &str) -> Result<FolderSupplier<R>, OpenFault>
         ensures no_name { folder.now ≡ [] → result ≡ Err OpenFault.Files }
         ensures opened { IfOk result (IsReadyFolder folder.now) }
@@ -112,7 +113,7 @@ impl<R: Files> Source for FolderSupplier<R> {
 
     ghost keeps = { AsOftenAsked };
 
-    /// Reads on in the file that is open. Where none is, it fails.
+    /// Reads from the open file. Fails if no file is open.
     fn read(&mut self, buf: &mut [u8]) -> Result<usize, Failed>
         ensures bound { IfOk result (λ n. n ≤ length buf.new) }
         ensures octets { ReadConsumes None None result buf.new }
@@ -150,13 +151,14 @@ impl<R: Files + Drop> Supplier for FolderSupplier<R> {
 
     ghost asks = { λ supplier. supplier.asks };
 
-    /// Opens the file with this path below the folder, whatever the url. There is none where nothing has this path, also where a file
-    /// is on the way. It takes no memory.
+    /// Opens the file with this path below the folder, whatever its url. Returns `false` if nothing has this path, also
+    /// if a parent of the path is a file. Allocates no memory.
     ///
     /// # Errors
     ///
-    /// Something else than a plain file has this path, something else than a folder is on the way, as a link, or the file
-    /// can't be opened. No link is followed below the folder, and no fifo is opened.
+    /// The path is something other than a regular file, a parent of the path is something other than a directory, such
+    /// as a symbolic link, or the file can't be opened. Below the folder no symbolic link is followed and no named pipe
+    /// is opened.
     fn ask(&mut self, _url: &str, path: &str) -> Result<bool, Failed>
         ensures supplied { IfOk result (λ has. IsSupplied None _url.now path.now has None) }
         ensures open { is_some self.new.to_read ≡ true → result ≡ Ok true }
@@ -177,17 +179,17 @@ impl<R: Files + Drop> Supplier for FolderSupplier<R> {
     ghost keeps_supply = { keeps_nothing };
 }
 
-/// What is at a name.
+/// What a name refers to.
 #[derive(Clone, Copy, Debug, PartialEq, Eq)]
 enum Standing {
     Nothing,
     File,
     Directory,
-    // as a link or a fifo
+    // such as a symbolic link or a named pipe
     Other,
 }
 
-/// What is at this path below the folder, which no link leads to: nothing, too, where a file is on the way.
+/// What this path below the folder refers to, without following symbolic links. `Nothing` also if a parent is a file.
 fn standing_below<R: Files>(
     rt: &R,
     name: &mut String,
@@ -210,7 +212,7 @@ fn standing_below<R: Files>(
     Ok(standing)
 }
 
-/// What is at this name, where only directories are on the way.
+/// What this name refers to, if all its parents are directories.
 fn standing_at<R: Files>(rt: &R, name: &str) -> Result<Standing, Failed> {
     match fs::symlink_metadata(rt, name) {
         Ok(about) if about.is_file() => Ok(Standing::File),
@@ -221,7 +223,7 @@ fn standing_at<R: Files>(rt: &R, name: &str) -> Result<Standing, Failed> {
     }
 }
 
-/// Adds a text to a name, which has room for it.
+/// Appends a text to a name, whose capacity is enough.
 fn push(name: &mut String, text: &str) -> Result<(), Failed> {
     name.push_str(text).map_err(|_| Failed)
 }

@@ -28,7 +28,7 @@ fn has_paths<T: Tree>(tree: &T, paths: &[&str]) -> bool {
     tree.count() == paths.len() && (0..paths.len()).all(|i| path_at(tree, i) == paths[i])
 }
 
-/// Starts a file and reads these octets, and then its end.
+/// Whether the file can be started, and these octets are read and then the end.
 fn reads<T: Tree>(tree: &mut T, i: usize, octets: &[u8]) -> bool {
     let mut buf = [0; 16];
     start(tree, i).is_ok()
@@ -37,7 +37,7 @@ fn reads<T: Tree>(tree: &mut T, i: usize, octets: &[u8]) -> bool {
         && tree.read(&mut buf) == Ok(0)
 }
 
-/// Whether there is no such file to start, a read then fails, and this many calls have failed by then.
+/// Whether starting this file and reading fail, and the count of failures is then this.
 fn fails<T: Tree>(tree: &mut T, i: usize, failures: u64) -> bool {
     start(tree, i).is_err() && tree.read(&mut [0; 16]).is_err() && tree.failures() == failures
 }
@@ -66,7 +66,7 @@ fn the_whole_paths_stand_in_the_order_of_their_octets(rt: HostRuntime) -> Result
     Ok(())
 }
 
-/// Tells of one directory more, with these entries.
+/// Adds a directory with these entries.
 fn tell(
     alloc: Global,
     told: &mut Vec<Told>,

@@ -1,4 +1,4 @@
-//! Directories whose entries are told, for the tests: what a walk finds in them is known.
+//! Directories with given entries, for tests: what a walk finds in them is known.
 ghost use Rattle.std.specs.Prelude.{◌≡◌, IfErr, IfOk};
 
 use super::OpenFault;
@@ -9,9 +9,9 @@ use std::marker::Model;
 /// A directory with its entries.
 #[derive(Drop)]
 pub struct Told {
-    /// Its name, a slash at the end.
+    /// Its name, with a slash at the end.
     pub name: String,
-    /// What it holds.
+    /// Its entries.
     pub entries: Vec<Entry>,
 }
 
@@ -24,7 +24,7 @@ impl Model for Told {
     ghost view = { λ told. record { name = string_bytes told.name; entries = told.entries.items } };
 }
 
-/// Directories, of which the first with a name is meant. No other is there.
+/// Directories with given entries. Of several with the same name, the first counts; all others don't exist.
 #[derive(Drop)]
 pub struct ToldDirectories {
     /// The directories.
@@ -47,7 +47,7 @@ impl Directories for ToldDirectories {
     }
 }
 
-/// The same entries.
+/// A copy of the entries.
 fn copies(alloc: Global, entries: &[Entry]) -> Result<Vec<Entry>, OpenFault>
     ensures same { IfOk result (λ copies. copies.items ≡ entries.now) }
     ensures memory { IfErr result (λ fault. fault ≡ OpenFault.Memory) }

@@ -20,13 +20,13 @@ use std::io::Read;
 use std::marker::Model;
 use std::rt::Files;
 
-/// The files below a folder, by their paths from it. Nothing is claimed of what they hold.
+/// The files below a folder, by their paths in the folder. Nothing is claimed about their content.
 #[derive(Drop)]
 pub struct FolderTree<R: Files> {
     rt: R,
     folder: String,
     place: Place,
-    // the name of the file that was sought last; it has room for each
+    // the name of the last file looked up; its capacity is enough for all names
     name: String,
     paths: Vec<BagPath>,
     has_dir: bool,
@@ -53,17 +53,18 @@ impl<R: Files> Model for FolderTree<R> {
 }
 
 impl<R: Files + Drop> FolderTree<R> {
-    /// Looks at the whole folder, and takes each file in it or below it under its path from the folder.
+    /// Reads the whole folder, and lists every file in it or below it under its path in the folder.
     ///
-    /// The folder may be named with a slash at the end, and the name may be that of a link to a folder; below it no link is followed.
-    /// Empty directories are passed over, but for `data/`, which is the payload directory without a file (RFC 8493 section 2.1.2).
+    /// The name of the folder may end in a slash, and it may be a symbolic link to a folder; below it no symbolic link
+    /// is followed. Empty directories are ignored, except `data/`, which is a payload directory without files (RFC 8493
+    /// section 2.1.2).
     ///
     /// # Errors
     ///
-    /// `Files` where the folder isn't there, isn't a folder or can't be read, and where something in it or below it is neither
-    /// a plain file nor a directory (a link, a fifo, a socket, a device), has a name that isn't UTF-8, or has a path that
-    /// [`BagPath::parse`] refuses (longer than 4,096 octets; a plain file named `data` in the folder itself).
-    /// `Memory` where memory ran out. No file is opened.
+    /// `Files` if the folder doesn't exist, isn't a folder or can't be read; or if something in it or below it is
+    /// neither a regular file nor a directory (a symbolic link, a named pipe, a socket, a device), has a name that
+    /// isn't UTF-8, or has a path that [`BagPath::parse`] refuses (longer than 4,096 octets; a regular file named
+    /// `data` in the folder itself). `Memory` if memory runs out. No file is opened.
     pub fn open<D: Directories>(
         rt: R,
         disk: &D,
@@ -77,13 +78,14 @@ impl<R: Files + Drop> FolderTree<R> {
         FolderTree::open_at(rt, disk, alloc, folder, Place::Base)
     }
 
-    /// The same, with the files in the payload directory: each under `data/` and its path from the folder. So a plain file named
-    /// `data` in the folder is the payload file `data/data`. The payload directory is there.
+    /// Does the same, with the files in the payload directory: each has the path `data/` followed by its path in the
+    /// folder. So a regular file named `data` in the folder is the payload file `data/data`. The payload directory
+    /// always exists.
     ///
     /// # Errors
     ///
-    /// As of [`FolderTree::open`], but that the folder may hold a plain file named `data`, and that a path from it may have no more
-    /// than 4,091 octets.
+    /// Those of [`FolderTree::open`], except that the folder may contain a regular file named `data`, and that a path
+    /// in the folder is limited to 4,091 octets.
     pub fn open_payload<D: Directories>(
         rt: R,
         disk: &D,
@@ -100,7 +102,7 @@ impl<R: Files + Drop> FolderTree<R> {
         FolderTree::open_at(rt, &inside, alloc, folder, Place::Payload)
     }
 
-    /// The tree of the files that these directories list below the folder.
+    /// The tree of the files below the folder that these directories list.
     fn open_at<D: Directories>(
         rt: R,
         disk: &D,
@@ -122,7 +124,7 @@ impl<R: Files + Drop> FolderTree<R> {
     }
 }
 
-/// The tree of what is below this folder.
+/// The tree of what was found below this folder.
 fn tree_of<R: Files + Drop>(
     rt: R,
     folder: String,
@@ -177,7 +179,7 @@ impl<R: Files> Source for FolderTree<R> {
 
     ghost keeps = { SameShown };
 
-    /// Reads on in the file that is open. Where none is, it fails.
+    /// Reads from the open file. Fails if no file is open.
     fn read(&mut self, buf: &mut [u8]) -> Result<usize, Failed>
         ensures bound { IfOk result (λ n. n ≤ length buf.new) }
         ensures octets { ReadConsumes None None result buf.new }
@@ -225,8 +227,8 @@ impl<R: Files> Tree for FolderTree<R> {
 
     /// Closes the file that was open, and opens this one.
     ///
-    /// It fails where the file is no longer there or can't be read; then none is open. It takes no memory. The folder is taken to be
-    /// as it was when it was looked at: a fifo that was put in a file's place since then is waited for.
+    /// Fails if the file no longer exists or can't be read; no file is open then. Allocates no memory. The folder is
+    /// assumed to be unchanged since it was read: opening a named pipe that has replaced a file since then would block.
     fn start(&mut self, i: usize) -> Result<(), Failed>
         requires { i < length (paths_in self.old.shown) }
         ensures started { OnOk result (None ≡ octets_in self.old.shown i) }

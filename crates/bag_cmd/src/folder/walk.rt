@@ -15,16 +15,16 @@ use std::marker::Model;
 pub struct Below {
     /// The paths of the files.
     pub paths: Vec<BagPath>,
-    /// Whether the payload directory is there.
+    /// Whether there is a payload directory.
     pub has_dir: bool,
 }
 
-/// What a walk has found, and the directories that it has still to look into.
+/// What a walk has found, and the directories that it still has to read.
 #[derive(Drop)]
 struct Found {
     paths: Vec<BagPath>,
     has_dir: bool,
-    // by their paths from the folder, each with a slash at its end; the folder itself is empty
+    // their paths from the folder, each followed by a slash; empty for the folder itself
     left: Vec<String>,
 }
 
@@ -44,7 +44,7 @@ impl Model for Found {
 impl Found {
     ghost use Rattle.bag_cmd.specs.Walks.{FitsBag, with_path};
 
-    /// Takes what is at this path.
+    /// Adds what was found at this path.
     fn take(&mut self, alloc: Global, path: String, kind: EntryKind) -> Result<(), OpenFault>
         ensures taken { OnOk result (self.new ≡ with_path self.old (string_bytes path) kind) }
         ensures fits { OnOk result (FitsBag (string_bytes path) kind) }
@@ -63,7 +63,7 @@ impl Found {
         Ok(())
     }
 
-    /// The directory to look into next.
+    /// The directory to read next.
     fn next(&mut self) -> Option<String>
         ensures { MatchOption result ((self.old.left ≡ []) × (self.new ≡ self.old))
             (λ front. self.old
@@ -73,11 +73,11 @@ impl Found {
     }
 }
 
-/// All that is below a folder.
+/// Everything below a folder.
 ///
 /// # Errors
 ///
-/// `Files` where a directory can't be read, or something can't be in a bag. `Memory` where memory ran out.
+/// `Files` if a directory can't be read, or something isn't allowed in a bag. `Memory` if memory runs out.
 pub fn walk<D: Directories>(disk: &D, alloc: Global, folder: &str) -> Result<Below, OpenFault>
     ensures { (listing : Listing) → D.listing disk.now ≡ Some listing → MatchResult result
         (λ below. IsBelow listing folder.now below.paths.items below.has_dir)
@@ -89,7 +89,7 @@ pub fn walk<D: Directories>(disk: &D, alloc: Global, folder: &str) -> Result<Bel
         left: Vec::new(alloc),
     };
     found.left.push(String::new(alloc))?;
-    // The walk ends where no directory is left. The number is a bound for the proof that it ends, past what memory holds.
+    // The walk ends when no directory is left. The proof that it ends needs a bound, and this one exceeds any memory.
     for _ in 0..u64::MAX {
         let Some(front) = found.next() else {
             return Ok(Below {
@@ -102,7 +102,7 @@ pub fn walk<D: Directories>(disk: &D, alloc: Global, folder: &str) -> Result<Bel
     Err(OpenFault::Memory)
 }
 
-/// Takes what is in the directory at a front.
+/// Adds what is in the directory `front`.
 fn look_into<D: Directories>(
     disk: &D,
     alloc: Global,

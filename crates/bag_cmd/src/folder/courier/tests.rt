@@ -5,12 +5,12 @@ use bag_receiver::Courier;
 use std::fs;
 use std::test::Fail;
 
-/// Goes on to the next file, which has this path.
+/// Whether the next file has this path.
 fn comes<C: Courier>(courier: &mut C, path: &str) -> bool {
     courier.next() == Ok(true) && courier.path() == path
 }
 
-/// Reads these octets, and then the end.
+/// Whether these octets are read, and then the end.
 fn reads<C: Courier>(courier: &mut C, octets: &[u8]) -> bool {
     let mut buf = [0; 16];
     courier.read(&mut buf) == Ok(octets.len())
@@ -18,7 +18,7 @@ fn reads<C: Courier>(courier: &mut C, octets: &[u8]) -> bool {
         && courier.read(&mut buf) == Ok(0)
 }
 
-/// Whether no file is left, a read fails, and this is how often reads have failed and `next` was called by then.
+/// Whether no file is left, a read fails, and the counts of failures and of calls of `next` are then these.
 fn ends<C: Courier>(courier: &mut C, failures: u64, nexts: u64) -> bool {
     courier.next() == Ok(false)
         && courier.path() == ""
@@ -48,7 +48,7 @@ fn the_payload_files_of_a_folder_come_by_their_paths(rt: HostRuntime) -> Result<
     assert!(rt; comes(&mut courier, "data/k.txt"));
     assert!(rt; reads(&mut courier, b"first"));
     assert!(rt; comes(&mut courier, "data/k/x"));
-    // It is opened at its first read alone.
+    // It is only opened at its first read.
     fs::remove_file(&rt, "bag_cmd_test_courier/data/k0")?;
     assert!(rt; comes(&mut courier, "data/k0"));
     assert!(rt; courier.read(&mut [0; 16]).is_err());

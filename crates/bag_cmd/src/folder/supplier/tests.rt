@@ -27,7 +27,7 @@ fn a_folder_supplies_its_plain_files_by_their_paths(rt: HostRuntime) -> Result<(
     assert_eq!(rt; supplier.read(&mut buf), Ok(6));
     assert!(rt; buf.starts_with(b"octets"));
     assert_eq!(rt; supplier.read(&mut buf), Ok(0));
-    // A file that another name stands for is none, and neither is one below a file.
+    // A path through a symbolic link isn't a file, and neither is a path below a file.
     for path in ["data/k/y", "data/y", "data/k/x/y", "tag"] {
         assert_eq!(rt; supplier.ask("http:x", path), Ok(false), "{path}");
         assert_eq!(rt; supplier.read(&mut buf), Err(Failed));

@@ -11,7 +11,7 @@ use Rattle.bag_commands.specs.Printing.{Printed}
 use Rattle.bag_commands.specs.StopTexts.{stop_text}
 use Rattle.bag_cmd.proofs.commands.check.check_folder.Goals as goal
 
--- why a folder wasn't opened was printed
+-- the reason why the folder wasn't opened was printed
 not_opened : {W : Type 0} (contents : W → Option (List ℕ)) (known : Option Listing) (folder : List ℕ) (old new : Output W) (result : ℕ) (fault : OpenFault)
     → (fault ≡ open_fault.Files → IsRefused known folder) → Printed contents old new result (stop_text (stop_of_open fault) ∷ []) FAILED
     → PrintsCheck contents known folder old new result

@@ -11,7 +11,7 @@ use Rattle.bag_commands.specs.Printing.{Printed}
 use Rattle.bag_commands.specs.StopTexts.{stop_text}
 use Rattle.bag_cmd.proofs.commands.make.make_folder.Goals as goal
 
--- why the payload wasn't opened was printed, and no folder was made
+-- the reason why the payload wasn't opened was printed, and no folder was made
 not_opened : {W : Type 0} (contents : W → Option (List ℕ)) (known : Option Listing) (words : MakingShown) (made : Option (List ℕ)) (old new : Output W) (result : ℕ) (fault : OpenFault)
     → (fault ≡ open_fault.Files → IsRefused (in_payload known words.source) words.source) → Printed contents old new result (stop_text (stop_of_open fault) ∷ []) FAILED
     → PrintsMake contents known words made made old new result

@@ -11,7 +11,7 @@ fold_more : (front : List ℕ) (walked : Walked) (entries : List EntryShown) (i 
     → fold (with_entry front) walked (take (i + 1) entries) ≡ with_entry front (fold (with_entry front) walked (take i entries)) (get_or entries i entry)
 fold_more front walked entries i entry inside = grind (arith, common_steps)
 
--- one entry more
+-- one more entry
 look_more : (front : List ℕ) (walked now new : Walked) (entries : List EntryShown) (i : ℕ) (entry : EntryShown) (path : List ℕ) (kind : EntryKind)
     → i < length entries → entry ≡ get_or entries i entry → path ≡ front ++ entry.name → kind ≡ entry.kind
     → (now ≡ fold (with_entry front) walked (take i entries)) × All (EntryFits front) (take i entries) → new ≡ with_path now path kind → FitsBag path kind
