@@ -1,4 +1,4 @@
--- Words that name algorithms, one more at a time.
+-- Texts that name algorithms, one at a time.
 use Rattle.std.proofs.Common.{◌≡◌, ◌<◌, ◌+◌, ◌++◌, ◌∷◌, ◌||◌, ◌∙◌, ℕ, List, [], All, Contains, Some, None, true, false, ap, get_or, inl, inr, length, map, refl, subst, sym, take}
 use Rattle.std.proofs.lemmas.Bool.{or_cases, or_left, or_right}
 use Rattle.std.proofs.lemmas.List.{map_more, take-map}
@@ -57,7 +57,7 @@ one_more_alg words word set new alg named only with_alg before = record {
   );
 }
 
--- the word at a place too, where those before it are named
+-- and the text at an index, if those before it are known names
 pub named_more : {A : Type 0} (spell : A → List ℕ) (items : List A) (i : ℕ) (item : A) (set new : AlgSet) (alg : Alg) → i < length items → item ≡ get_or items i item
     → spell item ≡ name_of alg → ((other : Alg) → spell item ≡ name_of other → Some alg ≡ Some other) → ((other : Alg) → has new other ≡ (is_alg alg other || has set other))
     → NamesSet (map spell (take i items)) set → NamesSet (map spell (take (i + 1) items)) new
@@ -68,7 +68,7 @@ named_more spell items i item set new alg inside is named only with_alg before =
 none_is_not_some : {A : Type 0} (x : A) → None ≡ Some x → ⊥
 none_is_not_some x h = cc
 
--- a word that names none, where those before it are named
+-- an unknown name, if those before it are known names
 pub first_unknown : {A : Type 0} (spell : A → List ℕ) (items : List A) (i : ℕ) (item : A) (set : AlgSet) → i < length items → item ≡ get_or items i item
     → ((alg : Alg) → spell item ≡ name_of alg → None ≡ Some alg) → NamesSet (map spell (take i items)) set → IsFirstUnknown (map spell items) (spell item)
 first_unknown spell items i item set inside is none before = record {

@@ -1,4 +1,4 @@
--- The tag files of a tree, one more at a time.
+-- The tag files of a tree, one at a time.
 use Rattle.std.proofs.Common.{◌≡◌, ◌+◌, ◌++◌, ◌∷◌, ◌∙◌, ℕ, Bool, Err, IsErrOf, List, [], Option, Result, None, Some, ap, append-nil, cond, false, get_or, not, refl, slice_get, subst, sym, take, true}
 use Rattle.std.proofs.lemmas.List.Elements.{filter_more}
 use Rattle.std.proofs.lemmas.Option.{get_or_from_slice_get, slice_get-map, slice_get_within}
@@ -23,7 +23,7 @@ found : (o : Option File) (path : List ℕ) → option_map (λ (file : File). fi
 found None path e = cc
 found (Some file) path e = let same : file.0 ≡ path = cc in (file, refl, same, refl)
 
--- the file with the path at a place
+-- the file with the path at an index
 pub there : (shown : Shown) (i : ℕ) (path : List ℕ) → slice_get (paths_in shown) i ≡ Some path → (file : File) × (slice_get shown.files i ≡ Some file) × (file.0 ≡ path) × (octets_in shown i ≡ file.1)
 there shown i path at = found (slice_get shown.files i) path (sym (slice_get-map (λ (file : File). file.0) shown.files i) ∙ at)
 
@@ -34,7 +34,7 @@ more files i file tag at is =
     ∙ ap (λ (f : File). tag_files (take i files) ++ cond (not (is_payload f.0)) (f ∷ []) []) same
     ∙ ap (λ (b : Bool). tag_files (take i files) ++ cond b (file ∷ []) []) is
 
--- a payload file is passed over
+-- a payload file is skipped
 pub passed_over : (shown : Shown) (i : ℕ) (path : List ℕ) (given : Files) → slice_get (paths_in shown) i ≡ Some path → is_payload path ≡ true
     → AreGiven (tag_files (take i shown.files)) given → AreGiven (tag_files (take (i + 1) shown.files)) given
 passed_over shown i path given at payload are =
@@ -43,7 +43,7 @@ passed_over shown i path given at payload are =
     let no : not (is_payload file.0) ≡ false = ap (λ p. not (is_payload p)) here.2 ∙ ap not payload in
     subst (λ files. AreGiven files given) (sym (more shown.files i file false here.1 no ∙ append-nil (tag_files (take i shown.files)))) are
 
--- and any other is taken
+-- any other file is read
 pub taken : (shown : Shown) (i : ℕ) (path : List ℕ) (given : Files) (one : List ℕ × List ℕ) → slice_get (paths_in shown) i ≡ Some path → is_payload path ≡ false
     → AreGiven (tag_files (take i shown.files)) given → one.0 ≡ path → IsKnownAs (octets_in shown i) one.1
     → AreGiven (tag_files (take (i + 1) shown.files)) (given ++ one ∷ [])
@@ -54,6 +54,6 @@ taken shown i path given one at tag_file are same known =
     let octets : IsKnownAs file.1 one.1 = subst (λ k. IsKnownAs k one.1) here.3 known in
     subst (λ files. AreGiven files (given ++ one ∷ [])) (sym (more shown.files i file true here.1 yes)) (push_given (tag_files (take i shown.files)) given file one are (same ∙ sym here.2) octets)
 
--- a file that is too large is no failure of the tree
+-- a file that is too large isn't a failure of the tree
 pub not_failed : {X : Type 0} (r : Result X ReadFault) (fault : ReadFault) → r ≡ Err fault → fault ≡ TooLarge → ¬ IsErrOf r Read
 not_failed r fault is large e = cc

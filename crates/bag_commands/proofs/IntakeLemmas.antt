@@ -1,4 +1,4 @@
--- Lines of answers, one more at a time, and runs, one more at a time.
+-- Lines of answers, one at a time, and runs, one at a time.
 use Rattle.std.proofs.Common.{◌≡◌, ◌<◌, ◌+◌, ◌++◌, ◌∷◌, ◌∙◌, ℕ, List, [], Err, IfOk, Ok, OnErr, OnOk, Option, None, Result, Some, ap, false, is_ok, true, append_assoc, append-nil, codes, get_or, length, map, max, refl, subst, sym, take, arith}
 use Rattle.std.specs.List.{zip}
 use Rattle.std.proofs.lemmas.List.{length-map, length-take-le, map-append, map_more, take_more}
@@ -32,7 +32,7 @@ answer_push texts answers text answer same =
 length-map_take : {A B : Type 0} (f : A → B) (xs : List A) (n : ℕ) → n < length xs → length (map f (take n xs)) ≡ n
 length-map_take f xs n inside = length-map (take n xs) f ∙ length-take-le n xs (omega (arith, inside))
 
--- the line of the answer at a place too
+-- and the line of the answer at the next index
 pub answers_more : {A : Type 0} (spell : A → List ℕ) (texts : List A) (answers : List Answer) (n : ℕ) (text : A) (fill : Answer) → n < length texts → length texts ≡ length answers
     → text ≡ get_or texts n text
     → answer_lines (map spell (take (n + 1) texts)) (take (n + 1) answers) ≡ answer_lines (map spell (take n texts)) (take n answers) ++ answer_text (spell text) (get_or answers n fill) ∷ []
@@ -58,7 +58,7 @@ wrote_more contents old now new lines more first second = record {
   failures = second.failures ∙ first.failures;
 }
 
--- and one line
+-- and one more line
 pub wrote_line : {W : Type 0} (contents : W → Option (List ℕ)) (old now new : Output W) (lines : List (List ℕ)) (line : List ℕ) → WroteLines contents old now lines
     → Appends (writer_contents contents now.writer) (writer_contents contents new.writer) (line ++ codes "\n") → new.failures ≡ now.failures
     → WroteLines contents old new (lines ++ line ∷ [])
@@ -85,14 +85,14 @@ wrote_run contents old now new told one (Ok done) before wrote failed =
     (subst (WroteLines contents old new) (sym (lines_more told one)) (wrote_more contents old now new (intake_lines told) (run_lines one) before wrote), tt)
 wrote_run contents old now new told one (Err fault) before wrote failed = (tt, subst (λ n. Rises n new.failures) before.failures failed)
 
--- it was written on, where no write had failed
+-- more was written, if no write had failed
 pub wrote_on : {W : Type 0} (contents : W → Option (List ℕ)) (old now new : Output W) (told : List Told) (one : Told) (before written : Result (Unit {0}) Failed) → is_ok before ≡ true
     → OnOk before (WroteLines contents old now (intake_lines told)) → OnOk written (WroteLines contents now new (run_lines one)) → OnErr written (Rises now.failures new.failures)
     → OnOk written (WroteLines contents old new (intake_lines (told ++ one ∷ []))) × OnErr written (Rises old.failures new.failures)
 wrote_on contents old now new told one (Ok done) written ok before wrote failed = wrote_run contents old now new told one written before wrote failed
 wrote_on contents old now new told one (Err fault) written ok before wrote failed = absurd (cc ok)
 
--- and not, where one had
+-- and nothing more, if one had
 pub wrote_no_more : {W : Type 0} (contents : W → Option (List ℕ)) (old now : Output W) (told : List Told) (before : Result (Unit {0}) Failed) → is_ok before ≡ false
     → OnErr before (Rises old.failures now.failures) → OnOk before (WroteLines contents old now (intake_lines told)) × OnErr before (Rises old.failures now.failures)
 wrote_no_more contents old now told (Ok done) ok failed = absurd (cc ok)
@@ -105,7 +105,7 @@ answered_so : {W : Type 0} (contents : W → Option (List ℕ)) (old new : Outpu
 answered_so contents old new told (Ok done) status is wrote failed = (is, wrote, tt)
 answered_so contents old new told (Err fault) status is wrote failed = (tt, tt, failed)
 
--- the status is answered where all was written
+-- the status is returned if everything was written
 pub answered : {W : Type 0} (contents : W → Option (List ℕ)) (old new : Output W) (told : List Told) (written : Result (Unit {0}) Failed) (status : ℕ) (result : Result ℕ Failed)
     → result ≡ result_and written (Ok status) → status ≡ intake_status told
     → OnOk written (WroteLines contents old new (intake_lines told)) × OnErr written (Rises old.failures new.failures)

@@ -1,4 +1,4 @@
--- Runs of couriers, one more at a time.
+-- Runs of couriers, one at a time.
 use Rattle.std.proofs.Common.{◌≡◌, ◌≢◌, ◌<◌, ◌≤◌, ◌+◌, ◌-◌, ◌++◌, ◌∷◌, ◌∙◌, ℕ, List, [], ap, arith, drop, get_or, length, refl, set, subst, sym, take}
 use Rattle.std.proofs.lemmas.Grind.{drop_more_same}
 use Rattle.std.proofs.lemmas.List.{drop-set, drop-set-lt, drop_more, get_or-drop, length-drop, take-append-drop, take-set, take_all, take_more, take_more_set}
@@ -7,7 +7,7 @@ use Rattle.bag_receiver.specs.declared.run.End.TheVariants.{Done, TooMany, Couri
 use Rattle.bag_commands.specs.Intakes.{IfDone, TakesIn}
 use Rattle.bag_commands.specs.IntakeTexts.{Told}
 
--- these couriers were run one after another, and each brought all
+-- these couriers were run in sequence, and each delivered everything
 abbrev pub Ran : {R C : Type 0} → (R → R → C → C → Told → Type 0) → List C → List C → List Told → R → R → Type 0
 Ran runs [] [] [] old new = new ≡ old
 Ran runs (courier ∷ couriers) (later ∷ laters) (told ∷ more) old new = (next : _) × runs old next courier later told × (told.ended ≡ Done) × Ran runs couriers laters more next new
@@ -39,7 +39,7 @@ ran_all runs (courier ∷ couriers) (later ∷ laters) (told ∷ more) old new r
     let rest : TakesIn runs couriers laters more next new = ran_all runs couriers laters more next new ran.3 in
     (next, this, if_done told.ended (TakesIn runs couriers laters more next new) ((laters ≡ couriers) × (more ≡ []) × (new ≡ next)) done rest)
 
--- one run more, which brought all
+-- one more run, which delivered everything
 ran_more : {R C : Type 0} (runs : R → R → C → C → Told → Type 0) (couriers laters : List C) (told : List Told) (courier later : C) (one : Told) (old now new : R)
     → Ran runs couriers laters told old now → runs now new courier later one → one.ended ≡ Done → Ran runs (couriers ++ courier ∷ []) (laters ++ later ∷ []) (told ++ one ∷ []) old new
 ran_more runs [] [] [] courier later one old now new ran run done = (new, subst (λ from. runs from new courier later one) ran run, done, refl)
@@ -50,7 +50,7 @@ ran_more runs (c ∷ couriers) (d ∷ laters) [] courier later one old now new r
 ran_more runs (c ∷ couriers) (d ∷ laters) (first ∷ more) courier later one old now new ran run done =
     (ran.0, ran.1, ran.2, ran_more runs couriers laters more courier later one ran.0 now new ran.3 run done)
 
--- one run more, which didn't, and so was the last
+-- one more run, which didn't and so was the last
 ran_last : {R C : Type 0} (runs : R → R → C → C → Told → Type 0) (couriers laters rest : List C) (told : List Told) (courier later : C) (one : Told) (old now new : R)
     → Ran runs couriers laters told old now → runs now new courier later one → one.ended ≢ Done
     → TakesIn runs (couriers ++ courier ∷ rest) (laters ++ later ∷ rest) (told ++ one ∷ []) old new
@@ -70,7 +70,7 @@ ran_last runs (c ∷ couriers) (d ∷ laters) rest (first ∷ more) courier late
           ((laters ++ later ∷ rest ≡ couriers ++ courier ∷ rest) × (more ++ one ∷ [] ≡ []) × (new ≡ next)) ran.2 on,
     )
 
--- COURIERS IN A SLICE, of which those from a place on are as they were
+-- COURIERS IN A SLICE, of which those from an index on are unchanged
 
 there : {C : Type 0} (were are : List C) (i : ℕ) (courier : C) → i < length were → courier ≡ get_or are i courier → drop i are ≡ drop i were → (i < length are) × (get_or were i courier ≡ courier)
 there were are i courier inside is same =

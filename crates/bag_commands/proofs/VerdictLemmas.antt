@@ -1,4 +1,4 @@
--- What the verdict on a list of faults is.
+-- The verdict on a list of faults.
 use Rattle.std.proofs.Common.{◌≡◌, ◌≢◌, ◌<◌, ◌⊎◌, ◌↔◌, refl, ap, arith, inl, inr, ℕ, Bool, List, [], ◌∷◌, Result, Ok, Err, IfOk, nat_lt, codes, IsTrue}
 use Rattle.std.specs.Prelude.{if◌then◌else◌}
 use Rattle.std.specs.Bool.{Decides}
@@ -33,7 +33,7 @@ verdict_where [] b ne h = absurd (ne refl)
 verdict_where (fault ∷ faults) b ne h =
     ap (λ (t : Bool). if t then codes "complete, not valid" else codes "not complete") (is_complete_is (fault ∷ faults) b h)
 
--- status 0 is that of a valid bag
+-- status 0 means a valid bag
 pub valid_if_0 : (bag : Bag) (answer : Result Outcome CheckFault) (status : ℕ) {P Q R : Type 0} → status ≡ 0 → ((P × (status ≡ 3)) ⊎ (Q × R × (status ≡ check_status answer))) → IfOk answer (Means bag) → IsValid bag
 valid_if_0 bag (Ok (Judged [])) status zero printed means = means.0.1 refl
 valid_if_0 bag (Ok (Judged (fault ∷ faults))) status zero (inl failed) means = absurd (omega (arith, zero, failed.1))

@@ -1,4 +1,4 @@
--- Answers to deliveries as they are printed, and the status that goes with each.
+-- Answers to deliveries as printed, and the status for each.
 use Rattle.std.specs.Prelude.{ℕ, List, ◌++◌, codes}
 use Rattle.bag_digest.specs.Algorithm.{name_of}
 use Rattle.bag_ledger.specs.declared.fault.KeepFault.TheVariants as keep
@@ -21,14 +21,14 @@ refusal_text (fault.Digest alg) = codes "digest " ++ name_of alg
 refusal_text (fault.Keeper keep.Memory) = codes "memory"
 refusal_text (fault.Keeper (keep.Store why)) = codes "store"
 
--- the line for what was delivered for this text; the text stands as a path is written in a manifest
+-- the line for what was delivered for this text, which is spelled as a path is in a manifest
 abbrev pub answer_text : List ℕ → Answer → List ℕ
 answer_text text Taken = codes "taken " ++ written_spelling text
 answer_text text Repeated = codes "repeated " ++ written_spelling text
 answer_text text (Refused why) = codes "refused " ++ written_spelling text ++ codes ": "
     ++ refusal_text why
 
--- what is refused is no success, and a read, the store or memory fails
+-- a refusal is no success; a read, the store or memory may also fail
 abbrev pub answer_status : Answer → ℕ
 answer_status Taken = DONE
 answer_status Repeated = DONE

@@ -1,4 +1,4 @@
--- The answer of `begin` as it is printed, and the status that goes with it.
+-- The result of `begin` as printed, and its status.
 use Rattle.std.specs.Prelude.{ℕ, List, ◌++◌, Result, Ok, Err, codes}
 use Rattle.bag_path.specs.Spellings.{written_spelling}
 use Rattle.bag_receiver.specs.declared.begin.BeginFault.{BeginFault}

@@ -1,4 +1,4 @@
--- What `begin` does: the tag files of a tree, and what a receiver answers that is to open a transfer with them.
+-- What `begin` does: the tag files of a tree, and the answer of a receiver that opens a transfer with them.
 use Rattle.std.specs.Prelude.{◌≡◌, ◌<◌, ◌∷◌, [], ℕ, List, Option, Some, None, Err, Result, IsErrOf, codes, false, length, not, slice_get}
 use Rattle.std.specs.List.{filter}
 use Rattle.bag_digest.specs.Device.{CountsIf}
@@ -25,24 +25,24 @@ use Rattle.bag_commands.specs.StopTexts.{stop_text}
 
 -- THE TAG FILES OF A TREE
 
--- the octets are these, where they are known
+-- the octets are these, if they are known
 abbrev pub IsKnownAs : Option (List ℕ) → List ℕ → Type 0
 IsKnownAs None octets = Unit {0}
 IsKnownAs (Some known) octets = octets ≡ known
 
--- too many for a tag file, where they are known
+-- too many octets for a tag file, if they are known
 abbrev pub MayBeHeavy : Option (List ℕ) → Type 0
 MayBeHeavy None = Unit {0}
 MayBeHeavy (Some known) = LARGEST_TAG_FILE < length known
 
--- files with the same paths, and with their octets where those are known
+-- files with the same paths, and with their octets if those are known
 abbrev pub AreGiven : List (List ℕ × Option (List ℕ)) → Files → Type 0
 AreGiven [] [] = Unit {0}
 AreGiven (file ∷ files) (one ∷ given) =
     (one.0 ≡ file.0) × IsKnownAs file.1 one.1 × AreGiven files given
 AreGiven files given = ⊥
 
--- all files but the payload, in order
+-- all files except payload files, in order
 abbrev pub tag_files : List (List ℕ × Option (List ℕ)) → List (List ℕ × Option (List ℕ))
 tag_files files = filter (λ (file : List ℕ × Option (List ℕ)). not (is_payload file.0)) files
 
@@ -57,10 +57,10 @@ pub record HasHeavyTagFile (shown : Shown) : Type 0 where
   pub tag_file : is_payload path ≡ false
   pub heavy : MayBeHeavy (octets_in shown place)
 
--- WHAT IS DONE WITH THEM
+-- WHAT IS DONE WITH THE TAG FILES
 
--- what a receiver answered to these files, and what that made of what is held; a failure of the store exactly where the keeper
--- counted one
+-- the answer of a receiver to these files, and how it changed what is held; a failure of the store exactly if the
+-- keeper counted one
 pub record IsBeginning {K : Type 0} (holds may_leave : K → Ledger → Type 0) (clean : K → Type 0)
     (failures : K → ℕ) (name : List ℕ) (old new : Receiver K) (given : Files)
     (answer : Result Begun BeginFault) : Type 0 where
@@ -69,8 +69,9 @@ pub record IsBeginning {K : Type 0} (holds may_leave : K → Ledger → Type 0) 
   pub store : CountsIf ((fault : StoreFault) × IsErrOf answer (Keeper (Store fault)))
       (failures old.keeper) (failures new.keeper)
 
--- What `begin` did with a tree, and printed: the answer to its tag files; that the text is no name, or that a tag file is too large,
--- as any answer to them would say; or that the tree failed, or memory ran out. Only the first changes what is held.
+-- What `begin` did with a tree and printed: the answer to its tag files; or that the name is invalid or a tag file is
+-- too large, as every answer to them would say; or that the tree failed or memory ran out. Only the first changes what
+-- is held.
 pub data PrintsBegin {W : Type 0} (contents : W → Option (List ℕ)) (shown : Shown)
     (uses : Type 0 → Type 0) (begins : Files → Result Begun BeginFault → Type 0)
     (untouched : Type 0) (name : List ℕ) (old new : Output W) (result : ℕ) : Type 0 where

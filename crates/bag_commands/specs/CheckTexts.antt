@@ -1,4 +1,4 @@
--- The answer of a check as it is printed, and the status that goes with it.
+-- The result of a check as printed, and its status.
 use Rattle.std.specs.Prelude.{ℕ, List, [], ◌∷◌, ◌++◌, Result, Ok, Err, codes, string_bytes}
 use Rattle.bag_rules.specs.declared.outcome.Outcome.{Outcome}
 use Rattle.bag_rules.specs.declared.outcome.Outcome.TheVariants.{Judged, Outside}
@@ -15,7 +15,7 @@ outside_text Version = codes "outside: version"
 outside_text Encoding = codes "outside: encoding"
 outside_text (Algorithm name) = codes "outside: algorithm " ++ string_bytes name
 
--- its lines: those of the report on a bag that was judged; else one line alone
+-- its lines: those of the report on a bag that was judged; otherwise a single line
 abbrev pub check_lines : Result Outcome CheckFault → List (List ℕ)
 check_lines (Ok (Judged faults)) = report_lines faults
 check_lines (Ok (Outside why)) = outside_text why ∷ []

@@ -1,4 +1,4 @@
--- The answers of `check` that a tree allows, and what is printed of one.
+-- The results of `check` that a tree allows, and how they are printed.
 use Rattle.std.specs.Prelude.{◌≡◌, ◌<◌, ◌≤◌, ℕ, List, [], ◌∷◌, Contains, IfOk, IsErrOf, MatchResult, Option, Result, length}
 use Rattle.bag_rules.specs.Bags.{Bag, IsBagOf, declaration_file}
 use Rattle.bag_rules.specs.Limits.{Stopped, Stops}
@@ -15,9 +15,10 @@ use Rattle.bag_commands.specs.declared.output.Output.{Output}
 use Rattle.bag_commands.specs.CheckTexts.{check_lines, check_status}
 use Rattle.bag_commands.specs.Printing.{Printed}
 
--- An answer of `check` about a tree: where its octets are known, the verdict on its bag, in which no fault means a valid bag and
--- none but wrong digests a complete one, or the first limit that is met; where there are too many files, or no declaration, that;
--- a failure of the tree exactly where it counted one, and never of a tree that is sure.
+-- A result of `check` for a tree. If the tree's octets are known, it is the verdict on its bag, in which no faults mean
+-- a valid bag and only wrong digests a complete one, or the first limit that is exceeded. If there are too many files
+-- or no declaration, the result says so. It is a failure of the tree exactly if the tree counted one, and never for a
+-- sure tree.
 pub record IsAnswer {T : Type 0} (shown : T → Shown) (failures : T → ℕ) (sure : T → Type 0)
     (old new : T) (answer : Result Outcome CheckFault) : Type 0 where
   pub verdict : (bag : Bag) → IsBagOf (shown old) bag → IfOk answer (IsVerdict bag)
@@ -30,7 +31,7 @@ pub record IsAnswer {T : Type 0} (shown : T → Shown) (failures : T → ℕ) (s
       → ¬ Contains (paths_in (shown old)) declaration_file → MatchResult answer
       (λ outcome. outcome ≡ Judged (NoDeclaration ∷ [])) (λ fault. fault ≡ CheckMemory)
 
--- an answer of this kind was printed, with its status
+-- a result of this kind was printed, with its status
 abbrev pub PrintedOf : {W : Type 0} → (W → Option (List ℕ)) → Output W → Output W → ℕ
     → (Result Outcome CheckFault → Type 0) → Type 0
 PrintedOf contents old new result kind =

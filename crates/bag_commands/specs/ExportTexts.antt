@@ -1,4 +1,4 @@
--- The answer of `export` as it is printed, and the status that goes with it.
+-- The result of `export` as printed, and its status.
 use Rattle.std.specs.Prelude.{ℕ, List, ◌++◌, Result, Ok, Err, codes}
 use Rattle.std.specs.Fmt.{decimal}
 use Rattle.bag_receiver.specs.declared.export.ExportFault.{ExportFault}
@@ -7,13 +7,13 @@ use Rattle.bag_commands.specs.declared.status.TheConstants.{DONE, FAILED, REFUSE
 use Rattle.bag_commands.specs.declared.stop.Stop.TheVariants as stop
 use Rattle.bag_commands.specs.StopTexts.{stop_of_keep, stop_text}
 
--- why no bag was exported, or not to its end
+-- why no bag, or only part of one, was exported
 abbrev pub export_fault_line : ExportFault → List ℕ
 export_fault_line fault.NoTransfer = codes "bag: no transfer"
 export_fault_line fault.Sink = stop_text stop.Files
 export_fault_line (fault.Keeper why) = stop_text (stop_of_keep why)
 
--- its line: the number of all files of the bag, or why not
+-- its line: the number of all files of the bag, or the fault
 abbrev pub export_text : Result ℕ ExportFault → List ℕ
 export_text (Ok count) = codes "exported " ++ decimal count ++ codes " files"
 export_text (Err why) = export_fault_line why

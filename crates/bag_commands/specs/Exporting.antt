@@ -1,4 +1,4 @@
--- What a receiver answers that is to export a transfer into a sink, and what the sink holds then.
+-- The answer of a receiver that exports a transfer to a sink, and what the sink holds afterwards.
 use Rattle.std.specs.Prelude.{◌≡◌, ℕ, Bool, List, OnOk, Option, IsErrOf, Result, false}
 use Rattle.bag_digest.specs.Device.{CountsIf}
 use Rattle.bag_ledger.specs.Ledgers.{Ledger}
@@ -14,10 +14,11 @@ use Rattle.bag_receiver.specs.ReceiversInside.{Same}
 use Rattle.bag_receiver.specs.Receiving.{LedgerState}
 use Rattle.bag_writer.specs.Sinks.{IsEmptySink, Stored, UsesSink}
 
--- Where the keeper is clean, a sink that was empty holds the whole bag that the transfer with this name holds, and its files were
--- counted; or part of that bag, after a fault; or there is no such transfer. A text that is no name names none, and then the sink
--- isn't asked for anything. A failure of the store exactly where the keeper counted one, and one of the sink exactly where the sink
--- did; a sure sink that was empty and had no file begun doesn't fail. Nothing changes of what is held.
+-- If the keeper is clean, there are three cases. Either a sink that was empty now holds the whole bag of the transfer
+-- with this name, and the number of its files is the answer; or it holds part of that bag, after a fault; or there is
+-- no such transfer. An invalid name names no transfer, and the sink isn't used then. The answer is a failure of the
+-- store exactly if the keeper counted one, and a failure of the sink exactly if the sink counted one. A sure sink that
+-- was empty and had no open file doesn't fail. Nothing that is held changes.
 pub record IsExporting {K S : Type 0} (holds may_leave : K → Ledger → Type 0) (clean : K → Type 0)
     (failures : K → ℕ) (stored : S → Option Stored) (is_open : S → Bool) (sink_failures : S → ℕ)
     (sink_sure : S → Type 0) (name : List ℕ) (old new : Receiver K) (old_sink new_sink : S)

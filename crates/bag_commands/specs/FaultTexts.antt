@@ -1,4 +1,4 @@
--- The faults of a bag as they are printed.
+-- The faults of a bag as printed.
 use Rattle.std.specs.Prelude.{ℕ, List, ◌++◌, codes}
 use Rattle.std.specs.Fmt.{decimal}
 use Rattle.bag_path.specs.Spellings.{written_spelling}
@@ -33,7 +33,7 @@ cause_text cause.NothingToContinue = codes "nothing to continue"
 cause_text cause.BadUrl = codes "url"
 cause_text cause.BadLength = codes "length"
 
--- a fault's line; paths stand as they are written in a manifest, and line numbers in decimal
+-- a fault's line; paths are spelled as in a manifest, and line numbers are decimal
 abbrev pub fault_text : Fault → List ℕ
 fault_text fault.NoDeclaration = codes "no bagit.txt"
 fault_text (fault.BadDeclaration why) = codes "bagit.txt: " ++ declaration_text why

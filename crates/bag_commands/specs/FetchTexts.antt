@@ -1,4 +1,4 @@
--- What came of a fetch as it is printed, and the status that goes with it.
+-- The outcomes of a fetch as printed, and the status.
 use Rattle.std.specs.Prelude.{ℕ, List, [], ◌∷◌, ◌++◌, Result, Ok, Err, codes, map}
 use Rattle.std.specs.declared.alloc.Global.{Global}
 use Rattle.std.specs.declared.vec.Vec.{Vec}
@@ -13,7 +13,7 @@ use Rattle.bag_commands.specs.AnswerTexts.{answer_status, refusal_text}
 use Rattle.bag_commands.specs.IntakeTexts.{greatest}
 use Rattle.bag_commands.specs.ViewTexts.{view_fault_line, view_fault_status}
 
--- the line for what was asked for to this path, which stands as it is written in a manifest
+-- the line for what was asked for at this path; the path is spelled as in a manifest
 abbrev pub fetched_text : List ℕ → FetchAnswer → List ℕ
 fetched_text path fetched.Taken = codes "taken " ++ written_spelling path
 fetched_text path fetched.NotSupplied = codes "refused " ++ written_spelling path
@@ -26,7 +26,7 @@ fetched_text path (fetched.Refused why) = codes "refused " ++ written_spelling p
 abbrev pub outcome_text : FetchOutcome → List ℕ
 outcome_text outcome = fetched_text outcome.path outcome.answer
 
--- what isn't there is refused, and a supplier fails as a read does
+-- a file that isn't supplied counts as refused; a failure of the supplier counts like a failed read
 abbrev pub fetched_status : FetchAnswer → ℕ
 fetched_status fetched.Taken = DONE
 fetched_status fetched.NotSupplied = REFUSED
@@ -41,7 +41,7 @@ abbrev pub fetch_lines : Result (Vec FetchOutcome Global) ViewFault → List (Li
 fetch_lines (Ok outcomes) = map outcome_text outcomes.items
 fetch_lines (Err fault) = view_fault_line fault ∷ []
 
--- 3 where one is, else 1 where one is, else 0
+-- 3 if one status is 3, otherwise 1 if one is 1, otherwise 0
 abbrev pub fetch_status : Result (Vec FetchOutcome Global) ViewFault → ℕ
 fetch_status (Ok outcomes) = greatest (map outcome_status outcomes.items)
 fetch_status (Err fault) = view_fault_status fault

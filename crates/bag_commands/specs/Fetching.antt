@@ -1,4 +1,4 @@
--- What a receiver answers that is to fetch what `fetch.txt` of a transfer lists, and what it holds then.
+-- The answer of a receiver that fetches what the `fetch.txt` of a transfer lists, and what it holds afterwards.
 use Rattle.std.specs.Prelude.{◌≡◌, ℕ, List, None, Option, IfErr, IfOk, IsErrOf, MatchResult, Result, length, map}
 use Rattle.std.specs.List.{AllByRecursion}
 use Rattle.std.specs.declared.alloc.Global.{Global}
@@ -18,11 +18,11 @@ use Rattle.bag_receiver.specs.Receiving.{LedgerState}
 use Rattle.bag_receiver.specs.Runs.{CountsAtLeast, Runs}
 use Rattle.bag_receiver.specs.Suppliers.{AreReached, AsksEach, IsGotFrom, Round, Supply, deliveries_by, outcome_of, supplier_failures}
 
--- Each entry of `fetch.txt` of the transfer with this name whose path isn't held when it is reached was asked for, in their order,
--- and has its outcome: what the supplier has was delivered, and these deliveries are all that changes what is held. Before any was
--- asked for there may be a fault, and then nothing changes: there is no such transfer, or the store or memory failed. A text that
--- is no name names none. The supplier is asked once for each outcome, and it and the store are blamed only for failures that they
--- counted.
+-- Each entry in the `fetch.txt` of the transfer with this name whose path isn't held when it is reached was asked for,
+-- in order, and has its outcome. What the supplier has was delivered, and only these deliveries change what is held.
+-- Before the first entry there may be a fault, and then nothing changes: there is no such transfer, or the store or
+-- memory failed. An invalid name names no transfer. The supplier is asked once for each outcome. A failure of the
+-- supplier or of the store is reported only if that counted it.
 pub record IsFetching {K S : Type 0} (holds may_leave : K → Ledger → Type 0) (clean : K → Type 0)
     (store_failures : K → ℕ) (supply : S → Option Supply) (failures asks : S → ℕ) (name : List ℕ)
     (old new : Receiver K) (before after : S) (answer : Result (Vec FetchOutcome Global) ViewFault)

@@ -1,4 +1,4 @@
--- What is printed of runs of deliveries, and the status that goes with it.
+-- The lines printed for runs of deliveries, and the status.
 use Rattle.std.specs.Prelude.{ℕ, List, [], ◌∷◌, ◌++◌, Option, Some, None, fold, map, max}
 use Rattle.std.specs.List.{flat_map, zip}
 use Rattle.bag_receiver.specs.declared.answer.Answer.{Answer}
@@ -10,13 +10,13 @@ use Rattle.bag_commands.specs.declared.stop.Stop.TheVariants as stop
 use Rattle.bag_commands.specs.AnswerTexts.{answer_status, answer_text}
 use Rattle.bag_commands.specs.StopTexts.{stop_text}
 
--- a run: the texts of the paths that something was delivered for, the answers, and how it ended
+-- a run: the texts of the paths delivered for, the answers, and how it ended
 pub record Told : Type 0 where
   pub texts : List (List ℕ)
   pub answers : List Answer
   pub ended : End
 
--- why a run ended before all was delivered
+-- why a run ended before everything was delivered
 abbrev pub stop_of_end : End → Option Stop
 stop_of_end end.Done = None
 stop_of_end end.TooMany = Some stop.TooMany
@@ -32,7 +32,7 @@ abbrev pub answer_lines : List (List ℕ) → List Answer → List (List ℕ)
 answer_lines texts answers =
     map (λ (told : List ℕ × Answer). answer_text told.0 told.1) (zip texts answers)
 
--- and why there were no more
+-- followed by the reason why there were no more
 abbrev pub run_lines : Told → List (List ℕ)
 run_lines told = answer_lines told.texts told.answers ++ stop_lines (stop_of_end told.ended)
 
@@ -40,11 +40,11 @@ run_lines told = answer_lines told.texts told.answers ++ stop_lines (stop_of_end
 abbrev pub intake_lines : List Told → List (List ℕ)
 intake_lines runs = flat_map run_lines runs
 
--- 3 where one is, else 1 where one is, else 0
+-- 3 if one status is 3, otherwise 1 if one is 1, otherwise 0
 abbrev pub greatest : List ℕ → ℕ
 greatest statuses = fold max DONE statuses
 
--- a run that didn't end with its items failed
+-- a run that didn't deliver everything has failed
 abbrev pub end_status : End → ℕ
 end_status end.Done = DONE
 end_status ended = FAILED

@@ -1,4 +1,4 @@
--- What a receiver takes in from couriers, one after another.
+-- What a receiver takes in from several couriers in sequence.
 use Rattle.std.specs.Prelude.{◌≡◌, ◌≢◌, ◌≤◌, ◌∷◌, [], ℕ, List, Option, length}
 use Rattle.bag_ledger.specs.Ledgers.{Ledger}
 use Rattle.bag_rules.specs.Files.{Files}
@@ -11,8 +11,8 @@ use Rattle.bag_receiver.specs.Deliveries.{Delivery}
 use Rattle.bag_receiver.specs.Runs.{CountsAtLeast, Runs}
 use Rattle.bag_commands.specs.IntakeTexts.{Told}
 
--- A run of what a courier brought was told so: these are the answers to its items, as far as they were delivered, to the transfer
--- with this name; the courier and the store are blamed only for failures that they counted.
+-- What was reported of a courier's run: these are the answers to its items, as far as they were delivered, for the
+-- transfer with this name. A failure of the courier or of the store is reported only if that counted it.
 pub record IsRun {K C : Type 0} (holds may_leave : K → Ledger → Type 0) (clean : K → Type 0)
     (store_failures : K → ℕ) (coming : C → Option Files) (failures nexts : C → ℕ)
     (is_steady : C → Type 0) (name : List ℕ) (old new : Receiver K) (before after : C)
@@ -26,13 +26,13 @@ pub record IsRun {K C : Type 0} (holds may_leave : K → Ledger → Type 0) (cle
   pub called : CallsNext (length told.answers) (nexts before) (nexts after)
   pub steady : is_steady before → told.ended ≢ Courier
 
--- the first where all was delivered, else the second
+-- the first if everything was delivered, otherwise the second
 abbrev pub IfDone : End → Type 0 → Type 0 → Type 0
 IfDone Done goes_on stops = goes_on
 IfDone ended goes_on stops = stops
 
--- A receiver took in what these couriers brought, one after another, each run told so. The first run that ended before all was
--- delivered was the last, and the couriers after it weren't called.
+-- A receiver took in what these couriers delivered, one after another, and this was reported of the runs. The first run
+-- that ended before everything was delivered was the last, and the couriers after it weren't called.
 abbrev pub TakesIn : {R C : Type 0} → (R → R → C → C → Told → Type 0) → List C → List C
     → List Told → R → R → Type 0
 TakesIn runs [] [] [] old new = new ≡ old

@@ -1,4 +1,4 @@
--- What is told of a run, of which the receiver answered this.
+-- What is reported of a run, given the receiver's answer.
 use Rattle.std.specs.Prelude.{ℕ, List}
 use Rattle.bag_receiver.specs.declared.run.Run.{Run}
 use Rattle.bag_commands.specs.IntakeTexts.{Told}

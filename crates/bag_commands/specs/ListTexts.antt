@@ -1,4 +1,4 @@
--- The names of transfers as they are printed, and the status that goes with them.
+-- The names of transfers as printed, and the status.
 use Rattle.std.specs.Prelude.{ℕ, List, [], ◌∷◌, Result, Ok, Err, map, string_bytes}
 use Rattle.std.specs.declared.alloc.Global.{Global}
 use Rattle.std.specs.declared.string.String.{String}
@@ -8,11 +8,11 @@ use Rattle.bag_ledger.specs.declared.fault.KeepFault.{KeepFault}
 use Rattle.bag_commands.specs.declared.status.TheConstants.{DONE, FAILED}
 use Rattle.bag_commands.specs.StopTexts.{stop_of_keep, stop_text}
 
--- a name stands as a path is written in a manifest, so that any text stays on its line
+-- a name is spelled as a path is in a manifest, so that any text stays on its line
 abbrev pub name_text : String Global → List ℕ
 name_text name = written_spelling (string_bytes name)
 
--- each on a line; or why they can't be told
+-- each on its own line; or why they can't be read
 abbrev pub list_lines : Result (Vec (String Global) Global) KeepFault → List (List ℕ)
 list_lines (Ok names) = map name_text names.items
 list_lines (Err fault) = stop_text (stop_of_keep fault) ∷ []

@@ -1,4 +1,4 @@
--- What a receiver answers that is asked for the names of its transfers.
+-- The answer of a receiver that is asked for the names of its transfers.
 use Rattle.std.specs.Prelude.{◌≡◌, ℕ, IfOk, IsErrOf, Result, map, string_bytes}
 use Rattle.std.specs.Map.{keys_of}
 use Rattle.std.specs.declared.alloc.Global.{Global}
@@ -14,8 +14,8 @@ use Rattle.bag_receiver.specs.Receivers.{Does, IsInState}
 use Rattle.bag_receiver.specs.ReceiversInside.{Same}
 use Rattle.bag_receiver.specs.Receiving.{LedgerState}
 
--- The names of the transfers that are held, where the keeper is clean; a failure of the store exactly where the keeper counted one.
--- Nothing changes.
+-- If the keeper is clean, the answer is the names of the transfers. It is a failure of the store exactly if the keeper
+-- counted one. Nothing changes.
 pub record IsListing {K : Type 0} (holds may_leave : K → Ledger → Type 0) (clean : K → Type 0)
     (failures : K → ℕ) (old new : Receiver K)
     (answer : Result (Vec (String Global) Global) KeepFault) : Type 0 where

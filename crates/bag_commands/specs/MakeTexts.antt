@@ -1,4 +1,4 @@
--- The answer of `make` as it is printed, and the status that goes with it.
+-- The result of `make` as printed, and its status.
 use Rattle.std.specs.Prelude.{ℕ, List, ◌++◌, Result, Ok, Err, codes}
 use Rattle.std.specs.Fmt.{decimal}
 use Rattle.bag_tags.specs.declared.oxum.Oxum.{Oxum}
@@ -6,7 +6,7 @@ use Rattle.bag_writer.specs.declared.fault.WriteFault.{WriteFault}
 use Rattle.bag_writer.specs.declared.fault.WriteFault.TheVariants as fault
 use Rattle.bag_commands.specs.declared.status.TheConstants.{DONE, FAILED, REFUSED}
 
--- why no bag was made, or not to its end
+-- why no bag, or only part of one, was made
 abbrev pub fault_line : WriteFault → List ℕ
 fault_line fault.NoAlgorithm = codes "bag: no algorithm"
 fault_line fault.OxumGiven = codes "bag: oxum given"
@@ -17,13 +17,13 @@ fault_line fault.Sink = codes "bag: files"
 fault_line fault.TooLarge = codes "bag: too large"
 fault_line fault.Memory = codes "bag: memory"
 
--- its line: the number of payload files and of their octets, or why not
+-- its line: the number of payload files and of their octets, or the fault
 abbrev pub make_text : Result Oxum WriteFault → List ℕ
 make_text (Ok oxum) = codes "made " ++ decimal oxum.streams ++ codes " files, "
     ++ decimal oxum.octets ++ codes " octets"
 make_text (Err why) = fault_line why
 
--- a payload that can't be a bag's so is refused; files and memory fail
+-- a payload that can't be a bag's as it is counts as refused; files and memory fail
 abbrev pub fault_status : WriteFault → ℕ
 fault_status fault.Tree = FAILED
 fault_status fault.Sink = FAILED

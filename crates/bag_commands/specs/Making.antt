@@ -1,4 +1,4 @@
--- What `make` does: the words that name algorithms, and the answers that a written bag allows.
+-- What `make` does: the names of algorithms, and the results that a written bag allows.
 use Rattle.std.specs.Prelude.{◌≡◌, ◌↔◌, ◌++◌, ◌∷◌, ℕ, List, [], All, Contains, IsErrOf, MatchResult, Option, Result, Some, codes, slice_get, take, true}
 use Rattle.bag_digest.specs.Algorithm.{has, name_of}
 use Rattle.bag_digest.specs.declared.algorithm.Alg.{Alg}
@@ -18,16 +18,16 @@ use Rattle.bag_commands.specs.Printing.{Printed}
 
 -- THE NAMES OF ALGORITHMS
 
--- the word is the name of an algorithm
+-- the text is the name of an algorithm
 abbrev pub NamesAlg : List ℕ → Type 0
 NamesAlg word = (alg : Alg) × (word ≡ name_of alg)
 
--- each word names an algorithm, and the set has those that are named
+-- each text names an algorithm, and the set has exactly those named
 pub record NamesSet (words : List (List ℕ)) (set : AlgSet) : Type 0 where
   pub each : All NamesAlg words
   pub exact : (alg : Alg) → (has set alg ≡ true) ↔ Contains words (name_of alg)
 
--- the first word that names no algorithm
+-- the first text that names no algorithm
 pub record IsFirstUnknown (words : List (List ℕ)) (word : List ℕ) : Type 0 where
   pub place : ℕ
   pub there : slice_get words place ≡ Some word
@@ -39,14 +39,15 @@ unknown_text word = codes "unknown algorithm " ++ word
 
 -- WHAT IS WRITTEN
 
--- these algorithms alone: no elements and no holes
+-- only these algorithms, without elements or holes
 pub record IsPlain (set : AlgSet) (spec : Spec) : Type 0 where
   pub algs : spec.algs ≡ set
   pub no_elements : spec.info ≡ []
   pub no_holes : spec.holes.items ≡ []
 
--- an answer of `write_bag`: the first refusal, before which nothing is written; or the payload that was read, whose Oxum is
--- answered and whose bag a sink that was empty holds then; and a failure of the tree or the sink exactly where it counted one
+-- A result of `write_bag`: either the first refusal, before which nothing is written; or the Oxum of the payload that
+-- was read, whose bag a sink that was empty holds now. It is a failure of the tree or the sink exactly if that counted
+-- one.
 pub record IsWriting {T S : Type 0} (shown : T → Shown) (tree_failures : T → ℕ)
     (tree_sure : T → Type 0) (stored : S → Option Stored) (is_open : S → Type 0)
     (sink_failures : S → ℕ) (sink_sure : S → Type 0) (old_tree new_tree : T)
@@ -68,8 +69,9 @@ PrintedMaking contents old new result kind =
     (answer : Result Oxum WriteFault) × kind answer
     × Printed contents old new result (make_text answer ∷ []) (make_status answer)
 
--- What `make` did, given these words: it wrote with the algorithms that they name and printed the answer; or one names none, which
--- was printed with the status of a wrong command line, and nothing was read or written.
+-- What `make` did with these names: either it wrote a bag with the algorithms that they name and printed the result; or
+-- one of them is unknown, which was printed with the status of an unknown command line, and nothing was read or
+-- written.
 pub data MakesOf {W : Type 0} (contents : W → Option (List ℕ))
     (writing : Spec → Result Oxum WriteFault → Type 0) (untouched : Type 0)
     (words : List (List ℕ)) (old new : Output W) (result : ℕ) : Type 0 where

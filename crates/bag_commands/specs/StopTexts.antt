@@ -1,4 +1,4 @@
--- Why a command ended before it had an answer, as it is printed.
+-- Why a command ended without a result, as printed.
 use Rattle.std.specs.Prelude.{ℕ, List, codes}
 use Rattle.bag_ledger.specs.declared.fault.KeepFault.{KeepFault}
 use Rattle.bag_ledger.specs.declared.fault.KeepFault.TheVariants as keep
@@ -15,7 +15,7 @@ stop_text stop.TooLarge = codes "bag: too large"
 stop_text stop.TooMany = codes "bag: too many"
 stop_text stop.Store = codes "bag: store"
 
--- why a check didn't come to an end
+-- why a check couldn't be completed
 abbrev pub stop_of_check : CheckFault → Stop
 stop_of_check check.Tree = stop.Files
 stop_of_check check.Memory = stop.Memory

@@ -1,4 +1,4 @@
--- A report as it is printed, and the status that goes with it.
+-- A report as printed, and its status.
 use Rattle.std.specs.Prelude.{ℕ, Bool, List, [], ◌∷◌, ◌++◌, codes, map, nat_lt, if◌then◌else◌}
 use Rattle.std.specs.List.{list_all}
 use Rattle.bag_rules.specs.Faults.{last_of_completeness, number_of}
@@ -6,11 +6,11 @@ use Rattle.bag_rules.specs.declared.fault.Fault.{Fault}
 use Rattle.bag_commands.specs.declared.status.TheConstants.{VALID, NOT_VALID}
 use Rattle.bag_commands.specs.FaultTexts.{fault_text}
 
--- complete is the bag that has wrong digests alone (RFC 8493 section 3)
+-- a bag whose only faults are wrong digests is complete (RFC 8493 section 3)
 abbrev pub is_complete : List Fault → Bool
 is_complete faults = list_all (λ fault. nat_lt last_of_completeness (number_of fault)) faults
 
--- how a list of faults ends
+-- the verdict for a list of faults
 abbrev pub verdict_text : List Fault → List ℕ
 verdict_text [] = codes "valid"
 verdict_text faults =

@@ -1,4 +1,4 @@
--- A report on a transfer as it is printed, and the status that goes with it.
+-- A report on a transfer as printed, and its status.
 use Rattle.std.specs.Prelude.{ℕ, List, [], ◌∷◌, Result, Ok, Err, codes}
 use Rattle.bag_receiver.specs.declared.report.ViewFault.{ViewFault}
 use Rattle.bag_receiver.specs.declared.report.ViewFault.TheVariants.{NoTransfer, Keeper}
@@ -7,7 +7,7 @@ use Rattle.bag_commands.specs.declared.status.TheConstants.{FAILED, REFUSED}
 use Rattle.bag_commands.specs.StopTexts.{stop_of_keep, stop_text}
 use Rattle.bag_commands.specs.VerdictTexts.{report_lines, report_status}
 
--- why there is none
+-- why there is no report
 abbrev pub view_fault_line : ViewFault → List ℕ
 view_fault_line NoTransfer = codes "bag: no transfer"
 view_fault_line (Keeper why) = stop_text (stop_of_keep why)

@@ -1,4 +1,4 @@
--- What a receiver answers that is asked for the report on a transfer, or for an audit of it.
+-- The answer of a receiver that is asked for a report on a transfer, or for an audit of it.
 use Rattle.std.specs.Prelude.{◌≡◌, ℕ, List, None, IfOk, IsErrOf, MatchResult, Result, map}
 use Rattle.bag_digest.specs.Device.{CountsIf}
 use Rattle.bag_ledger.specs.Ledgers.{Ledger}
@@ -17,9 +17,10 @@ use Rattle.bag_receiver.specs.Stops.{Answered, Event, StopRun}
 use Rattle.bag_rules.specs.Files.{Files}
 use Rattle.bag_rules.specs.declared.report.Report.{Report}
 
--- Where the keeper is clean, the report on the bag that the transfer with this name holds, or that there is none: for any deliveries
--- since it was opened, the bag of its tag files with each accepted file once, or with what stops left of them. A text that is no
--- name names none. A failure of the store exactly where the keeper counted one; and nothing changes.
+-- If the keeper is clean, the answer is the report on the bag that the transfer with this name holds, or that there is
+-- no such transfer. After any deliveries since it was opened, the bag consists of its tag files and each accepted file
+-- once, or of what stops left of them. An invalid name names no transfer. The answer is a failure of the store exactly
+-- if the keeper counted one. Nothing changes.
 pub record IsReporting {K : Type 0} (holds may_leave : K → Ledger → Type 0) (clean : K → Type 0)
     (failures : K → ℕ) (name : List ℕ) (old new : Receiver K) (answer : Result Report ViewFault)
     : Type 0 where

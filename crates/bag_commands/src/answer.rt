@@ -8,10 +8,10 @@ use bag_ledger::KeepFault;
 use bag_receiver::{Answer, DeliverFault};
 use std::fmt::{Display, Formatter, Result, Write};
 
-/// The answer to a delivery for the path that a text is, as its line.
+/// The answer to a delivery, as a line.
 #[derive(Clone, Copy)]
 pub struct AnswerLine<'a> {
-    /// The text, which may be no path.
+    /// The path as delivered; it may be invalid.
     pub text: &'a str,
     /// The answer.
     pub answer: Answer,
@@ -58,7 +58,7 @@ impl Display for RefusalText {
     }
 }
 
-/// The status that goes with an answer: 0 where the content is held, 3 where a read, the store or memory failed, 1 for any other
+/// The status for an answer: 0 if the content is held, 3 if a read, the store or memory failed, 1 for any other
 /// refusal.
 pub fn answer_status(answer: Answer) -> u8
     ensures { result ≡ answer_status answer }

@@ -1,4 +1,4 @@
-//! `audit`: what is wrong with the bag of a transfer, by all that is held of it, read again.
+//! `audit`: reports what is wrong with the bag of a transfer after reading again everything that is held of it.
 ghost use Rattle.std.specs.Prelude.{◌≡◌, Some};
 ghost use Rattle.bag_ledger.specs.Ledgers.{Transfer};
 ghost use Rattle.bag_rules.specs.Transfers.{held_bag};
@@ -18,7 +18,7 @@ use bag_receiver::Receiver;
 use std::alloc::Global;
 use std::io::Write;
 
-/// Prints what is wrong with the bag of a transfer, of which all payload files are read and hashed again, and answers the status, as
+/// Reads and hashes again all payload files of a transfer, prints what is wrong with its bag and returns the status, as
 /// [`print_view`] does.
 pub fn audit_to<K: Keeper, W: Write + Drop>(
     alloc: Global,
@@ -26,7 +26,7 @@ pub fn audit_to<K: Keeper, W: Write + Drop>(
     name: &str,
     out: &mut Output<W>,
 ) -> u8
-    // Status 0 is for transfers alone that hold a valid bag.
+    // The status is 0 only if the transfer holds a valid bag.
     ensures valid { result ≡ VALID → K.clean receiver.new.keeper → (now : LedgerState)
         → IsInState K.holds K.may_leave receiver.old now
         → (transfer : Transfer) × IsNamed now.held name.now (Some transfer)

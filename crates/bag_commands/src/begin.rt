@@ -20,8 +20,8 @@ use std::alloc::Global;
 use std::fmt::{self, Display, Formatter};
 use std::io::Write;
 
-/// Opens a transfer with the tag files of a tree, prints the answer and answers the status, as [`print_beginning`] does. The tree's
-/// payload files aren't read, and where the text is no name no file is.
+/// Opens a transfer with the tag files of a tree, prints the result and returns the status, as [`print_beginning`]
+/// does. Payload files aren't read. If the name is invalid, no file is read.
 pub fn begin_to<K: Keeper, T: Tree, W: Write + Drop>(
     alloc: Global,
     receiver: &mut Receiver<K>,
@@ -48,8 +48,8 @@ pub fn begin_to<K: Keeper, T: Tree, W: Write + Drop>(
     }
 }
 
-/// Prints the answer of a beginning and answers the status: 0 for a transfer that is open, 1 where it was refused, 2 where the bag
-/// can't be judged here, and 3 where the store or memory failed, or a write.
+/// Prints the result of `begin` and returns the status: 0 if the transfer is open, 1 if it was refused, 2 if the bag
+/// can't be judged here, and 3 if the store or memory failed or the result couldn't be written.
 pub fn print_beginning<W: Write + Drop>(
     answer: &Result<Begun, BeginFault>,
     out: &mut Output<W>,
@@ -60,11 +60,11 @@ pub fn print_beginning<W: Write + Drop>(
     out.print(BeginLine(answer), status_of(answer))
 }
 
-/// The tag files of a tree, each its path with its octets.
+/// The tag files of a tree, each with its path and its octets.
 ///
 /// # Errors
 ///
-/// `Read` where the tree failed, `TooLarge` for a tag file that has too many octets, or `Memory`.
+/// `Read` if the tree failed, `TooLarge` if a tag file has too many octets, `Memory` if memory ran out.
 fn read_tag_files<T: Tree>(alloc: Global, tree: &mut T) -> Result<Vec<(String, Vec<u8>)>, ReadFault>
     ensures read { IfOk result (λ files.
         AreTagFilesIn (T.shown tree.old) (given_in files.items)) }
@@ -105,7 +105,7 @@ fn read_each<T: Tree>(
     Ok(files)
 }
 
-/// Reads the file at this place whole.
+/// Reads the whole file at this index.
 fn read_tag_file<T: Tree>(
     alloc: Global,
     buffer: &mut [u8],
@@ -127,7 +127,7 @@ fn read_tag_file<T: Tree>(
     read_to_end_within(alloc, buffer, tree, LARGEST_TAG_FILE)
 }
 
-/// The status that goes with an answer.
+/// The status for a result.
 fn status_of(answer: &Result<Begun, BeginFault>) -> u8
     ensures { result ≡ begin_status answer.now }
 {
@@ -139,7 +139,7 @@ fn status_of(answer: &Result<Begun, BeginFault>) -> u8
     }
 }
 
-/// The answer of a beginning as its line.
+/// A result of `begin` as a line.
 #[derive(Clone, Copy)]
 struct BeginLine<'a>(&'a Result<Begun, BeginFault>);
 

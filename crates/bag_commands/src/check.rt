@@ -1,4 +1,4 @@
-//! `check`: judges the bag that a tree holds.
+//! `check`: judges the bag in a tree.
 ghost use Rattle.std.specs.Prelude.{◌≡◌, ◌≤◌, [], OnErr, OnOk};
 ghost use Rattle.std.specs.Io.Buffered.{writer_buffer};
 ghost use Rattle.bag_digest.specs.Device.{Rises};
@@ -21,9 +21,9 @@ use std::io::Write;
 #[cfg(test)]
 mod tests;
 
-/// Checks the bag that a tree holds, prints the answer and answers the status, as [`print_outcome`] does.
+/// Checks the bag in a tree, prints the result and returns the status, as [`print_outcome`] does.
 pub fn check_to<T: Tree, W: Write + Drop>(alloc: Global, tree: &mut T, out: &mut Output<W>) -> u8
-    // Status 0 is for valid bags alone.
+    // The status is 0 only for a valid bag.
     ensures valid { result ≡ VALID
         → (bag : Bag) → IsBagOf (T.shown tree.old) bag → IsValid bag }
     ensures printed { PrintedOf W.contents out.old out.new result
@@ -33,8 +33,8 @@ pub fn check_to<T: Tree, W: Write + Drop>(alloc: Global, tree: &mut T, out: &mut
     print_outcome(&answer, out)
 }
 
-/// Prints the answer of a check and answers the status: 0 for a valid bag, 1 for one that is not, 2 where the bag can't be
-/// judged, and 3 where the check didn't come to its end or a write failed.
+/// Prints the result of a check and returns the status: 0 for a valid bag, 1 for one that isn't, 2 if the bag can't be
+/// judged here, and 3 if the check couldn't be completed or a line couldn't be written.
 pub fn print_outcome<W: Write + Drop>(
     outcome: &Result<Outcome, CheckFault>,
     out: &mut Output<W>,
@@ -48,7 +48,7 @@ pub fn print_outcome<W: Write + Drop>(
     }
 }
 
-/// Writes the lines of an answer, and hands them on.
+/// Writes the lines of a result, and flushes them.
 fn write_outcome<W: Write + Drop>(
     outcome: &Result<Outcome, CheckFault>,
     out: &mut Output<W>,
@@ -65,7 +65,7 @@ fn write_outcome<W: Write + Drop>(
     out.flush()
 }
 
-/// The status that goes with an answer.
+/// The status for a result.
 fn status_of(outcome: &Result<Outcome, CheckFault>) -> u8
     ensures { result ≡ check_status outcome.now }
 {

@@ -1,4 +1,4 @@
-//! `export`: writes the bag of a transfer, as it is held, into a sink.
+//! `export`: writes the bag of a transfer, as it is held, to a sink.
 ghost use Rattle.std.specs.Prelude.{◌≡◌, ◌∷◌, []};
 ghost use Rattle.bag_commands.specs.Exporting.{IsExporting};
 ghost use Rattle.bag_commands.specs.ExportTexts.{export_fault_line, export_status, export_text};
@@ -14,10 +14,10 @@ use std::alloc::Global;
 use std::fmt::{self, Display, Formatter};
 use std::io::Write;
 
-/// Writes the bag of a transfer as it is held into a sink, which is to be new, prints how many files it has, and answers the
-/// status, as [`print_export`] does.
+/// Writes the bag of a transfer, as it is held, to a new sink, prints how many files it has, and returns the status, as
+/// [`print_export`] does.
 ///
-/// After a fault of the sink, the store or memory the sink holds part of the bag.
+/// After a fault of the sink, the store or memory, the sink holds part of the bag.
 pub fn export_to<K: Keeper, S: Sink, W: Write + Drop>(
     alloc: Global,
     receiver: &mut Receiver<K>,
@@ -33,8 +33,8 @@ pub fn export_to<K: Keeper, S: Sink, W: Write + Drop>(
     print_export(answer, out)
 }
 
-/// Prints the answer of an export and answers the status: 0 for a bag that was exported, 1 where there is no such transfer, and 3
-/// where the sink, the store or memory failed, or a write of the answer.
+/// Prints the result of an export and returns the status: 0 if the bag was exported, 1 if there is no such transfer,
+/// and 3 if the sink, the store or memory failed or the result couldn't be written.
 pub fn print_export<W: Write + Drop>(answer: Result<u64, ExportFault>, out: &mut Output<W>) -> u8
     ensures { Printed W.contents out.old out.new result
         (export_text answer ∷ []) (export_status answer) }
@@ -42,7 +42,7 @@ pub fn print_export<W: Write + Drop>(answer: Result<u64, ExportFault>, out: &mut
     out.print(ExportLine(answer), status_of(answer))
 }
 
-/// Why no bag was exported, or not to its end.
+/// The line that says why no bag, or only part of one, was exported.
 fn fault_line(fault: ExportFault) -> &'static str
     ensures { result.now ≡ export_fault_line fault }
 {
@@ -53,7 +53,7 @@ fn fault_line(fault: ExportFault) -> &'static str
     }
 }
 
-/// The status that goes with an answer.
+/// The status for a result.
 fn status_of(answer: Result<u64, ExportFault>) -> u8
     ensures { result ≡ export_status answer }
 {
@@ -64,7 +64,7 @@ fn status_of(answer: Result<u64, ExportFault>) -> u8
     }
 }
 
-/// The answer of an export as its line.
+/// A result of `export` as a line.
 #[derive(Clone, Copy)]
 struct ExportLine(Result<u64, ExportFault>);
 

@@ -1,4 +1,4 @@
-//! `fetch`: asks a supplier for what `fetch.txt` of a transfer lists and isn't held.
+//! `fetch`: asks a supplier for what the `fetch.txt` of a transfer lists and isn't held.
 ghost use Rattle.std.specs.Prelude.{◌≡◌, [], OnErr, OnOk, map};
 ghost use Rattle.std.specs.Io.Buffered.{writer_buffer};
 ghost use Rattle.bag_digest.specs.Device.{Rises};
@@ -19,10 +19,10 @@ use std::alloc::Global;
 use std::fmt::{self, Display, Formatter};
 use std::io::Write;
 
-/// Asks a supplier for what `fetch.txt` of a transfer lists and isn't held, takes in what it gives, prints a line for each entry
-/// that was asked for when all have been, and answers the status, as [`print_fetch`] does.
+/// Asks a supplier for what the `fetch.txt` of a transfer lists and isn't held, and takes in what it gives. Then prints
+/// a line for each entry that was asked for, and returns the status, as [`print_fetch`] does.
 ///
-/// What is refused ends nothing. What was taken in stays, whatever becomes of the output.
+/// A refusal ends nothing. What was taken in is kept even if the output fails.
 pub fn fetch_to<K: Keeper, S: Supplier, W: Write + Drop>(
     alloc: Global,
     receiver: &mut Receiver<K>,
@@ -38,9 +38,9 @@ pub fn fetch_to<K: Keeper, S: Supplier, W: Write + Drop>(
     print_fetch(&answer, out)
 }
 
-/// Prints what came of each entry that was asked for, or why none was. Answers the status: 0 where all is held, 1 where something
-/// was refused or isn't there, and where there is no such transfer, and 3 where a read, the supplier, the store or memory failed,
-/// or a write.
+/// Prints the outcome of each entry that was asked for, or why none was. Returns the status: 0 if everything is held; 1
+/// if something was refused or isn't supplied, or there is no such transfer; and 3 if a read, the supplier, the store
+/// or memory failed or a line couldn't be written.
 pub fn print_fetch<W: Write + Drop>(
     answer: &Result<Vec<FetchOutcome>, ViewFault>,
     out: &mut Output<W>,
@@ -54,7 +54,7 @@ pub fn print_fetch<W: Write + Drop>(
     }
 }
 
-/// Writes the lines of an answer, and hands them on.
+/// Writes the lines of an answer, and flushes them.
 fn write_fetch<W: Write + Drop>(
     answer: &Result<Vec<FetchOutcome>, ViewFault>,
     out: &mut Output<W>,
@@ -85,7 +85,7 @@ fn write_outcomes<W: Write + Drop>(
     Ok(())
 }
 
-/// The status that goes with an answer.
+/// The status for an answer.
 fn status_of(answer: &Result<Vec<FetchOutcome>, ViewFault>) -> u8
     ensures { result ≡ fetch_status answer.now }
 {
@@ -95,7 +95,7 @@ fn status_of(answer: &Result<Vec<FetchOutcome>, ViewFault>) -> u8
     }
 }
 
-/// The greatest of the statuses that go with the outcomes.
+/// The maximum of the statuses of the outcomes.
 fn outcomes_status(outcomes: &[FetchOutcome]) -> u8
     ensures { result ≡ greatest (map outcome_status outcomes.now) }
 {
@@ -106,7 +106,7 @@ fn outcomes_status(outcomes: &[FetchOutcome]) -> u8
     status
 }
 
-/// The status that goes with what came of an entry.
+/// The status for the outcome of an entry.
 fn fetched_status(answer: FetchAnswer) -> u8
     ensures { result ≡ fetched_status answer }
 {
@@ -118,7 +118,7 @@ fn fetched_status(answer: FetchAnswer) -> u8
     }
 }
 
-/// What came of an entry as its line.
+/// The outcome of an entry as a line.
 #[derive(Clone, Copy)]
 struct OutcomeLine<'a>(&'a FetchOutcome);
 

@@ -1,4 +1,4 @@
-//! `intake`: takes in the payload files that couriers bring.
+//! `intake`: takes in the payload files that couriers deliver.
 ghost use Rattle.std.specs.Prelude.{◌≡◌, IfOk, IsOk, List, OnErr, OnOk, length, map, string_bytes};
 ghost use Rattle.std.specs.Io.Buffered.{writer_buffer};
 ghost use Rattle.bag_digest.specs.Device.{Rises};
@@ -17,12 +17,13 @@ use bag_receiver::{Answer, Courier, End, Receiver, Run};
 use std::alloc::Global;
 use std::io::Write;
 
-/// Takes in what the couriers bring for a transfer, one courier after another, prints a line for each delivery when its courier's run
-/// has ended, and answers the status: 0 where all is held, 1 where something was refused, and 3 where a read, a courier, the store
-/// or memory failed, or a write.
+/// Takes in what the couriers deliver for a transfer, one courier after another. Prints a line for each delivery once
+/// its courier's run has ended, and returns the status: 0 if everything is held, 1 if something was refused, and 3 if a
+/// read, a courier, the store or memory failed or a line couldn't be written.
 ///
-/// What is refused ends nothing. A run that ends before all was delivered is the last, and a line says why. What is taken in doesn't
-/// depend on the output: after a write that failed no more is written, and the runs go on.
+/// A refusal ends nothing. A run that ends before everything was delivered is the last one, and a line gives the
+/// reason. What is taken in doesn't depend on the output: after a failed write nothing more is written, but the runs
+/// continue.
 pub fn intake_to<K: Keeper, C: Courier, W: Write + Drop>(
     alloc: Global,
     receiver: &mut Receiver<K>,
@@ -41,7 +42,7 @@ pub fn intake_to<K: Keeper, C: Courier, W: Write + Drop>(
     }
 }
 
-/// Takes in what the couriers bring, and writes the lines of each run. Answers the status that goes with them.
+/// Takes in what the couriers deliver, and writes the lines of each run. Returns the status.
 fn run_all<K: Keeper, C: Courier, W: Write + Drop>(
     alloc: Global,
     receiver: &mut Receiver<K>,
@@ -71,7 +72,7 @@ fn run_all<K: Keeper, C: Courier, W: Write + Drop>(
     written.and(Ok(status))
 }
 
-/// Writes the lines of a run, of which these are the texts of the paths, and hands them on.
+/// Writes the lines of a run, given the texts of its paths, and flushes them.
 fn write_run<W: Write + Drop>(
     run: &Run,
     texts: &[String],
@@ -108,7 +109,7 @@ fn write_answers<W: Write + Drop>(
     Ok(())
 }
 
-/// Why a run ended before all was delivered.
+/// The reason why a run ended before everything was delivered, if it did.
 fn stop_of_end(ended: End) -> Option<Stop>
     ensures { result ≡ stop_of_end ended }
 {
@@ -120,7 +121,7 @@ fn stop_of_end(ended: End) -> Option<Stop>
     }
 }
 
-/// The status that goes with a run: the greatest of those of its answers and its end.
+/// The status for a run: the maximum of those of its answers and its end.
 fn run_status(run: &Run) -> u8
     ensures { (texts : _) → result ≡ run_status (told_of run.now texts) }
 {
@@ -131,7 +132,7 @@ fn run_status(run: &Run) -> u8
     status.max(end_status(run.ended))
 }
 
-/// The status that goes with the end of a run.
+/// The status for the end of a run.
 fn end_status(ended: End) -> u8
     ensures { result ≡ end_status ended }
 {

@@ -4,7 +4,7 @@ ghost use Rattle.std.specs.Prelude.{◌≡◌, ℕ, List};
 ghost use Rattle.bag_path.specs.Spellings.{written_spelling};
 ghost use Rattle.bag_receiver.specs.Names.{IsTransferName};
 
-/// The name of a transfer has nothing to escape.
+/// No octet of a transfer's name has to be escaped.
 pub fn a_name_is_printed_as_it_is()
     ensures { (name : List ℕ) → IsTransferName name → written_spelling name ≡ name }
 {}

@@ -1,4 +1,4 @@
-//! The commands of the program over trees, sinks and writers: what each does, prints and answers as its status.
+//! The commands of the program on trees, sinks and writers: what each one does, prints and returns as its status.
 #![tactic(auto)]
 
 pub use audit::audit_to;

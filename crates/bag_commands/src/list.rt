@@ -1,4 +1,4 @@
-//! `list`: the names of the transfers that are held.
+//! `list`: prints the names of the transfers in the ledger.
 ghost use Rattle.std.specs.Prelude.{◌≡◌, [], OnErr, OnOk, map};
 ghost use Rattle.std.specs.Io.Buffered.{writer_buffer};
 ghost use Rattle.bag_digest.specs.Device.{Rises};
@@ -16,9 +16,9 @@ use bag_receiver::Receiver;
 use std::alloc::Global;
 use std::io::Write;
 
-/// Prints the name of each transfer on a line of its own, in order, or why they can't be told, and answers the status.
+/// Prints the name of each transfer on its own line, in order, or why the names can't be read, and returns the status.
 ///
-/// A text that is no name, in a ledger that something else wrote, has the escapes of a path's spelling.
+/// A name that isn't valid, in a ledger that another program wrote, is printed with the escapes of a path.
 pub fn list_to<K: Keeper, W: Write + Drop>(
     alloc: Global,
     receiver: &mut Receiver<K>,
@@ -34,7 +34,7 @@ pub fn list_to<K: Keeper, W: Write + Drop>(
     }
 }
 
-/// Writes the lines, and hands them on.
+/// Writes the lines, and flushes them.
 fn write_names<W: Write + Drop>(
     names: &Result<Vec<String>, KeepFault>,
     out: &mut Output<W>,
@@ -50,7 +50,7 @@ fn write_names<W: Write + Drop>(
     out.flush()
 }
 
-/// Writes each name on a line.
+/// Writes each name on its own line.
 fn write_each<W: Write + Drop>(names: &[String], out: &mut Output<W>) -> Result<(), Failed>
     ensures ok { OnOk result (WroteLines W.contents out.old out.new (map name_text names.now)) }
     ensures failed { OnErr result (Rises out.old.failures out.new.failures) }
@@ -61,7 +61,7 @@ fn write_each<W: Write + Drop>(names: &[String], out: &mut Output<W>) -> Result<
     Ok(())
 }
 
-/// The status that goes with the names.
+/// The status for the names.
 fn list_status(names: &Result<Vec<String>, KeepFault>) -> u8
     ensures { result ≡ list_status names.now }
 {

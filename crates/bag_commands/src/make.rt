@@ -18,10 +18,10 @@ use std::io::Write;
 #[cfg(test)]
 mod tests;
 
-/// Writes the bag of a tree's payload files to a sink, with manifests by the algorithms of these names, prints the answer and
-/// answers the status, as [`print_making`] does. An algorithm that is named twice counts once.
+/// Writes a bag of a tree's payload files to a sink, with manifests by the algorithms with these names, prints the
+/// result and returns the status, as [`print_making`] does. An algorithm that is named twice counts once.
 ///
-/// Where a word is no algorithm's name, the first such is printed, and neither the tree nor the sink is called.
+/// If a name is unknown, prints the first such name and returns [`USAGE`]. Neither the tree nor the sink is used then.
 pub fn make_to<T: Tree, S: Sink, W: Write + Drop>(
     alloc: Global,
     names: &[String],
@@ -40,7 +40,8 @@ pub fn make_to<T: Tree, S: Sink, W: Write + Drop>(
     }
 }
 
-/// Writes the bag of a tree's payload files with manifests by these algorithms, no elements and no holes.
+/// Writes a bag of a tree's payload files, with manifests by these algorithms and without `bag-info.txt` elements or
+/// holes.
 fn write_plain<T: Tree, S: Sink>(
     alloc: Global,
     algs: AlgSet,
@@ -59,11 +60,11 @@ fn write_plain<T: Tree, S: Sink>(
     write_bag(alloc, tree, &spec, sink)
 }
 
-/// The algorithms of these names.
+/// The algorithms with these names.
 ///
 /// # Errors
 ///
-/// The first word that is no algorithm's name.
+/// The first name that is unknown.
 fn named_algs(words: &[String]) -> Result<AlgSet, &str>
     ensures named { IfOk result (NamesSet (map string_bytes words.now)) }
     ensures unknown { IfErr result (λ word. IsFirstUnknown (map string_bytes words.now) word.now) }
@@ -78,8 +79,8 @@ fn named_algs(words: &[String]) -> Result<AlgSet, &str>
     Ok(algs)
 }
 
-/// Prints the answer of a making and answers the status: 0 for a bag that was made, 1 where no bag can be made of the payload, and 3
-/// where files or memory failed, or a write of the answer.
+/// Prints the result of `make` and returns the status: 0 if the bag was made, 1 if no bag can be made of the payload,
+/// and 3 if files or memory failed or the result couldn't be written.
 pub fn print_making<W: Write + Drop>(answer: &Result<Oxum, WriteFault>, out: &mut Output<W>) -> u8
     ensures { Printed W.contents out.old out.new result
         (make_text answer.now ∷ []) (make_status answer.now) }
@@ -87,7 +88,7 @@ pub fn print_making<W: Write + Drop>(answer: &Result<Oxum, WriteFault>, out: &mu
     out.print(MakingLine(answer), making_status(answer))
 }
 
-/// The status that goes with an answer.
+/// The status for a result.
 fn making_status(answer: &Result<Oxum, WriteFault>) -> u8
     ensures { result ≡ make_status answer.now }
 {
@@ -98,7 +99,7 @@ fn making_status(answer: &Result<Oxum, WriteFault>) -> u8
     }
 }
 
-/// Why no bag was made, or not to its end.
+/// The line that says why no bag, or only part of one, was made.
 fn fault_line(fault: &WriteFault) -> &'static str
     ensures { result.now ≡ fault_line fault.now }
 {
@@ -113,7 +114,7 @@ fn fault_line(fault: &WriteFault) -> &'static str
     }
 }
 
-/// The answer of a making as its line.
+/// A result of `make` as a line.
 #[derive(Clone, Copy)]
 struct MakingLine<'a>(&'a Result<Oxum, WriteFault>);
 
@@ -131,7 +132,7 @@ impl Display for MakingLine<'_> {
     }
 }
 
-/// A word that is no algorithm's name, as its line.
+/// An unknown name of an algorithm as a line.
 #[derive(Clone, Copy)]
 struct UnknownLine<'a>(&'a str);
 

@@ -11,7 +11,8 @@ use std::alloc::Global;
 use std::fmt::Display;
 use std::io::{BufWriter, Write};
 
-/// A writer, which holds back what is written until it is flushed or its buffer is full, and how often it has failed.
+/// A buffered writer, and how many times it has failed. What is written is buffered until it is flushed or the buffer
+/// is full.
 #[derive(Drop)]
 pub struct Output<W: Write + Drop> {
     pub writer: BufWriter<W>,
@@ -30,7 +31,7 @@ impl<W: Write + Drop> Output<W> {
         }
     }
 
-    /// The same, which holds nothing back: for standard error, and where there is no memory for a buffer.
+    /// The same without a buffer: for standard error, and if there is no memory for a buffer.
     pub fn unbuffered(alloc: Global, writer: W) -> Self
         ensures inner { writer_inner result.writer ≡ writer }
         ensures empty { writer_buffer result.writer ≡ [] }
@@ -43,7 +44,7 @@ impl<W: Write + Drop> Output<W> {
     ///
     /// # Errors
     ///
-    /// The writer failed; a part of the line may be written.
+    /// The writer failed. Part of the line may have been written.
     pub fn line<D: Display + Drop>(&mut self, text: D) -> Result<(), Failed>
         ensures ok { OnOk result (IfSome (D.output text) (λ octets.
             Appends (writer_contents W.contents self.old.writer)
@@ -54,7 +55,7 @@ impl<W: Write + Drop> Output<W> {
         self.failures.counted(written)
     }
 
-    /// Prints a text and a line feed alone, and hands them on. Answers the status that goes with it, or [`FAILED`] where the writer
+    /// Prints a single text with a line feed, and flushes it. Returns the given status, or [`FAILED`] if the writer
     /// failed.
     pub fn print<D: Display + Drop>(&mut self, text: D, status: u8) -> u8
         ensures { IfSome (D.output text) (λ line.
@@ -64,14 +65,14 @@ impl<W: Write + Drop> Output<W> {
         if printed { status } else { FAILED }
     }
 
-    /// Prints one line alone, and hands it on. Answers the status that goes with it, or [`FAILED`] where the writer failed.
+    /// Prints a single line, and flushes it. Returns the given status, or [`FAILED`] if the writer failed.
     pub fn print_line(&mut self, line: &str, status: u8) -> u8
         ensures { Printed W.contents self.old self.new result (line.now ∷ []) status }
     {
         self.print(line, status)
     }
 
-    /// Hands on all that the writer holds back.
+    /// Flushes the buffer.
     ///
     /// # Errors
     ///

@@ -1,4 +1,4 @@
-//! `report`: what is wrong with the bag of a transfer as it is held.
+//! `report`: reports what is wrong with the bag of a transfer as it is held.
 ghost use Rattle.std.specs.Prelude.{◌≡◌, ◌∷◌, [], OnErr, OnOk, Some};
 ghost use Rattle.std.specs.Io.Buffered.{writer_buffer};
 ghost use Rattle.bag_digest.specs.Device.{Rises};
@@ -23,14 +23,14 @@ use bag_rules::Report;
 use std::alloc::Global;
 use std::io::Write;
 
-/// Prints the report on the bag of a transfer as it is held, and answers the status, as [`print_view`] does.
+/// Prints the report on the bag of a transfer as it is held, and returns the status, as [`print_view`] does.
 pub fn report_to<K: Keeper, W: Write + Drop>(
     alloc: Global,
     receiver: &mut Receiver<K>,
     name: &str,
     out: &mut Output<W>,
 ) -> u8
-    // Status 0 is for transfers alone that hold a valid bag.
+    // The status is 0 only if the transfer holds a valid bag.
     ensures valid { result ≡ VALID → K.clean receiver.new.keeper → (now : LedgerState)
         → IsInState K.holds K.may_leave receiver.old now
         → (transfer : Transfer) × IsNamed now.held name.now (Some transfer)
@@ -42,8 +42,9 @@ pub fn report_to<K: Keeper, W: Write + Drop>(
     print_view(&answer, out)
 }
 
-/// Prints what is wrong with the bag of a transfer, and the verdict; or why that isn't known. Answers the status: 0 for a valid bag,
-/// 1 for one that is not and where there is no such transfer, 3 where the store or memory failed, or a write.
+/// Prints what is wrong with the bag of a transfer, and the verdict; or why there is no report. Returns the status: 0
+/// for a valid bag; 1 for one that isn't, or if there is no such transfer; 3 if the store or memory failed or a line
+/// couldn't be written.
 pub fn print_view<W: Write + Drop>(answer: &Result<Report, ViewFault>, out: &mut Output<W>) -> u8
     ensures { Printed W.contents out.old out.new result
         (view_lines answer.now) (view_status answer.now) }
@@ -54,7 +55,7 @@ pub fn print_view<W: Write + Drop>(answer: &Result<Report, ViewFault>, out: &mut
     }
 }
 
-/// Writes the lines of an answer, and hands them on.
+/// Writes the lines of an answer, and flushes them.
 fn write_view<W: Write + Drop>(
     answer: &Result<Report, ViewFault>,
     out: &mut Output<W>,
@@ -70,7 +71,7 @@ fn write_view<W: Write + Drop>(
     out.flush()
 }
 
-/// Why nothing is known of the bag.
+/// The line that says why there is no report.
 pub fn fault_line(fault: ViewFault) -> &'static str
     ensures { result.now ≡ view_fault_line fault }
 {
@@ -80,7 +81,7 @@ pub fn fault_line(fault: ViewFault) -> &'static str
     }
 }
 
-/// The status that goes with it.
+/// The status for this fault.
 pub fn fault_status(fault: ViewFault) -> u8
     ensures { result ≡ view_fault_status fault }
 {
@@ -90,7 +91,7 @@ pub fn fault_status(fault: ViewFault) -> u8
     }
 }
 
-/// The status that goes with an answer.
+/// The status for an answer.
 fn status_of(answer: &Result<Report, ViewFault>) -> u8
     ensures { result ≡ view_status answer.now }
 {

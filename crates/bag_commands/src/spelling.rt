@@ -5,8 +5,8 @@ ghost use Rattle.bag_path.specs.Spellings.{written_spelling};
 
 use std::fmt::{self, Display, Formatter, Write};
 
-/// A text that was delivered as a path, or stands in a ledger as a name, with the escapes of a path's spelling, so that it stays
-/// on its line. It need not be a path or a name.
+/// A text that was delivered as a path, or that is a name in a ledger, written with the escapes of a path so that it
+/// stays on one line. It may be invalid as a path or a name.
 #[derive(Clone, Copy)]
 pub struct TextSpelling<'a>(pub &'a str);
 
@@ -24,7 +24,7 @@ impl Display for TextSpelling<'_> {
     }
 }
 
-/// Writes what a character is spelled by.
+/// Writes a character as it is spelled.
 fn write_part<W: Write>(f: &mut Formatter<W>, c: char) -> fmt::Result
     ensures { WritesOnOk W.write_str_gives f.old result (written_spelling (encode_utf8 c)) f.new }
 {

@@ -1,9 +1,9 @@
-//! The statuses that the program ends with.
+//! The exit statuses of the program.
 
 /// The bag is valid.
 pub const VALID: u8 = 0;
 
-/// The command did what it was to do.
+/// The command did its work.
 pub const DONE: u8 = 0;
 
 /// The bag is not valid.
@@ -15,8 +15,8 @@ pub const REFUSED: u8 = 1;
 /// The bag can't be judged here.
 pub const OUTSIDE: u8 = 2;
 
-/// Files that can't be read, memory, a limit, or an output that is full or closed.
+/// Files or the ledger can't be used, a limit was exceeded, memory ran out, or the output is full or closed.
 pub const FAILED: u8 = 3;
 
-/// The command line names no command (`EX_USAGE` of `sysexits.h`).
+/// Unknown command line (`EX_USAGE` of `sysexits.h`).
 pub const USAGE: u8 = 64;

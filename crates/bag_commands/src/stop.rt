@@ -1,4 +1,4 @@
-//! Why a command ended before it had an answer: the lines `bag: WORD`.
+//! Why a command ended without a result: the lines `bag: WORD`.
 ghost use Rattle.std.specs.Prelude.{◌≡◌, ◌∷◌, []};
 ghost use Rattle.bag_commands.specs.Printing.{Printed};
 ghost use Rattle.bag_commands.specs.StopTexts.{stop_text};
@@ -9,10 +9,10 @@ use bag_ledger::KeepFault;
 use bag_rules::CheckFault;
 use std::io::Write;
 
-/// Why a command ended before it had an answer.
+/// Why a command ended without a result.
 #[derive(Clone, Copy, Debug, PartialEq, Eq)]
 pub enum Stop {
-    /// The files can't be read, or something among them can't be in a bag.
+    /// The files can't be read, or one of them isn't allowed in a bag.
     Files,
     /// Memory ran out.
     Memory,
@@ -22,12 +22,12 @@ pub enum Stop {
     TooLarge,
     /// There are too many files, or too many lines in a tag file.
     TooMany,
-    /// What keeps the transfers failed.
+    /// The store of the transfers failed.
     Store,
 }
 
 impl Stop {
-    /// The line that tells it.
+    /// The line that is printed.
     pub fn text(self) -> &'static str
         ensures { result.now ≡ stop_text self }
     {
@@ -73,7 +73,7 @@ impl From<KeepFault> for Stop {
     }
 }
 
-/// Prints why a command ended, and answers its status.
+/// Prints why a command ended, and returns its status.
 pub fn print_stop<W: Write + Drop>(stop: Stop, out: &mut Output<W>) -> u8
     ensures { Printed W.contents out.old out.new result (stop_text stop ∷ []) FAILED }
 {

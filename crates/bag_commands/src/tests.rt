@@ -11,7 +11,7 @@ mod exports;
 mod fetches;
 mod transfers;
 
-/// An output that keeps what is written.
+/// An output that keeps what is written to it.
 pub fn kept(alloc: Global) -> Result<Output<Vec<u8>>, Fail> {
     Ok(Output::new(BufWriter::new(alloc, Vec::new(alloc))?))
 }
@@ -44,7 +44,7 @@ fn a_file_past_the_limit_is_told_by_one_line(rt: HostRuntime) -> Result<(), Fail
     Ok(())
 }
 
-/// A writer that takes some octets and then fails, at a write or at a flush.
+/// A writer that accepts some octets and then fails, at a write or at a flush.
 #[derive(Drop)]
 struct Failing {
     takes: usize,

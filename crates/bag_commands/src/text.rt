@@ -1,4 +1,4 @@
-//! The lines that the program prints of a check.
+//! The lines that `check` prints.
 ghost use Rattle.std.specs.Prelude.{◌≡◌};
 ghost use Rattle.bag_tags.specs.Names.{manifest_name};
 ghost use Rattle.bag_commands.specs.FaultTexts.{declaration_text, cause_text};
@@ -9,7 +9,7 @@ use bag_rules::{Fault, OutsideCause};
 use bag_tags::{DeclFault, Kind, LineCause, ManifestName};
 use std::fmt::{Display, Formatter, Result, Write};
 
-/// The name of a manifest by this algorithm.
+/// The name of a manifest of this kind and algorithm.
 fn manifest_name(kind: Kind, alg: Alg) -> ManifestName
     ensures { result ≡ manifest_name kind alg }
 {
@@ -48,7 +48,7 @@ fn cause_text(cause: LineCause) -> &'static str
     }
 }
 
-/// A fault as its line.
+/// A fault as a line.
 #[derive(Clone, Copy)]
 pub struct FaultLine<'a>(pub &'a Fault);
 
@@ -99,7 +99,7 @@ impl Display for FaultLine<'_> {
     }
 }
 
-/// Why a bag can't be judged, as its line.
+/// The reason why a bag can't be judged, as a line.
 #[derive(Clone, Copy)]
 pub struct OutsideLine<'a>(pub &'a OutsideCause);
 

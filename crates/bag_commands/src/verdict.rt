@@ -1,4 +1,4 @@
-//! A report as it is printed: a line for each fault, and the verdict.
+//! The printed form of a report: a line for each fault, and the verdict.
 ghost use Rattle.std.specs.Prelude.{◌≡◌, OnErr, OnOk};
 ghost use Rattle.bag_digest.specs.Device.{Rises};
 ghost use Rattle.bag_commands.specs.Printing.{WroteLines};
@@ -26,7 +26,7 @@ pub fn write_report<W: Write + Drop>(report: &Report, out: &mut Output<W>) -> Re
     out.line(verdict_text(report))
 }
 
-/// How a report ends: `valid`, `complete, not valid` or `not complete` (RFC 8493 section 3).
+/// The verdict: `valid`, `complete, not valid` or `not complete` (RFC 8493 section 3).
 pub fn verdict_text(report: &Report) -> &'static str
     ensures { result.now ≡ verdict_text report.now }
 {
@@ -39,7 +39,7 @@ pub fn verdict_text(report: &Report) -> &'static str
     }
 }
 
-/// The status that goes with a report.
+/// The status for a report.
 pub fn report_status(report: &Report) -> u8
     ensures { result ≡ report_status report.now }
 {

@@ -18,7 +18,7 @@ fn payload(alloc: Global) -> Result<MemTree, Fail> {
     Ok(tree)
 }
 
-/// What is answered where a bag is made with the algorithms of these names, what is printed, and what was made.
+/// The status of making a bag with the algorithms with these names, what is printed, and what was made.
 fn made(alloc: Global, names: &[&str]) -> Result<(u8, Output<Vec<u8>>, MemTree), Fail> {
     let mut words = Vec::new(alloc);
     for name in names.iter().copied() {

@@ -1,4 +1,4 @@
-//! Exports: what is printed of them, and what the sink holds then.
+//! Exports: what is printed, and what the sink holds afterwards.
 use super::transfers::{TAG_FILES, opened_with};
 use super::{kept, printed};
 use crate::check::check_to;
@@ -11,7 +11,7 @@ use bag_writer::{MemSink, Sink};
 use std::alloc::Global;
 use std::test::Fail;
 
-/// A receiver with a transfer that holds both its files.
+/// A receiver with a transfer that holds both of its files.
 fn complete(alloc: Global) -> Result<Receiver<MapKeeper>, Fail> {
     let mut receiver = opened_with(alloc, &["t1"], &TAG_FILES)?;
     for (path, content) in [("data/a.txt", b"abc".as_slice()), ("data/e.txt", b"")] {
@@ -20,7 +20,7 @@ fn complete(alloc: Global) -> Result<Receiver<MapKeeper>, Fail> {
     Ok(receiver)
 }
 
-/// Whether this is printed of an export, with this status.
+/// Whether an export prints this, with this status.
 fn is_exported(
     alloc: Global,
     receiver: &mut Receiver<MapKeeper>,
@@ -61,7 +61,7 @@ fn nothing_is_written_of_a_transfer_that_is_not_there(rt: HostRuntime) -> Result
     Ok(())
 }
 
-// The sink fails at the second tag file, whose path is taken.
+// The sink fails at the second tag file, whose path already exists.
 #[test]
 fn a_sink_that_fails_holds_part_of_the_bag(rt: HostRuntime) -> Result<(), Fail> {
     let alloc = rt.alloc();

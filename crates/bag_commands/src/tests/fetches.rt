@@ -1,4 +1,4 @@
-//! Fetching: what is printed of it.
+//! Fetching: what is printed.
 use super::transfers::{TAG_FILES, opened_with};
 use super::{Failing, kept, printed};
 use crate::fetch::fetch_to;
@@ -14,7 +14,7 @@ const WITHOUT_LENGTH: &str = "http://example.org/e - data/e.txt\n";
 
 const OF_NO_OCTETS: &str = "http://example.org/e 0 data/e.txt\n";
 
-/// What a supplier does with what it is asked for.
+/// How a supplier answers a request.
 #[derive(Clone, Copy)]
 enum Manner {
     HasNothing,
@@ -23,7 +23,7 @@ enum Manner {
     Breaks,
 }
 
-/// Does the same with all that it is asked for.
+/// A supplier that answers all requests in the same way.
 #[derive(Drop)]
 struct Same {
     manner: Manner,
@@ -114,7 +114,7 @@ pub fn to_fetch(alloc: Global, fetch: &str) -> Result<Receiver<MapKeeper>, Fail>
     Ok(receiver)
 }
 
-/// Whether this is printed of a fetch, with this status.
+/// Whether a fetch prints this, with this status.
 fn is_fetched(
     alloc: Global,
     receiver: &mut Receiver<MapKeeper>,
@@ -164,7 +164,7 @@ fn another_length_than_is_listed_is_told_so(rt: HostRuntime) -> Result<(), Fail>
     Ok(())
 }
 
-// Both entries are asked for, in their order, and the greatest status is the answer.
+// Both entries are asked for in order, and the status is the maximum.
 #[test]
 fn each_entry_has_its_line_and_the_greatest_status_is_answered(
     rt: HostRuntime,

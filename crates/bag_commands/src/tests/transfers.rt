@@ -1,4 +1,4 @@
-//! Transfers over a map: what is printed of them.
+//! Transfers in a map: what is printed.
 use super::{kept, printed};
 use crate::audit::audit_to;
 use crate::begin::begin_to;
@@ -15,26 +15,26 @@ use std::test::Fail;
 
 const DECLARATION: &str = "BagIt-Version: 1.0\nTag-File-Character-Encoding: UTF-8\n";
 
-// Two files, with the digests of `abc` and of nothing (FIPS 180-4, example B.1, and RFC 6234 section 8.5).
+// Two files, with the digests of `abc` and of the empty message (FIPS 180-4, example B.1, and RFC 6234 section 8.5).
 const MANIFEST: &str = "ba7816bf8f01cfea414140de5dae2223b00361a396177a9cb410ff61f20015ad  data/a.txt
 e3b0c44298fc1c149afbf4c8996fb92427ae41e4649b934ca495991b7852b855  data/e.txt
 ";
 
-/// The tag files of a transfer of these two.
+/// The tag files of a transfer of these two files.
 pub const TAG_FILES: [(&str, &str); 2] = [
     ("bagit.txt", DECLARATION),
     ("manifest-sha256.txt", MANIFEST),
 ];
 
-/// The text of a path, and the octets that are still to be read.
+/// The text of a path, and the octets still to be read.
 #[derive(Drop)]
 struct Item {
     path: String,
     content: Vec<u8>,
 }
 
-/// Brings items, the last first, and then fails unless it ends well. The octets of each come from its end, one a read; a read of `!`
-/// fails.
+/// Delivers items, the last one first, and then fails unless it is to end well. The octets of each come from its end,
+/// one per read; reading `!` fails.
 #[derive(Drop)]
 struct Items {
     left: Vec<Item>,
@@ -46,7 +46,7 @@ struct Items {
 }
 
 impl Items {
-    /// These, each with its content, in their order.
+    /// Delivers these items, each with its content, in this order.
     fn new(alloc: Global, items: &[(&str, &str)], ends_well: bool) -> Result<Items, AllocError> {
         let mut left = Vec::new(alloc);
         for (path, text) in items.iter().rev().copied() {
@@ -148,12 +148,12 @@ impl Courier for Items {
     ghost keeps_item = { λ old new kept. (refl, kept.0, kept.1, λ none. none) };
 }
 
-/// A receiver with transfers of these names, each of two files.
+/// A receiver with transfers with these names, each of two files.
 fn opened(alloc: Global, names: &[&str]) -> Result<Receiver<MapKeeper>, Fail> {
     opened_with(alloc, names, &TAG_FILES)
 }
 
-/// A receiver with transfers of these names, each opened with these tag files.
+/// A receiver with transfers with these names, each opened with these tag files.
 pub fn opened_with(
     alloc: Global,
     names: &[&str],
@@ -171,7 +171,7 @@ pub fn opened_with(
     Ok(receiver)
 }
 
-/// Whether this is printed of the transfer, with this status, by a report and by an audit.
+/// Whether a report and an audit of the transfer print this, with this status.
 fn is_reported(
     alloc: Global,
     receiver: &mut Receiver<MapKeeper>,
@@ -186,7 +186,7 @@ fn is_reported(
     Ok(is_same && (status, printed(&out)) == (expected.0, Some(expected.1)))
 }
 
-/// Whether this is printed of what these couriers bring, with this status.
+/// Whether taking in what these couriers deliver prints this, with this status.
 fn is_taken_in(
     alloc: Global,
     receiver: &mut Receiver<MapKeeper>,
@@ -291,7 +291,7 @@ bag: files
     Ok(())
 }
 
-/// Whether this is printed of a beginning with these files, and with a payload file that isn't read, and with this status.
+/// Whether `begin` with these files and a payload file that isn't read prints this, with this status.
 fn is_begun(
     alloc: Global,
     receiver: &mut Receiver<MapKeeper>,
