@@ -1,4 +1,4 @@
-//! Payload files that are put into a ledger in a new database on the disk, whose time is taken.
+//! Puts payload files in a ledger in a new database on disk, for time measurements.
 use crate::keepers::created;
 use crate::receiving::{Items, is_taken, listing, payload, tag_files, take_in};
 use bag_digest::Counted;
@@ -12,7 +12,7 @@ use std::io::{self, ErrorKind, Write};
 
 type DiskReceiver = Receiver<SqlKeeper<FileStore<File>>>;
 
-/// Makes so many payload files of 2,048 octets, and takes them in in one run. The status is 0 where each was taken.
+/// Makes this many payload files of 2,048 octets, and takes them in in one run. The status is 0 if all were taken.
 pub fn put(rt: &HostRuntime, files: &str, database: &str) -> io::Result<u8> {
     let Ok(number) = files.parse::<u32>() else {
         return Ok(64);
@@ -26,7 +26,8 @@ pub fn put(rt: &HostRuntime, files: &str, database: &str) -> io::Result<u8> {
     Ok(status)
 }
 
-/// Takes in the file as the one payload file of a transfer, which lists it by this SHA-256. The status is 0 where it was taken.
+/// Takes in the file as the only payload file of a transfer that lists it with this SHA-256. The status is 0 if it was
+/// taken.
 pub fn put_file(rt: &HostRuntime, file: &str, digest: &str, database: &str) -> io::Result<u8> {
     let alloc = rt.alloc();
     let line = format!(in alloc; "{digest}  data/file\n")?;
@@ -41,7 +42,7 @@ pub fn put_file(rt: &HostRuntime, file: &str, digest: &str, database: &str) -> i
     Ok(if is_taken(&answer) { 0 } else { 1 })
 }
 
-/// Opens the database, adopts the ledger that it holds, and prints that it did or why it didn't. The status is 0 where it did.
+/// Opens the database, adopts the ledger in it, and prints that it did or why it didn't. The status is 0 if it did.
 pub fn adopt(rt: &HostRuntime, database: &str) -> io::Result<u8> {
     let mut out = io::writer(rt);
     let connection = match Connection::open(rt, database) {
@@ -80,7 +81,7 @@ pub fn adopt(rt: &HostRuntime, database: &str) -> io::Result<u8> {
     Ok(1)
 }
 
-/// A receiver over a ledger that is made in this database.
+/// A receiver with a ledger made in this database.
 fn opened(rt: &HostRuntime, database: &str) -> io::Result<DiskReceiver> {
     match Connection::open(rt, database) {
         Ok(connection) => Ok(Receiver::new(rt.alloc(), created(SqlKeeper::create(connection))?)),
@@ -88,7 +89,7 @@ fn opened(rt: &HostRuntime, database: &str) -> io::Result<DiskReceiver> {
     }
 }
 
-/// Closes the database, which copies its log into it.
+/// Closes the database, which copies its log into the file.
 fn closed(receiver: DiskReceiver) -> io::Result<()> {
     match receiver.into_keeper().release().close() {
         Ok(()) => Ok(()),

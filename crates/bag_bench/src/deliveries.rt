@@ -1,4 +1,4 @@
-//! Answers lists of deliveries, for `tests/deliveries.py`, which tells what is read and what is printed.
+//! Answers lists of deliveries for `tests/deliveries.py`, which describes the input and the output.
 use crate::event::{Event, bad_line};
 use crate::keepers::Anew;
 use crate::text::{AnswerText, FaultText, RefusalText, end_text, verdict_text};
@@ -7,15 +7,15 @@ use bag_receiver::{Begun, Receiver};
 use std::alloc::Global;
 use std::io::{self, BufRead, BufReader, BufWriter, Write};
 
-/// Answers each line of standard input by a line, by a receiver over keepers of this kind.
+/// Answers each line of standard input with a line, using a receiver with keepers of this kind.
 ///
 /// # Errors
 ///
-/// A line is no event; or memory ran out, or a read or a write failed.
+/// A line is malformed, memory ran out, or a read or a write failed.
 pub fn answer_all<K: Anew, R: Input + Print + AllocGlobal>(rt: &R) -> io::Result<()> {
     let mut out = BufWriter::new(rt.alloc(), io::writer(rt))?;
     let answered = answer_lines::<K, _, _>(rt, &mut out);
-    // The answers before a line that is no event are printed.
+    // The answers before a malformed line are printed.
     out.flush()?;
     answered
 }
@@ -34,12 +34,12 @@ fn answer_lines<K: Anew, R: Input + AllocGlobal, W: Write + Drop>(
     Ok(())
 }
 
-/// A receiver with no transfer.
+/// A receiver without transfers.
 fn empty<K: Anew>(alloc: Global) -> io::Result<Receiver<K>> {
     Ok(Receiver::new(alloc, K::anew(alloc)?))
 }
 
-/// Writes what the event is answered.
+/// Writes the answer to the event.
 fn answer<K: Anew, W: Write + Drop>(
     alloc: Global,
     receiver: &mut Receiver<K>,

@@ -1,9 +1,9 @@
-//! The events of a list of deliveries. Each is a line: a word, and after one blank each the name of a transfer and the
-//! path and octets of each file, all in hex, or `-` where there is no octet.
+//! The events in a list of deliveries. Each is a line: a word, then the name of a transfer and the path and octets of
+//! each file, each after one space, all in hex, or `-` if empty.
 use std::alloc::Global;
 use std::io::{self, ErrorKind};
 
-/// What happens to the transfer with this name, which may be none, by these files.
+/// What happens to the transfer with this name, which may be invalid, with these files.
 #[derive(Drop)]
 pub struct Event<'a> {
     pub word: &'a str,
@@ -12,11 +12,11 @@ pub struct Event<'a> {
 }
 
 impl<'a> Event<'a> {
-    /// The event that stands in this line.
+    /// Parses the event in this line.
     ///
     /// # Errors
     ///
-    /// `InvalidData` where the fields are others; or memory ran out.
+    /// `InvalidData` if the fields are malformed; or memory ran out.
     pub fn parse(alloc: Global, line: &'a str) -> io::Result<Event<'a>> {
         let fields: Vec<&str> = line.split(' ').collect(alloc)?;
         let word = fields[0];
@@ -42,12 +42,12 @@ impl<'a> Event<'a> {
     }
 }
 
-/// Why a line isn't answered that is no event.
+/// The error for a malformed line.
 pub fn bad_line() -> io::Error {
     io::Error::from(ErrorKind::InvalidData)
 }
 
-/// The text that a field gives in hex, or by `-` where it is empty.
+/// The text that a field gives in hex, or as `-` if it is empty.
 pub fn text_of(alloc: Global, field: &str) -> io::Result<String> {
     match String::from_utf8(octets_of(alloc, field)?) {
         Ok(text) => Ok(text),
@@ -55,7 +55,7 @@ pub fn text_of(alloc: Global, field: &str) -> io::Result<String> {
     }
 }
 
-/// The octets that a field gives in hex, or by `-` where there are none.
+/// The octets that a field gives in hex, or as `-` if there are none.
 pub fn octets_of(alloc: Global, field: &str) -> io::Result<Vec<u8>> {
     if field == "-" {
         return Ok(Vec::new(alloc));

@@ -1,11 +1,11 @@
-//! The keepers over which deliveries are answered.
+//! The keepers with which deliveries are answered.
 use bag_ledger::{KeepFault, Keeper, MapKeeper};
 use bag_sqlite::{NotCreated, SqlKeeper};
 use sqlite::{Alter, Connection, MemStore};
 use std::alloc::Global;
 use std::io::{self, ErrorKind};
 
-/// A keeper that can be made, without a transfer, from nothing.
+/// A keeper that can be made from nothing, without transfers.
 pub trait Anew: Keeper + Drop {
     fn anew(alloc: Global) -> io::Result<Self>;
 }
@@ -23,7 +23,7 @@ impl Anew for SqlKeeper<MemStore> {
     }
 }
 
-/// The keeper of a ledger that was made, with the fault of one that was not as an error.
+/// The keeper of a ledger that was made; a fault is returned as an error.
 pub fn created<S: Alter + Drop>(
     made: Result<SqlKeeper<S>, NotCreated<S>>,
 ) -> io::Result<SqlKeeper<S>> {

@@ -1,28 +1,31 @@
-//! Work whose time the scripts in `bench/` take, and the driver of the receiver for `tests/`.
+//! Work for the time measurements in `bench/`, and the driver of the receiver for `tests/`.
 //!
-//! `bag_bench KIND LINES` makes the text of a tag file in memory and reads it, where KIND is `manifest`, `info` or `fetch`, or `none`
-//! for a manifest that is made and not read. The status is 0 where the text reads.
+//! `bag_bench KIND LINES` makes the text of a tag file in memory and reads it. KIND is `manifest`, `info` or `fetch`,
+//! or `none` for a manifest that is made but not read. The status is 0 if the text can be read.
 //!
-//! `bag_bench plan LINES` makes the tag files of a transfer, four manifests of so many lines each, and their plan; `bag_bench wants LINES`
-//! then asks it for each path; `bag_bench tags LINES` makes the tag files alone. The status is 0 where the transfer can be opened.
+//! `bag_bench plan LINES` makes the tag files of a transfer, with four manifests of this many lines each, and their
+//! plan. `bag_bench wants LINES` also asks the plan for each path, and `bag_bench tags LINES` makes only the tag files.
+//! The status is 0 if the transfer can be opened.
 //!
-//! `bag_bench deliver FILES` makes so many payload files of 2,048 octets and a receiver that takes them in one by one, and `bag_bench run
-//! FILES` in one run; `bag_bench copies FILES` takes their digests and copies them into a map; `bag_bench items FILES` makes them alone. The
-//! status is 0 where each was taken.
+//! `bag_bench deliver FILES` makes this many payload files of 2,048 octets and a receiver that takes them in one by
+//! one, and `bag_bench run FILES` takes them in in one run. `bag_bench copies FILES` computes their digests and copies
+//! them into a map; `bag_bench items FILES` only makes them. The status is 0 if all were taken.
 //!
-//! `bag_bench put FILES DATABASE` makes so many payload files of 2,048 octets and takes them in, in one run, into a ledger in a database
-//! that is made; `bag_bench put-file FILE DIGEST DATABASE` takes in one file, which is listed by this SHA-256. The status is 0 where each
-//! was taken. `bag_bench adopt DATABASE` prints whether a ledger was adopted, or why not; the status is 0 where it was.
+//! `bag_bench put FILES DATABASE` makes this many payload files of 2,048 octets and takes them in, in one run, into a
+//! ledger in a new database. `bag_bench put-file FILE DIGEST DATABASE` takes in one file, listed with this SHA-256. The
+//! status is 0 if all were taken. `bag_bench adopt DATABASE` prints whether a ledger was adopted, or why not; the
+//! status is 0 if it was.
 //!
-//! `bag_bench stops` stops a ledger's work at each call of each of its two files, as `tests/stops.py` tells.
+//! `bag_bench stops` stops a ledger's work at each call of each of its two files; `tests/stops.py` describes the
+//! output.
 //!
-//! `bag_bench ALG PIECES` takes the digest of so many pieces of 65,536 octets.
+//! `bag_bench ALG PIECES` computes the digest of this many pieces of 65,536 octets.
 //!
-//! `bag_bench deliveries KEEPER` answers the lists of deliveries on standard input, as `tests/deliveries.py` tells, over the keeper
-//! `map` or `sqlite`, both in memory. The status is 0 where each line was answered.
+//! `bag_bench deliveries KEEPER` answers the lists of deliveries on standard input, as described in
+//! `tests/deliveries.py`, with the keeper `map` or `sqlite`, both in memory. The status is 0 if each line was answered.
 //!
-//! `bag_bench write` writes in memory the bags that standard input asks for, as `tests/new_bags.py` tells. The status is 0 where each
-//! line was read.
+//! `bag_bench write` writes in memory the bags that standard input asks for, as described in `tests/new_bags.py`. The
+//! status is 0 if each line was read.
 #![tactic(auto)]
 
 use bag_digest::{Alg, AlgSet, Multi, piece_buffer};
@@ -51,10 +54,10 @@ mod stops;
 mod text;
 mod writing;
 
-/// The SHA-256 of no octets.
+/// The SHA-256 of the empty message.
 const NOTHING: &str = "e3b0c44298fc1c149afbf4c8996fb92427ae41e4649b934ca495991b7852b855";
 
-/// The file names of four manifests, and the digests of no octets by their algorithms.
+/// The file names of four manifests, and the digests of the empty message by their algorithms.
 const MANIFESTS: [(&str, &str); 4] = [
     ("manifest-md5.txt", "d41d8cd98f00b204e9800998ecf8427e"),
     (
@@ -94,7 +97,7 @@ fn run(rt: &HostRuntime) -> u8 {
     done.unwrap_or(3)
 }
 
-/// Answers the lists of deliveries over the keeper with this name.
+/// Answers the lists of deliveries with the keeper of this name.
 fn answer_over(rt: &HostRuntime, keeper: &str) -> io::Result<u8> {
     match keeper {
         "map" => answer_all::<MapKeeper, _>(rt)?,
@@ -104,7 +107,7 @@ fn answer_over(rt: &HostRuntime, keeper: &str) -> io::Result<u8> {
     Ok(0)
 }
 
-/// Does work that takes a number.
+/// Does the work of a command that takes a number.
 fn work(alloc: Global, work: &str, number: &str) -> io::Result<u8> {
     let Ok(number) = number.parse::<u32>() else {
         return Ok(64);
@@ -127,7 +130,7 @@ fn words<R: Env + AllocGlobal>(rt: &R, alloc: Global) -> Result<Vec<String>, All
     }
 }
 
-/// Takes the digest of so many pieces.
+/// Computes the digest of this many pieces.
 fn hash(alloc: Global, alg: Alg, pieces: u32) -> Result<u8, AllocError> {
     let buffer = piece_buffer(alloc)?;
     let mut multi = Multi::new(AlgSet::empty().with(alg));
@@ -138,7 +141,7 @@ fn hash(alloc: Global, alg: Alg, pieces: u32) -> Result<u8, AllocError> {
     Ok(if digests.get(alg).is_some() { 0 } else { 1 })
 }
 
-/// Makes the tag files of a transfer and, where that is the work, their plan; and asks it for each path.
+/// Makes the tag files of a transfer and, depending on the work, their plan, and asks it for each path.
 fn plan(alloc: Global, work: &str, lines: u32) -> Result<u8, AllocError> {
     let Some(tags) = tags_of(alloc, lines)? else {
         return Ok(1);
@@ -196,7 +199,7 @@ fn text_of(alloc: Global, kind: &str, lines: u32) -> Result<Vec<u8>, AllocError>
     Ok(text)
 }
 
-/// Makes a text and reads it; the status tells whether it reads.
+/// Makes a text and reads it. The status says whether it can be read.
 fn read(alloc: Global, kind: &str, lines: u32) -> Result<u8, AllocError> {
     let text = text_of(alloc, kind, lines)?;
     let reads = match kind {

@@ -1,4 +1,4 @@
-//! Deliveries to one transfer, whose time is taken.
+//! Deliveries to one transfer, for time measurements.
 
 use bag_digest::{Alg, AlgSet, Digest, Multi};
 use bag_ledger::{Keeper, MapKeeper};
@@ -10,11 +10,11 @@ use std::collections::BTreeMap;
 /// Files by their paths.
 pub(crate) type Items = Vec<(String, Vec<u8>)>;
 
-/// How many octets each payload file has.
+/// The number of octets of each payload file.
 const OCTETS: usize = 2_048;
 
-/// Makes so many payload files and the tag files that list them, and then takes them in one by one (`deliver`) or in a run (`run`), or
-/// takes their digests and copies them into a map (`copies`), or nothing (`items`).
+/// Makes this many payload files and the tag files that list them, and then takes them in one by one (`deliver`) or in
+/// a run (`run`), or computes their digests and copies them into a map (`copies`), or does nothing more (`items`).
 pub(crate) fn receive(alloc: Global, work: &str, number: u32) -> Result<u8, AllocError> {
     let items = payload(alloc, number)?;
     let tags = tag_files(alloc, &items)?;
@@ -28,7 +28,8 @@ pub(crate) fn receive(alloc: Global, work: &str, number: u32) -> Result<u8, Allo
     }
 }
 
-/// Opens a transfer with these tag files and takes the payload files in, in a run or one by one. The status is 0 where each was taken.
+/// Opens a transfer with these tag files and takes in the payload files, in a run or one by one. The status is 0 if all
+/// were taken.
 pub(crate) fn take_in<K: Keeper + Drop>(
     alloc: Global,
     receiver: &mut Receiver<K>,
@@ -60,7 +61,7 @@ pub(crate) fn is_taken(answer: &Answer) -> bool {
     *answer == Answer::Taken
 }
 
-/// Takes the digest of each payload file and copies it into a map by its path.
+/// Computes the digest of each payload file and copies it into a map by its path.
 fn copy(alloc: Global, items: &Items) -> Result<u8, AllocError> {
     let mut copies = BTreeMap::new(alloc);
     for (path, content) in items {
@@ -81,7 +82,7 @@ fn sha256(octets: &[u8]) -> Option<Digest> {
     multi.finish().get(Alg::Sha256)
 }
 
-/// Payload files of 2,048 octets, each with another number at its front.
+/// Payload files of 2,048 octets, each with a different number at its front.
 pub(crate) fn payload(alloc: Global, number: u32) -> Result<Items, AllocError> {
     let mut items = Vec::new(alloc);
     for place in 0..number {

@@ -1,4 +1,4 @@
-//! A ledger's work in a database is stopped at each call of each of its two files, for `tests/stops.py`, which tells what is printed.
+//! Stops a ledger's work at each call of each of its two files, for `tests/stops.py`, which describes the output.
 use crate::receiving::{Items, is_taken, payload, tag_files};
 use bag_digest::Counted;
 use bag_ledger::Keeper;
@@ -13,13 +13,13 @@ type Fused = Files<Fuse<Memory>>;
 
 type FusedKeeper = SqlKeeper<FileStore<Fuse<Memory>>>;
 
-/// How many payload files are put in one run, after one of three pieces.
+/// The number of payload files put in one run, after one file of three pieces.
 const RUN: u32 = 10;
 
 /// More calls of a file than all of the work makes.
 const CALLS: u64 = 10_000;
 
-/// Prints for each stop how many steps were answered before it, and how many a new start finds after it.
+/// Prints for each stop how many steps were answered before it, and how many a restart finds after it.
 pub fn stop_each<R: Print + AllocGlobal>(rt: &R) -> io::Result<()> {
     let mut out = BufWriter::new(rt.alloc(), io::writer(rt))?;
     let items = items(rt.alloc())?;
@@ -32,7 +32,7 @@ pub fn stop_each<R: Print + AllocGlobal>(rt: &R) -> io::Result<()> {
     out.flush()
 }
 
-/// Stops the work before each call of one of the files, until all of it was answered.
+/// Stops the work before each call of one of the files, until the whole work was answered.
 fn stop_file<W: Write + Drop>(
     alloc: Global,
     file: &str,
@@ -66,7 +66,7 @@ fn stop_file<W: Write + Drop>(
     Ok(())
 }
 
-/// A payload file of three pieces, and so many small ones.
+/// A payload file of three pieces, followed by `RUN` small ones.
 fn items(alloc: Global) -> Result<Items, AllocError> {
     let mut items = Vec::new(alloc);
     let large = vec![in alloc; b'.'; 131_073]?;
@@ -77,7 +77,7 @@ fn items(alloc: Global) -> Result<Items, AllocError> {
     Ok(items)
 }
 
-/// Two files without octets, which take so many calls.
+/// Two empty files that accept this many calls.
 fn fused(alloc: Global, log: u64, database: u64) -> Fused {
     Files {
         log: Fuse::new(Memory::new(alloc), log),
@@ -85,7 +85,7 @@ fn fused(alloc: Global, log: u64, database: u64) -> Fused {
     }
 }
 
-/// Makes a ledger and takes a transfer in. Says how many of its steps were answered.
+/// Makes a ledger and takes in a transfer. Returns how many steps were answered.
 fn work(alloc: Global, files: Fused, tags: &Items, items: &Items) -> (u32, Fused) {
     match ledger_in(alloc, files) {
         Ok(keeper) => {
@@ -96,7 +96,7 @@ fn work(alloc: Global, files: Fused, tags: &Items, items: &Items) -> (u32, Fused
     }
 }
 
-/// Makes a ledger in these files, or gives them back.
+/// Makes a ledger in these files, or returns the files.
 fn ledger_in(alloc: Global, files: Fused) -> Result<FusedKeeper, Fused> {
     if !files.may_be_used() {
         return Err(files);
@@ -111,8 +111,8 @@ fn ledger_in(alloc: Global, files: Fused) -> Result<FusedKeeper, Fused> {
     }
 }
 
-/// Opens a transfer, and puts the first payload file by a reader and the others in a run. Says how many steps were answered, with the
-/// making of the ledger.
+/// Opens a transfer, puts the first payload file through a reader and the others in a run. Returns how many steps were
+/// answered, including the making of the ledger.
 fn take_in<S: Alter + Drop>(
     alloc: Global,
     keeper: SqlKeeper<S>,
@@ -129,7 +129,7 @@ fn take_in<S: Alter + Drop>(
     (answered, receiver.into_keeper().release().into_store())
 }
 
-/// Puts the payload files, and says how many were taken.
+/// Puts the payload files, and returns how many were taken.
 fn put_all<K: Keeper + Drop>(alloc: Global, receiver: &mut Receiver<K>, items: &Items) -> u32 {
     let Some(((path, content), small)) = items.as_slice().split_first() else {
         return 0;
@@ -144,8 +144,8 @@ fn put_all<K: Keeper + Drop>(alloc: Global, receiver: &mut Receiver<K>, items: &
     taken
 }
 
-/// The files as a new start finds them: without what no sync had reached where the power was cut, and as they are where the program
-/// alone was killed.
+/// The files as a restart finds them: after a power cut without what no sync had reached, and unchanged if only the
+/// program was killed.
 fn restarted(alloc: Global, files: Fused, is_cut: bool) -> io::Result<Fused> {
     let mut files = files;
     if is_cut {
@@ -159,7 +159,7 @@ fn restarted(alloc: Global, files: Fused, is_cut: bool) -> io::Result<Fused> {
     })
 }
 
-/// A file with the same octets.
+/// A copy of the file.
 fn kept(alloc: Global, file: &Fuse<Memory>) -> io::Result<Fuse<Memory>> {
     let mut copy = Memory::new(alloc);
     copy.write_at(0, file.inner().bytes())?;
@@ -167,8 +167,8 @@ fn kept(alloc: Global, file: &Fuse<Memory>) -> io::Result<Fuse<Memory>> {
     Ok(Fuse::new(copy, u64::MAX))
 }
 
-/// How many steps a ledger in these files holds: one for itself, one for the transfer, and one for each payload file. None where they hold
-/// none and none can be made.
+/// How many steps a ledger in these files holds: one for itself, one for the transfer, and one for each payload file.
+/// `None` if there is no ledger and none can be made.
 fn found(alloc: Global, files: Fused) -> Option<usize> {
     if !files.may_be_used() {
         return None;

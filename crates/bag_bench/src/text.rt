@@ -1,4 +1,4 @@
-//! Answers and reports, as `docs/FORMAT.md` words them.
+//! Answers and reports, in the words of `docs/FORMAT.md`.
 use bag_digest::Alg;
 use bag_path::Spelling;
 use bag_receiver::{Answer, BeginFault, DeliverFault, End};
@@ -6,7 +6,7 @@ use bag_rules::{Fault, OutsideCause, Report};
 use bag_tags::{DeclFault, Kind, LineCause, ManifestName};
 use std::fmt::{Display, Formatter, Result, Write};
 
-/// How a report ends.
+/// The verdict of a report.
 pub fn verdict_text(report: &Report) -> &'static str {
     if report.is_valid() {
         "valid"
@@ -27,7 +27,7 @@ pub fn end_text(ended: End) -> &'static str {
     }
 }
 
-/// What a delivery is answered.
+/// The answer to a delivery.
 #[derive(Clone, Copy)]
 pub struct AnswerText(pub Answer);
 

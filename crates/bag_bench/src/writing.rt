@@ -1,4 +1,4 @@
-//! Writes bags in memory, for `tests/new_bags.py`, which tells what is read and what is printed.
+//! Writes bags in memory for `tests/new_bags.py`, which describes the input and the output.
 use crate::event::{bad_line, octets_of, text_of};
 use bag_digest::{Alg, AlgSet};
 use bag_path::{BagPath, Spelling};
@@ -9,15 +9,15 @@ use std::alloc::Global;
 use std::fmt;
 use std::io::{self, BufRead, BufReader, BufWriter, Write};
 
-/// Writes each bag that standard input asks for, and prints the answer and the files.
+/// Writes each bag that standard input asks for, and prints the result and the files.
 ///
 /// # Errors
 ///
-/// A line asks for nothing; or memory ran out, or a read or a write failed.
+/// A line is malformed, memory ran out, or a read or a write failed.
 pub fn write_all<R: Input + Print + AllocGlobal>(rt: &R) -> io::Result<()> {
     let mut out = BufWriter::new(rt.alloc(), io::writer(rt))?;
     let written = write_asked(rt, &mut out);
-    // The bags before a line that asks for nothing are printed.
+    // The bags before a malformed line are printed.
     out.flush()?;
     written
 }
@@ -38,7 +38,7 @@ fn write_asked<R: Input + AllocGlobal, W: Write + Drop>(rt: &R, out: &mut W) -> 
     Ok(())
 }
 
-/// A bag that is asked for: the files of its tree, and what it is to be written with.
+/// A bag to write: the files of its tree, and what to write it with.
 #[derive(Drop)]
 struct Order {
     tree: MemTree,
@@ -57,7 +57,7 @@ impl Order {
         }
     }
 
-    /// Adds what a line says.
+    /// Adds what a line specifies.
     fn take(&mut self, alloc: Global, fields: &[&str]) -> io::Result<()> {
         if fields.len() == 2 && fields[0] == "by" {
             return self.by(fields[1]);
@@ -108,7 +108,7 @@ impl Order {
         Ok(())
     }
 
-    /// Writes the bag, and prints the answer, what is there, and an empty line.
+    /// Writes the bag, and prints the result, the files written and an empty line.
     fn write<W: Write + Drop>(&mut self, alloc: Global, out: &mut W) -> io::Result<()> {
         let mut sink = MemSink::new(alloc);
         match write_bag(alloc, &mut self.tree, &self.spec, &mut sink) {
@@ -120,7 +120,7 @@ impl Order {
     }
 }
 
-/// Prints whether the payload directory is there, and each file.
+/// Prints whether there is a payload directory, and each file.
 fn print_tree<W: Write + Drop>(alloc: Global, tree: &MemTree, out: &mut W) -> io::Result<()> {
     if tree.has_payload_dir() {
         writeln!(out, "data")?;
@@ -144,7 +144,7 @@ fn path_of(alloc: Global, field: &str) -> io::Result<BagPath> {
     }
 }
 
-/// Why no bag was written, as `docs/FORMAT.md` words it.
+/// Why no bag was written, in the words of `docs/FORMAT.md`.
 #[derive(Clone, Copy)]
 struct RefusalText<'a>(&'a WriteFault);
 
