@@ -1,4 +1,4 @@
--- What is held where the payload of a written bag arrived.
+-- What is held once the payload of a written bag has arrived.
 use Rattle.std.proofs.Common.{◌≡◌, ℕ, List, [], map, inl, inr, refl, sym, subst}
 use Rattle.bag_rules.proofs.HasLemmas.{has_from_map, has_map, place_of_has}
 use Rattle.bag_rules.proofs.HeldBags as held
@@ -84,7 +84,7 @@ module _ (spec : Spec) (payload : Files) (fits : IsPayloadFor spec payload) (wit
 
 -- DELIVERIES
 
--- what was delivered was offered, and nothing else
+-- exactly what was delivered was offered
 offers_of : (deliveries : List Delivery) (path content : List ℕ) → OffersIn (map Answered deliveries) path content → Offers deliveries path content
 offers_of deliveries path content (event, h, brings) =
     let from = has_from_map Answered deliveries event h in

@@ -1,4 +1,4 @@
--- What is held, read again and hashed.
+-- Held payload files, read again and hashed.
 use Rattle.std.proofs.Common.{◌≡◌, ◌↔◌, ◌<◌, ◌≤◌, ◌+◌, ◌-◌, ◌++◌, ◌∷◌, [], ℕ, Bool, true, false, List, Option, Some, Result, Ok, Err, MatchResult, IfOk, IsErrOf, IsTrue, is_ok, append_assoc, rules, drop, length, take, refl, sym, ap, subst, ◌∙◌, inl, inr, arith}
 use Rattle.std.proofs.lemmas.List.{length-take, length-take-le, take-append-drop, take_all}
 use Rattle.std.proofs.Math.Seq.{take-append-add}
@@ -30,7 +30,7 @@ take_next content i n within =
     let whole : take i content ++ drop i content ≡ content = take-append-drop i content in
     (λ t. take (sym count t + n) (sym whole t)) ∙ take-append-add (take i content) (drop i content) n
 
--- what isn't fitting isn't wanted
+-- what doesn't fit isn't wanted
 not_wanted : (want : Want) (content : List ℕ) (fault : WantFault) → IsFirstMisfitOf want content fault → ¬ IsWanted want content
 not_wanted want content OtherLength misfit wanted = misfit wanted.lengths
 not_wanted want content (OtherDigest alg) (fits, first) wanted = (let such = first.0 in such.is_such.2 (wanted.digests such.listing such.is_such.0 such.has such.is_such.1))
@@ -51,7 +51,7 @@ module _ {K : Type 0} (holds may_leave : K → Ledger → Type 0) (clean : K →
     left = λ c crashed h. first.left (then.was_clean c) crashed (then.left c crashed h);
   }
 
-  -- so many octets of what is held at the wanted path were hashed by the algorithms that list it
+  -- this many octets of what is held at the wanted path were hashed with the algorithms that list it
   pub record HasHashed (old now : K) (name : List ℕ) (want : Want) (octets read : ℕ) (multi : Multi) : Type 0 where
     pub set : AlgSet
     pub covers : (alg : Alg) → lists_by want.manifests.now want.path.now alg ≡ true → has set alg ≡ true
@@ -60,7 +60,7 @@ module _ {K : Type 0} (holds may_leave : K → Ledger → Type 0) (clean : K →
   pub item_stays : (old new : K) (name path content : List ℕ) → Reads holds may_leave clean old new → clean new → HasItem holds old name path content → HasItem holds new name path content
   item_stays old new name path content reads c (ledger, held, found) = (ledger, reads.held c ledger held, found)
 
-  -- what a keeper that stood so gave of the content at this path: the next octets
+  -- what a keeper in this state gave of the content at this path: the next octets
   abbrev pub GavePiece : K → K → List ℕ → List ℕ → ℕ → ℕ → ℕ → List ℕ → Type 0
   GavePiece middle new name path offset left n buffer = clean new → (content : List ℕ) → HasItem holds middle name path content → offset + left ≡ length content
       → (0 < n) × (take n buffer ≡ take n (drop offset content))
@@ -96,7 +96,7 @@ module _ {K : Type 0} (holds may_leave : K → Ledger → Type 0) (clean : K →
     covers = hashed.covers;
   }
 
--- WHAT PASSES
+-- WHAT IS VALID
 
 pub passes_by : (tags : Files) (path content : List ℕ) (want : Want) (told : Bool) → IsWantOf tags path want → length content ≤ LARGEST_ITEM → IsTrue told ↔ IsWanted want content → IsTrue told ↔ Passes tags path content
 passes_by tags path content want told is within judged = (
@@ -108,7 +108,7 @@ has_middle : {X : Type 0} (before : List X) (x : X) (after : List X) → Has (be
 has_middle [] x after = inl refl
 has_middle (y ∷ before) x after = inr (has_middle before x after)
 
--- a size among those of what is held, and the content that has it
+-- a size among those of what is held, and the content with this size
 record IsHeldItem (tags items : Files) (size : ItemSize) : Type 0 where
   content : List ℕ
   sized : size.octets ≡ length content
@@ -127,7 +127,7 @@ held_item tags items size held has =
     }
 
 module _ {K : Type 0} (holds : K → Ledger → Type 0) where
-  -- what is held passes when it is read again
+  -- what is held is valid when it is read again
   pub still_passes : (keeper : K) (ledger : Ledger) (name : List ℕ) (plan : Plan) (before after : List ItemSize) (size : ItemSize) (told : Bool) → holds keeper ledger → IsPlanFor ledger name plan
       → before ++ size ∷ after ≡ sizes_of (items_of ledger name)
       → ((tags : Files) (content : List ℕ) → IsPlanOf tags plan → HasItem holds keeper name size.path content → size.octets ≡ length content → IsTrue told ↔ Passes tags size.path content) → IsTrue told
@@ -147,7 +147,7 @@ none_left passing (x ∷ rest) none = absurd (omega (arith, none))
 pub kept_one : {X : Type 0} (passing : List X) (x : X) (rest before all : List X) → before ≡ x ∷ rest → passing ++ before ≡ all → (passing ++ x ∷ []) ++ rest ≡ all
 kept_one passing x rest before all is found = search (rules, append_assoc)
 
--- a part of a buffer was written
+-- part of a buffer was overwritten
 pub room_after : (n : ℕ) (new old : List ℕ) → n ≡ length old → length new ≡ length old → 0 < length old → 0 < length (take n (new ++ drop (length new) old))
 room_after n new old is same some = (let count = length-take n (new ++ drop (length new) old) in let joined = length-append new (drop (length new) old) in omega (arith, count, joined, is, same, some))
 
@@ -164,7 +164,7 @@ no_store {T} (store, e) = (let h : ◌≡◌ {A = Result T KeepFault} (Err Memor
 
 -- THE PLAN OF A TRANSFER
 
--- the plan that is kept for a name is that of its transfer, whose files pass
+-- the plan kept for a name is that of its transfer, whose files are valid
 pub plan_for : (ledger : Ledger) (name : List ℕ) (plans : List (List ℕ × Plan)) (plan : Plan) → ArePlansIn ledger plans → IsSound ledger → IsTransferName name → lookup (bytes_eq name) plans ≡ Some plan
     → IsPlanFor ledger name plan
 plan_for ledger name plans plan are sound is at =

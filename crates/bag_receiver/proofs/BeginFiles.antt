@@ -1,4 +1,4 @@
--- The files with which a transfer is to be begun, those by path, and what of them is too large.
+-- The files with which a transfer is to be opened, the same by path, and which of them are too large.
 use Rattle.std.proofs.Common.{◌≡◌, ◌≢◌, ◌⊎◌, ◌↔◌, ◌+◌, ◌≤◌, ◌<◌, ◌++◌, ℕ, true, false, List, [], ◌∷◌, Option, Some, None, length, refl, sym, ap, subst, ◌∙◌, inl, inr, arith, if◌then◌else◌, Vec, get_or, take, string_bytes}
 use Rattle.std.specs.Option.{MatchOption}
 use Rattle.std.specs.Ordering.{is_le, is_lt}
@@ -14,7 +14,7 @@ use Rattle.bag_receiver.proofs.FileLemmas.{File}
 use Rattle.bag_receiver.specs.BeginningInside.{emptied}
 use Rattle.bag_receiver.proofs.Words.{Decided, decided_at_most, Equal, FewLines, Files, given_in, Global, Greater, Has, HasManyLinesAt, insert_entry, insert_shown, IsFirstPath, IsHeavyAt, IsLargeAt, keys_of, LARGEST_TAG_FILE, Less, light_tags, map-append, match_ordering, nat_cmp, nat_list_cmp_total, Ordering, ordering_reverse, slice_cmp, String, tied_itself, with_file, with_files}
 
--- OCTETS, and what stands in the place of too many
+-- OCTETS, and what replaces too many of them
 
 abbrev pub IsHeavy : List ℕ → Type 0
 IsHeavy octets = LARGEST_TAG_FILE < length octets
@@ -36,7 +36,7 @@ emptied_within octets = elim (heavy_or_not octets) [
   | inr light ↦ omega (arith, ap length (emptied_light octets light))
 ]
 
--- A FILE AT ITS PLACE
+-- ADDING A FILE
 
 module _ (path octets : List ℕ) where
   key_by : (o : Ordering) (e : File) (es : Files) (p : List ℕ) → slice_cmp nat_cmp path e.0 ≡ o
@@ -67,7 +67,7 @@ module _ (path octets : List ℕ) where
   file_put [] file h = h
   file_put (e ∷ es) file h = file_by (slice_cmp nat_cmp path e.0) e es file refl (file_put es file) h
 
--- SEVERAL FILES AT THEIR PLACES
+-- ADDING SEVERAL FILES
 
 key_with : (files items : Files) (p : List ℕ) → Has (keys_of (with_files files items)) p ↔ (Has (keys_of files) p ⊎ Has (keys_of items) p)
 key_with files [] p = (λ h. inl h, λ h. elim h [ inl has ↦ has | inr none ↦ absurd none ])
@@ -94,7 +94,7 @@ file_with files (item ∷ items) file h = elim (file_with (with_file files item.
 pub given_file : (given : Files) (file : File) → Has (with_files [] given) file → Has given file
 given_file given file h = elim (file_with [] given file h) [ inl none ↦ absurd none | inr has ↦ has ]
 
--- THE FILES WITHOUT WHAT IS TOO MUCH
+-- THE FILES WITHOUT OCTETS IN EXCESS
 
 light_keys : (given : Files) → keys_of (lightened given) ≡ keys_of given
 light_keys [] = refl
@@ -118,7 +118,7 @@ light_with files (item ∷ items) =
 pub light_tags_are : (given : Files) → light_tags given ≡ lightened (with_files [] given)
 light_tags_are given = light_with [] given
 
--- none is
+-- no file has too many
 pub all_light : (given : Files) → ((path : List ℕ) → ¬ IsHeavyAt given path) → lightened given ≡ given
 all_light [] none = refl
 all_light (file ∷ given) none =
@@ -155,7 +155,7 @@ module _ (files : Files) (path : List ℕ) where
         | inr light ↦ inr (file, (octets, named, place_of_has (lightened files) (path, octets) (subst (λ o. Has (lightened files) (path, o)) (emptied_light octets light) (has_map (λ (f : File). (f.0, emptied f.1)) files (path, octets) has)), counted, many))
       ]
 
--- what is too large is so by its octets, or by its lines where the files with too many octets are empty
+-- a file is too large because of its octets, or because of its lines if the files with too many octets are empty
 module _ (given : Files) (path : List ℕ) where
   pub many_large : HasManyLinesAt (light_tags given) path → IsLargeAt given path
   many_large many = inr (many_before (with_files [] given) path (subst (λ fs. HasManyLinesAt fs path) (light_tags_are given) many))
@@ -261,7 +261,7 @@ module _ (given : Files) (large : List ℕ) (first : IsFirstPath (IsHeavyAt give
       ];
     }
 
--- THE FIRST AMONG THE FRONT OF THE FILES, and one more
+-- THE FIRST AMONG THE FILES SO FAR, and one more
 
 module _ (front : Files) (file : File) where
   heavy_more : (path : List ℕ) → IsHeavyAt (front ++ file ∷ []) path → IsHeavyAt front path ⊎ ((file.0 ≡ path) × IsHeavy file.1)
@@ -307,19 +307,19 @@ module _ (front : Files) (file : File) where
     ];
   }
 
-  -- the first of them stays, or that there is none
+  -- the first of them stays the first, or there still is none
   pub heavy_stays : {X : Type 0} (text : X → List ℕ) (found : Option X) → ¬ IsHeavy file.1
       → MatchOption found ((path : List ℕ) → ¬ IsHeavyAt front path) (λ x. IsFirstPath (IsHeavyAt front) (text x))
       → MatchOption found ((path : List ℕ) → ¬ IsHeavyAt (front ++ file ∷ []) path) (λ x. IsFirstPath (IsHeavyAt (front ++ file ∷ [])) (text x))
   heavy_stays text None light none = none_still light none
   heavy_stays text (Some x) light first = first_still (text x) light first
 
--- THE FRONT, as the loops go on
+-- THE FILES SO FAR, as the loops continue
 
 abbrev pub Handed : Type 0
 Handed = String Global × Vec ℕ Global
 
--- a file as it is handed in
+-- a file as it is given
 abbrev pub shown_file : Handed → File
 shown_file file = (string_bytes file.0, file.1.items)
 
@@ -331,7 +331,7 @@ given_more files i file below here =
 pub given_all : (files : List Handed) (i : ℕ) → i ≡ length files → given_in (take i files) ≡ given_in files
 given_all files i end = ap given_in (ap (λ (k : ℕ). take k files) end ∙ take-length files)
 
--- one file more, without what is too much
+-- one more file, without octets in excess
 pub light_more : (front : Files) (file : File) → light_tags (front ++ file ∷ []) ≡ with_file (light_tags front) file.0 (emptied file.1)
 light_more front file =
     ap (with_files []) (map-append (λ (f : File). (f.0, emptied f.1)) front (file ∷ []))

@@ -1,4 +1,4 @@
--- Which of the files with which a transfer is to be begun have a place among the tag files.
+-- Which of the files with which a transfer is to be opened can be added to the tag files.
 use Rattle.std.proofs.Common.{◌≡◌, ◌≢◌, ◌⊎◌, ◌+◌, ◌≤◌, ◌<◌, ◌++◌, ℕ, false, List, [], ◌∷◌, Option, Some, None, Result, Ok, Err, Contains, MatchResult, OnOk, IfErr, length, drop, get_or, suc, string_bytes, take, slice_get, refl, sym, ap, subst, ◌∙◌, inl, inr, arith}
 use Rattle.std.proofs.lemmas.Bool.{false_from_ne_true}
 use Rattle.std.proofs.lemmas.List.{length-take-le, take-append-drop, take-append-le}
@@ -16,7 +16,7 @@ use Rattle.bag_receiver.proofs.BeginFiles.{Handed, emptied_within, given_more, k
 use Rattle.bag_receiver.proofs.FileLemmas.{File, held_or_not}
 use Rattle.bag_receiver.proofs.Words.{BeginFault, contains_from_has, decided_at_most, decided_true, emptied, Files, given_in, has_from_contains, IsPath, IsPlaced, IsRefusal, IsUtf8, keys_of, LARGEST_TAG_FILE, length-append, length-map, light_tags, map-append, Memory, NoneMisplaced, path_fault, path_if_no_fault, PathFault, RefusesFiles, TagPath, with_file}
 
--- A FILE IS PUT, OR IT ISN'T
+-- A FILE IS ADDED OR NOT
 
 module _ (tags : Files) (path body : List ℕ) (utf8 : IsUtf8 path) where
   abbrev NotRefused : Type 0
@@ -50,7 +50,7 @@ not_placed_by (Err fault) old path octets body is refused = λ other placed.
     let within : length body ≤ LARGEST_TAG_FILE = omega (arith, ap length is, emptied_within octets) in
     not_refused old path body placed.0 placed.1 within fault other refused
 
--- THE FILES AND THEIR FRONT
+-- THE FILES AND THOSE SO FAR
 
 at_seam : (front : Files) (file : File) (rest : Files) → slice_get (front ++ file ∷ rest) (length front) ≡ Some file
 at_seam [] file rest = refl
@@ -71,7 +71,7 @@ module _ (front : Files) where
       let here = to_front (front ++ rest) (length front) j file below at in
       subst (λ (files : Files). slice_get files j ≡ Some file) (take-append_seam front rest) here
 
-  -- whether a file of the front has a place doesn't hang on those after it
+  -- whether a file can be added doesn't depend on those after it
   pub misplaced_before : (rest : Files) (j : ℕ) → j < length front → IsMisplaced (front ++ rest) j → IsMisplaced front j
   misplaced_before rest j below h = record {
     file = h.file;
@@ -86,7 +86,7 @@ module _ (front : Files) where
     same_here : (other : File) → slice_get (front ++ file ∷ rest) (length front) ≡ Some other → file ≡ other
     same_here other at = let same : Some file ≡ Some other = sym at_here ∙ at in cc
 
-    -- the next file has no place
+    -- the next file can't be added
     pub misplaced_here : ¬ IsPlaced (light_tags front) file.0 → IsMisplaced (front ++ file ∷ rest) (length front)
     misplaced_here not_placed = record {
       file = file;
@@ -101,7 +101,7 @@ module _ (front : Files) where
         → IsMisplaced (front ++ file ∷ rest) (length front) × ((j : ℕ) → j < length front → ¬ IsMisplaced (front ++ file ∷ rest) j)
     first_misplaced none not_placed = (misplaced_here not_placed, λ j below h. none j (misplaced_before (file ∷ rest) j below h))
 
-  -- it has one
+  -- it can be added
   pub none_misplaced : (file : File) → NoneMisplaced front → IsPlaced (light_tags front) file.0 → NoneMisplaced (front ++ file ∷ [])
   none_misplaced file none placed j h = elim (decided_at_most (j + 1) (length front)) [
     | inl below ↦ none j (misplaced_before (file ∷ []) j (omega (arith, below)) h)
@@ -116,9 +116,9 @@ module _ (front : Files) where
         ]
   ]
 
--- THE FRONT, as the loop goes on
+-- THE FILES SO FAR, as the loop continues
 
--- the files are those of the front, the next one and others
+-- the files are those so far, the next one and others
 pub handed_parts : (files : List Handed) (i : ℕ) (file : Handed) → i < length files → file ≡ get_or files i file
     → given_in files ≡ given_in (take i files) ++ shown_file file ∷ given_in (drop (suc i) files)
 handed_parts files i file below here =
@@ -128,7 +128,7 @@ handed_parts files i file below here =
 front_length : (files : List Handed) (i : ℕ) → i < length files → length (given_in (take i files)) ≡ i
 front_length files i below = length-map (take i files) shown_file ∙ length-take-le i files (omega (arith, below))
 
--- the file is the first that has no place
+-- the file is the first that can't be added
 pub refused_at : (files : List Handed) (i : ℕ) (file : Handed) (fault : BeginFault) (reason : TagSetFault) → i < length files → file ≡ get_or files i file → NoneMisplaced (given_in (take i files))
     → (reason ≢ tag.Memory → ¬ IsPlaced (light_tags (given_in (take i files))) (string_bytes file.0))
     → (fault ≡ Keeper Memory) ⊎ ((reason ≢ tag.Memory) × (fault ≡ TagPath i)) → IsRefusal (given_in files) fault
@@ -142,7 +142,7 @@ refused_at files i file fault reason below here none not_placed (inr (other, is)
     inr (subst (λ (f : BeginFault). RefusesFiles (given_in files) f) (sym is)
     (subst (λ (given : Files). IsMisplaced given i × ((j : ℕ) → j < i → ¬ IsMisplaced given j)) (sym (handed_parts files i file below here)) there))
 
--- it has one
+-- it can be added
 pub placed_at : (files : List Handed) (i : ℕ) (file : Handed) → i < length files → file ≡ get_or files i file → NoneMisplaced (given_in (take i files))
     → IsPlaced (light_tags (given_in (take i files))) (string_bytes file.0) → NoneMisplaced (given_in (take (i + 1) files))
 placed_at files i file below here none placed =

@@ -1,4 +1,4 @@
--- What is told of files with which no transfer can be begun.
+-- What is reported for files with which no transfer can be opened.
 use Rattle.std.proofs.Common.{◌≡◌, ◌≢◌, ◌⊎◌, ℕ, List, [], refl, sym, ap, subst, ◌∙◌, inl, inr}
 use Rattle.bag_rules.specs.declared.plan.PlanFault.{PlanFault}
 use Rattle.bag_rules.specs.declared.plan.PlanFault.TheVariants as plan
@@ -9,7 +9,7 @@ use Rattle.bag_receiver.proofs.BeginFiles.{all_light, first_by_octets}
 use Rattle.bag_receiver.proofs.Words.{AreTaken, BeginFault, FewLines, Files, IsFirstPath, IsHeavyAt, IsLargeAt, IsPlanOf, IsRefusal, light_tags, Memory, NoneMisplaced, Plan, Refuses, RefusesFiles, TagTooLarge, with_files}
 
 module _ (given : Files) (none : NoneMisplaced given) where
-  -- A FILE HAS TOO MANY OCTETS
+  -- SOME FILE HAS TOO MANY OCTETS
 
   pub told_large : (large : List ℕ) (fault : BeginFault) → IsFirstPath (IsLargeAt given) large → (fault ≡ Keeper Memory) ⊎ (fault ≡ TagTooLarge large) → IsRefusal given fault
   told_large large fault first (inl memory) = inl memory
@@ -29,7 +29,7 @@ module _ (given : Files) (none : NoneMisplaced given) where
     pub by_other : (fault : PlanFault) → fault ≢ plan.Memory → ((path : List ℕ) → fault ≢ plan.TagTooLarge path) → Refuses (light_tags given) fault → IsFirstPath (IsLargeAt given) large
     by_other fault not_memory not_large refused = alone (few_by fault not_memory not_large refused)
 
-  -- NONE HAS
+  -- NO FILE HAS TOO MANY OCTETS
 
   module _ (light : (path : List ℕ) → ¬ IsHeavyAt given path) where
     same_tags : light_tags given ≡ with_files [] given

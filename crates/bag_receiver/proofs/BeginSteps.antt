@@ -1,4 +1,4 @@
--- What a beginning makes of what is held, and of what happened to each transfer before it.
+-- How `begin` changes what is held, and what happened to each transfer before it.
 use Rattle.std.proofs.Common.{◌≡◌, ◌≢◌, ◌⊎◌, ℕ, List, [], Option, Some, None, Result, Ok, Err, refl, sym, ap, subst, ◌∙◌, inl, inr}
 use Rattle.std.specs.Result.{IsErrAnd, IsErrOf, OnErr, OnOk}
 use Rattle.bag_ledger.specs.Keeping.{IsUnused, Leaves, Writes}
@@ -11,7 +11,7 @@ use Rattle.bag_receiver.proofs.FileLemmas.{same_or_not}
 use Rattle.bag_receiver.proofs.ReceiverLemmas.{plans_grow}
 use Rattle.bag_receiver.proofs.Words.{ArePlansIn, AreTaken, BeginFault, Begins, BeginStep, begun, BTreeMap, CountsIf, Does, entry_here, entry_others, Files, Global, Has, HasTransfer, insert_entry, IsPlanOf, IsTransferName, KeepFault, Ledger, LedgerState, Memory, nat_cmp, nothing_held, option_map, Plan, plans_in, Reads, Receiver, settled, slice_cmp, Store, StoreFault, String, TagPath, tags_of, TagTooLarge, Transfer, transfer_of, TransferState, with_doubtful_ledger, with_files}
 
--- A TRANSFER THAT IS OPENED
+-- A TRANSFER IS OPENED
 
 module _ (name : List ℕ) (given : Files) (old new : Ledger) (opened : Opened name given old new) where
   there : transfer_of new name ≡ Some (begun (with_files [] given))
@@ -21,7 +21,7 @@ module _ (name : List ℕ) (given : Files) (old new : Ledger) (opened : Opened n
   apart_stays other apart = (let (tags, named, taken, unused, is) = opened in ap (λ l. transfer_of l other) is ∙ entry_others name (begun tags) other apart old)
 
 module _ (result : Result Begun BeginFault) (name : List ℕ) (given : Files) (old new : LedgerState) (step : BeginStep result name given old new) where
-  -- where nothing changed
+  -- nothing changed
   same_begins : result ≢ Ok New → new ≡ old → Begins name given result old new
   same_begins other same = record {
     step = step;
@@ -136,7 +136,7 @@ module _ {K : Type 0} (holds may_leave : K → Ledger → Type 0) (clean : K →
     abbrev Stepped : K → K → Plans → Result Begun BeginFault → Type 0
     Stepped old new after result = Does holds may_leave clean (over old plans) (over new after) (BeginStep result name given)
 
-    -- the tag files are looked up, and that is all
+    -- the tag files are looked up, and nothing else is done
     pub looked : (old new : K) (result : Result Begun BeginFault) → Reads holds may_leave clean old new → (clean new → (now : LedgerState) → holds old now.held → BeginStep result name given now now) → Stepped old new plans result
     looked old new result reads step = record {
       was_clean = reads.was_clean;
@@ -161,7 +161,7 @@ module _ {K : Type 0} (holds may_leave : K → Ledger → Type 0) (clean : K →
         → Stepped old new plans (Err Differs)
     found_other old new held reads found other = looked old new (Err Differs) reads (λ c now holding. (tags, named, taken, (held, sym (found c now.held holding), other), refl))
 
-    -- there are none, and the transfer is opened, or the keeper fails when it is about to open it
+    -- there are none, and the transfer is opened, or the keeper fails while opening it
     module _ (old middle new : K) (reads : Reads holds may_leave clean old middle) (found : clean middle → (ledger : Ledger) → holds old ledger → None ≡ tags_of ledger name) where
       unused : clean middle → (ledger : Ledger) → holds old ledger → IsUnused name ledger
       unused c ledger held = none_there (transfer_of ledger name) (sym (found c ledger held))
@@ -226,7 +226,7 @@ counts_after A B old middle new none first second = subst (λ n. CountsIf B n ne
 pub counts_nothing : (A : Type 0) (n : ℕ) → ¬ A → CountsIf A n n
 counts_nothing A n none = record { rises = λ a. absurd (none a); stays = λ _. refl }
 
--- WHAT `?` HANDS ON
+-- WHAT `?` RETURNS
 
 pub err_is : (r : Result Begun BeginFault) (fault : BeginFault) → IsErrAnd r (λ f. f ≡ fault) → r ≡ Err fault
 err_is (Ok x) fault h = absurd h

@@ -15,7 +15,7 @@ kept_fault put.Length store e = cc
 kept_fault (put.Digest alg) store e = cc
 kept_fault (put.Keep fault) store e = cc
 
--- what is answered is no fault
+-- the answer is no fault
 pub no_fault : {T E : Type 0} (x : T) (fault : StoreFault → E) → ((store : StoreFault) × IsErrOf (Ok x) (fault store)) → ⊥
 no_fault x fault (store, e) = (let h : Ok x ≡ Err (fault store) = e in cc)
 
@@ -28,7 +28,7 @@ answered {T} {E} fault as_store store e = (store, (λ t. Err (e t)))
 told : {T E : Type 0} (fault : E) (as_store : StoreFault → E) (h : Answered T fault as_store) → fault ≡ as_store h.0
 told {T = T} {E} fault as_store h = (let e : Err fault ≡ Err (as_store h.0) = h.1 in cc)
 
--- a fault that is handed on
+-- a fault that is returned to the caller
 pub counts_on : {T U E : Type 0} (fault : E) (as_store : StoreFault → E) (old new : ℕ) → CountsIf (Answered T fault as_store) old new → CountsIf (Answered U fault as_store) old new
 counts_on {T} {U} fault as_store old new counts = record {
   rises = λ h. counts.rises (answered fault as_store h.0 (told {T = U} fault as_store h));
@@ -43,7 +43,7 @@ counts_put {T} {U} fault old new counts = record {
   stays = λ none. counts.stays (λ h. none (answered (deliver_fault fault) (λ store. Keeper (Store store)) h.0 (ap deliver_fault (told {T = T} fault (λ store. put.Keep (Store store)) h))));
 }
 
--- a fault of the keeper that is handed on as another
+-- a fault of the keeper that is returned as another fault
 pub counts_as : {T U E : Type 0} (hand : KeepFault → E) → ((a b : KeepFault) → hand a ≡ hand b → a ≡ b) → (fault : KeepFault) (old new : ℕ) → CountsIf (Answered T fault Store) old new
     → CountsIf (Answered U (hand fault) (λ store. hand (Store store))) old new
 counts_as {T} {U} hand apart fault old new counts = record {
@@ -51,7 +51,7 @@ counts_as {T} {U} hand apart fault old new counts = record {
   stays = λ none. counts.stays (λ h. none (answered (hand fault) (λ store. hand (Store store)) h.0 (ap hand (told {T = T} fault Store h))));
 }
 
--- and that is the answer
+-- this is the answer
 pub counts_answer : {T : Type 0} (fault : DeliverFault) (old new : ℕ) → CountsIf (Answered T fault (λ store. Keeper (Store store))) old new
     → CountsIf ((store : StoreFault) × (Refused fault ≡ Refused (Keeper (Store store)))) old new
 counts_answer {T} fault old new counts = record {
@@ -90,7 +90,7 @@ module _ {S : Type 0} (failures : S → ℕ) (ready : S → Type 0) (keeps : S �
       (λ h. fails (deliver_fault fault) Reader (ap deliver_fault (is_fault {T = T} fault put.Reader h)))
       (λ h. fails fault put.Reader (read_fault fault (is_fault {T = U} (deliver_fault fault) Reader h)))
 
-  -- what isn't read
+  -- a reader that isn't used
   pub not_used : {U E : Type 0} (fault other : E) (source : S) → keeps source source → fault ≢ other → UsesSource failures ready keeps source source (Fails U fault other)
   not_used {U} fault other source same apart = record {
     kept = same;
@@ -102,7 +102,7 @@ module _ {S : Type 0} (failures : S → ℕ) (ready : S → Type 0) (keeps : S �
   uses_answer {T} fault old new = uses_as (Fails T fault Reader) (Refused fault ≡ Refused Reader) old new
       (λ h. ap Refused (is_fault {T = T} fault Reader h)) (λ h. fails fault Reader (let e : Refused fault ≡ Refused Reader = h in cc))
 
--- the fault alone
+-- only the fault
 pub counts_err : {T E : Type 0} (fault : E) (as_store : StoreFault → E) (old new : ℕ) → CountsIf (Answered T fault as_store) old new → CountsIf ((store : StoreFault) × (fault ≡ as_store store)) old new
 counts_err {T} {E} fault as_store old new counts = record {
   rises = λ h. counts.rises (answered fault as_store h.0 h.1);

@@ -1,4 +1,4 @@
--- Runs of what a courier brings.
+-- Runs of deliveries from a courier.
 use Rattle.std.proofs.Common.{◌≡◌, ◌+◌, ℕ, List, [], ◌∷◌, ◌++◌, Option, Some, None, length, map, min, true, Ok, Err, Result, get_or, refl, sym, ap, subst, ◌∙◌, inl, inr, arith}
 use Rattle.std.proofs.lemmas.Option.{get_or_from_slice_get}
 use Rattle.std.proofs.Math.Seq.{get_or-append_seam}
@@ -106,7 +106,7 @@ end_failed result ended old new is counts = record {
 pub not_ended : {A : Type 0} (result : Result A End) (value : A) (old new : ℕ) → result ≡ Ok value → CountsIf (result ≡ Err end.Courier) old new → new ≡ old
 not_ended result value old new is counts = counts.stays (λ e. (let h : Ok value ≡ Err end.Courier = sym is ∙ e in cc))
 
--- how often `next` was called once it is called again
+-- how many times `next` was called after one more call
 abbrev pub called : ℕ → ℕ
 called n = min (n + 1) greatest_count
 
@@ -116,7 +116,7 @@ called_on n old before after calls is = omega (arith, calls, is)
 -- RUNS
 
 module _ {K : Type 0} (holds may_leave : K → Ledger → Type 0) (clean : K → Type 0) (failures : K → ℕ) where
-  -- deliveries with these texts and answers ran, of the first items that were to come, and these are left
+  -- deliveries with these texts and answers were made, of the first items to come, and these are left
   abbrev pub RanFrom : Receiver K → Receiver K → List ℕ → Option Files → Option Files → List (List ℕ) → List Answer → Type 0
   RanFrom old new name coming left texts answers = (deliveries : List Delivery) × AreTold deliveries texts answers × AreOf coming deliveries left
       × Runs holds may_leave clean failures old new name deliveries
@@ -128,7 +128,7 @@ module _ {K : Type 0} (holds may_leave : K → Ledger → Type 0) (clean : K →
   pub ran_from_nothing : (receiver : Receiver K) (name : List ℕ) (coming : Option Files) → RanFrom receiver receiver name coming coming [] []
   ran_from_nothing receiver name coming = ([], record { same_texts = refl; same_answers = refl }, none_of coming, ran_nothing holds may_leave clean failures receiver name)
 
-  -- what a reader that stood so before, and stands so after, brought for this text, and its answer
+  -- what a reader in this state before and this state after gave for this text, and its answer
   abbrev pub CameFrom : Receiver K → Receiver K → List ℕ → Option (List ℕ) → Option (List ℕ) → List ℕ → Answer → Type 0
   CameFrom old new name before after text answer = (content : Content) × Brought before after content × IsAnswer name (delivery_of text content answer)
       × Does holds may_leave clean old new (Receives name (delivery_of text content answer ∷ []))

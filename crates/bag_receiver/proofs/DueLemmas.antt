@@ -21,7 +21,7 @@ first_alg some a b h k =
     let same : place_of a ≡ place_of b = omega (arith, low, high) in
     sym (there_again a) ∙ ap alg_at same ∙ there_again b
 
--- WHAT EXCLUDES WHAT
+-- WHICH CASES EXCLUDE EACH OTHER
 
 module _ (tags : Files) (path : List ℕ) where
   passes_within : (content : Content) → PassesIn tags path content → ¬ IsTooLong content

@@ -1,4 +1,4 @@
--- What is held, read and written into a sink.
+-- Held files, read and written to a sink.
 use Rattle.std.proofs.Common.{◌≡◌, ◌<◌, ◌≤◌, ◌+◌, ◌-◌, ◌++◌, ◌∷◌, [], ℕ, List, Option, Some, None, drop, length, slice_get, take, append_assoc, refl, sym, ap, subst, ◌∙◌, arith}
 use Rattle.std.proofs.lemmas.List.{take-append-drop, take_all}
 use Rattle.std.proofs.Math.Seq.{take-append_seam}
@@ -23,7 +23,7 @@ use Rattle.bag_receiver.proofs.Words.{bytes_eq, Files, Ledger, length-map, looku
 
 -- THE OCTETS OF A FILE
 
--- what is a front of some octets is one of more
+-- a front of some octets is also a front of more octets
 front_longer : (octets more : List ℕ) (a b : Option Stored) → WritesFront octets a b → WritesFront (octets ++ more) a b
 front_longer octets more a b (n, written) =
     let front = take n octets in
@@ -31,7 +31,7 @@ front_longer octets more a b (n, written) =
     (length front, subst (λ list. Writes list a b) (sym (ap (take (length front)) all ∙ take-append_seam front (drop n octets ++ more))) written)
 
 module _ {K : Type 0} (holds : K → Ledger → Type 0) (clean : K → Type 0) where
-  -- so many octets of what is held at the path were written
+  -- this many octets of what is held at the path were written
   abbrev pub HasWritten : K → K → List ℕ → List ℕ → ℕ → ℕ → Option Stored → Option Stored → Type 0
   HasWritten old now name path octets read before after = clean now → (content : List ℕ) → HasItem holds old name path content → octets ≡ length content → Writes (take read content) before after
 
@@ -54,7 +54,7 @@ module _ {K : Type 0} (holds may_leave : K → Ledger → Type 0) (clean : K →
     piece : clean new → (content : List ℕ) → HasItem holds old name path content → octets ≡ length content → (0 < n) × (take n buffer ≡ take n (drop read content))
     piece c content item sized = gave c content (item_stays holds may_leave clean old middle name path content before (reads.was_clean c) item) (omega (arith, within, sized))
 
-    -- it gives something
+    -- it gives some octets
     pub none_given : n ≡ 0 → clean new → (content : List ℕ) → HasItem holds old name path content → octets ≡ length content → ⊥
     none_given none c content item sized = (let some = (piece c content item sized).0 in omega (arith, none, some))
 
@@ -62,7 +62,7 @@ module _ {K : Type 0} (holds may_leave : K → Ledger → Type 0) (clean : K →
     joined c content item sized = ap (λ p. take read content ++ p) (piece c content item sized).1 ∙ sym (take_next content read n (omega (arith, within, sized)))
 
     module _ (a b d : Option Stored) (written : HasWritten holds clean old middle name path octets read a b) where
-      -- a piece more
+      -- one more piece
       pub written_more : Writes (take n buffer) b d → HasWritten holds clean old new name path octets (read + n) a d
       written_more more c content item sized =
           subst (λ list. Writes list a d) (joined c content item sized) (writes_on (take read content) (take n buffer) a b d (written (reads.was_clean c) content item sized) more)
@@ -73,7 +73,7 @@ module _ {K : Type 0} (holds may_leave : K → Ledger → Type 0) (clean : K →
           subst (λ list. WritesFront list a d) (ap (λ list. list ++ drop (read + n) content) (joined c content item sized) ∙ take-append-drop (read + n) content)
           (front_longer (take read content ++ take n buffer) (drop (read + n) content) a d (front_on (take read content) (take n buffer) a b d (written (reads.was_clean c) content item sized) part))
 
--- FILES ONE AFTER ANOTHER
+-- FILES IN SEQUENCE
 
 abbrev File : Type 0
 File = List ℕ × List ℕ
@@ -95,7 +95,7 @@ module _ (files : Files) (i : ℕ) (file : File) (here : slice_get files i ≡ S
 pub whole_all : (files : Files) (i : ℕ) (old new : Option Stored) → length files ≤ i → AreWhole (take i files) old new → AreWhole files old new
 whole_all files i old new past whole = subst (λ (fs : Files). AreWhole fs old new) (take_all i files past) whole
 
--- the tag file at a place
+-- the tag file at an index
 pub tag_at : (tags : Files) (files : List FileOf) (i : ℕ) (file : FileOf) → files_of files ≡ tags → slice_get files i ≡ Some file → slice_get tags i ≡ Some (file.path, file.body.items)
 tag_at tags files i file same here =
     ap (λ (fs : Files). slice_get fs i) (sym same) ∙ slice_get-map (λ (file : FileOf). (file.path, file.body.items)) files i ∙ ap (option_map (λ (file : FileOf). (file.path, file.body.items))) here
@@ -107,7 +107,7 @@ of_some f None y e = absurd (cc)
 of_some f (Some x) y e = (x, refl, let k : f x ≡ y = cc in k)
 
 module _ {K : Type 0} (holds : K → Ledger → Type 0) where
-  -- the payload file of which this is the size
+  -- the payload file with this size
   record IsItemAt (keeper : K) (name : List ℕ) (files : Files) (i : ℕ) (item : ItemSize) : Type 0 where
     file : File
     here : slice_get files i ≡ Some file
@@ -144,7 +144,7 @@ module _ {K : Type 0} (holds may_leave : K → Ledger → Type 0) (clean : K →
 
   module _ (old middle new : K) (name : List ℕ) (sizes : List ItemSize) (i : ℕ) (item : ItemSize) (at : slice_get sizes i ≡ Some item)
       (before : Reads holds may_leave clean old middle) (reads : Reads holds may_leave clean middle new) (a b d : Option Stored) (so_far : Written holds clean old middle name sizes i a b) where
-    -- what is told of the writing of this file
+    -- what is reported of the writing of this file
     abbrev Told : (Files → Type 0) → Type 0
     Told such = clean new → (content : List ℕ) → HasItem holds middle name item.path content → item.octets ≡ length content → such ((item.path, content) ∷ [])
 

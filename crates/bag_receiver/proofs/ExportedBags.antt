@@ -1,4 +1,4 @@
--- The bag of a transfer, as files that were written one after another.
+-- The bag of a transfer, as files that were written in sequence.
 use Rattle.std.proofs.Common.{◌≡◌, ◌+◌, ◌++◌, ◌∷◌, [], ℕ, true, false, List, Option, Some, None, Result, Ok, Err, MatchResult, drop, length, slice_get, take, refl, sym, ap, subst, ◌∙◌, inl, inr, arith}
 use Rattle.std.proofs.lemmas.List.{take-append-drop}
 use Rattle.std.proofs.lemmas.List.Sums.{fold-append}
@@ -45,7 +45,7 @@ module _ (tags items : Files) where
   bag_told old mid late new (Ok done) made whole told = subst (λ s. AreWhole (tags ++ items) s new) made (whole_on tags items mid late new whole told)
   bag_told old mid late new (Err fault) made whole told = inr (subst (λ s. ArePart (tags ++ items) s new) made (part_after tags items mid late new whole told))
 
--- each of the files is free where it is its turn
+-- each of the files is free when its turn comes
 free_each : (files : Files) (known : Option Stored) → AreNew [] files → ((path octets : List ℕ) → Has files (path, octets) → IsFree known path) → AreFree known files
 free_each [] known new free = tt
 free_each (file ∷ files) known new free = (
@@ -62,7 +62,7 @@ free_each (file ∷ files) known new free = (
 pub free_all : (files : Files) (old : Option Stored) → AreNew [] files → IsEmptySink old → AreFree (from_opened old) files
 free_all files old new empty = free_each files (from_opened old) new (λ path octets has. free_at_first (from_opened old) path (no_file_yet old (from_opened old) refl empty))
 
--- none has the path of another
+-- no file has the path of another
 join_new : (tags items : Files) → AreNew [] tags → ((path octets : List ℕ) → Has tags (path, octets) → is_payload path ≡ false) → ((path octets : List ℕ) → Has items (path, octets) → is_payload path ≡ true)
     → AreNew [] items → AreNew [] (tags ++ items)
 join_new [] items new plain payload others = others
@@ -75,7 +75,7 @@ join_new (tag ∷ tags) items new plain payload others = (
   join_new tags items new.2 (λ path octets has. plain path octets (inr has)) payload others,
 )
 
--- files in their order, put one after another
+-- files in order, added one after another
 by_path : (tags : Files) → AreRising (keys_of tags) → with_files [] tags ≡ tags
 unfolding IsStrictlySortedBy
 by_path tags rising =
@@ -84,7 +84,7 @@ by_path tags rising =
     (λ file has. elim ((has_with [] tags file (rising_new tags rising)).0 has) [ inl none ↦ absurd none | inr there ↦ there ])
     (λ file has. (has_with [] tags file (rising_new tags rising)).1 (inr has))
 
--- WHAT IS ANSWERED
+-- THE ANSWER
 
 by_fault : (ledger : Ledger) (name : List ℕ) (old new : Option Stored) (fault : ExportFault) → IsMetWriting fault → Becomes (HasPart ledger name) old new → Exports ledger name (Err fault) old new
 by_fault ledger name old new fault.NoTransfer met part = absurd met

@@ -1,4 +1,4 @@
--- What is fetched, line by line.
+-- Fetching, line by line.
 use Rattle.std.proofs.Common.{◌≡◌, ◌≢◌, ◌↔◌, ◌<◌, ◌+◌, ◌++◌, ◌∷◌, [], ℕ, zero, suc, Bool, true, false, List, Option, Some, None, Result, Ok, Err, IsOk, is_ok, if◌then◌else◌, append_assoc, append-nil, get_or, length, map, slice_get, take, refl, sym, ap, subst, ◌∙◌, inl, inr, arith}
 use Rattle.std.proofs.Math.ListN.{replicate, set}
 use Rattle.std.proofs.lemmas.List.{take_more}
@@ -52,7 +52,7 @@ no_marks paths marks n is each = record {
   exact = λ i path at. (λ e. absurd (none_set n i (sym (ap (λ (m : List Bool). slice_get m i) is) ∙ e)), λ has. absurd has);
 }
 
--- one path more is held
+-- one more path is held
 pub marked_more : (paths : List (List ℕ)) (marks : List Bool) (held : List (List ℕ)) (place : ℕ) (path : List ℕ) → AreRising paths → slice_get paths place ≡ Some path → AreMarks paths marks held
     → AreMarks paths (set marks place true) (path ∷ held)
 marked_more paths marks held place path rising here are = record {
@@ -245,7 +245,7 @@ no_lines : (paths : List (List ℕ)) (lines : List FetchLine) → AreRequests pa
 no_lines paths [] are = refl
 no_lines paths (line ∷ lines) are = absurd are
 
--- all lines were gone through
+-- all lines are done
 pub all_reached : (ledger : Ledger) (name : List ℕ) (marks : List Bool) (left : List Request) (rounds : List Round) → left ≡ [] → IsUnderWay ledger name marks left rounds → AreReached ledger name rounds
 all_reached ledger name marks left rounds none way =
     let done : way.lines_left ≡ [] = no_lines way.paths way.lines_left (subst (AreRequests way.paths way.lines_left) none way.requests) in

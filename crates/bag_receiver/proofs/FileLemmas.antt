@@ -1,4 +1,4 @@
--- Files by path: what is there once a file was put where none was, and when two lists of files are the same.
+-- Files by path: what is there after a file was added at a free path, and when two lists of files are the same.
 use Rattle.std.proofs.Common.{◌≡◌, ◌≢◌, ◌⊎◌, ◌↔◌, ℕ, List, [], ◌∷◌, Contains, refl, sym, ap, ◌∙◌, inl, inr}
 use Rattle.std.specs.List.Sorted.{IsStrictlySortedBy}
 use Rattle.bag_receiver.proofs.Words.{AllByRecursion, AreRising, asymmetric, bytes_eq, bytes_eq-Decides, contains_from_has, Decided, decided_by, Equal, Files, Greater, Has, has_from_contains, is_eq, is_eq-slice_cmp, keys_of, Less, match_ordering, nat_cmp, nat_list_cmp_total, Ordering, ordering_reverse, same_list, slice_cmp, sorted_by_key, with_file}
@@ -40,7 +40,7 @@ held_or_not files path = elim (has_or_not (keys_of files) path) [
   | inr away ↦ inr (λ h. away (has_from_contains (keys_of files) path h))
 ]
 
--- ONE FILE MORE
+-- ONE FILE ADDED
 
 module _ (path content : List ℕ) where
   equal_is_same : (other : List ℕ) → slice_cmp nat_cmp path other ≡ Equal → path ≡ other
@@ -49,7 +49,7 @@ module _ (path content : List ℕ) where
   put_step : (file : File) (files : Files) (r : Ordering) → slice_cmp nat_cmp path file.0 ≡ r → with_file (file ∷ files) path content ≡ match_ordering r ((path, content) ∷ file ∷ files) ((file.0, content) ∷ files) (file ∷ with_file files path content)
   put_step file files r h = ap (λ o. match_ordering o ((path, content) ∷ file ∷ files) ((file.0, content) ∷ files) (file ∷ with_file files path content)) h
 
-  -- it is there, and so are those that were
+  -- it is there, and so are the earlier ones
   put_at : (file : File) (files : Files) (r : Ordering) → slice_cmp nat_cmp path file.0 ≡ r → path ≢ file.0 → (other : File)
       → (Has (with_file files path content) other ↔ (Has files other ⊎ ((path, content) ≡ other)))
       → Has (match_ordering r ((path, content) ∷ file ∷ files) ((file.0, content) ∷ files) (file ∷ with_file files path content)) other ↔ (Has (file ∷ files) other ⊎ ((path, content) ≡ other))
@@ -64,7 +64,7 @@ module _ (path content : List ℕ) where
   has_with_file [] away other = (λ k. elim k [ inl e ↦ inr e | inr none ↦ absurd none ], λ k. elim k [ inl none ↦ absurd none | inr e ↦ inl e ])
   has_with_file (file ∷ files) away other = put_at file files (slice_cmp nat_cmp path file.0) refl (λ e. away (inl (sym e))) other (has_with_file files (λ h. away (inr h)) other)
 
-  -- the order of the paths stays
+  -- the order of the paths is kept
   after : (x y : List ℕ) (ys : List (List ℕ)) → slice_cmp nat_cmp x y ≡ Less → AllByRecursion (λ z. slice_cmp nat_cmp y z ≡ Less) ys → AllByRecursion (λ z. slice_cmp nat_cmp x z ≡ Less) ys
   after x y [] h all = tt
   after x y (z ∷ zs) h all = (nat_list_cmp_total.trans x y z h all.0, after x y zs h all.1)

@@ -1,4 +1,4 @@
--- The first delivery that was accepted for a path.
+-- The first delivery accepted for a path.
 use Rattle.std.proofs.Common.{◌∙◌, ◌≡◌, ◌⊎◌, ℕ, List, [], ◌∷◌, ◌++◌, refl, sym, ap, subst, inl, inr}
 use Rattle.bag_receiver.proofs.FileLemmas.{same_or_not}
 use Rattle.bag_receiver.proofs.Words.{Accepts, Answer, Content, Decided, Delivery, Has, IsAcceptance, IsAccepted, IsFirstAccepted, Refused, Repeated, Taken, TooLong, Unread, Whole}
@@ -38,7 +38,7 @@ accepted_or_not delivery path = elim (same_or_not delivery.text path) [
   ]
 ]
 
--- one content at most
+-- at most one content
 accepted_one : (delivery : Delivery) (path content other : List ℕ) → IsAccepted delivery path content → IsAccepted delivery path other → content ≡ other
 accepted_one delivery path content other a b = let e : Whole content ≡ Whole other = sym a.brings.1 ∙ b.brings.1 in cc
 
@@ -83,7 +83,7 @@ first_accepts [] path content h = absurd h
 first_accepts (delivery ∷ deliveries) path content (inl here) = (delivery, inl refl, here)
 first_accepts (delivery ∷ deliveries) path content (inr later) = let k = first_accepts deliveries path content later.1 in (k.0, inr k.1, k.2)
 
--- where some delivery was accepted for the path, there is a first one
+-- if some delivery was accepted for the path, there is a first one
 pub accepts_first : (deliveries : List Delivery) (path content : List ℕ) → Accepts deliveries path content → (first : List ℕ) × FirstIn deliveries path first
 accepts_first [] path content h = absurd h.1
 accepts_first (delivery ∷ deliveries) path content h = elim (accepted_or_not delivery path) [

@@ -47,7 +47,7 @@ held_one old deliveries new other h k = same_files new other h.rising k.rising (
   λ has. (h.exact path content).1 ((k.exact path content).0 has),
 ))
 
--- FEW DELIVERIES
+-- LISTS OF FEW DELIVERIES
 
 pub held_none : (old : Files) → AreRising (keys_of old) → IsFirstHeld old [] old
 held_none old rising = record {
@@ -106,7 +106,7 @@ held_passes tags old deliveries new h before passing = record {
   ];
 }
 
--- no path is held of no files
+-- without files, no path is held
 none_held : (path : List ℕ) → ¬ Contains (keys_of {X = List ℕ} []) path
 none_held path h = (content_held [] path h).1
 

@@ -1,4 +1,4 @@
--- The transfer that a name names.
+-- The transfer with a name.
 use Rattle.std.proofs.Common.{◌≡◌, ℕ, List, Option, None, length, refl, sym, ◌∙◌, inl, inr, arith}
 use Rattle.std.specs.List.{list_all}
 use Rattle.bag_receiver.specs.Names.{is_of_names}

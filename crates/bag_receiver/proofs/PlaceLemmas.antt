@@ -52,7 +52,7 @@ some_transfer : (name : List ℕ) (ledger : Ledger) (tags : Files) (found : Opti
 some_transfer name ledger tags None is e = absurd (let h : None ≡ Some tags = e in cc)
 some_transfer name ledger tags (Some transfer) is e = (transfer, is, (let h : Some transfer.tags ≡ Some tags = e in cc))
 
--- the plan that is kept for a name is that of the transfer which it names
+-- the plan kept for a name is that of the transfer with this name
 pub of_plan : (ledger : Ledger) (name : List ℕ) (plans : List (List ℕ × Plan)) (plan : Plan) → ArePlansIn ledger plans → IsTransferName name → lookup (bytes_eq name) plans ≡ Some plan
     → (transfer : Transfer) × IsNamed ledger name (Some transfer) × IsPlanOf transfer.tags plan
 of_plan ledger name plans plan are is at =
@@ -60,7 +60,7 @@ of_plan ledger name plans plan are is at =
     let found = some_transfer name ledger tags (transfer_of ledger name) refl there in
     (found.0, record { named = λ h. sym found.1; unnamed = λ other. absurd (other is) }, subst (λ t. IsPlanOf t plan) (sym found.2) planned)
 
--- what a look-up of its length says of a content
+-- what a look-up of its length says about a content
 sized : (o : Option (List ℕ)) → is_some (option_map (λ (c : List ℕ). length c) o) ≡ is_some o
 sized None = refl
 sized (Some c) = refl
@@ -74,7 +74,7 @@ pub place_found : (ledger : Ledger) (name text : List ℕ) (transfer : Transfer)
     → is_some (content_of ledger name text) ≡ held → IsPlaceIn ledger name text (record { want = want; is_held = held })
 place_found ledger name text transfer want held named is wanted found = record { transfer = transfer; named = named; listed = (is, wanted.expected); wanted = wanted; held = found }
 
--- WHAT A READER BROUGHT that is refused
+-- WHAT A READER GAVE that is refused
 
 module _ (want : Want) (old new : Option (List ℕ)) where
   abbrev pub content_read : (fault : PutFault) → RefusesGiven (given_by old new) want fault → Content
@@ -110,7 +110,7 @@ known_judged want text octets put.Length is gave = (is, gave.1.1)
 known_judged want text octets (put.Digest alg) is gave = (is, gave.1.1)
 known_judged want text octets (put.Keep fault) is gave = tt
 
--- AT A PLACE
+-- AT A LISTED PATH
 
 module _ (now : LedgerState) (name text : List ℕ) (place : Place) (at : IsPlaceIn now.held name text place) where
   abbrev tags : Files
@@ -125,7 +125,7 @@ module _ (now : LedgerState) (name text : List ℕ) (place : Place) (at : IsPlac
   passes : (content : List ℕ) → length content ≤ LARGEST_ITEM → IsWanted place.want content → PassesIn tags text (Whole content)
   passes content within wanted = wanted_passes tags text content place.want at.wanted within wanted
 
-  -- what is due to a content that passes
+  -- what is due to a valid content
   pub repeated : (content : List ℕ) → length content ≤ LARGEST_ITEM → IsWanted place.want content → place.is_held ≡ true
       → DeliveryStep name (delivery_of text (Whole content) Repeated) now now
   repeated content within wanted held = ((Some at.transfer, at.named, (at.listed, passes content within wanted, looked_up text at.transfer.items (held_in ∙ held))), refl)
@@ -146,7 +146,7 @@ module _ (now : LedgerState) (name text : List ℕ) (place : Place) (at : IsPlac
     not_held = none_of (content_of now.held name place.want.path.now) (ap (λ p. is_some (content_of now.held name p)) at.wanted.path_is ∙ at.held ∙ held);
   }
 
-  -- what is due to another
+  -- what is due to another content
   too_large : (content : Content) → IsTooLong content → DeliveryStep name (delivery_of text content (Refused TooLarge)) now now
   too_large content long = ((Some at.transfer, at.named, (at.listed, long)), refl)
 
@@ -157,7 +157,7 @@ module _ (now : LedgerState) (name text : List ℕ) (place : Place) (at : IsPlac
       → DeliveryStep name (delivery_of text (Whole content) (Refused Length)) now now
   other_length content within first = ((Some at.transfer, at.named, (at.listed, misfit content OtherLength within first)), refl)
 
-  -- what is due to what a reader gave
+  -- what is due to a content from a reader
   pub read_refused : (old new : Option (List ℕ)) (fault : PutFault) (gave : RefusesGiven (given_by old new) place.want fault)
       → DeliveryStep name (delivery_of text (content_read place.want old new fault gave) (Refused (deliver_fault fault))) now now
   read_refused old new put.Reader gave = ((refl, (at.transfer, at.named, at.listed)), refl)
@@ -167,7 +167,7 @@ module _ (now : LedgerState) (name text : List ℕ) (place : Place) (at : IsPlac
       ((Some at.transfer, at.named, (at.listed, misfit content (OtherDigest alg) gave.within first)), refl)
   read_refused old new (put.Keep fault) gave = inl refl
 
-  -- what was known is refused
+  -- a content in memory is refused
   pub known_refused : (octets : List ℕ) (fault : PutFault) → RefusesGiven (known octets) place.want fault
       → DeliveryStep name (delivery_of text (Whole octets) (Refused (deliver_fault fault))) now now
   known_refused octets put.Reader h = absurd h
@@ -178,7 +178,7 @@ module _ (now : LedgerState) (name text : List ℕ) (place : Place) (at : IsPlac
       ((Some at.transfer, at.named, (at.listed, misfit octets (OtherDigest alg) within (subst (λ c. IsFirstMisfitOf place.want c (OtherDigest alg)) is first))), refl)
   known_refused octets (put.Keep fault) h = inl refl
 
--- NO PLACE
+-- NO LISTED PATH
 
 pub text_refused : (now : LedgerState) (name text : List ℕ) (transfer : Transfer) (fault : DeliverFault) → IsNamed now.held name (Some transfer) → RefusesText text fault → RefusesAny name text now fault
 text_refused now name text transfer (BadPath fault) named none content = ((Some transfer, named, none), refl)

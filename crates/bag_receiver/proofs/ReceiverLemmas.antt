@@ -1,4 +1,4 @@
--- How the receiver's calls follow one another, and what they find.
+-- The receiver's calls in sequence, and what they find.
 use Rattle.std.proofs.Common.{◌≡◌, ◌⊎◌, ◌≤◌, ℕ, true, false, List, [], ◌∷◌, Option, Some, None, map, length, refl, sym, ap, subst, ◌∙◌, inl, inr}
 use Rattle.std.specs.BTreeMap.{get_by, is_at}
 use Rattle.std.specs.String.{string_cmp}
@@ -49,7 +49,7 @@ some_of : {X : Type 0} (o : Option X) → is_some o ≡ true → (x : X) × (o �
 some_of None e = absurd (let h : false ≡ true = e in cc)
 some_of (Some x) e = (x, refl)
 
--- a payload file more changes no tag file
+-- another payload file changes no tag file
 tags_by : (path content : List ℕ) (t : Option Transfer) → option_map (λ (transfer : Transfer). transfer.tags) (option_map (λ (t : Transfer). holding t path content) t) ≡ option_map (λ (transfer : Transfer). transfer.tags) t
 tags_by path content None = refl
 tags_by path content (Some t) = refl
@@ -85,7 +85,7 @@ module _ {K : Type 0} (holds may_leave : K → Ledger → Type 0) (clean : K →
     leads = λ c before in_state. (let m = h.leads (k.was_clean c) before in_state in k.leads c before (subst (InState middle) m.2 m.1));
   }
 
-  -- what stood so before a call that changes nothing stands so after it
+  -- what was true before a call that changes nothing is true after it
   pub still : (old new : Receiver K) (now : LedgerState) → Did old new Same → clean new.keeper → InState old now → InState new now
   still old new now h c in_state = (let m = h.leads c now in_state in subst (InState new) m.2 m.1)
 
@@ -102,7 +102,7 @@ module _ {K : Type 0} (holds may_leave : K → Ledger → Type 0) (clean : K →
     );
   }
 
-  -- the same, with a plan more
+  -- the same with another plan
   pub does_plan : (old new : K) (plans more : Plans) (name : List ℕ) (tags : Files) (plan : Plan) → Reads holds may_leave clean old new
       → plans_in more ≡ insert_entry (slice_cmp nat_cmp) (plans_in plans) name plan → IsPlanOf tags plan
       → (clean new → (ledger : Ledger) → holds old ledger → tags_of ledger name ≡ Some tags) → Did (over old plans) (over new more) Same
@@ -118,7 +118,7 @@ module _ {K : Type 0} (holds may_leave : K → Ledger → Type 0) (clean : K →
     );
   }
 
-  -- and where one was before, it is the transfer's
+  -- if there was a plan before, it is the transfer's
   pub plan_found : (name : List ℕ) (plans : Plans) → is_some (get_by (by_name name) plans) ≡ true → (plan : Plan) × (lookup (bytes_eq name) (plans_in plans) ≡ Some plan)
   plan_found name plans found = some_of (lookup (bytes_eq name) (plans_in plans)) (ap is_some (plan_at name plans) ∙ found)
 
@@ -141,14 +141,14 @@ module _ {K : Type 0} (holds may_leave : K → Ledger → Type 0) (clean : K →
     λ c now in_state. then c now (still old middle now looks (more.was_clean c) in_state) (finds (more.was_clean c) now in_state),
   )
 
-  -- where nothing changes, what was found is the step
+  -- if nothing changes, what was found is the step
   pub found_step : (old new : Receiver K) (step : LedgerState → LedgerState → Type 0) → Found old new (λ now. step now now) → Did old new step
   found_step old new step (looks, finds) = record {
     was_clean = looks.was_clean;
     leads = λ c now in_state. (now, still old new now looks c in_state, finds c now in_state);
   }
 
-  -- and a call that rests on what was found
+  -- a call that relies on what was found
   pub does_then : (old middle new : Receiver K) (fact : LedgerState → Type 0) (step : LedgerState → LedgerState → Type 0) → Found old middle fact
       → (clean new.keeper → clean middle.keeper) → (clean new.keeper → (now : LedgerState) → InState middle now → fact now → (after : LedgerState) × InState new after × step now after) → Did old new step
   does_then old middle new fact step (looks, finds) was_clean then = record {
@@ -156,13 +156,13 @@ module _ {K : Type 0} (holds may_leave : K → Ledger → Type 0) (clean : K →
     leads = λ c now in_state. then c now (still old middle now looks (was_clean c) in_state) (finds (was_clean c) now in_state);
   }
 
-  -- what is refused, whatever its content is
+  -- a refusal that doesn't depend on the content
   pub refused_step : (old new : Receiver K) (name text : List ℕ) (content : Content) (fault : DeliverFault) → Found old new (λ now. RefusesAny name text now fault)
       → Did old new (DeliveryStep name (delivery_of text content (Refused fault)))
   refused_step old new name text content fault (looks, finds) =
       found_step old new (DeliveryStep name (delivery_of text content (Refused fault))) (looks, λ c now in_state. finds c now in_state content)
 
-  -- PUTTING, at a place that isn't held
+  -- PUTTING a file at a path that isn't held
 
   module _ (old new : K) (plans : Plans) (given : Given) (name text : List ℕ) (place : Place) (free : place.is_held ≡ false) where
     abbrev After : (LedgerState → LedgerState → Type 0) → LedgerState → Type 0
@@ -174,7 +174,7 @@ module _ {K : Type 0} (holds may_leave : K → Ledger → Type 0) (clean : K →
     abbrev PutTo : LedgerState → List ℕ → K → Type 0
     PutTo now content keeper = holds keeper (puts_to now content)
 
-    -- the path of the want is the text
+    -- the path of the want is the given text
     with_path : (now : LedgerState) (content path : List ℕ) → path ≡ text → with_item now.held name path content ≡ puts_to now content
     with_path now content path e = ap (λ p. with_item now.held name p content) e
 
@@ -201,7 +201,7 @@ module _ {K : Type 0} (holds may_leave : K → Ledger → Type 0) (clean : K →
       plans = in_state.plans;
     }
 
-  -- a content that is known is put, or refused
+  -- a content in memory is put or refused
   module _ (old new : K) (plans : Plans) (name text octets : List ℕ) (place : Place) (free : place.is_held ≡ false) where
     abbrev AnswersTo : Answer → LedgerState → Type 0
     AnswersTo answer now = (after : LedgerState) × InState (over new plans) after × DeliveryStep name (delivery_of text (Whole octets) answer) now after
@@ -236,7 +236,7 @@ module _ {K : Type 0} (holds may_leave : K → Ledger → Type 0) (clean : K →
     known_refused_by put.Length refused (inr (content, h)) c now in_state at = absurd h.keep
     known_refused_by (put.Digest alg) refused (inr (content, h)) c now in_state at = absurd h.keep
 
-  -- a content that a reader gives is put, or refused
+  -- a content from a reader is put or refused
   module _ (old new : K) (plans : Plans) (before after : Option (List ℕ)) (name text : List ℕ) (place : Place) (free : place.is_held ≡ false) where
     abbrev AnswersRead : Content → Answer → LedgerState → Type 0
     AnswersRead content answer now = (after : LedgerState) × InState (over new plans) after × DeliveryStep name (delivery_of text content answer) now after

@@ -1,4 +1,4 @@
--- What deliveries to one transfer make of it, and of the others.
+-- How deliveries to one transfer change it and the others.
 use Rattle.std.proofs.Common.{◌≡◌, ◌≢◌, ◌⊎◌, ℕ, List, [], ◌∷◌, ◌++◌, map, Option, Some, None, refl, sym, ap, subst, ◌∙◌, inl, inr}
 use Rattle.bag_receiver.specs.Receiving.{IsHeldIn, LeavesOthers, StepBy}
 use Rattle.bag_receiver.proofs.NameLemmas.{name_or_not}
@@ -8,16 +8,16 @@ use Rattle.bag_receiver.proofs.Words.{Adds, Answer, Answered, AnswerStep, AreRis
 abbrev transfer_with : Files → Files → Transfer
 transfer_with tags items = record { tags = tags; items = items }
 
--- THE TRANSFER THAT A NAME NAMES
+-- THE TRANSFER WITH A NAME
 
--- where it names one, that is there
+-- if a name names a transfer, the ledger has it
 pub named_there : (ledger : Ledger) (name : List ℕ) (transfer : Transfer) → IsNamed ledger name (Some transfer) → transfer_of ledger name ≡ Some transfer
 named_there ledger name transfer h = elim (name_or_not name) [
   | inl is ↦ sym (h.named is)
   | inr other ↦ absurd (let e : Some transfer ≡ None = h.unnamed other in cc)
 ]
 
--- what is due to be taken by a transfer that stands so
+-- what is due to be taken by a transfer in this state
 due_taken : (name : List ℕ) (ledger : Ledger) (delivery : Delivery) (answer : Answer) (transfer : Transfer) → transfer_of ledger name ≡ Some transfer
     → IsDueThere name ledger delivery answer → (answer ≢ Refused NoTransfer) → IsDue (Some transfer) delivery.text delivery.content answer
 due_taken name ledger delivery answer transfer there (None, named, due) other = absurd (other due)
@@ -27,11 +27,11 @@ due_taken name ledger delivery answer transfer there (Some found, named, due) ot
 -- ONE TRANSFER
 
 module _ (name : List ℕ) (tags : Files) where
-  -- what a crash may leave beside what is held
+  -- what a crash may leave in addition to what is held
   abbrev Leaves : Ledger → TransferState → Type 0
   Leaves crashed files = (items : Files) × (transfer_of crashed name ≡ Some (transfer_with tags items)) × StopStep tags files (record { held = items; doubtful = [] })
 
-  -- one doubtful file more changes none of it
+  -- one more doubtful file changes none of it
   still_left : (crashed : Ledger) (old : TransferState) (path : List ℕ) (content : Content) → Leaves crashed old → Leaves crashed (with_doubtful_file old path content)
   still_left crashed old path (Whole content) (items, there, stop) = (
     items,
@@ -70,7 +70,7 @@ module _ (name : List ℕ) (tags : Files) where
   abbrev Next : Delivery → TransferState → LedgerState → Type 0
   Next delivery old state = (next : TransferState) × AnswerStep tags delivery.text delivery.content delivery.answer old next × HasTransfer state name tags next
 
-  -- with no answer of the keeper
+  -- the keeper has no answer
   held_still : (old : LedgerState) (files : TransferState) (path : List ℕ) (content : Content) → HasTransfer old name tags files
       → transfer_of old.held name ≡ Some (transfer_with tags ((with_doubtful_file files path content).held))
   held_still old files path content present = present.there ∙ ap (λ held. Some (transfer_with tags held)) (sym (doubt_stays files path content))
@@ -157,7 +157,7 @@ settled_by (Refused TooLarge) name delivery old new h = (settled old.held, (h.0,
 settled_by (Refused Length) name delivery old new h = (settled old.held, (h.0, refl), ap (λ (s : LedgerState). s.held) (sym h.1))
 settled_by (Refused (Digest alg)) name delivery old new h = (settled old.held, (h.0, refl), ap (λ (s : LedgerState). s.held) (sym h.1))
 
--- a step from a state is one from any other that holds the same
+-- a step from a state is a step from any other state that holds the same
 from_same : (name : List ℕ) (deliveries : List Delivery) (old new : LedgerState) → DeliverySteps name deliveries old new
     → (tags : Files) (files : TransferState) → transfer_of old.held name ≡ Some (transfer_with tags files.held)
     → (next : TransferState) × Steps tags (map Answered deliveries) files next × (transfer_of new.held name ≡ Some (transfer_with tags next.held))
@@ -180,7 +180,7 @@ module _ (name other : List ℕ) (apart : other ≢ name) where
   added_other : (old : Ledger) (delivery : Delivery) (new : Ledger) → Adds name old delivery new → transfer_of new other ≡ transfer_of old other
   added_other old delivery new (content, whole, due, is) = ap (λ l. transfer_of l other) is ∙ item_others name delivery.text content other apart old
 
-  -- each ledger that may be left shows the other transfer as the one that was held, or as one that could be left
+  -- each ledger that a crash may leave shows the other transfer as the one held, or as one that could be left before
   abbrev OtherStays : LedgerState → LedgerState → Type 0
   OtherStays old new = (transfer_of new.held other ≡ transfer_of old.held other)
       × ((crashed : Ledger) → Has new.doubtful crashed → Has old.doubtful crashed ⊎ (transfer_of crashed other ≡ transfer_of old.held other))

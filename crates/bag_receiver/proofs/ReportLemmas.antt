@@ -1,4 +1,4 @@
--- What is reported of a transfer, by what happened to it.
+-- The report on a transfer, by what happened to it.
 use Rattle.std.proofs.Common.{◌≡◌, ℕ, List, [], ◌∷◌, Option, Some, map, sym, ap, subst, ◌∙◌, inl, inr}
 use Rattle.bag_rules.specs.declared.outcome.Outcome.TheVariants.{Judged}
 use Rattle.bag_rules.specs.declared.plan.ItemSize.{ItemSize}
@@ -56,7 +56,7 @@ pub stopped : (now : LedgerState) (name : List ℕ) (tags : Files) (events : Lis
     → (held : Files) × StopRun tags events held × IsReportOf tags held report
 stopped now name tags events report reports (files, steps, present) = (files.held, (files.doubtful, steps), report_shown now name tags files.held report reports present.there)
 
--- what was accepted passes
+-- what was accepted is valid
 passes_by : (tags : Files) (path octets : List ℕ) (answer : Answer) (old new : TransferState) → AnswerStep tags path (Whole octets) answer old new → IsAcceptance answer → Passes tags path octets
 passes_by tags path octets Taken old new (content, same, gains, settled) taken =
     let is : Whole octets ≡ Whole content = same in

@@ -1,4 +1,4 @@
--- Deliveries one after another.
+-- Deliveries in sequence.
 use Rattle.std.proofs.Common.{◌≡◌, ◌≤◌, ◌+◌, ℕ, List, [], ◌∷◌, ◌++◌, Some, None, Vec, length, slice_get, refl, sym, ap, subst, ◌∙◌, inl, inr, arith}
 use Rattle.bag_receiver.specs.Runs.{store_failure, store_failures}
 use Rattle.bag_receiver.proofs.ReceivingLemmas.{receives}
@@ -75,7 +75,7 @@ module _ {K : Type 0} (holds may_leave : K → Ledger → Type 0) (clean : K →
     store = subst (λ n. CountsAtLeast n (failures old.keeper) (failures new.keeper)) (sym (failures_more deliveries delivery)) (counted delivery.answer _ _ _ _ runs.store counts);
   }
 
--- ONE ANSWER MORE
+-- ONE MORE ANSWER
 
 pub no_answers : (given : Files) → with_answers given [] ≡ []
 no_answers [] = refl

@@ -5,7 +5,7 @@ use Rattle.bag_digest.specs.declared.digest.Digest.TheVariants as digest
 use Rattle.bag_receiver.proofs.FileLemmas.{held_or_not, same_or_not}
 use Rattle.bag_receiver.proofs.Words.{Alg, Answer, BadPath, Content, decided_at_most, decided_equal, Digest, DigestOf, Files, HasOtherLength, IsDue, IsExpected, IsFirstAmong, IsPath, IsUtf8, LARGEST_ITEM, Length, ListsOther, Md5, NotListed, NoTransfer, Passes, path_fault, path_if_no_fault, PathFault, place_of, Refused, Repeated, Sha1, Sha256, Sha512, Taken, TooLarge, TooLong, Transfer, Unread, Whole}
 
--- TWO DIGESTS ARE THE SAME, OR NOT
+-- TWO DIGESTS ARE EQUAL OR NOT
 
 code_of : DigestOf → List ℕ
 code_of (digest.Md5 octets) = 0 ∷ octets
@@ -30,7 +30,7 @@ digests_same a b not_other = elim (same_or_not (code_of a) (code_of b)) [
   | inr other ↦ absurd (not_other (λ e. other (ap code_of e)))
 ]
 
--- WHAT IS NO MISFIT PASSES
+-- A CONTENT WITHOUT MISFIT IS VALID
 
 module _ (tags : Files) (path content : List ℕ) where
   abbrev Other : Alg → Type 0
@@ -60,7 +60,7 @@ module _ (tags : Files) (path content : List ℕ) where
   first_sha512 a b c Sha256 h = absurd (c h)
   first_sha512 a b c Sha512 h = omega arith
 
-  -- of the algorithms that list another digest there is a first one
+  -- one of the algorithms that list another digest is the first
   none_other : ((alg : Alg) → ¬ IsFirstAmong (ListsOther tags path content) alg) → (alg : Alg) → ¬ ListsOther tags path content alg
   none_other none =
       let no_md5 : ¬ ListsOther tags path content Md5 = λ h. none Md5 (h, λ alg k. omega arith) in

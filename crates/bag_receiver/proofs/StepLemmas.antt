@@ -17,7 +17,7 @@ steps_parted tags (event ∷ events) others old new h = let k = steps_parted tag
 
 -- ONE STEP
 
--- what an answer or a stop does to what is held: nothing, or one file is gained
+-- an answer or a stop either changes nothing that is held, or adds one file
 data Changes (tags : Files) (old : TransferState) (new : Files) : Type 0 where
   Stays : new ≡ old.held → Changes tags old new
   Grows : (path content : List ℕ) → Gains tags old.held path content new → Changes tags old new
@@ -30,7 +30,7 @@ doubt_stays files path Unread = refl
 abbrev held_of : TransferState → Files
 held_of files = files.held
 
--- a refusal changes nothing, but where the keeper has no answer the content may be doubtful
+-- a refusal changes nothing, except that the content may be doubtful if the keeper has no answer
 refused_is : (tags : Files) (path : List ℕ) (content : Content) (fault : DeliverFault) (old new : TransferState) → AnswerStep tags path content (Refused fault) old new → (new ≡ old) ⊎ (new ≡ with_doubtful_file old path content)
 refused_is tags path content (Keeper fault) old new h = inr h
 refused_is tags path content NoTransfer old new h = inl h
@@ -57,7 +57,7 @@ changes tags (Answered delivery) old new h = answer_changes tags delivery.text d
 changes tags (Cut path content) old new h = Stays (ap held_of h ∙ doubt_stays old path content)
 changes tags Stop old new h = stop_changes tags old new h
 
--- WHAT IS HELD STAYS HELD, AND PASSES
+-- WHAT IS HELD STAYS HELD, AND IS VALID
 
 module _ (tags : Files) where
   gained : (held : Files) (path content : List ℕ) (new : Files) → Gains tags held path content new → (file : File) → Has new file ↔ (Has held file ⊎ ((path, content) ≡ file))

@@ -15,7 +15,7 @@ pub path_z : IsPath (codes "data/z")
 unfolding path_fault
 path_z = ascii_path (codes "data/z") refl refl
 
--- THE PATHS ARE HELD, OR NOT
+-- THE PATHS ARE HELD OR NOT
 
 pub apart : file_e ≢ file_a
 apart = other_text file_e file_a refl
@@ -155,7 +155,7 @@ pub failure_accepted : AreAccepted run_with_a_failure both
 failure_accepted = accepted_both run_with_a_failure (of_failure, (of_a Taken, (of_e Taken, tt)))
     (delivered file_a abc Taken, inr (inl refl), was_taken file_a abc) (delivered file_e [] Taken, inr (inr (inl refl)), was_taken file_e [])
 
--- WHERE STEPS LEAD
+-- THE RESULTS OF STEPS
 
 same_transfer_state : (s : TransferState) (held doubtful : Files) → s.held ≡ held → s.doubtful ≡ doubtful → s ≡ transfer_state held doubtful
 same_transfer_state s held doubtful h d = λ t. record { held = h t; doubtful = d t }
@@ -164,7 +164,7 @@ pub after_taken : (path content : List ℕ) (old new : TransferState) → Step t
 after_taken path content old new h = (let whole : Whole content ≡ Whole h.0 = h.1 in let same : h.0 ≡ content = cc in
     same_transfer_state new (with_file old.held path content) [] (h.2.becomes ∙ ap (λ c. with_file old.held path c) same) h.3)
 
--- of one doubtful file
+-- with one doubtful file
 pub after_stop : (held : Files) (path content : List ℕ) (new : TransferState) → StopStep tags_of_two (transfer_state held ((path, content) ∷ [])) new → (new ≡ transfer_state held []) ⊎ (Passes tags_of_two path content × (new ≡ transfer_state (with_file held path content) []))
 after_stop held path content new h = elim h.held [
   | inl same ↦ inl (same_transfer_state new held [] same h.settled)
@@ -177,7 +177,7 @@ after_stop held path content new h = elim h.held [
   ]
 ]
 
--- of none
+-- with none
 pub after_stop_alone : (held : Files) (new : TransferState) → StopStep tags_of_two (transfer_state held []) new → new.held ≡ held
 after_stop_alone held new h = elim h.held [ inl same ↦ same | inr k ↦ absurd k.2 ]
 
@@ -192,7 +192,7 @@ after_cut new h =
     let stop = subst (λ s. StopStep tags_of_two s h.2.2.0) second h.2.2.1 in
     elim (after_stop only_e file_a abc h.2.2.0 stop) [ inl none ↦ inl (h.2.2.2 ∙ none) | inr more ↦ inr (h.2.2.2 ∙ more.1) ]
 
--- and given again
+-- and delivered again
 pub after_again : (again : Answer) → (again ≡ Taken) ⊎ (again ≡ Repeated) → (old middle new : TransferState) → (old ≡ transfer_state only_e []) ⊎ (old ≡ transfer_state both []) → middle ≡ old → Step tags_of_two (Answered (delivered file_a abc again)) middle new → new.held ≡ both
 after_again again (inl is) old middle new (inl e) m h =
     let taken_now = after_taken file_a abc middle new (subst (λ a. Step tags_of_two (Answered (delivered file_a abc a)) middle new) is h) in

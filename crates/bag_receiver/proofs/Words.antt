@@ -1,4 +1,4 @@
--- The words of the specifications and the lemmas of std and of the crates below that the proofs cite.
+-- The specifications and the lemmas of std and of the crates below that the proofs use.
 pub use Rattle.bag_path.proofs.PathLemmas.{no_fault_if_path, path_if_no_fault}
 pub use Rattle.bag_path.specs.declared.path.PathFault.{PathFault}
 pub use Rattle.bag_path.specs.Paths.{IsPath, path_fault}

@@ -1,4 +1,4 @@
--- How the payload of a bag arrives: each of its files, in any order, and as often as may be.
+-- How the payload of a bag arrives: each of its files, in any order and any number of times.
 use Rattle.std.specs.Prelude.{◌≡◌, ◌≤◌, ℕ, List, length}
 use Rattle.bag_rules.specs.Faults.{Has}
 use Rattle.bag_rules.specs.Files.{Files}
@@ -23,7 +23,7 @@ abbrev pub IsAcceptedIn : List Event → List ℕ → Type 0
 IsAcceptedIn events path = (delivery : Delivery) × Has events (Answered delivery)
     × (delivery.text ≡ path) × IsAcceptance delivery.answer
 
--- the same of all that happened, stops too: a content may have been offered where a stop came before its answer
+-- the same for all events, including stops: a content may have been offered when a stop came before its answer
 pub record AreDeliveredIn (payload : Files) (events : List Event) : Type 0 where
   pub offered : (path content : List ℕ) → Has payload (path, content)
       → OffersIn events path content

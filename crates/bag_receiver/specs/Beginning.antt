@@ -1,4 +1,4 @@
--- How a transfer is begun.
+-- How a transfer is opened.
 use Rattle.std.specs.Prelude.{◌≡◌, ◌≢◌, ◌⊎◌, ◌<◌, [], ℕ, List, Some, Result, Ok, Err, Contains, Vec, length, map, slice_get, string_bytes, take}
 use Rattle.std.specs.Map.{keys_of}
 use Rattle.std.specs.declared.alloc.Global.{Global}
@@ -23,13 +23,13 @@ use Rattle.bag_receiver.specs.Names.{IsTransferName}
 use Rattle.bag_receiver.specs.Receiving.{Happened, HasTransfer, LeavesOthers, LedgerState, with_doubtful_ledger}
 use Rattle.bag_receiver.specs.Stops.{TransferState}
 
--- THE FILES THAT ARE HANDED IN, in any order: each path, as text, with its octets
+-- THE FILES GIVEN, in any order: each path, as text, with its octets
 
 abbrev pub given_in : List (String Global × Vec ℕ Global) → Files
 given_in files = map (λ (file : String Global × Vec ℕ Global).
     (string_bytes file.0, file.1.items)) files
 
--- the text of the i-th is not the path of a tag file, or it is that of a file before it
+-- the text at index i isn't the path of a tag file, or it is the path of an earlier file
 pub record IsMisplaced (given : Files) (i : ℕ) : Type 0 where
   pub file : List ℕ × List ℕ
   pub at : slice_get given i ≡ Some file
@@ -57,13 +57,13 @@ pub record AreTaken (given tags : Files) : Type 0 where
   pub tags_are : tags ≡ with_files [] given
   pub opens : Opens tags
 
--- none can: the tag files that these are don't open, for this first reason
+-- no transfer can be opened: the files as tag files don't open, for this first reason
 pub record AreRefused (given : Files) (fault : PlanFault) : Type 0 where
   pub placed : NoneMisplaced given
   pub within : NoneLarge given
   pub refused : Refuses (with_files [] given) fault
 
--- the first reason why none can, in this order
+-- the first reason why no transfer can be opened, in this order
 abbrev pub RefusesFiles : Files → BeginFault → Type 0
 RefusesFiles given (TagPath i) = IsMisplaced given i × ((j : ℕ) → j < i → ¬ IsMisplaced given j)
 RefusesFiles given (TagTooLarge path) = NoneMisplaced given × IsFirstPath (IsLargeAt given) path
@@ -72,17 +72,17 @@ RefusesFiles given (Rules fault) = AreRefused given (plan.Rules fault)
 RefusesFiles given (Clash path) = AreRefused given (plan.Clash path)
 RefusesFiles given fault = ⊥
 
--- WHAT IS ANSWERED, AND WHAT IT MAKES OF WHAT IS HELD
+-- THE ANSWER, AND HOW IT CHANGES WHAT IS HELD
 
--- the transfer is there, with these tag files
+-- the transfer exists, with these tag files
 abbrev pub IsOpenWith : LedgerState → List ℕ → Files → Type 0
 IsOpenWith state name tags = tags_of state.held name ≡ Some tags
 
--- a transfer may have this name and these files
+-- a transfer may be opened with this name and these files
 abbrev pub MayBegin : List ℕ → Files → Type 0
 MayBegin name given = IsTransferName name × ((tags : Files) × AreTaken given tags)
 
--- memory may be wanted anywhere; the store is asked only for such a transfer
+-- memory may run out at any time; the store is used only for such a transfer
 abbrev pub MayFail : KeepFault → List ℕ → Files → Type 0
 MayFail Memory name given = Unit {0}
 MayFail (Store fault) name given = MayBegin name given
@@ -95,13 +95,13 @@ IsAnswerTo (Err Differs) name given = MayBegin name given
 IsAnswerTo (Err fault) name given = IsTransferName name × RefusesFiles given fault
 IsAnswerTo (Ok begun) name given = MayBegin name given
 
--- the ledger with the transfer that is to be opened
+-- the ledger with the transfer to be opened
 abbrev pub Opened : List ℕ → Files → Ledger → Ledger → Type 0
 Opened name given old new = (tags : Files) × IsTransferName name × AreTaken given tags
     × IsUnused name old × (new ≡ with_transfer old name tags)
 
--- Of the refusals the first is answered: the name, the files, other tag files. Where the keeper has no answer nothing
--- changes, or what it was about to open is doubtful.
+-- The first refusal is reported: the name, the files, other tag files. If the keeper has no answer, nothing changes, or
+-- what it was about to open is doubtful.
 abbrev pub BeginStep : Result Begun BeginFault → List ℕ → Files → LedgerState → LedgerState → Type 0
 BeginStep (Ok New) name given old new = Opened name given old.held new.held × (new.doubtful ≡ [])
 BeginStep (Ok Again) name given old new = (tags : Files) × IsTransferName name
@@ -116,16 +116,16 @@ BeginStep (Err (Keeper fault)) name given old new = MayFail fault name given
 BeginStep (Err fault) name given old new = IsTransferName name × RefusesFiles given fault
     × (new ≡ old)
 
--- These files were handed in for this name, and nothing else happened.
+-- These files were given for this name, and nothing else happened.
 pub record Begins (name : List ℕ) (given : Files) (result : Result Begun BeginFault)
     (old new : LedgerState) : Type 0 where
   pub step : BeginStep result name given old new
   -- a transfer that was opened holds nothing yet
   pub opened : result ≡ Ok New → Happened new name (with_files [] given) []
-  -- so does one that a stop may show to be open, where the keeper had no answer
+  -- the same for a transfer that a stop may show to be open, if the keeper had no answer
   pub left : (crashed : Ledger) → Has new.doubtful crashed → Has old.doubtful crashed
       ⊎ (transfer_of crashed name ≡ Some (begun (with_files [] given)))
-  -- a transfer that was there holds what it held
+  -- a transfer that existed holds what it held
   pub kept : (tags : Files) (files : TransferState) → HasTransfer old name tags files
       → HasTransfer new name tags files
   pub others : LeavesOthers name old new

@@ -1,4 +1,4 @@
--- What the functions find that look at the files with which a transfer is to be begun.
+-- What is found in the files with which a transfer is to be opened.
 use Rattle.std.specs.Prelude.{◌≡◌, ◌⊎◌, [], List, ℕ, Contains, length, map, nat_lt, if◌then◌else◌}
 use Rattle.std.specs.Map.{keys_of}
 use Rattle.bag_rules.specs.declared.limits.TheConstants.{LARGEST_TAG_FILE}
@@ -12,7 +12,7 @@ use Rattle.bag_receiver.specs.declared.begin.BeginFault.{BeginFault}
 use Rattle.bag_receiver.specs.declared.begin.BeginFault.TheVariants.{TagTooLarge, Outside, Rules, Clash, Keeper}
 use Rattle.bag_receiver.specs.Beginning.{RefusesFiles}
 
--- the fault of a plan, among those of a beginning
+-- the fault of a plan, as a fault of `begin`
 abbrev pub begin_fault : PlanFault → BeginFault
 begin_fault (plan.TagTooLarge path) = TagTooLarge path
 begin_fault (plan.Outside cause) = Outside cause
@@ -20,15 +20,15 @@ begin_fault (plan.Rules fault) = Rules fault
 begin_fault (plan.Clash path) = Clash path
 begin_fault plan.Memory = Keeper Memory
 
--- nothing in the place of too many octets
+-- nothing in place of too many octets
 unfoldable pub emptied : List ℕ → List ℕ
 emptied octets = if nat_lt LARGEST_TAG_FILE (length octets) then [] else octets
 
--- the files, of which each that has too many octets is empty
+-- the files, in which each one with too many octets is empty
 abbrev pub lightened : Files → Files
 lightened given = map (λ (file : List ℕ × List ℕ). (file.0, emptied file.1)) given
 
--- those by path
+-- these files by path
 abbrev pub light_tags : Files → Files
 light_tags given = with_files [] (lightened given)
 
@@ -36,6 +36,6 @@ light_tags given = with_files [] (lightened given)
 abbrev pub IsRefusal : Files → BeginFault → Type 0
 IsRefusal given fault = (fault ≡ Keeper Memory) ⊎ RefusesFiles given fault
 
--- a file with this path may be put among the tag files
+-- a file with this path may be added to the tag files
 abbrev pub IsPlaced : Files → List ℕ → Type 0
 IsPlaced tags path = IsTagPath path × ¬ Contains (keys_of tags) path

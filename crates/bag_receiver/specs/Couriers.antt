@@ -1,4 +1,4 @@
--- Couriers, and the runs that they bring.
+-- Couriers, and runs of their deliveries.
 use Rattle.std.specs.Prelude.{◌≡◌, ◌≢◌, ◌<◌, ◌+◌, ◌∷◌, [], ℕ, Bool, true, false, List, Option, Some, None, length, map, min}
 use Rattle.bag_digest.specs.Device.{greatest_count}
 use Rattle.bag_rules.specs.declared.limits.TheConstants.{LARGEST_ITEM}
@@ -11,9 +11,9 @@ use Rattle.bag_receiver.specs.declared.run.End.TheVariants.{Done, TooMany, Couri
 use Rattle.bag_receiver.specs.declared.run.TheConstants.{MOST_DELIVERIES}
 use Rattle.bag_receiver.specs.Deliveries.{Content, Delivery, TooLong, Unread, Whole}
 
--- WHAT IS STILL TO COME, where it is known
+-- WHAT IS STILL TO COME, if it is known
 
--- It said whether another item came: then this is its text, and its content.
+-- It said whether there is another item. If so, this is its text and its content.
 abbrev pub ComesNext : Option Files → Bool → List ℕ → Option (List ℕ) → Option Files → Type 0
 ComesNext None more text content after = after ≡ None
 ComesNext (Some items) true text content after = (octets : List ℕ) × ((rest : Files)
@@ -39,7 +39,7 @@ abbrev pub NoneLeft : Option Files → Type 0
 NoneLeft None = Unit {0}
 NoneLeft (Some items) = items ≡ []
 
--- so many were delivered, and these were left, when the run ended so
+-- this many were delivered, and these were left, when the run ended in this way
 abbrev pub IsEndWith : End → ℕ → Option Files → Type 0
 IsEndWith Done n left = NoneLeft left
 IsEndWith TooMany n left = (n ≡ MOST_DELIVERIES) × (left ≢ Some [])
@@ -54,14 +54,14 @@ pub record AreTold (deliveries : List Delivery) (texts : List (List ℕ)) (answe
   pub same_texts : map (λ (delivery : Delivery). delivery.text) deliveries ≡ texts
   pub same_answers : map (λ (delivery : Delivery). delivery.answer) deliveries ≡ answers
 
--- the deliveries are of the items that were to come, from the first on, when the run ended so
+-- the deliveries are of the items to come, from the first on, when the run ended in this way
 abbrev pub AreBrought : Option Files → List Delivery → End → Type 0
 AreBrought coming deliveries ended = (left : Option Files) × AreOf coming deliveries left
     × IsEndWith ended (length deliveries) left
 
--- HOW OFTEN THE COURIER FAILED AND WAS CALLED
+-- HOW MANY TIMES THE COURIER FAILED AND WAS CALLED
 
--- so many of the answers are that a read failed
+-- the number of answers that report a failed read
 abbrev pub read_failure : Answer → ℕ
 read_failure (Refused Reader) = 1
 read_failure answer = 0
@@ -70,7 +70,7 @@ abbrev pub read_failures : List Answer → ℕ
 read_failures [] = 0
 read_failures (answer ∷ answers) = read_failure answer + read_failures answers
 
--- the failures of the courier that are told: those, and that of its last `next`
+-- the reported failures of the courier: failed reads, and a failure of its last `next`
 abbrev pub courier_failures : List Answer → End → ℕ
 courier_failures answers Courier = read_failures answers + 1
 courier_failures answers ended = read_failures answers

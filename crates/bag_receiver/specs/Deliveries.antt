@@ -1,4 +1,4 @@
--- Deliveries to a transfer, their answers, and the payload files that are held after them.
+-- Deliveries to a transfer, their answers, and the payload files that are held afterwards.
 use Rattle.std.specs.Prelude.{◌≡◌, ◌⊎◌, ◌<◌, ◌≤◌, ◌↔◌, ◌∷◌, ◌++◌, ℕ, List, Option, Some, None, Contains, length}
 use Rattle.std.specs.Map.{keys_of}
 use Rattle.bag_path.specs.Paths.{IsPath, path_fault}
@@ -14,13 +14,13 @@ use Rattle.bag_receiver.specs.declared.answer.Answer.{Answer}
 use Rattle.bag_receiver.specs.declared.answer.Answer.TheVariants.{Taken, Repeated, Refused}
 use Rattle.bag_receiver.specs.declared.answer.DeliverFault.TheVariants.{NoTransfer, BadPath, NotListed, TooLarge, Length, Digest}
 
--- What a delivery brought: this content; more than the limit; or its end wasn't reached.
+-- What a delivery brought: this content; more than the limit; or a part, because its end wasn't reached.
 pub data Content : Type 0 where
   Whole : List ℕ → Content
   TooLong : Content
   Unread : Content
 
--- what was delivered for the path that the text is, and the answer
+-- what was delivered for the path with this text, and the answer
 pub record Delivery : Type 0 where
   pub text : List ℕ
   pub content : Content
@@ -40,7 +40,7 @@ IsAcceptance Taken = Unit {0}
 IsAcceptance Repeated = Unit {0}
 IsAcceptance (Refused fault) = ⊥
 
--- and it was accepted
+-- this content was accepted for the path
 pub record IsAccepted (delivery : Delivery) (path content : List ℕ) : Type 0 where
   pub brings : Brings delivery path content
   pub acceptance : IsAcceptance delivery.answer
@@ -55,12 +55,12 @@ abbrev pub Accepts : List Delivery → List ℕ → List ℕ → Type 0
 Accepts deliveries path content = (delivery : Delivery) × Has deliveries delivery
     × IsAccepted delivery path content
 
--- what was accepted passes
+-- everything that was accepted is valid
 abbrev pub AcceptsPassing : Files → List Delivery → Type 0
 AcceptsPassing tags deliveries = (path content : List ℕ) → Accepts deliveries path content
     → Passes tags path content
 
--- no two different contents that are offered for one path pass all of its listed checks
+-- no two different contents offered for one path are both valid
 abbrev pub HasOneContent : Files → (List ℕ → List ℕ → Type 0) → Type 0
 HasOneContent tags offered = (path content other : List ℕ) → offered path content
     → offered path other → Passes tags path content → Passes tags path other → content ≡ other
@@ -100,13 +100,13 @@ IsTooLong (Whole content) = LARGEST_ITEM < length content
 IsTooLong TooLong = Unit {0}
 IsTooLong Unread = ⊥
 
--- the content is within the limit, and this is the first reason why it isn't the one that is listed
+-- the content is within the limit, and this is the first reason why it isn't the listed one
 abbrev pub IsMisfitIn : Files → List ℕ → Content → WantFault → Type 0
 IsMisfitIn tags path (Whole content) fault = (length content ≤ LARGEST_ITEM)
     × IsMisfit tags path content fault
 IsMisfitIn tags path content fault = ⊥
 
--- the content passes
+-- the content is valid
 abbrev pub PassesIn : Files → List ℕ → Content → Type 0
 PassesIn tags path (Whole content) = Passes tags path content
 PassesIn tags path content = ⊥
@@ -115,8 +115,8 @@ PassesIn tags path content = ⊥
 abbrev pub IsListedPath : Files → List ℕ → Type 0
 IsListedPath tags text = IsPath text × IsExpected tags text
 
--- The answer that is due in a transfer that is there. These cases exclude each other: they stand in the order in which
--- refusals are tested.
+-- The answer that is due in a transfer that exists. The cases exclude each other, and are in the order in which
+-- refusals are checked.
 abbrev pub IsDueIn : Transfer → List ℕ → Content → Answer → Type 0
 IsDueIn transfer text content (Refused (BadPath fault)) = path_fault text ≡ Some fault
 IsDueIn transfer text content (Refused NotListed) = IsPath text × ¬ IsExpected transfer.tags text
@@ -132,8 +132,8 @@ IsDueIn transfer text content Taken = IsListedPath transfer.tags text
     × PassesIn transfer.tags text content × ¬ Contains (keys_of transfer.items) text
 IsDueIn transfer text content (Refused fault) = ⊥
 
--- The answer that is due: that there is no transfer, or the one that is due in it. Where the content wasn't read to its
--- end, only a refusal that needs no content is.
+-- The answer that is due: that there is no transfer, or the one that is due in the transfer. If the end of the content
+-- wasn't reached, only a refusal that doesn't depend on the content is due.
 abbrev pub IsDue : Option Transfer → List ℕ → Content → Answer → Type 0
 IsDue None text content answer = answer ≡ Refused NoTransfer
 IsDue (Some transfer) text content answer = IsDueIn transfer text content answer

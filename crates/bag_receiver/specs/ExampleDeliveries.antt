@@ -1,4 +1,4 @@
--- Deliveries and transfers that several worked cases name.
+-- Deliveries and transfers that several worked examples use.
 use Rattle.std.specs.Prelude.{◌∷◌, [], ℕ, List, codes}
 use Rattle.bag_digest.specs.declared.algorithm.Alg.TheVariants.{Sha256}
 use Rattle.bag_rules.specs.ExampleBags.{file_a, file_e}
@@ -8,7 +8,7 @@ use Rattle.bag_receiver.specs.declared.answer.Answer.TheVariants.{Taken, Repeate
 use Rattle.bag_receiver.specs.declared.answer.DeliverFault.TheVariants.{NotListed, Reader, Digest}
 use Rattle.bag_receiver.specs.Deliveries.{Delivery, Unread, Whole}
 
--- a content that came whole, and its answer
+-- a content that was received completely, and its answer
 abbrev pub delivered : List ℕ → List ℕ → Answer → Delivery
 delivered text content answer = record { text = text; content = Whole content; answer = answer }
 
@@ -18,7 +18,7 @@ abc = codes "abc"
 abbrev pub abd : List ℕ
 abd = codes "abd"
 
--- the second file, and both
+-- the second file, and both files
 abbrev pub only_e : Files
 only_e = (file_e, []) ∷ []
 

@@ -13,7 +13,7 @@ abbrev pub IsFileOf : Ledger → List ℕ → List ℕ → List ℕ → Type 0
 IsFileOf ledger name path octets = (transfer : Transfer) × IsNamed ledger name (Some transfer)
     × Holds (held_bag transfer.tags transfer.items) path octets
 
--- the whole bag of the transfer is there, and no file is begun
+-- the whole bag of the transfer is there, and no file is open
 pub record HasBag (transfer : Transfer) (stored : Stored) : Type 0 where
   pub bag : stored.bag ≡ held_bag transfer.tags transfer.items
   pub none_begun : stored.begun ≡ None
@@ -25,13 +25,13 @@ pub record HasPart (ledger : Ledger) (name : List ℕ) (stored : Stored) : Type 
   pub begun : (file : Begun) → stored.begun ≡ Some file
       → (rest : List ℕ) × IsFileOf ledger name file.path (file.octets ++ rest)
 
--- what a sink holds after it that was empty, and of which it is known what it holds
+-- what a sink holds afterwards, if it was empty before and its content is known
 abbrev pub Becomes : (Stored → Type 0) → Option Stored → Option Stored → Type 0
 Becomes such old new = old ≡ Some nothing_stored → (stored : Stored) × (new ≡ Some stored)
     × such stored
 
--- The bag of the transfer with this name was exported, which has so many files; or part of it, before a fault; or there
--- is no such transfer.
+-- The bag of the transfer with this name was exported, and it has this many files; or part of it was, before a fault;
+-- or there is no such transfer.
 abbrev pub Exports : Ledger → List ℕ → Result ℕ ExportFault → Option Stored → Option Stored
     → Type 0
 Exports ledger name (Ok count) old new = (transfer : Transfer)

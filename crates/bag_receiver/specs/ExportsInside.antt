@@ -1,4 +1,4 @@
--- How a bag is exported, file by file. (These are said of private functions.)
+-- How a bag is exported, file by file. (These definitions describe private functions.)
 use Rattle.std.specs.Prelude.{◌≡◌, ◌⊎◌, ℕ, List, Option}
 use Rattle.std.specs.Map.{keys_of}
 use Rattle.std.specs.Option.{option_map}
@@ -15,7 +15,7 @@ abbrev pub HasItems : {K : Type 0} → (K → Ledger → Type 0) → K → List 
 HasItems holds keeper name files = (ledger : Ledger) × holds keeper ledger
     × (items_of ledger name ≡ files) × AreRising (keys_of files)
 
--- what the sink holds when it has its payload directory
+-- what the sink holds once it has its payload directory
 abbrev pub from_opened : Option Stored → Option Stored
 from_opened known = option_map with_payload_dir known
 
@@ -23,7 +23,7 @@ from_opened known = option_map with_payload_dir known
 abbrev pub IsPartOf : Files → Option Stored → Option Stored → Type 0
 IsPartOf files old new = (new ≡ old) ⊎ ArePart files (from_opened old) new
 
--- a fault of what is met when files are written
+-- a fault that can occur while files are written
 abbrev pub IsMetWriting : ExportFault → Type 0
 IsMetWriting NoTransfer = ⊥
 IsMetWriting fault = Unit {0}

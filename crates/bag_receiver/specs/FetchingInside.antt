@@ -1,4 +1,4 @@
--- What is kept while a transfer's files are fetched.
+-- The state while the files of a transfer are fetched.
 use Rattle.std.specs.Prelude.{◌≡◌, ◌↔◌, ◌++◌, ◌∷◌, [], ℕ, Bool, true, List, Some, length, slice_get, string_bytes}
 use Rattle.std.specs.Map.{keys_of}
 use Rattle.bag_tags.specs.declared.fetch.FetchLine.{FetchLine}
@@ -10,14 +10,14 @@ use Rattle.bag_receiver.specs.declared.fetch.Request.{Request}
 use Rattle.bag_receiver.specs.Names.{IsNamed}
 use Rattle.bag_receiver.specs.Suppliers.{Reaches, Round}
 
--- the marks tell which of the paths are held
+-- the marks say which of the paths are held
 pub record AreMarks (paths : List (List ℕ)) (marks : List Bool) (held : List (List ℕ))
     : Type 0 where
   pub one_each : length marks ≡ length paths
   pub exact : (i : ℕ) (path : List ℕ) → slice_get paths i ≡ Some path
       → (slice_get marks i ≡ Some true) ↔ Has held path
 
--- the request is for this line, and says where its path stands among the paths
+-- the request is for this line, and gives the index of its path among the paths
 pub record IsRequest (paths : List (List ℕ)) (line : FetchLine) (request : Request) : Type 0 where
   pub line_is : request.line ≡ line.line
   pub url_is : string_bytes request.url ≡ line.entry.url
@@ -30,7 +30,7 @@ AreRequests paths (line ∷ lines) [] = ⊥
 AreRequests paths (line ∷ lines) (request ∷ requests) = IsRequest paths line request
     × AreRequests paths lines requests
 
--- these rounds were gone through, and these requests are left
+-- these rounds are done, and these requests are left
 pub record IsUnderWay (ledger : Ledger) (name : List ℕ) (marks : List Bool)
     (left : List Request) (rounds : List Round) : Type 0 where
   pub transfer : Transfer

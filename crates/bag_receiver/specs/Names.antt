@@ -5,18 +5,18 @@ use Rattle.std.specs.List.{list_all}
 use Rattle.bag_ledger.specs.Ledgers.{Ledger, Transfer, transfer_of}
 use Rattle.bag_receiver.specs.declared.name.TheConstants.{LONGEST_NAME}
 
--- a small letter, a digit or `-`
+-- a lowercase letter, a digit or `-`
 abbrev pub is_of_names : ℕ → Bool
 is_of_names octet = is_ascii_lowercase octet || is_ascii_digit octet || octet == 45
 
--- the text is a name: 1 to 64 of them
+-- the text is a valid name: 1 to 64 such octets
 pub record IsTransferName (text : List ℕ) : Type 0 where
   pub some : 0 < length text
   pub within : length text ≤ LONGEST_NAME
   pub octets : list_all is_of_names text ≡ true
 
--- This is the transfer with this name, if there is one. Where the text is no name there is none, whatever the ledger
--- holds: others may have written it.
+-- This is the transfer with this name, if there is one. An invalid name names none, whatever the ledger holds: another
+-- program may have written it.
 pub record IsNamed (ledger : Ledger) (name : List ℕ) (transfer : Option Transfer) : Type 0 where
   pub named : IsTransferName name → transfer ≡ transfer_of ledger name
   pub unnamed : ¬ IsTransferName name → transfer ≡ None

@@ -1,4 +1,4 @@
--- The faults of putting, among those of a delivery.
+-- The faults of `put`, as faults of a delivery.
 use Rattle.bag_ledger.specs.declared.fault.PutFault.{PutFault}
 use Rattle.bag_ledger.specs.declared.fault.PutFault.TheVariants as put
 use Rattle.bag_receiver.specs.declared.answer.DeliverFault.{DeliverFault}

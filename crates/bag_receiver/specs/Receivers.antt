@@ -1,4 +1,4 @@
--- A receiver over any keeper.
+-- A receiver with any keeper.
 use Rattle.std.specs.Prelude.{◌≡◌, ◌⊎◌, ℕ, List, map, string_bytes}
 use Rattle.std.specs.BTreeMap.{BTreeMap}
 use Rattle.std.specs.declared.alloc.Global.{Global}
@@ -21,12 +21,12 @@ module _ {K : Type 0} (holds may_leave : K → Ledger → Type 0) where
     pub left : (crashed : Ledger) → may_leave keeper crashed
         → (crashed ≡ state.held) ⊎ Has state.doubtful crashed
 
-  -- this is what the receiver holds, and its plans are those of the transfers that are there
+  -- this is what the receiver holds, and its plans are those of the transfers that exist
   pub record IsInState (receiver : Receiver K) (state : LedgerState) : Type 0 where
     pub kept : IsKept receiver.keeper state
     pub plans : ArePlansIn state.held (plans_in receiver.plans)
 
--- Where its keeper is clean after the call, the receiver went by such a step from what it held to what it holds.
+-- If its keeper is clean after the call, the receiver went by such a step from what it held to what it holds.
 module _ {K : Type 0} (holds may_leave : K → Ledger → Type 0) (clean : K → Type 0) where
   pub record Does (old new : Receiver K) (step : LedgerState → LedgerState → Type 0) : Type 0 where
     pub was_clean : clean new.keeper → clean old.keeper

@@ -1,4 +1,4 @@
--- What the receiver's own functions find, on which its calls stand.
+-- What the receiver's private functions find.
 use Rattle.std.specs.Prelude.{◌≡◌, ℕ, Bool, true, false, List, Some, None, Result, Ok, Err, MatchResult}
 use Rattle.std.specs.Map.{lookup}
 use Rattle.std.specs.Option.{is_some}
@@ -37,12 +37,12 @@ pub record IsPlaceIn (ledger : Ledger) (name text : List ℕ) (place : Place) : 
   pub wanted : IsWantOf transfer.tags text place.want
   pub held : is_some (content_of ledger name text) ≡ place.is_held
 
--- the fault is answered to what was delivered for this text, whatever its content is, and nothing changes
+-- the fault is the answer to what was delivered for this text, whatever its content is, and nothing changes
 abbrev pub RefusesAny : List ℕ → List ℕ → LedgerState → DeliverFault → Type 0
 RefusesAny name text now fault = (content : Content)
     → DeliveryStep name (delivery_of text content (Refused fault)) now now
 
--- what a call answers that takes or refuses
+-- the answer of a call that takes or refuses
 abbrev pub answer_of : Result Answer DeliverFault → Answer
 answer_of (Ok answer) = answer
 answer_of (Err fault) = Refused fault
@@ -61,7 +61,7 @@ IsNoPlan NoTransfer = Unit {0}
 IsNoPlan (Keeper fault) = Unit {0}
 IsNoPlan fault = ⊥
 
--- the text is no path, for this reason; or memory is wanting
+-- the text is no valid path, for this reason; or memory ran out
 abbrev pub RefusesText : List ℕ → DeliverFault → Type 0
 RefusesText text (BadPath fault) = path_fault text ≡ Some fault
 RefusesText text (Keeper fault) = fault ≡ Memory

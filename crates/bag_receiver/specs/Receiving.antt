@@ -1,4 +1,4 @@
--- What is held of all transfers, and what comes of it by what is given to a receiver.
+-- What is held of all transfers, and how calls of a receiver change it.
 use Rattle.std.specs.Prelude.{◌≡◌, ◌≢◌, ◌⊎◌, ◌≤◌, ◌∷◌, [], ℕ, List, Option, Some, length, map}
 use Rattle.std.specs.Map.{keys_of, lookup}
 use Rattle.std.specs.Str.{bytes_eq}
@@ -20,7 +20,7 @@ use Rattle.bag_receiver.specs.Stops.{Answered, Event, Steps, StopStep, TransferS
 
 -- WHAT IS HELD
 
--- What is held of all transfers: the ledger, and those that a crash may leave in its place.
+-- What is held of all transfers: the ledger, and the ledgers that a crash may leave in its place.
 pub record LedgerState : Type 0 where
   pub held : Ledger
   pub doubtful : List Ledger
@@ -28,11 +28,11 @@ pub record LedgerState : Type 0 where
 abbrev pub ledger_state : Ledger → List Ledger → LedgerState
 ledger_state held doubtful = record { held = held; doubtful = doubtful }
 
--- nothing but this ledger is left by a crash
+-- a crash leaves this ledger and no other
 abbrev pub settled : Ledger → LedgerState
 settled held = ledger_state held []
 
--- one ledger more that a crash may leave
+-- one more ledger that a crash may leave
 abbrev pub with_doubtful_ledger : LedgerState → Ledger → LedgerState
 with_doubtful_ledger old ledger = record old { doubtful = ledger ∷ old.doubtful }
 
@@ -43,18 +43,18 @@ ArePlansIn ledger plans = (name : List ℕ) (plan : Plan) → lookup (bytes_eq n
 
 -- ONE DELIVERY
 
--- what a reader brought that stood so before, and stands so after
+-- what a reader in this state before and this state after has given
 abbrev pub Brought : Option (List ℕ) → Option (List ℕ) → Content → Type 0
 Brought old new (Whole content) = GaveAll old new LARGEST_ITEM content
 Brought old new TooLong = GaveMoreThan old new LARGEST_ITEM
 Brought old new Unread = GaveWithin old new LARGEST_ITEM
 
--- the content came whole, and is within the limit
+-- the content was received completely and is within the limit
 abbrev pub IsWithin : Content → Type 0
 IsWithin (Whole content) = length content ≤ LARGEST_ITEM
 IsWithin content = ⊥
 
--- what an answer says of the text and the content alone
+-- what an answer says about the text and the content alone
 abbrev pub Judges : Answer → List ℕ → Content → Type 0
 Judges (Refused NoTransfer) text content = Unit {0}
 Judges (Refused (Keeper fault)) text content = Unit {0}
@@ -64,7 +64,7 @@ Judges (Refused Reader) text content = IsPath text × (content ≡ Unread)
 Judges (Refused TooLarge) text content = IsPath text × IsTooLong content
 Judges answer text content = IsPath text × IsWithin content
 
--- What holds of an answer, whatever is kept: where the name is none, it is that there is no transfer.
+-- What is true of an answer, whatever is held: an invalid name is answered with `NoTransfer`.
 pub record IsAnswer (name : List ℕ) (delivery : Delivery) : Type 0 where
   pub unnamed : ¬ IsTransferName name → delivery.answer ≡ Refused NoTransfer
   pub judges : Judges delivery.answer delivery.text delivery.content
@@ -74,7 +74,7 @@ abbrev pub IsDueTo : List ℕ → Ledger → Delivery → Answer → Type 0
 IsDueTo name ledger delivery answer = (transfer : Option Transfer) × IsNamed ledger name transfer
     × IsDue transfer delivery.text delivery.content answer
 
--- the delivery is to be taken, and this ledger is the one that it makes
+-- the delivery is to be taken, and results in this ledger
 abbrev pub Adds : List ℕ → Ledger → Delivery → Ledger → Type 0
 Adds name old delivery new = (content : List ℕ) × (delivery.content ≡ Whole content)
     × IsDueTo name old delivery Taken × (new ≡ with_item old name delivery.text content)
@@ -88,8 +88,8 @@ IsListedIn ledger name text = (transfer : Transfer) × IsNamed ledger name (Some
 abbrev pub IsUnread : List ℕ → Ledger → Delivery → Type 0
 IsUnread name ledger delivery = (delivery.content ≡ Unread) × IsListedIn ledger name delivery.text
 
--- What a delivery makes of what is held, by its answer: the one that is due, or that a read failed, or that the keeper
--- has none. What is taken is held for sure.
+-- How a delivery changes what is held, by its answer: the one that is due, or that a read failed, or that the keeper
+-- has no answer. What is taken is held for certain.
 abbrev pub StepBy : Answer → List ℕ → Delivery → LedgerState → LedgerState → Type 0
 StepBy Taken name delivery old new = Adds name old.held delivery new.held × (new.doubtful ≡ [])
 StepBy (Refused Reader) name delivery old new = IsUnread name old.held delivery × (new ≡ old)
@@ -110,7 +110,7 @@ DeliverySteps name (delivery ∷ deliveries) old new = (next : LedgerState)
 -- ONE TRANSFER
 
 -- The transfer with this name has these tag files and holds these payload files, and a crash may leave one of the
--- doubtful ones beside them.
+-- doubtful files in addition.
 pub record HasTransfer (state : LedgerState) (name : List ℕ) (tags : Files) (files : TransferState)
     : Type 0 where
   pub there : transfer_of state.held name ≡ Some (record { tags = tags; items = files.held })
@@ -118,7 +118,7 @@ pub record HasTransfer (state : LedgerState) (name : List ℕ) (tags : Files) (f
       × (transfer_of crashed name ≡ Some (record { tags = tags; items = items }))
       × StopStep tags files (record { held = items; doubtful = [] })
 
--- this happened to the transfer with this name since it was opened with these tag files
+-- these events happened to the transfer with this name since it was opened with these tag files
 abbrev pub Happened : LedgerState → List ℕ → Files → List Event → Type 0
 Happened state name tags events = (now : TransferState) × Steps tags events nothing_held now
     × HasTransfer state name tags now
@@ -128,7 +128,7 @@ abbrev pub IsHeldIn : LedgerState → List ℕ → Files → Files → Type 0
 IsHeldIn state name tags items =
     transfer_of state.held name ≡ Some (record { tags = tags; items = items })
 
--- other transfers are as they were, and a crash leaves of each what it could leave before
+-- other transfers are unchanged, and a crash leaves of each of them what it could leave before
 pub record LeavesOthers (name : List ℕ) (old new : LedgerState) : Type 0 where
   pub same : (other : List ℕ) → other ≢ name
       → transfer_of new.held other ≡ transfer_of old.held other
@@ -136,8 +136,8 @@ pub record LeavesOthers (name : List ℕ) (old new : LedgerState) : Type 0 where
       → (before : Ledger) × Has (old.held ∷ old.doubtful) before
       × (transfer_of crashed other ≡ transfer_of before other)
 
--- These deliveries came to the transfer with this name, and nothing else happened: it went on from what it held, and
--- holds for each path that it didn't hold the content of the first accepted delivery.
+-- These deliveries were made to the transfer with this name, and nothing else happened: the transfer went on from what
+-- it held, and for each path that it didn't hold, it holds the content of the first accepted delivery.
 pub record Receives (name : List ℕ) (deliveries : List Delivery) (old new : LedgerState)
     : Type 0 where
   pub steps : DeliverySteps name deliveries old new

@@ -12,12 +12,12 @@ use Rattle.bag_rules.specs.Verdicts.{IsVerdict}
 use Rattle.bag_ledger.specs.Ledgers.{Ledger, Transfer}
 use Rattle.bag_receiver.specs.Names.{IsNamed}
 
--- The report has the faults of the bag of these tag files and payload files, and no others; so it says valid or
--- complete exactly where that bag is (RFC 8493 section 3).
+-- The report has exactly the faults of the bag with these tag files and payload files; so it says valid or complete
+-- exactly if that bag is (RFC 8493 section 3).
 pub record IsReportOf (tags items : Files) (report : Report) : Type 0 where
   pub faults : IsVerdict (held_bag tags items) (Judged report)
   pub means : Means (held_bag tags items) (Judged report)
-  -- which are payload files that are missing, and a wrong Oxum
+  -- the faults are missing payload files and a wrong Oxum
   pub mended : (fault : Fault) → Has report fault → MayBeMended fault
 
 -- it is that of the transfer with this name

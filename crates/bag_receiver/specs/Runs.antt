@@ -1,4 +1,4 @@
--- Runs of deliveries, and couriers that bring them.
+-- Runs of deliveries, and of deliveries from couriers.
 use Rattle.std.specs.Prelude.{◌≡◌, ◌≢◌, ◌⊎◌, ◌<◌, ◌≤◌, ◌+◌, ◌∷◌, [], ℕ, List}
 use Rattle.std.specs.List.{AllByRecursion}
 use Rattle.bag_digest.specs.Device.{greatest_count}
@@ -16,9 +16,9 @@ use Rattle.bag_receiver.specs.Deliveries.{Delivery, Whole, delivery_of}
 use Rattle.bag_receiver.specs.Receivers.{Does}
 use Rattle.bag_receiver.specs.Receiving.{IsAnswer, Receives}
 
--- DELIVERIES ONE AFTER ANOTHER
+-- DELIVERIES IN SEQUENCE
 
--- so many of the answers are that the store failed
+-- the number of answers that report a failure of the store
 abbrev pub store_failure : Answer → ℕ
 store_failure (Refused (Keeper (Store fault))) = 1
 store_failure answer = 0
@@ -27,13 +27,13 @@ abbrev pub store_failures : List Delivery → ℕ
 store_failures [] = 0
 store_failures (delivery ∷ deliveries) = store_failure delivery.answer + store_failures deliveries
 
--- a count rose by so many at least, or stands at the greatest number; by none it stays
+-- a count rose by at least this number, or is at its maximum; if the number is 0, it didn't change
 pub record CountsAtLeast (n old new : ℕ) : Type 0 where
   pub stays : n ≡ 0 → new ≡ old
   pub rises : (old + n ≤ new) ⊎ (greatest_count ≤ new)
 
--- These deliveries came to the transfer with this name and had these answers; the store failed where an answer says so,
--- and nowhere else.
+-- These deliveries were made to the transfer with this name and had these answers. The store failed where an answer
+-- says so, and nowhere else.
 pub record Runs {K : Type 0} (holds may_leave : K → Ledger → Type 0) (clean : K → Type 0)
     (failures : K → ℕ) (old new : Receiver K) (name : List ℕ) (deliveries : List Delivery)
     : Type 0 where
@@ -50,7 +50,7 @@ with_answers items [] = []
 with_answers ((text, content) ∷ items) (answer ∷ answers) =
     delivery_of text (Whole content) answer ∷ with_answers items answers
 
--- so many of them were delivered when the run ended so
+-- this many of them were delivered when the run ended in this way
 abbrev pub IsEndOf : End → ℕ → ℕ → Type 0
 IsEndOf Done n all = n ≡ all
 IsEndOf TooMany n all = (n ≡ MOST_DELIVERIES) × (n < all)

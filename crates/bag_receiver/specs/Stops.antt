@@ -1,4 +1,4 @@
--- Deliveries that stops cut: a crash, or the end of the program, after which the ledger is opened again.
+-- Deliveries that are cut by stops: a crash or the end of the program, after which the ledger is opened again.
 use Rattle.std.specs.Prelude.{◌≡◌, ◌⊎◌, ◌∷◌, [], List, ℕ, Contains}
 use Rattle.std.specs.Map.{keys_of}
 use Rattle.std.specs.BTreeMap.{insert_entry}
@@ -14,7 +14,7 @@ use Rattle.bag_receiver.specs.Deliveries.{Brings, Content, Delivery, PassesIn, W
 
 -- what happens to a transfer
 pub data Event : Type 0 where
-  -- a delivery had its answer
+  -- a delivery was answered
   Answered : Delivery → Event
   -- a stop came before the answer to this content for this path
   Cut : List ℕ → Content → Event
@@ -27,7 +27,7 @@ BringsAt (Answered delivery) path content = Brings delivery path content
 BringsAt (Cut text brought) path content = (text ≡ path) × (brought ≡ Whole content)
 BringsAt Stop path content = ⊥
 
--- some event did
+-- some event brought this content for the path
 abbrev pub OffersIn : List Event → List ℕ → List ℕ → Type 0
 OffersIn events path content = (event : Event) × Has events event × BringsAt event path content
 
@@ -39,27 +39,28 @@ pub record TransferState : Type 0 where
 abbrev pub transfer_state : Files → Files → TransferState
 transfer_state held doubtful = record { held = held; doubtful = doubtful }
 
--- nothing is held, and nothing doubtful
+-- nothing is held, and nothing is doubtful
 abbrev pub nothing_held : TransferState
 nothing_held = transfer_state [] []
 
--- one file more
+-- a file is added
 abbrev pub with_file : Files → List ℕ → List ℕ → Files
 with_file held path content = insert_entry (slice_cmp nat_cmp) held path content
 
--- a content that came whole is doubtful
+-- a content that was received completely is doubtful
 abbrev pub with_doubtful_file : TransferState → List ℕ → Content → TransferState
 with_doubtful_file old path (Whole content) =
     record old { doubtful = (path, content) ∷ old.doubtful }
 with_doubtful_file old path content = old
 
--- The content passes, and the path isn't held: it becomes that of a file more.
+-- The content is valid, and the path isn't held. The file is added.
 pub record Gains (tags held : Files) (path content : List ℕ) (new : Files) : Type 0 where
   pub passes : Passes tags path content
   pub not_held : ¬ Contains (keys_of held) path
   pub becomes : new ≡ with_file held path content
 
--- What an answer says of what is held. What was taken is held for sure, and what was doubtful before it is not held.
+-- What an answer says about what is held. What was taken is held for certain, and what was doubtful before it isn't
+-- held.
 abbrev pub AnswerStep : Files → List ℕ → Content → Answer → TransferState → TransferState → Type 0
 AnswerStep tags path content Taken old new = (octets : List ℕ) × (content ≡ Whole octets)
     × Gains tags old.held path octets new.held × (new.doubtful ≡ [])
@@ -69,7 +70,8 @@ AnswerStep tags path content (Refused (Keeper fault)) old new =
     new ≡ with_doubtful_file old path content
 AnswerStep tags path content (Refused fault) old new = new ≡ old
 
--- after a stop one of the doubtful files may be held, if it passes and its path wasn't, and none is doubtful
+-- after a stop one of the doubtful files may be held, if it is valid and its path wasn't held; nothing is doubtful any
+-- more
 pub record StopStep (tags : Files) (old new : TransferState) : Type 0 where
   pub settled : new.doubtful ≡ []
   pub held : (new.held ≡ old.held)
@@ -82,13 +84,13 @@ Step tags (Answered delivery) old new =
 Step tags (Cut path content) old new = new ≡ with_doubtful_file old path content
 Step tags Stop old new = StopStep tags old new
 
--- what happened leads from the one to the other
+-- these events lead from the one state to the other
 abbrev pub Steps : Files → List Event → TransferState → TransferState → Type 0
 Steps tags [] old new = new ≡ old
 Steps tags (event ∷ events) old new = (next : TransferState) × Step tags event old next
     × Steps tags events next new
 
--- these files are held by a transfer with these tag files, to which this happened since it was opened
+-- these files are held by a transfer with these tag files after these events since it was opened
 abbrev pub StopRun : Files → List Event → Files → Type 0
 StopRun tags events held = (doubtful : Files)
     × Steps tags events nothing_held (transfer_state held doubtful)

@@ -16,13 +16,13 @@ use Rattle.bag_receiver.specs.Couriers.{IsOf}
 use Rattle.bag_receiver.specs.Deliveries.{Content, Delivery, delivery_of}
 use Rattle.bag_receiver.specs.Names.{IsNamed}
 
--- WHAT A SUPPLIER HAS, where that is known
+-- WHAT A SUPPLIER HAS, if it is known
 
 -- the content for a url and a path, if there is one
 abbrev pub Supply : Type 0
 Supply = List ℕ → List ℕ → Option (List ℕ)
 
--- it said whether it has what it was asked for: then this is the content
+-- it said whether it has what it was asked for; if so, this is the content
 abbrev pub IsSupplied : Option Supply → List ℕ → List ℕ → Bool → Option (List ℕ) → Type 0
 IsSupplied None url path has content = Unit {0}
 IsSupplied (Some supply) url path true content = (octets : List ℕ)
@@ -31,13 +31,13 @@ IsSupplied (Some supply) url path false content = supply url path ≡ None
 
 -- ONE ENTRY
 
--- what came of asking
+-- the result of asking
 pub data Reply : Type 0 where
   -- the supplier doesn't have it
   Without : Reply
   -- it failed
   Failing : Reply
-  -- what it brought was delivered, and had this answer
+  -- what it supplied was delivered, and had this answer
   Delivered : Content → Answer → Reply
 
 -- an entry of `fetch.txt` that was asked for
@@ -67,7 +67,7 @@ IsReply (Some supply) url path (Delivered content answer) = (octets : List ℕ)
 abbrev pub IsGotFrom : Option Supply → Round → Type 0
 IsGotFrom supply round = IsReply supply round.url round.path round.reply
 
--- the delivery that was made, if one was
+-- the delivery that was made, if there was one
 abbrev pub delivery_by : List ℕ → Reply → List Delivery
 delivery_by path (Delivered content answer) = delivery_of path content answer ∷ []
 delivery_by path reply = []
@@ -84,13 +84,12 @@ pub record IsFor (line : FetchLine) (round : Round) : Type 0 where
   pub url_is : round.url ≡ line.entry.url
   pub path_is : round.path ≡ line.entry.path
 
--- the paths that are held once this was answered for a path
+-- the paths that are held after this outcome for a path
 abbrev pub held_after : FetchAnswer → List ℕ → List (List ℕ) → List (List ℕ)
 held_after Taken path held = path ∷ held
 held_after answer path held = held
 
--- Each line whose path isn't held when it is reached has its round, in their order, and no other
--- has one.
+-- Exactly the lines whose path isn't held when they are reached have a round, in order.
 abbrev pub Reaches : List (List ℕ) → List FetchLine → List Round → Type 0
 Reaches held [] rounds = rounds ≡ []
 Reaches held (line ∷ lines) rounds = (Has held line.entry.path × Reaches held lines rounds)
@@ -98,14 +97,13 @@ Reaches held (line ∷ lines) rounds = (Has held line.entry.path × Reaches held
     × (rounds ≡ round ∷ rest) × IsFor line round
     × Reaches (held_after (told round.reply) round.path held) lines rest))
 
--- the lines are those of `fetch.txt` of the transfer with this name, and what is held first is what
--- it holds
+-- the lines are those of the `fetch.txt` of the transfer with this name, and what is held at first is what it holds
 abbrev pub AreReached : Ledger → List ℕ → List Round → Type 0
 AreReached ledger name rounds = (transfer : Transfer) × IsNamed ledger name (Some transfer)
     × ((lines : List FetchLine) × AreFetchLines transfer.tags lines
     × Reaches (keys_of transfer.items) lines rounds)
 
--- so many of the outcomes are that the supplier failed
+-- the number of outcomes that report a failure of the supplier
 abbrev pub supplier_failure : FetchAnswer → ℕ
 supplier_failure SupplierFailed = 1
 supplier_failure (Refused Reader) = 1
@@ -116,6 +114,6 @@ supplier_failures [] = 0
 supplier_failures (outcome ∷ outcomes) =
     supplier_failure outcome.answer + supplier_failures outcomes
 
--- `ask` was called so often; the count stays at the greatest number
+-- `ask` was called this many times; the count saturates
 abbrev pub AsksEach : ℕ → ℕ → ℕ → Type 0
 AsksEach n old new = min new greatest_count ≡ min (old + n) greatest_count

@@ -1,28 +1,29 @@
-//! What a delivery is answered.
+//! Answers to deliveries.
 use bag_digest::Alg;
 use bag_ledger::{KeepFault, PutFault};
 use bag_path::PathFault;
 use thiserror::Error;
 
-/// What a delivery is answered.
+/// The answer to a delivery.
 #[derive(Clone, Copy, Debug, PartialEq, Eq)]
 pub enum Answer {
-    /// The content passes, and is held from now on.
+    /// The content is valid, and is held from now on.
     Taken,
-    /// The content passes, and the path is held already. What is held stays.
+    /// The content is valid, but the path is already held. What is held is kept.
     Repeated,
     /// The content isn't taken, and nothing changes.
     Refused(DeliverFault),
 }
 
-/// Why a delivery is refused. Of those that hold the first in this order is answered, but of `Reader` and `TooLarge`
-/// the one that comes first in the stream; `Keeper` may come in place of any answer that needs what is kept or memory.
+/// Why a delivery is refused. If several reasons apply, the first in this order is reported, but of `Reader` and
+/// `TooLarge` the one that occurs first in the stream. `Keeper` may be reported in place of any answer that needs the
+/// store or memory.
 #[derive(Clone, Copy, Debug, PartialEq, Eq, Error)]
 pub enum DeliverFault {
-    /// No transfer has this name, or the text is no name.
+    /// No transfer has this name, or the name is invalid.
     #[error("no transfer")]
     NoTransfer,
-    /// The text is no path, for this reason.
+    /// The path is invalid, for this reason.
     #[error("path")]
     BadPath(PathFault),
     /// No payload manifest of the transfer lists the path (RFC 8493 section 2.1.3).
@@ -37,10 +38,10 @@ pub enum DeliverFault {
     /// A line of `fetch.txt` gives the file another length (section 2.2.3).
     #[error("length")]
     Length,
-    /// A payload manifest lists another digest for the file: the first such algorithm.
+    /// A payload manifest lists another digest for the file. This is the first such algorithm.
     #[error("digest")]
     Digest(Alg),
-    /// What keeps the transfers has no answer, or memory ran out.
+    /// The store of the transfers has no answer, or memory ran out.
     #[error("keeper")]
     Keeper(KeepFault),
 }

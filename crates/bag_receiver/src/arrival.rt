@@ -1,5 +1,5 @@
-//! Laws on transfers that are opened with the tag files of a written bag. Each function's contract is one law, and its body is
-//! empty.
+//! Laws on transfers that are opened with the tag files of a written bag. Each function's contract is one law, and its
+//! body is empty.
 ghost use Rattle.std.specs.Prelude.{◌≡◌, [], ℕ, List, map};
 ghost use Rattle.bag_rules.specs.Bags.{Bag};
 ghost use Rattle.bag_rules.specs.Files.{Files};
@@ -15,8 +15,9 @@ ghost use Rattle.bag_receiver.specs.Receiving.{Happened, IsHeldIn, LedgerState};
 ghost use Rattle.bag_receiver.specs.Reports.{IsReportOf};
 ghost use Rattle.bag_receiver.specs.Stops.{Answered, Event, OffersIn};
 
-/// After deliveries with repeats and in any order, by which each file of the payload was offered and each path accepted, the
-/// transfer holds the payload, provided that no two different contents that were offered for one path pass.
+/// After deliveries in any order and with repeats in which each file of the payload was offered and some content was
+/// accepted for each path, the transfer holds the payload, provided that no two different contents offered for one path
+/// are valid.
 pub fn a_written_bag_arrives()
     ensures { (spec : Spec) (payload : Files) (deliveries : List Delivery) (now : LedgerState)
         (name : List ℕ) → IsPayloadFor spec payload → AreWithin payload
@@ -25,7 +26,7 @@ pub fn a_written_bag_arrives()
         → IsHeldIn now name (tag_files spec payload) payload }
 {}
 
-/// And so it does where stops came between.
+/// The same holds if there were stops in between.
 pub fn a_written_bag_arrives_whatever_stops()
     ensures { (spec : Spec) (payload : Files) (events : List Event) (now : LedgerState)
         (name : List ℕ) → IsPayloadFor spec payload → AreWithin payload
@@ -46,7 +47,7 @@ pub fn a_bag_that_arrived_is_the_written_bag_filled()
         → held_bag (tag_files spec payload) payload ≡ bag }
 {}
 
-/// And its report has no fault.
+/// Its report has no faults.
 pub fn a_bag_that_arrived_is_reported_valid()
     ensures { (spec : Spec) (payload : Files) (report : Report) → IsPayloadFor spec payload
         → AreWithin payload → IsReportOf (tag_files spec payload) payload report → report ≡ [] }

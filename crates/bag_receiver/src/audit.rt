@@ -1,4 +1,4 @@
-//! Audits: what is wrong with the bag of a transfer, by all that is held of it, read again.
+//! Audits: reports on the bag of a transfer after everything that is held of it was read again.
 ghost use Rattle.std.specs.Prelude.{◌≡◌, ◌↔◌, ◌<◌, ℕ, List, None, IfOk, IsErrOf, IsTrue, MatchResult, length, map};
 ghost use Rattle.bag_digest.specs.Device.{CountsIf};
 ghost use Rattle.bag_rules.specs.Files.{Files};
@@ -28,8 +28,8 @@ use bag_rules::{ItemSize, Plan, Report, Want};
 use std::alloc::Global;
 
 impl<K: Keeper> Receiver<K> {
-    /// What is wrong with the bag of the transfer, as [`report`](Receiver::report) says it; but all payload files that
-    /// are held are read and hashed again. One that isn't the listed one any more is told as missing.
+    /// What is wrong with the bag of the transfer, as in [`report`](Receiver::report), but all payload files that are
+    /// held are read and hashed again. A file that isn't the listed one any more is reported as missing.
     ///
     /// # Errors
     ///
@@ -40,17 +40,16 @@ impl<K: Keeper> Receiver<K> {
             → IsInState K.holds K.may_leave self.old now
             → MatchResult result (Reports now.held name.now)
             (λ fault. fault ≡ ViewFault.NoTransfer → IsNamed now.held name.now None) }
-        // A text that is no name names no transfer, whatever the store would answer.
+        // An invalid name names no transfer, whatever the store would answer.
         ensures judged { ¬ IsTransferName name.now → IsErrOf result ViewFault.NoTransfer }
-        // After a transfer was opened, for any list of deliveries with losses, repeats and reorderings, as for a
-        // report.
+        // After a transfer was opened, for any list of deliveries with losses, repeats and reordering, as for a report.
         ensures headline { K.clean self.new.keeper → (now : LedgerState)
             → IsInState K.holds K.may_leave self.old now
             → (tags : Files) (deliveries : List Delivery)
             → Happened now name.now tags (map Answered deliveries) → OneContent tags deliveries
             → IfOk result (λ report. (held : Files) × AreAccepted deliveries held
             × IsReportOf tags held report) }
-        // And whatever happened since, stops too.
+        // The same for everything that happened since then, including stops.
         ensures stopped { K.clean self.new.keeper → (now : LedgerState)
             → IsInState K.holds K.may_leave self.old now
             → (tags : Files) (events : List Event)
@@ -73,7 +72,7 @@ impl<K: Keeper> Receiver<K> {
     }
 }
 
-/// The payload files that the transfer holds and that pass when they are read again, by path.
+/// The payload files that the transfer holds and that are valid when they are read again, by path.
 fn passing_sizes<K: Keeper>(
     keeper: &mut K,
     alloc: Global,
@@ -101,7 +100,7 @@ fn passing_sizes<K: Keeper>(
     Ok(passing)
 }
 
-/// Whether what is held at this path passes when it is read again.
+/// Whether the payload file held at this path is valid when it is read again.
 fn passes<K: Keeper>(
     keeper: &mut K,
     alloc: Global,
@@ -128,7 +127,7 @@ fn passes<K: Keeper>(
     }
 }
 
-/// Whether the payload file of so many octets that is held at the wanted path is the wanted one. It is read to its
+/// Whether the payload file held at the wanted path, which has this many octets, is the wanted one. It is read to its
 /// end.
 fn is_wanted<K: Keeper>(
     keeper: &mut K,

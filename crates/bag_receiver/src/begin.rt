@@ -1,4 +1,4 @@
-//! How a transfer is begun.
+//! Opening a transfer.
 ghost use Rattle.std.specs.Prelude.{◌≡◌, ◌≢◌, ◌⊎◌, ◌↔◌, ◌<◌, List, ℕ, IfErr, IfOk, IsErrOf, IsTrue, MatchOption, MatchResult, OnOk, length, string_bytes};
 ghost use Rattle.bag_digest.specs.Device.{CountsIf};
 ghost use Rattle.bag_rules.specs.declared.limits.TheConstants.{LARGEST_TAG_FILE};
@@ -21,44 +21,45 @@ use bag_rules::{Fault, OutsideCause, Plan, PlanFault, TagSet, TagSetFault};
 use std::alloc::Global;
 use thiserror::Error;
 
-/// What a begun transfer is.
+/// How a transfer was begun.
 #[derive(Clone, Copy, Debug, PartialEq, Eq)]
 pub enum Begun {
-    /// The transfer is open from now on, and holds no payload file.
+    /// The transfer is open from now on, and holds no payload files.
     New,
-    /// It was opened before with these tag files. It stays as it is.
+    /// It was opened before with the same tag files. It is unchanged.
     Again,
 }
 
-/// Why no transfer was opened. Of those that hold the first in this order is answered; `Keeper` may come in place of
-/// any that needs what is kept or memory.
+/// Why no transfer was opened. If several reasons apply, the first in this order is reported. `Keeper` may be reported
+/// in place of any that needs the store or memory.
 #[derive(Debug, Drop, Error)]
 pub enum BeginFault {
-    /// The text is no name of a transfer: 1 to 64 octets, each a small letter of ASCII, a digit or `-`.
+    /// The text isn't a valid name: 1 to 64 octets, each a lowercase ASCII letter, a digit or `-`.
     #[error("name")]
     BadName,
-    /// The path of the file with this number, counted from 0, is no path, a payload path, or that of a file before it:
-    /// the first such file.
+    /// The path of the file at this index, counted from 0, is invalid, is a payload path, or is the path of an earlier
+    /// file. This is the first such file.
     #[error("tag path")]
     TagPath(usize),
     /// The file at this path has more than 16,777,216 octets, or it is a manifest or `fetch.txt` and has more than
-    /// 100,000 lines: the first such file by path.
+    /// 100,000 lines. This is the first such file by path.
     #[error("tag too large")]
     TagTooLarge(BagPath),
-    /// The bag can't be judged here, for this reason, which is not to say that it is invalid.
+    /// The bag can't be judged here, for this reason. This doesn't mean that it is invalid.
     #[error("outside")]
     Outside(OutsideCause),
-    /// The tag files have a fault that no payload file can mend: the first such fault in the order of a report.
+    /// The tag files have a fault that no payload file can remedy. This is the first such fault in the order of a
+    /// report.
     #[error("a fault of the tag files")]
     Rules(Fault),
-    /// The path of a tag file or of a listed payload file is that of a folder in which another one is: the first such
+    /// The path of a tag file or of a listed payload file is also the folder of another one. This is the first such
     /// path.
     #[error("clash")]
     Clash(BagPath),
-    /// The transfer was opened with other tag files. It stays as it is.
+    /// The transfer was opened before with other tag files. It is unchanged.
     #[error("differs")]
     Differs,
-    /// What keeps the transfers has no answer, or memory ran out.
+    /// The store of the transfers has no answer, or memory ran out.
     #[error("keeper")]
     Keeper(KeepFault),
 }
@@ -91,7 +92,7 @@ impl From<PlanFault> for BeginFault {
     }
 }
 
-/// The tag files that these are, and their plan.
+/// The files as tag files, and their plan.
 pub(crate) fn open(alloc: Global, files: &[(String, Vec<u8>)]) -> Result<(TagSet, Plan), BeginFault>
     ensures taken { IfOk result (λ opened. AreTaken (given_in files.now) opened.0
         × IsPlanOf opened.0 opened.1) }
@@ -111,8 +112,8 @@ pub(crate) fn open(alloc: Global, files: &[(String, Vec<u8>)]) -> Result<(TagSet
     }
 }
 
-/// What is told where this is the least path of a file that has too many octets, and this the fault of the tag files
-/// without such octets.
+/// The fault to report, given the first path of a file with too many octets and the fault of the tag files with such
+/// files emptied.
 fn first_refusal(alloc: Global, heavy: &str, fault: PlanFault) -> BeginFault
     ensures { (given : Files) → NoneMisplaced given → IsFirstPath (IsHeavyAt given) heavy.now
         → Refuses (light_tags given) fault → IsRefusal given result }
@@ -130,7 +131,7 @@ fn first_refusal(alloc: Global, heavy: &str, fault: PlanFault) -> BeginFault
     }
 }
 
-/// That the file with this path is too large, unless memory ran out.
+/// The fault that the file with this path is too large, unless memory runs out.
 fn too_large(alloc: Global, path: &str) -> BeginFault
     ensures { (result ≡ BeginFault.Keeper KeepFault.Memory)
         ⊎ (result ≡ BeginFault.TagTooLarge path.now) }
@@ -141,7 +142,7 @@ fn too_large(alloc: Global, path: &str) -> BeginFault
     }
 }
 
-/// The least path of a file that has too many octets.
+/// The first path of a file with too many octets.
 fn first_heavy(files: &[(String, Vec<u8>)]) -> Option<&str>
     ensures { MatchOption result ((path : List ℕ) → ¬ IsHeavyAt (given_in files.now) path)
         (λ path. IsFirstPath (IsHeavyAt (given_in files.now)) path.now) }
@@ -173,8 +174,8 @@ fn lesser<'a>(old: &'a str, path: &'a str) -> &'a str
     if old <= path { old } else { path }
 }
 
-/// The files as tag files; those that have too many octets, empty, so that a path that is given twice is found whatever
-/// stands there.
+/// The files as tag files. Those with too many octets are empty, so that a repeated path is found whatever the content
+/// is.
 fn placed(alloc: Global, files: &[(String, Vec<u8>)]) -> Result<TagSet, BeginFault>
     ensures placed { IfOk result (λ tags. NoneMisplaced (given_in files.now)
         × (tags ≡ light_tags (given_in files.now))) }
@@ -189,7 +190,7 @@ fn placed(alloc: Global, files: &[(String, Vec<u8>)]) -> Result<TagSet, BeginFau
     Ok(tags)
 }
 
-/// Why the file with this number has no place.
+/// Why the file at this index isn't a tag file.
 fn fault_at(i: usize, fault: TagSetFault) -> BeginFault
     ensures { (result ≡ BeginFault.Keeper KeepFault.Memory)
         ⊎ ((fault ≢ TagSetFault.Memory) × (result ≡ BeginFault.TagPath i)) }
@@ -200,7 +201,7 @@ fn fault_at(i: usize, fault: TagSetFault) -> BeginFault
     }
 }
 
-/// Puts the file among the tag files; one that has too many octets, empty.
+/// Adds the file to the tag files. A file with too many octets is added empty.
 fn place(alloc: Global, tags: &mut TagSet, file: &(String, Vec<u8>)) -> Result<(), TagSetFault>
     ensures placed { OnOk result (IsPlaced tags.old (string_bytes file.now.0)
         × (tags.new ≡ with_file tags.old (string_bytes file.now.0) (emptied file.now.1.items))) }
@@ -212,7 +213,7 @@ fn place(alloc: Global, tags: &mut TagSet, file: &(String, Vec<u8>)) -> Result<(
     tags.add(path, body)
 }
 
-/// The octets, but none in the place of too many.
+/// A copy of the octets, or nothing if there are too many.
 fn lightened(alloc: Global, octets: &[u8]) -> Result<Vec<u8>, TagSetFault>
     ensures body { IfOk result (λ body. body.items ≡ emptied octets.now) }
     ensures refused { IfErr result (λ fault. fault ≡ TagSetFault.Memory) }
@@ -227,15 +228,15 @@ fn lightened(alloc: Global, octets: &[u8]) -> Result<Vec<u8>, TagSetFault>
 }
 
 impl<K: Keeper> Receiver<K> {
-    /// Opens a transfer with these tag files: each its path, as plain text, and its octets, in any order.
+    /// Opens a transfer with these tag files, given in any order as paths in plain text with their octets.
     ///
-    /// They are all files of the bag but its payload (RFC 8493 section 2), and are judged as far as they can be without
-    /// it.
+    /// They are all files of the bag except its payload (RFC 8493 section 2), and are judged as far as that is possible
+    /// without the payload.
     ///
     /// # Errors
     ///
-    /// A [`BeginFault`]. Nothing changes then; where the keeper has no answer, a crash may leave the transfer open all
-    /// the same, with all these tag files and no payload file.
+    /// A [`BeginFault`]. Nothing changes then. If the keeper has no answer, however, a crash may leave the transfer
+    /// open, with all these tag files and no payload files.
     pub fn begin(
         &mut self,
         alloc: Global,
@@ -283,7 +284,7 @@ impl<K: Keeper> Receiver<K> {
             }
             None => {
                 self.keeper.begin(alloc, name, tags)?;
-                // Where there is no memory for the plan, it is made again when it is needed.
+                // If there is no memory for the plan, it is made again when it is needed.
                 let _ = keep_plan(alloc, &mut self.plans, name, plan);
                 Ok(Begun::New)
             }

@@ -1,4 +1,4 @@
-//! Couriers: what brings the payload files of a transfer.
+//! Couriers, which deliver the payload files of a transfer.
 ghost use Rattle.std.specs.Prelude.{◌≡◌, ◌≢◌, ◌+◌, [], ℕ, List, Option, true, Ok, IfOk, IsOk, min};
 ghost use Rattle.bag_digest.specs.Device.{CountsFailure, greatest_count};
 ghost use Rattle.bag_rules.specs.Files.{Files};
@@ -6,27 +6,27 @@ ghost use Rattle.bag_receiver.specs.Couriers.{ComesNext};
 
 use bag_digest::{Failed, Source};
 
-/// Brings payload files one after another. Its reads give the content of the one that came last.
+/// Delivers payload files one after another. Reads give the content of the current one.
 ///
-/// What a folder or a line will bring nobody knows, so nothing is claimed of it: what is `coming` is `None`.
+/// What a folder or a connection will deliver can't be known, so nothing is claimed about it: its `coming` is `None`.
 pub trait Courier: Source {
-    /// The items that are still to come, where they are known: the text of each one's path, and its content.
+    /// The items still to come, if they are known: the text of each path and its content.
     ghost coming: { Self → Option Files };
 
-    /// The text of the path of the item that came last; empty where none did.
+    /// The text of the path of the current item; empty if there is none.
     ghost text: { Self → List ℕ };
 
-    /// How often `next` was called.
+    /// How many times `next` was called.
     ghost nexts: { Self → ℕ };
 
-    /// `next` doesn't fail, whether or not reads do.
+    /// `next` doesn't fail, even if reads do.
     ghost steady: { Self → Type 0 };
 
-    /// Goes on to the next item, and passes over what wasn't read of the one before. `false`: none is left.
+    /// Goes on to the next item, and skips what wasn't read of the current one. Returns `false` if none is left.
     ///
     /// # Errors
     ///
-    /// The courier failed, and counted it.
+    /// The courier failed, and counted the failure.
     fn next(&mut self) -> Result<bool, Failed>
         ensures came { IfOk result (λ more. ComesNext (coming self.old) more (text self.new)
             (Self.remaining self.new) (coming self.new)) }
@@ -36,11 +36,11 @@ pub trait Courier: Source {
         ensures steady { steady self.old → IsOk result × steady self.new }
         ensures called { nexts self.new ≡ min (nexts self.old + 1) greatest_count };
 
-    /// The path of the item that came last, as text; empty where none did.
+    /// The path of the current item, as text; empty if there is none.
     fn path(&self) -> &str
         ensures { result.now ≡ text self.now };
 
-    /// How often `next` was called. The count stays at its greatest number, 2^64 - 1.
+    /// How many times `next` was called. The count saturates at 2^64 - 1.
     fn nexts(&self) -> u64
         ensures { result ≡ nexts self.now };
 

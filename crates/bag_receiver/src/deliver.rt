@@ -1,4 +1,4 @@
-//! Deliveries: what comes for one path of a transfer.
+//! Deliveries of payload files.
 ghost use Rattle.std.specs.Prelude.{◌≡◌, ◌⊎◌, ◌∷◌, [], List, ℕ, true, IfOk, IsErrOf, MatchResult};
 ghost use Rattle.bag_digest.specs.Device.{CountsIf, UsesSource};
 ghost use Rattle.bag_path.specs.Paths.{IsPath};
@@ -24,10 +24,10 @@ use std::alloc::Global;
 impl<K: Keeper> Receiver<K> {
     /// Takes in a payload file of the transfer with this name: this content for this path.
     ///
-    /// The path is plain text, not the spelling of a manifest: in it `%25` is three characters (RFC 8493 section
-    /// 2.1.3). The content passes if it has at most 1,073,741,824 octets, each digest that a payload manifest lists for
-    /// the path, and each length that `fetch.txt` gives for it (section 2.2.3). Only `Taken` changes what is held;
-    /// where the keeper has no answer, a crash may leave the file all the same.
+    /// The path is plain text, not spelled as in a manifest: `%25` in it is three characters (RFC 8493 section 2.1.3).
+    /// The content is valid if it has at most 1,073,741,824 octets, each digest that a payload manifest lists for the
+    /// path, and each length that `fetch.txt` gives for it (section 2.2.3). Only `Taken` changes what is held. If the
+    /// keeper has no answer, however, a crash may leave the file.
     pub fn deliver(&mut self, alloc: Global, name: &str, path: &str, content: &[u8]) -> Answer
         ensures received { Does K.holds K.may_leave K.clean self.old self.new (Receives name.now
             (delivery_of path.now (Whole content.now) result ∷ [])) }
@@ -67,10 +67,10 @@ impl<K: Keeper> Receiver<K> {
         Ok(Answer::Taken)
     }
 
-    /// Takes in a payload file as `deliver` does, of which a reader gives the content.
+    /// Takes in a payload file as `deliver` does, with the content read from a reader.
     ///
-    /// The reader is read only where the transfer lists the path: to its end, to the first octet past the limit, or
-    /// until a read fails or the keeper has no answer. No read is tried again.
+    /// The reader is used only if the transfer lists the path. It is read to its end, to the first octet beyond the
+    /// limit, or until a read fails or the keeper has no answer. No read is retried.
     pub fn deliver_from<S: Source>(
         &mut self,
         alloc: Global,
@@ -146,7 +146,7 @@ impl<K: Keeper> Receiver<K> {
     }
 }
 
-/// What is known of a path before anything is read that is delivered for it.
+/// What is known of a path before its content is read.
 #[derive(Drop)]
 struct Place<'a> {
     want: Want<'a>,
@@ -184,7 +184,7 @@ fn place_of<'a, K: Keeper>(
     Ok(Place { want, is_held })
 }
 
-/// The path that the text is.
+/// The path with this text.
 fn parsed(alloc: Global, text: &str) -> Result<BagPath, DeliverFault>
     ensures { MatchResult result (λ path. (path ≡ text.now) × IsPath text.now)
         (RefusesText text.now) }

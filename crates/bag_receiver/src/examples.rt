@@ -1,4 +1,4 @@
-//! Telling cases of the definitions, worked out: each function's contract is one, and its body is empty.
+//! Worked examples of the definitions. Each function's contract is one example, and its body is empty.
 ghost use Rattle.std.specs.Prelude.{◌≡◌, ◌⊎◌, ◌<◌, ◌∷◌, [], ℕ, List, Some, None, codes, length, map};
 ghost use Rattle.bag_path.specs.declared.path.PathFault.TheVariants.{DotSegment};
 ghost use Rattle.bag_digest.specs.declared.algorithm.Alg.TheVariants.{Sha256};
@@ -27,7 +27,7 @@ pub fn what_is_due_to_deliveries_one_after_another()
         × IsDue None file_a (Whole abc) (Refused NoTransfer) }
 {}
 
-/// Another length than that of `fetch.txt` is told before another digest (RFC 8493 section 2.2.3).
+/// A length that differs from `fetch.txt` is reported before a digest that differs (RFC 8493 section 2.2.3).
 pub fn another_length_is_told_first()
     ensures { let opened = begun tags_with_fetch in
         IsDue (Some opened) file_a (Whole (codes "abcd")) (Refused Length)
@@ -35,7 +35,7 @@ pub fn another_length_is_told_first()
         × IsDue (Some opened) file_a (Whole abc) Taken }
 {}
 
-/// What is longer than the limit is too large, whatever its octets are.
+/// A content longer than the limit is too large, whatever its octets are.
 pub fn what_is_longer_than_the_limit_is_too_large()
     ensures { let opened = begun tags_of_two in
         IsDue (Some opened) file_a TooLong (Refused TooLarge)
@@ -43,7 +43,7 @@ pub fn what_is_longer_than_the_limit_is_too_large()
         → IsDue (Some opened) file_a (Whole content) (Refused TooLarge)) }
 {}
 
-/// To a content whose end wasn't reached only an answer is due that needs no content.
+/// If the end of a content wasn't reached, the only due answers are those that don't depend on the content.
 pub fn what_was_not_read_to_its_end_is_never_taken()
     ensures { let opened = begun tags_of_two in
         IsDue (Some opened) (codes "data/../k") Unread (Refused (BadPath DotSegment))
@@ -57,7 +57,7 @@ pub fn what_is_held_after_two_runs_is_the_same()
         × AreAccepted one_run both × AreAccepted another_run both }
 {}
 
-/// Of two contents that were accepted for one path the first is held.
+/// Of two contents accepted for one path, the first is held.
 pub fn the_first_accepted_content_is_held()
     ensures { (path content other : List ℕ) →
         let deliveries = delivered path content Taken ∷ delivered path other Repeated ∷ [] in
@@ -69,7 +69,7 @@ pub fn a_failed_reader_leaves_nothing()
     ensures { IsFirstHeld [] run_with_a_failure both × AreAccepted run_with_a_failure both }
 {}
 
-/// A delivery that a stop cut is held whole or not at all, and what was taken before it stays.
+/// A delivery that was cut by a stop is held completely or not at all, and what was taken before it is kept.
 pub fn a_cut_delivery_is_held_whole_or_not_at_all()
     ensures { let events = Answered (delivered file_e [] Taken) ∷ Cut file_a (Whole abc)
         ∷ Stop ∷ [] in
@@ -77,7 +77,7 @@ pub fn a_cut_delivery_is_held_whole_or_not_at_all()
         × ((held : Files) → StopRun tags_of_two events held → (held ≡ only_e) ⊎ (held ≡ both)) }
 {}
 
-/// And given again it is held.
+/// If it is delivered again, it is held.
 pub fn a_cut_delivery_that_is_given_again_is_held()
     ensures { (again : Answer) (held : Files) →
         let events = Answered (delivered file_e [] Taken) ∷ Cut file_a (Whole abc) ∷ Stop
@@ -85,7 +85,7 @@ pub fn a_cut_delivery_that_is_given_again_is_held()
         (again ≡ Taken) ⊎ (again ≡ Repeated) → StopRun tags_of_two events held → held ≡ both }
 {}
 
-/// A stop settles a delivery to which the keeper had no answer either way, unless something was taken after it.
+/// If the keeper had no answer to a delivery, a stop decides whether it is held, unless something was taken after it.
 pub fn a_stop_settles_what_had_no_answer()
     ensures { let doubtful = Answered (delivered file_a abc (Refused (Keeper Memory))) in
         StopRun tags_of_two (doubtful ∷ Stop ∷ []) []
@@ -94,7 +94,7 @@ pub fn a_stop_settles_what_had_no_answer()
         (doubtful ∷ Answered (delivered file_e [] Taken) ∷ Stop ∷ []) held → held ≡ only_e) }
 {}
 
-/// No stop lets a content be held that doesn't pass.
+/// A stop never leads to a content being held that isn't valid.
 pub fn no_stop_lets_another_content_be_held()
     ensures { (held : Files) → StopRun tags_of_two (Cut file_a (Whole abd) ∷ Stop ∷ []) held
         → held ≡ [] }

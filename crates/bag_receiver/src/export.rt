@@ -1,4 +1,4 @@
-//! Exports: the bag of a transfer as it is held, written into a sink.
+//! Exports: write the bag of a transfer, as it is held, to a sink.
 ghost use Rattle.std.specs.Prelude.{◌≡◌, ◌<◌, ◌∷◌, ◌++◌, [], ℕ, List, IfErr, IsErr, IsErrOf, MatchResult, OnOk, false, length, true};
 ghost use Rattle.bag_digest.specs.Device.{CountsIf};
 ghost use Rattle.bag_rules.specs.Files.{Files};
@@ -30,16 +30,16 @@ use bag_writer::Sink;
 use std::alloc::{AllocError, Global};
 use thiserror::Error;
 
-/// Why a bag isn't exported, or not to its end.
+/// Why no bag, or only part of one, is exported.
 #[derive(Clone, Copy, Debug, PartialEq, Eq, Error)]
 pub enum ExportFault {
-    /// No transfer has this name. Nothing was written.
+    /// No transfer has this name, or the name is invalid. Nothing was written.
     #[error("no transfer")]
     NoTransfer,
-    /// The sink failed, and counted it.
+    /// The sink failed, and counted the failure.
     #[error("sink")]
     Sink,
-    /// What keeps the transfers has no answer, or memory ran out.
+    /// The store of the transfers has no answer, or memory ran out.
     #[error("keeper")]
     Keeper(KeepFault),
 }
@@ -80,16 +80,16 @@ impl From<Failed> for ExportFault {
 
 impl<K: Keeper> Receiver<K> {
     /// Writes the bag of the transfer as it is held now: the payload directory, then the tag files and then the payload
-    /// files, each by path. Answers how many files it has.
+    /// files, each by path. Returns how many files it has.
     ///
-    /// The sink is to be new: of one that holds a file already, or the payload directory, it isn't said what it holds then.
-    /// The payload files are read piece by piece through one buffer.
+    /// The sink must be new: if it already holds a file or the payload directory, nothing is promised about what it
+    /// holds afterwards. The payload files are read piece by piece through one buffer.
     ///
     /// # Errors
     ///
-    /// [`ExportFault::NoTransfer`] for a text that is no name, too; [`ExportFault::Sink`] where the sink failed, as it does
-    /// where a file is begun already or one of the paths is taken; [`ExportFault::Keeper`] where the store failed or memory
-    /// ran out. After the last two the sink holds part of the bag.
+    /// [`ExportFault::NoTransfer`] if no transfer has this name or the name is invalid; [`ExportFault::Sink`] if the
+    /// sink failed, which includes that a file is already open or that one of the paths exists; [`ExportFault::Keeper`]
+    /// if the store failed or memory ran out. After the last two the sink holds part of the bag.
     pub fn export<S: Sink>(
         &mut self,
         alloc: Global,
@@ -100,8 +100,8 @@ impl<K: Keeper> Receiver<K> {
         ensures exported { K.clean self.new.keeper → (now : LedgerState)
             → IsInState K.holds K.may_leave self.old now
             → Exports now.held name.now result (S.stored sink.old) (S.stored sink.new) }
-        // A text that is no name names no transfer, whatever the store would answer; and where there is none, the sink isn't
-        // asked for anything.
+        // An invalid name names no transfer, whatever the store would answer; and if there is none, the sink isn't
+        // used.
         ensures judged { (¬ IsTransferName name.now → IsErrOf result NoTransfer)
             × (IsErrOf result NoTransfer → sink.new ≡ sink.old) }
         ensures store { CountsIf ((fault : StoreFault) × IsErrOf result (NotKept (Store fault)))
@@ -171,7 +171,7 @@ fn write_tags<S: Sink>(tags: &TagSet, sink: &mut S) -> Result<(), Failed>
     Ok(())
 }
 
-/// Begins a file, writes its octets and ends it.
+/// Opens a file in the sink, writes its octets and ends it.
 fn write_file<S: Sink>(path: &BagPath, octets: &[u8], sink: &mut S) -> Result<(), Failed>
     ensures written { MatchResult result
         (λ _. AreWhole ((path.now, octets.now) ∷ []) (S.stored sink.old) (S.stored sink.new))
@@ -185,7 +185,7 @@ fn write_file<S: Sink>(path: &BagPath, octets: &[u8], sink: &mut S) -> Result<()
     sink.end()
 }
 
-/// Reads these payload files, which are held, and writes each.
+/// Reads these held payload files, and writes each one.
 fn write_items<K: Keeper, S: Sink>(
     keeper: &mut K,
     alloc: Global,
@@ -217,7 +217,7 @@ fn write_items<K: Keeper, S: Sink>(
     Ok(())
 }
 
-/// Reads a payload file that is held, and writes it.
+/// Reads a held payload file, and writes it.
 fn write_item<K: Keeper, S: Sink>(
     keeper: &mut K,
     alloc: Global,
@@ -247,7 +247,7 @@ fn write_item<K: Keeper, S: Sink>(
     Ok(())
 }
 
-/// Reads a payload file that is held, and writes what it has to the file that is begun.
+/// Reads a held payload file, and writes its content to the open file.
 fn write_content<K: Keeper, S: Sink>(
     keeper: &mut K,
     alloc: Global,
@@ -275,7 +275,7 @@ fn write_content<K: Keeper, S: Sink>(
         let left = item.octets - read;
         let n = next_piece(keeper, alloc, name, &item.path, read, left, buffer)?;
         if n == 0 {
-            // The store has less than it told.
+            // The store has fewer octets than it reported.
             return Err(ExportFault::Keeper(KeepFault::Memory));
         }
         sink.write(&buffer[..n])?;

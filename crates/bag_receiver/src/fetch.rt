@@ -1,4 +1,4 @@
-//! Fetching: what `fetch.txt` of a transfer lists and isn't held is asked of a supplier.
+//! Fetching: asks a supplier for what the `fetch.txt` of a transfer lists and isn't held.
 ghost use Rattle.std.specs.Prelude.{◌≡◌, ◌≢◌, ◌↔◌, ◌+◌, ◌∷◌, [], ℕ, List, Some, None, IfErr, IfOk, IfNone, IfSome, IsErrOf, IsTrue, MatchResult, OnErr, length, map, min, slice_get, slice_set, string_bytes, true};
 ghost use Rattle.std.specs.List.{AllByRecursion};
 ghost use Rattle.bag_digest.specs.Device.{CountsIf, greatest_count};
@@ -28,31 +28,31 @@ use bag_rules::{ItemSize, Plan};
 use bag_tags::FetchLine;
 use std::alloc::{AllocError, Global};
 
-/// What came of asking for an entry of `fetch.txt`.
+/// The outcome of asking for an entry of `fetch.txt`.
 #[derive(Clone, Copy, Debug, PartialEq, Eq)]
 pub enum FetchAnswer {
-    /// What was supplied passes, and is held from now on.
+    /// The content supplied is valid, and is held from now on.
     Taken,
     /// The supplier doesn't have it.
     NotSupplied,
     /// The supplier failed when it was asked.
     SupplierFailed,
-    /// What was supplied isn't taken, and nothing changes.
+    /// The content supplied isn't taken, and nothing changes.
     Refused(DeliverFault),
 }
 
 /// An entry of `fetch.txt` that was asked for.
 #[derive(Debug, Drop)]
 pub struct FetchOutcome {
-    /// The number of its line, from 1 on.
+    /// The number of its line, counted from 1.
     pub line: u64,
     /// The path of the payload file.
     pub path: BagPath,
-    /// What came of it.
+    /// The outcome.
     pub answer: FetchAnswer,
 }
 
-/// What is asked for, and the place of its path among those of the plan.
+/// A file to ask for, and the index of its path in the plan.
 #[derive(Drop)]
 struct Request {
     line: u64,
@@ -69,13 +69,13 @@ struct Requests {
 }
 
 impl<K: Keeper> Receiver<K> {
-    /// Asks the supplier for each entry of `fetch.txt` whose path isn't held when it is reached, in their order, and
-    /// takes in what it gives as [`deliver_from`](Receiver::deliver_from) does (RFC 8493 section 2.2.3).
+    /// Asks the supplier for each entry of `fetch.txt` whose path isn't held when it is reached, in order, and takes in
+    /// what it gives as [`deliver_from`](Receiver::deliver_from) does (RFC 8493 section 2.2.3).
     ///
     /// # Errors
     ///
-    /// Those of [`report`](Receiver::report), before the supplier is asked for anything. Once it was asked, a fault is
-    /// the answer to that entry, and the others follow.
+    /// Those of [`report`](Receiver::report), before the supplier is asked for anything. After that, a fault is the
+    /// outcome of its entry, and the remaining entries follow.
     pub fn fetch<S: Supplier>(
         &mut self,
         alloc: Global,
@@ -112,13 +112,13 @@ impl<K: Keeper> Receiver<K> {
             let answer = self.fetch_one(alloc, name, &request, supplier);
             mark_taken(&mut held, request.place, answer);
             let Request { line, path, .. } = request;
-            // There is room for it.
+            // The capacity is enough.
             let _pushed = outcomes.push(FetchOutcome { line, path, answer });
         }
         Ok(outcomes)
     }
 
-    /// Asks for one payload file, and takes in what is given.
+    /// Asks for one payload file, and takes in what is supplied.
     fn fetch_one<S: Supplier>(
         &mut self,
         alloc: Global,
@@ -140,14 +140,14 @@ impl<K: Keeper> Receiver<K> {
             Err(Failed) => FetchAnswer::SupplierFailed,
             Ok(false) => FetchAnswer::NotSupplied,
             Ok(true) => match self.take_from(alloc, name, path, supplier) {
-                // What is held isn't asked for, so it isn't a repeat.
+                // A path that is held isn't asked for, so this is no repeat.
                 Ok(_) => FetchAnswer::Taken,
                 Err(fault) => FetchAnswer::Refused(fault),
             },
         }
     }
 
-    /// What is to be asked for, and what is held.
+    /// What to ask for, and what is held.
     fn requests(&mut self, alloc: Global, name: &str) -> Result<Requests, ViewFault>
         ensures looks { Does K.holds K.may_leave K.clean self.old self.new Same }
         ensures prepared { K.clean self.new.keeper → (now : LedgerState)
@@ -198,7 +198,7 @@ fn mark_path(marks: &mut Vec<bool>, paths: &[BagPath], path: &BagPath)
     mark(marks, place);
 }
 
-/// The entries of `fetch.txt`, each with the place of its path.
+/// The entries of `fetch.txt`, each with the index of its path.
 fn requests_of(alloc: Global, plan: &Plan, paths: &[BagPath]) -> Result<Vec<Request>, AllocError>
     ensures { (tags : Files) → IsPlanOf tags plan.now → IfOk result (λ requests.
         (lines : List FetchLine) × AreFetchLines tags lines
@@ -215,7 +215,7 @@ fn request_for(alloc: Global, paths: &[BagPath], line: &FetchLine) -> Result<Req
     ensures { IfOk result (IsRequest paths.now line.now) }
 {
     let FetchLine { line, entry } = line;
-    // What a plan has to fetch is listed.
+    // Every entry that a plan has to fetch is listed.
     let Some(place) = place_in(paths, entry.path()) else {
         return Err(AllocError);
     };
@@ -227,7 +227,7 @@ fn request_for(alloc: Global, paths: &[BagPath], line: &FetchLine) -> Result<Req
     })
 }
 
-/// The place of the path among paths in order.
+/// The index of the path in paths that are in order.
 fn place_in(paths: &[BagPath], path: &BagPath) -> Option<usize>
     ensures found { IfSome result (λ place. slice_get paths.now place ≡ Some path.now) }
     ensures absent { AreRising paths.now → IfNone result (¬ Has paths.now path.now) }
@@ -238,7 +238,7 @@ fn place_in(paths: &[BagPath], path: &BagPath) -> Option<usize>
     }
 }
 
-/// Whether this place is marked.
+/// Whether this index is marked.
 fn is_marked(marks: &Vec<bool>, place: usize) -> bool
     ensures { IsTrue result ↔ (slice_get marks.now.items place ≡ Some true) }
 {
@@ -248,7 +248,7 @@ fn is_marked(marks: &Vec<bool>, place: usize) -> bool
     }
 }
 
-/// Marks this place, if its payload file was taken.
+/// Marks this index if the payload file was taken.
 fn mark_taken(marks: &mut Vec<bool>, place: usize, answer: FetchAnswer)
     ensures taken { answer ≡ FetchAnswer.Taken
         → marks.new.items ≡ slice_set marks.old.items place true }
@@ -259,7 +259,7 @@ fn mark_taken(marks: &mut Vec<bool>, place: usize, answer: FetchAnswer)
     }
 }
 
-/// Marks this place.
+/// Marks this index.
 fn mark(marks: &mut Vec<bool>, place: usize)
     ensures { marks.new.items ≡ slice_set marks.old.items place true }
 {

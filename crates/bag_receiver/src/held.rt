@@ -1,4 +1,4 @@
-//! Payload files that are held, read again piece by piece.
+//! Reads held payload files again, piece by piece.
 ghost use Rattle.std.specs.Prelude.{◌≡◌, ◌<◌, ◌≤◌, ◌+◌, ℕ, List, IfOk, IsErrOf, drop, length, min, take};
 ghost use Rattle.bag_digest.specs.Device.{CountsIf};
 ghost use Rattle.bag_ledger.specs.Keeping.{Reads};
@@ -10,8 +10,8 @@ use bag_ledger::{KeepFault, Keeper};
 use bag_path::BagPath;
 use std::alloc::Global;
 
-/// Reads the next octets of a held payload file into the front of the buffer, where so many are left of it, and answers
-/// how many it read: none only where the file has fewer.
+/// Reads the next octets of a held payload file, of which `left` remain, into the front of the buffer, and returns how
+/// many it read. Zero only if the file has fewer octets.
 pub(crate) fn next_piece<K: Keeper>(
     keeper: &mut K,
     alloc: Global,
@@ -35,7 +35,7 @@ pub(crate) fn next_piece<K: Keeper>(
     keeper.read_piece(alloc, name, path, offset, &mut buffer[..room])
 }
 
-/// How much to read at a time, where so many octets are left.
+/// How much to read at a time if this many octets are left.
 fn room_for(len: usize, left: u64) -> usize
     ensures { result ≡ min len left }
 {

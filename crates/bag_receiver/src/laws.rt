@@ -17,18 +17,18 @@ ghost use Rattle.bag_receiver.specs.Names.{IsNamed};
 ghost use Rattle.bag_receiver.specs.Receiving.{Happened, LeavesOthers, LedgerState, Receives, settled};
 ghost use Rattle.bag_receiver.specs.Stops.{AnswerStep, Answered, Event, OffersIn, Steps, Stop, StopRun, TransferState, transfer_state, with_file};
 
-/// The limits are these: the octets of a transfer's name, and the deliveries of one run.
+/// The limits: the octets of a transfer's name, and the deliveries of one run.
 pub fn the_limits_are_these()
     ensures { (LONGEST_NAME ≡ 64) × (MOST_DELIVERIES ≡ 1000000) }
 {}
 
-/// One answer is due to a delivery at most.
+/// At most one answer is due to a delivery.
 pub fn one_answer_is_due_at_most()
     ensures { (transfer : Option Transfer) (text : List ℕ) (content : Content) (a b : Answer)
         → IsDue transfer text content a → IsDue transfer text content b → a ≡ b }
 {}
 
-/// Where a text names a transfer or none, it names one or none: never two, and never neither.
+/// A text names one transfer or none: never two, and never neither.
 pub fn a_text_names_one_transfer_or_none()
     ensures one { (ledger : Ledger) (name : List ℕ) (a b : Option Transfer)
         → IsNamed ledger name a → IsNamed ledger name b → a ≡ b }
@@ -36,22 +36,23 @@ pub fn a_text_names_one_transfer_or_none()
         → (transfer : Option Transfer) × IsNamed ledger name transfer }
 {}
 
-/// To what came for a text some answer is due, unless its end wasn't reached: it can't be that none is.
+/// Some answer is due to what was delivered for a text, unless its end wasn't reached: it is impossible that none is
+/// due.
 pub fn some_answer_is_due_to_what_was_read()
     ensures { (transfer : Option Transfer) (text : List ℕ) (content : Content) → IsUtf8 text
         → content ≢ Unread
         → ¬ ((answer : Answer) → ¬ IsDue transfer text content answer) }
 {}
 
-/// Where the answer that is due is `Taken` or `Repeated`, the content passes.
+/// If the answer that is due is `Taken` or `Repeated`, the content is valid.
 pub fn what_is_due_to_be_accepted_passes()
     ensures { (transfer : Transfer) (text : List ℕ) (content : Content) (answer : Answer)
         → IsDue (Some transfer) text content answer → IsAcceptance answer
         → PassesIn transfer.tags text content }
 {}
 
-/// A content to which `Taken` is due is one file more of the transfer, and nothing is doubtful any more; any other
-/// answer that is due leaves what is held and what is doubtful.
+/// A content to which `Taken` is due becomes one more file of the transfer, and nothing is doubtful any more. Any other
+/// due answer leaves what is held and what is doubtful unchanged.
 pub fn what_is_due_is_a_step()
     ensures taken { (transfer : Transfer) (text octets : List ℕ) (doubtful : Files)
         → IsDue (Some transfer) text (Whole octets) Taken
@@ -64,20 +65,20 @@ pub fn what_is_due_is_a_step()
         AnswerStep transfer.tags text content answer same same }
 {}
 
-/// What is held after one list of deliveries and then another is what is held after both joined.
+/// What is held after one list of deliveries and then another is what is held after the joined list.
 pub fn lists_of_deliveries_may_be_joined()
     ensures { (old middle new : Files) (deliveries others : List Delivery)
         → IsFirstHeld old deliveries middle → IsFirstHeld middle others new
         → IsFirstHeld old (deliveries ++ others) new }
 {}
 
-/// A list of deliveries leaves one set of files at most.
+/// A list of deliveries leaves at most one set of files.
 pub fn deliveries_leave_one_set_of_files_at_most()
     ensures { (old a b : Files) (deliveries : List Delivery) → IsFirstHeld old deliveries a
         → IsFirstHeld old deliveries b → a ≡ b }
 {}
 
-/// Without a delivery what is held stays.
+/// Without deliveries, what is held stays the same.
 pub fn without_a_delivery_what_is_held_stays()
     ensures { (old : Files) → AreRising (keys_of old) → IsFirstHeld old [] old }
 {}
@@ -90,7 +91,7 @@ pub fn an_accepted_delivery_adds_one_file()
         → IsFirstHeld old (delivery ∷ []) (with_file old path content) }
 {}
 
-/// A refused delivery changes nothing, and neither does one for a path that is held.
+/// A refused delivery changes nothing, and neither does a delivery for a path that is held.
 pub fn a_refused_or_repeated_delivery_changes_nothing()
     ensures refused { (old : Files) (delivery : Delivery) → AreRising (keys_of old)
         → ¬ IsAcceptance delivery.answer → IsFirstHeld old (delivery ∷ []) old }
@@ -98,22 +99,22 @@ pub fn a_refused_or_repeated_delivery_changes_nothing()
         → Contains (keys_of old) delivery.text → IsFirstHeld old (delivery ∷ []) old }
 {}
 
-/// What is held passes, if all that was accepted does.
+/// What is held is valid if everything that was accepted is.
 pub fn what_is_held_passes()
     ensures { (tags old : Files) (deliveries : List Delivery) (new : Files)
         → IsFirstHeld old deliveries new → AreHeldFor tags old → AcceptsPassing tags deliveries
         → AreHeldFor tags new }
 {}
 
-/// Where no two contents that were offered for one path pass, what is held after deliveries to a transfer that held
-/// nothing is each distinct accepted delivery once.
+/// If no two different contents offered for one path are valid, then after deliveries to a transfer that held nothing,
+/// what is held is each distinct accepted delivery once.
 pub fn what_is_held_is_what_was_accepted()
     ensures { (tags : Files) (deliveries : List Delivery) (held : Files)
         → OneContent tags deliveries → AcceptsPassing tags deliveries
         → IsFirstHeld [] deliveries held → AreAccepted deliveries held }
 {}
 
-/// And two lists of which the same was accepted, whatever was lost, repeated or reordered, leave the same files.
+/// Two lists in which the same was accepted leave the same files, whatever was lost, repeated or reordered.
 pub fn lists_of_which_the_same_was_accepted_leave_the_same_files()
     ensures { (tags : Files) (deliveries others : List Delivery) (held other : Files)
         → OneContent tags (deliveries ++ others) → AcceptsPassing tags (deliveries ++ others)
@@ -122,7 +123,7 @@ pub fn lists_of_which_the_same_was_accepted_leave_the_same_files()
         → IsFirstHeld [] deliveries held → IsFirstHeld [] others other → held ≡ other }
 {}
 
-/// What happened may be parted anywhere, and joined again.
+/// What happened can be split anywhere, and joined again.
 pub fn what_happened_may_be_parted_and_joined()
     ensures { (tags : Files) (events others : List Event) (old new : TransferState)
         → Steps tags (events ++ others) old new
@@ -136,13 +137,13 @@ pub fn what_is_held_stays_held()
         → (path content : List ℕ) → Has old.held (path, content) → Has new.held (path, content) }
 {}
 
-/// What is held passes, whatever happens.
+/// What is held is valid, whatever happens.
 pub fn what_is_held_passes_after_stops()
     ensures { (tags : Files) (events : List Event) (old new : TransferState)
         → Steps tags events old new → AreHeldFor tags old.held → AreHeldFor tags new.held }
 {}
 
-/// What is held of a transfer was offered whole, and passes.
+/// What is held of a transfer was offered completely, and is valid.
 pub fn what_is_held_was_offered()
     ensures offered { (tags : Files) (events : List Event) (held : Files)
         → StopRun tags events held → (path content : List ℕ) → Has held (path, content)
@@ -158,7 +159,7 @@ pub fn an_accepted_delivery_has_its_path_held()
         → IsAcceptance delivery.answer → Contains (keys_of new.held) delivery.text }
 {}
 
-/// Where no two contents that were offered for one path pass, it is held by the content of that delivery.
+/// If no two different contents offered for one path are valid, it is held with the content of that delivery.
 pub fn an_accepted_delivery_has_its_content_held()
     ensures { (tags : Files) (events : List Event) (held : Files) (delivery : Delivery)
         → (path content : List ℕ) → HasOneContent tags (OffersIn events)
@@ -166,28 +167,28 @@ pub fn an_accepted_delivery_has_its_content_held()
         → IsAccepted delivery path content → Has held (path, content) }
 {}
 
-/// Without a stop what is held is the content of the first accepted delivery for each path.
+/// Without stops, what is held is the content of the first accepted delivery for each path.
 pub fn without_a_stop_the_first_accepted_content_is_held()
     ensures { (tags : Files) (deliveries : List Delivery) (old new : TransferState)
         → AreRising (keys_of old.held) → Steps tags (map Answered deliveries) old new
         → IsFirstHeld old.held deliveries new.held }
 {}
 
-/// What happened to a transfer goes on with the deliveries that come to it.
+/// Deliveries to a transfer continue what happened to it.
 pub fn what_happened_goes_on_with_deliveries()
     ensures { (name : List ℕ) (deliveries : List Delivery) (old new : LedgerState) (tags : Files)
         → (events : List Event) → Receives name deliveries old new → Happened old name tags events
         → Happened new name tags (events ++ map Answered deliveries) }
 {}
 
-/// What happened to another transfer is all that happened to it.
+/// Deliveries to another transfer are no event of this one.
 pub fn deliveries_are_no_event_of_another_transfer()
     ensures { (name other : List ℕ) (old new : LedgerState) (tags : Files) (events : List Event)
         → LeavesOthers name old new → other ≢ name → Happened old other tags events
         → Happened new other tags events }
 {}
 
-/// After a stop, which left what was held or what was doubtful, it is one event more of each transfer.
+/// A stop leaves what was held or what was doubtful, and is one more event of each transfer.
 pub fn a_stop_is_an_event_of_each_transfer()
     ensures { (now : LedgerState) (name : List ℕ) (tags : Files) (events : List Event)
         → (crashed : Ledger) → Happened now name tags events → Has (now.held ∷ now.doubtful) crashed

@@ -1,5 +1,5 @@
-//! The receiver of bags: payload files that come in any order, often or not at all, for transfers that were opened with
-//! their tag files.
+//! The receiver of bags. It opens transfers with their tag files, and takes in payload files that may come in any
+//! order, repeatedly or not at all.
 #![tactic(auto)]
 
 pub use answer::{Answer, DeliverFault};

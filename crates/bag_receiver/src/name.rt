@@ -3,10 +3,10 @@ ghost use Rattle.std.specs.Prelude.{◌≡◌, ◌↔◌, IsTrue};
 ghost use Rattle.std.specs.List.{list_all};
 ghost use Rattle.bag_receiver.specs.Names.{IsTransferName, is_of_names};
 
-/// The greatest length of a transfer's name, in octets.
+/// The maximum length of a transfer's name, in octets.
 pub const LONGEST_NAME: usize = 64;
 
-/// Whether the text is the name of a transfer: 1 to 64 octets, each a small letter of ASCII, a digit or `-`.
+/// Whether the text is a valid name of a transfer: 1 to 64 octets, each a lowercase ASCII letter, a digit or `-`.
 pub fn is_name(text: &str) -> bool
     ensures { IsTrue result ↔ IsTransferName text.now }
 {
@@ -14,14 +14,14 @@ pub fn is_name(text: &str) -> bool
     !octets.is_empty() && octets.len() <= LONGEST_NAME && are_of_names(octets)
 }
 
-/// Whether a name may have each of these octets.
+/// Whether all of these octets are allowed in a name.
 fn are_of_names(octets: &[u8]) -> bool
     ensures { result ≡ list_all is_of_names octets.now }
 {
     octets.iter().all(|octet| may_be_in_name(*octet))
 }
 
-/// Whether a name may have this octet.
+/// Whether this octet is allowed in a name.
 fn may_be_in_name(octet: u8) -> bool
     ensures { result ≡ is_of_names octet }
 {

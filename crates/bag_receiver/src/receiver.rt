@@ -1,4 +1,4 @@
-//! The receiver: transfers over any keeper, and beside it the plan of each that was used.
+//! The receiver: a keeper of transfers, and the plan of each transfer that was used.
 ghost use Rattle.std.specs.Prelude.{◌≡◌, [], IfOk, IsErrOf, IsTrue, MatchResult, OnErr, OnOk, map, string_bytes};
 ghost use Rattle.std.specs.BTreeMap.{insert_entry};
 ghost use Rattle.std.specs.Cmp.Lexicographic.{slice_cmp};
@@ -21,11 +21,11 @@ use std::collections::BTreeMap;
 /// Plans by the names of their transfers.
 pub(crate) type Plans = BTreeMap<String, Plan>;
 
-/// Opens transfers by the tag files of their bags, takes in their payload files, each if it is the one that the tag
-/// files tell of, and reports what is wrong with the bag that is held (RFC 8493 section 3).
+/// Opens transfers with the tag files of their bags, takes in their payload files, each if it is the one that the tag
+/// files list, and reports what is wrong with the bag that is held (RFC 8493 section 3).
 ///
-/// The keeper holds all of it. Beside it the receiver has the plans of the transfers that were used, which it makes
-/// again where they are wanting.
+/// The keeper holds all of this. In addition, the receiver keeps the plans of the transfers that were used, and makes
+/// them again if they are missing.
 #[derive(Drop)]
 pub struct Receiver<K> {
     pub(crate) keeper: K,
@@ -33,7 +33,7 @@ pub struct Receiver<K> {
 }
 
 impl<K: Keeper> Receiver<K> {
-    /// A receiver over what this keeper holds: the transfers that are there can be used at once.
+    /// A receiver with this keeper. The transfers that the keeper holds can be used at once.
     pub fn new(alloc: Global, keeper: K) -> Receiver<K>
         ensures keeper { result.keeper ≡ keeper }
         ensures in_state { (now : LedgerState) → IsKept K.holds K.may_leave keeper now
@@ -45,7 +45,7 @@ impl<K: Keeper> Receiver<K> {
         }
     }
 
-    /// Hands the keeper back, with all that it holds.
+    /// Returns the keeper, with everything that it holds.
     pub fn into_keeper(self) -> K
         ensures { result ≡ self.keeper }
     {
@@ -68,7 +68,7 @@ impl<K: Keeper> Receiver<K> {
         self.keeper.names(alloc)
     }
 
-    /// Makes the plan of a transfer, unless it is there; says whether it is there now.
+    /// Makes the plan of a transfer if it isn't there yet. Returns whether it is there now.
     pub(crate) fn has_plan(&mut self, alloc: Global, name: &str) -> Result<bool, KeepFault>
         ensures looks { Does K.holds K.may_leave K.clean self.old self.new Same }
         ensures found { K.clean self.new.keeper → (now : LedgerState)
@@ -93,7 +93,7 @@ impl<K: Keeper> Receiver<K> {
                 keep_plan(alloc, &mut self.plans, name, plan)?;
                 Ok(true)
             }
-            // What is kept opens.
+            // The tag files in the keeper always have a plan, so memory ran out.
             Err(_) => Err(KeepFault::Memory),
         }
     }

@@ -20,10 +20,10 @@ use thiserror::Error;
 /// Why there is no report.
 #[derive(Clone, Copy, Debug, PartialEq, Eq, Error)]
 pub enum ViewFault {
-    /// No transfer has this name.
+    /// No transfer has this name, or the name is invalid.
     #[error("no transfer")]
     NoTransfer,
-    /// What keeps the transfers has no answer, or memory ran out.
+    /// The store of the transfers has no answer, or memory ran out.
     #[error("keeper")]
     Keeper(KeepFault),
 }
@@ -52,32 +52,31 @@ impl From<AllocError> for ViewFault {
 }
 
 impl<K: Keeper> Receiver<K> {
-    /// What is wrong with the bag of the transfer as it is held now: payload files that are missing, and a
-    /// `Payload-Oxum` that doesn't fit (RFC 8493 sections 3 and 2.2.2). What is held was tested when it came, and isn't
-    /// read again.
+    /// What is wrong with the bag of the transfer as it is held now: missing payload files and a wrong `Payload-Oxum`
+    /// (RFC 8493 sections 3 and 2.2.2). What is held was checked when it was delivered, and isn't read again.
     ///
     /// # Errors
     ///
-    /// [`ViewFault::NoTransfer`] for a text that is no name, too; [`ViewFault::Keeper`] where the store failed or
-    /// memory ran out.
+    /// [`ViewFault::NoTransfer`] if no transfer has this name or the name is invalid; [`ViewFault::Keeper`] if the
+    /// store failed or memory ran out.
     pub fn report(&mut self, alloc: Global, name: &str) -> Result<Report, ViewFault>
         ensures looks { Does K.holds K.may_leave K.clean self.old self.new Same }
         ensures reported { K.clean self.new.keeper → (now : LedgerState)
             → IsInState K.holds K.may_leave self.old now
             → MatchResult result (Reports now.held name.now)
             (λ fault. fault ≡ ViewFault.NoTransfer → IsNamed now.held name.now None) }
-        // A text that is no name names no transfer, whatever the store would answer.
+        // An invalid name names no transfer, whatever the store would answer.
         ensures judged { ¬ IsTransferName name.now → IsErrOf result ViewFault.NoTransfer }
-        // After a transfer was opened, for any list of deliveries with losses, repeats and reorderings: the report is
-        // that of its tag files with each distinct accepted delivery once, provided that no two different contents that
-        // were offered for one path pass.
+        // After a transfer was opened, for any list of deliveries with losses, repeats and reordering, the report is
+        // that of its tag files with each distinct accepted delivery once, provided that no two different contents
+        // offered for one path are valid.
         ensures headline { K.clean self.new.keeper → (now : LedgerState)
             → IsInState K.holds K.may_leave self.old now
             → (tags : Files) (deliveries : List Delivery)
             → Happened now name.now tags (map Answered deliveries) → OneContent tags deliveries
             → IfOk result (λ report. (held : Files) × AreAccepted deliveries held
             × IsReportOf tags held report) }
-        // And whatever happened since, stops too.
+        // The same for everything that happened since then, including stops.
         ensures stopped { K.clean self.new.keeper → (now : LedgerState)
             → IsInState K.holds K.may_leave self.old now
             → (tags : Files) (events : List Event)

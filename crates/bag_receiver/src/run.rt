@@ -8,7 +8,7 @@ use crate::receiver::Receiver;
 use bag_ledger::Keeper;
 use std::alloc::Global;
 
-/// The greatest number of deliveries in one run.
+/// The maximum number of deliveries in one run.
 pub const MOST_DELIVERIES: usize = 1_000_000;
 
 /// How a run ended.
@@ -16,29 +16,30 @@ pub const MOST_DELIVERIES: usize = 1_000_000;
 pub enum End {
     /// All items were delivered.
     Done,
-    /// 1,000,000 items were delivered, and there is another.
+    /// 1,000,000 items were delivered, and there are more.
     TooMany,
-    /// The courier failed to bring the next item.
+    /// The courier failed to deliver the next item.
     Courier,
-    /// There was no memory for the answer to the next item, or for the text of its path. It wasn't delivered.
+    /// There was no memory for the answer to the next item or the text of its path. The item wasn't delivered.
     Memory,
 }
 
-/// What a run of deliveries came to: the answers in the order of the deliveries, one for each that began, and how it
-/// ended.
+/// The result of a run of deliveries: the answers in the order of the deliveries, one for each that began, and how the
+/// run ended.
 #[derive(Debug, Drop)]
 pub struct Run {
     /// The answers to the first items.
     pub answers: Vec<Answer>,
-    /// Why there are no more.
+    /// Why there are no more answers.
     pub ended: End,
 }
 
 impl<K: Keeper> Receiver<K> {
-    /// Takes in these payload files one after another as `deliver` does, each its path, as text, and its content.
+    /// Takes in these payload files one after another as `deliver` does, each given as its path in plain text and its
+    /// content.
     ///
-    /// A delivery that is refused doesn't end the run. Room for an answer is taken before its delivery begins, so that
-    /// each delivery that began has its answer.
+    /// A refusal doesn't end the run. Room for an answer is reserved before its delivery begins, so each delivery that
+    /// began has an answer.
     pub fn run(&mut self, alloc: Global, name: &str, items: &[(String, Vec<u8>)]) -> Run
         ensures runs { Runs K.holds K.may_leave K.clean K.failures self.old self.new name.now
             (with_answers (given_in items.now) result.answers.items) }

@@ -1,4 +1,4 @@
-//! Runs of what a courier brings.
+//! Runs of deliveries from a courier.
 ghost use Rattle.std.specs.Prelude.{◌≡◌, ◌≢◌, ◌≤◌, ◌+◌, ◌++◌, ◌∷◌, [], Err, IfErr, List, OnErr, OnOk, length, map, min, string_bytes, true};
 ghost use Rattle.bag_digest.specs.Device.{CountsIf, greatest_count};
 ghost use Rattle.bag_receiver.specs.declared.answer.Answer.TheVariants.{Repeated};
@@ -17,7 +17,7 @@ use std::alloc::{AllocError, Global};
 mod tests;
 
 impl<K: Keeper> Receiver<K> {
-    /// Takes in what the courier brings, one item after another. Beside the run stands the text of each delivery's
+    /// Takes in what the courier delivers, one item after another. Returns the run and the text of each delivery's
     /// path.
     pub fn run_from<C: Courier>(
         &mut self,
@@ -35,7 +35,7 @@ impl<K: Keeper> Receiver<K> {
             (C.failures courier.old) (C.failures courier.new) }
         ensures nexts { CallsNext (length result.0.answers.items)
             (C.nexts courier.old) (C.nexts courier.new) }
-        // A read that fails is the answer to its item. The courier's end is that of its `next` alone.
+        // A failed read is the answer to its item. `End::Courier` comes only from a failed `next`.
         ensures steady { C.steady courier.old → result.0.ended ≢ End.Courier }
     {
         let mut answers = Vec::new(alloc);
@@ -54,7 +54,7 @@ impl<K: Keeper> Receiver<K> {
     }
 }
 
-/// Goes on to the next item, where `n` were delivered, or says how the run ends.
+/// Goes on to the next item after `n` deliveries, or returns how the run ends.
 fn next_item<C: Courier>(courier: &mut C, n: usize) -> Result<(), End>
     ensures came { OnOk result (ComesNext (C.coming courier.old) true (C.text courier.new)
         (C.remaining courier.new) (C.coming courier.new)) }

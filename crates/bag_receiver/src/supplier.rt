@@ -1,26 +1,26 @@
-//! Suppliers: what has the payload files that are to be fetched.
+//! Suppliers of the payload files to be fetched.
 ghost use Rattle.std.specs.Prelude.{◌≡◌, ◌+◌, ℕ, Option, true, Ok, IfOk, min};
 ghost use Rattle.bag_digest.specs.Device.{CountsFailure, greatest_count};
 ghost use Rattle.bag_receiver.specs.Suppliers.{IsSupplied, Supply};
 
 use bag_digest::{Failed, Source};
 
-/// Has payload files, and is asked for one after another. Its reads give the content of the one that it was asked for
-/// last, where it said that it has it; else they fail.
+/// Supplies payload files on request, one after another. Reads give the content of the last one asked for, if the
+/// supplier said that it has it; otherwise they fail.
 ///
-/// What a folder or a line has nobody knows, so nothing is claimed of it: its `supply` is `None`.
+/// What a folder or a connection has can't be known, so nothing is claimed about it: its `supply` is `None`.
 pub trait Supplier: Source + Drop {
-    /// What it has, where that is known.
+    /// What it has, if that is known.
     ghost supply: { Self → Option Supply };
 
-    /// How often it was asked.
+    /// How many times it was asked.
     ghost asks: { Self → ℕ };
 
-    /// Asks for the payload file that is to come from this url to this path. `false`: it isn't there.
+    /// Asks for the payload file with this url and this path. Returns `false` if the supplier doesn't have it.
     ///
     /// # Errors
     ///
-    /// The supplier failed, and counted it.
+    /// The supplier failed, and counted the failure.
     fn ask(&mut self, url: &str, path: &str) -> Result<bool, Failed>
         ensures supplied { IfOk result (λ has. IsSupplied (supply self.old) url.now path.now has
             (Self.remaining self.new)) }
@@ -29,7 +29,7 @@ pub trait Supplier: Source + Drop {
         ensures counted { CountsFailure result (Self.failures self.old) (Self.failures self.new) }
         ensures asked { asks self.new ≡ min (asks self.old + 1) greatest_count };
 
-    /// How often it was asked. The count stays at its greatest number, 2^64 - 1.
+    /// How many times it was asked. The count saturates at 2^64 - 1.
     fn asks(&self) -> u64
         ensures { result ≡ asks self.now };
 

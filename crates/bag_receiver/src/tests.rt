@@ -18,7 +18,7 @@ const DECLARATION: (&str, &str) = (
     "BagIt-Version: 1.0\nTag-File-Character-Encoding: UTF-8\n",
 );
 
-// The digests of `abc` and of nothing (FIPS 180-4, example B.1, and RFC 6234 section 8.5).
+// The digests of `abc` and of the empty message (FIPS 180-4, example B.1, and RFC 6234 section 8.5).
 const MANIFEST: (&str, &str) = (
     "manifest-sha256.txt",
     "ba7816bf8f01cfea414140de5dae2223b00361a396177a9cb410ff61f20015ad  data/a.txt
@@ -42,7 +42,7 @@ fn items(alloc: Global, pairs: &[(&str, &str)]) -> Result<Items, AllocError> {
     Ok(all)
 }
 
-/// A receiver with transfers of these names, each opened with these tag files.
+/// A receiver with transfers with these names, each opened with these tag files.
 fn opened(
     alloc: Global,
     names: &[&str],

@@ -16,7 +16,7 @@ const EARLIER: (&str, &str) = (
     "BagIt-Version: 0.96\nTag-File-Character-Encoding: UTF-8\n",
 );
 
-// Two files, with the digests of `abc` and of nothing (FIPS 180-4, example B.1, and RFC 6234 section 8.5).
+// Two files, with the digests of `abc` and of the empty message (FIPS 180-4, example B.1, and RFC 6234 section 8.5).
 const MANIFEST: (&str, &str) = (
     "manifest-sha256.txt",
     "ba7816bf8f01cfea414140de5dae2223b00361a396177a9cb410ff61f20015ad  data/a.txt
@@ -24,7 +24,7 @@ e3b0c44298fc1c149afbf4c8996fb92427ae41e4649b934ca495991b7852b855  data/e.txt
 ",
 );
 
-// The same but for its first octet.
+// The same except for its first octet.
 const OTHER_MANIFEST: (&str, &str) = (
     "manifest-sha256.txt",
     "Ba7816bf8f01cfea414140de5dae2223b00361a396177a9cb410ff61f20015ad  data/a.txt
@@ -48,7 +48,7 @@ fn handed(alloc: Global, files: &[(&str, &str)]) -> Result<Handed, AllocError> {
     Ok(all)
 }
 
-/// The answer to these files, in words.
+/// The answer to these files, as text.
 fn answer(
     alloc: Global,
     receiver: &mut Receiver<MapKeeper>,

@@ -8,7 +8,7 @@ mod listed;
 
 const DECLARATION: &str = "BagIt-Version: 1.0\nTag-File-Character-Encoding: UTF-8\n";
 
-// Two files, with the digests of `abc` and of nothing (FIPS 180-4, example B.1, and RFC 6234 section 8.5).
+// Two files, with the digests of `abc` and of the empty message (FIPS 180-4, example B.1, and RFC 6234 section 8.5).
 const MANIFEST: &str = "ba7816bf8f01cfea414140de5dae2223b00361a396177a9cb410ff61f20015ad  data/a.txt
 e3b0c44298fc1c149afbf4c8996fb92427ae41e4649b934ca495991b7852b855  data/e.txt
 ";
@@ -38,7 +38,7 @@ fn an_item(
     })
 }
 
-/// Brings items, the last first, and then fails unless it ends well.
+/// Delivers items, the last one first, and then fails unless it is to end well.
 #[derive(Drop)]
 struct Items {
     left: Vec<Item>,
@@ -143,7 +143,7 @@ impl Courier for Items {
     ghost keeps_item = { λ old new kept. (refl, kept.0, kept.1, λ none. none) };
 }
 
-/// A receiver with one transfer, of two files.
+/// A receiver with one transfer of two files.
 fn begun(alloc: Global) -> Result<Receiver<MapKeeper>, AllocError> {
     let mut files = Vec::new(alloc);
     for (path, text) in [

@@ -1,4 +1,4 @@
-//! Audits: of what can be read again, and of what can't.
+//! Audits of what can be read again, and of what can't.
 use super::large::{self, LENGTH, reader_of};
 use super::{DECLARATION, MANIFEST, opened};
 use crate::{Answer, Receiver, ViewFault};
@@ -9,7 +9,7 @@ use bag_rules::{ItemSize, TagSet, Want};
 use std::alloc::Global;
 use std::test::Fail;
 
-/// The store of a keeper that takes so many reads of pieces, refuses the next, and has failed from then on.
+/// The store of a keeper that accepts this many reads of pieces, refuses the next one, and fails from then on.
 #[derive(Drop)]
 struct Fuse {
     pieces_left: u64,
@@ -23,7 +23,7 @@ impl Fuse {
     ghost use Rattle.bag_ledger.specs.declared.fault.StoreFault.TheVariants.{Spent};
     ghost use Rattle.bag_ledger.specs.declared.fault.KeepFault.TheVariants.{Store};
 
-    /// Whether the store takes one call more.
+    /// Counts one call, which the store accepts or refuses.
     fn take(&mut self) -> Result<(), KeepFault>
         ensures answer { MatchResult result
             (λ done. (self.old.is_spent ≡ false) × (self.new.is_spent ≡ false)
@@ -38,7 +38,7 @@ impl Fuse {
         Err(KeepFault::Store(StoreFault::Spent))
     }
 
-    /// Whether it takes one read of a piece more.
+    /// Counts one read of a piece, which the store accepts or refuses.
     fn take_piece(&mut self) -> Result<(), KeepFault>
         ensures answer { MatchResult result
             (λ done. (self.old.is_spent ≡ false) × (self.new.is_spent ≡ false)
@@ -54,7 +54,7 @@ impl Fuse {
         self.take()
     }
 
-    /// What a call is answered that would write.
+    /// The answer to a call that would write.
     fn refuse(&mut self) -> KeepFault
         ensures { (result ≡ Store Spent) × IsTrue self.new.is_spent
             × Rises self.old.failures self.new.failures }
@@ -65,7 +65,7 @@ impl Fuse {
     }
 }
 
-/// What a keeper in memory holds, to be read as long as its store takes it.
+/// What a keeper in memory holds, to be read as long as its store accepts calls.
 #[derive(Drop)]
 struct ReadKeeper {
     inner: MapKeeper,
@@ -164,7 +164,7 @@ impl Keeper for ReadKeeper {
     ghost sound = { λ keeper ledger clean holds. holds.1 };
 }
 
-/// A receiver over what this keeper holds, of which so many pieces can be read.
+/// A receiver with this keeper, of which this many pieces can be read.
 fn readable(alloc: Global, inner: MapKeeper, pieces: u64) -> Receiver<ReadKeeper> {
     let fuse = Fuse {
         pieces_left: pieces,
@@ -174,7 +174,7 @@ fn readable(alloc: Global, inner: MapKeeper, pieces: u64) -> Receiver<ReadKeeper
     Receiver::new(alloc, ReadKeeper { inner, fuse })
 }
 
-/// Whether the audit of a payload file of three pieces says valid, where its keeper gives so many of them.
+/// Whether the audit of a payload file of three pieces says valid if its keeper gives this many of them.
 fn is_valid_by(alloc: Global, pieces: u64) -> Result<Result<bool, ViewFault>, Fail> {
     let mut receiver = opened(alloc, &["t1"], &[DECLARATION, large::MANIFEST])?;
     let mut reader = reader_of(LENGTH, false, false);

@@ -1,4 +1,4 @@
-//! Exports: into a sink in memory, and into one that fails.
+//! Exports to a sink in memory, and to one that fails.
 use super::large::{LENGTH, PATH, reader_of};
 use super::{DECLARATION, MANIFEST, opened};
 use crate::{Answer, ExportFault, Receiver};
@@ -10,7 +10,7 @@ use bag_writer::{MemSink, Sink};
 use std::alloc::Global;
 use std::test::Fail;
 
-// What `sha256sum` tells of the large file, and of nothing.
+// The output of `sha256sum` for the large file and for an empty one.
 const WITH_LARGE: (&str, &str) = (
     "manifest-sha256.txt",
     "dd84db969f4ff2abb79c8c2fbc06e8d8e02c46d6481c958e057f7ad7a24c58a7  data/large.bin
@@ -18,7 +18,7 @@ e3b0c44298fc1c149afbf4c8996fb92427ae41e4649b934ca495991b7852b855  data/e.txt
 ",
 );
 
-/// A receiver with one transfer, which holds an empty payload file and one of three pieces.
+/// A receiver with one transfer that holds an empty payload file and one of three pieces.
 fn with_large(alloc: Global) -> Result<Receiver<MapKeeper>, Fail> {
     let mut receiver = opened(alloc, &["t1"], &[DECLARATION, WITH_LARGE])?;
     let mut reader = reader_of(LENGTH, false, false);
@@ -90,7 +90,7 @@ fn a_path_that_is_taken_is_a_failure_of_the_sink(rt: HostRuntime) -> Result<(), 
     Ok(())
 }
 
-/// Takes so many calls, and fails from then on.
+/// A sink that accepts this many calls, and fails from then on.
 #[derive(Drop)]
 struct ShortSink {
     calls_left: u64,
@@ -102,7 +102,7 @@ impl ShortSink {
     ghost use Rattle.std.specs.Prelude.{◌≡◌, IsErr, false};
     ghost use Rattle.bag_digest.specs.Device.{CountsIf};
 
-    /// Takes the call if it is in order.
+    /// Accepts the call if it is in order.
     fn take(&mut self, in_order: bool) -> Result<(), Failed>
         ensures order { in_order ≡ false → IsErr result }
         ensures open { self.new.is_open ≡ self.old.is_open }
@@ -152,7 +152,7 @@ impl Sink for ShortSink {
     }
 }
 
-/// What is answered where the sink takes so many calls, and how often it has failed.
+/// The result of an export if the sink accepts this many calls, and how many times it failed.
 fn exported(alloc: Global, calls: u64) -> Result<(Result<u64, ExportFault>, u64), Fail> {
     let mut receiver = with_large(alloc)?;
     let mut sink = ShortSink {
@@ -164,8 +164,8 @@ fn exported(alloc: Global, calls: u64) -> Result<(Result<u64, ExportFault>, u64)
     Ok((told, sink.failures()))
 }
 
-// The payload directory; a file, its octets and its end for each tag file; the same for a payload file, whose octets are three
-// pieces or none.
+// The calls are the payload directory; a file, its octets and its end for each tag file; and the same for each payload
+// file, whose octets are three pieces or none.
 #[test]
 fn a_sink_that_fails_ends_the_export(rt: HostRuntime) -> Result<(), Fail> {
     let alloc = rt.alloc();

@@ -7,13 +7,13 @@ use std::alloc::Global;
 use std::io::Read;
 use std::test::Fail;
 
-// The first path stands there twice.
+// The first path occurs twice.
 const FETCH: (&str, &str) = (
     "fetch.txt",
     "http://example.org/e 0 data/e.txt\nhttp://example.org/f - data/e.txt\nhttp://example.org/a - data/a.txt\n",
 );
 
-/// What a supplier does with what it is asked for.
+/// How a supplier answers a request.
 #[derive(Clone, Copy)]
 enum Manner {
     HasNothing,
@@ -22,7 +22,7 @@ enum Manner {
     Breaks,
 }
 
-/// Does the same with all that it is asked for.
+/// A supplier that answers all requests in the same way.
 #[derive(Drop)]
 struct Same {
     manner: Manner,
@@ -101,7 +101,7 @@ impl Supplier for Same {
     ghost keeps_supply = { λ old new kept. (refl, kept) };
 }
 
-/// What is answered to each entry that is asked for, and how often was asked.
+/// The outcome of each entry asked for, and how many times the supplier was asked.
 fn fetched(
     alloc: Global,
     receiver: &mut Receiver<MapKeeper>,
@@ -115,7 +115,7 @@ fn fetched(
     Ok((told, supplier.asks()))
 }
 
-/// Whether these are the answers, by line, and the supplier was asked for each of them once.
+/// Whether these are the outcomes, by line, and the supplier was asked once for each of them.
 fn is_told(
     alloc: Global,
     receiver: &mut Receiver<MapKeeper>,
@@ -126,7 +126,7 @@ fn is_told(
     Ok(told.as_slice() == expected && asks == expected.len() as u64)
 }
 
-/// Whether each of the three entries is answered so.
+/// Whether each of the three entries has this outcome.
 fn is_told_of_all(
     alloc: Global,
     receiver: &mut Receiver<MapKeeper>,

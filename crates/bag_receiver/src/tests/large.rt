@@ -1,4 +1,4 @@
-//! A payload file that comes in several pieces.
+//! A payload file of several pieces.
 use super::{DECLARATION, OTHER_DIGEST, is_valid, opened};
 use crate::{Answer, DeliverFault, Receiver};
 use bag_digest::Counted;
@@ -12,18 +12,18 @@ pub(super) const PATH: &str = "data/large.bin";
 /// Two pieces of 65,536 octets, and one octet.
 pub(super) const LENGTH: usize = 131_073;
 
-// What `sha256sum` tells of that many octets 0, 1, .., 250, 0, 1, ..
+// The output of `sha256sum` for this many octets 0, 1, .., 250, 0, 1, ..
 pub(super) const MANIFEST: (&str, &str) = (
     "manifest-sha256.txt",
     "dd84db969f4ff2abb79c8c2fbc06e8d8e02c46d6481c958e057f7ad7a24c58a7  data/large.bin\n",
 );
 
-/// Gives octets that count up to 250 and then from 0 again, and after them the end or an error.
+/// Gives octets that count up to 250 and start again from 0, and after them the end or an error.
 #[derive(Drop)]
 pub(super) struct Counting {
     given: usize,
     left: usize,
-    /// The last octet is another one.
+    /// The last octet is different.
     is_damaged: bool,
     breaks: bool,
 }

@@ -1,11 +1,11 @@
-//! A courier of which it is known what it will bring.
+//! A courier whose items are known.
 use super::begun;
 use crate::{Answer, Courier, DeliverFault, End};
 use bag_digest::{Alg, Failed, Failures, Source};
 use std::io::Read;
 use std::test::Fail;
 
-/// Brings the items of a list, as they stand there.
+/// Delivers the items of a list, in order.
 #[derive(Drop)]
 struct Listed<'a> {
     items: &'a [(String, Vec<u8>)],
