@@ -1,4 +1,5 @@
-//! Laws on the definitions that the contracts of this crate cite. Each function's contract is one law, and its body is empty.
+//! Laws on the definitions that the contracts of this crate cite. Each function's contract is one law, and its body is
+//! empty.
 ghost use Rattle.std.specs.Prelude.{◌≡◌, ◌≢◌, ◌↔◌, ℕ, List, Some};
 ghost use Rattle.std.specs.Map.{keys_of};
 ghost use Rattle.bag_ledger.specs.Ledgers.{IsSound, Ledger, Transfer, begun, content_of, holding, transfer_of, with_item, with_transfer};

@@ -19,7 +19,8 @@ e3b0c44298fc1c149afbf4c8996fb92427ae41e4649b934ca495991b7852b855  data/e.txt
 7e009ea4ef882e385b3c0bcbbfa8d009bb0a633bdd764415c09182ee0e75da73  data/m.txt
 ";
 
-/// Tag files of a transfer of `data/a.txt`, which is `abc`, of `data/e.txt`, which is empty, and of `data/m.txt`, which is long.
+/// Tag files of a transfer of `data/a.txt`, which is `abc`, of `data/e.txt`, which is empty, and of `data/m.txt`, which
+/// is long.
 fn tag_files(alloc: Global) -> Result<TagSet, Fail> {
     let mut tags = TagSet::new(alloc);
     tags.add("bagit.txt", Vec::from_slice(alloc, DECLARATION.as_bytes())?)?;

@@ -6,8 +6,8 @@ use sqlite::{Connection, Error, MemStore, params};
 use std::alloc::Global;
 use std::test::Fail;
 
-/// Two transfers. `t1` lists `abc`, no octets, and 65,537 zeros, and holds all three, the zeros in two pieces; `t2` lists and holds
-/// `abc`.
+/// Two transfers. `t1` lists `abc`, an empty content and 65,537 zeros, and holds all three, the zeros in two pieces;
+/// `t2` lists and holds `abc`.
 const TRANSFERS: &str = "INSERT INTO transfer (id, name) VALUES (1, 't1'), (2, 't2');
     INSERT INTO tag (transfer, path, body) VALUES
     (1, 'bagit.txt', x'42616749742d56657273696f6e3a20312e300a5461672d46696c652d4368617261637465722d456e636f64696e673a205554462d380a'),
