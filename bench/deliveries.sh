@@ -1,11 +1,12 @@
 #!/usr/bin/env bash
-# What a receiver takes over a map in memory for payload files of 2,048 octets of one transfer, one by one (`deliver`) and in one run
-# (`run`), in seconds, and as a ratio to taking their digests and copying them into a map (`copies`). The time in which the files and
-# their manifest are made is taken off each. Beside it, the greatest resident set in octets a file above that of `copies`.
+# The time in seconds that a receiver with a map in memory takes for payload files of 2,048 octets of one transfer, one
+# by one (`deliver`) and in one run (`run`), and its ratio to computing their digests and copying them into a map
+# (`copies`). The time for making the files and their manifest is subtracted from each. The last column is the greatest
+# resident set above that of `copies`, in octets per file.
 set -eu
 cd "$(dirname -- "$0")/../crates/bag_bench"
 
-# With no words the program ends with status 64.
+# Without arguments the program ends with status 64.
 rt run </dev/null >&2 || true
 
 # taken WORK FILES: the least user time of five runs in milliseconds, and the greatest resident set in KiB

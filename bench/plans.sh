@@ -1,10 +1,10 @@
 #!/usr/bin/env bash
-# The time in seconds and the greatest resident set in MiB that the plan of a transfer takes, whose payload files are listed by four
-# manifests: `tags` makes the tag files alone, `plan` their plan too, and `wants` then asks it for each path.
+# The time in seconds and the greatest resident set in MiB for the plan of a transfer whose payload files are listed in
+# four manifests: `tags` makes only the tag files, `plan` also their plan, and `wants` then asks the plan for each path.
 set -eu
 cd "$(dirname -- "$0")/../crates/bag_bench"
 
-# With no words the program ends with status 64.
+# Without arguments the program ends with status 64.
 rt run </dev/null >&2 || true
 
 printf '%-10s %16s %16s %16s\n' work 1,000 10,000 100,000

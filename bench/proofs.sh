@@ -1,6 +1,7 @@
 #!/usr/bin/env bash
-# What the proofs cost: for each crate a row of the table in docs/PROOFS.md, in minutes of a processor. All is proved from nothing,
-# on a copy of what git keeps; that takes about as long as ./test on one processor. Below stand the minutes of all of it.
+# The cost of the proofs: for each crate a row of the table in docs/PROOFS.md, in processor minutes. Everything is
+# proved from scratch on a copy of the files that git keeps, which takes about as long as ./test on one processor. The
+# last line is the total.
 set -eu -o pipefail
 cd "$(dirname -- "$0")/.."
 work=$(mktemp -d)
@@ -8,12 +9,12 @@ trap 'rm -rf -- "$work"' EXIT
 git ls-files -z -- crates crates.txt HANDLES | tar -c --null -T - | tar -x -C "$work"
 cd "$work"
 
-# run_in FOLDER COMMAND..: what the command says is kept, and shown where it fails.
+# run_in FOLDER COMMAND..: keeps the output of the command, and shows it if the command fails.
 run_in() {
     (cd "$1" && "${@:2}") >"$work/said" 2>&1 || { cat "$work/said" >&3 && false; }
 }
 
-# minutes FOLDER COMMAND..: the minutes of a processor that the command takes in this folder.
+# minutes FOLDER COMMAND..: the processor minutes that the command takes in this folder.
 minutes() {
     local TIMEFORMAT='%U %S'
     { time run_in "$@"; } 2>&1 | awk '{ printf "%.1f", ($1 + $2) / 60 }'

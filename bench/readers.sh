@@ -1,10 +1,10 @@
 #!/usr/bin/env bash
-# The time in seconds that a reader of bag_tags takes for a text of so many lines. The text is made in memory; that alone is the
-# row `none`.
+# The time in seconds that a reader of bag_tags takes for a text with this many lines. The text is made in memory; the
+# row `none` is the time for that alone.
 set -eu
 cd "$(dirname -- "$0")/../crates/bag_bench"
 
-# With no words the program ends with status 64.
+# Without arguments the program ends with status 64.
 rt run </dev/null >&2 || true
 
 TIMEFORMAT=%U

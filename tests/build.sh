@@ -1,11 +1,12 @@
 #!/usr/bin/env bash
-# The script `bag` alone: when it builds, and that it hands on words, output and status. The program and the kit are stand-ins.
+# The script `bag` alone: when it builds, and that it passes on arguments, output and status. The program and the kit
+# are stand-ins.
 set -u
 cd "$(dirname -- "$0")/.." || exit 1
 . tests/common.bash
 
-# A repository of two crates, and a third that is no part of the program. Its stand-in for rt makes a program that prints its
-# words, each on a line of its own.
+# A repository of two crates, and a third that isn't part of the program. The stand-in for rt makes a program that
+# prints its arguments, one per line.
 repository="$work/a repository"
 crate=$repository/crates/bag_cmd
 mkdir -p "$crate/src" "$crate/specs" "$crate/proofs" "$repository/crates/low/src" "$work/kit"
@@ -38,7 +39,7 @@ for tool in sh dirname readlink find date touch sed mkdir; do
 done
 PATH=$work/kit:$PATH
 
-# builds COMMAND..: runs the command, and then prints how often it built. Its standard error is kept.
+# builds COMMAND..: runs the command, and then prints how many times it built. Its standard error is kept.
 builds() {
     local status=0
     : >"$repository/builds"
@@ -47,26 +48,27 @@ builds() {
     return "$status"
 }
 
-# builds_after COMMAND..: the same of a run of `bag` after the command, which edits something. Files have coarse times.
+# builds_after COMMAND..: does the same for a run of `bag` after the command, which edits something. File times are
+# coarse.
 builds_after() {
     sleep 0.1
     "$@"
     builds "$repository/bag" word
 }
 
-# without_kit COMMAND..: runs the command where there is no rt.
+# without_kit COMMAND..: runs the command without rt on PATH.
 without_kit() {
     PATH=$work/tools "$@"
 }
 
 expect 'the first run builds' 7 $'<word>\nbuilds: 1' builds "$repository/bag" word
 expect 'each crate is built once, from below' 0 $'rt lib in low\nrt run in bag_cmd' cat "$repository/builds"
-expect 'a build says one line a crate' 0 $'bag: proving low\nbag: proving bag_cmd' cat "$work/build"
-expect 'what rt says is kept' 0 $'what rt says of low\nwhat rt says of bag_cmd' grep '^what' "$crate/out/build.log"
+expect 'a build prints one line per crate' 0 $'bag: proving low\nbag: proving bag_cmd' cat "$work/build"
+expect 'the output of rt is kept' 0 $'what rt says of low\nwhat rt says of bag_cmd' grep '^what' "$crate/out/build.log"
 expect 'the next run builds nothing' 7 $'<word>\nbuilds: 0' builds "$repository/bag" word
 expect 'the next run says nothing of its own' 7 '<word>' "$repository/bag" word
-expect 'words are handed on as they are' 7 $'<two  words>\n<>\n<-x>\n<*>' "$repository/bag" 'two  words' '' -x '*'
-expect 'no words' 64 'no words' "$repository/bag"
+expect 'arguments are passed on as they are' 7 $'<two  words>\n<>\n<-x>\n<*>' "$repository/bag" 'two  words' '' -x '*'
+expect 'no arguments' 64 'no words' "$repository/bag"
 expect 'through a link' 7 '<word>' "$work/link" word
 expect 'from another directory' 7 '<word>' env -C / "$repository/bag" word
 expect 'an edited source' 7 $'<word>\nbuilds: 1' builds_after touch "$crate/src/main.rt"
@@ -89,14 +91,15 @@ fails_in() {
     return "$status"
 }
 expect 'a build that fails in the program' 70 'builds: 1' fails_in bag_cmd
-kept="bag: the program was not built; $crate/out/build.log has what rt said"
+kept="bag: the program was not built; see the output of rt in $crate/out/build.log"
 expect 'a build that fails says where to look' 0 "$kept" tail -n 1 "$work/build"
-expect 'what rt said of it is there' 0 $'what rt says of low\nwhat rt says of bag_cmd' grep '^what' "$crate/out/build.log"
+expect 'the output of rt is there' 0 $'what rt says of low\nwhat rt says of bag_cmd' grep '^what' "$crate/out/build.log"
 expect 'a build that fails in a crate below' 70 'builds: 0' fails_in low
 expect 'it says where to look' 0 "$kept" tail -n 1 "$work/build"
-expect 'what rt said of it, and nothing of the build before' 0 'what rt says of low' grep '^what' "$crate/out/build.log"
+expect 'the output of rt, and nothing of the build before' 0 'what rt says of low' grep '^what' "$crate/out/build.log"
 
-# on_terminal COMMAND..: the command on a terminal. What it writes over is shown line by line, without the blanks at the end.
+# on_terminal COMMAND..: runs the command on a terminal. Overwritten text is shown line by line, without trailing
+# spaces.
 on_terminal() {
     script -qec "$(printf '%q ' "$@")" "$work/typescript" | tr '\r' '\n' | sed 's/ *$//; /^$/d'
     return "${PIPESTATUS[0]}"
@@ -115,7 +118,7 @@ bag: proving bag_cmd: 3 of 40 functions'
     expect 'a build on a terminal that fails' 70 "$(head -n 2 <<<"$far")"$'\n'"$kept" on_terminal "$repository/bag" word
     rm "$repository/broken-low"
 else
-    lacking 'a build on a terminal, for want of script'
+    lacking 'a build on a terminal (script is not installed)'
 fi
 expect 'the build after it' 7 $'<word>\nbuilds: 1' builds "$repository/bag" word
 finish

@@ -1,5 +1,5 @@
 #!/usr/bin/env bash
-# The commands on ledgers of every kind, and one after another.
+# The commands on ledgers of every kind, and in every order.
 set -u
 cd "$(dirname -- "$0")/.." || exit 1
 . tests/common.bash

@@ -1,36 +1,36 @@
 #!/usr/bin/env bash
-# The commands on a ledger, with real ledgers and folders: what they print, their statuses, and what is there afterwards.
+# The commands on a ledger, with real ledgers and folders: what they print, their statuses, and what exists afterwards.
 set -u
 cd "$(dirname -- "$0")/.." || exit 1
 . tests/common.bash
 
-# put FILE TEXT: writes the file, and makes the folders that it is in.
+# put FILE TEXT: writes the file, and makes its parent folders.
 put() {
     mkdir -p -- "$(dirname -- "$1")" && printf %s "$2" >"$1"
 }
 
-# brought NAME PATH TEXT: a folder of this name, with one payload file.
+# brought NAME PATH TEXT: makes a folder with this name and one payload file.
 brought() {
     put "$work/$1/$2" "$3"
 }
 
-# new_tags NAME: a folder of this name with the tag files of the first bag.
+# new_tags NAME: makes a folder with this name and the tag files of the first bag.
 new_tags() {
     mkdir -p "$work/$1"
     cp examples/first-bag/*.txt "$work/$1"
 }
 
-# same_bag FOLDER FOLDER: both are valid, and have the same files.
+# same_bag FOLDER FOLDER: both are valid bags, and have the same files.
 same_bag() {
     bag check "$1" && bag check "$2" && diff -r "$1" "$2"
 }
 
-# digests COMMAND FOLDER FILE..: the command of coreutils takes these digests, named as from the folder.
+# digests COMMAND FOLDER FILE..: the digests that this command of coreutils computes, with names relative to the folder.
 digests() {
     (cd "$2" && "$1" -- "${@:3}")
 }
 
-# sql FILE TEXT: what sqlite3 answers.
+# sql FILE TEXT: the answer of sqlite3.
 sql() {
     sqlite3 "$1" "$2"
 }
@@ -60,7 +60,7 @@ refuse 'list with a name' "error: unexpected argument 't1' found" bag list "$led
 refuse 'an option' "error: unexpected argument '--force' found" bag begin --force "$ledger" t1 "$work/tags"
 expect 'nothing was made' 0 '' nothing "$ledger"
 
-# A transfer that comes in one folder.
+# A transfer that arrives in one folder.
 expect 'begin' 0 new bag begin "$ledger" t1 "$work/tags"
 expect 'a transfer of which nothing came' 1 "$both_missing" bag report "$ledger" t1
 expect 'a transfer of which nothing came, audited' 1 "$both_missing" bag audit "$ledger" t1
@@ -77,7 +77,7 @@ sed -i 1s/b/B/ "$work/changed/manifest-sha256.txt"
 expect 'begin with other tag files' 1 'refused: differs' bag begin "$ledger" t1 "$work/changed"
 expect 'what is held stays' 0 valid bag audit "$ledger" t1
 
-# Of a name that no transfer has.
+# A name that no transfer has.
 for name in t2 T1 '' 't 1' -; do
     expect "intake as '$name'" 1 'refused data/a.txt: no transfer
 refused data/e.txt: no transfer' bag intake "$ledger" "$name" "$work/whole"
@@ -101,7 +101,7 @@ expect 'all names' 0 "---
 $long_name
 t1" bag list "$ledger"
 
-# Deliveries in any order: each folder brings one file.
+# Deliveries in any order: each folder contains one file.
 brought a data/a.txt abc
 brought e data/e.txt ''
 brought abd data/a.txt abd
@@ -132,7 +132,7 @@ expect 'another transfer: the other file' 0 'taken data/a.txt' bag intake "$work
 expect 'another transfer: report again' 0 valid bag report "$work/other" t3
 expect 'both names' 0 $'t1\nt3' bag list "$work/other"
 
-# Lengths and digests that are listed.
+# Listed lengths and digests.
 new_tags lengths
 printf '%s\n' 'http://example.org/a 3 data/a.txt' 'http://example.org/e - data/e.txt' >"$work/lengths/fetch.txt"
 expect 'lengths' 0 new bag begin "$work/length" t1 "$work/lengths"
@@ -145,7 +145,7 @@ expect 'two lengths' 0 new bag begin "$work/length" t2 "$work/lengths"
 expect 'two lengths: none is right' 1 'refused data/a.txt: length
 refused data/a.txt: length' bag intake "$work/length" t2 "$work/a" "$work/abcd"
 
-# A transfer without payload files is whole at once.
+# A transfer without payload files is complete at once.
 put "$work/empty/bagit.txt" "$declaration"
 : >"$work/empty/manifest-sha256.txt"
 expect 'no payload' 0 new bag begin "$work/no payload" t1 "$work/empty"
@@ -154,7 +154,7 @@ expect 'no payload: export' 0 'exported 2 files' bag export "$work/no payload" t
 expect 'no payload: the files' 0 $'bagit.txt\ndata\nmanifest-sha256.txt' below "$work/empty bag"
 expect 'no payload: intake of nothing' 0 '' bag intake "$work/no payload" t1 "$work/empty" "$work/tags"
 
-# A bag by two algorithms, with a hole that a supplier fills.
+# A bag with two algorithms and a hole that a supplier fills.
 mkdir -p "$work/hole/data" "$work/supplier"
 printf abc >"$work/hole/data/a.txt"
 printf '%s' "$declaration" >"$work/hole/bagit.txt"
@@ -214,7 +214,7 @@ expect 'a hole: export' 0 'exported 9 files' bag export "$work/holes" w "$work/f
 : >"$work/hole/data/e.txt"
 expect 'a hole: the bag with its hole filled' 0 $'valid\nvalid' same_bag "$work/hole" "$work/filled"
 
-# Several entries, one of which names a file again.
+# Several entries, one of which lists a file again.
 new_tags entries
 printf '%s\n' 'http://example.org/e 0 data/e.txt' 'http://example.org/1 - data/a.txt' 'http://example.org/2 3 data/a.txt' \
     >"$work/entries/fetch.txt"
@@ -229,7 +229,8 @@ expect 'entries: one of them' 1 $'refused data/e.txt: not supplied\ntaken data/a
 expect 'entries: the other' 0 'taken data/e.txt' bag fetch "$work/several" t1 "$work/e"
 expect 'entries: a payload without a fetch.txt' 0 '' bag fetch "$work/other" t1 "$work/e"
 
-# refused NAME STATUS LINE FOLDER: no transfer begins with its tag files, no ledger is made, and one that is there stays as it was.
+# refused NAME STATUS LINE FOLDER: no transfer is opened with its tag files, no ledger is made, and an existing one
+# stays as it was.
 refused() {
     sha256sum "$ledger" >"$work/before"
     expect "$1" "$2" "$3" bag begin "$ledger" new "$4"
@@ -238,7 +239,7 @@ refused() {
     expect "$1: no ledger is made" 0 '' nothing "$work/new"
     expect "$1: nor a log" 0 '' nothing "$work/new-wal"
 }
-# but NAME FILE TEXT: a folder with the tag files of the first bag, but one file.
+# but NAME FILE TEXT: makes a folder with the tag files of the first bag, except for one file.
 but() {
     new_tags "$1"
     printf '%b' "$3" >"$work/$1/$2"
@@ -300,7 +301,7 @@ expect 'no folder, and no name of a transfer' 3 'bag: files' bag begin "$ledger"
 expect 'no folder for a ledger' 3 'bag: store' bag begin "$work/none/ledger" t1 "$work/tags"
 expect 'no folder for a ledger: none is made' 0 '' nothing "$work/none"
 
-# What can't be in a bag ends a command before it does any work.
+# What isn't allowed in a bag ends a command before it does any work.
 mkdir "$work/with link" "$work/with fifo" "$work/other octets" "$work/plain data"
 for folder in 'with link' 'with fifo' 'other octets' 'plain data'; do
     cp -r examples/first-bag/. "$work/$folder"
@@ -322,7 +323,7 @@ expect 'a link that leads to a folder' 0 '' ln -s whole "$work/a link"
 expect 'a link that leads to a folder: begin' 0 again bag begin "$work/none taken" t1 "$work/a link"
 expect 'a link that leads to a folder: intake' 0 $'taken data/a.txt\ntaken data/e.txt' bag intake "$work/none taken" t1 "$work/a link"
 
-# stays NAME FOLDER: what is there already is left as it was by an export.
+# stays NAME FOLDER: an export leaves what already exists as it was.
 stays() {
     find "$2" -printf '%P %y %T@ %s\n' 2>"$work/gone" | LC_ALL=C sort >"$work/before"
     expect "$1" 3 'bag: files' bag export "$ledger" t1 "$2"
@@ -380,7 +381,7 @@ rm -r "$work/named"/data/[!m]*
 expect 'names: one that is not listed' 1 'repeated data/manifest-sha256.txt
 refused data/more%0A%25: not listed' bag intake "$work/a ledger's name %0A é" names "$work/named"
 
-# The longest path that can be opened from a folder of one letter has 4,093 octets.
+# The longest path that can be opened from a folder with a one-letter name has 4,093 octets.
 name=$(printf 'k%.0s' {1..225})
 mkdir -p "$work/long/b/data"
 (cd "$work/long/b/data" && for _ in {1..18}; do mkdir "$name" && cd "$name" || exit; done && printf abc >"$(printf 'f%.0s' {1..18})")
@@ -392,7 +393,7 @@ expect 'a long path: intake' 0 "taken $long_path" env -C "$work/long" "$PWD/bag"
 expect 'a long path: export' 0 'exported 3 files' env -C "$work/long" "$PWD/bag" export l t1 x
 expect 'a long path: the bag' 0 valid env -C "$work/long" "$PWD/bag" check x
 
-# Names that are words of other kinds.
+# Names that could be taken for something else.
 expect 'a ledger named as an option' 0 new env -C "$work" "$PWD/bag" begin -- --ledger t1 tags
 expect 'a ledger named as an option: list' 0 t1 env -C "$work" "$PWD/bag" list -- --ledger
 expect 'a ledger named as an option: it is there' 0 '' test -f "$work/--ledger"
@@ -425,7 +426,7 @@ expect 'a file past the limit: begin' 0 new bag begin "$work/no payload" one "$w
 expect 'a file past the limit' 1 'refused data/A: too large' bag intake "$work/no payload" one "$work/past"
 expect 'a file past the limit: the log is gone' 0 '' nothing "$work/no payload-wal"
 
-# What may not be read or written.
+# Files that may not be read or written.
 chmod 711 "$work"
 cp crates/bag_cmd/out/bag_cmd "$work/program"
 chmod a+rx "$work/program"
@@ -471,9 +472,9 @@ for words in "report $work/open/ledger t1" "list $work/open/ledger" "begin $work
 done
 expect 'a ledger that may not be read: no bag is made' 0 '' nothing "$work/open/new"
 
-# A disk that takes no more, and outputs that take nothing.
+# A full disk, and outputs that are closed or full.
 if unshare -m sh -c "mkdir '$work/disk' && mount -t tmpfs -o size=1m bag '$work/disk'" 2>"$work/no mount"; then
-    # on_disk: a transfer on a disk of 1 MiB, each command with its status.
+    # on_disk: a transfer on a disk of 1 MiB, each command followed by its status.
     on_disk() {
         unshare -m sh -c 'mount -t tmpfs -o size=1m bag "$1/disk" && cd "$1" || exit
             "$1/program" begin disk/ledger one "large again"; echo "$?"
@@ -493,7 +494,7 @@ not complete
 exported 6 files
 0' on_disk
 else
-    lacking 'a full disk, for want of leave to mount one'
+    lacking 'a full disk (no permission to mount one)'
 fi
 expect 'an export that is cut short' 3 'bag: files' small_files "$work/program" export "$work/large ledger" one "$work/cut"
 expect 'an export that is cut short: what was written stays' 0 $'bagit.txt\nbag-info.txt\ndata/A' \

@@ -1,14 +1,14 @@
 # shellcheck shell=bash
-# What the test scripts share. A script sources this file at the top of the repository, calls `expect` for each case, and ends
-# with `finish`.
+# The functions that the test scripts share. A script sources this file in the root of the repository, calls `expect`
+# for each case, and ends with `finish`.
 
 work=$(mktemp -d)
 trap 'rm -rf -- "$work"' EXIT
 passed=0
 failed=0
 
-# expect NAME STATUS LINES COMMAND..: the command ends with the status, prints the lines (none where LINES is empty) and says
-# nothing on standard error.
+# expect NAME STATUS LINES COMMAND..: the command ends with this status, prints these lines (none if LINES is empty) and
+# prints nothing on standard error.
 expect() {
     local name=$1 wanted=$2 lines=$3 status=0
     shift 3
@@ -18,11 +18,12 @@ expect() {
         passed=$((passed + 1))
     else
         failed=$((failed + 1))
-        echo "FAILED: $name: status $status, and $wanted is wanted"
+        echo "FAILED: $name: status $status instead of $wanted"
     fi
 }
 
-# refuse NAME START COMMAND..: the command ends with status 64 and prints nothing; what it says on standard error begins so.
+# refuse NAME START COMMAND..: the command ends with status 64, prints nothing on standard output, and its output on
+# standard error begins with START.
 refuse() {
     local name=$1 start=$2 status=0
     shift 2
@@ -35,22 +36,23 @@ refuse() {
     fi
 }
 
-# bag WORD..: the program, which is stopped where it hasn't ended after five minutes.
+# bag ARGUMENT..: runs the program, and stops it after five minutes.
 bag() {
     timeout 300 ./bag "$@"
 }
 
-# below FOLDER: what stands below it, by name, each on a line; an LF in a name is written as a question mark.
+# below FOLDER: lists what is below it by name, one per line; an LF in a name is written as a question mark.
 below() {
     (cd "$1" && find . -mindepth 1 -printf '%P\0' | LC_ALL=C sort -z | tr '\n\0' '?\n')
 }
 
-# nothing FILE: it isn't there, nor anything else of its name.
+# nothing FILE: nothing with this name exists.
 nothing() {
     [ ! -e "$1" ] && [ ! -L "$1" ]
 }
 
-# nobody COMMAND..: the command as nobody where this script is run by root, who may read and write everything.
+# nobody COMMAND..: runs the command as the user nobody if this script is run by root, who may read and write
+# everything.
 nobody() {
     if [ "$(id -u)" -eq 0 ]; then
         timeout 60 setpriv --reuid=65534 --regid=65534 --clear-groups "$@"
@@ -59,7 +61,7 @@ nobody() {
     fi
 }
 
-# closed COMMAND.. and full COMMAND..: the command where its standard output is closed, and where it takes no octet.
+# closed COMMAND.. and full COMMAND..: the command with a closed standard output, and with a full one.
 closed() {
     "$@" >&-
 }
@@ -67,21 +69,21 @@ full() {
     "$@" >/dev/full
 }
 
-# small_files COMMAND..: no file takes more than 64 KiB.
+# small_files COMMAND..: runs the command with files limited to 64 KiB.
 small_files() (
     trap '' XFSZ
     ulimit -f 64
     exec "$@"
 )
 
-# build_first: builds the program where it has to be. What a build says would be noise in the first case.
+# build_first: builds the program if necessary. The output of a build would disturb the first case.
 build_first() {
     local status=0
     ./bag >"$work/printed" || status=$?
-    [ "$status" -eq 64 ] || { echo "FAILED: ./bag without words: status $status, and 64 is wanted" && exit 1; }
+    [ "$status" -eq 64 ] || { echo "FAILED: ./bag without arguments: status $status instead of 64" && exit 1; }
 }
 
-# build_driver: builds the driver where it has to be, and names it. With no words it ends with status 64.
+# build_driver: builds the driver if necessary, and sets `driver` to its name. Without arguments it ends with status 64.
 build_driver() {
     driver=crates/bag_bench/out/bag_bench
     if [ ! -x "$driver" ] || [ -n "$(find crates.txt crates/*/{src,specs,proofs} -newer "$driver" -print -quit)" ]; then
@@ -91,17 +93,17 @@ build_driver() {
     fi
 }
 
-# lacking TEXT..: cases are left out, for want of what the text names. Where CI is set to true, that is a failure.
+# lacking TEXT..: some cases are skipped, and TEXT says which and why. If CI is set to true, that is a failure.
 lacking() {
     if [ "${CI-}" = true ]; then
         failed=$((failed + 1))
-        echo "FAILED: not tried: $*"
+        echo "FAILED: skipped: $*"
     else
         echo "skipped: $*"
     fi
 }
 
-# finish: the closing line, and the status of the script. A script that tried nothing fails.
+# finish: prints the last line, and returns the status of the script. A script that tried nothing fails.
 finish() {
     echo "$passed passed, $failed failed"
     [ "$failed" -eq 0 ] && [ "$passed" -gt 0 ]

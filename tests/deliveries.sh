@@ -1,6 +1,6 @@
 #!/usr/bin/env bash
-# Random lists of deliveries, with losses, repeats, damage and other transfers between them, which the receiver answers as a second
-# program does, over a map and over a database, both in memory.
+# Random lists of deliveries, with losses, repeats, damage and other transfers in between. The receiver answers them as
+# a second program does, with a map and with a database, both in memory.
 set -u
 cd "$(dirname -- "$0")/.." || exit 1
 . tests/common.bash

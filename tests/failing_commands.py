@@ -1,5 +1,5 @@
 #!/usr/bin/env python3
-"""failing_commands.py PROGRAM MOST growths LIBRARY, or failing_commands.py PROGRAM MOST calls: runs each command on a ledger with one growth
+"""failing_commands.py PROGRAM MOST allocations LIBRARY, or failing_commands.py PROGRAM MOST calls: runs each command on a ledger with one growth
 of memory refused, or with one call of the system that fails, once for each (of one command for MOST of them, spread over all; 0: all).
 
 After each the answer is the command's, or names what failed; what was answered is held, as sqlite3 reads it, and nothing else but what
@@ -220,7 +220,7 @@ def held(receiver):
 
 def is_memory(failed):
     """Whether what failed was to give memory."""
-    return failed.startswith(("growth", "mmap(", "mremap("))
+    return failed.startswith(("allocation", "mmap(", "mremap("))
 
 
 def spread(numbers, most):
@@ -229,7 +229,7 @@ def spread(numbers, most):
 
 
 def refuse_growths(case, most, library):
-    """How many growths were refused."""
+    """Returns how many allocations failed."""
     variables = {"LD_PRELOAD": library, "ASKED": "../asked", "REFUSED": "../refused"}
     case.start()
     case.run([], {**variables, "REFUSE": "0"})
@@ -239,14 +239,14 @@ def refuse_growths(case, most, library):
         case.start()
         ran = case.run([], {**variables, "REFUSE": str(number)})
         if not os.path.exists("../refused"):
-            raise Otherwise(f"growth {number} was never asked for")
+            raise Otherwise(f"allocation {number} was never asked for")
         os.unlink("../refused")
-        told(case, f"growth {number}", ran, "growth")
+        told(case, f"allocation {number}", ran, "allocation")
     return len(numbers)
 
 
 def fail_calls(case, most):
-    """How many calls failed."""
+    """Returns how many calls failed."""
     case.start()
     all_calls, of_start = traced(case.run, []), traced(subprocess.run, [[case.program]])
     failed = 0
@@ -284,7 +284,7 @@ def told(case, what, ran, failed):
 
 def main(program, most, kind, *library):
     program = os.path.abspath(program)
-    work = {"growths": refuse_growths, "calls": fail_calls}[kind]
+    work = {"allocations": refuse_growths, "calls": fail_calls}[kind]
     failed, faults = 0, []
     libraries = list(map(os.path.abspath, library))
     with tempfile.TemporaryDirectory() as folder:

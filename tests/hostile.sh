@@ -1,6 +1,6 @@
 #!/usr/bin/env bash
-# Bags in tables: small ones, by each rule, and hostile ones, with texts cut at each octet, odd names, endless lines and numbers,
-# and the limits from both sides.
+# Tables of bags: small ones for each rule, and hostile ones, with texts cut at each octet, odd names, endless lines and
+# numbers, and the limits from both sides.
 set -u
 cd "$(dirname -- "$0")/.." || exit 1
 . tests/common.bash

@@ -1,7 +1,7 @@
 #!/usr/bin/env bash
-# Faults of the machine while the program runs: files that change, calls that fail, little memory, outputs that take a part.
-# Each run ends with its status and one clear line, or with a verdict that the rules allow. Of a command on a ledger some calls of the
-# system fail, spread over all of a name; with the option --all each.
+# Faults of the machine while the program runs: files that change, system calls that fail, little memory, and outputs
+# that accept only part. Each run ends with its status and one clear line, or with a verdict that the rules allow. For a
+# command on a ledger some system calls fail, spread over all with the same name; with the option --all every one fails.
 set -u
 cd "$(dirname -- "$0")/.." || exit 1
 . tests/common.bash
@@ -9,15 +9,16 @@ cd "$(dirname -- "$0")/.." || exit 1
 build_first
 program=crates/bag_cmd/out/bag_cmd
 
-# big NAME: a bag with a payload file that takes many seconds to read, and no room on the disk, and with data/z after it.
+# big NAME: makes a bag with a sparse payload file that takes many seconds to read but no room on the disk, followed by
+# data/z.
 big() {
     cp -r examples/first-bag "$work/$1"
     truncate -s 64G "$work/$1/data/b.bin" && touch "$work/$1/data/z" || return
     printf '%064d  data/b.bin\n%064d  data/z\n' 0 0 >>"$work/$1/manifest-sha256.txt"
 }
 
-# while_reading FOLDER COMMAND: a check, which is stopped as soon as data/b.bin is open. That file is cut off, and the command
-# changes the folder; then the check goes on.
+# while_reading FOLDER COMMAND: starts a check, and stops it as soon as data/b.bin is open. Truncates that file, runs
+# the command, which changes the folder, and then lets the check go on.
 while_reading() {
     local pid status=0
     ./bag check "$1" &
@@ -51,10 +52,10 @@ complete, not valid'
     big again
     expect 'a manifest that changes when it was read' 1 "$cut_off" while_reading "$work/again" 'echo x >manifest-sha256.txt'
 else
-    lacking 'files that change, for want of sparse files'
+    lacking 'files that change (no sparse files)'
 fi
 
-# A bag with many faults, whose lines fill no pipe.
+# A bag with many faults, whose lines exceed what a pipe can hold.
 cp -r examples/first-bag "$work/many"
 (cd "$work/many/data" && seq -f "%0150.0f" 5000 | xargs touch)
 many_faults() {
@@ -66,7 +67,7 @@ full() {
 }
 expect 'many lines on a full output' 3 '' full ./bag check "$work/many"
 
-# closed_pipe COMMAND..: the output is a pipe whose reader has gone.
+# closed_pipe COMMAND..: the output is a pipe whose reader has ended.
 mkfifo "$work/pipe"
 closed_pipe() {
     local status=0
@@ -81,14 +82,14 @@ expect 'a pipe that nobody reads' 3 '' closed_pipe ./bag check examples/first-ba
 expect 'a pipe that nobody reads, and no words' 3 '' closed_pipe ./bag
 expect 'many lines on a pipe that nobody reads' 3 '' closed_pipe ./bag check "$work/many"
 
-# head_of COMMAND..: the reader goes after the first line. The status is the command's.
+# head_of COMMAND..: the reader ends after the first line. The status is the command's.
 head_of() {
     "$@" | head -n 1
     return "${PIPESTATUS[0]}"
 }
 expect 'a reader that goes after a line' 3 "$(many_faults | head -n 1)" head_of ./bag check "$work/many"
 
-# small_file COMMAND..: the output is a file that takes a part of it.
+# small_file COMMAND..: the output is a file that accepts only part of it.
 small_file() (
     trap '' XFSZ
     ulimit -f 64
@@ -96,8 +97,8 @@ small_file() (
 )
 expect 'a file that takes a part' 3 '' small_file ./bag check "$work/many"
 
-# short_of_memory FOLDER LINES STATUS: with less memory or more, the check prints these lines, or `bag: memory`. The first limit
-# the least that the program starts with. Both answers must come.
+# short_of_memory FOLDER LINES STATUS: with more or less memory, the check prints these lines or `bag: memory`. The
+# first limit is the least with which the program starts. Both answers must occur.
 short_of_memory() {
     local limit status printed answers=''
     for limit in $(seq 2000 500 20000) $(seq 22000 2000 64000); do
@@ -117,7 +118,7 @@ cp -r examples/first-bag "$work/large"
 (yes 'Contact-Name: Ada' | head -n 200000; echo 'Payload-Oxum: 3.2') >"$work/large/bag-info.txt"
 expect 'little memory, and a large tag file' 0 '' short_of_memory "$work/large" valid 0
 
-# lines_or_none LINES COMMAND..: the command, which prints all of these lines or nothing.
+# lines_or_none LINES COMMAND..: the command prints all of these lines or nothing.
 lines_or_none() {
     local printed status=0
     printed=$("${@:2}") || status=$?
@@ -125,16 +126,16 @@ lines_or_none() {
     return "$status"
 }
 
-# calls NAME COMMAND..: how often the command makes this call of the system.
+# calls NAME COMMAND..: how many times the command makes this system call.
 calls() {
     strace -o "$work/calls" -e "trace=$1" "${@:2}" >"$work/printed_by_calls"
     grep -c "^$1(" "$work/calls"
 }
 
-# How many calls of the system failed.
+# The number of system calls that failed.
 injected=0
 
-# injects FAULT COMMAND..: the command, under strace, which has a call of the system fail; and one did.
+# injects FAULT COMMAND..: runs the command under strace, which makes a system call fail, and checks that one did.
 injects() {
     local status=0
     strace -o "$work/calls" -e "$@" || status=$?
@@ -142,8 +143,8 @@ injects() {
     return "$status"
 }
 
-# each_call NAME FAULT STATUS LINES: the check of a bag with all tag files, once for each call that it makes, which then fails so.
-# The calls that the program makes before it looks at words are those of its start.
+# each_call NAME FAULT STATUS LINES: checks a bag with all kinds of tag files, once for each of these calls, which then
+# fails with this fault. The calls that the program makes before it looks at its arguments belong to its start.
 each_call() {
     local nth status printed start all
     start=$(calls "$1" "$program")
@@ -170,10 +171,10 @@ if strace -o "$work/calls" true 2>"$work/no strace"; then
         expect "writes that fail with $error" 3 '' \
             injects "inject=write:error=$error" "$program" check examples/whole-format
     done
-    # What the first write couldn't give may be written at the end, but the status stays.
+    # What the first write couldn't write may be written at the end, but the status stays.
     expect 'one write that fails' 3 '' lines_or_none valid \
         injects inject=write:error=ENOSPC:when=1 "$program" check examples/whole-format
-    echo "$injected calls of the system failed, one at a time"
+    echo "$injected system calls failed, one at a time"
     expect 'calls failed' 0 '' [ "$injected" -gt 20 ]
     calls=5
     [ "${1-}" != --all ] || calls=0
@@ -181,6 +182,6 @@ if strace -o "$work/calls" true 2>"$work/no strace"; then
         "$work/tried" "$program" "$calls" calls
     cat "$work/tried"
 else
-    lacking 'calls that fail, for want of strace, or of leave to trace'
+    lacking 'calls that fail (strace is not installed, or not permitted)'
 fi
 finish

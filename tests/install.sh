@@ -1,5 +1,5 @@
 #!/usr/bin/env bash
-# The script `install`, into folders of its own, and the manual page.
+# The script `install`, with its own folders to install into, and the manual page.
 set -u
 cd "$(dirname -- "$0")/.." || exit 1
 . tests/common.bash
@@ -19,11 +19,11 @@ expect 'into a new folder' 0 '' ./install "$prefix"
 expect 'the files and their modes' 0 "$files" installed "$prefix"
 expect 'the program from anywhere' 0 valid env -i -C / "$prefix/bin/bag" check "$top/examples/first-bag"
 expect 'by its name' 1 $'no bagit.txt\nnot complete' env -C examples PATH="$prefix/bin" bag check no-declaration
-expect 'without words' 64 'bag: check, make, begin, intake, report, audit, fetch, export, list' env -i "$prefix/bin/bag"
+expect 'without arguments' 64 'bag: check, make, begin, intake, report, audit, fetch, export, list' env -i "$prefix/bin/bag"
 expect 'the page is that of the repository' 0 '' cmp docs/bag.1 "$prefix/share/man/man1/bag.1"
 expect 'again' 0 '' ./install "$prefix"
 expect 'again: the files and their modes' 0 "$files" installed "$prefix"
-# narrow COMMAND..: with a mask that keeps files from others.
+# narrow COMMAND..: runs the command with a mask that keeps files from others.
 narrow() (
     umask 077
     "$@"
@@ -33,7 +33,7 @@ expect 'where files are kept from others: the modes' 0 "$files" installed "$work
 expect 'from another directory, and a folder named from there' 0 '' env -C "$work" "$top/install" named/here
 expect 'the files below it' 0 "$files" installed "$work/named/here"
 
-# refused COMMAND..: what it says is counted, and its status is handed on.
+# refused COMMAND..: counts the lines on standard error, and returns the command's status.
 refused() {
     local status=0
     "$@" 2>"$work/refusal" || status=$?
@@ -42,11 +42,11 @@ refused() {
 }
 touch "$work/file"
 expect 'below a file' 1 1 refused ./install "$work/file"
-expect 'two words' 64 1 refused ./install "$work/one" "$work/other"
-expect 'a word that begins like an option' 64 1 refused ./install --help
-expect 'an empty word' 64 1 refused ./install ''
+expect 'two arguments' 64 1 refused ./install "$work/one" "$work/other"
+expect 'an argument that begins like an option' 64 1 refused ./install --help
+expect 'an empty argument' 64 1 refused ./install ''
 
-# Tools for manual pages differ from system to system: the one that is there says whether the page is in order.
+# Tools for manual pages differ between systems: whichever is installed checks the page.
 page() {
     MANWIDTH=100 MANPAGER=cat man -l "$prefix/share/man/man1/bag.1" | col -bx | tr -s ' \n' '  '
 }
@@ -55,7 +55,7 @@ if command -v mandoc >"$work/tool"; then
 elif command -v groff >"$work/tool"; then
     expect 'the page has no faults' 0 '' groff -man -ww -z -T utf8 docs/bag.1
 else
-    lacking 'faults of the page, for want of mandoc and groff'
+    lacking 'faults of the page (neither mandoc nor groff is installed)'
 fi
 if [ -n "$(page 2>"$work/no page")" ]; then
     page >"$work/page"
@@ -128,6 +128,6 @@ bag: store
 bag: check, make, begin, intake, report, audit, fetch, export, list
 TEXTS
 else
-    lacking 'texts of the page, for want of man'
+    lacking 'texts of the page (man is not installed)'
 fi
 finish

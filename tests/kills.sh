@@ -1,5 +1,5 @@
 #!/usr/bin/env bash
-# Commands on ledgers that are killed at random moments. KILLS, 150 where it isn't set, is how often.
+# Commands on ledgers that are killed at random moments. KILLS, by default 150, is the number of kills.
 set -u
 cd "$(dirname -- "$0")/.." || exit 1
 . tests/common.bash

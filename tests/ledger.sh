@@ -1,5 +1,6 @@
 #!/usr/bin/env bash
-# Ledgers in databases: on the disk, where sqlite3 reads them back, and in memory, where their work is stopped at each call of a file.
+# Ledgers in databases: on disk, where sqlite3 reads them back, and in memory, where their work is stopped at each call
+# of a file.
 set -u
 cd "$(dirname -- "$0")/.." || exit 1
 . tests/common.bash

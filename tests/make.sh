@@ -1,20 +1,20 @@
 #!/usr/bin/env bash
-# `bag make` on real folders: what it prints, its status, what is left behind, and what other tools say of it.
+# `bag make` on real folders: what it prints, its status, what it leaves behind, and what other tools say about it.
 set -u
 cd "$(dirname -- "$0")/.." || exit 1
 . tests/common.bash
 
-# valid_bag SRC DST: it is a valid bag, and its payload is the files of the folder.
+# valid_bag SRC DST: DST is a valid bag, and its payload is the files in SRC.
 valid_bag() {
     bag check "$2" && diff -r "$1" "$2/data"
 }
 
-# sums COMMAND DST MANIFEST: the command of coreutils accepts the digests and paths of the manifest.
+# sums COMMAND DST MANIFEST: the command of coreutils accepts the digests and paths in the manifest.
 sums() {
     (cd "$2" && "$1" --check --strict --quiet "$3")
 }
 
-# info DST: bag-info.txt.
+# info DST: prints bag-info.txt.
 info() {
     cat "$1/bag-info.txt"
 }
@@ -140,7 +140,7 @@ refused 'a folder for the bag whose own is not there' 3 'bag: files' "$work/lett
 refused 'a folder for the bag below a file' 3 'bag: files' "$work/letters" "$work/letters/a.txt/new" sha256
 expect 'no name for the bag' 3 'bag: files' bag make "$work/letters" '' sha256
 
-# stays NAME DST: what is there already is left as it was.
+# stays NAME DST: what already exists stays as it was.
 stays() {
     find "$2" -printf '%P %y %T@ %s\n' 2>"$work/gone" | LC_ALL=C sort >"$work/before"
     expect "$1" 3 'bag: files' bag make "$work/letters" "$2" sha256
@@ -180,9 +180,10 @@ expect 'a file that takes a part' 3 'bag: files' small_files "$work/program" mak
 expect 'a file that takes a part: what was written stays' 0 'data
 data/A' below "$work/part"
 
-# On a disk that is full after some octets, or that has no room for one folder more.
+# On a disk that is full after some octets, or that has no room for another folder.
 if unshare -m sh -c "mkdir '$work/disk' && mount -t tmpfs -o size=1m,nr_inodes=4 bag '$work/disk'" 2>"$work/no mount"; then
-    # on_disk SRC: a bag on a disk of 1 MiB and four files or folders, its own one too; and then what is on it.
+    # on_disk SRC: makes a bag on a disk of 1 MiB and four files or folders, including its own; then lists what is on
+    # it.
     on_disk() {
         unshare -m sh -c '
             mount -t tmpfs -o size=1m,nr_inodes="$4" bag "$1/disk"
@@ -202,7 +203,7 @@ bag
 bag/data' on_disk "$work/letters" md5 3
     expect 'a disk with no room, and an unknown algorithm' 64 'unknown algorithm sha224' on_disk "$work/letters" sha224 2
 else
-    lacking 'a full disk, for want of leave to mount one'
+    lacking 'a full disk (no permission to mount one)'
 fi
 
 expect 'a closed output' 3 '' closed bag make "$work/letters" "$work/closed" sha256

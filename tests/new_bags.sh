@@ -1,6 +1,6 @@
 #!/usr/bin/env bash
-# Bags that are written in memory: each file as a second program makes it, and each bag in a folder, judged by coreutils, by the
-# program and by the reference.
+# Bags written in memory: each file is compared with what a second program makes, and each bag is put in a folder and
+# judged by coreutils, by the program and by the reference.
 set -u
 cd "$(dirname -- "$0")/.." || exit 1
 . tests/common.bash
@@ -9,11 +9,11 @@ build_first
 build_driver
 
 if [ "$(command -v md5sum sha1sum sha256sum sha512sum | wc -l)" -eq 4 ]; then
-    # It prints what it tried, or the first bag that is written or judged otherwise.
+    # It prints what it tried, or the first bag that is written or judged differently.
     expect 'new bags' 0 '' env TMPDIR="$work" sh -c 'python3 -B tests/new_bags.py 300 1 "$1" "$2" write >"$3"' \
         sh crates/bag_cmd/out/bag_cmd "$driver" "$work/tried"
     cat "$work/tried"
 else
-    lacking 'bags that are written, for want of the digest programs of coreutils'
+    lacking 'bags that are written (the digest programs of coreutils are not installed)'
 fi
 finish

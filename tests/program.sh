@@ -1,10 +1,10 @@
 #!/usr/bin/env bash
-# The program on folders that git can't keep, on other words, and on outputs that take nothing.
+# The program on folders that git can't keep, with other command lines, and on outputs that are closed or full.
 set -u
 cd "$(dirname -- "$0")/.." || exit 1
 . tests/common.bash
 
-# new NAME: a folder of this name with a copy of the first bag.
+# new NAME: makes a folder with this name and a copy of the first bag.
 new() {
     cp -r examples/first-bag "$work/$1"
 }

@@ -1,14 +1,16 @@
 #!/usr/bin/env bash
-# Other tools agree: coreutils on the examples, bags that a plain script makes, and random bags that a second program judges.
+# Other tools agree: coreutils on the examples, bags that a plain script makes, and random bags that a second program
+# judges.
 set -u
 cd "$(dirname -- "$0")/.." || exit 1
 . tests/common.bash
 
 build_first
 
-# coreutils_lines FILE: the lines of a manifest in the form that coreutils check. They know LF alone as an ending, take two
-# characters after the digest and all else for the name, and spell LF, CR and `\` with a `\` before the line and in the name. So
-# blanks, a mark and `./` become two spaces, and the escapes theirs.
+# coreutils_lines FILE: prints the lines of a manifest in the form that coreutils check. Coreutils know only LF as a
+# line end, take two characters after the digest and everything after them as the name, and spell LF, CR and `\` with a
+# `\` before the line and in the name. So blanks, a mark and `./` become two spaces, and the escapes become those of
+# coreutils.
 coreutils_lines() {
     tr '\r' '\n' <"$1" | LC_ALL=C sed -E \
         -e '1s/^\xEF\xBB\xBF//' \
@@ -18,7 +20,8 @@ coreutils_lines() {
         -e 's/%25/%/g'
 }
 
-# listed_digests FOLDER: coreutils check every digest that the manifests and tag manifests list. An empty manifest lists none.
+# listed_digests FOLDER: coreutils check every digest that the manifests and tag manifests list. An empty manifest lists
+# none.
 listed_digests() {
     local manifest algorithm
     for manifest in "$1"/*manifest-*.txt; do
@@ -38,7 +41,7 @@ payload_files() {
     find "$1/data" -type f -printf x | wc -c
 }
 
-# Git keeps no empty directory, so the copies are looked at.
+# Git keeps no empty directories, so the copies are checked.
 cp -r examples "$work/examples"
 mkdir -p "$work/examples/empty-payload/data"
 valid=0
@@ -55,7 +58,7 @@ done
 expect 'seven examples are valid' 0 '' [ "$valid" -eq 7 ]
 expect 'a damaged file: coreutils agree' 1 'data/a.txt: FAILED' listed_digests examples/damaged-file
 
-# A payload with the names that people give.
+# A payload with names that people use.
 payload=$work/payload
 mkdir -p "$payload/letters/1901" "$payload/empty names"
 printf abc >"$payload/a.txt"
@@ -64,14 +67,15 @@ printf 'na\303\257ve\n' >"$payload/letters/"$'na\303\257ve.txt'
 printf '' >"$payload/empty names/no  octets"
 head -c 200000 /dev/zero >"$payload/zeros.bin"
 
-# new NAME: a folder of this name with the declaration and the payload, and nothing else.
+# new NAME: makes a folder with this name, the declaration and the payload, and nothing else.
 new() {
     mkdir "$work/$1"
     printf 'BagIt-Version: 1.0\nTag-File-Character-Encoding: UTF-8\n' >"$work/$1/bagit.txt"
     cp -r "$payload" "$work/$1/data"
 }
 
-# sums TOOL OPTION..: the digests of the payload by a tool of coreutils, with paths from the folder where it is run.
+# sums TOOL OPTION..: the digests of the payload that a tool of coreutils computes, with paths relative to the current
+# folder.
 sums() {
     find data -type f -exec "$@" {} +
 }

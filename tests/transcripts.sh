@@ -1,6 +1,6 @@
 #!/usr/bin/env bash
-# The transcripts that the documents show: each block marked `console` is run in a directory with the script `bag` and a fresh copy
-# of the examples, and must print what it shows.
+# The transcripts in the documents: each block marked `console` is run in a directory with the script `bag` and a fresh
+# copy of the examples, and must print what it shows.
 set -u
 cd "$(dirname -- "$0")/.." || exit 1
 . tests/common.bash
@@ -8,7 +8,7 @@ top=$PWD
 
 build_first
 
-# An empty directory is none that git kept.
+# Git keeps no empty directories, so they are removed from the copy too.
 fresh() {
     rm -rf "$work/transcript"
     mkdir "$work/transcript"
@@ -23,7 +23,7 @@ transcript() {
     fresh
     while IFS= read -r command; do
         echo "$ $command"
-        # What came before is known by its status alone, for `echo $?`.
+        # Only the status of the previous command is passed on, for `echo $?`.
         (cd "$work/transcript" && timeout 60 bash -c "(exit $status); $command" </dev/null 2>&1)
         status=$?
     done < <(sed -n 's/^\$ //p' "$work/block") >"$work/shown"
@@ -46,7 +46,7 @@ for file in README.md examples/README.md docs/*.md; do
     done
 done
 
-# Each example has its transcript.
+# Each example has a transcript.
 for folder in examples/*/; do
     expect "$folder is shown in examples/README.md" 0 '' grep -qF "./bag check ${folder%/}" examples/README.md
 done
