@@ -1,9 +1,9 @@
 #!/usr/bin/env python3
-"""command_ledgers.py PROGRAM: the commands on ledgers of every kind: none at all, what is no ledger, damaged and locked ones, on a
-disk that takes no more, each command after each other, and ledgers that sqlite3 reads back.
+"""command_ledgers.py PROGRAM: the commands on ledgers of every kind: missing ledgers, files that aren't ledgers, damaged and
+locked ledgers, full disks, every command after every other, and ledgers that sqlite3 reads back.
 
-Each command has to print its lines and end with its status; what is there afterwards is compared with what was there before, name by
-name and octet by octet. It ends with how much of each was tried.
+Each command must print its lines and end with its status; what exists afterwards is compared with what existed before, name
+by name and octet by octet. At the end it prints how much of each was tried.
 """
 import hashlib
 import itertools
@@ -23,7 +23,7 @@ URL = "http://example.org/"
 
 
 class Place:
-    """A folder of its own with a ledger, beside the folders that the commands are given."""
+    """A folder with a ledger, next to the folders that the commands are given."""
 
     def __init__(self, program, work, contents, fetched=()):
         self.program, self.work, self.ledger = program, work, work / "at" / "ledger"
@@ -38,7 +38,7 @@ class Place:
             (self.bag / path).write_bytes(octets)
 
     def run(self, *words, limit=None):
-        """The status and the lines of a command. Nothing may be said on standard error."""
+        """The status and the lines of a command. Standard error must be empty."""
 
         def limited():
             if limit is not None:
@@ -50,20 +50,20 @@ class Place:
         return ran.returncode, ran.stdout.decode().splitlines()
 
     def words(self, command):
-        """The words of a command on the ledger and its transfer t1, for which there is a new folder to export into."""
+        """The arguments of a command on the ledger and its transfer t1, with a new folder to export to."""
         self.exports += 1
         folders = {"begin": [self.bag], "intake": [self.bag], "fetch": [self.bag], "export": [self.work / f"out{self.exports}"]}
         name = [] if command == "list" else ["t1"]
         return [command, self.ledger, *name, *folders.get(command, [])]
 
     def there(self):
-        """What is beside the ledger, each file with its digest, and which folders there are."""
+        """What is in the folder of the ledger: each file with its digest, and the folders."""
         digest = lambda file: hashlib.sha256(file.read_bytes()).hexdigest()
         beside = {file.name: (file.lstat().st_mode, file.is_file() and digest(file)) for file in self.ledger.parent.iterdir()}
         return beside, sorted(file.name for file in self.work.iterdir())
 
     def refuses(self, *lines, but=()):
-        """Each command, but those, prints one of these lines alone, with status 3, and leaves all as it was."""
+        """Each command except those prints exactly one of these lines, with status 3, and changes nothing."""
         before = self.there()
         for command in ALL:
             if command not in but:
@@ -83,7 +83,7 @@ SMALL = {"data/a.txt": b"abc", "data/e.txt": b""}
 
 
 def no_ledgers(make):
-    """What is no ledger: nothing is made of it, and it stays. Answers how many there were, the locked one too."""
+    """Files that aren't ledgers are left as they were. Returns how many there were, including the locked one."""
     whole = make(SMALL)
     assert whole.run(*whole.words("begin")) == (0, ["new"])
     assert whole.run(*whole.words("intake")) == (0, ["taken data/a.txt", "taken data/e.txt"])
@@ -118,7 +118,7 @@ def no_ledgers(make):
         file = make(SMALL)
         file.ledger.write_bytes(other)
         file.refuses("bag: not a ledger")
-    # Of a ledger that was cut off the store doesn't tell whether it is a database.
+    # If a ledger is truncated, the store doesn't say whether it is a database.
     cut = make(SMALL)
     cut.ledger.write_bytes(octets[: len(octets) // 2])
     cut.refuses("bag: not a ledger", "bag: store")
@@ -147,8 +147,8 @@ sys.stdin.read()
 
 
 def locked(place):
-    """While another program has the ledger, no command does anything with it; after that all is as it was."""
-    # Of a process of its own: where this one closed the file, having read it, its locks would be gone.
+    """While another program has the ledger open, no command does anything with it; afterwards everything is as it was."""
+    # In a separate process: if this one read and closed the file, it would lose its locks.
     words = [sys.executable, "-c", LOCK, place.ledger]
     with subprocess.Popen(words, stdin=subprocess.PIPE, stdout=subprocess.PIPE, text=True) as other:
         assert other.stdout.readline() == "locked\n"
@@ -177,7 +177,7 @@ DAMAGES = [
 
 
 def damaged(make):
-    """Ledgers that another program changed are told, by every command, and not touched. Answers how many there were."""
+    """Every command reports ledgers that another program changed, and leaves them alone. Returns how many there were."""
     for damage, line in DAMAGES:
         place = make(SMALL)
         place.run(*place.words("begin"))
@@ -196,7 +196,8 @@ def damaged(make):
 
 
 def expected(place, command, held):
-    """What a command answers where the transfer is open (`held` isn't None) and holds these payload files; and what it then holds."""
+    """The answer of a command if the transfer is open (`held` isn't None) and holds these payload files, and what it holds
+    afterwards."""
     missing = [f"manifest-sha256.txt: missing: {path}" for path in sorted(SMALL) if held is not None and path not in held]
     if command == "begin":
         return (0, ["new"] if held is None else ["again"]), held or set()
@@ -215,7 +216,8 @@ def expected(place, command, held):
 
 
 def each_after_each(make):
-    """Each command after each other, in a ledger that isn't there at first, or that has the transfer. Answers how many orders that is."""
+    """Every command after every other, with a ledger that is missing at first or that has the transfer. Returns the number of
+    orders."""
     orders = list(itertools.product([False, True], ALL, ALL))
     for begun, *commands in orders:
         place, held = make(SMALL, fetched=["data/e.txt"]), None
@@ -231,13 +233,13 @@ def each_after_each(make):
 
 
 def exported(place, folder, held):
-    """The folder has the tag files and those that are held, and nothing else."""
+    """The folder has exactly the tag files and the payload files that are held."""
     files = {str(file.relative_to(folder)): file.read_bytes() for file in folder.rglob("*") if file.is_file()}
     assert files == {**place.tags, **{path: place.contents[path] for path in held}} and (folder / "data").is_dir(), folder
 
 
 def judge(place, held):
-    """The tables have the rows of one transfer with these payload files, and no others, by FORMAT.md, section 18."""
+    """The tables have exactly the rows of one transfer with these payload files (section 18 of FORMAT.md)."""
     assert place.sql("PRAGMA integrity_check") == [("ok",)] and place.sql("PRAGMA foreign_key_check") == []
     assert place.sql("SELECT k, v FROM meta") == [("bag-ledger", 2)]
     [(transfer, name)] = place.sql("SELECT id, name FROM transfer")
@@ -255,7 +257,8 @@ def judge(place, held):
 
 
 def read_back(make):
-    """Files of all lengths around those of pieces, read by sqlite3 after each command that writes. Answers how many there were."""
+    """Files of all lengths close to multiples of a piece, read by sqlite3 after each command that writes. Returns how many
+    there were."""
     lengths = [0, 1, PIECE - 1, PIECE, PIECE + 1, 2 * PIECE, 3 * PIECE + 17]
     contents = {f"data/{length} %": os.urandom(length) for length in lengths}
     place = make(contents)
@@ -279,8 +282,8 @@ def read_back(make):
 
 
 def full_disks(make):
-    """Begin and intake where no file may grow past a length: what was answered is held, and the next command works. Answers for how many
-    lengths."""
+    """`begin` and `intake` with files limited to a length: what was answered is held, and the next command works. Returns the
+    number of lengths."""
     contents = {"data/a": os.urandom(20_000), "data/b": b"", "data/c": os.urandom(3 * PIECE), "data/d": os.urandom(90_000)}
     limits, seen = range(0, 800_000, 19_997), set()
     for limit in limits:
@@ -316,7 +319,7 @@ def main(program):
         number = itertools.count()
         make = lambda contents, fetched=(): Place(os.path.abspath(program), pathlib.Path(folder) / str(next(number)), contents, fetched)
         none, damages, orders, files, disks = (kind(make) for kind in (no_ledgers, damaged, each_after_each, read_back, full_disks))
-    print(f"{none} that are no ledger, {damages} damaged, {orders} orders, {files} files read by sqlite3, {disks} full disks")
+    print(f"{none} that are not ledgers, {damages} damaged, {orders} orders, {files} files read by sqlite3, {disks} full disks")
 
 
 if __name__ == "__main__":

@@ -1,21 +1,21 @@
 #!/usr/bin/env python3
-"""deliveries.py COUNT SEED DRIVER: makes so many random lists of deliveries, has the driver answer them all in one process, and
-compares what it prints with the answers of tests/reference_receiver.py. The same seed makes the same lists. The first answer that
-differs is told with its list. Without DRIVER the lists are printed, as the driver reads them; with `--answers` in its place, what
-it has to print.
+"""deliveries.py COUNT SEED DRIVER: makes COUNT random lists of deliveries, has the driver answer them all in one process, and
+compares its output with the answers of tests/reference_receiver.py. The same seed makes the same lists. The first answer that
+differs is reported with its list. Without DRIVER it prints the lists as the driver reads them, and with `--answers` in its
+place the expected output.
 
-The driver reads events from standard input, one a line, and prints one line for each. An event is a word and its fields, each
-after one blank:
+The driver reads events from standard input, one per line, and prints one line for each. An event is a word followed by its
+fields, each after one blank:
 
     start                                      begins a list: from here on no transfer is open
-    begin NAME PATH OCTETS PATH OCTETS ..      tag files, in the order in which they are handed in; there may be none
+    begin NAME PATH OCTETS PATH OCTETS ..      tag files, in the order in which they are given; there may be none
     deliver NAME PATH OCTETS                   one delivery
     run NAME PATH OCTETS PATH OCTETS ..        a run of deliveries; there may be none
     report NAME
     names
 
-A field is its octets in hex, letters in lower case, or `-` where it has none. Names and paths are UTF-8, and a path isn't spelled.
-What is printed, by section 16 of docs/FORMAT.md:
+A field is its octets in lowercase hex, or `-` if it is empty. Names and paths are UTF-8, and a path isn't spelled. The output,
+following section 16 of docs/FORMAT.md:
 
     start      `started`
     begin      `new`, `again`, or `refused: ` and `name`, `tag path N`, `tag too large PATH`, the line of section 12, the line of
@@ -24,7 +24,7 @@ What is printed, by section 16 of docs/FORMAT.md:
     run        the answers to its deliveries, and then `done` or `too many`, joined by ` | `
     report     the lines of the faults, and then `valid`, `complete, not valid` or `not complete`, joined by ` | `;
                or `refused: no transfer`
-    names      the names, joined by one blank: an empty line where there are none
+    names      the names, joined by one blank: an empty line if there are none
 """
 import random
 import re
@@ -41,7 +41,7 @@ BAD_NAMES = [b"", b"T1", b"z" * 65, b"t 1", b"t_1", b"t1\n", b"\0", b"t/1", "\u0
 BAD_PATHS = [b"", b"data", b"data/", b"data//k", b"data/../k", b"data/.", b"/data/a.txt", b".", b"..", b"data/a\0", b"\0", b"note/",
              b"data/" + b"n" * 4092]
 UNLISTED_PATHS = [b"data/z", b"data/a.txt ", b"data/%41", b"Data/a.txt", b"a.txt", b"bagit.txt", b"data/" + b"n" * 4091]
-# Paths of which some are those of folders of others.
+# Paths, some of which are the folders of others.
 CLASHING = [b"k", b"k/x", b"k.txt", b"k0", b"k/x/y", b"b", b"deep", b"deep/er"]
 # Two contents with one MD5 digest, by X. Wang and others, 2004.
 TWIN = bytes.fromhex(
@@ -135,7 +135,7 @@ class Offer:
         files[:] = [(path, octets if path == b"bagit.txt" else own) for path, own in files]
 
     def lengthen(self, files, _):
-        """One file or two, there or not, get as many lines as may be, or one more; now and then one gets an octet too many."""
+        """One or two files, existing or not, get the maximum number of lines or one more; now and then one gets an octet too many."""
         texts = [b"\n" * 100000, b"\r\n" * 99999 + b"x", b"\r\n" * 100000 + b"x", b"\r" * 100001, b"\n" * 100001]
         names = [b"manifest-md5.txt", b"tagmanifest-sha512.txt", b"fetch.txt", b"bag-info.txt", b"manifest-zz.txt"]
         longer = {name: self.rng.choice(texts) for name in self.rng.sample(names, self.rng.choice([1, 2]))}
@@ -236,7 +236,7 @@ def answer(receiver, word, *fields):
 
 
 def kinds():
-    """Every kind of answer that lists of this size can have."""
+    """Every kind of answer that can occur in lists of this size."""
     others = {"no data directory", "manifest: digest", "fetch.txt:N: length", "bag: files", "complete, not valid"}
     return [shape for shape in random_bags.shapes() if shape not in others] + [
         "new", "again", "name", "tag path", "tag too large", "clash", "differs", "taken", "repeated", "no transfer", "path",
@@ -251,14 +251,14 @@ def kinds_of(text):
 
 
 def difference(seed, wanted, ran):
-    """What is printed otherwise first, with its list up to there; None where nothing is."""
+    """The first output that differs, with its list up to there; None if there is none."""
     printed = ran.stdout.decode(errors="replace").split("\n")
     end = f"The driver ends with {ran.returncode} and says {ran.stderr[-1000:]}."
     places = [(number, at, text) for number, texts in enumerate(wanted) for at, text in enumerate(texts)]
     for place, (number, at, text) in enumerate(places):
         if printed[place:place + 1] != [text]:
             events = made(seed, number)[:at + 1]
-            told = f"List {number} of seed {seed}, event {at}: {printed[place:place + 1]} is printed, and {[text]} is wanted."
+            told = f"List {number} of seed {seed}, event {at}: {printed[place:place + 1]} is printed instead of {[text]}."
             return "\n".join([told, end, str(events[-1])[:1000], "The list up to there:", *map(line, events)])
     if printed[len(places):] != [""] or ran.stderr or ran.returncode:
         return f"All are answered alike, but after the last line feed {printed[len(places):]} is printed. {end}"

@@ -1,10 +1,11 @@
 #!/usr/bin/env python3
-"""failing_commands.py PROGRAM MOST allocations LIBRARY, or failing_commands.py PROGRAM MOST calls: runs each command on a ledger with one growth
-of memory refused, or with one call of the system that fails, once for each (of one command for MOST of them, spread over all; 0: all).
+"""failing_commands.py PROGRAM MOST allocations LIBRARY, or failing_commands.py PROGRAM MOST calls: runs each command on a
+ledger with one failing memory allocation, or with one failing system call, once for each of them (for at most MOST of one
+command, spread over all; 0 for all).
 
-After each the answer is the command's, or names what failed; what was answered is held, as sqlite3 reads it, and nothing else but what
-failed; and the same command and a report, with nothing refused, answer as tests/reference_commands.py does for what is then held. It
-ends with how many commands were run and how often one failed.
+After each run the answer is the normal one, or it names what failed. What was answered is held, as sqlite3 reads it, and
+nothing else except what failed. Then the same command and a report, with nothing failing, answer as
+tests/reference_commands.py does for what is held. At the end it prints how many commands were run and how often one failed.
 """
 import collections
 import copy
@@ -36,7 +37,7 @@ FOLDERS = {
     "supplier": {b"data/e.txt": b"", b"data/z%": b"another line\n"},
     "letters": {b"a.txt": b"abc", b"k/x": b"defgh", b"k0": b""},
 }
-# The ledgers that are there, by the commands that make them.
+# The ledgers, by the commands that make them.
 LEDGERS = {
     "begun": [["begin", "t1", "sender"]],
     "half": [["begin", "t1", "sender"], ["intake", "t1", "first"]],
@@ -51,7 +52,8 @@ CASES = [
     ("begun", "fetch ledger t1 ../whole"), ("full", "export ledger t1 out"), ("full", "export ledger t9 out"), ("full", "list ledger"),
     (None, "list ledger"), (None, "make ../letters out sha256 md5"), (None, "make ../letters out sha224"), (None, "check ../whole"),
 ]
-# How calls of the system fail. For `brk` the system answers no error, and the C library would take one for an address.
+# How system calls fail. `brk` is left out: the system never returns an error for it, and the C library would take one for an
+# address.
 ERRORS = {
     "openat": ["EACCES", "EMFILE"], "read": ["EIO"], "pread64": ["EIO"], "write": ["ENOSPC"], "pwrite64": ["ENOSPC", "EIO"],
     "fsync": ["EIO"], "fdatasync": ["EIO"], "ftruncate": ["EIO"], "unlink": ["EACCES"], "unlinkat": ["EACCES"], "rmdir": ["EACCES"],
@@ -62,11 +64,11 @@ CALL = re.compile(r"([a-z0-9_]+)\(")
 
 
 class Otherwise(Exception):
-    """A command did other than it may."""
+    """A command did something that it may not do."""
 
 
 def prepare(program):
-    """The folders and ledgers that the commands find, in the folder where the process is."""
+    """Makes the folders and ledgers that the commands find, in the current folder."""
     for name, files in FOLDERS.items():
         assert new_bags.put(os.fsencode(name), files)
         if not any(path.startswith(b"data/") for path in files):
@@ -80,7 +82,7 @@ def prepare(program):
 
 
 class Case:
-    """A command, the transfers that it finds, and what it answers where nothing fails."""
+    """A command, the transfers that it finds, and its answer if nothing fails."""
 
     def __init__(self, program, ledger, words):
         self.program, self.ledger, self.words, self.faults = program, ledger, words.encode().split(), []
@@ -91,11 +93,11 @@ class Case:
         self.left = next(iter(self.commands.receivers.values()), None)
         ran = self.run([], {})
         if (ran.returncode, ran.stdout) != (self.wanted.status, text_of(self.wanted.lines)):
-            raise Otherwise(f"with nothing refused: {ran}, and {self.wanted[:2]} is wanted")
+            raise Otherwise(f"with nothing failing: {ran} instead of {self.wanted[:2]}")
         self.judge_left("nothing", self.wanted.lines, ran.returncode)
 
     def start(self):
-        """As it is before the command."""
+        """Restores the state before the command."""
         for name in os.listdir("."):
             shutil.rmtree(name) if os.path.isdir(name) else os.unlink(name)
         if self.ledger:
@@ -106,7 +108,7 @@ class Case:
         return subprocess.run(words, env={**os.environ, **variables}, capture_output=True, timeout=60, check=False)
 
     def judge(self, ran, failed):
-        """Whether this may come where this failed, a growth or the text of a call; and what follows."""
+        """Judges the result of a run in which this failed, an allocation or the text of a call, and what follows."""
         lines = ran.stdout.decode().split("\n")
         if ran.stderr or lines.pop() or ran.returncode not in (3, self.wanted.status):
             raise Otherwise(f"{ran}")
@@ -122,13 +124,13 @@ class Case:
         self.judge_next()
 
     def judge_refusal(self, failed, lines):
-        """It says what failed: alone, or of one payload file among others, which `replayed` judges."""
+        """The output says what failed: in a single line, or for one payload file among others, which `replayed` judges."""
         words = ["memory"] if is_memory(failed) else ["files", "store", "not a ledger"]
         if lines not in [["bag: " + word] for word in words] and not (lines and lines[0].startswith(("taken ", "repeated ", "refused "))):
             raise Otherwise(f"{lines}")
 
     def judge_left(self, failed, lines, status):
-        """What is there after the command."""
+        """Judges what exists after the command."""
         names = set(os.listdir("."))
         self.judge_made(names, lines == self.wanted.lines, failed)
         begins = self.words[0] == b"begin" and status == 0
@@ -140,12 +142,12 @@ class Case:
             self.judge_held(failed, lines)
 
     def is_unopened(self, names):
-        """Whether the ledger that was to be made has no octet: who couldn't open a file doesn't know that it is his alone, and leaves
-        it."""
+        """Whether the ledger to be made is an empty file: a program that couldn't open a file doesn't know that no other program
+        uses it, and leaves it."""
         return all(os.path.getsize(name) == 0 for name in names)
 
     def judge_made(self, names, is_done, failed):
-        """The folder that is made holds its files, or the fronts of some; it is given up where it would hold nothing."""
+        """The new folder holds its files, or the fronts of some; it is given up if it would be empty."""
         is_made = is_done and self.wanted.made is not None
         whole, needed = ({}, set()) if self.wanted.made is None else reference_commands.folder_of(self.wanted.made)
         files, directories = reference_commands.found_in(b"out") if "out" in names else ({}, set())
@@ -157,7 +159,7 @@ class Case:
             raise Otherwise(f"{files.keys()} in {directories} is left")
 
     def judge_held(self, failed, lines):
-        """What was answered is held, and nothing else but what failed."""
+        """What was answered is held, and nothing else except what failed."""
         now = held(read_ledger("ledger"))
         if lines == self.wanted.lines:
             may_be = [held(self.left)]
@@ -169,7 +171,7 @@ class Case:
             raise Otherwise(f"{lines}: what is held is none of {len(may_be)}")
 
     def replayed(self, failed, lines):
-        """What may be held after these lines: what they answer; and where the store failed, that with which it failed."""
+        """What may be held after these lines: what they answer and, if the store failed, also what it failed to store."""
         receiver, rest, doubtful = copy.deepcopy(self.found), list(lines), []
         causes = ["memory"] if is_memory(failed) else ["store", "reader", "supplier"]
         for path, deliver in self.attempts(receiver):
@@ -182,14 +184,14 @@ class Case:
                 doubtful += [held(after)] if line.endswith("store") and not doubtful else []
             elif line != deliver(receiver):
                 raise Otherwise(f"{lines}: {line}")
-        # A run that breaks off is told in one more line.
+        # A run that ends early is reported in one more line.
         ends = [[], lines, ["bag: memory" if is_memory(failed) else "bag: files"]]
         if rest not in ends or sum(line.endswith("memory") for line in lines) > 1:
             raise Otherwise(f"{lines}")
         return [held(receiver), *doubtful]
 
     def attempts(self, receiver):
-        """Each path that is reached, and what delivers it."""
+        """Each path that is reached, and the folder that delivers it."""
         command, (_, name, *folders) = reference_commands.request(self.words)
         if command == "intake":
             for bag in map(reference.Folder, folders):
@@ -201,13 +203,13 @@ class Case:
                 yield path, lambda to, path=path: reference_commands.ask_for(to, name, path, folders[0])
 
     def judge_next(self):
-        """The same command once more, which makes another folder, and a report."""
+        """Runs the same command again, with another new folder, and a report."""
         again = [b"again" if word == b"out" else word for word in self.words]
         for words in [again, [b"report", b"ledger", b"t1"]]:
             wanted = Commands().answer(words)
             ran = subprocess.run([self.program, *words], capture_output=True, timeout=60, check=False)
             if (ran.stdout, ran.returncode, ran.stderr) != (text_of(wanted.lines), wanted.status, b""):
-                raise Otherwise(f"then: {ran}, and {wanted[:2]} is wanted")
+                raise Otherwise(f"then: {ran} instead of {wanted[:2]}")
 
 
 def text_of(lines):
@@ -219,12 +221,12 @@ def held(receiver):
 
 
 def is_memory(failed):
-    """Whether what failed was to give memory."""
+    """Whether what failed was an allocation of memory."""
     return failed.startswith(("allocation", "mmap(", "mremap("))
 
 
 def spread(numbers, most):
-    """So many of them, or all where that is 0."""
+    """This many of them, or all if that is 0."""
     return numbers if not most else numbers[::max(1, -(-len(numbers) // most))]
 
 
@@ -265,7 +267,7 @@ def fail_calls(case, most):
 
 
 def traced(run, words):
-    """How often each call of the system is made."""
+    """How many times each system call is made."""
     before = ["strace", "-o", "../trace"]
     if words:
         run(before + words[0], capture_output=True, timeout=60, check=False)

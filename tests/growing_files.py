@@ -1,7 +1,7 @@
 #!/usr/bin/env python3
-"""growing_files.py [--answers]: a list of deliveries as tests/deliveries.py tells, or what has to be answered to it: a transfer of 256
-payload files, of which the nth is n octets of value n, and one run in which all come, then all in the other order, then each with
-one octet more."""
+"""growing_files.py [--answers]: prints a list of deliveries in the format of tests/deliveries.py, or the expected answers: a
+transfer of 256 payload files, of which the nth is n octets of value n, and one run that delivers all of them, then all in
+reverse order, then each with one octet more."""
 import hashlib
 import sys
 

@@ -1,5 +1,5 @@
 #!/usr/bin/env python3
-"""Hostile bags, each with the lines and the status that docs/FORMAT.md asks for: `hostile.py PROGRAM`.
+"""hostile.py PROGRAM: hostile bags, each with the lines and the status that docs/FORMAT.md requires.
 
 The numbers in brackets are sections of docs/FORMAT.md.
 """
@@ -34,7 +34,7 @@ def unlisted(*paths):
 
 
 def bag(**changes):
-    """The bag of two files, with these files in place of its own or beside them; None takes a file away."""
+    """The bag of two files, with these files replaced or added; None removes a file."""
     files = {b"bagit.txt": DECLARATION, b"manifest-sha256.txt": manifest(), **PAYLOAD}
     files.update(changes.pop("files", {}))
     return {path: octets for path, octets in files.items() if octets is not None}
@@ -61,7 +61,7 @@ def cuts_of_declaration():
 
 
 def cut_line(number, cut, own, others):
-    """A line that was cut after so many of its 76 octets, where the others of the payload are listed in no line before it [6]."""
+    """A line that was cut after this many of its 76 octets, with the other payload files listed in no line before it [6]."""
     file = f"manifest-sha256.txt:{number}: "
     text = own[:cut - 66].decode()
     if cut <= 64:
@@ -109,7 +109,7 @@ def endings_and_marks():
 
 
 def names():
-    """Names of payload files: blanks at both ends, tabs, line ends, signs, long ones, and others than ASCII [4, 6]."""
+    """Names of payload files: with blanks at both ends, tabs, line ends, symbols and non-ASCII characters, and long ones [4, 6]."""
     odd = {
         b"data/ two  blanks ": b"",
         b"data/\ttab": b"",
@@ -194,7 +194,7 @@ def with_tag_0_97(name, octets):
 
 
 def names_0_97():
-    """Names of payload files and of a tag file in version 0.97, whose spellings leave `%` as it is [15]."""
+    """Names of payload files and of a tag file in version 0.97, in which `%` isn't escaped [15]."""
     odd = {
         b"data/%": b"",
         b"data/%25": b"",
@@ -281,7 +281,7 @@ def write(folder, files):
 
 
 def judged(program, kind, families):
-    """Runs the program on each bag, and returns a status: 0 where all were answered as they have to be, and there are any."""
+    """Runs the program on each bag. Returns the status 0 if there are bags and all answers are as expected."""
     tried, failed = 0, 0
     for cases in families:
         for name, files, (lines, status) in cases():
@@ -292,9 +292,9 @@ def judged(program, kind, families):
             printed = told.stdout.decode().splitlines()
             if (printed, told.returncode) != (lines, status) or told.stderr:
                 failed += 1
-                print(f"{name}: status {told.returncode}: {printed}, and {lines} is wanted with {status}")
+                print(f"{name}: status {told.returncode}: {printed} instead of status {status}: {lines}")
             shutil.rmtree(folder)
-    print(f"{tried} {kind} bags: {failed} answered otherwise")
+    print(f"{tried} {kind} bags: {failed} answered differently")
     return 1 if failed or not tried else 0
 
 

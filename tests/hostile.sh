@@ -12,7 +12,7 @@ for kind in small hostile; do
     small) table=small_bags.py number=370 ;;
     hostile) table=hostile.py number=268 ;;
     esac
-    expect "each $kind bag has the answer that FORMAT.md asks for" 0 "$number $kind bags: 0 answered otherwise" \
+    expect "each $kind bag has the answer that FORMAT.md requires" 0 "$number $kind bags: 0 answered differently" \
         env TMPDIR="$work" python3 -B "tests/$table" crates/bag_cmd/out/bag_cmd
 done
 finish

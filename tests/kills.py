@@ -1,10 +1,10 @@
 #!/usr/bin/env python3
 """kills.py PROGRAM [KILLS [SEED [TRIED]]]: runs commands on ledgers, one after another in any order, and kills them at random moments.
 
-After each kill the next command has to work, and to find what is due: all that was answered before the kill (a line that was read, or a
-command that had ended), and of the command that was killed the front of its deliveries. Of each ledger all is delivered in the end, and
-what is exported is the bag that came. It ends after so many kills (150); TRIED, or standard output, is told the seed and what was tried.
-Where it fails it tells the seed as well.
+After each kill the next command must work, and must find everything that was answered before the kill (a line that was read, or
+a command that had ended), and of the killed command the first of its deliveries. In the end everything is delivered to each
+ledger, and the exported bag is the one that was delivered. It ends after KILLS kills (150), and writes the seed and what was tried
+to TRIED, or to standard output. If it fails, it prints the seed as well.
 """
 import hashlib
 import itertools
@@ -54,14 +54,14 @@ def write(folder, files):
 
 
 class Ledger:
-    """A ledger, and what it has to hold: its tables, and for each transfer that is open the paths of the payload files."""
+    """A ledger, and what it must hold: its tables, and for each open transfer the paths of the payload files."""
 
     def __init__(self, program, rng, folder, bags, tried):
         self.program, self.rng, self.folder, self.bags, self.tried = program, rng, folder, bags, tried
         self.file, self.tables, self.held, self.exports = folder / "ledger", False, {}, itertools.count()
 
     def run(self, words, until=None):
-        """The status (None where it was killed) and the whole lines that were read. It is killed after so many seconds."""
+        """The status (None if it was killed) and the whole lines that were read. It is killed after this many seconds."""
         with subprocess.Popen([self.program, *words], stdout=subprocess.PIPE, stderr=subprocess.PIPE) as ran:
             if until is not None:
                 time.sleep(until)
@@ -76,7 +76,7 @@ class Ledger:
         return None if killed else ran.returncode, lines
 
     def words(self, command):
-        """A command with random words, and how its deliveries are answered: each a path, or none, and a line."""
+        """A command with random arguments, and the answers to its deliveries: for each a path, or none, and a line."""
         name = self.rng.choice(NAMES)
         bag = self.bags[name]
         words, lines, status = [command, self.file, name], [], 0
@@ -99,7 +99,7 @@ class Ledger:
         return name, words, lines, status
 
     def answers(self, name, command, deliveries):
-        """The answer to each delivery: the path that is held from then on, where one is, and the line."""
+        """The answer to each delivery: the path that is held from then on, if any, and the line."""
         if name not in self.held:
             return [(None, f"refused {path}: no transfer") for path, _ in deliveries] if command == "intake" else []
         lines, held = [], set(self.held[name])
@@ -180,7 +180,7 @@ class Ledger:
         self.tables, self.held = tables, found
 
     def by_reports(self, command="report"):
-        """Whether there are tables of a ledger, and which paths each transfer holds: what it doesn't lack."""
+        """Whether there are tables of a ledger, and which paths each transfer holds, that is, which aren't missing."""
         status, names = self.run(["list", self.file])
         if status == 3:
             assert names == ["bag: not a ledger"], names
@@ -198,7 +198,7 @@ class Ledger:
         return self.by_reports("audit")
 
     def by_tables(self):
-        """The same, as sqlite3 reads copies of the database and of its log; each row is judged."""
+        """The same, with sqlite3 on copies of the database and its log; each row is judged."""
         copy = self.folder / "copy"
         for end in ("", "-wal"):
             if pathlib.Path(f"{self.file}{end}").exists():
@@ -239,7 +239,7 @@ class Ledger:
         shutil.rmtree(folder)
 
     def finish(self):
-        """Delivers all, and compares what is exported with what came."""
+        """Delivers everything, and compares the export with what was delivered."""
         for name, bag in self.bags.items():
             assert self.run(["begin", self.file, name, bag.whole])[0] == 0
             status, lines = self.run(["intake", self.file, name, bag.whole])

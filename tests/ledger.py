@@ -1,9 +1,10 @@
 #!/usr/bin/env python3
-"""ledger.py DRIVER: has the driver make ledgers in databases on the disk, and reads them back by sqlite3, piece by piece. Then has it
-adopt them, as they are, after a VACUUM and after damage by sqlite3; and other files, which it has to leave as they are.
+"""ledger.py DRIVER: has the driver make ledgers in databases on disk, and reads them back with sqlite3, piece by piece. Then has
+the driver adopt them, unchanged, after a VACUUM and after damage by sqlite3; and other files, which it must leave as they are.
 
-Each is held against section 18 of docs/FORMAT.md: the rows that the transfer has, and no others. It also has to pass the tests that
-sqlite3 itself has for a database. It ends with how many ledgers were read, how many files adopted or refused, and how many disks full.
+Each ledger must have exactly the rows of its transfer (section 18 of docs/FORMAT.md), and must pass the tests that sqlite3 itself
+has for a database. At the end it prints how many ledgers were read, how many files were adopted or refused, and how many disks
+were full.
 """
 import hashlib
 import pathlib
@@ -33,7 +34,7 @@ def tag_files(items, paths):
 
 
 def content(database, item, size):
-    """The octets of a payload file, whose pieces are numbered from 0 and full but for the last."""
+    """The octets of a payload file, whose pieces are numbered from 0 and are full except for the last."""
     octets = b""
     rows = database.execute("SELECT n, body FROM piece WHERE item = ? ORDER BY n", (item,))
     for number, (place, piece) in enumerate(rows):
@@ -44,7 +45,7 @@ def content(database, item, size):
 
 
 def judge(file, tags, items):
-    """Fails where the ledger is another than that of one transfer with these files."""
+    """Fails unless the ledger is that of one transfer with these files."""
     database = sqlite3.connect(file)
     ask = lambda text: database.execute(text).fetchall()
     for _ in range(2):
@@ -87,7 +88,7 @@ def adopted(driver, file):
 
 
 def adopt_damaged(driver, file):
-    """Adopts copies of this ledger with one damage each, and answers how many."""
+    """Adopts copies of this ledger with one damage each, and returns how many there were."""
     for damage, wanted in DAMAGES:
         for old in file.parent.glob("copy*"):
             old.unlink()
@@ -102,7 +103,7 @@ def adopt_damaged(driver, file):
 
 
 def adopt_others(driver, file):
-    """Adopts what is no ledger, or can't be had; each stays as it was. Answers how many there were."""
+    """Adopts files that aren't ledgers or can't be opened; each stays as it was. Returns how many there were."""
     whole = file.read_bytes()
     application = sqlite3.connect(file.with_name("application"))
     application.executescript("CREATE TABLE meta (k TEXT, v TEXT); CREATE TABLE held (id INTEGER PRIMARY KEY, what TEXT)")
@@ -128,8 +129,8 @@ def adopt_others(driver, file):
 
 
 def put_on_a_full_disk(driver, work, octets, digest):
-    """Puts a file where no file may grow past a length, once for each of many lengths, and answers how many there were. Each time it is
-    held whole, or the ledger is there without it, or none is."""
+    """Puts a file with files limited to a length, once for each of many lengths, and returns how many there were. Each time the
+    whole file is held, or the ledger exists without it, or there is no ledger."""
 
     def limited(length):
         signal.signal(signal.SIGXFSZ, signal.SIG_IGN)
@@ -171,7 +172,7 @@ def main(driver):
             subprocess.run([driver, "put-file", work / "octets", digest, ledgers[-1]], check=True)
             judge(ledgers[-1], tag_files({"data/file": octets}, ["data/file"]), {"data/file": octets})
         large = ledgers[-1]
-        # Of another content than the one that is listed nothing is held.
+        # If the content isn't the listed one, nothing is held.
         ledgers.append(work / "none")
         words = [driver, "put-file", work / "octets", hashlib.sha256(b"").hexdigest(), ledgers[-1]]
         assert subprocess.run(words, check=False).returncode == 1

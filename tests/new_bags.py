@@ -1,11 +1,11 @@
 #!/usr/bin/env python3
-"""new_bags.py COUNT SEED PROGRAM DRIVER..: has the driver write chosen bags and so many random ones, in one process, and compares what
-it answers and each file with what is made here, from section 17 of docs/FORMAT.md and with hashlib alone. Then each bag is put into a
+"""new_bags.py COUNT SEED PROGRAM DRIVER..: has the driver write chosen bags and COUNT random ones, in one process, and compares its
+answers and each file with what is made here, using only section 17 of docs/FORMAT.md and hashlib. Then each bag is put in a
 folder, where coreutils check each line of its manifests that they can spell, and the program and tests/reference.py judge it. The
-same seed makes the same bags. The first answer that differs is told with its lines.
+same seed makes the same bags. The first answer that differs is reported with its lines.
 
-The driver reads lines from standard input. Each is a word and its fields, each after one blank: its octets in hex, letters in lower
-case, or `-` where it has none. Texts are UTF-8, and paths aren't spelled.
+The driver reads lines from standard input. Each is a word followed by its fields, each after one blank: the octets in lowercase hex,
+or `-` if there are none. Texts are UTF-8, and paths aren't spelled.
 
     file PATH OCTETS      a file of the tree, once for each path
     by ALG                an algorithm: `md5`, `sha1`, `sha256` or `sha512`, not in hex
@@ -13,9 +13,9 @@ case, or `-` where it has none. Texts are UTF-8, and paths aren't spelled.
     hole PATH URL         a hole, after those that were given
     write                 the bag is written, and the next line begins another
 
-For each `write` it prints `written: OCTETS.FILES`, or `refused: ` and `no algorithm`, `Oxum given`, `bad hole N` (its place, from 0
-on), `clash PATH` (spelled) or `too large`; then `data` where the payload directory is there; a line for each file, its path and its
-octets; and an empty line.
+For each `write` it prints `written: OCTETS.FILES`, or `refused: ` and `no algorithm`, `Oxum given`, `bad hole N` (its index,
+from 0), `clash PATH` (spelled) or `too large`; then `data` if there is a payload directory; a line for each file with its path and
+its octets; and an empty line.
 """
 import collections
 import hashlib
@@ -30,9 +30,9 @@ import reference
 
 ALGORITHMS = ["md5", "sha1", "sha256", "sha512"]
 MOST_FILES, LARGEST_TAG_FILE = 100000, 16777216
-# The system takes paths of up to 4,095 octets, of which the folder has some.
+# The system accepts paths of up to 4,095 octets, including the folder.
 LONGEST_IN_FOLDER = 3900
-# What has to be answered, and by what it has to be judged: each at least once.
+# The answers and the judges, each of which must occur at least once.
 KINDS = ["written", "refused: no algorithm", "refused: Oxum given", "refused: bad hole", "refused: clash", "refused: too large",
          "refused after the payload: too large"]
 JUDGED = ["in a folder", "with a path that no folder takes", "valid", "not complete", "valid with its holes filled",
@@ -51,7 +51,7 @@ FURTHER = ["a", "b: c", "more ", "\u00e9", "Payload-Oxum: 1.1", "*"]
 
 
 class Order:
-    """What is to be written: a tree, algorithms, elements and holes."""
+    """What to write: a tree, algorithms, elements and holes."""
 
     def __init__(self, files, algorithms=("sha256",), elements=(), holes=()):
         self.files = {path.encode(): octets for path, octets in dict(files).items()}
@@ -68,7 +68,7 @@ class Order:
         yield "write"
 
     def refusal(self):
-        """What is told before anything is written, or None [17.1]."""
+        """The refusal that is reported before anything is written, or None [17.1]."""
         if not self.algorithms:
             return "no algorithm"
         if any(label.lower() == "payload-oxum" for label, _ in self.elements):
@@ -118,7 +118,7 @@ class Order:
             yield b"tagmanifest-%s.txt" % name.encode(), manifest(name, listed)
 
     def printed(self):
-        """What the driver has to print, line by line."""
+        """The expected output of the driver, line by line."""
         first, files = self.answer()
         yield first
         if files is not None:
@@ -216,12 +216,12 @@ def chosen_orders():
 
 
 def fits_coreutils(line):
-    """Coreutils spell names with LF, CR, percent or a backslash otherwise."""
+    """Coreutils spell names with LF, CR, percent or a backslash differently."""
     return b"%" not in line and b"\\" not in line
 
 
 class Held(reference.Bag):
-    """A written bag that lies in no folder."""
+    """A written bag that isn't in a folder."""
 
     def __init__(self, files):
         super().__init__(files, True)
@@ -235,13 +235,13 @@ class Held(reference.Bag):
 
 
 class Judges:
-    """Has written bags judged by tools that know nothing of the writer. What was judged is counted."""
+    """Has written bags judged by tools that know nothing about the writer, and counts what was judged."""
 
     def __init__(self, program):
         self.program, self.counts = program, collections.Counter()
 
     def fault(self, order, files):
-        """What is wrong with the written bag; None where nothing is."""
+        """What is wrong with the written bag; None if nothing is."""
         with tempfile.TemporaryDirectory() as folder:
             fits = put(os.fsencode(folder), files)
             self.counts["in a folder" if fits else "with a path that no folder takes"] += 1
@@ -258,15 +258,15 @@ class Judges:
             return self.judged_otherwise(folder if fits else None, {**files, **missing}, ["valid"], 0)
 
     def judged_otherwise(self, folder, files, lines, status):
-        """By the second program, and by `bag check` where the bag is in a folder."""
+        """Judges it with the second program, and with `bag check` if the bag is in a folder."""
         if Held(files).judge() != (lines, status):
-            return f"tests/reference.py says {Held(files).judge()}, and {lines} is wanted"
+            return f"tests/reference.py says {Held(files).judge()} instead of {lines}"
         if folder is None:
             return None
         ran = subprocess.run([self.program, "check", folder], capture_output=True, timeout=60, check=False)
         wanted = "".join(line + "\n" for line in lines).encode()
         if (ran.stdout, ran.stderr, ran.returncode) != (wanted, b"", status):
-            return f"bag check prints {ran.stdout + ran.stderr} with {ran.returncode}, and {wanted} is wanted"
+            return f"bag check prints {ran.stdout + ran.stderr} with {ran.returncode} instead of {wanted}"
         return None
 
     def listed_otherwise(self, base, order, files):
@@ -346,12 +346,12 @@ def kind(order):
 
 
 def difference(orders, printed):
-    """The first bag that is answered otherwise, with its lines; None where there is none."""
+    """The first bag whose answer differs, with its lines; None if there is none."""
     for name, order in orders:
         for wanted in order.printed():
             line = printed.readline()
             if line != wanted + "\n":
-                told = f"{name}: {line[:1000]!r} is printed, and {wanted[:1000]!r} is wanted."
+                told = f"{name}: {line[:1000]!r} is printed instead of {wanted[:1000]!r}."
                 return "\n".join([told, *(line[:1000] for line in order.lines())])
     rest = printed.readline()
     return f"After the last bag {rest!r} is printed." if rest else None

@@ -1,5 +1,5 @@
-/* Has one growth of memory refused: the one whose number, counted from 1, REFUSE gives; the file that REFUSED names is made then.
- * How many were asked for is written to the file that ASKED names, where the program ends by itself. To be loaded before a
+/* Makes one allocation of memory fail: the one with the number REFUSE, counted from 1. The file named by REFUSED is made then.
+ * If the program ends by itself, the number of allocations is written to the file named by ASKED. To be loaded before a
  * program's own library (LD_PRELOAD). */
 #include <errno.h>
 #include <fcntl.h>
@@ -12,7 +12,7 @@ void *__libc_realloc(void *, size_t);
 
 static long asked;
 
-/* Takes no memory, so that it counts for nothing. */
+/* Allocates no memory, so that it isn't counted. */
 static void note(const char *variable, long number) {
     char text[32];
     const char *name = getenv(variable);

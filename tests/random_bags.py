@@ -1,7 +1,7 @@
 #!/usr/bin/env python3
-"""random_bags.py PROGRAM SEED NUMBER: makes so many small bags, whole and damaged, of version 1.0 and of 0.97 by turns, and
-compares what `PROGRAM check` prints and answers for each with tests/reference.py. The same seed makes the same bags. A bag that is
-judged otherwise is kept and named.
+"""random_bags.py PROGRAM SEED NUMBER: makes NUMBER small bags, whole and damaged, of versions 1.0 and 0.97 in turn, and
+compares the output and the status of `PROGRAM check` for each with tests/reference.py. The same seed makes the same bags. A bag
+that is judged differently is kept and its name is printed.
 """
 import hashlib
 import os
@@ -61,7 +61,7 @@ def declaration(version, encoding=b"UTF-8"):
 
 
 def declarations(version):
-    """Those of other versions and encodings, and what declares nothing."""
+    """Declarations of other versions and encodings, and files that declare nothing."""
     first, second = declaration(version).splitlines(True)
     both = first + second
     return [declaration(other) for other in VERSIONS * 2 + OTHER_VERSIONS] + [
@@ -130,7 +130,7 @@ def manifest_line(rng, digest, path, version):
 
 
 class Bag:
-    """A bag in memory: the octets of its files, its directories without files, and what no bag can hold."""
+    """A bag in memory: the octets of its files, its empty directories, and what isn't allowed in a bag."""
 
     def __init__(self, rng, version, names=NAMES, contents=content):
         self.rng, self.version = rng, version
@@ -165,7 +165,7 @@ class Bag:
             self.files[b"manifest-%s.txt" % algorithm.encode()] = self.manifest(algorithm, paths)
 
     def tag_manifests(self):
-        """They list every tag file that is there, sometimes but the payload manifests, and sometimes some."""
+        """They list every tag file, sometimes every one except the payload manifests, and sometimes some."""
         rng = self.rng
         tags = [path for path in self.files if not path.startswith((b"data/", b"tagmanifest-"))]
         if sometimes(rng, 20):
@@ -248,7 +248,7 @@ class Bag:
             self.files[one], self.files[other] = self.files[other], self.files[one]
 
     def copy_manifest(self):
-        """One manifest gets the name of another, or of none that is known."""
+        """One manifest gets the name of another, or an unknown name."""
         path = self.tag_file((b"manifest-", b"tagmanifest-"))
         if path:
             name = self.rng.choice(ALGORITHMS).encode() if sometimes(self.rng, 50) else self.rng.choice(OTHER_ALGORITHMS)
@@ -336,7 +336,7 @@ class Bag:
         self.specials[path] = self.rng.choice([os.mkfifo] + links)
 
     def write(self, folder):
-        """What can't stand beside what is there already is left out."""
+        """What can't exist next to the earlier files is left out."""
         os.mkdir(folder)
         for path in self.directories:
             os.makedirs(os.path.join(folder, path), exist_ok=True)
@@ -383,7 +383,7 @@ def shape(line):
 
 
 def shapes():
-    """Every kind of line that is printed where a folder is checked, but for the limits. Each comes for each version."""
+    """Every kind of line that a check of a folder prints, except for the limits. Each occurs for each version."""
     manifest = ["not UTF-8", "separator", "digest form", "path", "wrong place", "twice"]
     causes = {
         "bag-info.txt": ["not UTF-8", "nothing to continue", "separator", "label"],

@@ -1,8 +1,8 @@
 #!/usr/bin/env python3
-"""random_commands.py PROGRAM COUNT SEED [NUMBER]: runs so many times 8 to 20 random commands of the program on ledgers and folders, and
-compares each line and status with those of tests/reference_commands.py; so is each folder that a command makes, octet by octet, and
-after each run each ledger as sqlite3 reads it. The same seed makes the same runs; with NUMBER that run alone is made. A run that goes
-otherwise is told with its commands and its folder is kept.
+"""random_commands.py PROGRAM COUNT SEED [NUMBER]: makes COUNT runs of 8 to 20 random commands of the program on ledgers and
+folders. It compares each line and status with those of tests/reference_commands.py, each folder that a command makes, octet by
+octet, and after each run each ledger as sqlite3 reads it. The same seed makes the same runs; with NUMBER only that run is made. A
+run that differs is reported with its commands, and its folder is kept.
 """
 import collections
 import os
@@ -25,9 +25,9 @@ from reference_receiver import Receiver
 GOOD_NAMES = deliveries.GOOD_NAMES
 BAD_NAMES = [name for name in deliveries.BAD_NAMES if b"\0" not in name]
 FOLDER_NAMES = [b"in", b"two words", b"line\nfeed", b"100%", b"\xc3\xa9", b"*", b".hidden", b"-"]
-# What stands in place of a folder, or is none.
+# What is used in place of a folder, or isn't one.
 NO_FOLDERS = [b"", b"none", b"none/none", b"text", b"text/none", b"nowhere", b"empty"]
-# What stands in place of a ledger, or may become one.
+# What is used in place of a ledger, or may become one.
 OTHER_LEDGERS = [b"new ledger", b"empty", b"no tables", b"text", b"cut", b"application", b"some folder", b"linked ledger", b"none/ledger",
                  b"text/ledger"]
 # What another program may have done to a copy of a ledger. Some of it leaves a ledger.
@@ -50,7 +50,7 @@ CHANGES = [
 
 
 class Otherwise(Exception):
-    """The program did other than it has to."""
+    """The program did something different from what it must do."""
 
 
 def offered(rng):
@@ -65,7 +65,7 @@ def offered(rng):
 
 
 def fits(path):
-    """A folder may hold a file of this path."""
+    """Whether a folder may hold a file with this path."""
     return reference.is_path(path) and all(len(part) <= 200 for part in path.split(b"/")) and len(path) < 2000
 
 
@@ -142,14 +142,14 @@ class Run:
         return self.rng.choice(FOLDER_NAMES) + b" %d" % self.number
 
     def put(self, files, specials=(), directories=()):
-        """A new folder with these files, where they can stand beside each other, and after them what is no file."""
+        """A new folder with these files, if they can exist next to each other, and after them what isn't a file."""
         name = self.new_name()
         files = {path: octets for path, octets in files.items() if fits(path)}
         random_bags.Bag.write(types.SimpleNamespace(files=files, directories=directories, specials=dict(specials)), name)
         return name
 
     def worded(self, name):
-        """The folder by another word, and now and then another in its place."""
+        """The folder under another name, and now and then another folder."""
         if sometimes(self.rng, 7):
             return self.rng.choice(NO_FOLDERS)
         if sometimes(self.rng, 7) and not os.path.lexists(name + b" link"):
@@ -159,7 +159,7 @@ class Run:
         return b"./" + word if word.startswith(b"-") else word
 
     def special(self, percent, places=(b"data/special", b"special", b"data/\xff")):
-        """What no bag can hold, at one of the places."""
+        """What isn't allowed in a bag, at one of the places."""
         if not sometimes(self.rng, percent):
             return {}
         return {self.rng.choice(places): self.rng.choice([os.mkfifo, link(b"data"), link(b"none"), link(b"../text")])}
@@ -215,7 +215,7 @@ class Run:
         return self.put(files, self.special(4), [b"data"])
 
     def new_folder(self):
-        """The word for a folder that is to be made."""
+        """The name of a folder to be made."""
         rng, name = self.rng, self.new_name()
         if sometimes(rng, 15):
             return rng.choice([*NO_FOLDERS, *self.bags, b"text", name + b"/none"])
@@ -254,7 +254,7 @@ class Run:
         return [b"list", self.some_ledger()]
 
     def unusual(self):
-        """Words that name no command, or that name one in another way."""
+        """Arguments that are no command, or that spell one in another way."""
         rng, words = self.rng, self.some_command()
         place = rng.randrange(len(words) + 1)
         return rng.choice([
@@ -267,7 +267,7 @@ class Run:
         return self.rng.choice(ways + [self.check] * 2 + [self.names] * 2 + [self.make])()
 
     def step(self, place):
-        """One command, which is held against the second program. The first ones are those that most others need."""
+        """One command, compared with the second program. The first ones are those that most others need."""
         if place < len(self.offers):
             name = list(self.offers)[place]
             words = [b"begin", b"ledger", name, self.put(dict(self.offers[name].tags), (), [b"data"])]
@@ -283,9 +283,9 @@ class Run:
         before, octets = all_names(), octets_of(words)
         self.commands.locked = locked
         wanted = self.commands.answer(words)
-        # A part of a ledger may be told as one that can't be read.
+        # A part of a ledger may be reported as one that can't be read.
         allowed = [wanted, wanted._replace(lines=["bag: store"])] if b"cut" in words and wanted.lines == ["bag: not a ledger"] else [wanted]
-        # Who opens and closes a file that he has locked has it unlocked, so that nothing else is done meanwhile.
+        # A process that opens and closes a file that it has locked unlocks it, so nothing else is done in the meantime.
         others = [another_program(ledger) for ledger in locked]
         ran = subprocess.run([self.program, *words], stdin=subprocess.DEVNULL, capture_output=True, timeout=60, check=False)
         for other in others:
@@ -308,7 +308,7 @@ class Run:
                             f"the reference ({wanted.status}):\n{(lines or b'').decode()}")
 
     def judge_made(self, words, wanted):
-        """The names of what is there now."""
+        """The names of everything that exists now."""
         made = set()
         if wanted.made is not None:
             folder = reference_commands.request(words)[1][-1 if words[0] == b"export" else 1].strip(b"/").removeprefix(b"./")
@@ -337,7 +337,7 @@ class Run:
 
 
 def another_program(ledger):
-    """One that has locked a ledger."""
+    """A process that has locked a ledger."""
     database = sqlite3.connect(ledger, isolation_level=None)
     database.execute("BEGIN EXCLUSIVE")
     return database
@@ -375,7 +375,7 @@ def kind_of(words, line, status):
 
 
 def kinds():
-    """What has to come, each at least once."""
+    """The kinds of lines that must occur at least once."""
     views = ["valid", "not complete", "manifest: missing", "bag-info.txt: Payload-Oxum wrong", "bag: no transfer"]
     ledgers = ["bag: not a ledger", "bag: old format", "bag: damaged", "bag: store"]
     some = {
@@ -396,7 +396,7 @@ def kinds():
 
 
 def run(program, seed, number):
-    """What went otherwise, if something did; the commands; and how often each kind of line came."""
+    """What differed, if anything did; the commands; and how many times each kind of line occurred."""
     rng = random.Random(f"{seed} {number}")
     found = Run(rng, program)
     try:

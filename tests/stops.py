@@ -1,15 +1,15 @@
 #!/usr/bin/env python3
 """stops.py DRIVER TRIED: has the driver stop a ledger's work at each call of each of the two files of its database, and judges what a
-new start finds. What was tried is written to TRIED.
+restart finds. What was tried is written to TRIED.
 
-The work is steps, one after another: a ledger is made, a transfer is opened, a payload file of three pieces is put by a reader, and ten
-small ones in a run. Once for each number of calls that a file may take (`log`, or `database`) and each way to end (`cut`, with all lost
-that no sync had reached, or `killed`, with all kept that was written) the driver prints
+The work is a sequence of steps: a ledger is made, a transfer is opened, a payload file of three pieces is put through a reader, and
+ten small ones are put in a run. For each number of calls that a file (`log` or `database`) accepts, and for each way to end (`cut`,
+which loses everything that no sync had reached, or `killed`, which keeps everything that was written), the driver prints
 
     FILE CALLS HOW: N answered, M held
 
-where N steps were answered before the stop, and the ledger that is adopted after it holds M of them. A step that was answered is held,
-and at most the one that was under way beside it.
+where N steps were answered before the stop, and the ledger that is adopted after it holds M of them. Every step that was answered is
+held, and in addition at most the one that was in progress.
 """
 import re
 import subprocess
