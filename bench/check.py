@@ -1,8 +1,8 @@
 #!/usr/bin/env python3
-"""The times of `bag check` beside those of coreutils and of the digest functions alone, and its peak memory.
+"""The times of `bag check` compared with those of coreutils and of the digest functions alone, and its peak memory.
 
-Each row is a bag. The commands take turns, three rounds by default, and the least time of each counts. `digests` is the time
-that the digest functions take for the payload's octets in memory, without reading a file. Memory is the greatest resident set.
+Each row is a bag. The commands take turns, by default for three rounds, and the least time of each counts. `digests` is the time that
+the digest functions take for the payload's octets in memory, without reading a file. Memory is the greatest resident set.
 
     bench/check.py [ROUNDS]
 """
@@ -25,7 +25,7 @@ MEBIBYTE = 1 << 20
 
 
 def payload(bag, sizes, folders):
-    """Writes a file of each size, spread over so many folders, and answers their paths."""
+    """Writes a file of each size, spread over this many folders, and returns their paths."""
     block = os.urandom(MEBIBYTE)
     paths = []
     for number, size in enumerate(sizes):
@@ -51,7 +51,7 @@ def make(bag, sizes, folders, algorithms):
 
 
 def run(commands, folder):
-    """The seconds that the commands take one after another, and the greatest resident set of any in KiB."""
+    """The seconds that the commands take in sequence, and the greatest resident set of any of them in KiB."""
     peak = 0
     started = time.monotonic()
     for words in commands:

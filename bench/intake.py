@@ -1,11 +1,11 @@
 #!/usr/bin/env python3
-"""The times of receiving a bag into a ledger on the disk and of exporting it, beside those of what a user would do without: `cp -r` and
-the digests by coreutils, and the same rows written by sqlite3 (Python's, over its C library) with the digests by coreutils. And the time
-and the peak memory of each command on a ledger, by what it holds.
+"""The times of receiving a bag into a ledger on disk and of exporting it, compared with what a user could do instead: `cp -r` and the
+digests by coreutils, and the same rows written by sqlite3 (Python's, using its C library) with the digests by coreutils. Then the
+time and the peak memory of each command on a ledger, by what it holds.
 
-Each row is a payload. All take turns, three rounds by default, and the least time of each counts. `cp` doesn't wait until the disk has
-what was written; the ledgers do, once for each payload file. Memory is the greatest resident set. With SMALLER each payload has so many
-times fewer octets, or files.
+Each row is a payload. All of them take turns, by default for three rounds, and the least time of each counts. `cp` doesn't wait until
+the data is on the disk; the ledgers do, once for each payload file. Memory is the greatest resident set. SMALLER divides the octets
+or the number of files of each payload.
 
     bench/intake.py [ROUNDS [SMALLER]]
 """
@@ -23,7 +23,7 @@ NAME = "bench"
 
 
 def sqlite3_receives(bag, database):
-    """Puts each payload file that the manifest lists, in a transaction of its own."""
+    """Puts each payload file that the manifest lists, each in its own transaction."""
     bag = pathlib.Path(bag)
     manifest = (bag / "manifest-sha256.txt").read_bytes()
     ledger = opened(database, manifest)
@@ -83,7 +83,7 @@ def transfer(name, sizes, folders, rounds, work):
 
 
 def commands(mebibytes, work):
-    """A row for each command on a ledger that holds so much, in files of 1 MiB."""
+    """A row for each command on a ledger that holds this much, in files of 1 MiB."""
     bag, ledger, out = work / "bag", work / "ledger", work / "out"
     make(bag, [MEBIBYTE] * mebibytes, 1, ["sha256"])
     (bag / "fetch.txt").write_text("http://example.org/ - data/000/000000\n", encoding="ascii")

@@ -1,11 +1,11 @@
 #!/usr/bin/env python3
-"""The times of taking payload files into a ledger in a database on the disk, beside those of sqlite3 (Python's, over its C library)
-with the same tables, the same transactions and the same settings of durability and of the digest function alone; and the peak memory.
+"""The times of taking payload files into a ledger in a database on disk, compared with those of sqlite3 (Python's, using its C library)
+with the same tables, transactions and settings of durability, and with those of the digest function alone; and the peak memory.
 
-Each row is a payload. The three take turns, three rounds by default, and the least time of each counts. The payload files of 2,048
-octets are made in memory, and the ledger takes their digests twice, for the manifest and as they are put; the large file is read piece
-by piece. Each payload file is put in a transaction of its own. sqlite3 takes no digests: the ratio is to both others together. Memory
-is the greatest resident set.
+Each row is a payload. The three take turns, by default for three rounds, and the least time of each counts. The payload files of 2,048
+octets are made in memory, and their digests are computed twice, for the manifest and when they are put; the large file is read piece
+by piece. Each payload file is put in its own transaction. sqlite3 computes no digests: the ratio is to both others together. Memory is
+the greatest resident set.
 
     bench/ledger.py [ROUNDS]
 """
@@ -34,7 +34,7 @@ INSERT INTO meta VALUES ('bag-ledger', 2);
 
 
 def opened(database, manifest):
-    """A new ledger by sqlite3, with one transfer."""
+    """Makes a ledger with one transfer, using sqlite3."""
     ledger = sqlite3.connect(database, isolation_level=None)
     for setting in ("journal_mode = WAL", "synchronous = FULL", "foreign_keys = ON"):
         ledger.execute(f"PRAGMA {setting}")
@@ -100,7 +100,7 @@ def row(name, octets, work, rounds, *words):
 
 
 def main(rounds=3):
-    # With no words the driver ends with status 64.
+    # Without arguments the driver ends with status 64.
     subprocess.run(["rt", "run"], cwd=TOP / "crates/bag_bench", stdin=subprocess.DEVNULL, stdout=sys.stderr)
     print(f"{'payload':<14} {'ledger':>8} {'sqlite3':>8} {'digests':>8} {'ratio':>6} {'peak MiB':>9} {'sqlite3':>9}")
     with tempfile.TemporaryDirectory() as folder:

@@ -1,9 +1,9 @@
 #!/usr/bin/env python3
-"""The times of `bag make` beside those of copying the same folder by `cp -r` and taking the digests of the copy by coreutils, and
-its peak memory.
+"""The times of `bag make` compared with those of copying the same folder with `cp -r` and computing the digests of the copy with
+coreutils, and its peak memory.
 
-Each row is a payload. The two take turns, three rounds by default, and the least time of each counts. Neither waits until the disk
-has what was written. Memory is the greatest resident set.
+Each row is a payload. The two take turns, by default for three rounds, and the least time of each counts. Neither waits until the data
+is on the disk. Memory is the greatest resident set.
 
     bench/make.py [ROUNDS]
 """

@@ -1,5 +1,5 @@
 #!/usr/bin/env python3
-"""What `bag check DIR` has to print, computed a second time: written from docs/FORMAT.md alone. tests/tools.sh compares.
+"""A second implementation of `bag check DIR`, written only from docs/FORMAT.md. tests/tools.sh compares the two.
 
 The numbers in brackets are sections of docs/FORMAT.md. Paths, names and texts are octets throughout.
 """
@@ -30,7 +30,7 @@ class End(Exception):
 
 
 class BadLine(Exception):
-    """A line doesn't read; the cause is the text printed."""
+    """A line can't be read; the cause is the text printed."""
 
 
 def is_utf8(octets):
@@ -55,7 +55,7 @@ def numbered(octets):
 
 
 def cut(line):
-    """The part without a blank, and what stands after all blanks that follow it; None where there is no blank."""
+    """The part before the first blank, and what follows after all blanks; None if there is no blank."""
     found = re.search(rb"[ \t]+", line)
     return (line[:found.start()], line[found.end():]) if found else None
 
@@ -178,7 +178,7 @@ def read_number(digits):
 
 
 def read_fetch(_, version):
-    """The length, or None, and the path of each entry [8]. Each stands at the place of its line."""
+    """The length, or None, and the path of each entry [8], each at the index of its line."""
     entries = []
 
     def take(line):
@@ -259,7 +259,7 @@ class Bag:
                 raise End(["outside: algorithm " + found[2].decode()], 2)
 
     def read(self, name, reader):
-        """What the file says, or None where a line doesn't read: then that is told."""
+        """The content of the file, or None if a line can't be read, which is then reported."""
         octets = self.text(name)
         if name != b"bag-info.txt" and len(lines_of(octets)) > LINE_LIMIT:
             raise End(["bag: too many"], 3)
@@ -277,7 +277,7 @@ class Bag:
         return value
 
     def judge_form(self):
-        """Tier 2 [11]. What the tag files say is kept for tier 3."""
+        """Tier 2 [11]. The content of the tag files is kept for tier 3."""
         self.manifests, self.fetch, self.oxums, elements = {}, [], [], []
         for name in self.paths:
             if MANIFEST.fullmatch(name):
@@ -328,7 +328,7 @@ class Bag:
         self.end_where_at_fault()
 
     def lacking(self, path):
-        """The payload manifests that are told because they don't list the path [9, 15]."""
+        """The payload manifests that are reported because they don't list the path [9, 15]."""
         names = sorted(name for name in self.payload_manifests if path not in self.manifests[name])
         if self.version == b"0.97":
             return names[:1] if len(names) == len(self.payload_manifests) else []

@@ -1,8 +1,9 @@
 #!/usr/bin/env python3
-"""What each command of `bag` has to print, its status, and what it leaves behind, computed a second time: written from docs/FORMAT.md
-and docs/bag.1, beside tests/reference.py and tests/reference_receiver.py, whose rules it uses. tests/random_commands.py compares.
+"""A second implementation of the commands of `bag`: what each prints, its status, and what it leaves behind. Written from
+docs/FORMAT.md and docs/bag.1; it uses the rules of tests/reference.py and tests/reference_receiver.py. tests/random_commands.py
+compares the two.
 
-The numbers in brackets are sections of docs/FORMAT.md. Words, names, paths and contents are octets; lines are texts.
+The numbers in brackets are sections of docs/FORMAT.md. Arguments, names, paths and contents are octets; lines are texts.
 """
 import collections
 import os
@@ -16,18 +17,18 @@ import reference
 import reference_receiver
 from reference_receiver import Refused, printed
 
-# How many operands a command has; the last one may be there more than once.
+# The number of operands of each command; the last one may be repeated.
 OPERANDS = {b"check": (1, False), b"make": (3, True), b"begin": (3, False), b"intake": (3, True), b"report": (2, False),
             b"audit": (2, False), b"fetch": (3, False), b"export": (3, False), b"list": (1, False)}
 COLUMNS = {"meta": "k, v", "transfer": "id, name", "tag": "transfer, path, body", "held": "id, transfer, path, size",
            "piece": "item, n, body"}
-# The row that belongs to nothing, if one does [18].
+# Finds a row without an owner, if there is one [18].
 BELONG = ("SELECT 1 FROM tag WHERE transfer NOT IN (SELECT id FROM transfer)",
           "SELECT 1 FROM held WHERE transfer NOT IN (SELECT id FROM transfer)",
           "SELECT 1 FROM piece WHERE item NOT IN (SELECT id FROM held)")
 PIECE = 65536
 
-# The lines, where they are known, and the status. `made` are the octets of the files by path in the folder that is made.
+# The lines, if they are known, and the status. `made` is the octets of the files, by path, in the folder that is made.
 Answer = collections.namedtuple("Answer", ["lines", "status", "made"], defaults=[None])
 
 
@@ -36,7 +37,7 @@ def fault(line, status=3):
 
 
 def request(words):
-    """The command's name and its operands; None where the words name no command [14]."""
+    """The command's name and its operands; None if the arguments are no command [14]."""
     if not all(map(reference.is_utf8, words)) or words[0] not in OPERANDS:
         return None
     place = words.index(b"--") if b"--" in words else len(words)
@@ -62,7 +63,7 @@ def tree(folder):
 
 
 def payload_below(folder, below=b""):
-    """The files of a payload by their paths in the bag, of which `data` may be one [14]."""
+    """The files of a payload by their paths in the bag; one of them may be named `data` in the folder [14]."""
     files = {}
     try:
         for name in os.listdir(os.path.join(folder, below)):
@@ -82,14 +83,14 @@ def payload_below(folder, below=b""):
 
 
 def refuse_unless_new(folder):
-    """A folder that a command makes must not be there yet in any form, and its own folder has to be there."""
+    """A folder that a command makes must not exist yet in any form, and its parent must exist."""
     name = folder.rstrip(b"/")
     if not name or os.path.lexists(name) or not os.path.isdir(os.path.dirname(name) or b"."):
         raise fault("files")
 
 
 def supplied(folder, path):
-    """The octets of the file at this path below the folder; None where it isn't there in any way. No link below it is followed."""
+    """The octets of the file at this path below the folder; None if nothing exists there. No link below the folder is followed."""
     place = folder
     *directories, name = path.split(b"/")
     for directory in directories:
@@ -115,14 +116,14 @@ def copy_ledger(file, copy):
 
 
 def is_without_tables(file):
-    """Whether this is a database without any table, as a file without octets is one."""
+    """Whether this is a database without tables; an empty file is one."""
     return os.path.isfile(file) and number_of_tables(file) == 0
 
 
 def number_of_tables(file):
-    """How many tables a database has; None where it is no database."""
+    """The number of tables of a database; None if it isn't a database."""
     if os.path.getsize(file) == 1:
-        # sqlite3 takes it for a file without octets.
+        # sqlite3 takes it for an empty file.
         return None
     try:
         with Database(file) as database:
@@ -132,7 +133,7 @@ def number_of_tables(file):
 
 
 class Database:
-    """A copy of a database, which is read in place of it: to read a database whose log is there changes both."""
+    """A copy of a database, to be read in its place: reading a database that has a log changes both."""
 
     def __init__(self, file):
         self.folder = tempfile.mkdtemp()
@@ -202,7 +203,7 @@ def passes(transfer, path, octets):
 
 
 def content(database, item, size):
-    """The octets of a payload file; None where its size and its pieces don't agree [18.3]."""
+    """The octets of a payload file; None if its size and its pieces don't agree [18.3]."""
     octets = b""
     for number, (place, piece) in enumerate(database.ask("SELECT n, body FROM piece WHERE item = ? ORDER BY n", item)):
         if place != number or len(piece) != min(PIECE, size - PIECE * number) or not piece:
@@ -212,13 +213,13 @@ def content(database, item, size):
 
 
 class Commands:
-    """The ledgers that there are, by the names of their files, and which of these another program has locked. No name is a link's."""
+    """The ledgers, by the names of their files, and which of them another program has locked. No name is that of a link."""
 
     def __init__(self):
         self.receivers, self.locked = {}, set()
 
     def answer(self, words):
-        """What is printed, the status, and what is made. It is asked before the program does its work."""
+        """What is printed, the status, and what is made. To be called before the program does its work."""
         if not words:
             return Answer(["bag: check, make, begin, intake, report, audit, fetch, export, list"], 64)
         if asks_for_help(words):
@@ -242,8 +243,8 @@ class Commands:
         return self.receivers[file]
 
     def made(self, ledger):
-        """The receiver of a ledger that is made in this file. One that was not there is removed again unless the status is 0; one that was
-        there stays, and is a ledger from then on."""
+        """The receiver of a ledger that is made in this file. A file that didn't exist is removed again unless the status is 0; one
+        that existed stays, and is a ledger from then on."""
         if not os.path.isdir(os.path.dirname(ledger) or b"."):
             raise fault("store")
         if os.path.lexists(ledger):
@@ -317,21 +318,21 @@ class Commands:
 
 
 def transfer_of(receiver, name):
-    """The transfer of this name, which has to be one [16.1]."""
+    """The transfer with this name, which must be valid [16.1]."""
     if not reference_receiver.NAME.fullmatch(name) or name not in receiver.transfers:
         raise fault("no transfer", 1)
     return receiver.transfers[name]
 
 
 def deliver(receiver, name, path, octets):
-    """A payload file is delivered; the line says what came of it."""
+    """Delivers a payload file; the line is the outcome."""
     is_name = reference_receiver.NAME.fullmatch(name)
     answer, _, cause = receiver.deliver(name if is_name else b"", path, octets).partition(": ")
     return f"{answer} {printed(path)}" + (f": {cause}" if cause else "")
 
 
 def ask_for(receiver, name, path, folder):
-    """A payload file is asked of a folder, and delivered where it has it; the line says what came of it."""
+    """Asks a folder for a payload file, and delivers it if the folder has it; the line is the outcome."""
     try:
         octets = supplied(folder, path)
     except Refused as cause:

@@ -1,6 +1,7 @@
 #!/usr/bin/env python3
-"""The receiver of transfers, a second time: written from docs/FORMAT.md alone, beside tests/reference.py, whose rules it uses.
-tests/deliveries.py compares. Run as a program, it answers worked cases and says how many it answered otherwise than it has to.
+"""A second implementation of the receiver of transfers, written only from docs/FORMAT.md; it uses the rules of
+tests/reference.py. tests/deliveries.py compares the two. Run as a program, it answers worked cases and prints how many answers
+are wrong.
 
 The numbers in brackets are sections of docs/FORMAT.md. Names, paths and contents are octets; an answer is the text of its line.
 """
@@ -16,7 +17,7 @@ NAME = re.compile(rb"[a-z0-9-]{1,64}")
 
 
 class Refused(Exception):
-    """What comes is refused; the cause is the text printed."""
+    """A refusal; the cause is the text printed."""
 
 
 def printed(path):
@@ -44,7 +45,7 @@ def tags_of(files):
 
 
 class HeldBag(reference.Bag):
-    """A bag of files in memory, whose payload directory counts as there."""
+    """A bag of files in memory, whose payload directory counts as existing."""
 
     def __init__(self, files):
         super().__init__(files, True)
@@ -55,13 +56,13 @@ class HeldBag(reference.Bag):
 
 
 def can_be_mended(fault):
-    """Payload files that are still to come may mend this fault of tier 3."""
+    """Whether payload files still to come can remedy this fault of tier 3."""
     number, file = fault[:2]
     return number in (12, 13) or (number == 14 and file.startswith(b"manifest-"))
 
 
 class Transfer:
-    """The tag files, what they say of the payload files, and those that were taken."""
+    """The tag files, what they say about the payload files, and the payload files taken."""
 
     def __init__(self, tags):
         self.tags, self.held = tags, {}
@@ -73,7 +74,7 @@ class Transfer:
             raise Refused(end.lines[0]) from None
         self.fetch = [path for _, _, path in bag.fetch]
         self.lengths = [(path, length) for _, length, path in bag.fetch if length is not None]
-        # The digests that are listed for each path, by algorithm.
+        # The digests listed for each path, by algorithm.
         self.listed = {}
         for name in bag.payload_manifests:
             for path, digest in bag.manifests[name].items():
@@ -82,7 +83,7 @@ class Transfer:
         self.refuse_clash()
 
     def refuse_what_stays(self):
-        """The first fault that no payload file can mend, where all that are listed count as there."""
+        """The first fault that no payload file can remedy, if all listed files count as existing."""
         whole = HeldBag({**self.tags, **dict.fromkeys(self.listed, b"")})
         whole.judge()
         faults = [fault for fault in whole.faults if not can_be_mended(fault)]
@@ -165,14 +166,14 @@ class Receiver:
         return self.transfers[name]
 
 
-# The worked cases. Each check gives answers and what they have to be. The digests are those of `abc` and of no octets.
+# The worked cases. Each check gives answers and the expected answers. The digests are those of `abc` and of the empty message.
 TAGS = [(b"bagit.txt", DECLARATION), (b"manifest-sha256.txt", MANIFEST)]
 A, E = (b"data/a.txt", b"abc"), (b"data/e.txt", b"")
 MISSING_A, MISSING_E = "manifest-sha256.txt: missing: data/a.txt", "manifest-sha256.txt: missing: data/e.txt"
 
 
 def begun(*changes):
-    """What the two tag files are answered, with these in place of theirs or beside them."""
+    """The answer to the two tag files, with these replaced or added."""
     return Receiver().begin(b"t", list({**dict(TAGS), **dict(changes)}.items()))
 
 
@@ -324,7 +325,7 @@ def main():
             tried += 1
             if answer != wanted:
                 failed += 1
-                print(f"{check.__name__}, answer {place}: {str(answer)[:200]}, and {str(wanted)[:200]} is wanted")
+                print(f"{check.__name__}, answer {place}: {str(answer)[:200]} instead of {str(wanted)[:200]}")
     print(f"{tried} worked answers: {failed} otherwise")
     return 1 if failed or not tried else 0
 

@@ -1,7 +1,8 @@
 #!/usr/bin/env python3
-"""Small bags, each with the lines and the status that docs/FORMAT.md asks for: `small_bags.py PROGRAM`.
+"""small_bags.py PROGRAM: small bags, each with the lines and the status that docs/FORMAT.md requires.
 
-The digests are those that the standards publish for `abc` and for no octets (RFC 1321, FIPS 180-4), and of sha256sum.
+The digests are those that the standards publish for `abc` and for the empty message (RFC 1321, FIPS 180-4), and those that
+sha256sum computes.
 """
 import sys
 
@@ -16,15 +17,15 @@ MANIFEST = A_SHA256 + b"  data/a.txt\n" + E_SHA256 + b"  data/e.txt\n"
 BOTH_BY_MD5 = A_MD5 + b"  data/a.txt\n" + E_MD5 + b"  data/e.txt\n"
 MANIFESTS = [b"manifest-%s.txt" % name for name in (b"md5", b"sha1", b"sha256", b"sha512")]
 TAG_MANIFESTS = [b"tag" + name for name in MANIFESTS]
-# What sha256sum says of the declaration and of this manifest.
+# The output of sha256sum for the declaration and for this manifest.
 DECLARATION_SHA256 = b"1712ecfb074bf29c4188ad3421032509159a09739fd604f8fe57038b4ddefcc9"
 MANIFEST_SHA256 = b"456acbba2b2aa56b7fa3d4e9ac34b9475cc2c2a6694f5c4bd7975db51956fda7"
-# And md5sum.
+# The same for md5sum.
 DECLARATION_MD5 = b"eaa2c609ff6371712f623f5531945b44"
 MANIFEST_MD5 = b"8c29597bdd563ba8a8bd22ecc1a04b9a"
 
-# The digests by `md5sum`, `sha1sum`, `sha256sum` and `sha512sum` of the first octets of a message whose octets are their places
-# modulo 251.
+# The digests that `md5sum`, `sha1sum`, `sha256sum` and `sha512sum` compute for the first octets of a message in which each octet
+# is its index modulo 251.
 BY_COREUTILS = {
     1: (
         b"93b885adfe0da089cdf634904fd59f71",
@@ -114,12 +115,12 @@ BY_COREUTILS = {
 
 
 def tags(files=None):
-    """The bag of two files, with the digests above, and these files in place of its own or beside them."""
+    """The bag of two files, with the digests above, and with these files replaced or added."""
     return bag(files={b"manifest-sha256.txt": MANIFEST, **(files or {})})
 
 
 def tags_0_97(files=None):
-    """The same of version 0.97."""
+    """The same in version 0.97."""
     return tags({b"bagit.txt": OF_0_97, **(files or {})})
 
 
@@ -241,7 +242,7 @@ def names():
 
 
 def told_names():
-    """Each manifest is told by its name."""
+    """Each manifest is recognized by its name."""
     for name in MANIFESTS:
         files = empty({name: b"", b"tagmanifest-sha256.txt": b""})
         yield f"{name} not listed", files, not_complete(f"tagmanifest-sha256.txt: not listed: {name.decode()}")
@@ -254,7 +255,7 @@ def told_names():
 
 
 def other_names():
-    """Names are matched exactly, and at the base directory alone."""
+    """Names are matched exactly, and only in the base directory."""
     for name, word in [
         (b"manifest-sha224.txt", "sha224"),
         (b"tagmanifest-sha224.txt", "sha224"),
@@ -567,7 +568,7 @@ def infos_0_97():
 
 
 def paths_0_97():
-    """A payload file without octets, how the manifest spells its path, and the answers for versions 0.97 and 1.0."""
+    """An empty payload file, the spelling of its path in the manifest, and the answers for versions 0.97 and 1.0."""
     path = not_complete("manifest-sha256.txt:3: path")
 
     def other(spelled, printed):
