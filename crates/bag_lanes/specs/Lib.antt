@@ -1,0 +1,4 @@
+pub mod Standard
+pub mod Lanes
+pub mod Rounds
+pub mod Tasks
