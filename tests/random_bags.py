@@ -52,6 +52,8 @@ OTHER_VERSIONS = [
     b" 0.97", b"1.0.0", b"0.97.0", b"1.1234567890", b"999999999.0", b"1,0", b""]
 OTHER_ENCODINGS = [
     b"utf-8", b"Utf-8", b"ISO-8859-1", b"UTF-16", b"UTF8", b"", b"UTF-8 ", b"UTF 8", b"\xc3\xa9", b"UTF\xff8"]
+# Lengths in octets at the edges of the blocks that are hashed, of a piece, and of the buffer of a check.
+EDGES = [0, 55, 56, 63, 64, 65, 119, 120, 127, 128, 129, 65_535, 65_536, 65_537, 131_071, 131_072, 131_073]
 OCTETS = [bytes([octet]) for octet in b" \t\r\n%*./:-0129aAfFgd\0\xff\x7f\x85"]
 OCTETS += [b"\xc3\xa9", b"\xef\xbb\xbf", b"\xc2\xa0", b"\xed\xa0\x80"]
 
@@ -118,7 +120,8 @@ def joined(rng, lines):
 
 def content(rng):
     octets = bytes(rng.randrange(256) for _ in range(rng.randrange(9)))
-    return octets * rng.choice([1, 1, 1, 1, 8000, 16384]) if sometimes(rng, 10) else octets
+    length = rng.choice(EDGES) if octets and sometimes(rng, 10) else len(octets)
+    return (octets * (length // max(len(octets), 1) + 1))[:length]
 
 
 def manifest_line(rng, digest, path, version):
@@ -137,6 +140,10 @@ class Bag:
         self.files, self.directories, self.specials = {b"bagit.txt": declaration(version)}, [b"data"], {}
         for name in rng.sample(names, rng.choice([0, 1, 1, 2, 2, 3, 5])):
             self.files[b"data/" + name] = contents(rng)
+        if sometimes(rng, 2):
+            # More files than are hashed side by side, or about as many.
+            for number in range(rng.choice([30, 31, 32, 33, 63, 64, 65, 100])):
+                self.files[b"data/many/%03d" % number] = contents(rng)
         for name in rng.sample(TAG_NAMES, rng.choice([0, 0, 0, 1, 2])):
             self.files[name] = contents(rng)
         self.payload_manifests(rng.sample(ALGORITHMS, rng.choice([1, 1, 1, 2, 2, 3, 4])))

@@ -1,4 +1,6 @@
 pub mod Progress
+pub mod EachLemmas
+pub mod Filling
 pub mod Sets
 pub mod Spelled
 pub mod Published

@@ -1,13 +1,16 @@
 -- What a source gave, whether or not this is known in advance.
-use Rattle.std.specs.Prelude.{◌≡◌, ◌+◌, ◌≤◌, ℕ, List, Option, length, take}
+use Rattle.std.specs.Prelude.{◌≡◌, ◌+◌, ◌≤◌, ℕ, List, ◌++◌, Option, length, take}
 use Rattle.std.specs.Io.KnownBytes.{Consumes, IsAtEnd}
 use Rattle.bag_digest.specs.declared.algorithm.AlgSet.{AlgSet}
 use Rattle.bag_digest.specs.declared.multi.Digests.{Digests}
+use Rattle.bag_digest.specs.declared.multi.Multi.{Multi}
+use Rattle.bag_digest.specs.declared.reading.Found.{Found}
+use Rattle.bag_digest.specs.declared.reading.Found.TheVariants.{Whole, Hashed}
 use Rattle.bag_digest.specs.declared.reading.SourceFault.{SourceFault}
 use Rattle.bag_digest.specs.declared.reading.SourceFault.TheVariants as source
 use Rattle.bag_digest.specs.declared.reading.ReadFault.{ReadFault}
 use Rattle.bag_digest.specs.declared.reading.ReadFault.TheVariants as read
-use Rattle.bag_digest.specs.Hash.{AreDigests}
+use Rattle.bag_digest.specs.Hash.{AreDigests, Holds}
 
 -- the source gave these octets, which are within the limit, and has none left
 pub record GaveAll (old new : Option (List ℕ)) (limit : ℕ) (octets : List ℕ) : Type 0 where
@@ -39,6 +42,17 @@ IsCountAndDigests found set octets = (found.0 ≡ length octets) × AreDigests f
 abbrev pub GaveDigests : Option (List ℕ) → Option (List ℕ) → ℕ → AlgSet → ℕ × Digests → Type 0
 GaveDigests old new limit set found =
     (octets : List ℕ) × GaveAll old new limit octets × IsCountAndDigests found set octets
+
+-- what the hashers had taken before is followed by these octets, and these are the digests of all
+abbrev pub HashesOn : Multi → List ℕ → Digests → Type 0
+HashesOn multi octets digests = (set : AlgSet) (before : List ℕ) → Holds multi set before
+    → AreDigests digests set (before ++ octets)
+
+-- the source was read to its end: its octets are at the front of the buffer, or its digests were taken
+abbrev pub GaveFound : Option (List ℕ) → Option (List ℕ) → ℕ → AlgSet → List ℕ → Found → Type 0
+GaveFound old new limit set buffer (Whole n) = (n ≤ length buffer)
+    × GaveAll old new limit (take n buffer)
+GaveFound old new limit set buffer (Hashed n digests) = GaveDigests old new limit set (n, digests)
 
 -- What the source gave before reading ended with a fault. If a read failed or memory ran out, this is within the limit.
 -- Otherwise it is one octet more than the limit, and none after that.

@@ -97,6 +97,18 @@ impl AlgSet {
         set
     }
 
+    /// The algorithms that are in one of the two sets.
+    pub fn union(self, other: AlgSet) -> AlgSet
+        ensures { (alg : Alg) → has result alg ≡ (has self alg || has other alg) }
+    {
+        AlgSet {
+            md5: self.md5 || other.md5,
+            sha1: self.sha1 || other.sha1,
+            sha256: self.sha256 || other.sha256,
+            sha512: self.sha512 || other.sha512,
+        }
+    }
+
     /// Whether the algorithm is in the set.
     pub fn has(self, alg: Alg) -> bool
         ensures { result ≡ has self alg }

@@ -5,17 +5,19 @@
 pub use algorithm::{Alg, AlgSet};
 pub use counted::Counted;
 pub use digest::Digest;
+pub use each::digest_each;
 pub use failures::Failures;
 pub use multi::{Digests, Multi};
 pub use reading::{
-    PIECE, ReadFault, SourceFault, digest_reader, digest_through, piece_buffer, read_piece,
-    read_to_end_within,
+    Found, PIECE, ReadFault, SourceFault, buffer_of, digest_reader, digest_through, fill,
+    piece_buffer, read_or_digest, read_piece, read_to_end_within,
 };
 pub use source::{Failed, Source};
 
 mod algorithm;
 mod counted;
 mod digest;
+mod each;
 pub mod examples;
 mod failures;
 pub mod laws;

@@ -18,10 +18,10 @@ use sha2::{Digest as _, Sha256, Sha512};
 /// The digests of some octets by each algorithm of a set.
 #[derive(Clone, Copy, Debug, PartialEq, Eq)]
 pub struct Digests {
-    md5: Option<[u8; 16]>,
-    sha1: Option<[u8; 20]>,
-    sha256: Option<[u8; 32]>,
-    sha512: Option<[u8; 64]>,
+    pub(crate) md5: Option<[u8; 16]>,
+    pub(crate) sha1: Option<[u8; 20]>,
+    pub(crate) sha256: Option<[u8; 32]>,
+    pub(crate) sha512: Option<[u8; 64]>,
 }
 
 impl Digests {

@@ -1,8 +1,8 @@
 //! Reads sources to their end, for the digests of what they give or for all of it.
-ghost use Rattle.std.specs.Prelude.{◌≡◌, ◌+◌, ◌<◌, ◌≤◌, length, min, vec_len, take, IfErr, IfOk, IsErrOf};
-ghost use Rattle.std.specs.Io.KnownBytes.{Consumes, IsAtEnd};
+ghost use Rattle.std.specs.Prelude.{◌≡◌, ◌+◌, ◌<◌, ℕ, List, length, min, vec_len, IfErr, IfOk, IsErrOf};
+ghost use Rattle.std.specs.Io.KnownBytes.{IsAtEnd};
 ghost use Rattle.bag_digest.specs.Device.{UsesSource};
-ghost use Rattle.bag_digest.specs.Reading.{GaveAll, GaveBefore, GaveDigests, GavePiece, read_fault};
+ghost use Rattle.bag_digest.specs.Reading.{GaveAll, GaveBefore, GaveDigests, GaveFound, GavePiece, HashesOn, read_fault};
 ghost use Rattle.bag_digest.specs.declared.reading.ReadFault.TheVariants.{Memory};
 
 use crate::algorithm::AlgSet;
@@ -66,11 +66,16 @@ pub const PIECE: usize = 65_536;
 pub fn piece_buffer(alloc: Global) -> Result<Vec<u8>, AllocError>
     ensures { IfOk result (λ buffer. vec_len buffer ≡ PIECE) }
 {
-    zeros(alloc, PIECE)
+    buffer_of(alloc, PIECE)
 }
 
+/// A buffer of this many octets, which are zero.
+///
+/// # Errors
+///
+/// The only error is that memory ran out.
 // The length is a parameter, so that no proof writes the zeros out.
-fn zeros(alloc: Global, len: usize) -> Result<Vec<u8>, AllocError>
+pub fn buffer_of(alloc: Global, len: usize) -> Result<Vec<u8>, AllocError>
     ensures { IfOk result (λ buffer. vec_len buffer ≡ len) }
 {
     vec![in alloc; 0u8; len]
@@ -99,7 +104,27 @@ pub fn digest_through<S: Source>(
     ensures uses { UsesSource S.failures S.ready S.keeps reader.old reader.new
         (IsErrOf result SourceFault.Read) }
 {
-    let mut multi = Multi::new(set);
+    digest_on(buffer, reader, Multi::new(set), limit)
+}
+
+/// Reads a source to its end, and answers how many octets it gave. Its digests are those of what the hashers had taken before,
+/// followed by these octets.
+fn digest_on<S: Source>(
+    buffer: &mut [u8],
+    reader: &mut S,
+    multi: Multi,
+    limit: u64,
+) -> Result<(u64, Digests), SourceFault>
+    requires { 0 < length buffer.old }
+    ensures digests { IfOk result (λ found. (octets : List ℕ)
+        × GaveAll (S.remaining reader.old) (S.remaining reader.new) limit octets
+        × (found.0 ≡ length octets) × HashesOn multi octets found.1) }
+    ensures stopped { IfErr result (λ fault.
+        GaveBefore (S.remaining reader.old) (S.remaining reader.new) limit (read_fault fault)) }
+    ensures uses { UsesSource S.failures S.ready S.keeps reader.old reader.new
+        (IsErrOf result SourceFault.Read) }
+{
+    let mut multi = multi;
     let mut total = 0u64;
     'pieces: loop {
         let n = read_piece(buffer, reader, limit - total)?;
@@ -109,6 +134,48 @@ pub fn digest_through<S: Source>(
         multi.update(&buffer[..n]);
         total += n as u64;
     }
+}
+
+/// What was read of a source.
+#[derive(Clone, Copy, Debug, PartialEq, Eq)]
+pub enum Found {
+    /// All of it: this many octets, which are at the front of the buffer. Their digests were not taken yet.
+    Whole(usize),
+    /// The source did not end within the buffer: its length in octets, and its digests.
+    Hashed(u64, Digests),
+}
+
+/// Reads a source to its end. If it ends before the caller's buffer is full, its octets are at the front of the buffer; otherwise
+/// they are counted, and their digests taken by each algorithm of the set. It takes no memory.
+///
+/// A source that has more than `limit` octets is left right after the first one past it.
+///
+/// # Errors
+///
+/// `Read` where a read failed; `TooLarge` where the source gave more than `limit` octets.
+pub fn read_or_digest<S: Source>(
+    buffer: &mut [u8],
+    reader: &mut S,
+    set: AlgSet,
+    limit: u64,
+) -> Result<Found, SourceFault>
+    requires { 0 < length buffer.old }
+    ensures found { IfOk result
+        (GaveFound (S.remaining reader.old) (S.remaining reader.new) limit set buffer.new) }
+    ensures room { length buffer.new ≡ length buffer.old }
+    ensures stopped { IfErr result (λ fault.
+        GaveBefore (S.remaining reader.old) (S.remaining reader.new) limit (read_fault fault)) }
+    ensures uses { UsesSource S.failures S.ready S.keeps reader.old reader.new
+        (IsErrOf result SourceFault.Read) }
+{
+    let n = fill(buffer, reader, limit)?;
+    if n < buffer.len() {
+        return Ok(Found::Whole(n));
+    }
+    let mut multi = Multi::new(set);
+    multi.update(buffer);
+    let (more, digests) = digest_on(buffer, reader, multi, limit - n as u64)?;
+    Ok(Found::Hashed(n as u64 + more, digests))
 }
 
 /// Reads a source to its end as [`digest_through`] does, through a buffer of [`PIECE`] octets that it allocates.
@@ -194,6 +261,32 @@ pub fn read_piece<S: Source>(
         Ok(n) if n as u64 > left => Err(SourceFault::TooLarge),
         Ok(n) => Ok(n),
     }
+}
+
+/// Reads until the buffer is full or the source is at its end, and answers how many octets it read.
+///
+/// # Errors
+///
+/// Those of [`read_piece`].
+pub fn fill<S: Source>(buffer: &mut [u8], reader: &mut S, left: u64) -> Result<usize, SourceFault>
+    requires { 0 < length buffer.old }
+    ensures piece { IfOk result (λ n.
+        GavePiece (S.remaining reader.old) (S.remaining reader.new) left n buffer.new) }
+    ensures short { IfOk result (λ n. n < length buffer.new → IsAtEnd (S.remaining reader.new)) }
+    ensures stopped { IfErr result (λ fault.
+        GaveBefore (S.remaining reader.old) (S.remaining reader.new) left (read_fault fault)) }
+    ensures uses { UsesSource S.failures S.ready S.keeps reader.old reader.new
+        (IsErrOf result SourceFault.Read) }
+{
+    let mut filled = 0;
+    while filled < buffer.len() {
+        let n = read_piece(&mut buffer[filled..], reader, left - filled as u64)?;
+        if n == 0 {
+            return Ok(filled);
+        }
+        filled += n;
+    }
+    Ok(filled)
 }
 
 /// How many octets to read at a time if `left` octets remain of a limit: one more than these, or the whole buffer.

@@ -1,8 +1,9 @@
 ghost use Rattle.std.specs.Prelude.{◌≡◌, IfOk, None, true, vec_len};
 
 use crate::{
-    Alg, AlgSet, Counted, Digest, Digests, Failed, Multi, PIECE, ReadFault, Source, SourceFault,
-    digest_reader, digest_through, piece_buffer, read_to_end_within,
+    Alg, AlgSet, Counted, Digest, Digests, Failed, Found, Multi, PIECE, ReadFault, Source,
+    SourceFault, digest_each, digest_reader, digest_through, piece_buffer, read_or_digest,
+    read_to_end_within,
 };
 use std::alloc::{AllocError, Global};
 use std::io::{self, Read};
@@ -200,6 +201,37 @@ fn hex_of_digests(rt: HostRuntime) -> Result<(), Fail> {
         Digest::from_hex(Alg::Md5, OF_ABC[0].as_bytes()),
         Some(Digest::Md5(md5))
     );
+    Ok(())
+}
+
+#[test]
+fn a_source_is_whole_in_the_buffer_or_hashed(rt: HostRuntime) {
+    let mut buffer = [0; 4];
+    let mut fits = Counted::new(b"abc".as_slice());
+    let found = read_or_digest(&mut buffer, &mut fits, all(), 4);
+    assert_eq!(rt; found, Ok(Found::Whole(3)));
+    assert_eq!(rt; &buffer[..3], b"abc".as_slice());
+    let mut fills = Counted::new(b"abc".as_slice());
+    match read_or_digest(&mut buffer[..3], &mut fills, all(), 4) {
+        Ok(Found::Hashed(3, digests)) => assert!(rt; are(&digests, &OF_ABC)),
+        _ => assert!(rt; false),
+    }
+    let mut past = Counted::new(b"abcd".as_slice());
+    let found = read_or_digest(&mut buffer[..2], &mut past, all(), 3);
+    assert_eq!(rt; found, Err(SourceFault::TooLarge));
+}
+
+#[test]
+fn each_message_has_its_digests(rt: HostRuntime) -> Result<(), Fail> {
+    let mut messages = Vec::new(rt.alloc());
+    messages.push(message(rt.alloc(), 0)?)?;
+    let mut abc = Vec::new(rt.alloc());
+    abc.extend_from_slice(b"abc")?;
+    messages.push(abc)?;
+    let each = digest_each(rt.alloc(), all(), messages.as_slice())?;
+    assert_eq!(rt; each.len(), 2);
+    assert!(rt; are(&each[0], &OF_NOTHING));
+    assert!(rt; are(&each[1], &OF_ABC));
     Ok(())
 }
 

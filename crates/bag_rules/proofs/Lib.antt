@@ -27,6 +27,7 @@ pub mod FirstFiles
 pub mod TextsMore
 pub mod FileFaultLemmas
 pub mod FileReadLemmas
+pub mod BatchLemmas
 pub mod KeptLemmas
 pub mod WantLemmas
 pub mod FileKindLemmas

@@ -16,6 +16,7 @@ pub mod FormInside
 pub mod Wants
 pub mod WantsInside
 pub mod FilesInside
+pub mod BatchInside
 pub mod JudgingInside
 pub mod Files
 pub mod TagSets

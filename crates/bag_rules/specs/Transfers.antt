@@ -29,7 +29,7 @@ use Rattle.bag_rules.specs.Trees.{AreRising}
 abbrev pub with_files : Files → Files → Files
 with_files files others =
     fold (λ all (file : List ℕ × List ℕ). insert_entry (slice_cmp nat_cmp) all file.0 file.1)
-        files others
+    files others
 
 -- THE BAG
 

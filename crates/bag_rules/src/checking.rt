@@ -16,6 +16,7 @@ ghost use Rattle.bag_rules.specs.declared.outcome.CheckFault.{CheckFault};
 ghost use Rattle.bag_rules.specs.declared.outcome.Outcome.TheVariants.{Judged};
 ghost use Rattle.bag_rules.specs.declared.profile.Profile.TheVariants.{Known};
 
+use crate::batch::BUFFER;
 use crate::fault::Fault;
 use crate::file_faults::add_file_faults;
 use crate::form_faults::add_form_faults;
@@ -26,7 +27,7 @@ use crate::profile::{Profile, read_profile};
 use crate::report::Report;
 use crate::tag_files::read_texts;
 use crate::tree::{Paths, Tree};
-use bag_digest::{AlgSet, piece_buffer};
+use bag_digest::{AlgSet, buffer_of};
 use bag_path::Version;
 use bag_tags::TagName;
 use std::alloc::Global;
@@ -68,7 +69,7 @@ pub fn check<T: Tree>(alloc: Global, tree: &mut T) -> Result<Outcome, CheckFault
     if tree.count() > MOST_FILES {
         return Err(CheckFault::TooMany);
     }
-    let mut buffer = piece_buffer(alloc)?;
+    let mut buffer = buffer_of(alloc, BUFFER)?;
     let mut kept = Kept::new(alloc, tag_algorithms(tree));
     match read_profile(alloc, buffer.as_mut_slice(), tree, &mut kept)? {
         Profile::Known(version) => {

@@ -4,20 +4,21 @@ ghost use Rattle.bag_digest.specs.Algorithm.{has};
 ghost use Rattle.bag_digest.specs.declared.algorithm.Alg.{Alg};
 ghost use Rattle.bag_digest.specs.declared.algorithm.AlgSet.{AlgSet};
 ghost use Rattle.bag_rules.specs.Bags.{Bag, IsBagOf, version_of};
+ghost use Rattle.bag_rules.specs.BatchInside.{AreRead, Covers};
 ghost use Rattle.bag_rules.specs.Faults.{kinds_of_files};
 ghost use Rattle.bag_rules.specs.HasFault.{HasFaultOf};
 ghost use Rattle.bag_rules.specs.FilesInside.{IsFaultBy, IsFaultIn, IsFileFault, IsFileUnlisted, IsLongRead, IsOtherDigest, IsOtherLength, IsSizeOf, OfSome, payload_length};
-ghost use Rattle.bag_rules.specs.KeptInside.{AreKept, HasSums, HasSumsWithin};
-ghost use Rattle.bag_rules.specs.Limits.{FileStops, FirstStops, IsLongFile, NoneStops, Stopped};
+ghost use Rattle.bag_rules.specs.KeptInside.{AreKept, HasSums};
+ghost use Rattle.bag_rules.specs.Limits.{FileStops, FirstStops, NoneStops, Stopped};
 ghost use Rattle.bag_rules.specs.ReadingInside.{Adds, AreTextsOf};
 ghost use Rattle.bag_rules.specs.Trees.{HasFileAt, UsesTree, paths_in};
 ghost use Rattle.bag_rules.specs.Wants.{lists_by};
 ghost use Rattle.bag_rules.specs.WantsInside.{GivesPayload};
 ghost use Rattle.bag_rules.specs.declared.outcome.CheckFault.{CheckFault};
 
+use crate::batch::{Batch, batch_at};
 use crate::fault::Fault;
 use crate::kept::Kept;
-use crate::limits::LARGEST_FILE;
 use crate::listed::unlisted_in;
 use crate::listing_faults::{add_fetch_unlisted, add_missing};
 use crate::outcome::CheckFault;
@@ -26,7 +27,7 @@ use crate::tag_files::Texts;
 use crate::tree::Tree;
 use crate::want::Want;
 use crate::wants::Wants;
-use bag_digest::{Alg, AlgSet, Digests, SourceFault, digest_through};
+use bag_digest::{Alg, Digests};
 use bag_path::{BagPath, Version};
 use bag_tags::Manifest;
 use std::alloc::Global;
@@ -56,13 +57,14 @@ pub(crate) fn add_file_faults<T: Tree>(
     add_missing(tree, &texts.manifests, faults)?;
     add_fetch_unlisted(version, texts, faults)?;
     let wants = Wants::new(alloc, version, &texts.manifests, texts.fetch_lines())?;
-    let size = read_files(buffer, tree, &wants, kept, faults)?;
+    let size = read_files(alloc, buffer, tree, &wants, kept, faults)?;
     add_wrong_oxum(texts, size, faults)
 }
 
 /// Reads the payload files and the listed files by path, and adds what is wrong with each. Returns the size of the
 /// payload.
 fn read_files<T: Tree>(
+    alloc: Global,
     buffer: &mut [u8],
     tree: &mut T,
     wants: &Wants<'_>,
@@ -84,8 +86,10 @@ fn read_files<T: Tree>(
         octets: 0,
         streams: 0,
     };
+    let mut batch = Batch::new(alloc, 0);
     for i in 0..tree.count() {
-        if let Some(length) = read_file(buffer, tree, i, wants, kept, faults)? {
+        batch = batch_at(alloc, buffer, tree, i, wants, kept, batch)?;
+        if let Some(length) = add_faults_at(tree, i, wants, &batch, faults)? {
             size.octets += u128::from(length);
             size.streams += 1;
         }
@@ -93,84 +97,30 @@ fn read_files<T: Tree>(
     Ok(size)
 }
 
-/// Reads one file if it is a payload file or is listed, and adds what is wrong with it. Returns the length of a payload
-/// file in octets.
-fn read_file<T: Tree>(
-    buffer: &mut [u8],
-    tree: &mut T,
+/// Adds what is wrong with one file of the batch, if it is a payload file or is listed. Answers the length of a payload file
+/// in octets.
+fn add_faults_at<T: Tree>(
+    tree: &T,
     i: usize,
     wants: &Wants<'_>,
-    kept: &Kept,
+    batch: &Batch,
     faults: &mut Vec<Fault>,
 ) -> Result<Option<u64>, CheckFault>
-    requires room { 0 < length buffer.old }
-    requires inside { i < length (paths_in (T.shown tree.old)) }
-    requires ready { AreKept (T.shown tree.old) kept.now × GivesPayload wants.now }
-    ensures read { (path octets : List ℕ) → HasFileAt (T.shown tree.old) i path octets
+    requires inside { i < length (paths_in (T.shown tree.now)) }
+    requires ready { Covers batch.now i × GivesPayload wants.now }
+    ensures added { AreRead (T.shown tree.now) wants.now batch.now → (path octets : List ℕ)
+        → HasFileAt (T.shown tree.now) i path octets
         → IfOk result (λ n. (n ≡ payload_length path octets)
         × Adds faults.old.items faults.new.items (IsFaultIn wants.now path octets)) }
-    ensures limits { (path octets : List ℕ) → HasFileAt (T.shown tree.old) i path octets
-        → MatchResult result (λ n. (fault : CheckFault)
-        → ¬ IsLongRead wants.now.manifests.now path octets fault)
-        (Stopped (IsLongRead wants.now.manifests.now path octets)) }
-    ensures tree { UsesTree T.shown T.failures T.sure tree.old tree.new
-        (IsErrOf result CheckFault.Tree) }
+    ensures err { IfErr result (λ fault. fault ≡ CheckFault.Memory) }
 {
     let path = tree.path(i).clone()?;
-    let want = wants.of(&path);
-    let set = want.algs();
-    if set.is_empty() && !path.is_payload() {
-        return Ok(None);
-    }
-    let sums = sums_of(buffer, tree, i, set, kept)?;
-    add_faults_of(wants.version, &want, &sums, faults)?;
-    Ok(path.is_payload().then_some(sums.0))
-}
-
-/// The length of a file in octets, and its digests by the algorithms of the set. They are taken from what was kept, or
-/// from the file, which is then read.
-fn sums_of<T: Tree>(
-    buffer: &mut [u8],
-    tree: &mut T,
-    i: usize,
-    set: AlgSet,
-    kept: &Kept,
-) -> Result<(u64, Digests), CheckFault>
-    requires room { 0 < length buffer.old }
-    requires inside { i < length (paths_in (T.shown tree.old)) }
-    requires kept { AreKept (T.shown tree.old) kept.now }
-    ensures known { (path octets : List ℕ) → HasFileAt (T.shown tree.old) i path octets
-        → MatchResult result (λ found. HasSumsWithin found set octets)
-        (Stopped (IsLongFile path octets)) }
-    ensures tree { UsesTree T.shown T.failures T.sure tree.old tree.new
-        (IsErrOf result CheckFault.Tree) }
-{
-    match kept.find(i, set) {
-        Some(found) => Ok(found),
-        None => digests_of(buffer, tree, i, set),
-    }
-}
-
-/// Reads a file for its length in octets and its digests by the algorithms of the set.
-fn digests_of<T: Tree>(
-    buffer: &mut [u8],
-    tree: &mut T,
-    i: usize,
-    set: AlgSet,
-) -> Result<(u64, Digests), CheckFault>
-    requires room { 0 < length buffer.old }
-    requires inside { i < length (paths_in (T.shown tree.old)) }
-    ensures known { (path octets : List ℕ) → HasFileAt (T.shown tree.old) i path octets
-        → MatchResult result (λ found. HasSumsWithin found set octets)
-        (Stopped (IsLongFile path octets)) }
-    ensures tree { UsesTree T.shown T.failures T.sure tree.old tree.new
-        (IsErrOf result CheckFault.Tree) }
-{
-    tree.start(i)?;
-    match digest_through(buffer, tree, set, LARGEST_FILE) {
-        Ok(found) => Ok(found),
-        Err(SourceFault::Read) => Err(CheckFault::Tree),
-        Err(SourceFault::TooLarge) => Err(CheckFault::TooLarge(tree.path(i).clone()?)),
+    match batch.sums(i) {
+        None => Ok(None),
+        Some(sums) => {
+            add_faults_of(wants.version, &wants.of(&path), &sums, faults)?;
+            Ok(path.is_payload().then_some(sums.0))
+        }
     }
 }
 

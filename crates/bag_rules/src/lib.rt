@@ -13,6 +13,7 @@ pub use tag_set::{TagSet, TagSetFault};
 pub use tree::{Paths, Tree, find};
 pub use want::{GivenLength, Want, WantFault};
 
+mod batch;
 mod checking;
 mod clash;
 pub mod examples;

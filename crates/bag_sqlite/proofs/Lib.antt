@@ -14,7 +14,6 @@ pub mod MeaningLemmas
 pub mod NamesLemmas
 pub mod OneLedger
 pub mod OpeningLemmas
-pub mod PieceLemmas
 pub mod PiecesRead
 pub mod PuttingLemmas
 pub mod QueryMeanings

@@ -33,7 +33,7 @@ use Rattle.bag_sqlite.specs.Contents.{HasContentMore, HasRead, in_pieces}
 use Rattle.bag_sqlite.specs.Databases.{AreCut, piece_rows, without_rowids}
 use Rattle.bag_sqlite.specs.Putting.{AddsItem, AddsPiece, AddsPieces, IsUnderWay, SetsSize}
 use Rattle.bag_sqlite.specs.Tables.{piece_tree}
-use Rattle.bag_sqlite.proofs.PieceLemmas.{given_more}
+use Rattle.bag_digest.proofs.Filling.{given_more}
 use Rattle.bag_sqlite.proofs.RowLemmas.{item_written}
 
 -- WHAT WAS READ

@@ -1,8 +1,6 @@
 //! Stores a payload file: its content is read, hashed and written piece by piece.
-ghost use Rattle.std.specs.Prelude.{◌≡◌, ◌<◌, List, [], ℕ, false, length, IfErr, IfOk, IsErrOf, IsTrue, MatchResult, OnOk};
-ghost use Rattle.std.specs.Io.KnownBytes.{IsAtEnd};
+ghost use Rattle.std.specs.Prelude.{◌≡◌, List, [], ℕ, false, length, IsErrOf, IsTrue, MatchResult, OnOk};
 ghost use Rattle.bag_digest.specs.Device.{UsesSource};
-ghost use Rattle.bag_digest.specs.Reading.{GaveBefore, GavePiece, read_fault};
 ghost use Rattle.bag_digest.specs.declared.reading.TheConstants.{PIECE};
 ghost use Rattle.bag_ledger.specs.Keeping.{IsGiven, Puts, RefusesGiven, given_by};
 ghost use Rattle.bag_ledger.specs.declared.fault.KeepFault.{KeepFault};
@@ -14,7 +12,7 @@ ghost use Rattle.sqlite.specs.State.{HasCleanDisk, KeepsCommit, Survives};
 
 use crate::rows::{insert_item, insert_piece, set_size};
 use crate::transfers::transfer_number;
-use bag_digest::{Digests, Multi, Source, SourceFault, read_piece};
+use bag_digest::{Digests, Multi, Source, SourceFault, fill};
 use bag_rules::limits::LARGEST_ITEM;
 use bag_rules::{Want, WantFault};
 use sqlite::{Alter, Connection, Error, Transaction};
@@ -165,7 +163,7 @@ fn put_pieces<S: Alter, R: Source>(
     let mut multi = Multi::new(want.algs());
     let mut total = 0u64;
     'pieces: loop {
-        let n = fill_piece(buffer, reader, LARGEST_ITEM - total)?;
+        let n = fill(buffer, reader, LARGEST_ITEM - total)?;
         if n == 0 {
             return Ok((total, multi.finish()));
         }
@@ -176,30 +174,4 @@ fn put_pieces<S: Alter, R: Source>(
             return Ok((total, multi.finish()));
         }
     }
-}
-
-/// Reads until the buffer is full or the source ends, and returns the number of octets read.
-///
-/// # Errors
-///
-/// Those of [`read_piece`].
-fn fill_piece<R: Source>(buffer: &mut [u8], reader: &mut R, left: u64) -> Result<usize, SourceFault>
-    requires { 0 < length buffer.old }
-    ensures piece { IfOk result (λ n.
-        GavePiece (R.remaining reader.old) (R.remaining reader.new) left n buffer.new) }
-    ensures short { IfOk result (λ n. n < length buffer.new → IsAtEnd (R.remaining reader.new)) }
-    ensures stopped { IfErr result (λ fault.
-        GaveBefore (R.remaining reader.old) (R.remaining reader.new) left (read_fault fault)) }
-    ensures uses { UsesSource R.failures R.ready R.keeps reader.old reader.new
-        (IsErrOf result SourceFault.Read) }
-{
-    let mut filled = 0;
-    while filled < buffer.len() {
-        let n = read_piece(&mut buffer[filled..], reader, left - filled as u64)?;
-        if n == 0 {
-            return Ok(filled);
-        }
-        filled += n;
-    }
-    Ok(filled)
 }

@@ -1,9 +1,6 @@
-use Rattle.std.proofs.lemmas.Result.{err_from_is_err_and}
-use Rattle.bag_digest.specs.Reading.{read_fault}
-use Rattle.bag_digest.proofs.Progress.{given_before}
+use Rattle.std.proofs.Common.{[]}
+use Rattle.bag_digest.proofs.Filling.{if_ok}
 use Rattle.bag_digest.proofs.reading.digest_through.Goals as goal
 
-pub returns-in_err-n-clause-stopped : goal.returns-in_err-n-clause-stopped
-returns-in_err-n-clause-stopped g c =
-    let p = err_from_is_err_and c.from_residual.result c.from_residual.ensures.1 in
-    rw (p.1, p.2) (given_before _ _ _ _ _ _ (read_fault c.in_err-n.field-0.0) c.pieces.invariant.hashed.1 c.in_err-n.ensures.stopped)
+pub returns-clause-digests : goal.returns-clause-digests
+returns-clause-digests g c = if_ok c.digest_on.result (λ found h. (h.0, h.1, (h.2, h.3 c.args.set [] c.new.ensures))) c.digest_on.ensures.digests

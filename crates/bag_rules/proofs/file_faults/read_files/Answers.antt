@@ -1,13 +1,14 @@
 use Rattle.std.proofs.Common.{◌≡◌, ◌<◌, ◌+◌, ◌∙◌, Some, None, ℕ, ap, sym, subst, arith, rules, length, take, refl}
-use Rattle.bag_rules.specs.KeptInside.{AreKept}
-use Rattle.bag_rules.proofs.Words.{err_from_is_err_and, IsFileFault, IsLongRead, IsSizeOf, NoneStopsBefore, paths_in, PayloadSize, same_Some, Stopped, take-length}
+use Rattle.bag_rules.proofs.Words.{err_from_is_err_and, FirstStops, IsFileFault, IsLongRead, IsSizeOf, NoneStopsBefore, paths_in, PayloadSize, same_Some, Stopped, take-length}
+use Rattle.bag_rules.specs.BatchInside.{AreRead}
 use Rattle.bag_rules.proofs.AddsLemmas.{adds_so}
+use Rattle.bag_rules.proofs.BatchLemmas.{batch_within}
 use Rattle.bag_rules.proofs.HasLemmas.{stands}
 use Rattle.bag_rules.proofs.FileReadLemmas.{IsFaultBefore, all_faults, all_faults_back, file_faults_more, no_faults}
-use Rattle.bag_rules.proofs.LimitLemmas.{first_stops, none_more}
+use Rattle.bag_rules.proofs.LimitLemmas.{none_more, stopped_memory}
 use Rattle.bag_rules.proofs.PayloadLemmas.{no_octets, size_by}
 use Rattle.bag_rules.proofs.TreeLemmas.{file_at, same_count}
-use Rattle.bag_rules.proofs.TreeUses.{uses_error, uses_kept, uses_on}
+use Rattle.bag_rules.proofs.TreeUses.{uses_kept, uses_on}
 use Rattle.bag_rules.proofs.file_faults.read_files.Goals as goal
 use Rattle.bag_rules.proofs.file_faults.read_files.Goals.{in-Some, in_default}
 
@@ -17,6 +18,7 @@ loop-i-init g c = record {
   added = λ bag is. no_faults bag c.args.wants.now c.args.faults.now.items;
   none = λ bag is i path octets fault below. absurd (omega (arith, below));
   used = search rules;
+  read = c.new-batch.ensures.read (g.T.Paths.shown c.args.tree.now) c.args.wants.now;
   few = omega arith;
   small = omega arith;
   all = c.count-i-end.ensures.files;
@@ -27,44 +29,51 @@ pub loop-i-preserved : goal.loop-i-preserved
 loop-i-preserved g c =
     let before = c.loop-i.invariant in
     let inside : c.loop-i.i < length (paths_in (g.T.Paths.shown c.args.tree.now)) = omega (arith, before.all, c.loop-i-test.true) in
-    let grows : (k : ℕ) → c.in_ok-length.field-0 ≡ Some k → (c.match-branch-2.size.octets ≡ c.loop-i.size.octets + k) × (c.match-branch-2.size.streams ≡ c.loop-i.size.streams + 1) = λ k e. elim c.match-branch-2.branch [
+    let grows : (k : ℕ) → c.in_ok-length.field-0 ≡ Some k → (c.match-branch-3.size.octets ≡ c.loop-i.size.octets + k) × (c.match-branch-3.size.streams ≡ c.loop-i.size.streams + 1) = λ k e. elim c.match-branch-3.branch [
       | in-Some w ↦ (let same : w.in-Some.length ≡ k = same_Some w.in-Some.length k (sym w.in-Some.is ∙ e) in (ap (λ (s : PayloadSize). s.octets) w.size-is ∙ omega (arith, same, w.from.ensures), ap (λ (s : PayloadSize). s.streams) w.size-is))
       | in_default w ↦ absurd (let k : None ≡ Some k = search rules in cc)
     ] in
-    let stays : c.in_ok-length.field-0 ≡ None → c.match-branch-2.size ≡ c.loop-i.size = λ e. elim c.match-branch-2.branch [
+    let stays : c.in_ok-length.field-0 ≡ None → c.match-branch-3.size ≡ c.loop-i.size = λ e. elim c.match-branch-3.branch [
       | in-Some w ↦ absurd (let k : Some w.in-Some.length ≡ None = sym w.in-Some.is ∙ e in cc)
       | in_default w ↦ w.size-is
     ] in
+    let shown = g.T.Paths.shown in
+    let wants = c.args.wants.now in
+    let moved = c.in_ok-batch.ensures.tree.same in
+    let same = moved ∙ before.used.same in
+    let read = subst (λ s. AreRead s wants c.in_ok-batch.batch) (sym moved) c.in_ok-batch.ensures.read.0 in
     record {
       size = λ bag is.
           let f = stands bag.files c.loop-i.i (subst (λ n. c.loop-i.i < n) (same_count bag is) inside) in
-          let at = file_at bag (before.used.same ∙ is) c.loop-i.i f.0.0 f.0.1 f.1 in
-          size_by bag.files c.loop-i.i f.0.0 f.0.1 f.1 c.loop-i.size (before.size bag is) c.in_ok-length.field-0 c.match-branch-2.size (c.in_ok-length.ensures.read f.0.0 f.0.1 at).0 grows stays;
+          let at = file_at bag (same ∙ is) c.loop-i.i f.0.0 f.0.1 f.1 in
+          size_by bag.files c.loop-i.i f.0.0 f.0.1 f.1 c.loop-i.size (before.size bag is) c.in_ok-length.field-0 c.match-branch-3.size (c.in_ok-length.ensures.added read f.0.0 f.0.1 at).0 grows stays;
       added = λ bag is.
           let f = stands bag.files c.loop-i.i (subst (λ n. c.loop-i.i < n) (same_count bag is) inside) in
-          let at = file_at bag (before.used.same ∙ is) c.loop-i.i f.0.0 f.0.1 f.1 in
-          file_faults_more bag c.args.wants.now c.loop-i.i f.0.0 f.0.1 _ _ _ f.1 (before.added bag is) (c.in_ok-length.ensures.read f.0.0 f.0.1 at).1;
+          let at = file_at bag (same ∙ is) c.loop-i.i f.0.0 f.0.1 f.1 in
+          file_faults_more bag wants c.loop-i.i f.0.0 f.0.1 _ _ _ f.1 (before.added bag is) (c.in_ok-length.ensures.added read f.0.0 f.0.1 at).1;
       none = λ bag is.
           let f = stands bag.files c.loop-i.i (subst (λ n. c.loop-i.i < n) (same_count bag is) inside) in
-          let at = file_at bag (before.used.same ∙ is) c.loop-i.i f.0.0 f.0.1 f.1 in
-          none_more bag (IsLongRead c.args.wants.now.manifests.now) c.loop-i.i f.0.0 f.0.1 f.1 (c.in_ok-length.ensures.limits f.0.0 f.0.1 at) (before.none bag is);
-      used = uses_kept (uses_on before.used (λ no. no) c.in_ok-length.ensures.tree) (λ e. cc e) (λ no. no);
-      few = elim c.match-branch-2.branch [ in-Some w ↦ rw w.size-is (omega (arith, before.few)) | in_default w ↦ rw w.size-is (omega (arith, before.few)) ];
-      small = elim c.match-branch-2.branch [ in-Some w ↦ rw w.size-is (omega (arith, before.small, w.from.ensures)) | in_default w ↦ rw w.size-is (omega (arith, before.small)) ];
+          let at = file_at bag (same ∙ is) c.loop-i.i f.0.0 f.0.1 f.1 in
+          none_more bag (IsLongRead wants.manifests.now) c.loop-i.i f.0.0 f.0.1 f.1 (λ fault. batch_within (shown c.batch_at.new.tree) wants c.in_ok-batch.batch c.loop-i.i f.0.0 f.0.1 fault read c.in_ok-batch.ensures.read.1 at) (before.none bag is);
+      used = uses_kept (uses_on before.used (λ no. no) c.in_ok-batch.ensures.tree) (λ e. cc e) (λ no. no);
+      read = subst (λ s. AreRead s wants c.in_ok-batch.batch) same read;
+      few = elim c.match-branch-3.branch [ in-Some w ↦ rw w.size-is (omega (arith, before.few)) | in_default w ↦ rw w.size-is (omega (arith, before.few)) ];
+      small = elim c.match-branch-3.branch [ in-Some w ↦ rw w.size-is (omega (arith, before.small, w.from.ensures)) | in_default w ↦ rw w.size-is (omega (arith, before.small)) ];
       all = before.all;
       room = search rules;
     }
 
+pub returns-in_err-batch-clause-limits : goal.returns-in_err-batch-clause-limits
+returns-in_err-batch-clause-limits g c = λ bag is.
+    let before = c.loop-i.invariant in
+    let stopped = c.in_err-batch.ensures.limits bag (before.used.same ∙ is) (before.none bag is) in
+    let p = err_from_is_err_and c.from_residual.result c.from_residual.ensures.1 in
+    rw p.1 (subst (Stopped (FirstStops bag (IsLongRead c.args.wants.now.manifests.now))) (sym p.2) stopped)
+
 pub returns-in_err-length-clause-limits : goal.returns-in_err-length-clause-limits
 returns-in_err-length-clause-limits g c = λ bag is.
-    let before = c.loop-i.invariant in
-    let inside : c.loop-i.i < length (paths_in (g.T.Paths.shown c.args.tree.now)) = omega (arith, before.all, c.loop-i-test.true) in
-    let file = stands bag.files c.loop-i.i (subst (λ n. c.loop-i.i < n) (same_count bag is) inside) in
-    let at = file_at bag (before.used.same ∙ is) c.loop-i.i file.0.0 file.0.1 file.1 in
-    let stopped = c.in_err-length.ensures.limits file.0.0 file.0.1 at in
-    let p = err_from_is_err_and c.from_residual.result c.from_residual.ensures.1 in
-    rw p.1 (first_stops bag (IsLongRead c.args.wants.now.manifests.now) c.loop-i.i file.0.0 file.0.1 p.0 file.1 (before.none bag is)
-    (subst (Stopped (IsLongRead c.args.wants.now.manifests.now file.0.0 file.0.1)) (sym p.2) stopped))
+    let p = err_from_is_err_and c.from_residual-in_err-length.result c.from_residual-in_err-length.ensures.1 in
+    rw p.1 (stopped_memory (FirstStops bag (IsLongRead c.args.wants.now.manifests.now)) p.0 (p.2 ∙ c.in_err-length.ensures.err))
 
 pub returns-clause-read : goal.returns-clause-read
 returns-clause-read g c = λ bag is.
@@ -82,13 +91,5 @@ returns-clause-limits g c = λ bag is.
     let n : c.loop-i.i ≡ length (paths_in (g.T.Paths.shown c.args.tree.now)) = omega (arith, c.loop-i.invariant.all) in
     subst (λ k. NoneStopsBefore k bag (IsLongRead c.args.wants.now.manifests.now)) (n ∙ same_count bag is) (c.loop-i.invariant.none bag is)
 
-pub returns-in_err-length-clause-tree : goal.returns-in_err-length-clause-tree
-returns-in_err-length-clause-tree g c =
-    let p = err_from_is_err_and c.from_residual.result c.from_residual.ensures.1 in
-    rw (p.1, p.2) (uses_error (uses_on c.loop-i.invariant.used (λ no. no) c.in_err-length.ensures.tree))
-
 pub returns-clause-tree : goal.returns-clause-tree
 returns-clause-tree g c = uses_kept c.loop-i.invariant.used (λ no. no) (λ e. cc e)
-
-pub read_file-requires-clause-ready : goal.read_file-requires-clause-ready
-read_file-requires-clause-ready g c = (subst (λ s. AreKept s c.args.kept.now) (sym c.loop-i.invariant.used.same) c.requires.ready.0, c.requires.ready.1)

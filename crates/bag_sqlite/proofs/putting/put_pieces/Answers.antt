@@ -30,7 +30,7 @@ pub returns-in_err-n-clause-uses : goal.returns-in_err-n-clause-uses
 returns-in_err-n-clause-uses g c =
     let p = err_from_is_err_and c.from_residual.result c.from_residual.ensures.1 in
     let was = c.in_err-n.was in
-    uses_then (g.met.R.Source.keeps_on _ _ _) c.pieces.invariant.used c.fill_piece.ensures.uses (λ e. cc (e, p.1, p.2, was)) (λ e. cc (e, p.1, p.2, was))
+    uses_then (g.met.R.Source.keeps_on _ _ _) c.pieces.invariant.used c.fill.ensures.uses (λ e. cc (e, p.1, p.2, was)) (λ e. cc (e, p.1, p.2, was))
 
 pub returns-then-n-eq0-clause-read : goal.returns-then-n-eq0-clause-read
 returns-then-n-eq0-clause-read g c =
@@ -46,7 +46,7 @@ pub returns-in_err-insert_piece-clause-uses : goal.returns-in_err-insert_piece-c
 returns-in_err-insert_piece-clause-uses g c =
     let p = err_from_is_err_and c.from_residual-in_err-insert_piece.result c.from_residual-in_err-insert_piece.ensures.1 in
     let was = c.in_ok-n.was in
-    uses_then (g.met.R.Source.keeps_on _ _ _) c.pieces.invariant.used c.fill_piece.ensures.uses (λ e. cc (e, p.1, p.2)) (λ e. cc (e, was))
+    uses_then (g.met.R.Source.keeps_on _ _ _) c.pieces.invariant.used c.fill.ensures.uses (λ e. cc (e, p.1, p.2)) (λ e. cc (e, was))
 
 pub returns-then-n-buffer-clause-read : goal.returns-then-n-buffer-clause-read
 returns-then-n-buffer-clause-read g c =
@@ -67,7 +67,7 @@ returns-then-n-buffer-clause-read g c =
 pub returns-then-n-buffer-clause-uses : goal.returns-then-n-buffer-clause-uses
 returns-then-n-buffer-clause-uses g c =
     let was = c.in_ok-n.was in
-    uses_then (g.met.R.Source.keeps_on _ _ _) c.pieces.invariant.used c.fill_piece.ensures.uses (λ e. cc e) (λ e. cc (e, was))
+    uses_then (g.met.R.Source.keeps_on _ _ _) c.pieces.invariant.used c.fill.ensures.uses (λ e. cc e) (λ e. cc (e, was))
 
 pub pieces-preserved : goal.pieces-preserved
 pieces-preserved g c =
@@ -77,12 +77,12 @@ pieces-preserved g c =
     let it = c.pieces.invariant.read in
     let was = c.in_ok-n.was in
     let same = to_z-of_z w64 c.args.item c.ranges.item in
-    let room : length c.fill_piece.new.buffer ≡ PIECE = search rules in
+    let room : length c.fill.new.buffer ≡ PIECE = search rules in
     record {
       reference = c.insert_piece.ensures.same_reference ∙ c.pieces.invariant.reference;
       survives = survives_then old mid new _ _ _ (λ _ db none. none) (λ _ db none. none) c.pieces.invariant.survives c.insert_piece.ensures.survives;
       kept = λ clean. kept_then old mid new (c.pieces.invariant.kept (omega (arith, clean, c.insert_piece.ensures.survives.clean))) (c.insert_piece.ensures.kept clean);
-      used = uses_then (g.met.R.Source.keeps_on _ _ _) c.pieces.invariant.used c.fill_piece.ensures.uses (λ none. absurd none) (λ e. cc (e, was));
+      used = uses_then (g.met.R.Source.keeps_on _ _ _) c.pieces.invariant.used c.fill.ensures.uses (λ none. absurd none) (λ e. cc (e, was));
       room = room;
       read = (
         _,

@@ -2,8 +2,8 @@ use Rattle.std.proofs.Common.{rules, arith}
 use Rattle.std.proofs.lemmas.Result.{err_from_is_err_and}
 use Rattle.bag_digest.specs.Reading.{read_fault}
 use Rattle.bag_digest.proofs.Progress.{given_before}
-use Rattle.bag_sqlite.proofs.PieceLemmas.{filled_more}
-use Rattle.bag_sqlite.proofs.putting.fill_piece.Goals as goal
+use Rattle.bag_digest.proofs.Filling.{filled_more}
+use Rattle.bag_digest.proofs.reading.fill.Goals as goal
 
 pub returns-in_err-n-clause-stopped : goal.returns-in_err-n-clause-stopped
 returns-in_err-n-clause-stopped g c =

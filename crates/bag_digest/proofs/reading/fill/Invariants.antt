@@ -1,11 +1,11 @@
 use Rattle.std.proofs.Common.{◌≡◌, ◌-◌, length, take}
 use Rattle.bag_digest.specs.Device.{UsesSource}
 use Rattle.bag_digest.proofs.Progress.{HasGiven}
-use Rattle.bag_sqlite.proofs.putting.fill_piece.Given as goal
+use Rattle.bag_digest.proofs.reading.fill.Given as goal
 
 abbrev pub invariant-loop-filled : goal.invariant-loop-filled
 invariant-loop-filled g l =
-    let source = g.R.Source in
+    let source = g.S.Source in
     record {
       given : HasGiven (source.remaining l.fn.reader) (source.remaining l.reader) l.filled l.left (take l.filled l.buffer);
       used : UsesSource source.failures source.ready source.keeps l.fn.reader l.reader ⊥;
