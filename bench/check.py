@@ -4,7 +4,9 @@
 Each row is a bag. The commands take turns, by default for three rounds, and the least time of each counts. `digests` is the time that
 the digest functions take for the payload's octets in memory, without reading a file. Memory is the greatest resident set.
 
-    bench/check.py [ROUNDS]
+With NAME only the rows are printed whose name contains it.
+
+    bench/check.py [ROUNDS [NAME]]
 """
 
 import hashlib
@@ -93,21 +95,29 @@ def row(name, sizes, folders, algorithms, rounds, work):
     shutil.rmtree(bag)
 
 
-def main():
-    rounds = int(sys.argv[1]) if len(sys.argv) > 1 else 3
+def rows():
+    """The name of each row, the sizes of its files, in how many folders they are, and the algorithms of its manifests."""
+    for algorithm in ("md5", "sha1", "sha256", "sha512"):
+        yield f"large {algorithm}", [1 << 30], 1, [algorithm]
+    yield "1 to 20 MiB", [size * MEBIBYTE for size in range(1, 21)] * 10, 1, ["sha256"]
+    for algorithm in ("md5", "sha1", "sha256"):
+        yield f"64 KiB {algorithm}", [PIECE] * 20_000, 200, [algorithm]
+        yield f"2 KiB {algorithm}", [2048] * 20_000, 200, [algorithm]
+    yield "empty sha256", [0] * 100_000, 200, ["sha256"]
+    yield "one folder", [0] * 100_000, 1, ["sha256"]
+    yield "four manifests", [1 << 28], 1, ["md5", "sha1", "sha256", "sha512"]
+
+
+def main(rounds="3", wanted=""):
     # The first use of each program may build it.
     subprocess.run([TOP / "bag"], stdout=subprocess.DEVNULL)
     subprocess.run(["rt", "run"], cwd=TOP / "crates/bag_bench", stdin=subprocess.DEVNULL, stdout=subprocess.DEVNULL)
     print(f"{'bag':<14} {'bag check':>9} {'coreutils':>9} {'digests':>8} {'/coreutils':>10} {'/digests':>8} {'peak MiB':>8} {'octets/file':>10}")
     with tempfile.TemporaryDirectory() as folder:
-        work = pathlib.Path(folder)
-        for algorithm in ("md5", "sha1", "sha256", "sha512"):
-            row(f"large {algorithm}", [1 << 30], 1, [algorithm], rounds, work)
-        row("small sha256", [2048] * 20_000, 200, ["sha256"], rounds, work)
-        row("empty sha256", [0] * 100_000, 200, ["sha256"], rounds, work)
-        row("one folder", [0] * 100_000, 1, ["sha256"], rounds, work)
-        row("four manifests", [1 << 28], 1, ["md5", "sha1", "sha256", "sha512"], rounds, work)
+        for name, sizes, folders, algorithms in rows():
+            if wanted in name:
+                row(name, sizes, folders, algorithms, int(rounds), pathlib.Path(folder))
 
 
 if __name__ == "__main__":
-    main()
+    main(*sys.argv[1:])
