@@ -120,8 +120,13 @@ def joined(rng, lines):
 
 def content(rng):
     octets = bytes(rng.randrange(256) for _ in range(rng.randrange(9)))
-    length = rng.choice(EDGES) if octets and sometimes(rng, 10) else len(octets)
-    return (octets * (length // max(len(octets), 1) + 1))[:length]
+    return octets * rng.choice([1, 1, 1, 1, 8000, 16384]) if sometimes(rng, 10) else octets
+
+
+def content_at_edges(rng):
+    octets = bytes(rng.randrange(256) for _ in range(1 + rng.randrange(8)))
+    length = rng.choice(EDGES) if sometimes(rng, 10) else len(octets)
+    return (octets * (length // len(octets) + 1))[:length]
 
 
 def manifest_line(rng, digest, path, version):
@@ -135,12 +140,12 @@ def manifest_line(rng, digest, path, version):
 class Bag:
     """A bag in memory: the octets of its files, its empty directories, and what isn't allowed in a bag."""
 
-    def __init__(self, rng, version, names=NAMES, contents=content):
+    def __init__(self, rng, version, names=NAMES, contents=content_at_edges):
         self.rng, self.version = rng, version
         self.files, self.directories, self.specials = {b"bagit.txt": declaration(version)}, [b"data"], {}
         for name in rng.sample(names, rng.choice([0, 1, 1, 2, 2, 3, 5])):
             self.files[b"data/" + name] = contents(rng)
-        if sometimes(rng, 2):
+        if contents is content_at_edges and sometimes(rng, 2):
             # More files than are hashed side by side, or about as many.
             for number in range(rng.choice([30, 31, 32, 33, 63, 64, 65, 100])):
                 self.files[b"data/many/%03d" % number] = contents(rng)
