@@ -132,7 +132,7 @@ if cc -shared -fPIC -O1 -o "$work/no_memory.so" tests/no_memory.c 2>"$work/no cc
     cat "$work/tried"
     # Left out are tests that only say whether the output was right, and not what it was, such as all of the receiver's.
     left_out='^make::|^tests::(exports|fetches|transfers)::'
-    for crate in bag_path bag_lanes bag_digest bag_tags bag_rules bag_ledger bag_commands bag_cmd; do
+    for crate in bag_path bag_lanes bag_digest bag_tags bag_rules bag_ledger bag_folder bag_commands; do
         tests=$PWD/crates/$crate/out/${crate}_tests
         if [ -x "$tests" ]; then
             expect "no memory for the tests of $crate" 0 '' more_refusals in_each_test "$crate" "$tests" "$left_out"

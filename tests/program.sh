@@ -75,6 +75,8 @@ expect 'one changed octet' 1 $'manifest-sha256.txt: digest: data/a.txt\ncomplete
 new empty-directories
 mkdir -p "$work/empty-directories/data/none/at all" "$work/empty-directories/tags"
 expect 'empty directories are no files' 0 valid bag check "$work/empty-directories"
+mkdir "$work/empty"
+expect 'an empty folder' 1 $'no bagit.txt\nnot complete' bag check "$work/empty"
 new unlisted
 mkdir "$work/unlisted/data/k"
 touch "$work/unlisted/data/k0" "$work/unlisted/data/k/x" "$work/unlisted/data/k.txt" "$work/unlisted/data/"$'l\nm%'

@@ -10,7 +10,7 @@ use Rattle.bag_cmd.specs.declared.request.Request.TheVariants.{Check, Ledger, Ma
 use Rattle.bag_cmd.specs.declared.request.Work.{Work}
 use Rattle.bag_cmd.specs.declared.request.Work.TheVariants.{Audit, Begin, Export, Fetch, Intake, List as Listing, Report}
 use Rattle.bag_cmd.specs.Requests.{NamesCommand, is_option, operands_of, request_name, work_name}
-use Rattle.bag_cmd.proofs.CourierLemmas.{rest_from}
+use Rattle.bag_folder.proofs.CourierLemmas.{rest_from}
 
 next_taken : {X : Type 0} (xs : List X) (n : ℕ) (x : X) → slice_get xs n ≡ Some x → take (n + 1) xs ≡ take n xs ++ x ∷ []
 next_taken [] n x e = absurd (cc)

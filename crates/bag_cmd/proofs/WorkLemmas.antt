@@ -10,12 +10,13 @@ use Rattle.bag_commands.specs.Intakes.{TakesIn}
 use Rattle.bag_commands.specs.IntakeTexts.{Told}
 use Rattle.bag_commands.specs.Printing.{Printed}
 use Rattle.bag_commands.specs.StopTexts.{stop_text}
-use Rattle.bag_cmd.specs.declared.folder.OpenFault.{OpenFault}
-use Rattle.bag_cmd.specs.declared.folder.OpenFault.TheVariants as open_fault
-use Rattle.bag_cmd.specs.declared.folder.place.Place.TheVariants.{Base}
-use Rattle.bag_cmd.specs.Bringing.{Bringing, courier_of}
-use Rattle.bag_cmd.specs.Directories.{Listing}
-use Rattle.bag_cmd.specs.Folders.{FolderShown, IsOpened, IsRefused, stop_of_open}
+use Rattle.bag_folder.specs.declared.fault.OpenFault.{OpenFault}
+use Rattle.bag_folder.specs.declared.fault.OpenFault.TheVariants as open_fault
+use Rattle.bag_folder.specs.declared.place.Place.TheVariants.{Base}
+use Rattle.bag_folder.specs.Bringing.{Bringing, courier_of}
+use Rattle.bag_folder.specs.Directories.{Listing}
+use Rattle.bag_folder.specs.Folders.{FolderShown, IsOpened, IsRefused}
+use Rattle.bag_cmd.specs.Stops.{stop_of_open}
 use Rattle.bag_cmd.specs.Making.{kept_folder}
 use Rattle.bag_cmd.specs.Working.{AreOpened, NoMemory, OneRefused, OutOfMemory, Refused, SomeIsRefused, WithFolder, WithFolders}
 use Rattle.bag_cmd.proofs.RequestLemmas.{word_at}

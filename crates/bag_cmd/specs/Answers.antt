@@ -9,9 +9,9 @@ use Rattle.bag_commands.specs.declared.stop.Stop.TheVariants.{Files, Memory}
 use Rattle.bag_commands.specs.Checking.{IsAnswer, PrintedOf}
 use Rattle.bag_commands.specs.Printing.{Printed}
 use Rattle.bag_commands.specs.StopTexts.{stop_text}
-use Rattle.bag_cmd.specs.declared.folder.place.Place.TheVariants.{Base}
-use Rattle.bag_cmd.specs.Directories.{Listing}
-use Rattle.bag_cmd.specs.Folders.{FolderShown, IsOpened, IsRefused}
+use Rattle.bag_folder.specs.declared.place.Place.TheVariants.{Base}
+use Rattle.bag_folder.specs.Directories.{Listing}
+use Rattle.bag_folder.specs.Folders.{FolderShown, IsOpened, IsRefused}
 use Rattle.bag_cmd.specs.declared.request.Request.{Request}
 use Rattle.bag_cmd.specs.declared.request.Request.TheVariants.{Check, Ledger, Make}
 use Rattle.bag_cmd.specs.Making.{PrintsMake}

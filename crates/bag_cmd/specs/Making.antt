@@ -8,11 +8,12 @@ use Rattle.bag_commands.specs.Making.{IsWriting, MakesOf}
 use Rattle.bag_commands.specs.Printing.{Printed}
 use Rattle.bag_commands.specs.StopTexts.{stop_text}
 use Rattle.bag_cmd.specs.declared.commands.make.Making.{Making}
-use Rattle.bag_cmd.specs.declared.folder.OpenFault.{OpenFault}
-use Rattle.bag_cmd.specs.declared.folder.place.Place.TheVariants.{Payload}
-use Rattle.bag_cmd.specs.Directories.{Listing, in_payload}
-use Rattle.bag_cmd.specs.Folders.{FolderShown, IsOpened, IsRefused, stop_of_open}
-use Rattle.bag_cmd.specs.SinkFolders.{IsCreated, SinkShown}
+use Rattle.bag_folder.specs.declared.fault.OpenFault.{OpenFault}
+use Rattle.bag_folder.specs.declared.place.Place.TheVariants.{Payload}
+use Rattle.bag_folder.specs.Directories.{Listing, in_payload}
+use Rattle.bag_folder.specs.Folders.{FolderShown, IsOpened, IsRefused}
+use Rattle.bag_cmd.specs.Stops.{stop_of_open}
+use Rattle.bag_folder.specs.SinkFolders.{IsCreated, SinkShown}
 
 -- the same for a folder that was made for the bag, from its state then to a later state
 abbrev pub MakesFolder : {T W : Type 0} → (W → Option (List ℕ)) → (T → Shown) → (T → ℕ)

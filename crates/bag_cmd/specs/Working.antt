@@ -28,16 +28,17 @@ use Rattle.bag_commands.specs.Printing.{Printed, PrintedBy, PrintedOne}
 use Rattle.bag_commands.specs.StopTexts.{stop_of_keep, stop_text}
 use Rattle.bag_commands.specs.Viewing.{IsReporting}
 use Rattle.bag_commands.specs.ViewTexts.{view_lines, view_status}
-use Rattle.bag_cmd.specs.declared.folder.OpenFault.{OpenFault}
-use Rattle.bag_cmd.specs.declared.folder.place.Place.TheVariants.{Base}
+use Rattle.bag_folder.specs.declared.fault.OpenFault.{OpenFault}
+use Rattle.bag_folder.specs.declared.place.Place.TheVariants.{Base}
 use Rattle.bag_cmd.specs.declared.request.Work.{Work}
 use Rattle.bag_cmd.specs.declared.request.Work.TheVariants.{Audit, Begin, Export, Fetch, Intake, List as ListNames, Report}
-use Rattle.bag_cmd.specs.Bringing.{Bringing, courier_of, to_come}
-use Rattle.bag_cmd.specs.Directories.{Listing}
-use Rattle.bag_cmd.specs.Folders.{FolderShown, IsOpened, IsRefused, stop_of_open}
+use Rattle.bag_folder.specs.Bringing.{Bringing, courier_of, to_come}
+use Rattle.bag_folder.specs.Directories.{Listing}
+use Rattle.bag_folder.specs.Folders.{FolderShown, IsOpened, IsRefused}
+use Rattle.bag_cmd.specs.Stops.{stop_of_open}
 use Rattle.bag_cmd.specs.Making.{MakesInto}
-use Rattle.bag_cmd.specs.SinkFolders.{SinkShown}
-use Rattle.bag_cmd.specs.Supplying.{IsReadyFolder, SupplierShown, unknown}
+use Rattle.bag_folder.specs.SinkFolders.{SinkShown}
+use Rattle.bag_folder.specs.Supplying.{IsReadyFolder, SupplierShown, unknown}
 
 -- OPENING
 

@@ -15,10 +15,10 @@ ghost use Rattle.bag_cmd.specs.Answers.{Ran};
 
 use bag_commands::status::{FAILED, USAGE};
 use bag_commands::{Output, Stop, print_stop};
+use bag_folder::{Destination, Disk};
 use bag_ledger::Keeper;
 use bag_sqlite::{FileKeeper, Start, Unknown};
 use command::command;
-use folder::{Destination, Disk};
 use ledger::{LedgerFiles, Ledgers};
 use std::alloc::{AllocError, Global};
 use std::env::Env;
@@ -29,7 +29,6 @@ use std::{env, io};
 
 mod command;
 mod commands;
-mod folder;
 mod ledger;
 mod request;
 mod usage;

@@ -1,8 +1,9 @@
 //! `bag begin LEDGER NAME DIR`: opens a transfer with the tag files in a folder.
 ghost use Rattle.bag_cmd.specs.Working.{BeginsWith};
 
-use crate::folder::{Directories, FolderTree};
-use bag_commands::{Output, Stop, begin_to, print_stop};
+use super::stop_of;
+use bag_commands::{Output, begin_to, print_stop};
+use bag_folder::{Directories, FolderTree};
 use bag_ledger::Keeper;
 use bag_receiver::Receiver;
 use std::alloc::Global;
@@ -25,6 +26,6 @@ pub fn begin_with_folder<K: Keeper, R: Files + Drop, D: Directories, W: Write + 
 {
     match FolderTree::open(rt, disk, alloc, folder) {
         Ok(mut tree) => begin_to(alloc, receiver, name, &mut tree, out),
-        Err(fault) => print_stop(Stop::from(fault), out),
+        Err(fault) => print_stop(stop_of(fault), out),
     }
 }

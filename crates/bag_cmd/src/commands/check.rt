@@ -1,14 +1,12 @@
 //! `bag check DIR`: judges the bag in a folder.
 ghost use Rattle.bag_cmd.specs.Answers.{PrintsCheck};
 
-use crate::folder::{Directories, FolderTree};
-use bag_commands::{Output, Stop, check_to, print_stop};
+use super::stop_of;
+use bag_commands::{Output, check_to, print_stop};
+use bag_folder::{Directories, FolderTree};
 use std::alloc::Global;
 use std::io::Write;
 use std::rt::Files;
-
-#[cfg(test)]
-mod tests;
 
 /// Checks the bag in a folder, prints the result and returns the status, as [`check_to`] does. If the folder can't be
 /// opened, prints why.
@@ -23,6 +21,6 @@ pub fn check_folder<R: Files + Drop, D: Directories, W: Write + Drop>(
 {
     match FolderTree::open(rt, disk, alloc, folder) {
         Ok(mut tree) => check_to(alloc, &mut tree, out),
-        Err(fault) => print_stop(Stop::from(fault), out),
+        Err(fault) => print_stop(stop_of(fault), out),
     }
 }

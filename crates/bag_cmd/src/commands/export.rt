@@ -1,9 +1,10 @@
 //! `bag export LEDGER NAME DIR`: writes the bag that is held to a new folder.
 ghost use Rattle.bag_cmd.specs.Working.{ExportsInto};
 
-use crate::folder::Destination;
+use super::stop_of;
 use bag_commands::status::DONE;
-use bag_commands::{Output, Stop, export_to, print_stop};
+use bag_commands::{Output, export_to, print_stop};
+use bag_folder::Destination;
 use bag_ledger::Keeper;
 use bag_receiver::Receiver;
 use std::alloc::Global;
@@ -33,6 +34,6 @@ pub fn export_into_folder<K: Keeper, R: Files, W: Write + Drop>(
             }
             status
         }
-        Err(fault) => print_stop(Stop::from(fault), out),
+        Err(fault) => print_stop(stop_of(fault), out),
     }
 }

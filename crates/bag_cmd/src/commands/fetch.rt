@@ -1,8 +1,9 @@
 //! `bag fetch LEDGER NAME DIR`: looks in a folder for the files that `fetch.txt` lists and that aren't held.
 ghost use Rattle.bag_cmd.specs.Working.{FetchesFrom};
 
-use crate::folder::FolderSupplier;
-use bag_commands::{Output, Stop, fetch_to, print_stop};
+use super::stop_of;
+use bag_commands::{Output, fetch_to, print_stop};
+use bag_folder::FolderSupplier;
 use bag_ledger::Keeper;
 use bag_receiver::Receiver;
 use std::alloc::Global;
@@ -25,6 +26,6 @@ pub fn fetch_from_folder<K: Keeper, R: Files + Drop, W: Write + Drop>(
 {
     match FolderSupplier::open(rt, alloc, folder) {
         Ok(mut supplier) => fetch_to(alloc, receiver, name, &mut supplier, out),
-        Err(fault) => print_stop(Stop::from(fault), out),
+        Err(fault) => print_stop(stop_of(fault), out),
     }
 }

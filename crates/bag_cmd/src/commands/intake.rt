@@ -1,11 +1,12 @@
 //! `bag intake LEDGER NAME DIR..`: takes in the payload files of folders.
 ghost use Rattle.std.specs.Prelude.{◌≡◌, Err, IfOk, List, map, string_bytes};
-ghost use Rattle.bag_cmd.specs.Folders.{FolderShown};
-ghost use Rattle.bag_cmd.specs.Bringing.{courier_of};
+ghost use Rattle.bag_folder.specs.Folders.{FolderShown};
+ghost use Rattle.bag_folder.specs.Bringing.{courier_of};
 ghost use Rattle.bag_cmd.specs.Working.{AreOpened, SomeIsRefused, TakesInFrom};
 
-use crate::folder::{Directories, FolderTree, OpenFault, TreeCourier};
-use bag_commands::{Output, Stop, intake_to, print_stop};
+use super::stop_of;
+use bag_commands::{Output, intake_to, print_stop};
+use bag_folder::{Directories, FolderTree, OpenFault, TreeCourier};
 use bag_ledger::Keeper;
 use bag_receiver::Receiver;
 use std::alloc::Global;
@@ -28,7 +29,7 @@ pub fn intake_folders<K: Keeper, R: Files, D: Directories, W: Write + Drop>(
 {
     match open_all(rt, disk, alloc, folders) {
         Ok(mut couriers) => intake_to(alloc, receiver, name, couriers.as_mut_slice(), out),
-        Err(fault) => print_stop(Stop::from(fault), out),
+        Err(fault) => print_stop(stop_of(fault), out),
     }
 }
 

@@ -2,9 +2,10 @@
 ghost use Rattle.std.specs.Prelude.{◌≡◌};
 ghost use Rattle.bag_cmd.specs.Making.{MakesFolder, MakesInto, PrintsMake, words_given};
 
-use crate::folder::{Destination, Directories, FolderTree};
+use super::stop_of;
 use bag_commands::status::DONE;
-use bag_commands::{Output, Stop, make_to, print_stop};
+use bag_commands::{Output, make_to, print_stop};
+use bag_folder::{Destination, Directories, FolderTree};
 use bag_rules::Tree;
 use std::alloc::Global;
 use std::io::Write;
@@ -39,7 +40,7 @@ pub fn make_folder<R: Files, D: Directories, W: Write + Drop>(
 {
     match FolderTree::open_payload(rt, disk, alloc, making.source) {
         Ok(mut tree) => make_into(alloc, making, &mut tree, made, out),
-        Err(fault) => print_stop(Stop::from(fault), out),
+        Err(fault) => print_stop(stop_of(fault), out),
     }
 }
 
@@ -63,6 +64,6 @@ fn make_into<T: Tree, R: Files, W: Write + Drop>(
             }
             status
         }
-        Err(fault) => print_stop(Stop::from(fault), out),
+        Err(fault) => print_stop(stop_of(fault), out),
     }
 }

@@ -12,6 +12,6 @@ returns-in-Ok g c = Opened c.in-Ok.tree c.begin_to.new.tree c.in-Ok.ensures.open
 
 pub returns-in-Err : goal.returns-in-Err
 returns-in-Err g c =
-    let printed = subst (λ (stop : Stop). Printed g.W.Write.contents c.args.out.now c.print_stop.new.out c.print_stop.result (stop_text stop ∷ []) FAILED) c.from.ensures c.print_stop.ensures in
+    let printed = subst (λ (stop : Stop). Printed g.W.Write.contents c.args.out.now c.print_stop.new.out c.print_stop.result (stop_text stop ∷ []) FAILED) c.stop_of.ensures c.print_stop.ensures in
     not_opened g.W.Write.contents (g.D.Directories.listing c.args.disk.now) _ c.args.out.now c.print_stop.new.out c.print_stop.result c.args.folder.now _ c.in-Err.fault
     (λ is. c.in-Err.ensures.refused (ap Err is)) refl printed

@@ -1,12 +1,13 @@
 use Rattle.std.proofs.Common.{◌≡◌, ℕ, List, [], ◌∷◌, Option, Err, ap, subst, refl}
-use Rattle.bag_cmd.specs.declared.folder.OpenFault.{OpenFault}
-use Rattle.bag_cmd.specs.declared.folder.OpenFault.TheVariants as open_fault
+use Rattle.bag_folder.specs.declared.fault.OpenFault.{OpenFault}
+use Rattle.bag_folder.specs.declared.fault.OpenFault.TheVariants as open_fault
 use Rattle.bag_commands.specs.declared.output.Output.{Output}
 use Rattle.bag_commands.specs.declared.status.TheConstants.{FAILED}
 use Rattle.bag_commands.specs.declared.stop.Stop.{Stop}
 use Rattle.bag_cmd.specs.Answers.{PrintsCheck, Answered, Refused, NoMemory}
-use Rattle.bag_cmd.specs.Directories.{Listing}
-use Rattle.bag_cmd.specs.Folders.{IsRefused, stop_of_open}
+use Rattle.bag_folder.specs.Directories.{Listing}
+use Rattle.bag_folder.specs.Folders.{IsRefused}
+use Rattle.bag_cmd.specs.Stops.{stop_of_open}
 use Rattle.bag_commands.specs.Printing.{Printed}
 use Rattle.bag_commands.specs.StopTexts.{stop_text}
 use Rattle.bag_cmd.proofs.commands.check.check_folder.Goals as goal
@@ -23,6 +24,6 @@ returns-in-Ok g c = Answered c.in-Ok.tree c.check_to.new.tree c.in-Ok.ensures.op
 
 pub returns-in-Err : goal.returns-in-Err
 returns-in-Err g c =
-    let printed = subst (λ (stop : Stop). Printed g.W.Write.contents c.args.out.now c.print_stop.new.out c.print_stop.result (stop_text stop ∷ []) FAILED) c.from.ensures c.print_stop.ensures in
+    let printed = subst (λ (stop : Stop). Printed g.W.Write.contents c.args.out.now c.print_stop.new.out c.print_stop.result (stop_text stop ∷ []) FAILED) c.stop_of.ensures c.print_stop.ensures in
     not_opened g.W.Write.contents (g.D.Directories.listing c.args.disk.now) c.args.folder.now c.args.out.now c.print_stop.new.out c.print_stop.result c.in-Err.fault
     (λ is. c.in-Err.ensures.refused (ap Err is)) printed

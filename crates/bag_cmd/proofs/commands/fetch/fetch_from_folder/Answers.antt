@@ -11,4 +11,4 @@ returns-in-Ok g c = Fetched c.in-Ok.supplier c.fetch_to.new.supplier c.in-Ok.ens
 
 pub returns-in-Err : goal.returns-in-Err
 returns-in-Err g c = NoFolder c.in-Err.fault refl
-    (subst (λ (stop : Stop). Printed g.W.Write.contents c.args.out.now c.print_stop.new.out c.print_stop.result (stop_text stop ∷ []) FAILED) c.from.ensures c.print_stop.ensures)
+    (subst (λ (stop : Stop). Printed g.W.Write.contents c.args.out.now c.print_stop.new.out c.print_stop.result (stop_text stop ∷ []) FAILED) c.stop_of.ensures c.print_stop.ensures)

@@ -15,6 +15,6 @@ returns-in-Ok g c =
 
 pub returns-in-Err : goal.returns-in-Err
 returns-in-Err g c =
-    let printed = subst (λ (stop : Stop). Printed g.W.Write.contents c.args.out.now c.print_stop.new.out c.print_stop.result (stop_text stop ∷ []) FAILED) c.from.ensures c.print_stop.ensures in
+    let printed = subst (λ (stop : Stop). Printed g.W.Write.contents c.args.out.now c.print_stop.new.out c.print_stop.result (stop_text stop ∷ []) FAILED) c.stop_of.ensures c.print_stop.ensures in
     none_opened g.W.Write.contents (g.D.Directories.listing c.args.disk.now) _ c.args.out.now c.print_stop.new.out c.print_stop.result (map string_bytes c.args.folders.now) _ c.in-Err.fault
     (λ is. c.in-Err.ensures.refused (ap Err is)) refl printed

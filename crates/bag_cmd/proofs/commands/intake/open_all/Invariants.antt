@@ -1,6 +1,6 @@
 use Rattle.std.proofs.Common.{◌≡◌, List, map, string_bytes, take}
-use Rattle.bag_cmd.specs.Bringing.{courier_of}
-use Rattle.bag_cmd.specs.Folders.{FolderShown}
+use Rattle.bag_folder.specs.Bringing.{courier_of}
+use Rattle.bag_folder.specs.Folders.{FolderShown}
 use Rattle.bag_cmd.specs.Working.{AreOpened}
 use Rattle.bag_cmd.proofs.commands.intake.open_all.Given as goal
 

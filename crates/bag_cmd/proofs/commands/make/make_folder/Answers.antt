@@ -1,11 +1,12 @@
 use Rattle.std.proofs.Common.{◌≡◌, ◌∷◌, ℕ, List, [], Err, Option, ap, refl, subst}
-use Rattle.bag_cmd.specs.declared.folder.OpenFault.{OpenFault}
-use Rattle.bag_cmd.specs.declared.folder.OpenFault.TheVariants as open_fault
+use Rattle.bag_folder.specs.declared.fault.OpenFault.{OpenFault}
+use Rattle.bag_folder.specs.declared.fault.OpenFault.TheVariants as open_fault
 use Rattle.bag_commands.specs.declared.output.Output.{Output}
 use Rattle.bag_commands.specs.declared.status.TheConstants.{FAILED}
 use Rattle.bag_commands.specs.declared.stop.Stop.{Stop}
-use Rattle.bag_cmd.specs.Directories.{Listing, in_payload}
-use Rattle.bag_cmd.specs.Folders.{IsRefused, stop_of_open}
+use Rattle.bag_folder.specs.Directories.{Listing, in_payload}
+use Rattle.bag_folder.specs.Folders.{IsRefused}
+use Rattle.bag_cmd.specs.Stops.{stop_of_open}
 use Rattle.bag_cmd.specs.Making.{MakingShown, NoMemory, Opened, PrintsMake, Refused, words_given}
 use Rattle.bag_commands.specs.Printing.{Printed}
 use Rattle.bag_commands.specs.StopTexts.{stop_text}
@@ -23,6 +24,6 @@ returns-in-Ok g c = Opened c.in-Ok.tree c.make_into.new.tree c.in-Ok.ensures.ope
 
 pub returns-in-Err : goal.returns-in-Err
 returns-in-Err g c =
-    let printed = subst (λ (stop : Stop). Printed g.W.Write.contents c.args.out.now c.print_stop.new.out c.print_stop.result (stop_text stop ∷ []) FAILED) c.from.ensures c.print_stop.ensures in
+    let printed = subst (λ (stop : Stop). Printed g.W.Write.contents c.args.out.now c.print_stop.new.out c.print_stop.result (stop_text stop ∷ []) FAILED) c.stop_of.ensures c.print_stop.ensures in
     not_opened g.W.Write.contents (g.D.Directories.listing c.args.disk.now) (words_given c.args.making.now) c.args.made.now c.args.out.now c.print_stop.new.out c.print_stop.result c.in-Err.fault
     (λ is. c.in-Err.ensures.refused (ap Err is)) printed

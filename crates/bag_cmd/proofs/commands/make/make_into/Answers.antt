@@ -22,4 +22,4 @@ returns-after-status-ne-DONE g c =
 pub returns-in-Err : goal.returns-in-Err
 returns-in-Err g c =
     NotMade c.in-Err.fault c.in-Err.ensures.made refl
-    (subst (λ (stop : Stop). Printed g.W.Write.contents c.args.out.now c.print_stop.new.out c.print_stop.result (stop_text stop ∷ []) FAILED) c.from.ensures c.print_stop.ensures)
+    (subst (λ (stop : Stop). Printed g.W.Write.contents c.args.out.now c.print_stop.new.out c.print_stop.result (stop_text stop ∷ []) FAILED) c.stop_of.ensures c.print_stop.ensures)

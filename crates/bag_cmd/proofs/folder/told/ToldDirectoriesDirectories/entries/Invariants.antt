@@ -1,6 +1,0 @@
-use Rattle.std.proofs.Common.{◌≡◌, drop}
-use Rattle.bag_cmd.specs.Directories.{listing_of}
-use Rattle.bag_cmd.proofs.folder.told.ToldDirectoriesDirectories.entries.Given as goal
-
-abbrev pub invariant-loop-told : goal.invariant-loop-told
-invariant-loop-told l = listing_of l.self.all.items l.directory ≡ listing_of (drop l.told-index l.self.all.items) l.directory

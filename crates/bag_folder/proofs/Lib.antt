@@ -1,0 +1,4 @@
+pub mod CourierLemmas
+pub mod Listings
+pub mod PayloadFolders
+pub mod WalkLemmas

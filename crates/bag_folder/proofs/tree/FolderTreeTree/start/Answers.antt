@@ -1,0 +1,38 @@
+use Rattle.std.proofs.Common.{◌≡◌, ◌<◌, ◌∙◌, ℕ, List, Option, Some, Result, Ok, Err, false, true, ap, length, refl, sym, subst, rules, string_bytes}
+use Rattle.std.specs.Prelude.{IsErr, IsSomeAnd, OnOk}
+use Rattle.std.proofs.lemmas.Option.{slice_get_read}
+use Rattle.bag_rules.specs.Trees.{paths_in}
+use Rattle.bag_folder.specs.Directories.{name_below}
+use Rattle.std.specs.List.{slice_get}
+use Rattle.bag_folder.specs.Folders.{FolderShown, path_below}
+use Rattle.bag_folder.proofs.Listings.{paths_seen}
+use Rattle.bag_folder.proofs.tree.FolderTreeTree.start.Goals as goal
+use Rattle.bag_folder.proofs.tree.FolderTreeTree.start.Goals.{in-Some, in-None}
+
+found_at : (paths shown : List (List ℕ)) (i : ℕ) (path : List ℕ) → shown ≡ paths → slice_get paths i ≡ Some path → (P : List ℕ → Type 0) → P path → IsSomeAnd (slice_get shown i) P
+found_at paths shown i path seen at P here = subst (λ (found : Option (List ℕ)). IsSomeAnd found P) (sym (ap (λ (xs : List (List ℕ)). slice_get xs i) seen ∙ at)) here
+
+on_ok : {A E : Type 0} (result : Result A E) (P : Type 0) → P → OnOk result P
+on_ok (Ok value) P here = here
+on_ok (Err error) P here = tt
+
+false_is_not_true : false ≡ true → ⊥
+false_is_not_true h = cc
+
+no_ok : {A E : Type 0} (result : Result A E) (P : Type 0) → IsErr result → OnOk result P
+no_ok (Ok value) P never = absurd (false_is_not_true never)
+no_ok (Err error) P failed = tt
+
+pub returns-clause-exactly : goal.returns-clause-exactly
+returns-clause-exactly g c =
+    let seen = paths_seen c.args.self.now c.self.inside.paths.items c.self.inside.has_dir (ap (λ (tree : FolderShown). tree.shown) c.self.view_is) in
+    let at = slice_get_read c.self.inside.paths.items (length c.self.inside.paths.items) c.args.i c.index.result.now refl (subst (λ (paths : List (List ℕ)). c.args.i < length paths) seen c.requires) c.index.ensures in
+    elim c.match-opened.branch [
+      | in-Some w ↦
+          let named : string_bytes c.match-opened.self-inside.name ≡ name_below c.args.self.now.folder (path_below c.args.self.now.place c.index.result.now) = search rules in
+          record {
+            named = on_ok c.counted.result _ (found_at c.self.inside.paths.items (paths_in c.args.self.now.shown) c.args.i c.index.result.now seen at (λ path. string_bytes c.match-opened.self-inside.name ≡ name_below c.args.self.now.folder (path_below c.args.self.now.place path)) named);
+            changes = search rules;
+          }
+      | in-None w ↦ record { named = no_ok c.counted.result _ (search rules); changes = search rules }
+    ]

@@ -1,0 +1,116 @@
+-- Directories with known entries, and what is below a folder.
+use Rattle.std.specs.Prelude.{◌≡◌, ◌↔◌, ◌++◌, ◌⊎◌, ℕ, Bool, true, List, [], Contains, MatchResult, Option, Some, None, Result, Ok, Err, codes, map, ◌∷◌, if◌then◌else◌}
+use Rattle.std.specs.Fs.{dir_entry_name}
+use Rattle.std.specs.Option.{option_map}
+use Rattle.std.specs.Str.{bytes_eq}
+use Rattle.std.specs.declared.fs.dir.DirEntry.{DirEntry}
+use Rattle.bag_path.specs.Paths.{IsPath, is_payload}
+use Rattle.bag_tags.specs.Words.{without}
+use Rattle.bag_folder.specs.declared.fault.OpenFault.{OpenFault}
+use Rattle.bag_folder.specs.declared.fault.OpenFault.TheVariants.{Files}
+use Rattle.bag_folder.specs.declared.directory.EntryKind.{EntryKind}
+use Rattle.bag_folder.specs.declared.directory.EntryKind.TheVariants.{File, Directory, Other}
+
+-- the name of a path below a folder
+abbrev pub name_below : List ℕ → List ℕ → List ℕ
+name_below folder path = folder ++ (codes "/" ++ path)
+
+-- a directory entry: its file name and its kind
+pub record EntryShown : Type 0 where
+  pub name : List ℕ
+  pub kind : EntryKind
+
+-- the entries of each directory by its name; `None` if it doesn't exist, can't be read, or contains a name that isn't
+-- UTF-8
+abbrev pub Listing : Type 0
+Listing = List ℕ → Option (List EntryShown)
+
+-- the answer for the entries of a directory: those listed, or that none are listed, or that memory ran out
+abbrev pub AnswersEntries : {Entries : Type 0} → (Entries → List EntryShown) → Listing → List ℕ
+    → Result Entries OpenFault → Type 0
+AnswersEntries shown listing directory answer =
+    MatchResult answer (λ entries. listing directory ≡ Some (shown entries))
+    (λ fault. fault ≡ Files → listing directory ≡ None)
+
+-- what the operating system gives for an entry: its file name, or an error
+abbrev pub given_name : {R A F D E : Type 0} → Result (DirEntry R A F D) E → Option (List ℕ)
+given_name (Ok entry) = Some (dir_entry_name entry)
+given_name (Err error) = None
+
+-- the operating system gave no error, and these are the entries with the names that it gave, in order
+abbrev pub AreGiven : {R A F D E : Type 0} → List (Result (DirEntry R A F D) E) → List EntryShown
+    → Type 0
+AreGiven given entries = map given_name given ≡ map (λ entry. Some entry.name) entries
+
+-- a directory with given entries: its name and its entries
+pub record ToldShown : Type 0 where
+  pub name : List ℕ
+  pub entries : List EntryShown
+
+-- the listing of these directories; the first with a name counts
+abbrev pub listing_of : List ToldShown → Listing
+listing_of [] name = None
+listing_of (told ∷ more) name =
+    if bytes_eq told.name name then Some told.entries else listing_of more name
+
+-- the payload directory as an entry of the base directory
+abbrev pub data_entry : EntryShown
+data_entry = record { name = codes "data"; kind = Directory }
+
+-- The directories as seen from a bag whose payload directory is the folder: its base directory contains only `data`,
+-- and what is below `data` is what is below the folder.
+abbrev pub payload_listing : List ℕ → Listing → Listing
+payload_listing folder listing name =
+    if bytes_eq name (name_below folder []) then
+    Some (data_entry ∷ [])
+    else
+    listing (name_below folder (without (name_below folder (codes "data/")) name))
+
+abbrev pub in_payload : Option Listing → List ℕ → Option Listing
+in_payload known folder = option_map (payload_listing folder) known
+
+-- THE TREE BELOW A FOLDER
+
+-- the directory at this front has an entry with this name and kind
+pub record HasEntry (listing : Listing) (folder front name : List ℕ) (kind : EntryKind)
+    : Type 0 where
+  pub entries : List EntryShown
+  pub listed : listing (name_below folder front) ≡ Some entries
+  pub there : Contains entries (record { name = name; kind = kind })
+
+-- The fronts of the paths at and below a folder: empty in the folder itself; in a subdirectory the front of its parent,
+-- followed by its name and a slash.
+pub data IsFront (listing : Listing) (folder : List ℕ) : List ℕ → Type 0 where
+  AtFolder : IsFront listing folder []
+  Inside : (front name : List ℕ) → IsFront listing folder front
+      → HasEntry listing folder front name Directory
+      → IsFront listing folder ((front ++ name) ++ codes "/")
+
+-- something of this kind has this path in the folder
+pub record Stands (listing : Listing) (folder path : List ℕ) (kind : EntryKind) : Type 0 where
+  pub front : List ℕ
+  pub name : List ℕ
+  pub below : IsFront listing folder front
+  pub entry : HasEntry listing folder front name kind
+  pub path_is : path ≡ front ++ name
+
+-- What was found is exactly what is below the folder: every file by its path, and all directories are listed. The
+-- payload directory exists if it was found, or if some file has its path in it.
+pub record IsBelow (listing : Listing) (folder : List ℕ) (paths : List (List ℕ)) (has_dir : Bool)
+    : Type 0 where
+  pub files : (path : List ℕ) → Contains paths path ↔ Stands listing folder path File
+  pub listed : (front : List ℕ) → IsFront listing folder front
+      → (entries : List EntryShown) × (listing (name_below folder front) ≡ Some entries)
+  pub nothing_else : (path : List ℕ) → ¬ Stands listing folder path Other
+  pub payload : Stands listing folder (codes "data") Directory → has_dir ≡ true
+  pub no_payload : has_dir ≡ true → Stands listing folder (codes "data") Directory
+      ⊎ ((path : List ℕ) × Contains paths path × (is_payload path ≡ true))
+
+-- the folder can't be a bag: it has no name, or something at or below it can't be read or isn't allowed in a bag
+pub data IsUnfit (listing : Listing) (folder : List ℕ) : Type 0 where
+  NoName : folder ≡ [] → IsUnfit listing folder
+  Unlisted : (front : List ℕ) → IsFront listing folder front
+      → listing (name_below folder front) ≡ None → IsUnfit listing folder
+  NoFile : (path : List ℕ) → Stands listing folder path Other → IsUnfit listing folder
+  BadPath : (path : List ℕ) → Stands listing folder path File → ¬ IsPath path
+      → IsUnfit listing folder

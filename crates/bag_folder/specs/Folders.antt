@@ -1,0 +1,102 @@
+-- What is visible of an open folder. The content of its files isn't known.
+use Rattle.std.specs.Prelude.{◌≡◌, ◌+◌, ℕ, Bool, true, All, List, Option, Some, None, Result, IsErr, IsSomeAnd, MatchResult, OnOk, codes, map, min, refl, slice_get}
+use Rattle.std.specs.Io.KnownBytes.{ReadConsumes}
+use Rattle.std.proofs.Common.{◌∙◌}
+use Rattle.bag_path.specs.Paths.{is_payload}
+use Rattle.bag_digest.specs.Device.{greatest_count}
+use Rattle.bag_rules.specs.Trees.{AreRising, KeepsTree, Shown, paths_in}
+use Rattle.bag_tags.specs.Words.{without}
+use Rattle.bag_folder.specs.declared.place.Place.{Place}
+use Rattle.bag_folder.specs.declared.place.Place.TheVariants.{Base, Payload}
+use Rattle.bag_folder.specs.Directories.{IsBelow, IsUnfit, Listing, name_below}
+
+-- what is shown of files with these paths and unknown octets
+abbrev pub shown_by : List (List ℕ) → Bool → Shown
+shown_by paths has_payload_dir = record {
+  files = map (λ path. (path, None)) paths;
+  has_payload_dir = has_payload_dir;
+}
+
+-- the path in the folder of the file with this path in the bag
+abbrev pub path_below : Place → List ℕ → List ℕ
+path_below Base path = path
+path_below Payload path = without (codes "data/") path
+
+-- its files, and whether there is a payload directory; the name of the folder; where its files belong in a bag; the
+-- name of the last file looked up; what the open file will still give (if one is open, and if that is known); how many
+-- times the folder has failed
+pub record FolderShown : Type 0 where
+  pub shown : Shown
+  pub folder : List ℕ
+  pub place : Place
+  pub name : List ℕ
+  pub to_read : Option (Option (List ℕ))
+  pub failures : ℕ
+
+-- the paths are in order, and a payload file has its directory (RFC 8493 section 2.1.2)
+pub record IsListing (paths : List (List ℕ)) (has_dir : Bool) : Type 0 where
+  pub rising : AreRising paths
+  pub payload : All (λ path. is_payload path ≡ true → has_dir ≡ true) paths
+
+-- a folder that was opened under this name: it shows what is below it, if the entries of directories are known; no file
+-- is open, and nothing has failed
+pub record IsOpened (known : Option Listing) (folder : List ℕ) (place : Place)
+    (tree : FolderShown) : Type 0 where
+  pub named : tree.folder ≡ folder
+  pub placed : tree.place ≡ place
+  pub closed : tree.to_read ≡ None
+  pub not_failed : tree.failures ≡ 0
+  pub shows : (listing : Listing) → known ≡ Some listing
+      → IsBelow listing folder (paths_in tree.shown) tree.shown.has_payload_dir
+
+-- the folder can't be a bag, if the entries of directories are known
+abbrev pub IsRefused : Option Listing → List ℕ → Type 0
+IsRefused known folder = (listing : Listing) → known ≡ Some listing → IsUnfit listing folder
+
+-- a count of failures, increased by one
+abbrev pub one_more : ℕ → ℕ
+one_more failures = min (failures + 1) greatest_count
+
+-- A read consumes what it gives from the open file, which stays open. If no file is open, none is opened, and the read
+-- fails.
+abbrev pub ReadsOpen : {E : Type 0} → Option (Option (List ℕ)) → Option (Option (List ℕ))
+    → Result ℕ E → List ℕ → Type 0
+ReadsOpen None None result buf = IsErr result
+ReadsOpen None (Some new) result buf = ⊥
+ReadsOpen (Some old) None result buf = ⊥
+ReadsOpen (Some old) (Some new) result buf = ReadConsumes old new result buf
+
+-- a read changes what is left to read, and its failure is counted
+pub record ReadsFolder {E : Type 0} (old new : FolderShown) (result : Result ℕ E) (buf : List ℕ)
+    : Type 0 where
+  pub reads_on : ReadsOpen old.to_read new.to_read result buf
+  pub changes : MatchResult result (λ _. new ≡ record old { to_read = new.to_read })
+      (λ _. new ≡ record old { to_read = new.to_read; failures = one_more old.failures })
+
+-- A start opens the file at this index by its name below the folder, and its failure is counted. No other file stays
+-- open.
+pub record StartsFile {E : Type 0} (old new : FolderShown) (i : ℕ) (result : Result (Unit {0}) E)
+    : Type 0 where
+  pub named : OnOk result (IsSomeAnd (slice_get (paths_in old.shown) i)
+      (λ path. new.name ≡ name_below old.folder (path_below old.place path)))
+  pub changes : MatchResult result
+      (λ _. new ≡ record old { name = new.name; to_read = new.to_read })
+      (λ _. new ≡ record old {
+        name = new.name;
+        to_read = None;
+        failures = one_more old.failures;
+      })
+
+-- the same files
+abbrev pub SameShown : FolderShown → FolderShown → Type 0
+SameShown old new = new.shown ≡ old.shown
+
+pub same_itself : (a : FolderShown) → SameShown a a
+same_itself a = refl
+
+pub same_on : (a b c : FolderShown) → SameShown a b → SameShown b c → SameShown a c
+same_on a b c p q = q ∙ p
+
+pub keeps_tree : (a b : FolderShown) → SameShown a b
+    → KeepsTree (λ (tree : FolderShown). tree.shown) (λ (tree : FolderShown). ⊥) a b
+keeps_tree a b same = record { same = same; stays_sure = λ never. never }

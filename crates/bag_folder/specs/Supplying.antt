@@ -1,0 +1,54 @@
+-- What is visible of a folder as a supplier. The content of its files isn't known.
+use Rattle.std.specs.Prelude.{◌≡◌, ◌+◌, ℕ, Bool, true, List, Option, None, Ok, Result, is_some, min, refl}
+use Rattle.std.proofs.Common.{◌∙◌}
+use Rattle.bag_digest.specs.Device.{greatest_count}
+use Rattle.bag_receiver.specs.Suppliers.{Supply}
+use Rattle.bag_folder.specs.Directories.{name_below}
+
+-- the name of the folder, and of the last file looked up; what the open file will still give (if one is open, and if
+-- that is known); how many times the folder failed, and how many times it was asked
+pub record SupplierShown : Type 0 where
+  pub folder : List ℕ
+  pub name : List ℕ
+  pub to_read : Option (Option (List ℕ))
+  pub failures : ℕ
+  pub asks : ℕ
+
+-- a supplier of the files below this folder, before any call
+pub record IsReadyFolder (folder : List ℕ) (supplier : SupplierShown) : Type 0 where
+  pub named : supplier.folder ≡ folder
+  pub closed : supplier.to_read ≡ None
+  pub not_failed : supplier.failures ≡ 0
+  pub not_asked : supplier.asks ≡ 0
+
+-- The request is counted. Afterwards a file is open exactly if the folder has it, and it is the one with this path
+-- below the folder.
+pub record AsksFolder {E : Type 0} (old new : SupplierShown) (path : List ℕ)
+    (result : Result Bool E) : Type 0 where
+  pub opened : is_some new.to_read ≡ true
+      → (result ≡ Ok true) × (new.name ≡ name_below old.folder path)
+  pub found : result ≡ Ok true → is_some new.to_read ≡ true
+  pub changes : new ≡ record old {
+    name = new.name;
+    to_read = new.to_read;
+    failures = new.failures;
+    asks = min (old.asks + 1) greatest_count;
+  }
+
+-- asked the same number of times
+abbrev pub AsOftenAsked : SupplierShown → SupplierShown → Type 0
+AsOftenAsked old new = new.asks ≡ old.asks
+
+pub asked_itself : (a : SupplierShown) → AsOftenAsked a a
+asked_itself a = refl
+
+pub asked_on : (a b c : SupplierShown) → AsOftenAsked a b → AsOftenAsked b c → AsOftenAsked a c
+asked_on a b c p q = q ∙ p
+
+-- what a folder has isn't known
+abbrev pub unknown : SupplierShown → Option Supply
+unknown supplier = None
+
+pub keeps_nothing : (a b : SupplierShown) → AsOftenAsked a b
+    → (unknown b ≡ unknown a) × (b.asks ≡ a.asks)
+keeps_nothing a b same = (refl, same)

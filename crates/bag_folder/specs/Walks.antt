@@ -1,0 +1,51 @@
+-- The steps of a walk through the directories below a folder.
+use Rattle.std.specs.Prelude.{◌≡◌, ◌||◌, ◌++◌, ◌⊎◌, ⊤, ℕ, Bool, All, Contains, List, [], ◌∷◌, Some, None, codes, fold}
+use Rattle.std.specs.Str.{bytes_eq}
+use Rattle.bag_path.specs.Paths.{IsPath}
+use Rattle.bag_folder.specs.declared.directory.EntryKind.{EntryKind}
+use Rattle.bag_folder.specs.declared.directory.EntryKind.TheVariants.{File, Directory, Other}
+use Rattle.bag_folder.specs.Directories.{EntryShown, Listing, name_below}
+
+-- what a walk has found: the paths of files, whether there is a payload directory, and the fronts of the directories
+-- that still have to be read
+pub record Walked : Type 0 where
+  pub paths : List (List ℕ)
+  pub has_dir : Bool
+  pub left : List (List ℕ)
+
+-- what is found once something of this kind is added at this path
+abbrev pub with_path : Walked → List ℕ → EntryKind → Walked
+with_path walked path File = record walked { paths = walked.paths ++ path ∷ [] }
+with_path walked path Directory = record walked {
+  has_dir = walked.has_dir || bytes_eq path (codes "data");
+  left = walked.left ++ (path ++ codes "/") ∷ [];
+}
+with_path walked path Other = walked
+
+-- what is allowed in a bag
+abbrev pub FitsBag : List ℕ → EntryKind → Type 0
+FitsBag path File = IsPath path
+FitsBag path Directory = ⊤
+FitsBag path Other = ⊥
+
+-- the same, for an entry of the directory under a front
+abbrev pub with_entry : List ℕ → Walked → EntryShown → Walked
+with_entry front walked entry = with_path walked (front ++ entry.name) entry.kind
+
+abbrev pub EntryFits : List ℕ → EntryShown → Type 0
+EntryFits front entry = FitsBag (front ++ entry.name) entry.kind
+
+-- each entry of the directory at a front was added, in order
+pub record LooksInto (listing : Listing) (folder front : List ℕ) (old new : Walked) : Type 0 where
+  pub entries : List EntryShown
+  pub listed : listing (name_below folder front) ≡ Some entries
+  pub fit : All (EntryFits front) entries
+  pub taken : new ≡ fold (with_entry front) old entries
+
+-- the directory isn't listed, or an entry isn't allowed in a bag
+abbrev pub RefusesFront : Listing → List ℕ → List ℕ → Type 0
+RefusesFront listing folder front =
+    (listing (name_below folder front) ≡ None)
+    ⊎ ((entries : List EntryShown) × (entry : EntryShown)
+    × (listing (name_below folder front) ≡ Some entries)
+    × Contains entries entry × ¬ EntryFits front entry)

@@ -1,0 +1,116 @@
+//! Looks up the entries of directories.
+ghost use Rattle.std.specs.Prelude.{◌≡◌, IfOk, List};
+ghost use Rattle.std.specs.Iterator.{Drains, IsFinite};
+ghost use Rattle.bag_folder.specs.Directories.{AreGiven};
+
+use crate::fault::OpenFault;
+use std::alloc::Global;
+use std::fs::{self, DirEntry, FileType};
+use std::io;
+use std::marker::Model;
+use std::rt::Files;
+
+/// The kind of a directory entry. A symbolic link is `Other`, wherever it leads.
+#[derive(Clone, Copy, Debug, PartialEq, Eq)]
+pub enum EntryKind {
+    /// A regular file.
+    File,
+    /// A directory.
+    Directory,
+    /// A symbolic link, a named pipe, a socket or a device.
+    Other,
+}
+
+impl EntryKind {
+    ghost use Rattle.std.specs.Fs.{IsDir, IsFile};
+    ghost use Rattle.std.specs.Prelude.{◌↔◌};
+
+    /// The kind for a file type of the operating system.
+    pub fn of(kind: FileType) -> EntryKind
+        ensures file { (result ≡ EntryKind.File) ↔ IsFile kind }
+        ensures directory { (result ≡ EntryKind.Directory) ↔ IsDir kind }
+    {
+        if kind.is_file() {
+            EntryKind::File
+        } else if kind.is_dir() {
+            EntryKind::Directory
+        } else {
+            EntryKind::Other
+        }
+    }
+}
+
+/// An entry of a directory.
+#[derive(Drop)]
+pub struct Entry {
+    /// The file name.
+    pub name: String,
+    /// The kind.
+    pub kind: EntryKind,
+}
+
+impl Model for Entry {
+    ghost use Rattle.std.specs.Prelude.{string_bytes};
+    ghost use Rattle.bag_folder.specs.Directories.{EntryShown};
+
+    ghost Value = { EntryShown };
+
+    ghost view = { λ entry. record { name = string_bytes entry.name; kind = entry.kind } };
+}
+
+/// A source of directory entries.
+pub trait Directories {
+    ghost use Rattle.std.specs.Prelude.{◌≡◌, Option, Some};
+    ghost use Rattle.bag_folder.specs.Directories.{AnswersEntries, Listing};
+
+    /// The entries of all directories, if they are known.
+    ghost listing: { Self → Option Listing };
+
+    /// The entries of the directory with this name, without `.` and `..`.
+    ///
+    /// # Errors
+    ///
+    /// `Files` if the directory doesn't exist or can't be read, or one of its names isn't UTF-8. `Memory` if memory
+    /// runs out.
+    fn entries(&self, alloc: Global, directory: &str) -> Result<Vec<Entry>, OpenFault>
+        ensures { (known : Listing) → listing self.now ≡ Some known
+            → AnswersEntries (λ entries. entries.items) known directory.now result };
+}
+
+/// The directories of the file system. Nothing is known of their entries.
+#[derive(Drop)]
+pub struct Disk<'a, R>(pub &'a R);
+
+impl<R: Files> Directories for Disk<'_, R> {
+    ghost use Rattle.std.specs.Prelude.{None};
+
+    ghost listing = { λ _. None };
+
+    fn entries(&self, alloc: Global, directory: &str) -> Result<Vec<Entry>, OpenFault> {
+        gathered(alloc, fs::read_dir(&(self.0, alloc), directory)?)
+    }
+}
+
+/// All the entries that the operating system gives for a directory. Nothing is known of them.
+///
+/// # Errors
+///
+/// `Files` if reading an entry fails, or its type can't be determined. `Memory` if memory runs out.
+fn gathered<R: Files + Drop, I: Iterator<Item = io::Result<DirEntry<R>>>>(
+    alloc: Global,
+    directory: I,
+) -> Result<Vec<Entry>, OpenFault>
+    requires can_next { I.can_next directory }
+    requires finite { IsFinite (I.remaining directory) }
+    ensures { IfOk result (λ entries. (given : List _)
+        × Drains I.next_gives directory given × AreGiven given entries.items) }
+{
+    let mut entries = Vec::new(alloc);
+    for given in directory {
+        let given = given?;
+        let name = String::from_str(alloc, given.file_name())?;
+        let kind = EntryKind::of(given.file_type()?);
+        entries.push(Entry { name, kind })?;
+    }
+    Ok(entries)
+}

@@ -1,0 +1,28 @@
+//! Folders on disk: as a tree of files to be judged, as the place a bag is written to, as a courier that delivers payload
+//! files, and as a supplier that is asked for them.
+#![tactic(auto)]
+
+pub use courier::TreeCourier;
+pub use destination::Destination;
+pub use directory::{Directories, Disk, Entry, EntryKind};
+pub use fault::OpenFault;
+pub use place::Place;
+pub use sink::FolderSink;
+pub use supplier::FolderSupplier;
+pub use told::{Told, ToldDirectories};
+pub use tree::FolderTree;
+
+mod courier;
+mod destination;
+mod directory;
+mod fault;
+mod name;
+mod payload;
+mod place;
+mod sink;
+mod supplier;
+#[cfg(test)]
+mod tests;
+mod told;
+mod tree;
+mod walk;

@@ -1,0 +1,62 @@
+//! Directories with given entries, for tests: what a walk finds in them is known.
+ghost use Rattle.std.specs.Prelude.{◌≡◌, IfErr, IfOk};
+
+use crate::directory::{Directories, Entry};
+use crate::fault::OpenFault;
+use std::alloc::Global;
+use std::marker::Model;
+
+/// A directory with its entries.
+#[derive(Drop)]
+pub struct Told {
+    /// Its name, with a slash at the end.
+    pub name: String,
+    /// Its entries.
+    pub entries: Vec<Entry>,
+}
+
+impl Model for Told {
+    ghost use Rattle.std.specs.Prelude.{string_bytes};
+    ghost use Rattle.bag_folder.specs.Directories.{ToldShown};
+
+    ghost Value = { ToldShown };
+
+    ghost view = { λ told. record { name = string_bytes told.name; entries = told.entries.items } };
+}
+
+/// Directories with given entries. Of several with the same name, the first counts; all others don't exist.
+#[derive(Drop)]
+pub struct ToldDirectories {
+    /// The directories.
+    pub all: Vec<Told>,
+}
+
+impl Directories for ToldDirectories {
+    ghost use Rattle.std.specs.Prelude.{Some};
+    ghost use Rattle.bag_folder.specs.Directories.{listing_of};
+
+    ghost listing = { λ told. Some (listing_of told.all.items) };
+
+    fn entries(&self, alloc: Global, directory: &str) -> Result<Vec<Entry>, OpenFault> {
+        for told in &self.all {
+            if told.name.as_str() == directory {
+                return copies(alloc, &told.entries);
+            }
+        }
+        Err(OpenFault::Files)
+    }
+}
+
+/// A copy of the entries.
+fn copies(alloc: Global, entries: &[Entry]) -> Result<Vec<Entry>, OpenFault>
+    ensures same { IfOk result (λ copies. copies.items ≡ entries.now) }
+    ensures memory { IfErr result (λ fault. fault ≡ OpenFault.Memory) }
+{
+    let mut copies = Vec::new(alloc);
+    for entry in entries {
+        let name = String::from_str(alloc, entry.name.as_str())?;
+        let kind = entry.kind;
+        copies.push(Entry { name, kind })?;
+    }
+    Ok(copies)
+}

@@ -1,0 +1,261 @@
+//! A folder on disk, as a tree of files.
+ghost use Rattle.std.specs.Prelude.{◌≡◌, ◌↔◌, ◌||◌, ℕ, List, Contains, [], None, string_bytes, ◌<◌, ◌≤◌, IfOk, IsErr, OnOk, is_ok, is_some, length};
+ghost use Rattle.std.specs.List.{list_any};
+ghost use Rattle.bag_path.specs.Paths.{is_payload};
+ghost use Rattle.bag_rules.specs.Trees.{AreRising, octets_in, paths_in};
+ghost use Rattle.bag_folder.specs.Directories.{in_payload};
+ghost use Rattle.bag_folder.specs.Folders.{IsOpened, IsRefused};
+
+use crate::directory::Directories;
+use crate::fault::OpenFault;
+use crate::name::opened;
+use crate::payload::InPayload;
+use crate::place::Place;
+use crate::walk::{Below, walk};
+use bag_digest::{Failed, Failures, Source};
+use bag_path::{BagPath, LONGEST_PATH};
+use bag_rules::{Paths, Tree};
+use std::alloc::Global;
+use std::io::Read;
+use std::marker::Model;
+use std::rt::Files;
+
+/// The files below a folder, by their paths in the folder. Nothing is claimed about their content.
+#[derive(Drop)]
+pub struct FolderTree<R: Files> {
+    rt: R,
+    folder: String,
+    place: Place,
+    // the name of the last file looked up; its capacity is enough for all names
+    name: String,
+    paths: Vec<BagPath>,
+    has_dir: bool,
+    file: Option<R::File>,
+    failures: Failures,
+}
+
+impl<R: Files> Model for FolderTree<R> {
+    ghost use Rattle.std.specs.Prelude.{option_map, string_bytes};
+    ghost use Rattle.bag_folder.specs.Folders.{FolderShown, IsListing, shown_by};
+
+    ghost Value = { FolderShown };
+
+    ghost view = { λ tree. record {
+      shown = shown_by tree.paths.items tree.has_dir;
+      folder = string_bytes tree.folder;
+      place = tree.place;
+      name = string_bytes tree.name;
+      to_read = option_map R.File.remaining tree.file;
+      failures = tree.failures;
+    } };
+
+    ghost invariant = { λ tree. IsListing tree.paths.items tree.has_dir };
+}
+
+impl<R: Files + Drop> FolderTree<R> {
+    /// Reads the whole folder, and lists every file in it or below it under its path in the folder.
+    ///
+    /// The name of the folder may end in a slash, and it may be a symbolic link to a folder; below it no symbolic link
+    /// is followed. Empty directories are ignored, except `data/`, which is a payload directory without files (RFC 8493
+    /// section 2.1.2).
+    ///
+    /// # Errors
+    ///
+    /// `Files` if the folder doesn't exist, isn't a folder or can't be read; or if something in it or below it is
+    /// neither a regular file nor a directory (a symbolic link, a named pipe, a socket, a device), has a name that
+    /// isn't UTF-8, or has a path that [`BagPath::parse`] refuses (longer than 4,096 octets; a regular file named
+    /// `data` in the folder itself). `Memory` if memory runs out. No file is opened.
+    pub fn open<D: Directories>(
+        rt: R,
+        disk: &D,
+        alloc: Global,
+        folder: &str,
+    ) -> Result<FolderTree<R>, OpenFault>
+        ensures no_name { folder.now ≡ [] → result ≡ Err OpenFault.Files }
+        ensures opened { IfOk result (IsOpened (D.listing disk.now) folder.now Place.Base) }
+        ensures refused { result ≡ Err OpenFault.Files → IsRefused (D.listing disk.now) folder.now }
+    {
+        FolderTree::open_at(rt, disk, alloc, folder, Place::Base)
+    }
+
+    /// Does the same, with the files in the payload directory: each has the path `data/` followed by its path in the
+    /// folder. So a regular file named `data` in the folder is the payload file `data/data`. The payload directory
+    /// always exists.
+    ///
+    /// # Errors
+    ///
+    /// Those of [`FolderTree::open`], except that the folder may contain a regular file named `data`, and that a path
+    /// in the folder is limited to 4,091 octets.
+    pub fn open_payload<D: Directories>(
+        rt: R,
+        disk: &D,
+        alloc: Global,
+        folder: &str,
+    ) -> Result<FolderTree<R>, OpenFault>
+        ensures no_name { folder.now ≡ [] → result ≡ Err OpenFault.Files }
+        ensures opened { IfOk result
+            (IsOpened (in_payload (D.listing disk.now) folder.now) folder.now Place.Payload) }
+        ensures refused { result ≡ Err OpenFault.Files
+            → IsRefused (in_payload (D.listing disk.now) folder.now) folder.now }
+    {
+        let inside = InPayload { disk, folder };
+        FolderTree::open_at(rt, &inside, alloc, folder, Place::Payload)
+    }
+
+    /// The tree of the files below the folder that these directories list.
+    fn open_at<D: Directories>(
+        rt: R,
+        disk: &D,
+        alloc: Global,
+        folder: &str,
+        place: Place,
+    ) -> Result<FolderTree<R>, OpenFault>
+        ensures no_name { folder.now ≡ [] → result ≡ Err OpenFault.Files }
+        ensures opened { IfOk result (IsOpened (D.listing disk.now) folder.now place) }
+        ensures refused { result ≡ Err OpenFault.Files → IsRefused (D.listing disk.now) folder.now }
+    {
+        if folder.is_empty() {
+            return Err(OpenFault::Files);
+        }
+        let below = walk(disk, alloc, folder)?;
+        let folder = String::from_str(alloc, folder)?;
+        let name = String::with_capacity(alloc, folder.len().saturating_add(1 + LONGEST_PATH))?;
+        Ok(tree_of(rt, folder, place, name, below))
+    }
+}
+
+/// The tree of what was found below this folder.
+fn tree_of<R: Files + Drop>(
+    rt: R,
+    folder: String,
+    place: Place,
+    name: String,
+    below: Below,
+) -> FolderTree<R>
+    ensures paths { (path : List ℕ)
+        → Contains (paths_in result.shown) path ↔ Contains below.paths.items path }
+    ensures payload { result.shown.has_payload_dir
+        ≡ (below.has_dir || list_any is_payload below.paths.items) }
+    ensures named { result.folder ≡ string_bytes folder }
+    ensures placed { result.place ≡ place }
+    ensures closed { result.to_read ≡ None }
+    ensures not_failed { result.failures ≡ 0 }
+{
+    let has_dir = below.has_dir || has_payload(&below.paths);
+    FolderTree {
+        rt,
+        folder,
+        place,
+        name,
+        paths: in_order(below.paths),
+        has_dir,
+        file: None,
+        failures: Failures::none(),
+    }
+}
+
+/// The paths in the order of their octets, each once.
+fn in_order(mut paths: Vec<BagPath>) -> Vec<BagPath>
+    ensures rising { AreRising result.items }
+    ensures kept { (path : List ℕ) → Contains result.items path ↔ Contains paths.items path }
+{
+    paths.sort_unstable();
+    paths.dedup();
+    paths
+}
+
+impl<R: Files> Source for FolderTree<R> {
+    ghost use Rattle.std.specs.Io.KnownBytes.{ReadConsumes};
+    ghost use Rattle.bag_digest.specs.Device.{UsesSource};
+    ghost use Rattle.bag_folder.specs.Folders.{FolderShown, ReadsFolder, SameShown, same_itself, same_on};
+
+    ghost remaining = { λ _. None };
+
+    ghost failures = { λ tree. tree.failures };
+
+    ghost ready = { λ _. ⊥ };
+
+    ghost is_open = { λ tree. is_some tree.to_read };
+
+    ghost keeps = { SameShown };
+
+    /// Reads from the open file. Fails if no file is open.
+    fn read(&mut self, buf: &mut [u8]) -> Result<usize, Failed>
+        ensures bound { IfOk result (λ n. n ≤ length buf.new) }
+        ensures octets { ReadConsumes None None result buf.new }
+        ensures uses { UsesSource (λ (tree : FolderShown). tree.failures)
+            (λ (tree : FolderShown). ⊥) SameShown self.old self.new (IsErr result) }
+        ensures exactly { ReadsFolder self.old self.new result buf.new }
+    {
+        let answer = match &mut self.file {
+            Some(file) => file.read(buf).map_err(|_| Failed),
+            None => Err(Failed),
+        };
+        self.failures.counted(answer)
+    }
+
+    fn failures(&self) -> u64 {
+        self.failures.count()
+    }
+
+    ghost keeps_itself = { same_itself };
+
+    ghost keeps_on = { same_on };
+}
+
+impl<R: Files> Paths for FolderTree<R> {
+    ghost shown = { λ tree. tree.shown };
+
+    fn count(&self) -> usize {
+        self.paths.len()
+    }
+
+    fn path(&self, i: usize) -> &BagPath {
+        &self.paths[i]
+    }
+
+    fn has_payload_dir(&self) -> bool {
+        self.has_dir
+    }
+}
+
+impl<R: Files> Tree for FolderTree<R> {
+    ghost use Rattle.bag_rules.specs.Trees.{UsesTree};
+    ghost use Rattle.bag_folder.specs.Folders.{FolderShown, StartsFile, keeps_tree};
+
+    ghost sure = { λ _. ⊥ };
+
+    /// Closes the file that was open, and opens this one.
+    ///
+    /// Fails if the file no longer exists or can't be read; no file is open then. Allocates no memory. The folder is
+    /// assumed to be unchanged since it was read: opening a named pipe that has replaced a file since then would block.
+    fn start(&mut self, i: usize) -> Result<(), Failed>
+        requires { i < length (paths_in self.old.shown) }
+        ensures started { OnOk result (None ≡ octets_in self.old.shown i) }
+        ensures uses { UsesTree (λ (tree : FolderShown). tree.shown)
+            (λ (tree : FolderShown). tree.failures) (λ (tree : FolderShown). ⊥)
+            self.old self.new (IsErr result) }
+        ensures open { is_some self.new.to_read ≡ is_ok result }
+        ensures exactly { StartsFile self.old self.new i result }
+    {
+        self.file = None;
+        let path = self.place.path_below(self.paths[i].as_str());
+        let answer = match opened(&self.rt, &mut self.name, self.folder.as_str(), path) {
+            Some(file) => {
+                self.file = Some(file);
+                Ok(())
+            }
+            None => Err(Failed),
+        };
+        self.failures.counted(answer)
+    }
+
+    ghost reads_keep = { keeps_tree };
+}
+
+/// Whether some path is a payload path.
+fn has_payload(paths: &[BagPath]) -> bool
+    ensures { result ≡ list_any is_payload paths.now }
+{
+    paths.iter().any(|path| path.is_payload())
+}
