@@ -1,5 +1,5 @@
 -- The answer of a receiver that exports a transfer to a sink, and what the sink holds afterwards.
-use Rattle.std.specs.Prelude.{◌≡◌, ℕ, Bool, List, OnOk, Option, IsErrOf, Result, false}
+use Rattle.std.specs.Prelude.{◌≡◌, ℕ, Bool, List, Option, IsErrOf, Result, false}
 use Rattle.bag_digest.specs.Device.{CountsIf}
 use Rattle.bag_ledger.specs.Ledgers.{Ledger}
 use Rattle.bag_ledger.specs.declared.fault.KeepFault.TheVariants.{Store}
@@ -12,7 +12,7 @@ use Rattle.bag_receiver.specs.Names.{IsTransferName}
 use Rattle.bag_receiver.specs.Receivers.{Does, IsInState}
 use Rattle.bag_receiver.specs.ReceiversInside.{Same}
 use Rattle.bag_receiver.specs.Receiving.{LedgerState}
-use Rattle.bag_writer.specs.Sinks.{IsEmptySink, Stored, UsesSink}
+use Rattle.bag_writer.specs.Sinks.{IsEmptySink, Stored, UsesClosedSink}
 
 -- If the keeper is clean, there are three cases. Either a sink that was empty now holds the whole bag of the transfer
 -- with this name, and the number of its files is the answer; or it holds part of that bag, after a fault; or there is
@@ -30,7 +30,6 @@ pub record IsExporting {K S : Type 0} (holds may_leave : K → Ledger → Type 0
       × (IsErrOf answer NoTransfer → new_sink ≡ old_sink)
   pub store : CountsIf ((fault : StoreFault) × IsErrOf answer (Keeper (Store fault)))
       (failures old.keeper) (failures new.keeper)
-  pub sink : UsesSink sink_failures sink_sure old_sink new_sink
+  pub sink : UsesClosedSink is_open sink_failures sink_sure old_sink new_sink
       ((clean new.keeper × ((now : LedgerState) × IsInState holds may_leave old now))
-      × (is_open old_sink ≡ false) × IsEmptySink (stored old_sink)) (IsErrOf answer Sink)
-  pub closed : is_open old_sink ≡ false → OnOk answer (is_open new_sink ≡ false)
+      × (is_open old_sink ≡ false) × IsEmptySink (stored old_sink)) answer (IsErrOf answer Sink)

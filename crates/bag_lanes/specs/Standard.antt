@@ -35,7 +35,9 @@ pub record HashFunction : Type 0 where
 -- The message, the octet 1000 0000, zeros up to 8 octets short of a block, and the message's length in bits modulo 2 ^ 64
 -- (RFC 1321, 3.1 and 3.2; FIPS 180-4, 5.1.1).
 abbrev pub padded : ByteOrder → List ℕ → List ℕ
-padded order m = m ++ (0x80 ∷ replicate ((119 - length m % 64) % 64) 0 ++ octets_of order w64 (length m * 8 % 2 ^ 64))
+padded order m = m
+    ++ (0x80 ∷ replicate ((119 - length m % 64) % 64) 0
+    ++ octets_of order w64 (length m * 8 % 2 ^ 64))
 
 -- block j of some octets
 abbrev pub block : List ℕ → ℕ → List ℕ
@@ -68,4 +70,8 @@ sha1_function = record { order = HighFirst; initial = SHA1.initial_hash; compres
 
 -- FIPS 180-4, 5.3.3 and 6.2.2
 abbrev pub sha256_function : HashFunction
-sha256_function = record { order = HighFirst; initial = SHA256.initial_hash_256; compress = SHA256.compress }
+sha256_function = record {
+  order = HighFirst;
+  initial = SHA256.initial_hash_256;
+  compress = SHA256.compress;
+}

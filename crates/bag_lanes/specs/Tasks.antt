@@ -17,7 +17,8 @@ padded_at f messages k = padded f.order (message_at messages k)
 
 -- A lane with this hash value is at the task: it has taken the first blocks of a message of the list, as many as the task
 -- says, and has the rest left.
-pub record IsAt (f : HashFunction) (messages : List (Bor (List ℕ))) (value : List ℕ) (task : Task) : Type 0 where
+pub record IsAt (f : HashFunction) (messages : List (Bor (List ℕ))) (value : List ℕ) (task : Task)
+    : Type 0 where
   pub place : task.message < length messages
   pub blocks : task.taken + task.left ≡ block_count (padded_at f messages task.message)
   pub counts : task.taken + task.left < 2 ^ 64
@@ -45,19 +46,23 @@ first_task f messages k =
 
 -- Each lane has taken n blocks of its message, which takes the hash values to this state: the tasks say so, and the rest of
 -- the queue is the same.
-pub record TakesBlocks (f : HashFunction) (messages : List (Bor (List ℕ))) (n : ℕ) (state : List (List ℕ)) (old new : Queue) : Type 0 where
+pub record TakesBlocks (f : HashFunction) (messages : List (Bor (List ℕ))) (n : ℕ)
+    (state : List (List ℕ)) (old new : Queue) : Type 0 where
   pub at : AreAt f messages state new.tasks
   pub tasks : (i : ℕ) → i < 4
-      → slice_index_or new.tasks i None ≡ option_map (task_after n) (slice_index_or old.tasks i None)
+      → slice_index_or new.tasks i None
+      ≡ option_map (task_after n) (slice_index_or old.tasks i None)
   pub count : length new.tasks ≡ length old.tasks
   pub next : new.next ≡ old.next
 
 -- message k is at a lane
 abbrev pub HasLane : List (Option Task) → ℕ → Type 0
-HasLane tasks k = (i : ℕ) × (i < 4) × IsSomeAnd (slice_index_or tasks i None) (λ task. task.message ≡ k)
+HasLane tasks k = (i : ℕ) × (i < 4)
+    × IsSomeAnd (slice_index_or tasks i None) (λ task. task.message ≡ k)
 
 -- Lanes with these hash values are each at its task, and of the first n none is idle as long as there is a next message.
-pub record AreFilled (f : HashFunction) (messages : List (Bor (List ℕ))) (state : List (List ℕ)) (tasks : List (Option Task)) (next n : ℕ) : Type 0 where
+pub record AreFilled (f : HashFunction) (messages : List (Bor (List ℕ))) (state : List (List ℕ))
+    (tasks : List (Option Task)) (next n : ℕ) : Type 0 where
   pub at : AreAt f messages state tasks
   pub count : length tasks ≡ 4
   pub bound : next ≤ length messages

@@ -48,7 +48,8 @@ fn constant(t: usize) -> u32
 fn next_word(w: &mut [u32x4; 16], t: usize) -> u32x4
     requires { t < 80 }
     ensures value { (i : ℕ) → i < 4 → slice_index result i ≡ window_word (lane i w.old) t }
-    ensures kept { (i : ℕ) → lane i w.new ≡ slice_set (lane i w.old) (t % 16) (slice_index result i) }
+    ensures kept { (i : ℕ) → lane i w.new
+        ≡ slice_set (lane i w.old) (t % 16) (slice_index result i) }
 {
     let word = rotated_left(
         xor(

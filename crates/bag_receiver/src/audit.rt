@@ -5,12 +5,11 @@ ghost use Rattle.bag_rules.specs.Files.{Files};
 ghost use Rattle.bag_rules.specs.Plans.{IsPlanOf, sizes_of};
 ghost use Rattle.bag_rules.specs.Transfers.{Passes};
 ghost use Rattle.bag_rules.specs.Wants.{IsWanted};
-ghost use Rattle.bag_ledger.specs.Keeping.{Reads};
 ghost use Rattle.bag_ledger.specs.Ledgers.{Ledger, items_of};
 ghost use Rattle.bag_ledger.specs.declared.fault.StoreFault.{StoreFault};
 ghost use Rattle.bag_ledger.specs.declared.fault.KeepFault.TheVariants.{Store};
 ghost use Rattle.bag_receiver.specs.Deliveries.{AreAccepted, Delivery, OneContent};
-ghost use Rattle.bag_receiver.specs.Holdings.{HasItem, IsPlanFor};
+ghost use Rattle.bag_receiver.specs.Holdings.{HasItem, IsPlanFor, ReadsKeeper};
 ghost use Rattle.bag_receiver.specs.Names.{IsNamed, IsTransferName};
 ghost use Rattle.bag_receiver.specs.Receivers.{Does, IsInState};
 ghost use Rattle.bag_receiver.specs.ReceiversInside.{Same};
@@ -82,9 +81,8 @@ fn passing_sizes<K: Keeper>(
     ensures found { K.clean keeper.new → (ledger : Ledger) → K.holds keeper.old ledger
         → IsPlanFor ledger name.now plan.now
         → IfOk result (λ sizes. sizes.items ≡ sizes_of (items_of ledger name.now)) }
-    ensures reads { Reads K.holds K.may_leave K.clean keeper.old keeper.new }
-    ensures store { CountsIf ((fault : StoreFault) × IsErrOf result (Store fault))
-        (K.failures keeper.old) (K.failures keeper.new) }
+    ensures keeper { ReadsKeeper K.holds K.may_leave K.clean K.failures keeper.old keeper.new
+        (λ fault. IsErrOf result (Store fault)) }
 {
     let sizes = keeper.sizes(alloc, name)?;
     let mut buffer = piece_buffer(alloc)?;
@@ -115,9 +113,8 @@ fn passes<K: Keeper>(
         → item.now.octets ≡ length content
         → IfOk result (λ is. IsTrue is ↔ Passes tags item.now.path content) }
     ensures room { length buffer.new ≡ length buffer.old }
-    ensures reads { Reads K.holds K.may_leave K.clean keeper.old keeper.new }
-    ensures store { CountsIf ((fault : StoreFault) × IsErrOf result (Store fault))
-        (K.failures keeper.old) (K.failures keeper.new) }
+    ensures keeper { ReadsKeeper K.holds K.may_leave K.clean K.failures keeper.old keeper.new
+        (λ fault. IsErrOf result (Store fault)) }
 {
     match plan.want(&item.path) {
         Some(want) if item.octets <= LARGEST_ITEM => {
@@ -142,9 +139,8 @@ fn is_wanted<K: Keeper>(
         → HasItem K.holds keeper.old name.now want.now.path.now content → octets ≡ length content
         → IfOk result (λ is. IsTrue is ↔ IsWanted want.now content) }
     ensures room { length buffer.new ≡ length buffer.old }
-    ensures reads { Reads K.holds K.may_leave K.clean keeper.old keeper.new }
-    ensures store { CountsIf ((fault : StoreFault) × IsErrOf result (Store fault))
-        (K.failures keeper.old) (K.failures keeper.new) }
+    ensures keeper { ReadsKeeper K.holds K.may_leave K.clean K.failures keeper.old keeper.new
+        (λ fault. IsErrOf result (Store fault)) }
 {
     let mut multi = Multi::new(want.algs());
     let mut read = 0u64;

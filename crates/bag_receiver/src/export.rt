@@ -1,18 +1,17 @@
 //! Exports: write the bag of a transfer, as it is held, to a sink.
-ghost use Rattle.std.specs.Prelude.{◌≡◌, ◌<◌, ◌∷◌, ◌++◌, [], ℕ, List, IfErr, IsErr, IsErrOf, MatchResult, OnOk, false, length, true};
+ghost use Rattle.std.specs.Prelude.{◌≡◌, ◌<◌, ◌∷◌, ◌++◌, [], ℕ, List, IfErr, IsErr, IsErrOf, MatchResult, false, length};
 ghost use Rattle.bag_digest.specs.Device.{CountsIf};
 ghost use Rattle.bag_rules.specs.Files.{Files};
 ghost use Rattle.bag_rules.specs.Plans.{sizes_of};
-ghost use Rattle.bag_ledger.specs.Keeping.{Reads};
 ghost use Rattle.bag_ledger.specs.declared.fault.StoreFault.{StoreFault};
 ghost use Rattle.bag_ledger.specs.declared.fault.KeepFault.TheVariants.{Store};
-ghost use Rattle.bag_writer.specs.Sinks.{IsEmptySink, IsFree, UsesSink};
+ghost use Rattle.bag_writer.specs.Sinks.{ClosesSink, IsEmptySink, IsFree, UsesClosedSink, UsesOpenSink};
 ghost use Rattle.bag_writer.specs.Steps.{ArePart, AreWhole};
 ghost use Rattle.bag_writer.specs.TagWriting.{AreFree};
 ghost use Rattle.bag_writer.specs.PayloadSteps.{Writes, WritesFront};
 ghost use Rattle.bag_receiver.specs.Exports.{Exports};
 ghost use Rattle.bag_receiver.specs.ExportsInside.{HasItems, IsMetWriting, IsPartOf, from_opened};
-ghost use Rattle.bag_receiver.specs.Holdings.{HasItem};
+ghost use Rattle.bag_receiver.specs.Holdings.{HasItem, ReadsKeeper};
 ghost use Rattle.bag_receiver.specs.Names.{IsTransferName};
 ghost use Rattle.bag_receiver.specs.Receivers.{Does, IsInState};
 ghost use Rattle.bag_receiver.specs.ReceiversInside.{Same};
@@ -106,12 +105,11 @@ impl<K: Keeper> Receiver<K> {
             × (IsErrOf result NoTransfer → sink.new ≡ sink.old) }
         ensures store { CountsIf ((fault : StoreFault) × IsErrOf result (NotKept (Store fault)))
             (K.failures self.old.keeper) (K.failures self.new.keeper) }
-        ensures sink { UsesSink S.failures S.sure sink.old sink.new
+        ensures sink { UsesClosedSink S.is_open S.failures S.sure sink.old sink.new
             ((K.clean self.new.keeper
             × ((now : LedgerState) × IsInState K.holds K.may_leave self.old now))
             × (S.is_open sink.old ≡ false) × IsEmptySink (S.stored sink.old))
-            (IsErrOf result SinkFailed) }
-        ensures closed { S.is_open sink.old ≡ false → OnOk result (S.is_open sink.new ≡ false) }
+            result (IsErrOf result SinkFailed) }
     {
         if !is_name(name) {
             return Err(ExportFault::NoTransfer);
@@ -139,15 +137,13 @@ fn write_bag<K: Keeper, S: Sink>(
         → MatchResult result
         (λ _. AreWhole (tags.now ++ files) (from_opened (S.stored sink.old)) (S.stored sink.new))
         (λ _. IsPartOf (tags.now ++ files) (S.stored sink.old) (S.stored sink.new)) }
-    ensures reads { Reads K.holds K.may_leave K.clean keeper.old keeper.new }
-    ensures store { CountsIf ((fault : StoreFault) × IsErrOf result (NotKept (Store fault)))
-        (K.failures keeper.old) (K.failures keeper.new) }
-    ensures sink { UsesSink S.failures S.sure sink.old sink.new
+    ensures keeper { ReadsKeeper K.holds K.may_leave K.clean K.failures keeper.old keeper.new
+        (λ fault. IsErrOf result (NotKept (Store fault))) }
+    ensures sink { UsesClosedSink S.is_open S.failures S.sure sink.old sink.new
         ((K.clean keeper.new × (S.is_open sink.old ≡ false)) × ((files : Files)
         × HasItems K.holds keeper.old name.now files × (items.now ≡ sizes_of files)
         × AreFree (from_opened (S.stored sink.old)) (tags.now ++ files)))
-        (IsErrOf result SinkFailed) }
-    ensures closed { S.is_open sink.old ≡ false → OnOk result (S.is_open sink.new ≡ false) }
+        result (IsErrOf result SinkFailed) }
     ensures err { IfErr result IsMetWriting }
 {
     let mut buffer = piece_buffer(alloc)?;
@@ -161,9 +157,9 @@ fn write_tags<S: Sink>(tags: &TagSet, sink: &mut S) -> Result<(), Failed>
     ensures written { MatchResult result
         (λ _. AreWhole tags.now (S.stored sink.old) (S.stored sink.new))
         (λ _. ArePart tags.now (S.stored sink.old) (S.stored sink.new)) }
-    ensures closed { S.is_open sink.old ≡ false → OnOk result (S.is_open sink.new ≡ false) }
-    ensures uses { UsesSink S.failures S.sure sink.old sink.new
-        ((S.is_open sink.old ≡ false) × AreFree (S.stored sink.old) tags.now) (IsErr result) }
+    ensures sink { UsesClosedSink S.is_open S.failures S.sure sink.old sink.new
+        ((S.is_open sink.old ≡ false) × AreFree (S.stored sink.old) tags.now)
+        result (IsErr result) }
 {
     for file in tags.files() {
         write_file(file.path(), file.body(), sink)?;
@@ -176,9 +172,9 @@ fn write_file<S: Sink>(path: &BagPath, octets: &[u8], sink: &mut S) -> Result<()
     ensures written { MatchResult result
         (λ _. AreWhole ((path.now, octets.now) ∷ []) (S.stored sink.old) (S.stored sink.new))
         (λ _. ArePart ((path.now, octets.now) ∷ []) (S.stored sink.old) (S.stored sink.new)) }
-    ensures closed { OnOk result (S.is_open sink.new ≡ false) }
-    ensures uses { UsesSink S.failures S.sure sink.old sink.new
-        ((S.is_open sink.old ≡ false) × IsFree (S.stored sink.old) path.now) (IsErr result) }
+    ensures sink { ClosesSink S.is_open S.failures S.sure sink.old sink.new
+        ((S.is_open sink.old ≡ false) × IsFree (S.stored sink.old) path.now)
+        result (IsErr result) }
 {
     sink.file(path)?;
     sink.write(octets)?;
@@ -200,15 +196,13 @@ fn write_items<K: Keeper, S: Sink>(
         → MatchResult result
         (λ _. AreWhole files (S.stored sink.old) (S.stored sink.new))
         (λ _. ArePart files (S.stored sink.old) (S.stored sink.new)) }
-    ensures reads { Reads K.holds K.may_leave K.clean keeper.old keeper.new }
-    ensures store { CountsIf ((fault : StoreFault) × IsErrOf result (NotKept (Store fault)))
-        (K.failures keeper.old) (K.failures keeper.new) }
-    ensures sink { UsesSink S.failures S.sure sink.old sink.new
+    ensures keeper { ReadsKeeper K.holds K.may_leave K.clean K.failures keeper.old keeper.new
+        (λ fault. IsErrOf result (NotKept (Store fault))) }
+    ensures sink { UsesClosedSink S.is_open S.failures S.sure sink.old sink.new
         ((K.clean keeper.new × (S.is_open sink.old ≡ false)) × ((files : Files)
         × HasItems K.holds keeper.old name.now files × (items.now ≡ sizes_of files)
         × AreFree (S.stored sink.old) files))
-        (IsErrOf result SinkFailed) }
-    ensures closed { S.is_open sink.old ≡ false → OnOk result (S.is_open sink.new ≡ false) }
+        result (IsErrOf result SinkFailed) }
     ensures err { IfErr result IsMetWriting }
 {
     for item in items {
@@ -232,13 +226,11 @@ fn write_item<K: Keeper, S: Sink>(
         → item.now.octets ≡ length content → MatchResult result
         (λ _. AreWhole ((item.now.path, content) ∷ []) (S.stored sink.old) (S.stored sink.new))
         (λ _. ArePart ((item.now.path, content) ∷ []) (S.stored sink.old) (S.stored sink.new)) }
-    ensures reads { Reads K.holds K.may_leave K.clean keeper.old keeper.new }
-    ensures store { CountsIf ((fault : StoreFault) × IsErrOf result (NotKept (Store fault)))
-        (K.failures keeper.old) (K.failures keeper.new) }
-    ensures sink { UsesSink S.failures S.sure sink.old sink.new
+    ensures keeper { ReadsKeeper K.holds K.may_leave K.clean K.failures keeper.old keeper.new
+        (λ fault. IsErrOf result (NotKept (Store fault))) }
+    ensures sink { ClosesSink S.is_open S.failures S.sure sink.old sink.new
         ((S.is_open sink.old ≡ false) × IsFree (S.stored sink.old) item.now.path)
-        (IsErrOf result SinkFailed) }
-    ensures closed { OnOk result (S.is_open sink.new ≡ false) }
+        result (IsErrOf result SinkFailed) }
     ensures err { IfErr result IsMetWriting }
 {
     sink.file(&item.path)?;
@@ -262,12 +254,10 @@ fn write_content<K: Keeper, S: Sink>(
         → item.now.octets ≡ length content → MatchResult result
         (λ _. Writes content (S.stored sink.old) (S.stored sink.new))
         (λ _. WritesFront content (S.stored sink.old) (S.stored sink.new)) }
-    ensures reads { Reads K.holds K.may_leave K.clean keeper.old keeper.new }
-    ensures store { CountsIf ((fault : StoreFault) × IsErrOf result (NotKept (Store fault)))
-        (K.failures keeper.old) (K.failures keeper.new) }
-    ensures sink { UsesSink S.failures S.sure sink.old sink.new
-        (S.is_open sink.old ≡ true) (IsErrOf result SinkFailed) }
-    ensures open { S.is_open sink.new ≡ S.is_open sink.old }
+    ensures keeper { ReadsKeeper K.holds K.may_leave K.clean K.failures keeper.old keeper.new
+        (λ fault. IsErrOf result (NotKept (Store fault))) }
+    ensures sink { UsesOpenSink S.is_open S.failures S.sure sink.old sink.new
+        (IsErrOf result SinkFailed) }
     ensures err { IfErr result IsMetWriting }
 {
     let mut read = 0u64;

@@ -1,10 +1,7 @@
 //! Reads held payload files again, piece by piece.
 ghost use Rattle.std.specs.Prelude.{◌≡◌, ◌<◌, ◌≤◌, ◌+◌, ℕ, List, IfOk, IsErrOf, drop, length, min, take};
-ghost use Rattle.bag_digest.specs.Device.{CountsIf};
-ghost use Rattle.bag_ledger.specs.Keeping.{Reads};
-ghost use Rattle.bag_ledger.specs.declared.fault.StoreFault.{StoreFault};
 ghost use Rattle.bag_ledger.specs.declared.fault.KeepFault.TheVariants.{Store};
-ghost use Rattle.bag_receiver.specs.Holdings.{HasItem};
+ghost use Rattle.bag_receiver.specs.Holdings.{HasItem, ReadsKeeper};
 
 use bag_ledger::{KeepFault, Keeper};
 use bag_path::BagPath;
@@ -27,9 +24,8 @@ pub(crate) fn next_piece<K: Keeper>(
         → IfOk result (λ n. (0 < n) × (take n buffer.new ≡ take n (drop offset content))) }
     ensures bound { IfOk result (λ n. (n ≤ left) × (n ≤ length buffer.new)) }
     ensures room { length buffer.new ≡ length buffer.old }
-    ensures reads { Reads K.holds K.may_leave K.clean keeper.old keeper.new }
-    ensures store { CountsIf ((fault : StoreFault) × IsErrOf result (Store fault))
-        (K.failures keeper.old) (K.failures keeper.new) }
+    ensures keeper { ReadsKeeper K.holds K.may_leave K.clean K.failures keeper.old keeper.new
+        (λ fault. IsErrOf result (Store fault)) }
 {
     let room = room_for(buffer.len(), left);
     keeper.read_piece(alloc, name, path, offset, &mut buffer[..room])

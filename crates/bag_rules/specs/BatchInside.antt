@@ -11,12 +11,20 @@ use Rattle.bag_digest.specs.Hash.{AreDigestsOfEach}
 use Rattle.bag_rules.specs.declared.batch.Batch.{Batch}
 use Rattle.bag_rules.specs.declared.batch.FileSums.{FileSums}
 use Rattle.bag_rules.specs.declared.batch.FileSums.TheVariants.{Unread, Taken, Waiting}
+use Rattle.bag_rules.specs.declared.kept.Kept.{Kept}
 use Rattle.bag_rules.specs.declared.limits.TheConstants.{LARGEST_FILE}
 use Rattle.bag_rules.specs.declared.wants.Wants.{Wants}
 use Rattle.bag_rules.specs.FilesInside.{IsReadBy}
-use Rattle.bag_rules.specs.KeptInside.{HasSumsWithin}
-use Rattle.bag_rules.specs.Trees.{HasFileAt, Shown}
+use Rattle.bag_rules.specs.KeptInside.{AreKept, HasSumsWithin}
+use Rattle.bag_rules.specs.Trees.{HasFileAt, Shown, paths_in}
 use Rattle.bag_rules.specs.Wants.{lists_by}
+
+-- A file can be read at this place of a tree: it is one of the tree's, the buffer takes octets, and what was kept is of
+-- the tree.
+pub record CanRead (shown : Shown) (place : ℕ) (buffer : List ℕ) (kept : Kept) : Type 0 where
+  pub room : 0 < length buffer
+  pub inside : place < length (paths_in shown)
+  pub are_kept : AreKept shown kept
 
 -- a file with these octets was found: they are at the front of the buffer, or these are its sums
 abbrev pub IsFoundOf : AlgSet → List ℕ → List ℕ → Found → Type 0

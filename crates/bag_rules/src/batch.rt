@@ -2,9 +2,8 @@
 ghost use Rattle.std.specs.Prelude.{◌≡◌, ◌+◌, ◌<◌, ◌↔◌, ℕ, List, IfErr, IfOk, IsErrOf, IsTrue, MatchResult, OnOk, length};
 ghost use Rattle.bag_digest.specs.Hash.{AreDigestsOfEach};
 ghost use Rattle.bag_rules.specs.Bags.{Bag, IsBagOf};
-ghost use Rattle.bag_rules.specs.BatchInside.{AddsSums, AreAlgsOf, AreRead, AreReadings, Covers, Holds, IsFoundOf, IsMessageFor, IsNext, IsSumsOf, IsWithin};
+ghost use Rattle.bag_rules.specs.BatchInside.{AddsSums, AreAlgsOf, AreRead, AreReadings, CanRead, Covers, Holds, IsFoundOf, IsMessageFor, IsNext, IsSumsOf, IsWithin};
 ghost use Rattle.bag_rules.specs.FilesInside.{IsLongRead};
-ghost use Rattle.bag_rules.specs.KeptInside.{AreKept};
 ghost use Rattle.bag_rules.specs.Limits.{FirstStops, IsLongFile, NoneStopsBefore, Stopped};
 ghost use Rattle.bag_rules.specs.Trees.{HasFileAt, Shown, UsesTree, paths_in};
 ghost use Rattle.bag_rules.specs.declared.outcome.CheckFault.{CheckFault};
@@ -129,10 +128,8 @@ pub(crate) fn batch_at<T: Tree>(
     kept: &Kept,
     last: Batch,
 ) -> Result<Batch, CheckFault>
-    requires room { 0 < length buffer.old }
-    requires inside { place < length (paths_in (T.shown tree.old)) }
-    requires ready { AreKept (T.shown tree.old) kept.now
-        × AreRead (T.shown tree.old) wants.now last }
+    requires can_read { CanRead (T.shown tree.old) place buffer.old kept.now }
+    requires ready { AreRead (T.shown tree.old) wants.now last }
     ensures read { IfOk result (λ batch. AreRead (T.shown tree.old) wants.now batch
         × Covers batch place) }
     ensures limits { (bag : Bag) → IsBagOf (T.shown tree.old) bag
@@ -160,9 +157,7 @@ fn read_batch<T: Tree>(
     wants: &Wants<'_>,
     kept: &Kept,
 ) -> Result<Batch, CheckFault>
-    requires room { 0 < length buffer.old }
-    requires inside { first < length (paths_in (T.shown tree.old)) }
-    requires kept { AreKept (T.shown tree.old) kept.now }
+    requires { CanRead (T.shown tree.old) first buffer.old kept.now }
     ensures read { IfOk result (λ batch. AreRead (T.shown tree.old) wants.now batch
         × Covers batch first) }
     ensures limits { (bag : Bag) → IsBagOf (T.shown tree.old) bag
@@ -194,11 +189,10 @@ fn read_next<T: Tree>(
     kept: &Kept,
     batch: &mut Batch,
 ) -> Result<(), CheckFault>
-    requires room { 0 < length buffer.old }
-    requires inside { place < length (paths_in (T.shown tree.old)) }
-    requires kept { AreKept (T.shown tree.old) kept.now }
+    requires can_read { CanRead (T.shown tree.old) place buffer.old kept.now }
     requires next { IsNext batch.old place }
-    ensures next { OnOk result ((batch.new.first ≡ batch.old.first) × IsNext batch.new (place + 1)) }
+    ensures next { OnOk result
+        ((batch.new.first ≡ batch.old.first) × IsNext batch.new (place + 1)) }
     ensures read { AreReadings (T.shown tree.old) wants.now batch.old
         → OnOk result (AreReadings (T.shown tree.old) wants.now batch.new) }
     ensures limits { (path octets : List ℕ) → HasFileAt (T.shown tree.old) place path octets
@@ -244,9 +238,7 @@ fn find_sums<T: Tree>(
     set: AlgSet,
     kept: &Kept,
 ) -> Result<Found, CheckFault>
-    requires room { 0 < length buffer.old }
-    requires inside { place < length (paths_in (T.shown tree.old)) }
-    requires kept { AreKept (T.shown tree.old) kept.now }
+    requires { CanRead (T.shown tree.old) place buffer.old kept.now }
     ensures known { (path octets : List ℕ) → HasFileAt (T.shown tree.old) place path octets
         → MatchResult result (IsFoundOf set octets buffer.new) (Stopped (IsLongFile path octets)) }
     ensures within { IfOk result (IsWithin buffer.new) }

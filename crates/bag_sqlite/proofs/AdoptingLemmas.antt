@@ -1,5 +1,5 @@
 -- What a database shows while it is read and verified.
-use Rattle.std.proofs.Common.{ap, Result, Ok, Err, MatchResult, true, IfOk, IfSome, IfNone, Option, None, Some, ◌≡◌, ◌<◌, ◌+◌, ◌++◌, ℕ, ℤ, get_or, suc, take, List, [], ◌∷◌, arith, length, map, inl, refl, subst, sym, ◌∙◌, false, IsTrue}
+use Rattle.std.proofs.Common.{ap, Result, Ok, Err, MatchResult, true, IfOk, IfSome, IfNone, Option, None, Some, ◌≡◌, ◌<◌, ◌+◌, ◌++◌, ℕ, ℤ, get_or, suc, take, List, [], ◌∷◌, arith, length, map, refl, subst, sym, ◌∙◌, false, IsTrue}
 use Rattle.std.specs.Prelude.{slice_index_or}
 use Rattle.std.specs.List.{AllByRecursion}
 use Rattle.std.specs.Result.{is_ok}
@@ -12,16 +12,16 @@ use Rattle.bag_rules.specs.Transfers.{with_files}
 use Rattle.sqlite.specs.Effect.{Database}
 use Rattle.sqlite.specs.Held.{Held, state}
 use Rattle.sqlite.specs.Order.{Row}
-use Rattle.sqlite.specs.State.{State, Survives}
+use Rattle.sqlite.specs.State.{HasCleanDisk, State}
 use Rattle.sqlite.specs.Store.{Ghosts}
 use Rattle.sqlite.specs.declared.types.Value.{Value}
 use Rattle.sqlite.specs.declared.types.Value.TheVariants.{Int}
 use Rattle.sqlite_value.specs.Order.{bytes, column}
-use Rattle.sqlite.proofs.StateLemmas.{survives_then}
-use Rattle.bag_sqlite.specs.Adopting.{IsRead, Stands, Tells, TellsOne, TransferPasses, file_in}
+use Rattle.bag_sqlite.specs.Adopting.{IsRead, OnlyReads, Stands, Tells, TellsOne, TransferPasses, file_in}
 use Rattle.bag_sqlite.specs.Making.{IsLeft}
-use Rattle.bag_sqlite.specs.Reading.{ShowsRows}
+use Rattle.bag_sqlite.specs.Reading.{OnlyQueries, ShowsRows}
 use Rattle.bag_sqlite.proofs.ReadingLemmas.{was_open}
+use Rattle.bag_sqlite.proofs.SqlLemmas.{survives_both, survives_same}
 use Rattle.bag_sqlite.proofs.TransferRows.{files_put}
 
 -- READS
@@ -39,11 +39,41 @@ read_same s = record { was_open = λ h. h; committed = λ _. refl; settled = λ 
 pub read_then : (a b c : State) → IsRead a b → IsRead b c → IsRead a c
 read_then a b c p q = record { was_open = λ h. p.was_open (q.was_open h); committed = λ h. q.committed h ∙ p.committed (q.was_open h); settled = λ h. q.settled (p.settled h) }
 
-pub survives_same : (s : State) → Survives s s (λ _. ⊥)
-survives_same s = record { clean = omega arith; shield = λ h. h; counts = omega arith; limit = refl; closes = λ _ h. inl h; crash = λ _ db h. inl h }
+left_then : (a b c : State) → b.in_transaction ≡ false → IsLeft a b → IsLeft b c → IsLeft a c
+left_then a b c idle p q = record {
+  mode = q.mode ∙ p.mode;
+  was_open = λ h. p.was_open (q.was_open h);
+  committed = λ h. q.committed h ∙ p.committed (q.was_open h);
+  now = λ h _. q.now h idle ∙ p.committed (q.was_open h);
+}
 
-pub survives_both : (a b c : State) → Survives a b (λ _. ⊥) → Survives b c (λ _. ⊥) → Survives a c (λ _. ⊥)
-survives_both a b c p q = survives_then a b c _ _ _ (λ _ db none. none) (λ _ db none. none) p q
+-- a call that reads nothing
+pub reads_same : {S : Type 0} {g : Ghosts S} {held : Held S} → held.in_transaction ≡ false → OnlyReads g held held
+reads_same {S} {g} {held} idle = record { read = λ _. read_same (state g held); idle = idle; survives = survives_same (state g held) }
+
+-- calls in sequence
+pub reads_then : {S : Type 0} {g : Ghosts S} {a b c : Held S} → OnlyReads g a b → OnlyReads g b c → OnlyReads g a c
+reads_then {S} {g} {a} {b} {c} p q = record {
+  read = λ clean.
+      let early : HasCleanDisk (state g b) = omega (arith, clean, q.survives.clean) in
+      read_then (state g a) (state g b) (state g c) (p.read early) (q.read clean);
+  idle = q.idle;
+  survives = survives_both (state g a) (state g b) (state g c) p.survives q.survives;
+}
+
+-- queries in sequence
+pub queries_then : {S : Type 0} {g : Ghosts S} {a b c : Held S} → OnlyQueries g a b → OnlyQueries g b c → OnlyQueries g a c
+queries_then {S} {g} {a} {b} {c} p q = record {
+  left = λ clean.
+      let early : HasCleanDisk (state g b) = omega (arith, clean, q.survives.clean) in
+      left_then (state g a) (state g b) (state g c) p.idle (p.left early) (q.left clean);
+  idle = q.idle;
+  survives = survives_both (state g a) (state g b) (state g c) p.survives q.survives;
+}
+
+-- a query is a read
+pub reads_by : {S : Type 0} {g : Ghosts S} {old new : Held S} → old.in_transaction ≡ false → OnlyQueries g old new → OnlyReads g old new
+reads_by {S} {g} {old} {new} idle p = record { read = λ clean. read_by (state g old) (state g new) idle (p.left clean); idle = p.idle; survives = p.survives }
 
 pub stands_still : (old new : State) (db : Database) → IsRead old new → Stands old db → Stands new db
 stands_still old new db read stands is_open =

@@ -11,6 +11,7 @@ use Rattle.sqlite.specs.Store.{Ghosts}
 use Rattle.sqlite.specs.declared.error.Error.{Error}
 use Rattle.sqlite.specs.declared.types.Value.{Value}
 use Rattle.sqlite.specs.declared.types.Value.TheVariants.{Text}
+use Rattle.sqlite.proofs.Callers.{survives_begin}
 use Rattle.sqlite.proofs.InsideLemmas.{unchanged_keeps}
 use Rattle.sqlite_resolve.specs.declared.compiled.Compiled.{Compiled}
 use Rattle.sqlite_schema.specs.declared.command.Returning.{Returning}
@@ -19,8 +20,10 @@ use Rattle.bag_ledger.specs.Ledgers.{Ledger}
 use Rattle.bag_ledger.proofs.EntryLemmas.{map_twice}
 use Rattle.bag_sqlite.specs.Databases.{AreTablesOf}
 use Rattle.bag_sqlite.specs.Making.{IsLeft}
+use Rattle.bag_sqlite.specs.Reading.{OnlyQueries}
 use Rattle.bag_sqlite.specs.SqlKeepers.{HoldsLedger}
-use Rattle.bag_sqlite.proofs.MakingLemmas.{kept_since}
+use Rattle.bag_sqlite.proofs.MakingLemmas.{kept_since, left_by_undoing}
+use Rattle.bag_sqlite.proofs.SqlLemmas.{survives_both}
 
 module _ (old new : State) (sql : List ℕ) (params : Row) where
   kept_by : (c : Compiled) (given : Row) (rows : List Row) (o : Option Returning) → IsTrue old.in_transaction → ShowsRows old new sql c given rows o → KeepsCommit old new
@@ -68,6 +71,18 @@ module _ {S : Type 0} (g : Ghosts S) (old begun : Held S) (mid : State) (sql : L
   kept_refusal e failed =
       let start = state g (record old { in_transaction = true }) in
       kept_since g old mid (kept_failed start mid sql params e (subst (λ (h : Held S). FailsToQuery sql params (state g h) mid e ⊎ IsTooLate sql params (state g h) mid e) is failed))
+
+-- it was undone
+pub queries_undone : {S : Type 0} (g : Ghosts S) (old end : Held S) (mid : State) → old.in_transaction ≡ false → end.in_transaction ≡ false
+    → (HasCleanDisk mid → KeepsCommit (state g old) mid) → Survives (state g (record old { in_transaction = true })) mid (λ _. ⊥)
+    → (HasCleanDisk (state g end) → IsRolledBack mid (state g end)) → Survives mid (state g end) (λ _. ⊥) → OnlyQueries g old end
+queries_undone g old end mid idle ended kept ran undone ends = record {
+  left = λ clean.
+      let early : HasCleanDisk mid = omega (arith, clean, ends.clean) in
+      left_by_undoing (state g old) mid (state g end) idle (kept early) (undone clean);
+  idle = ended;
+  survives = survives_both (state g old) mid (state g end) (survives_begin g old mid _ ran) ends;
+}
 
 -- A SECOND READ
 

@@ -1,15 +1,24 @@
 -- Statements in sequence, in a transaction.
-use Rattle.std.proofs.Common.{ℕ, ◌≡◌, Bool, true, false, cond, Ok, Err, Result, OnOk, OnErr, IfErr, IfOk, MatchResult, refl, ◌∙◌}
+use Rattle.std.proofs.Common.{ℕ, ◌≡◌, Bool, true, false, cond, Ok, Err, Result, OnOk, OnErr, IfErr, IfOk, MatchResult, IsTrue, List, arith, inl, inr, refl, subst, sym, ◌∙◌}
 use Rattle.sqlite.specs.Cast.{cast}
+use Rattle.sqlite.specs.Held.{Held, state}
 use Rattle.sqlite.specs.Kind.TheVariants.{Integer}
 use Rattle.sqlite.specs.Ops.{unary}
-use Rattle.sqlite.specs.State.{KeepsCommit, State}
+use Rattle.sqlite.specs.Order.{Row}
+use Rattle.sqlite.specs.State.{ExecutesInside, HasCleanDisk, KeepsCommit, State, Survives}
+use Rattle.sqlite.specs.Store.{Ghosts}
+use Rattle.sqlite.specs.declared.error.Error.{Error}
 use Rattle.sqlite.specs.declared.types.Value.{Value}
 use Rattle.sqlite.specs.declared.types.Value.TheVariants.{Int, Null}
+use Rattle.sqlite.proofs.InsideLemmas.{inside_keeps}
+use Rattle.sqlite.proofs.StateLemmas.{survives_then}
+use Rattle.std.proofs.lemmas.Bool.{cases_Bool}
+use Rattle.std.specs.Borrow.{MutBor}
 use Rattle.std.specs.Prelude.{ℤ}
 use Rattle.bag_ledger.specs.Keeping.{UsesStore}
 use Rattle.bag_ledger.specs.declared.fault.StoreFault.{StoreFault}
 use Rattle.bag_ledger.specs.declared.fault.StoreFault.TheVariants.{Spent}
+use Rattle.bag_sqlite.specs.Transactions.{CommitsNothing}
 
 pub on_ok : {A E P Q : Type 0} (r : Result A E) → (P → Q) → OnOk r P → OnOk r Q
 on_ok (Ok a) f h = f h
@@ -48,8 +57,44 @@ cast_int n = either _ (Int n)
 
 -- THE COMMITTED DATABASE IS UNCHANGED
 
+pub survives_same : (s : State) → Survives s s (λ _. ⊥)
+survives_same s = record { clean = omega arith; shield = λ h. h; counts = omega arith; limit = refl; closes = λ _ h. inl h; crash = λ _ db h. inl h }
+
+pub survives_both : (a b c : State) → Survives a b (λ _. ⊥) → Survives b c (λ _. ⊥) → Survives a c (λ _. ⊥)
+survives_both a b c p q = survives_then a b c _ _ _ (λ _ db none. none) (λ _ db none. none) p q
+
 pub kept_then : (a b c : State) → KeepsCommit a b → KeepsCommit b c → KeepsCommit a c
 kept_then a b c p q = record { was_open = λ h. p.was_open (q.was_open h); committed = λ h. q.committed h ∙ p.committed (q.was_open h) }
+
+kept_same : (s : State) → KeepsCommit s s
+kept_same s = record { was_open = λ h. h; committed = λ _. refl }
+
+pub nothing_same : {S : Type 0} {g : Ghosts S} {held : MutBor (Held S)} → CommitsNothing g held held
+nothing_same {S} {g} {held} = record { same_reference = refl; commit = λ _. kept_same (state g held.now); survives = survives_same (state g held.now) }
+
+-- one statement
+pub nothing_executed : {S : Type 0} {g : Ghosts S} {old new : MutBor (Held S)} (sql : List ℕ) (params : Row) (r : Result ℕ Error) → new.ghost_name ≡ old.ghost_name
+    → ((state g old.now).in_transaction ≡ false → new.now ≡ old.now)
+    → (HasCleanDisk (state g new.now) → IsTrue (state g old.now).in_transaction → ExecutesInside 0 sql params (state g old.now) (state g new.now) r)
+    → Survives (state g old.now) (state g new.now) (λ _. ⊥) → CommitsNothing g old new
+nothing_executed {S} {g} {old} {new} sql params r same ended runs survives = record {
+  same_reference = same;
+  commit = λ clean. elim (cases_Bool (state g old.now).in_transaction) [
+    | inl inside ↦ inside_keeps (state g old.now) (state g new.now) 0 false sql params r (runs clean inside)
+    | inr outside ↦ subst (λ (h : Held S). KeepsCommit (state g old.now) (state g h)) (sym (ended outside)) (kept_same (state g old.now))
+  ];
+  survives = survives;
+}
+
+-- statements in sequence
+pub nothing_then : {S : Type 0} {g : Ghosts S} {a b c : MutBor (Held S)} → CommitsNothing g a b → CommitsNothing g b c → CommitsNothing g a c
+nothing_then {S} {g} {a} {b} {c} p q = record {
+  same_reference = q.same_reference ∙ p.same_reference;
+  commit = λ clean.
+      let early : HasCleanDisk (state g b.now) = omega (arith, clean, q.survives.clean) in
+      kept_then (state g a.now) (state g b.now) (state g c.now) (p.commit early) (q.commit clean);
+  survives = survives_both (state g a.now) (state g b.now) (state g c.now) p.survives q.survives;
+}
 
 -- HOW A FAILURE IS REPORTED
 

@@ -12,18 +12,16 @@ use Rattle.sqlite.specs.State.{HasCleanDisk, KeepsCommit, State, Survives}
 use Rattle.sqlite.specs.Store.{Ghosts}
 use Rattle.sqlite.specs.Tree.{Trees}
 use Rattle.sqlite.proofs.Callers.{survives_begin}
-use Rattle.sqlite.proofs.StateLemmas.{survives_then}
 use Rattle.bag_sqlite.specs.Contents.{HasContentMore, in_pieces}
 use Rattle.bag_sqlite.specs.Databases.{AreTablesOf}
-use Rattle.bag_sqlite.specs.Making.{IsLeft}
 use Rattle.bag_sqlite.specs.Putting.{IsUnderWay}
-use Rattle.bag_sqlite.specs.Reading.{HasTransferRow}
+use Rattle.bag_sqlite.specs.Reading.{HasTransferRow, OnlyQueries}
 use Rattle.bag_sqlite.specs.SqlKeepers.{HoldsLedger}
 use Rattle.bag_sqlite.proofs.CommitLemmas.{Prepares}
 use Rattle.bag_sqlite.proofs.HoldingLemmas.{held_tables}
 use Rattle.bag_sqlite.proofs.MakingLemmas.{kept_since}
 use Rattle.bag_sqlite.proofs.ReadingLemmas.{same_shown, still_holds}
-use Rattle.bag_sqlite.proofs.SqlLemmas.{kept_then}
+use Rattle.bag_sqlite.proofs.SqlLemmas.{kept_then, survives_both}
 
 more_held : (old new : Trees) (ledger : Ledger) (name content : List ℕ) (want : Want) (number : ℤ) → AreTablesOf old ledger → HasTransferRow old name number → Awaits name want ledger
     → HasContentMore old new number want.path.now content → AreTablesOf new (with_item ledger name want.path.now content)
@@ -39,23 +37,23 @@ module _ {S : Type 0} (g : Ghosts S) (old asked : Held S) (mid : State) (name : 
   abbrev pub puts_it : Ledger → Ledger
   puts_it ledger = with_item ledger name want.path.now content
 
-  pub prepares_put : (state g old).in_transaction ≡ false → (HasCleanDisk (state g asked) → IsLeft (state g old) (state g asked)) → Survives (state g old) (state g asked) (λ _. ⊥)
+  pub prepares_put : (state g old).in_transaction ≡ false → OnlyQueries g old asked
       → (HasCleanDisk (state g asked) → (ledger : Ledger) → HoldsLedger (state g old) ledger → HasTransferRow (state g old).now.trees name number) → length content ≤ LARGEST_ITEM → IsWanted want content
       → (HasCleanDisk mid → IsUnderWay begun → IsUnderWay mid × HasContentMore begun.now.trees mid.now.trees number want.path.now content) → (HasCleanDisk mid → IsTrue begun.in_transaction → IsTrue begun.is_open)
       → (HasCleanDisk mid → KeepsCommit begun mid) → Survives begun mid (λ _. ⊥) → Prepares g (Awaits name want) puts_it old mid
-  prepares_put idle left stays named within wanted written opened kept survives =
+  prepares_put idle asks named within wanted written opened kept survives =
       let on = survives_begin g asked mid _ survives in
       let early = λ (clean : HasCleanDisk mid). let it : HasCleanDisk (state g asked) = omega (arith, clean, on.clean) in it in
       record {
         kept = λ clean.
-            let was = left (early clean) in
+            let was = asks.left (early clean) in
             kept_then (state g old) (state g asked) mid (record { was_open = was.was_open; committed = was.committed }) (kept_since g asked mid (kept clean));
-        survives = survives_then (state g old) (state g asked) mid _ _ _ (λ _ db none. none) (λ _ db none. none) stays on;
+        survives = survives_both (state g old) (state g asked) mid asks.survives on;
         sound = λ ledger sound awaits. sound_put ledger name content want sound awaits within wanted;
         tables = λ clean ledger holds awaits.
-            let was = left (early clean) in
+            let was = asks.left (early clean) in
             let is_open = opened clean refl in
-            let still = still_holds (state g old) (state g asked) ledger (early clean) was idle stays holds in
+            let still = still_holds (state g old) (state g asked) ledger (early clean) was idle asks.survives holds in
             let shows = still.shows is_open in
             let same = same_shown (state g old) (state g asked) was idle is_open (holds.shows (was.was_open is_open)).committed in
             let row = subst (λ (d : Database). HasTransferRow d.trees name number) (sym same) (named (early clean) ledger holds) in

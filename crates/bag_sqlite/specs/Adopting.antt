@@ -1,5 +1,5 @@
 -- How a database is opened as a ledger: what its queries show.
-use Rattle.std.specs.Prelude.{◌≡◌, ℕ, ℤ, pos, List, [], ◌∷◌, Some, IsTrue, codes, length, map, slice_get}
+use Rattle.std.specs.Prelude.{◌≡◌, ℕ, ℤ, pos, List, [], ◌∷◌, ◌++◌, Some, IsTrue, codes, false, length, map, slice_get}
 use Rattle.std.specs.List.{AllByRecursion, concat}
 use Rattle.bag_rules.specs.Files.{AreTagFiles, Files}
 use Rattle.bag_rules.specs.Opening.{Opens}
@@ -7,7 +7,7 @@ use Rattle.bag_rules.specs.Transfers.{Passes, with_files}
 use Rattle.sqlite.specs.Effect.{Database}
 use Rattle.sqlite.specs.Held.{Held, state}
 use Rattle.sqlite.specs.Order.{Row, column}
-use Rattle.sqlite.specs.State.{State}
+use Rattle.sqlite.specs.State.{HasCleanDisk, State, Survives}
 use Rattle.sqlite.specs.Store.{Ghosts}
 use Rattle.sqlite.specs.declared.types.Value.{Value}
 use Rattle.sqlite.specs.declared.types.Value.TheVariants.{Blob, Int, Text}
@@ -26,6 +26,13 @@ pub record IsRead (old new : State) : Type 0 where
   pub was_open : IsTrue new.is_open → IsTrue old.is_open
   pub committed : IsTrue new.is_open → new.committed ≡ old.committed
   pub settled : IsSettled old → IsSettled new
+
+-- The call only reads: if the disk is clean, the database is as before. No transaction is under
+-- way, and a crash leaves only what it might have left before.
+pub record OnlyReads {S : Type 0} (g : Ghosts S) (old new : Held S) : Type 0 where
+  pub read : HasCleanDisk (state g new) → IsRead (state g old) (state g new)
+  pub idle : new.in_transaction ≡ false
+  pub survives : Survives (state g old) (state g new) (λ _. ⊥)
 
 -- this database was committed, and is shown as long as the connection is open
 abbrev pub Stands : State → Database → Type 0
@@ -51,13 +58,29 @@ piece_text = codes "SELECT body FROM piece WHERE item = ?1 AND n = ?2"
 abbrev pub count_text : List ℕ
 count_text = codes "SELECT count(*) FROM piece WHERE item = ?1"
 
--- rows that no ledger has: with values of another type, or without an owner
+-- rows of each table that no ledger has: with values of another type, or without an owner
+abbrev pub stray_transfers_text : List ℕ
+stray_transfers_text = codes "SELECT 1 FROM transfer WHERE typeof(id) <> 'integer'"
+    ++ codes " OR typeof(name) <> 'text'"
+
+abbrev pub stray_tag_files_text : List ℕ
+stray_tag_files_text = codes "SELECT 1 FROM tag WHERE typeof(path) <> 'text'"
+    ++ codes " OR typeof(body) <> 'blob'"
+    ++ codes " OR NOT EXISTS (SELECT 1 FROM transfer WHERE id = tag.transfer)"
+
+abbrev pub stray_items_text : List ℕ
+stray_items_text = codes "SELECT 1 FROM held WHERE typeof(id) <> 'integer'"
+    ++ codes " OR typeof(path) <> 'text' OR typeof(size) <> 'integer'"
+    ++ codes " OR NOT EXISTS (SELECT 1 FROM transfer WHERE id = held.transfer)"
+
+abbrev pub stray_pieces_text : List ℕ
+stray_pieces_text = codes "SELECT 1 FROM piece WHERE typeof(n) <> 'integer'"
+    ++ codes " OR typeof(body) <> 'blob'"
+    ++ codes " OR NOT EXISTS (SELECT 1 FROM held WHERE id = piece.item)"
+
 abbrev pub stray_texts : List (List ℕ)
-stray_texts = codes "SELECT 1 FROM transfer WHERE typeof(id) <> 'integer' OR typeof(name) <> 'text'"
-    ∷ codes "SELECT 1 FROM tag WHERE typeof(path) <> 'text' OR typeof(body) <> 'blob' OR NOT EXISTS (SELECT 1 FROM transfer WHERE id = tag.transfer)"
-    ∷ codes "SELECT 1 FROM held WHERE typeof(id) <> 'integer' OR typeof(path) <> 'text' OR typeof(size) <> 'integer' OR NOT EXISTS (SELECT 1 FROM transfer WHERE id = held.transfer)"
-    ∷ codes "SELECT 1 FROM piece WHERE typeof(n) <> 'integer' OR typeof(body) <> 'blob' OR NOT EXISTS (SELECT 1 FROM held WHERE id = piece.item)"
-    ∷ []
+stray_texts =
+    stray_transfers_text ∷ stray_tag_files_text ∷ stray_items_text ∷ stray_pieces_text ∷ []
 
 -- a tag file as a row shows it
 abbrev pub file_in : Row → List ℕ × List ℕ

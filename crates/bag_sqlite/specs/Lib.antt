@@ -10,3 +10,4 @@ pub mod Reading
 pub mod Refusing
 pub mod SqlKeepers
 pub mod Tables
+pub mod Transactions

@@ -2,7 +2,7 @@
 ghost use Rattle.std.specs.Prelude.{◌≡◌, pos, [], IfErr, IfOk, MatchResult, OnOk, false};
 ghost use Rattle.std.specs.List.{AllByRecursion};
 ghost use Rattle.bag_ledger.specs.Ledgers.{Ledger};
-ghost use Rattle.bag_sqlite.specs.Adopting.{HasFormat, IsRead, IsVerified, Stands, Tells, stray_texts};
+ghost use Rattle.bag_sqlite.specs.Adopting.{HasFormat, IsVerified, OnlyReads, Stands, Tells, stray_texts};
 ghost use Rattle.bag_sqlite.specs.Making.{IsLeft};
 ghost use Rattle.bag_sqlite.specs.Refusing.{AreNoneFor, DoesNotShow, IsNoLedger, IsNoQuery, IsNoneFor, RefusesToAdopt, SayNoFormat, SaysFormat};
 ghost use Rattle.bag_sqlite.specs.SqlKeepers.{HoldsLedger};
@@ -147,11 +147,7 @@ fn test_format<S: Alter>(connection: &mut Connection<S>) -> Result<(), AdoptFaul
     ensures refused { HasCleanDisk (state S.Store connection.new) → (db : Database)
         → Stands (state S.Store connection.old) db
         → IfErr result (RefusesToAdopt S.Store db) }
-    ensures read { HasCleanDisk (state S.Store connection.new)
-        → IsRead (state S.Store connection.old) (state S.Store connection.new) }
-    ensures idle { connection.new.in_transaction ≡ false }
-    ensures survives { Survives (state S.Store connection.old) (state S.Store connection.new)
-        (λ _. ⊥) }
+    ensures reads { OnlyReads S.Store connection.old connection.new }
 {
     let rows = rows_of(connection, "SELECT k, v FROM meta", &[])?;
     match format_in(rows.as_slice())? {
@@ -185,11 +181,7 @@ fn test_rows<S: Alter>(connection: &mut Connection<S>) -> Result<(), AdoptFault>
     ensures refused { HasCleanDisk (state S.Store connection.new) → (db : Database)
         → Stands (state S.Store connection.old) db
         → IfErr result (IsNoneFor (IsNoLedger S.Store db)) }
-    ensures read { HasCleanDisk (state S.Store connection.new)
-        → IsRead (state S.Store connection.old) (state S.Store connection.new) }
-    ensures idle { connection.new.in_transaction ≡ false }
-    ensures survives { Survives (state S.Store connection.old) (state S.Store connection.new)
-        (λ _. ⊥) }
+    ensures reads { OnlyReads S.Store connection.old connection.new }
 {
     test_none(
         connection,
@@ -218,11 +210,7 @@ fn test_none<S: Alter>(connection: &mut Connection<S>, sql: &str) -> Result<(), 
     ensures refused { HasCleanDisk (state S.Store connection.new) → (db : Database)
         → Stands (state S.Store connection.old) db
         → IfErr result (IsNoneFor (DoesNotShow S.Store db sql.now [] (λ rows. rows ≡ []))) }
-    ensures read { HasCleanDisk (state S.Store connection.new)
-        → IsRead (state S.Store connection.old) (state S.Store connection.new) }
-    ensures idle { connection.new.in_transaction ≡ false }
-    ensures survives { Survives (state S.Store connection.old) (state S.Store connection.new)
-        (λ _. ⊥) }
+    ensures reads { OnlyReads S.Store connection.old connection.new }
 {
     if rows_of(connection, sql, &[])?.is_empty() {
         Ok(())
@@ -244,11 +232,7 @@ pub(crate) fn rows_of<S: Alter>(
     ensures refused { HasCleanDisk (state S.Store connection.new) → (db : Database)
         → Stands (state S.Store connection.old) db
         → IfErr result (IsNoneFor (IsNoQuery db.schema sql.now)) }
-    ensures read { HasCleanDisk (state S.Store connection.new)
-        → IsRead (state S.Store connection.old) (state S.Store connection.new) }
-    ensures idle { connection.new.in_transaction ≡ false }
-    ensures survives { Survives (state S.Store connection.old) (state S.Store connection.new)
-        (λ _. ⊥) }
+    ensures reads { OnlyReads S.Store connection.old connection.new }
 {
     Ok(query(connection, sql, params)?)
 }

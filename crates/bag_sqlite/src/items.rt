@@ -4,11 +4,11 @@ ghost use Rattle.std.specs.Option.{option_map, unwrap_or};
 ghost use Rattle.bag_ledger.specs.Keeping.{IsPieceAt};
 ghost use Rattle.bag_ledger.specs.Ledgers.{Ledger, content_of};
 ghost use Rattle.bag_sqlite.specs.Items.{HasItem, HasItemRow, HasPieceRow};
-ghost use Rattle.bag_sqlite.specs.Making.{IsLeft};
+ghost use Rattle.bag_sqlite.specs.Reading.{OnlyQueries};
 ghost use Rattle.bag_sqlite.specs.SqlKeepers.{HoldsLedger};
 ghost use Rattle.sqlite.specs.Held.{state};
 ghost use Rattle.sqlite.specs.Order.{column};
-ghost use Rattle.sqlite.specs.State.{HasCleanDisk, Survives};
+ghost use Rattle.sqlite.specs.State.{HasCleanDisk};
 ghost use Rattle.sqlite.specs.declared.types.Value.TheVariants.{Blob, Int};
 
 use crate::reading::query;
@@ -33,11 +33,7 @@ pub(crate) fn size_of<S: Alter>(
     ensures size { HasCleanDisk (state S.Store connection.new) → (ledger : Ledger)
         → HoldsLedger (state S.Store connection.old) ledger
         → IfOk result (λ size. size ≡ option_map length (content_of ledger name.now path.now)) }
-    ensures left { HasCleanDisk (state S.Store connection.new)
-        → IsLeft (state S.Store connection.old) (state S.Store connection.new) }
-    ensures idle { connection.new.in_transaction ≡ false }
-    ensures survives { Survives (state S.Store connection.old) (state S.Store connection.new)
-        (λ _. ⊥) }
+    ensures queries { OnlyQueries S.Store connection.old connection.new }
 {
     match item_of(connection, name, path)? {
         Some(item) => Ok(Some(item.size)),
@@ -60,11 +56,7 @@ pub(crate) fn read_piece<S: Alter>(
         → IfOk result (λ n. IsPieceAt (unwrap_or (content_of ledger name.now path.now) [])
         offset n buf.new) }
     ensures bound { IfOk result (λ n. n ≤ length buf.new) }
-    ensures left { HasCleanDisk (state S.Store connection.new)
-        → IsLeft (state S.Store connection.old) (state S.Store connection.new) }
-    ensures idle { connection.new.in_transaction ≡ false }
-    ensures survives { Survives (state S.Store connection.old) (state S.Store connection.new)
-        (λ _. ⊥) }
+    ensures queries { OnlyQueries S.Store connection.old connection.new }
 {
     let Some(item) = item_of(connection, name, path)? else {
         return Ok(0);
@@ -89,11 +81,7 @@ fn item_of<S: Alter>(
         item.number item.size)) }
     ensures opened { HasCleanDisk (state S.Store connection.new) → IfOk result (λ item.
         IsSome item → IsTrue (state S.Store connection.old).is_open) }
-    ensures left { HasCleanDisk (state S.Store connection.new)
-        → IsLeft (state S.Store connection.old) (state S.Store connection.new) }
-    ensures idle { connection.new.in_transaction ≡ false }
-    ensures survives { Survives (state S.Store connection.old) (state S.Store connection.new)
-        (λ _. ⊥) }
+    ensures queries { OnlyQueries S.Store connection.old connection.new }
 {
     let Some(transfer) = transfer_number(connection, name)? else {
         return Ok(None);
@@ -117,11 +105,7 @@ fn item_in<S: Alter>(
         path.now item.size)) }
     ensures opened { HasCleanDisk (state S.Store connection.new)
         → OnOk result (IsTrue (state S.Store connection.old).is_open) }
-    ensures left { HasCleanDisk (state S.Store connection.new)
-        → IsLeft (state S.Store connection.old) (state S.Store connection.new) }
-    ensures idle { connection.new.in_transaction ≡ false }
-    ensures survives { Survives (state S.Store connection.old) (state S.Store connection.new)
-        (λ _. ⊥) }
+    ensures queries { OnlyQueries S.Store connection.old connection.new }
 {
     let rows = query(
         connection,
@@ -161,11 +145,7 @@ fn piece_at<S: Alter>(
         piece.items)) }
     ensures opened { HasCleanDisk (state S.Store connection.new)
         → OnOk result (IsTrue (state S.Store connection.old).is_open) }
-    ensures left { HasCleanDisk (state S.Store connection.new)
-        → IsLeft (state S.Store connection.old) (state S.Store connection.new) }
-    ensures idle { connection.new.in_transaction ≡ false }
-    ensures survives { Survives (state S.Store connection.old) (state S.Store connection.new)
-        (λ _. ⊥) }
+    ensures queries { OnlyQueries S.Store connection.old connection.new }
 {
     let rows = query(
         connection,

@@ -7,8 +7,9 @@ ghost use Rattle.bag_rules.specs.Opening.{Opens};
 ghost use Rattle.bag_sqlite.specs.Opening.{AddsTags, AddsTransfer, HasOneTransferMore, opened_under};
 ghost use Rattle.bag_sqlite.specs.Putting.{IsUnderWay};
 ghost use Rattle.bag_sqlite.specs.SqlKeepers.{HoldsLedger, MayLeaveLedger};
+ghost use Rattle.bag_sqlite.specs.Transactions.{CommitsNothing};
 ghost use Rattle.sqlite.specs.Held.{Held, state};
-ghost use Rattle.sqlite.specs.State.{HasCleanDisk, KeepsCommit, Survives};
+ghost use Rattle.sqlite.specs.State.{HasCleanDisk};
 
 use bag_rules::{File, TagSet};
 use sqlite::{Alter, Connection, Error, Transaction, params};
@@ -45,7 +46,6 @@ fn write_transfer<S: Alter>(
     name: &str,
     files: &[File],
 ) -> Result<(), Error>
-    ensures same_reference { tx.new.conn.ghost_name ≡ tx.old.conn.ghost_name }
     ensures written { HasCleanDisk (state S.Store tx.new.conn.now)
         → OnOk result (IsUnderWay (state S.Store tx.old.conn.now)
         → IsUnderWay (state S.Store tx.new.conn.now)
@@ -55,10 +55,7 @@ fn write_transfer<S: Alter>(
     ensures opened { HasCleanDisk (state S.Store tx.new.conn.now)
         → OnOk result (IsTrue (state S.Store tx.old.conn.now).in_transaction
         → IsTrue (state S.Store tx.old.conn.now).is_open) }
-    ensures kept { HasCleanDisk (state S.Store tx.new.conn.now)
-        → KeepsCommit (state S.Store tx.old.conn.now) (state S.Store tx.new.conn.now) }
-    ensures survives { Survives (state S.Store tx.old.conn.now) (state S.Store tx.new.conn.now)
-        (λ _. ⊥) }
+    ensures kept { CommitsNothing S.Store tx.old.conn tx.new.conn }
 {
     let transfer = insert_transfer(tx, name)?;
     insert_tags(tx, transfer, files)
@@ -66,7 +63,6 @@ fn write_transfer<S: Alter>(
 
 /// Inserts the row of a transfer, and returns its number.
 fn insert_transfer<S: Alter>(tx: &mut Transaction<'_, S>, name: &str) -> Result<i64, Error>
-    ensures same_reference { tx.new.conn.ghost_name ≡ tx.old.conn.ghost_name }
     ensures added { HasCleanDisk (state S.Store tx.new.conn.now)
         → IfOk result (λ transfer. IsUnderWay (state S.Store tx.old.conn.now)
         → IsUnderWay (state S.Store tx.new.conn.now)
@@ -75,10 +71,7 @@ fn insert_transfer<S: Alter>(tx: &mut Transaction<'_, S>, name: &str) -> Result<
     ensures opened { HasCleanDisk (state S.Store tx.new.conn.now)
         → OnOk result (IsTrue (state S.Store tx.old.conn.now).in_transaction
         → IsTrue (state S.Store tx.old.conn.now).is_open) }
-    ensures kept { HasCleanDisk (state S.Store tx.new.conn.now)
-        → KeepsCommit (state S.Store tx.old.conn.now) (state S.Store tx.new.conn.now) }
-    ensures survives { Survives (state S.Store tx.old.conn.now) (state S.Store tx.new.conn.now)
-        (λ _. ⊥) }
+    ensures kept { CommitsNothing S.Store tx.old.conn tx.new.conn }
 {
     tx.execute("INSERT INTO transfer (name) VALUES (?1)", params![name])?;
     Ok(tx.last_insert_rowid())
@@ -90,16 +83,12 @@ fn insert_tags<S: Alter>(
     transfer: i64,
     files: &[File],
 ) -> Result<(), Error>
-    ensures same_reference { tx.new.conn.ghost_name ≡ tx.old.conn.ghost_name }
     ensures added { HasCleanDisk (state S.Store tx.new.conn.now)
         → OnOk result (IsUnderWay (state S.Store tx.old.conn.now)
         → IsUnderWay (state S.Store tx.new.conn.now)
         × AddsTags (state S.Store tx.old.conn.now).now.trees
         (state S.Store tx.new.conn.now).now.trees transfer (files_of files.now)) }
-    ensures kept { HasCleanDisk (state S.Store tx.new.conn.now)
-        → KeepsCommit (state S.Store tx.old.conn.now) (state S.Store tx.new.conn.now) }
-    ensures survives { Survives (state S.Store tx.old.conn.now) (state S.Store tx.new.conn.now)
-        (λ _. ⊥) }
+    ensures kept { CommitsNothing S.Store tx.old.conn tx.new.conn }
 {
     for file in files {
         insert_tag(tx, transfer, file.path().as_str(), file.body())?;
@@ -114,16 +103,12 @@ fn insert_tag<S: Alter>(
     path: &str,
     body: &[u8],
 ) -> Result<(), Error>
-    ensures same_reference { tx.new.conn.ghost_name ≡ tx.old.conn.ghost_name }
     ensures added { HasCleanDisk (state S.Store tx.new.conn.now)
         → OnOk result (IsUnderWay (state S.Store tx.old.conn.now)
         → IsUnderWay (state S.Store tx.new.conn.now)
         × AddsTags (state S.Store tx.old.conn.now).now.trees
         (state S.Store tx.new.conn.now).now.trees transfer ((path.now, body.now) ∷ [])) }
-    ensures kept { HasCleanDisk (state S.Store tx.new.conn.now)
-        → KeepsCommit (state S.Store tx.old.conn.now) (state S.Store tx.new.conn.now) }
-    ensures survives { Survives (state S.Store tx.old.conn.now) (state S.Store tx.new.conn.now)
-        (λ _. ⊥) }
+    ensures kept { CommitsNothing S.Store tx.old.conn tx.new.conn }
 {
     tx.execute(
         "INSERT INTO tag (transfer, path, body) VALUES (?1, ?2, ?3)",

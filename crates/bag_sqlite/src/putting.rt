@@ -7,8 +7,9 @@ ghost use Rattle.bag_ledger.specs.declared.fault.KeepFault.{KeepFault};
 ghost use Rattle.bag_sqlite.specs.Contents.{HasContentMore, HasRead, answer_of, in_pieces, put_fault_of};
 ghost use Rattle.bag_sqlite.specs.Putting.{AddsPieces, IsUnderWay};
 ghost use Rattle.bag_sqlite.specs.SqlKeepers.{HoldsLedger, MayLeaveLedger};
+ghost use Rattle.bag_sqlite.specs.Transactions.{CommitsNothing};
 ghost use Rattle.sqlite.specs.Held.{Held, state};
-ghost use Rattle.sqlite.specs.State.{HasCleanDisk, KeepsCommit, Survives};
+ghost use Rattle.sqlite.specs.State.{HasCleanDisk};
 
 use crate::rows::{insert_item, insert_piece, set_size};
 use crate::transfers::transfer_number;
@@ -105,7 +106,6 @@ fn put_item<S: Alter, R: Source>(
     reader: &mut R,
 ) -> Result<(), NotPut>
     requires room { length buffer.old ≡ PIECE }
-    ensures same_reference { tx.new.conn.ghost_name ≡ tx.old.conn.ghost_name }
     ensures put { MatchResult result (λ done. (content : List ℕ)
         × IsGiven (given_by (R.remaining reader.old) (R.remaining reader.new)) want.now content
         × (HasCleanDisk (state S.Store tx.new.conn.now)
@@ -121,10 +121,7 @@ fn put_item<S: Alter, R: Source>(
     ensures opened { HasCleanDisk (state S.Store tx.new.conn.now)
         → OnOk result (IsTrue (state S.Store tx.old.conn.now).in_transaction
         → IsTrue (state S.Store tx.old.conn.now).is_open) }
-    ensures kept { HasCleanDisk (state S.Store tx.new.conn.now)
-        → KeepsCommit (state S.Store tx.old.conn.now) (state S.Store tx.new.conn.now) }
-    ensures survives { Survives (state S.Store tx.old.conn.now) (state S.Store tx.new.conn.now)
-        (λ _. ⊥) }
+    ensures kept { CommitsNothing S.Store tx.old.conn tx.new.conn }
 {
     let item = insert_item(tx, transfer, want.path().as_str())?;
     let (size, digests) = put_pieces(tx, item, want, buffer, reader)?;
@@ -142,7 +139,6 @@ fn put_pieces<S: Alter, R: Source>(
     reader: &mut R,
 ) -> Result<(u64, Digests), NotPut>
     requires room { length buffer.old ≡ PIECE }
-    ensures same_reference { tx.new.conn.ghost_name ≡ tx.old.conn.ghost_name }
     ensures read { MatchResult result (λ found. (pieces : List (List ℕ))
         × HasRead (R.remaining reader.old) (R.remaining reader.new) want.now found pieces
         × (HasCleanDisk (state S.Store tx.new.conn.now)
@@ -155,10 +151,7 @@ fn put_pieces<S: Alter, R: Source>(
         (put_fault_of told refusal)) }
     ensures uses { UsesSource R.failures R.ready R.keeps reader.old reader.new
         (IsErrOf result (NotPut.Source SourceFault.Read)) }
-    ensures kept { HasCleanDisk (state S.Store tx.new.conn.now)
-        → KeepsCommit (state S.Store tx.old.conn.now) (state S.Store tx.new.conn.now) }
-    ensures survives { Survives (state S.Store tx.old.conn.now) (state S.Store tx.new.conn.now)
-        (λ _. ⊥) }
+    ensures kept { CommitsNothing S.Store tx.old.conn tx.new.conn }
 {
     let mut multi = Multi::new(want.algs());
     let mut total = 0u64;

@@ -2,13 +2,12 @@
 ghost use Rattle.std.specs.Prelude.{◌≡◌, IfErr, IfOk, IsTrue, List, false, map, string_bytes};
 ghost use Rattle.std.specs.Map.{keys_of};
 ghost use Rattle.bag_ledger.specs.Ledgers.{Ledger};
-ghost use Rattle.bag_sqlite.specs.Making.{IsLeft};
-ghost use Rattle.bag_sqlite.specs.Reading.{ShowsRows};
+ghost use Rattle.bag_sqlite.specs.Reading.{OnlyQueries, ShowsRows};
 ghost use Rattle.bag_sqlite.specs.Refusing.{IsNoQuery, IsNoneFor, adopt_fault};
 ghost use Rattle.bag_sqlite.specs.SqlKeepers.{HoldsLedger};
 ghost use Rattle.sqlite.specs.Held.{state};
 ghost use Rattle.sqlite.specs.Order.{column};
-ghost use Rattle.sqlite.specs.State.{HasCleanDisk, Survives};
+ghost use Rattle.sqlite.specs.State.{HasCleanDisk};
 ghost use Rattle.sqlite.specs.Values.{bound};
 ghost use Rattle.sqlite.specs.declared.types.Value.TheVariants.{Text};
 
@@ -25,11 +24,7 @@ pub(crate) fn names<S: Alter>(
     ensures names { HasCleanDisk (state S.Store connection.new) → (ledger : Ledger)
         → HoldsLedger (state S.Store connection.old) ledger
         → IfOk result (λ names. map string_bytes names.items ≡ keys_of ledger) }
-    ensures left { HasCleanDisk (state S.Store connection.new)
-        → IsLeft (state S.Store connection.old) (state S.Store connection.new) }
-    ensures idle { connection.new.in_transaction ≡ false }
-    ensures survives { Survives (state S.Store connection.old) (state S.Store connection.new)
-        (λ _. ⊥) }
+    ensures queries { OnlyQueries S.Store connection.old connection.new }
 {
     let rows = query(connection, "SELECT name FROM transfer ORDER BY name", &[])?;
     texts_in(alloc, rows.as_slice())
@@ -61,11 +56,7 @@ pub(crate) fn query<S: Alter>(
     ensures refused { HasCleanDisk (state S.Store connection.new)
         → IfErr result (λ error. IsNoneFor (IsTrue (state S.Store connection.old).is_open
         × IsNoQuery (state S.Store connection.old).now.schema sql.now) (adopt_fault error)) }
-    ensures left { HasCleanDisk (state S.Store connection.new)
-        → IsLeft (state S.Store connection.old) (state S.Store connection.new) }
-    ensures idle { connection.new.in_transaction ≡ false }
-    ensures survives { Survives (state S.Store connection.old) (state S.Store connection.new)
-        (λ _. ⊥) }
+    ensures queries { OnlyQueries S.Store connection.old connection.new }
 {
     let mut transaction = connection.transaction();
     let rows = transaction.query_all(sql, params)?;

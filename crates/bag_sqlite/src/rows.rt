@@ -1,8 +1,9 @@
 //! The statements that write a payload file to a database.
-ghost use Rattle.std.specs.Prelude.{◌≡◌, ◌<◌, ◌/◌, ◌^◌, IfOk, IsTrue, OnOk};
+ghost use Rattle.std.specs.Prelude.{◌<◌, ◌/◌, ◌^◌, IfOk, IsTrue, OnOk};
 ghost use Rattle.bag_sqlite.specs.Putting.{AddsItem, AddsPiece, IsUnderWay, SetsSize};
+ghost use Rattle.bag_sqlite.specs.Transactions.{CommitsNothing};
 ghost use Rattle.sqlite.specs.Held.{state};
-ghost use Rattle.sqlite.specs.State.{HasCleanDisk, KeepsCommit, Survives};
+ghost use Rattle.sqlite.specs.State.{HasCleanDisk};
 
 use bag_digest::PIECE;
 use sqlite::{Alter, Error, Transaction, params};
@@ -13,7 +14,6 @@ pub(crate) fn insert_item<S: Alter>(
     transfer: i64,
     path: &str,
 ) -> Result<i64, Error>
-    ensures same_reference { tx.new.conn.ghost_name ≡ tx.old.conn.ghost_name }
     ensures added { HasCleanDisk (state S.Store tx.new.conn.now)
         → IfOk result (λ item. IsUnderWay (state S.Store tx.old.conn.now)
         → IsUnderWay (state S.Store tx.new.conn.now)
@@ -22,10 +22,7 @@ pub(crate) fn insert_item<S: Alter>(
     ensures opened { HasCleanDisk (state S.Store tx.new.conn.now)
         → OnOk result (IsTrue (state S.Store tx.old.conn.now).in_transaction
         → IsTrue (state S.Store tx.old.conn.now).is_open) }
-    ensures kept { HasCleanDisk (state S.Store tx.new.conn.now)
-        → KeepsCommit (state S.Store tx.old.conn.now) (state S.Store tx.new.conn.now) }
-    ensures survives { Survives (state S.Store tx.old.conn.now) (state S.Store tx.new.conn.now)
-        (λ _. ⊥) }
+    ensures kept { CommitsNothing S.Store tx.old.conn tx.new.conn }
 {
     tx.execute(
         "INSERT INTO held (transfer, path, size) VALUES (?1, ?2, 0)",
@@ -41,16 +38,12 @@ pub(crate) fn insert_piece<S: Alter>(
     offset: u64,
     body: &[u8],
 ) -> Result<(), Error>
-    ensures same_reference { tx.new.conn.ghost_name ≡ tx.old.conn.ghost_name }
     ensures added { HasCleanDisk (state S.Store tx.new.conn.now)
         → OnOk result (IsUnderWay (state S.Store tx.old.conn.now)
         → IsUnderWay (state S.Store tx.new.conn.now)
         × AddsPiece (state S.Store tx.old.conn.now).now.trees
         (state S.Store tx.new.conn.now).now.trees item (offset / PIECE) body.now) }
-    ensures kept { HasCleanDisk (state S.Store tx.new.conn.now)
-        → KeepsCommit (state S.Store tx.old.conn.now) (state S.Store tx.new.conn.now) }
-    ensures survives { Survives (state S.Store tx.old.conn.now) (state S.Store tx.new.conn.now)
-        (λ _. ⊥) }
+    ensures kept { CommitsNothing S.Store tx.old.conn tx.new.conn }
 {
     tx.execute(
         "INSERT INTO piece (item, n, body) VALUES (?1, ?2, ?3)",
@@ -66,16 +59,12 @@ pub(crate) fn set_size<S: Alter>(
     size: u64,
 ) -> Result<(), Error>
     requires { size < 2 ^ 63 }
-    ensures same_reference { tx.new.conn.ghost_name ≡ tx.old.conn.ghost_name }
     ensures set { HasCleanDisk (state S.Store tx.new.conn.now)
         → OnOk result (IsUnderWay (state S.Store tx.old.conn.now)
         → IsUnderWay (state S.Store tx.new.conn.now)
         × SetsSize (state S.Store tx.old.conn.now).now.trees
         (state S.Store tx.new.conn.now).now.trees item size) }
-    ensures kept { HasCleanDisk (state S.Store tx.new.conn.now)
-        → KeepsCommit (state S.Store tx.old.conn.now) (state S.Store tx.new.conn.now) }
-    ensures survives { Survives (state S.Store tx.old.conn.now) (state S.Store tx.new.conn.now)
-        (λ _. ⊥) }
+    ensures kept { CommitsNothing S.Store tx.old.conn tx.new.conn }
 {
     tx.execute(
         "UPDATE held SET size = ?2 WHERE id = ?1",

@@ -7,13 +7,12 @@ ghost use Rattle.bag_rules.specs.Files.{Files};
 ghost use Rattle.bag_rules.specs.Plans.{sizes_of};
 ghost use Rattle.bag_rules.specs.Trees.{AreRising};
 ghost use Rattle.bag_sqlite.specs.Adopting.{files_in};
-ghost use Rattle.bag_sqlite.specs.Making.{IsLeft};
-ghost use Rattle.bag_sqlite.specs.Reading.{HasTransferRow, size_shown, tag_shown};
+ghost use Rattle.bag_sqlite.specs.Reading.{HasTransferRow, OnlyQueries, size_shown, tag_shown};
 ghost use Rattle.bag_sqlite.specs.Refusing.{AreTags, HasBadTag, IsNoneFor, adopt_fault};
 ghost use Rattle.bag_sqlite.specs.SqlKeepers.{HoldsLedger};
 ghost use Rattle.sqlite.specs.Held.{state};
 ghost use Rattle.sqlite.specs.Order.{column};
-ghost use Rattle.sqlite.specs.State.{HasCleanDisk, Survives};
+ghost use Rattle.sqlite.specs.State.{HasCleanDisk};
 ghost use Rattle.sqlite.specs.declared.types.Value.TheVariants.{Int};
 
 use crate::reading::query;
@@ -32,11 +31,7 @@ pub(crate) fn tags<S: Alter>(
     ensures tags { HasCleanDisk (state S.Store connection.new) → (ledger : Ledger)
         → HoldsLedger (state S.Store connection.old) ledger
         → IfOk result (λ tags. tags ≡ tags_of ledger name.now) }
-    ensures left { HasCleanDisk (state S.Store connection.new)
-        → IsLeft (state S.Store connection.old) (state S.Store connection.new) }
-    ensures idle { connection.new.in_transaction ≡ false }
-    ensures survives { Survives (state S.Store connection.old) (state S.Store connection.new)
-        (λ _. ⊥) }
+    ensures queries { OnlyQueries S.Store connection.old connection.new }
 {
     match transfer_number(connection, name)? {
         Some(transfer) => Ok(Some(tags_under(alloc, connection, transfer)?)),
@@ -54,11 +49,7 @@ pub(crate) fn sizes<S: Alter>(
     ensures sizes { HasCleanDisk (state S.Store connection.new) → (ledger : Ledger)
         → HoldsLedger (state S.Store connection.old) ledger
         → IfOk result (λ sizes. sizes.items ≡ sizes_of (items_of ledger name.now)) }
-    ensures left { HasCleanDisk (state S.Store connection.new)
-        → IsLeft (state S.Store connection.old) (state S.Store connection.new) }
-    ensures idle { connection.new.in_transaction ≡ false }
-    ensures survives { Survives (state S.Store connection.old) (state S.Store connection.new)
-        (λ _. ⊥) }
+    ensures queries { OnlyQueries S.Store connection.old connection.new }
 {
     match transfer_number(connection, name)? {
         Some(transfer) => sizes_under(alloc, connection, transfer),
@@ -76,11 +67,7 @@ pub(crate) fn transfer_number<S: Alter>(
         → HoldsLedger (state S.Store connection.old) ledger
         → IfOk result (λ number. MatchOption number (transfer_of ledger name.now ≡ None)
         (HasTransferRow (state S.Store connection.old).now.trees name.now)) }
-    ensures left { HasCleanDisk (state S.Store connection.new)
-        → IsLeft (state S.Store connection.old) (state S.Store connection.new) }
-    ensures idle { connection.new.in_transaction ≡ false }
-    ensures survives { Survives (state S.Store connection.old) (state S.Store connection.new)
-        (λ _. ⊥) }
+    ensures queries { OnlyQueries S.Store connection.old connection.new }
 {
     let rows = query(
         connection,
@@ -114,11 +101,7 @@ fn tags_under<S: Alter>(
         → IfOk result (λ tags. tags_of ledger name ≡ Some tags) }
     ensures opened { HasCleanDisk (state S.Store connection.new)
         → OnOk result (IsTrue (state S.Store connection.old).is_open) }
-    ensures left { HasCleanDisk (state S.Store connection.new)
-        → IsLeft (state S.Store connection.old) (state S.Store connection.new) }
-    ensures idle { connection.new.in_transaction ≡ false }
-    ensures survives { Survives (state S.Store connection.old) (state S.Store connection.new)
-        (λ _. ⊥) }
+    ensures queries { OnlyQueries S.Store connection.old connection.new }
 {
     let rows = query(
         connection,
@@ -173,11 +156,7 @@ fn sizes_under<S: Alter>(
         → IfOk result (λ sizes. sizes.items ≡ sizes_of (items_of ledger name)) }
     ensures opened { HasCleanDisk (state S.Store connection.new)
         → OnOk result (IsTrue (state S.Store connection.old).is_open) }
-    ensures left { HasCleanDisk (state S.Store connection.new)
-        → IsLeft (state S.Store connection.old) (state S.Store connection.new) }
-    ensures idle { connection.new.in_transaction ≡ false }
-    ensures survives { Survives (state S.Store connection.old) (state S.Store connection.new)
-        (λ _. ⊥) }
+    ensures queries { OnlyQueries S.Store connection.old connection.new }
 {
     let rows = query(
         connection,

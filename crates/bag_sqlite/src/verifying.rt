@@ -5,12 +5,12 @@ ghost use Rattle.bag_digest.specs.Hash.{AreDigests};
 ghost use Rattle.bag_rules.specs.Files.{Files};
 ghost use Rattle.bag_rules.specs.Plans.{IsPlanOf};
 ghost use Rattle.bag_rules.specs.declared.limits.TheConstants.{LARGEST_ITEM as LARGEST};
-ghost use Rattle.bag_sqlite.specs.Adopting.{HasPieces, IsRead, ItemPasses, RowPasses, Stands, Tells, TellsOne, TransferPasses, TransfersPass, count_text, files_in, items_text, piece_text, tag_files_text, transfers_text};
+ghost use Rattle.bag_sqlite.specs.Adopting.{HasPieces, ItemPasses, OnlyReads, RowPasses, Stands, Tells, TellsOne, TransferPasses, TransfersPass, count_text, files_in, items_text, piece_text, tag_files_text, transfers_text};
 ghost use Rattle.bag_sqlite.specs.Refusing.{AreTags, DoNotOpen, HasDamagedItem, HasMorePieces, IsNoLedger, IsNoneFor, IsSize, ItemFails, LacksPiece, OpensNone, RefusesTransfer, RefusesTransfers, ShowsOctets, adopt_fault};
 ghost use Rattle.sqlite.specs.Effect.{Database};
 ghost use Rattle.sqlite.specs.Held.{state};
 ghost use Rattle.sqlite.specs.Order.{column, Row};
-ghost use Rattle.sqlite.specs.State.{HasCleanDisk, Survives};
+ghost use Rattle.sqlite.specs.State.{HasCleanDisk};
 ghost use Rattle.sqlite.specs.declared.error.Error.{Error as SqlError};
 ghost use Rattle.sqlite.specs.declared.types.Value.TheVariants.{Blob, Int};
 
@@ -32,11 +32,7 @@ pub(crate) fn verify_transfers<S: Alter>(connection: &mut Connection<S>) -> Resu
     ensures refused { HasCleanDisk (state S.Store connection.new) → (db : Database)
         → Stands (state S.Store connection.old) db
         → IfErr result (RefusesTransfers S.Store db) }
-    ensures read { HasCleanDisk (state S.Store connection.new)
-        → IsRead (state S.Store connection.old) (state S.Store connection.new) }
-    ensures idle { connection.new.in_transaction ≡ false }
-    ensures survives { Survives (state S.Store connection.old) (state S.Store connection.new)
-        (λ _. ⊥) }
+    ensures reads { OnlyReads S.Store connection.old connection.new }
 {
     let rows = rows_of(
         connection,
@@ -60,11 +56,7 @@ fn verify_rows<S: Alter>(
     ensures refused { HasCleanDisk (state S.Store connection.new) → (db : Database)
         → Stands (state S.Store connection.old) db → Tells S.Store db transfers_text [] rows.now
         → IfErr result (RefusesTransfers S.Store db) }
-    ensures read { HasCleanDisk (state S.Store connection.new)
-        → IsRead (state S.Store connection.old) (state S.Store connection.new) }
-    ensures idle { connection.new.in_transaction ≡ false }
-    ensures survives { Survives (state S.Store connection.old) (state S.Store connection.new)
-        (λ _. ⊥) }
+    ensures reads { OnlyReads S.Store connection.old connection.new }
 {
     for row in rows {
         verify_transfer(alloc, connection, row.get(0)?, row.get(1)?)?;
@@ -86,11 +78,7 @@ fn verify_transfer<S: Alter>(
     ensures refused { HasCleanDisk (state S.Store connection.new) → (db : Database)
         → Stands (state S.Store connection.old) db
         → IfErr result (RefusesTransfer S.Store db transfer (string_bytes name)) }
-    ensures read { HasCleanDisk (state S.Store connection.new)
-        → IsRead (state S.Store connection.old) (state S.Store connection.new) }
-    ensures idle { connection.new.in_transaction ≡ false }
-    ensures survives { Survives (state S.Store connection.old) (state S.Store connection.new)
-        (λ _. ⊥) }
+    ensures reads { OnlyReads S.Store connection.old connection.new }
 {
     let Some(plan) = plan_of(alloc, connection, transfer)? else {
         let path = String::new(alloc);
@@ -118,11 +106,7 @@ fn plan_of<S: Alter>(
         → Stands (state S.Store connection.old) db
         → MatchResult result (λ plan. IfNone plan (OpensNone S.Store db transfer))
         (IsNoneFor (IsNoLedger S.Store db)) }
-    ensures read { HasCleanDisk (state S.Store connection.new)
-        → IsRead (state S.Store connection.old) (state S.Store connection.new) }
-    ensures idle { connection.new.in_transaction ≡ false }
-    ensures survives { Survives (state S.Store connection.old) (state S.Store connection.new)
-        (λ _. ⊥) }
+    ensures reads { OnlyReads S.Store connection.old connection.new }
 {
     let rows = rows_of(
         connection,
@@ -192,11 +176,7 @@ fn first_damaged<S: Alter>(
         → MatchResult result (λ path. IfSome path (λ path.
         HasDamagedItem S.Store db tags transfer (string_bytes path)))
         (IsNoneFor (IsNoLedger S.Store db)) }
-    ensures read { HasCleanDisk (state S.Store connection.new)
-        → IsRead (state S.Store connection.old) (state S.Store connection.new) }
-    ensures idle { connection.new.in_transaction ≡ false }
-    ensures survives { Survives (state S.Store connection.old) (state S.Store connection.new)
-        (λ _. ⊥) }
+    ensures reads { OnlyReads S.Store connection.old connection.new }
 {
     let rows = rows_of(
         connection,
@@ -224,11 +204,7 @@ fn damaged_in<S: Alter>(
         → MatchResult result (λ path. IfSome path (λ path.
         HasDamagedItem S.Store db tags transfer (string_bytes path)))
         (IsNoneFor (IsNoLedger S.Store db)) }
-    ensures read { HasCleanDisk (state S.Store connection.new)
-        → IsRead (state S.Store connection.old) (state S.Store connection.new) }
-    ensures idle { connection.new.in_transaction ≡ false }
-    ensures survives { Survives (state S.Store connection.old) (state S.Store connection.new)
-        (λ _. ⊥) }
+    ensures reads { OnlyReads S.Store connection.old connection.new }
 {
     for row in rows {
         let item = row.get(0)?;
@@ -260,11 +236,7 @@ fn passes<S: Alter>(
         → MatchResult result (λ passing. passing ≡ false
         → ItemFails S.Store db tags item path.now size)
         (IsNoneFor (IsNoLedger S.Store db)) }
-    ensures read { HasCleanDisk (state S.Store connection.new)
-        → IsRead (state S.Store connection.old) (state S.Store connection.new) }
-    ensures idle { connection.new.in_transaction ≡ false }
-    ensures survives { Survives (state S.Store connection.old) (state S.Store connection.new)
-        (λ _. ⊥) }
+    ensures reads { OnlyReads S.Store connection.old connection.new }
 {
     let Some(path) = unless_corrupt(path_in(alloc, path))? else {
         return Ok(false);
@@ -311,11 +283,7 @@ fn digests_of<S: Alter>(
         → MatchResult result (λ digests. IfNone digests (LacksPiece S.Store db item size
         ⊎ HasMorePieces S.Store db item size))
         (IsNoneFor (IsNoLedger S.Store db)) }
-    ensures read { HasCleanDisk (state S.Store connection.new)
-        → IsRead (state S.Store connection.old) (state S.Store connection.new) }
-    ensures idle { connection.new.in_transaction ≡ false }
-    ensures survives { Survives (state S.Store connection.old) (state S.Store connection.new)
-        (λ _. ⊥) }
+    ensures reads { OnlyReads S.Store connection.old connection.new }
 {
     let mut multi = Multi::new(set);
     let mut taken = 0;
@@ -353,11 +321,7 @@ fn piece_of<S: Alter>(
         × Tells S.Store db piece_text (Int item ∷ Int n ∷ []) rows × ¬ ShowsOctets rows octets))
         (IsNoneFor (IsNoLedger S.Store db)) }
     ensures whole { IfOk result (λ piece. IfSome piece (λ piece. length piece.items ≡ octets)) }
-    ensures read { HasCleanDisk (state S.Store connection.new)
-        → IsRead (state S.Store connection.old) (state S.Store connection.new) }
-    ensures idle { connection.new.in_transaction ≡ false }
-    ensures survives { Survives (state S.Store connection.old) (state S.Store connection.new)
-        (λ _. ⊥) }
+    ensures reads { OnlyReads S.Store connection.old connection.new }
 {
     let rows = rows_of(
         connection,
@@ -383,11 +347,7 @@ fn count_of<S: Alter>(connection: &mut Connection<S>, item: i64) -> Result<i64, 
         → MatchResult result
         (λ count. TellsOne S.Store db count_text (Int item ∷ []) (Int count))
         (IsNoneFor (IsNoLedger S.Store db)) }
-    ensures read { HasCleanDisk (state S.Store connection.new)
-        → IsRead (state S.Store connection.old) (state S.Store connection.new) }
-    ensures idle { connection.new.in_transaction ≡ false }
-    ensures survives { Survives (state S.Store connection.old) (state S.Store connection.new)
-        (λ _. ⊥) }
+    ensures reads { OnlyReads S.Store connection.old connection.new }
 {
     let rows = rows_of(
         connection,

@@ -1,5 +1,5 @@
 -- A path that a look-up doesn't find is free.
-use Rattle.std.proofs.Common.{◌≡◌, ℕ, List, Option, Some, None, Contains, Bor, true, false, is_some, refl, sym, ap, ◌∙◌}
+use Rattle.std.proofs.Common.{◌≡◌, ℕ, List, Option, Some, None, Contains, Bor, false, is_some, refl, sym, ap, ◌∙◌}
 use Rattle.std.proofs.lemmas.Bool.{false≢true}
 use Rattle.std.proofs.lemmas.Cmp.{nat_list_eq_equiv}
 use Rattle.std.proofs.lemmas.Map.Views.{IsSome-lookup_from_Contains}

@@ -1,5 +1,5 @@
 -- What a sink holds, and what a call does to it.
-use Rattle.std.specs.Prelude.{◌≡◌, ◌⊎◌, ◌++◌, ◌||◌, ℕ, List, [], Option, Some, None, Contains, false, true}
+use Rattle.std.specs.Prelude.{◌≡◌, ◌⊎◌, ◌++◌, ◌||◌, ℕ, Bool, List, [], OnOk, Option, Some, None, Result, Contains, false, true}
 use Rattle.std.specs.Option.{option_map}
 use Rattle.std.specs.Ordering.{nat_cmp}
 use Rattle.std.specs.Cmp.Lexicographic.{slice_cmp}
@@ -73,3 +73,23 @@ pub record UsesSink {S : Type 0} (failures : S → ℕ) (sure : S → Type 0) (o
     (in_order failed : Type 0) : Type 0 where
   pub counted : CountsIf failed (failures old) (failures new)
   pub stays_sure : sure old → sure new × (in_order → ¬ failed)
+
+-- The same for a call between two files. If it succeeds, no file is open afterwards, provided that none was before.
+pub record UsesClosedSink {S Value Fault : Type 0} (is_open : S → Bool) (failures : S → ℕ)
+    (sure : S → Type 0) (old new : S) (in_order : Type 0) (result : Result Value Fault)
+    (failed : Type 0) : Type 0 where
+  pub uses : UsesSink failures sure old new in_order failed
+  pub closed : is_open old ≡ false → OnOk result (is_open new ≡ false)
+
+-- The same for a call that writes a whole file. If it succeeds, no file is open afterwards.
+pub record ClosesSink {S Value Fault : Type 0} (is_open : S → Bool) (failures : S → ℕ)
+    (sure : S → Type 0) (old new : S) (in_order : Type 0) (result : Result Value Fault)
+    (failed : Type 0) : Type 0 where
+  pub uses : UsesSink failures sure old new in_order failed
+  pub closed : OnOk result (is_open new ≡ false)
+
+-- The same for a call that writes to the open file. A file is open afterwards exactly if one was before.
+pub record UsesOpenSink {S : Type 0} (is_open : S → Bool) (failures : S → ℕ) (sure : S → Type 0)
+    (old new : S) (failed : Type 0) : Type 0 where
+  pub uses : UsesSink failures sure old new (is_open old ≡ true) failed
+  pub opened : is_open new ≡ is_open old

@@ -8,11 +8,11 @@ use Rattle.bag_digest.specs.Hash.{AreDigests}
 use Rattle.bag_digest.specs.declared.algorithm.AlgSet.{AlgSet}
 use Rattle.bag_path.specs.Paths.{is_payload}
 use Rattle.bag_rules.specs.Bags.{paths_of}
-use Rattle.bag_rules.specs.Trees.{AreRising}
+use Rattle.bag_rules.specs.Trees.{AreRising, Shown, paths_in}
 use Rattle.bag_rules.specs.declared.limits.TheConstants.{LARGEST_FILE, MOST_LINES}
 use Rattle.bag_rules.specs.Files.{Files}
 use Rattle.bag_writer.specs.Sinks.{Stored, with_begun, with_ended, with_octets, without_begun}
-use Rattle.bag_writer.specs.Writing.{HasLongFile, IsAccepted}
+use Rattle.bag_writer.specs.Writing.{HasLongFile, IsAccepted, payload_paths}
 use Rattle.bag_writer.specs.declared.item.Item.{Item}
 use Rattle.bag_writer.specs.declared.spec.Hole.{Hole}
 use Rattle.bag_writer.specs.declared.spec.Spec.{Spec}
@@ -79,6 +79,14 @@ AreItemsOf set _ _ = ⊥
 -- the mark at each place says whether the path there is that of a hole
 pub record AreHoleMarks (paths : List (List ℕ)) (spec : Spec) (marks : List Bool) : Type 0 where
   pub each : marks ≡ map (is_hole spec.holes.items) paths
+
+-- A bag can be written as specified of the payload of this tree, whose files come by path. It is no more files than a
+-- manifest may list, and these are the marks of its holes.
+pub record IsAcceptedWith (shown : Shown) (spec : Spec) (marks : List Bool) : Type 0 where
+  pub accepted : IsAccepted (payload_paths shown) spec
+  pub few : length (payload_paths shown) ≤ MOST_LINES
+  pub rising : AreRising (paths_in shown)
+  pub marked : AreHoleMarks (paths_in shown) spec marks
 
 -- a payload of which a bag can be written as specified, within the limits of its files
 pub record IsWritable (spec : Spec) (payload : Files) : Type 0 where

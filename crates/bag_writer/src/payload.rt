@@ -1,10 +1,10 @@
 //! Writes the payload. Each file is read once, for the sink and for its digests.
-ghost use Rattle.std.specs.Prelude.{◌≡◌, ◌⊎◌, ◌++◌, ◌∷◌, ◌<◌, [], ℕ, List, Option, Some, IfErr, IsErrOf, MatchResult, OnOk, false, length, slice_get, true};
+ghost use Rattle.std.specs.Prelude.{◌≡◌, ◌⊎◌, ◌++◌, ◌∷◌, ◌<◌, [], ℕ, List, Option, Some, IfErr, IsErrOf, MatchResult, false, length, slice_get};
 ghost use Rattle.bag_digest.specs.Device.{UsesSource};
 ghost use Rattle.bag_rules.specs.Files.{Files};
 ghost use Rattle.bag_rules.specs.Trees.{UsesTree, paths_in};
 ghost use Rattle.bag_rules.specs.declared.limits.TheConstants.{LARGEST_FILE};
-ghost use Rattle.bag_writer.specs.Sinks.{IsFree, UsesSink};
+ghost use Rattle.bag_writer.specs.Sinks.{ClosesSink, IsFree, UsesClosedSink, UsesOpenSink};
 ghost use Rattle.bag_writer.specs.PayloadSteps.{HasFrontFrom, IsCutShort, IsReadAs, IsReadUntil, IsReadWhole, IsTaken, Writes, WritesFront, unless_hole};
 ghost use Rattle.bag_writer.specs.Steps.{AreHoleMarks, AreItemsOf, ArePart, AreWhole, HasNoFile, written_payload};
 ghost use Rattle.bag_writer.specs.Writing.{HasLongFile, IsMetLater, IsReadFrom};
@@ -44,13 +44,11 @@ pub(crate) fn write_payload<T: Tree, S: Sink>(
         (λ fault. (fault ≡ WriteFault.TooLarge → HasLongFile payload LARGEST_FILE)
         × ArePart (written_payload spec.now payload) (S.stored sink.old) (S.stored sink.new)) }
     ensures err { IfErr result IsMetLater }
-    ensures open { S.is_open sink.old ≡ false → OnOk result (S.is_open sink.new ≡ false) }
     ensures tree { UsesTree T.shown T.failures T.sure tree.old tree.new
         (IsErrOf result WriteFault.Tree) }
-    ensures sink { UsesSink S.failures S.sure sink.old sink.new
-        ((S.is_open sink.old ≡ false)
-        × HasNoFile (S.stored sink.old))
-        (IsErrOf result WriteFault.Sink) }
+    ensures sink { UsesClosedSink S.is_open S.failures S.sure sink.old sink.new
+        ((S.is_open sink.old ≡ false) × HasNoFile (S.stored sink.old))
+        result (IsErrOf result WriteFault.Sink) }
 {
     let mut items = Vec::new(alloc);
     for i in 0..tree.count() {
@@ -84,14 +82,13 @@ fn write_file<T: Tree, S: Sink>(
         (IsTaken set is_hole file (S.stored sink.old) (S.stored sink.new))
         (IsCutShort is_hole file (S.stored sink.old) (S.stored sink.new)) }
     ensures err { IfErr result IsMetLater }
-    ensures open { S.is_open sink.old ≡ false → OnOk result (S.is_open sink.new ≡ false) }
     ensures tree { UsesTree T.shown T.failures T.sure tree.old tree.new
         (IsErrOf result WriteFault.Tree) }
-    ensures sink { UsesSink S.failures S.sure sink.old sink.new
+    ensures sink { UsesClosedSink S.is_open S.failures S.sure sink.old sink.new
         ((S.is_open sink.old ≡ false)
         × ((path : List ℕ) → slice_get (paths_in (T.shown tree.old)) i ≡ Some path
         → IsFree (S.stored sink.old) path))
-        (IsErrOf result WriteFault.Sink) }
+        result (IsErrOf result WriteFault.Sink) }
 {
     let path = tree.path(i).clone()?;
     let Ok(()) = tree.start(i) else {
@@ -124,12 +121,11 @@ fn sums_of<R: Source, S: Sink>(
         × ((rest : List ℕ) → ArePart (unless_hole is_hole (path.now, octets ++ rest))
         (S.stored sink.old) (S.stored sink.new))) }
     ensures err { IfErr result IsMetLater }
-    ensures open { S.is_open sink.old ≡ false → OnOk result (S.is_open sink.new ≡ false) }
     ensures source { UsesSource R.failures R.ready R.keeps source.old source.new
         (IsErrOf result WriteFault.Tree) }
-    ensures sink { UsesSink S.failures S.sure sink.old sink.new
+    ensures sink { UsesClosedSink S.is_open S.failures S.sure sink.old sink.new
         ((S.is_open sink.old ≡ false) × IsFree (S.stored sink.old) path.now)
-        (IsErrOf result WriteFault.Sink) }
+        result (IsErrOf result WriteFault.Sink) }
 {
     if is_hole {
         digests_of(buffer, source, set)
@@ -176,12 +172,11 @@ fn copy_file<R: Source, S: Sink>(
         (λ fault. IsReadUntil (R.remaining source.old) (R.remaining source.new) fault octets
         × HasFrontFrom path.now octets (S.stored sink.old) (S.stored sink.new)) }
     ensures err { IfErr result IsMetLater }
-    ensures open { OnOk result (S.is_open sink.new ≡ false) }
     ensures source { UsesSource R.failures R.ready R.keeps source.old source.new
         (IsErrOf result WriteFault.Tree) }
-    ensures sink { UsesSink S.failures S.sure sink.old sink.new
+    ensures sink { ClosesSink S.is_open S.failures S.sure sink.old sink.new
         ((S.is_open sink.old ≡ false) × IsFree (S.stored sink.old) path.now)
-        (IsErrOf result WriteFault.Sink) }
+        result (IsErrOf result WriteFault.Sink) }
 {
     let Ok(()) = sink.file(path) else {
         return Err(WriteFault::Sink);
@@ -212,11 +207,10 @@ fn copy_octets<R: Source, S: Sink>(
         (λ fault. IsReadUntil (R.remaining source.old) (R.remaining source.new) fault octets
         × WritesFront octets (S.stored sink.old) (S.stored sink.new)) }
     ensures err { IfErr result IsMetLater }
-    ensures open { S.is_open sink.new ≡ S.is_open sink.old }
     ensures source { UsesSource R.failures R.ready R.keeps source.old source.new
         (IsErrOf result WriteFault.Tree) }
-    ensures sink { UsesSink S.failures S.sure sink.old sink.new
-        (S.is_open sink.old ≡ true) (IsErrOf result WriteFault.Sink) }
+    ensures sink { UsesOpenSink S.is_open S.failures S.sure sink.old sink.new
+        (IsErrOf result WriteFault.Sink) }
 {
     let mut multi = Multi::new(set);
     let mut total = 0u64;

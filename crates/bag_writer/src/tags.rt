@@ -6,7 +6,7 @@ ghost use Rattle.bag_digest.specs.declared.algorithm.AlgSet.{AlgSet};
 ghost use Rattle.bag_tags.specs.declared.listing.Kind.TheVariants.{Payload, Tag};
 ghost use Rattle.bag_rules.specs.Files.{Files};
 ghost use Rattle.bag_rules.specs.declared.limits.TheConstants.{LARGEST_TAG_FILE};
-ghost use Rattle.bag_writer.specs.Sinks.{UsesSink};
+ghost use Rattle.bag_writer.specs.Sinks.{UsesClosedSink};
 ghost use Rattle.bag_writer.specs.Steps.{AreItemsOf, ArePart, AreWhole, HasPayloadAlone, IsWritable};
 ghost use Rattle.bag_writer.specs.TagWriting.{AddsItems, CanBeFetched, CanBeListed, WritesFiles};
 ghost use Rattle.bag_writer.specs.WrittenBags.{algs_in, bagit_file, fetch_files, info_file, listed_tags, manifest_of, tag_files};
@@ -47,10 +47,9 @@ pub(crate) fn write_tag_files<S: Sink>(
         → HasLongFile (tag_files spec.now payload) LARGEST_TAG_FILE)
         × ArePart (tag_files spec.now payload) (S.stored sink.old) (S.stored sink.new)) }
     ensures err { IfErr result (λ fault. IsMetLater fault × (fault ≢ WriteFault.Tree)) }
-    ensures closed { S.is_open sink.old ≡ false → OnOk result (S.is_open sink.new ≡ false) }
-    ensures sink { UsesSink S.failures S.sure sink.old sink.new
+    ensures sink { UsesClosedSink S.is_open S.failures S.sure sink.old sink.new
         ((S.is_open sink.old ≡ false) × HasPayloadAlone (S.stored sink.old))
-        (IsErrOf result WriteFault.Sink) }
+        result (IsErrOf result WriteFault.Sink) }
 {
     let oxum = Oxum {
         octets: total_octets(items),

@@ -1,10 +1,9 @@
 //! Writes a bag from a payload.
-ghost use Rattle.std.specs.Prelude.{◌≡◌, ◌≤◌, IfErr, IsErrOf, MatchResult, OnOk, false, length};
+ghost use Rattle.std.specs.Prelude.{◌≡◌, IfErr, IsErrOf, MatchResult, false, length};
 ghost use Rattle.bag_rules.specs.Files.{Files};
 ghost use Rattle.bag_rules.specs.Trees.{AreRising, UsesTree, paths_in};
-ghost use Rattle.bag_rules.specs.declared.limits.TheConstants.{MOST_LINES};
-ghost use Rattle.bag_writer.specs.Sinks.{IsEmptySink, UsesSink};
-ghost use Rattle.bag_writer.specs.Steps.{AreHoleMarks};
+ghost use Rattle.bag_writer.specs.Sinks.{IsEmptySink, UsesClosedSink};
+ghost use Rattle.bag_writer.specs.Steps.{IsAcceptedWith};
 ghost use Rattle.bag_writer.specs.Writing.{IsAccepted, IsDone, IsMetLater, IsOfDevice, IsRefusedUnwritten, Refuses, payload_paths};
 ghost use Rattle.bag_writer.specs.declared.fault.WriteFault.{WriteFault};
 
@@ -59,10 +58,9 @@ pub fn write_bag<T: Tree, S: Sink>(
         (S.stored sink.old) (S.stored sink.new) payload }
     ensures tree { UsesTree T.shown T.failures T.sure tree.old tree.new
         (IsErrOf result WriteFault.Tree) }
-    ensures sink { UsesSink S.failures S.sure sink.old sink.new
+    ensures sink { UsesClosedSink S.is_open S.failures S.sure sink.old sink.new
         ((S.is_open sink.old ≡ false) × IsEmptySink (S.stored sink.old))
-        (IsErrOf result WriteFault.Sink) }
-    ensures closed { S.is_open sink.old ≡ false → OnOk result (S.is_open sink.new ≡ false) }
+        result (IsErrOf result WriteFault.Sink) }
 {
     let marks = accepted_holes(alloc, tree, spec)?;
     if payload_count(tree) > MOST_LINES {
@@ -79,19 +77,15 @@ fn write_accepted<T: Tree, S: Sink>(
     marks: &[bool],
     sink: &mut S,
 ) -> Result<Oxum, WriteFault>
-    requires accepted { IsAccepted (payload_paths (T.shown tree.old)) spec.now }
-    requires few { length (payload_paths (T.shown tree.old)) ≤ MOST_LINES }
-    requires rising { AreRising (paths_in (T.shown tree.old)) }
-    requires marks { AreHoleMarks (paths_in (T.shown tree.old)) spec.now marks.now }
+    requires accepted { IsAcceptedWith (T.shown tree.old) spec.now marks.now }
     ensures done { (payload : Files) × IsDone (T.shown tree.old) spec.now result
         (S.stored sink.old) (S.stored sink.new) payload }
     ensures err { IfErr result IsMetLater }
     ensures tree { UsesTree T.shown T.failures T.sure tree.old tree.new
         (IsErrOf result WriteFault.Tree) }
-    ensures sink { UsesSink S.failures S.sure sink.old sink.new
+    ensures sink { UsesClosedSink S.is_open S.failures S.sure sink.old sink.new
         ((S.is_open sink.old ≡ false) × IsEmptySink (S.stored sink.old))
-        (IsErrOf result WriteFault.Sink) }
-    ensures closed { S.is_open sink.old ≡ false → OnOk result (S.is_open sink.new ≡ false) }
+        result (IsErrOf result WriteFault.Sink) }
 {
     let mut buffer = piece_buffer(alloc)?;
     let Ok(()) = sink.payload_dir() else {

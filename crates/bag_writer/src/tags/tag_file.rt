@@ -4,7 +4,7 @@ ghost use Rattle.std.specs.Result.{result_err};
 ghost use Rattle.bag_path.specs.Paths.{IsPath};
 ghost use Rattle.bag_digest.specs.declared.algorithm.AlgSet.{AlgSet};
 ghost use Rattle.bag_tags.specs.Names.{manifest_file};
-ghost use Rattle.bag_writer.specs.Sinks.{IsFree, UsesSink};
+ghost use Rattle.bag_writer.specs.Sinks.{ClosesSink, IsFree};
 ghost use Rattle.bag_writer.specs.Steps.{ArePart, AreWhole, IsItemOf};
 ghost use Rattle.bag_writer.specs.TagWriting.{AddsItems, WritesFiles};
 
@@ -69,9 +69,9 @@ fn write_through<S: Sink>(path: &BagPath, octets: &[u8], sink: &mut S) -> Result
     ensures written { MatchResult result
         (λ _. AreWhole ((path.now, octets.now) ∷ []) (S.stored sink.old) (S.stored sink.new))
         (λ _. ArePart ((path.now, octets.now) ∷ []) (S.stored sink.old) (S.stored sink.new)) }
-    ensures closed { OnOk result (S.is_open sink.new ≡ false) }
-    ensures uses { UsesSink S.failures S.sure sink.old sink.new
-        ((S.is_open sink.old ≡ false) × IsFree (S.stored sink.old) path.now) (IsErr result) }
+    ensures sink { ClosesSink S.is_open S.failures S.sure sink.old sink.new
+        ((S.is_open sink.old ≡ false) × IsFree (S.stored sink.old) path.now)
+        result (IsErr result) }
 {
     sink.file(path)?;
     sink.write(octets)?;

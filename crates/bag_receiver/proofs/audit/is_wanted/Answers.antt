@@ -7,17 +7,17 @@ use Rattle.bag_receiver.proofs.audit.is_wanted.Goals as goal
 pub returns-then-n-eq0-clause-judged : goal.returns-then-n-eq0-clause-judged
 returns-then-n-eq0-clause-judged g c = λ clean content item sized.
     absurd (none_is_read g.K.Keeper.holds g.K.Keeper.may_leave g.K.Keeper.clean c.args.keeper.now c.loop-read.keeper c.next_piece.new.keeper c.args.name.now c.path.result.now c.args.want.now
-    c.args.octets c.loop-read.read c.in_ok-n.n c.next_piece.new.buffer c.loop-read.invariant.within c.path.ensures c.loop-read.invariant.reads c.next_piece.ensures.reads c.in_ok-n.ensures.piece
+    c.args.octets c.loop-read.read c.in_ok-n.n c.next_piece.new.buffer c.loop-read.invariant.within c.path.ensures c.loop-read.invariant.reads c.next_piece.ensures.keeper.reads c.in_ok-n.ensures.piece
     c.if-n-eq0.true clean content item sized)
 
 pub loop-read-preserved : goal.loop-read-preserved
 loop-read-preserved g c = record {
   within = omega (arith, c.in_ok-n.ensures.bound.0, c.loop-read.invariant.within);
   room = c.next_piece.ensures.room ∙ c.loop-read.invariant.room;
-  reads = reads_on g.K.Keeper.holds g.K.Keeper.may_leave g.K.Keeper.clean c.args.keeper.now c.loop-read.keeper c.next_piece.new.keeper c.loop-read.invariant.reads c.next_piece.ensures.reads;
-  stays = c.in_ok-n.ensures.store.stays (no_fault c.in_ok-n.n Store) ∙ c.loop-read.invariant.stays;
+  reads = reads_on g.K.Keeper.holds g.K.Keeper.may_leave g.K.Keeper.clean c.args.keeper.now c.loop-read.keeper c.next_piece.new.keeper c.loop-read.invariant.reads c.next_piece.ensures.keeper.reads;
+  stays = c.in_ok-n.ensures.keeper.counted.stays (no_fault c.in_ok-n.n Store) ∙ c.loop-read.invariant.stays;
   hashed = hashed_more g.K.Keeper.holds g.K.Keeper.may_leave g.K.Keeper.clean c.args.keeper.now c.loop-read.keeper c.next_piece.new.keeper c.args.name.now c.path.result.now c.args.want.now
-      c.args.octets c.loop-read.read c.in_ok-n.n c.next_piece.new.buffer c.loop-read.invariant.within c.path.ensures c.loop-read.invariant.reads c.next_piece.ensures.reads c.in_ok-n.ensures.piece
+      c.args.octets c.loop-read.read c.in_ok-n.n c.next_piece.new.buffer c.loop-read.invariant.within c.path.ensures c.loop-read.invariant.reads c.next_piece.ensures.keeper.reads c.in_ok-n.ensures.piece
       c.loop-read.multi c.update.new.self c.loop-read.invariant.hashed c.update.ensures;
 }
 

@@ -15,12 +15,15 @@ returns-in_err-write_tags-clause-written g c =
 pub returns-in_err-write_tags-clause-sink : goal.returns-in_err-write_tags-clause-sink
 returns-in_err-write_tags-clause-sink g c =
     let error = err_from_is_err_and c.from_residual-in_err-write_tags.result c.from_residual-in_err-write_tags.ensures.1 in
-    rw (error.1, error.2) (sink_on (sink_if c.in_ok-payload_dir.ensures.uses (λ order. tt)) (λ f. false≢true f)
-    (sink_so c.in_err-write_tags.ensures.uses (λ f. refl) (λ f. refl))
-    (λ order. (
-      c.in_ok-payload_dir.ensures.open ∙ order.0.1,
-      subst (λ s. AreFree s c.args.tags.now) (sym c.in_ok-payload_dir.ensures.made) (free_front c.args.tags.now order.1.0 _ order.1.3),
-    )))
+    rw (error.1, error.2) (record {
+      uses = sink_on (sink_if c.in_ok-payload_dir.ensures.uses (λ order. tt)) (λ f. false≢true f)
+          (sink_so c.in_err-write_tags.ensures.sink.uses (λ f. refl) (λ f. refl))
+          (λ order. (
+            c.in_ok-payload_dir.ensures.open ∙ order.0.1,
+            subst (λ s. AreFree s c.args.tags.now) (sym c.in_ok-payload_dir.ensures.made) (free_front c.args.tags.now order.1.0 _ order.1.3),
+          ));
+      closed = λ closed. tt;
+    })
 
 pub returns-clause-written : goal.returns-clause-written
 returns-clause-written g c = λ clean files items sized.
@@ -28,17 +31,20 @@ returns-clause-written g c = λ clean files items sized.
 
 pub returns-clause-sink : goal.returns-clause-sink
 returns-clause-sink g c =
-    sink_on
-    (sink_on (sink_if c.in_ok-payload_dir.ensures.uses (λ order. tt)) (λ f. false≢true f) c.in_ok-write_tags.ensures.uses (λ order. (
-      c.in_ok-payload_dir.ensures.open ∙ order.0.1,
-      subst (λ s. AreFree s c.args.tags.now) (sym c.in_ok-payload_dir.ensures.made) (free_front c.args.tags.now order.1.0 _ order.1.3),
-    )))
-    (λ f. false≢true f) c.write_items.ensures.sink (λ order. (
-      (order.0.0, c.in_ok-write_tags.ensures.closed (c.in_ok-payload_dir.ensures.open ∙ order.0.1)),
-      (
-        order.1.0,
-        order.1.1,
-        order.1.2,
-        free_after c.args.tags.now order.1.0 _ _ (subst (λ s. AreFree s (c.args.tags.now ++ order.1.0)) (sym c.in_ok-payload_dir.ensures.made) order.1.3) c.in_ok-write_tags.ensures.written,
-      ),
-    ))
+    record {
+      uses = sink_on
+          (sink_on (sink_if c.in_ok-payload_dir.ensures.uses (λ order. tt)) (λ f. false≢true f) c.in_ok-write_tags.ensures.sink.uses (λ order. (
+            c.in_ok-payload_dir.ensures.open ∙ order.0.1,
+            subst (λ s. AreFree s c.args.tags.now) (sym c.in_ok-payload_dir.ensures.made) (free_front c.args.tags.now order.1.0 _ order.1.3),
+          )))
+          (λ f. false≢true f) c.write_items.ensures.sink.uses (λ order. (
+            (order.0.0, c.in_ok-write_tags.ensures.sink.closed (c.in_ok-payload_dir.ensures.open ∙ order.0.1)),
+            (
+              order.1.0,
+              order.1.1,
+              order.1.2,
+              free_after c.args.tags.now order.1.0 _ _ (subst (λ s. AreFree s (c.args.tags.now ++ order.1.0)) (sym c.in_ok-payload_dir.ensures.made) order.1.3) c.in_ok-write_tags.ensures.written,
+            ),
+          ));
+      closed = λ closed. c.write_items.ensures.sink.closed (c.in_ok-write_tags.ensures.sink.closed (c.in_ok-payload_dir.ensures.open ∙ closed));
+    }

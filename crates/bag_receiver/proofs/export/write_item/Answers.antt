@@ -12,10 +12,13 @@ returns-in_err-write_content-clause-written g c =
     let part = c.in_err-write_content.ensures.written clean content item sized in
     front_written c.args.item.now.path content part.0 _ _ _ c.in_ok-file.ensures.begun part.1)
 
-pub returns-in_err-write_content-clause-store : goal.returns-in_err-write_content-clause-store
-returns-in_err-write_content-clause-store g c =
+pub returns-in_err-write_content-clause-keeper : goal.returns-in_err-write_content-clause-keeper
+returns-in_err-write_content-clause-keeper g c =
     let error = err_from_is_err_and c.from_residual-in_err-write_content.result c.from_residual-in_err-write_content.ensures.1 in
-    rw (error.1, error.2) (counts_on _ (λ store. Keeper (Store store)) _ _ c.in_err-write_content.ensures.store)
+    rw (error.1, error.2) (record {
+      reads = c.write_content.ensures.keeper.reads;
+      counted = counts_on _ (λ store. Keeper (Store store)) _ _ c.in_err-write_content.ensures.keeper.counted;
+    })
 
 pub returns-in_err-end-clause-written : goal.returns-in_err-end-clause-written
 returns-in_err-end-clause-written g c =

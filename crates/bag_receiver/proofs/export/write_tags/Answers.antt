@@ -20,18 +20,21 @@ returns-in_err-write_file-clause-written g c =
     rw error.1 (part_here c.args.tags.now c.loop-file.file-index (file.path, file.body.items) here old mid new c.loop-file.invariant.written
     (subst (λ (fs : Files). ArePart fs mid new) (λ t. (c.path.ensures t, c.body.ensures t) ∷ []) c.in_err-write_file.ensures.written))
 
-pub returns-in_err-write_file-clause-uses : goal.returns-in_err-write_file-clause-uses
-returns-in_err-write_file-clause-uses g c =
+pub returns-in_err-write_file-clause-sink : goal.returns-in_err-write_file-clause-sink
+returns-in_err-write_file-clause-sink g c =
     let error = err_from_is_err_and c.from_residual.result c.from_residual.ensures.1 in
     let files = c.files-file-items.result.now in
     let file = c.file-item.result in
     let here = tag_at c.args.tags.now files c.loop-file.file-index file c.files-file-items.ensures.files (slice_get_read files (length files) c.loop-file.file-index file refl c.loop-file-test.true c.file-item.is) in
     let old = g.S.Sink.stored c.args.sink.now in
     let mid = g.S.Sink.stored c.loop-file.sink in
-    rw error.1 (sink_on (sink_kept c.loop-file.invariant.used (λ no. no)) (λ no. no) c.in_err-write_file.ensures.uses (λ order. (
-      c.loop-file.invariant.closed order.0,
-      subst (IsFree mid) (sym c.path.ensures) (free_here c.args.tags.now c.loop-file.file-index (file.path, file.body.items) here old mid mid c.loop-file.invariant.written order.1),
-    )))
+    rw error.1 (record {
+      uses = sink_on (sink_kept c.loop-file.invariant.used (λ no. no)) (λ no. no) c.in_err-write_file.ensures.sink.uses (λ order. (
+        c.loop-file.invariant.closed order.0,
+        subst (IsFree mid) (sym c.path.ensures) (free_here c.args.tags.now c.loop-file.file-index (file.path, file.body.items) here old mid mid c.loop-file.invariant.written order.1),
+      ));
+      closed = λ closed. tt;
+    })
 
 pub loop-file-preserved : goal.loop-file-preserved
 loop-file-preserved g c =
@@ -44,6 +47,6 @@ loop-file-preserved g c =
     record {
       written = whole_more c.args.tags.now c.loop-file.file-index (file.path, file.body.items) here old mid new c.loop-file.invariant.written
           (subst (λ (fs : Files). AreWhole fs mid new) (λ t. (c.path.ensures t, c.body.ensures t) ∷ []) c.in_ok-write_file.ensures.written);
-      closed = λ closed. c.in_ok-write_file.ensures.closed;
-      used = sink_on c.loop-file.invariant.used (λ no. no) (sink_kept c.in_ok-write_file.ensures.uses (λ e. cc)) (λ h. h);
+      closed = λ closed. c.in_ok-write_file.ensures.sink.closed;
+      used = sink_on c.loop-file.invariant.used (λ no. no) (sink_kept c.in_ok-write_file.ensures.sink.uses (λ e. cc)) (λ h. h);
     }

@@ -6,6 +6,7 @@ use Rattle.sqlite.specs.Held.{state}
 use Rattle.sqlite.specs.State.{HasCleanDisk}
 use Rattle.bag_ledger.specs.Keeping.{IsPieceAt}
 use Rattle.bag_sqlite.specs.Items.{HasPieceRow}
+use Rattle.bag_sqlite.proofs.AdoptingLemmas.{queries_then}
 use Rattle.bag_sqlite.proofs.ContentLemmas.{no_piece_held, piece_held}
 use Rattle.bag_sqlite.proofs.ReadingLemmas.{same_shown, still_holds}
 use Rattle.bag_sqlite.proofs.items.read_piece.Goals as goal
@@ -15,9 +16,9 @@ returns-in_default-2-clause-piece g c clean ledger holds =
     let old = state g.S.Store c.args.connection.now in
     let mid = state g.S.Store c.item_of.new.connection in
     let fits : FitsSigned w64 c.in-Some.item.number = search rules in
-    let early : HasCleanDisk mid = omega (arith, clean, c.piece_at.ensures.survives.clean) in
-    let left = c.in_ok-item.ensures.left early in
-    let still = still_holds old mid ledger early left c.requires c.in_ok-item.ensures.survives holds in
+    let early : HasCleanDisk mid = omega (arith, clean, c.piece_at.ensures.queries.survives.clean) in
+    let left = c.in_ok-item.ensures.queries.left early in
+    let still = still_holds old mid ledger early left c.requires c.in_ok-item.ensures.queries.survives holds in
     let is_open = c.in_ok-piece.ensures.opened clean in
     let shows = holds.shows (left.was_open is_open) in
     let same = same_shown old mid left c.requires is_open shows.committed in
@@ -31,9 +32,9 @@ returns-clause-piece g c clean ledger holds =
     let old = state g.S.Store c.args.connection.now in
     let mid = state g.S.Store c.item_of.new.connection in
     let fits : FitsSigned w64 c.in-Some.item.number = search rules in
-    let early : HasCleanDisk mid = omega (arith, clean, c.piece_at.ensures.survives.clean) in
-    let left = c.in_ok-item.ensures.left early in
-    let still = still_holds old mid ledger early left c.requires c.in_ok-item.ensures.survives holds in
+    let early : HasCleanDisk mid = omega (arith, clean, c.piece_at.ensures.queries.survives.clean) in
+    let left = c.in_ok-item.ensures.queries.left early in
+    let still = still_holds old mid ledger early left c.requires c.in_ok-item.ensures.queries.survives holds in
     let is_open = c.in_ok-piece.ensures.opened clean in
     let shows = holds.shows (left.was_open is_open) in
     let same = same_shown old mid left c.requires is_open shows.committed in
@@ -42,3 +43,12 @@ returns-clause-piece g c clean ledger holds =
     piece_held old.now.trees ledger shows.tables c.args.name.now c.args.path.now c.in-Some.item.number c.in-Some.item.size c.args.offset c.copy_from.new.buf item c.in-Some-2.piece.items c.copy_from.result
     (subst (λ (d : Database). HasPieceRow d.trees c.in-Some.item.number (c.args.offset / PIECE) c.in-Some-2.piece.items) same row)
     (subst (λ octets. IsPieceAt octets (c.args.offset % PIECE) c.copy_from.result c.copy_from.new.buf) c.as_slice.ensures.value c.copy_from.ensures)
+
+pub returns-in_err-piece-clause-queries : goal.returns-in_err-piece-clause-queries
+returns-in_err-piece-clause-queries g c = queries_then c.item_of.ensures.queries c.piece_at.ensures.queries
+
+pub returns-in_default-2-clause-queries : goal.returns-in_default-2-clause-queries
+returns-in_default-2-clause-queries g c = queries_then c.item_of.ensures.queries c.piece_at.ensures.queries
+
+pub returns-clause-queries : goal.returns-clause-queries
+returns-clause-queries g c = queries_then c.item_of.ensures.queries c.piece_at.ensures.queries

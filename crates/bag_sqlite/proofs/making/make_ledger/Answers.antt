@@ -15,8 +15,8 @@ use Rattle.bag_sqlite.proofs.making.make_ledger.Goals as goal
 made : (g : Over) (c : goal.After-connection-2-1 g) → HasCleanDisk (state g.S.Store c.write_format.new.tx.conn.now)
     → (state g.S.Store c.args.connection.now).now.schema ≡ no_schema → IsMade (state g.S.Store c.write_format.new.tx.conn.now)
 made g c third blank =
-    let second : HasCleanDisk (state g.S.Store c.make_item_tables.new.tx.conn.now) = omega (arith, third, c.write_format.ensures.survives.clean) in
-    let first : HasCleanDisk (state g.S.Store c.make_transfer_tables.new.tx.conn.now) = omega (arith, second, c.make_item_tables.ensures.survives.clean) in
+    let second : HasCleanDisk (state g.S.Store c.make_item_tables.new.tx.conn.now) = omega (arith, third, c.write_format.ensures.kept.survives.clean) in
+    let first : HasCleanDisk (state g.S.Store c.make_transfer_tables.new.tx.conn.now) = omega (arith, second, c.make_item_tables.ensures.kept.survives.clean) in
     let one = rw c.transaction-transaction.ensures.begun at (c.in_ok-make_transfer_tables.ensures.made first) in
     c.in_ok-write_format.ensures.made third (c.in_ok-make_item_tables.ensures.made second (one (begin_making g.S.Store c.args.connection.now blank)))
 
@@ -26,15 +26,15 @@ kept g c third =
     let one = state g.S.Store c.make_transfer_tables.new.tx.conn.now in
     let two = state g.S.Store c.make_item_tables.new.tx.conn.now in
     let three = state g.S.Store c.write_format.new.tx.conn.now in
-    let second : HasCleanDisk two = omega (arith, third, c.write_format.ensures.survives.clean) in
-    let first : HasCleanDisk one = omega (arith, second, c.make_item_tables.ensures.survives.clean) in
+    let second : HasCleanDisk two = omega (arith, third, c.write_format.ensures.kept.survives.clean) in
+    let first : HasCleanDisk one = omega (arith, second, c.make_item_tables.ensures.kept.survives.clean) in
     kept_since g.S.Store c.args.connection.now three
-    (kept_then _ one three (rw c.transaction-transaction.ensures.begun at (c.make_transfer_tables.ensures.kept first)) (kept_then one two three (c.make_item_tables.ensures.kept second) (c.write_format.ensures.kept third)))
+    (kept_then _ one three (rw c.transaction-transaction.ensures.begun at (c.make_transfer_tables.ensures.kept.commit first)) (kept_then one two three (c.make_item_tables.ensures.kept.commit second) (c.write_format.ensures.kept.commit third)))
 
 inside : (g : Over) (c : goal.After-connection-2-1 g) → HasCleanDisk (state g.S.Store c.write_format.new.tx.conn.now) → IsTrue (state g.S.Store c.write_format.new.tx.conn.now).in_transaction
 inside g c third =
-    let second : HasCleanDisk (state g.S.Store c.make_item_tables.new.tx.conn.now) = omega (arith, third, c.write_format.ensures.survives.clean) in
-    let first : HasCleanDisk (state g.S.Store c.make_transfer_tables.new.tx.conn.now) = omega (arith, second, c.make_item_tables.ensures.survives.clean) in
+    let second : HasCleanDisk (state g.S.Store c.make_item_tables.new.tx.conn.now) = omega (arith, third, c.write_format.ensures.kept.survives.clean) in
+    let first : HasCleanDisk (state g.S.Store c.make_transfer_tables.new.tx.conn.now) = omega (arith, second, c.make_item_tables.ensures.kept.survives.clean) in
     let one = rw c.transaction-transaction.ensures.begun at (c.in_ok-make_transfer_tables.ensures.inside first) in
     c.in_ok-write_format.ensures.inside third (c.in_ok-make_item_tables.ensures.inside second (one refl))
 
@@ -70,8 +70,8 @@ returns-clause-survives g c =
     let end = c.commit.new.self.0 in
     let same : end ≡ c.connection-2-1.given.0 = search rules in
     let P = MakesLedger (state g.S.Store old) in
-    let last = survives_then one two three _ _ (λ _. ⊥) (λ _ db none. none) (λ _ db none. none) c.make_item_tables.ensures.survives c.write_format.ensures.survives in
-    let inside = survives_then _ one three _ _ (λ _. ⊥) (λ _ db none. none) (λ _ db none. none) (rw c.transaction-transaction.ensures.begun at c.make_transfer_tables.ensures.survives) last in
+    let last = survives_then one two three _ _ (λ _. ⊥) (λ _ db none. none) (λ _ db none. none) c.make_item_tables.ensures.kept.survives c.write_format.ensures.kept.survives in
+    let inside = survives_then _ one three _ _ (λ _. ⊥) (λ _ db none. none) (λ _ db none. none) (rw c.transaction-transaction.ensures.begun at c.make_transfer_tables.ensures.kept.survives) last in
     let whole = survives_then (state g.S.Store old) three (state g.S.Store end) _ _ P (λ _ db none. absurd none)
     (λ clean db is blank. subst (λ (t : Trees). AreTablesOf t []) (sym is) (made g c (omega (arith, c.commit.ensures.survives.clean)) blank).tables)
     (survives_begin g.S.Store old three _ inside) c.commit.ensures.survives in

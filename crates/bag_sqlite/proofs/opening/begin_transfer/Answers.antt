@@ -19,7 +19,7 @@ returns-clause-begun g c =
     let begun = c.transaction-transaction.ensures.begun in
     let steps = prepares g.S.Store old mid name tags c.files.ensures.tags c.requires.opens
     (rw (begun, c.files.ensures.files) at c.in_ok-write_transfer.ensures.written) (rw begun at c.in_ok-write_transfer.ensures.opened)
-    (rw begun at c.write_transfer.ensures.kept) (rw begun at c.write_transfer.ensures.survives) in
+    (rw begun at c.write_transfer.ensures.kept.commit) (rw begun at c.write_transfer.ensures.kept.survives) in
     subst (λ (h : Held _). MatchResult c.commit.result (λ _. WritesLedger g.S.Store such change old c.requires.idle h) (λ _. LeavesLedger g.S.Store such change old c.requires.idle h)) same
     (by_result c.commit.result c.commit.ensures.ok c.commit.ensures.err
     (λ ok. committed g.S.Store such change old c.requires.idle end mid steps c.commit.ensures.survives (λ clean. (ok clean).1) (g.met.S.Store.settled end.store))

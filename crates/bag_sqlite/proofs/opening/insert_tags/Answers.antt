@@ -1,11 +1,10 @@
-use Rattle.std.proofs.Common.{w64, ◌∙◌, arith}
+use Rattle.std.proofs.Common.{w64, arith}
 use Rattle.std.proofs.lemmas.Int.{to_z-of_z}
 use Rattle.std.proofs.lemmas.List.{take_all}
 use Rattle.sqlite.specs.Held.{state}
 use Rattle.sqlite.specs.State.{HasCleanDisk}
-use Rattle.sqlite.proofs.StateLemmas.{survives_then}
 use Rattle.bag_sqlite.proofs.OpeningLemmas.{tags_grow}
-use Rattle.bag_sqlite.proofs.SqlLemmas.{kept_then}
+use Rattle.bag_sqlite.proofs.SqlLemmas.{nothing_then}
 use Rattle.bag_sqlite.proofs.opening.insert_tags.Goals as goal
 
 pub loop-file-preserved : goal.loop-file-preserved
@@ -13,12 +12,10 @@ loop-file-preserved g c =
     let old = state g.S.Store c.args.tx.now.conn.now in
     let mid = state g.S.Store c.loop-file.tx.conn.now in
     let new = state g.S.Store c.insert_tag.new.tx.conn.now in
-    let before = λ (clean : HasCleanDisk new). let early : HasCleanDisk mid = omega (arith, clean, c.insert_tag.ensures.survives.clean) in early in
+    let before = λ (clean : HasCleanDisk new). let early : HasCleanDisk mid = omega (arith, clean, c.insert_tag.ensures.kept.survives.clean) in early in
     let same = to_z-of_z w64 c.args.transfer c.ranges.transfer in
     record {
-      reference = c.insert_tag.ensures.same_reference ∙ c.loop-file.invariant.reference;
-      survives = survives_then old mid new _ _ _ (λ _ db none. none) (λ _ db none. none) c.loop-file.invariant.survives c.insert_tag.ensures.survives;
-      kept = λ clean. kept_then old mid new (c.loop-file.invariant.kept (before clean)) (c.insert_tag.ensures.kept clean);
+      kept = nothing_then c.loop-file.invariant.kept c.insert_tag.ensures.kept;
       rows = λ clean way.
           let so_far = rw same at (c.loop-file.invariant.rows (before clean) way) in
           let one = rw (same, c.as_str.ensures.text, c.path.ensures, c.body.ensures) at (c.in_ok-insert_tag.ensures.added clean so_far.0) in
@@ -27,3 +24,6 @@ loop-file-preserved g c =
 
 pub returns-clause-added : goal.returns-clause-added
 returns-clause-added g c clean way = rw (to_z-of_z w64 c.args.transfer c.ranges.transfer, take_all c.loop-file.file-index c.args.files.now c.loop-file-test.false) at (c.loop-file.invariant.rows clean way)
+
+pub returns-in_err-insert_tag-clause-kept : goal.returns-in_err-insert_tag-clause-kept
+returns-in_err-insert_tag-clause-kept g c = nothing_then c.loop-file.invariant.kept c.insert_tag.ensures.kept

@@ -1,9 +1,10 @@
-use Rattle.std.proofs.Common.{◌≡◌, take}
+use Rattle.std.proofs.Common.{take}
 use Rattle.bag_rules.specs.Files.{files_of}
 use Rattle.sqlite.specs.Held.{state}
-use Rattle.sqlite.specs.State.{HasCleanDisk, KeepsCommit, Survives}
+use Rattle.sqlite.specs.State.{HasCleanDisk}
 use Rattle.bag_sqlite.specs.Opening.{AddsTags}
 use Rattle.bag_sqlite.specs.Putting.{IsUnderWay}
+use Rattle.bag_sqlite.specs.Transactions.{CommitsNothing}
 use Rattle.bag_sqlite.proofs.opening.insert_tags.Given as goal
 
 -- the rows of the files so far are written
@@ -12,8 +13,6 @@ invariant-loop-file g l =
     let old = state g.S.Store l.fn.tx.conn.now in
     let now = state g.S.Store l.tx.conn.now in
     record {
-      reference : l.tx.conn.ghost_name ≡ l.fn.tx.conn.ghost_name;
-      survives : Survives old now (λ _. ⊥);
-      kept : HasCleanDisk now → KeepsCommit old now;
+      kept : CommitsNothing g.S.Store l.fn.tx.conn l.tx.conn;
       rows : HasCleanDisk now → IsUnderWay old → IsUnderWay now × AddsTags old.now.trees now.now.trees l.transfer (files_of (take l.file-index l.files));
     }

@@ -22,10 +22,10 @@ returns-in_err-commit-clause-put g c =
     let it = c.in_ok-put_item.ensures.put in
     let begun = c.transaction-transaction.ensures.begun in
     let change = puts_it g.S.Store old asked mid name want transfer it.0 in
-    let steps = prepares_put g.S.Store old asked mid name want transfer it.0 c.requires.idle c.in_ok-transfer.ensures.left c.transfer_number.ensures.survives
+    let steps = prepares_put g.S.Store old asked mid name want transfer it.0 c.requires.idle c.transfer_number.ensures.queries
     (λ clean ledger holds. rw c.in-Some.is at (c.in_ok-transfer.ensures.number clean ledger holds)) it.1.0.within it.1.1
     (rw (begun, to_z-of_z w64 transfer fits) at it.2) (rw begun at c.in_ok-put_item.ensures.opened)
-    (rw begun at c.put_item.ensures.kept) (rw begun at c.put_item.ensures.survives) in
+    (rw begun at c.put_item.ensures.kept.commit) (rw begun at c.put_item.ensures.kept.survives) in
     let leaves = failed g.S.Store (Awaits name want) change old c.requires.idle end mid steps c.commit.ensures.survives c.in_err-commit.field-0.0 c.in_err-commit.ensures.err in
     rw (p.1, p.2) (λ told. (
       (it.0, it.1.0.gave, it.1.0.within),
@@ -46,9 +46,9 @@ returns-clause-put g c =
     let it = c.in_ok-put_item.ensures.put in
     let begun = c.transaction-transaction.ensures.begun in
     let change = puts_it g.S.Store old asked mid name want transfer it.0 in
-    let steps = prepares_put g.S.Store old asked mid name want transfer it.0 c.requires.idle c.in_ok-transfer.ensures.left c.transfer_number.ensures.survives
+    let steps = prepares_put g.S.Store old asked mid name want transfer it.0 c.requires.idle c.transfer_number.ensures.queries
     (λ clean ledger holds. rw c.in-Some.is at (c.in_ok-transfer.ensures.number clean ledger holds)) it.1.0.within it.1.1
     (rw (begun, to_z-of_z w64 transfer fits) at it.2) (rw begun at c.in_ok-put_item.ensures.opened)
-    (rw begun at c.put_item.ensures.kept) (rw begun at c.put_item.ensures.survives) in
+    (rw begun at c.put_item.ensures.kept.commit) (rw begun at c.put_item.ensures.kept.survives) in
     let writes = committed g.S.Store (Awaits name want) change old c.requires.idle end mid steps c.commit.ensures.survives (λ clean. (c.in_ok-commit.ensures.ok clean).1) (g.met.S.Store.settled end.store) in
     λ told. (it.0, record { is_given = it.1; writes = subst (λ (h : Held _). WritesLedger g.S.Store (Awaits name want) change old c.requires.idle h) same writes })

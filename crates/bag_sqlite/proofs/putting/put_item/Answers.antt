@@ -6,6 +6,7 @@ use Rattle.sqlite.specs.Held.{state}
 use Rattle.sqlite.specs.State.{HasCleanDisk}
 use Rattle.bag_ledger.proofs.TestingLemmas.{read_tested}
 use Rattle.bag_sqlite.proofs.PuttingLemmas.{content_then, uses_told}
+use Rattle.bag_sqlite.proofs.SqlLemmas.{nothing_then}
 use Rattle.bag_sqlite.proofs.putting.put_item.Goals as goal
 
 pub returns-in_err-test-clause-put : goal.returns-in_err-test-clause-put
@@ -39,8 +40,8 @@ returns-clause-put g c =
       concat it.0,
       (it.1.gave, c.in_ok-test.ensures.octets (concat it.0) it.1.sums),
       λ clean.
-          let late : HasCleanDisk third = omega (arith, clean, c.set_size.ensures.survives.clean) in
-          let early : HasCleanDisk second = omega (arith, late, c.put_pieces.ensures.survives.clean) in
+          let late : HasCleanDisk third = omega (arith, clean, c.set_size.ensures.kept.survives.clean) in
+          let early : HasCleanDisk second = omega (arith, late, c.put_pieces.ensures.kept.survives.clean) in
           content_then first second third last item c.args.transfer c.args.want.now.path.now it.0 c.in_ok-size.size it.1.cut it.1.sums.length_is
           (rw (to_z-of_z w64 c.args.transfer c.ranges.transfer, c.as_str.ensures.text, c.path.ensures) at (c.in_ok-item.ensures.added early)) (rw same at (it.2 late))
           (rw same at (c.in_ok-set_size.ensures.set clean)),
@@ -50,3 +51,15 @@ pub returns-clause-uses : goal.returns-clause-uses
 returns-clause-uses g c =
     let was = c.in_ok-size.was in
     uses_told c.put_pieces.ensures.uses (λ e. cc e) (λ e. cc (e, was))
+
+pub returns-in_err-size-clause-kept : goal.returns-in_err-size-clause-kept
+returns-in_err-size-clause-kept g c = search (rules, nothing_then)
+
+pub returns-in_err-test-clause-kept : goal.returns-in_err-test-clause-kept
+returns-in_err-test-clause-kept g c = search (rules, nothing_then)
+
+pub returns-in_err-set_size-clause-kept : goal.returns-in_err-set_size-clause-kept
+returns-in_err-set_size-clause-kept g c = search (rules, nothing_then)
+
+pub returns-clause-kept : goal.returns-clause-kept
+returns-clause-kept g c = search (rules, nothing_then)

@@ -1,20 +1,17 @@
-use Rattle.std.proofs.Common.{rules, ◌≡◌, ◌∙◌, [], w64, arith, length}
+use Rattle.std.proofs.Common.{rules, ◌≡◌, [], w64, arith, length}
 use Rattle.bag_digest.specs.declared.reading.TheConstants.{PIECE}
 use Rattle.std.proofs.lemmas.Int.{to_z-of_z}
 use Rattle.std.proofs.lemmas.Result.{err_from_is_err_and}
 use Rattle.bag_digest.specs.Reading.{read_fault}
 use Rattle.bag_digest.proofs.Progress.{given_before, given_piece}
 use Rattle.sqlite.specs.Held.{state}
-use Rattle.sqlite.proofs.StateLemmas.{survives_then}
 use Rattle.bag_sqlite.proofs.PuttingLemmas.{next_number, no_pieces, read_last, read_more, read_nothing, read_to_end, refused_reading, rows_then, uses_then}
-use Rattle.bag_sqlite.proofs.SqlLemmas.{kept_then}
+use Rattle.bag_sqlite.proofs.SqlLemmas.{nothing_same, nothing_then}
 use Rattle.bag_sqlite.proofs.putting.put_pieces.Goals as goal
 
 pub pieces-init : goal.pieces-init
 pieces-init g c = record {
-  reference = search rules;
-  survives = search rules;
-  kept = search rules;
+  kept = nothing_same;
   used = search rules;
   room = search rules;
   read = ([], read_nothing _ c.args.want.now c.new-multi.result c.algs.result c.algs.ensures c.new-multi.ensures, λ clean way. (way, no_pieces _ _));
@@ -60,7 +57,7 @@ returns-then-n-buffer-clause-read g c =
     let same = to_z-of_z w64 c.args.item c.ranges.item in (
       _,
       last,
-      λ clean. rows_then old mid new c.args.item c.pieces.total it.0 _ (next_number _ _ c.args.want.now _ _ it.0 it.1) (rw same at (it.2 (omega (arith, clean, c.insert_piece.ensures.survives.clean))))
+      λ clean. rows_then old mid new c.args.item c.pieces.total it.0 _ (next_number _ _ c.args.want.now _ _ it.0 it.1) (rw same at (it.2 (omega (arith, clean, c.insert_piece.ensures.kept.survives.clean))))
           (rw same at (c.in_ok-insert_piece.ensures.added clean)),
     )
 
@@ -79,15 +76,19 @@ pieces-preserved g c =
     let same = to_z-of_z w64 c.args.item c.ranges.item in
     let room : length c.fill.new.buffer ≡ PIECE = search rules in
     record {
-      reference = c.insert_piece.ensures.same_reference ∙ c.pieces.invariant.reference;
-      survives = survives_then old mid new _ _ _ (λ _ db none. none) (λ _ db none. none) c.pieces.invariant.survives c.insert_piece.ensures.survives;
-      kept = λ clean. kept_then old mid new (c.pieces.invariant.kept (omega (arith, clean, c.insert_piece.ensures.survives.clean))) (c.insert_piece.ensures.kept clean);
+      kept = nothing_then c.pieces.invariant.kept c.insert_piece.ensures.kept;
       used = uses_then (g.met.R.Source.keeps_on _ _ _) c.pieces.invariant.used c.fill.ensures.uses (λ none. absurd none) (λ e. cc (e, was));
       room = room;
       read = (
         _,
         read_more _ _ _ c.args.want.now _ _ c.in_ok-n.n it.0 _ it.1 c.in_ok-n.ensures.piece c.update.new.self c.update.ensures (omega (arith, room, c.if-n-buffer.false, c.in_ok-n.ensures.piece.bound)),
-        rw same (λ clean. rows_then old mid new c.args.item c.pieces.total it.0 _ (next_number _ _ c.args.want.now _ _ it.0 it.1) (rw same at (it.2 (omega (arith, clean, c.insert_piece.ensures.survives.clean))))
+        rw same (λ clean. rows_then old mid new c.args.item c.pieces.total it.0 _ (next_number _ _ c.args.want.now _ _ it.0 it.1) (rw same at (it.2 (omega (arith, clean, c.insert_piece.ensures.kept.survives.clean))))
             (rw same at (c.in_ok-insert_piece.ensures.added clean))),
       );
     }
+
+pub returns-in_err-insert_piece-clause-kept : goal.returns-in_err-insert_piece-clause-kept
+returns-in_err-insert_piece-clause-kept g c = nothing_then c.pieces.invariant.kept c.insert_piece.ensures.kept
+
+pub returns-then-n-buffer-clause-kept : goal.returns-then-n-buffer-clause-kept
+returns-then-n-buffer-clause-kept g c = nothing_then c.pieces.invariant.kept c.insert_piece.ensures.kept

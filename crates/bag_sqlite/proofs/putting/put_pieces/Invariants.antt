@@ -3,9 +3,10 @@ use Rattle.bag_digest.specs.Device.{UsesSource}
 use Rattle.bag_digest.specs.declared.reading.TheConstants.{PIECE}
 use Rattle.bag_rules.specs.declared.limits.TheConstants.{LARGEST_ITEM}
 use Rattle.sqlite.specs.Held.{state}
-use Rattle.sqlite.specs.State.{HasCleanDisk, KeepsCommit, Survives}
+use Rattle.sqlite.specs.State.{HasCleanDisk}
 use Rattle.bag_sqlite.specs.Contents.{in_pieces}
 use Rattle.bag_sqlite.specs.Putting.{AddsPieces, IsUnderWay}
+use Rattle.bag_sqlite.specs.Transactions.{CommitsNothing}
 use Rattle.bag_sqlite.proofs.PuttingLemmas.{HasReadOn}
 use Rattle.bag_sqlite.proofs.putting.put_pieces.Given as goal
 
@@ -16,9 +17,7 @@ invariant-pieces g l =
     let old = state g.S.Store l.fn.tx.conn.now in
     let now = state g.S.Store l.tx.conn.now in
     record {
-      reference : l.tx.conn.ghost_name ≡ l.fn.tx.conn.ghost_name;
-      survives : Survives old now (λ _. ⊥);
-      kept : HasCleanDisk now → KeepsCommit old now;
+      kept : CommitsNothing g.S.Store l.fn.tx.conn l.tx.conn;
       used : UsesSource source.failures source.ready source.keeps l.fn.reader l.reader ⊥;
       room : length l.buffer ≡ PIECE;
       read : (pieces : List (List ℕ)) × HasReadOn (source.remaining l.fn.reader) (source.remaining l.reader) l.want l.multi l.total pieces

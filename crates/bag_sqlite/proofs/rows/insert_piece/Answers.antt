@@ -7,6 +7,7 @@ use Rattle.sqlite.specs.State.{ExecutesInside}
 use Rattle.sqlite.specs.declared.types.Value.TheVariants.{Blob, Int}
 use Rattle.bag_sqlite.proofs.RowLemmas.{piece_inserted}
 use Rattle.bag_sqlite.proofs.RowMeanings.{new_piece_text}
+use Rattle.bag_sqlite.proofs.SqlLemmas.{nothing_executed}
 use Rattle.bag_sqlite.proofs.rows.insert_piece.Goals as goal
 
 pub returns-clause-added : goal.returns-clause-added
@@ -20,3 +21,6 @@ returns-clause-added g c clean way =
     let ran : ExecutesInside 0 new_piece_text (Int c.args.item ∷ Int (pos n) ∷ Blob c.args.body.now ∷ []) old new (Ok c.in_ok-execute.field-0) =
     rw (first, second, c.params-to_sql-3.ensures) at (c.in_ok-execute.ensures.runs clean way.mode) in
     piece_inserted old new c.args.item n c.args.body.now c.in_ok-execute.field-0 way ran
+
+pub returns-in_err-execute-clause-kept : goal.returns-in_err-execute-clause-kept
+returns-in_err-execute-clause-kept g c = nothing_executed _ _ c.execute.result c.execute.ensures.same_reference (λ outside. (c.execute.ensures.ended outside).1) c.execute.ensures.runs c.execute.ensures.survives

@@ -6,6 +6,7 @@ use Rattle.sqlite.specs.State.{ExecutesInside}
 use Rattle.sqlite.specs.declared.types.Value.TheVariants.{Int}
 use Rattle.bag_sqlite.proofs.RowLemmas.{size_set}
 use Rattle.bag_sqlite.proofs.RowMeanings.{size_text}
+use Rattle.bag_sqlite.proofs.SqlLemmas.{nothing_executed}
 use Rattle.bag_sqlite.proofs.rows.set_size.Goals as goal
 
 pub returns-clause-set : goal.returns-clause-set
@@ -17,3 +18,6 @@ returns-clause-set g c clean way =
     let ran : ExecutesInside 0 size_text (Int c.args.item ∷ Int (pos c.args.size) ∷ []) old new (Ok c.in_ok-execute.field-0) =
     rw (first, second) at (c.in_ok-execute.ensures.runs clean way.mode) in
     size_set old new c.args.item c.args.size c.in_ok-execute.field-0 way ran
+
+pub returns-in_err-execute-clause-kept : goal.returns-in_err-execute-clause-kept
+returns-in_err-execute-clause-kept g c = nothing_executed _ _ c.execute.result c.execute.ensures.same_reference (λ outside. (c.execute.ensures.ended outside).1) c.execute.ensures.runs c.execute.ensures.survives

@@ -4,7 +4,7 @@ use Rattle.sqlite.specs.Held.{state}
 use Rattle.sqlite.specs.State.{HasCleanDisk}
 use Rattle.sqlite.specs.declared.types.Value.TheVariants.{Text}
 use Rattle.bag_sqlite.specs.Adopting.{RowPasses}
-use Rattle.bag_sqlite.proofs.AdoptingLemmas.{all_more, read_then, stands_still, survives_both}
+use Rattle.bag_sqlite.proofs.AdoptingLemmas.{all_more, reads_then, stands_still}
 use Rattle.std.proofs.lemmas.Result.{err_from_is_err_and}
 use Rattle.bag_sqlite.proofs.RefusingLemmas.{all_at, no_column, null_int, null_text}
 use Rattle.bag_sqlite.specs.Refusing.{IsText, ItemFails, items_under}
@@ -17,14 +17,12 @@ loop-row-preserved g c =
     let old = state g.S.Store c.args.connection.now in
     let mid = state g.S.Store c.loop-row.connection in
     let new = state g.S.Store c.passes.new.connection in
-    let before = λ (clean : HasCleanDisk new). let early : HasCleanDisk mid = omega (arith, clean, c.passes.ensures.survives.clean) in early in
+    let before = λ (clean : HasCleanDisk new). let early : HasCleanDisk mid = omega (arith, clean, c.passes.ensures.reads.survives.clean) in early in
     let so_far = c.loop-row.invariant in
     record {
-      idle = c.passes.ensures.idle;
-      survives = survives_both old mid new so_far.survives c.passes.ensures.survives;
-      read = λ clean. read_then old mid new (so_far.read (before clean)) (c.passes.ensures.read clean);
+      reads = reads_then so_far.reads c.passes.ensures.reads;
       passing = λ clean db stands tags plan.
-          let still = stands_still old mid db (so_far.read (before clean)) stands in
+          let still = stands_still old mid db (so_far.reads.read (before clean)) stands in
           let item = c.in_ok-item.item in
           let size = c.in_ok-size.size in
           let item_fits : FitsSigned w64 item = search rules in
@@ -59,8 +57,8 @@ pub returns-in_err-passes-clause-refused : goal.returns-in_err-passes-clause-ref
 returns-in_err-passes-clause-refused g c clean db stands tags plan transfer told =
     let old = state g.S.Store c.args.connection.now in
     let mid = state g.S.Store c.loop-row.connection in
-    let early : HasCleanDisk mid = omega (arith, clean, c.passes.ensures.survives.clean) in
-    let still = stands_still old mid db (c.loop-row.invariant.read early) stands in
+    let early : HasCleanDisk mid = omega (arith, clean, c.passes.ensures.reads.survives.clean) in
+    let still = stands_still old mid db (c.loop-row.invariant.reads.read early) stands in
     let p = err_from_is_err_and c.from_residual-in_err-passes.result c.from_residual-in_err-passes.ensures.1 in
     rw (p.1, p.2) (c.in_err-passes.ensures.refused clean db still tags plan)
 
@@ -68,8 +66,8 @@ pub returns-then-not-branch-clause-refused : goal.returns-then-not-branch-clause
 returns-then-not-branch-clause-refused g c clean db stands tags plan transfer told =
     let old = state g.S.Store c.args.connection.now in
     let mid = state g.S.Store c.loop-row.connection in
-    let early : HasCleanDisk mid = omega (arith, clean, c.passes.ensures.survives.clean) in
-    let still = stands_still old mid db (c.loop-row.invariant.read early) stands in
+    let early : HasCleanDisk mid = omega (arith, clean, c.passes.ensures.reads.survives.clean) in
+    let still = stands_still old mid db (c.loop-row.invariant.reads.read early) stands in
     let item = c.in_ok-item.item in
     let size = c.in_ok-size.size in
     let item_fits : FitsSigned w64 item = search rules in
@@ -87,3 +85,9 @@ returns-then-not-branch-clause-refused g c clean db stands tags plan transfer to
       row_is = (c.in_ok-item.ensures.ok.1, c.in_ok-path.ensures.ok.1, c.in_ok-size.ensures.ok.1);
       fails = subst (λ path. ItemFails g.S.Store db tags item path size) c.as_str.ensures.value fails;
     }
+
+pub returns-in_err-passes-clause-reads : goal.returns-in_err-passes-clause-reads
+returns-in_err-passes-clause-reads g c = reads_then c.loop-row.invariant.reads c.passes.ensures.reads
+
+pub returns-then-not-branch-clause-reads : goal.returns-then-not-branch-clause-reads
+returns-then-not-branch-clause-reads g c = reads_then c.loop-row.invariant.reads c.passes.ensures.reads

@@ -1,11 +1,11 @@
-use Rattle.std.proofs.Common.{◌≡◌, false, take}
+use Rattle.std.proofs.Common.{take}
 use Rattle.std.specs.List.{AllByRecursion}
 use Rattle.bag_rules.specs.Files.{Files}
 use Rattle.bag_rules.specs.Plans.{IsPlanOf}
 use Rattle.sqlite.specs.Effect.{Database}
 use Rattle.sqlite.specs.Held.{state}
-use Rattle.sqlite.specs.State.{HasCleanDisk, Survives}
-use Rattle.bag_sqlite.specs.Adopting.{IsRead, RowPasses, Stands}
+use Rattle.sqlite.specs.State.{HasCleanDisk}
+use Rattle.bag_sqlite.specs.Adopting.{OnlyReads, RowPasses, Stands}
 use Rattle.bag_sqlite.proofs.verifying.damaged_in.Given as goal
 
 abbrev pub invariant-loop-row : goal.invariant-loop-row
@@ -13,8 +13,6 @@ invariant-loop-row g l =
     let old = state g.S.Store l.fn.connection in
     let now = state g.S.Store l.connection in
     record {
-      idle : l.connection.in_transaction ≡ false;
-      survives : Survives old now (λ _. ⊥);
-      read : HasCleanDisk now → IsRead old now;
+      reads : OnlyReads g.S.Store l.fn.connection l.connection;
       passing : HasCleanDisk now → (db : Database) → Stands old db → (tags : Files) → IsPlanOf tags l.plan → AllByRecursion (RowPasses g.S.Store db tags) (take l.row-index l.rows);
     }

@@ -8,7 +8,7 @@ use Rattle.sqlite.specs.Held.{state}
 use Rattle.sqlite.specs.State.{HasCleanDisk}
 use Rattle.sqlite.specs.declared.types.Value.TheVariants.{Int}
 use Rattle.bag_sqlite.specs.Adopting.{TellsOne, count_text, Tells, piece_text}
-use Rattle.bag_sqlite.proofs.AdoptingLemmas.{read_same, read_then, stands_still, survives_both, survives_same}
+use Rattle.bag_sqlite.proofs.AdoptingLemmas.{reads_same, reads_then, stands_still}
 use Rattle.bag_sqlite.proofs.PiecesRead.{nothing_taken, one_taken}
 use Rattle.std.proofs.lemmas.Result.{err_from_is_err_and}
 use Rattle.bag_sqlite.specs.Refusing.{ShowsOctets}
@@ -16,11 +16,8 @@ use Rattle.bag_sqlite.proofs.verifying.digests_of.Goals as goal
 
 pub loop-taken-init : goal.loop-taken-init
 loop-taken-init g c =
-    let s = state g.S.Store c.args.connection.now in
     record {
-      idle = c.requires.idle;
-      survives = survives_same s;
-      read = λ _. read_same s;
+      reads = reads_same c.requires.idle;
       within = omega arith;
       few = omega arith;
       pieces = λ clean db stands. nothing_taken g.S.Store db _ c.args.set c.new-multi.result c.args.size c.new-multi.ensures;
@@ -31,7 +28,7 @@ loop-taken-preserved g c =
     let old = state g.S.Store c.args.connection.now in
     let mid = state g.S.Store c.loop-taken.connection in
     let new = state g.S.Store c.piece_of.new.connection in
-    let before = λ (clean : HasCleanDisk new). let early : HasCleanDisk mid = omega (arith, clean, c.piece_of.ensures.survives.clean) in early in
+    let before = λ (clean : HasCleanDisk new). let early : HasCleanDisk mid = omega (arith, clean, c.piece_of.ensures.reads.survives.clean) in early in
     let taken = c.loop-taken.taken in
     let so_far = c.loop-taken.invariant in
     let body = c.in-Some.piece.items in
@@ -42,13 +39,11 @@ loop-taken-preserved g c =
     let low : c.loop-taken.n < 2 ^ 63 = omega (arith, so_far.few, so_far.within, c.requires.within) in
     let counted : c.len.result ≡ length body = search rules in
     record {
-      idle = c.piece_of.ensures.idle;
-      survives = survives_both old mid new so_far.survives c.piece_of.ensures.survives;
-      read = λ clean. read_then old mid new (so_far.read (before clean)) (c.piece_of.ensures.read clean);
+      reads = reads_then so_far.reads c.piece_of.ensures.reads;
       within = omega (arith, fits, counted);
       few = omega (arith, so_far.few, some, counted);
       pieces = λ clean db stands.
-          let still = stands_still old mid db (so_far.read (before clean)) stands in
+          let still = stands_still old mid db (so_far.reads.read (before clean)) stands in
           let told = rw (c.in-Some.is, to_z-of_z w64 c.args.item c.ranges.item, to_z_pos w64 low) at (c.in_ok-piece.ensures.piece clean db still) in
           let pieces = rw (to_z-of_z w64 c.args.item c.ranges.item) at (so_far.pieces (before clean) db stands) in
           rw (to_z-of_z w64 c.args.item c.ranges.item, counted) (one_taken g.S.Store db c.args.item c.args.set c.loop-taken.multi c.update.new.self c.args.size taken c.loop-taken.n body pieces c.loop-taken-test.true some most
@@ -59,9 +54,9 @@ pub returns-clause-digests : goal.returns-clause-digests
 returns-clause-digests g c clean db stands =
     let old = state g.S.Store c.args.connection.now in
     let mid = state g.S.Store c.loop-taken.connection in
-    let early : HasCleanDisk mid = omega (arith, clean, c.count_of.ensures.survives.clean) in
+    let early : HasCleanDisk mid = omega (arith, clean, c.count_of.ensures.reads.survives.clean) in
     let so_far = rw (to_z-of_z w64 c.args.item c.ranges.item) at (c.loop-taken.invariant.pieces early db stands) in
-    let still = stands_still old mid db (c.loop-taken.invariant.read early) stands in
+    let still = stands_still old mid db (c.loop-taken.invariant.reads.read early) stands in
     let count = rw (to_z-of_z w64 c.args.item c.ranges.item) at (c.in_ok-count_of.ensures.count clean db still) in
     let all : c.args.size ≡ length (concat so_far.pieces) = omega (arith, so_far.taken_is, c.loop-taken.invariant.within, c.loop-taken-test.false) in
     let low : c.loop-taken.n < 2 ^ 63 = omega (arith, c.loop-taken.invariant.few, c.loop-taken.invariant.within, c.requires.within) in
@@ -74,8 +69,8 @@ pub returns-in_err-piece-clause-refused : goal.returns-in_err-piece-clause-refus
 returns-in_err-piece-clause-refused g c clean db stands =
     let old = state g.S.Store c.args.connection.now in
     let mid = state g.S.Store c.loop-taken.connection in
-    let early : HasCleanDisk mid = omega (arith, clean, c.piece_of.ensures.survives.clean) in
-    let still = stands_still old mid db (c.loop-taken.invariant.read early) stands in
+    let early : HasCleanDisk mid = omega (arith, clean, c.piece_of.ensures.reads.survives.clean) in
+    let still = stands_still old mid db (c.loop-taken.invariant.reads.read early) stands in
     let p = err_from_is_err_and c.from_residual.result c.from_residual.ensures.1 in
     rw (p.1, p.2) (c.in_err-piece.ensures.refused clean db still)
 
@@ -83,8 +78,8 @@ pub returns-in_default-clause-refused : goal.returns-in_default-clause-refused
 returns-in_default-clause-refused g c clean db stands =
     let old = state g.S.Store c.args.connection.now in
     let mid = state g.S.Store c.loop-taken.connection in
-    let early : HasCleanDisk mid = omega (arith, clean, c.piece_of.ensures.survives.clean) in
-    let still = stands_still old mid db (c.loop-taken.invariant.read early) stands in
+    let early : HasCleanDisk mid = omega (arith, clean, c.piece_of.ensures.reads.survives.clean) in
+    let still = stands_still old mid db (c.loop-taken.invariant.reads.read early) stands in
     let low : c.loop-taken.n < 2 ^ 63 = omega (arith, c.loop-taken.invariant.few, c.loop-taken.invariant.within, c.requires.within) in
     let so_far = rw (to_z-of_z w64 c.args.item c.ranges.item) at (c.loop-taken.invariant.pieces early db stands) in
     let it = rw (c.in_default.is, to_z-of_z w64 c.args.item c.ranges.item, to_z_pos w64 low) at (c.in_ok-piece.ensures.refused clean db still) in
@@ -103,8 +98,8 @@ pub returns-in_err-count_of-clause-refused : goal.returns-in_err-count_of-clause
 returns-in_err-count_of-clause-refused g c clean db stands =
     let old = state g.S.Store c.args.connection.now in
     let mid = state g.S.Store c.loop-taken.connection in
-    let early : HasCleanDisk mid = omega (arith, clean, c.count_of.ensures.survives.clean) in
-    let still = stands_still old mid db (c.loop-taken.invariant.read early) stands in
+    let early : HasCleanDisk mid = omega (arith, clean, c.count_of.ensures.reads.survives.clean) in
+    let still = stands_still old mid db (c.loop-taken.invariant.reads.read early) stands in
     let p = err_from_is_err_and c.from_residual-in_err-count_of.result c.from_residual-in_err-count_of.ensures.1 in
     rw (p.1, p.2) (c.in_err-count_of.ensures.count clean db still)
 
@@ -112,9 +107,9 @@ pub returns-then-branch-n-clause-refused : goal.returns-then-branch-n-clause-ref
 returns-then-branch-n-clause-refused g c clean db stands =
     let old = state g.S.Store c.args.connection.now in
     let mid = state g.S.Store c.loop-taken.connection in
-    let early : HasCleanDisk mid = omega (arith, clean, c.count_of.ensures.survives.clean) in
+    let early : HasCleanDisk mid = omega (arith, clean, c.count_of.ensures.reads.survives.clean) in
     let so_far = rw (to_z-of_z w64 c.args.item c.ranges.item) at (c.loop-taken.invariant.pieces early db stands) in
-    let still = stands_still old mid db (c.loop-taken.invariant.read early) stands in
+    let still = stands_still old mid db (c.loop-taken.invariant.reads.read early) stands in
     let count = rw (to_z-of_z w64 c.args.item c.ranges.item) at (c.in_ok-count_of.ensures.count clean db still) in
     let number = c.in_ok-count_of.field-0 in
     inr (record {
@@ -126,3 +121,18 @@ returns-then-branch-n-clause-refused g c clean db stands =
       count = count;
       other = λ same. c.if-branch-n.true (ap (of_z w64) (same ∙ ap pos (sym so_far.count)));
     })
+
+pub returns-in_err-piece-clause-reads : goal.returns-in_err-piece-clause-reads
+returns-in_err-piece-clause-reads g c = reads_then c.loop-taken.invariant.reads c.piece_of.ensures.reads
+
+pub returns-in_default-clause-reads : goal.returns-in_default-clause-reads
+returns-in_default-clause-reads g c = reads_then c.loop-taken.invariant.reads c.piece_of.ensures.reads
+
+pub returns-in_err-count_of-clause-reads : goal.returns-in_err-count_of-clause-reads
+returns-in_err-count_of-clause-reads g c = reads_then c.loop-taken.invariant.reads c.count_of.ensures.reads
+
+pub returns-then-branch-n-clause-reads : goal.returns-then-branch-n-clause-reads
+returns-then-branch-n-clause-reads g c = reads_then c.loop-taken.invariant.reads c.count_of.ensures.reads
+
+pub returns-clause-reads : goal.returns-clause-reads
+returns-clause-reads g c = reads_then c.loop-taken.invariant.reads c.count_of.ensures.reads

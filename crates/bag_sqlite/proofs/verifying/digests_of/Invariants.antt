@@ -1,8 +1,8 @@
-use Rattle.std.proofs.Common.{◌-◌, ◌≡◌, ◌≤◌, false}
+use Rattle.std.proofs.Common.{◌-◌, ◌≤◌}
 use Rattle.sqlite.specs.Effect.{Database}
 use Rattle.sqlite.specs.Held.{state}
-use Rattle.sqlite.specs.State.{HasCleanDisk, Survives}
-use Rattle.bag_sqlite.specs.Adopting.{IsRead, Stands}
+use Rattle.sqlite.specs.State.{HasCleanDisk}
+use Rattle.bag_sqlite.specs.Adopting.{OnlyReads, Stands}
 use Rattle.bag_sqlite.proofs.PiecesRead.{HasTaken}
 use Rattle.bag_sqlite.proofs.verifying.digests_of.Given as goal
 
@@ -11,9 +11,7 @@ invariant-loop-taken g l =
     let old = state g.S.Store l.fn.connection in
     let now = state g.S.Store l.connection in
     record {
-      idle : l.connection.in_transaction ≡ false;
-      survives : Survives old now (λ _. ⊥);
-      read : HasCleanDisk now → IsRead old now;
+      reads : OnlyReads g.S.Store l.fn.connection l.connection;
       within : l.taken ≤ l.size;
       few : l.n ≤ l.taken;
       pieces : HasCleanDisk now → (db : Database) → Stands old db → HasTaken g.S.Store db l.item l.fn.set l.multi l.size l.taken l.n;

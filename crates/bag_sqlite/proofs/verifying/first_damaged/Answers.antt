@@ -2,7 +2,7 @@ use Rattle.std.proofs.Common.{arith, w64, sym, subst, [], ◌∷◌}
 use Rattle.std.proofs.lemmas.Int.{to_z-of_z}
 use Rattle.sqlite.specs.Held.{state}
 use Rattle.sqlite.specs.State.{HasCleanDisk}
-use Rattle.bag_sqlite.proofs.AdoptingLemmas.{ok_none, stands_still}
+use Rattle.bag_sqlite.proofs.AdoptingLemmas.{ok_none, reads_then, stands_still}
 use Rattle.std.proofs.lemmas.Result.{err_from_is_err_and}
 use Rattle.bag_sqlite.proofs.RefusingLemmas.{no_query}
 use Rattle.bag_sqlite.specs.Refusing.{items_under}
@@ -14,10 +14,10 @@ pub returns-clause-passing : goal.returns-clause-passing
 returns-clause-passing g c clean db stands tags plan =
     let old = state g.S.Store c.args.connection.now in
     let mid = state g.S.Store c.rows_of.new.connection in
-    let early : HasCleanDisk mid = omega (arith, clean, c.damaged_in.ensures.survives.clean) in
+    let early : HasCleanDisk mid = omega (arith, clean, c.damaged_in.ensures.reads.survives.clean) in
     let rows = c.in_ok-rows.rows.items in
     let told = rw (c.params-to_sql.ensures, to_z-of_z w64 c.args.transfer c.ranges.transfer) at (c.in_ok-rows.ensures.rows early db stands) in
-    let still = stands_still old mid db (c.in_ok-rows.ensures.read early) stands in
+    let still = stands_still old mid db (c.in_ok-rows.ensures.reads.read early) stands in
     ok_none c.damaged_in.result (λ all. (rows, told, all)) (rw c.as_slice.ensures.value at (c.damaged_in.ensures.passing clean db still tags plan))
 
 pub returns-in_err-rows-clause-refused : goal.returns-in_err-rows-clause-refused
@@ -29,7 +29,10 @@ pub returns-clause-refused : goal.returns-clause-refused
 returns-clause-refused g c clean db stands tags plan =
     let old = state g.S.Store c.args.connection.now in
     let mid = state g.S.Store c.rows_of.new.connection in
-    let early : HasCleanDisk mid = omega (arith, clean, c.damaged_in.ensures.survives.clean) in
+    let early : HasCleanDisk mid = omega (arith, clean, c.damaged_in.ensures.reads.survives.clean) in
     let told = rw (c.params-to_sql.ensures, to_z-of_z w64 c.args.transfer c.ranges.transfer) at (c.in_ok-rows.ensures.rows early db stands) in
-    let still = stands_still old mid db (c.in_ok-rows.ensures.read early) stands in
+    let still = stands_still old mid db (c.in_ok-rows.ensures.reads.read early) stands in
     c.damaged_in.ensures.refused clean db still tags plan c.args.transfer (subst (Tells g.S.Store db items_text (Int c.args.transfer ∷ [])) (sym c.as_slice.ensures.value) told)
+
+pub returns-clause-reads : goal.returns-clause-reads
+returns-clause-reads g c = reads_then c.rows_of.ensures.reads c.damaged_in.ensures.reads

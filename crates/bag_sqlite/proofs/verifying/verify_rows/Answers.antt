@@ -2,7 +2,7 @@ use Rattle.std.proofs.Common.{arith, rules, FitsSigned, take_all, w64, refl}
 use Rattle.std.proofs.lemmas.Int.{to_z-of_z}
 use Rattle.sqlite.specs.Held.{state}
 use Rattle.sqlite.specs.State.{HasCleanDisk}
-use Rattle.bag_sqlite.proofs.AdoptingLemmas.{Verifies, all_more, read_then, stands_still, survives_both}
+use Rattle.bag_sqlite.proofs.AdoptingLemmas.{Verifies, all_more, reads_then, stands_still}
 use Rattle.std.proofs.lemmas.Result.{err_from_is_err_and}
 use Rattle.bag_sqlite.proofs.RefusingLemmas.{adopt_transfer, all_at, no_column, null_int, null_text, to_transfers}
 use Rattle.bag_sqlite.specs.Refusing.{IsText, the_transfers}
@@ -15,14 +15,12 @@ loop-row-preserved g c =
     let old = state g.S.Store c.args.connection.now in
     let mid = state g.S.Store c.loop-row.connection in
     let new = state g.S.Store c.verify_transfer.new.connection in
-    let before = λ (clean : HasCleanDisk new). let early : HasCleanDisk mid = omega (arith, clean, c.verify_transfer.ensures.survives.clean) in early in
+    let before = λ (clean : HasCleanDisk new). let early : HasCleanDisk mid = omega (arith, clean, c.verify_transfer.ensures.reads.survives.clean) in early in
     let so_far = c.loop-row.invariant in
     record {
-      idle = c.verify_transfer.ensures.idle;
-      survives = survives_both old mid new so_far.survives c.verify_transfer.ensures.survives;
-      read = λ clean. read_then old mid new (so_far.read (before clean)) (c.verify_transfer.ensures.read clean);
+      reads = reads_then so_far.reads c.verify_transfer.ensures.reads;
       verified = λ clean db stands.
-          let still = stands_still old mid db (so_far.read (before clean)) stands in
+          let still = stands_still old mid db (so_far.reads.read (before clean)) stands in
           let number = c.in_ok-get.field-0 in
           let fits : FitsSigned w64 number = search rules in
           let one = rw (to_z-of_z w64 number fits) at (c.in_ok-verify_transfer.ensures.verified clean db still) in
@@ -49,8 +47,8 @@ pub returns-in_err-verify_transfer-clause-refused : goal.returns-in_err-verify_t
 returns-in_err-verify_transfer-clause-refused g c clean db stands told =
     let old = state g.S.Store c.args.connection.now in
     let mid = state g.S.Store c.loop-row.connection in
-    let early : HasCleanDisk mid = omega (arith, clean, c.verify_transfer.ensures.survives.clean) in
-    let still = stands_still old mid db (c.loop-row.invariant.read early) stands in
+    let early : HasCleanDisk mid = omega (arith, clean, c.verify_transfer.ensures.reads.survives.clean) in
+    let still = stands_still old mid db (c.loop-row.invariant.reads.read early) stands in
     let p = err_from_is_err_and c.from_residual-in_err-verify_transfer.result c.from_residual-in_err-verify_transfer.ensures.1 in
     let number = c.in_ok-get.field-0 in
     let fits : FitsSigned w64 number = search rules in
@@ -66,3 +64,6 @@ returns-in_err-verify_transfer-clause-refused g c clean db stands told =
       row_is = (c.in_ok-get.ensures.ok.1, c.in_ok-get-2.ensures.ok.1);
       fails = fails;
     }) refused)
+
+pub returns-in_err-verify_transfer-clause-reads : goal.returns-in_err-verify_transfer-clause-reads
+returns-in_err-verify_transfer-clause-reads g c = reads_then c.loop-row.invariant.reads c.verify_transfer.ensures.reads

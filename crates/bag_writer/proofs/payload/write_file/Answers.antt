@@ -28,7 +28,10 @@ pub returns-in_err-octets-clause-sink : goal.returns-in_err-octets-clause-sink
 returns-in_err-octets-clause-sink g c =
     let p = err_from_is_err_and c.from_residual-in_err-octets.result c.from_residual-in_err-octets.ensures.1 in
     let own : c.in_ok-path.path ≡ c.path.result.now = search rules in
-    rw (p.1, p.2) (sink_if (sink_so c.in_err-octets.ensures.sink (λ e. err_again e) (λ e. err_again e)) (λ h. (h.0, h.1 c.in_ok-path.path (c.path.ensures ∙ ap Some (sym own)))))
+    rw (p.1, p.2) (record {
+      uses = sink_if (sink_so c.in_err-octets.ensures.sink.uses (λ e. err_again e) (λ e. err_again e)) (λ h. (h.0, h.1 c.in_ok-path.path (c.path.ensures ∙ ap Some (sym own))));
+      closed = λ h. tt;
+    })
 
 pub returns-clause-taken : goal.returns-clause-taken
 returns-clause-taken g c =

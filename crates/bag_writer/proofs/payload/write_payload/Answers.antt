@@ -40,13 +40,16 @@ returns-in_err-item-clause-sink g c =
     let p = err_from_is_err_and c.from_residual.result c.from_residual.ensures.1 in
     let inv = c.loop-i.invariant in
     let tree = g.T.Paths.shown c.args.tree.now in
-    rw (p.1, p.2) (sink_so
-    (sink_on (sink_kept inv.used (λ no. no)) (λ no. no) c.in_err-item.ensures.sink (λ order. (
-      inv.closed order.0,
-      λ path here.
-          free_next c.args.spec.now tree c.loop-i.i _ _ c.loop-i.items.items inv.written.0 inv.written.1 c.count-i-end.ensures.rising path (subst (λ (s : Shown). slice_get (paths_in s) c.loop-i.i ≡ Some path) inv.read.same here) order.1,
-    )))
-    (λ e. err_again e) (λ e. err_again e))
+    rw (p.1, p.2) (record {
+      uses = sink_so
+          (sink_on (sink_kept inv.used (λ no. no)) (λ no. no) c.in_err-item.ensures.sink.uses (λ order. (
+            inv.closed order.0,
+            λ path here.
+                free_next c.args.spec.now tree c.loop-i.i _ _ c.loop-i.items.items inv.written.0 inv.written.1 c.count-i-end.ensures.rising path (subst (λ (s : Shown). slice_get (paths_in s) c.loop-i.i ≡ Some path) inv.read.same here) order.1,
+          )))
+          (λ e. err_again e) (λ e. err_again e);
+      closed = λ h. tt;
+    })
 
 pub returns-in_err-push-clause-written : goal.returns-in_err-push-clause-written
 returns-in_err-push-clause-written g c =
@@ -73,8 +76,8 @@ loop-i-preserved g c =
     record {
       written = (inv.written.0 ++ taken.0 ∷ [], with_items _ more c.in_ok-push.ensures.items);
       read = uses_kept (uses_on inv.read (λ no. no) c.in_ok-item.ensures.tree) (λ e. cc) (λ no. no);
-      closed = λ h. c.in_ok-item.ensures.open (inv.closed h);
-      used = sink_on inv.used (λ no. no) (sink_kept c.in_ok-item.ensures.sink (λ e. cc)) (λ h. h);
+      closed = λ h. c.in_ok-item.ensures.sink.closed (inv.closed h);
+      used = sink_on inv.used (λ no. no) (sink_kept c.in_ok-item.ensures.sink.uses (λ e. cc)) (λ h. h);
     }
 
 pub returns-clause-written : goal.returns-clause-written

@@ -1,4 +1,4 @@
-use Rattle.std.proofs.Common.{◌∙◌, List, None, Some, map, refl, subst, sym}
+use Rattle.std.proofs.Common.{List, None, Some, map, refl, subst, sym}
 use Rattle.std.proofs.lemmas.Result.{err_from_is_err_and}
 use Rattle.bag_rules.proofs.Words.{Files, Tag}
 use Rattle.bag_writer.specs.Steps.{AreItemsOf, IsWritable}
@@ -60,7 +60,10 @@ pub returns-in_err-listed-clause-sink : goal.returns-in_err-listed-clause-sink
 returns-in_err-listed-clause-sink g c =
     let error = err_from_is_err_and c.from_residual.result c.from_residual.ensures.1 in
     let needs = c.requires.payload in
-    rw (error.1, error.2) (sink_so (sink_if (written_first g c needs.0 needs.1 needs.2).uses (λ order. (order.0, tags_free c.args.spec.now needs.0 _ order.1))) (λ is. cc) (λ is. cc))
+    rw (error.1, error.2) (record {
+      uses = sink_so (sink_if (written_first g c needs.0 needs.1 needs.2).uses (λ order. (order.0, tags_free c.args.spec.now needs.0 _ order.1))) (λ is. cc) (λ is. cc);
+      closed = λ closed. tt;
+    })
 
 -- A FAULT AMONG THE TAG MANIFESTS
 
@@ -92,7 +95,10 @@ pub returns-in_err-write_tag_manifests-clause-sink : goal.returns-in_err-write_t
 returns-in_err-write_tag_manifests-clause-sink g c =
     let error = err_from_is_err_and c.from_residual-in_err-write_tag_manifests.result c.from_residual-in_err-write_tag_manifests.ensures.1 in
     let needs = c.requires.payload in
-    rw (error.1, error.2) (sink_so (sink_if (written_later g c needs.0 needs.1 needs.2).uses (λ order. (order.0, tags_free c.args.spec.now needs.0 _ order.1))) (λ is. cc) (λ is. cc))
+    rw (error.1, error.2) (record {
+      uses = sink_so (sink_if (written_later g c needs.0 needs.1 needs.2).uses (λ order. (order.0, tags_free c.args.spec.now needs.0 _ order.1))) (λ is. cc) (λ is. cc);
+      closed = λ closed. tt;
+    })
 
 -- ALL IS WRITTEN
 
@@ -116,9 +122,8 @@ returns-clause-written g c = λ payload are writable.
 pub returns-clause-sink : goal.returns-clause-sink
 returns-clause-sink g c =
     let needs = c.requires.payload in
-    sink_so (sink_if (written_all g c needs.0 needs.1 needs.2).uses (λ order. (order.0, tags_free c.args.spec.now needs.0 _ order.1))) (λ is. cc) (λ is. cc)
-
-pub returns-clause-closed : goal.returns-clause-closed
-returns-clause-closed g c = λ closed.
-    let needs = c.requires.payload in
-    (written_all g c needs.0 needs.1 needs.2).closed closed refl
+    let written = written_all g c needs.0 needs.1 needs.2 in
+    record {
+      uses = sink_so (sink_if written.uses (λ order. (order.0, tags_free c.args.spec.now needs.0 _ order.1))) (λ is. cc) (λ is. cc);
+      closed = λ closed. written.closed closed refl;
+    }

@@ -17,21 +17,21 @@ returns-in_default-clause-reported g c = λ clean now in_state e.
 pub returns-in_err-sizes-clause-store : goal.returns-in_err-sizes-clause-store
 returns-in_err-sizes-clause-store g c =
     let error = err_from_is_err_and c.from_residual-in_err-sizes.result c.from_residual-in_err-sizes.ensures.1 in
-    rw (error.1, error.2) (counts_after _ _ _ _ _ (no_fault _ _) c.in_ok-has_plan.ensures.store (counts_as Keeper (λ a b e. cc) _ _ _ c.in_err-sizes.ensures.store))
+    rw (error.1, error.2) (counts_after _ _ _ _ _ (no_fault _ _) c.in_ok-has_plan.ensures.store (counts_as Keeper (λ a b e. cc) _ _ _ c.in_err-sizes.ensures.keeper.counted))
 
 pub returns-in_err-report-clause-looks : goal.returns-in_err-report-clause-looks
 returns-in_err-report-clause-looks g c =
     does_after g.K.Keeper.holds g.K.Keeper.may_leave g.K.Keeper.clean c.args.self.now c.has_plan.new.self _ Same c.has_plan.ensures.looks
-    (does_read g.K.Keeper.holds g.K.Keeper.may_leave g.K.Keeper.clean c.has_plan.new.self.keeper c.passing_sizes.new.keeper c.has_plan.new.self.plans c.passing_sizes.ensures.reads)
+    (does_read g.K.Keeper.holds g.K.Keeper.may_leave g.K.Keeper.clean c.has_plan.new.self.keeper c.passing_sizes.new.keeper c.has_plan.new.self.plans c.passing_sizes.ensures.keeper.reads)
 
 pub returns-clause-looks : goal.returns-clause-looks
 returns-clause-looks g c =
     does_after g.K.Keeper.holds g.K.Keeper.may_leave g.K.Keeper.clean c.args.self.now c.has_plan.new.self _ Same c.has_plan.ensures.looks
-    (does_read g.K.Keeper.holds g.K.Keeper.may_leave g.K.Keeper.clean c.has_plan.new.self.keeper c.passing_sizes.new.keeper c.has_plan.new.self.plans c.passing_sizes.ensures.reads)
+    (does_read g.K.Keeper.holds g.K.Keeper.may_leave g.K.Keeper.clean c.has_plan.new.self.keeper c.passing_sizes.new.keeper c.has_plan.new.self.plans c.passing_sizes.ensures.keeper.reads)
 
 pub returns-clause-reported : goal.returns-clause-reported
 returns-clause-reported g c = λ clean now in_state.
-    let clean_before = c.passing_sizes.ensures.reads.was_clean clean in
+    let clean_before = c.passing_sizes.ensures.keeper.reads.was_clean clean in
     let is : c.in_ok-has_plan.field-0 ≡ true = search rules in
     let planned = subst (IsPlanned c.args.name.now now.held (plans_in c.has_plan.new.self.plans)) is (c.in_ok-has_plan.ensures.found clean_before now in_state) in
     let after = still g.K.Keeper.holds g.K.Keeper.may_leave g.K.Keeper.clean c.args.self.now c.has_plan.new.self now c.has_plan.ensures.looks clean_before in_state in
