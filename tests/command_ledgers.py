@@ -282,36 +282,36 @@ def read_back(make):
 
 
 def full_disks(make):
-    """`begin` and `intake` with files limited to a length: what was answered is held, and the next command works. Returns the
-    number of lengths."""
+    """`begin`, and then `intake` or `fetch`, with files limited to a length: what was answered is held, and the next command
+    works. Returns how many were tried."""
     contents = {"data/a": os.urandom(20_000), "data/b": b"", "data/c": os.urandom(3 * PIECE), "data/d": os.urandom(90_000)}
-    limits, seen = range(0, 800_000, 19_997), set()
-    for limit in limits:
-        place = make(contents)
+    tried, seen = list(itertools.product(("intake", "fetch"), range(0, 800_000, 19_997))), set()
+    for command, limit in tried:
+        place = make(contents, fetched=contents)
         begun = place.run(*place.words("begin"), limit=limit)
         if begun != (0, ["new"]):
             assert begun == (3, ["bag: store"]), begun
-            seen.add("no ledger")
+            seen.add((command, "no ledger"))
             assert not place.ledger.exists(), limit
             assert place.run(*place.words("begin")) == (0, ["new"])
-        status, lines = place.run(*place.words("intake"), limit=limit)
+        status, lines = place.run(*place.words(command), limit=limit)
         taken = [line.removeprefix("taken ") for line in lines if line.startswith("taken ")]
         if lines == ["bag: store"] or "refused" in "".join(lines):
             assert status == 3 and (len(lines) == 1 or len(lines) == len(contents)), lines
             assert lines[len(taken) :] in ([f"refused {path}: store" for path in list(contents)[len(taken) :]], ["bag: store"]), lines
-            seen.add("full")
+            seen.add((command, "full"))
         else:
             assert status == 0 and taken == list(contents), lines
-            seen.add("all")
+            seen.add((command, "all"))
         judge(place, taken)
         missing = [f"manifest-sha256.txt: missing: {path}" for path in contents if path not in taken]
         wanted = (1, [*missing, "not complete"]) if missing else (0, ["valid"])
         assert place.run(*place.words("audit")) == wanted, (limit, wanted)
-        assert place.run(*place.words("intake"))[0] == 0
+        assert place.run(*place.words(command))[0] == 0
         assert place.run(*place.words("report")) == (0, ["valid"])
         shutil.rmtree(place.work)
-    assert seen == {"no ledger", "full", "all"}, seen
-    return len(limits)
+    assert seen == set(itertools.product(("intake", "fetch"), ("no ledger", "full", "all"))), seen
+    return len(tried)
 
 
 def main(program):
