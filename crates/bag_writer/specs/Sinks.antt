@@ -74,7 +74,7 @@ pub record UsesSink {S : Type 0} (failures : S → ℕ) (sure : S → Type 0) (o
   pub counted : CountsIf failed (failures old) (failures new)
   pub stays_sure : sure old → sure new × (in_order → ¬ failed)
 
--- The same for a call between two files. If it succeeds, no file is open afterwards, provided that none was before.
+-- The same. If the call succeeds, no file is open afterwards, provided that none was before.
 pub record UsesClosedSink {S Value Fault : Type 0} (is_open : S → Bool) (failures : S → ℕ)
     (sure : S → Type 0) (old new : S) (in_order : Type 0) (result : Result Value Fault)
     (failed : Type 0) : Type 0 where

@@ -80,8 +80,8 @@ AreItemsOf set _ _ = ⊥
 pub record AreHoleMarks (paths : List (List ℕ)) (spec : Spec) (marks : List Bool) : Type 0 where
   pub each : marks ≡ map (is_hole spec.holes.items) paths
 
--- A bag can be written as specified of the payload of this tree, whose files come by path. It is no more files than a
--- manifest may list, and these are the marks of its holes.
+-- A bag can be written as specified of the payload of this tree, whose files come by path. The payload has no
+-- more files than a manifest may list, and these are the marks of its holes.
 pub record IsAcceptedWith (shown : Shown) (spec : Spec) (marks : List Bool) : Type 0 where
   pub accepted : IsAccepted (payload_paths shown) spec
   pub few : length (payload_paths shown) ≤ MOST_LINES
