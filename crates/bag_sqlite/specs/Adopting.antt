@@ -75,7 +75,6 @@ stray_items_text = codes "SELECT 1 FROM held WHERE typeof(id) <> 'integer'"
 
 abbrev pub stray_pieces_text : List ℕ
 stray_pieces_text = codes "SELECT 1 FROM piece WHERE typeof(n) <> 'integer'"
-    ++ codes " OR typeof(body) <> 'blob'"
     ++ codes " OR NOT EXISTS (SELECT 1 FROM held WHERE id = piece.item)"
 
 abbrev pub stray_texts : List (List ℕ)

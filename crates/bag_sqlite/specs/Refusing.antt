@@ -124,7 +124,7 @@ MayShow the_format rows = SaysFormat rows (pos 1) ⊎ SaysFormat rows (pos 2)
 MayShow the_transfers rows = AreTransfers rows
 MayShow (tags_under transfer) rows = AreTags rows
 MayShow (items_under transfer) rows = AreItems rows
-MayShow (piece_at item n) rows = AllByRecursion (λ row. IsBlob (column row 0)) rows
+MayShow (piece_at item n) rows = Unit {0}
 MayShow (count_under item) rows = (row : Row) × (rows ≡ row ∷ []) × IsInt (column row 0)
 MayShow (strays text one) rows = rows ≡ []
 

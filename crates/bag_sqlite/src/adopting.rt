@@ -197,7 +197,7 @@ fn test_rows<S: Alter>(connection: &mut Connection<S>) -> Result<(), AdoptFault>
     )?;
     test_none(
         connection,
-        "SELECT 1 FROM piece WHERE typeof(n) <> 'integer' OR typeof(body) <> 'blob' OR NOT EXISTS (SELECT 1 FROM held WHERE id = piece.item)",
+        "SELECT 1 FROM piece WHERE typeof(n) <> 'integer' OR NOT EXISTS (SELECT 1 FROM held WHERE id = piece.item)",
     )
 }
 

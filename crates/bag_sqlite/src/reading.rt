@@ -1,5 +1,5 @@
 //! Queries on a database.
-ghost use Rattle.std.specs.Prelude.{◌≡◌, IfErr, IfOk, IsTrue, List, false, map, string_bytes};
+ghost use Rattle.std.specs.Prelude.{◌≡◌, IfErr, IfOk, IsTrue, false, map, string_bytes};
 ghost use Rattle.std.specs.Map.{keys_of};
 ghost use Rattle.bag_ledger.specs.Ledgers.{Ledger};
 ghost use Rattle.bag_sqlite.specs.Reading.{OnlyQueries, ShowsRows};

@@ -6,7 +6,8 @@ ghost use Rattle.bag_rules.specs.Files.{Files};
 ghost use Rattle.bag_rules.specs.Plans.{IsPlanOf};
 ghost use Rattle.bag_rules.specs.declared.limits.TheConstants.{LARGEST_ITEM as LARGEST};
 ghost use Rattle.bag_sqlite.specs.Adopting.{HasPieces, ItemPasses, OnlyReads, RowPasses, Stands, Tells, TellsOne, TransferPasses, TransfersPass, count_text, files_in, items_text, piece_text, tag_files_text, transfers_text};
-ghost use Rattle.bag_sqlite.specs.Refusing.{AreTags, DoNotOpen, HasDamagedItem, HasMorePieces, IsNoLedger, IsNoneFor, IsSize, ItemFails, LacksPiece, OpensNone, RefusesTransfer, RefusesTransfers, ShowsOctets, adopt_fault};
+ghost use Rattle.bag_sqlite.specs.Contents.{HashesAlso};
+ghost use Rattle.bag_sqlite.specs.Refusing.{AreTags, DoNotOpen, HasDamagedItem, HasMorePieces, IsBlob, IsNoLedger, IsNoneFor, IsSize, ItemFails, LacksPiece, OpensNone, RefusesTransfer, RefusesTransfers, ShowsOctets, adopt_fault};
 ghost use Rattle.sqlite.specs.Effect.{Database};
 ghost use Rattle.sqlite.specs.Held.{state};
 ghost use Rattle.sqlite.specs.Order.{column, Row};
@@ -20,6 +21,7 @@ use bag_digest::{AlgSet, Digests, Multi, PIECE};
 use bag_ledger::KeepFault;
 use bag_rules::limits::LARGEST_ITEM;
 use bag_rules::{Plan, PlanFault};
+use sqlite::types::ValueRef;
 use sqlite::{Alter, Connection, Error, ErrorCode, Row, params};
 use std::alloc::Global;
 
@@ -289,12 +291,11 @@ fn digests_of<S: Alter>(
     let mut taken = 0;
     let mut n: u64 = 0;
     while taken < size {
-        let Some(piece) = piece_of(connection, item, n as i64, (size - taken).min(PIECE as u64))?
-        else {
+        let octets = (size - taken).min(PIECE as u64);
+        if !take_piece(connection, item, n as i64, octets, &mut multi)? {
             return Ok(None);
-        };
-        multi.update(piece.as_slice());
-        taken += piece.len() as u64;
+        }
+        taken += octets;
         n += 1;
     }
     if count_of(connection, item)? != n as i64 {
@@ -303,24 +304,25 @@ fn digests_of<S: Alter>(
     Ok(Some(multi.finish()))
 }
 
-/// The piece of a payload file with this number, if it exists and has this many octets.
-fn piece_of<S: Alter>(
+/// Hashes the piece of a payload file with this number, if it exists and has this many octets. Returns whether it does.
+fn take_piece<S: Alter>(
     connection: &mut Connection<S>,
     item: i64,
     n: i64,
     octets: u64,
-) -> Result<Option<Vec<u8>>, AdoptFault>
+    multi: &mut Multi,
+) -> Result<bool, AdoptFault>
     requires idle { connection.old.in_transaction ≡ false }
-    ensures piece { HasCleanDisk (state S.Store connection.new) → (db : Database)
+    ensures taken { HasCleanDisk (state S.Store connection.new) → (db : Database)
         → Stands (state S.Store connection.old) db
-        → IfOk result (λ piece. IfSome piece (λ piece.
-        TellsOne S.Store db piece_text (Int item ∷ Int n ∷ []) (Blob piece.items))) }
+        → IfOk result (λ taken. IsTrue taken → (piece : List ℕ)
+        × TellsOne S.Store db piece_text (Int item ∷ Int n ∷ []) (Blob piece)
+        × (length piece ≡ octets) × HashesAlso multi.old multi.new piece) }
     ensures refused { HasCleanDisk (state S.Store connection.new) → (db : Database)
         → Stands (state S.Store connection.old) db
-        → MatchResult result (λ piece. IfNone piece ((rows : List Row)
-        × Tells S.Store db piece_text (Int item ∷ Int n ∷ []) rows × ¬ ShowsOctets rows octets))
+        → MatchResult result (λ taken. taken ≡ false → (rows : List Row)
+        × Tells S.Store db piece_text (Int item ∷ Int n ∷ []) rows × ¬ ShowsOctets rows octets)
         (IsNoneFor (IsNoLedger S.Store db)) }
-    ensures whole { IfOk result (λ piece. IfSome piece (λ piece. length piece.items ≡ octets)) }
     ensures reads { OnlyReads S.Store connection.old connection.new }
 {
     let rows = rows_of(
@@ -329,13 +331,26 @@ fn piece_of<S: Alter>(
         params![item, n],
     )?;
     if rows.len() != 1 {
-        return Ok(None);
+        return Ok(false);
     }
-    let piece: Vec<u8> = rows[0].get(0)?;
-    if piece.len() as u64 == octets {
-        Ok(Some(piece))
-    } else {
-        Ok(None)
+    let Some(piece) = blob_in(&rows[0]) else {
+        return Ok(false);
+    };
+    if piece.len() as u64 != octets {
+        return Ok(false);
+    }
+    multi.update(piece);
+    Ok(true)
+}
+
+/// The octets in the first column, if it is a blob.
+fn blob_in(row: &Row) -> Option<&[u8]>
+    ensures { MatchOption result (¬ IsBlob (column row.now 0))
+        (λ octets. column row.now 0 ≡ Blob octets.now) }
+{
+    match row.get_ref(0) {
+        Ok(ValueRef::Blob(octets)) => Some(octets),
+        _ => None,
     }
 }
 

@@ -27,27 +27,25 @@ pub loop-taken-preserved : goal.loop-taken-preserved
 loop-taken-preserved g c =
     let old = state g.S.Store c.args.connection.now in
     let mid = state g.S.Store c.loop-taken.connection in
-    let new = state g.S.Store c.piece_of.new.connection in
-    let before = λ (clean : HasCleanDisk new). let early : HasCleanDisk mid = omega (arith, clean, c.piece_of.ensures.reads.survives.clean) in early in
+    let new = state g.S.Store c.take_piece.new.connection in
+    let before = λ (clean : HasCleanDisk new). let early : HasCleanDisk mid = omega (arith, clean, c.take_piece.ensures.reads.survives.clean) in early in
     let taken = c.loop-taken.taken in
     let so_far = c.loop-taken.invariant in
-    let body = c.in-Some.piece.items in
-    let size : length body ≡ c.min.result = rw c.in-Some.is at c.in_ok-piece.ensures.whole in
-    let some : 0 < length body = omega (arith, size, c.min.ensures, c.loop-taken-test.true) in
-    let most : length body ≤ PIECE = omega (arith, size, c.min.ensures) in
-    let fits : taken + length body ≤ c.args.size = omega (arith, size, c.min.ensures, c.loop-taken-test.true) in
+    let octets = c.min-octets.result in
+    let some : 0 < octets = omega (arith, c.min-octets.ensures, c.loop-taken-test.true) in
+    let fits : taken + octets ≤ c.args.size = omega (arith, c.min-octets.ensures, c.loop-taken-test.true) in
     let low : c.loop-taken.n < 2 ^ 63 = omega (arith, so_far.few, so_far.within, c.requires.within) in
-    let counted : c.len.result ≡ length body = search rules in
     record {
-      reads = reads_then so_far.reads c.piece_of.ensures.reads;
-      within = omega (arith, fits, counted);
-      few = omega (arith, so_far.few, some, counted);
+      reads = reads_then so_far.reads c.take_piece.ensures.reads;
+      within = fits;
+      few = omega (arith, so_far.few, some);
       pieces = λ clean db stands.
           let still = stands_still old mid db (so_far.reads.read (before clean)) stands in
-          let told = rw (c.in-Some.is, to_z-of_z w64 c.args.item c.ranges.item, to_z_pos w64 low) at (c.in_ok-piece.ensures.piece clean db still) in
+          let (piece, told, long, hashes) = rw (to_z-of_z w64 c.args.item c.ranges.item, to_z_pos w64 low) at (c.in_ok-take_piece.ensures.taken clean db still) c.if-not-branch.false in
           let pieces = rw (to_z-of_z w64 c.args.item c.ranges.item) at (so_far.pieces (before clean) db stands) in
-          rw (to_z-of_z w64 c.args.item c.ranges.item, counted) (one_taken g.S.Store db c.args.item c.args.set c.loop-taken.multi c.update.new.self c.args.size taken c.loop-taken.n body pieces c.loop-taken-test.true some most
-          (λ more. omega (arith, more, size, c.min.ensures)) told (λ octets. rw c.as_slice.ensures.value at (c.update.ensures c.args.set octets)));
+          rw (to_z-of_z w64 c.args.item c.ranges.item, sym long)
+          (one_taken g.S.Store db c.args.item c.args.set c.loop-taken.multi c.take_piece.new.multi c.args.size taken c.loop-taken.n piece pieces c.loop-taken-test.true (omega (arith, some, long)) (omega (arith, c.min-octets.ensures, long))
+          (λ more. omega (arith, more, long, c.min-octets.ensures)) told (hashes c.args.set));
     }
 
 pub returns-clause-digests : goal.returns-clause-digests
@@ -65,25 +63,25 @@ returns-clause-digests g c clean db stands =
     let same : number ≡ pos (length so_far.pieces) = sym (to_z-of_z w64 number fits) ∙ ap (to_z w64) c.if-branch-n.false ∙ to_z_pos w64 low ∙ ap pos so_far.count in
     (so_far.pieces, record { each = so_far.each; count = subst (λ m. TellsOne g.S.Store db count_text (Int c.args.item ∷ []) (Int m)) same count; cut = so_far.cut }, all, c.finish.ensures c.args.set (concat so_far.pieces) so_far.holds)
 
-pub returns-in_err-piece-clause-refused : goal.returns-in_err-piece-clause-refused
-returns-in_err-piece-clause-refused g c clean db stands =
+pub returns-in_err-take_piece-clause-refused : goal.returns-in_err-take_piece-clause-refused
+returns-in_err-take_piece-clause-refused g c clean db stands =
     let old = state g.S.Store c.args.connection.now in
     let mid = state g.S.Store c.loop-taken.connection in
-    let early : HasCleanDisk mid = omega (arith, clean, c.piece_of.ensures.reads.survives.clean) in
+    let early : HasCleanDisk mid = omega (arith, clean, c.take_piece.ensures.reads.survives.clean) in
     let still = stands_still old mid db (c.loop-taken.invariant.reads.read early) stands in
     let p = err_from_is_err_and c.from_residual.result c.from_residual.ensures.1 in
-    rw (p.1, p.2) (c.in_err-piece.ensures.refused clean db still)
+    rw (p.1, p.2) (c.in_err-take_piece.ensures.refused clean db still)
 
-pub returns-in_default-clause-refused : goal.returns-in_default-clause-refused
-returns-in_default-clause-refused g c clean db stands =
+pub returns-then-not-branch-clause-refused : goal.returns-then-not-branch-clause-refused
+returns-then-not-branch-clause-refused g c clean db stands =
     let old = state g.S.Store c.args.connection.now in
     let mid = state g.S.Store c.loop-taken.connection in
-    let early : HasCleanDisk mid = omega (arith, clean, c.piece_of.ensures.reads.survives.clean) in
+    let early : HasCleanDisk mid = omega (arith, clean, c.take_piece.ensures.reads.survives.clean) in
     let still = stands_still old mid db (c.loop-taken.invariant.reads.read early) stands in
     let low : c.loop-taken.n < 2 ^ 63 = omega (arith, c.loop-taken.invariant.few, c.loop-taken.invariant.within, c.requires.within) in
     let so_far = rw (to_z-of_z w64 c.args.item c.ranges.item) at (c.loop-taken.invariant.pieces early db stands) in
-    let it = rw (c.in_default.is, to_z-of_z w64 c.args.item c.ranges.item, to_z_pos w64 low) at (c.in_ok-piece.ensures.refused clean db still) in
-    let wanted : c.min.result ≡ min (c.args.size - length (concat so_far.pieces)) PIECE = omega (arith, c.min.ensures, so_far.taken_is) in
+    let it = rw (to_z-of_z w64 c.args.item c.ranges.item, to_z_pos w64 low) at (c.in_ok-take_piece.ensures.refused clean db still) c.if-not-branch.true in
+    let wanted : c.min-octets.result ≡ min (c.args.size - length (concat so_far.pieces)) PIECE = omega (arith, c.min-octets.ensures, so_far.taken_is) in
     inl (record {
       pieces = so_far.pieces;
       each = so_far.each;
@@ -122,11 +120,11 @@ returns-then-branch-n-clause-refused g c clean db stands =
       other = λ same. c.if-branch-n.true (ap (of_z w64) (same ∙ ap pos (sym so_far.count)));
     })
 
-pub returns-in_err-piece-clause-reads : goal.returns-in_err-piece-clause-reads
-returns-in_err-piece-clause-reads g c = reads_then c.loop-taken.invariant.reads c.piece_of.ensures.reads
+pub returns-in_err-take_piece-clause-reads : goal.returns-in_err-take_piece-clause-reads
+returns-in_err-take_piece-clause-reads g c = reads_then c.loop-taken.invariant.reads c.take_piece.ensures.reads
 
-pub returns-in_default-clause-reads : goal.returns-in_default-clause-reads
-returns-in_default-clause-reads g c = reads_then c.loop-taken.invariant.reads c.piece_of.ensures.reads
+pub returns-then-not-branch-clause-reads : goal.returns-then-not-branch-clause-reads
+returns-then-not-branch-clause-reads g c = reads_then c.loop-taken.invariant.reads c.take_piece.ensures.reads
 
 pub returns-in_err-count_of-clause-reads : goal.returns-in_err-count_of-clause-reads
 returns-in_err-count_of-clause-reads g c = reads_then c.loop-taken.invariant.reads c.count_of.ensures.reads
