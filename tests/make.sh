@@ -112,6 +112,23 @@ mkdir "$work/many"
 (cd "$work/many" && seq 1000 | split -l 1 -a 3 -)
 expect 'a thousand files' 0 'made 1000 files, 3893 octets' bag make "$work/many" "$work/many bag" sha256
 expect 'a thousand files: it is valid' 0 valid valid_bag "$work/many" "$work/many bag"
+# Digests of files shorter than 131,072 octets are taken together, 32 at most, in their order among longer ones.
+mkdir "$work/mixed"
+(cd "$work/mixed" && seq 100 199 | split -l 1 -a 3 -d -) # x000 to x099, of four octets each
+for length in 0 1 65535 65536 65537 131071 131072 131073 300000; do
+    seq "$length" 400000 | head -c "$length" >"$work/mixed/x003 $length"
+    seq "$length" 400000 | tail -c "$length" >"$work/mixed/x064 $length"
+done
+# listed DST ALG: the manifest has the lines that coreutils print for the payload, in the order of the paths.
+listed() {
+    (cd "$1" && find data -type f -print0 | LC_ALL=C sort -z | xargs -0 "$2sum" | diff - "manifest-$2.txt")
+}
+expect 'short files among long ones' 0 'made 118 files, 1780050 octets' \
+    bag make "$work/mixed" "$work/mixed bag" md5 sha1 sha256 sha512
+expect 'short files among long ones: it is valid' 0 valid valid_bag "$work/mixed" "$work/mixed bag"
+for alg in md5 sha1 sha256 sha512; do
+    expect "short files among long ones, $alg: the manifest" 0 '' listed "$work/mixed bag" "$alg"
+done
 mkdir "$work/large"
 head -c 100000007 /dev/zero | tr '\0' A >"$work/large/A"
 expect 'a large file' 0 'made 1 files, 100000007 octets' bag make "$work/large" "$work/large bag" md5 sha512

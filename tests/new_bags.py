@@ -32,6 +32,8 @@ ALGORITHMS = ["md5", "sha1", "sha256", "sha512"]
 MOST_FILES, LARGEST_TAG_FILE = 100000, 16777216
 # The system accepts paths of up to 4,095 octets, including the folder.
 LONGEST_IN_FOLDER = 3900
+# On both sides of the length up to which the digests of files are taken together, and of half of it.
+EDGES = [0, 1, 65535, 65536, 65537, 131071, 131072, 131073, 200000]
 # The answers and the judges, each of which must occur at least once.
 KINDS = ["written", "refused: no algorithm", "refused: Oxum given", "refused: bad hole", "refused: clash", "refused: too large",
          "refused after the payload: too large"]
@@ -176,6 +178,13 @@ def chosen_orders():
     yield "an empty file", Order({"data/a": b""}, ["md5"])
     yield "one octet", Order({"data/a": b"\0"}, ["sha1"])
     yield "long file", Order({"data/a": bytes(range(256)) * 4096 + b"x"}, ALGORITHMS)
+    short = {f"data/{number:02}": b"%d" % number * number for number in range(100)}
+    edges = {f"data/{place:02}.{length}": bytes(range(place, 256)) * 1200 for place in (3, 64) for length in EDGES}
+    mixed = {path: octets[:int(path.partition(".")[2] or len(octets))] for path, octets in {**short, **edges}.items()}
+    yield "short files among long ones", Order(mixed, ALGORITHMS)
+    yield "holes among them", Order(mixed, ALGORITHMS, holes=[(path, "x:y") for path in list(mixed)[::3]])
+    for number in (31, 32, 33, 64, 65):
+        yield f"{number} short files", Order(dict(list(short.items())[:number]))
     yield "tag files of the tree aren't taken", Order({**two, **{name: b"x" for name in TAGS}})
     yield "line ends and percent", Order({"data/a\nb": b"1", "data/\r": b"2", "data/100%": b"3", "data/%0A": b"4", "data/%": b"5"})
     yield "marks and blanks", Order({"data/*": b"1", "data/ x": b"2", "data/*x /\ty": b"3", "data/x ": b"4"}, ALGORITHMS)

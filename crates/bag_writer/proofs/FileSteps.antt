@@ -5,17 +5,16 @@ use Rattle.std.specs.Io.KnownBytes.{Consumes}
 use Rattle.std.specs.Option.{option_and_then, option_map}
 use Rattle.bag_rules.proofs.Words.{octets_in, paths_in, same_Some, Shown, slice_get-map}
 use Rattle.bag_digest.specs.Reading.{GaveAll}
-use Rattle.bag_digest.specs.Hash.{AreDigests}
 use Rattle.bag_rules.specs.declared.limits.TheConstants.{LARGEST_FILE}
-use Rattle.bag_writer.specs.declared.item.Item.{Item}
 use Rattle.bag_digest.specs.declared.algorithm.AlgSet.{AlgSet}
-use Rattle.bag_digest.specs.declared.multi.Digests.{Digests}
-use Rattle.bag_writer.specs.PayloadSteps.{AreOctetsOf, HasFrontFrom, IsCutShort, IsReadAs, IsTaken, IsReadUntil, IsReadWhole, unless_hole, Writes, WritesFront}
+use Rattle.bag_digest.specs.declared.reading.Found.{Found}
+use Rattle.bag_digest.specs.declared.reading.Found.TheVariants.{Whole, Hashed}
+use Rattle.bag_writer.specs.PayloadSteps.{AreOctetsOf, HasFrontFrom, IsCutShort, IsFoundOf, IsReadAs, IsTaken, IsReadUntil, IsReadWhole, IsWithin, unless_hole, Writes, WritesFront}
 use Rattle.bag_writer.specs.Sinks.{StaysOrIsLost, Stored, with_begun}
 use Rattle.bag_writer.specs.Steps.{ArePart, AreWhole, HasFrontOf}
 use Rattle.bag_writer.specs.declared.fault.WriteFault.{WriteFault}
 use Rattle.bag_writer.specs.declared.fault.WriteFault.TheVariants.{Sink, TooLarge}
-use Rattle.bag_writer.proofs.StepLemmas.{begun_empty, begun_front, begun_lost, begun_more, front_part, HasBegun, part_none}
+use Rattle.bag_writer.proofs.StepLemmas.{begun_empty, begun_front, begun_lost, begun_more, front_part, HasBegun, part_none, part_whole}
 
 -- A FILE THAT IS BEGUN
 
@@ -36,15 +35,23 @@ module _ (path octets : List ℕ) {old mid new : Option Stored} (begun : mid ≡
   not_ended {end} written lost = λ rest. begun_lost rest (all_begun written) lost
 
 -- what was read whole was read until the sink failed
-pub until_sink : {set : AlgSet} {source left : Option (List ℕ)} {found : ℕ × Digests} {octets : List ℕ} → IsReadWhole set source left found octets → IsReadUntil source left Sink octets
+pub until_sink : {set : AlgSet} {source left : Option (List ℕ)} {buffer : List ℕ} {found : Found} {octets : List ℕ} → IsReadWhole set source left buffer found octets → IsReadUntil source left Sink octets
 until_sink whole = record { gave = whole.gave.gave; long = λ e. cc }
 
+consumes_none : (source : Option (List ℕ)) → Consumes source source []
+consumes_none None = tt
+consumes_none (Some octets) = refl
+
+-- nothing was read until a fault
+pub none_until : (source : Option (List ℕ)) (fault : WriteFault) → ¬ (fault ≡ TooLarge) → IsReadUntil source source fault []
+none_until source fault other = record { gave = consumes_none source; long = λ e. absurd (other e) }
+
 -- a file that isn't a hole is processed if it is copied
-pub taken_as_file : (set : AlgSet) (source left : Option (List ℕ)) (path octets : List ℕ) (old new : Option Stored) (is_hole : Bool) → is_hole ≡ false → (result : Result (ℕ × Digests) WriteFault)
-    → MatchResult result (λ found. IsReadWhole set source left found octets × AreWhole ((path, octets) ∷ []) old new) (λ fault. IsReadUntil source left fault octets × HasFrontFrom path octets old new)
-    → MatchResult result (λ found. IsReadWhole set source left found octets × AreWhole (unless_hole is_hole (path, octets)) old new) (λ fault. IsReadUntil source left fault octets × ((rest : List ℕ) → ArePart (unless_hole is_hole (path, octets ++ rest)) old new))
-taken_as_file set source left path octets old new is_hole e (Ok found) copied = rw e copied
-taken_as_file set source left path octets old new is_hole e (Err fault) copied = rw e (copied.0, λ rest. front_part (path, octets ++ rest) [] old new (copied.1 rest))
+pub taken_as_file : (set : AlgSet) (source left : Option (List ℕ)) (path octets : List ℕ) (old new : Option Stored) (buffer : List ℕ) (is_hole : Bool) → is_hole ≡ false → (result : Result Found WriteFault)
+    → MatchResult result (λ found. IsReadWhole set source left buffer found octets × AreWhole ((path, octets) ∷ []) old new) (λ fault. IsReadUntil source left fault octets × HasFrontFrom path octets old new)
+    → MatchResult result (λ found. IsReadWhole set source left buffer found octets × AreWhole (unless_hole is_hole (path, octets)) old new) (λ fault. IsReadUntil source left fault octets × ((rest : List ℕ) → ArePart (unless_hole is_hole (path, octets ++ rest)) old new))
+taken_as_file set source left path octets old new buffer is_hole e (Ok found) copied = rw e copied
+taken_as_file set source left path octets old new buffer is_hole e (Err fault) copied = rw e (copied.0, λ rest. front_part (path, octets ++ rest) [] old new (copied.1 rest))
 
 -- A FILE OF A TREE
 
@@ -84,21 +91,25 @@ module _ (is_hole : Bool) (set : AlgSet) (shown : List ℕ × Option (List ℕ))
       )
 
   -- a file that was read whole
-  pub taken_whole : (item : Item) (found : ℕ × Digests) → item.path ≡ path → item.octets ≡ found.0 → item.digests ≡ found.1 → IsReadWhole set source left found octets → AreWhole (unless_hole is_hole (path, octets)) old new
-      → (file : List ℕ × List ℕ) × IsReadAs shown file × IsTaken set is_hole file old new item
-  taken_whole item found own count digested whole written = (
+  pub taken_whole : (buffer : List ℕ) (found : Found) → IsReadWhole set source left buffer found octets → AreWhole (unless_hole is_hole (path, octets)) old new
+      → (file : List ℕ × List ℕ) × IsReadAs shown file × IsTaken set is_hole file old new buffer (path, found)
+  taken_whole buffer found whole written = (
     (path, octets),
     (named, all_octets shown.1 left LARGEST_FILE octets (subst (λ s. GaveAll s left LARGEST_FILE octets) started whole.gave)),
-    record {
-      item_is = record {
-        path_is = own;
-        length_is = count ∙ whole.sums.0;
-        digests_are = subst (λ d. AreDigests d set octets) (sym digested) whole.sums.1;
-      };
-      within = whole.gave.within;
-      written = written;
-    },
+    record { path_is = refl; found_is = whole.found_is; within = whole.gave.within; written = written },
   )
+
+-- what was found of octets is within the buffer, if it is there
+pub within_of : (set : AlgSet) (buffer : List ℕ) (found : Found) (octets : List ℕ) → IsFoundOf set buffer found octets → IsWithin buffer found
+within_of set buffer (Whole n) octets is = is.0
+within_of set buffer (Hashed n digests) octets is = tt
+
+-- a file that was written, after which there was another fault than that it is too large
+pub cut_after : (set : AlgSet) (is_hole : Bool) (file : List ℕ × List ℕ) (old new : Option Stored) (buffer : List ℕ) (found : List ℕ × Found) (fault : WriteFault) → IsTaken set is_hole file old new buffer found → ¬ (fault ≡ TooLarge) → IsCutShort is_hole file old new fault
+cut_after set is_hole file old new buffer found fault taken other = record {
+  long = λ e. absurd (other e);
+  written = subst (λ list. ArePart list old new) (append-nil (unless_hole is_hole file)) (part_whole (unless_hole is_hole file) [] old new taken.written);
+}
 
 -- what a tree shows of the file at a place
 module _ (tree : Shown) (i : ℕ) (shown : List ℕ × Option (List ℕ)) (here : slice_get tree.files i ≡ Some shown) where

@@ -9,6 +9,7 @@ pub mod OctetSteps
 pub mod FileSteps
 pub mod PayloadLists
 pub mod PayloadSoFar
+pub mod HeldLemmas
 pub mod SinkKept
 pub mod TagSteps
 pub mod ItemLemmas

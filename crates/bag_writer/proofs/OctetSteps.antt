@@ -1,18 +1,19 @@
 -- Octets that were read from a source, hashed and written so far.
-use Rattle.std.proofs.Common.{◌≡◌, ◌<◌, ◌-◌, ◌+◌, ℕ, List, [], ◌++◌, Option, Some, None, length, take, arith, refl, sym, ap, ◌∙◌, subst, length-append, append-nil, append_assoc}
-use Rattle.std.specs.Io.KnownBytes.{Consumes}
+use Rattle.std.proofs.Common.{◌≡◌, ◌<◌, ◌-◌, ◌+◌, ℕ, List, [], ◌∷◌, ◌++◌, Option, Some, None, length, take, arith, refl, sym, ap, ◌∙◌, subst, length-append, append-nil, append_assoc}
+use Rattle.std.specs.Io.KnownBytes.{Consumes, IsAtEnd}
 use Rattle.std.specs.Option.{option_map}
 use Rattle.std.proofs.KnownBytes.{Consumes-trans}
 use Rattle.std.proofs.Math.Seq.{take-append-add}
 use Rattle.std.proofs.lemmas.List.{length-take-le}
 use Rattle.bag_digest.proofs.Progress.{HasGiven}
 use Rattle.bag_digest.specs.Hash.{AreDigests, Holds}
-use Rattle.bag_digest.specs.Reading.{GaveBefore, GaveMoreThan, GavePiece, GaveWithin, read_fault}
+use Rattle.bag_digest.specs.Reading.{GaveAll, GaveBefore, GaveMoreThan, GavePiece, GaveWithin, read_fault}
 use Rattle.bag_digest.specs.declared.reading.SourceFault.{SourceFault}
 use Rattle.bag_digest.specs.declared.reading.SourceFault.TheVariants as cause
 use Rattle.bag_digest.specs.declared.algorithm.AlgSet.{AlgSet}
 use Rattle.bag_digest.specs.declared.multi.Digests.{Digests}
 use Rattle.bag_digest.specs.declared.multi.Multi.{Multi}
+use Rattle.bag_digest.specs.declared.reading.Found.TheVariants.{Hashed}
 use Rattle.bag_rules.specs.declared.limits.TheConstants.{LARGEST_FILE}
 use Rattle.bag_writer.specs.PayloadSteps.{IsReadUntil, IsReadWhole, Writes, WritesFront}
 use Rattle.bag_writer.specs.Sinks.{Begun, Stored, with_octets}
@@ -57,6 +58,10 @@ pub record HasCopied (set : AlgSet) (source left : Option (List ℕ)) (old new :
   pub hashed : Holds multi set octets
   pub written : Writes octets old new
 
+nothing : (octets : List ℕ) → length octets ≡ 0 → octets ≡ []
+nothing [] e = refl
+nothing (octet ∷ octets) e = absurd (omega (arith, e))
+
 module _ {set : AlgSet} {source left : Option (List ℕ)} {old new : Option Stored} {multi : Multi} {total : ℕ} {octets : List ℕ} (so_far : HasCopied set source left old new multi total octets) where
   -- one more piece, of which a front is written
   pub piece_given : {after : Option (List ℕ)} {n : ℕ} {buffer : List ℕ} → GavePiece left after (LARGEST_FILE - total) n buffer → HasGiven source after (total + n) LARGEST_FILE (octets ++ take n buffer)
@@ -88,23 +93,21 @@ module _ {set : AlgSet} {source left : Option (List ℕ)} {old new : Option Stor
   write_failed {after} {n} {buffer} {end} piece part =
       (octets ++ take n buffer, (until_fault (take n buffer) after Sink piece.gave (λ e. cc), front_on octets (take n buffer) old new end so_far.written part))
 
-  -- the end of the source
-  pub read_whole : {after : Option (List ℕ)} {n : ℕ} {buffer : List ℕ} {digests : Digests} → n ≡ 0 → GavePiece left after (LARGEST_FILE - total) n buffer → AreDigests digests set octets → (all : List ℕ) × (IsReadWhole set source after (total, digests) all × Writes all old new)
-  read_whole {after} {n} {buffer} {digests} none piece digested =
-      let nothing : octets ++ take n buffer ≡ octets = ap (λ k. octets ++ take k buffer) none ∙ append-nil octets in (
-        octets,
-        (
-          record {
-            gave = record {
-              gave = subst (Consumes source after) nothing (piece_given piece).gave;
-              none_left = piece.end none;
-              within = omega (arith, so_far.given.count, so_far.given.within);
-            };
-            sums = (so_far.given.count, digested);
-          },
-          so_far.written,
-        ),
-      )
+  -- a source that ended, all in the buffer or in its last piece
+  gave_all : {after : Option (List ℕ)} {n : ℕ} {buffer : List ℕ} → GavePiece left after (LARGEST_FILE - total) n buffer → IsAtEnd after → GaveAll source after LARGEST_FILE (octets ++ take n buffer)
+  gave_all {after} {n} {buffer} piece end =
+      let given = piece_given piece in
+      record { gave = given.gave; none_left = end; within = omega (arith, given.count, given.within) }
+
+  pub found_hashed : {after : Option (List ℕ)} {n : ℕ} {buffer : List ℕ} {end : Option Stored} {digests : Digests} → GavePiece left after (LARGEST_FILE - total) n buffer → IsAtEnd after → AreDigests digests set (octets ++ take n buffer)
+      → Writes (take n buffer) new end → (all : List ℕ) × (IsReadWhole set source after buffer (Hashed (total + n) digests) all × Writes all old end)
+  found_hashed {after} {n} {buffer} {end} {digests} piece at_end digested written = (
+    octets ++ take n buffer,
+    (
+      record { gave = gave_all piece at_end; found_is = ((piece_given piece).count, digested) },
+      writes_on octets (take n buffer) old new end so_far.written written,
+    ),
+  )
 
   -- the same for the result of reading
   pub read_fails : {after : Option (List ℕ)} (fault : SourceFault) → fault ≡ cause.Read → GaveBefore left after (LARGEST_FILE - total) (read_fault fault) → (all : List ℕ) × (IsReadUntil source after Tree all × WritesFront all old new)

@@ -1,40 +1,34 @@
 -- The payload as far as it was read and written.
-use Rattle.std.proofs.Common.{◌≡◌, ◌≤◌, ◌+◌, ◌∷◌, [], ◌++◌, ℕ, Bool, true, false, List, Option, Some, None, length, take, drop, slice_get, get_or, refl, sym, ap, ◌∙◌, subst, inl, inr, arith, append-nil}
+use Rattle.std.proofs.Common.{◌≡◌, ◌≤◌, ◌+◌, ◌∷◌, [], ◌++◌, ℕ, Bool, true, false, List, Option, Some, None, IfErr, IfOk, MatchResult, Result, Ok, Err, Vec, length, take, drop, slice_get, get_or, refl, sym, ap, ◌∙◌, subst, inl, inr, arith, append-nil}
 use Rattle.std.proofs.lemmas.List.{take-append-drop, take_all}
-use Rattle.bag_digest.specs.declared.algorithm.AlgSet.{AlgSet}
+use Rattle.std.specs.declared.alloc.Global.{Global}
+use Rattle.bag_digest.specs.declared.reading.Found.{Found}
 use Rattle.bag_rules.proofs.HasLemmas.{has_push}
 use Rattle.bag_rules.proofs.Words.{AreRising, Files, Has, is_payload, get_or_from_slice_get, option_map, paths_in, payload_of, Shown, slice_get-map}
 use Rattle.bag_rules.specs.declared.limits.TheConstants.{LARGEST_FILE}
 use Rattle.bag_writer.specs.PayloadSteps.{IsCutShort, IsReadAs, IsTaken, unless_hole}
 use Rattle.bag_writer.specs.Sinks.{IsFree, Stored}
-use Rattle.bag_writer.specs.Steps.{AreHoleMarks, AreItemsOf, ArePart, AreWhole, HasNoFile, is_hole, IsItemOf, written_payload}
+use Rattle.bag_writer.specs.HeldFiles.{AddsFile, AreItemsSoFar}
+use Rattle.bag_writer.specs.Steps.{AreHoleMarks, AreItemsOf, ArePart, AreWhole, HasNoFile, is_hole, written_payload}
 use Rattle.bag_writer.specs.Writing.{HasLongFile, IsReadFrom}
 use Rattle.bag_writer.specs.declared.fault.WriteFault.{WriteFault}
-use Rattle.bag_writer.specs.declared.fault.WriteFault.TheVariants.{TooLarge}
+use Rattle.bag_writer.specs.declared.fault.WriteFault.TheVariants.{Memory, TooLarge}
 use Rattle.bag_writer.specs.declared.item.Item.{Item}
+use Rattle.bag_writer.specs.declared.items.Items.{Items}
 use Rattle.bag_writer.specs.declared.spec.Spec.{Spec}
 use Rattle.bag_writer.proofs.FileSteps.{octets_unread, path_here}
 use Rattle.bag_writer.proofs.PayloadLists.{absent_written, AreReadAs, File, next_taken, payload_next, payload_on, payload_passed, payload_read, read_on, rest_from, ShownFile, unread, unread_is, written_next, written_of, written_on}
 use Rattle.bag_writer.proofs.StepLemmas.{free_at_first, free_still, part_after, part_more, part_whole, whole_none, whole_on}
 
 -- these files of a tree were read, the payload among them was written except for the holes, and these are its items
-pub record HasWritten (spec : Spec) (shown : List ShownFile) (old new : Option Stored) (items : List Item) (files : Files) : Type 0 where
+pub record HasWritten (spec : Spec) (shown : List ShownFile) (old new : Option Stored) (items : Items) (files : Files) : Type 0 where
   pub read : AreReadAs shown files
-  pub items_are : AreItemsOf spec.algs items (payload_of files)
+  pub items_are : AreItemsSoFar spec.algs items (payload_of files)
   pub short : ¬ HasLongFile (payload_of files) LARGEST_FILE
   pub whole : AreWhole (written_of spec files) old new
 
-pub nothing_written : (spec : Spec) (s : Option Stored) → HasWritten spec [] s s [] []
-nothing_written spec s = record { read = tt; items_are = tt; short = λ h. h.1.1; whole = whole_none s }
-
-pub with_items : {spec : Spec} {shown : List ShownFile} {old new : Option Stored} {items : List Item} {files : Files} (others : List Item) → HasWritten spec shown old new items files → others ≡ items → HasWritten spec shown old new others files
-with_items {spec} {shown} {old} {new} {items} {files} others written e = subst (λ list. HasWritten spec shown old new list files) (sym e) written
-
-items_on : (set : AlgSet) (items : List Item) (files : Files) (item : Item) (file : File) → AreItemsOf set items files → IsItemOf set item file.0 file.1 → AreItemsOf set (items ++ item ∷ []) (files ++ file ∷ [])
-items_on set [] [] item file h k = (k, tt)
-items_on set [] (f ∷ files) item file h k = absurd h
-items_on set (i ∷ items) [] item file h k = absurd h
-items_on set (i ∷ items) (f ∷ files) item file h k = (h.0, items_on set items files item file h.1 k)
+pub nothing_written : (spec : Spec) (s : Option Stored) (items : Items) → AreItemsSoFar spec.algs items [] → HasWritten spec [] s s items []
+nothing_written spec s items none = record { read = tt; items_are = none; short = λ h. h.1.1; whole = whole_none s }
 
 short_on : (files : Files) (file : File) → ¬ HasLongFile files LARGEST_FILE → length file.1 ≤ LARGEST_FILE → ¬ HasLongFile (files ++ file ∷ []) LARGEST_FILE
 short_on files file short within (path, (octets, has, long)) = elim ((has_push files file (path, octets)).0 has) [
@@ -46,10 +40,21 @@ has_middle : (files rest : Files) (file : File) → Has (files ++ file ∷ rest)
 has_middle [] rest file = inl refl
 has_middle (f ∷ files) rest file = inr (has_middle files rest file)
 
-module _ (spec : Spec) (tree : Shown) (n : ℕ) (old new : Option Stored) (items : List Item) (files : Files) (so_far : HasWritten spec (take n tree.files) old new items files) where
+module _ (spec : Spec) (tree : Shown) (n : ℕ) (old new : Option Stored) (items : Items) (files : Files) (so_far : HasWritten spec (take n tree.files) old new items files) where
   -- all files were read
   pub all_written : length tree.files ≤ n → IsReadFrom tree (payload_of files)
   all_written all = payload_read tree files (subst (λ shown. AreReadAs shown files) (take_all n tree.files all) so_far.read)
+
+  -- the same for the items of all, or if memory ran out for them
+  pub all_finished : length tree.files ≤ n → (result : Result (Vec Item Global) WriteFault) → IfOk result (λ all. AreItemsOf spec.algs all.items (payload_of files)) → IfErr result (λ fault. fault ≡ Memory)
+      → (payload : Files) × IsReadFrom tree payload × MatchResult result (λ all. AreItemsOf spec.algs all.items payload × (¬ HasLongFile payload LARGEST_FILE) × AreWhole (written_payload spec payload) old new)
+      (λ fault. (fault ≡ TooLarge → HasLongFile payload LARGEST_FILE) × ArePart (written_payload spec payload) old new)
+  all_finished all (Ok made) are refused = (payload_of files, all_written all, (are, so_far.short, so_far.whole))
+  all_finished all (Err fault) are refused = (
+    payload_of files,
+    all_written all,
+    ((λ e. cc), subst (λ list. ArePart list old new) (append-nil (written_of spec files)) (part_whole (written_of spec files) [] old new so_far.whole)),
+  )
 
   -- between two files
   pub stopped_between : (fault : WriteFault) → ¬ (fault ≡ TooLarge)
@@ -77,7 +82,7 @@ module _ (spec : Spec) (tree : Shown) (n : ℕ) (old new : Option Stored) (items
           files ++ file ∷ [],
           record {
             read = subst (λ list. AreReadAs list (files ++ file ∷ [])) (sym next) (read_on (take n tree.files) (shown ∷ []) files (file ∷ []) so_far.read (unread_is (shown ∷ [])));
-            items_are = subst (AreItemsOf spec.algs items) (sym same) so_far.items_are;
+            items_are = subst (AreItemsSoFar spec.algs items) (sym same) so_far.items_are;
             short = subst (λ list. ¬ HasLongFile list LARGEST_FILE) (sym same) so_far.short;
             whole = subst (λ list. AreWhole (written_payload spec list) old new) (sym same) so_far.whole;
           },
@@ -97,10 +102,10 @@ module _ (spec : Spec) (tree : Shown) (n : ℕ) (old new : Option Stored) (items
       next_written rest = written_on spec files (file ∷ rest) ∙ ap (λ list. written_of spec files ++ list) (written_next spec file rest mark is_one is_marked)
 
       -- a payload file that was processed
-      pub one_more : (end : Option Stored) (item : Item) → IsTaken spec.algs mark file new end item → HasWritten spec (take (n + 1) tree.files) old end (items ++ item ∷ []) (files ++ file ∷ [])
-      one_more end item taken = record {
+      pub one_more : (end : Option Stored) (buffer : List ℕ) (path : List ℕ) (found : Found) (more : Items) → IsTaken spec.algs mark file new end buffer (path, found) → AddsFile spec.algs (path, file.1) items more → HasWritten spec (take (n + 1) tree.files) old end more (files ++ file ∷ [])
+      one_more end buffer path found more taken adds = record {
         read = subst (λ list. AreReadAs list (files ++ file ∷ [])) (sym next) (read_on (take n tree.files) (shown ∷ []) files (file ∷ []) so_far.read (read_as, tt));
-        items_are = subst (AreItemsOf spec.algs (items ++ item ∷ [])) (sym (next_payload [])) (items_on spec.algs items (payload_of files) item file so_far.items_are taken.item_is);
+        items_are = subst (AreItemsSoFar spec.algs more) (ap (λ p. payload_of files ++ (p, file.1) ∷ []) taken.path_is ∙ sym (next_payload [])) (adds (payload_of files) so_far.items_are);
         short = subst (λ list. ¬ HasLongFile list LARGEST_FILE) (sym (next_payload [])) (short_on (payload_of files) file so_far.short taken.within);
         whole = subst (λ list. AreWhole list old end) (sym (next_written [] ∙ ap (λ list. written_of spec files ++ list) (append-nil (unless_hole mark file)))) (whole_on (written_of spec files) (unless_hole mark file) old new end so_far.whole taken.written);
       }

@@ -5,6 +5,7 @@ pub mod WrittenBags
 pub mod Writing
 pub mod Steps
 pub mod PayloadSteps
+pub mod HeldFiles
 pub mod TagWriting
 pub mod Accepting
 pub mod FilledBags

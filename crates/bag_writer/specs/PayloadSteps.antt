@@ -4,22 +4,32 @@ use Rattle.std.specs.Io.KnownBytes.{Consumes}
 use Rattle.std.specs.Option.{option_map}
 use Rattle.bag_digest.specs.Reading.{GaveAll, IsCountAndDigests}
 use Rattle.bag_digest.specs.declared.algorithm.AlgSet.{AlgSet}
-use Rattle.bag_digest.specs.declared.multi.Digests.{Digests}
+use Rattle.bag_digest.specs.declared.reading.Found.{Found}
+use Rattle.bag_digest.specs.declared.reading.Found.TheVariants.{Whole, Hashed}
 use Rattle.bag_rules.specs.Files.{Files}
 use Rattle.bag_rules.specs.declared.limits.TheConstants.{LARGEST_FILE}
 use Rattle.bag_writer.specs.Sinks.{Stored, with_octets}
-use Rattle.bag_writer.specs.Steps.{ArePart, AreWhole, HasFrontOf, IsItemOf}
+use Rattle.bag_writer.specs.Steps.{ArePart, AreWhole, HasFrontOf}
 use Rattle.bag_writer.specs.declared.fault.WriteFault.{WriteFault}
 use Rattle.bag_writer.specs.declared.fault.WriteFault.TheVariants.{TooLarge}
-use Rattle.bag_writer.specs.declared.item.Item.{Item}
 
 -- OCTETS FROM A SOURCE TO A SINK
 
--- the source was read to its end, within the limit of a file; this is the number of its octets with their digests
-pub record IsReadWhole (set : AlgSet) (source left : Option (List ℕ)) (found : ℕ × Digests)
-    (octets : List ℕ) : Type 0 where
+-- these octets were found: they are at the front of the buffer, or this is their number with their digests
+abbrev pub IsFoundOf : AlgSet → List ℕ → Found → List ℕ → Type 0
+IsFoundOf set buffer (Whole n) octets = (n ≤ length buffer) × (take n buffer ≡ octets)
+IsFoundOf set buffer (Hashed n digests) octets = IsCountAndDigests (n, digests) set octets
+
+-- what was found is within the buffer, if it is there
+abbrev pub IsWithin : List ℕ → Found → Type 0
+IsWithin buffer (Whole n) = n ≤ length buffer
+IsWithin buffer (Hashed n digests) = Unit {0}
+
+-- the source was read to its end, within the limit of a file, and these octets were found
+pub record IsReadWhole (set : AlgSet) (source left : Option (List ℕ)) (buffer : List ℕ)
+    (found : Found) (octets : List ℕ) : Type 0 where
   pub gave : GaveAll source left LARGEST_FILE octets
-  pub sums : IsCountAndDigests found set octets
+  pub found_is : IsFoundOf set buffer found octets
 
 -- the source gave these octets before the fault; if the fault is `TooLarge`, they are more than a file may have
 pub record IsReadUntil (source left : Option (List ℕ)) (fault : WriteFault)
@@ -55,10 +65,11 @@ AreOctetsOf (Some known) octets = octets ≡ known
 abbrev pub IsReadAs : List ℕ × Option (List ℕ) → List ℕ × List ℕ → Type 0
 IsReadAs shown file = (file.0 ≡ shown.0) × AreOctetsOf shown.1 file.1
 
--- the item is that of the file, which isn't too large and was written unless it is a hole
+-- this path and these octets were found of the file, which isn't too large and was written unless it is a hole
 pub record IsTaken (set : AlgSet) (is_hole : Bool) (file : List ℕ × List ℕ)
-    (old new : Option Stored) (item : Item) : Type 0 where
-  pub item_is : IsItemOf set item file.0 file.1
+    (old new : Option Stored) (buffer : List ℕ) (found : List ℕ × Found) : Type 0 where
+  pub path_is : found.0 ≡ file.0
+  pub found_is : IsFoundOf set buffer found.1 file.1
   pub within : length file.1 ≤ LARGEST_FILE
   pub written : AreWhole (unless_hole is_hole file) old new
 

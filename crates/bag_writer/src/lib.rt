@@ -14,6 +14,7 @@ pub mod examples;
 mod fault;
 pub mod fitting;
 mod item;
+mod items;
 pub mod laws;
 mod memory;
 mod payload;

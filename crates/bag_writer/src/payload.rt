@@ -12,13 +12,17 @@ ghost use Rattle.bag_writer.specs.declared.fault.WriteFault.{WriteFault};
 
 use crate::fault::WriteFault;
 use crate::item::Item;
+use crate::items::Items;
 use crate::sink::Sink;
 use crate::spec::Spec;
-use bag_digest::{AlgSet, Digests, Failed, Multi, Source, SourceFault, digest_through, read_piece};
+use bag_digest::{AlgSet, Failed, Found, Multi, PIECE, Source, SourceFault, fill, read_or_digest};
 use bag_path::BagPath;
 use bag_rules::Tree;
 use bag_rules::limits::LARGEST_FILE;
 use std::alloc::Global;
+
+/// The length of the buffer in octets. A file that ends within it is held until its digests are taken.
+pub(crate) const BUFFER: usize = 2 * PIECE;
 
 /// Reads the payload files by path, writes each that isn't a hole, and returns what manifests need to know about each.
 ///
@@ -50,18 +54,18 @@ pub(crate) fn write_payload<T: Tree, S: Sink>(
         ((S.is_open sink.old ≡ false) × HasNoFile (S.stored sink.old))
         result (IsErrOf result WriteFault.Sink) }
 {
-    let mut items = Vec::new(alloc);
+    let mut items = Items::none(alloc, spec.algs);
     for i in 0..tree.count() {
         if !tree.path(i).is_payload() {
             continue;
         }
-        let item = write_file(buffer, tree, i, marks[i], spec.algs, sink)?;
-        items.push(item)?;
+        let (path, found) = write_file(buffer, tree, i, marks[i], spec.algs, sink)?;
+        items = items.add(alloc, path, found, buffer)?;
     }
-    Ok(items)
+    items.finish(alloc)
 }
 
-/// Reads the file at this place, writes it unless it is a hole, and returns what manifests need to know about it.
+/// Reads the file at this place and writes it unless it is a hole. Returns its path and what was found of it.
 ///
 /// # Errors
 ///
@@ -73,13 +77,13 @@ fn write_file<T: Tree, S: Sink>(
     is_hole: bool,
     set: AlgSet,
     sink: &mut S,
-) -> Result<Item, WriteFault>
+) -> Result<(BagPath, Found), WriteFault>
     requires room { 0 < length buffer.old }
     requires inside { i < length (paths_in (T.shown tree.old)) }
     ensures taken { (shown : List ℕ × Option (List ℕ))
         → slice_get (T.shown tree.old).files i ≡ Some shown
         → (file : List ℕ × List ℕ) × IsReadAs shown file × MatchResult result
-        (IsTaken set is_hole file (S.stored sink.old) (S.stored sink.new))
+        (IsTaken set is_hole file (S.stored sink.old) (S.stored sink.new) buffer.new)
         (IsCutShort is_hole file (S.stored sink.old) (S.stored sink.new)) }
     ensures err { IfErr result IsMetLater }
     ensures tree { UsesTree T.shown T.failures T.sure tree.old tree.new
@@ -94,27 +98,23 @@ fn write_file<T: Tree, S: Sink>(
     let Ok(()) = tree.start(i) else {
         return Err(WriteFault::Tree);
     };
-    let (octets, digests) = sums_of(buffer, tree, &path, is_hole, set, sink)?;
-    Ok(Item {
-        path,
-        octets,
-        digests,
-    })
+    let found = copy_unless_hole(buffer, tree, &path, is_hole, set, sink)?;
+    Ok((path, found))
 }
 
-/// Reads a source to its end, and writes what it gives as a file unless that is a hole. Returns how many octets it
-/// gave, and their digests by each algorithm of the set.
-fn sums_of<R: Source, S: Sink>(
+/// Reads a source to its end, and writes what it gives as a file unless that is a hole. Returns what was found.
+fn copy_unless_hole<R: Source, S: Sink>(
     buffer: &mut [u8],
     source: &mut R,
     path: &BagPath,
     is_hole: bool,
     set: AlgSet,
     sink: &mut S,
-) -> Result<(u64, Digests), WriteFault>
+) -> Result<Found, WriteFault>
     requires { 0 < length buffer.old }
     ensures taken { (octets : List ℕ) × MatchResult result
-        (λ found. IsReadWhole set (R.remaining source.old) (R.remaining source.new) found octets
+        (λ found. IsReadWhole set (R.remaining source.old) (R.remaining source.new)
+        buffer.new found octets
         × AreWhole (unless_hole is_hole (path.now, octets))
         (S.stored sink.old) (S.stored sink.new))
         (λ fault. IsReadUntil (R.remaining source.old) (R.remaining source.new) fault octets
@@ -128,46 +128,43 @@ fn sums_of<R: Source, S: Sink>(
         result (IsErrOf result WriteFault.Sink) }
 {
     if is_hole {
-        digests_of(buffer, source, set)
+        read_hole(buffer, source, set)
     } else {
         copy_file(buffer, source, path, set, sink)
     }
 }
 
-/// Reads a source to its end. Returns how many octets it gave, and their digests by each algorithm of the set.
-fn digests_of<R: Source>(
-    buffer: &mut [u8],
-    source: &mut R,
-    set: AlgSet,
-) -> Result<(u64, Digests), WriteFault>
+/// Reads a source to its end. Returns what was found.
+fn read_hole<R: Source>(buffer: &mut [u8], source: &mut R, set: AlgSet) -> Result<Found, WriteFault>
     requires { 0 < length buffer.old }
     ensures read { (octets : List ℕ) × MatchResult result
-        (λ found. IsReadWhole set (R.remaining source.old) (R.remaining source.new) found octets)
+        (λ found. IsReadWhole set (R.remaining source.old) (R.remaining source.new)
+        buffer.new found octets)
         (λ fault. IsReadUntil (R.remaining source.old) (R.remaining source.new) fault octets) }
     ensures err { IfErr result (λ fault.
         (fault ≡ WriteFault.Tree) ⊎ (fault ≡ WriteFault.TooLarge)) }
     ensures source { UsesSource R.failures R.ready R.keeps source.old source.new
         (IsErrOf result WriteFault.Tree) }
 {
-    match digest_through(buffer, source, set, LARGEST_FILE) {
+    match read_or_digest(buffer, source, set, LARGEST_FILE) {
         Ok(found) => Ok(found),
         Err(SourceFault::Read) => Err(WriteFault::Tree),
         Err(SourceFault::TooLarge) => Err(WriteFault::TooLarge),
     }
 }
 
-/// Writes what a source gives up to its end as a file. Returns how many octets it gave, and their digests by each
-/// algorithm of the set.
+/// Writes what a source gives up to its end as a file. Returns what was found.
 fn copy_file<R: Source, S: Sink>(
     buffer: &mut [u8],
     source: &mut R,
     path: &BagPath,
     set: AlgSet,
     sink: &mut S,
-) -> Result<(u64, Digests), WriteFault>
+) -> Result<Found, WriteFault>
     requires { 0 < length buffer.old }
     ensures copied { (octets : List ℕ) × MatchResult result
-        (λ found. IsReadWhole set (R.remaining source.old) (R.remaining source.new) found octets
+        (λ found. IsReadWhole set (R.remaining source.old) (R.remaining source.new)
+        buffer.new found octets
         × AreWhole ((path.now, octets) ∷ []) (S.stored sink.old) (S.stored sink.new))
         (λ fault. IsReadUntil (R.remaining source.old) (R.remaining source.new) fault octets
         × HasFrontFrom path.now octets (S.stored sink.old) (S.stored sink.new)) }
@@ -181,15 +178,15 @@ fn copy_file<R: Source, S: Sink>(
     let Ok(()) = sink.file(path) else {
         return Err(WriteFault::Sink);
     };
-    let sums = copy_octets(buffer, source, set, sink)?;
+    let found = copy_octets(buffer, source, set, sink)?;
     match sink.end() {
-        Ok(()) => Ok(sums),
+        Ok(()) => Ok(found),
         Err(Failed) => Err(WriteFault::Sink),
     }
 }
 
-/// Reads a source to its end, and writes what it gives to the file that was begun. Returns how many octets it gave, and
-/// their digests by each algorithm of the set.
+/// Reads a source to its end, and writes what it gives to the file that was begun. Returns what was found: the octets
+/// themselves, if the source ended before the buffer was full.
 ///
 /// # Errors
 ///
@@ -199,10 +196,11 @@ fn copy_octets<R: Source, S: Sink>(
     source: &mut R,
     set: AlgSet,
     sink: &mut S,
-) -> Result<(u64, Digests), WriteFault>
+) -> Result<Found, WriteFault>
     requires { 0 < length buffer.old }
     ensures copied { (octets : List ℕ) × MatchResult result
-        (λ found. IsReadWhole set (R.remaining source.old) (R.remaining source.new) found octets
+        (λ found. IsReadWhole set (R.remaining source.old) (R.remaining source.new)
+        buffer.new found octets
         × Writes octets (S.stored sink.old) (S.stored sink.new))
         (λ fault. IsReadUntil (R.remaining source.old) (R.remaining source.new) fault octets
         × WritesFront octets (S.stored sink.old) (S.stored sink.new)) }
@@ -215,18 +213,38 @@ fn copy_octets<R: Source, S: Sink>(
     let mut multi = Multi::new(set);
     let mut total = 0u64;
     'pieces: loop {
-        let n = match read_piece(buffer, source, LARGEST_FILE - total) {
+        let n = match fill(buffer, source, LARGEST_FILE - total) {
             Ok(n) => n,
             Err(SourceFault::Read) => return Err(WriteFault::Tree),
             Err(SourceFault::TooLarge) => return Err(WriteFault::TooLarge),
         };
-        if n == 0 {
-            return Ok((total, multi.finish()));
+        write_piece(&buffer[..n], sink)?;
+        let is_last = n < buffer.len();
+        if is_last && total == 0 {
+            return Ok(Found::Whole(n));
         }
         multi.update(&buffer[..n]);
-        let Ok(()) = sink.write(&buffer[..n]) else {
-            return Err(WriteFault::Sink);
-        };
         total += n as u64;
+        if is_last {
+            return Ok(Found::Hashed(total, multi.finish()));
+        }
+    }
+}
+
+/// Writes these octets to the file that was begun, if there are any.
+fn write_piece<S: Sink>(octets: &[u8], sink: &mut S) -> Result<(), WriteFault>
+    ensures written { MatchResult result
+        (λ done. Writes octets.now (S.stored sink.old) (S.stored sink.new))
+        (λ fault. WritesFront octets.now (S.stored sink.old) (S.stored sink.new)) }
+    ensures err { IfErr result (λ fault. fault ≡ WriteFault.Sink) }
+    ensures sink { UsesOpenSink S.is_open S.failures S.sure sink.old sink.new
+        (IsErrOf result WriteFault.Sink) }
+{
+    if octets.is_empty() {
+        return Ok(());
+    }
+    match sink.write(octets) {
+        Ok(()) => Ok(()),
+        Err(Failed) => Err(WriteFault::Sink),
     }
 }

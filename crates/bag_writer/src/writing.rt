@@ -9,11 +9,11 @@ ghost use Rattle.bag_writer.specs.declared.fault.WriteFault.{WriteFault};
 
 use crate::accepting::accepted_holes;
 use crate::fault::WriteFault;
-use crate::payload::write_payload;
+use crate::payload::{BUFFER, write_payload};
 use crate::sink::Sink;
 use crate::spec::Spec;
 use crate::tags::write_tag_files;
-use bag_digest::piece_buffer;
+use bag_digest::buffer_of;
 use bag_rules::limits::MOST_LINES;
 use bag_rules::{Paths, Tree};
 use bag_tags::Oxum;
@@ -87,7 +87,7 @@ fn write_accepted<T: Tree, S: Sink>(
         ((S.is_open sink.old ≡ false) × IsEmptySink (S.stored sink.old))
         result (IsErrOf result WriteFault.Sink) }
 {
-    let mut buffer = piece_buffer(alloc)?;
+    let mut buffer = buffer_of(alloc, BUFFER)?;
     let Ok(()) = sink.payload_dir() else {
         return Err(WriteFault::Sink);
     };

@@ -1,6 +1,6 @@
 use crate::counting::CountingSink;
 use crate::{Hole, MemSink, Sink, Spec, WriteFault, write_bag};
-use bag_digest::{Alg, AlgSet};
+use bag_digest::{Alg, AlgSet, buffer_of};
 use bag_path::BagPath;
 use bag_rules::{MemTree, Outcome, Paths, check};
 use bag_tags::{Element, Info, Oxum};
@@ -8,6 +8,14 @@ use std::alloc::Global;
 use std::test::Fail;
 
 const URL: &str = "http://example.org/e";
+
+/// What coreutils' md5sum prints for files of zeros, each named by its length.
+const ZEROS: &[u8] = b"d41d8cd98f00b204e9800998ecf8427e  data/0
+93b885adfe0da089cdf634904fd59f71  data/1
+8572c8695bacf8d459e98dc874dc9b08  data/131071
+0dfbe8aa4c20b52e1b8bf3cb6cbdf193  data/131072
+c114b920df1305a483bcb260af0c689a  data/131073
+";
 
 fn add(alloc: Global, tree: &mut MemTree, path: &str, octets: &[u8]) -> Result<(), Fail> {
     let path = BagPath::parse(alloc, path)?;
@@ -151,5 +159,23 @@ fn a_sink_that_keeps_nothing_takes_the_same_files(rt: HostRuntime) -> Result<(),
     let oxum = write_bag(alloc, &mut payload(alloc)?, &spec, &mut sink)?;
     assert_eq!(rt; (oxum.octets, oxum.streams), (3, 2));
     assert_eq!(rt; (sink.files(), sink.failures()), (8, 0));
+    Ok(())
+}
+
+#[test]
+fn files_around_the_length_of_the_buffer_are_listed_in_order(rt: HostRuntime) -> Result<(), Fail> {
+    let alloc = rt.alloc();
+    let mut tree = MemTree::new(alloc);
+    for length in [0, 1, 131_071, 131_072, 131_073] {
+        let path = format!(in alloc; "data/{length}")?;
+        tree.add(BagPath::parse(alloc, &path)?, buffer_of(alloc, length)?)?;
+    }
+    let spec = spec_by(alloc, AlgSet::empty().with(Alg::Md5));
+    let (oxum, bag) = written(alloc, &mut tree, &spec)?;
+    assert_eq!(rt; (oxum.octets, oxum.streams), (393_217, 5));
+    let manifest = holds(alloc, &bag, "manifest-md5.txt", ZEROS)?;
+    assert!(rt; manifest);
+    let longest = size(alloc, &bag, "data/131073")?;
+    assert_eq!(rt; longest, Some(131_073));
     Ok(())
 }

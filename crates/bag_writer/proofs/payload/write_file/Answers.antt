@@ -1,4 +1,4 @@
-use Rattle.std.proofs.Common.{◌≡◌, ◌∙◌, ap, refl, rules, sym, Some}
+use Rattle.std.proofs.Common.{◌≡◌, ◌∙◌, ap, rules, sym, Some}
 use Rattle.std.proofs.lemmas.Result.{err_from_is_err_and}
 use Rattle.bag_writer.specs.declared.fault.WriteFault.TheVariants.{Memory, Tree}
 use Rattle.bag_writer.proofs.FileSteps.{cut_short, cut_unread, named_here, octets_here, taken_whole}
@@ -14,30 +14,30 @@ returns-in_err-path-clause-taken g c =
 pub returns-in_default-clause-taken : goal.returns-in_default-clause-taken
 returns-in_default-clause-taken g c = λ shown at. cut_unread c.args.is_hole shown _ Tree (λ e. cc)
 
-pub returns-in_err-octets-clause-taken : goal.returns-in_err-octets-clause-taken
-returns-in_err-octets-clause-taken g c =
-    let p = err_from_is_err_and c.from_residual-in_err-octets.result c.from_residual-in_err-octets.ensures.1 in
-    let taken = c.in_err-octets.ensures.taken in
+pub returns-in_err-found-clause-taken : goal.returns-in_err-found-clause-taken
+returns-in_err-found-clause-taken g c =
+    let p = err_from_is_err_and c.from_residual-in_err-found.result c.from_residual-in_err-found.ensures.1 in
+    let taken = c.in_err-found.ensures.taken in
     let own : c.in_ok-path.path ≡ c.path.result.now = search rules in
     λ shown at.
     let named = own ∙ named_here (g.T.Paths.shown c.args.tree.now) c.args.i shown at c.path.result.now c.path.ensures in
     let started = c.in-Ok.ensures.started ∙ octets_here (g.T.Paths.shown c.args.tree.now) c.args.i shown at in
-    rw (p.1, p.2) (cut_short c.args.is_hole c.args.set shown c.in_ok-path.path taken.0 _ _ _ _ named started c.in_err-octets.field-0.0 taken.1.0 taken.1.1)
+    rw (p.1, p.2) (cut_short c.args.is_hole c.args.set shown c.in_ok-path.path taken.0 _ _ _ _ named started c.in_err-found.field-0.0 taken.1.0 taken.1.1)
 
-pub returns-in_err-octets-clause-sink : goal.returns-in_err-octets-clause-sink
-returns-in_err-octets-clause-sink g c =
-    let p = err_from_is_err_and c.from_residual-in_err-octets.result c.from_residual-in_err-octets.ensures.1 in
+pub returns-in_err-found-clause-sink : goal.returns-in_err-found-clause-sink
+returns-in_err-found-clause-sink g c =
+    let p = err_from_is_err_and c.from_residual-in_err-found.result c.from_residual-in_err-found.ensures.1 in
     let own : c.in_ok-path.path ≡ c.path.result.now = search rules in
     rw (p.1, p.2) (record {
-      uses = sink_if (sink_so c.in_err-octets.ensures.sink.uses (λ e. err_again e) (λ e. err_again e)) (λ h. (h.0, h.1 c.in_ok-path.path (c.path.ensures ∙ ap Some (sym own))));
+      uses = sink_if (sink_so c.in_err-found.ensures.sink.uses (λ e. err_again e) (λ e. err_again e)) (λ h. (h.0, h.1 c.in_ok-path.path (c.path.ensures ∙ ap Some (sym own))));
       closed = λ h. tt;
     })
 
 pub returns-clause-taken : goal.returns-clause-taken
 returns-clause-taken g c =
-    let taken = c.in_ok-octets.ensures.taken in
+    let taken = c.in_ok-found.ensures.taken in
     let own : c.in_ok-path.path ≡ c.path.result.now = search rules in
     λ shown at.
     let named = own ∙ named_here (g.T.Paths.shown c.args.tree.now) c.args.i shown at c.path.result.now c.path.ensures in
     let started = c.in-Ok.ensures.started ∙ octets_here (g.T.Paths.shown c.args.tree.now) c.args.i shown at in
-    taken_whole c.args.is_hole c.args.set shown c.in_ok-path.path taken.0 _ _ _ _ named started _ (c.in_ok-octets.octets, c.in_ok-octets.digests) refl refl refl taken.1.0 taken.1.1
+    taken_whole c.args.is_hole c.args.set shown c.in_ok-path.path taken.0 _ _ _ _ named started _ c.in_ok-found.found taken.1.0 taken.1.1

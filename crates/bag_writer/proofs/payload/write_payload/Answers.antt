@@ -4,7 +4,8 @@ use Rattle.std.proofs.lemmas.Result.{err_from_is_err_and}
 use Rattle.bag_rules.proofs.TreeUses.{uses_kept, uses_on}
 use Rattle.bag_rules.proofs.Words.{is_payload, paths_in, payload_of, Shown}
 use Rattle.bag_writer.specs.declared.fault.WriteFault.TheVariants.{Memory}
-use Rattle.bag_writer.proofs.PayloadSoFar.{all_written, free_next, marked_at, one_more, passed, shown_at, stopped_between, stopped_in, with_items}
+use Rattle.bag_writer.proofs.FileSteps.{cut_after, within_of}
+use Rattle.bag_writer.proofs.PayloadSoFar.{all_finished, free_next, marked_at, one_more, passed, shown_at, stopped_in}
 use Rattle.bag_writer.proofs.SinkKept.{err_again, sink_kept}
 use Rattle.bag_writer.proofs.SinkUses.{sink_on, sink_so}
 use Rattle.bag_writer.proofs.payload.write_payload.Goals as goal
@@ -17,14 +18,14 @@ loop-i-preserved-then-not-is_payload g c =
     let told : c.is_payload.result ≡ false = search rules in
     let other : is_payload place.0.0 ≡ false = ap is_payload place.1.1 ∙ sym c.is_payload.ensures ∙ told in
     record {
-      written = passed c.args.spec.now tree c.loop-i.i _ _ c.loop-i.items.items inv.written.0 inv.written.1 place.0 place.1.0 other;
+      written = passed c.args.spec.now tree c.loop-i.i _ _ c.loop-i.items inv.written.0 inv.written.1 place.0 place.1.0 other;
       read = inv.read;
       closed = inv.closed;
       used = inv.used;
     }
 
-pub returns-in_err-item-clause-written : goal.returns-in_err-item-clause-written
-returns-in_err-item-clause-written g c =
+pub returns-in_err-path-clause-written : goal.returns-in_err-path-clause-written
+returns-in_err-path-clause-written g c =
     let p = err_from_is_err_and c.from_residual.result c.from_residual.ensures.1 in
     let inv = c.loop-i.invariant in
     let tree = g.T.Paths.shown c.args.tree.now in
@@ -32,36 +33,37 @@ returns-in_err-item-clause-written g c =
     let told : c.is_payload.result ≡ true = search rules in
     let is : is_payload place.0.0 ≡ true = ap is_payload place.1.1 ∙ sym c.is_payload.ensures ∙ told in
     let marked = marked_at c.args.spec.now tree c.args.marks.now c.loop-i.i place.0 c.requires.marks place.1.0 in
-    let taken = c.in_err-item.ensures.taken place.0 (ap (λ (s : Shown). slice_get s.files c.loop-i.i) inv.read.same ∙ place.1.0) in
-    rw (p.1, p.2) (stopped_in c.args.spec.now tree c.loop-i.i _ _ c.loop-i.items.items inv.written.0 inv.written.1 place.0 place.1.0 _ taken.0 is marked taken.1 _ c.in_err-item.field-0.0 taken.2)
+    let taken = c.in_err-path.ensures.taken place.0 (ap (λ (s : Shown). slice_get s.files c.loop-i.i) inv.read.same ∙ place.1.0) in
+    rw (p.1, p.2) (stopped_in c.args.spec.now tree c.loop-i.i _ _ c.loop-i.items inv.written.0 inv.written.1 place.0 place.1.0 _ taken.0 is marked taken.1 _ c.in_err-path.field-0.0 taken.2)
 
-pub returns-in_err-item-clause-sink : goal.returns-in_err-item-clause-sink
-returns-in_err-item-clause-sink g c =
+pub returns-in_err-path-clause-sink : goal.returns-in_err-path-clause-sink
+returns-in_err-path-clause-sink g c =
     let p = err_from_is_err_and c.from_residual.result c.from_residual.ensures.1 in
     let inv = c.loop-i.invariant in
     let tree = g.T.Paths.shown c.args.tree.now in
     rw (p.1, p.2) (record {
       uses = sink_so
-          (sink_on (sink_kept inv.used (λ no. no)) (λ no. no) c.in_err-item.ensures.sink.uses (λ order. (
+          (sink_on (sink_kept inv.used (λ no. no)) (λ no. no) c.in_err-path.ensures.sink.uses (λ order. (
             inv.closed order.0,
             λ path here.
-                free_next c.args.spec.now tree c.loop-i.i _ _ c.loop-i.items.items inv.written.0 inv.written.1 c.count-i-end.ensures.rising path (subst (λ (s : Shown). slice_get (paths_in s) c.loop-i.i ≡ Some path) inv.read.same here) order.1,
+                free_next c.args.spec.now tree c.loop-i.i _ _ c.loop-i.items inv.written.0 inv.written.1 c.count-i-end.ensures.rising path (subst (λ (s : Shown). slice_get (paths_in s) c.loop-i.i ≡ Some path) inv.read.same here) order.1,
           )))
           (λ e. err_again e) (λ e. err_again e);
       closed = λ h. tt;
     })
 
-pub returns-in_err-push-clause-written : goal.returns-in_err-push-clause-written
-returns-in_err-push-clause-written g c =
-    let p = err_from_is_err_and c.from_residual-in_err-push.result c.from_residual-in_err-push.ensures.1 in
+pub returns-in_err-items-clause-written : goal.returns-in_err-items-clause-written
+returns-in_err-items-clause-written g c =
+    let p = err_from_is_err_and c.from_residual-in_err-items.result c.from_residual-in_err-items.ensures.1 in
     let inv = c.loop-i.invariant in
     let tree = g.T.Paths.shown c.args.tree.now in
     let place = shown_at tree (g.T.Paths.shown c.loop-i.tree) inv.read.same c.loop-i.i c.path.result.now c.path.ensures in
     let told : c.is_payload.result ≡ true = search rules in
     let is : is_payload place.0.0 ≡ true = ap is_payload place.1.1 ∙ sym c.is_payload.ensures ∙ told in
     let marked = marked_at c.args.spec.now tree c.args.marks.now c.loop-i.i place.0 c.requires.marks place.1.0 in
-    let taken = c.in_ok-item.ensures.taken place.0 (ap (λ (s : Shown). slice_get s.files c.loop-i.i) inv.read.same ∙ place.1.0) in
-    rw (p.1, p.2) (stopped_between c.args.spec.now tree _ _ _ _ _ (one_more c.args.spec.now tree c.loop-i.i _ _ c.loop-i.items.items inv.written.0 inv.written.1 place.0 place.1.0 _ taken.0 is marked taken.1 _ c.in_ok-item.item taken.2) Memory (λ e. cc))
+    let taken = c.in_ok-path.ensures.taken place.0 (ap (λ (s : Shown). slice_get s.files c.loop-i.i) inv.read.same ∙ place.1.0) in
+    let refused : c.in_err-items.field-0.0 ≡ Memory = c.in_err-items.ensures.err in
+    rw (p.1, p.2, refused) (stopped_in c.args.spec.now tree c.loop-i.i _ _ c.loop-i.items inv.written.0 inv.written.1 place.0 place.1.0 _ taken.0 is marked taken.1 _ Memory (cut_after _ _ _ _ _ _ _ Memory taken.2 (λ e. cc)))
 
 pub loop-i-preserved : goal.loop-i-preserved
 loop-i-preserved g c =
@@ -71,13 +73,13 @@ loop-i-preserved g c =
     let told : c.is_payload.result ≡ true = search rules in
     let is : is_payload place.0.0 ≡ true = ap is_payload place.1.1 ∙ sym c.is_payload.ensures ∙ told in
     let marked = marked_at c.args.spec.now tree c.args.marks.now c.loop-i.i place.0 c.requires.marks place.1.0 in
-    let taken = c.in_ok-item.ensures.taken place.0 (ap (λ (s : Shown). slice_get s.files c.loop-i.i) inv.read.same ∙ place.1.0) in
-    let more = one_more c.args.spec.now tree c.loop-i.i _ _ c.loop-i.items.items inv.written.0 inv.written.1 place.0 place.1.0 _ taken.0 is marked taken.1 _ c.in_ok-item.item taken.2 in
+    let taken = c.in_ok-path.ensures.taken place.0 (ap (λ (s : Shown). slice_get s.files c.loop-i.i) inv.read.same ∙ place.1.0) in
+    let more = one_more c.args.spec.now tree c.loop-i.i _ _ c.loop-i.items inv.written.0 inv.written.1 place.0 place.1.0 _ taken.0 is marked taken.1 _ _ c.in_ok-path.path c.in_ok-path.found c.in_ok-items.items taken.2 (c.in_ok-items.ensures.added c.args.spec.now.algs taken.0.1 taken.2.found_is) in
     record {
-      written = (inv.written.0 ++ taken.0 ∷ [], with_items _ more c.in_ok-push.ensures.items);
-      read = uses_kept (uses_on inv.read (λ no. no) c.in_ok-item.ensures.tree) (λ e. cc) (λ no. no);
-      closed = λ h. c.in_ok-item.ensures.sink.closed (inv.closed h);
-      used = sink_on inv.used (λ no. no) (sink_kept c.in_ok-item.ensures.sink.uses (λ e. cc)) (λ h. h);
+      written = (inv.written.0 ++ taken.0 ∷ [], more);
+      read = uses_kept (uses_on inv.read (λ no. no) c.in_ok-path.ensures.tree) (λ e. cc) (λ no. no);
+      closed = λ h. c.in_ok-path.ensures.sink.closed (inv.closed h);
+      used = sink_on inv.used (λ no. no) (sink_kept c.in_ok-path.ensures.sink.uses (λ e. cc)) (λ h. h);
     }
 
 pub returns-clause-written : goal.returns-clause-written
@@ -85,4 +87,12 @@ returns-clause-written g c =
     let inv = c.loop-i.invariant in
     let tree = g.T.Paths.shown c.args.tree.now in
     let end : length tree.files ≤ c.loop-i.i = omega (arith, c.count-i-end.ensures.files, c.loop-i-test.false, length-map tree.files (λ (s : List ℕ × Option (List ℕ)). s.0)) in
-    (payload_of inv.written.0, all_written c.args.spec.now tree c.loop-i.i _ _ c.loop-i.items.items inv.written.0 inv.written.1 end, (inv.written.1.items_are, inv.written.1.short, inv.written.1.whole))
+    all_finished c.args.spec.now tree c.loop-i.i _ _ c.loop-i.items inv.written.0 inv.written.1 end c.finish.result (c.finish.ensures.all c.args.spec.now.algs (payload_of inv.written.0) inv.written.1.items_are) c.finish.ensures.err
+
+pub add-requires : goal.add-requires
+add-requires g c =
+    let inv = c.loop-i.invariant in
+    let tree = g.T.Paths.shown c.args.tree.now in
+    let place = shown_at tree (g.T.Paths.shown c.loop-i.tree) inv.read.same c.loop-i.i c.path.result.now c.path.ensures in
+    let taken = c.in_ok-path.ensures.taken place.0 (ap (λ (s : Shown). slice_get s.files c.loop-i.i) inv.read.same ∙ place.1.0) in
+    within_of c.args.spec.now.algs _ c.in_ok-path.found taken.0.1 taken.2.found_is

@@ -10,7 +10,7 @@ invariant-loop-i g l =
     let tree = g.T.Tree in
     let sink = g.S.Sink in
     record {
-      written : (files : Files) × HasWritten l.fn.spec (take l.i (g.T.Paths.shown l.fn.tree).files) (sink.stored l.fn.sink) (sink.stored l.sink) l.items.items files;
+      written : (files : Files) × HasWritten l.fn.spec (take l.i (g.T.Paths.shown l.fn.tree).files) (sink.stored l.fn.sink) (sink.stored l.sink) l.items files;
       read : UsesTree g.T.Paths.shown g.T.Source.failures tree.sure l.fn.tree l.tree ⊥;
       closed : sink.is_open l.fn.sink ≡ false → sink.is_open l.sink ≡ false;
       used : UsesSink sink.failures sink.sure l.fn.sink l.sink (Unit {0}) ⊥;

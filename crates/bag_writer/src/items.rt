@@ -1,0 +1,159 @@
+//! The items of files that are read one after another. Short files are held, and their digests are taken side by side.
+ghost use Rattle.std.specs.Prelude.{◌≡◌, ◌++◌, ◌∷◌, [], ℕ, List, IfErr, IfOk, vec_len};
+ghost use Rattle.bag_digest.specs.declared.algorithm.AlgSet.{AlgSet};
+ghost use Rattle.bag_rules.specs.Files.{Files};
+ghost use Rattle.bag_writer.specs.declared.fault.WriteFault.{WriteFault};
+
+use crate::fault::WriteFault;
+use crate::item::Item;
+use bag_digest::{AlgSet, Found, digest_each};
+use bag_path::BagPath;
+use std::alloc::Global;
+
+/// How many files are held at most. Each is shorter than the buffer of 128 KiB, so no more than 4 MiB are held.
+const MOST_HELD: usize = 32;
+
+/// The items of files, in order. The last files may be held: their digests have not been taken yet.
+#[derive(Drop)]
+pub(crate) struct Items {
+    /// The algorithms of the digests.
+    set: AlgSet,
+    /// The items of the first files.
+    ready: Vec<Item>,
+    /// The path of each file that is held.
+    paths: Vec<BagPath>,
+    /// The octets of each file that is held.
+    messages: Vec<Vec<u8>>,
+    ghost paired: { vec_len paths ≡ vec_len messages },
+}
+
+impl Items {
+    ghost use Rattle.bag_writer.specs.HeldFiles.{AddsFile, AreItemsSoFar};
+    ghost use Rattle.bag_writer.specs.PayloadSteps.{IsFoundOf, IsWithin};
+    ghost use Rattle.bag_writer.specs.Steps.{AreItemsOf, IsItemOf};
+
+    /// No file yet. Digests are taken by the algorithms of the set.
+    pub(crate) fn none(alloc: Global, set: AlgSet) -> Items
+        ensures { AreItemsSoFar set result [] }
+    {
+        Items::of(alloc, set, Vec::new(alloc))
+    }
+
+    /// These items, with no file held.
+    fn of(alloc: Global, set: AlgSet, ready: Vec<Item>) -> Items
+        ensures { (files : Files) → AreItemsOf set ready.items files
+            → AreItemsSoFar set result files }
+    {
+        Items {
+            set,
+            ready,
+            paths: Vec::new(alloc),
+            messages: Vec::new(alloc),
+        }
+    }
+
+    /// Adds a file of which this was found. If that is all of it, its octets are at the front of the buffer.
+    ///
+    /// # Errors
+    ///
+    /// Here and below, the only error is that memory ran out.
+    pub(crate) fn add(
+        self,
+        alloc: Global,
+        path: BagPath,
+        found: Found,
+        buffer: &[u8],
+    ) -> Result<Items, WriteFault>
+        requires { IsWithin buffer.now found }
+        ensures added { (set : AlgSet) (octets : List ℕ) → IsFoundOf set buffer.now found octets
+            → IfOk result (AddsFile set (path, octets) self) }
+        ensures err { IfErr result (λ fault. fault ≡ WriteFault.Memory) }
+    {
+        match found {
+            Found::Whole(n) => self.hold(alloc, path, &buffer[..n]),
+            Found::Hashed(octets, digests) => self.add_hashed(
+                alloc,
+                Item {
+                    path,
+                    octets,
+                    digests,
+                },
+            ),
+        }
+    }
+
+    /// Adds a file whose digests were taken. Those of the files before it are taken first.
+    fn add_hashed(self, alloc: Global, item: Item) -> Result<Items, WriteFault>
+        ensures added { (set : AlgSet) (octets : List ℕ) → IsItemOf set item item.path octets
+            → IfOk result (AddsFile set (item.path, octets) self) }
+        ensures err { IfErr result (λ fault. fault ≡ WriteFault.Memory) }
+    {
+        let set = self.set;
+        let mut ready = self.finish(alloc)?;
+        ready.push(item)?;
+        Ok(Items::of(alloc, set, ready))
+    }
+
+    /// Adds a file with these octets, which is held. If as many are held then as may be, their digests are taken.
+    fn hold(self, alloc: Global, path: BagPath, octets: &[u8]) -> Result<Items, WriteFault>
+        ensures held { (set : AlgSet) → IfOk result (AddsFile set (path, octets.now) self) }
+        ensures err { IfErr result (λ fault. fault ≡ WriteFault.Memory) }
+    {
+        let set = self.set;
+        let items = self.with_held(alloc, path, octets)?;
+        if items.messages.len() < MOST_HELD {
+            return Ok(items);
+        }
+        Ok(Items::of(alloc, set, items.finish(alloc)?))
+    }
+
+    /// Holds one more file, with these octets.
+    fn with_held(self, alloc: Global, path: BagPath, octets: &[u8]) -> Result<Items, WriteFault>
+        ensures held { (set : AlgSet) → IfOk result (AddsFile set (path, octets.now) self) }
+        ensures set { IfOk result (λ items. items.set ≡ self.set) }
+        ensures err { IfErr result (λ fault. fault ≡ WriteFault.Memory) }
+    {
+        let Items {
+            set,
+            ready,
+            mut paths,
+            mut messages,
+        } = self;
+        let mut message = Vec::new(alloc);
+        message.extend_from_slice(octets)?;
+        paths.push(path)?;
+        messages.push(message)?;
+        Ok(Items {
+            set,
+            ready,
+            paths,
+            messages,
+        })
+    }
+
+    /// The items of all files. The digests of those that are held are taken first, side by side.
+    pub(crate) fn finish(self, alloc: Global) -> Result<Vec<Item>, WriteFault>
+        ensures all { (set : AlgSet) (files : Files) → AreItemsSoFar set self files
+            → IfOk result (λ items. AreItemsOf set items.items files) }
+        ensures err { IfErr result (λ fault. fault ≡ WriteFault.Memory) }
+    {
+        let Items {
+            set,
+            ready,
+            paths,
+            messages,
+        } = self;
+        let digests = digest_each(alloc, set, messages.as_slice())?;
+        let mut items = ready;
+        let mut place = 0;
+        for path in paths {
+            items.push(Item {
+                path,
+                octets: messages[place].len() as u64,
+                digests: digests[place],
+            })?;
+            place += 1;
+        }
+        Ok(items)
+    }
+}
