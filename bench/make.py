@@ -14,7 +14,7 @@ import subprocess
 import sys
 import tempfile
 
-from check import PROGRAM, TOP, payload, run
+from check import PIECE, PROGRAM, TOP, payload, run
 
 
 def row(name, sizes, folders, algorithms, rounds, work):
@@ -47,7 +47,7 @@ def main():
     print(f"{'payload':<20} {'bag make':>9} {'cp and sum':>10} {'ratio':>6} {'peak MiB':>8}")
     with tempfile.TemporaryDirectory() as folder:
         work = pathlib.Path(folder)
-        for name, sizes, folders in (("large", [1 << 30], 1), ("small", [2048] * 20_000, 200)):
+        for name, sizes, folders in (("large", [1 << 30], 1), ("64 KiB", [PIECE] * 20_000, 200), ("2 KiB", [2048] * 20_000, 200)):
             for algorithms in (["sha256"], ["md5", "sha256"]):
                 row(f"{name} {' '.join(algorithms)}", sizes, folders, algorithms, rounds, work)
 
