@@ -63,6 +63,10 @@ def judge(file, tags, items):
     database.close()
 
 
+# Pieces in a table of any types and without owners, which is as good until its rows are not.
+LOOSE = """CREATE TABLE loose (item, n, body, PRIMARY KEY (item, n)); INSERT INTO loose SELECT * FROM piece; DROP TABLE piece;
+    ALTER TABLE loose RENAME TO piece; """
+
 DAMAGES = [
     ("UPDATE held SET size = size - 1", "damaged bench data/file"),
     ("UPDATE piece SET n = n + 9; UPDATE piece SET n = 12 - n", "damaged bench data/file"),
@@ -76,6 +80,12 @@ DAMAGES = [
     ("UPDATE meta SET v = 3", "not a ledger"),
     ("PRAGMA foreign_keys = OFF; DELETE FROM held", "not a ledger"),
     ("DROP TABLE piece", "not a ledger"),
+    (LOOSE, "adopted"),
+    (LOOSE + "UPDATE piece SET body = CAST(zeroblob(65536) AS TEXT) WHERE n = 1", "damaged bench data/file"),
+    (LOOSE + "UPDATE piece SET body = NULL WHERE n = 1", "damaged bench data/file"),
+    (LOOSE + "UPDATE piece SET n = 'one' WHERE n = 1", "not a ledger"),
+    (LOOSE + "INSERT INTO piece VALUES (99, 0, x'00')", "not a ledger"),
+    (LOOSE + "INSERT INTO piece SELECT item, 1.5, body FROM piece WHERE n = 1", "not a ledger"),
     ("VACUUM", "adopted"),
 ]
 
