@@ -198,6 +198,3 @@ fn is_encoding_name(text: &[u8]) -> bool
 {
     !text.is_empty() && text.iter().all(|octet| b'!' <= *octet && *octet <= b'~')
 }
-
-#[cfg(test)]
-mod tests;

@@ -230,6 +230,3 @@ fn is_in_url(octet: u8) -> bool
 {
     octet > b' ' && octet != 127
 }
-
-#[cfg(test)]
-mod tests;

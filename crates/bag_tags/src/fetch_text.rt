@@ -146,6 +146,3 @@ fn write_length(alloc: Global, octets: &mut Vec<u8>, length: Option<u64>) -> Res
     }
     Ok(())
 }
-
-#[cfg(test)]
-mod tests;

@@ -224,6 +224,3 @@ fn stops_value(after_lf: bool, octet: u8) -> bool
 {
     octet == b'\r' || after_lf && (is_blank(octet) || octet == b'\n')
 }
-
-#[cfg(test)]
-mod tests;

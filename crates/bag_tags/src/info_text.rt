@@ -199,6 +199,3 @@ fn write_octet(octets: &mut Vec<u8>, octet: u8) -> Result<(), AllocError>
     octets.push(octet)?;
     Ok(())
 }
-
-#[cfg(test)]
-mod tests;

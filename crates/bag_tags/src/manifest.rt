@@ -158,6 +158,3 @@ fn add(
     };
     Ok(())
 }
-
-#[cfg(test)]
-mod tests;

@@ -90,6 +90,3 @@ fn plain_path(text: &str) -> &str
     let text = text.strip_prefix("*").unwrap_or(text);
     text.strip_prefix("./").unwrap_or(text)
 }
-
-#[cfg(test)]
-mod tests;

@@ -66,6 +66,3 @@ fn needs_dot(path: &[u8]) -> bool
         None => false,
     }
 }
-
-#[cfg(test)]
-mod tests;

@@ -50,6 +50,3 @@ impl Oxum {
         format!(in alloc; "{}.{}", self.octets, self.streams)
     }
 }
-
-#[cfg(test)]
-mod tests;

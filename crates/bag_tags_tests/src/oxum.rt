@@ -1,4 +1,4 @@
-use super::*;
+use bag_tags::Oxum;
 use std::test::Fail;
 
 #[test]

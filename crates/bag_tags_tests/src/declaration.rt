@@ -1,4 +1,4 @@
-use super::*;
+use bag_tags::{Declaration, read_declaration, write_declaration};
 use std::test::Fail;
 
 #[test]

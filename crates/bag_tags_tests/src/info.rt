@@ -1,4 +1,5 @@
-use super::*;
+use bag_tags::{Element, ElementFault};
+use std::alloc::Global;
 
 /// Why this label and this value make no element.
 fn refused(alloc: Global, label: &str, value: &str) -> Option<ElementFault> {

@@ -1,4 +1,6 @@
-use super::*;
+use bag_path::BagPath;
+use bag_tags::{FetchEntry, FetchEntryFault};
+use std::alloc::Global;
 use std::test::Fail;
 
 /// Why this URL and this path make no entry.

@@ -1,4 +1,7 @@
-use super::*;
+use bag_digest::{Alg, Digest};
+use bag_path::BagPath;
+use bag_tags::{Kind, Manifest, PushFault};
+use std::alloc::Global;
 use std::test::Fail;
 
 const MD5_OF_ABC: &[u8] = b"900150983cd24fb0d6963f7d28e17f72";

@@ -1,4 +1,6 @@
-use super::*;
+use bag_digest::{Alg, Digest};
+use bag_path::Version;
+use bag_tags::{Kind, Pair, read_manifest};
 use std::test::Fail;
 
 const TWO_LINES: &[u8] =

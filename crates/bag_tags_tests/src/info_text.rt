@@ -1,4 +1,6 @@
-use super::*;
+use bag_path::Version;
+use bag_tags::{Element, Info, TagFault, read_info, write_info};
+use std::alloc::Global;
 use std::test::Fail;
 
 /// Whether a text says these labels and values.

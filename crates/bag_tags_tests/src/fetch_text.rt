@@ -1,5 +1,6 @@
-use super::*;
-use bag_path::BagPath;
+use bag_path::{BagPath, Version};
+use bag_tags::{Fetch, FetchEntry, FetchLine, read_fetch, write_fetch};
+use std::alloc::Global;
 use std::test::Fail;
 
 /// Whether these are the entries, each with the number of its line.

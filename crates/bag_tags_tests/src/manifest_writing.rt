@@ -1,6 +1,7 @@
-use super::*;
-use crate::listing::Kind;
 use bag_digest::{Alg, Digest};
+use bag_path::BagPath;
+use bag_tags::{Kind, Manifest, write_manifest};
+use std::alloc::Global;
 use std::test::Fail;
 
 const OF_ABC: &[u8] = b"BA7816BF8F01CFEA414140DE5DAE2223B00361A396177A9CB410FF61F20015AD";
