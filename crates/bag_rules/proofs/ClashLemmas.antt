@@ -1,14 +1,14 @@
 -- The first of some paths that is that of a folder, and clashes of a transfer.
-use Rattle.std.proofs.Common.{◌≡◌, ◌↔◌, ℕ, ◌<◌, ◌++◌, true, false, List, [], Option, Some, None, Result, Ok, Err, IfOk, MatchOption, Contains, get_or, length, refl, sym, ap, subst, ◌∙◌, arith, inl, inr}
+use Rattle.std.proofs.Common.{◌≡◌, ◌↔◌, ℕ, ◌<◌, ◌++◌, true, false, List, [], Option, Some, None, Result, Ok, Err, IfOk, MatchOption, Contains, get_or, length, refl, sym, ap, subst, ◌∙◌, inl, inr}
 use Rattle.std.proofs.lemmas.Cmp.{nat_list_cmp_total}
 use Rattle.std.proofs.lemmas.List.{get_or_default}
 use Rattle.std.proofs.lemmas.List.Elements.{Contains-append_cases, Contains-append_left, Contains-append_right}
 use Rattle.std.proofs.lemmas.List.Sorted.{ranks_by, sorted_far}
-use Rattle.std.specs.List.Sorted.{IsPermutation, IsSorted, IsStrictlySortedBy}
+use Rattle.std.specs.List.Sorted.{IsPermutation, IsSorted}
 use Rattle.bag_rules.specs.Bags.{shown_of}
 use Rattle.bag_rules.specs.Opening.{HasInside, IsClash, IsFirstPath, IsFolderAmong, IsPathOf}
 use Rattle.bag_rules.specs.Transfers.{AreExpected, tag_bag}
-use Rattle.bag_rules.proofs.Words.{Alg, bytes_eq, bytes_eq-Decides, cases_lt, Contains-permutation, Files, is_lt, is_member-Decides, IsPermutation-sym, IsThere, keys_of, list_any, manifest_file, nat_cmp, ordering_reverse, paths_in, Payload, slice_cmp}
+use Rattle.bag_rules.proofs.Words.{cases_lt, Contains-permutation, Files, is_lt, IsPermutation-sym, IsThere, keys_of, nat_cmp, ordering_reverse, paths_in, slice_cmp}
 use Rattle.bag_rules.proofs.TreeLemmas.{all_paths, is_there, shows}
 
 -- the same paths in order
@@ -85,18 +85,3 @@ module _ (tags : Files) (expected : List (List ℕ)) (listed : AreExpected tags 
       → IfOk r (λ found. MatchOption found ((path : List ℕ) → ¬ IsClash tags path) (IsFirstPath (IsClash tags)))
   clash_told (Ok found) all same told = first_clashes found (subst (λ (paths : List (List ℕ)). MatchOption found ((path : List ℕ) → ¬ IsFolderAmong paths path) (IsFirstPath (IsFolderAmong paths))) same told)
   clash_told (Err fault) all same told = tt
-
--- if no file is a payload manifest, no payload file is expected
-pub none_expected : (tags : Files) → ((alg : Alg) → list_any (bytes_eq (manifest_file Payload alg)) (keys_of tags) ≡ false) → AreExpected tags []
-unfolding IsStrictlySortedBy
-none_expected tags none = record {
-  rising = tt;
-  exact = λ path. (
-    λ found. absurd (omega (arith, found.1)),
-    λ is.
-        let alg = is.0 in
-        let lists = is.1.1 in
-        let has = (is_tag_path tags (manifest_file Payload alg)).1 (lists.octets, lists.there) in
-        absurd (cc ((is_member-Decides bytes_eq-Decides (keys_of tags) (manifest_file Payload alg)).1 has, none alg)),
-  );
-}

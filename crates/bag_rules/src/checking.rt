@@ -32,9 +32,6 @@ use bag_path::Version;
 use bag_tags::TagName;
 use std::alloc::Global;
 
-#[cfg(test)]
-mod tests;
-
 /// Judges a tree as a bag (RFC 8493 section 3). Returns the faults of the bag in order, or why it can't be judged.
 ///
 /// The order of work is: the number of files; `bagit.txt`; the manifests, `bag-info.txt` and `fetch.txt` by file name;

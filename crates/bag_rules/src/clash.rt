@@ -14,9 +14,6 @@ use bag_path::BagPath;
 use std::alloc::{AllocError, Global};
 use std::cmp::Ordering;
 
-#[cfg(test)]
-mod tests;
-
 /// The first clash among the paths of the tag files and of the expected payload files: a path that is that of a folder
 /// in which another of them is.
 pub(crate) fn first_clash(

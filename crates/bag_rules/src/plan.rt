@@ -160,6 +160,3 @@ fn same_in<'a>(paths: &'a [BagPath], path: &BagPath) -> Option<&'a BagPath>
         Err(_) => None,
     }
 }
-
-#[cfg(test)]
-mod tests;

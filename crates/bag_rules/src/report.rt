@@ -6,9 +6,6 @@ ghost use Rattle.bag_rules.specs.Faults.{Has};
 use crate::fault::Fault;
 use std::marker::Model;
 
-#[cfg(test)]
-mod tests;
-
 /// The faults of a bag, in order and each once: by kind of fault, then by file name, line and path.
 #[derive(Debug, Drop)]
 pub struct Report {

@@ -8,9 +8,6 @@ use std::alloc::{AllocError, Global};
 use std::marker::Model;
 use thiserror::Error;
 
-#[cfg(test)]
-mod tests;
-
 /// Why a tag file was not added. If several causes apply, the first in this order is returned, but `Memory` may be
 /// returned in place of any other.
 #[derive(Clone, Copy, Debug, PartialEq, Eq, Error)]

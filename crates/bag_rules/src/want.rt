@@ -112,6 +112,3 @@ impl Want<'_> {
         set
     }
 }
-
-#[cfg(test)]
-mod tests;

@@ -1,13 +1,30 @@
-use crate::fault::Fault;
-use crate::report::Report;
+use crate::common::{DECLARATION, add};
 use bag_digest::Alg;
 use bag_path::{BagPath, PathFault};
+use bag_rules::{Fault, MemTree, Outcome, Report, check};
 use bag_tags::{DeclFault, Kind, LineCause, LineFile, ManifestName};
 use std::alloc::Global;
 use std::test::Fail;
 
+const EMPTY_MANIFEST: (&str, &str) = ("manifest-sha256.txt", "");
+
+// It lists the digest of nothing for both files (RFC 6234 section 8.5).
+const TAG_MANIFEST: (&str, &str) = (
+    "tagmanifest-sha256.txt",
+    "e3b0c44298fc1c149afbf4c8996fb92427ae41e4649b934ca495991b7852b855  bag-info.txt
+e3b0c44298fc1c149afbf4c8996fb92427ae41e4649b934ca495991b7852b855  manifest-sha256.txt
+",
+);
+
 fn path(alloc: Global) -> Result<BagPath, PathFault> {
     BagPath::parse(alloc, "data/a")
+}
+
+/// The faults in the order of a report, and each once.
+fn in_order(mut faults: Vec<Fault>) -> Vec<Fault> {
+    faults.sort_unstable();
+    faults.dedup();
+    faults
 }
 
 fn bad_lines(alloc: Global, rows: &[(LineFile, u64)]) -> Result<Vec<Fault>, Fail> {
@@ -50,7 +67,7 @@ fn bad_lines_stand_by_file_name_and_line_and_each_once(rt: HostRuntime) -> Resul
         (fetch, 2),
         (payload, 10),
     ];
-    let report = Report::new(bad_lines(alloc, &rows)?);
+    let faults = in_order(bad_lines(alloc, &rows)?);
     let ordered = [
         (LineFile::Info, 3),
         (fetch, 2),
@@ -58,7 +75,7 @@ fn bad_lines_stand_by_file_name_and_line_and_each_once(rt: HostRuntime) -> Resul
         (payload, 10),
         (tag, 1),
     ];
-    assert_eq!(rt; report.faults(), bad_lines(alloc, &ordered)?.as_slice());
+    assert_eq!(rt; faults.as_slice(), bad_lines(alloc, &ordered)?.as_slice());
     Ok(())
 }
 
@@ -73,14 +90,17 @@ fn missing_files_stand_by_manifest_and_path_and_each_once(rt: HostRuntime) -> Re
         (Kind::Payload, Alg::Sha1, "data/a"),
         (Kind::Payload, Alg::Md5, "data/b"),
     ];
-    let report = Report::new(missing_files(alloc, &rows)?);
+    let faults = in_order(missing_files(alloc, &rows)?);
     let ordered = [
         (Kind::Payload, Alg::Md5, "data/B"),
         (Kind::Payload, Alg::Md5, "data/b"),
         (Kind::Payload, Alg::Sha1, "data/a"),
         (Kind::Tag, Alg::Md5, "bag-info.txt"),
     ];
-    assert_eq!(rt; report.faults(), missing_files(alloc, &ordered)?.as_slice());
+    assert_eq!(rt;
+        faults.as_slice(),
+        missing_files(alloc, &ordered)?.as_slice()
+    );
     Ok(())
 }
 
@@ -91,7 +111,7 @@ fn the_kinds_of_fault_stand_by_their_numbers(rt: HostRuntime) -> Result<(), Fail
         kind: Kind::Payload,
         alg: Alg::Md5,
     };
-    let report = Report::new(vec![in alloc;
+    let faults = in_order(vec![in alloc;
         Fault::WrongDigest {
             manifest: name,
             path: path(alloc)?
@@ -130,7 +150,7 @@ fn the_kinds_of_fault_stand_by_their_numbers(rt: HostRuntime) -> Result<(), Fail
         Fault::NoDeclaration,
     ]?);
     let mut numbers = Vec::new(alloc);
-    for fault in report.faults() {
+    for fault in &faults {
         numbers.push(fault.number())?;
     }
     assert_eq!(rt;
@@ -140,12 +160,25 @@ fn the_kinds_of_fault_stand_by_their_numbers(rt: HostRuntime) -> Result<(), Fail
     Ok(())
 }
 
+/// The report on a bag of these tag files that has no payload files.
+fn report_on(alloc: Global, tag_files: &[(&str, &str)]) -> Result<Report, Fail> {
+    let mut tree = MemTree::new(alloc);
+    tree.set_payload_dir();
+    for (path, text) in tag_files.iter().copied() {
+        add(alloc, &mut tree, path, text.as_bytes())?;
+    }
+    match check(alloc, &mut tree)? {
+        Outcome::Judged(report) => Ok(report),
+        Outcome::Outside(_) => Err("the bag is not judged".into()),
+    }
+}
+
 #[test]
 fn a_bag_with_wrong_digests_alone_is_complete_and_only_one_without_faults_is_valid(
     rt: HostRuntime,
 ) -> Result<(), Fail> {
     let alloc = rt.alloc();
-    let none = Report::new(vec![in alloc]?);
+    let none = report_on(alloc, &[DECLARATION, EMPTY_MANIFEST])?;
     assert!(rt; none.is_complete());
     assert!(rt; none.is_valid());
     let wrong = Fault::WrongDigest {
@@ -155,10 +188,14 @@ fn a_bag_with_wrong_digests_alone_is_complete_and_only_one_without_faults_is_val
         },
         path: BagPath::parse(alloc, "bag-info.txt")?,
     };
-    let digest = Report::new(vec![in alloc; wrong]?);
+    let info = ("bag-info.txt", "Source-Organization: Test\n");
+    let digest = report_on(alloc, &[DECLARATION, EMPTY_MANIFEST, info, TAG_MANIFEST])?;
+    assert_eq!(rt; digest.faults(), [wrong].as_slice());
     assert!(rt; digest.is_complete());
     assert!(rt; !digest.is_valid());
-    let oxum = Report::new(vec![in alloc; Fault::OxumWrong]?);
+    let info = ("bag-info.txt", "Payload-Oxum: 0.1\n");
+    let oxum = report_on(alloc, &[DECLARATION, EMPTY_MANIFEST, info])?;
+    assert_eq!(rt; oxum.faults(), [Fault::OxumWrong].as_slice());
     assert!(rt; !oxum.is_complete());
     assert!(rt; !oxum.is_valid());
     Ok(())

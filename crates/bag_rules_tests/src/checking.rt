@@ -1,8 +1,9 @@
 ghost use Rattle.bag_rules.specs.Memory.{SameMemFiles, keeps_tree, mem_shown, same_itself, same_on};
 
-use crate::{CheckFault, MemTree, Outcome, Paths, Tree, check};
+use crate::common::{DECLARATION, add};
 use bag_digest::{Failed, Failures, Source};
 use bag_path::BagPath;
+use bag_rules::{CheckFault, MemTree, Outcome, Paths, Tree, check};
 use std::alloc::Global;
 use std::test::Fail;
 
@@ -11,17 +12,11 @@ const MANIFEST: &[u8] =
     b"ba7816bf8f01cfea414140de5dae2223b00361a396177a9cb410ff61f20015ad  data/a.txt\n\
 e3b0c44298fc1c149afbf4c8996fb92427ae41e4649b934ca495991b7852b855  data/e.txt\n";
 
-fn add(alloc: Global, tree: &mut MemTree, path: &str, octets: &[u8]) -> Result<(), Fail> {
-    let path = BagPath::parse(alloc, path)?;
-    tree.add(path, Vec::from_slice(alloc, octets)?)?;
-    Ok(())
-}
-
 // A valid bag of two payload files and a tag file that nothing lists.
 fn valid_bag(alloc: Global) -> Result<MemTree, Fail> {
     let mut tree = MemTree::new(alloc);
-    let declaration = b"BagIt-Version: 1.0\nTag-File-Character-Encoding: UTF-8\n";
-    add(alloc, &mut tree, "bagit.txt", declaration)?;
+    let (path, declaration) = DECLARATION;
+    add(alloc, &mut tree, path, declaration.as_bytes())?;
     add(alloc, &mut tree, "data/a.txt", b"abc")?;
     add(alloc, &mut tree, "data/e.txt", b"")?;
     add(alloc, &mut tree, "manifest-sha256.txt", MANIFEST)?;

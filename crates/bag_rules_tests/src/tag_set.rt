@@ -1,5 +1,5 @@
-use crate::{Paths, TagSet, TagSetFault};
 use bag_path::PathFault;
+use bag_rules::{Paths, TagSet, TagSetFault};
 use std::alloc::{AllocError, Global};
 use std::test::Fail;
 

@@ -1,6 +1,6 @@
-use crate::TagSet;
-use crate::clash::{first_clash, first_folder};
+use crate::common::{DECLARATION, tags_of};
 use bag_path::BagPath;
+use bag_rules::{Plan, PlanFault, first_folder};
 use std::alloc::Global;
 use std::test::Fail;
 
@@ -53,10 +53,9 @@ fn of_several_clashes_the_first_path_is_told(rt: HostRuntime) -> Result<(), Fail
 #[test]
 fn a_tag_file_clashes_with_one_in_a_folder_of_its_path(rt: HostRuntime) -> Result<(), Fail> {
     let alloc = rt.alloc();
-    let mut tags = TagSet::new(alloc);
-    tags.add("docs/a.txt", Vec::new(alloc))?;
-    tags.add("docs", Vec::new(alloc))?;
-    let found = first_clash(alloc, &tags, &[])?;
-    assert_eq!(rt; text_of(&found), "docs");
+    let manifest = ("manifest-sha256.txt", "");
+    let files = [DECLARATION, manifest, ("docs/a.txt", ""), ("docs", "")];
+    let refused = Plan::from_tags(alloc, &tags_of(alloc, &files)?).err();
+    assert!(rt; matches!(&refused, Some(PlanFault::Clash(path)) if path.as_str() == "docs"));
     Ok(())
 }

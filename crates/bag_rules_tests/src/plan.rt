@@ -1,14 +1,10 @@
-use crate::{Fault, ItemSize, OutsideCause, Plan, PlanFault, TagSet, WantFault};
-use bag_digest::{Alg, Multi};
+use crate::common::{DECLARATION, tags_of, told_of};
+use bag_digest::Alg;
 use bag_path::BagPath;
+use bag_rules::{Fault, ItemSize, OutsideCause, Plan, PlanFault, WantFault};
 use bag_tags::{Kind, ManifestName};
 use std::alloc::{AllocError, Global};
 use std::test::Fail;
-
-const DECLARATION: (&str, &str) = (
-    "bagit.txt",
-    "BagIt-Version: 1.0\nTag-File-Character-Encoding: UTF-8\n",
-);
 
 // Two files, with the digests of `abc` and of nothing (FIPS 180-4, example B.1, and RFC 6234 section 8.5).
 const MANIFEST: (&str, &str) = (
@@ -17,14 +13,6 @@ const MANIFEST: (&str, &str) = (
 e3b0c44298fc1c149afbf4c8996fb92427ae41e4649b934ca495991b7852b855  data/b
 ",
 );
-
-fn tags_of(alloc: Global, files: &[(&str, &str)]) -> Result<TagSet, Fail> {
-    let mut tags = TagSet::new(alloc);
-    for (path, text) in files.iter().copied() {
-        tags.add(path, Vec::from_slice(alloc, text.as_bytes())?)?;
-    }
-    Ok(tags)
-}
 
 /// Why no transfer can be opened with these tag files; `None` if one can be opened.
 fn refusal(alloc: Global, files: &[(&str, &str)]) -> Result<Option<PlanFault>, Fail> {
@@ -118,14 +106,6 @@ e3b0c44298fc1c149afbf4c8996fb92427ae41e4649b934ca495991b7852b855  data/a/b
     let refused = refusal(rt.alloc(), &[DECLARATION, manifest])?;
     assert!(rt; matches!(&refused, Some(PlanFault::Clash(path)) if path.as_str() == "data/a"));
     Ok(())
-}
-
-/// What the plan says about content at a path; `None` if the path isn't listed.
-fn told_of(plan: &Plan, path: &BagPath, content: &[u8]) -> Option<Result<(), WantFault>> {
-    let want = plan.want(path)?;
-    let mut multi = Multi::new(want.algs());
-    multi.update(content);
-    Some(want.test(content.len() as u64, &multi.finish()))
 }
 
 fn sizes_of(alloc: Global, rows: &[(&str, u64)]) -> Result<Vec<ItemSize>, Fail> {

@@ -1,14 +1,9 @@
-use crate::{AddFault, MemTree, Paths, Tree, find};
+use crate::common::add;
 use bag_digest::{Failed, Source};
 use bag_path::BagPath;
+use bag_rules::{AddFault, MemTree, Paths, Tree, find};
 use std::alloc::Global;
 use std::test::Fail;
-
-fn add(alloc: Global, tree: &mut MemTree, path: &str, body: &[u8]) -> Result<(), Fail> {
-    let path = BagPath::parse(alloc, path)?;
-    tree.add(path, Vec::from_slice(alloc, body)?)?;
-    Ok(())
-}
 
 fn read_all(alloc: Global, tree: &mut MemTree) -> Result<Vec<u8>, Fail> {
     let mut all = Vec::new(alloc);
