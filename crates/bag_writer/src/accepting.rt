@@ -15,9 +15,6 @@ use bag_rules::{Paths, find, first_folder};
 use bag_tags::is_url;
 use std::alloc::{AllocError, Global};
 
-#[cfg(test)]
-mod tests;
-
 /// Marks the files of the tree that are holes, if a bag with them can be written.
 ///
 /// # Errors

@@ -8,8 +8,6 @@ pub use spec::{Hole, Spec};
 pub use writing::write_bag;
 
 mod accepting;
-#[cfg(test)]
-mod counting;
 pub mod examples;
 mod fault;
 pub mod fitting;

@@ -12,9 +12,6 @@ use bag_rules::MemTree;
 use std::alloc::Global;
 use std::marker::Model;
 
-#[cfg(test)]
-mod tests;
-
 /// A file that was begun: its path, and the octets that it has so far.
 #[derive(Drop)]
 struct OpenFile {

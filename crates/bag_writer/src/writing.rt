@@ -19,9 +19,6 @@ use bag_rules::{Paths, Tree};
 use bag_tags::Oxum;
 use std::alloc::Global;
 
-#[cfg(test)]
-mod tests;
-
 /// Writes the payload files of a tree as a bag of version 1.0 with manifests and tag manifests by the given algorithms
 /// (RFC 8493 section 2). Returns the `Payload-Oxum` of the payload.
 ///

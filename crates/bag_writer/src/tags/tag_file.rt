@@ -79,7 +79,7 @@ fn write_through<S: Sink>(path: &BagPath, octets: &[u8], sink: &mut S) -> Result
 }
 
 /// A file of these octets, as manifests list it.
-pub(crate) fn item_of(path: BagPath, octets: &[u8], set: AlgSet) -> Item
+fn item_of(path: BagPath, octets: &[u8], set: AlgSet) -> Item
     ensures { IsItemOf set result path octets.now }
 {
     let mut hashers = Multi::new(set);

@@ -138,6 +138,3 @@ fn list_item(manifest: &mut Manifest, item: &Item) -> Result<(), AllocError>
         Err(_) => unreachable!(),
     }
 }
-
-#[cfg(test)]
-mod tests;

@@ -1,9 +1,9 @@
 //! A sink that only counts what it is given. It allocates no memory, so no call in the right order fails.
 ghost use Rattle.std.specs.Prelude.{◌≡◌, false};
 
-use crate::sink::Sink;
 use bag_digest::{Failed, Failures};
 use bag_path::BagPath;
+use bag_writer::Sink;
 
 /// How many files were ended, and how many octets were written.
 #[derive(Drop)]

@@ -1,9 +1,9 @@
 use crate::counting::CountingSink;
-use crate::{Hole, MemSink, Sink, Spec, WriteFault, write_bag};
 use bag_digest::{Alg, AlgSet, buffer_of};
 use bag_path::BagPath;
 use bag_rules::{MemTree, Outcome, Paths, check};
 use bag_tags::{Element, Info, Oxum};
+use bag_writer::{Hole, MemSink, Sink, Spec, WriteFault, write_bag};
 use std::alloc::Global;
 use std::test::Fail;
 
@@ -130,6 +130,20 @@ fn a_bag_with_a_hole_lists_it_and_leaves_it_out(rt: HostRuntime) -> Result<(), F
     // Both manifests list the missing hole, and `Payload-Oxum` counts it.
     let faults = faults_of(alloc, &mut bag)?;
     assert_eq!(rt; faults.as_slice(), [9, 9, 13].as_slice());
+    Ok(())
+}
+
+#[test]
+fn a_manifest_lists_each_file_with_its_digest(rt: HostRuntime) -> Result<(), Fail> {
+    let alloc = rt.alloc();
+    let spec = spec_by(alloc, AlgSet::empty().with(Alg::Md5).with(Alg::Sha512));
+    let (_, bag) = written(alloc, &mut payload(alloc)?, &spec)?;
+    let lines = b"900150983cd24fb0d6963f7d28e17f72  data/a.txt\n\
+d41d8cd98f00b204e9800998ecf8427e  data/e.txt\n";
+    let md5 = holds(alloc, &bag, "manifest-md5.txt", lines)?;
+    assert!(rt; md5);
+    let sha512 = size(alloc, &bag, "manifest-sha512.txt")?;
+    assert_eq!(rt; sha512, Some(282));
     Ok(())
 }
 

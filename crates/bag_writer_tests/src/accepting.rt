@@ -1,9 +1,8 @@
-use super::accepted_holes;
-use crate::{Hole, Spec, WriteFault};
 use bag_digest::{Alg, AlgSet};
 use bag_path::BagPath;
 use bag_rules::MemTree;
 use bag_tags::{Element, Info};
+use bag_writer::{Hole, MemSink, Spec, WriteFault, write_bag};
 use std::alloc::Global;
 use std::test::Fail;
 
@@ -38,17 +37,30 @@ fn spec_with(alloc: Global, holes: &[&str]) -> Result<Spec, Fail> {
     Ok(spec)
 }
 
-/// The marks of the files at these paths if those are the holes.
+/// For each of these paths whether a bag of the files at them, with those holes, leaves out its payload file.
 fn marks_of(alloc: Global, paths: &[&str], holes: &[&str]) -> Result<Vec<bool>, Fail> {
-    let tree = tree_of(alloc, paths)?;
-    Ok(accepted_holes(alloc, &tree, &spec_with(alloc, holes)?)?)
+    let mut tree = tree_of(alloc, paths)?;
+    let mut sink = MemSink::new(alloc);
+    write_bag(alloc, &mut tree, &spec_with(alloc, holes)?, &mut sink)?;
+    let bag = sink.into_tree();
+    let mut marks = Vec::new(alloc);
+    for path in paths {
+        let path = BagPath::parse(alloc, path)?;
+        marks.push(path.is_payload() && bag.get(&path).is_none())?;
+    }
+    Ok(marks)
+}
+
+/// Why no bag can be written of the tree.
+fn refusal(alloc: Global, tree: &mut MemTree, spec: &Spec) -> Option<WriteFault> {
+    let mut sink = MemSink::new(alloc);
+    write_bag(alloc, tree, spec, &mut sink).err()
 }
 
 /// Why no bag can be written of the files at these paths if those are the holes.
 fn fault_of(alloc: Global, paths: &[&str], holes: &[&str]) -> Result<Option<WriteFault>, Fail> {
-    let tree = tree_of(alloc, paths)?;
-    let spec = spec_with(alloc, holes)?;
-    Ok(accepted_holes(alloc, &tree, &spec).err())
+    let mut tree = tree_of(alloc, paths)?;
+    Ok(refusal(alloc, &mut tree, &spec_with(alloc, holes)?))
 }
 
 #[test]
@@ -67,11 +79,11 @@ fn the_places_of_holes_are_marked(rt: HostRuntime) -> Result<(), Fail> {
 #[test]
 fn a_bag_needs_an_algorithm(rt: HostRuntime) -> Result<(), Fail> {
     let alloc = rt.alloc();
-    let tree = tree_of(alloc, &["data/a"])?;
+    let mut tree = tree_of(alloc, &["data/a"])?;
     let mut spec = spec_with(alloc, &["data/b"])?;
     spec.algs = AlgSet::empty();
     spec.info.push(Element::new(alloc, "Payload-Oxum", "0.1")?)?;
-    let fault = accepted_holes(alloc, &tree, &spec).err();
+    let fault = refusal(alloc, &mut tree, &spec);
     assert!(rt; matches!(fault, Some(WriteFault::NoAlgorithm)));
     Ok(())
 }
@@ -79,12 +91,12 @@ fn a_bag_needs_an_algorithm(rt: HostRuntime) -> Result<(), Fail> {
 #[test]
 fn a_payload_oxum_is_not_to_be_given_in_any_case(rt: HostRuntime) -> Result<(), Fail> {
     let alloc = rt.alloc();
-    let tree = tree_of(alloc, &["data/a"])?;
+    let mut tree = tree_of(alloc, &["data/a"])?;
     let mut spec = spec_with(alloc, &["data/b"])?;
     spec.info
         .push(Element::new(alloc, "Contact-Name", "Payload-Oxum")?)?;
     spec.info.push(Element::new(alloc, "payload-OXUM", "0.1")?)?;
-    let fault = accepted_holes(alloc, &tree, &spec).err();
+    let fault = refusal(alloc, &mut tree, &spec);
     assert!(rt; matches!(fault, Some(WriteFault::OxumGiven)));
     Ok(())
 }
@@ -120,11 +132,11 @@ fn a_hole_stands_once(rt: HostRuntime) -> Result<(), Fail> {
 #[test]
 fn a_hole_has_a_url(rt: HostRuntime) -> Result<(), Fail> {
     let alloc = rt.alloc();
-    let tree = tree_of(alloc, &["data/a", "data/b"])?;
+    let mut tree = tree_of(alloc, &["data/a", "data/b"])?;
     for url in ["x y:z", "", "x:", ":x", "x:y z"] {
         let mut spec = spec_with(alloc, &["data/a"])?;
         spec.holes.push(hole(alloc, "data/b", url)?)?;
-        let fault = accepted_holes(alloc, &tree, &spec).err();
+        let fault = refusal(alloc, &mut tree, &spec);
         assert!(rt; matches!(fault, Some(WriteFault::BadHole(1))), "{url}");
     }
     Ok(())
@@ -146,7 +158,7 @@ fn a_file_and_a_folder_of_one_path_clash(rt: HostRuntime) -> Result<(), Fail> {
 fn a_name_that_only_begins_alike_does_not_clash(rt: HostRuntime) -> Result<(), Fail> {
     let alloc = rt.alloc();
     let marks = marks_of(alloc, &["data/a.txt", "data/a/b", "data/a0"], &[])?;
-    assert_eq!(rt; marks.len(), 3);
+    assert_eq!(rt; marks.as_slice(), [false, false, false].as_slice());
     let clash = fault_of(alloc, &["data/a", "data/a.txt", "data/a/b", "data/a0"], &[])?;
     assert!(rt; is_clash(&clash, "data/a"));
     Ok(())

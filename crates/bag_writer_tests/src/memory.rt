@@ -1,8 +1,8 @@
 use crate::counting::CountingSink;
-use crate::{MemSink, Sink};
 use bag_digest::Failed;
 use bag_path::BagPath;
 use bag_rules::{MemTree, Paths};
+use bag_writer::{MemSink, Sink};
 use std::alloc::Global;
 use std::test::Fail;
 
