@@ -291,6 +291,3 @@ impl<K: Keeper> Receiver<K> {
         }
     }
 }
-
-#[cfg(test)]
-mod tests;

@@ -30,5 +30,3 @@ mod report;
 mod run;
 mod run_from;
 mod supplier;
-#[cfg(test)]
-mod tests;

@@ -27,6 +27,3 @@ fn may_be_in_name(octet: u8) -> bool
 {
     octet.is_ascii_lowercase() || octet.is_ascii_digit() || octet == b'-'
 }
-
-#[cfg(test)]
-mod tests;

@@ -13,9 +13,6 @@ use crate::run::{End, MOST_DELIVERIES, Run};
 use bag_ledger::Keeper;
 use std::alloc::{AllocError, Global};
 
-#[cfg(test)]
-mod tests;
-
 impl<K: Keeper> Receiver<K> {
     /// Takes in what the courier delivers, one item after another. Returns the run and the text of each delivery's
     /// path.

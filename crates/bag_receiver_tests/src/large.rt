@@ -1,26 +1,26 @@
 //! A payload file of several pieces.
-use super::{DECLARATION, OTHER_DIGEST, is_valid, opened};
-use crate::{Answer, DeliverFault, Receiver};
+use crate::common::{DECLARATION, OTHER_DIGEST, is_valid, opened};
 use bag_digest::Counted;
 use bag_ledger::Keeper;
 use bag_path::BagPath;
+use bag_receiver::{Answer, DeliverFault, Receiver};
 use std::io::{self, Read};
 use std::test::Fail;
 
-pub(super) const PATH: &str = "data/large.bin";
+pub const PATH: &str = "data/large.bin";
 
 /// Two pieces of 65,536 octets, and one octet.
-pub(super) const LENGTH: usize = 131_073;
+pub const LENGTH: usize = 131_073;
 
 // The output of `sha256sum` for this many octets 0, 1, .., 250, 0, 1, ..
-pub(super) const MANIFEST: (&str, &str) = (
+pub const MANIFEST: (&str, &str) = (
     "manifest-sha256.txt",
     "dd84db969f4ff2abb79c8c2fbc06e8d8e02c46d6481c958e057f7ad7a24c58a7  data/large.bin\n",
 );
 
 /// Gives octets that count up to 250 and start again from 0, and after them the end or an error.
 #[derive(Drop)]
-pub(super) struct Counting {
+pub struct Counting {
     given: usize,
     left: usize,
     /// The last octet is different.
@@ -28,7 +28,7 @@ pub(super) struct Counting {
     breaks: bool,
 }
 
-pub(super) fn reader_of(length: usize, is_damaged: bool, breaks: bool) -> Counted<Counting> {
+pub fn reader_of(length: usize, is_damaged: bool, breaks: bool) -> Counted<Counting> {
     Counted::new(Counting {
         given: 0,
         left: length,

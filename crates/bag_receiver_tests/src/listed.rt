@@ -1,7 +1,7 @@
-//! A courier whose items are known.
-use super::begun;
-use crate::{Answer, Courier, DeliverFault, End};
-use bag_digest::{Alg, Failed, Failures, Source};
+//! Runs from a courier whose items are known.
+use crate::common::{DECLARATION, MANIFEST, OTHER_DIGEST, is_valid, items, opened};
+use bag_digest::{Failed, Failures, Source};
+use bag_receiver::{Answer, Courier, DeliverFault, End};
 use std::io::Read;
 use std::test::Fail;
 
@@ -93,16 +93,13 @@ impl Courier for Listed<'_> {
 #[test]
 fn the_items_that_were_to_come_are_delivered_in_order(rt: HostRuntime) -> Result<(), Fail> {
     let alloc = rt.alloc();
-    let mut items = Vec::new(alloc);
-    for (path, text) in [
+    let pairs = [
         ("data/e.txt", ""),
         ("data/a.txt", "abd"),
         ("data/z", "abc"),
         ("data/a.txt", "abc"),
-    ] {
-        let content = Vec::from_slice(alloc, text.as_bytes())?;
-        items.push((String::from_str(alloc, path)?, content))?;
-    }
+    ];
+    let items = items(alloc, &pairs)?;
     let mut courier = Listed {
         items: items.as_slice(),
         path: "",
@@ -111,11 +108,11 @@ fn the_items_that_were_to_come_are_delivered_in_order(rt: HostRuntime) -> Result
         failures: Failures::none(),
         nexts: 0,
     };
-    let mut receiver = begun(alloc)?;
+    let mut receiver = opened(alloc, &["t1"], &[DECLARATION, MANIFEST])?;
     let (run, paths) = receiver.run_from(alloc, "t1", &mut courier);
     let answers = [
         Answer::Taken,
-        Answer::Refused(DeliverFault::Digest(Alg::Sha256)),
+        OTHER_DIGEST,
         Answer::Refused(DeliverFault::NotListed),
         Answer::Taken,
     ];
@@ -124,6 +121,6 @@ fn the_items_that_were_to_come_are_delivered_in_order(rt: HostRuntime) -> Result
     assert_eq!(rt; paths.len(), 4);
     assert_eq!(rt; courier.nexts(), 5);
     assert_eq!(rt; courier.failures(), 0);
-    assert!(rt; receiver.report(alloc, "t1")?.is_valid());
+    assert!(rt; is_valid(alloc, &mut receiver, "t1")?);
     Ok(())
 }

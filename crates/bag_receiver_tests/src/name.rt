@@ -1,4 +1,5 @@
-use crate::name::is_name;
+//! Names of transfers.
+use bag_receiver::is_name;
 
 #[test]
 fn a_name_is_of_small_letters_digits_and_hyphens(rt: HostRuntime) {

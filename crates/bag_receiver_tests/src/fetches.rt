@@ -1,8 +1,8 @@
 //! Fetching from a supplier.
-use super::{DECLARATION, MANIFEST, is_valid, opened};
-use crate::{DeliverFault, FetchAnswer, Receiver, Supplier};
+use crate::common::{DECLARATION, MANIFEST, is_valid, opened};
 use bag_digest::{Alg, Failed, Failures, Source};
 use bag_ledger::MapKeeper;
+use bag_receiver::{DeliverFault, FetchAnswer, Receiver, Supplier};
 use std::alloc::Global;
 use std::io::Read;
 use std::test::Fail;

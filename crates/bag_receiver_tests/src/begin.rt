@@ -1,30 +1,17 @@
-use crate::{Answer, Receiver};
+//! Opening transfers.
+use crate::common::{DECLARATION, Items, MANIFEST, items};
 use bag_ledger::{Keeper, MapKeeper};
+use bag_receiver::{Answer, Receiver};
 use bag_rules::TagSet;
 use std::alloc::{AllocError, Global};
 use std::test::Fail;
-
-type Handed = Vec<(String, Vec<u8>)>;
-
-const DECLARATION: (&str, &str) = (
-    "bagit.txt",
-    "BagIt-Version: 1.0\nTag-File-Character-Encoding: UTF-8\n",
-);
 
 const EARLIER: (&str, &str) = (
     "bagit.txt",
     "BagIt-Version: 0.96\nTag-File-Character-Encoding: UTF-8\n",
 );
 
-// Two files, with the digests of `abc` and of the empty message (FIPS 180-4, example B.1, and RFC 6234 section 8.5).
-const MANIFEST: (&str, &str) = (
-    "manifest-sha256.txt",
-    "ba7816bf8f01cfea414140de5dae2223b00361a396177a9cb410ff61f20015ad  data/a.txt
-e3b0c44298fc1c149afbf4c8996fb92427ae41e4649b934ca495991b7852b855  data/e.txt
-",
-);
-
-// The same except for its first octet.
+// `MANIFEST` except for its first octet.
 const OTHER_MANIFEST: (&str, &str) = (
     "manifest-sha256.txt",
     "Ba7816bf8f01cfea414140de5dae2223b00361a396177a9cb410ff61f20015ad  data/a.txt
@@ -39,21 +26,12 @@ e3b0c44298fc1c149afbf4c8996fb92427ae41e4649b934ca495991b7852b855  data/a/b
 ",
 );
 
-fn handed(alloc: Global, files: &[(&str, &str)]) -> Result<Handed, AllocError> {
-    let mut all = Vec::new(alloc);
-    for (path, text) in files.iter().copied() {
-        let octets = Vec::from_slice(alloc, text.as_bytes())?;
-        all.push((String::from_str(alloc, path)?, octets))?;
-    }
-    Ok(all)
-}
-
 /// The answer to these files, as text.
 fn answer(
     alloc: Global,
     receiver: &mut Receiver<MapKeeper>,
     name: &str,
-    files: &Handed,
+    files: &Items,
 ) -> Result<String, AllocError> {
     match receiver.begin(alloc, name, files.as_slice()) {
         Ok(begun) => format!(in alloc; "{begun:?}"),
@@ -67,7 +45,7 @@ fn a_transfer_has_a_name_of_1_to_64_letters_digits_and_hyphens(
 ) -> Result<(), Fail> {
     let alloc = rt.alloc();
     let mut receiver = Receiver::new(alloc, MapKeeper::new(alloc));
-    let files = handed(alloc, &[DECLARATION, MANIFEST])?;
+    let files = items(alloc, &[DECLARATION, MANIFEST])?;
     for (name, expected) in [
         ("", "BadName"),
         ("T1", "BadName"),
@@ -107,7 +85,7 @@ fn the_first_reason_is_told_why_no_transfer_is_opened(rt: HostRuntime) -> Result
             "Clash(\"data/a\")",
         ),
     ] {
-        let told = answer(alloc, &mut receiver, "t1", &handed(alloc, files)?)?;
+        let told = answer(alloc, &mut receiver, "t1", &items(alloc, files)?)?;
         assert_eq!(rt; told.as_str(), expected);
     }
     assert!(rt; receiver.names(alloc)?.is_empty());
@@ -136,7 +114,7 @@ fn the_least_path_of_a_file_that_is_too_large_is_told(rt: HostRuntime) -> Result
         ),
         ("readme.txt", [("data/q", "")].as_slice(), "TagPath(0)"),
     ] {
-        let mut files = handed(alloc, others)?;
+        let mut files = items(alloc, others)?;
         for (path, octets) in files.iter_mut() {
             if path.as_str() == "manifest-md5.txt" {
                 *octets = lines(alloc)?;
@@ -168,7 +146,7 @@ fn a_transfer_that_is_open_stays_as_it_is(rt: HostRuntime) -> Result<(), Fail> {
         ([MANIFEST, DECLARATION], "Again"),
         ([DECLARATION, OTHER_MANIFEST], "Differs"),
     ] {
-        let told = answer(alloc, &mut receiver, "t1", &handed(alloc, &files)?)?;
+        let told = answer(alloc, &mut receiver, "t1", &items(alloc, &files)?)?;
         assert_eq!(rt; told.as_str(), expected);
         receiver.deliver(alloc, "t1", "data/a.txt", b"abc");
     }

@@ -1,10 +1,10 @@
 //! Audits of what can be read again, and of what can't.
-use super::large::{self, LENGTH, reader_of};
-use super::{DECLARATION, MANIFEST, opened};
-use crate::{Answer, Receiver, ViewFault};
+use crate::common::{DECLARATION, MANIFEST, opened};
+use crate::large::{self, LENGTH, reader_of};
 use bag_digest::Source;
 use bag_ledger::{KeepFault, Keeper, MapKeeper, PutFault, StoreFault};
 use bag_path::BagPath;
+use bag_receiver::{Answer, Receiver, ViewFault};
 use bag_rules::{ItemSize, TagSet, Want};
 use std::alloc::Global;
 use std::test::Fail;

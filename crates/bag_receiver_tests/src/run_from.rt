@@ -1,17 +1,9 @@
-use crate::{Answer, Courier, DeliverFault, End, Receiver};
+//! Runs from a courier of which nothing is known.
+use crate::common::{DECLARATION, MANIFEST, is_valid, opened};
 use bag_digest::{Failed, Failures, Source};
-use bag_ledger::MapKeeper;
+use bag_receiver::{Answer, Courier, DeliverFault, End};
 use std::alloc::{AllocError, Global};
 use std::test::Fail;
-
-mod listed;
-
-const DECLARATION: &str = "BagIt-Version: 1.0\nTag-File-Character-Encoding: UTF-8\n";
-
-// Two files, with the digests of `abc` and of the empty message (FIPS 180-4, example B.1, and RFC 6234 section 8.5).
-const MANIFEST: &str = "ba7816bf8f01cfea414140de5dae2223b00361a396177a9cb410ff61f20015ad  data/a.txt
-e3b0c44298fc1c149afbf4c8996fb92427ae41e4649b934ca495991b7852b855  data/e.txt
-";
 
 /// An item: its path, what its reads give one after another, the last first, and whether the read after those fails.
 #[derive(Drop)]
@@ -143,28 +135,11 @@ impl Courier for Items {
     ghost keeps_item = { λ old new kept. (refl, kept.0, kept.1, λ none. none) };
 }
 
-/// A receiver with one transfer of two files.
-fn begun(alloc: Global) -> Result<Receiver<MapKeeper>, AllocError> {
-    let mut files = Vec::new(alloc);
-    for (path, text) in [
-        ("bagit.txt", DECLARATION),
-        ("manifest-sha256.txt", MANIFEST),
-    ] {
-        let octets = Vec::from_slice(alloc, text.as_bytes())?;
-        files.push((String::from_str(alloc, path)?, octets))?;
-    }
-    let mut receiver = Receiver::new(alloc, MapKeeper::new(alloc));
-    match receiver.begin(alloc, "t1", files.as_slice()) {
-        Ok(_) => Ok(receiver),
-        Err(_) => Err(AllocError),
-    }
-}
-
 #[test]
 fn a_run_goes_on_after_a_read_that_failed(rt: HostRuntime) -> Result<(), Fail> {
     let alloc = rt.alloc();
     for (ends_well, expected, failures) in [(true, End::Done, 1), (false, End::Courier, 2)] {
-        let mut receiver = begun(alloc)?;
+        let mut receiver = opened(alloc, &["t1"], &[DECLARATION, MANIFEST])?;
         let mut items = Vec::new(alloc);
         items.push(an_item(alloc, "data/e.txt", &[], false)?)?;
         items.push(an_item(alloc, "data/a.txt", &["a", "bc"], false)?)?;
@@ -182,7 +157,7 @@ fn a_run_goes_on_after_a_read_that_failed(rt: HostRuntime) -> Result<(), Fail> {
         assert_eq!(rt; told.as_str(), "data/a.txt data/a.txt data/e.txt");
         assert_eq!(rt; courier.nexts(), 4);
         assert_eq!(rt; courier.failures(), failures);
-        assert!(rt; receiver.report(alloc, "t1")?.is_valid());
+        assert!(rt; is_valid(alloc, &mut receiver, "t1")?);
     }
     Ok(())
 }

@@ -1,10 +1,10 @@
 //! Exports to a sink in memory, and to one that fails.
-use super::large::{LENGTH, PATH, reader_of};
-use super::{DECLARATION, MANIFEST, opened};
-use crate::{Answer, ExportFault, Receiver};
+use crate::common::{DECLARATION, MANIFEST, opened};
+use crate::large::{LENGTH, PATH, reader_of};
 use bag_digest::{Failed, Failures};
 use bag_ledger::MapKeeper;
 use bag_path::BagPath;
+use bag_receiver::{ExportFault, Receiver};
 use bag_rules::{MemTree, Outcome, Paths, check};
 use bag_writer::{MemSink, Sink};
 use std::alloc::Global;
