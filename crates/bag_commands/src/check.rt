@@ -18,9 +18,6 @@ use bag_rules::{CheckFault, Outcome, Tree, check};
 use std::alloc::Global;
 use std::io::Write;
 
-#[cfg(test)]
-mod tests;
-
 /// Checks the bag in a tree, prints the result and returns the status, as [`print_outcome`] does.
 pub fn check_to<T: Tree, W: Write + Drop>(alloc: Global, tree: &mut T, out: &mut Output<W>) -> u8
     // The status is 0 only for a valid bag.

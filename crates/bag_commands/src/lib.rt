@@ -29,7 +29,5 @@ mod report;
 mod spelling;
 pub mod status;
 mod stop;
-#[cfg(test)]
-mod tests;
 mod text;
 mod verdict;

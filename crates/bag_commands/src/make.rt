@@ -15,9 +15,6 @@ use std::alloc::Global;
 use std::fmt::{self, Display, Formatter};
 use std::io::Write;
 
-#[cfg(test)]
-mod tests;
-
 /// Writes a bag of a tree's payload files to a sink, with manifests by the algorithms with these names, prints the
 /// result and returns the status, as [`print_making`] does. An algorithm that is named twice counts once.
 ///

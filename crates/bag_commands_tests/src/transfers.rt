@@ -1,10 +1,6 @@
 //! Transfers in a map: what is printed.
-use super::{kept, printed};
-use crate::audit::audit_to;
-use crate::begin::begin_to;
-use crate::intake::intake_to;
-use crate::list::list_to;
-use crate::report::report_to;
+use crate::common::{TAG_FILES, kept, opened_with, printed};
+use bag_commands::{audit_to, begin_to, intake_to, list_to, report_to};
 use bag_digest::{Failed, Failures, Source};
 use bag_ledger::{Keeper, MapKeeper};
 use bag_path::BagPath;
@@ -12,19 +8,6 @@ use bag_receiver::{Courier, Receiver};
 use bag_rules::{MemTree, Plan, TagSet};
 use std::alloc::{AllocError, Global};
 use std::test::Fail;
-
-const DECLARATION: &str = "BagIt-Version: 1.0\nTag-File-Character-Encoding: UTF-8\n";
-
-// Two files, with the digests of `abc` and of the empty message (FIPS 180-4, example B.1, and RFC 6234 section 8.5).
-const MANIFEST: &str = "ba7816bf8f01cfea414140de5dae2223b00361a396177a9cb410ff61f20015ad  data/a.txt
-e3b0c44298fc1c149afbf4c8996fb92427ae41e4649b934ca495991b7852b855  data/e.txt
-";
-
-/// The tag files of a transfer of these two files.
-pub const TAG_FILES: [(&str, &str); 2] = [
-    ("bagit.txt", DECLARATION),
-    ("manifest-sha256.txt", MANIFEST),
-];
 
 /// The text of a path, and the octets still to be read.
 #[derive(Drop)]
@@ -151,24 +134,6 @@ impl Courier for Items {
 /// A receiver with transfers with these names, each of two files.
 fn opened(alloc: Global, names: &[&str]) -> Result<Receiver<MapKeeper>, Fail> {
     opened_with(alloc, names, &TAG_FILES)
-}
-
-/// A receiver with transfers with these names, each opened with these tag files.
-pub fn opened_with(
-    alloc: Global,
-    names: &[&str],
-    tag_files: &[(&str, &str)],
-) -> Result<Receiver<MapKeeper>, Fail> {
-    let mut files = Vec::new(alloc);
-    for (path, text) in tag_files.iter().copied() {
-        let octets = Vec::from_slice(alloc, text.as_bytes())?;
-        files.push((String::from_str(alloc, path)?, octets))?;
-    }
-    let mut receiver = Receiver::new(alloc, MapKeeper::new(alloc));
-    for name in names.iter().copied() {
-        receiver.begin(alloc, name, files.as_slice())?;
-    }
-    Ok(receiver)
 }
 
 /// Whether a report and an audit of the transfer print this, with this status.
@@ -315,26 +280,20 @@ fn a_transfer_is_begun_once_with_the_tag_files_of_a_tree(rt: HostRuntime) -> Res
     let alloc = rt.alloc();
     let mut receiver = Receiver::new(alloc, MapKeeper::new(alloc));
     let other = "BagIt-Version: 0.96\nTag-File-Character-Encoding: UTF-8\n";
-    let manifest = ("manifest-sha256.txt", MANIFEST);
-    let whole = [("bagit.txt", DECLARATION), manifest];
-    let note = [("bagit.txt", DECLARATION), manifest, ("note%.txt", "")];
-    let clash = [
-        ("bagit.txt", DECLARATION),
-        manifest,
-        ("a%", ""),
-        ("a%/b", ""),
-    ];
+    let [declaration, manifest] = TAG_FILES;
+    let note = [declaration, manifest, ("note%.txt", "")];
+    let clash = [declaration, manifest, ("a%", ""), ("a%/b", "")];
     for (name, files, expected) in [
-        ("T1", &whole[..], (1, "refused: name\n")),
-        ("t1", &whole[..1], (1, "refused: no payload manifest\n")),
+        ("T1", &TAG_FILES[..], (1, "refused: name\n")),
+        ("t1", &TAG_FILES[..1], (1, "refused: no payload manifest\n")),
         (
             "t1",
             &[("bagit.txt", other), manifest],
             (2, "outside: version\n"),
         ),
         ("t1", &clash, (1, "refused: clash a%25\n")),
-        ("t1", &whole, (0, "new\n")),
-        ("t1", &whole, (0, "again\n")),
+        ("t1", &TAG_FILES, (0, "new\n")),
+        ("t1", &TAG_FILES, (0, "again\n")),
         ("t1", &note, (1, "refused: differs\n")),
     ] {
         let is_told = is_begun(alloc, &mut receiver, name, files, expected)?;

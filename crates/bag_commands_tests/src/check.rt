@@ -1,5 +1,6 @@
-use super::check_to;
-use crate::tests::{kept, printed};
+//! Checks: what is printed.
+use crate::common::{kept, printed};
+use bag_commands::check_to;
 use bag_path::BagPath;
 use bag_rules::MemTree;
 use std::alloc::Global;

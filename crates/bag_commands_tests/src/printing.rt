@@ -1,25 +1,11 @@
-use crate::check::print_outcome;
-use crate::output::Output;
-use crate::text::FaultLine;
+//! What is printed of results, and what a failed write gives.
+use crate::common::{Failing, kept, printed};
+use bag_commands::{Output, print_beginning, print_outcome};
 use bag_path::BagPath;
+use bag_receiver::BeginFault;
 use bag_rules::{CheckFault, Fault, Outcome, OutsideCause};
-use std::alloc::Global;
-use std::io::{self, BufWriter, Write};
+use std::io::BufWriter;
 use std::test::Fail;
-
-mod exports;
-mod fetches;
-mod transfers;
-
-/// An output that keeps what is written to it.
-pub fn kept(alloc: Global) -> Result<Output<Vec<u8>>, Fail> {
-    Ok(Output::new(BufWriter::new(alloc, Vec::new(alloc))?))
-}
-
-/// What was written to it.
-pub fn printed(out: &Output<Vec<u8>>) -> Option<&str> {
-    str::from_utf8(out.writer.get_ref().as_slice()).ok()
-}
 
 #[test]
 fn the_greatest_number_of_a_line_is_printed_whole(rt: HostRuntime) -> Result<(), Fail> {
@@ -27,11 +13,10 @@ fn the_greatest_number_of_a_line_is_printed_whole(rt: HostRuntime) -> Result<(),
         line: 18446744073709551615,
         path: BagPath::parse(rt.alloc(), "data/a.txt")?,
     };
-    let line = FaultLine(&fault).to_string(rt.alloc())?;
-    assert_eq!(rt;
-        line.as_str(),
-        "fetch.txt:18446744073709551615: length: data/a.txt"
-    );
+    let mut out = kept(rt.alloc())?;
+    let answered = print_beginning(&Err(BeginFault::Rules(fault)), &mut out);
+    let text = "refused: fetch.txt:18446744073709551615: length: data/a.txt\n";
+    assert_eq!(rt; (answered, printed(&out)), (1, Some(text)));
     Ok(())
 }
 
@@ -42,32 +27,6 @@ fn a_file_past_the_limit_is_told_by_one_line(rt: HostRuntime) -> Result<(), Fail
     let answered = print_outcome(&answer, &mut out);
     assert_eq!(rt; (answered, printed(&out)), (3, Some("bag: too large\n")));
     Ok(())
-}
-
-/// A writer that accepts some octets and then fails, at a write or at a flush.
-#[derive(Drop)]
-struct Failing {
-    takes: usize,
-    flushes: bool,
-}
-
-impl Write for Failing {
-    fn write(&mut self, buf: &[u8]) -> io::Result<usize> {
-        let taken = self.takes.min(buf.len());
-        self.takes -= taken;
-        if taken == 0 {
-            return Err(io::Error::from(io::ErrorKind::StorageFull));
-        }
-        Ok(taken)
-    }
-
-    fn flush(&mut self) -> io::Result<()> {
-        if self.flushes {
-            Ok(())
-        } else {
-            Err(io::Error::from(io::ErrorKind::BrokenPipe))
-        }
-    }
 }
 
 #[test]

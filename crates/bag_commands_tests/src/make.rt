@@ -1,7 +1,6 @@
-use super::make_to;
-use crate::check::check_to;
-use crate::output::Output;
-use crate::tests::{kept, printed};
+//! Making a bag: what is printed, and what is made.
+use crate::common::{kept, printed};
+use bag_commands::{Output, check_to, make_to};
 use bag_path::BagPath;
 use bag_rules::{MemTree, Paths};
 use bag_writer::MemSink;

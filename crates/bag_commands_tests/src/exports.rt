@@ -1,8 +1,6 @@
 //! Exports: what is printed, and what the sink holds afterwards.
-use super::transfers::{TAG_FILES, opened_with};
-use super::{kept, printed};
-use crate::check::check_to;
-use crate::export::export_to;
+use crate::common::{TAG_FILES, kept, opened_with, printed};
+use bag_commands::{check_to, export_to};
 use bag_ledger::MapKeeper;
 use bag_path::BagPath;
 use bag_receiver::Receiver;

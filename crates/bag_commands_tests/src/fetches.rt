@@ -1,8 +1,6 @@
 //! Fetching: what is printed.
-use super::transfers::{TAG_FILES, opened_with};
-use super::{Failing, kept, printed};
-use crate::fetch::fetch_to;
-use crate::output::Output;
+use crate::common::{Failing, TAG_FILES, kept, opened_with, printed};
+use bag_commands::{Output, fetch_to};
 use bag_digest::{Failed, Failures, Source};
 use bag_ledger::MapKeeper;
 use bag_receiver::{Answer, Receiver, Supplier};
@@ -103,7 +101,7 @@ impl Supplier for Same {
 }
 
 /// A receiver with a transfer that has this `fetch.txt` and holds one of its two files.
-pub fn to_fetch(alloc: Global, fetch: &str) -> Result<Receiver<MapKeeper>, Fail> {
+fn to_fetch(alloc: Global, fetch: &str) -> Result<Receiver<MapKeeper>, Fail> {
     let [declaration, manifest] = TAG_FILES;
     let mut receiver = opened_with(
         alloc,
