@@ -42,17 +42,6 @@ abbrev pub AreGiven : {R A F D E : Type 0} → List (Result (DirEntry R A F D) E
     → Type 0
 AreGiven given entries = map given_name given ≡ map (λ entry. Some entry.name) entries
 
--- a directory with given entries: its name and its entries
-pub record ToldShown : Type 0 where
-  pub name : List ℕ
-  pub entries : List EntryShown
-
--- the listing of these directories; the first with a name counts
-abbrev pub listing_of : List ToldShown → Listing
-listing_of [] name = None
-listing_of (told ∷ more) name =
-    if bytes_eq told.name name then Some told.entries else listing_of more name
-
 -- the payload directory as an entry of the base directory
 abbrev pub data_entry : EntryShown
 data_entry = record { name = codes "data"; kind = Directory }

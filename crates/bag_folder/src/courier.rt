@@ -8,9 +8,6 @@ use bag_receiver::Courier;
 use bag_rules::Tree;
 use std::marker::Model;
 
-#[cfg(test)]
-mod tests;
-
 /// Delivers the payload files of a tree, each once, in the order of their paths.
 ///
 /// A file is opened at its first read. So a file of which nothing is read is never opened, and if a file can't be

@@ -9,7 +9,6 @@ pub use fault::OpenFault;
 pub use place::Place;
 pub use sink::FolderSink;
 pub use supplier::FolderSupplier;
-pub use told::{Told, ToldDirectories};
 pub use tree::FolderTree;
 
 mod courier;
@@ -21,8 +20,5 @@ mod payload;
 mod place;
 mod sink;
 mod supplier;
-#[cfg(test)]
-mod tests;
-mod told;
 mod tree;
 mod walk;

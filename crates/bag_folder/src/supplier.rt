@@ -14,9 +14,6 @@ use std::io::{ErrorKind, Read};
 use std::marker::Model;
 use std::rt::Files;
 
-#[cfg(test)]
-mod tests;
-
 /// Supplies the files below a folder by their paths, whatever their urls. Nothing is claimed about their content.
 #[derive(Drop)]
 pub struct FolderSupplier<R: Files> {

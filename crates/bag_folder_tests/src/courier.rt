@@ -1,6 +1,6 @@
-use super::TreeCourier;
-use crate::{Disk, FolderTree};
+//! A folder as a courier.
 use bag_digest::Source;
+use bag_folder::{Disk, FolderTree, TreeCourier};
 use bag_receiver::Courier;
 use std::fs;
 use std::test::Fail;

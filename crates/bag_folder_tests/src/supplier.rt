@@ -1,6 +1,6 @@
-use super::FolderSupplier;
-use crate::OpenFault;
+//! A folder as a supplier.
 use bag_digest::{Failed, Source};
+use bag_folder::{FolderSupplier, OpenFault};
 use bag_receiver::Supplier;
 use std::fs;
 use std::os::unix::fs::symlink;

@@ -1,5 +1,7 @@
-use crate::{Directories, Disk, Entry, EntryKind, FolderTree, Told, ToldDirectories};
+//! A folder as a tree.
+use crate::told::{Told, ToldDirectories};
 use bag_digest::{Failed, Source};
+use bag_folder::{Disk, Entry, EntryKind, FolderTree};
 use bag_rules::{Paths, Tree};
 use std::alloc::Global;
 use std::fs;

@@ -1,8 +1,7 @@
-//! Directories with given entries, for tests: what a walk finds in them is known.
+//! Directories with given entries: what a walk finds in them is known.
 ghost use Rattle.std.specs.Prelude.{◌≡◌, IfErr, IfOk};
 
-use crate::directory::{Directories, Entry};
-use crate::fault::OpenFault;
+use bag_folder::{Directories, Entry, OpenFault};
 use std::alloc::Global;
 use std::marker::Model;
 
@@ -17,7 +16,7 @@ pub struct Told {
 
 impl Model for Told {
     ghost use Rattle.std.specs.Prelude.{string_bytes};
-    ghost use Rattle.bag_folder.specs.Directories.{ToldShown};
+    ghost use Rattle.bag_folder_tests.specs.Told.{ToldShown};
 
     ghost Value = { ToldShown };
 
@@ -33,7 +32,7 @@ pub struct ToldDirectories {
 
 impl Directories for ToldDirectories {
     ghost use Rattle.std.specs.Prelude.{Some};
-    ghost use Rattle.bag_folder.specs.Directories.{listing_of};
+    ghost use Rattle.bag_folder_tests.specs.Told.{listing_of};
 
     ghost listing = { λ told. Some (listing_of told.all.items) };
 

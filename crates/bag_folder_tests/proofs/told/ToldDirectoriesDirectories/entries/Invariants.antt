@@ -1,6 +1,6 @@
 use Rattle.std.proofs.Common.{◌≡◌, drop}
-use Rattle.bag_folder.specs.Directories.{listing_of}
-use Rattle.bag_folder.proofs.told.ToldDirectoriesDirectories.entries.Given as goal
+use Rattle.bag_folder_tests.specs.Told.{listing_of}
+use Rattle.bag_folder_tests.proofs.told.ToldDirectoriesDirectories.entries.Given as goal
 
 abbrev pub invariant-loop-told : goal.invariant-loop-told
 invariant-loop-told l = listing_of l.self.all.items l.directory ≡ listing_of (drop l.told-index l.self.all.items) l.directory
