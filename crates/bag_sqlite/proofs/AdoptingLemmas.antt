@@ -1,8 +1,7 @@
 -- What a database shows while it is read and verified.
-use Rattle.std.proofs.Common.{ap, Result, Ok, Err, MatchResult, true, IfOk, IfSome, IfNone, Option, None, Some, ◌≡◌, ◌<◌, ◌+◌, ◌++◌, ℕ, ℤ, get_or, suc, take, List, [], ◌∷◌, arith, length, map, refl, subst, sym, ◌∙◌, false, IsTrue}
+use Rattle.std.proofs.Common.{ap, Result, Ok, Err, IfOk, IfSome, IfNone, Option, None, Some, ◌≡◌, ◌<◌, ◌+◌, ◌++◌, ℕ, ℤ, get_or, suc, take, List, [], ◌∷◌, arith, length, map, refl, subst, sym, ◌∙◌, false, IsTrue}
 use Rattle.std.specs.Prelude.{slice_index_or}
 use Rattle.std.specs.List.{AllByRecursion}
-use Rattle.std.specs.Result.{is_ok}
 use Rattle.std.proofs.Math.Seq.{take-suc}
 use Rattle.std.specs.BTreeMap.{insert_entry}
 use Rattle.std.specs.Cmp.Lexicographic.{slice_cmp}
@@ -138,7 +137,3 @@ pub ok_none : {A E : Type 0} {P Q : Type 0} (r : Result (Option A) E) → (P →
 ok_none (Ok (Some a)) f h = tt
 ok_none (Ok None) f h = f h
 ok_none (Err e) f h = tt
-
-pub when_ok : {A E : Type 0} (r : Result A E) (P : A → Type 0) (Q : E → Type 0) → is_ok r ≡ true → MatchResult r P Q → (a : A) × P a
-when_ok (Ok a) P Q is h = (a, h)
-when_ok (Err e) P Q is h = absurd (let no : false ≡ true = is in cc)

@@ -1,4 +1,5 @@
 pub mod AdoptingLemmas
+pub mod BatchLemmas
 pub mod CommitLemmas
 pub mod ContentLemmas
 pub mod CutLemmas

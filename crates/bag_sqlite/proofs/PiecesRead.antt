@@ -3,16 +3,16 @@ use Rattle.std.proofs.Common.{◌≡◌, ◌<◌, ◌≤◌, ◌+◌, ℕ, zero,
 use Rattle.std.specs.List.{concat}
 use Rattle.std.proofs.lemmas.List.{append_assoc}
 use Rattle.std.proofs.lemmas.Option.{same_Some}
-use Rattle.bag_digest.specs.Hash.{Holds}
 use Rattle.bag_digest.specs.declared.algorithm.AlgSet.{AlgSet}
-use Rattle.bag_digest.specs.declared.multi.Multi.{Multi}
 use Rattle.bag_digest.specs.declared.reading.TheConstants.{PIECE}
 use Rattle.sqlite.specs.Effect.{Database}
 use Rattle.sqlite.specs.Store.{Ghosts}
 use Rattle.sqlite.specs.declared.types.Value.TheVariants.{Blob, Int}
 use Rattle.bag_sqlite.specs.Adopting.{TellsOne, piece_text}
 use Rattle.bag_sqlite.specs.Databases.{AreCut}
+use Rattle.bag_sqlite.specs.Batches.{TakesAlso, Took}
 use Rattle.bag_sqlite.specs.Refusing.{AreFull}
+use Rattle.bag_sqlite.specs.declared.content.Content.{Content}
 
 concat_last : (pieces : List (List ℕ)) (piece : List ℕ) → concat (pieces ++ piece ∷ []) ≡ concat pieces ++ piece
 concat_last [] piece = append-nil piece
@@ -35,17 +35,17 @@ at_last (first ∷ pieces) last P each here zero piece is = each 0 piece is
 at_last (first ∷ pieces) last P each here (suc n) piece is = at_last pieces last (λ m. P (suc m)) (λ m p at. each (suc m) p at) (subst (λ m. P m last) (omega arith) here) n piece is
 
 module _ {S : Type 0} (g : Ghosts S) (db : Database) (item : ℤ) where
-  pub record HasTaken (set : AlgSet) (multi : Multi) (size taken n : ℕ) : Type 0 where
+  pub record HasTaken (set : AlgSet) (content : Content) (size taken n : ℕ) : Type 0 where
     pub pieces : List (List ℕ)
     pub each : (k : ℕ) (piece : List ℕ) → slice_get pieces k ≡ Some piece → TellsOne g db piece_text (Int item ∷ Int (pos k) ∷ []) (Blob piece)
     pub cut : AreCut pieces
     pub full : taken < size → AreFull pieces
     pub taken_is : taken ≡ length (concat pieces)
     pub count : n ≡ length pieces
-    pub holds : Holds multi set (concat pieces)
+    pub holds : Took content set (concat pieces)
 
-  pub nothing_taken : (set : AlgSet) (multi : Multi) (size : ℕ) → Holds multi set [] → HasTaken set multi size 0 0
-  nothing_taken set multi size holds = record {
+  pub nothing_taken : (set : AlgSet) (content : Content) (size : ℕ) → Took content set [] → HasTaken set content size 0 0
+  nothing_taken set content size holds = record {
     pieces = [];
     each = λ k piece is. absurd (let e : ◌≡◌ {A = Option (List ℕ)} None (Some piece) = is in cc);
     cut = tt;
@@ -55,12 +55,12 @@ module _ {S : Type 0} (g : Ghosts S) (db : Database) (item : ℤ) where
     holds = holds;
   }
 
-  pub one_taken : (set : AlgSet) (multi next : Multi) (size taken n : ℕ) (piece : List ℕ) → HasTaken set multi size taken n → taken < size
+  pub one_taken : (set : AlgSet) (content next : Content) (size taken n : ℕ) (piece : List ℕ) → HasTaken set content size taken n → taken < size
       → 0 < length piece → length piece ≤ PIECE → (taken + length piece < size → length piece ≡ PIECE)
       → TellsOne g db piece_text (Int item ∷ Int (pos n) ∷ []) (Blob piece)
-      → ((octets : List ℕ) → Holds multi set octets → Holds next set (octets ++ piece))
+      → TakesAlso content next piece
       → HasTaken set next size (taken + length piece) (n + 1)
-  one_taken set multi next size taken n piece so_far more some most whole told updates =
+  one_taken set content next size taken n piece so_far more some most whole told takes =
       let joined = concat_last so_far.pieces piece in
       record {
         pieces = so_far.pieces ++ piece ∷ [];
@@ -70,5 +70,5 @@ module _ {S : Type 0} (g : Ghosts S) (db : Database) (item : ℤ) where
         full = λ still. full_last so_far.pieces piece (so_far.full more) (whole still);
         taken_is = omega (arith, so_far.taken_is, ap length joined, length-append (concat so_far.pieces) piece);
         count = omega (arith, so_far.count, length-append so_far.pieces (piece ∷ []));
-        holds = subst (Holds next set) (sym joined) (updates (concat so_far.pieces) so_far.holds);
+        holds = subst (Took next set) (sym joined) (takes set (concat so_far.pieces) so_far.holds);
       }

@@ -1,12 +1,7 @@
 -- Why a database isn't opened, from the results of its reads.
 use Rattle.std.proofs.Common.{◌↔◌, ◌∙◌, Bool, ◌≡◌, ◌≢◌, ◌⊎◌, ◌<◌, ◌≤◌, ℕ, ℤ, pos, zero, suc, List, [], ◌∷◌, Option, None, Some, Err, IfErr, IfNone, MatchResult, Ok, OnOk, false, true, string_bytes, Result, IsTrue, ap, arith, codes, get_or, inl, inr, length, refl, subst, sym}
 use Rattle.std.specs.Prelude.{slice_index_or}
-use Rattle.std.specs.Result.{is_ok}
 use Rattle.std.proofs.lemmas.Bool.{cases_lt}
-use Rattle.bag_rules.specs.Files.{Files}
-use Rattle.bag_rules.specs.Transfers.{IsMisfit, Passes}
-use Rattle.bag_rules.specs.declared.want.WantFault.{WantFault}
-use Rattle.bag_rules.specs.declared.want.WantFault.TheVariants.{Digest as WrongDigest, Length}
 use Rattle.sqlite.specs.Command.{Command}
 use Rattle.sqlite.specs.Command.TheVariants.{Rows, Select}
 use Rattle.std.specs.List.{AllByRecursion}
@@ -211,10 +206,6 @@ pub none_map : {A : Type 0} {P Q : Type 0} (o : Option A) → (P → Q) → IfNo
 none_map None f h = f h
 none_map (Some a) f h = tt
 
-pub when_err : {A E : Type 0} (r : Result A E) (P : A → Type 0) (Q : E → Type 0) → is_ok r ≡ false → MatchResult r P Q → (e : E) × Q e
-when_err (Ok a) P Q is h = absurd (let no : true ≡ false = is in cc)
-when_err (Err e) P Q is h = (e, h)
-
 -- an error of reading a column is never reported as damage
 pub not_damage : (at : ℕ) (v : Value) (e : Error) → IsReadError at v e → e ≢ SqliteFailure code.DatabaseCorrupt
 not_damage at v e (inl h) d = absurd (cc (h, d))
@@ -238,11 +229,6 @@ tags_error R X r e fault is said told = subst (IsNoneFor R) (sym told) (rw is at
 
 pub bad_tag : {A : Type 0} (R X : Type 0) (r : Result A Error) → r ≡ Err (SqliteFailure code.DatabaseCorrupt) → IfErr r (λ x. (x ≡ SqliteFailure code.DatabaseCorrupt → X) × IsNoneFor R (adopt_fault x)) → X
 bad_tag R X r is said = (rw is at said).0 refl
-
--- what is valid has no misfit
-pub never_misfit : (tags : Files) (path content : List ℕ) (fault : WantFault) → Passes tags path content → IsMisfit tags path content fault → ⊥
-never_misfit tags path content Length passes (line, entry, named, (given, gives, other)) = other (passes.lengths line entry named given gives)
-never_misfit tags path content (WrongDigest alg) passes (none, ((pairs, lists, (digest, some, other)), least)) = other (passes.digests alg pairs digest lists some)
 
 module _ {S : Type 0} (g : Ghosts S) (db : Database) where
   -- a transfer that isn't accepted, with what is known of it

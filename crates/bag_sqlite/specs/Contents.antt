@@ -1,11 +1,8 @@
 -- What a transaction that stores a payload file did.
-use Rattle.std.specs.Prelude.{◌≡◌, ◌++◌, ℕ, ℤ, List, Option, Ok, Err, Result}
+use Rattle.std.specs.Prelude.{◌≡◌, ℕ, ℤ, List, Option, Ok, Err, Result}
 use Rattle.std.specs.List.{concat}
-use Rattle.bag_digest.specs.Hash.{Holds}
 use Rattle.bag_digest.specs.Reading.{GaveAll, read_fault}
-use Rattle.bag_digest.specs.declared.algorithm.AlgSet.{AlgSet}
 use Rattle.bag_digest.specs.declared.multi.Digests.{Digests}
-use Rattle.bag_digest.specs.declared.multi.Multi.{Multi}
 use Rattle.bag_ledger.specs.PutFaults.{misfit_fault, put_fault}
 use Rattle.bag_ledger.specs.declared.fault.KeepFault.{KeepFault}
 use Rattle.bag_ledger.specs.declared.fault.PutFault.{PutFault}
@@ -25,11 +22,6 @@ pub record HasRead (old new : Option (List ℕ)) (want : Want) (found : ℕ × D
   pub gave : GaveAll old new LARGEST_ITEM (concat pieces)
   pub cut : AreCut pieces
   pub sums : AreSumsFor want (concat pieces) found.0 found.1
-
--- these octets are hashed after those that were hashed before
-abbrev pub HashesAlso : Multi → Multi → List ℕ → Type 0
-HashesAlso old new octets = (set : AlgSet) (before : List ℕ) → Holds old set before
-    → Holds new set (before ++ octets)
 
 -- a payload file by its parts
 abbrev pub in_pieces : ℤ → List ℕ → List (List ℕ) → NumberedItem

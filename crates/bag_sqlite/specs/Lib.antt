@@ -1,4 +1,5 @@
 pub mod Adopting
+pub mod Batches
 pub mod Contents
 pub mod Databases
 pub mod Items

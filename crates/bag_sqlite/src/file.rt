@@ -233,6 +233,12 @@ impl From<io::Error> for AdoptFault {
 }
 
 impl From<AllocError> for AdoptFault {
+    ghost use Rattle.std.specs.Prelude.{◌≡◌};
+    ghost use Rattle.bag_ledger.specs.declared.fault.KeepFault.TheVariants.{Memory};
+    ghost use Rattle.bag_sqlite.specs.declared.adopting.AdoptFault.TheVariants.{Keep};
+
+    ghost from_gives = { λ _ fault. fault ≡ Keep Memory };
+
     fn from(_: AllocError) -> AdoptFault {
         AdoptFault::Keep(KeepFault::Memory)
     }

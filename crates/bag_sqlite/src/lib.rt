@@ -2,6 +2,8 @@
 #![tactic(auto)]
 
 mod adopting;
+mod batch;
+mod content;
 mod file;
 mod health;
 mod items;

@@ -1,12 +1,11 @@
 //! Reads and verifies the transfers of a database, each payload file piece by piece.
 ghost use Rattle.std.specs.Prelude.{◌≡◌, ◌≤◌, ◌⊎◌, ◌↔◌, ℕ, ℤ, pos, List, [], ◌∷◌, Err, IfErr, IfNone, IfOk, IfSome, IsTrue, MatchOption, MatchResult, OnOk, Ok, false, length, string_bytes};
 ghost use Rattle.std.specs.List.{AllByRecursion, concat};
-ghost use Rattle.bag_digest.specs.Hash.{AreDigests};
 ghost use Rattle.bag_rules.specs.Files.{Files};
 ghost use Rattle.bag_rules.specs.Plans.{IsPlanOf};
 ghost use Rattle.bag_rules.specs.declared.limits.TheConstants.{LARGEST_ITEM as LARGEST};
 ghost use Rattle.bag_sqlite.specs.Adopting.{HasPieces, ItemPasses, OnlyReads, RowPasses, Stands, Tells, TellsOne, TransferPasses, TransfersPass, count_text, files_in, items_text, piece_text, tag_files_text, transfers_text};
-ghost use Rattle.bag_sqlite.specs.Contents.{HashesAlso};
+ghost use Rattle.bag_sqlite.specs.Batches.{Took, IsFindingOf, TakesAlso};
 ghost use Rattle.bag_sqlite.specs.Refusing.{AreTags, DoNotOpen, HasDamagedItem, HasMorePieces, IsBlob, IsNoLedger, IsNoneFor, IsSize, ItemFails, LacksPiece, OpensNone, RefusesTransfer, RefusesTransfers, ShowsOctets, adopt_fault};
 ghost use Rattle.sqlite.specs.Effect.{Database};
 ghost use Rattle.sqlite.specs.Held.{state};
@@ -16,11 +15,13 @@ ghost use Rattle.sqlite.specs.declared.error.Error.{Error as SqlError};
 ghost use Rattle.sqlite.specs.declared.types.Value.TheVariants.{Blob, Int};
 
 use crate::adopting::{AdoptFault, rows_of};
+use crate::batch::Batch;
+use crate::content::Content;
 use crate::transfers::{path_in, tag_set_in};
-use bag_digest::{AlgSet, Digests, Multi, PIECE};
+use bag_digest::{AlgSet, PIECE};
 use bag_ledger::KeepFault;
 use bag_rules::limits::LARGEST_ITEM;
-use bag_rules::{Plan, PlanFault};
+use bag_rules::{Plan, PlanFault, Want};
 use sqlite::types::ValueRef;
 use sqlite::{Alter, Connection, Error, ErrorCode, Row, params};
 use std::alloc::Global;
@@ -208,50 +209,72 @@ fn damaged_in<S: Alter>(
         (IsNoneFor (IsNoLedger S.Store db)) }
     ensures reads { OnlyReads S.Store connection.old connection.new }
 {
+    let mut batch = Batch::none(alloc);
     for row in rows {
         let item = row.get(0)?;
         let path: String = row.get(1)?;
         let size = row.get(2)?;
-        if !passes(alloc, connection, plan, item, path.as_str(), size)? {
-            return Ok(Some(path));
+        if batch.is_full() || size > PIECE as i64 {
+            if let Some(first) = batch.first_damaged(alloc)? {
+                return Ok(Some(first));
+            }
+            batch = Batch::none(alloc);
+        }
+        let finding = read_item(alloc, connection, plan, item, path.as_str(), size)?;
+        match finding {
+            Finding::Valid => {}
+            Finding::Damaged => return Ok(Some(batch.first_damaged(alloc)?.unwrap_or(path))),
+            Finding::Untested(want, content) => batch = batch.add(want, content)?,
         }
     }
-    Ok(None)
+    Ok(batch.first_damaged(alloc)?)
 }
 
-/// Whether a payload file is listed and complete, and has the wanted content.
-fn passes<S: Alter>(
+/// What is known of a payload file that was read.
+#[derive(Drop)]
+enum Finding<'a> {
+    /// It is listed and complete, and has the wanted content.
+    Valid,
+    /// It isn't so.
+    Damaged,
+    /// It is listed and complete, and this is its content, which has to be the one that is wanted.
+    Untested(Want<'a>, Vec<u8>),
+}
+
+/// Reads a payload file. A content of at most one piece isn't tested.
+fn read_item<'a, S: Alter>(
     alloc: Global,
     connection: &mut Connection<S>,
-    plan: &Plan,
+    plan: &'a Plan,
     item: i64,
     path: &str,
     size: i64,
-) -> Result<bool, AdoptFault>
+) -> Result<Finding<'a>, AdoptFault>
     requires idle { connection.old.in_transaction ≡ false }
-    ensures passing { HasCleanDisk (state S.Store connection.new) → (db : Database)
-        → Stands (state S.Store connection.old) db
-        → (tags : Files) → IsPlanOf tags plan.now → IfOk result (λ passing. IsTrue passing
-        → ItemPasses S.Store db tags item path.now size) }
-    ensures refused { HasCleanDisk (state S.Store connection.new) → (db : Database)
+    ensures found { HasCleanDisk (state S.Store connection.new) → (db : Database)
         → Stands (state S.Store connection.old) db → (tags : Files) → IsPlanOf tags plan.now
-        → MatchResult result (λ passing. passing ≡ false
-        → ItemFails S.Store db tags item path.now size)
+        → MatchResult result (IsFindingOf S.Store db tags item path.now size)
         (IsNoneFor (IsNoLedger S.Store db)) }
     ensures reads { OnlyReads S.Store connection.old connection.new }
 {
     let Some(path) = unless_corrupt(path_in(alloc, path))? else {
-        return Ok(false);
+        return Ok(Finding::Damaged);
     };
     let Some(want) = plan.want(&path) else {
-        return Ok(false);
+        return Ok(Finding::Damaged);
     };
     let Some(size) = size_in(size) else {
-        return Ok(false);
+        return Ok(Finding::Damaged);
     };
-    match digests_of(connection, item, size, want.algs())? {
-        Some(digests) => Ok(want.test(size, &digests).is_ok()),
-        None => Ok(false),
+    let Some(content) = content_of(alloc, connection, item, size, want.algs())? else {
+        return Ok(Finding::Damaged);
+    };
+    match content {
+        Content::Whole(octets) => Ok(Finding::Untested(want, octets)),
+        Content::Hashed(multi) => match want.test(size, &multi.finish()) {
+            Ok(()) => Ok(Finding::Valid),
+            Err(_) => Ok(Finding::Damaged),
+        },
     }
 }
 
@@ -266,33 +289,34 @@ fn size_in(size: i64) -> Option<u64>
     Some(size as u64)
 }
 
-/// The digests of the content of a payload file, if its pieces are complete and have this size in all.
-fn digests_of<S: Alter>(
+/// The content of a payload file, if its pieces are complete and have this size in all.
+fn content_of<S: Alter>(
+    alloc: Global,
     connection: &mut Connection<S>,
     item: i64,
     size: u64,
     set: AlgSet,
-) -> Result<Option<Digests>, AdoptFault>
+) -> Result<Option<Content>, AdoptFault>
     requires idle { connection.old.in_transaction ≡ false }
     requires within { size ≤ LARGEST }
-    ensures digests { HasCleanDisk (state S.Store connection.new) → (db : Database)
+    ensures content { HasCleanDisk (state S.Store connection.new) → (db : Database)
         → Stands (state S.Store connection.old) db
-        → IfOk result (λ digests. IfSome digests (λ digests. (pieces : List (List ℕ))
+        → IfOk result (λ content. IfSome content (λ content. (pieces : List (List ℕ))
         × HasPieces S.Store db item pieces × (size ≡ length (concat pieces))
-        × AreDigests digests set (concat pieces))) }
+        × Took content set (concat pieces))) }
     ensures refused { HasCleanDisk (state S.Store connection.new) → (db : Database)
         → Stands (state S.Store connection.old) db
-        → MatchResult result (λ digests. IfNone digests (LacksPiece S.Store db item size
+        → MatchResult result (λ content. IfNone content (LacksPiece S.Store db item size
         ⊎ HasMorePieces S.Store db item size))
         (IsNoneFor (IsNoLedger S.Store db)) }
     ensures reads { OnlyReads S.Store connection.old connection.new }
 {
-    let mut multi = Multi::new(set);
+    let mut content = Content::none(alloc, size, set);
     let mut taken = 0;
     let mut n: u64 = 0;
     while taken < size {
         let octets = (size - taken).min(PIECE as u64);
-        if !take_piece(connection, item, n as i64, octets, &mut multi)? {
+        if !take_piece(connection, item, n as i64, octets, &mut content)? {
             return Ok(None);
         }
         taken += octets;
@@ -301,23 +325,23 @@ fn digests_of<S: Alter>(
     if count_of(connection, item)? != n as i64 {
         return Ok(None);
     }
-    Ok(Some(multi.finish()))
+    Ok(Some(content))
 }
 
-/// Hashes the piece of a payload file with this number, if it exists and has this many octets. Returns whether it does.
+/// Takes the piece of a payload file with this number, if it exists and has this many octets. Returns whether it does.
 fn take_piece<S: Alter>(
     connection: &mut Connection<S>,
     item: i64,
     n: i64,
     octets: u64,
-    multi: &mut Multi,
+    content: &mut Content,
 ) -> Result<bool, AdoptFault>
     requires idle { connection.old.in_transaction ≡ false }
     ensures taken { HasCleanDisk (state S.Store connection.new) → (db : Database)
         → Stands (state S.Store connection.old) db
         → IfOk result (λ taken. IsTrue taken → (piece : List ℕ)
         × TellsOne S.Store db piece_text (Int item ∷ Int n ∷ []) (Blob piece)
-        × (length piece ≡ octets) × HashesAlso multi.old multi.new piece) }
+        × (length piece ≡ octets) × TakesAlso content.old content.new piece) }
     ensures refused { HasCleanDisk (state S.Store connection.new) → (db : Database)
         → Stands (state S.Store connection.old) db
         → MatchResult result (λ taken. taken ≡ false → (rows : List Row)
@@ -339,7 +363,7 @@ fn take_piece<S: Alter>(
     if piece.len() as u64 != octets {
         return Ok(false);
     }
-    multi.update(piece);
+    content.take(piece)?;
     Ok(true)
 }
 

@@ -1,11 +1,10 @@
-use Rattle.std.proofs.Common.{take}
-use Rattle.std.specs.List.{AllByRecursion}
 use Rattle.bag_rules.specs.Files.{Files}
 use Rattle.bag_rules.specs.Plans.{IsPlanOf}
 use Rattle.sqlite.specs.Effect.{Database}
 use Rattle.sqlite.specs.Held.{state}
 use Rattle.sqlite.specs.State.{HasCleanDisk}
-use Rattle.bag_sqlite.specs.Adopting.{OnlyReads, RowPasses, Stands}
+use Rattle.bag_sqlite.specs.Adopting.{OnlyReads, Stands}
+use Rattle.bag_sqlite.proofs.BatchLemmas.{SoFar}
 use Rattle.bag_sqlite.proofs.verifying.damaged_in.Given as goal
 
 abbrev pub invariant-loop-row : goal.invariant-loop-row
@@ -14,5 +13,5 @@ invariant-loop-row g l =
     let now = state g.S.Store l.connection in
     record {
       reads : OnlyReads g.S.Store l.fn.connection l.connection;
-      passing : HasCleanDisk now → (db : Database) → Stands old db → (tags : Files) → IsPlanOf tags l.plan → AllByRecursion (RowPasses g.S.Store db tags) (take l.row-index l.rows);
+      so_far : HasCleanDisk now → (db : Database) → Stands old db → (tags : Files) → IsPlanOf tags l.plan → SoFar g.S.Store db tags l.rows l.batch l.row-index;
     }

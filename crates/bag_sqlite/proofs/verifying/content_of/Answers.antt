@@ -12,7 +12,7 @@ use Rattle.bag_sqlite.proofs.AdoptingLemmas.{reads_same, reads_then, stands_stil
 use Rattle.bag_sqlite.proofs.PiecesRead.{nothing_taken, one_taken}
 use Rattle.std.proofs.lemmas.Result.{err_from_is_err_and}
 use Rattle.bag_sqlite.specs.Refusing.{ShowsOctets}
-use Rattle.bag_sqlite.proofs.verifying.digests_of.Goals as goal
+use Rattle.bag_sqlite.proofs.verifying.content_of.Goals as goal
 
 pub loop-taken-init : goal.loop-taken-init
 loop-taken-init g c =
@@ -20,7 +20,7 @@ loop-taken-init g c =
       reads = reads_same c.requires.idle;
       within = omega arith;
       few = omega arith;
-      pieces = λ clean db stands. nothing_taken g.S.Store db _ c.args.set c.new-multi.result c.args.size c.new-multi.ensures;
+      pieces = λ clean db stands. nothing_taken g.S.Store db _ c.args.set c.none-content.result c.args.size c.none-content.ensures;
     }
 
 pub loop-taken-preserved : goal.loop-taken-preserved
@@ -41,15 +41,15 @@ loop-taken-preserved g c =
       few = omega (arith, so_far.few, some);
       pieces = λ clean db stands.
           let still = stands_still old mid db (so_far.reads.read (before clean)) stands in
-          let (piece, told, long, hashes) = rw (to_z-of_z w64 c.args.item c.ranges.item, to_z_pos w64 low) at (c.in_ok-take_piece.ensures.taken clean db still) c.if-not-branch.false in
+          let (piece, told, long, takes) = rw (to_z-of_z w64 c.args.item c.ranges.item, to_z_pos w64 low) at (c.in_ok-take_piece.ensures.taken clean db still) c.if-not-branch.false in
           let pieces = rw (to_z-of_z w64 c.args.item c.ranges.item) at (so_far.pieces (before clean) db stands) in
           rw (to_z-of_z w64 c.args.item c.ranges.item, sym long)
-          (one_taken g.S.Store db c.args.item c.args.set c.loop-taken.multi c.take_piece.new.multi c.args.size taken c.loop-taken.n piece pieces c.loop-taken-test.true (omega (arith, some, long)) (omega (arith, c.min-octets.ensures, long))
-          (λ more. omega (arith, more, long, c.min-octets.ensures)) told (hashes c.args.set));
+          (one_taken g.S.Store db c.args.item c.args.set c.loop-taken.content c.take_piece.new.content c.args.size taken c.loop-taken.n piece pieces c.loop-taken-test.true (omega (arith, some, long)) (omega (arith, c.min-octets.ensures, long))
+          (λ more. omega (arith, more, long, c.min-octets.ensures)) told takes);
     }
 
-pub returns-clause-digests : goal.returns-clause-digests
-returns-clause-digests g c clean db stands =
+pub returns-clause-content : goal.returns-clause-content
+returns-clause-content g c clean db stands =
     let old = state g.S.Store c.args.connection.now in
     let mid = state g.S.Store c.loop-taken.connection in
     let early : HasCleanDisk mid = omega (arith, clean, c.count_of.ensures.reads.survives.clean) in
@@ -61,7 +61,7 @@ returns-clause-digests g c clean db stands =
     let number = c.in_ok-count_of.field-0 in
     let fits : FitsSigned w64 number = search rules in
     let same : number ≡ pos (length so_far.pieces) = sym (to_z-of_z w64 number fits) ∙ ap (to_z w64) c.if-branch-n.false ∙ to_z_pos w64 low ∙ ap pos so_far.count in
-    (so_far.pieces, record { each = so_far.each; count = subst (λ m. TellsOne g.S.Store db count_text (Int c.args.item ∷ []) (Int m)) same count; cut = so_far.cut }, all, c.finish.ensures c.args.set (concat so_far.pieces) so_far.holds)
+    (so_far.pieces, record { each = so_far.each; count = subst (λ m. TellsOne g.S.Store db count_text (Int c.args.item ∷ []) (Int m)) same count; cut = so_far.cut }, all, so_far.holds)
 
 pub returns-in_err-take_piece-clause-refused : goal.returns-in_err-take_piece-clause-refused
 returns-in_err-take_piece-clause-refused g c clean db stands =

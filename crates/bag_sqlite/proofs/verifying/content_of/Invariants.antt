@@ -4,7 +4,7 @@ use Rattle.sqlite.specs.Held.{state}
 use Rattle.sqlite.specs.State.{HasCleanDisk}
 use Rattle.bag_sqlite.specs.Adopting.{OnlyReads, Stands}
 use Rattle.bag_sqlite.proofs.PiecesRead.{HasTaken}
-use Rattle.bag_sqlite.proofs.verifying.digests_of.Given as goal
+use Rattle.bag_sqlite.proofs.verifying.content_of.Given as goal
 
 abbrev pub invariant-loop-taken : goal.invariant-loop-taken
 invariant-loop-taken g l =
@@ -14,7 +14,7 @@ invariant-loop-taken g l =
       reads : OnlyReads g.S.Store l.fn.connection l.connection;
       within : l.taken ≤ l.size;
       few : l.n ≤ l.taken;
-      pieces : HasCleanDisk now → (db : Database) → Stands old db → HasTaken g.S.Store db l.item l.fn.set l.multi l.size l.taken l.n;
+      pieces : HasCleanDisk now → (db : Database) → Stands old db → HasTaken g.S.Store db l.item l.fn.set l.content l.size l.taken l.n;
     }
 
 abbrev pub decreases-loop-taken : goal.decreases-loop-taken

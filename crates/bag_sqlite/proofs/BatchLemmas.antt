@@ -1,0 +1,170 @@
+-- Payload files that are tested together, and what is known of the rows that were read before they are tested.
+use Rattle.std.proofs.Common.{IfNone, IfSome, MatchOption, None, Option, Some, string_bytes, ◌≡◌, ◌||◌, ◌∙◌, ◌++◌, ◌∷◌, ◌+◌, ◌<◌, ◌≤◌, ◌⊎◌, [], ℕ, ℤ, List, Vec, ap, arith, drop, get_or, inl, inr, length, pos, refl, suc, subst, sym, take}
+use Rattle.std.proofs.Math.Bool.{or-true}
+use Rattle.std.proofs.Math.Seq.{drop-cons}
+use Rattle.std.proofs.lemmas.Option.{slice_get_read}
+use Rattle.std.specs.List.{AllByRecursion, concat}
+use Rattle.std.specs.Option.{unwrap_or}
+use Rattle.std.specs.declared.alloc.Global.{Global}
+use Rattle.std.specs.declared.string.String.{String}
+use Rattle.bag_digest.specs.Algorithm.{has}
+use Rattle.bag_digest.specs.Hash.{AreDigestsOfEach}
+use Rattle.bag_digest.specs.declared.algorithm.Alg.{Alg}
+use Rattle.bag_digest.specs.declared.algorithm.AlgSet.{AlgSet}
+use Rattle.bag_digest.specs.declared.multi.Digests.{Digests}
+use Rattle.bag_rules.proofs.PassingLemmas.{passes_wanted, wanted_passes}
+use Rattle.bag_rules.specs.Files.{Files}
+use Rattle.bag_rules.specs.Plans.{IsWantOf}
+use Rattle.bag_rules.specs.Wants.{AreSumsFor, IsFirstMisfitOf, IsWanted}
+use Rattle.bag_rules.specs.declared.limits.TheConstants.{LARGEST_ITEM}
+use Rattle.bag_rules.specs.declared.want.Want.{Want}
+use Rattle.bag_rules.specs.declared.want.WantFault.{WantFault}
+use Rattle.bag_rules.specs.declared.want.WantFault.TheVariants.{Digest as WrongDigest, Length}
+use Rattle.sqlite.specs.Effect.{Database}
+use Rattle.sqlite.specs.Order.{Row, column}
+use Rattle.sqlite.specs.Store.{Ghosts}
+use Rattle.sqlite.specs.declared.types.Value.TheVariants.{Int, Text}
+use Rattle.bag_sqlite.specs.Adopting.{HasPieces, ItemPasses, RowPasses, Tells, items_text}
+use Rattle.bag_sqlite.specs.Batches.{AreCovered, AreWanted, Covers, HasMisfit, HasOneMore, IsEmpty, IsFindingOf}
+use Rattle.bag_sqlite.specs.Refusing.{HasDamagedItem, ItemFails}
+use Rattle.bag_sqlite.specs.declared.batch.Batch.{Batch}
+use Rattle.bag_sqlite.specs.declared.verifying.Finding.TheVariants.{Untested}
+use Rattle.bag_sqlite.proofs.AdoptingLemmas.{all_more}
+use Rattle.bag_sqlite.proofs.RefusingLemmas.{all_at}
+
+-- WHAT IS WANTED
+
+pub misfit_other : (want : Want) (octets : List ℕ) (fault : WantFault) → IsFirstMisfitOf want octets fault → ¬ IsWanted want octets
+misfit_other want octets Length misfit wanted = misfit wanted.lengths
+misfit_other want octets (WrongDigest alg) (fits, (first, least)) wanted = first.is_such.2 (wanted.digests first.listing first.is_such.0 first.has first.is_such.1)
+
+-- a complete payload file is valid if its content is the one that is wanted, and otherwise it isn't
+pub known_by : {S : Type 0} (g : Ghosts S) (db : Database) (tags : Files) (item : ℤ) (path : List ℕ) (size : ℤ) (octets : ℕ) (pieces : List (List ℕ)) (want : Want) → IsWantOf tags path want → HasPieces g db item pieces
+    → size ≡ pos octets → octets ≤ LARGEST_ITEM → octets ≡ length (concat pieces) → (IsWanted want (concat pieces) → ItemPasses g db tags item path size) × ((¬ IsWanted want (concat pieces)) → ItemFails g db tags item path size)
+known_by g db tags item path size octets pieces want is has same within count = (
+  λ wanted. record { pieces = pieces; has = has; size_is = same ∙ ap pos count; passes = wanted_passes tags path (concat pieces) want is (omega (arith, within, count)) wanted },
+  λ other. inr (inr (octets, same, inr (inr (record { pieces = pieces; has = has; size_is = count; other = λ passes. other (passes_wanted tags path (concat pieces) want is passes) })))),
+)
+
+-- BATCHES
+
+covers_by : (set wanted new : AlgSet) (want : Want) → ((alg : Alg) → has new alg ≡ (has set alg || has wanted alg)) → Covers set want ⊎ Covers wanted want → Covers new want
+covers_by set wanted new want joined (inl old) alg listed = joined alg ∙ ap (λ b. b || has wanted alg) (old alg listed)
+covers_by set wanted new want joined (inr own) alg listed = joined alg ∙ ap (λ b. has set alg || b) (own alg listed) ∙ or-true (has set alg)
+
+pub covered_more : (set wanted new : AlgSet) (wants : List Want) (want : Want) → ((alg : Alg) → has new alg ≡ (has set alg || has wanted alg)) → AllByRecursion (Covers set) wants → Covers wanted want → AllByRecursion (Covers new) (wants ++ want ∷ [])
+covered_more set wanted new [] want joined all own = (covers_by set wanted new want joined (inr own), tt)
+covered_more set wanted new (first ∷ wants) want joined all own = (covers_by set wanted new first joined (inl all.0), covered_more set wanted new wants want joined all.1 own)
+
+pub drop_next : {X : Type 0} (xs : List X) (i : ℕ) (x : X) → i < length xs → x ≡ get_or xs i x → drop i xs ≡ x ∷ drop (i + 1) xs
+drop_next xs i x low is =
+    let next : suc i ≡ i + 1 = omega arith in
+    drop-cons xs i x low ∙ ap (λ y. y ∷ drop (suc i) xs) (sym is) ∙ ap (λ n. x ∷ drop n xs) next
+
+-- the file at a place, with the digests that were taken of it
+module _ (batch : Batch) (each : List Digests) (i : ℕ) (want : Want) (content : Vec ℕ Global) (digests : Digests) (low : i < length batch.wants.items) (want_is : want ≡ get_or batch.wants.items i want)
+    (content_is : content ≡ get_or batch.contents.items i content) where
+  contents_low : i < length batch.contents.items
+  contents_low = omega (arith, low, batch.paired, batch.wants.ok.0, batch.contents.ok.0)
+
+  pub drop_both : (drop i batch.wants.items ≡ want ∷ drop (i + 1) batch.wants.items) × (drop i batch.contents.items ≡ content ∷ drop (i + 1) batch.contents.items)
+  drop_both = (drop_next batch.wants.items i want low want_is, drop_next batch.contents.items i content contents_low content_is)
+
+  pub sums_at : AreDigestsOfEach batch.set batch.contents.items each → digests ≡ get_or each i digests → (n : ℕ) → n ≡ length content.items → AreCovered batch → AreSumsFor want content.items n digests
+  sums_at taken is n count covered = record {
+    set = batch.set;
+    length_is = count;
+    digests_are = taken.digests i content digests (slice_get_read batch.contents.items (length batch.contents.items) i content refl contents_low content_is)
+        (slice_get_read each (length each) i digests refl (omega (arith, contents_low, taken.count)) is);
+    covers = all_at _ batch.wants.items i want covered low want_is;
+  }
+
+pub wanted_split : (wants : List Want) (contents : List (Vec ℕ Global)) (want : Want) (content : Vec ℕ Global) → length wants ≡ length contents → AreWanted (wants ++ want ∷ []) (contents ++ content ∷ [])
+    → AreWanted wants contents × IsWanted want content.items
+wanted_split [] [] want content same all = (tt, all.0)
+wanted_split [] (c ∷ cs) want content same all = absurd (omega (arith, same))
+wanted_split (w ∷ ws) [] want content same all = absurd (omega (arith, same))
+wanted_split (w ∷ ws) (c ∷ cs) want content same all = let rest = wanted_split ws cs want content (omega (arith, same)) all.1 in ((all.0, rest.0), rest.1)
+
+pub misfit_split : (wants : List Want) (contents : List (Vec ℕ Global)) (want : Want) (content : Vec ℕ Global) (path : List ℕ) → length wants ≡ length contents → HasMisfit (wants ++ want ∷ []) (contents ++ content ∷ []) path
+    → HasMisfit wants contents path ⊎ (AreWanted wants contents × (¬ IsWanted want content.items) × (want.path.now ≡ path))
+misfit_split [] [] want content path same (inl here) = inr (tt, here.0, here.1)
+misfit_split [] [] want content path same (inr later) = absurd later.1
+misfit_split [] (c ∷ cs) want content path same misfit = absurd (omega (arith, same))
+misfit_split (w ∷ ws) [] want content path same misfit = absurd (omega (arith, same))
+misfit_split (w ∷ ws) (c ∷ cs) want content path same (inl here) = inl (inl here)
+misfit_split (w ∷ ws) (c ∷ cs) want content path same (inr later) = elim (misfit_split ws cs want content path (omega (arith, same)) later.1) [
+  | inl before ↦ inl (inr (later.0, before))
+  | inr last ↦ inr ((later.0, last.0), last.1, last.2)
+]
+
+pub if_none : {A P Q : Type 0} (M : A → Type 0) (o : Option A) → (P → Q) → MatchOption o P M → IfNone o Q
+if_none M None f h = f h
+if_none M (Some a) f h = tt
+
+pub if_some : {A : Type 0} (P : Type 0) (M N : A → Type 0) (o : Option A) → ((a : A) → M a → N a) → MatchOption o P M → IfSome o N
+if_some P M N None f h = tt
+if_some P M N (Some a) f h = f a h
+
+-- the path of a file of the batch, or else this one
+pub either_path : {P : Type 0} (M N : List ℕ → Type 0) (o : Option (String Global)) (path : String Global) → ((q : List ℕ) → M q → N q) → (P → N (string_bytes path)) → MatchOption o P (λ q. M (string_bytes q)) → N (string_bytes (unwrap_or o path))
+either_path M N None path f h is = h is
+either_path M N (Some q) path f h is = f (string_bytes q) is
+
+-- ROWS SO FAR
+
+-- the row names this payload file
+abbrev pub Shows : Row → ℤ → List ℕ → ℤ → Type 0
+Shows row item path size = (column row 0 ≡ Int item) × (column row 1 ≡ Text path) × (column row 2 ≡ Int size)
+
+module _ {S : Type 0} (g : Ghosts S) (db : Database) (tags : Files) (rows : List Row) where
+  -- a payload file with this path is the first of these that isn't valid
+  abbrev pub IsFirst : List ℕ → Type 0
+  IsFirst path = (transfer : ℤ) → Tells g db items_text (Int transfer ∷ []) rows → HasDamagedItem g db tags transfer path
+
+  -- once the files of the batch are tested, so are the rows before this place
+  pub record SoFar (batch : Batch) (place : ℕ) : Type 0 where
+    pub covered : AreCovered batch
+    pub passing : AreWanted batch.wants.items batch.contents.items → AllByRecursion (RowPasses g db tags) (take place rows)
+    pub damaged : (path : List ℕ) → HasMisfit batch.wants.items batch.contents.items path → IsFirst path
+
+  -- the batch is empty
+  pub none_left : (batch : Batch) (place : ℕ) → IsEmpty batch → AllByRecursion (RowPasses g db tags) (take place rows) → SoFar batch place
+  none_left batch place empty all = record {
+    covered = rw empty.0 tt;
+    passing = λ _. all;
+    damaged = λ path misfit. absurd (rw empty.0 at misfit);
+  }
+
+  module _ (place : ℕ) (row : Row) (low : place < length rows) (here : row ≡ get_or rows place row) (item : ℤ) (path : List ℕ) (size : ℤ) (row_is : Shows row item path size) where
+    passes_more : AllByRecursion (RowPasses g db tags) (take place rows) → ItemPasses g db tags item path size → AllByRecursion (RowPasses g db tags) (take (place + 1) rows)
+    passes_more all passes = all_more (RowPasses g db tags) rows place row low here all (record { item = item; path = path; size = size; row_is = row_is; passes = passes })
+
+    pub first_at : AllByRecursion (RowPasses g db tags) (take place rows) → ItemFails g db tags item path size → IsFirst path
+    first_at all fails transfer told = record {
+      rows = rows;
+      told = told;
+      at = place;
+      row = row;
+      here = slice_get_read rows (length rows) place row refl low here;
+      passing = all;
+      item = item;
+      size = size;
+      row_is = row_is;
+      fails = fails;
+    }
+
+    pub one_passes : (batch : Batch) → SoFar batch place → ItemPasses g db tags item path size → SoFar batch (place + 1)
+    one_passes batch so_far passes = record { covered = so_far.covered; passing = λ all. passes_more (so_far.passing all) passes; damaged = so_far.damaged }
+
+    pub one_added : (want : Want) (content : Vec ℕ Global) (old new : Batch) → SoFar old place → HasOneMore want content old new → IsFindingOf g db tags item path size (Untested want content) → SoFar new (place + 1)
+    one_added want content old new so_far adds found =
+        let same : length old.wants.items ≡ length old.contents.items = omega (arith, old.paired, old.wants.ok.0, old.contents.ok.0) in
+        record {
+          covered = adds.covered so_far.covered;
+          passing = λ all. (let both = wanted_split old.wants.items old.contents.items want content same (rw (adds.wants, adds.contents) at all) in passes_more (so_far.passing both.0) (found.1 both.1));
+          damaged = λ named misfit. elim (misfit_split old.wants.items old.contents.items want content named same (rw (adds.wants, adds.contents) at misfit)) [
+            | inl before ↦ so_far.damaged named before
+            | inr last ↦ subst IsFirst (sym found.0 ∙ last.2) (first_at (so_far.passing last.0) (found.2 last.1))
+          ];
+        }

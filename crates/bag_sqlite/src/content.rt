@@ -1,0 +1,39 @@
+//! The content of a payload file while it is read.
+ghost use Rattle.std.specs.Prelude.{◌≡◌, [], OnOk};
+
+use bag_digest::{AlgSet, Multi, PIECE};
+use std::alloc::{AllocError, Global};
+
+/// What was read of a payload file so far.
+#[derive(Drop)]
+pub(crate) enum Content {
+    /// Its octets, if it has at most one piece.
+    Whole(Vec<u8>),
+    /// Otherwise the hashers that took them.
+    Hashed(Multi),
+}
+
+impl Content {
+    ghost use Rattle.bag_sqlite.specs.Batches.{Took, TakesAlso};
+
+    /// Nothing yet of a payload file of this size, which is to be hashed by the algorithms of the set.
+    pub(crate) fn none(alloc: Global, size: u64, set: AlgSet) -> Content
+        ensures { Took result set [] }
+    {
+        if size <= PIECE as u64 {
+            return Content::Whole(Vec::new(alloc));
+        }
+        Content::Hashed(Multi::new(set))
+    }
+
+    /// Takes the next piece, which follows the earlier ones.
+    pub(crate) fn take(&mut self, piece: &[u8]) -> Result<(), AllocError>
+        ensures { OnOk result (TakesAlso self.old self.new piece.now) }
+    {
+        match self {
+            Content::Whole(octets) => octets.extend_from_slice(piece)?,
+            Content::Hashed(multi) => multi.update(piece),
+        }
+        Ok(())
+    }
+}
