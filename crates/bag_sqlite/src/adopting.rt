@@ -81,7 +81,7 @@ impl<S: Alter> SqlKeeper<S> {
     /// Opens a database as the ledger that it holds, after reading and verifying all of its transfers and payload
     /// files.
     ///
-    /// All octets of all payload files are read and hashed, one piece at a time.
+    /// All octets of all payload files are read, one piece at a time, and hashed.
     ///
     /// # Errors
     ///
