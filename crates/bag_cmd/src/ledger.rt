@@ -1,8 +1,10 @@
 //! Opens and closes ledgers by name.
 ghost use Rattle.std.specs.Prelude.{◌⊎◌, ℕ, IfOk, List};
 
+use crate::ledger_file::{FileKeeper, LedgerFile};
 use bag_ledger::{KeepFault, Keeper, StoreFault};
-use bag_sqlite::{AdoptFault, FileKeeper, LedgerFile, Start};
+use bag_sqlite::AdoptFault;
+use sqlite::Start;
 
 /// Opens a ledger by its name.
 pub trait Ledgers {
@@ -68,7 +70,7 @@ impl<'a, S: Start> LedgerFiles<'a, S> {
 }
 
 impl<'a, S: Start> Ledgers for LedgerFiles<'a, S> {
-    ghost use Rattle.bag_sqlite.specs.LedgerFiles.{IsAdoptedFrom, IsMadeIn};
+    ghost use Rattle.bag_cmd.specs.LedgerFiles.{IsAdoptedFrom, IsMadeIn};
     ghost use Rattle.sqlite_wal.specs.Files.{image_at};
 
     type Kept = FileKeeper<S>;

@@ -3,7 +3,6 @@ pub mod Batches
 pub mod Contents
 pub mod Databases
 pub mod Items
-pub mod LedgerFiles
 pub mod Making
 pub mod Opening
 pub mod Putting

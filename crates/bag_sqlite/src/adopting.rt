@@ -18,10 +18,9 @@ use crate::verifying::verify_transfers;
 use bag_ledger::{KeepFault, StoreFault};
 use sqlite::types::ValueRef;
 use sqlite::{Alter, Connection, Error, ErrorCode, Row};
+use std::alloc::AllocError;
+use std::io::{self, ErrorKind};
 use thiserror::Error as ErrorText;
-
-#[cfg(test)]
-mod tests;
 
 /// Why a database isn't opened as a ledger. If several reasons apply, the first in this order is reported; `Keep` may
 /// be reported in place of any of them.
@@ -65,6 +64,27 @@ impl From<Error> for AdoptFault {
             | Error::Utf8Error(_) => AdoptFault::NotALedger,
             _ => AdoptFault::Keep(KeepFault::Store(StoreFault::Refused)),
         }
+    }
+}
+
+impl From<io::Error> for AdoptFault {
+    fn from(error: io::Error) -> AdoptFault {
+        match error.kind() {
+            ErrorKind::OutOfMemory => AdoptFault::Keep(KeepFault::Memory),
+            _ => AdoptFault::Keep(KeepFault::Store(StoreFault::Refused)),
+        }
+    }
+}
+
+impl From<AllocError> for AdoptFault {
+    ghost use Rattle.std.specs.Prelude.{◌≡◌};
+    ghost use Rattle.bag_ledger.specs.declared.fault.KeepFault.TheVariants.{Memory};
+    ghost use Rattle.bag_sqlite.specs.declared.adopting.AdoptFault.TheVariants.{Keep};
+
+    ghost from_gives = { λ _ fault. fault ≡ Keep Memory };
+
+    fn from(_: AllocError) -> AdoptFault {
+        AdoptFault::Keep(KeepFault::Memory)
     }
 }
 

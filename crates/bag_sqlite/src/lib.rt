@@ -4,7 +4,6 @@
 mod adopting;
 mod batch;
 mod content;
-mod file;
 mod health;
 mod items;
 mod keeper;
@@ -15,12 +14,8 @@ mod opening;
 mod putting;
 mod reading;
 mod rows;
-#[cfg(test)]
-mod tests;
 mod transfers;
 mod verifying;
 
 pub use adopting::{AdoptFault, NotAdopted};
-pub use file::{FileKeeper, LedgerFile};
 pub use keeper::{NotCreated, SqlKeeper};
-pub use sqlite::{Start, Unknown};

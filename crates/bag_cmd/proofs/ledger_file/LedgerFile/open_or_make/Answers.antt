@@ -2,7 +2,7 @@ use Rattle.std.proofs.Common.{◌≡◌, ◌⊎◌, Err, IfOk, Ok, Result, arith
 use Rattle.sqlite.specs.Files.{file_state}
 use Rattle.sqlite.specs.State.{HasCleanDisk}
 use Rattle.bag_sqlite.specs.Tables.{no_schema}
-use Rattle.bag_sqlite.proofs.file.LedgerFile.open_or_make.Goals as goal
+use Rattle.bag_cmd.proofs.ledger_file.LedgerFile.open_or_make.Goals as goal
 
 module _ {A E : Type 0} (P Q : A → Type 0) where
   either : (answer : Result A E) → IfOk answer P → IfOk answer (λ a. P a ⊎ Q a)

@@ -1,7 +1,7 @@
 use Rattle.std.proofs.Common.{arith}
 use Rattle.sqlite.specs.State.{HasCleanDisk}
 use Rattle.sqlite.specs.Files.{file_state}
-use Rattle.bag_sqlite.proofs.file.LedgerFile.adopt.Goals as goal
+use Rattle.bag_cmd.proofs.ledger_file.LedgerFile.adopt.Goals as goal
 
 pub returns-in-Ok : goal.returns-in-Ok
 returns-in-Ok g c = λ connected clean.

@@ -1,7 +1,6 @@
-use crate::adopting::{AdoptFault, NotAdopted};
-use crate::keeper::{NotCreated, SqlKeeper};
 use bag_digest::PIECE;
 use bag_ledger::KeepFault;
+use bag_sqlite::{AdoptFault, NotAdopted, NotCreated, SqlKeeper};
 use sqlite::{Connection, Error, MemStore, params};
 use std::alloc::Global;
 use std::test::Fail;
@@ -19,7 +18,7 @@ const TRANSFERS: &str = "INSERT INTO transfer (id, name) VALUES (1, 't1'), (2, '
     INSERT INTO piece (item, n, body) VALUES (1, 0, x'616263'), (3, 1, x'00'), (4, 0, x'616263')";
 
 /// A change to that ledger, and the result of adopting it afterwards.
-const CHANGES: [(&str, &str); 27] = [
+const CHANGES: [(&str, &str); 28] = [
     ("", "Ok"),
     ("DELETE FROM held WHERE id = 2", "Ok"),
     ("DELETE FROM meta", "NotALedger"),
@@ -53,6 +52,10 @@ const CHANGES: [(&str, &str); 27] = [
     (
         "UPDATE piece SET body = x'01' WHERE item = 3 AND n = 1",
         "Damaged t1 data/z",
+    ),
+    (
+        "UPDATE piece SET body = x'616264' WHERE item = 1; DELETE FROM piece WHERE item = 3",
+        "Damaged t1 data/a.txt",
     ),
     (
         "UPDATE held SET size = 4 WHERE id = 1",

@@ -1,10 +1,8 @@
-use crate::keeper::{NotCreated, SqlKeeper};
-use crate::reading::names;
-use crate::transfers::sizes;
 use bag_digest::{Alg, Counted};
 use bag_ledger::{KeepFault, Keeper, PutFault, StoreFault};
 use bag_path::BagPath;
 use bag_rules::{Plan, TagSet};
+use bag_sqlite::{NotCreated, SqlKeeper};
 use sqlite::{Connection, Error, MemStore};
 use std::alloc::{AllocError, Global};
 use std::io::{self, Read};
@@ -130,47 +128,15 @@ fn in_memory(alloc: Global) -> Result<Connection<MemStore>, KeepFault> {
     Ok(Connection::open_in_memory(alloc)?)
 }
 
-/// Writes three transfers, not in the order of their names.
-fn write_transfers(connection: &mut Connection<MemStore>) -> Result<(), Error> {
-    connection.execute_batch("INSERT INTO transfer (name) VALUES ('t2'), ('t10'), ('t1')")
-}
-
-/// Writes rows of payload files of two transfers, not in the order of their paths.
-fn write_items(connection: &mut Connection<MemStore>) -> Result<(), Error> {
-    connection.execute_batch(
-        "INSERT INTO held (transfer, path, size) VALUES (1, 'data/b.txt', 2), (2, 'data/a.txt', 9), (1, 'data/a.txt', 0)",
-    )
-}
-
-/// The paths of the payload files that a transfer holds, each with its number of octets.
-fn sizes_in(
-    alloc: Global,
-    connection: &mut Connection<MemStore>,
-    name: &str,
-) -> Result<String, Fail> {
-    if !connection.is_autocommit() {
-        Err("a transaction is under way")?;
-    }
-    let mut text = String::new(alloc);
-    for size in sizes(alloc, connection, name)? {
-        let line = format!(in alloc; "{} {} ", size.path.as_str(), size.octets)?;
-        text.push_str(line.as_str())?;
-    }
-    Ok(text)
-}
-
 /// The number that a query of one row and column shows.
 fn number(connection: &mut Connection<MemStore>, sql: &str) -> Result<i64, Error> {
     connection.query_row(sql, &[])?.get(0)
 }
 
-/// The names that are read, each followed by a space.
-fn names_in(alloc: Global, connection: &mut Connection<MemStore>) -> Result<String, Fail> {
-    if !connection.is_autocommit() {
-        Err("a transaction is under way")?;
-    }
+/// The names of the transfers, each followed by a space.
+fn names<K: Keeper>(alloc: Global, keeper: &mut K) -> Result<String, Fail> {
     let mut text = String::new(alloc);
-    for name in names(alloc, connection)? {
+    for name in keeper.names(alloc)? {
         text.push_str(name.as_str())?;
         text.push(' ')?;
     }
@@ -197,10 +163,12 @@ fn no_ledger_is_made_over_another(rt: HostRuntime) -> Result<(), Fail> {
 
 #[test]
 fn names_are_read_in_order(rt: HostRuntime) -> Result<(), Fail> {
-    let mut ledger = new_ledger(in_memory(rt.alloc())?)?;
-    write_transfers(&mut ledger)?;
-    let names = names_in(rt.alloc(), &mut ledger)?;
-    assert_eq!(rt; names.as_str(), "t1 t10 t2 ");
+    let alloc = rt.alloc();
+    let mut keeper = new_keeper(in_memory(alloc)?)?;
+    for name in ["t2", "t10", "t1"] {
+        begin(alloc, &mut keeper, name)?;
+    }
+    assert_eq!(rt; names(alloc, &mut keeper)?.as_str(), "t1 t10 t2 ");
     Ok(())
 }
 
@@ -213,16 +181,6 @@ fn transfers_keep_their_tag_files(rt: HostRuntime) -> Result<(), Fail> {
     assert!(rt; has_tag_files(alloc, &mut keeper, "t1")?);
     assert!(rt; has_tag_files(alloc, &mut keeper, "t2")?);
     assert!(rt; !has_tag_files(alloc, &mut keeper, "t3")?);
-    Ok(())
-}
-
-#[test]
-fn sizes_are_read_in_the_order_of_paths(rt: HostRuntime) -> Result<(), Fail> {
-    let mut ledger = new_ledger(in_memory(rt.alloc())?)?;
-    write_transfers(&mut ledger)?;
-    write_items(&mut ledger)?;
-    let sizes = sizes_in(rt.alloc(), &mut ledger, "t2")?;
-    assert_eq!(rt; sizes.as_str(), "data/a.txt 0 data/b.txt 2 ");
     Ok(())
 }
 

@@ -1,15 +1,13 @@
 //! Ledgers in files on disk.
 ghost use Rattle.std.specs.Prelude.{◌≡◌, ◌⊎◌, Err, IfOk, false, true};
-ghost use Rattle.bag_sqlite.specs.LedgerFiles.{IsAdoptedFrom, IsConnectedTo, IsMadeIn};
+ghost use Rattle.bag_cmd.specs.LedgerFiles.{IsAdoptedFrom, IsConnectedTo, IsMadeIn};
 ghost use Rattle.bag_sqlite.specs.Tables.{no_schema};
 ghost use Rattle.sqlite.specs.Held.{state};
 ghost use Rattle.sqlite_wal.specs.Files.{image_at};
 
-use crate::adopting::{AdoptFault, NotAdopted};
-use crate::keeper::{NotCreated, SqlKeeper};
-use bag_ledger::{KeepFault, StoreFault};
+use bag_ledger::KeepFault;
+use bag_sqlite::{AdoptFault, NotAdopted, NotCreated, SqlKeeper};
 use sqlite::{Alter, Connection, FileFrom, FileStore, Start};
-use std::alloc::AllocError;
 use std::fs;
 use std::io::{self, ErrorKind};
 
@@ -221,25 +219,4 @@ fn has_nothing<S: Alter>(connection: &Connection<S>) -> bool
 {
     let schema = connection.schema();
     schema.tables.is_empty() && schema.indexes.is_empty() && schema.views.is_empty()
-}
-
-impl From<io::Error> for AdoptFault {
-    fn from(error: io::Error) -> AdoptFault {
-        match error.kind() {
-            ErrorKind::OutOfMemory => AdoptFault::Keep(KeepFault::Memory),
-            _ => AdoptFault::Keep(KeepFault::Store(StoreFault::Refused)),
-        }
-    }
-}
-
-impl From<AllocError> for AdoptFault {
-    ghost use Rattle.std.specs.Prelude.{◌≡◌};
-    ghost use Rattle.bag_ledger.specs.declared.fault.KeepFault.TheVariants.{Memory};
-    ghost use Rattle.bag_sqlite.specs.declared.adopting.AdoptFault.TheVariants.{Keep};
-
-    ghost from_gives = { λ _ fault. fault ≡ Keep Memory };
-
-    fn from(_: AllocError) -> AdoptFault {
-        AdoptFault::Keep(KeepFault::Memory)
-    }
 }
