@@ -1,24 +1,7 @@
 -- What a database shows while it is read and verified.
-use Rattle.std.proofs.Common.{ap, Result, Ok, Err, IfOk, IfSome, IfNone, Option, None, Some, ◌≡◌, ◌<◌, ◌+◌, ◌++◌, ℕ, ℤ, get_or, suc, take, List, [], ◌∷◌, arith, length, map, refl, subst, sym, ◌∙◌, false, IsTrue}
-use Rattle.std.specs.Prelude.{slice_index_or}
-use Rattle.std.specs.List.{AllByRecursion}
-use Rattle.std.proofs.Math.Seq.{take-suc}
-use Rattle.std.specs.BTreeMap.{insert_entry}
-use Rattle.std.specs.Cmp.Lexicographic.{slice_cmp}
-use Rattle.std.specs.Ordering.{nat_cmp}
-use Rattle.bag_rules.specs.Files.{Files}
-use Rattle.bag_rules.specs.Transfers.{with_files}
-use Rattle.sqlite.specs.Effect.{Database}
-use Rattle.sqlite.specs.Held.{Held, state}
-use Rattle.sqlite.specs.Order.{Row}
-use Rattle.sqlite.specs.State.{HasCleanDisk, State}
-use Rattle.sqlite.specs.Store.{Ghosts}
-use Rattle.sqlite.specs.declared.types.Value.{Value}
-use Rattle.sqlite.specs.declared.types.Value.TheVariants.{Int}
-use Rattle.sqlite_value.specs.Order.{bytes, column}
-use Rattle.bag_sqlite.specs.Adopting.{IsRead, OnlyReads, Stands, Tells, TellsOne, TransferPasses, file_in}
-use Rattle.bag_sqlite.specs.Making.{IsLeft}
-use Rattle.bag_sqlite.specs.Reading.{OnlyQueries, ShowsRows}
+use Rattle.std.proofs.Common.{ap, Result, Ok, Err, IfOk, IfSome, IfNone, Option, None, Some, ◌≡◌, ◌<◌, ◌+◌, ◌++◌, ℕ, ℤ, get_or, suc, take, List, [], ◌∷◌, arith, length, map, refl, subst, sym, ◌∙◌, false, IsTrue, slice_index_or}
+use Rattle.bag_sqlite.proofs.Words.{AllByRecursion, bytes, Database, file_in, Files, Ghosts, HasCleanDisk, Held, insert_entry, Int, IsLeft, IsRead, nat_cmp, OnlyQueries, OnlyReads, Row, slice_cmp, Stands, State, state, take-suc, Tells, TellsOne, TransferPasses, Value, with_files, column}
+use Rattle.bag_sqlite.specs.Reading.{ShowsRows}
 use Rattle.bag_sqlite.proofs.ReadingLemmas.{was_open}
 use Rattle.bag_sqlite.proofs.SqlLemmas.{survives_both, survives_same}
 use Rattle.bag_sqlite.proofs.TransferRows.{files_put}

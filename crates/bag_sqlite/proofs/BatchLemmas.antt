@@ -1,34 +1,7 @@
 -- Payload files that are tested together, and what is known of the rows that were read before they are tested.
-use Rattle.std.proofs.Common.{IfNone, IfSome, MatchOption, None, Option, Some, string_bytes, ◌≡◌, ◌||◌, ◌∙◌, ◌++◌, ◌∷◌, ◌+◌, ◌<◌, ◌≤◌, ◌⊎◌, [], ℕ, ℤ, List, Vec, ap, arith, drop, get_or, inl, inr, length, pos, refl, suc, subst, sym, take}
-use Rattle.std.proofs.Math.Bool.{or-true}
-use Rattle.std.proofs.Math.Seq.{drop-cons}
-use Rattle.std.proofs.lemmas.Option.{slice_get_read}
-use Rattle.std.specs.List.{AllByRecursion, concat}
-use Rattle.std.specs.Option.{unwrap_or}
-use Rattle.std.specs.declared.alloc.Global.{Global}
-use Rattle.std.specs.declared.string.String.{String}
-use Rattle.bag_digest.specs.Algorithm.{has}
-use Rattle.bag_digest.specs.Hash.{AreDigestsOfEach}
-use Rattle.bag_digest.specs.declared.algorithm.Alg.{Alg}
-use Rattle.bag_digest.specs.declared.algorithm.AlgSet.{AlgSet}
-use Rattle.bag_digest.specs.declared.multi.Digests.{Digests}
-use Rattle.bag_rules.proofs.PassingLemmas.{passes_wanted, wanted_passes}
-use Rattle.bag_rules.specs.Files.{Files}
-use Rattle.bag_rules.specs.Plans.{IsWantOf}
-use Rattle.bag_rules.specs.Wants.{AreSumsFor, IsFirstMisfitOf, IsWanted}
-use Rattle.bag_rules.specs.declared.limits.TheConstants.{LARGEST_ITEM}
-use Rattle.bag_rules.specs.declared.want.Want.{Want}
-use Rattle.bag_rules.specs.declared.want.WantFault.{WantFault}
+use Rattle.std.proofs.Common.{IfNone, IfSome, MatchOption, None, Option, Some, string_bytes, ◌≡◌, ◌||◌, ◌∙◌, ◌++◌, ◌∷◌, ◌+◌, ◌<◌, ◌≤◌, ◌⊎◌, [], ℕ, ℤ, List, Vec, ap, arith, drop, get_or, inl, inr, length, pos, refl, suc, subst, sym, take, unwrap_or}
+use Rattle.bag_sqlite.proofs.Words.{Alg, AlgSet, AllByRecursion, AreCovered, AreDigestsOfEach, AreSumsFor, AreWanted, Batch, column, concat, Covers, Database, Digests, drop-cons, Files, Ghosts, Global, has, HasDamagedItem, HasMisfit, HasOneMore, HasPieces, Int, IsEmpty, IsFindingOf, IsFirstMisfitOf, IsWanted, IsWantOf, ItemFails, ItemPasses, items_text, LARGEST_ITEM, or-true, passes_wanted, Row, RowPasses, slice_get_read, String, Tells, Text, Untested, Want, wanted_passes, WantFault}
 use Rattle.bag_rules.specs.declared.want.WantFault.TheVariants.{Digest as WrongDigest, Length}
-use Rattle.sqlite.specs.Effect.{Database}
-use Rattle.sqlite.specs.Order.{Row, column}
-use Rattle.sqlite.specs.Store.{Ghosts}
-use Rattle.sqlite.specs.declared.types.Value.TheVariants.{Int, Text}
-use Rattle.bag_sqlite.specs.Adopting.{HasPieces, ItemPasses, RowPasses, Tells, items_text}
-use Rattle.bag_sqlite.specs.Batches.{AreCovered, AreWanted, Covers, HasMisfit, HasOneMore, IsEmpty, IsFindingOf}
-use Rattle.bag_sqlite.specs.Refusing.{HasDamagedItem, ItemFails}
-use Rattle.bag_sqlite.specs.declared.batch.Batch.{Batch}
-use Rattle.bag_sqlite.specs.declared.verifying.Finding.TheVariants.{Untested}
 use Rattle.bag_sqlite.proofs.AdoptingLemmas.{all_more}
 use Rattle.bag_sqlite.proofs.RefusingLemmas.{all_at}
 

@@ -1,20 +1,7 @@
 -- A transaction on the tables of a ledger is committed or rolled back.
 use Rattle.std.proofs.Common.{◌≡◌, ◌⊎◌, inl, inr, false, IsTrue, sym, ap, subst, ◌∙◌, arith}
-use Rattle.sqlite.specs.Effect.{Database}
-use Rattle.sqlite.specs.Held.{Held, state}
-use Rattle.sqlite.specs.State.{HasCleanDisk, KeepsCommit, Shows, State, Survives}
-use Rattle.sqlite.specs.Steps.{FailsToCommit}
-use Rattle.sqlite.specs.Store.{Ghosts}
-use Rattle.sqlite.specs.Tree.{Trees}
-use Rattle.sqlite.specs.declared.error.Error.{Error}
-use Rattle.sqlite.proofs.StateLemmas.{survives_then}
-use Rattle.bag_ledger.specs.Keeping.{Leaves, Writes}
-use Rattle.bag_ledger.specs.Ledgers.{IsSound, Ledger}
-use Rattle.bag_sqlite.specs.Databases.{AreTablesOf}
-use Rattle.bag_sqlite.specs.Making.{IsLeft}
-use Rattle.bag_sqlite.specs.Putting.{IsUnderWay}
-use Rattle.bag_sqlite.specs.SqlKeepers.{HoldsLedger, MayLeaveLedger}
-use Rattle.bag_sqlite.specs.Tables.{ledger_schema}
+use Rattle.bag_sqlite.proofs.Words.{AreTablesOf, Database, Error, FailsToCommit, Ghosts, HasCleanDisk, Held, HoldsLedger, IsLeft, IsSound, IsUnderWay, KeepsCommit, Leaves, Ledger, ledger_schema, MayLeaveLedger, Shows, State, state, Survives, survives_then, Trees}
+use Rattle.bag_ledger.specs.Keeping.{Writes}
 use Rattle.bag_sqlite.proofs.MakingLemmas.{left_by_failing}
 use Rattle.bag_sqlite.proofs.OneLedger.{one_ledger}
 

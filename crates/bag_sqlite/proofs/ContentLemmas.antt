@@ -1,26 +1,6 @@
 -- What a ledger holds for a path, according to the rows of its tables.
-use Rattle.std.proofs.Common.{◌+◌, ◌*◌, ◌≡◌, ◌≤◌, ◌/◌, ◌%◌, ℕ, ℤ, List, [], ◌∷◌, Option, Some, None, arith, length, map, pos, refl, slice_get, sym, ap, subst, ◌∙◌}
-use Rattle.std.specs.Prelude.{flat_map, MatchOption}
-use Rattle.std.specs.List.{concat, enumerate_from}
-use Rattle.std.specs.Map.{lookup}
-use Rattle.std.specs.Option.{option_map, unwrap_or}
-use Rattle.std.specs.Str.{bytes_eq}
-use Rattle.std.proofs.Math.Nat.{div-add-mod}
-use Rattle.std.proofs.lemmas.List.Sorted.{IsPermutation-sym}
-use Rattle.bag_digest.specs.declared.reading.TheConstants.{PIECE}
-use Rattle.bag_rules.specs.Faults.{Has}
-use Rattle.bag_rules.proofs.HasLemmas.{has_from_map, has_map}
-use Rattle.bag_rules.proofs.SameListLemmas.{all_has}
-use Rattle.sqlite.specs.Order.{Row}
-use Rattle.sqlite.specs.Tree.{Trees}
-use Rattle.sqlite.specs.declared.types.Value.TheVariants.{Blob, Int}
-use Rattle.bag_ledger.specs.Keeping.{IsPieceAt}
-use Rattle.bag_ledger.specs.Ledgers.{Ledger, Transfer, content_of, transfer_of}
-use Rattle.bag_sqlite.specs.Databases.{AreCut, AreTablesOf, NumberedItem, NumberedTransfer, held_rows, items_in, piece_rows, size_of, without_rowids}
-use Rattle.bag_sqlite.specs.Items.{HasItem, HasItemRow, HasPieceRow}
-use Rattle.bag_sqlite.specs.declared.items.Item.{Item}
-use Rattle.bag_sqlite.specs.Putting.{item_row}
-use Rattle.bag_sqlite.specs.Reading.{HasTransferRow}
+use Rattle.std.proofs.Common.{◌+◌, ◌*◌, ◌≡◌, ◌≤◌, ◌/◌, ◌%◌, ℕ, ℤ, List, [], ◌∷◌, Option, Some, None, arith, length, map, pos, refl, slice_get, sym, ap, subst, ◌∙◌, MatchOption, unwrap_or}
+use Rattle.bag_sqlite.proofs.Words.{all_has, AreCut, AreTablesOf, Blob, bytes_eq, concat, content_of, div-add-mod, enumerate_from, flat_map, Has, has_from_map, has_map, HasItem, HasItemRow, HasPieceRow, HasTransferRow, held_rows, Int, IsPermutation-sym, IsPieceAt, Item, item_row, items_in, Ledger, lookup, NumberedItem, NumberedTransfer, option_map, PIECE, piece_rows, Row, size_of, Transfer, transfer_of, Trees, without_rowids}
 use Rattle.bag_sqlite.proofs.CutLemmas.{is_numbered, length_concat, no_number, numbered_is, past_pieces, piece_in}
 use Rattle.bag_sqlite.proofs.OneLedger.{has_flat, has_from_flat, has_moved, items_rise, one_of, read, same_held_row, same_piece_row}
 use Rattle.bag_sqlite.proofs.TransferLemmas.{entry_found, found_entry, transfer_at}

@@ -1,16 +1,6 @@
 -- A content in pieces, and which piece an octet is in.
 use Rattle.std.proofs.Common.{◌≡◌, ◌≤◌, ◌<◌, ◌+◌, ◌*◌, ◌/◌, ℕ, zero, suc, List, [], ◌∷◌, ◌++◌, Option, Some, None, append-nil, arith, drop, inl, inr, length, length-append, refl, slice_get, sym, ap, subst, take, ◌∙◌}
-use Rattle.std.specs.List.{concat, enumerate_from}
-use Rattle.std.specs.Prelude.{flat_map, sum_by}
-use Rattle.std.proofs.Math.Nat.{div-add-mod}
-use Rattle.std.proofs.Math.Seq.{drop-append-add}
-use Rattle.std.proofs.lemmas.List.{drop-append-le, length-take-le, length-take, take-append-le}
-use Rattle.std.proofs.lemmas.List.Concat.{length-flat_map}
-use Rattle.std.proofs.lemmas.Option.{same_Some}
-use Rattle.bag_digest.specs.declared.reading.TheConstants.{PIECE}
-use Rattle.bag_rules.specs.Faults.{Has}
-use Rattle.bag_ledger.specs.Keeping.{IsPieceAt}
-use Rattle.bag_sqlite.specs.Databases.{AreCut}
+use Rattle.bag_sqlite.proofs.Words.{AreCut, concat, div-add-mod, drop-append-add, drop-append-le, enumerate_from, flat_map, Has, IsPieceAt, length-flat_map, length-take, length-take-le, PIECE, same_Some, sum_by, take-append-le}
 use Rattle.bag_sqlite.proofs.OneLedger.{after_first, numbered_from}
 
 concat_flat : (pieces : List (List ℕ)) → concat pieces ≡ flat_map (λ p. p) pieces

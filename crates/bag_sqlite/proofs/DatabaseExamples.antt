@@ -1,13 +1,6 @@
 -- A small database that holds a ledger, and databases that hold none.
 use Rattle.std.proofs.Common.{◌≡◌, List, [], ◌∷◌, codes, lit<, lit≤, map, pos, refl, arith}
-use Rattle.std.specs.Prelude.{flat_map}
-use Rattle.std.specs.List.Sorted.{IsPermutation, IsStrictlySortedBy}
-use Rattle.std.proofs.lemmas.List.Sorted.{IsPermutation-refl, IsPermutation-swap, length_permutation}
-use Rattle.sqlite.specs.Order.{Row}
-use Rattle.sqlite.specs.Tree.{Trees}
-use Rattle.sqlite.specs.declared.types.Value.TheVariants.{Blob, Int, Null, Text}
-use Rattle.bag_sqlite.specs.Databases.{AreTablesOf, NumberedTransfer, held_rows, transfer_row, without_rowids}
-use Rattle.bag_ledger.specs.Ledgers.{Ledger}
+use Rattle.bag_sqlite.proofs.Words.{AreTablesOf, Blob, flat_map, held_rows, Int, IsPermutation, IsPermutation-refl, IsPermutation-swap, IsStrictlySortedBy, Ledger, length_permutation, Null, NumberedTransfer, Row, Text, transfer_row, Trees, without_rowids}
 
 -- A DATABASE WITH A LEDGER
 

@@ -1,29 +1,7 @@
 -- The tables of a ledger after a transfer is added.
-use Rattle.std.proofs.Common.{◌≡◌, ◌≢◌, ℕ, Bool, true, false, List, [], ◌∷◌, ◌++◌, Option, Some, None, cond, is_eq, map, refl, sym, ap, subst, ◌∙◌}
-use Rattle.std.specs.Prelude.{ℤ, IsPermutation, flat_map}
-use Rattle.std.specs.BTreeMap.{insert_entry}
-use Rattle.std.specs.Cmp.Lexicographic.{slice_cmp}
-use Rattle.std.specs.List.{AllByRecursion}
-use Rattle.std.specs.List.Sorted.{IsStrictlySortedBy}
-use Rattle.std.specs.Map.{keys_of, lookup}
-use Rattle.std.specs.Ordering.{match_ordering, nat_cmp}
-use Rattle.std.specs.Str.{bytes_eq}
-use Rattle.std.specs.declared.cmp.Ordering.{Ordering}
-use Rattle.std.specs.declared.cmp.Ordering.TheVariants.{Equal, Greater, Less}
-use Rattle.std.proofs.lemmas.List.Sorted.{All-permutation, IsPermutation-append_right, IsPermutation-cons, IsPermutation-map, IsPermutation-middle, IsPermutation-sym, IsPermutation-trans}
-use Rattle.std.proofs.lemmas.List.Elements.{All-from_recursion, recursion_from_All}
-use Rattle.std.proofs.lemmas.Map.Text.{is_eq-slice_cmp}
-use Rattle.bag_rules.specs.Files.{Files}
-use Rattle.bag_rules.specs.Trees.{AreRising}
-use Rattle.sqlite.specs.Order.{Row, column}
-use Rattle.sqlite.specs.Tree.{Trees}
-use Rattle.sqlite.specs.declared.types.Value.TheVariants.{Int}
-use Rattle.sqlite_keyed.proofs.ListLemmas.{IsPermutation-flat_map}
-use Rattle.bag_sqlite.specs.Databases.{AreApart, AreTablesOf, NumberedTransfer, held_rows, items_in, tag_rows, transfer_row, without_number, without_rowids}
-use Rattle.bag_sqlite.specs.Opening.{HasOneTransferMore, opened_under}
-use Rattle.bag_ledger.specs.Keeping.{IsUnused}
-use Rattle.bag_ledger.specs.Ledgers.{Ledger, Transfer, begun, with_transfer}
-use Rattle.bag_ledger.proofs.LedgerLemmas.{entry_rising}
+use Rattle.std.proofs.Common.{◌≡◌, ◌≢◌, ℕ, Bool, true, false, List, [], ◌∷◌, ◌++◌, Option, Some, None, cond, is_eq, map, refl, sym, ap, subst, ◌∙◌, ℤ, Ordering, Equal, Greater, Less}
+use Rattle.bag_sqlite.proofs.Words.{All-from_recursion, All-permutation, AllByRecursion, AreApart, AreRising, AreTablesOf, begun, bytes_eq, column, entry_rising, Files, flat_map, HasOneTransferMore, held_rows, insert_entry, Int, is_eq-slice_cmp, IsPermutation-append_right, IsPermutation-cons, IsPermutation-flat_map, IsPermutation-map, IsPermutation-middle, IsPermutation-sym, IsPermutation-trans, IsStrictlySortedBy, IsUnused, items_in, keys_of, Ledger, lookup, match_ordering, nat_cmp, NumberedTransfer, opened_under, recursion_from_All, Row, slice_cmp, tag_rows, Transfer, transfer_row, Trees, with_transfer, without_number, without_rowids}
+use Rattle.std.specs.Prelude.{IsPermutation}
 
 -- ONE ENTRY ADDED IN THE MIDDLE
 

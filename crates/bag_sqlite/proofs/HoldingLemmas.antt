@@ -1,38 +1,11 @@
 -- The tables of a ledger after a payload file is added.
-use Rattle.std.proofs.Common.{◌≡◌, ◌≢◌, cond, ℕ, ℤ, List, [], ◌∷◌, ◌++◌, Bool, true, false, Some, None, Less, append_assoc, inl, inr, is_eq, map, refl, sym, ap, subst, ◌∙◌}
-use Rattle.std.specs.Prelude.{IsPermutation, flat_map}
-use Rattle.std.specs.Cmp.Lexicographic.{slice_cmp}
-use Rattle.std.specs.List.{AllByRecursion, concat}
-use Rattle.std.specs.List.Sorted.{IsStrictlySortedBy}
-use Rattle.std.specs.Map.{keys_of, lookup}
-use Rattle.std.specs.Option.{option_map, unwrap_or}
-use Rattle.std.specs.Ordering.{nat_cmp, ordering_reverse}
-use Rattle.std.specs.Str.{bytes_eq}
-use Rattle.std.proofs.lemmas.Cmp.{nat_list_cmp_total}
-use Rattle.std.proofs.lemmas.List.{map-append}
-use Rattle.std.proofs.lemmas.List.Concat.{flat_map-append}
-use Rattle.std.proofs.lemmas.List.Sorted.{IsPermutation-append_right, IsPermutation-cons, IsPermutation-middle, IsPermutation-trans}
-use Rattle.std.proofs.lemmas.Map.Text.{is_eq-slice_cmp}
-use Rattle.std.proofs.lemmas.Slice.Eq.{bytes_eq-Decides}
-use Rattle.bag_rules.specs.Faults.{Has}
-use Rattle.bag_rules.specs.Trees.{AreRising}
-use Rattle.bag_rules.proofs.HasLemmas.{has_map}
-use Rattle.bag_rules.proofs.SameListLemmas.{all_has}
-use Rattle.sqlite.specs.Order.{Row, column}
-use Rattle.sqlite.specs.Tree.{Trees}
-use Rattle.sqlite.specs.declared.types.Value.TheVariants.{Int, Null, Text}
-use Rattle.sqlite_keyed.proofs.ListLemmas.{IsPermutation-flat_map, all_map, all_unmap, all_weaker}
-use Rattle.bag_sqlite.specs.Databases.{AreApart, AreCut, AreTablesOf, IsInOrder, NumberedItem, NumberedTransfer, held_rows, items_in, piece_rows, size_of, tag_rows, transfer_row, without_number, without_rowids}
-use Rattle.bag_sqlite.specs.Putting.{HasOneItemMore, IsFree, item_row}
-use Rattle.bag_sqlite.specs.Reading.{HasTransferRow}
-use Rattle.bag_sqlite.specs.Tables.{held_tree}
+use Rattle.std.proofs.Common.{◌≡◌, ◌≢◌, cond, ℕ, ℤ, List, [], ◌∷◌, ◌++◌, Bool, true, false, Some, None, Less, append_assoc, inl, inr, is_eq, map, refl, sym, ap, subst, ◌∙◌, unwrap_or}
+use Rattle.bag_sqlite.proofs.Words.{all_has, all_map, all_unmap, all_weaker, AllByRecursion, AreApart, AreCut, AreRising, AreTablesOf, bytes_eq, bytes_eq-Decides, column, concat, content_of, entry_rising, flat_map, flat_map-append, Has, has_map, HasOneItemMore, HasTransferRow, held_rows, held_tree, holding, Int, is_eq-slice_cmp, IsFree, IsInOrder, IsPermutation-append_right, IsPermutation-cons, IsPermutation-flat_map, IsPermutation-middle, IsPermutation-trans, IsStrictlySortedBy, item_names, item_row, items_in, keys_of, Ledger, lookup, map-append, map_twice, nat_cmp, nat_list_cmp_total, Null, NumberedItem, NumberedTransfer, option_map, ordering_reverse, piece_rows, Row, size_of, slice_cmp, tag_rows, Text, Transfer, transfer_of, transfer_row, Trees, with_item, without_number, without_rowids}
+use Rattle.std.specs.Prelude.{IsPermutation}
 use Rattle.bag_sqlite.proofs.GrowthLemmas.{Place, all_middle, apart_middle, place}
 use Rattle.bag_sqlite.proofs.InsertLemmas.{apart_from}
 use Rattle.bag_sqlite.proofs.OneLedger.{has_flat, has_from_flat, has_moved, read}
 use Rattle.bag_sqlite.proofs.TransferLemmas.{found_entry, row_of, same_row}
-use Rattle.bag_ledger.specs.Ledgers.{Ledger, Transfer, content_of, holding, transfer_of, with_item}
-use Rattle.bag_ledger.proofs.EntryLemmas.{map_twice}
-use Rattle.bag_ledger.proofs.LedgerLemmas.{entry_rising, item_names}
 
 -- ONE ENTRY CHANGED IN THE MIDDLE
 

@@ -1,33 +1,6 @@
 -- What an INSERT of values writes, for any table.
-use Rattle.std.proofs.Common.{◌≡◌, ◌≢◌, ◌⊎◌, inl, inr, ℕ, ℤ, ◌/◌, List, [], ◌∷◌, length, false, Option, Some, None, slice_get, unwrap_or, Ok, Err, Result, Ordering, Less, Equal, Greater, true≢false, refl, sym, ap, subst, ◌∙◌}
-use Rattle.std.specs.List.{AllByRecursion}
-use Rattle.std.specs.List.Sorted.{IsPermutation}
-use Rattle.std.specs.Ordering.{is_eq, match_ordering}
-use Rattle.std.proofs.lemmas.Bool.{and_parts, not-true, or_parts}
-use Rattle.std.proofs.lemmas.Cmp.{tied_itself}
-use Rattle.std.proofs.lemmas.List.Sorted.{IsPermutation-cons, IsPermutation-middle, IsPermutation-refl, IsPermutation-trans}
-use Rattle.sqlite.specs.Order.{Row, column, value_cmp}
-use Rattle.sqlite.specs.Term.{Term}
-use Rattle.sqlite.specs.Table.{Table}
-use Rattle.sqlite.specs.Schema.{Schema}
-use Rattle.sqlite.specs.Source.TheVariants.{Values}
-use Rattle.sqlite.specs.Command.TheVariants.{Insert}
-use Rattle.sqlite.specs.Edit.{Edit, edit_of, is_taken, next_rowid, put_all}
-use Rattle.sqlite.specs.Rowids.TheVariants.{Chosen}
-use Rattle.sqlite.specs.Does.{Tally, Does, OnRows, AtPlace}
-use Rattle.sqlite.specs.Rows.{Written, Task, last_id, stamped, Inserts}
-use Rattle.sqlite.specs.Listing.{understood}
-use Rattle.sqlite.specs.State.{Executes, State, mode_of}
-use Rattle.sqlite.specs.Tree.{Trees, put_row, rowid}
-use Rattle.sqlite.specs.declared.run.Mode.{Mode}
-use Rattle.sqlite.specs.declared.types.Value.TheVariants.{Int}
-use Rattle.sqlite.specs.Effect.{Database, value_rows}
-use Rattle.sqlite.proofs.Callers.{IsPlain, command_of, one_step, runs_as, statement_of}
-use Rattle.sqlite_rules.specs.Action.{Writes, works}
-use Rattle.sqlite_schema.specs.declared.schema.Keys.TheVariants.{Enforced}
-use Rattle.sqlite_value.proofs.OrderLemmas.{value_cmp_total}
-use Rattle.bag_sqlite.specs.Putting.{IsFree}
-use Rattle.bag_sqlite.specs.Tables.{ledger_schema}
+use Rattle.std.proofs.Common.{◌≡◌, ◌≢◌, ◌⊎◌, inl, inr, ℕ, ℤ, ◌/◌, List, [], ◌∷◌, length, false, Option, Some, None, slice_get, unwrap_or, Ok, Err, Result, Ordering, Less, Equal, Greater, true≢false, refl, sym, ap, subst, ◌∙◌, is_eq}
+use Rattle.bag_sqlite.proofs.Words.{AllByRecursion, and_parts, AtPlace, Chosen, column, command_of, Database, Does, Edit, edit_of, Enforced, Executes, Insert, Inserts, Int, is_taken, IsFree, IsPermutation, IsPermutation-cons, IsPermutation-middle, IsPermutation-refl, IsPermutation-trans, IsPlain, last_id, ledger_schema, match_ordering, Mode, mode_of, next_rowid, not-true, one_step, OnRows, or_parts, put_all, put_row, Row, rowid, runs_as, Schema, stamped, State, statement_of, Table, Tally, Task, Term, tied_itself, Trees, understood, value_cmp, value_cmp_total, value_rows, Values, works, Writes, Written}
 
 pub went : {B E R : Type 0} {b : B} {Stops : E → Type 0} → ((stop : E) × Stops stop × (Ok b ≡ Err stop)) ⊎ R → R
 went (inl stopped) = absurd (let e = stopped.2 in cc)

@@ -1,24 +1,6 @@
 -- What the queries for one payload file show.
-use Rattle.std.proofs.Common.{◌≡◌, ◌&&◌, inl, ℕ, ℤ, List, [], ◌∷◌, Bool, true, false, Option, Some, None, drop, pos, refl, sym, ap, subst, ◌∙◌, slice_index_or}
-use Rattle.std.specs.Prelude.{MatchOption, Vec, flat_map}
-use Rattle.std.specs.declared.alloc.Global.{Global}
-use Rattle.std.specs.List.{enumerate_from}
-use Rattle.std.proofs.lemmas.Bool.Decides.{Decides-int_eq}
-use Rattle.std.proofs.lemmas.List.Sorted.{IsPermutation-sym}
-use Rattle.std.proofs.lemmas.Slice.Eq.{bytes_eq-Decides}
-use Rattle.bag_rules.specs.Faults.{Has}
-use Rattle.bag_rules.proofs.HasLemmas.{has_from_map, has_map}
-use Rattle.sqlite.specs.Order.{Row, column}
-use Rattle.sqlite.specs.State.{Shown, State}
-use Rattle.sqlite.specs.declared.types.Value.{Value}
-use Rattle.sqlite.specs.declared.types.Value.TheVariants.{Blob, Int, Null, Text}
-use Rattle.sqlite.proofs.Callers.{reads_as}
-use Rattle.bag_sqlite.specs.Databases.{AreTablesOf, NumberedItem, held_rows, items_in, piece_rows, size_of, without_rowids}
-use Rattle.bag_sqlite.specs.Items.{HasItemRow, HasPieceRow}
-use Rattle.bag_sqlite.specs.declared.items.Item.{Item}
-use Rattle.bag_sqlite.specs.Putting.{item_row}
-use Rattle.bag_sqlite.specs.Tables.{ledger_schema}
-use Rattle.bag_ledger.specs.Ledgers.{Ledger}
+use Rattle.std.proofs.Common.{◌≡◌, ◌&&◌, inl, ℕ, ℤ, List, [], ◌∷◌, Bool, true, false, Option, Some, None, drop, pos, refl, sym, ap, subst, ◌∙◌, slice_index_or, MatchOption, Vec}
+use Rattle.bag_sqlite.proofs.Words.{AreTablesOf, Blob, bytes_eq-Decides, column, Decides-int_eq, enumerate_from, flat_map, Global, Has, has_from_map, has_map, HasItemRow, HasPieceRow, held_rows, Int, IsPermutation-sym, Item, item_row, items_in, Ledger, ledger_schema, Null, NumberedItem, piece_rows, reads_as, Row, Shown, size_of, State, Text, Value, without_rowids}
 use Rattle.bag_sqlite.proofs.ItemMeanings.{item_columns, item_command, item_is, item_plain, item_terms, item_text, item_unlisted, piece_columns, piece_command, piece_is, piece_plain, piece_terms, piece_text, piece_unlisted}
 use Rattle.bag_sqlite.proofs.NamesLemmas.{drop_zero}
 use Rattle.bag_sqlite.proofs.OneLedger.{has_from_flat, has_moved}

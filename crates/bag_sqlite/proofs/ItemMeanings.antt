@@ -1,12 +1,6 @@
 -- The meanings of the queries for a payload file.
 use Rattle.std.proofs.Common.{◌≡◌, ℕ, List, [], ◌∷◌, codes, false, refl}
-use Rattle.sqlite.specs.Command.{Command}
-use Rattle.sqlite.specs.Command.TheVariants.{Select}
-use Rattle.sqlite.specs.Listing.{reads_listing, understood}
-use Rattle.sqlite.specs.Term.{Term, col}
-use Rattle.sqlite.proofs.Callers.{IsPlain, command_of}
-use Rattle.sqlite_tied.specs.Compute.{everything}
-use Rattle.bag_sqlite.specs.Tables.{ledger_schema}
+use Rattle.bag_sqlite.proofs.Words.{col, Command, command_of, everything, IsPlain, ledger_schema, reads_listing, Select, Term, understood}
 use Rattle.bag_sqlite.proofs.WhereLemmas.{equals, over}
 
 abbrev pub item_text : List ℕ

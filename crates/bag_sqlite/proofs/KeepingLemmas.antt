@@ -1,13 +1,7 @@
 -- What a keeper that contains the store puts.
 use Rattle.std.proofs.Common.{◌≡◌, ◌≤◌, ℕ, List, Option, Some, Result, Ok, Err, inl, inr, length, refl}
-use Rattle.bag_digest.specs.Reading.{GaveAll}
-use Rattle.bag_digest.proofs.Progress.{all_known, more_known}
-use Rattle.bag_ledger.specs.Keeping.{Given, Puts, RefusesGiven, given_by, known}
-use Rattle.bag_ledger.specs.Ledgers.{Ledger}
-use Rattle.bag_ledger.specs.declared.fault.PutFault.{PutFault}
-use Rattle.bag_ledger.specs.declared.fault.PutFault.TheVariants.{Digest, Keep, Length, Reader, TooLarge}
-use Rattle.bag_rules.specs.declared.limits.TheConstants.{LARGEST_ITEM}
-use Rattle.bag_rules.specs.declared.want.Want.{Want}
+use Rattle.bag_sqlite.proofs.Words.{all_known, Digest, GaveAll, Given, given_by, known, LARGEST_ITEM, Ledger, Length, more_known, PutFault, Puts, Reader, RefusesGiven, TooLarge, Want}
+use Rattle.bag_ledger.specs.declared.fault.PutFault.TheVariants.{Keep}
 
 -- the same for a structure that contains the store
 module _ {K L : Type 0} (part : L → K) (holds may_leave : K → Ledger → Type 0) (clean : K → Type 0) (old new : L) (given : Given) (name : List ℕ) (want : Want) where

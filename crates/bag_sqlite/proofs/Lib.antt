@@ -28,3 +28,4 @@ pub mod TransferLemmas
 pub mod TransferMeanings
 pub mod TransferRows
 pub mod WhereLemmas
+pub mod Words

@@ -1,29 +1,9 @@
 -- Creating the tables of a ledger.
 use Rattle.std.proofs.Common.{◌≡◌, inl, inr, ℕ, List, [], ◌∷◌, ◌++◌, true, false, None, Ok, IsTrue, refl, sym, ap, subst, ◌∙◌, arith}
-use Rattle.std.specs.List.{AllByRecursion}
-use Rattle.std.specs.List.Sorted.{IsPermutation, IsStrictlySortedBy}
-use Rattle.std.proofs.lemmas.List.Sorted.{IsPermutation-refl}
-use Rattle.sqlite.specs.Change.{created, next_tree}
-use Rattle.sqlite.specs.Command.TheVariants.{CreateTable}
-use Rattle.sqlite.specs.Does.{Tally, lacks_sequence}
-use Rattle.sqlite.specs.Effect.{Database}
-use Rattle.sqlite.specs.Held.{Held, state}
-use Rattle.sqlite.specs.Schema.{Schema}
-use Rattle.sqlite.specs.Steps.{FailsToCommit}
-use Rattle.sqlite.specs.State.{ExecutesInside, IsRolledBack, KeepsCommit, Shows, State, Writes}
-use Rattle.sqlite.specs.Store.{Ghosts}
-use Rattle.sqlite.specs.Table.{Table}
-use Rattle.sqlite.specs.Tree.{Trees}
-use Rattle.sqlite.specs.declared.error.Error.{Error}
-use Rattle.sqlite.specs.declared.types.Value.TheVariants.{Int}
-use Rattle.sqlite.proofs.Callers.{one_permutation, runs_as}
-use Rattle.bag_sqlite.specs.Databases.{AreTablesOf, format_row, without_rowids}
-use Rattle.bag_sqlite.specs.Making.{IsCreated, IsLeft, IsMade, IsMaking, Makes}
-use Rattle.bag_sqlite.specs.SqlKeepers.{HoldsLedger}
-use Rattle.bag_sqlite.specs.Tables.{held_tree, ledger_schema, meta, meta_tree, no_schema, piece_tree, tag_tree, transfer_tree}
+use Rattle.bag_sqlite.proofs.Words.{AllByRecursion, AreTablesOf, created, CreateTable, Database, Error, ExecutesInside, FailsToCommit, format_row, Ghosts, Held, held_tree, HoldsLedger, Int, IsCreated, IsLeft, IsMade, IsMaking, IsPermutation, IsPermutation-refl, IsRolledBack, IsStrictlySortedBy, KeepsCommit, lacks_sequence, ledger_schema, Makes, meta, meta_tree, next_tree, no_schema, one_permutation, piece_tree, runs_as, Schema, Shows, sound_nothing, State, state, Table, tag_tree, Tally, transfer_tree, Trees, without_rowids}
+use Rattle.sqlite.specs.State.{Writes}
 use Rattle.bag_sqlite.proofs.InsertLemmas.{row_inserted, same_value, went}
 use Rattle.bag_sqlite.proofs.MeaningLemmas.{format_is, format_plain, format_terms, format_text}
-use Rattle.bag_ledger.proofs.SoundLemmas.{sound_nothing}
 use Rattle.bag_sqlite.proofs.SqlLemmas.{cast_int, cast_null}
 
 -- A TABLE

@@ -1,14 +1,6 @@
 -- The meanings of a ledger's statements.
 use Rattle.std.proofs.Common.{◌≡◌, ℕ, List, [], ◌∷◌, codes, pos, refl}
-use Rattle.sqlite.specs.Command.TheVariants.{Insert}
-use Rattle.sqlite.specs.Listing.{understood}
-use Rattle.sqlite.specs.Source.TheVariants.{Values}
-use Rattle.sqlite.specs.Term.{Term, col, lit}
-use Rattle.sqlite.specs.declared.types.Value.TheVariants.{Int, Null, Text}
-use Rattle.sqlite.proofs.Callers.{IsPlain, command_of}
-use Rattle.sqlite_tied.specs.Compute.{everything}
-use Rattle.bag_sqlite.specs.Making.{Makes}
-use Rattle.bag_sqlite.specs.Tables.{held, ledger_schema, meta, no_schema, piece, schema_to_held, schema_to_meta, schema_to_tag, schema_to_transfer, tag, transfer}
+use Rattle.bag_sqlite.proofs.Words.{col, command_of, everything, held, Insert, Int, IsPlain, ledger_schema, lit, Makes, meta, no_schema, Null, piece, schema_to_held, schema_to_meta, schema_to_tag, schema_to_transfer, tag, Term, Text, transfer, understood, Values}
 
 abbrev pub meta_text : List ℕ
 meta_text = codes "CREATE TABLE meta (k TEXT NOT NULL PRIMARY KEY, v INTEGER NOT NULL) STRICT"

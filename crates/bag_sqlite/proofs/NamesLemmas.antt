@@ -1,30 +1,7 @@
 -- The names that a query shows are those of the ledger, in order.
-use Rattle.std.proofs.Common.{◌≡◌, ◌<◌, ◌+◌, ℕ, List, [], ◌∷◌, Ordering, Less, Equal, Greater, drop, is_lt, length, map, refl, sym, ap, subst, ◌∙◌, arith}
-use Rattle.std.specs.Prelude.{IsPermutation, IsSorted, flat_map, slice_index_or}
-use Rattle.std.specs.Cmp.Lexicographic.{slice_cmp}
-use Rattle.std.specs.List.{AllByRecursion}
-use Rattle.std.specs.List.Sorted.{IsStrictlySortedBy}
-use Rattle.std.specs.Map.{keys_of}
-use Rattle.std.specs.Ordering.{nat_cmp, ordering_then}
-use Rattle.std.proofs.lemmas.Cmp.{nat_list_cmp_total}
-use Rattle.std.proofs.lemmas.List.{get_or-map, length-map}
-use Rattle.std.proofs.lemmas.List.Elements.{All-from_recursion, recursion_from_All}
-use Rattle.std.proofs.lemmas.List.Sorted.{All-permutation, IsPermutation-map, IsPermutation-trans}
-use Rattle.bag_rules.specs.Trees.{AreRising}
-use Rattle.sqlite.specs.Order.{Row}
-use Rattle.sqlite.specs.Program.{overlay}
-use Rattle.sqlite.specs.Query.{IsAnswer, Output, output, output_cmp}
-use Rattle.sqlite.specs.State.{Shown, State}
-use Rattle.sqlite.specs.Tree.{IsAscending}
-use Rattle.sqlite.specs.declared.types.Value.TheVariants.{Null, Text}
-use Rattle.sqlite.proofs.Callers.{reads_as}
-use Rattle.sqlite_keyed.proofs.SortLemmas.{sorted_unique}
-use Rattle.sqlite_value.specs.Order.{bytes, column}
-use Rattle.sqlite_value.proofs.OrderLemmas.{value_cmp-Text}
-use Rattle.bag_sqlite.specs.Databases.{AreTablesOf, NumberedTransfer, transfer_row, without_number}
-use Rattle.bag_ledger.specs.Ledgers.{Ledger}
-use Rattle.bag_sqlite.specs.Tables.{ledger_schema}
-use Rattle.bag_ledger.proofs.EntryLemmas.{map_twice}
+use Rattle.std.proofs.Common.{◌≡◌, ◌<◌, ◌+◌, ℕ, List, [], ◌∷◌, Ordering, Less, Equal, Greater, drop, is_lt, length, map, refl, sym, ap, subst, ◌∙◌, arith, slice_index_or}
+use Rattle.bag_sqlite.proofs.Words.{All-from_recursion, All-permutation, AllByRecursion, AreRising, AreTablesOf, bytes, flat_map, get_or-map, IsAnswer, IsAscending, IsPermutation-map, IsPermutation-trans, IsSorted, IsStrictlySortedBy, keys_of, Ledger, ledger_schema, length-map, map_twice, nat_cmp, nat_list_cmp_total, Null, NumberedTransfer, ordering_then, Output, output, output_cmp, overlay, reads_as, recursion_from_All, Row, Shown, slice_cmp, sorted_unique, State, Text, transfer_row, value_cmp-Text, without_number, column}
+use Rattle.std.specs.Prelude.{IsPermutation}
 use Rattle.bag_sqlite.proofs.QueryMeanings.{names_command, names_is, names_plain, names_query, names_text, names_unlisted}
 
 -- LISTS

@@ -1,22 +1,6 @@
 -- Tables hold at most one ledger.
-use Rattle.std.proofs.Common.{◌≡◌, ◌≢◌, ◌⊎◌, ◌≤◌, ◌+◌, inl, inr, ℕ, List, [], ◌∷◌, ◌++◌, map, refl, sym, ap, subst, ◌∙◌, arith, pos}
-use Rattle.std.specs.Prelude.{ℤ, flat_map}
-use Rattle.std.specs.Cmp.Lexicographic.{slice_cmp}
-use Rattle.std.specs.List.{AllByRecursion, concat, enumerate_from}
-use Rattle.std.specs.List.Sorted.{IsPermutation}
-use Rattle.std.specs.Map.{keys_of}
-use Rattle.std.specs.Ordering.{nat_cmp}
-use Rattle.std.proofs.lemmas.Cmp.{nat_list_cmp_total}
-use Rattle.std.proofs.lemmas.List.Sorted.{Contains-permutation, IsPermutation-sym}
-use Rattle.bag_rules.specs.Faults.{Has}
-use Rattle.bag_rules.specs.Trees.{AreRising}
-use Rattle.bag_rules.proofs.HasLemmas.{contains_from_has, has_from_contains, has_from_map, has_map}
-use Rattle.bag_rules.proofs.SameListLemmas.{all_has, asymmetric, same_list, sorted_by_key}
-use Rattle.sqlite.specs.Order.{Row}
-use Rattle.sqlite.specs.Tree.{Trees}
-use Rattle.sqlite.specs.declared.types.Value.TheVariants.{Blob, Int, Null, Text}
-use Rattle.bag_sqlite.specs.Databases.{AreApart, AreTablesOf, NumberedItem, NumberedTransfer, held_rows, items_in, piece_rows, size_of, tag_rows, transfer_row, without_number, without_rowids}
-use Rattle.bag_ledger.specs.Ledgers.{Ledger, Transfer}
+use Rattle.std.proofs.Common.{◌≡◌, ◌≢◌, ◌⊎◌, ◌≤◌, ◌+◌, inl, inr, ℕ, List, [], ◌∷◌, ◌++◌, map, refl, sym, ap, subst, ◌∙◌, arith, pos, ℤ}
+use Rattle.bag_sqlite.proofs.Words.{all_has, AllByRecursion, AreApart, AreRising, AreTablesOf, asymmetric, Blob, concat, Contains-permutation, contains_from_has, enumerate_from, flat_map, Has, has_from_contains, has_from_map, has_map, held_rows, Int, IsPermutation, IsPermutation-sym, items_in, keys_of, Ledger, nat_cmp, nat_list_cmp_total, Null, NumberedItem, NumberedTransfer, piece_rows, Row, same_list, size_of, slice_cmp, sorted_by_key, tag_rows, Text, Transfer, transfer_row, Trees, without_number, without_rowids}
 
 -- MEMBERS
 

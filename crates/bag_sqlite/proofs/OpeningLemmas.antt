@@ -1,27 +1,6 @@
 -- Writing the rows of a transfer.
 use Rattle.std.proofs.Common.{◌≡◌, ◌<◌, ◌+◌, ℕ, ℤ, suc, List, [], ◌∷◌, ◌++◌, IsTrue, Ok, true, append_assoc, drop, get_or, length, take, refl, sym, ap, subst, ◌∙◌, arith}
-use Rattle.std.specs.List.Sorted.{IsPermutation}
-use Rattle.std.proofs.Math.Seq.{take-suc}
-use Rattle.std.proofs.lemmas.List.{map-append}
-use Rattle.std.proofs.lemmas.List.Sorted.{IsPermutation-cons, IsPermutation-map, IsPermutation-middle, IsPermutation-refl, IsPermutation-trans}
-use Rattle.bag_rules.specs.Files.{AreTagFiles, Files, files_of}
-use Rattle.bag_rules.specs.declared.file.File.{File}
-use Rattle.bag_rules.specs.Opening.{Opens}
-use Rattle.sqlite.specs.Held.{Held, state}
-use Rattle.sqlite.specs.Order.{Row}
-use Rattle.sqlite.specs.State.{ExecutesInside, HasCleanDisk, KeepsCommit, State, Survives}
-use Rattle.sqlite.specs.Store.{Ghosts}
-use Rattle.sqlite.specs.Table.{Table}
-use Rattle.sqlite.specs.Tree.{Trees}
-use Rattle.sqlite.specs.declared.types.Value.TheVariants.{Blob, Int, Null, Text}
-use Rattle.sqlite.proofs.Callers.{survives_begin}
-use Rattle.bag_ledger.specs.Keeping.{IsUnused}
-use Rattle.bag_ledger.specs.Ledgers.{Ledger, with_transfer}
-use Rattle.bag_ledger.proofs.SoundLemmas.{sound_begun}
-use Rattle.bag_sqlite.specs.Databases.{tag_rows, without_rowids}
-use Rattle.bag_sqlite.specs.Opening.{AddsTags, AddsTransfer, HasOneTransferMore, KeepsItems, opened_under}
-use Rattle.bag_sqlite.specs.Putting.{IsUnderWay}
-use Rattle.bag_sqlite.specs.Tables.{tag, tag_tree, transfer, transfer_tree}
+use Rattle.bag_sqlite.proofs.Words.{AddsTags, AddsTransfer, AreTagFiles, Blob, ExecutesInside, File, Files, files_of, Ghosts, HasCleanDisk, HasOneTransferMore, Held, Int, IsPermutation, IsPermutation-cons, IsPermutation-map, IsPermutation-middle, IsPermutation-refl, IsPermutation-trans, IsUnderWay, IsUnused, KeepsCommit, KeepsItems, Ledger, map-append, Null, opened_under, Opens, Row, sound_begun, State, state, Survives, survives_begin, Table, tag, tag_rows, tag_tree, take-suc, Text, transfer, transfer_tree, Trees, with_transfer, without_rowids}
 use Rattle.bag_sqlite.proofs.CommitLemmas.{Prepares}
 use Rattle.bag_sqlite.proofs.GrowthLemmas.{begun_tables}
 use Rattle.bag_sqlite.proofs.InsertLemmas.{apart_from, row_inserted}

@@ -1,18 +1,6 @@
 -- Reading the pieces of a payload file in sequence.
-use Rattle.std.proofs.Common.{◌≡◌, ◌<◌, ◌≤◌, ◌+◌, ℕ, zero, suc, ℤ, pos, List, [], ◌∷◌, ◌++◌, Option, Some, None, append-nil, ap, arith, length, length-append, refl, slice_get, subst, sym, ◌∙◌}
-use Rattle.std.specs.List.{concat}
-use Rattle.std.proofs.lemmas.List.{append_assoc}
-use Rattle.std.proofs.lemmas.Option.{same_Some}
-use Rattle.bag_digest.specs.declared.algorithm.AlgSet.{AlgSet}
-use Rattle.bag_digest.specs.declared.reading.TheConstants.{PIECE}
-use Rattle.sqlite.specs.Effect.{Database}
-use Rattle.sqlite.specs.Store.{Ghosts}
-use Rattle.sqlite.specs.declared.types.Value.TheVariants.{Blob, Int}
-use Rattle.bag_sqlite.specs.Adopting.{TellsOne, piece_text}
-use Rattle.bag_sqlite.specs.Databases.{AreCut}
-use Rattle.bag_sqlite.specs.Batches.{TakesAlso, Took}
-use Rattle.bag_sqlite.specs.Refusing.{AreFull}
-use Rattle.bag_sqlite.specs.declared.content.Content.{Content}
+use Rattle.std.proofs.Common.{◌≡◌, ◌<◌, ◌≤◌, ◌+◌, ℕ, zero, suc, ℤ, pos, List, [], ◌∷◌, ◌++◌, Option, Some, None, append-nil, ap, arith, length, length-append, refl, slice_get, subst, sym, ◌∙◌, append_assoc}
+use Rattle.bag_sqlite.proofs.Words.{AlgSet, AreCut, AreFull, Blob, concat, Content, Database, Ghosts, Int, PIECE, piece_text, same_Some, TakesAlso, TellsOne, Took}
 
 concat_last : (pieces : List (List ℕ)) (piece : List ℕ) → concat (pieces ++ piece ∷ []) ≡ concat pieces ++ piece
 concat_last [] piece = append-nil piece

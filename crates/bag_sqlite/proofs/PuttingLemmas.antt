@@ -1,39 +1,7 @@
 -- Reading and writing a payload file piece by piece.
 use Rattle.std.proofs.Common.{◌≡◌, ◌≤◌, ◌<◌, ◌+◌, ◌-◌, ◌*◌, ◌/◌, ℕ, ℤ, List, [], ◌∷◌, ◌++◌, Option, length, map, take, pos, true, append_assoc, append-nil, arith, refl, sym, ap, subst, ◌∙◌, length-append}
-use Rattle.std.specs.Io.KnownBytes.{IsAtEnd}
-use Rattle.std.specs.List.{AllByRecursion, concat, enumerate_from}
-use Rattle.std.specs.List.Sorted.{IsPermutation}
-use Rattle.std.proofs.KnownBytes.{Consumes-nil}
-use Rattle.std.proofs.Math.Nat.{mul-div_cancel_left}
-use Rattle.std.proofs.lemmas.List.{length-take-le, map-append}
-use Rattle.std.proofs.lemmas.List.Folds.{concat-append}
-use Rattle.std.proofs.lemmas.List.Sorted.{IsPermutation-cons, IsPermutation-middle, IsPermutation-refl, IsPermutation-trans}
-use Rattle.bag_digest.specs.Algorithm.{has}
-use Rattle.bag_digest.specs.Hash.{AreDigests, Holds}
-use Rattle.bag_digest.specs.Reading.{GaveBefore, GavePiece, read_fault}
-use Rattle.bag_digest.specs.declared.algorithm.Alg.{Alg}
-use Rattle.bag_digest.specs.declared.algorithm.AlgSet.{AlgSet}
-use Rattle.bag_digest.specs.declared.multi.Digests.{Digests}
-use Rattle.bag_digest.specs.declared.multi.Multi.{Multi}
-use Rattle.bag_digest.specs.declared.reading.SourceFault.{SourceFault}
+use Rattle.bag_sqlite.proofs.Words.{AddsItem, AddsPiece, AddsPieces, Alg, AlgSet, AllByRecursion, AreCut, AreDigests, Blob, concat, concat-append, Consumes-nil, Digests, enumerate_from, GaveBefore, GavePiece, given_by, given_more, has, HasContentMore, HasGiven, HasRead, Holds, in_pieces, Int, IsAtEnd, IsPermutation, IsPermutation-cons, IsPermutation-middle, IsPermutation-refl, IsPermutation-trans, IsUnderWay, LARGEST_ITEM, length-take-le, lists_by, map-append, mul-div_cancel_left, Multi, PIECE, piece_rows, piece_tree, put_fault, read_fault, RefusesGiven, Row, SetsSize, SourceFault, State, Trees, uses_as, uses_on, UsesSource, Want, without_rowids}
 use Rattle.bag_digest.specs.declared.reading.SourceFault.TheVariants as source
-use Rattle.bag_digest.specs.declared.reading.TheConstants.{PIECE}
-use Rattle.bag_digest.specs.Device.{UsesSource}
-use Rattle.bag_digest.proofs.Progress.{HasGiven, uses_as, uses_on}
-use Rattle.bag_ledger.specs.Keeping.{RefusesGiven, given_by}
-use Rattle.bag_ledger.specs.PutFaults.{put_fault}
-use Rattle.bag_rules.specs.Wants.{lists_by}
-use Rattle.bag_rules.specs.declared.limits.TheConstants.{LARGEST_ITEM}
-use Rattle.bag_rules.specs.declared.want.Want.{Want}
-use Rattle.sqlite.specs.Order.{Row}
-use Rattle.sqlite.specs.State.{State}
-use Rattle.sqlite.specs.Tree.{Trees}
-use Rattle.sqlite.specs.declared.types.Value.TheVariants.{Blob, Int}
-use Rattle.bag_sqlite.specs.Contents.{HasContentMore, HasRead, in_pieces}
-use Rattle.bag_sqlite.specs.Databases.{AreCut, piece_rows, without_rowids}
-use Rattle.bag_sqlite.specs.Putting.{AddsItem, AddsPiece, AddsPieces, IsUnderWay, SetsSize}
-use Rattle.bag_sqlite.specs.Tables.{piece_tree}
-use Rattle.bag_digest.proofs.Filling.{given_more}
 use Rattle.bag_sqlite.proofs.RowLemmas.{item_written}
 
 -- WHAT WAS READ

@@ -1,16 +1,6 @@
 -- The meanings of a ledger's queries.
 use Rattle.std.proofs.Common.{◌≡◌, ℕ, List, [], ◌∷◌, None, codes, false, negsuc, pos, refl}
-use Rattle.sqlite.specs.Collation.TheVariants.{Binary}
-use Rattle.sqlite.specs.Command.{Command}
-use Rattle.sqlite.specs.Command.TheVariants.{Select}
-use Rattle.sqlite.specs.Listing.{reads_listing, understood}
-use Rattle.sqlite.specs.Query.{Query, end, inner}
-use Rattle.sqlite.specs.Term.{col, lit}
-use Rattle.sqlite.specs.declared.types.Value.TheVariants.{Int}
-use Rattle.sqlite.proofs.Callers.{IsPlain, command_of}
-use Rattle.sqlite_tied.specs.Compute.{everything}
-use Rattle.sqlite_value.specs.Keys.{ascending}
-use Rattle.bag_sqlite.specs.Tables.{ledger_schema}
+use Rattle.bag_sqlite.proofs.Words.{ascending, Binary, col, Command, command_of, end, everything, inner, Int, IsPlain, ledger_schema, lit, Query, reads_listing, Select, understood}
 
 abbrev pub names_text : List ℕ
 names_text = codes "SELECT name FROM transfer ORDER BY name"

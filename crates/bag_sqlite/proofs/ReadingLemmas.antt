@@ -1,27 +1,6 @@
 -- A query commits nothing, and queries are read in sequence.
 use Rattle.std.proofs.Common.{false, ◌≡◌, ◌⊎◌, ◌<◌, ◌+◌, inl, inr, ℕ, suc, List, [], ◌∷◌, ◌++◌, Option, Some, None, Result, Ok, Err, IfOk, IsTrue, true, get_or, length, map, string_bytes, take, ap, refl, subst, sym, if◌then◌else◌, ◌∙◌, arith}
-use Rattle.std.specs.declared.alloc.Global.{Global}
-use Rattle.std.specs.declared.string.String.{String}
-use Rattle.std.proofs.Math.Seq.{take-suc}
-use Rattle.sqlite.specs.Effect.{Database}
-use Rattle.sqlite.specs.Held.{Held, state}
-use Rattle.sqlite.specs.Order.{Row}
-use Rattle.sqlite.specs.State.{FailsToQuery, FailsToShow, IsNotRun, IsRolledBack, IsTooLate, HasCleanDisk, IsUnchanged, KeepsCommit, Shown, ShowsRows, State, Survives}
-use Rattle.sqlite.specs.Store.{Ghosts}
-use Rattle.sqlite.specs.declared.error.Error.{Error}
-use Rattle.sqlite.specs.declared.types.Value.{Value}
-use Rattle.sqlite.specs.declared.types.Value.TheVariants.{Text}
-use Rattle.sqlite.proofs.Callers.{survives_begin}
-use Rattle.sqlite.proofs.InsideLemmas.{unchanged_keeps}
-use Rattle.sqlite_resolve.specs.declared.compiled.Compiled.{Compiled}
-use Rattle.sqlite_schema.specs.declared.command.Returning.{Returning}
-use Rattle.sqlite_value.specs.Order.{bytes, column}
-use Rattle.bag_ledger.specs.Ledgers.{Ledger}
-use Rattle.bag_ledger.proofs.EntryLemmas.{map_twice}
-use Rattle.bag_sqlite.specs.Databases.{AreTablesOf}
-use Rattle.bag_sqlite.specs.Making.{IsLeft}
-use Rattle.bag_sqlite.specs.Reading.{OnlyQueries}
-use Rattle.bag_sqlite.specs.SqlKeepers.{HoldsLedger}
+use Rattle.bag_sqlite.proofs.Words.{AreTablesOf, bytes, Compiled, Database, Error, FailsToQuery, FailsToShow, Ghosts, Global, HasCleanDisk, Held, HoldsLedger, IsLeft, IsNotRun, IsRolledBack, IsTooLate, IsUnchanged, KeepsCommit, Ledger, map_twice, OnlyQueries, Returning, Row, Shown, ShowsRows, State, state, String, Survives, survives_begin, take-suc, Text, unchanged_keeps, Value, column}
 use Rattle.bag_sqlite.proofs.MakingLemmas.{kept_since, left_by_undoing}
 use Rattle.bag_sqlite.proofs.SqlLemmas.{survives_both}
 

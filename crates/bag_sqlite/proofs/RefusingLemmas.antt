@@ -1,32 +1,9 @@
 -- Why a database isn't opened, from the results of its reads.
-use Rattle.std.proofs.Common.{◌↔◌, ◌∙◌, Bool, ◌≡◌, ◌≢◌, ◌⊎◌, ◌<◌, ◌≤◌, ℕ, ℤ, pos, zero, suc, List, [], ◌∷◌, Option, None, Some, Err, IfErr, IfNone, MatchResult, Ok, OnOk, false, true, string_bytes, Result, IsTrue, ap, arith, codes, get_or, inl, inr, length, refl, subst, sym}
-use Rattle.std.specs.Prelude.{slice_index_or}
-use Rattle.std.proofs.lemmas.Bool.{cases_lt}
-use Rattle.sqlite.specs.Command.{Command}
-use Rattle.sqlite.specs.Command.TheVariants.{Rows, Select}
-use Rattle.std.specs.List.{AllByRecursion}
-use Rattle.sqlite.specs.Effect.{Database, RefusesToRead}
+use Rattle.std.proofs.Common.{◌↔◌, ◌∙◌, Bool, ◌≡◌, ◌≢◌, ◌⊎◌, ◌<◌, ◌≤◌, ℕ, ℤ, pos, zero, suc, List, [], ◌∷◌, Option, None, Some, Err, IfErr, IfNone, MatchResult, Ok, OnOk, false, true, string_bytes, Result, IsTrue, ap, arith, codes, get_or, inl, inr, length, refl, subst, sym, slice_index_or}
+use Rattle.bag_sqlite.proofs.Words.{adopt_fault, AdoptFault, AllByRecursion, AreNoneFor, Broken, cases_lt, column, Command, Compiled, Corrupt, Damaged, Database, Error, ExecuteReturnedResults, Fails, FailsToQuery, FailsToShow, Full, Ghosts, HasFormat, Int, IntegralValueOutOfRange, InvalidColumnIndex, InvalidColumnType, InvalidParameterCount, InvalidQuery, Io, IsBlob, IsDamaged, IsInt, IsNoLedger, IsNoneFor, IsNoQuery, IsNoStatement, IsNotRun, IsReadError, IsText, IsTooLate, IsUnchanged, Keep, MayShow, MultipleStatement, NotALedger, Null, OldFormat, OutOfMemory, params_of, QueryReturnedNoRows, Question, RefusesToAdopt, RefusesToRead, RefusesTransfer, RefusesTransfers, Returning, Row, Rows, SaysFormat, Select, SqlInputError, SqliteFailure, State, store_error, StoreError, stray_texts, Tells, Text, text_of, TransferFails, understood, Unstorable, Utf8Error, Value}
 use Rattle.sqlite.specs.Given.{IsPlain}
-use Rattle.sqlite.specs.Listing.{understood}
-use Rattle.sqlite.specs.Order.{Row, column}
-use Rattle.sqlite.specs.Reading.{IsReadError}
-use Rattle.sqlite.specs.State.{Fails, FailsToQuery, FailsToShow, IsNoStatement, IsNotRun, IsTooLate, IsUnchanged, State, store_error}
-use Rattle.sqlite.specs.Store.{Ghosts}
-use Rattle.sqlite.specs.Values.{IsInt}
-use Rattle.sqlite.specs.declared.error.Error.{Error}
-use Rattle.sqlite.specs.declared.error.Error.TheVariants.{ExecuteReturnedResults, IntegralValueOutOfRange, InvalidColumnIndex, InvalidColumnType, InvalidParameterCount, InvalidQuery, MultipleStatement, QueryReturnedNoRows, SqlInputError, SqliteFailure, Utf8Error}
 use Rattle.sqlite.specs.declared.error.ErrorCode.TheVariants as code
-use Rattle.sqlite.specs.declared.types.Value.{Value}
-use Rattle.sqlite.specs.declared.types.Value.TheVariants.{Int, Null, Text}
-use Rattle.sqlite_resolve.specs.declared.compiled.Compiled.{Compiled}
-use Rattle.sqlite_schema.specs.declared.command.Returning.{Returning}
-use Rattle.sqlite_trees.specs.declared.error.StoreError.{StoreError}
-use Rattle.sqlite_trees.specs.declared.error.StoreError.TheVariants.{Broken, Corrupt, Full, Io, OutOfMemory, Unstorable}
-use Rattle.bag_sqlite.specs.Adopting.{HasFormat, Tells, stray_texts}
-use Rattle.bag_sqlite.specs.Refusing.{AreNoneFor, IsBlob, IsDamaged, IsNoLedger, IsNoQuery, IsNoneFor, IsText, MayShow, Question, RefusesToAdopt, RefusesTransfer, RefusesTransfers, SaysFormat, TransferFails, adopt_fault, params_of, text_of}
 use Rattle.bag_sqlite.proofs.AdoptingLemmas.{row_at}
-use Rattle.bag_sqlite.specs.declared.adopting.AdoptFault.{AdoptFault}
-use Rattle.bag_sqlite.specs.declared.adopting.AdoptFault.TheVariants.{Damaged, Keep, NotALedger, OldFormat}
 
 -- QUERIES THAT FAIL
 

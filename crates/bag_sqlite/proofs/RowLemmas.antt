@@ -1,42 +1,7 @@
 -- Writing the rows of a payload file.
 use Rattle.std.proofs.Common.{◌≡◌, ◌==◌, ℕ, ℤ, pos, List, [], ◌∷◌, ◌++◌, Bool, true, false, not, cond, is_eq, Option, Some, None, Ok, length, map, drop, slice_get, refl, sym, ap, subst, ◌∙◌, arith}
-use Rattle.std.specs.Prelude.{filter, flat_map}
-use Rattle.std.specs.List.{AllByRecursion, concat, filter_map}
-use Rattle.std.specs.List.Sorted.{IsPermutation}
-use Rattle.std.proofs.lemmas.Bool.{and_parts, not-true}
-use Rattle.std.proofs.lemmas.Cmp.{tied_itself}
-use Rattle.std.proofs.lemmas.List.Sorted.{IsPermutation-cons, IsPermutation-map, IsPermutation-trans}
-use Rattle.sqlite.specs.Collation.TheVariants.{Binary}
-use Rattle.sqlite.specs.Command.TheVariants.{Update}
-use Rattle.sqlite.specs.Does.{Does, OnRows, AtPlace, Tally}
-use Rattle.sqlite.specs.Edit.{Applies, Edit, are_fresh, edit_of, edited, is_taken, left_by, put_all, taken_by}
-use Rattle.sqlite.specs.Effect.{Answers, Database}
-use Rattle.sqlite.specs.Listing.{understood}
-use Rattle.sqlite.specs.Ops.{binary, is_true}
-use Rattle.sqlite.specs.Order.{Row, column, value_cmp}
-use Rattle.sqlite.specs.Query.{Output}
+use Rattle.bag_sqlite.proofs.Words.{AddsItem, AddsPiece, AddsPieces, all_weaker, AllByRecursion, and_parts, Answers, Applies, are_fresh, AtPlace, Binary, binary, Blob, column, Compare, concat, Database, deed_of, Does, Edit, edit_of, edited, Enforced, Eq, ExecutesInside, filter, filter_all, filter_map, filter_none, flat_map, has_rowid, HasOneItemMore, held, held_tree, ids_of, Int, is_taken, is_true, IsFree, IsPermutation, IsPermutation-cons, IsPermutation-filter, IsPermutation-map, IsPermutation-trans, IsUnderWay, item_row, ledger_schema, left_by, Mode, mode_of, none_from_any, not-true, Null, one_permutation, one_step, OnRows, Output, pairs, parent_key, piece, piece_rows, piece_tree, Program, put_all, put_row, Row, runs_as, Schema, SetsSize, State, statement_of, Table, taken_by, Tally, Task, Text, tied_itself, Trees, understood, Update, Value, value_cmp, value_cmp_total, without_rowid, without_rowids, work_by, works, Writes, Written}
 use Rattle.sqlite.specs.Rowids.TheVariants.{Given}
-use Rattle.sqlite.specs.Rows.{Task, Written}
-use Rattle.sqlite.specs.Schema.{Schema}
-use Rattle.sqlite.specs.State.{ExecutesInside, State, mode_of}
-use Rattle.sqlite.specs.Table.{Table}
-use Rattle.sqlite.specs.Tree.{Trees, has_rowid, put_row, without_rowid}
-use Rattle.sqlite.specs.declared.run.Mode.{Mode}
-use Rattle.sqlite.specs.declared.types.Value.{Value}
-use Rattle.sqlite.specs.declared.types.Value.TheVariants.{Blob, Int, Null, Text}
-use Rattle.sqlite.proofs.Callers.{one_permutation, one_step, runs_as, statement_of}
-use Rattle.sqlite_keyed.proofs.ListLemmas.{IsPermutation-filter, all_weaker, filter_all, filter_none, none_from_any}
-use Rattle.sqlite_rules.specs.Action.{Writes, deed_of, pairs, work_by, works}
-use Rattle.sqlite_rules.specs.Calls.{ids_of}
-use Rattle.sqlite_schema.specs.Rules.{parent_key}
-use Rattle.sqlite_schema.specs.declared.program.Program.{Program}
-use Rattle.sqlite_schema.specs.declared.schema.Keys.TheVariants.{Enforced}
-use Rattle.sqlite_sql.specs.declared.ops.BinaryOp.TheVariants.{Compare}
-use Rattle.sqlite_sql.specs.declared.ops.CompareOp.TheVariants.{Eq}
-use Rattle.sqlite_value.proofs.OrderLemmas.{value_cmp_total}
-use Rattle.bag_sqlite.specs.Databases.{piece_rows, without_rowids}
-use Rattle.bag_sqlite.specs.Putting.{AddsItem, AddsPiece, AddsPieces, HasOneItemMore, IsFree, IsUnderWay, SetsSize, item_row}
-use Rattle.bag_sqlite.specs.Tables.{held, held_tree, ledger_schema, piece, piece_tree}
 use Rattle.bag_sqlite.proofs.CutLemmas.{length_concat}
 use Rattle.bag_sqlite.proofs.InsertLemmas.{put_fresh, row_inserted, same_value, went}
 use Rattle.bag_sqlite.proofs.RowMeanings.{new_item_is, new_item_plain, new_item_terms, new_item_text, new_piece_is, new_piece_plain, new_piece_terms, new_piece_text, size_is, size_plain, size_query, size_terms, size_text, size_where}

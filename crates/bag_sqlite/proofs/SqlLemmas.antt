@@ -1,24 +1,6 @@
 -- Statements in sequence, in a transaction.
-use Rattle.std.proofs.Common.{ℕ, ◌≡◌, Bool, true, false, cond, Ok, Err, Result, OnOk, OnErr, IfErr, IfOk, MatchResult, IsTrue, List, arith, inl, inr, refl, subst, sym, ◌∙◌}
-use Rattle.sqlite.specs.Cast.{cast}
-use Rattle.sqlite.specs.Held.{Held, state}
-use Rattle.sqlite.specs.Kind.TheVariants.{Integer}
-use Rattle.sqlite.specs.Ops.{unary}
-use Rattle.sqlite.specs.Order.{Row}
-use Rattle.sqlite.specs.State.{ExecutesInside, HasCleanDisk, KeepsCommit, State, Survives}
-use Rattle.sqlite.specs.Store.{Ghosts}
-use Rattle.sqlite.specs.declared.error.Error.{Error}
-use Rattle.sqlite.specs.declared.types.Value.{Value}
-use Rattle.sqlite.specs.declared.types.Value.TheVariants.{Int, Null}
-use Rattle.sqlite.proofs.InsideLemmas.{inside_keeps}
-use Rattle.sqlite.proofs.StateLemmas.{survives_then}
-use Rattle.std.proofs.lemmas.Bool.{cases_Bool}
-use Rattle.std.specs.Borrow.{MutBor}
-use Rattle.std.specs.Prelude.{ℤ}
-use Rattle.bag_ledger.specs.Keeping.{UsesStore}
-use Rattle.bag_ledger.specs.declared.fault.StoreFault.{StoreFault}
-use Rattle.bag_ledger.specs.declared.fault.StoreFault.TheVariants.{Spent}
-use Rattle.bag_sqlite.specs.Transactions.{CommitsNothing}
+use Rattle.std.proofs.Common.{ℕ, ◌≡◌, Bool, true, false, cond, Ok, Err, Result, OnOk, OnErr, IfErr, IfOk, MatchResult, IsTrue, List, arith, inl, inr, refl, subst, sym, ◌∙◌, ℤ}
+use Rattle.bag_sqlite.proofs.Words.{cases_Bool, cast, CommitsNothing, Error, ExecutesInside, Ghosts, HasCleanDisk, Held, inside_keeps, Int, Integer, KeepsCommit, MutBor, Null, Row, Spent, State, state, StoreFault, Survives, survives_then, unary, UsesStore, Value}
 
 pub on_ok : {A E P Q : Type 0} (r : Result A E) → (P → Q) → OnOk r P → OnOk r Q
 on_ok (Ok a) f h = f h

@@ -1,22 +1,6 @@
 -- Storing a payload file in one transaction.
 use Rattle.std.proofs.Common.{◌≡◌, ◌≤◌, true, false, ℕ, ℤ, List, IsTrue, length, refl, subst, sym, arith}
-use Rattle.bag_ledger.specs.Keeping.{Awaits}
-use Rattle.bag_ledger.specs.Ledgers.{Ledger, with_item}
-use Rattle.bag_ledger.proofs.SoundLemmas.{sound_put}
-use Rattle.bag_rules.specs.Wants.{IsWanted}
-use Rattle.bag_rules.specs.declared.limits.TheConstants.{LARGEST_ITEM}
-use Rattle.bag_rules.specs.declared.want.Want.{Want}
-use Rattle.sqlite.specs.Effect.{Database}
-use Rattle.sqlite.specs.Held.{Held, state}
-use Rattle.sqlite.specs.State.{HasCleanDisk, KeepsCommit, State, Survives}
-use Rattle.sqlite.specs.Store.{Ghosts}
-use Rattle.sqlite.specs.Tree.{Trees}
-use Rattle.sqlite.proofs.Callers.{survives_begin}
-use Rattle.bag_sqlite.specs.Contents.{HasContentMore, in_pieces}
-use Rattle.bag_sqlite.specs.Databases.{AreTablesOf}
-use Rattle.bag_sqlite.specs.Putting.{IsUnderWay}
-use Rattle.bag_sqlite.specs.Reading.{HasTransferRow, OnlyQueries}
-use Rattle.bag_sqlite.specs.SqlKeepers.{HoldsLedger}
+use Rattle.bag_sqlite.proofs.Words.{AreTablesOf, Awaits, Database, Ghosts, HasCleanDisk, HasContentMore, HasTransferRow, Held, HoldsLedger, in_pieces, IsUnderWay, IsWanted, KeepsCommit, LARGEST_ITEM, Ledger, OnlyQueries, sound_put, State, state, Survives, survives_begin, Trees, Want, with_item}
 use Rattle.bag_sqlite.proofs.CommitLemmas.{Prepares}
 use Rattle.bag_sqlite.proofs.HoldingLemmas.{held_tables}
 use Rattle.bag_sqlite.proofs.MakingLemmas.{kept_since}

@@ -1,31 +1,6 @@
 -- The transfer with a name, in the ledger and among the rows.
-use Rattle.std.proofs.Common.{◌≡◌, ◌&&◌, ℕ, List, [], ◌∷◌, Bool, true, false, Option, Some, None, cond, inl, inr, map, refl, sym, ap, subst, ◌∙◌, slice_index_or}
-use Rattle.std.specs.Prelude.{MatchOption, ℤ}
-use Rattle.std.specs.Cmp.Lexicographic.{slice_cmp}
-use Rattle.std.specs.List.{IsDistinct}
-use Rattle.std.specs.Map.{keys_of, lookup}
-use Rattle.std.specs.Ordering.{nat_cmp}
-use Rattle.std.specs.Str.{bytes_eq}
-use Rattle.std.proofs.lemmas.Cmp.{nat_list_eq_equiv}
-use Rattle.std.proofs.lemmas.List.Sorted.{IsPermutation-sym}
-use Rattle.std.proofs.lemmas.Map.Entries.{lookup_from_place}
-use Rattle.std.proofs.lemmas.Map.Keys.{IsDistinct-from_sorted}
-use Rattle.std.proofs.lemmas.Map.Text.{is_eq-slice_cmp}
-use Rattle.std.proofs.lemmas.Option.{same_Some}
-use Rattle.std.proofs.lemmas.Slice.Eq.{bytes_eq-Decides}
-use Rattle.bag_rules.specs.Faults.{Has}
-use Rattle.bag_rules.specs.Trees.{AreRising}
-use Rattle.bag_rules.proofs.HasLemmas.{has_from_map, has_map, place_of_has}
-use Rattle.bag_ledger.specs.Ledgers.{Ledger, Transfer, transfer_of}
-use Rattle.sqlite.specs.Order.{Row, column}
-use Rattle.sqlite.specs.State.{Shown, State}
-use Rattle.sqlite.specs.Term.{Term, col}
-use Rattle.sqlite.specs.Tree.{Trees}
-use Rattle.sqlite.specs.declared.types.Value.TheVariants.{Int, Null, Text}
-use Rattle.sqlite.proofs.Callers.{reads_as}
-use Rattle.bag_sqlite.specs.Databases.{AreTablesOf, NumberedTransfer, transfer_row, without_number}
-use Rattle.bag_sqlite.specs.Reading.{HasTransferRow}
-use Rattle.bag_sqlite.specs.Tables.{ledger_schema}
+use Rattle.std.proofs.Common.{◌≡◌, ◌&&◌, ℕ, List, [], ◌∷◌, Bool, true, false, Option, Some, None, cond, inl, inr, map, refl, sym, ap, subst, ◌∙◌, slice_index_or, MatchOption, ℤ}
+use Rattle.bag_sqlite.proofs.Words.{AreRising, AreTablesOf, bytes_eq, bytes_eq-Decides, col, column, Has, has_from_map, has_map, HasTransferRow, Int, is_eq-slice_cmp, IsDistinct, IsDistinct-from_sorted, IsPermutation-sym, keys_of, Ledger, ledger_schema, lookup, lookup_from_place, nat_cmp, nat_list_eq_equiv, Null, NumberedTransfer, place_of_has, reads_as, Row, same_Some, Shown, slice_cmp, State, Term, Text, Transfer, transfer_of, transfer_row, Trees, without_number}
 use Rattle.bag_sqlite.proofs.OneLedger.{has_moved}
 use Rattle.bag_sqlite.proofs.TransferMeanings.{number_command, number_is, number_plain, number_text, number_unlisted}
 use Rattle.bag_sqlite.proofs.WhereLemmas.{Lists, answer_lists, equal_texts, equals, has_from_shown, has_shown, passes}

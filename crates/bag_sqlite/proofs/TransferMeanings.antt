@@ -1,15 +1,6 @@
 -- The meanings of the queries for a transfer.
 use Rattle.std.proofs.Common.{◌≡◌, ℕ, List, [], ◌∷◌, codes, false, refl}
-use Rattle.sqlite.specs.Collation.TheVariants.{Binary}
-use Rattle.sqlite.specs.Command.{Command}
-use Rattle.sqlite.specs.Command.TheVariants.{Select}
-use Rattle.sqlite.specs.Listing.{reads_listing, understood}
-use Rattle.sqlite.specs.Query.{Query}
-use Rattle.sqlite.specs.Term.{col}
-use Rattle.sqlite.proofs.Callers.{IsPlain, command_of}
-use Rattle.sqlite_tied.specs.Compute.{everything}
-use Rattle.sqlite_value.specs.Keys.{ascending}
-use Rattle.bag_sqlite.specs.Tables.{ledger_schema}
+use Rattle.bag_sqlite.proofs.Words.{ascending, Binary, col, Command, command_of, everything, IsPlain, ledger_schema, Query, reads_listing, Select, understood}
 use Rattle.bag_sqlite.proofs.WhereLemmas.{equals, over}
 
 abbrev pub number_text : List ℕ

@@ -1,43 +1,7 @@
 -- The rows of a transfer's tag files and payload files, as they are shown and as they are read in sequence.
-use Rattle.std.proofs.Common.{◌≡◌, ◌≢◌, ◌<◌, ◌+◌, ◌&&◌, ℕ, suc, List, [], ◌∷◌, ◌++◌, Bool, true, false, Some, Less, Greater, append-nil, drop, get_or, inl, inr, length, map, take, pos, refl, sym, ap, ap₂, subst, ◌∙◌, arith}
-use Rattle.std.specs.Prelude.{IsPermutation, filter, flat_map, ℤ}
-use Rattle.std.specs.BTreeMap.{insert_entry}
-use Rattle.std.specs.Cmp.Lexicographic.{slice_cmp}
-use Rattle.std.specs.List.{AllByRecursion, concat}
-use Rattle.std.specs.List.Sorted.{IsStrictlySortedBy}
-use Rattle.std.specs.Map.{keys_of}
-use Rattle.std.specs.Option.{option_map, unwrap_or}
-use Rattle.std.specs.Ordering.{int_eq, match_ordering, nat_cmp, ordering_reverse}
-use Rattle.std.proofs.Math.Seq.{take-suc}
-use Rattle.std.proofs.lemmas.Cmp.{nat_list_cmp_total}
-use Rattle.std.proofs.lemmas.List.Elements.{filter-append}
-use Rattle.std.proofs.lemmas.List.Sorted.{IsPermutation-map}
-use Rattle.bag_rules.specs.Faults.{Has}
-use Rattle.bag_rules.specs.Files.{Files}
-use Rattle.bag_rules.specs.Plans.{sizes_of}
-use Rattle.bag_rules.specs.Trees.{AreRising}
-use Rattle.bag_rules.specs.declared.plan.ItemSize.{ItemSize}
-use Rattle.bag_rules.proofs.HasLemmas.{has_map}
-use Rattle.bag_rules.proofs.SameListLemmas.{all_has}
-use Rattle.bag_ledger.specs.Ledgers.{Ledger, Transfer, items_of, tags_of}
-use Rattle.bag_ledger.proofs.EntryLemmas.{map_twice}
-use Rattle.sqlite.specs.Collation.TheVariants.{Binary}
-use Rattle.sqlite.specs.Ops.{binary, is_true}
-use Rattle.sqlite.specs.Order.{Row}
-use Rattle.sqlite.specs.Query.{Output}
-use Rattle.sqlite.specs.State.{Shown, State}
-use Rattle.sqlite.specs.Term.{Term, col}
-use Rattle.sqlite.specs.declared.types.Value.{Value}
-use Rattle.sqlite.specs.declared.types.Value.TheVariants.{Blob, Int, Null, Text}
-use Rattle.sqlite.proofs.Callers.{reads_as}
-use Rattle.sqlite_keyed.proofs.ListLemmas.{IsPermutation-filter, all_map, all_weaker, filter-map, filter_all, filter_none, filter_same, map_same}
-use Rattle.sqlite_sql.specs.declared.ops.BinaryOp.TheVariants.{Compare}
-use Rattle.sqlite_sql.specs.declared.ops.CompareOp.TheVariants.{Eq}
-use Rattle.sqlite_value.specs.Keys.{ascending}
-use Rattle.sqlite_value.specs.Order.{bytes, column}
-use Rattle.bag_sqlite.specs.Databases.{AreApart, AreTablesOf, NumberedItem, NumberedTransfer, held_rows, size_of, tag_rows, without_rowids}
-use Rattle.bag_sqlite.specs.Reading.{HasTransferRow, size_shown, tag_shown}
-use Rattle.bag_sqlite.specs.Tables.{ledger_schema}
+use Rattle.std.proofs.Common.{◌≡◌, ◌≢◌, ◌<◌, ◌+◌, ◌&&◌, ℕ, suc, List, [], ◌∷◌, ◌++◌, Bool, true, false, Some, Less, Greater, append-nil, drop, get_or, inl, inr, length, map, take, pos, refl, sym, ap, ap₂, subst, ◌∙◌, arith, ℤ, unwrap_or}
+use Rattle.bag_sqlite.proofs.Words.{all_has, all_map, all_weaker, AllByRecursion, AreApart, AreRising, AreTablesOf, ascending, Binary, binary, Blob, bytes, col, Compare, concat, Eq, Files, filter, filter-append, filter-map, filter_all, filter_none, filter_same, flat_map, Has, has_map, HasTransferRow, held_rows, insert_entry, Int, int_eq, is_true, IsPermutation-filter, IsPermutation-map, IsStrictlySortedBy, items_of, ItemSize, keys_of, Ledger, ledger_schema, map_same, map_twice, match_ordering, nat_cmp, nat_list_cmp_total, Null, NumberedItem, NumberedTransfer, option_map, ordering_reverse, Output, reads_as, Row, Shown, size_of, size_shown, sizes_of, slice_cmp, State, tag_rows, tag_shown, tags_of, take-suc, Term, Text, Transfer, Value, without_rowids, column}
+use Rattle.std.specs.Prelude.{IsPermutation}
 use Rattle.bag_sqlite.proofs.CutLemmas.{length_concat}
 use Rattle.bag_sqlite.proofs.NamesLemmas.{drop_zero}
 use Rattle.bag_sqlite.proofs.OneLedger.{has_right, items_rise, tags_rise}

@@ -1,34 +1,7 @@
 -- What a query on one table shows: the rows that pass its conditions, in its order.
-use Rattle.std.proofs.Common.{◌≡◌, ◌≢◌, ℕ, List, [], ◌∷◌, ◌++◌, Bool, true, false, None, Some, Ordering, Less, Equal, Greater, cond, inl, inr, is_eq, map, negsuc, pos, refl, sym, ap, subst, ◌∙◌}
-use Rattle.std.specs.Prelude.{IsPermutation, IsSorted, filter, flat_map, ℤ}
-use Rattle.std.specs.Cmp.Lexicographic.{slice_cmp}
-use Rattle.std.specs.List.{list_all}
-use Rattle.std.specs.Ordering.{int_cmp, int_eq, nat_cmp}
-use Rattle.std.specs.Str.{bytes_eq}
-use Rattle.std.proofs.lemmas.Cmp.{int_cmp_total, tied_itself}
-use Rattle.std.proofs.lemmas.List.Sorted.{IsPermutation-sym, IsPermutation-trans}
-use Rattle.std.proofs.lemmas.Map.Lookups.{exact_signed}
-use Rattle.std.proofs.lemmas.Map.Text.{is_eq-slice_cmp}
-use Rattle.bag_rules.specs.Faults.{Has}
-use Rattle.bag_rules.specs.Trees.{AreRising}
-use Rattle.bag_rules.proofs.HasLemmas.{has_from_map, has_map}
-use Rattle.sqlite.specs.Collation.TheVariants.{Binary}
-use Rattle.sqlite.specs.Ops.{binary, from_truth, is_true}
-use Rattle.sqlite.specs.Order.{Row}
-use Rattle.sqlite.specs.Program.{overlay}
-use Rattle.sqlite.specs.Query.{IsAnswer, Output, Query, end, inner, output, output_cmp}
-use Rattle.sqlite.specs.Term.{Env, Term, holds, lit, op2}
-use Rattle.sqlite.specs.Tree.{Trees}
-use Rattle.sqlite.specs.declared.types.Value.TheVariants.{Int, Text}
-use Rattle.sqlite_keyed.proofs.ListLemmas.{ascending-map, ascending_from_map, ascending_weaker}
-use Rattle.sqlite_keyed.proofs.SortLemmas.{sorted_unique}
-use Rattle.sqlite_sql.specs.declared.ops.BinaryOp.TheVariants.{Compare}
-use Rattle.sqlite_sql.specs.declared.ops.CompareOp.TheVariants.{Eq}
-use Rattle.sqlite_sql.proofs.QueryLemmas.{output_cmp_total}
-use Rattle.sqlite_value.specs.Keys.{ascending}
-use Rattle.sqlite_value.specs.declared.keys.Key.{Key}
-use Rattle.sqlite_value.proofs.OrderLemmas.{then-Equal, value_cmp-Int, value_cmp-Text}
-use Rattle.bag_ledger.proofs.EntryLemmas.{map_twice}
+use Rattle.std.proofs.Common.{◌≡◌, ◌≢◌, ℕ, List, [], ◌∷◌, ◌++◌, Bool, true, false, None, Some, Ordering, Less, Equal, Greater, cond, inl, inr, is_eq, map, negsuc, pos, refl, sym, ap, subst, ◌∙◌, ℤ}
+use Rattle.bag_sqlite.proofs.Words.{AreRising, ascending, ascending-map, ascending_from_map, ascending_weaker, Binary, binary, bytes_eq, Compare, end, Env, Eq, exact_signed, filter, flat_map, from_truth, Has, has_from_map, has_map, holds, inner, Int, int_cmp, int_cmp_total, int_eq, is_eq-slice_cmp, is_true, IsAnswer, IsPermutation-sym, IsPermutation-trans, IsSorted, Key, list_all, lit, map_twice, nat_cmp, op2, Output, output, output_cmp, output_cmp_total, overlay, Query, Row, slice_cmp, sorted_unique, Term, Text, then-Equal, tied_itself, Trees, value_cmp-Int, value_cmp-Text}
+use Rattle.std.specs.Prelude.{IsPermutation}
 use Rattle.bag_sqlite.proofs.NamesLemmas.{ascends, drop_zero}
 use Rattle.bag_sqlite.proofs.OneLedger.{has_moved}
 

@@ -1,11 +1,6 @@
 use Rattle.std.proofs.Common.{◌≡◌, ◌≢◌, ◌∙◌, [], ◌∷◌, FitsSigned, ap, codes, length, refl, rules, sym, w64}
-use Rattle.std.proofs.lemmas.Int.{to_z-of_z}
-use Rattle.sqlite.specs.Order.{column}
-use Rattle.sqlite.specs.declared.types.Value.TheVariants.{Int, Text}
+use Rattle.bag_sqlite.proofs.Words.{column, err_from_is_err_and, Int, IsInt, IsText, SayNoFormat, Text, to_z-of_z}
 use Rattle.bag_sqlite.proofs.AdoptingLemmas.{only_row, row_at}
-use Rattle.std.proofs.lemmas.Result.{err_from_is_err_and}
-use Rattle.sqlite.specs.Values.{IsInt}
-use Rattle.bag_sqlite.specs.Refusing.{IsText, SayNoFormat}
 use Rattle.bag_sqlite.proofs.RefusingLemmas.{misread, null_int, null_text, rows_for, says_at}
 use Rattle.bag_sqlite.proofs.adopting.format_in.Goals as goal
 

@@ -1,4 +1,4 @@
-use Rattle.sqlite.specs.Values.{bound}
+use Rattle.bag_sqlite.proofs.Words.{bound}
 use Rattle.bag_sqlite.proofs.AdoptingLemmas.{reads_by, told_by}
 use Rattle.bag_sqlite.proofs.adopting.rows_of.Goals as goal
 

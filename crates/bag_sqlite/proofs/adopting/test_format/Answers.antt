@@ -1,9 +1,6 @@
 use Rattle.std.proofs.Common.{◌≡◌, ◌≢◌, ◌∙◌, [], ap, inl, inr, pos, rules, subst, sym}
-use Rattle.sqlite.specs.declared.types.Value.TheVariants.{Int}
-use Rattle.bag_sqlite.specs.Adopting.{Tells, format_text}
-use Rattle.std.proofs.lemmas.Result.{err_from_is_err_and}
+use Rattle.bag_sqlite.proofs.Words.{err_from_is_err_and, format_text, Int, IsNoLedger, SayNoFormat, Tells, the_format}
 use Rattle.bag_sqlite.proofs.RefusingLemmas.{by_rows, no_query, one_format, to_adopt}
-use Rattle.bag_sqlite.specs.Refusing.{IsNoLedger, SayNoFormat, the_format}
 use Rattle.bag_sqlite.proofs.adopting.test_format.Goals as goal
 
 pub returns-in-2-clause-format : goal.returns-in-2-clause-format

@@ -1,7 +1,6 @@
 use Rattle.std.proofs.Common.{◌≡◌, ◌≢◌, [], ap, inl, inr, length, rules, subst}
-use Rattle.bag_sqlite.specs.Adopting.{Tells}
+use Rattle.bag_sqlite.proofs.Words.{err_from_is_err_and, Tells}
 use Rattle.bag_sqlite.proofs.AdoptingLemmas.{no_row}
-use Rattle.std.proofs.lemmas.Result.{err_from_is_err_and}
 use Rattle.bag_sqlite.proofs.RefusingLemmas.{none_for}
 use Rattle.bag_sqlite.proofs.adopting.test_none.Goals as goal
 

@@ -1,10 +1,7 @@
 use Rattle.std.proofs.Common.{arith, inl, inr, refl}
-use Rattle.sqlite.specs.Held.{state}
-use Rattle.sqlite.specs.State.{HasCleanDisk}
+use Rattle.bag_sqlite.proofs.Words.{err_from_is_err_and, HasCleanDisk, IsNoLedger, IsNoneFor, state, strays}
 use Rattle.bag_sqlite.proofs.AdoptingLemmas.{reads_then, stands_still}
 use Rattle.bag_sqlite.proofs.SqlLemmas.{on_ok}
-use Rattle.std.proofs.lemmas.Result.{err_from_is_err_and}
-use Rattle.bag_sqlite.specs.Refusing.{IsNoLedger, IsNoneFor, strays}
 use Rattle.bag_sqlite.proofs.RefusingLemmas.{if_err, none_for}
 use Rattle.bag_sqlite.proofs.adopting.test_rows.Goals as goal
 

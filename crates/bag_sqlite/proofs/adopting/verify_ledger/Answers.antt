@@ -1,11 +1,7 @@
 use Rattle.std.proofs.Common.{IsTrue, arith, refl, rules}
-use Rattle.sqlite.specs.Held.{state}
-use Rattle.sqlite.specs.State.{HasCleanDisk}
-use Rattle.bag_sqlite.specs.Adopting.{Stands}
+use Rattle.bag_sqlite.proofs.Words.{err_from_is_err_and, HasCleanDisk, RefusesToAdopt, RefusesTransfers, Stands, state}
 use Rattle.bag_sqlite.proofs.AdoptingLemmas.{stands_still}
-use Rattle.std.proofs.lemmas.Result.{err_from_is_err_and}
 use Rattle.bag_sqlite.proofs.RefusingLemmas.{both_ways, in_order, to_adopt}
-use Rattle.bag_sqlite.specs.Refusing.{RefusesToAdopt, RefusesTransfers}
 use Rattle.bag_sqlite.proofs.adopting.verify_ledger.Goals as goal
 
 pub returns-clause-verified : goal.returns-clause-verified

@@ -1,9 +1,5 @@
 use Rattle.std.proofs.Common.{w64, ap, ◌∙◌, [], ℕ, ℤ, MatchOption, pos, slice_index_or, subst, true, ◌≡◌}
-use Rattle.std.proofs.lemmas.Int.{to_z-of_z}
-use Rattle.sqlite.specs.Held.{state}
-use Rattle.sqlite.specs.Order.{column}
-use Rattle.sqlite.specs.declared.types.Value.TheVariants.{Int}
-use Rattle.bag_sqlite.specs.Items.{HasItemRow}
+use Rattle.bag_sqlite.proofs.Words.{column, HasItemRow, Int, state, to_z-of_z}
 use Rattle.bag_sqlite.proofs.ItemLemmas.{item_shown}
 use Rattle.bag_sqlite.proofs.ReadingLemmas.{if_ok, was_open}
 use Rattle.bag_sqlite.proofs.SqlLemmas.{whichever}

@@ -1,10 +1,5 @@
 use Rattle.std.proofs.Common.{FitsSigned, rules, w64, ℕ, ℤ, MatchOption, None, arith, subst, ◌≡◌}
-use Rattle.std.proofs.lemmas.Int.{to_z-of_z}
-use Rattle.sqlite.specs.Effect.{Database}
-use Rattle.sqlite.specs.Held.{state}
-use Rattle.sqlite.specs.State.{HasCleanDisk}
-use Rattle.bag_ledger.specs.Ledgers.{content_of}
-use Rattle.bag_sqlite.specs.Items.{HasItem, HasItemRow}
+use Rattle.bag_sqlite.proofs.Words.{content_of, Database, HasCleanDisk, HasItem, HasItemRow, state, to_z-of_z}
 use Rattle.bag_sqlite.proofs.AdoptingLemmas.{queries_then}
 use Rattle.bag_sqlite.proofs.ContentLemmas.{item_told}
 use Rattle.bag_sqlite.proofs.ReadingLemmas.{same_shown, still_holds}

@@ -1,11 +1,5 @@
 use Rattle.std.proofs.Common.{arith, ◌<◌, ◌^◌, w64, ap, ◌∙◌, [], ℕ, List, MatchOption, slice_index_or, subst, true, ◌/◌, ◌≡◌}
-use Rattle.bag_digest.specs.declared.reading.TheConstants.{PIECE}
-use Rattle.std.proofs.Math.Facts.{to_z_pos}
-use Rattle.std.proofs.lemmas.Int.{to_z-of_z}
-use Rattle.sqlite.specs.Held.{state}
-use Rattle.sqlite.specs.Order.{column}
-use Rattle.sqlite.specs.declared.types.Value.TheVariants.{Blob, Int}
-use Rattle.bag_sqlite.specs.Items.{HasPieceRow}
+use Rattle.bag_sqlite.proofs.Words.{Blob, column, HasPieceRow, Int, PIECE, state, to_z-of_z, to_z_pos}
 use Rattle.bag_sqlite.proofs.ItemLemmas.{piece_shown}
 use Rattle.bag_sqlite.proofs.ReadingLemmas.{if_ok, was_open}
 use Rattle.bag_sqlite.proofs.SqlLemmas.{whichever}

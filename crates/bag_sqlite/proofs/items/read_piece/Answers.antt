@@ -1,11 +1,5 @@
 use Rattle.std.proofs.Common.{FitsSigned, rules, sym, w64, arith, subst, ◌/◌, ◌%◌}
-use Rattle.std.proofs.lemmas.Int.{to_z-of_z}
-use Rattle.bag_digest.specs.declared.reading.TheConstants.{PIECE}
-use Rattle.sqlite.specs.Effect.{Database}
-use Rattle.sqlite.specs.Held.{state}
-use Rattle.sqlite.specs.State.{HasCleanDisk}
-use Rattle.bag_ledger.specs.Keeping.{IsPieceAt}
-use Rattle.bag_sqlite.specs.Items.{HasPieceRow}
+use Rattle.bag_sqlite.proofs.Words.{Database, HasCleanDisk, HasPieceRow, IsPieceAt, PIECE, state, to_z-of_z}
 use Rattle.bag_sqlite.proofs.AdoptingLemmas.{queries_then}
 use Rattle.bag_sqlite.proofs.ContentLemmas.{no_piece_held, piece_held}
 use Rattle.bag_sqlite.proofs.ReadingLemmas.{same_shown, still_holds}

@@ -1,5 +1,5 @@
 use Rattle.std.proofs.Common.{IsTrue, refl}
-use Rattle.sqlite.specs.Held.{state}
+use Rattle.bag_sqlite.proofs.Words.{state}
 use Rattle.bag_sqlite.proofs.ContentLemmas.{size_held}
 use Rattle.bag_sqlite.proofs.items.size_of.Goals as goal
 

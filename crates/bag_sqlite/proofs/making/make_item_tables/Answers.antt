@@ -1,6 +1,5 @@
 use Rattle.std.proofs.Common.{arith}
-use Rattle.sqlite.specs.State.{HasCleanDisk}
-use Rattle.sqlite.specs.Held.{state}
+use Rattle.bag_sqlite.proofs.Words.{HasCleanDisk, state}
 use Rattle.bag_sqlite.proofs.MeaningLemmas.{makes_held, makes_piece}
 use Rattle.bag_sqlite.proofs.SqlLemmas.{nothing_then, on_ok}
 use Rattle.bag_sqlite.proofs.making.make_item_tables.Goals as goal

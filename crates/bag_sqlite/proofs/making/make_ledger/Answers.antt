@@ -1,12 +1,5 @@
 use Rattle.std.proofs.Common.{◌≡◌, [], false, OnErr, OnOk, IsTrue, refl, sym, subst, rules, arith}
-use Rattle.sqlite.specs.Held.{state}
-use Rattle.sqlite.specs.State.{HasCleanDisk, KeepsCommit, Survives}
-use Rattle.sqlite.specs.Tree.{Trees}
-use Rattle.sqlite.proofs.Callers.{survives_begin}
-use Rattle.sqlite.proofs.StateLemmas.{survives_then}
-use Rattle.bag_sqlite.specs.Databases.{AreTablesOf}
-use Rattle.bag_sqlite.specs.Making.{IsCreated, IsLeft, IsMade, MakesLedger}
-use Rattle.bag_sqlite.specs.Tables.{no_schema}
+use Rattle.bag_sqlite.proofs.Words.{AreTablesOf, HasCleanDisk, IsCreated, IsLeft, IsMade, KeepsCommit, MakesLedger, no_schema, state, Survives, survives_begin, survives_then, Trees}
 use Rattle.bag_sqlite.proofs.MakingLemmas.{begin_making, created_by, kept_since, left_by_failing}
 use Rattle.bag_sqlite.proofs.SqlLemmas.{kept_then, on_err, on_ok}
 use Rattle.bag_sqlite.proofs.making.make_ledger.Given.{Over}

@@ -1,4 +1,4 @@
-use Rattle.sqlite.specs.Held.{state}
+use Rattle.bag_sqlite.proofs.Words.{state}
 use Rattle.bag_sqlite.proofs.MakingLemmas.{table_made}
 use Rattle.bag_sqlite.proofs.making.make_table.Goals as goal
 

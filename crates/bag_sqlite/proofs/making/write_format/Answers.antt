@@ -1,4 +1,4 @@
-use Rattle.sqlite.specs.Held.{state}
+use Rattle.bag_sqlite.proofs.Words.{state}
 use Rattle.bag_sqlite.proofs.MakingLemmas.{format_written}
 use Rattle.bag_sqlite.proofs.making.write_format.Goals as goal
 

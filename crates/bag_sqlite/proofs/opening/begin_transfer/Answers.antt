@@ -1,6 +1,5 @@
 use Rattle.std.proofs.Common.{◌≡◌, subst, MatchResult, rules}
-use Rattle.bag_ledger.specs.Keeping.{IsUnused}
-use Rattle.sqlite.specs.Held.{Held, state}
+use Rattle.bag_sqlite.proofs.Words.{Held, IsUnused, state}
 use Rattle.bag_sqlite.proofs.CommitLemmas.{LeavesLedger, WritesLedger, committed, failed}
 use Rattle.bag_sqlite.proofs.OpeningLemmas.{opens_it, prepares}
 use Rattle.bag_sqlite.proofs.SqlLemmas.{by_result}

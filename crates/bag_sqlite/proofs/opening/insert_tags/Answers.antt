@@ -1,8 +1,5 @@
-use Rattle.std.proofs.Common.{w64, arith}
-use Rattle.std.proofs.lemmas.Int.{to_z-of_z}
-use Rattle.std.proofs.lemmas.List.{take_all}
-use Rattle.sqlite.specs.Held.{state}
-use Rattle.sqlite.specs.State.{HasCleanDisk}
+use Rattle.std.proofs.Common.{w64, arith, take_all}
+use Rattle.bag_sqlite.proofs.Words.{HasCleanDisk, state, to_z-of_z}
 use Rattle.bag_sqlite.proofs.OpeningLemmas.{tags_grow}
 use Rattle.bag_sqlite.proofs.SqlLemmas.{nothing_then}
 use Rattle.bag_sqlite.proofs.opening.insert_tags.Goals as goal

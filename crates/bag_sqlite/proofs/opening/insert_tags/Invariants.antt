@@ -1,10 +1,5 @@
 use Rattle.std.proofs.Common.{take}
-use Rattle.bag_rules.specs.Files.{files_of}
-use Rattle.sqlite.specs.Held.{state}
-use Rattle.sqlite.specs.State.{HasCleanDisk}
-use Rattle.bag_sqlite.specs.Opening.{AddsTags}
-use Rattle.bag_sqlite.specs.Putting.{IsUnderWay}
-use Rattle.bag_sqlite.specs.Transactions.{CommitsNothing}
+use Rattle.bag_sqlite.proofs.Words.{AddsTags, CommitsNothing, files_of, HasCleanDisk, IsUnderWay, state}
 use Rattle.bag_sqlite.proofs.opening.insert_tags.Given as goal
 
 -- the rows of the files so far are written

@@ -1,8 +1,5 @@
 use Rattle.std.proofs.Common.{Ok, [], ◌∷◌, w64, ◌∙◌}
-use Rattle.std.proofs.lemmas.Int.{to_z-of_z}
-use Rattle.sqlite.specs.Held.{state}
-use Rattle.sqlite.specs.State.{ExecutesInside}
-use Rattle.sqlite.specs.declared.types.Value.TheVariants.{Text}
+use Rattle.bag_sqlite.proofs.Words.{ExecutesInside, state, Text, to_z-of_z}
 use Rattle.bag_sqlite.proofs.MeaningLemmas.{new_transfer_text}
 use Rattle.bag_sqlite.proofs.OpeningLemmas.{transfer_inserted}
 use Rattle.bag_sqlite.proofs.opening.insert_transfer.Goals as goal

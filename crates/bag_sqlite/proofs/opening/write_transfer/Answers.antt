@@ -1,8 +1,5 @@
 use Rattle.std.proofs.Common.{FitsSigned, w64, arith, rules}
-use Rattle.std.proofs.lemmas.Int.{to_z-of_z}
-use Rattle.bag_rules.specs.Files.{files_of}
-use Rattle.sqlite.specs.Held.{state}
-use Rattle.sqlite.specs.State.{HasCleanDisk}
+use Rattle.bag_sqlite.proofs.Words.{files_of, HasCleanDisk, state, to_z-of_z}
 use Rattle.bag_sqlite.proofs.OpeningLemmas.{one_more}
 use Rattle.bag_sqlite.proofs.SqlLemmas.{nothing_then, on_ok}
 use Rattle.bag_sqlite.proofs.opening.write_transfer.Goals as goal

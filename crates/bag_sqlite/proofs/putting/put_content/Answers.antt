@@ -1,8 +1,5 @@
 use Rattle.std.proofs.Common.{FitsSigned, rules, ◌≡◌, inr, subst, w64}
-use Rattle.std.proofs.lemmas.Int.{to_z-of_z}
-use Rattle.std.proofs.lemmas.Result.{err_from_is_err_and}
-use Rattle.bag_ledger.specs.Keeping.{Awaits}
-use Rattle.sqlite.specs.Held.{Held, state}
+use Rattle.bag_sqlite.proofs.Words.{Awaits, err_from_is_err_and, Held, state, to_z-of_z}
 use Rattle.bag_sqlite.proofs.CommitLemmas.{LeavesLedger, WritesLedger, committed, failed}
 use Rattle.bag_sqlite.proofs.StoringLemmas.{prepares_put, puts_it}
 use Rattle.bag_sqlite.proofs.putting.put_content.Goals as goal

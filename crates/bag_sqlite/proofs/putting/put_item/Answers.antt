@@ -1,10 +1,5 @@
 use Rattle.std.proofs.Common.{FitsSigned, rules, w64, arith}
-use Rattle.std.specs.List.{concat}
-use Rattle.std.proofs.lemmas.Int.{to_z-of_z}
-use Rattle.std.proofs.lemmas.Result.{err_from_is_err_and}
-use Rattle.sqlite.specs.Held.{state}
-use Rattle.sqlite.specs.State.{HasCleanDisk}
-use Rattle.bag_ledger.proofs.TestingLemmas.{read_tested}
+use Rattle.bag_sqlite.proofs.Words.{concat, err_from_is_err_and, HasCleanDisk, read_tested, state, to_z-of_z}
 use Rattle.bag_sqlite.proofs.PuttingLemmas.{content_then, uses_told}
 use Rattle.bag_sqlite.proofs.SqlLemmas.{nothing_then}
 use Rattle.bag_sqlite.proofs.putting.put_item.Goals as goal

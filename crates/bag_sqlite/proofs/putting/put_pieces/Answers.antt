@@ -1,10 +1,5 @@
 use Rattle.std.proofs.Common.{rules, ◌≡◌, [], w64, arith, length}
-use Rattle.bag_digest.specs.declared.reading.TheConstants.{PIECE}
-use Rattle.std.proofs.lemmas.Int.{to_z-of_z}
-use Rattle.std.proofs.lemmas.Result.{err_from_is_err_and}
-use Rattle.bag_digest.specs.Reading.{read_fault}
-use Rattle.bag_digest.proofs.Progress.{given_before, given_piece}
-use Rattle.sqlite.specs.Held.{state}
+use Rattle.bag_sqlite.proofs.Words.{err_from_is_err_and, given_before, given_piece, PIECE, read_fault, state, to_z-of_z}
 use Rattle.bag_sqlite.proofs.PuttingLemmas.{next_number, no_pieces, read_last, read_more, read_nothing, read_to_end, refused_reading, rows_then, uses_then}
 use Rattle.bag_sqlite.proofs.SqlLemmas.{nothing_same, nothing_then}
 use Rattle.bag_sqlite.proofs.putting.put_pieces.Goals as goal

@@ -1,12 +1,5 @@
 use Rattle.std.proofs.Common.{◌≡◌, ◌+◌, ◌-◌, ℕ, List, [], length}
-use Rattle.bag_digest.specs.Device.{UsesSource}
-use Rattle.bag_digest.specs.declared.reading.TheConstants.{PIECE}
-use Rattle.bag_rules.specs.declared.limits.TheConstants.{LARGEST_ITEM}
-use Rattle.sqlite.specs.Held.{state}
-use Rattle.sqlite.specs.State.{HasCleanDisk}
-use Rattle.bag_sqlite.specs.Contents.{in_pieces}
-use Rattle.bag_sqlite.specs.Putting.{AddsPieces, IsUnderWay}
-use Rattle.bag_sqlite.specs.Transactions.{CommitsNothing}
+use Rattle.bag_sqlite.proofs.Words.{AddsPieces, CommitsNothing, HasCleanDisk, in_pieces, IsUnderWay, LARGEST_ITEM, PIECE, state, UsesSource}
 use Rattle.bag_sqlite.proofs.PuttingLemmas.{HasReadOn}
 use Rattle.bag_sqlite.proofs.putting.put_pieces.Given as goal
 

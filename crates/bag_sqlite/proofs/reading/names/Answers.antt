@@ -1,6 +1,5 @@
 use Rattle.std.proofs.Common.{◌≡◌, ◌∙◌, IsTrue, map, string_bytes, true}
-use Rattle.std.specs.Map.{keys_of}
-use Rattle.sqlite.specs.Held.{state}
+use Rattle.bag_sqlite.proofs.Words.{keys_of, state}
 use Rattle.bag_sqlite.proofs.NamesLemmas.{names_shown}
 use Rattle.bag_sqlite.proofs.ReadingLemmas.{if_ok, texts_named, was_open}
 use Rattle.bag_sqlite.proofs.reading.names.Goals as goal

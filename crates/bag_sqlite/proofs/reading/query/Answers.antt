@@ -1,9 +1,5 @@
 use Rattle.std.proofs.Common.{◌≡◌, subst, rules, arith, true}
-use Rattle.std.proofs.lemmas.Result.{err_from_is_err_and}
-use Rattle.sqlite.specs.Held.{state}
-use Rattle.sqlite.specs.State.{HasCleanDisk}
-use Rattle.sqlite.specs.Values.{bound}
-use Rattle.bag_sqlite.specs.Reading.{OnlyQueries}
+use Rattle.bag_sqlite.proofs.Words.{bound, err_from_is_err_and, HasCleanDisk, OnlyQueries, state}
 use Rattle.bag_sqlite.proofs.ReadingLemmas.{kept_query, kept_refusal, queries_undone}
 use Rattle.bag_sqlite.proofs.RefusingLemmas.{query_error}
 use Rattle.bag_sqlite.proofs.reading.query.Goals as goal

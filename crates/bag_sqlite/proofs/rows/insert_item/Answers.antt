@@ -1,8 +1,5 @@
 use Rattle.std.proofs.Common.{Ok, [], ◌∷◌, w64, ◌∙◌}
-use Rattle.std.proofs.lemmas.Int.{to_z-of_z}
-use Rattle.sqlite.specs.Held.{state}
-use Rattle.sqlite.specs.State.{ExecutesInside}
-use Rattle.sqlite.specs.declared.types.Value.TheVariants.{Int, Text}
+use Rattle.bag_sqlite.proofs.Words.{ExecutesInside, Int, state, Text, to_z-of_z}
 use Rattle.bag_sqlite.proofs.RowLemmas.{item_inserted}
 use Rattle.bag_sqlite.proofs.RowMeanings.{new_item_text}
 use Rattle.bag_sqlite.proofs.rows.insert_item.Goals as goal

@@ -1,10 +1,5 @@
 use Rattle.std.proofs.Common.{Ok, [], ◌∷◌, ◌<◌, ◌/◌, ◌^◌, ◌∙◌, ap, arith, pos, w64}
-use Rattle.std.proofs.Math.Facts.{to_z_pos}
-use Rattle.std.proofs.lemmas.Int.{to_z-of_z}
-use Rattle.bag_digest.specs.declared.reading.TheConstants.{PIECE}
-use Rattle.sqlite.specs.Held.{state}
-use Rattle.sqlite.specs.State.{ExecutesInside}
-use Rattle.sqlite.specs.declared.types.Value.TheVariants.{Blob, Int}
+use Rattle.bag_sqlite.proofs.Words.{Blob, ExecutesInside, Int, PIECE, state, to_z-of_z, to_z_pos}
 use Rattle.bag_sqlite.proofs.RowLemmas.{piece_inserted}
 use Rattle.bag_sqlite.proofs.RowMeanings.{new_piece_text}
 use Rattle.bag_sqlite.proofs.SqlLemmas.{nothing_executed}

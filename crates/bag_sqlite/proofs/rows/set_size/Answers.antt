@@ -1,9 +1,5 @@
 use Rattle.std.proofs.Common.{Ok, [], ◌∷◌, ◌∙◌, ap, pos, w64}
-use Rattle.std.proofs.Math.Facts.{to_z_pos}
-use Rattle.std.proofs.lemmas.Int.{to_z-of_z}
-use Rattle.sqlite.specs.Held.{state}
-use Rattle.sqlite.specs.State.{ExecutesInside}
-use Rattle.sqlite.specs.declared.types.Value.TheVariants.{Int}
+use Rattle.bag_sqlite.proofs.Words.{ExecutesInside, Int, state, to_z-of_z, to_z_pos}
 use Rattle.bag_sqlite.proofs.RowLemmas.{size_set}
 use Rattle.bag_sqlite.proofs.RowMeanings.{size_text}
 use Rattle.bag_sqlite.proofs.SqlLemmas.{nothing_executed}

@@ -1,11 +1,6 @@
 use Rattle.std.proofs.Common.{arith, rules, subst, sym, ◌≡◌, to_z, of_z, w64}
 use Rattle.std.proofs.Math.Facts.{to_z-of_z}
-use Rattle.sqlite.specs.Effect.{Database}
-use Rattle.sqlite.specs.Held.{state}
-use Rattle.sqlite.specs.State.{HasCleanDisk}
-use Rattle.bag_ledger.specs.Ledgers.{items_of}
-use Rattle.bag_rules.specs.Plans.{sizes_of}
-use Rattle.bag_sqlite.specs.Reading.{HasTransferRow}
+use Rattle.bag_sqlite.proofs.Words.{Database, HasCleanDisk, HasTransferRow, items_of, sizes_of, state}
 use Rattle.bag_sqlite.proofs.AdoptingLemmas.{queries_then}
 use Rattle.bag_sqlite.proofs.ReadingLemmas.{same_shown, still_holds}
 use Rattle.bag_sqlite.proofs.SqlLemmas.{if_open}

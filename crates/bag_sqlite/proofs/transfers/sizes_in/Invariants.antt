@@ -1,5 +1,5 @@
 use Rattle.std.proofs.Common.{◌≡◌, map, take}
-use Rattle.bag_sqlite.specs.Reading.{size_shown}
+use Rattle.bag_sqlite.proofs.Words.{size_shown}
 use Rattle.bag_sqlite.proofs.TransferRows.{two_of}
 use Rattle.bag_sqlite.proofs.transfers.sizes_in.Given as goal
 

@@ -1,9 +1,6 @@
 use Rattle.std.proofs.Common.{◌≡◌, ◌∙◌, IsTrue, ap, true}
 use Rattle.std.proofs.Math.Facts.{to_z-of_z}
-use Rattle.sqlite.specs.Held.{state}
-use Rattle.sqlite.specs.declared.types.Value.TheVariants.{Int}
-use Rattle.bag_ledger.specs.Ledgers.{items_of}
-use Rattle.bag_rules.specs.Plans.{sizes_of}
+use Rattle.bag_sqlite.proofs.Words.{Int, items_of, sizes_of, state}
 use Rattle.bag_sqlite.proofs.ReadingLemmas.{if_ok, was_open}
 use Rattle.bag_sqlite.proofs.SqlLemmas.{whichever}
 use Rattle.bag_sqlite.proofs.TransferRows.{sizes_read, sizes_shown}

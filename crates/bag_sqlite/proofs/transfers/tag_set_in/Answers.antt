@@ -1,13 +1,8 @@
 use Rattle.std.proofs.Common.{◌∙◌, [], sym, ap, take_all, refl, take, subst}
-use Rattle.sqlite.specs.declared.types.Value.TheVariants.{Text}
+use Rattle.bag_sqlite.proofs.Words.{AreTags, column, err_from_is_err_and, IsBlob, IsText, RefusesFile, slice_get_read, Text}
 use Rattle.bag_sqlite.proofs.TransferRows.{files_put, files_read, put_more}
 use Rattle.bag_sqlite.proofs.AdoptingLemmas.{put_as_with}
-use Rattle.std.proofs.lemmas.Result.{err_from_is_err_and}
 use Rattle.bag_sqlite.proofs.RefusingLemmas.{all_at, none_for, not_damage, not_read, null_blob, null_text, told_apart}
-use Rattle.bag_sqlite.specs.Refusing.{AreTags, IsBlob, IsText}
-use Rattle.sqlite.specs.Order.{column}
-use Rattle.std.proofs.lemmas.Option.{slice_get_read}
-use Rattle.bag_rules.specs.TagSets.{RefusesFile}
 use Rattle.bag_sqlite.proofs.transfers.tag_set_in.Goals as goal
 
 pub loop-row-preserved : goal.loop-row-preserved

@@ -1,8 +1,6 @@
 use Rattle.std.proofs.Common.{◌≡◌, ◌∙◌, IsTrue, Some, ap, sym, true}
 use Rattle.std.proofs.Math.Facts.{to_z-of_z}
-use Rattle.sqlite.specs.Held.{state}
-use Rattle.sqlite.specs.declared.types.Value.TheVariants.{Int}
-use Rattle.bag_ledger.specs.Ledgers.{tags_of}
+use Rattle.bag_sqlite.proofs.Words.{Int, state, tags_of}
 use Rattle.bag_sqlite.proofs.ReadingLemmas.{if_ok, was_open}
 use Rattle.bag_sqlite.proofs.SqlLemmas.{whichever}
 use Rattle.bag_sqlite.proofs.TransferRows.{tags_shown}

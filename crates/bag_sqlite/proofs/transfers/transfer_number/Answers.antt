@@ -1,9 +1,5 @@
 use Rattle.std.proofs.Common.{IsTrue, MatchOption, None, subst, ◌≡◌, [], slice_index_or, true}
-use Rattle.sqlite.specs.Held.{state}
-use Rattle.sqlite.specs.Order.{column}
-use Rattle.sqlite.specs.declared.types.Value.TheVariants.{Int}
-use Rattle.bag_ledger.specs.Ledgers.{transfer_of}
-use Rattle.bag_sqlite.specs.Reading.{HasTransferRow}
+use Rattle.bag_sqlite.proofs.Words.{column, HasTransferRow, Int, state, transfer_of}
 use Rattle.bag_sqlite.proofs.ReadingLemmas.{if_ok, was_open}
 use Rattle.bag_sqlite.proofs.TransferLemmas.{number_shown}
 use Rattle.bag_sqlite.proofs.transfers.transfer_number.Goals as goal

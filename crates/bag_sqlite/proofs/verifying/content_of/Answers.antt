@@ -1,17 +1,8 @@
 use Rattle.std.proofs.Common.{FitsSigned, to_z, ap, subst, sym, [], ◌∷◌, ◌≡◌, ◌<◌, ◌≤◌, ◌^◌, ◌+◌, ◌∙◌, arith, length, pos, rules, w64, inl, inr, min, ◌-◌}
 use mir.Val.{of_z}
-use Rattle.std.specs.List.{concat}
-use Rattle.std.proofs.Math.Facts.{to_z_pos}
-use Rattle.std.proofs.lemmas.Int.{to_z-of_z}
-use Rattle.bag_digest.specs.declared.reading.TheConstants.{PIECE}
-use Rattle.sqlite.specs.Held.{state}
-use Rattle.sqlite.specs.State.{HasCleanDisk}
-use Rattle.sqlite.specs.declared.types.Value.TheVariants.{Int}
-use Rattle.bag_sqlite.specs.Adopting.{TellsOne, count_text, Tells, piece_text}
+use Rattle.bag_sqlite.proofs.Words.{concat, count_text, err_from_is_err_and, HasCleanDisk, Int, PIECE, piece_text, ShowsOctets, state, Tells, TellsOne, to_z-of_z, to_z_pos}
 use Rattle.bag_sqlite.proofs.AdoptingLemmas.{reads_same, reads_then, stands_still}
 use Rattle.bag_sqlite.proofs.PiecesRead.{nothing_taken, one_taken}
-use Rattle.std.proofs.lemmas.Result.{err_from_is_err_and}
-use Rattle.bag_sqlite.specs.Refusing.{ShowsOctets}
 use Rattle.bag_sqlite.proofs.verifying.content_of.Goals as goal
 
 pub loop-taken-init : goal.loop-taken-init

@@ -1,8 +1,5 @@
 use Rattle.std.proofs.Common.{◌-◌, ◌≤◌}
-use Rattle.sqlite.specs.Effect.{Database}
-use Rattle.sqlite.specs.Held.{state}
-use Rattle.sqlite.specs.State.{HasCleanDisk}
-use Rattle.bag_sqlite.specs.Adopting.{OnlyReads, Stands}
+use Rattle.bag_sqlite.proofs.Words.{Database, HasCleanDisk, OnlyReads, Stands, state}
 use Rattle.bag_sqlite.proofs.PiecesRead.{HasTaken}
 use Rattle.bag_sqlite.proofs.verifying.content_of.Given as goal
 

@@ -1,14 +1,7 @@
-use Rattle.std.proofs.Common.{◌≡◌, ◌∙◌, [], ◌∷◌, ap, length, rules, w64, ◌≢◌, inr, subst, sym}
-use Rattle.std.specs.Prelude.{FitsSigned, slice_index_or}
-use Rattle.std.proofs.lemmas.Int.{to_z-of_z}
-use Rattle.sqlite.specs.Order.{column}
-use Rattle.sqlite.specs.declared.types.Value.TheVariants.{Int}
-use Rattle.bag_sqlite.specs.Adopting.{count_text}
+use Rattle.std.proofs.Common.{◌≡◌, ◌∙◌, [], ◌∷◌, ap, length, rules, w64, ◌≢◌, inr, subst, sym, FitsSigned, slice_index_or}
+use Rattle.bag_sqlite.proofs.Words.{column, count_text, count_under, err_from_is_err_and, Int, IsInt, to_z-of_z}
 use Rattle.bag_sqlite.proofs.AdoptingLemmas.{one_told, row_at}
-use Rattle.bag_sqlite.specs.Refusing.{count_under}
-use Rattle.sqlite.specs.Values.{IsInt}
 use Rattle.bag_sqlite.proofs.RefusingLemmas.{no_column, no_query, null_int}
-use Rattle.std.proofs.lemmas.Result.{err_from_is_err_and}
 use Rattle.bag_sqlite.proofs.verifying.count_of.Goals as goal
 
 pub returns-clause-count : goal.returns-clause-count

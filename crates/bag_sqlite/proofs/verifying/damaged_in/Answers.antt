@@ -1,15 +1,8 @@
 use Rattle.std.proofs.Common.{◌∙◌, arith, ap, rules, FitsSigned, sym, take_all, w64, subst, string_bytes}
-use Rattle.std.proofs.lemmas.Int.{to_z-of_z}
-use Rattle.sqlite.specs.Held.{state}
-use Rattle.sqlite.specs.State.{HasCleanDisk}
-use Rattle.sqlite.specs.declared.types.Value.TheVariants.{Text}
+use Rattle.bag_sqlite.proofs.Words.{err_from_is_err_and, HasCleanDisk, HasMisfit, IsInt, IsText, items_under, state, Text, to_z-of_z}
 use Rattle.bag_sqlite.proofs.AdoptingLemmas.{reads_then, stands_still}
-use Rattle.std.proofs.lemmas.Result.{err_from_is_err_and}
 use Rattle.bag_sqlite.proofs.BatchLemmas.{IsFirst, Shows, SoFar, either_path, first_at, if_none, if_some, none_left, one_added, one_passes}
 use Rattle.bag_sqlite.proofs.RefusingLemmas.{all_at, no_column, null_int, null_text}
-use Rattle.bag_sqlite.specs.Batches.{HasMisfit}
-use Rattle.bag_sqlite.specs.Refusing.{IsText, items_under}
-use Rattle.sqlite.specs.Values.{IsInt}
 use Rattle.bag_sqlite.proofs.verifying.damaged_in.Goals as goal
 use Rattle.bag_sqlite.proofs.verifying.damaged_in.Goals.{then-is_full+in_ok-first+in_default, else-is_full+else-size, in-Valid, in-Untested+in_ok-batch-in-Untested}
 

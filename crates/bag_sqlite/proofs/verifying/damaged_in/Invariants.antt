@@ -1,9 +1,4 @@
-use Rattle.bag_rules.specs.Files.{Files}
-use Rattle.bag_rules.specs.Plans.{IsPlanOf}
-use Rattle.sqlite.specs.Effect.{Database}
-use Rattle.sqlite.specs.Held.{state}
-use Rattle.sqlite.specs.State.{HasCleanDisk}
-use Rattle.bag_sqlite.specs.Adopting.{OnlyReads, Stands}
+use Rattle.bag_sqlite.proofs.Words.{Database, Files, HasCleanDisk, IsPlanOf, OnlyReads, Stands, state}
 use Rattle.bag_sqlite.proofs.BatchLemmas.{SoFar}
 use Rattle.bag_sqlite.proofs.verifying.damaged_in.Given as goal
 

@@ -1,13 +1,7 @@
 use Rattle.std.proofs.Common.{arith, w64, sym, subst, [], ◌∷◌}
-use Rattle.std.proofs.lemmas.Int.{to_z-of_z}
-use Rattle.sqlite.specs.Held.{state}
-use Rattle.sqlite.specs.State.{HasCleanDisk}
+use Rattle.bag_sqlite.proofs.Words.{err_from_is_err_and, HasCleanDisk, Int, items_text, items_under, state, Tells, to_z-of_z}
 use Rattle.bag_sqlite.proofs.AdoptingLemmas.{ok_none, reads_then, stands_still}
-use Rattle.std.proofs.lemmas.Result.{err_from_is_err_and}
 use Rattle.bag_sqlite.proofs.RefusingLemmas.{no_query}
-use Rattle.bag_sqlite.specs.Refusing.{items_under}
-use Rattle.bag_sqlite.specs.Adopting.{Tells, items_text}
-use Rattle.sqlite.specs.declared.types.Value.TheVariants.{Int}
 use Rattle.bag_sqlite.proofs.verifying.first_damaged.Goals as goal
 
 pub returns-clause-passing : goal.returns-clause-passing

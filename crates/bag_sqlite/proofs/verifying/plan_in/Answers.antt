@@ -1,8 +1,6 @@
 use Rattle.std.proofs.Common.{◌≡◌, inl, inr, subst, Ok}
-use Rattle.std.proofs.lemmas.Result.{err_from_is_err_and}
+use Rattle.bag_sqlite.proofs.Words.{err_from_is_err_and, files_in, Refuses}
 use Rattle.bag_sqlite.proofs.RefusingLemmas.{bad_tag, tags_error, told_apart}
-use Rattle.bag_rules.specs.Opening.{Refuses}
-use Rattle.bag_sqlite.specs.Adopting.{files_in}
 use Rattle.bag_sqlite.proofs.verifying.plan_in.Goals as goal
 
 pub returns-in_err-tags-clause-refused : goal.returns-in_err-tags-clause-refused

@@ -1,11 +1,7 @@
 use Rattle.std.proofs.Common.{w64, inr, IfNone}
-use Rattle.std.proofs.lemmas.Int.{to_z-of_z}
-use Rattle.bag_rules.specs.Plans.{IsPlanOf}
-use Rattle.bag_sqlite.specs.Adopting.{files_in}
+use Rattle.bag_sqlite.proofs.Words.{AreTags, DoNotOpen, err_from_is_err_and, files_in, IsNoLedger, IsNoneFor, IsPlanOf, OpensNone, tags_under, to_z-of_z}
 use Rattle.bag_sqlite.proofs.AdoptingLemmas.{ok_some}
-use Rattle.std.proofs.lemmas.Result.{err_from_is_err_and}
 use Rattle.bag_sqlite.proofs.RefusingLemmas.{match_map, no_query, none_for, none_map}
-use Rattle.bag_sqlite.specs.Refusing.{AreTags, DoNotOpen, IsNoLedger, IsNoneFor, OpensNone, tags_under}
 use Rattle.bag_sqlite.proofs.verifying.plan_of.Goals as goal
 
 pub returns-clause-plan : goal.returns-clause-plan

@@ -1,10 +1,6 @@
 use Rattle.std.proofs.Common.{◌≡◌, ◌∙◌, Ok, w64, inl, inr}
-use Rattle.std.proofs.lemmas.Int.{to_z-of_z}
-use Rattle.std.specs.List.{concat}
-use Rattle.bag_rules.specs.Plans.{IsWantOf}
-use Rattle.bag_rules.specs.Wants.{AreSumsFor}
+use Rattle.bag_sqlite.proofs.Words.{AreSumsFor, concat, err_from_is_err_and, IsWantOf, to_z-of_z}
 use Rattle.bag_sqlite.proofs.BatchLemmas.{known_by, misfit_other}
-use Rattle.std.proofs.lemmas.Result.{err_from_is_err_and}
 use Rattle.bag_sqlite.proofs.RefusingLemmas.{bad_path, path_error}
 use Rattle.bag_sqlite.proofs.verifying.read_item.Goals as goal
 

@@ -1,13 +1,8 @@
-use Rattle.std.proofs.Common.{◌≡◌, ◌∙◌, [], ◌∷◌, ap, length, rules, ◌≢◌, sym}
-use Rattle.std.specs.Prelude.{slice_index_or}
+use Rattle.std.proofs.Common.{◌≡◌, ◌∙◌, [], ◌∷◌, ap, length, rules, ◌≢◌, sym, slice_index_or}
 use Rattle.std.proofs.Math.Facts.{to_z-of_z}
-use Rattle.sqlite.specs.Order.{column}
-use Rattle.sqlite.specs.declared.types.Value.TheVariants.{Blob, Int}
-use Rattle.bag_sqlite.specs.Adopting.{piece_text}
+use Rattle.bag_sqlite.proofs.Words.{Blob, column, err_from_is_err_and, Int, piece_at, piece_text}
 use Rattle.bag_sqlite.proofs.AdoptingLemmas.{one_told, row_at}
-use Rattle.bag_sqlite.specs.Refusing.{piece_at}
 use Rattle.bag_sqlite.proofs.RefusingLemmas.{no_query}
-use Rattle.std.proofs.lemmas.Result.{err_from_is_err_and}
 use Rattle.bag_sqlite.proofs.verifying.take_piece.Goals as goal
 
 pub returns-in_err-rows-clause-refused : goal.returns-in_err-rows-clause-refused

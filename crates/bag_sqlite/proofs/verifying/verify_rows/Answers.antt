@@ -1,13 +1,7 @@
 use Rattle.std.proofs.Common.{arith, rules, FitsSigned, take_all, w64, refl}
-use Rattle.std.proofs.lemmas.Int.{to_z-of_z}
-use Rattle.sqlite.specs.Held.{state}
-use Rattle.sqlite.specs.State.{HasCleanDisk}
+use Rattle.bag_sqlite.proofs.Words.{err_from_is_err_and, HasCleanDisk, IsInt, IsText, slice_get_read, state, the_transfers, to_z-of_z}
 use Rattle.bag_sqlite.proofs.AdoptingLemmas.{Verifies, all_more, reads_then, stands_still}
-use Rattle.std.proofs.lemmas.Result.{err_from_is_err_and}
 use Rattle.bag_sqlite.proofs.RefusingLemmas.{adopt_transfer, all_at, no_column, null_int, null_text, to_transfers}
-use Rattle.bag_sqlite.specs.Refusing.{IsText, the_transfers}
-use Rattle.sqlite.specs.Values.{IsInt}
-use Rattle.std.proofs.lemmas.Option.{slice_get_read}
 use Rattle.bag_sqlite.proofs.verifying.verify_rows.Goals as goal
 
 pub loop-row-preserved : goal.loop-row-preserved

@@ -1,9 +1,5 @@
 use Rattle.std.proofs.Common.{take}
-use Rattle.std.specs.List.{AllByRecursion}
-use Rattle.sqlite.specs.Effect.{Database}
-use Rattle.sqlite.specs.Held.{state}
-use Rattle.sqlite.specs.State.{HasCleanDisk}
-use Rattle.bag_sqlite.specs.Adopting.{OnlyReads, Stands}
+use Rattle.bag_sqlite.proofs.Words.{AllByRecursion, Database, HasCleanDisk, OnlyReads, Stands, state}
 use Rattle.bag_sqlite.proofs.AdoptingLemmas.{Verifies}
 use Rattle.bag_sqlite.proofs.verifying.verify_rows.Given as goal
 

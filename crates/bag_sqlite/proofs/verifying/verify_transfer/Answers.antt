@@ -1,14 +1,6 @@
 use Rattle.std.proofs.Common.{List, IfSome, [], ◌∷◌, arith, subst, w64, inl, inr, refl, rules}
-use Rattle.sqlite.specs.Order.{Row}
-use Rattle.bag_rules.specs.Plans.{IsPlanOf}
-use Rattle.bag_rules.specs.declared.plan.Plan.{Plan}
-use Rattle.std.proofs.lemmas.Int.{to_z-of_z}
-use Rattle.sqlite.specs.Held.{state}
-use Rattle.sqlite.specs.State.{HasCleanDisk}
-use Rattle.sqlite.specs.declared.types.Value.TheVariants.{Int}
+use Rattle.bag_sqlite.proofs.Words.{err_from_is_err_and, files_in, HasCleanDisk, Int, IsPlanOf, Plan, Row, state, tag_files_text, Tells, to_z-of_z}
 use Rattle.bag_sqlite.proofs.AdoptingLemmas.{reads_then, stands_still}
-use Rattle.bag_sqlite.specs.Adopting.{Tells, files_in, tag_files_text}
-use Rattle.std.proofs.lemmas.Result.{err_from_is_err_and}
 use Rattle.bag_sqlite.proofs.RefusingLemmas.{to_transfer}
 use Rattle.bag_sqlite.proofs.verifying.verify_transfer.Goals as goal
 

@@ -1,12 +1,8 @@
 use Rattle.std.proofs.Common.{arith, sym, subst, []}
-use Rattle.sqlite.specs.Held.{state}
-use Rattle.sqlite.specs.State.{HasCleanDisk}
+use Rattle.bag_sqlite.proofs.Words.{err_from_is_err_and, HasCleanDisk, state, Tells, the_transfers, transfers_text}
 use Rattle.bag_sqlite.proofs.AdoptingLemmas.{reads_then, stands_still}
 use Rattle.bag_sqlite.proofs.SqlLemmas.{on_ok}
-use Rattle.std.proofs.lemmas.Result.{err_from_is_err_and}
 use Rattle.bag_sqlite.proofs.RefusingLemmas.{no_query, to_transfers}
-use Rattle.bag_sqlite.specs.Refusing.{the_transfers}
-use Rattle.bag_sqlite.specs.Adopting.{Tells, transfers_text}
 use Rattle.bag_sqlite.proofs.verifying.verify_transfers.Goals as goal
 
 pub returns-clause-verified : goal.returns-clause-verified

@@ -1,5 +1,5 @@
 use Rattle.std.proofs.Common.{◌≡◌, ◌<◌, ◌∙◌, arith, inl, inr, length, rules, string_bytes, subst}
-use Rattle.bag_digest.specs.Hash.{AreDigestsOfEach}
+use Rattle.bag_sqlite.proofs.Words.{AreDigestsOfEach}
 use Rattle.bag_sqlite.proofs.BatchLemmas.{drop_both, misfit_other, sums_at}
 use Rattle.bag_sqlite.proofs.batch.Batch.first_damaged.Goals as goal
 

@@ -1,5 +1,5 @@
 use Rattle.std.proofs.Common.{ℕ, List, drop}
-use Rattle.bag_sqlite.specs.Batches.{AreCovered, AreWanted, HasMisfit}
+use Rattle.bag_sqlite.proofs.Words.{AreCovered, AreWanted, HasMisfit}
 use Rattle.bag_sqlite.proofs.batch.Batch.first_damaged.Given as goal
 
 abbrev pub invariant-loop-i : goal.invariant-loop-i

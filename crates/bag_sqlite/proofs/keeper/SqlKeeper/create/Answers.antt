@@ -1,6 +1,5 @@
 use Rattle.std.proofs.Common.{rules}
-use Rattle.sqlite.specs.Held.{state}
-use Rattle.bag_sqlite.specs.Making.{IsCreated}
+use Rattle.bag_sqlite.proofs.Words.{IsCreated, state}
 use Rattle.bag_sqlite.proofs.MakingLemmas.{holds_nothing}
 use Rattle.bag_sqlite.proofs.keeper.SqlKeeper.create.Goals as goal
 

@@ -1,5 +1,5 @@
 use Rattle.std.proofs.Common.{Err, IsTrue, ap}
-use Rattle.bag_sqlite.specs.declared.health.Health.{Health}
+use Rattle.bag_sqlite.proofs.Words.{Health}
 use Rattle.bag_sqlite.proofs.SqlLemmas.{same_fault, uses_as}
 use Rattle.bag_sqlite.proofs.keeper.SqlKeeperKeeper.begin.Goals as goal
 

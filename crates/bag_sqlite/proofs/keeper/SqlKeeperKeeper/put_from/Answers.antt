@@ -1,6 +1,5 @@
 use Rattle.std.proofs.Common.{Err, IsTrue, Ok, ap}
-use Rattle.bag_ledger.specs.declared.fault.KeepFault.TheVariants.{Memory}
-use Rattle.bag_sqlite.specs.declared.health.Health.{Health}
+use Rattle.bag_sqlite.proofs.Words.{Health, Memory}
 use Rattle.bag_sqlite.proofs.KeepingLemmas.{puts_in}
 use Rattle.bag_sqlite.proofs.SqlLemmas.{same_fault, uses_as}
 use Rattle.bag_sqlite.proofs.keeper.SqlKeeperKeeper.put_from.Goals as goal
