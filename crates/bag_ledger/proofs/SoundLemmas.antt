@@ -1,5 +1,5 @@
 -- A sound ledger stays sound when a transfer or a payload file is added.
-use Rattle.std.proofs.Common.{◌≡◌, ◌≢◌, ◌≤◌, ◌⊎◌, ℕ, Bool, true, false, List, [], ◌∷◌, Option, Some, None, length, refl, sym, ap, subst, ◌∙◌, inl, inr}
+use Rattle.std.proofs.Common.{◌≡◌, ◌≢◌, ◌≤◌, ◌⊎◌, ℕ, Bool, true, false, List, [], ◌∷◌, Some, length, refl, sym, ap, subst, ◌∙◌, inl, inr}
 use Rattle.std.specs.BTreeMap.{insert_entry}
 use Rattle.std.specs.Cmp.Lexicographic.{slice_cmp}
 use Rattle.std.specs.List.Sorted.{IsStrictlySortedBy}
@@ -16,7 +16,7 @@ use Rattle.bag_rules.specs.declared.want.Want.{Want}
 use Rattle.bag_rules.specs.Faults.{Has}
 use Rattle.bag_rules.specs.Files.{AreTagFiles, Files}
 use Rattle.bag_rules.specs.Opening.{Opens}
-use Rattle.bag_rules.specs.Transfers.{AreHeldFor, Passes}
+use Rattle.bag_rules.specs.Transfers.{Passes}
 use Rattle.bag_rules.specs.Trees.{AreRising}
 use Rattle.bag_rules.specs.Wants.{IsWanted}
 use Rattle.bag_rules.proofs.PassingLemmas.{wanted_passes}

@@ -1,4 +1,4 @@
-use Rattle.std.proofs.Common.{◌≡◌, ◌∙◌, sym, ap}
+use Rattle.std.proofs.Common.{◌∙◌, sym, ap}
 use Rattle.bag_ledger.specs.Stored.{ledger_in}
 use Rattle.bag_ledger.proofs.StoredLemmas.{holds_one_more, holds_the_same, item_added, item_nowhere, same_stored}
 use Rattle.bag_ledger.proofs.stored.add_item.Goals as goal

@@ -1,4 +1,4 @@
-use Rattle.std.proofs.Common.{◌≡◌, ◌∙◌, sym, ap, refl, rules}
+use Rattle.std.proofs.Common.{rules}
 use Rattle.bag_ledger.proofs.StoredLemmas.{new_transfer, transfer_added}
 use Rattle.bag_ledger.proofs.stored.add_transfer.Goals as goal
 

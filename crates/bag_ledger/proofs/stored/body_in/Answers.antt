@@ -1,5 +1,5 @@
-use Rattle.std.proofs.Common.{◌≡◌, ◌∙◌, Some, sym, ap}
-use Rattle.std.specs.Option.{option_copied, option_map}
+use Rattle.std.proofs.Common.{◌∙◌, Some, sym, ap}
+use Rattle.std.specs.Option.{option_map}
 use Rattle.bag_ledger.proofs.StoredLemmas.{body, file_at}
 use Rattle.bag_ledger.proofs.stored.body_in.Goals as goal
 

@@ -1,4 +1,4 @@
-use Rattle.std.proofs.Common.{◌≡◌, ◌∙◌, Some, None, sym, ap}
+use Rattle.std.proofs.Common.{◌∙◌, sym}
 use Rattle.bag_ledger.proofs.StoredLemmas.{held_at, held_nowhere}
 use Rattle.bag_ledger.proofs.stored.body_of.Goals as goal
 

@@ -1,5 +1,4 @@
 use Rattle.std.proofs.Common.{◌≡◌, map}
-use Rattle.bag_rules.specs.declared.plan.ItemSize.{ItemSize}
 use Rattle.bag_ledger.proofs.StoredLemmas.{size_shown}
 use Rattle.bag_ledger.proofs.stored.sizes_in.Given as goal
 

@@ -1,4 +1,4 @@
-use Rattle.std.proofs.Common.{sym, rules}
+use Rattle.std.proofs.Common.{rules}
 use Rattle.bag_ledger.proofs.SoundLemmas.{sound_nothing}
 use Rattle.bag_ledger.proofs.map_keeper.MapKeeper.new.Goals as goal
 

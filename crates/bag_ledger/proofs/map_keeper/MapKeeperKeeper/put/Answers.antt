@@ -1,5 +1,4 @@
-use Rattle.std.proofs.Common.{◌≡◌, ◌≤◌, ◌∙◌, ℕ, List, length, refl, sym, subst, rules}
-use Rattle.bag_rules.specs.declared.limits.TheConstants.{LARGEST_ITEM}
+use Rattle.std.proofs.Common.{◌≡◌, ◌∙◌, refl, subst, rules}
 use Rattle.bag_rules.specs.Wants.{IsWanted}
 use Rattle.bag_ledger.specs.Ledgers.{with_item}
 use Rattle.bag_ledger.proofs.SoundLemmas.{puts}

@@ -1,4 +1,4 @@
-use Rattle.std.proofs.Common.{◌≡◌, ◌∙◌, Some, None, sym, ap, rules}
+use Rattle.std.proofs.Common.{◌∙◌, Some, None, sym, ap}
 use Rattle.bag_rules.specs.Plans.{sizes_of}
 use Rattle.bag_ledger.specs.Ledgers.{items_of}
 use Rattle.bag_ledger.proofs.StoredLemmas.{items_at}
