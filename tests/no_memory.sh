@@ -1,6 +1,6 @@
 #!/usr/bin/env bash
 # Each allocation of memory fails in turn: the program reports that and nothing else, or gives the answer that it gives
-# with enough memory. The tests of each crate are run in the same way. For a command on a ledger some allocations fail,
+# with enough memory. The tests in Rattle are run in the same way. For a command on a ledger some allocations fail,
 # spread over all; with the option --all every one fails.
 set -u
 cd "$(dirname -- "$0")/.." || exit 1
@@ -131,11 +131,11 @@ if cc -shared -fPIC -O1 -o "$work/no_memory.so" tests/no_memory.c 2>"$work/no cc
         "$work/tried" "$program" "$allocations" allocations "$work/no_memory.so"
     cat "$work/tried"
     # Left out are tests that only say whether the output was right, and not what it was, such as all of the receiver's.
-    left_out='^make::|^tests::(exports|fetches|transfers)::'
-    for crate in bag_path bag_lanes bag_digest bag_tags bag_rules bag_ledger bag_folder bag_commands; do
+    left_out='^(make|exports|fetches|transfers)::'
+    for crate in bag_path bag_lanes bag_digest bag_tags_tests bag_rules_tests bag_ledger bag_folder_tests bag_commands_tests; do
         tests=$PWD/crates/$crate/out/${crate}_tests
         if [ -x "$tests" ]; then
-            expect "no memory for the tests of $crate" 0 '' more_refusals in_each_test "$crate" "$tests" "$left_out"
+            expect "no memory for the tests in $crate" 0 '' more_refusals in_each_test "$crate" "$tests" "$left_out"
         else
             lacking "failing allocations in the tests of $crate (./test builds their program)"
         fi
