@@ -1,6 +1,6 @@
-use crate::common::{DECLARATION, tags_of};
+use crate::common::{DECLARATION, refusal};
 use bag_path::BagPath;
-use bag_rules::{Plan, PlanFault, first_folder};
+use bag_rules::{PlanFault, first_folder};
 use std::alloc::Global;
 use std::test::Fail;
 
@@ -52,10 +52,9 @@ fn of_several_clashes_the_first_path_is_told(rt: HostRuntime) -> Result<(), Fail
 
 #[test]
 fn a_tag_file_clashes_with_one_in_a_folder_of_its_path(rt: HostRuntime) -> Result<(), Fail> {
-    let alloc = rt.alloc();
     let manifest = ("manifest-sha256.txt", "");
     let files = [DECLARATION, manifest, ("docs/a.txt", ""), ("docs", "")];
-    let refused = Plan::from_tags(alloc, &tags_of(alloc, &files)?).err();
+    let refused = refusal(rt.alloc(), &files)?;
     assert!(rt; matches!(&refused, Some(PlanFault::Clash(path)) if path.as_str() == "docs"));
     Ok(())
 }

@@ -1,8 +1,8 @@
 //! What several tests make their bags and their tag files of.
 use bag_digest::Multi;
 use bag_path::BagPath;
-use bag_rules::{MemTree, Plan, TagSet, WantFault};
-use std::alloc::Global;
+use bag_rules::{MemTree, Plan, PlanFault, TagSet, WantFault};
+use std::alloc::{AllocError, Global};
 use std::test::Fail;
 
 /// The declaration of version 1.0.
@@ -30,6 +30,14 @@ pub(crate) fn tags_of(alloc: Global, files: &[(&str, &str)]) -> Result<TagSet, F
         tags.add(path, Vec::from_slice(alloc, text.as_bytes())?)?;
     }
     Ok(tags)
+}
+
+/// Why no transfer can be opened with these tag files; `None` if one can be opened.
+pub(crate) fn refusal(alloc: Global, files: &[(&str, &str)]) -> Result<Option<PlanFault>, Fail> {
+    match Plan::from_tags(alloc, &tags_of(alloc, files)?).err() {
+        Some(PlanFault::Memory) => Err(AllocError.into()),
+        refused => Ok(refused),
+    }
 }
 
 /// What the plan says about content at a path; `None` if the path isn't listed.

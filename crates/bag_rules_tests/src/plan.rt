@@ -1,9 +1,9 @@
-use crate::common::{DECLARATION, tags_of, told_of};
+use crate::common::{DECLARATION, refusal, tags_of, told_of};
 use bag_digest::Alg;
 use bag_path::BagPath;
 use bag_rules::{Fault, ItemSize, OutsideCause, Plan, PlanFault, WantFault};
 use bag_tags::{Kind, ManifestName};
-use std::alloc::{AllocError, Global};
+use std::alloc::Global;
 use std::test::Fail;
 
 // Two files, with the digests of `abc` and of nothing (FIPS 180-4, example B.1, and RFC 6234 section 8.5).
@@ -13,14 +13,6 @@ const MANIFEST: (&str, &str) = (
 e3b0c44298fc1c149afbf4c8996fb92427ae41e4649b934ca495991b7852b855  data/b
 ",
 );
-
-/// Why no transfer can be opened with these tag files; `None` if one can be opened.
-fn refusal(alloc: Global, files: &[(&str, &str)]) -> Result<Option<PlanFault>, Fail> {
-    match Plan::from_tags(alloc, &tags_of(alloc, files)?).err() {
-        Some(PlanFault::Memory) => Err(AllocError.into()),
-        refused => Ok(refused),
-    }
-}
 
 /// The fault for which no transfer can be opened with these tag files.
 fn fault_of(alloc: Global, files: &[(&str, &str)]) -> Result<Option<Fault>, Fail> {
