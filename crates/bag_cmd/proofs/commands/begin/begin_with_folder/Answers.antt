@@ -1,4 +1,4 @@
-use Rattle.std.proofs.Common.{◌≡◌, ◌∷◌, [], Err, ap, refl, subst}
+use Rattle.std.proofs.Common.{◌∷◌, [], Err, ap, refl, subst}
 use Rattle.bag_commands.specs.declared.status.TheConstants.{FAILED}
 use Rattle.bag_commands.specs.declared.stop.Stop.{Stop}
 use Rattle.bag_commands.specs.Printing.{Printed}

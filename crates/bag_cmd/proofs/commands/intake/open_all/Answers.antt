@@ -1,7 +1,6 @@
-use Rattle.std.proofs.Common.{◌≡◌, ◌∙◌, ◌≤◌, ◌++◌, ◌∷◌, [], Err, ap, length, map, rules, string_bytes, subst, take}
+use Rattle.std.proofs.Common.{◌≡◌, ◌∙◌, ◌≤◌, ◌++◌, ◌∷◌, [], Err, ap, length, map, rules, string_bytes, subst}
 use Rattle.std.proofs.lemmas.List.{take_all}
 use Rattle.bag_folder.specs.declared.fault.OpenFault.TheVariants.{Files}
-use Rattle.bag_folder.specs.Bringing.{courier_of}
 use Rattle.bag_cmd.specs.Working.{AreOpened}
 use Rattle.bag_cmd.proofs.WorkLemmas.{contained, couriers_more, opened_more}
 use Rattle.bag_cmd.proofs.commands.intake.open_all.Goals as goal

@@ -1,6 +1,5 @@
-use Rattle.std.proofs.Common.{◌≡◌, ◌≢◌, ◌∙◌, ◌∷◌, ℕ, List, [], None, Option, Some, arith, refl, subst}
-use Rattle.std.proofs.lemmas.Grind.{common_steps}
-use Rattle.bag_commands.specs.declared.status.TheConstants.{DONE, FAILED}
+use Rattle.std.proofs.Common.{◌≡◌, ◌∷◌, [], refl, subst}
+use Rattle.bag_commands.specs.declared.status.TheConstants.{FAILED}
 use Rattle.bag_commands.specs.declared.stop.Stop.{Stop}
 use Rattle.bag_cmd.specs.Making.{NotMade, Written, kept_folder}
 use Rattle.bag_commands.specs.Printing.{Printed}
