@@ -97,9 +97,20 @@ def adopted(driver, file):
     return ran.stdout.removesuffix("\n")
 
 
-def adopt_damaged(driver, file):
-    """Adopts copies of this ledger with one damage each, and returns how many there were."""
-    for damage, wanted in DAMAGES:
+def damages_among(paths):
+    """Damages of one of these payload files and of the last: the first by path is named, wherever its batch begins or ends."""
+    ordered = sorted(paths)
+    item = "item = (SELECT id FROM held WHERE path = '{}')"
+    last = f"DELETE FROM piece WHERE {item.format(ordered[-1])}"
+    for place in (0, 1, 62, 63, 64, 65, 127, 128, FILES - 2):
+        path = ordered[place]
+        yield f"UPDATE piece SET body = zeroblob(2048) WHERE {item.format(path)}; {last}", f"damaged bench {path}"
+
+
+def adopt_damaged(driver, file, damages):
+    """Adopts copies of this ledger with these damages, and returns how many there were."""
+    tried = 0
+    for tried, (damage, wanted) in enumerate(damages, 1):
         for old in file.parent.glob("copy*"):
             old.unlink()
         copy = file.with_name("copy")
@@ -109,7 +120,7 @@ def adopt_damaged(driver, file):
         database.close()
         found = adopted(driver, copy)
         assert found == wanted, (damage, found, wanted)
-    return len(DAMAGES)
+    return tried
 
 
 def adopt_others(driver, file):
@@ -188,7 +199,8 @@ def main(driver):
         assert subprocess.run(words, check=False).returncode == 1
         judge(ledgers[-1], tag_files({"data/file": b""}, ["data/file"]), {})
         assert all(adopted(driver, ledger) == "adopted" for ledger in ledgers)
-        tried = len(ledgers) + adopt_damaged(driver, large) + adopt_others(driver, large)
+        tried = len(ledgers) + adopt_others(driver, large)
+        tried += adopt_damaged(driver, large, DAMAGES) + adopt_damaged(driver, ledgers[0], damages_among(files))
         full = put_on_a_full_disk(driver, work, work / "octets", hashlib.sha256((work / "octets").read_bytes()).hexdigest())
     print(f"{len(ledgers)} ledgers read by sqlite3, {tried} files adopted or refused, {full} full disks")
 
