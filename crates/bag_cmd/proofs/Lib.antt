@@ -1,2 +1,4 @@
+pub mod FileLemmas
 pub mod RequestLemmas
+pub mod ViewLemmas
 pub mod WorkLemmas

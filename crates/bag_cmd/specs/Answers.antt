@@ -3,6 +3,7 @@ use Rattle.std.specs.Prelude.{◌≡◌, ◌≢◌, ℕ, List, [], ◌∷◌, Op
 use Rattle.bag_ledger.specs.declared.keeper.Keeper.{Ghosts}
 use Rattle.bag_rules.specs.declared.outcome.Outcome.{Outcome}
 use Rattle.bag_rules.specs.declared.outcome.CheckFault.{CheckFault}
+use Rattle.bag_sqlite.specs.declared.adopting.AdoptFault.{AdoptFault}
 use Rattle.bag_commands.specs.declared.status.TheConstants.{DONE, FAILED, USAGE}
 use Rattle.bag_commands.specs.declared.output.Output.{Output}
 use Rattle.bag_commands.specs.declared.stop.Stop.TheVariants.{Files, Memory}
@@ -50,39 +51,43 @@ usage_line = codes "bag: check, make, begin, intake, report, audit, fetch, expor
 -- What a command did: what it printed, and the folder that was made for a bag and not given up, which only `make` and
 -- `export` change.
 abbrev pub Runs : {K W : Type 0} → Ghosts K → (List ℕ → K → Type 0) → (List ℕ → K → Type 0)
-    → Option Listing → (W → Option (List ℕ)) → Request → Option (List ℕ) → Option (List ℕ)
-    → Output W → Output W → ℕ → Type 0
-Runs k opened made known contents (Check folder) before after old new result = (after ≡ before)
-    × PrintsCheck contents known (string_bytes folder) old new result
-Runs k opened made known contents (Make source destination algorithms) before after old new result =
+    → (List ℕ → AdoptFault → Type 0) → Option Listing → (W → Option (List ℕ)) → Request
+    → Option (List ℕ) → Option (List ℕ) → Output W → Output W → ℕ → Type 0
+Runs k opened made refused known contents (Check folder) before after old new result =
+    (after ≡ before) × PrintsCheck contents known (string_bytes folder) old new result
+Runs k opened made refused known contents (Make source destination algorithms) before after old new
+    result =
     PrintsMake contents known (record {
       source = string_bytes source;
       destination = string_bytes destination;
       names = map string_bytes algorithms.items;
     }) before after old new result
-Runs k opened made known contents (Ledger ledger work) before after old new result =
-    WorksOn k opened made known contents (string_bytes ledger) work before after old new result
+Runs k opened made refused known contents (Ledger ledger work) before after old new result =
+    WorksOn k opened made refused known contents (string_bytes ledger) work before after old new
+    result
 
 -- What a command line did: either it ran the command that its arguments ask for, or they are no known command, which
 -- was reported.
 pub data RunsCommand {K W : Type 0} (k : Ghosts K) (opened made : List ℕ → K → Type 0)
-    (known : Option Listing) (contents : W → Option (List ℕ)) (words : List (List ℕ))
-    (before after : Option (List ℕ)) (old new : Output W) (result : ℕ) : Type 0 where
+    (refused : List ℕ → AdoptFault → Type 0) (known : Option Listing)
+    (contents : W → Option (List ℕ)) (words : List (List ℕ)) (before after : Option (List ℕ))
+    (old new : Output W) (result : ℕ) : Type 0 where
   Named : (request : Request) → AsksFor words request
-      → Runs k opened made known contents request before after old new result
-      → RunsCommand k opened made known contents words before after old new result
+      → Runs k opened made refused known contents request before after old new result
+      → RunsCommand k opened made refused known contents words before after old new result
   NoWords : words ≡ [] → after ≡ before
       → Printed contents old new result (usage_line ∷ []) USAGE
-      → RunsCommand k opened made known contents words before after old new result
+      → RunsCommand k opened made refused known contents words before after old new result
   NoCommand : words ≢ [] → ¬ NamesCommand words → after ≡ before
       → Refuses contents old new result
-      → RunsCommand k opened made known contents words before after old new result
+      → RunsCommand k opened made refused known contents words before after old new result
   NoMemory : words ≢ [] → after ≡ before
       → Printed contents old new result (stop_text Memory ∷ []) FAILED
-      → RunsCommand k opened made known contents words before after old new result
+      → RunsCommand k opened made refused known contents words before after old new result
 
 -- some command line was run on the directories of the file system
 abbrev pub Ran : {K W : Type 0} → Ghosts K → (List ℕ → K → Type 0) → (List ℕ → K → Type 0)
-    → (W → Option (List ℕ)) → Output W → Output W → ℕ → Type 0
-Ran k opened made contents old new result = (words : List (List ℕ)) × (after : Option (List ℕ))
-    × RunsCommand k opened made None contents words None after old new result
+    → (List ℕ → AdoptFault → Type 0) → (W → Option (List ℕ)) → Output W → Output W → ℕ → Type 0
+Ran k opened made refused contents old new result =
+    (words : List (List ℕ)) × (after : Option (List ℕ))
+    × RunsCommand k opened made refused None contents words None after old new result

@@ -1,32 +1,59 @@
--- Ledgers in files: what is known of a keeper from what the files held when they were opened.
-use Rattle.std.specs.Prelude.{◌≡◌, []}
+-- Ledgers in files: what is known of a keeper from what the files held when they were opened, and what is left in the
+-- files when it is closed or the program stops.
+use Rattle.std.specs.Prelude.{◌≡◌, ◌⊎◌, [], IsTrue}
 use Rattle.bag_ledger.specs.Ledgers.{Ledger}
 use Rattle.bag_sqlite.specs.Adopting.{IsVerified}
-use Rattle.bag_sqlite.specs.SqlKeepers.{HoldsLedger}
+use Rattle.bag_sqlite.specs.Databases.{IsLedgerDatabase}
+use Rattle.bag_sqlite.specs.Refusing.{IsNoAnswer, RefusesToAdopt}
+use Rattle.bag_sqlite.specs.SqlKeepers.{HoldsLedger, KeepsAlone}
 use Rattle.bag_sqlite.specs.Tables.{no_schema}
-use Rattle.sqlite.specs.Files.{file_state, over_files}
-use Rattle.sqlite.specs.Held.{Held}
+use Rattle.bag_sqlite.specs.declared.adopting.AdoptFault.{AdoptFault}
+use Rattle.bag_sqlite.specs.declared.adopting.AdoptFault.TheVariants.{NotALedger}
+use Rattle.sqlite.specs.Files.{HoldsDatabase, IsOpened, file_state, image_of, over_files}
+use Rattle.sqlite.specs.Held.{Held, state}
 use Rattle.sqlite.specs.Start.{FindsIn}
 use Rattle.sqlite.specs.State.{HasCleanDisk}
+use Rattle.sqlite.specs.Store as store
+use Rattle.sqlite.specs.Tree.{Trees}
 use Rattle.sqlite_disk.specs.declared.Disk.{Ghosts}
+use Rattle.sqlite_disk.specs.declared.Files.{Files}
+use Rattle.sqlite_store.specs.FileStore as files
 use Rattle.sqlite_store.specs.declared.store.FileStore.{FileStore}
+use Rattle.sqlite_wal.specs.Files.{outcomes}
+use Rattle.sqlite_wal.specs.Reads.{AreClean}
 use Rattle.sqlite_wal.specs.Recovery.{Image}
 
+-- WHAT THE FILES HOLD
+
+-- the file and its log hold the database of this ledger
+abbrev pub HoldsLedgerIn : Image → Ledger → Type 0
+HoldsLedgerIn image ledger =
+    (db : Trees) × ∥ HoldsDatabase image db ∥₁ × IsLedgerDatabase db ledger
+
+-- they do, and so does the file without its log
+pub record HoldsLedgerAlone (image : Image) (ledger : Ledger) : Type 0 where
+  pub both : HoldsLedgerIn image ledger
+  pub alone : HoldsLedgerIn (record image { log = [] }) ledger
+
 module _ {D : Type 0} {g : Ghosts D} where
-  -- a connection found what the files held, its database was verified, and if that is a ledger, the
-  -- keeper holds it
+  -- OPENING
+
+  -- a connection was opened on what the files held, its database was verified, and a ledger that
+  -- the files held is what the keeper holds, and a crash leaves that ledger alone
   pub record IsAdoption (image : Image) (opened kept : Held (FileStore D g)) : Type 0 where
     pub found : FindsIn image (file_state opened)
+    pub opens : IsOpened opened
     pub verified : IsVerified (over_files {D = D} {g = g}) (file_state opened).committed
-    pub held : (ledger : Ledger) → HoldsLedger (file_state opened) ledger
-        → HoldsLedger (file_state kept) ledger
+    pub keeps : (ledger : Ledger) → HoldsLedgerIn image ledger
+        → KeepsAlone (file_state kept) ledger
 
-  -- a connection found what the files held, they had no tables, and the keeper holds the ledger
-  -- without transfers
+  -- a connection was opened on what the files held, they had no tables, and the keeper holds the
+  -- ledger without transfers, and a crash leaves that ledger alone
   pub record IsMaking (image : Image) (opened kept : Held (FileStore D g)) : Type 0 where
     pub found : FindsIn image (file_state opened)
+    pub opens : IsOpened opened
     pub none : (file_state opened).now.schema ≡ no_schema
-    pub held : HoldsLedger (file_state kept) []
+    pub keeps : KeepsAlone (file_state kept) []
 
   -- the same, for a store that returns what was written to it
   abbrev pub IsAdoptedFrom : Image → Held (FileStore D g) → Type 0
@@ -38,4 +65,47 @@ module _ {D : Type 0} {g : Ghosts D} where
       → (opened : Held (FileStore D g)) × IsMaking image opened kept
 
   abbrev pub IsConnectedTo : Image → Held (FileStore D g) → Type 0
-  IsConnectedTo image opened = HasCleanDisk (file_state opened) → FindsIn image (file_state opened)
+  IsConnectedTo image opened = HasCleanDisk (file_state opened)
+      → FindsIn image (file_state opened) × IsOpened opened
+
+  -- LEAVING
+
+  -- The log was copied into the file. After a crash too, the files hold the ledger that the keeper
+  -- held, and so does the file without its log.
+  abbrev pub IsClosed : Held (FileStore D g) → Files D → Type 0
+  IsClosed kept files = AreClean g files.log files.db → (ledger : Ledger)
+      → HoldsLedger (file_state kept) ledger → (image : Image)
+      → (image ≡ image_of g files) ⊎ outcomes g files.log files.db image
+      → HoldsLedgerAlone image ledger
+
+  -- if the program stops now, the disk may leave this of the files
+  abbrev pub MayBeLeft : Held (FileStore D g) → Image → Type 0
+  MayBeLeft kept image = (files.state kept.store).may_leave image
+
+  -- the store keeps its tables as the kit numbers them
+  abbrev pub IsNumbered : Held (FileStore D g) → Type 0
+  IsNumbered kept = IsTrue (files.view kept.store).is_numbered
+
+  -- the program stopped with this connection, and the files hold a database that it may have left
+  abbrev pub IsStopOf : Held (FileStore D g) → Image → Type 0
+  IsStopOf kept image =
+      (db : Trees) × (file_state kept).may_leave db × ∥ HoldsDatabase image db ∥₁
+
+-- REFUSING
+
+-- why no ledger was opened from what the files held, with any store
+module _ {S : Type 0} (g : store.Ghosts S) (image : Image) (fault : AdoptFault) where
+  -- A connection was opened on what the files held, and its database was refused for this reason.
+  -- If it is that of a ledger, memory ran out or the store failed.
+  pub record IsRefusal (opened refused : Held S) : Type 0 where
+    pub found : FindsIn image (state g opened)
+    pub reason : RefusesToAdopt g (state g opened).committed fault
+    pub own : (ledger : Ledger) → HoldsLedgerIn image ledger → IsNoAnswer fault
+
+  -- Memory ran out, or the store failed; or there is no plain file, or none that is a database; or
+  -- its database was refused.
+  pub data IsUnopened : Type 0 where
+    NoAnswer : IsNoAnswer fault → IsUnopened
+    NoDatabase : fault ≡ NotALedger → IsUnopened
+    Refused : (opened refused : Held S)
+        → (HasCleanDisk (state g refused) → IsRefusal opened refused) → IsUnopened

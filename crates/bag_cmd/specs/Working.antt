@@ -1,6 +1,6 @@
 -- Work on a ledger: how it is opened, and what is done with it.
 use Rattle.std.specs.Prelude.{◌≡◌, ◌⊎◌, ◌∷◌, ◌++◌, [], ℕ, Contains, List, None, Option, Some, codes, is_some, map, string_bytes}
-use Rattle.bag_ledger.specs.Ledgers.{Transfer}
+use Rattle.bag_ledger.specs.Ledgers.{Ledger, Transfer}
 use Rattle.bag_ledger.specs.declared.keeper.Keeper.{Ghosts}
 use Rattle.bag_path.specs.Spellings.{written_spelling}
 use Rattle.bag_receiver.specs.declared.receiver.Receiver.{Receiver}
@@ -56,6 +56,12 @@ unopened_line (Damaged name path) = codes "bag: damaged " ++ written_spelling (s
     ++ codes " " ++ written_spelling (string_bytes path)
 unopened_line (Keep why) = stop_text (stop_of_keep why)
 
+-- the transfer that is reported on
+abbrev pub viewed : Work → Option (List ℕ)
+viewed (Report name) = Some (string_bytes name)
+viewed (Audit name) = Some (string_bytes name)
+viewed work = None
+
 -- FOLDERS
 
 -- What a command on the bag in a folder did. The entries of directories may be known. Either the folder was opened, and
@@ -103,13 +109,16 @@ pub record IsOver {K : Type 0} (k : Ghosts K) (kept : K) (receiver : Receiver K)
   pub in_state : (now : LedgerState) → IsKept k.holds k.may_leave kept now
       → IsInState k.holds k.may_leave receiver now
 
+-- the transfer with this name has a valid bag
+abbrev pub HoldsValidBag : Ledger → List ℕ → Type 0
+HoldsValidBag ledger name = (transfer : Transfer) × IsNamed ledger name (Some transfer)
+    × IsValid (held_bag transfer.tags transfer.items)
+
 -- A report or an audit was printed. The status is 0 only if the transfer holds a valid bag.
 pub record Views {K W : Type 0} (k : Ghosts K) (contents : W → Option (List ℕ)) (name : List ℕ)
     (before after : Receiver K) (old new : Output W) (result : ℕ) : Type 0 where
   pub valid : result ≡ VALID → k.clean after.keeper → (now : LedgerState)
-      → IsInState k.holds k.may_leave before now
-      → (transfer : Transfer) × IsNamed now.held name (Some transfer)
-      × IsValid (held_bag transfer.tags transfer.items)
+      → IsInState k.holds k.may_leave before now → HoldsValidBag now.held name
   pub printed : PrintedBy contents view_lines view_status old new result
       (IsReporting k.holds k.may_leave k.clean k.failures name before after)
 
@@ -184,14 +193,26 @@ module _ {K W : Type 0} (k : Ghosts K) (known : Option Listing)
       × PrintedBy contents list_lines list_status old new result
       (IsListing k.holds k.may_leave k.clean k.failures before after)
 
--- What work on a ledger did: either the ledger was opened and this was done with it, or it wasn't, and the reason was
--- printed.
-pub data WorksOn {K W : Type 0} (k : Ghosts K) (opened made : List ℕ → K → Type 0)
+-- the ledger was opened, and this was done with it
+pub record Works {K W : Type 0} (k : Ghosts K) (opened made : List ℕ → K → Type 0)
     (known : Option Listing) (contents : W → Option (List ℕ)) (ledger : List ℕ) (work : Work)
+    (folder now : Option (List ℕ)) (after : Receiver K) (old new : Output W) (result : ℕ)
+    : Type 0 where
+  pub kept : K
+  pub before : Receiver K
+  pub open_for : IsOpenFor opened made ledger work kept
+  pub over : IsOver k kept before
+  pub done : DoesWork k known contents work folder now before after old new result
+
+-- What work on a ledger did: either the ledger was opened and this was done with it, or it wasn't, and the reason that
+-- its opening had was printed.
+pub data WorksOn {K W : Type 0} (k : Ghosts K) (opened made : List ℕ → K → Type 0)
+    (refused : List ℕ → AdoptFault → Type 0) (known : Option Listing)
+    (contents : W → Option (List ℕ)) (ledger : List ℕ) (work : Work)
     (folder now : Option (List ℕ)) (old new : Output W) (result : ℕ) : Type 0 where
-  Worked : (kept : K) (before after : Receiver K) → IsOpenFor opened made ledger work kept
-      → IsOver k kept before → DoesWork k known contents work folder now before after old new result
-      → WorksOn k opened made known contents ledger work folder now old new result
-  Unopened : (fault : AdoptFault) → now ≡ folder
+  Worked : (after : Receiver K)
+      → Works k opened made known contents ledger work folder now after old new result
+      → WorksOn k opened made refused known contents ledger work folder now old new result
+  Unopened : (fault : AdoptFault) → refused ledger fault → now ≡ folder
       → Printed contents old new result (unopened_line fault ∷ []) FAILED
-      → WorksOn k opened made known contents ledger work folder now old new result
+      → WorksOn k opened made refused known contents ledger work folder now old new result

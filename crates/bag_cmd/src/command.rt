@@ -25,7 +25,7 @@ pub fn command<R: Files + Eprint, D: Directories, L: Ledgers, W: Write + Drop>(
     words: Vec<String>,
     out: &mut Output<W>,
 ) -> u8
-    ensures { RunsCommand L.Kept.Keeper L.opened L.made (D.listing disk.now) W.contents
+    ensures { RunsCommand L.Kept.Keeper L.opened L.made L.refused (D.listing disk.now) W.contents
         (map string_bytes words.items) made.old made.new out.old out.new result }
 {
     if words.is_empty() {
@@ -53,8 +53,8 @@ fn run_request<R: Files, D: Directories, L: Ledgers, W: Write + Drop>(
     request: &Request,
     out: &mut Output<W>,
 ) -> u8
-    ensures { Runs L.Kept.Keeper L.opened L.made (D.listing disk.now) W.contents request.now
-        made.old made.new out.old out.new result }
+    ensures { Runs L.Kept.Keeper L.opened L.made L.refused (D.listing disk.now) W.contents
+        request.now made.old made.new out.old out.new result }
 {
     match request {
         Request::Check { folder } => check_folder(rt, disk, alloc, folder.as_str(), out),

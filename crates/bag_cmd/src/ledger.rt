@@ -1,15 +1,24 @@
 //! Opens and closes ledgers by name.
-ghost use Rattle.std.specs.Prelude.{◌⊎◌, ℕ, IfOk, List};
+ghost use Rattle.std.specs.Prelude.{◌⊎◌, [], ℕ, IfErr, List, MatchResult};
+ghost use Rattle.bag_ledger.specs.Ledgers.{Ledger};
+ghost use Rattle.bag_receiver.specs.Receivers.{IsKept};
+ghost use Rattle.bag_receiver.specs.Receiving.{settled};
+ghost use Rattle.bag_sqlite.specs.Refusing.{IsNoAnswer};
+ghost use Rattle.bag_sqlite.specs.declared.adopting.AdoptFault.{AdoptFault};
 
 use crate::ledger_file::{FileKeeper, LedgerFile};
 use bag_ledger::{KeepFault, Keeper, StoreFault};
 use bag_sqlite::AdoptFault;
-use sqlite::Start;
+use sqlite::{FileFrom, FileStore, Start};
+use sqlite_trees::store::Store;
 
 /// Opens a ledger by its name.
 pub trait Ledgers {
     /// The keeper of an open ledger.
     type Kept: Keeper;
+
+    /// What is stored under this name before a ledger is opened.
+    ghost holds: { List ℕ → Ledger → Type 0 };
 
     /// What is known of a ledger that was opened under this name.
     ghost opened: { List ℕ → Self.Kept → Type 0 };
@@ -17,13 +26,16 @@ pub trait Ledgers {
     /// What is known of a ledger that was made under this name.
     ghost made: { List ℕ → Self.Kept → Type 0 };
 
+    /// What is known if no ledger was opened under this name, and this is told as the reason.
+    ghost refused: { List ℕ → AdoptFault → Type 0 };
+
     /// Opens the ledger with this name. If it doesn't exist, it isn't made.
     ///
     /// # Errors
     ///
     /// It doesn't exist, isn't a ledger, is damaged or can't be read or written, or another program has it open.
     fn open(&mut self, ledger: &str) -> Result<Self::Kept, AdoptFault>
-        ensures { IfOk result (opened ledger.now) };
+        ensures { MatchResult result (opened ledger.now) (refused ledger.now) };
 
     /// Opens the ledger with this name. If it doesn't exist or has no tables, makes a ledger without transfers.
     ///
@@ -31,13 +43,24 @@ pub trait Ledgers {
     ///
     /// Those of `open`, except that the ledger may be missing. Whatever was created until the error is removed.
     fn open_or_make(&mut self, ledger: &str) -> Result<Self::Kept, AdoptFault>
-        ensures { IfOk result (λ kept. opened ledger.now kept ⊎ made ledger.now kept) };
+        ensures { MatchResult result (λ kept. opened ledger.now kept ⊎ made ledger.now kept)
+            (refused ledger.now) };
 
     /// Closes the ledger that was opened.
     fn close(&mut self, kept: Self::Kept);
 
     /// Closes the ledger, but removes it if it was made by `open_or_make`.
     fn give_up(&mut self, kept: Self::Kept);
+
+    /// A ledger that was opened holds what is stored under its name, and a crash leaves that alone.
+    ghost keeps: { (name : List ℕ) (kept : Self.Kept) (ledger : Ledger) → opened name kept
+        → holds name ledger → Self.Kept.Keeper.clean kept
+        → IsKept Self.Kept.Keeper.holds Self.Kept.Keeper.may_leave kept (settled ledger) };
+
+    /// A ledger that was made holds no transfer, and a crash leaves it so.
+    ghost begins: { (name : List ℕ) (kept : Self.Kept) → made name kept
+        → Self.Kept.Keeper.clean kept
+        → IsKept Self.Kept.Keeper.holds Self.Kept.Keeper.may_leave kept (settled []) };
 }
 
 /// Opens one ledger in a file. `S` says what the file holds. A second ledger isn't opened.
@@ -61,7 +84,9 @@ impl<'a, S: Start> LedgerFiles<'a, S> {
     }
 
     /// What the file holds, and the file with this name. Only the first call succeeds.
-    fn find(&mut self, ledger: &str) -> Result<(S, LedgerFile<'a>), AdoptFault> {
+    fn find(&mut self, ledger: &str) -> Result<(S, LedgerFile<'a>), AdoptFault>
+        ensures { IfErr result IsNoAnswer }
+    {
         match self.start.take() {
             Some(start) => Ok((start, LedgerFile::find(self.rt, ledger)?)),
             None => Err(AdoptFault::Keep(KeepFault::Store(StoreFault::Spent))),
@@ -70,14 +95,20 @@ impl<'a, S: Start> LedgerFiles<'a, S> {
 }
 
 impl<'a, S: Start> Ledgers for LedgerFiles<'a, S> {
-    ghost use Rattle.bag_cmd.specs.LedgerFiles.{IsAdoptedFrom, IsMadeIn};
+    ghost use Rattle.std.proofs.Common.{inl};
+    ghost use Rattle.bag_cmd.specs.LedgerFiles.{HoldsLedgerIn, IsAdoptedFrom, IsMadeIn, IsUnopened};
     ghost use Rattle.sqlite_wal.specs.Files.{image_at};
 
     type Kept = FileKeeper<S>;
 
+    ghost holds = { λ name ledger. HoldsLedgerIn (image_at S.Start) ledger };
+
     ghost opened = { λ ledger kept. IsAdoptedFrom (image_at S.Start) kept.connection };
 
     ghost made = { λ ledger kept. IsMadeIn (image_at S.Start) kept.connection };
+
+    ghost refused = { λ ledger fault.
+        IsUnopened ⟦<FileStore<FileFrom<S>> as Store>⟧ (image_at S.Start) fault };
 
     fn open(&mut self, ledger: &str) -> Result<FileKeeper<S>, AdoptFault> {
         let (start, file) = self.find(ledger)?;
@@ -106,4 +137,12 @@ impl<'a, S: Start> Ledgers for LedgerFiles<'a, S> {
             None => drop(kept),
         }
     }
+
+    ghost keeps = { λ name kept ledger opened holds clean.
+        let it = (opened clean).1.keeps ledger holds in
+        record { held = it.holds; left = λ crashed may. inl (it.alone crashed may) } };
+
+    ghost begins = { λ name kept made clean.
+        let it = (made clean).1.keeps in
+        record { held = it.holds; left = λ crashed may. inl (it.alone crashed may) } };
 }

@@ -1,13 +1,15 @@
 //! Ledgers in files on disk.
-ghost use Rattle.std.specs.Prelude.{◌≡◌, ◌⊎◌, Err, IfOk, false, true};
-ghost use Rattle.bag_cmd.specs.LedgerFiles.{IsAdoptedFrom, IsConnectedTo, IsMadeIn};
+ghost use Rattle.std.specs.Prelude.{◌≡◌, ◌⊎◌, Err, IfErr, IfOk, IfSome, MatchResult, false, true};
+ghost use Rattle.bag_cmd.specs.LedgerFiles.{IsAdoptedFrom, IsClosed, IsConnectedTo, IsMadeIn, IsUnopened};
+ghost use Rattle.bag_sqlite.specs.Refusing.{IsNoAnswer};
 ghost use Rattle.bag_sqlite.specs.Tables.{no_schema};
 ghost use Rattle.sqlite.specs.Held.{state};
 ghost use Rattle.sqlite_wal.specs.Files.{image_at};
 
 use bag_ledger::KeepFault;
 use bag_sqlite::{AdoptFault, NotAdopted, NotCreated, SqlKeeper};
-use sqlite::{Alter, Connection, FileFrom, FileStore, Start};
+use sqlite::{Alter, Connection, FileFrom, FileStore, Files, Start};
+use sqlite_trees::store::Store;
 use std::fs;
 use std::io::{self, ErrorKind};
 
@@ -48,7 +50,9 @@ impl<'a> LedgerFile<'a> {
     /// # Errors
     ///
     /// `Keep`: memory ran out, or the operating system doesn't give the information.
-    pub fn find(rt: &'a HostRuntime, name: &str) -> Result<LedgerFile<'a>, AdoptFault> {
+    pub fn find(rt: &'a HostRuntime, name: &str) -> Result<LedgerFile<'a>, AdoptFault>
+        ensures { IfErr result IsNoAnswer }
+    {
         let alloc = rt.alloc();
         let (name, is_there) = match fs::canonicalize(rt, name) {
             Ok(real) => (String::from_str(alloc, real.as_str())?, true),
@@ -80,8 +84,9 @@ impl<'a> LedgerFile<'a> {
     /// if the file can't be opened for writing or another program has it open; in these cases nothing is created or
     /// changed.
     pub fn open<S: Start>(&self, start: S) -> Result<FileKeeper<S>, AdoptFault>
-        ensures opened { IfOk result (λ keeper.
-            IsAdoptedFrom (image_at S.Start) keeper.connection) }
+        ensures opened { MatchResult result
+            (λ keeper. IsAdoptedFrom (image_at S.Start) keeper.connection)
+            (IsUnopened ⟦<FileStore<FileFrom<S>> as Store>⟧ (image_at S.Start)) }
         ensures nothing { self.now.found ≡ Found.Nothing → result ≡ Err AdoptFault.NotALedger }
     {
         if self.found != Found::File {
@@ -98,8 +103,9 @@ impl<'a> LedgerFile<'a> {
     /// Those of [`LedgerFile::open`], except that the file may be missing or empty. Whatever was created until the
     /// error is removed.
     pub fn open_or_make<S: Start>(&mut self, start: S) -> Result<FileKeeper<S>, AdoptFault>
-        ensures { IfOk result (λ keeper. IsAdoptedFrom (image_at S.Start) keeper.connection
-            ⊎ IsMadeIn (image_at S.Start) keeper.connection) }
+        ensures { MatchResult result (λ keeper. IsAdoptedFrom (image_at S.Start) keeper.connection
+            ⊎ IsMadeIn (image_at S.Start) keeper.connection)
+            (IsUnopened ⟦<FileStore<FileFrom<S>> as Store>⟧ (image_at S.Start)) }
     {
         if self.found == Found::Other {
             return Err(AdoptFault::NotALedger);
@@ -124,7 +130,7 @@ impl<'a> LedgerFile<'a> {
     /// Closes a ledger that this opened. The content of the log is copied into the file, and the log is removed. If
     /// that fails, both remain and nothing is lost.
     pub fn close<S: Start>(&self, keeper: FileKeeper<S>) {
-        if let Ok(files) = keeper.release().close_files() {
+        if let Some(files) = copy_log(keeper) {
             let _ = fs::remove_file(self.rt, self.log.as_str());
             drop(files);
         }
@@ -142,7 +148,8 @@ impl<'a> LedgerFile<'a> {
 
     /// Opens the file and its log, and creates them if they don't exist.
     fn connect<S: Start>(&self, start: S) -> Result<Connection<FileStore<FileFrom<S>>>, AdoptFault>
-        ensures { IfOk result (IsConnectedTo (image_at S.Start)) }
+        ensures { MatchResult result (IsConnectedTo (image_at S.Start))
+            (IsUnopened ⟦<FileStore<FileFrom<S>> as Store>⟧ (image_at S.Start)) }
     {
         match Connection::open_from(self.rt, self.name.as_str(), false, start) {
             Ok(connection) => Ok(connection),
@@ -162,7 +169,8 @@ impl<'a> LedgerFile<'a> {
         connection: Connection<FileStore<FileFrom<S>>>,
     ) -> Result<FileKeeper<S>, AdoptFault>
         ensures { IsConnectedTo (image_at S.Start) connection
-            → IfOk result (λ keeper. IsAdoptedFrom (image_at S.Start) keeper.connection) }
+            → MatchResult result (λ keeper. IsAdoptedFrom (image_at S.Start) keeper.connection)
+            (IsUnopened ⟦<FileStore<FileFrom<S>> as Store>⟧ (image_at S.Start)) }
     {
         match SqlKeeper::adopt(connection) {
             Ok(keeper) => Ok(keeper),
@@ -182,6 +190,17 @@ impl<'a> LedgerFile<'a> {
         if self.found == Found::Nothing {
             let _ = fs::remove_file(self.rt, self.name.as_str());
         }
+    }
+}
+
+/// Copies the log into the file, and gives both back. Then the file alone holds what the keeper held. `None` if that
+/// fails; nothing is lost.
+fn copy_log<S: Start>(keeper: FileKeeper<S>) -> Option<Files<FileFrom<S>>>
+    ensures { IfSome result (IsClosed keeper.connection) }
+{
+    match keeper.release().close_files() {
+        Ok(files) => Some(files),
+        Err(_) => None,
     }
 }
 

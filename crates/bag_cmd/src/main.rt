@@ -30,6 +30,7 @@ use std::{env, io};
 
 mod command;
 mod commands;
+mod laws;
 mod ledger;
 mod ledger_file;
 mod request;
@@ -44,6 +45,7 @@ fn run_on_disk<S: Start>(rt: &HostRuntime, start: S) -> u8
     ensures { result ≢ FAILED → (old : _) × (new : _)
         × Ran ⟦<FileKeeper<S> as Keeper>⟧ ⟦<LedgerFiles<'static, S> as Ledgers>⟧.opened
         ⟦<LedgerFiles<'static, S> as Ledgers>⟧.made
+        ⟦<LedgerFiles<'static, S> as Ledgers>⟧.refused
         ⟦<Printer<'static, HostRuntime> as Write>⟧.contents old new result }
 {
     let mut ledgers = LedgerFiles::new(rt, start);
@@ -55,7 +57,7 @@ fn run_on_disk<S: Start>(rt: &HostRuntime, start: S) -> u8
 fn run<R: Files + Env + Print + Eprint + AllocGlobal, L: Ledgers>(rt: &R, ledgers: &mut L) -> u8
     // Every status except that of a failure comes from a command.
     ensures { result ≢ FAILED
-        → (old : _) × (new : _) × Ran L.Kept.Keeper L.opened L.made
+        → (old : _) × (new : _) × Ran L.Kept.Keeper L.opened L.made L.refused
         ⟦<Printer<'static, R> as Write>⟧.contents old new result }
 {
     match BufWriter::new(rt.alloc(), io::writer(rt)) {
@@ -74,7 +76,7 @@ fn run_words<R: Files + Env + Eprint + AllocGlobal, L: Ledgers, W: Write + Drop>
     out: &mut Output<W>,
 ) -> u8
     ensures { result ≢ FAILED
-        → Ran L.Kept.Keeper L.opened L.made W.contents out.old out.new result }
+        → Ran L.Kept.Keeper L.opened L.made L.refused W.contents out.old out.new result }
 {
     let alloc = rt.alloc();
     match env::args(rt) {

@@ -5,7 +5,7 @@ use Rattle.std.specs.Cmp.Lexicographic.{slice_cmp}
 use Rattle.std.specs.List.Sorted.{IsStrictlySortedBy}
 use Rattle.std.specs.Option.{option_map}
 use Rattle.std.specs.Ordering.{match_ordering, nat_cmp}
-use Rattle.std.specs.Str.{bytes_eq}
+use Rattle.std.specs.Str.{IsUtf8, bytes_eq}
 use Rattle.std.specs.declared.cmp.Ordering.{Ordering}
 use Rattle.std.specs.declared.cmp.Ordering.TheVariants.{Equal, Greater, Less}
 use Rattle.std.proofs.lemmas.Map.Lookups.{exact_bytes}
@@ -32,15 +32,19 @@ either x y false e = inr (λ h. let t : bytes_eq x y ≡ true = (bytes_eq-Decide
 
 pub sound_nothing : IsSound []
 unfolding IsStrictlySortedBy
-sound_nothing = record { rising = tt; each = λ name transfer there. cc }
+sound_nothing = record { rising = tt; utf8 = λ name transfer there. cc; each = λ name transfer there. cc }
 
 begun_sound : (tags : Files) → AreTagFiles tags → Opens tags → IsSoundTransfer (begun tags)
 unfolding IsStrictlySortedBy
 begun_sound tags tag_files opens = record { tag_files = tag_files; opens = opens; held = record { rising = tt; passing = λ path content has. absurd has } }
 
-pub sound_begun : (ledger : Ledger) (name : List ℕ) (tags : Files) → IsSound ledger → AreTagFiles tags → Opens tags → IsSound (with_transfer ledger name tags)
-sound_begun ledger name tags sound tag_files opens = record {
+pub sound_begun : (ledger : Ledger) (name : List ℕ) (tags : Files) → IsSound ledger → IsUtf8 name → AreTagFiles tags → Opens tags → IsSound (with_transfer ledger name tags)
+sound_begun ledger name tags sound text tag_files opens = record {
   rising = entry_rising name (begun tags) ledger sound.rising;
+  utf8 = λ other transfer there. elim (either other name (bytes_eq other name) refl) [
+    | inl h ↦ subst IsUtf8 (sym h) text
+    | inr apart ↦ sound.utf8 other transfer (sym (entry_others name (begun tags) other apart ledger) ∙ there)
+  ];
   each = λ other transfer there. elim (either other name (bytes_eq other name) refl) [
     | inl h ↦ (
         let found : Some (begun tags) ≡ Some transfer = sym (entry_here name (begun tags) ledger) ∙ ap (transfer_of (with_transfer ledger name tags)) (sym h) ∙ there in
@@ -88,6 +92,10 @@ sound_put ledger name content want sound awaits within wanted =
     let passes : Passes awaits.transfer.tags path content = wanted_passes awaits.transfer.tags path content want awaits.wanted within wanted in
     record {
       rising = subst AreRising (sym (item_names name path content ledger)) sound.rising;
+      utf8 = λ other transfer there. elim (either other name (bytes_eq other name) refl) [
+        | inl h ↦ subst IsUtf8 (sym h) (sound.utf8 name awaits.transfer awaits.there)
+        | inr apart ↦ sound.utf8 other transfer (sym (item_others name path content other apart ledger) ∙ there)
+      ];
       each = λ other transfer there. elim (either other name (bytes_eq other name) refl) [
         | inl h ↦ (
             let found : Some (holding awaits.transfer path content) ≡ Some transfer =
@@ -107,9 +115,9 @@ wrote such old new change is sound = record {
   left = λ clean ledger crashed holds is_such left. left ∙ is ∙ ap change (sym holds.0);
 }
 
-pub begins : (old new : Ledger) (name : List ℕ) (tags : Files) → new ≡ with_transfer old name tags → AreTagFiles tags → Opens tags
+pub begins : (old new : Ledger) (name : List ℕ) (tags : Files) → new ≡ with_transfer old name tags → IsUtf8 name → AreTagFiles tags → Opens tags
     → Writes HoldsItself (λ keeper ledger. ledger ≡ keeper) (λ keeper. Unit {0}) (IsUnused name) old new (λ ledger. with_transfer ledger name tags)
-begins old new name tags is tag_files opens = wrote (IsUnused name) old new (λ ledger. with_transfer ledger name tags) is (λ ledger sound unused. sound_begun ledger name tags sound tag_files opens)
+begins old new name tags is text tag_files opens = wrote (IsUnused name) old new (λ ledger. with_transfer ledger name tags) is (λ ledger sound unused. sound_begun ledger name tags sound text tag_files opens)
 
 pub puts : (old new : Ledger) (name content : List ℕ) (want : Want) → new ≡ with_item old name want.path.now content → length content ≤ LARGEST_ITEM → IsWanted want content
     → Writes HoldsItself (λ keeper ledger. ledger ≡ keeper) (λ keeper. Unit {0}) (Awaits name want) old new (λ ledger. with_item ledger name want.path.now content)

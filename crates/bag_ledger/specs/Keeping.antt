@@ -38,11 +38,13 @@ module _ {K : Type 0} (holds may_leave : K → Ledger → Type 0) (clean : K →
     pub held : clean new → (ledger : Ledger) → holds old ledger → holds new ledger
     pub left : clean new → (crashed : Ledger) → may_leave new crashed → may_leave old crashed
 
--- What a call does to the count of store failures. After the first failure the only answer is `Spent`.
+-- What a call does to the count of store failures. After the first failure, and never before, the only answer is
+-- `Spent`.
 pub record UsesStore {K : Type 0} (failures : K → ℕ) (spent : K → Type 0) (old new : K)
     (failed : StoreFault → Type 0) : Type 0 where
   pub counted : CountsIf ((fault : StoreFault) × failed fault) (failures old) (failures new)
   pub spent_before : spent old → failed Spent
+  pub spent_first : failed Spent → spent old
   pub spent_now : spent new ↔ ((fault : StoreFault) × failed fault)
 
 -- OPENING TRANSFERS

@@ -5,7 +5,7 @@ use Rattle.std.specs.Map.{keys_of, lookup}
 use Rattle.std.specs.BTreeMap.{insert_entry}
 use Rattle.std.specs.Ordering.{nat_cmp}
 use Rattle.std.specs.Cmp.Lexicographic.{slice_cmp}
-use Rattle.std.specs.Str.{bytes_eq}
+use Rattle.std.specs.Str.{IsUtf8, bytes_eq}
 use Rattle.bag_rules.specs.Files.{AreTagFiles, Files}
 use Rattle.bag_rules.specs.Opening.{Opens}
 use Rattle.bag_rules.specs.Transfers.{AreHeldFor}
@@ -64,8 +64,10 @@ pub record IsSoundTransfer (transfer : Transfer) : Type 0 where
   pub opens : Opens transfer.tags
   pub held : AreHeldFor transfer.tags transfer.items
 
--- the names are in order, no name occurs twice, and each transfer is sound
+-- the names are UTF-8 and in order, no name occurs twice, and each transfer is sound
 pub record IsSound (ledger : Ledger) : Type 0 where
   pub rising : AreRising (keys_of ledger)
+  pub utf8 : (name : List ℕ) (transfer : Transfer) → transfer_of ledger name ≡ Some transfer
+      → IsUtf8 name
   pub each : (name : List ℕ) (transfer : Transfer) → transfer_of ledger name ≡ Some transfer
       → IsSoundTransfer transfer

@@ -156,6 +156,13 @@ impl Keeper for FailingKeeper {
         }
     }
 
+    fn blame(&mut self) -> KeepFault {
+        match self.fuse.take() {
+            Ok(()) => self.inner.blame(),
+            Err(fault) => KeepFault::Store(fault),
+        }
+    }
+
     fn failures(&self) -> u64 {
         self.fuse.failures
     }

@@ -135,6 +135,13 @@ pub trait Keeper {
         ensures store { UsesStore failures spent self.old self.new
             (λ fault. IsErrOf result (Store fault)) };
 
+    /// What to answer if the store gave what no clean store gives, such as fewer octets of a payload file than it said
+    /// it has. This counts as a failure of the store. A keeper whose store can't fail answers `Memory`.
+    fn blame(&mut self) -> KeepFault
+        ensures reads { Reads holds may_leave clean self.old self.new }
+        ensures store { UsesStore failures spent self.old self.new
+            (λ fault. result ≡ Store fault) };
+
     /// How many times the keeper has answered `Store`. The count saturates at 2^64 - 1.
     fn failures(&self) -> u64
         ensures { result ≡ failures self.now };

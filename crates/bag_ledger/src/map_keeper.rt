@@ -137,6 +137,10 @@ impl Keeper for MapKeeper {
         Ok(names_in(alloc, &self.transfers)?)
     }
 
+    fn blame(&mut self) -> KeepFault {
+        KeepFault::Memory
+    }
+
     fn failures(&self) -> u64 {
         0
     }

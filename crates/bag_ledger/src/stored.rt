@@ -1,5 +1,5 @@
 //! Transfers in a map in memory.
-ghost use Rattle.std.specs.Prelude.{◌≡◌, IfOk, OnErr, OnOk, map, string_bytes};
+ghost use Rattle.std.specs.Prelude.{◌≡◌, IfOk, IsUtf8, OnErr, OnOk, map, string_bytes};
 ghost use Rattle.std.specs.Map.{keys_of, lookup};
 ghost use Rattle.std.specs.Option.{option_copied};
 ghost use Rattle.std.specs.Str.{bytes_eq};
@@ -35,6 +35,7 @@ pub(crate) fn add_transfer(
     ensures added { OnOk result (ledger_in transfers.new
         ≡ with_transfer (ledger_in transfers.old) name.now tags.now) }
     ensures unchanged { OnErr result (ledger_in transfers.new ≡ ledger_in transfers.old) }
+    ensures utf8 { IsUtf8 name.now }
 {
     let key = String::from_str(alloc, name)?;
     let tags = tags.clone()?;

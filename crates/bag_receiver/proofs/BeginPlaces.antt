@@ -9,7 +9,8 @@ use Rattle.bag_rules.proofs.FirstFiles.{to_front}
 use Rattle.bag_rules.proofs.TagSetLemmas.{not_refused}
 use Rattle.bag_rules.specs.declared.tag_set.TagSetFault.{TagSetFault}
 use Rattle.bag_rules.specs.declared.tag_set.TagSetFault.TheVariants as tag
-use Rattle.bag_rules.specs.TagSets.{IsTagPath, RefusesFile}
+use Rattle.bag_rules.specs.Files.{IsTagPath}
+use Rattle.bag_rules.specs.TagSets.{RefusesFile}
 use Rattle.bag_receiver.specs.declared.begin.BeginFault.TheVariants.{Keeper}
 use Rattle.bag_receiver.specs.Beginning.{IsMisplaced}
 use Rattle.bag_receiver.proofs.BeginFiles.{Handed, emptied_within, given_more, key_light, light_more, shown_file}

@@ -108,3 +108,10 @@ counts_err {T} {E} fault as_store old new counts = record {
   rises = λ h. counts.rises (answered fault as_store h.0 h.1);
   stays = λ none. counts.stays (λ h. none (h.0, told {T = T} fault as_store h));
 }
+
+-- the store was blamed
+pub counts_blamed : {T : Type 0} (fault : KeepFault) (old new : ℕ) → CountsIf ((store : StoreFault) × (fault ≡ Store store)) old new → CountsIf (Answered T fault Store) old new
+counts_blamed {T} fault old new counts = record {
+  rises = λ h. counts.rises (h.0, told {T = T} fault Store h);
+  stays = λ none. counts.stays (λ h. none (answered fault Store h.0 h.1));
+}

@@ -2,11 +2,10 @@
 use Rattle.std.proofs.Common.{◌≡◌, ◌+◌, ◌++◌, ◌∷◌, [], ℕ, true, false, List, Option, Some, None, Result, Ok, Err, MatchResult, drop, length, slice_get, take, refl, sym, ap, subst, ◌∙◌, inl, inr, arith}
 use Rattle.std.proofs.lemmas.List.{take-append-drop}
 use Rattle.std.proofs.lemmas.List.Sums.{fold-append}
-use Rattle.std.specs.List.Sorted.{IsStrictlySortedBy}
 use Rattle.bag_rules.proofs.HasLemmas.{has_at, has_from_contains, place_of_has}
 use Rattle.bag_rules.proofs.HeldBags.{holds_item, holds_tag}
 use Rattle.bag_rules.proofs.InPlace.{expected_payload}
-use Rattle.bag_rules.proofs.PutFiles.{AreNew, has_with, rising_with}
+use Rattle.bag_rules.proofs.PutFiles.{AreNew, by_path, rising_new}
 use Rattle.bag_rules.proofs.SameListLemmas.{all_has}
 use Rattle.bag_rules.proofs.Words.{false≢true, Holds, is_payload}
 use Rattle.bag_rules.specs.declared.plan.ItemSize.{ItemSize}
@@ -19,7 +18,7 @@ use Rattle.bag_writer.proofs.SinkUses.{no_file_yet}
 use Rattle.bag_writer.proofs.StepLemmas.{free_at_first, free_still, part_after, part_more, whole_on}
 use Rattle.bag_writer.proofs.TagSteps.{one_whole, step}
 use Rattle.bag_writer.proofs.WholeBags.{holds_whole, opened, wholes_begun, wholes_dir, wholes_files}
-use Rattle.bag_writer.proofs.WrittenFiles.{has_join, rising_new, take_has, take_new}
+use Rattle.bag_writer.proofs.WrittenFiles.{has_join, take_has, take_new}
 use Rattle.bag_writer.specs.Sinks.{Begun, IsEmptySink, IsFree, nothing_stored, Stored, with_begun, with_octets, without_begun}
 use Rattle.bag_writer.specs.Steps.{ArePart, AreWhole, HasFrontOf, with_wholes}
 use Rattle.bag_writer.specs.TagWriting.{AreFree}
@@ -28,7 +27,7 @@ use Rattle.bag_receiver.specs.declared.export.ExportFault.TheVariants as fault
 use Rattle.bag_receiver.specs.Exports.{Becomes, Exports, HasPart, IsFileOf}
 use Rattle.bag_receiver.specs.ExportsInside.{from_opened, HasItems, IsMetWriting, IsPartOf}
 use Rattle.bag_receiver.proofs.ExportLemmas.{of_some}
-use Rattle.bag_receiver.proofs.Words.{AreRising, asymmetric, Files, Has, insert_entry, IsNamed, IsTransferName, items_of, keys_of, Ledger, length-map, nat_cmp, nat_list_cmp_total, option_map, Reads, same_list, slice_cmp, sorted_by_key, tags_of, Transfer, transfer_of, unwrap_or, with_files}
+use Rattle.bag_receiver.proofs.Words.{Files, Has, insert_entry, IsNamed, IsTransferName, items_of, keys_of, Ledger, length-map, nat_cmp, option_map, Reads, slice_cmp, tags_of, Transfer, transfer_of, unwrap_or, with_files}
 
 abbrev File : Type 0
 File = List ℕ × List ℕ
@@ -75,15 +74,6 @@ join_new (tag ∷ tags) items new plain payload others = (
   join_new tags items new.2 (λ path octets has. plain path octets (inr has)) payload others,
 )
 
--- files in order, added one after another
-by_path : (tags : Files) → AreRising (keys_of tags) → with_files [] tags ≡ tags
-unfolding IsStrictlySortedBy
-by_path tags rising =
-    same_list (λ (x y : File). slice_cmp nat_cmp x.0 y.0) (λ x y. asymmetric nat_list_cmp_total x.0 y.0) (with_files [] tags) tags
-    (sorted_by_key (λ (file : File). file.0) (slice_cmp nat_cmp) (with_files [] tags) (rising_with [] tags tt)) (sorted_by_key (λ (file : File). file.0) (slice_cmp nat_cmp) tags rising)
-    (λ file has. elim ((has_with [] tags file (rising_new tags rising)).0 has) [ inl none ↦ absurd none | inr there ↦ there ])
-    (λ file has. (has_with [] tags file (rising_new tags rising)).1 (inr has))
-
 -- THE ANSWER
 
 by_fault : (ledger : Ledger) (name : List ℕ) (old new : Option Stored) (fault : ExportFault) → IsMetWriting fault → Becomes (HasPart ledger name) old new → Exports ledger name (Err fault) old new
@@ -113,7 +103,7 @@ module _ (ledger : Ledger) (name : List ℕ) (transfer : Transfer) (named : IsNa
   all = transfer.tags ++ transfer.items
 
   plain : (path octets : List ℕ) → Has transfer.tags (path, octets) → is_payload path ≡ false
-  plain path octets has = (all_has IsTagFile transfer.tags (path, octets) sound.tag_files.each has).0
+  plain path octets has = (all_has IsTagFile transfer.tags (path, octets) sound.tag_files.each has).0.1
 
   payload : (path octets : List ℕ) → Has transfer.items (path, octets) → is_payload path ≡ true
   payload path octets has = expected_payload transfer.tags path (sound.held.passing path octets has).expected

@@ -7,9 +7,8 @@ use Rattle.bag_rules.specs.declared.limits.TheConstants.{LARGEST_TAG_FILE}
 use Rattle.bag_rules.specs.declared.plan.PlanFault.{PlanFault}
 use Rattle.bag_rules.specs.declared.plan.PlanFault.TheVariants as plan
 use Rattle.bag_rules.specs.Faults.{Has}
-use Rattle.bag_rules.specs.Files.{Files}
+use Rattle.bag_rules.specs.Files.{Files, IsTagPath}
 use Rattle.bag_rules.specs.Opening.{HasManyLinesAt, IsFirstPath, Opens, Refuses}
-use Rattle.bag_rules.specs.TagSets.{IsTagPath}
 use Rattle.bag_rules.specs.Transfers.{with_files}
 use Rattle.bag_ledger.specs.declared.fault.KeepFault.{KeepFault}
 use Rattle.bag_ledger.specs.declared.fault.KeepFault.TheVariants.{Memory, Store}

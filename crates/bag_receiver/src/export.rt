@@ -266,7 +266,7 @@ fn write_content<K: Keeper, S: Sink>(
         let n = next_piece(keeper, alloc, name, &item.path, read, left, buffer)?;
         if n == 0 {
             // The store has fewer octets than it reported.
-            return Err(ExportFault::Keeper(KeepFault::Memory));
+            return Err(ExportFault::Keeper(keeper.blame()));
         }
         sink.write(&buffer[..n])?;
         read += n as u64;

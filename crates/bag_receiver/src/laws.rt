@@ -8,14 +8,19 @@ ghost use Rattle.bag_rules.specs.Files.{Files};
 ghost use Rattle.bag_rules.specs.Transfers.{AreHeldFor, Passes};
 ghost use Rattle.bag_rules.specs.Trees.{AreRising};
 ghost use Rattle.bag_ledger.specs.Ledgers.{Ledger, Transfer, holding};
+ghost use Rattle.bag_ledger.specs.declared.fault.KeepFault.{KeepFault};
 ghost use Rattle.bag_receiver.specs.declared.answer.Answer.{Answer};
-ghost use Rattle.bag_receiver.specs.declared.answer.Answer.TheVariants.{Taken};
+ghost use Rattle.bag_receiver.specs.declared.answer.Answer.TheVariants.{Refused, Taken};
+ghost use Rattle.bag_receiver.specs.declared.answer.DeliverFault.TheVariants.{Keeper};
 ghost use Rattle.bag_receiver.specs.declared.name.TheConstants.{LONGEST_NAME};
 ghost use Rattle.bag_receiver.specs.declared.run.TheConstants.{MOST_DELIVERIES};
 ghost use Rattle.bag_receiver.specs.Deliveries.{Accepts, AcceptsPassing, AreAccepted, Content, Delivery, HasOneContent, IsAcceptance, IsAccepted, IsDue, IsFirstHeld, OneContent, PassesIn, Unread, Whole};
 ghost use Rattle.bag_receiver.specs.Names.{IsNamed};
+ghost use Rattle.bag_receiver.specs.Receivers.{IsKept};
 ghost use Rattle.bag_receiver.specs.Receiving.{Happened, LeavesOthers, LedgerState, Receives, settled};
-ghost use Rattle.bag_receiver.specs.Stops.{AnswerStep, Answered, Event, OffersIn, Steps, Stop, StopRun, TransferState, transfer_state, with_file};
+ghost use Rattle.bag_receiver.specs.Stops.{AnswerStep, Answered, Cut, Event, OffersIn, Steps, Stop, StopRun, TransferState, transfer_state, with_file};
+
+use bag_ledger::{Keeper, MapKeeper};
 
 /// The limits: the octets of a transfer's name, and the deliveries of one run.
 pub fn the_limits_are_these()
@@ -193,4 +198,20 @@ pub fn a_stop_is_an_event_of_each_transfer()
     ensures { (now : LedgerState) (name : List ℕ) (tags : Files) (events : List Event)
         → (crashed : Ledger) → Happened now name tags events → Has (now.held ∷ now.doubtful) crashed
         → Happened (settled crashed) name tags (events ++ Stop ∷ []) }
+{}
+
+/// A delivery that the keeper didn't answer, and that no one was told of because the program stopped during it, is one
+/// that the stop cut.
+pub fn a_delivery_without_an_answer_is_cut_by_a_stop()
+    ensures { (now : LedgerState) (name : List ℕ) (tags : Files) (events : List Event)
+        → (delivery : Delivery) (fault : KeepFault) → delivery.answer ≡ Refused (Keeper fault)
+        → Happened now name tags (events ++ Answered delivery ∷ [])
+        → Happened now name tags (events ++ Cut delivery.text delivery.content ∷ []) }
+{}
+
+/// A new keeper in memory holds no transfer, and a crash leaves it so: a receiver with it begins with nothing.
+pub fn a_new_keeper_in_memory_holds_nothing()
+    ensures { (keeper : Ledger) → keeper ≡ []
+        → IsKept ⟦<MapKeeper as Keeper>⟧.holds ⟦<MapKeeper as Keeper>⟧.may_leave keeper
+        (settled []) }
 {}

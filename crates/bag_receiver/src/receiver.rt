@@ -14,7 +14,7 @@ ghost use Rattle.bag_receiver.specs.ReceiversInside.{IsPlanned, Same};
 
 use crate::name::is_name;
 use bag_ledger::{KeepFault, Keeper};
-use bag_rules::Plan;
+use bag_rules::{Plan, PlanFault};
 use std::alloc::{AllocError, Global};
 use std::collections::BTreeMap;
 
@@ -93,8 +93,9 @@ impl<K: Keeper> Receiver<K> {
                 keep_plan(alloc, &mut self.plans, name, plan)?;
                 Ok(true)
             }
-            // The tag files in the keeper always have a plan, so memory ran out.
-            Err(_) => Err(KeepFault::Memory),
+            Err(PlanFault::Memory) => Err(KeepFault::Memory),
+            // The tag files that a keeper holds always have a plan.
+            Err(_) => Err(self.keeper.blame()),
         }
     }
 }

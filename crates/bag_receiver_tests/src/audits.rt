@@ -18,50 +18,52 @@ struct Fuse {
 }
 
 impl Fuse {
-    ghost use Rattle.std.specs.Prelude.{◌≡◌, IsTrue, MatchResult, false};
+    ghost use Rattle.std.specs.Prelude.{◌≡◌, ◌↔◌, IsTrue, MatchResult, false};
     ghost use Rattle.bag_digest.specs.Device.{Rises};
     ghost use Rattle.bag_ledger.specs.declared.fault.StoreFault.TheVariants.{Spent};
-    ghost use Rattle.bag_ledger.specs.declared.fault.KeepFault.TheVariants.{Store};
 
     /// Counts one call, which the store accepts or refuses.
-    fn take(&mut self) -> Result<(), KeepFault>
+    fn take(&mut self) -> Result<(), StoreFault>
         ensures answer { MatchResult result
             (λ done. (self.old.is_spent ≡ false) × (self.new.is_spent ≡ false)
             × (self.new.failures ≡ self.old.failures))
-            (λ fault. (fault ≡ Store Spent) × IsTrue self.new.is_spent
-            × Rises self.old.failures self.new.failures) }
+            (λ fault. IsTrue self.new.is_spent × Rises self.old.failures self.new.failures
+            × ((fault ≡ Spent) ↔ IsTrue self.old.is_spent)) }
     {
         if !self.is_spent {
             return Ok(());
         }
-        self.failures = self.failures.saturating_add(1);
-        Err(KeepFault::Store(StoreFault::Spent))
+        Err(self.refuse())
     }
 
     /// Counts one read of a piece, which the store accepts or refuses.
-    fn take_piece(&mut self) -> Result<(), KeepFault>
+    fn take_piece(&mut self) -> Result<(), StoreFault>
         ensures answer { MatchResult result
             (λ done. (self.old.is_spent ≡ false) × (self.new.is_spent ≡ false)
             × (self.new.failures ≡ self.old.failures))
-            (λ fault. (fault ≡ Store Spent) × IsTrue self.new.is_spent
-            × Rises self.old.failures self.new.failures) }
+            (λ fault. IsTrue self.new.is_spent × Rises self.old.failures self.new.failures
+            × ((fault ≡ Spent) ↔ IsTrue self.old.is_spent)) }
     {
         if self.pieces_left == 0 {
-            self.is_spent = true;
-        } else {
-            self.pieces_left -= 1;
+            return Err(self.refuse());
         }
+        self.pieces_left -= 1;
         self.take()
     }
 
-    /// The answer to a call that would write.
-    fn refuse(&mut self) -> KeepFault
-        ensures { (result ≡ Store Spent) × IsTrue self.new.is_spent
-            × Rises self.old.failures self.new.failures }
+    /// The answer to a call that the store refuses.
+    fn refuse(&mut self) -> StoreFault
+        ensures { IsTrue self.new.is_spent × Rises self.old.failures self.new.failures
+            × ((result ≡ Spent) ↔ IsTrue self.old.is_spent) }
     {
+        let fault = if self.is_spent {
+            StoreFault::Spent
+        } else {
+            StoreFault::Refused
+        };
         self.is_spent = true;
         self.failures = self.failures.saturating_add(1);
-        KeepFault::Store(StoreFault::Spent)
+        fault
     }
 }
 
@@ -87,13 +89,13 @@ impl Keeper for ReadKeeper {
     ghost failures = { λ keeper. keeper.fuse.failures };
 
     fn begin(&mut self, _alloc: Global, _name: &str, _tags: &TagSet) -> Result<(), KeepFault> {
-        Err(self.fuse.refuse())
+        Err(KeepFault::Store(self.fuse.refuse()))
     }
 
     fn tags(&mut self, alloc: Global, name: &str) -> Result<Option<TagSet>, KeepFault> {
         match self.fuse.take() {
             Ok(()) => self.inner.tags(alloc, name),
-            Err(fault) => Err(fault),
+            Err(fault) => Err(KeepFault::Store(fault)),
         }
     }
 
@@ -105,14 +107,14 @@ impl Keeper for ReadKeeper {
     ) -> Result<Option<u64>, KeepFault> {
         match self.fuse.take() {
             Ok(()) => self.inner.size_of(alloc, name, path),
-            Err(fault) => Err(fault),
+            Err(fault) => Err(KeepFault::Store(fault)),
         }
     }
 
     fn sizes(&mut self, alloc: Global, name: &str) -> Result<Vec<ItemSize>, KeepFault> {
         match self.fuse.take() {
             Ok(()) => self.inner.sizes(alloc, name),
-            Err(fault) => Err(fault),
+            Err(fault) => Err(KeepFault::Store(fault)),
         }
     }
 
@@ -123,7 +125,7 @@ impl Keeper for ReadKeeper {
         _want: &Want<'_>,
         _content: &[u8],
     ) -> Result<(), PutFault> {
-        Err(PutFault::Keep(self.fuse.refuse()))
+        Err(PutFault::Keep(KeepFault::Store(self.fuse.refuse())))
     }
 
     fn put_from<S: Source>(
@@ -133,7 +135,7 @@ impl Keeper for ReadKeeper {
         _want: &Want<'_>,
         _reader: &mut S,
     ) -> Result<(), PutFault> {
-        Err(PutFault::Keep(self.fuse.refuse()))
+        Err(PutFault::Keep(KeepFault::Store(self.fuse.refuse())))
     }
 
     fn read_piece(
@@ -146,15 +148,19 @@ impl Keeper for ReadKeeper {
     ) -> Result<usize, KeepFault> {
         match self.fuse.take_piece() {
             Ok(()) => self.inner.read_piece(alloc, name, path, offset, buf),
-            Err(fault) => Err(fault),
+            Err(fault) => Err(KeepFault::Store(fault)),
         }
     }
 
     fn names(&mut self, alloc: Global) -> Result<Vec<String>, KeepFault> {
         match self.fuse.take() {
             Ok(()) => self.inner.names(alloc),
-            Err(fault) => Err(fault),
+            Err(fault) => Err(KeepFault::Store(fault)),
         }
+    }
+
+    fn blame(&mut self) -> KeepFault {
+        KeepFault::Store(self.fuse.refuse())
     }
 
     fn failures(&self) -> u64 {
@@ -190,9 +196,9 @@ fn is_valid_by(alloc: Global, pieces: u64) -> Result<Result<bool, ViewFault>, Fa
 #[test]
 fn an_audit_reads_all_that_is_held(rt: HostRuntime) -> Result<(), Fail> {
     let alloc = rt.alloc();
-    let spent = Err(ViewFault::Keeper(KeepFault::Store(StoreFault::Spent)));
+    let failed = Err(ViewFault::Keeper(KeepFault::Store(StoreFault::Refused)));
     for pieces in 0..3 {
-        assert_eq!(rt; is_valid_by(alloc, pieces)?, spent);
+        assert_eq!(rt; is_valid_by(alloc, pieces)?, failed);
     }
     assert_eq!(rt; is_valid_by(alloc, 3)?, Ok(true));
     Ok(())

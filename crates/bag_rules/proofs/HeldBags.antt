@@ -7,14 +7,9 @@ use Rattle.bag_rules.specs.Transfers.{AreHeldFor, held_bag, tag_bag, with_files}
 use Rattle.bag_rules.proofs.Words.{AreRising, AreTagFiles, Bag, declaration_file, Equal, false≢true, Files, Has, Holds, is_payload, keys_of, Less, nat_cmp, nat_list_cmp_total, payload_of, slice_cmp, tied_itself}
 use Rattle.bag_rules.proofs.HasLemmas.{has_at, place_of_has}
 use Rattle.bag_rules.proofs.InPlace.{expected_payload}
-use Rattle.bag_rules.proofs.PutFiles.{AreNew, grows_with, has_with, rising_with}
+use Rattle.bag_rules.proofs.PutFiles.{AreNew, grows_with, has_with, key_has, rising_with}
 use Rattle.bag_rules.proofs.SameListLemmas.{all_has}
 use Rattle.bag_rules.proofs.TreeLemmas.{text_of}
-
-key_has : (files : Files) (path octets : List ℕ) → Has files (path, octets) → Has (keys_of files) path
-key_has [] path octets has = absurd has
-key_has (file ∷ files) path octets (inl this) = inl (ap (λ (f : List ℕ × List ℕ). f.0) this)
-key_has (file ∷ files) path octets (inr further) = inr (key_has files path octets further)
 
 -- payload files by path can be put among tag files
 new_among : (tags : Files) → ((path octets : List ℕ) → Has tags (path, octets) → is_payload path ≡ false) → (items : Files) → AreRising (keys_of items) → ((path octets : List ℕ) → Has items (path, octets) → is_payload path ≡ true) → AreNew tags items
@@ -41,7 +36,7 @@ has_holds : (bag : Bag) (path octets : List ℕ) → Has bag.files (path, octets
 has_holds bag path octets has = place_of_has bag.files (path, octets) has
 
 pub plain_tag : (tags : Files) → AreTagFiles tags → (path octets : List ℕ) → Holds (tag_bag tags) path octets → is_payload path ≡ false
-plain_tag tags are path octets holds = (all_has IsTagFile tags (path, octets) are.each (holds_has (tag_bag tags) path octets holds)).0
+plain_tag tags are path octets holds = (all_has IsTagFile tags (path, octets) are.each (holds_has (tag_bag tags) path octets holds)).0.1
 
 module _ (tags items : Files) (are : AreTagFiles tags) (held : AreHeldFor tags items) where
   plain : (path octets : List ℕ) → Has tags (path, octets) → is_payload path ≡ false

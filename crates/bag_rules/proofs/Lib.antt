@@ -66,3 +66,4 @@ pub mod FirstFault
 pub mod ListedPaths
 pub mod OpeningFaults
 pub mod OpeningVerdicts
+pub mod NotRefused

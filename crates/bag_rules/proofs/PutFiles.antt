@@ -5,8 +5,9 @@ use Rattle.std.proofs.lemmas.Map.Views.{All-keys-insert_entry}
 use Rattle.std.specs.List.Sorted.{IsStrictlySortedBy}
 use Rattle.bag_rules.specs.Bags.{octet_count}
 use Rattle.bag_rules.specs.Transfers.{with_files}
-use Rattle.bag_rules.proofs.Words.{AreRising, cases_Bool, Equal, exact_bytes, Files, Greater, Has, insert_entry, is_payload, keys_of, Less, nat_cmp, nat_list_cmp_total, Ordering, ordering_reverse, payload_of, slice_cmp}
+use Rattle.bag_rules.proofs.Words.{AreRising, cases_Bool, Equal, exact_bytes, Files, Greater, Has, insert_entry, is_payload, keys_of, Less, nat_cmp, nat_list_cmp_total, Ordering, ordering_reverse, payload_of, slice_cmp, tied_itself}
 use Rattle.bag_rules.proofs.MemoryFiles.{all_after, put_step}
+use Rattle.bag_rules.proofs.SameListLemmas.{all_has, asymmetric, same_list, sorted_by_key}
 
 abbrev File : Type 0
 File = List ℕ × List ℕ
@@ -137,3 +138,31 @@ grows_with files (item ∷ items) are payload =
     let one = grows_put item.0 item.1 (payload item.0 item.1 (inl refl)) files are.0 in
     let rest = grows_with (put files item.0 item.1) items (new_yet files items item.0 item.1 are.0 are.1 are.2) (λ path octets has. payload path octets (inr has)) in
     (omega (arith, one.0, rest.0), omega (arith, one.1, rest.1))
+
+-- FILES IN ORDER
+
+pub key_has : (files : Files) (path octets : List ℕ) → Has files (path, octets) → Has (keys_of files) path
+key_has [] path octets has = absurd has
+key_has (file ∷ files) path octets (inl this) = inl (ap (λ (f : File). f.0) this)
+key_has (file ∷ files) path octets (inr further) = inr (key_has files path octets further)
+
+pub rising_new : (files : Files) → AreRising (keys_of files) → AreNew [] files
+unfolding IsStrictlySortedBy
+rising_new [] rising = tt
+rising_new (file ∷ files) rising = (
+  λ octets none. none,
+  λ octets has.
+      let less = all_has (λ other. slice_cmp nat_cmp file.0 other ≡ Less) (keys_of files) file.0 rising.0 (key_has files file.0 octets has) in
+      let k : Less ≡ Equal = sym less ∙ tied_itself nat_list_cmp_total file.0 in
+      cc,
+  rising_new files rising.1,
+)
+
+-- files in order, inserted one after another
+pub by_path : (files : Files) → AreRising (keys_of files) → with_files [] files ≡ files
+unfolding IsStrictlySortedBy
+by_path files rising =
+    same_list (λ (x y : File). slice_cmp nat_cmp x.0 y.0) (λ x y. asymmetric nat_list_cmp_total x.0 y.0) (with_files [] files) files
+    (sorted_by_key (λ (file : File). file.0) (slice_cmp nat_cmp) (with_files [] files) (rising_with [] files tt)) (sorted_by_key (λ (file : File). file.0) (slice_cmp nat_cmp) files rising)
+    (λ file has. elim ((has_with [] files file (rising_new files rising)).0 has) [ inl none ↦ absurd none | inr there ↦ there ])
+    (λ file has. (has_with [] files file (rising_new files rising)).1 (inr has))

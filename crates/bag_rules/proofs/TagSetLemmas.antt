@@ -1,12 +1,12 @@
 -- The tag files of a transfer after one was inserted, and why one is refused.
-use Rattle.std.proofs.Common.{◌≡◌, ◌≢◌, ℕ, ◌<◌, ◌≤◌, false, Contains, List, None, length, refl, sym, ap, subst, ◌∙◌, arith}
+use Rattle.std.proofs.Common.{◌≡◌, ◌≢◌, ℕ, ◌≤◌, Contains, List, length, refl, sym, ap, subst, ◌∙◌, arith}
 use Rattle.std.proofs.lemmas.List.Elements.{All-from_recursion, recursion_from_All}
 use Rattle.bag_path.proofs.PathLemmas.{no_fault_if_path}
 use Rattle.bag_rules.specs.declared.limits.TheConstants.{LARGEST_TAG_FILE}
 use Rattle.bag_rules.specs.declared.tag_set.TagSetFault.{TagSetFault}
 use Rattle.bag_rules.specs.declared.tag_set.TagSetFault.TheVariants.{BadPath, Payload, Twice, TooLarge, Memory}
-use Rattle.bag_rules.specs.Files.{IsTagFile, paths_of}
-use Rattle.bag_rules.specs.TagSets.{IsTagPath, RefusesFile}
+use Rattle.bag_rules.specs.Files.{IsTagFile, IsTagPath, paths_of}
+use Rattle.bag_rules.specs.TagSets.{RefusesFile}
 use Rattle.bag_rules.proofs.Words.{AreRising, AreTagFiles, File, Files, files_of, insert, insert_entry, IsGapFor, keys_of, nat_cmp, slice_cmp}
 use Rattle.bag_rules.proofs.MemoryFiles.{All-insert, map-insert, put_in_gap, rising_put}
 use Rattle.bag_rules.proofs.FilesShown.{shown_insert}

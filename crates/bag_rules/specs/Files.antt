@@ -5,7 +5,7 @@ use Rattle.std.specs.Map.{keys_of}
 use Rattle.std.specs.Ordering.{nat_cmp}
 use Rattle.std.specs.declared.cmp.Ordering.TheVariants.{Less, Greater}
 use Rattle.std.specs.Cmp.Lexicographic.{slice_cmp}
-use Rattle.bag_path.specs.Paths.{is_payload}
+use Rattle.bag_path.specs.Paths.{IsPath, is_payload}
 use Rattle.bag_rules.specs.declared.file.File.{File}
 use Rattle.bag_rules.specs.declared.limits.TheConstants.{LARGEST_TAG_FILE}
 use Rattle.bag_rules.specs.Trees.{AreRising}
@@ -26,9 +26,13 @@ paths_of files = keys_of (files_of files)
 abbrev pub SameFile : File → File → Type 0
 SameFile file other = (other.path ≡ file.path) × (other.body.items ≡ file.body.items)
 
--- a tag file (RFC 8493 section 2.2) within the limit
+-- the path of a tag file (RFC 8493 section 2.2)
+abbrev pub IsTagPath : List ℕ → Type 0
+IsTagPath path = IsPath path × (is_payload path ≡ false)
+
+-- a tag file within the limit
 abbrev pub IsTagFile : List ℕ × List ℕ → Type 0
-IsTagFile file = (is_payload file.0 ≡ false) × (length file.1 ≤ LARGEST_TAG_FILE)
+IsTagFile file = IsTagPath file.0 × (length file.1 ≤ LARGEST_TAG_FILE)
 
 -- tag files by path, none twice
 pub record AreTagFiles (files : Files) : Type 0 where

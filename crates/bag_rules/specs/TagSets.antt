@@ -1,15 +1,11 @@
 -- Why a tag file is refused.
-use Rattle.std.specs.Prelude.{◌≡◌, ◌<◌, ℕ, List, Some, Contains, false, length, true}
+use Rattle.std.specs.Prelude.{◌≡◌, ◌<◌, ℕ, List, Some, Contains, length, true}
 use Rattle.std.specs.Map.{keys_of}
 use Rattle.bag_path.specs.Paths.{IsPath, is_payload, path_fault}
 use Rattle.bag_rules.specs.declared.limits.TheConstants.{LARGEST_TAG_FILE}
 use Rattle.bag_rules.specs.declared.tag_set.TagSetFault.{TagSetFault}
 use Rattle.bag_rules.specs.declared.tag_set.TagSetFault.TheVariants.{BadPath, Payload, Twice, TooLarge, Memory}
-use Rattle.bag_rules.specs.Files.{Files}
-
--- the path of a tag file (RFC 8493 section 2.2)
-abbrev pub IsTagPath : List ℕ → Type 0
-IsTagPath path = IsPath path × (is_payload path ≡ false)
+use Rattle.bag_rules.specs.Files.{Files, IsTagPath}
 
 -- The first reason in this order why the file is refused beside these; `Memory` says nothing.
 abbrev pub RefusesFile : Files → List ℕ → List ℕ → TagSetFault → Type 0

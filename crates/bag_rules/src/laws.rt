@@ -1,9 +1,10 @@
 //! Laws about the definitions that the contracts of this crate cite. The contract of each function states one law, and
 //! its body is empty.
-ghost use Rattle.std.specs.Prelude.{◌≡◌, ◌≢◌, ◌≤◌, ◌↔◌, ◌^◌, ℕ, List, [], length};
+ghost use Rattle.std.specs.Prelude.{◌≡◌, ◌≢◌, ◌≤◌, ◌↔◌, ◌^◌, ℕ, List, [], length, true};
 ghost use Rattle.std.specs.Ordering.{nat_cmp};
 ghost use Rattle.std.specs.Cmp.Lexicographic.{slice_cmp};
 ghost use Rattle.std.specs.declared.cmp.Ordering.TheVariants.{Less, Greater};
+ghost use Rattle.bag_path.specs.Paths.{IsPath, is_payload};
 ghost use Rattle.bag_rules.specs.contracts.fault.FaultOrd.TheImpl as order;
 ghost use Rattle.bag_rules.specs.declared.fault.Fault.{Fault};
 ghost use Rattle.bag_rules.specs.declared.limits.TheConstants.{LARGEST_FILE, LARGEST_ITEM, LARGEST_TAG_FILE, MOST_FILES, MOST_LINES};
@@ -21,7 +22,7 @@ ghost use Rattle.bag_rules.specs.Limits.{Stops};
 ghost use Rattle.bag_rules.specs.Opening.{Opens, Refuses};
 ghost use Rattle.bag_rules.specs.Plans.{IsWantOf};
 ghost use Rattle.bag_rules.specs.SameVerdicts.{SameVerdict};
-ghost use Rattle.bag_rules.specs.Transfers.{IsMisfit, Passes};
+ghost use Rattle.bag_rules.specs.Transfers.{IsExpected, IsMisfit, Passes};
 ghost use Rattle.bag_rules.specs.Trees.{AreRising};
 ghost use Rattle.bag_rules.specs.Validity.{IsComplete, IsValid};
 ghost use Rattle.bag_rules.specs.Verdicts.{IsJudged, IsVerdict};
@@ -80,6 +81,12 @@ pub fn what_is_not_wanted_is_a_misfit()
     ensures { (tags : Files) (path content : List ℕ) (want : Want) (fault : WantFault)
         → IsWantOf tags path want
         → IsFirstMisfitOf want content fault ↔ IsMisfit tags path content fault }
+{}
+
+/// A path that a payload manifest lists is that of a payload file.
+pub fn an_expected_path_is_that_of_a_payload_file()
+    ensures { (tags : Files) (path : List ℕ) → IsExpected tags path
+        → IsPath path × (is_payload path ≡ true) }
 {}
 
 /// The limits are: the number of files, the number of lines, and the number of octets in a tag file, in any file that

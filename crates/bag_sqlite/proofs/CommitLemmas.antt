@@ -1,32 +1,33 @@
 -- A transaction on the tables of a ledger is committed or rolled back.
 use Rattle.std.proofs.Common.{◌≡◌, ◌⊎◌, inl, inr, false, IsTrue, sym, ap, subst, ◌∙◌, arith}
-use Rattle.bag_sqlite.proofs.Words.{AreTablesOf, Database, Error, FailsToCommit, Ghosts, HasCleanDisk, Held, HoldsLedger, IsLeft, IsSound, IsUnderWay, KeepsCommit, Leaves, Ledger, ledger_schema, MayLeaveLedger, Shows, State, state, Survives, survives_then, Trees}
+use Rattle.bag_sqlite.proofs.Words.{AreTablesOf, Database, Error, FailsToCommit, Ghosts, HasCleanDisk, Held, HoldsLedger, IsLedgerDatabase, IsLeft, IsUnderWay, KeepsCommit, Leaves, Ledger, ledger_schema, MayLeaveLedger, Shows, State, state, Survives, survives_then, Trees}
 use Rattle.bag_ledger.specs.Keeping.{Writes}
 use Rattle.bag_sqlite.proofs.MakingLemmas.{left_by_failing}
 use Rattle.bag_sqlite.proofs.OneLedger.{one_ledger}
 
-abbrev IsSettled : State → Type 0
-IsSettled s = (trees : Trees) → IsTrue s.is_open → s.may_leave trees → trees ≡ s.committed.trees
+-- as long as it is open, a crash leaves the last commit
+abbrev pub LeavesLastCommit : State → Type 0
+LeavesLastCommit s = (trees : Trees) → IsTrue s.is_open → s.may_leave trees → trees ≡ s.committed.trees
 
 -- what a transaction saw is committed
-module _ (mid end : State) (shows : Shows mid end mid.now mid.now false) (settled : IsSettled end) where
+module _ (mid end : State) (shows : Shows mid end mid.now mid.now false) (settled : LeavesLastCommit end) where
   left_alone : (trees : Trees) → end.may_leave trees → trees ≡ mid.now.trees
   left_alone trees may = settled trees shows.is_open may ∙ ap (λ (d : Database). d.trees) shows.committed_is
 
-  committed_holds : (ledger : Ledger) → IsSound ledger → mid.now.schema ≡ ledger_schema → AreTablesOf mid.now.trees ledger → HoldsLedger end ledger
-  committed_holds ledger sound schema tables = record {
-    sound = sound;
+  committed_holds : (ledger : Ledger) → mid.now.schema ≡ ledger_schema → IsLedgerDatabase mid.now.trees ledger → HoldsLedger end ledger
+  committed_holds ledger schema database = record {
+    sound = database.sound;
     shows = λ _. record {
       schema_is = ap (λ (d : Database). d.schema) shows.now_is ∙ schema;
-      tables = subst (λ (d : Database). AreTablesOf d.trees ledger) (sym shows.now_is) tables;
+      database = subst (λ (d : Database). IsLedgerDatabase d.trees ledger) (sym shows.now_is) database;
       committed = shows.committed_is ∙ sym shows.now_is;
     };
-    outcomes = λ trees may. (ledger, sound, subst (λ (t : Trees). AreTablesOf t ledger) (sym (left_alone trees may)) tables);
+    outcomes = λ trees may. (ledger, subst (λ (t : Trees). IsLedgerDatabase t ledger) (sym (left_alone trees may)) database);
   }
 
 -- nothing is committed
 left_holds : (old end : State) (ledger : Ledger) → old.in_transaction ≡ false → IsLeft old end → HoldsLedger old ledger
-    → ((trees : Trees) → end.may_leave trees → old.may_leave trees ⊎ ((left : Ledger) × IsSound left × AreTablesOf trees left)) → HoldsLedger end ledger
+    → ((trees : Trees) → end.may_leave trees → old.may_leave trees ⊎ ((left : Ledger) × IsLedgerDatabase trees left)) → HoldsLedger end ledger
 left_holds old end ledger idle left holds crash = record {
   sound = holds.sound;
   shows = λ is_open.
@@ -34,7 +35,7 @@ left_holds old end ledger idle left holds crash = record {
       let now = left.now is_open idle ∙ was.committed in
       record {
         schema_is = ap (λ (d : Database). d.schema) now ∙ was.schema_is;
-        tables = subst (λ (d : Database). AreTablesOf d.trees ledger) (sym now) was.tables;
+        database = subst (λ (d : Database). IsLedgerDatabase d.trees ledger) (sym now) was.database;
         committed = left.committed is_open ∙ sym (left.now is_open idle);
       };
   outcomes = λ trees may. elim (crash trees may) [ inl before ↦ holds.outcomes trees before | inr made ↦ made ];
@@ -45,8 +46,7 @@ module _ {S : Type 0} (g : Ghosts S) (such : Ledger → Type 0) (change : Ledger
   pub record Prepares (mid : State) : Type 0 where
     pub kept : HasCleanDisk mid → KeepsCommit (state g old) mid
     pub survives : Survives (state g old) mid (λ _. ⊥)
-    pub sound : (ledger : Ledger) → IsSound ledger → such ledger → IsSound (change ledger)
-    pub tables : HasCleanDisk mid → (ledger : Ledger) → HoldsLedger (state g old) ledger → such ledger → IsUnderWay mid × AreTablesOf mid.now.trees (change ledger)
+    pub database : HasCleanDisk mid → (ledger : Ledger) → HoldsLedger (state g old) ledger → such ledger → IsUnderWay mid × IsLedgerDatabase mid.now.trees (change ledger)
 
 module _ {S : Type 0} (g : Ghosts S) (such : Ledger → Type 0) (change : Ledger → Ledger) (old : Held S) (idle : (state g old).in_transaction ≡ false) (end : Held S) where
   abbrev pub WritesLedger : Type 0
@@ -62,15 +62,15 @@ module _ {S : Type 0} (g : Ghosts S) (such : Ledger → Type 0) (change : Ledger
     old_clean : HasCleanDisk (state g end) → HasCleanDisk (state g old)
     old_clean clean = omega (arith, clean, survives.clean, prepares.survives.clean)
 
-    pub committed : (HasCleanDisk (state g end) → Shows mid (state g end) mid.now mid.now false) → IsSettled (state g end) → WritesLedger
+    pub committed : (HasCleanDisk (state g end) → Shows mid (state g end) mid.now mid.now false) → LeavesLastCommit (state g end) → WritesLedger
     committed shows settled = record {
       was_clean = old_clean;
       held = λ clean ledger holds fits.
-          let it = prepares.tables (mid_clean clean) ledger holds fits in
-          committed_holds mid (state g end) (shows clean) settled (change ledger) (prepares.sound ledger holds.sound fits) it.0.schema_is it.1;
+          let it = prepares.database (mid_clean clean) ledger holds fits in
+          committed_holds mid (state g end) (shows clean) settled (change ledger) it.0.schema_is it.1;
       left = λ clean ledger crashed holds fits may.
-          let it = prepares.tables (mid_clean clean) ledger holds fits in
-          one_ledger mid.now.trees crashed (change ledger) (subst (λ (t : Trees). AreTablesOf t crashed) (left_alone mid (state g end) (shows clean) settled may.0 may.1) may.2) it.1;
+          let it = prepares.database (mid_clean clean) ledger holds fits in
+          one_ledger mid.now.trees crashed (change ledger) (subst (λ (t : Trees). AreTablesOf t crashed) (left_alone mid (state g end) (shows clean) settled may.0 may.1) may.2.tables) it.1.tables;
     }
 
     crash : HasCleanDisk (state g end) → (trees : Trees) → (state g end).may_leave trees → (state g old).may_leave trees ⊎ (trees ≡ mid.now.trees)
@@ -80,16 +80,16 @@ module _ {S : Type 0} (g : Ghosts S) (such : Ledger → Type 0) (change : Ledger
     failed e fails = record {
       was_clean = old_clean;
       held = λ clean ledger holds fits.
-          let it = prepares.tables (mid_clean clean) ledger holds fits in
+          let it = prepares.database (mid_clean clean) ledger holds fits in
           let left = left_by_failing (state g old) mid (state g end) e idle it.0.mode (prepares.kept (mid_clean clean)) (fails clean) in
           left_holds (state g old) (state g end) ledger idle left holds (λ trees may. elim (crash clean trees may) [
             | inl before ↦ inl before
-            | inr is ↦ inr (change ledger, prepares.sound ledger holds.sound fits, subst (λ (t : Trees). AreTablesOf t (change ledger)) (sym is) it.1)
+            | inr is ↦ inr (change ledger, subst (λ (t : Trees). IsLedgerDatabase t (change ledger)) (sym is) it.1)
           ]);
       left = λ clean ledger crashed holds fits may.
-          let it = prepares.tables (mid_clean clean) ledger holds fits in
+          let it = prepares.database (mid_clean clean) ledger holds fits in
           elim (crash clean may.0 may.1) [
             | inl before ↦ inl (may.0, before, may.2)
-            | inr is ↦ inr (one_ledger mid.now.trees crashed (change ledger) (subst (λ (t : Trees). AreTablesOf t crashed) is may.2) it.1)
+            | inr is ↦ inr (one_ledger mid.now.trees crashed (change ledger) (subst (λ (t : Trees). AreTablesOf t crashed) is may.2.tables) it.1.tables)
           ];
     }

@@ -1,5 +1,5 @@
 -- A content in pieces, and which piece an octet is in.
-use Rattle.std.proofs.Common.{◌≡◌, ◌≤◌, ◌<◌, ◌+◌, ◌*◌, ◌/◌, ℕ, zero, suc, List, [], ◌∷◌, ◌++◌, Option, Some, None, append-nil, arith, drop, inl, inr, length, length-append, refl, slice_get, sym, ap, subst, take, ◌∙◌}
+use Rattle.std.proofs.Common.{◌≡◌, ◌≤◌, ◌<◌, ◌+◌, ◌-◌, ◌*◌, ◌/◌, ℕ, zero, suc, List, [], ◌∷◌, ◌++◌, Option, Some, None, append-nil, arith, drop, inl, inr, length, length-append, min, refl, slice_get, sym, ap, subst, take, ◌∙◌}
 use Rattle.bag_sqlite.proofs.Words.{AreCut, concat, div-add-mod, drop-append-add, drop-append-le, enumerate_from, flat_map, Has, IsPieceAt, length-flat_map, length-take, length-take-le, PIECE, same_Some, sum_by, take-append-le}
 use Rattle.bag_sqlite.proofs.OneLedger.{after_first, numbered_from}
 
@@ -94,3 +94,49 @@ past_pieces pieces cut offset buffer past = record {
   octets = refl;
   some = λ within room. absurd (omega (arith, within, past, all_within pieces cut, div-add-mod offset PIECE));
 }
+
+-- THE FIRST PIECES OF A CONTENT
+
+-- the pieces are the first of the others
+abbrev pub AreFirstOf : List (List ℕ) → List (List ℕ) → Type 0
+AreFirstOf pieces all = (n : ℕ) (piece : List ℕ) → slice_get pieces n ≡ Some piece → slice_get all n ≡ Some piece
+
+cut_rest : (piece : List ℕ) (pieces : List (List ℕ)) → AreCut (piece ∷ pieces) → AreCut pieces
+cut_rest piece [] cut = tt
+cut_rest piece (next ∷ more) cut = cut.1
+
+some_octet : (piece : List ℕ) (pieces : List (List ℕ)) → AreCut (piece ∷ pieces) → 0 < length piece
+some_octet piece [] cut = cut.0
+some_octet piece (next ∷ more) cut = omega (arith, cut.0)
+
+first_same : (first piece : List ℕ) (pieces all : List (List ℕ)) → AreFirstOf (piece ∷ pieces) (first ∷ all) → first ≡ piece
+first_same first piece pieces all front = same_Some first piece (front 0 piece refl)
+
+-- more octets are in a next piece, with as many of them as it can have
+pub next_piece : (pieces all : List (List ℕ)) → AreFirstOf pieces all → AreCut all → length (concat pieces) < length (concat all)
+    → (piece : List ℕ) × (slice_get all (length pieces) ≡ Some piece) × (length piece ≡ min (length (concat all) - length (concat pieces)) PIECE)
+next_piece [] [] front cut more = absurd (omega (arith, more))
+next_piece [] (last ∷ []) front cut more = (last, refl, omega (arith, cut.1, length-append last []))
+next_piece [] (piece ∷ next ∷ rest) front cut more = (piece, refl, omega (arith, cut.0, length-append piece (concat (next ∷ rest))))
+next_piece (piece ∷ pieces) [] front cut more = absurd (let e : ◌≡◌ {A = Option (List ℕ)} None (Some piece) = front 0 piece refl in cc)
+next_piece (piece ∷ pieces) (first ∷ all) front cut more =
+    let same = ap length (first_same first piece pieces all front) in
+    let joined = length-append piece (concat pieces) in
+    let all_joined = length-append first (concat all) in
+    let next = next_piece pieces all (λ n body at. front (suc n) body at) (cut_rest first all cut) (omega (arith, more, same, joined, all_joined)) in
+    (next.0, next.1, omega (arith, next.2, same, joined, all_joined))
+
+-- they are all, if they have all octets
+pub all_pieces : (pieces all : List (List ℕ)) → AreFirstOf pieces all → AreCut all → length (concat pieces) ≡ length (concat all) → pieces ≡ all
+all_pieces [] [] front cut whole = refl
+all_pieces [] (first ∷ all) front cut whole = absurd (omega (arith, whole, some_octet first all cut, length-append first (concat all)))
+all_pieces (piece ∷ pieces) [] front cut whole = absurd (let e : ◌≡◌ {A = Option (List ℕ)} None (Some piece) = front 0 piece refl in cc)
+all_pieces (piece ∷ pieces) (first ∷ all) front cut whole =
+    let same = first_same first piece pieces all front in
+    let rest = all_pieces pieces all (λ n body at. front (suc n) body at) (cut_rest first all cut) (omega (arith, whole, ap length same, length-append piece (concat pieces), length-append first (concat all))) in
+    λ i. sym same i ∷ rest i
+
+-- no piece is empty
+pub few_pieces : (pieces : List (List ℕ)) → AreCut pieces → length pieces ≤ length (concat pieces)
+few_pieces [] cut = omega arith
+few_pieces (piece ∷ pieces) cut = omega (arith, some_octet piece pieces cut, few_pieces pieces (cut_rest piece pieces cut), length-append piece (concat pieces))

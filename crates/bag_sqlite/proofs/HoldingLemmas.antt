@@ -4,7 +4,7 @@ use Rattle.bag_sqlite.proofs.Words.{all_has, all_map, all_unmap, all_weaker, All
 use Rattle.std.specs.Prelude.{IsPermutation}
 use Rattle.bag_sqlite.proofs.GrowthLemmas.{Place, all_middle, apart_middle, place}
 use Rattle.bag_sqlite.proofs.InsertLemmas.{apart_from}
-use Rattle.bag_sqlite.proofs.OneLedger.{has_flat, has_from_flat, has_moved, read}
+use Rattle.bag_sqlite.proofs.OneLedger.{all_of, has_flat, has_from_flat, has_moved, read}
 use Rattle.bag_sqlite.proofs.TransferLemmas.{found_entry, row_of, same_row}
 
 -- ONE ENTRY CHANGED IN THE MIDDLE
@@ -33,10 +33,6 @@ flat_at f fore back x before mid after is =
     flat_map-append f fore (x ∷ back) ∙ ap (λ ys. flat_map f fore ++ (ys ++ flat_map f back)) is
     ∙ ap (λ ys. flat_map f fore ++ ys) (append_assoc before (mid ++ after) (flat_map f back) ∙ ap (λ ys. before ++ ys) (append_assoc mid after (flat_map f back)))
     ∙ sym (append_assoc (flat_map f fore) before (mid ++ (after ++ flat_map f back)))
-
-all_of : {X : Type 0} (P : X → Type 0) (xs : List X) → ((x : X) → Has xs x → P x) → AllByRecursion P xs
-all_of P [] each = tt
-all_of P (x ∷ xs) each = (each x (inl refl), all_of P xs (λ y has. each y (inr has)))
 
 -- THE TRANSFER THAT THE FILE IS ADDED TO
 

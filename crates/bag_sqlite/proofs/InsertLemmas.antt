@@ -1,6 +1,6 @@
 -- What an INSERT of values writes, for any table.
 use Rattle.std.proofs.Common.{◌≡◌, ◌≢◌, ◌⊎◌, inl, inr, ℕ, ℤ, ◌/◌, List, [], ◌∷◌, length, false, Option, Some, None, slice_get, unwrap_or, Ok, Err, Result, Ordering, Less, Equal, Greater, true≢false, refl, sym, ap, subst, ◌∙◌, is_eq}
-use Rattle.bag_sqlite.proofs.Words.{AllByRecursion, and_parts, AtPlace, Chosen, column, command_of, Database, Does, Edit, edit_of, Enforced, Executes, Insert, Inserts, Int, is_taken, IsFree, IsPermutation, IsPermutation-cons, IsPermutation-middle, IsPermutation-refl, IsPermutation-trans, IsPlain, last_id, ledger_schema, match_ordering, Mode, mode_of, next_rowid, not-true, one_step, OnRows, or_parts, put_all, put_row, Row, rowid, runs_as, Schema, stamped, State, statement_of, Table, Tally, Task, Term, tied_itself, Trees, understood, value_cmp, value_cmp_total, value_rows, Values, works, Writes, Written}
+use Rattle.bag_sqlite.proofs.Words.{AllByRecursion, and_parts, AtPlace, Chosen, column, command_of, Database, Does, Edit, edit_of, Enforced, Executes, Insert, Inserts, Int, is_taken, IsDatabase, IsFree, IsPermutation, IsPermutation-cons, IsPermutation-middle, IsPermutation-refl, IsPermutation-trans, IsPlain, last_id, ledger_schema, ListLedger, match_ordering, Mode, mode_of, next_rowid, not-true, one_step, OnRows, or_parts, put_all, put_row, Row, rowid, runs_as, Schema, stamped, State, statement_of, Table, Tally, Task, Term, tied_itself, Trees, understood, value_cmp, value_cmp_total, value_rows, Values, works, Writes, Written}
 
 pub went : {B E R : Type 0} {b : B} {Stops : E → Type 0} → ((stop : E) × Stops stop × (Ok b ≡ Err stop)) ⊎ R → R
 went (inl stopped) = absurd (let e = stopped.2 in cc)
@@ -67,10 +67,15 @@ apart_from number (r ∷ rows) free = (
   apart_from number rows (or_parts _ _ free).1,
 )
 
+-- a database with this schema lists its tables
+pub lists_ledger : (db : Database) → db.schema ≡ ledger_schema → IsDatabase db → ListLedger db.trees
+lists_ledger db is sound = subst (λ (schema : Schema). IsDatabase (record { schema = schema; trees = db.trees })) is sound
+
 -- what an INSERT of one row without a rowid does: the row is added under a rowid that was free, and the connection
 -- reports that rowid
 pub record InsertsRow (tree : ℕ) (values : Row) (old new : State) : Type 0 where
   pub schema_is : new.now.schema ≡ ledger_schema
+  pub listed : ListLedger new.now.trees
   pub fresh : IsFree new.last_rowid (old.now.trees tree)
   pub rows : IsPermutation ((Int new.last_rowid ∷ values) ∷ old.now.trees tree) (new.now.trees tree)
   pub others : AllByRecursion (λ (t : Table). t.tree ≢ tree → new.now.trees t.tree ≡ old.now.trees t.tree) ledger_schema.tables
@@ -99,6 +104,7 @@ module _ (t : Table) (at : ℕ) (terms : List Term) (width : ℕ) (text : List �
       let rows : next t.tree ≡ put_row (Int number ∷ values) (old.now.trees t.tree) = step.rows ∙ ap (put_all (old.now.trees t.tree)) news in
       record {
         schema_is = ap (λ (d : Database). d.schema) now;
+        listed = lists_ledger new.now (ap (λ (d : Database). d.schema) now) w.sound;
         fresh = rw told free;
         rows = rw (told, now, rows) (put_fresh (Int number ∷ values) (old.now.trees t.tree) free);
         others = rw now step.tables;

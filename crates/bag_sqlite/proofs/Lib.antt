@@ -1,8 +1,11 @@
 pub mod AdoptingLemmas
+pub mod AdoptingMeanings
 pub mod BatchLemmas
 pub mod CommitLemmas
 pub mod ContentLemmas
+pub mod CountLemmas
 pub mod CutLemmas
+pub mod DamageLemmas
 pub mod DatabaseExamples
 pub mod GrowthLemmas
 pub mod HoldingLemmas
@@ -13,8 +16,14 @@ pub mod KeepingLemmas
 pub mod MakingLemmas
 pub mod MeaningLemmas
 pub mod NamesLemmas
+pub mod NoLedgerLemmas
 pub mod OneLedger
+pub mod OneSchema
+pub mod OpenedLemmas
 pub mod OpeningLemmas
+pub mod OwnLedgerLemmas
+pub mod PassingItems
+pub mod PieceTold
 pub mod PiecesRead
 pub mod PuttingLemmas
 pub mod QueryMeanings
@@ -24,6 +33,9 @@ pub mod RowLemmas
 pub mod RowMeanings
 pub mod SqlLemmas
 pub mod StoringLemmas
+pub mod StrayLemmas
+pub mod StrayMeanings
+pub mod ToldLemmas
 pub mod TransferLemmas
 pub mod TransferMeanings
 pub mod TransferRows

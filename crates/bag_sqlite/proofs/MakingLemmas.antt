@@ -1,6 +1,6 @@
 -- Creating the tables of a ledger.
 use Rattle.std.proofs.Common.{◌≡◌, inl, inr, ℕ, List, [], ◌∷◌, ◌++◌, true, false, None, Ok, IsTrue, refl, sym, ap, subst, ◌∙◌, arith}
-use Rattle.bag_sqlite.proofs.Words.{AllByRecursion, AreTablesOf, created, CreateTable, Database, Error, ExecutesInside, FailsToCommit, format_row, Ghosts, Held, held_tree, HoldsLedger, Int, IsCreated, IsLeft, IsMade, IsMaking, IsPermutation, IsPermutation-refl, IsRolledBack, IsStrictlySortedBy, KeepsCommit, lacks_sequence, ledger_schema, Makes, meta, meta_tree, next_tree, no_schema, one_permutation, piece_tree, runs_as, Schema, Shows, sound_nothing, State, state, Table, tag_tree, Tally, transfer_tree, Trees, without_rowids}
+use Rattle.bag_sqlite.proofs.Words.{AllByRecursion, AreTablesOf, created, CreateTable, Database, Error, ExecutesInside, FailsToCommit, format_row, Ghosts, Held, held_tree, HoldsLedger, Int, IsCreated, IsLedgerDatabase, IsLeft, IsMade, IsMaking, IsPermutation, IsPermutation-refl, IsRolledBack, IsStrictlySortedBy, KeepsCommit, lacks_sequence, ledger_schema, Makes, meta, meta_tree, next_tree, no_schema, one_permutation, piece_tree, runs_as, Schema, Shows, sound_nothing, State, state, Table, tag_tree, Tally, transfer_tree, Trees, without_rowids}
 use Rattle.sqlite.specs.State.{Writes}
 use Rattle.bag_sqlite.proofs.InsertLemmas.{row_inserted, same_value, went}
 use Rattle.bag_sqlite.proofs.MeaningLemmas.{format_is, format_plain, format_terms, format_text}
@@ -69,11 +69,15 @@ format_written old new count making ran =
     record {
       mode = ran.1.mode;
       schema_is = row.schema_is;
-      tables = no_transfer new.now.trees (ap without_rowids rows)
-          (row.others.1.0 (λ e. omega (arith, e)) ∙ empty.1.0)
-          (row.others.1.1.0 (λ e. omega (arith, e)) ∙ empty.1.1.0)
-          (row.others.1.1.1.0 (λ e. omega (arith, e)) ∙ empty.1.1.1.0)
-          (row.others.1.1.1.1.0 (λ e. omega (arith, e)) ∙ empty.1.1.1.1.0);
+      database = record {
+        listed = row.listed;
+        tables = no_transfer new.now.trees (ap without_rowids rows)
+            (row.others.1.0 (λ e. omega (arith, e)) ∙ empty.1.0)
+            (row.others.1.1.0 (λ e. omega (arith, e)) ∙ empty.1.1.0)
+            (row.others.1.1.1.0 (λ e. omega (arith, e)) ∙ empty.1.1.1.0)
+            (row.others.1.1.1.1.0 (λ e. omega (arith, e)) ∙ empty.1.1.1.1.0);
+        sound = sound_nothing;
+      };
     }
 
 -- THE COMMIT
@@ -83,7 +87,7 @@ created_by mid end made shows = record {
   is_open = shows.is_open;
   autocommit = shows.mode;
   schema_is = ap (λ (d : Database). d.schema) shows.now_is ∙ made.schema_is;
-  tables = subst (λ (d : Database). AreTablesOf d.trees []) (sym shows.now_is) made.tables;
+  database = subst (λ (d : Database). IsLedgerDatabase d.trees []) (sym shows.now_is) made.database;
   committed = shows.committed_is ∙ sym shows.now_is;
 }
 
@@ -113,6 +117,6 @@ kept_since g old mid kept = record { was_open = kept.was_open; committed = kept.
 pub holds_nothing : (s : State) → IsCreated s → ((trees : Trees) → IsTrue s.is_open → s.may_leave trees → trees ≡ s.committed.trees) → HoldsLedger s []
 holds_nothing s created settled = record {
   sound = sound_nothing;
-  shows = λ _. record { schema_is = created.schema_is; tables = created.tables; committed = created.committed };
-  outcomes = λ trees left. ([], sound_nothing, subst (λ (t : Trees). AreTablesOf t []) (sym (settled trees created.is_open left ∙ ap (λ (d : Database). d.trees) created.committed)) created.tables);
+  shows = λ _. record { schema_is = created.schema_is; database = created.database; committed = created.committed };
+  outcomes = λ trees left. ([], subst (λ (t : Trees). IsLedgerDatabase t []) (sym (settled trees created.is_open left ∙ ap (λ (d : Database). d.trees) created.committed)) created.database);
 }

@@ -33,6 +33,11 @@ has_from_flat f (first ∷ xs) y h = elim (has_either (f first) (flat_map f xs) 
 pub has_moved : {X : Type 0} (xs ys : List X) (x : X) → IsPermutation xs ys → Has xs x → Has ys x
 has_moved xs ys x moves h = has_from_contains ys x (Contains-permutation xs ys x moves (contains_from_has xs x h))
 
+-- what holds of each
+pub all_of : {X : Type 0} (P : X → Type 0) (xs : List X) → ((x : X) → Has xs x → P x) → AllByRecursion P xs
+all_of P [] each = tt
+all_of P (x ∷ xs) each = (each x (inl refl), all_of P xs (λ y has. each y (inr has)))
+
 -- what is in one list of rows is in a permutation of it
 has_through : {X : Type 0} (xs rows ys : List X) (x : X) → IsPermutation xs rows → IsPermutation ys rows → Has xs x → Has ys x
 has_through xs rows ys x p q h = has_moved rows ys x (IsPermutation-sym ys rows q) (has_moved xs rows x p h)

@@ -1,5 +1,6 @@
 -- Writing the rows of a transfer.
 use Rattle.std.proofs.Common.{◌≡◌, ◌<◌, ◌+◌, ℕ, ℤ, suc, List, [], ◌∷◌, ◌++◌, IsTrue, Ok, true, append_assoc, drop, get_or, length, take, refl, sym, ap, subst, ◌∙◌, arith}
+use Rattle.std.specs.Str.{IsUtf8}
 use Rattle.bag_sqlite.proofs.Words.{AddsTags, AddsTransfer, AreTagFiles, Blob, ExecutesInside, File, Files, files_of, Ghosts, HasCleanDisk, HasOneTransferMore, Held, Int, IsPermutation, IsPermutation-cons, IsPermutation-map, IsPermutation-middle, IsPermutation-refl, IsPermutation-trans, IsUnderWay, IsUnused, KeepsCommit, KeepsItems, Ledger, map-append, Null, opened_under, Opens, Row, sound_begun, State, state, Survives, survives_begin, Table, tag, tag_rows, tag_tree, take-suc, Text, transfer, transfer_tree, Trees, with_transfer, without_rowids}
 use Rattle.bag_sqlite.proofs.CommitLemmas.{Prepares}
 use Rattle.bag_sqlite.proofs.GrowthLemmas.{begun_tables}
@@ -20,7 +21,7 @@ pub transfer_inserted : (old new : State) (name : List ℕ) (count : ℕ) → Is
     → IsUnderWay new × AddsTransfer old.now.trees new.now.trees new.last_rowid name
 transfer_inserted old new name count way ran =
     let row = row_inserted stored_transfer 1 new_transfer_terms 3 new_transfer_text (Text name ∷ []) (Null ∷ Text name ∷ []) old new count way.schema_is refl new_transfer_is new_transfer_plain (rw cast_null) ran.0 in (
-      record { mode = ran.1.mode; schema_is = row.schema_is },
+      record { mode = ran.1.mode; schema_is = row.schema_is; listed = row.listed },
       record {
         kept = record { format = row.others.0 (λ e. omega (arith, e)); held = row.others.1.1.1.0 (λ e. omega (arith, e)); pieces = row.others.1.1.1.1.0 (λ e. omega (arith, e)) };
         fresh = apart_from new.last_rowid (old.now.trees transfer_tree) row.fresh;
@@ -34,7 +35,7 @@ pub tag_inserted : (old new : State) (number : ℤ) (path body : List ℕ) (coun
 tag_inserted old new number path body count way ran =
     let values = Int number ∷ Text path ∷ Blob body ∷ [] in
     let row = row_inserted stored_tag 2 new_tag_terms 4 new_tag_text values values old new count way.schema_is refl new_tag_is new_tag_plain (rw (cast_null, cast_int)) ran.0 in (
-      record { mode = ran.1.mode; schema_is = row.schema_is },
+      record { mode = ran.1.mode; schema_is = row.schema_is; listed = row.listed },
       record {
         kept = record { format = row.others.0 (λ e. omega (arith, e)); held = row.others.1.1.1.0 (λ e. omega (arith, e)); pieces = row.others.1.1.1.1.0 (λ e. omega (arith, e)) };
         transfers = row.others.1.0 (λ e. omega (arith, e));
@@ -97,14 +98,19 @@ module _ {S : Type 0} (g : Ghosts S) (old : Held S) (mid : State) (name : List �
   abbrev pub opens_it : Ledger → Ledger
   opens_it ledger = with_transfer ledger name tags
 
-  pub prepares : AreTagFiles tags → Opens tags → (HasCleanDisk mid → IsUnderWay begun → IsUnderWay mid × (number : ℤ) × HasOneTransferMore begun.now.trees mid.now.trees (opened_under number name tags))
+  pub prepares : IsUtf8 name → AreTagFiles tags → Opens tags → (HasCleanDisk mid → IsUnderWay begun → IsUnderWay mid × (number : ℤ) × HasOneTransferMore begun.now.trees mid.now.trees (opened_under number name tags))
       → (HasCleanDisk mid → IsTrue begun.in_transaction → IsTrue begun.is_open) → (HasCleanDisk mid → KeepsCommit begun mid) → Survives begun mid (λ _. ⊥) → Prepares g (IsUnused name) opens_it old mid
-  prepares tag_files opens written opened kept survives = record {
+  prepares text tag_files opens written opened kept survives = record {
     kept = λ clean. kept_since g old mid (kept clean);
     survives = survives_begin g old mid _ survives;
-    sound = λ ledger sound unused. sound_begun ledger name tags sound tag_files opens;
-    tables = λ clean ledger holds unused.
+    database = λ clean ledger holds unused.
         let shows = holds.shows (opened clean refl) in
-        let it = written clean (record { mode = refl; schema_is = shows.schema_is }) in
-        (it.0, begun_tables begun.now.trees mid.now.trees ledger it.1 name tags shows.tables unused tag_files.rising it.2);
+        let it = written clean (record { mode = refl; schema_is = shows.schema_is; listed = shows.database.listed }) in (
+          it.0,
+          record {
+            listed = it.0.listed;
+            tables = begun_tables begun.now.trees mid.now.trees ledger it.1 name tags shows.database.tables unused tag_files.rising it.2;
+            sound = sound_begun ledger name tags holds.sound text tag_files opens;
+          },
+        );
   }

@@ -1,6 +1,7 @@
 -- A query commits nothing, and queries are read in sequence.
 use Rattle.std.proofs.Common.{false, ◌≡◌, ◌⊎◌, ◌<◌, ◌+◌, inl, inr, ℕ, suc, List, [], ◌∷◌, ◌++◌, Option, Some, None, Result, Ok, Err, IfOk, IsTrue, true, get_or, length, map, string_bytes, take, ap, refl, subst, sym, if◌then◌else◌, ◌∙◌, arith}
-use Rattle.bag_sqlite.proofs.Words.{AreTablesOf, bytes, Compiled, Database, Error, FailsToQuery, FailsToShow, Ghosts, Global, HasCleanDisk, Held, HoldsLedger, IsLeft, IsNotRun, IsRolledBack, IsTooLate, IsUnchanged, KeepsCommit, Ledger, map_twice, OnlyQueries, Returning, Row, Shown, ShowsRows, State, state, String, Survives, survives_begin, take-suc, Text, unchanged_keeps, Value, column}
+use Rattle.bag_sqlite.proofs.Words.{bytes, Compiled, Database, Error, FailsToQuery, FailsToShow, Ghosts, Global, HasCleanDisk, Held, HoldsLedger, IsLedgerDatabase, IsLeft, IsNotRun, IsRolledBack, IsTooLate, IsUnchanged, KeepsCommit, Ledger, map_twice, MayLeaveLedger, OnlyQueries, Returning, Row, Shown, ShowsRows, State, state, String, Survives, survives_begin, take-suc, Text, unchanged_keeps, Value, column}
+use Rattle.bag_ledger.specs.Keeping.{Reads}
 use Rattle.bag_sqlite.proofs.MakingLemmas.{kept_since, left_by_undoing}
 use Rattle.bag_sqlite.proofs.SqlLemmas.{survives_both}
 
@@ -78,10 +79,21 @@ still_holds old new ledger clean left idle survives holds = record {
       let same = same_shown old new left idle is_open shows.committed in
       record {
         schema_is = ap (λ (d : Database). d.schema) same ∙ shows.schema_is;
-        tables = subst (λ (d : Database). AreTablesOf d.trees ledger) (sym same) shows.tables;
+        database = subst (λ (d : Database). IsLedgerDatabase d.trees ledger) (sym same) shows.database;
         committed = left.committed is_open ∙ sym (left.now is_open idle);
       };
   outcomes = λ trees may. holds.outcomes trees (elim (survives.crash clean trees may) [ inl before ↦ before | inr none ↦ absurd none ]);
+}
+
+-- a keeper that only runs queries answers for what it answered for
+abbrev pub ReadsLedger : {S : Type 0} → Ghosts S → Held S → Held S → Type 0
+ReadsLedger {S} g old new = Reads (λ (h : Held S). HoldsLedger (state g h)) (λ h. MayLeaveLedger (state g h)) (λ h. HasCleanDisk (state g h)) old new
+
+pub keeps_reading : {S : Type 0} (g : Ghosts S) (old new : Held S) → (state g old).in_transaction ≡ false → OnlyQueries g old new → ReadsLedger g old new
+keeps_reading g old new idle queries = record {
+  was_clean = λ clean. omega (arith, clean, queries.survives.clean);
+  held = λ clean ledger. still_holds (state g old) (state g new) ledger clean (queries.left clean) idle queries.survives;
+  left = λ clean crashed may. (may.0, elim (queries.survives.crash clean may.0 may.1) [ inl before ↦ before | inr none ↦ absurd none ], may.2);
 }
 
 -- QUERIES

@@ -1,6 +1,6 @@
 -- Why a database isn't opened, from the results of its reads.
 use Rattle.std.proofs.Common.{◌↔◌, ◌∙◌, Bool, ◌≡◌, ◌≢◌, ◌⊎◌, ◌<◌, ◌≤◌, ℕ, ℤ, pos, zero, suc, List, [], ◌∷◌, Option, None, Some, Err, IfErr, IfNone, MatchResult, Ok, OnOk, false, true, string_bytes, Result, IsTrue, ap, arith, codes, get_or, inl, inr, length, refl, subst, sym, slice_index_or}
-use Rattle.bag_sqlite.proofs.Words.{adopt_fault, AdoptFault, AllByRecursion, AreNoneFor, Broken, cases_lt, column, Command, Compiled, Corrupt, Damaged, Database, Error, ExecuteReturnedResults, Fails, FailsToQuery, FailsToShow, Full, Ghosts, HasFormat, Int, IntegralValueOutOfRange, InvalidColumnIndex, InvalidColumnType, InvalidParameterCount, InvalidQuery, Io, IsBlob, IsDamaged, IsInt, IsNoLedger, IsNoneFor, IsNoQuery, IsNoStatement, IsNotRun, IsReadError, IsText, IsTooLate, IsUnchanged, Keep, MayShow, MultipleStatement, NotALedger, Null, OldFormat, OutOfMemory, params_of, QueryReturnedNoRows, Question, RefusesToAdopt, RefusesToRead, RefusesTransfer, RefusesTransfers, Returning, Row, Rows, SaysFormat, Select, SqlInputError, SqliteFailure, State, store_error, StoreError, stray_texts, Tells, Text, text_of, TransferFails, understood, Unstorable, Utf8Error, Value}
+use Rattle.bag_sqlite.proofs.Words.{adopt_fault, AdoptFault, AllByRecursion, AreNoneFor, Broken, cases_lt, column, Command, Compiled, Corrupt, Damaged, Database, Error, ExecuteReturnedResults, Fails, FailsToQuery, FailsToShow, Full, Ghosts, HasFormat, HasNoFormat, Int, IntegralValueOutOfRange, InvalidColumnIndex, InvalidColumnType, InvalidParameterCount, InvalidQuery, Io, IsBlob, IsDamaged, IsInt, IsNoLedger, IsNoneFor, IsNoQuery, IsNoStatement, IsNotRun, IsReadError, IsText, IsTooLate, IsUnchanged, Keep, MayShow, MultipleStatement, NotALedger, Null, OldFormat, OutOfMemory, params_of, QueryReturnedNoRows, Question, RefusesToAdopt, RefusesToRead, RefusesTransfer, RefusesTransfers, Returning, Row, Rows, SaysFormat, Select, SqlInputError, SqliteFailure, State, store_error, StoreError, stray_texts, Tells, Text, text_of, TransferFails, understood, Unstorable, Utf8Error, Value}
 use Rattle.sqlite.specs.Given.{IsPlain}
 use Rattle.sqlite.specs.declared.error.ErrorCode.TheVariants as code
 use Rattle.bag_sqlite.proofs.AdoptingLemmas.{row_at}
@@ -140,11 +140,19 @@ module _ {S : Type 0} (g : Ghosts S) (db : Database) where
   no_column asked P none row at e rows told such named kind =
       none_for (¬ P (column row at)) (IsNoLedger g db) (λ no. (asked, inr (rows, told, λ may. no (such may)))) (adopt_fault e) (not_read P none row at e named kind)
 
-  pub to_adopt : (fault : AdoptFault) → IsNoneFor (IsNoLedger g db) fault → RefusesToAdopt g db fault
-  to_adopt NotALedger h = h
-  to_adopt OldFormat h = absurd h
-  to_adopt (Damaged name path) h = absurd h
-  to_adopt (Keep fault) h = tt
+  -- when the format is read
+  pub by_format : (fault : AdoptFault) → IsNoneFor (HasNoFormat g db) fault → RefusesToAdopt g db fault
+  by_format NotALedger h = inl h
+  by_format OldFormat h = absurd h
+  by_format (Damaged name path) h = absurd h
+  by_format (Keep fault) h = tt
+
+  -- once the format was checked
+  pub to_adopt : (fault : AdoptFault) → HasFormat g db (pos 2) → IsNoneFor (IsNoLedger g db) fault → RefusesToAdopt g db fault
+  to_adopt NotALedger format h = inr (format, h)
+  to_adopt OldFormat format h = absurd h
+  to_adopt (Damaged name path) format h = absurd h
+  to_adopt (Keep fault) format h = tt
 
   pub to_transfers : (fault : AdoptFault) → IsNoneFor (IsNoLedger g db) fault → RefusesTransfers g db fault
   to_transfers NotALedger h = h
@@ -154,7 +162,7 @@ module _ {S : Type 0} (g : Ghosts S) (db : Database) where
 
   -- once the format and the rows without an owner were checked
   pub in_order : (fault : AdoptFault) → HasFormat g db (pos 2) → AllByRecursion (λ text. Tells g db text [] []) stray_texts → RefusesTransfers g db fault → RefusesToAdopt g db fault
-  in_order NotALedger format none h = h
+  in_order NotALedger format none h = inr (format, h)
   in_order OldFormat format none h = absurd h
   in_order (Damaged name path) format none h = (format, none, h)
   in_order (Keep fault) format none h = tt

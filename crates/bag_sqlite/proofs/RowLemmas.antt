@@ -3,7 +3,7 @@ use Rattle.std.proofs.Common.{◌≡◌, ◌==◌, ℕ, ℤ, pos, List, [], ◌�
 use Rattle.bag_sqlite.proofs.Words.{AddsItem, AddsPiece, AddsPieces, all_weaker, AllByRecursion, and_parts, Answers, Applies, are_fresh, AtPlace, Binary, binary, Blob, column, Compare, concat, Database, deed_of, Does, Edit, edit_of, edited, Enforced, Eq, ExecutesInside, filter, filter_all, filter_map, filter_none, flat_map, has_rowid, HasOneItemMore, held, held_tree, ids_of, Int, is_taken, is_true, IsFree, IsPermutation, IsPermutation-cons, IsPermutation-filter, IsPermutation-map, IsPermutation-trans, IsUnderWay, item_row, ledger_schema, left_by, Mode, mode_of, none_from_any, not-true, Null, one_permutation, one_step, OnRows, Output, pairs, parent_key, piece, piece_rows, piece_tree, Program, put_all, put_row, Row, runs_as, Schema, SetsSize, State, statement_of, Table, taken_by, Tally, Task, Text, tied_itself, Trees, understood, Update, Value, value_cmp, value_cmp_total, without_rowid, without_rowids, work_by, works, Writes, Written}
 use Rattle.sqlite.specs.Rowids.TheVariants.{Given}
 use Rattle.bag_sqlite.proofs.CutLemmas.{length_concat}
-use Rattle.bag_sqlite.proofs.InsertLemmas.{put_fresh, row_inserted, same_value, went}
+use Rattle.bag_sqlite.proofs.InsertLemmas.{lists_ledger, put_fresh, row_inserted, same_value, went}
 use Rattle.bag_sqlite.proofs.RowMeanings.{new_item_is, new_item_plain, new_item_terms, new_item_text, new_piece_is, new_piece_plain, new_piece_terms, new_piece_text, size_is, size_plain, size_query, size_terms, size_text, size_where}
 use Rattle.bag_sqlite.proofs.SqlLemmas.{cast_int, cast_null}
 use Rattle.bag_sqlite.proofs.TransferLemmas.{alone}
@@ -22,7 +22,7 @@ pub item_inserted : (old new : State) (transfer : ℤ) (path : List ℕ) (count 
 item_inserted old new transfer path count way ran =
     let values = Null ∷ Int transfer ∷ Text path ∷ Int (pos 0) ∷ [] in
     let row = row_inserted stored_held 3 new_item_terms 5 new_item_text (Int transfer ∷ Text path ∷ []) values old new count way.schema_is refl new_item_is new_item_plain (rw (cast_null, cast_int transfer, cast_int (pos 0)) refl) ran.0 in (
-      record { mode = ran.1.mode; schema_is = row.schema_is },
+      record { mode = ran.1.mode; schema_is = row.schema_is; listed = row.listed },
       record {
         kept = record { format = row.others.0 (λ e. omega (arith, e)); transfers = row.others.1.0 (λ e. omega (arith, e)); tags = row.others.1.1.0 (λ e. omega (arith, e)) };
         fresh = row.fresh;
@@ -36,7 +36,7 @@ pub piece_inserted : (old new : State) (item : ℤ) (n : ℕ) (body : List ℕ) 
 piece_inserted old new item n body count way ran =
     let values = Int item ∷ Int (pos n) ∷ Blob body ∷ [] in
     let row = row_inserted stored_piece 4 new_piece_terms 4 new_piece_text values values old new count way.schema_is refl new_piece_is new_piece_plain (rw (cast_null, cast_int item, cast_int (pos n)) refl) ran.0 in (
-      record { mode = ran.1.mode; schema_is = row.schema_is },
+      record { mode = ran.1.mode; schema_is = row.schema_is; listed = row.listed },
       record {
         kept = record { format = row.others.0 (λ e. omega (arith, e)); transfers = row.others.1.0 (λ e. omega (arith, e)); tags = row.others.1.1.0 (λ e. omega (arith, e)) };
         held = row.others.1.1.1.0 (λ e. omega (arith, e));
@@ -140,8 +140,9 @@ size_set old new item size count way ran =
     let (rows, next, answers, wrote, now) = update_gives old.step_limit (mode_of old) ledger_schema stored_held params 3 q trees new.now said w.tally refl changed in
     let edit = edit_of trees stored_held (ids_of rows) Given 1 rows in
     let step = one_step ledger_schema Enforced trees next edit (quiet (taken_by trees edit) edit.news) wrote in
+    let schema = ap (λ (d : Database). d.schema) now in
     let lists = answer_lists held_tree size_where size_terms [] params trees rows (answers.answer Null) refl in (
-      record { mode = ran.1.mode; schema_is = ap (λ (d : Database). d.schema) now },
+      record { mode = ran.1.mode; schema_is = schema; listed = lists_ledger new.now schema w.sound },
       record {
         kept = rw now (record { format = step.tables.0 (λ e. omega (arith, e)); transfers = step.tables.1.0 (λ e. omega (arith, e)); tags = step.tables.1.1.0 (λ e. omega (arith, e)) });
         held = λ others transfer path before free same.

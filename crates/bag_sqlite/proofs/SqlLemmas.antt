@@ -89,6 +89,7 @@ uses_as part failures spent old new F G to from uses = record {
     stays = λ none. uses.counted.stays (λ some. none (some.0, to some.0 some.1));
   };
   spent_before = λ before. to Spent (uses.spent_before before);
+  spent_first = λ told. uses.spent_first (from Spent told);
   spent_now = ((λ now. let it = uses.spent_now.0 now in (it.0, to it.0 it.1)), (λ some. uses.spent_now.1 (some.0, from some.0 some.1)));
 }
 

@@ -33,14 +33,19 @@ module _ {S : Type 0} (g : Ghosts S) (old asked : Held S) (mid : State) (name : 
             let was = asks.left (early clean) in
             kept_then (state g old) (state g asked) mid (record { was_open = was.was_open; committed = was.committed }) (kept_since g asked mid (kept clean));
         survives = survives_both (state g old) (state g asked) mid asks.survives on;
-        sound = λ ledger sound awaits. sound_put ledger name content want sound awaits within wanted;
-        tables = λ clean ledger holds awaits.
+        database = λ clean ledger holds awaits.
             let was = asks.left (early clean) in
             let is_open = opened clean refl in
             let still = still_holds (state g old) (state g asked) ledger (early clean) was idle asks.survives holds in
             let shows = still.shows is_open in
             let same = same_shown (state g old) (state g asked) was idle is_open (holds.shows (was.was_open is_open)).committed in
             let row = subst (λ (d : Database). HasTransferRow d.trees name number) (sym same) (named (early clean) ledger holds) in
-            let it = written clean (record { mode = refl; schema_is = shows.schema_is }) in
-            (it.0, more_held begun.now.trees mid.now.trees ledger name content want number shows.tables row awaits it.1);
+            let it = written clean (record { mode = refl; schema_is = shows.schema_is; listed = shows.database.listed }) in (
+              it.0,
+              record {
+                listed = it.0.listed;
+                tables = more_held begun.now.trees mid.now.trees ledger name content want number shows.database.tables row awaits it.1;
+                sound = sound_put ledger name content want holds.sound awaits within wanted;
+              },
+            );
       }

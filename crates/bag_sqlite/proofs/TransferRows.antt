@@ -84,26 +84,25 @@ all_each : {X : Type 0} (P : X → Type 0) → ((x : X) → P x) → (xs : List 
 all_each P f [] = tt
 all_each P f (x ∷ xs) = (f x, all_each P f xs)
 
--- a condition that keeps exactly the rows of the transfer with a number
-module _ (rows_of : NumberedTransfer → List Row) (p : Row → Bool) (n : ℤ) (yes : (t : NumberedTransfer) → t.number ≡ n → AllByRecursion (λ row. p row ≡ true) (rows_of t))
-    (no : (t : NumberedTransfer) → t.number ≢ n → AllByRecursion (λ row. p row ≡ false) (rows_of t)) where
-  none_kept : (ts : List NumberedTransfer) → AllByRecursion (λ (t : NumberedTransfer). t.number ≢ n) ts → filter p (flat_map rows_of ts) ≡ []
+-- a condition that keeps no rows but those of the one with a number
+module _ {X : Type 0} (number : X → ℤ) (rows_of : X → List Row) (p : Row → Bool) (n : ℤ) (no : (x : X) → number x ≢ n → AllByRecursion (λ row. p row ≡ false) (rows_of x)) where
+  none_kept : (xs : List X) → AllByRecursion (λ x. number x ≢ n) xs → filter p (flat_map rows_of xs) ≡ []
   none_kept [] others = refl
-  none_kept (t ∷ ts) others = filter-append p (rows_of t) (flat_map rows_of ts) ∙ ap₂ ◌++◌ (filter_none p (rows_of t) (no t others.0)) (none_kept ts others.1)
+  none_kept (x ∷ xs) others = filter-append p (rows_of x) (flat_map rows_of xs) ∙ ap₂ ◌++◌ (filter_none p (rows_of x) (no x others.0)) (none_kept xs others.1)
 
-  pub one_kept : (ts : List NumberedTransfer) (t : NumberedTransfer) → AreApart (λ (x : NumberedTransfer). x.number) ts → Has ts t → t.number ≡ n → filter p (flat_map rows_of ts) ≡ rows_of t
-  one_kept [] t apart has at = absurd has
-  one_kept (first ∷ ts) t apart (inl is) at =
-      let here : first.number ≡ n = ap (λ (x : NumberedTransfer). x.number) is ∙ at in
-      let others = all_weaker (λ (x : NumberedTransfer). first.number ≢ x.number) (λ (x : NumberedTransfer). x.number ≢ n) (λ x other same. other (here ∙ sym same)) ts apart.0 in
-      filter-append p (rows_of first) (flat_map rows_of ts) ∙ ap₂ ◌++◌ (filter_all p (rows_of first) (yes first here)) (none_kept ts others) ∙ append-nil (rows_of first) ∙ ap rows_of is
-  one_kept (first ∷ ts) t apart (inr has) at =
-      let other : first.number ≢ n = λ same. all_has (λ (x : NumberedTransfer). first.number ≢ x.number) ts t apart.0 has (same ∙ sym at) in
-      filter-append p (rows_of first) (flat_map rows_of ts) ∙ ap₂ ◌++◌ (filter_none p (rows_of first) (no first other)) (one_kept ts t apart.1 has at)
+  pub one_kept : (xs : List X) (x : X) → AreApart number xs → Has xs x → number x ≡ n → filter p (flat_map rows_of xs) ≡ filter p (rows_of x)
+  one_kept [] x apart has at = absurd has
+  one_kept (first ∷ xs) x apart (inl is) at =
+      let here : number first ≡ n = ap number is ∙ at in
+      let others = all_weaker (λ y. number first ≢ number y) (λ y. number y ≢ n) (λ y other same. other (here ∙ sym same)) xs apart.0 in
+      filter-append p (rows_of first) (flat_map rows_of xs) ∙ ap (λ rows. filter p (rows_of first) ++ rows) (none_kept xs others) ∙ append-nil (filter p (rows_of first)) ∙ ap (λ y. filter p (rows_of y)) is
+  one_kept (first ∷ xs) x apart (inr has) at =
+      let other : number first ≢ n = λ same. all_has (λ y. number first ≢ number y) xs x apart.0 has (same ∙ sym at) in
+      filter-append p (rows_of first) (flat_map rows_of xs) ∙ ap₂ ◌++◌ (filter_none p (rows_of first) (no first other)) (one_kept xs x apart.1 has at)
 
 -- THE TAG FILES THAT ARE SHOWN
 
-later : (row : Row) (i : ℕ) → column (drop 1 row) i ≡ column row (suc i)
+pub later : (row : Row) (i : ℕ) → column (drop 1 row) i ≡ column row (suc i)
 later [] i = refl
 later (v ∷ row) i = ap (λ r. column r i) (drop_zero row)
 
@@ -151,7 +150,8 @@ module _ (s new : State) (rows : List Row) (ledger : Ledger) (name : List ℕ) (
       let got = reads_as tags_text (Int n ∷ []) s new ledger_schema has tags_command tags_is tags_plain tags_unlisted rows shown in
       let lists = answer_lists 4 tags_where tags_shown_of ((col 1 2, ascending Binary) ∷ []) (Int n ∷ []) s.now.trees rows (got.answer Null) refl in
       let kept : filter test (flat_map tag_rows tables.transfers) ≡ tag_rows t =
-      one_kept tag_rows test n (λ u same. tag_kept u true (same_number u.number n same)) (λ u other. tag_kept u false (other_number u.number n other)) tables.transfers t tables.numbers it.1 it.2 in
+      one_kept (λ (u : NumberedTransfer). u.number) tag_rows test n (λ u other. tag_kept u false (other_number u.number n other)) tables.transfers t tables.numbers it.1 it.2
+      ∙ filter_all test (tag_rows t) (tag_kept t true (same_number t.number n it.2)) in
       let moved = subst (λ l. IsPermutation l (filter test (without_rowids table))) kept (IsPermutation-filter test (flat_map tag_rows tables.transfers) (without_rowids table) tables.rows.tags) in
       let start : map tag_made (tag_rows t) ≡ map (λ (file : List ℕ × List ℕ). (Text file.0 ∷ [], tag_shown file)) t.tags = map_twice (λ (file : List ℕ × List ℕ). Int t.number ∷ Text file.0 ∷ Blob file.1 ∷ []) tag_made t.tags in
       let moves = subst (λ l. IsPermutation l (map tag_made (filter test (without_rowids table)))) start (IsPermutation-map tag_made (tag_rows t) (filter test (without_rowids table)) moved) in
@@ -197,7 +197,8 @@ module _ (s new : State) (rows : List Row) (ledger : Ledger) (name : List ℕ) (
       let got = reads_as sizes_text (Int n ∷ []) s new ledger_schema has sizes_command sizes_is sizes_plain sizes_unlisted rows shown in
       let lists = answer_lists 6 sizes_where sizes_shown_of ((col 1 3, ascending Binary) ∷ []) (Int n ∷ []) s.now.trees rows (got.answer Null) refl in
       let kept : filter test (flat_map held_rows tables.transfers) ≡ held_rows t =
-      one_kept held_rows test n (λ u same. size_kept u true (same_number u.number n same)) (λ u other. size_kept u false (other_number u.number n other)) tables.transfers t tables.numbers it.1 it.2 in
+      one_kept (λ (u : NumberedTransfer). u.number) held_rows test n (λ u other. size_kept u false (other_number u.number n other)) tables.transfers t tables.numbers it.1 it.2
+      ∙ filter_all test (held_rows t) (size_kept t true (same_number t.number n it.2)) in
       let moved = subst (λ l. IsPermutation l (filter test table)) kept (IsPermutation-filter test (flat_map held_rows tables.transfers) table tables.rows.held) in
       let start : map query_made (held_rows t) ≡ map out t.items = map_twice (row_of t) query_made t.items in
       let moves = subst (λ l. IsPermutation l (map query_made (filter test table))) start (IsPermutation-map query_made (held_rows t) (filter test table) moved) in

@@ -81,7 +81,7 @@ module _ {X : Type 0} (p : X → Bool) where
   kept_by true f x xs rest is = ap (λ ys. f x ∷ ys) is
   kept_by false f x xs rest is = is
 
-  flat_kept : {Y : Type 0} (f : X → Y) (xs : List X) → flat_map (λ x. cond (p x) (f x ∷ []) []) xs ≡ map f (filter p xs)
+  pub flat_kept : {Y : Type 0} (f : X → Y) (xs : List X) → flat_map (λ x. cond (p x) (f x ∷ []) []) xs ≡ map f (filter p xs)
   flat_kept f [] = refl
   flat_kept f (x ∷ xs) = kept_by (p x) f x (filter p xs) _ (flat_kept f xs)
 

@@ -43,14 +43,14 @@ pub use Rattle.bag_rules.specs.declared.want.WantFault.{WantFault}
 pub use Rattle.bag_sqlite.specs.Adopting.{count_text, file_in, files_in, format_text, HasFormat, HasPieces, IsRead, ItemPasses, items_text, OnlyReads, piece_text, RowPasses, Stands, stray_texts, tag_files_text, Tells, TellsOne, TransferPasses, transfers_text}
 pub use Rattle.bag_sqlite.specs.Batches.{AreCovered, AreWanted, Covers, HasMisfit, HasOneMore, IsEmpty, IsFindingOf, TakesAlso, Took}
 pub use Rattle.bag_sqlite.specs.Contents.{HasContentMore, HasRead, in_pieces}
-pub use Rattle.bag_sqlite.specs.Databases.{AreApart, AreCut, AreTablesOf, format_row, held_rows, IsInOrder, items_in, NumberedItem, NumberedTransfer, piece_rows, size_of, tag_rows, transfer_row, without_number, without_rowids}
+pub use Rattle.bag_sqlite.specs.Databases.{AreApart, AreCut, AreTablesOf, format_row, held_rows, IsInOrder, IsLedgerDatabase, items_in, ListLedger, NumberedItem, NumberedTransfer, piece_rows, size_of, tag_rows, transfer_row, without_number, without_rowids}
 pub use Rattle.bag_sqlite.specs.Items.{HasItem, HasItemRow, HasPieceRow}
 pub use Rattle.bag_sqlite.specs.Making.{IsCreated, IsLeft, IsMade, IsMaking, Makes, MakesLedger}
 pub use Rattle.bag_sqlite.specs.Opening.{AddsTags, AddsTransfer, HasOneTransferMore, KeepsItems, opened_under}
 pub use Rattle.bag_sqlite.specs.Putting.{AddsItem, AddsPiece, AddsPieces, HasOneItemMore, IsFree, IsUnderWay, item_row, SetsSize}
 pub use Rattle.bag_sqlite.specs.Reading.{HasTransferRow, OnlyQueries, size_shown, tag_shown}
-pub use Rattle.bag_sqlite.specs.Refusing.{adopt_fault, AreFull, AreNoneFor, AreTags, count_under, DoNotOpen, HasDamagedItem, IsBlob, IsDamaged, IsNoLedger, IsNoneFor, IsNoQuery, IsText, ItemFails, items_under, MayShow, OpensNone, params_of, piece_at, Question, RefusesToAdopt, RefusesTransfer, RefusesTransfers, SayNoFormat, SaysFormat, ShowsOctets, strays, tags_under, text_of, the_format, the_transfers, TransferFails}
-pub use Rattle.bag_sqlite.specs.SqlKeepers.{HoldsLedger, MayLeaveLedger}
+pub use Rattle.bag_sqlite.specs.Refusing.{adopt_fault, AreFull, AreNoneFor, AreTags, count_under, DoNotOpen, HasDamagedItem, HasNoFormat, IsBlob, IsDamaged, IsNoAnswer, IsNoLedger, IsNoneFor, IsNoQuery, IsText, ItemFails, items_under, MayShow, OpensNone, params_of, piece_at, Question, RefusesToAdopt, RefusesTransfer, RefusesTransfers, SayNoFormat, SaysFormat, ShowsOctets, strays, tags_under, text_of, the_format, the_transfers, TransferFails}
+pub use Rattle.bag_sqlite.specs.SqlKeepers.{HoldsLedger, KeepsAlone, MayLeaveLedger, Offers}
 pub use Rattle.bag_sqlite.specs.Tables.{held, held_tree, ledger_schema, meta, meta_tree, no_schema, piece, piece_tree, schema_to_held, schema_to_meta, schema_to_tag, schema_to_transfer, tag, tag_tree, transfer, transfer_tree}
 pub use Rattle.bag_sqlite.specs.Transactions.{CommitsNothing}
 pub use Rattle.bag_sqlite.specs.declared.adopting.AdoptFault.{AdoptFault}
@@ -70,7 +70,7 @@ pub use Rattle.sqlite.specs.Command.{Command}
 pub use Rattle.sqlite.specs.Command.TheVariants.{CreateTable, Insert, Rows, Select, Update}
 pub use Rattle.sqlite.specs.Does.{AtPlace, Does, lacks_sequence, OnRows, Tally}
 pub use Rattle.sqlite.specs.Edit.{Applies, are_fresh, Edit, edit_of, edited, is_taken, left_by, next_rowid, put_all, taken_by}
-pub use Rattle.sqlite.specs.Effect.{Answers, Database, RefusesToRead, value_rows}
+pub use Rattle.sqlite.specs.Effect.{Answers, Database, IsDatabase, RefusesToRead, value_rows}
 pub use Rattle.sqlite.specs.Held.{Held, state}
 pub use Rattle.sqlite.specs.Kind.TheVariants.{Integer}
 unfoldable pub use Rattle.sqlite.specs.Listing.{understood}

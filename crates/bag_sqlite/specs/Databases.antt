@@ -1,15 +1,16 @@
--- A database of format 2, read as a ledger: it has exactly the rows of the ledger.
+-- A database of format 2, read as a ledger: it has the tables of a ledger and exactly its rows.
 use Rattle.std.specs.Prelude.{◌≡◌, ◌≢◌, ◌<◌, ◌≤◌, ℕ, ℤ, pos, List, [], ◌∷◌, IsPermutation, codes, drop, flat_map, length, map, sum_by, ⊤}
 use Rattle.std.specs.List.{AllByRecursion, concat, enumerate_from}
 use Rattle.std.specs.Map.{keys_of}
 use Rattle.bag_digest.specs.declared.reading.TheConstants.{PIECE}
 use Rattle.bag_rules.specs.Files.{Files}
 use Rattle.bag_rules.specs.Trees.{AreRising}
+use Rattle.sqlite.specs.Effect.{IsDatabase}
 use Rattle.sqlite.specs.Order.{Row}
 use Rattle.sqlite.specs.Tree.{Trees}
 use Rattle.sqlite.specs.declared.types.Value.TheVariants.{Blob, Int, Null, Text}
-use Rattle.bag_ledger.specs.Ledgers.{Ledger, Transfer}
-use Rattle.bag_sqlite.specs.Tables.{held_tree, meta_tree, piece_tree, tag_tree, transfer_tree}
+use Rattle.bag_ledger.specs.Ledgers.{IsSound, Ledger, Transfer}
+use Rattle.bag_sqlite.specs.Tables.{held_tree, ledger_schema, meta_tree, piece_tree, tag_tree, transfer_tree}
 
 -- A LEDGER WITH ROW NUMBERS
 
@@ -112,3 +113,15 @@ pub record AreTablesOf (trees : Trees) (ledger : Ledger) : Type 0 where
   pub cut : AllByRecursion (λ (item : NumberedItem). AreCut item.pieces) (items_in transfers)
   pub is : ledger ≡ map without_number transfers
   pub order : IsInOrder ledger
+
+-- THE DATABASE
+
+-- these trees list the tables of a ledger and no others, and obey them
+abbrev pub ListLedger : Trees → Type 0
+ListLedger trees = IsDatabase (record { schema = ledger_schema; trees = trees })
+
+-- this is the database of a ledger, and holds this one
+pub record IsLedgerDatabase (trees : Trees) (ledger : Ledger) : Type 0 where
+  pub listed : ListLedger trees
+  pub tables : AreTablesOf trees ledger
+  pub sound : IsSound ledger

@@ -11,7 +11,7 @@ use Rattle.sqlite.specs.State.{State}
 use Rattle.sqlite.specs.Table.{Table}
 use Rattle.sqlite.specs.Tree.{Trees}
 use Rattle.sqlite.proofs.Callers.{IsPlain, command_of, statement_of}
-use Rattle.bag_sqlite.specs.Databases.{AreTablesOf}
+use Rattle.bag_sqlite.specs.Databases.{IsLedgerDatabase}
 use Rattle.bag_sqlite.specs.Tables.{ledger_schema, no_schema}
 
 -- under this schema the statement creates this table
@@ -28,18 +28,18 @@ pub record IsMaking (schema : Schema) (s : State) : Type 0 where
   pub schema_is : s.now.schema ≡ schema
   pub empty : AllByRecursion (λ (table : Table). s.now.trees table.tree ≡ []) schema.tables
 
--- a transaction is open, and sees the tables of a ledger without transfers
+-- a transaction is open, and sees the database of a ledger without transfers
 pub record IsMade (s : State) : Type 0 where
   pub mode : IsTrue s.in_transaction
   pub schema_is : s.now.schema ≡ ledger_schema
-  pub tables : AreTablesOf s.now.trees []
+  pub database : IsLedgerDatabase s.now.trees []
 
--- the tables of a ledger without transfers exist and are committed
+-- the database of a ledger without transfers is committed
 pub record IsCreated (s : State) : Type 0 where
   pub is_open : IsTrue s.is_open
   pub autocommit : s.in_transaction ≡ false
   pub schema_is : s.now.schema ≡ ledger_schema
-  pub tables : AreTablesOf s.now.trees []
+  pub database : IsLedgerDatabase s.now.trees []
   pub committed : s.committed ≡ s.now
 
 -- Nothing was committed. As long as the connection is open, it shows what was committed.
@@ -51,4 +51,4 @@ pub record IsLeft (old new : State) : Type 0 where
 
 -- a database without tables has committed a ledger without transfers
 abbrev pub MakesLedger : State → Trees → Type 0
-MakesLedger s trees = s.now.schema ≡ no_schema → AreTablesOf trees []
+MakesLedger s trees = s.now.schema ≡ no_schema → IsLedgerDatabase trees []

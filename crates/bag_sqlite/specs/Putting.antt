@@ -5,13 +5,14 @@ use Rattle.sqlite.specs.Order.{Row}
 use Rattle.sqlite.specs.State.{State}
 use Rattle.sqlite.specs.Tree.{Trees, has_rowid}
 use Rattle.sqlite.specs.declared.types.Value.TheVariants.{Blob, Int, Null, Text}
-use Rattle.bag_sqlite.specs.Databases.{NumberedItem, piece_rows, without_rowids}
+use Rattle.bag_sqlite.specs.Databases.{ListLedger, NumberedItem, piece_rows, without_rowids}
 use Rattle.bag_sqlite.specs.Tables.{held_tree, ledger_schema, meta_tree, piece_tree, tag_tree, transfer_tree}
 
 -- a transaction is open on the tables of a ledger
 pub record IsUnderWay (s : State) : Type 0 where
   pub mode : IsTrue s.in_transaction
   pub schema_is : s.now.schema ≡ ledger_schema
+  pub listed : ListLedger s.now.trees
 
 -- the row of a payload file
 abbrev pub item_row : ℤ → ℤ → List ℕ → ℕ → Row

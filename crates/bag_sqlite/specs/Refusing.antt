@@ -2,6 +2,7 @@
 use Rattle.std.specs.Prelude.{◌≡◌, ◌≢◌, ◌⊎◌, ◌<◌, ◌≤◌, ◌-◌, ℕ, ℤ, min, pos, List, [], ◌∷◌, Some, IsUtf8, codes, length, slice_get, string_bytes, take}
 use Rattle.std.specs.List.{AllByRecursion, concat}
 use Rattle.bag_digest.specs.declared.reading.TheConstants.{PIECE}
+use Rattle.bag_ledger.specs.declared.fault.KeepFault.{KeepFault}
 use Rattle.bag_ledger.specs.declared.fault.KeepFault.TheVariants.{Memory, Store}
 use Rattle.bag_ledger.specs.declared.fault.StoreFault.TheVariants.{Refused}
 use Rattle.bag_path.specs.Paths.{IsPath}
@@ -44,6 +45,10 @@ adopt_fault InvalidQuery = Keep (Store Refused)
 adopt_fault MultipleStatement = Keep (Store Refused)
 adopt_fault QueryReturnedNoRows = Keep (Store Refused)
 adopt_fault error = NotALedger
+
+-- memory ran out, or the store failed
+abbrev pub IsNoAnswer : AdoptFault → Type 0
+IsNoAnswer fault = (why : KeepFault) × (fault ≡ Keep why)
 
 -- if the fault is `NotALedger`, this is the reason; out of memory and failures of the store say nothing
 abbrev pub IsNoneFor : Type 0 → AdoptFault → Type 0
@@ -268,10 +273,15 @@ module _ {S : Type 0} (g : Ghosts S) (db : Database) where
   RefusesTransfers (Damaged name path) = IsDamaged (string_bytes name) (string_bytes path)
   RefusesTransfers (Keep fault) = Unit {0}
 
-  -- Why it isn't opened. If it is damaged, it has format 2 and no row without an owner. Nothing is
-  -- said here about memory and the store.
+  -- it names no format that there is
+  abbrev pub HasNoFormat : Type 0
+  HasNoFormat = DoesNotShow format_text [] (MayShow the_format)
+
+  -- Why it isn't opened. The format is looked at first: if it is no ledger for another reason, or
+  -- damaged, it has format 2. If it is damaged, it has no row without an owner. Nothing is said here
+  -- about memory and the store.
   abbrev pub RefusesToAdopt : AdoptFault → Type 0
-  RefusesToAdopt NotALedger = IsNoLedger
+  RefusesToAdopt NotALedger = HasNoFormat ⊎ (HasFormat g db (pos 2) × IsNoLedger)
   RefusesToAdopt OldFormat = HasFormat g db (pos 1)
   RefusesToAdopt (Damaged name path) = HasFormat g db (pos 2)
       × AllByRecursion (λ text. Tells g db text [] []) stray_texts

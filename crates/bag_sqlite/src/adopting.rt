@@ -4,8 +4,8 @@ ghost use Rattle.std.specs.List.{AllByRecursion};
 ghost use Rattle.bag_ledger.specs.Ledgers.{Ledger};
 ghost use Rattle.bag_sqlite.specs.Adopting.{HasFormat, IsVerified, OnlyReads, Stands, Tells, stray_texts};
 ghost use Rattle.bag_sqlite.specs.Making.{IsLeft};
-ghost use Rattle.bag_sqlite.specs.Refusing.{AreNoneFor, DoesNotShow, IsNoLedger, IsNoQuery, IsNoneFor, RefusesToAdopt, SayNoFormat, SaysFormat};
-ghost use Rattle.bag_sqlite.specs.SqlKeepers.{HoldsLedger};
+ghost use Rattle.bag_sqlite.specs.Refusing.{AreNoneFor, DoesNotShow, IsNoAnswer, IsNoLedger, IsNoQuery, IsNoneFor, RefusesToAdopt, SayNoFormat, SaysFormat};
+ghost use Rattle.bag_sqlite.specs.SqlKeepers.{HoldsLedger, KeepsAlone, Offers};
 ghost use Rattle.sqlite.specs.Effect.{Database};
 ghost use Rattle.sqlite.specs.Held.{state};
 ghost use Rattle.sqlite.specs.State.{HasCleanDisk, Survives};
@@ -26,8 +26,8 @@ use thiserror::Error as ErrorText;
 /// be reported in place of any of them.
 #[derive(Debug, Drop, ErrorText)]
 pub enum AdoptFault {
-    /// It doesn't have the tables of a ledger, or it has rows that no ledger has: of another format, or without an
-    /// owner.
+    /// It doesn't name the format of a ledger; or it names format 2 and doesn't have its tables, or has rows that no
+    /// ledger has: with values of another type, or without an owner.
     #[error("not a ledger")]
     NotALedger,
     /// It is a ledger of format 1.
@@ -68,6 +68,10 @@ impl From<Error> for AdoptFault {
 }
 
 impl From<io::Error> for AdoptFault {
+    ghost use Rattle.bag_sqlite.specs.Refusing.{IsNoAnswer};
+
+    ghost from_gives = { λ _ fault. IsNoAnswer fault };
+
     fn from(error: io::Error) -> AdoptFault {
         match error.kind() {
             ErrorKind::OutOfMemory => AdoptFault::Keep(KeepFault::Memory),
@@ -105,13 +109,17 @@ impl<S: Alter> SqlKeeper<S> {
     ///
     /// # Errors
     ///
-    /// The first fault in the order of [`AdoptFault`]. If a transaction is open, `Keep(Store(Refused))`.
+    /// The first fault in the order of [`AdoptFault`]: for a database that holds a ledger, as a keeper wrote it, only
+    /// `Keep`. If a transaction is open, `Keep(Store(Refused))`.
     pub fn adopt(connection: Connection<S>) -> Result<SqlKeeper<S>, NotAdopted<S>>
         ensures verified { IfOk result (λ keeper. HasCleanDisk (state S.Store keeper.connection)
             → IsVerified S.Store (state S.Store connection).committed) }
         ensures held { IfOk result (λ keeper. HasCleanDisk (state S.Store keeper.connection)
             → (ledger : Ledger) → HoldsLedger (state S.Store connection) ledger
             → HoldsLedger (state S.Store keeper.connection) ledger) }
+        ensures kept { IfOk result (λ keeper. HasCleanDisk (state S.Store keeper.connection)
+            → (ledger : Ledger) → Offers (state S.Store connection) ledger
+            → KeepsAlone (state S.Store keeper.connection) ledger) }
         ensures unfailed { IfOk result (λ keeper. (keeper.health.is_spent ≡ false)
             × (keeper.health.failures ≡ 0)) }
         ensures handed_back { IfErr result (λ refused.
@@ -120,6 +128,9 @@ impl<S: Alter> SqlKeeper<S> {
         ensures refused { IfErr result (λ refused.
             HasCleanDisk (state S.Store refused.connection)
             → RefusesToAdopt S.Store (state S.Store connection).committed refused.fault) }
+        ensures own { IfErr result (λ refused. HasCleanDisk (state S.Store refused.connection)
+            → (ledger : Ledger) → Offers (state S.Store connection) ledger
+            → IsNoAnswer refused.fault) }
         ensures survives { MatchResult result
             (λ keeper. Survives (state S.Store connection) (state S.Store keeper.connection)
             (λ _. ⊥))

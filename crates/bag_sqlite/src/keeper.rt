@@ -4,7 +4,7 @@ ghost use Rattle.std.specs.Map.{keys_of};
 ghost use Rattle.bag_ledger.specs.Keeping.{Reads, UsesStore};
 ghost use Rattle.bag_ledger.specs.Ledgers.{Ledger};
 ghost use Rattle.bag_sqlite.specs.Making.{IsLeft, MakesLedger};
-ghost use Rattle.bag_sqlite.specs.SqlKeepers.{HoldsLedger, MayLeaveLedger};
+ghost use Rattle.bag_sqlite.specs.SqlKeepers.{HoldsLedger, KeepsAlone, MayLeaveLedger};
 ghost use Rattle.bag_sqlite.specs.Tables.{no_schema};
 ghost use Rattle.bag_ledger.specs.declared.fault.KeepFault.TheVariants.{Store};
 ghost use Rattle.bag_sqlite.specs.declared.health.Health.{Health};
@@ -21,7 +21,7 @@ use bag_digest::{Source, piece_buffer};
 use bag_ledger::{KeepFault, Keeper, PutFault};
 use bag_path::BagPath;
 use bag_rules::{ItemSize, TagSet, Want};
-use sqlite::{Alter, Connection};
+use sqlite::{Alter, Connection, Error, ErrorCode};
 use std::alloc::Global;
 
 /// Transfers in a database, in ledger format 2.
@@ -51,9 +51,12 @@ impl<S: Alter> SqlKeeper<S> {
     /// If the database has other tables, the ledger's tables are created as well, and nothing is promised of the
     /// keeper.
     pub fn create(connection: Connection<S>) -> Result<SqlKeeper<S>, NotCreated<S>>
-        ensures holds { IfOk result (λ keeper. HasCleanDisk (state S.Store keeper.connection)
+        ensures kept { IfOk result (λ keeper. HasCleanDisk (state S.Store keeper.connection)
             → (state S.Store connection).now.schema ≡ no_schema
-            → HoldsLedger (state S.Store keeper.connection) []) }
+            → KeepsAlone (state S.Store keeper.connection) []) }
+        ensures opened { IfOk result (λ keeper. HasCleanDisk (state S.Store keeper.connection)
+            → (state S.Store connection).now.schema ≡ no_schema
+            → IsTrue (state S.Store keeper.connection).is_open) }
         ensures unfailed { IfOk result (λ keeper. (keeper.health.is_spent ≡ false)
             × (keeper.health.failures ≡ 0)) }
         ensures handed_back { IfErr result (λ refused.
@@ -192,6 +195,16 @@ impl<S: Alter> Keeper for SqlKeeper<S> {
         match reading::names(alloc, &mut self.connection) {
             Ok(names) => Ok(names),
             Err(error) => Err(self.health.told(&error)),
+        }
+    }
+
+    /// Counts as any other failure of the store.
+    fn blame(&mut self) -> KeepFault {
+        match self.health.test() {
+            Ok(()) => self
+                .health
+                .told(&Error::SqliteFailure(ErrorCode::DatabaseCorrupt)),
+            Err(fault) => fault,
         }
     }
 

@@ -1,12 +1,34 @@
 //! Laws on the definitions that the contracts of this crate cite. Each function's contract is one law, and its body is
 //! empty.
-ghost use Rattle.std.specs.Prelude.{◌≡◌};
+ghost use Rattle.std.specs.Prelude.{◌≡◌, ◌↔◌, IsTrue};
 ghost use Rattle.bag_ledger.specs.Ledgers.{Ledger};
 ghost use Rattle.bag_sqlite.specs.Databases.{AreTablesOf};
+ghost use Rattle.bag_sqlite.specs.SqlKeepers.{HoldsLedger, MayLeaveLedger};
+ghost use Rattle.sqlite.specs.Held.{state};
+ghost use Rattle.sqlite.specs.State.{HasCleanDisk};
 ghost use Rattle.sqlite.specs.Tree.{Trees};
+
+use crate::keeper::SqlKeeper;
+use bag_ledger::Keeper;
+use sqlite::Alter;
 
 /// The tables of a database hold at most one ledger.
 pub fn tables_hold_one_ledger()
     ensures { (trees : Trees) (ledger other : Ledger) → AreTablesOf trees ledger
         → AreTablesOf trees other → ledger ≡ other }
+{}
+
+/// A keeper in a database holds the ledger that its connection holds, and a crash leaves what it leaves of that
+/// connection. It is clean as long as its store has given back what was written to it. That its store failed, and how
+/// often, is what its calls counted.
+pub fn a_keeper_in_a_database_answers_for_its_connection<S: Alter>(keeper: &SqlKeeper<S>)
+    ensures holds { (ledger : Ledger) → ⟦<SqlKeeper<S> as Keeper>⟧.holds keeper.now ledger
+        ↔ HoldsLedger (state S.Store keeper.now.connection) ledger }
+    ensures leaves { (ledger : Ledger) → ⟦<SqlKeeper<S> as Keeper>⟧.may_leave keeper.now ledger
+        ↔ MayLeaveLedger (state S.Store keeper.now.connection) ledger }
+    ensures clean { ⟦<SqlKeeper<S> as Keeper>⟧.clean keeper.now
+        ↔ HasCleanDisk (state S.Store keeper.now.connection) }
+    ensures spent { ⟦<SqlKeeper<S> as Keeper>⟧.spent keeper.now
+        ↔ IsTrue keeper.now.health.is_spent }
+    ensures failures { ⟦<SqlKeeper<S> as Keeper>⟧.failures keeper.now ≡ keeper.now.health.failures }
 {}

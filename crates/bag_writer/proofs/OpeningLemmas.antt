@@ -22,7 +22,7 @@ use Rattle.bag_rules.specs.declared.limits.TheConstants.{LARGEST_ITEM, LARGEST_T
 use Rattle.bag_writer.proofs.FewHoles.{at_most, few_holes}
 use Rattle.bag_writer.proofs.FilledLemmas.{listed_all, manifest_listed, some_alg}
 use Rattle.bag_writer.proofs.ListedPairs.{can_be_written, digest_has, has_listed, listed_has}
-use Rattle.bag_writer.proofs.PartBags.{declaration_there, declared, HasTags, lists_only, lists_so, manifest_named, manifest_octets, manifest_tag, may_be_listed, payload_path, tag_plain, version_is}
+use Rattle.bag_writer.proofs.PartBags.{declaration_there, declared, HasTags, lists_only, lists_so, manifest_named, manifest_octets, manifest_tag, may_be_listed, payload_path, tag_path, tag_plain, version_is}
 use Rattle.bag_writer.proofs.SaidElements.{elements, few_files, one_oxum, oxum_read, says_only, says_oxum, says_so, short}
 use Rattle.bag_writer.proofs.SaidEntries.{all_fetched, entry_length, entry_path, fetch_is, fetch_is_written, fetches_so, has_path, hole_file, line_of, lines, path_has, whole}
 use Rattle.bag_writer.proofs.TagCases.{a_manifest, files_in, has_manifest, listed_tag, tag_case, TagCase, the_declaration, the_fetch, the_info}
@@ -172,7 +172,7 @@ module _ (spec : Spec) (payload : Files) (fits : IsPayloadFor spec payload) wher
   are_tag_files = record {
     rising = tags_rise spec payload;
     each = all_of IsTagFile (tag_files spec payload) (λ file h. (
-      tag_plain spec payload file.0 file.1 (tag_case spec payload file.0 file.1 h),
+      (tag_path spec payload file.0 file.1 (tag_case spec payload file.0 file.1 h), tag_plain spec payload file.0 file.1 (tag_case spec payload file.0 file.1 h)),
       short (tag_files spec payload) LARGEST_TAG_FILE (λ long. fits.not_too_large (inr (inr long))) file.0 file.1 h,
     ));
   }

@@ -1,5 +1,6 @@
 -- What a bag says if it has the tag files that are written, and some or all of the payload files.
 use Rattle.std.proofs.Common.{◌≡◌, ◌≢◌, ◌⊎◌, ◌∙◌, ℕ, true, false, List, [], ◌∷◌, inl, inr, refl, sym, ap, subst}
+use Rattle.bag_path.specs.Paths.{IsPath}
 use Rattle.bag_tags.proofs.ExactTexts.{one_list_of_pairs}
 use Rattle.bag_tags.proofs.DeclaredVersionLemmas.{begins_with_version}
 use Rattle.bag_tags.proofs.NameLemmas.{one_name}
@@ -19,6 +20,7 @@ use Rattle.bag_writer.proofs.ListedPairs.{manifest_text, MayBeListed}
 use Rattle.bag_writer.proofs.TagCases.{a_manifest, fetch_octets, files_in, has_declaration, has_manifest, listed_tag, tag_case, TagCase, the_declaration, the_fetch, the_info}
 use Rattle.bag_writer.proofs.ListedNames.{tags_listed}
 use Rattle.bag_writer.proofs.TagNames.{listed_rise}
+use Rattle.bag_writer.proofs.TagPaths.{declaration_path, fetch_path, info_path, manifest_path}
 use Rattle.bag_writer.specs.FilledBags.{IsPayloadFor, IsPayloadPath}
 use Rattle.bag_writer.specs.WrittenBags.{info_file, pairs_by, tag_files}
 use Rattle.bag_writer.specs.declared.spec.Spec.{Spec}
@@ -85,6 +87,13 @@ module _ (spec : Spec) (payload : Files) where
   tag_plain path octets (the_declaration p o) = ap is_payload p
   tag_plain path octets (the_fetch p o some) = ap is_payload p ∙ plain_text FetchList
   tag_plain path octets (a_manifest kind alg h p o) = ap is_payload p ∙ plain_text (Manifest (manifest_name kind alg))
+
+  -- each name is a path
+  pub tag_path : (path octets : List ℕ) → TagCase spec payload path octets → IsPath path
+  tag_path path octets (the_info p o) = subst IsPath (sym p) info_path
+  tag_path path octets (the_declaration p o) = subst IsPath (sym p) declaration_path
+  tag_path path octets (the_fetch p o some) = subst IsPath (sym p) fetch_path
+  tag_path path octets (a_manifest kind alg h p o) = subst IsPath (sym p) (manifest_path kind alg)
 
 -- WHAT IT SAYS
 

@@ -1,10 +1,9 @@
 -- The files that are written of a payload: none is there twice, and they are exactly those of its bag.
 use Rattle.std.proofs.Common.{◌≡◌, ◌∙◌, ◌⊎◌, ◌↔◌, ◌++◌, ◌∷◌, [], ℕ, Bool, true, false, not, zero, suc, List, take, refl, sym, ap, subst, inl, inr}
 use Rattle.std.specs.List.{AllByRecursion, filter}
-use Rattle.std.specs.List.Sorted.{IsStrictlySortedBy}
 use Rattle.std.proofs.lemmas.List.Kept.{IsStrictlySortedBy-filter}
-use Rattle.bag_rules.proofs.Words.{AreRising, Equal, Files, Has, Less, cases_Bool, false≢true, is_payload, keys_of, nat_cmp, nat_list_cmp_total, slice_cmp, tied_itself}
-use Rattle.bag_rules.proofs.PutFiles.{AreNew}
+use Rattle.bag_rules.proofs.Words.{AreRising, Files, Has, cases_Bool, false≢true, is_payload, keys_of, nat_cmp, slice_cmp}
+use Rattle.bag_rules.proofs.PutFiles.{AreNew, key_has, rising_new}
 use Rattle.bag_rules.proofs.SameListLemmas.{all_has}
 use Rattle.bag_rules.proofs.WantLemmas.{same_or_not}
 use Rattle.bag_writer.specs.Steps.{is_hole, written_payload}
@@ -16,11 +15,6 @@ use Rattle.bag_writer.proofs.TagNames.{tags_plain, tags_rise}
 abbrev File : Type 0
 File = List ℕ × List ℕ
 
-key_has : (files : Files) (path octets : List ℕ) → Has files (path, octets) → Has (keys_of files) path
-key_has [] path octets has = absurd has
-key_has (file ∷ files) path octets (inl this) = inl (ap (λ (f : File). f.0) this)
-key_has (file ∷ files) path octets (inr further) = inr (key_has files path octets further)
-
 -- BOTH LISTS JOINED
 
 pub has_join : {X : Type 0} (xs ys : List X) (x : X) → Has (xs ++ ys) x ↔ (Has xs x ⊎ Has ys x)
@@ -31,18 +25,6 @@ has_join (first ∷ xs) ys x = let rest = has_join xs ys x in (
 )
 
 -- NONE TWICE
-
-pub rising_new : (files : Files) → AreRising (keys_of files) → AreNew [] files
-unfolding IsStrictlySortedBy
-rising_new [] rising = tt
-rising_new (file ∷ files) rising = (
-  λ octets none. none,
-  λ octets has.
-      let less = all_has (λ other. slice_cmp nat_cmp file.0 other ≡ Less) (keys_of files) file.0 rising.0 (key_has files file.0 octets has) in
-      let k : Less ≡ Equal = sym less ∙ tied_itself nat_list_cmp_total file.0 in
-      cc,
-  rising_new files rising.1,
-)
 
 -- files that aren't payload come after those that are
 join_new : (payload tags : Files) → AreNew [] payload → AllByRecursion (λ path. is_payload path ≡ true) (keys_of payload) → AllByRecursion (λ path. is_payload path ≡ false) (keys_of tags) → AreNew [] tags → AreNew [] (payload ++ tags)

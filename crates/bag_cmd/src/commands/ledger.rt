@@ -1,6 +1,8 @@
 //! The commands on a ledger: opens it, does the work and closes it.
-ghost use Rattle.std.specs.Prelude.{IfOk};
-ghost use Rattle.bag_cmd.specs.Working.{DoesWork, IsOpenFor, WorksOn};
+ghost use Rattle.std.specs.Prelude.{◌≡◌, ℕ, IfErr, IfOk, List, MatchResult, Some};
+ghost use Rattle.bag_cmd.specs.Working.{DoesWork, HoldsValidBag, IsOpenFor, Works, WorksOn, viewed};
+ghost use Rattle.bag_commands.specs.declared.status.TheConstants.{VALID};
+ghost use Rattle.bag_ledger.specs.Ledgers.{Ledger};
 
 use super::begin::begin_with_folder;
 use super::export::export_into_folder;
@@ -32,13 +34,11 @@ pub fn work_on_ledger<R: Files, D: Directories, L: Ledgers, W: Write + Drop>(
     work: &Work,
     out: &mut Output<W>,
 ) -> u8
-    ensures { WorksOn L.Kept.Keeper L.opened L.made (D.listing disk.now) W.contents ledger.now
-        work.now made.old made.new out.old out.new result }
+    ensures { WorksOn L.Kept.Keeper L.opened L.made L.refused (D.listing disk.now) W.contents
+        ledger.now work.now made.old made.new out.old out.new result }
 {
-    match open(ledgers, ledger, work) {
-        Ok(kept) => {
-            let mut receiver = Receiver::new(alloc, kept);
-            let status = do_work(rt, disk, made, alloc, &mut receiver, work, out);
+    match open_and_work(rt, disk, ledgers, made, alloc, ledger, work, out) {
+        Ok((mut receiver, status)) => {
             if has_no_transfer(alloc, &mut receiver, status) {
                 ledgers.give_up(receiver.into_keeper());
             } else {
@@ -50,9 +50,37 @@ pub fn work_on_ledger<R: Files, D: Directories, L: Ledgers, W: Write + Drop>(
     }
 }
 
+/// Opens a ledger and does the work. The receiver is returned too, so that the ledger can be closed.
+fn open_and_work<R: Files, D: Directories, L: Ledgers, W: Write + Drop>(
+    rt: &R,
+    disk: &D,
+    ledgers: &mut L,
+    made: &mut Destination<'_, R>,
+    alloc: Global,
+    ledger: &str,
+    work: &Work,
+    out: &mut Output<W>,
+) -> Result<(Receiver<L::Kept>, u8), AdoptFault>
+    ensures works { IfOk result (λ done. Works L.Kept.Keeper L.opened L.made (D.listing disk.now)
+        W.contents ledger.now work.now made.old made.new done.0 out.old out.new done.1) }
+    // If a report or an audit answers that a transfer is valid, the ledger that is stored holds a valid bag under this
+    // name.
+    ensures valid { IfOk result (λ done. done.1 ≡ VALID → L.Kept.Keeper.clean done.0.keeper
+        → (name : List ℕ) → viewed work.now ≡ Some name
+        → (stored : Ledger) → L.holds ledger.now stored → HoldsValidBag stored name) }
+    ensures refused { IfErr result (λ fault. L.refused ledger.now fault
+        × (made.new ≡ made.old) × (out.new ≡ out.old)) }
+{
+    let kept = open(ledgers, ledger, work)?;
+    let mut receiver = Receiver::new(alloc, kept);
+    let status = do_work(rt, disk, made, alloc, &mut receiver, work, out);
+    Ok((receiver, status))
+}
+
 /// Opens a ledger for this work.
 fn open<L: Ledgers>(ledgers: &mut L, ledger: &str, work: &Work) -> Result<L::Kept, AdoptFault>
-    ensures { IfOk result (IsOpenFor L.opened L.made ledger.now work.now) }
+    ensures { MatchResult result (IsOpenFor L.opened L.made ledger.now work.now)
+        (L.refused ledger.now) }
 {
     match work {
         Work::Begin { .. } => ledgers.open_or_make(ledger),

@@ -40,4 +40,4 @@ returns-in_err-test_rows-clause-verified g c clean =
     let d0 : Stands s0 db = λ is_open. (c.is_autocommit.ensures.settled idle is_open, refl) in
     let p = err_from_is_err_and c.from_residual-in_err-test_rows.result c.from_residual-in_err-test_rows.ensures.1 in
     let c1 : HasCleanDisk s1 = omega (arith, clean, c.test_rows.ensures.reads.survives.clean) in
-    rw (p.1, p.2) (to_adopt g.S.Store db _ (c.in_err-test_rows.ensures.refused clean db (stands_still s0 s1 db (c.test_format.ensures.reads.read c1) d0)))
+    rw (p.1, p.2) (to_adopt g.S.Store db _ (c.in_ok-test_format.ensures.format c1 db d0) (c.in_err-test_rows.ensures.refused clean db (stands_still s0 s1 db (c.test_format.ensures.reads.read c1) d0)))

@@ -15,7 +15,7 @@ returns-clause-item g c clean ledger holds =
     let first = c.params-to_sql.ensures ∙ ap Int (to_z-of_z w64 c.args.transfer c.ranges.transfer) in
     if_ok c.first_item.result _
     (λ item. MatchOption item ((number : ℤ) (size : ℕ) → ¬ HasItemRow begun.now.trees number transfer path size) (λ item. HasItemRow begun.now.trees item.number transfer path item.size))
-    (λ item read. item_shown begun (state g.S.Store it.then) c.in_ok-rows.rows.items ledger shows.schema_is shows.tables transfer path (rw (first, c.params-to_sql-2.ensures) at it.shown) item
+    (λ item read. item_shown begun (state g.S.Store it.then) c.in_ok-rows.rows.items ledger shows.schema_is shows.database.tables transfer path (rw (first, c.params-to_sql-2.ensures) at it.shown) item
     (subst (λ rows. MatchOption item (rows ≡ []) (λ item. (column (slice_index_or rows 0 []) 0 ≡ Int item.number) × (column (slice_index_or rows 0 []) 1 ≡ Int (pos item.size)))) c.as_slice.ensures.value read)) c.first_item.ensures
 
 pub returns-clause-opened : goal.returns-clause-opened

@@ -21,7 +21,7 @@ returns-clause-item g c clean ledger holds =
     if_ok_where c.item_in.result _ (λ item. MatchOption item (content_of ledger name path ≡ None) (λ item. HasItem old.now.trees name path item.number item.size)) (c.item_in.ensures.opened clean)
     (λ item is_open told.
     let shows = holds.shows (left.was_open is_open) in
-    item_told old.now.trees ledger shows.tables name path transfer named item
+    item_told old.now.trees ledger shows.database.tables name path transfer named item
     (subst (λ (d : Database). MatchOption item ((number : ℤ) (size : ℕ) → ¬ HasItemRow d.trees number transfer path size) (λ item. HasItemRow d.trees item.number transfer path item.size))
     (same_shown old mid left c.requires is_open shows.committed) told))
     (rw (to_z-of_z w64 transfer fits) at (c.item_in.ensures.item clean ledger still))

@@ -17,7 +17,7 @@ returns-clause-piece g c clean ledger holds =
     let second = c.params-to_sql-2.ensures ∙ ap Int (to_z_pos w64 low) in
     if_ok c.first_octets.result _
     (λ piece. MatchOption piece ((body : List ℕ) → ¬ HasPieceRow begun.now.trees item n body) (λ piece. HasPieceRow begun.now.trees item n piece.items))
-    (λ piece read. piece_shown begun (state g.S.Store it.then) c.in_ok-rows.rows.items ledger shows.schema_is shows.tables item n (rw (first, second) at it.shown) piece
+    (λ piece read. piece_shown begun (state g.S.Store it.then) c.in_ok-rows.rows.items ledger shows.schema_is shows.database.tables item n (rw (first, second) at it.shown) piece
     (subst (λ rows. MatchOption piece (rows ≡ []) (λ octets. column (slice_index_or rows 0 []) 0 ≡ Blob octets.items)) c.as_slice.ensures.value read)) c.first_octets.ensures
 
 pub returns-clause-opened : goal.returns-clause-opened

@@ -18,7 +18,7 @@ returns-in_default-2-clause-piece g c clean ledger holds =
     let same = same_shown old mid left c.requires is_open shows.committed in
     let item = rw c.in-Some.is at (c.in_ok-item.ensures.item early ledger holds) in
     let none = rw (c.in_default-2.is, to_z-of_z w64 c.in-Some.item.number fits) at (c.in_ok-piece.ensures.piece clean ledger still) in
-    no_piece_held old.now.trees ledger shows.tables c.args.name.now c.args.path.now c.in-Some.item.number c.in-Some.item.size c.args.offset c.args.buf.now item
+    no_piece_held old.now.trees ledger shows.database.tables c.args.name.now c.args.path.now c.in-Some.item.number c.in-Some.item.size c.args.offset c.args.buf.now item
     (λ body row. none body (subst (λ (d : Database). HasPieceRow d.trees c.in-Some.item.number (c.args.offset / PIECE) body) (sym same) row))
 
 pub returns-clause-piece : goal.returns-clause-piece
@@ -34,7 +34,7 @@ returns-clause-piece g c clean ledger holds =
     let same = same_shown old mid left c.requires is_open shows.committed in
     let item = rw c.in-Some.is at (c.in_ok-item.ensures.item early ledger holds) in
     let row = rw (c.in-Some-2.is, to_z-of_z w64 c.in-Some.item.number fits) at (c.in_ok-piece.ensures.piece clean ledger still) in
-    piece_held old.now.trees ledger shows.tables c.args.name.now c.args.path.now c.in-Some.item.number c.in-Some.item.size c.args.offset c.copy_from.new.buf item c.in-Some-2.piece.items c.copy_from.result
+    piece_held old.now.trees ledger shows.database.tables c.args.name.now c.args.path.now c.in-Some.item.number c.in-Some.item.size c.args.offset c.copy_from.new.buf item c.in-Some-2.piece.items c.copy_from.result
     (subst (λ (d : Database). HasPieceRow d.trees c.in-Some.item.number (c.args.offset / PIECE) c.in-Some-2.piece.items) same row)
     (subst (λ octets. IsPieceAt octets (c.args.offset % PIECE) c.copy_from.result c.copy_from.new.buf) c.as_slice.ensures.value c.copy_from.ensures)
 

@@ -7,4 +7,4 @@ pub returns-in-Some-clause-size : goal.returns-in-Some-clause-size
 returns-in-Some-clause-size g c clean ledger holds =
     let old = state g.S.Store c.args.connection.now in
     let is_open : IsTrue old.is_open = rw c.in-Some.is at (c.in_ok-item.ensures.opened clean) refl in
-    size_held old.now.trees ledger (holds.shows is_open).tables c.args.name.now c.args.path.now c.in-Some.item.number c.in-Some.item.size (rw c.in-Some.is at (c.in_ok-item.ensures.item clean ledger holds))
+    size_held old.now.trees ledger (holds.shows is_open).database.tables c.args.name.now c.args.path.now c.in-Some.item.number c.in-Some.item.size (rw c.in-Some.is at (c.in_ok-item.ensures.item clean ledger holds))

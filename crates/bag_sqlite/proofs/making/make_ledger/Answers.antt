@@ -1,5 +1,5 @@
 use Rattle.std.proofs.Common.{◌≡◌, [], false, OnErr, OnOk, IsTrue, refl, sym, subst, rules, arith}
-use Rattle.bag_sqlite.proofs.Words.{AreTablesOf, HasCleanDisk, IsCreated, IsLeft, IsMade, KeepsCommit, MakesLedger, no_schema, state, Survives, survives_begin, survives_then, Trees}
+use Rattle.bag_sqlite.proofs.Words.{HasCleanDisk, IsCreated, IsLedgerDatabase, IsLeft, IsMade, KeepsCommit, MakesLedger, no_schema, state, Survives, survives_begin, survives_then, Trees}
 use Rattle.bag_sqlite.proofs.MakingLemmas.{begin_making, created_by, kept_since, left_by_failing}
 use Rattle.bag_sqlite.proofs.SqlLemmas.{kept_then, on_err, on_ok}
 use Rattle.bag_sqlite.proofs.making.make_ledger.Given.{Over}
@@ -66,6 +66,6 @@ returns-clause-survives g c =
     let last = survives_then one two three _ _ (λ _. ⊥) (λ _ db none. none) (λ _ db none. none) c.make_item_tables.ensures.kept.survives c.write_format.ensures.kept.survives in
     let inside = survives_then _ one three _ _ (λ _. ⊥) (λ _ db none. none) (λ _ db none. none) (rw c.transaction-transaction.ensures.begun at c.make_transfer_tables.ensures.kept.survives) last in
     let whole = survives_then (state g.S.Store old) three (state g.S.Store end) _ _ P (λ _ db none. absurd none)
-    (λ clean db is blank. subst (λ (t : Trees). AreTablesOf t []) (sym is) (made g c (omega (arith, c.commit.ensures.survives.clean)) blank).tables)
+    (λ clean db is blank. subst (λ (t : Trees). IsLedgerDatabase t []) (sym is) (made g c (omega (arith, c.commit.ensures.survives.clean)) blank).database)
     (survives_begin g.S.Store old three _ inside) c.commit.ensures.survives in
     subst (λ h. Survives (state g.S.Store old) (state g.S.Store h) P) same whole

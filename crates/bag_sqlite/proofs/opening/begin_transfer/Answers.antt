@@ -16,7 +16,7 @@ returns-clause-begun g c =
     let such = IsUnused name in
     let change = opens_it g.S.Store old mid name tags in
     let begun = c.transaction-transaction.ensures.begun in
-    let steps = prepares g.S.Store old mid name tags c.files.ensures.tags c.requires.opens
+    let steps = prepares g.S.Store old mid name tags c.utf8.name c.files.ensures.tags c.requires.opens
     (rw (begun, c.files.ensures.files) at c.in_ok-write_transfer.ensures.written) (rw begun at c.in_ok-write_transfer.ensures.opened)
     (rw begun at c.write_transfer.ensures.kept.commit) (rw begun at c.write_transfer.ensures.kept.survives) in
     subst (λ (h : Held _). MatchResult c.commit.result (λ _. WritesLedger g.S.Store such change old c.requires.idle h) (λ _. LeavesLedger g.S.Store such change old c.requires.idle h)) same

@@ -1,8 +1,26 @@
-use Rattle.std.proofs.Common.{FitsSigned, rules, ◌≡◌, inr, subst, w64}
-use Rattle.bag_sqlite.proofs.Words.{Awaits, err_from_is_err_and, Held, state, to_z-of_z}
+use Rattle.std.proofs.Common.{FitsSigned, rules, ◌≡◌, inl, inr, subst, w64}
+use Rattle.bag_sqlite.proofs.Words.{Awaits, err_from_is_err_and, HasCleanDisk, Held, state, to_z-of_z}
+use Rattle.bag_sqlite.proofs.AdoptingLemmas.{queries_then}
 use Rattle.bag_sqlite.proofs.CommitLemmas.{LeavesLedger, WritesLedger, committed, failed}
+use Rattle.bag_sqlite.proofs.MakingLemmas.{kept_since}
+use Rattle.bag_sqlite.proofs.ReadingLemmas.{ReadsLedger, keeps_reading, queries_undone}
 use Rattle.bag_sqlite.proofs.StoringLemmas.{prepares_put, puts_it}
 use Rattle.bag_sqlite.proofs.putting.put_content.Goals as goal
+
+pub returns-in_err-put_item-clause-put : goal.returns-in_err-put_item-clause-put
+returns-in_err-put_item-clause-put g c =
+    let p = err_from_is_err_and c.from_residual-in_err-put_item.result c.from_residual-in_err-put_item.ensures.1 in
+    let old = c.args.connection.now in
+    let asked = c.transfer_number.new.connection in
+    let mid = state g.S.Store c.put_item.new.tx.conn.now in
+    let end = c.drop-transaction.new.self.0 in
+    let same : end ≡ c.connection-1.given.0 = search rules in
+    let begun = c.transaction-transaction.ensures.begun in
+    let steps = c.put_item.ensures.kept in
+    let kept = λ (early : HasCleanDisk mid). kept_since g.S.Store asked mid (rw begun at (steps.commit early)) in
+    let undone = queries_undone g.S.Store asked end mid c.in_ok-transfer.ensures.queries.idle c.drop-transaction.ensures.ended kept (rw begun at steps.survives) c.drop-transaction.ensures.undone c.drop-transaction.ensures.survives in
+    let reads = keeps_reading g.S.Store old end c.requires.idle (queries_then c.in_ok-transfer.ensures.queries undone) in
+    rw (p.1, p.2) (λ told. (c.in_err-put_item.ensures.put told, inl (subst (λ (h : Held _). ReadsLedger g.S.Store old h) same reads)))
 
 pub returns-in_err-commit-clause-put : goal.returns-in_err-commit-clause-put
 returns-in_err-commit-clause-put g c =

@@ -29,6 +29,11 @@ returns-then-n-eq0-clause-read g c =
     let it = c.pieces.invariant.read in
     (it.0, read_to_end _ _ _ c.args.want.now _ _ c.in_ok-n.n it.0 _ it.1 c.in_ok-n.ensures.piece c.finish.result c.if-n-eq0.true c.finish.ensures, rw (to_z-of_z w64 c.args.item c.ranges.item) at it.2)
 
+pub returns-then-n-eq0-clause-uses : goal.returns-then-n-eq0-clause-uses
+returns-then-n-eq0-clause-uses g c =
+    let was = c.in_ok-n.was in
+    uses_then (g.met.R.Source.keeps_on _ _ _) c.pieces.invariant.used c.fill.ensures.uses (λ e. cc e) (λ e. cc (e, was))
+
 pub returns-in_err-insert_piece-clause-read : goal.returns-in_err-insert_piece-clause-read
 returns-in_err-insert_piece-clause-read g c =
     let p = err_from_is_err_and c.from_residual-in_err-insert_piece.result c.from_residual-in_err-insert_piece.ensures.1 in

@@ -12,5 +12,5 @@ returns-clause-number g c clean ledger holds =
     let is_open : IsTrue (state g.S.Store old).is_open = was_open begun (state g.S.Store it.then) _ _ _ it.shown in
     let shows = holds.shows is_open in
     if_ok c.first_number.result _ (λ number. MatchOption number (transfer_of ledger c.args.name.now ≡ None) (HasTransferRow begun.now.trees c.args.name.now))
-    (λ number read. number_shown begun (state g.S.Store it.then) c.in_ok-rows.rows.items ledger c.args.name.now shows.schema_is shows.tables (rw c.params-to_sql.ensures at it.shown) number
+    (λ number read. number_shown begun (state g.S.Store it.then) c.in_ok-rows.rows.items ledger c.args.name.now shows.schema_is shows.database.tables (rw c.params-to_sql.ensures at it.shown) number
     (subst (λ rows. MatchOption number (rows ≡ []) (λ n. column (slice_index_or rows 0 []) 0 ≡ Int n)) c.as_slice.ensures.value read)) c.first_number.ensures

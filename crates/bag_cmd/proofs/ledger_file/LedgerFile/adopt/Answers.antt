@@ -1,15 +1,32 @@
-use Rattle.std.proofs.Common.{arith}
+use Rattle.std.proofs.Common.{arith, inr}
 use Rattle.sqlite.specs.State.{HasCleanDisk}
 use Rattle.sqlite.specs.Files.{file_state}
+use Rattle.sqlite_wal.specs.Files.{image_at}
+use Rattle.bag_cmd.specs.LedgerFiles.{Refused}
+use Rattle.bag_cmd.proofs.FileLemmas.{opened_on}
 use Rattle.bag_cmd.proofs.ledger_file.LedgerFile.adopt.Goals as goal
 
 pub returns-in-Ok : goal.returns-in-Ok
 returns-in-Ok g c = λ connected clean.
-    let before : HasCleanDisk (file_state c.args.connection) = omega (arith, c.in-Ok.ensures.survives.clean, clean) in (
-      c.args.connection,
+    let opened = c.args.connection in
+    let before : HasCleanDisk (file_state opened) = omega (arith, c.in-Ok.ensures.survives.clean, clean) in
+    let it = connected before in (
+      opened,
       record {
-        found = connected before;
+        found = it.0;
+        opens = it.1;
         verified = c.in-Ok.ensures.verified clean;
-        held = λ ledger. c.in-Ok.ensures.held clean ledger;
+        keeps = λ ledger stored. c.in-Ok.ensures.kept clean ledger (inr (opened_on (image_at g.S.Start) (file_state opened) ledger it.0 it.1 stored));
       },
     )
+
+pub returns-in-Err : goal.returns-in-Err
+returns-in-Err g c = λ connected. Refused c.args.connection c.in-Err.field-0.connection (λ clean.
+    let opened = c.args.connection in
+    let before : HasCleanDisk (file_state opened) = omega (arith, c.in-Err.ensures.survives.clean, clean) in
+    let it = connected before in
+    record {
+      found = it.0;
+      reason = c.in-Err.ensures.refused clean;
+      own = λ ledger stored. c.in-Err.ensures.own clean ledger (inr (opened_on (image_at g.S.Start) (file_state opened) ledger it.0 it.1 stored));
+    })

@@ -1,16 +1,17 @@
-use Rattle.std.proofs.Common.{◌≡◌, ◌⊎◌, Err, IfOk, Ok, Result, arith, inl, inr}
+use Rattle.std.proofs.Common.{◌≡◌, ◌⊎◌, Err, MatchResult, Ok, Result, arith, inl, inr, refl}
 use Rattle.sqlite.specs.Files.{file_state}
 use Rattle.sqlite.specs.State.{HasCleanDisk}
 use Rattle.bag_sqlite.specs.Tables.{no_schema}
+use Rattle.bag_cmd.specs.LedgerFiles.{NoAnswer}
 use Rattle.bag_cmd.proofs.ledger_file.LedgerFile.open_or_make.Goals as goal
 
-module _ {A E : Type 0} (P Q : A → Type 0) where
-  either : (answer : Result A E) → IfOk answer P → IfOk answer (λ a. P a ⊎ Q a)
+module _ {A E : Type 0} (P Q : A → Type 0) (R : E → Type 0) where
+  either : (answer : Result A E) → MatchResult answer P R → MatchResult answer (λ a. P a ⊎ Q a) R
   either (Ok a) p = inl p
   either (Err e) p = p
 
 pub returns-then-not-has_nothing : goal.returns-then-not-has_nothing
-returns-then-not-has_nothing g c = either _ _ c.adopt.result (c.adopt.ensures c.in_ok-connection.ensures)
+returns-then-not-has_nothing g c = either _ _ _ c.adopt.result (c.adopt.ensures c.in_ok-connection.ensures)
 
 pub returns-in-Ok : goal.returns-in-Ok
 returns-in-Ok g c = inr (λ clean.
@@ -19,8 +20,12 @@ returns-in-Ok g c = inr (λ clean.
     let none : (file_state opened).now.schema ≡ no_schema = c.has_nothing.ensures c.if-not-has_nothing.false in (
       opened,
       record {
-        found = c.in_ok-connection.ensures before;
+        found = (c.in_ok-connection.ensures before).0;
+        opens = (c.in_ok-connection.ensures before).1;
         none = none;
-        held = c.in-Ok.ensures.holds clean none;
+        keeps = c.in-Ok.ensures.kept clean none;
       },
     ))
+
+pub returns-in-Err : goal.returns-in-Err
+returns-in-Err g c = NoAnswer (c.in-Err.field-0.fault, refl)

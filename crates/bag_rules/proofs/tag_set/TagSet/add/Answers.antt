@@ -1,8 +1,8 @@
-use Rattle.std.proofs.Common.{◌≢◌, List, ℕ, ap, subst, sym, ◌∙◌, arith, Contains}
+use Rattle.std.proofs.Common.{◌≢◌, List, ℕ, subst, sym, ◌∙◌, arith, Contains}
 use Rattle.bag_rules.specs.declared.tag_set.TagSetFault.{TagSetFault}
 use Rattle.bag_rules.specs.declared.tag_set.TagSetFault.TheVariants.{Memory, TooLarge}
-use Rattle.bag_rules.specs.Files.{paths_of}
-use Rattle.bag_rules.specs.TagSets.{IsTagPath, RefusesFile}
+use Rattle.bag_rules.specs.Files.{IsTagPath, paths_of}
+use Rattle.bag_rules.specs.TagSets.{RefusesFile}
 use Rattle.bag_rules.proofs.Words.{File, files_of, insert_entry, IsGapFor, keys_of, nat_cmp, slice_cmp}
 use Rattle.bag_rules.proofs.MemoryFiles.{absent_in_gap}
 use Rattle.bag_rules.proofs.FilesShown.{same_gap}
@@ -32,7 +32,7 @@ pub invariant_of-self-2 : goal.invariant_of-self-2
 unfolding file
 invariant_of-self-2 c =
     let at = (goal.at.invariant_of-self-2 c).In-Err-search in
-    tags_put c.self.inside.files.items c.insert.new.self.items c.in-Err-search.place (file c) (gap_is at) c.in-Ok-insert.ensures.items c.self.invariant ((is_tag at).1, omega arith)
+    tags_put c.self.inside.files.items c.insert.new.self.items c.in-Err-search.place (file c) (gap_is at) c.in-Ok-insert.ensures.items c.self.invariant (is_tag at, omega arith)
 
 pub returns-clause-added : goal.returns-clause-added
 unfolding file

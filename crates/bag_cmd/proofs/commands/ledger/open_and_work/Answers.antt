@@ -1,0 +1,20 @@
+use Rattle.std.proofs.Common.{subst}
+use Rattle.bag_receiver.specs.Receiving.{settled}
+use Rattle.bag_cmd.proofs.ViewLemmas.{opened_by, valid_by}
+use Rattle.bag_cmd.proofs.commands.ledger.open_and_work.Goals as goal
+
+pub returns-clause-works : goal.returns-clause-works
+returns-clause-works g c = record {
+  kept = c.in_ok-kept.kept;
+  before = c.new-receiver.result;
+  open_for = c.in_ok-kept.ensures;
+  over = record { keeper = c.new-receiver.ensures.keeper; in_state = c.new-receiver.ensures.in_state };
+  done = c.do_work-status.ensures;
+}
+
+pub returns-clause-valid : goal.returns-clause-valid
+returns-clause-valid g c valid clean name is stored holds =
+    let it = valid_by g.L.Kept.Keeper _ _ _ _ _ _ _ _ _ valid clean name c.args.work.now is c.do_work-status.ensures in
+    let opened = opened_by g.L.Ledgers.opened g.L.Ledgers.made c.args.ledger.now name c.in_ok-kept.kept c.args.work.now is c.in_ok-kept.ensures in
+    let before = subst g.L.Kept.Keeper.clean c.new-receiver.ensures.keeper it.0 in
+    it.1 (settled stored) (c.new-receiver.ensures.in_state (settled stored) (g.met.L.Ledgers.keeps c.args.ledger.now c.in_ok-kept.kept stored opened holds before))

@@ -1,0 +1,55 @@
+//! Laws on ledgers in files: what one run of the program leaves is what the next one holds. Each function's contract is
+//! one law, and its body is empty.
+ghost use Rattle.std.specs.Prelude.{◌≡◌, ◌⊎◌, ◌∷◌, ◌++◌, [], ℕ, List};
+ghost use Rattle.bag_cmd.specs.LedgerFiles.{HoldsLedgerIn, IsAdoptedFrom, IsNumbered, IsStopOf, MayBeLeft};
+ghost use Rattle.bag_ledger.specs.Ledgers.{Ledger};
+ghost use Rattle.bag_receiver.specs.Receivers.{IsKept};
+ghost use Rattle.bag_receiver.specs.Receiving.{Happened, LedgerState, settled};
+ghost use Rattle.bag_receiver.specs.Stops.{Event, Stop};
+ghost use Rattle.bag_rules.specs.Faults.{Has};
+ghost use Rattle.bag_rules.specs.Files.{Files as OctetsByPath};
+ghost use Rattle.sqlite_wal.specs.Files.{image_at};
+ghost use Rattle.sqlite_wal.specs.Recovery.{Image};
+
+use crate::ledger_file::FileKeeper;
+use bag_ledger::Keeper;
+use sqlite::Start;
+
+/// After a stop the files hold what was held, or a ledger that was doubtful. A run that opens the ledger on them holds
+/// that, a crash leaves it alone, and the stop is one more event of each transfer.
+pub fn a_ledger_goes_on_after_a_stop<S: Start, T: Start>(
+    stopped: &FileKeeper<S>,
+    opened: &FileKeeper<T>,
+)
+    ensures { (now : LedgerState)
+        → IsKept ⟦<FileKeeper<S> as Keeper>⟧.holds ⟦<FileKeeper<S> as Keeper>⟧.may_leave
+        stopped.now now
+        → IsStopOf stopped.now.connection (image_at T.Start)
+        → IsAdoptedFrom (image_at T.Start) opened.now.connection
+        → ⟦<FileKeeper<T> as Keeper>⟧.clean opened.now
+        → (left : Ledger) × Has (now.held ∷ now.doubtful) left
+        × IsKept ⟦<FileKeeper<T> as Keeper>⟧.holds ⟦<FileKeeper<T> as Keeper>⟧.may_leave
+        opened.now (settled left)
+        × ((name : List ℕ) (tags : OctetsByPath) (events : List Event)
+        → Happened now name tags events
+        → Happened (settled left) name tags (events ++ Stop ∷ [])) }
+{}
+
+/// A run that opens a ledger on files that hold it, as a close leaves them, holds that ledger, and a crash leaves it
+/// alone. So what happened to each transfer goes on.
+pub fn a_ledger_goes_on_after_a_close<T: Start>(opened: &FileKeeper<T>)
+    ensures { (ledger : Ledger) → HoldsLedgerIn (image_at T.Start) ledger
+        → IsAdoptedFrom (image_at T.Start) opened.now.connection
+        → ⟦<FileKeeper<T> as Keeper>⟧.clean opened.now
+        → IsKept ⟦<FileKeeper<T> as Keeper>⟧.holds ⟦<FileKeeper<T> as Keeper>⟧.may_leave
+        opened.now (settled ledger) }
+{}
+
+/// Whatever the disk may leave of the files is what a stop may leave of them. That the store numbers its tables as the
+/// kit does is an invariant of every connection, which the kit keeps to itself.
+pub fn the_disk_leaves_what_a_stop_may_leave<S: Start>(stopped: &FileKeeper<S>)
+    ensures { (ledger : Ledger) (image : Image)
+        → ⟦<FileKeeper<S> as Keeper>⟧.holds stopped.now ledger
+        → IsNumbered stopped.now.connection → MayBeLeft stopped.now.connection image
+        → ∥ IsStopOf stopped.now.connection image ∥₁ }
+{}

@@ -1,0 +1,170 @@
+-- A ledger has no stray rows: each row has values of its types, and an owner.
+use Rattle.std.proofs.Common.{◌≡◌, ◌≤◌, ◌&&◌, ◌++◌, inl, inr, ℕ, ℤ, List, [], ◌∷◌, arith, codes, drop, false, length, length-append, map, min, pos, refl, sym, true, ap, subst, ◌∙◌}
+use Rattle.std.specs.Prelude.{IsPermutation}
+use Rattle.sqlite_sql.specs.Query.{counted, matches}
+use Rattle.bag_sqlite.specs.Adopting.{stray_items_text, stray_pieces_text, stray_tag_files_text, stray_transfers_text}
+use Rattle.bag_sqlite.proofs.Words.{AreTablesOf, Binary, binary, Blob, col, column, command_of, Compare, Database, end, enumerate_from, Eq, flat_map, Ghosts, Has, has_from_map, has_map, held_rows, holds, inner, Int, is_true, IsAnswer, IsPermutation-sym, IsPlain, item_row, items_in, Ledger, ledger_schema, list_all, Null, NumberedItem, NumberedTransfer, Output, output, overlay, piece_rows, reads_listing, Row, size_of, stray_texts, tag_rows, Tells, Term, Text, transfer_row, Trees, unary, understood, value_cmp-Text, without_rowids}
+use Rattle.bag_sqlite.proofs.NamesLemmas.{drop_zero}
+use Rattle.bag_sqlite.proofs.OneLedger.{has_flat, has_from_flat, has_moved}
+use Rattle.bag_sqlite.proofs.PieceTold.{none_moved}
+use Rattle.bag_sqlite.proofs.StrayMeanings.{just_one, item_owner, meant, over_owned, piece_owner, stray_items, stray_items_is, stray_items_plain, stray_items_unlisted, stray_pieces, stray_pieces_is, stray_pieces_plain, stray_pieces_unlisted, stray_tag_files, stray_tag_files_is, stray_tag_files_plain, stray_tag_files_unlisted, stray_transfers, stray_transfers_is, stray_transfers_plain, stray_transfers_unlisted, tag_owner, with_owners}
+use Rattle.bag_sqlite.proofs.ToldLemmas.{told_lists, told_reads}
+use Rattle.bag_sqlite.proofs.TransferLemmas.{row_of, row_there}
+use Rattle.bag_sqlite.proofs.TransferRows.{later}
+use Rattle.bag_sqlite.proofs.WhereLemmas.{Lists, equal_numbers, equals, has_from_shown, passes, same_number}
+
+-- LISTS
+
+some_in_flat : {X Y : Type 0} (f : X → List Y) (xs : List X) (x : X) → Has xs x → 1 ≤ length (f x) → 1 ≤ length (flat_map f xs)
+some_in_flat f [] x has some = absurd has
+some_in_flat f (first ∷ xs) x (inl is) some = omega (arith, length-append (f first) (flat_map f xs), subst (λ y. 1 ≤ length (f y)) (sym is) some)
+some_in_flat f (first ∷ xs) x (inr has) some = omega (arith, length-append (f first) (flat_map f xs), some_in_flat f xs x has some)
+
+none_in_flat : {X Y : Type 0} (f : X → List Y) (xs : List X) → ((x : X) → Has xs x → f x ≡ []) → flat_map f xs ≡ []
+none_in_flat f [] none = refl
+none_in_flat f (x ∷ xs) none = ap (λ ys. ys ++ flat_map f xs) (none x (inl refl)) ∙ none_in_flat f xs (λ y has. none y (inr has))
+
+-- ROWS WITH AN OWNER
+
+-- the row passes no test for a stray row, once an owner was counted
+abbrev IsProper : List Term → Row → Type 0
+IsProper stray row = list_all (holds ([] ∷ row ∷ (Int (pos 1) ∷ []) ∷ [])) stray ≡ false
+
+-- the row is the owner of the other one
+abbrev Owns : List Term → Row → Row → Type 0
+Owns owner row parent = list_all (holds ([] ∷ row ∷ parent ∷ [])) owner ≡ true
+
+-- it has an owner among these rows
+record IsOwned (parents : List Row) (owner stray : List Term) (row : Row) : Type 0 where
+  pub proper : IsProper stray row
+  pub by : Row
+  pub there : Has parents by
+  pub owns : Owns owner row by
+
+module _ (trees : Trees) (tree parent : ℕ) (owner stray : List Term) where
+  abbrev owners : Row → ℕ
+  owners row = length (matches trees owner (inner parent end) ([] ∷ row ∷ []))
+
+  has_owner : (row : Row) → IsOwned (trees parent) owner stray row → 1 ≤ owners row
+  has_owner row owned =
+      some_in_flat (λ r. matches trees owner end ([] ∷ row ∷ r ∷ [])) (trees parent) owned.by owned.there (let pass = owned.owns in rw pass (omega arith))
+
+  not_stray : (row : Row) → IsOwned (trees parent) owner stray row → matches trees stray (counted 1 (inner parent end) owner end) ([] ∷ row ∷ []) ≡ []
+  not_stray row owned =
+      let one : min 1 (owners row) ≡ 1 = omega (arith, has_owner row owned) in
+      let proper = owned.proper in
+      rw (one, proper) refl
+
+  none_stray : ((row : Row) → Has (trees tree) row → IsOwned (trees parent) owner stray row) → matches trees stray (with_owners tree parent owner) ([] ∷ []) ≡ []
+  none_stray owned = none_in_flat (λ row. matches trees stray (counted 1 (inner parent end) owner end) ([] ∷ row ∷ [])) (trees tree) (λ row has. not_stray row (owned row has))
+
+  -- so the query shows nothing
+  nothing_shown : (rows : List Row) → ((row : Row) → Has (trees tree) row → IsOwned (trees parent) owner stray row) → IsAnswer (over_owned tree parent owner stray) trees [] rows → rows ≡ []
+  nothing_shown rows owned a =
+      let query = over_owned tree parent owner stray in
+      let kept : a.kept ≡ [] = a.distinct ∙ ap (map (output query)) (a.grouped ∙ none_stray owned) in
+      let ordered : a.ordered ≡ [] = none_moved a.ordered (subst (λ k. IsPermutation k a.ordered) kept a.same) in
+      a.shown ∙ drop_zero (map (λ (o : Output). o.1) a.ordered) ∙ ap (map (λ (o : Output). o.1)) ordered
+
+-- THE ROWS OF A LEDGER
+
+-- a row is owned by the one with the number that it names
+owns_at : (place : ℕ) (number : ℤ) (row parent : Row) → column parent 0 ≡ Int number → column row place ≡ Int number → Owns (equals (col 2 0) (col 1 place) ∷ []) row parent
+owns_at place number row parent of at =
+    ap (λ b. b && true) ((λ i. is_true (binary (Compare Eq Binary) (of i) (at i))) ∙ equal_numbers number number ∙ same_number number number refl)
+
+transfer_proper : (t : NumberedTransfer) → passes stray_transfers [] (transfer_row t) ≡ false
+unfolding binary unary
+transfer_proper t = rw (value_cmp-Text (codes "integer") (codes "integer"), value_cmp-Text (codes "text") (codes "text")) refl
+
+tag_proper : (row : Row) (path body : List ℕ) → column row 2 ≡ Text path → column row 3 ≡ Blob body → IsProper stray_tag_files row
+unfolding binary unary
+tag_proper row path body text blob = rw (text, blob, value_cmp-Text (codes "text") (codes "text"), value_cmp-Text (codes "blob") (codes "blob")) refl
+
+item_proper : (item : NumberedItem) (t : NumberedTransfer) → IsProper stray_items (item_row item.number t.number item.path (size_of item))
+unfolding binary unary
+item_proper item t = rw (value_cmp-Text (codes "integer") (codes "integer"), value_cmp-Text (codes "text") (codes "text")) refl
+
+piece_proper : (row : Row) (n : ℤ) → column row 2 ≡ Int n → IsProper stray_pieces row
+unfolding binary unary
+piece_proper row n number = rw (number, value_cmp-Text (codes "integer") (codes "integer")) refl
+
+module _ (trees : Trees) (ledger : Ledger) (tables : AreTablesOf trees ledger) where
+  tag_owned : (row : Row) → Has (trees 4) row → IsOwned (trees 2) tag_owner stray_tag_files row
+  tag_owned row has =
+      let by_transfer = has_from_flat tag_rows tables.transfers (drop 1 row)
+      (has_moved (without_rowids (trees 4)) (flat_map tag_rows tables.transfers) (drop 1 row) (IsPermutation-sym _ _ tables.rows.tags) (has_map (drop 1) (trees 4) row has)) in
+      let t = by_transfer.0 in
+      let by_file = has_from_map (λ (file : List ℕ × List ℕ). Int t.number ∷ Text file.0 ∷ Blob file.1 ∷ []) t.tags (drop 1 row) by_transfer.2 in
+      record {
+        proper = tag_proper row by_file.0.0 by_file.0.1 (sym (later row 1) ∙ ap (λ r. column r 1) (sym by_file.2)) (sym (later row 2) ∙ ap (λ r. column r 2) (sym by_file.2));
+        by = transfer_row t;
+        there = row_there trees ledger tables t by_transfer.1;
+        owns = owns_at 1 t.number row (transfer_row t) refl (sym (later row 0) ∙ ap (λ r. column r 0) (sym by_file.2));
+      }
+
+  item_owned : (row : Row) → Has (trees 6) row → IsOwned (trees 2) item_owner stray_items row
+  item_owned row has =
+      let by_transfer = has_from_flat held_rows tables.transfers row (has_moved (trees 6) (flat_map held_rows tables.transfers) row (IsPermutation-sym _ _ tables.rows.held) has) in
+      let t = by_transfer.0 in
+      let by_item = has_from_map (λ (item : NumberedItem). item_row item.number t.number item.path (size_of item)) t.items row by_transfer.2 in
+      record {
+        proper = subst (IsProper stray_items) by_item.2 (item_proper by_item.0 t);
+        by = transfer_row t;
+        there = row_there trees ledger tables t by_transfer.1;
+        owns = owns_at 2 t.number row (transfer_row t) refl (ap (λ r. column r 2) (sym by_item.2));
+      }
+
+  piece_owned : (row : Row) → Has (trees 8) row → IsOwned (trees 6) piece_owner stray_pieces row
+  piece_owned row has =
+      let by_item = has_from_flat piece_rows (items_in tables.transfers) (drop 1 row)
+      (has_moved (without_rowids (trees 8)) (flat_map piece_rows (items_in tables.transfers)) (drop 1 row) (IsPermutation-sym _ _ tables.rows.pieces) (has_map (drop 1) (trees 8) row has)) in
+      let item = by_item.0 in
+      let by_piece = has_from_map (λ (piece : ℕ × List ℕ). Int item.number ∷ Int (pos piece.0) ∷ Blob piece.1 ∷ []) (enumerate_from 0 item.pieces) (drop 1 row) by_item.2 in
+      let by_transfer = has_from_flat (λ (t : NumberedTransfer). t.items) tables.transfers item by_item.1 in
+      let t = by_transfer.0 in
+      let held = item_row item.number t.number item.path (size_of item) in
+      record {
+        proper = piece_proper row (pos by_piece.0.0) (sym (later row 1) ∙ ap (λ r. column r 1) (sym by_piece.2));
+        by = held;
+        there = has_moved (flat_map held_rows tables.transfers) (trees 6) held tables.rows.held
+            (has_flat held_rows tables.transfers t held by_transfer.1 (has_map (λ (i : NumberedItem). item_row i.number t.number i.path (size_of i)) t.items item by_transfer.2));
+        owns = owns_at 1 item.number row held refl (sym (later row 0) ∙ ap (λ r. column r 0) (sym by_piece.2));
+      }
+
+-- WHAT IS TOLD
+
+module _ {S : Type 0} (g : Ghosts S) (db : Database) (ledger : Ledger) (has : db.schema ≡ ledger_schema) (tables : AreTablesOf db.trees ledger) where
+  no_transfer : (rows : List Row) → Lists 2 stray_transfers just_one [] [] (db.trees 2) rows → rows ≡ []
+  no_transfer [] lists = refl
+  no_transfer (row ∷ rows) lists =
+      let from = has_from_shown 2 stray_transfers just_one [] [] (db.trees 2) (row ∷ rows) lists row (inl refl) in
+      let it = row_of db.trees ledger tables from.0 from.1 in
+      let no : passes stray_transfers [] from.0 ≡ false = ap (passes stray_transfers []) (sym it.2) ∙ transfer_proper it.0 in
+      absurd (let e : true ≡ false = sym from.2 ∙ no in cc)
+
+  no_strays : (sql : List ℕ) (tree parent : ℕ) (owner stray : List Term) → command_of (understood ledger_schema sql) ≡ meant (over_owned tree parent owner stray) → IsPlain (understood ledger_schema sql)
+      → reads_listing ledger_schema sql ≡ false → ((row : Row) → Has (overlay db.trees [] tree) row → IsOwned (overlay db.trees [] parent) owner stray row) → (rows : List Row) → Tells g db sql [] rows → rows ≡ []
+  no_strays sql tree parent owner stray is plain unlisted owned rows told =
+      let got = told_reads g db has sql [] rows (meant (over_owned tree parent owner stray)) is plain unlisted told in
+      nothing_shown (overlay db.trees []) tree parent owner stray rows owned (got.answer Null)
+
+  -- each of these queries can be understood, and shows nothing
+  pub stray_told : (text : List ℕ) → Has stray_texts text → IsPlain (understood ledger_schema text) × ((rows : List Row) → Tells g db text [] rows → rows ≡ [])
+  stray_told text (inl is) = subst (λ sql. IsPlain (understood ledger_schema sql) × ((rows : List Row) → Tells g db sql [] rows → rows ≡ [])) is (
+    stray_transfers_plain,
+    λ rows told. no_transfer rows (told_lists g db has 2 stray_transfers just_one [] stray_transfers_text [] rows _ stray_transfers_is stray_transfers_plain stray_transfers_unlisted refl told),
+  )
+  stray_told text (inr (inl is)) = subst (λ sql. IsPlain (understood ledger_schema sql) × ((rows : List Row) → Tells g db sql [] rows → rows ≡ [])) is (
+    stray_tag_files_plain,
+    no_strays stray_tag_files_text 4 2 tag_owner stray_tag_files stray_tag_files_is stray_tag_files_plain stray_tag_files_unlisted (tag_owned db.trees ledger tables),
+  )
+  stray_told text (inr (inr (inl is))) = subst (λ sql. IsPlain (understood ledger_schema sql) × ((rows : List Row) → Tells g db sql [] rows → rows ≡ [])) is (
+    stray_items_plain,
+    no_strays stray_items_text 6 2 item_owner stray_items stray_items_is stray_items_plain stray_items_unlisted (item_owned db.trees ledger tables),
+  )
+  stray_told text (inr (inr (inr (inl is)))) = subst (λ sql. IsPlain (understood ledger_schema sql) × ((rows : List Row) → Tells g db sql [] rows → rows ≡ [])) is (
+    stray_pieces_plain,
+    no_strays stray_pieces_text 8 6 piece_owner stray_pieces stray_pieces_is stray_pieces_plain stray_pieces_unlisted (piece_owned db.trees ledger tables),
+  )
+  stray_told text (inr (inr (inr (inr none)))) = absurd none

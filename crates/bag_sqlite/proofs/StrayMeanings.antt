@@ -1,0 +1,134 @@
+-- The meanings of the queries for rows that no ledger has.
+use Rattle.std.proofs.Common.{◌≡◌, ℕ, List, [], ◌∷◌, None, codes, false, negsuc, pos, refl}
+use Rattle.sqlite_sql.specs.Query.{counted, Join}
+use Rattle.sqlite_sql.specs.Term.{op1}
+use Rattle.sqlite_sql.specs.declared.ops.BinaryOp.TheVariants.{Or}
+use Rattle.sqlite_sql.specs.declared.ops.CompareOp.TheVariants.{Ne}
+use Rattle.sqlite_sql.specs.declared.ops.UnaryOp.TheVariants.{Not, TypeOf}
+use Rattle.bag_sqlite.specs.Adopting.{stray_items_text, stray_pieces_text, stray_tag_files_text, stray_transfers_text}
+use Rattle.bag_sqlite.proofs.Words.{Binary, col, Command, command_of, Compare, end, everything, inner, Int, IsPlain, ledger_schema, lit, op2, Query, reads_listing, Select, Term, Text, understood}
+use Rattle.bag_sqlite.proofs.WhereLemmas.{equals, over}
+
+-- the value has another type
+abbrev is_other : Term → List ℕ → Term
+is_other value type = op2 (Compare Ne Binary) (op1 TypeOf value) (lit (Text type))
+
+abbrev either : Term → Term → Term
+either = op2 Or
+
+-- no row of the other table owns it; its owners are counted up to one
+abbrev unowned : Term
+unowned = op1 Not (col 2 0)
+
+abbrev pub just_one : List Term
+just_one = lit (Int (pos 1)) ∷ []
+
+-- the rows of a table, each with the number of its owners in another table
+abbrev pub with_owners : ℕ → ℕ → List Term → Join
+with_owners tree parent owner = inner tree (counted 1 (inner parent end) owner end)
+
+abbrev pub over_owned : ℕ → ℕ → List Term → List Term → Query
+over_owned tree parent owner conditions = record {
+  from = with_owners tree parent owner;
+  filter = conditions;
+  group = None;
+  project = just_one;
+  distinct = false;
+  collations = [];
+  order = [];
+  limit = lit (Int (negsuc 0));
+  offset = lit (Int (pos 0));
+}
+
+abbrev pub meant : Query → Command
+meant query = Select (record { lets = []; body = query }) (codes "1" ∷ [])
+
+-- TRANSFERS
+
+abbrev pub stray_transfers : List Term
+stray_transfers = either (is_other (col 1 0) (codes "integer")) (is_other (col 1 2) (codes "text")) ∷ []
+
+abbrev pub stray_transfers_query : Query
+stray_transfers_query = over 2 stray_transfers just_one []
+
+pub stray_transfers_is : command_of (understood ledger_schema stray_transfers_text) ≡ meant stray_transfers_query
+unfolding understood everything
+stray_transfers_is = refl
+
+pub stray_transfers_plain : IsPlain (understood ledger_schema stray_transfers_text)
+unfolding understood everything
+stray_transfers_plain = (refl, refl)
+
+pub stray_transfers_unlisted : reads_listing ledger_schema stray_transfers_text ≡ false
+unfolding everything
+stray_transfers_unlisted = refl
+
+-- TAG FILES
+
+abbrev pub tag_owner : List Term
+tag_owner = equals (col 2 0) (col 1 1) ∷ []
+
+abbrev pub stray_tag_files : List Term
+stray_tag_files = either (either (is_other (col 1 2) (codes "text")) (is_other (col 1 3) (codes "blob"))) unowned ∷ []
+
+abbrev pub stray_tag_files_query : Query
+stray_tag_files_query = over_owned 4 2 tag_owner stray_tag_files
+
+pub stray_tag_files_is : command_of (understood ledger_schema stray_tag_files_text) ≡ meant stray_tag_files_query
+unfolding understood everything
+stray_tag_files_is = refl
+
+pub stray_tag_files_plain : IsPlain (understood ledger_schema stray_tag_files_text)
+unfolding understood everything
+stray_tag_files_plain = (refl, refl)
+
+pub stray_tag_files_unlisted : reads_listing ledger_schema stray_tag_files_text ≡ false
+unfolding everything
+stray_tag_files_unlisted = refl
+
+-- PAYLOAD FILES
+
+abbrev pub item_owner : List Term
+item_owner = equals (col 2 0) (col 1 2) ∷ []
+
+abbrev pub stray_items : List Term
+stray_items =
+    either (either (either (is_other (col 1 0) (codes "integer")) (is_other (col 1 3) (codes "text"))) (is_other (col 1 4) (codes "integer"))) unowned ∷ []
+
+abbrev pub stray_items_query : Query
+stray_items_query = over_owned 6 2 item_owner stray_items
+
+pub stray_items_is : command_of (understood ledger_schema stray_items_text) ≡ meant stray_items_query
+unfolding understood everything
+stray_items_is = refl
+
+pub stray_items_plain : IsPlain (understood ledger_schema stray_items_text)
+unfolding understood everything
+stray_items_plain = (refl, refl)
+
+pub stray_items_unlisted : reads_listing ledger_schema stray_items_text ≡ false
+unfolding everything
+stray_items_unlisted = refl
+
+-- PIECES
+
+abbrev pub piece_owner : List Term
+piece_owner = equals (col 2 0) (col 1 1) ∷ []
+
+abbrev pub stray_pieces : List Term
+stray_pieces = either (is_other (col 1 2) (codes "integer")) unowned ∷ []
+
+abbrev pub stray_pieces_query : Query
+stray_pieces_query = over_owned 8 6 piece_owner stray_pieces
+
+pub stray_pieces_is : command_of (understood ledger_schema stray_pieces_text) ≡ meant stray_pieces_query
+unfolding understood everything
+stray_pieces_is = refl
+
+pub stray_pieces_plain : IsPlain (understood ledger_schema stray_pieces_text)
+unfolding understood everything
+stray_pieces_plain = (refl, refl)
+
+pub stray_pieces_unlisted : reads_listing ledger_schema stray_pieces_text ≡ false
+unfolding everything
+stray_pieces_unlisted = refl

@@ -1,0 +1,130 @@
+-- What a database with the tables of a ledger tells: the rows that its queries show.
+use Rattle.std.proofs.Common.{◌≡◌, ℕ, ℤ, List, [], ◌∷◌, false, true, drop, map, pos, refl, sym, ap, subst, ◌∙◌}
+use Rattle.sqlite.specs.Effect.{Reads}
+use Rattle.bag_sqlite.proofs.Words.{AreTablesOf, ascending, Binary, Blob, col, column, Command, command_of, Database, Decides-int_eq, filter, flat_map, format_row, format_text, Ghosts, Has, has_from_map, has_map, held_rows, Int, IsPermutation-sym, IsPlain, item_row, items_text, Ledger, ledger_schema, Key, Null, NumberedItem, NumberedTransfer, one_permutation, Output, overlay, reads_as, reads_listing, Row, Select, size_of, state, tag_files_text, tag_rows, tag_shown, Tells, Term, Text, transfers_text, understood, without_rowids}
+use Rattle.std.specs.Prelude.{IsPermutation}
+use Rattle.bag_sqlite.proofs.AdoptingMeanings.{format_columns, format_is, format_plain, format_unlisted, items_columns, items_is, items_plain, items_unlisted, items_where, transfers_columns, transfers_is, transfers_plain, transfers_unlisted}
+use Rattle.bag_sqlite.proofs.OneLedger.{has_from_flat, has_moved}
+use Rattle.bag_sqlite.proofs.TransferLemmas.{alone, row_of}
+use Rattle.bag_sqlite.proofs.TransferMeanings.{tags_is, tags_plain, tags_unlisted}
+use Rattle.bag_sqlite.proofs.TransferRows.{later}
+use Rattle.bag_sqlite.proofs.WhereLemmas.{Lists, answer_lists, equal_numbers, equals, has_from_shown, over, passes}
+
+-- WHAT IS TOLD, BY THE MEANING OF THE QUERY
+
+module _ {S : Type 0} (g : Ghosts S) (db : Database) (has : db.schema ≡ ledger_schema) where
+  pub told_reads : (sql : List ℕ) (params : Row) (rows : List Row) (command : Command) → command_of (understood ledger_schema sql) ≡ command → IsPlain (understood ledger_schema sql)
+      → reads_listing ledger_schema sql ≡ false → Tells g db sql params rows → Reads command db params rows
+  told_reads sql params rows command is plain unlisted told =
+      let start = state g (record told.at { in_transaction = true }) in
+      subst (λ (d : Database). Reads command d params rows) told.is
+      (reads_as sql params start (state g told.shown.then) ledger_schema (ap (λ (d : Database). d.schema) told.is ∙ has) command is plain unlisted rows told.shown.shown)
+
+  -- a query on the rows of one table
+  pub told_lists : (tree : ℕ) (conditions project : List Term) (order : List (Term × Key)) (sql : List ℕ) (params : Row) (rows : List Row) (names : List (List ℕ))
+      → command_of (understood ledger_schema sql) ≡ Select (record { lets = []; body = over tree conditions project order }) names → IsPlain (understood ledger_schema sql)
+      → reads_listing ledger_schema sql ≡ false → overlay db.trees [] tree ≡ db.trees tree → Tells g db sql params rows → Lists tree conditions project order params (db.trees tree) rows
+  told_lists tree conditions project order sql params rows names is plain unlisted same told =
+      let got = told_reads sql params rows (Select (record { lets = []; body = over tree conditions project order }) names) is plain unlisted told in
+      answer_lists tree conditions project order params db.trees rows (got.answer Null) same
+
+module _ {S : Type 0} (g : Ghosts S) (db : Database) (ledger : Ledger) (has : db.schema ≡ ledger_schema) (tables : AreTablesOf db.trees ledger) where
+  abbrev by_path : Term → List (Term × Key)
+  by_path path = (path, ascending Binary) ∷ []
+
+  -- TRANSFERS
+
+  -- the row of a transfer, as it is shown
+  pub record IsTransferShown (row : Row) : Type 0 where
+    pub transfer : NumberedTransfer
+    pub there : Has tables.transfers transfer
+    pub is : row ≡ Int transfer.number ∷ Text transfer.name ∷ []
+
+  pub transfer_told : (rows : List Row) → Tells g db transfers_text [] rows → (row : Row) → Has rows row → IsTransferShown row
+  transfer_told rows told row here =
+      let lists = told_lists g db has 2 [] transfers_columns (by_path (col 1 2)) transfers_text [] rows _ transfers_is transfers_plain transfers_unlisted refl told in
+      let from = has_from_shown 2 [] transfers_columns (by_path (col 1 2)) [] (db.trees 2) rows lists row here in
+      let it = row_of db.trees ledger tables from.0 from.1 in
+      record {
+        transfer = it.0;
+        there = it.1;
+        is = sym from.3 ∙ ap (λ r. column r 0 ∷ column r 2 ∷ []) (sym it.2);
+      }
+
+  -- TAG FILES
+
+  pub record IsTagShown (row : Row) : Type 0 where
+    pub transfer : NumberedTransfer
+    pub there : Has tables.transfers transfer
+    pub file : List ℕ × List ℕ
+    pub owned : Has transfer.tags file
+    pub is : row ≡ tag_shown file
+
+  -- whichever number is asked for
+  pub tag_told : (number : ℤ) (rows : List Row) → Tells g db tag_files_text (Int number ∷ []) rows → (row : Row) → Has rows row → IsTagShown row
+  tag_told number rows told row here =
+      let conditions : List Term = equals (col 1 1) (col 0 0) ∷ [] in
+      let shown : List Term = col 1 2 ∷ col 1 3 ∷ [] in
+      let lists = told_lists g db has 4 conditions shown (by_path (col 1 2)) tag_files_text (Int number ∷ []) rows _ tags_is tags_plain tags_unlisted refl told in
+      let from = has_from_shown 4 conditions shown (by_path (col 1 2)) (Int number ∷ []) (db.trees 4) rows lists row here in
+      let bare = has_map (drop 1) (db.trees 4) from.0 from.1 in
+      let by_transfer = has_from_flat tag_rows tables.transfers (drop 1 from.0)
+      (has_moved (without_rowids (db.trees 4)) (flat_map tag_rows tables.transfers) (drop 1 from.0) (IsPermutation-sym _ _ tables.rows.tags) bare) in
+      let t = by_transfer.0 in
+      let by_file = has_from_map (λ (file : List ℕ × List ℕ). Int t.number ∷ Text file.0 ∷ Blob file.1 ∷ []) t.tags (drop 1 from.0) by_transfer.2 in
+      record {
+        transfer = t;
+        there = by_transfer.1;
+        file = by_file.0;
+        owned = by_file.1;
+        is = sym from.3 ∙ (λ i. sym (later from.0 1) i ∷ sym (later from.0 2) i ∷ []) ∙ ap (λ r. column r 1 ∷ column r 2 ∷ []) (sym by_file.2);
+      }
+
+  -- PAYLOAD FILES
+
+  pub record IsItemShown (number : ℤ) (row : Row) : Type 0 where
+    pub transfer : NumberedTransfer
+    pub there : Has tables.transfers transfer
+    pub number_is : transfer.number ≡ number
+    pub item : NumberedItem
+    pub owned : Has transfer.items item
+    pub is : row ≡ Int item.number ∷ Text item.path ∷ Int (pos (size_of item)) ∷ []
+
+  pub item_told : (number : ℤ) (rows : List Row) → Tells g db items_text (Int number ∷ []) rows → (row : Row) → Has rows row → IsItemShown number row
+  item_told number rows told row here =
+      let lists = told_lists g db has 6 items_where items_columns (by_path (col 1 3)) items_text (Int number ∷ []) rows _ items_is items_plain items_unlisted refl told in
+      let from = has_from_shown 6 items_where items_columns (by_path (col 1 3)) (Int number ∷ []) (db.trees 6) rows lists row here in
+      let by_transfer = has_from_flat held_rows tables.transfers from.0 (has_moved (db.trees 6) (flat_map held_rows tables.transfers) from.0 (IsPermutation-sym _ _ tables.rows.held) from.1) in
+      let t = by_transfer.0 in
+      let by_item = has_from_map (λ (item : NumberedItem). item_row item.number t.number item.path (size_of item)) t.items from.0 by_transfer.2 in
+      let tested : passes items_where (Int number ∷ []) (item_row by_item.0.number t.number by_item.0.path (size_of by_item.0)) ≡ true = ap (passes items_where (Int number ∷ [])) by_item.2 ∙ from.2 in
+      record {
+        transfer = t;
+        there = by_transfer.1;
+        number_is = (Decides-int_eq t.number number).0 (sym (alone _ ∙ equal_numbers t.number number) ∙ tested);
+        item = by_item.0;
+        owned = by_item.1;
+        is = sym from.3 ∙ ap (λ r. column r 0 ∷ column r 3 ∷ column r 4 ∷ []) (sym by_item.2);
+      }
+
+  -- THE FORMAT
+
+  unasked : (table : List Row) → filter (passes [] []) table ≡ table
+  unasked [] = refl
+  unasked (row ∷ table) = ap (λ rows. row ∷ rows) (unasked table)
+
+  one_row : (table : List Row) (shown : List Output) → without_rowids table ≡ format_row ∷ [] → IsPermutation (map (λ row. ([], column row 1 ∷ column row 2 ∷ [])) table) shown
+      → map (λ (o : Output). o.1) shown ≡ format_row ∷ []
+  one_row [] shown is moves = absurd cc
+  one_row (row ∷ []) shown is moves =
+      let bare : drop 1 row ≡ format_row = cc in
+      let one : Output = ([], column row 1 ∷ column row 2 ∷ []) in
+      ap (map (λ (o : Output). o.1)) (one_permutation one shown moves)
+      ∙ (λ i. (sym (later row 0) i ∷ sym (later row 1) i ∷ []) ∷ []) ∙ ap (λ r. (column r 0 ∷ column r 1 ∷ []) ∷ []) bare
+  one_row (row ∷ next ∷ more) shown is moves = absurd cc
+
+  -- the only row that names a format
+  pub format_told : (rows : List Row) → Tells g db format_text [] rows → rows ≡ format_row ∷ []
+  format_told rows told =
+      let lists = told_lists g db has 0 [] format_columns [] format_text [] rows _ format_is format_plain format_unlisted refl told in
+      lists.shown ∙ one_row (db.trees 0) lists.ordered tables.rows.format (subst (λ l. IsPermutation (map (λ row. ([], column row 1 ∷ column row 2 ∷ [])) l) lists.ordered) (unasked (db.trees 0)) lists.same)
