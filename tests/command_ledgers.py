@@ -281,6 +281,46 @@ def read_back(make):
     return len(contents)
 
 
+def many_items(make):
+    """A ledger with as many payload files as one manifest can list is opened. Returns how many."""
+    place = make({})
+    paths = [f"data/{number}" for number in range(100_000)]
+    empty = hashlib.sha256(b"").hexdigest()
+    (place.bag / "manifest-sha256.txt").write_text("".join(f"{empty}  {path}\n" for path in paths), encoding="ascii")
+    assert place.run(*place.words("begin")) == (0, ["new"])
+    database = sqlite3.connect(place.ledger)
+    database.executemany("INSERT INTO held (transfer, path, size) VALUES (1, ?, 0)", ((path,) for path in paths))
+    database.commit()
+    database.close()
+    assert place.run(*place.words("report")) == (0, ["valid"])
+    return len(paths)
+
+
+def counted_rows(make):
+    """A file of two pieces and one octet: the rows of `held` and `piece` after it came whole, again, and changed. Returns how many
+    deliveries there were."""
+    octets = os.urandom(2 * PIECE + 1)
+    place = make({"data/a": octets, "data/b": b"b"})
+    rows = lambda: [place.sql(f"SELECT count(*) FROM {table}")[0][0] for table in ("held", "piece")]
+    assert place.run(*place.words("begin")) == (0, ["new"])
+    changed = octets[:-1] + bytes([octets[-1] ^ 1])
+    deliveries = [
+        (changed, "refused data/a: digest sha256", [0, 0]),
+        (octets[:-1], "refused data/a: digest sha256", [0, 0]),
+        (octets, "taken data/a", [1, 3]),
+        (octets, "repeated data/a", [1, 3]),
+        (changed, "refused data/a: digest sha256", [1, 3]),
+    ]
+    for number, (given, line, wanted) in enumerate(deliveries):
+        one = place.work / f"one{number}"
+        (one / "data").mkdir(parents=True)
+        (one / "data/a").write_bytes(given)
+        assert place.run("intake", place.ledger, "t1", one) == (int("refused" in line), [line])
+        assert rows() == wanted, (line, rows())
+    judge(place, ["data/a"])
+    return len(deliveries)
+
+
 def full_disks(make):
     """`begin`, and then `intake` or `fetch`, with files limited to a length: what was answered is held, and the next command
     works. Returns how many were tried."""
@@ -318,8 +358,12 @@ def main(program):
     with tempfile.TemporaryDirectory() as folder:
         number = itertools.count()
         make = lambda contents, fetched=(): Place(os.path.abspath(program), pathlib.Path(folder) / str(next(number)), contents, fetched)
-        none, damages, orders, files, disks = (kind(make) for kind in (no_ledgers, damaged, each_after_each, read_back, full_disks))
-    print(f"{none} that are not ledgers, {damages} damaged, {orders} orders, {files} files read by sqlite3, {disks} full disks")
+        kinds = no_ledgers, damaged, each_after_each, read_back, counted_rows, many_items, full_disks
+        none, damages, orders, files, rows, items, disks = (kind(make) for kind in kinds)
+    print(
+        f"{none} that are not ledgers, {damages} damaged, {orders} orders, {files} files read by sqlite3,"
+        f" {rows} deliveries whose rows were counted, {items} payload files in one ledger, {disks} full disks"
+    )
 
 
 if __name__ == "__main__":

@@ -418,13 +418,32 @@ expect 'a large file: audit' 0 valid bag audit "$work/large ledger" one
 expect 'a large file: export' 0 'exported 7 files' bag export "$work/large ledger" one "$work/large again"
 expect 'a large file: the bag' 0 $'valid\nvalid' same_bag "$work/large bag" "$work/large again"
 
+# rows LEDGER: how many rows there are of payload files, and of their pieces.
+rows() {
+    python3 - "$1" <<'PYTHON'
+import sqlite3, sys
+database = sqlite3.connect(sys.argv[1])
+print(*(database.execute(f"SELECT count(*) FROM {table}").fetchone()[0] for table in ("held", "piece")))
+PYTHON
+}
 put "$work/past/bagit.txt" "$declaration"
 put "$work/past/manifest-md5.txt" $'d41d8cd98f00b204e9800998ecf8427e  data/A\n'
 mkdir "$work/past/data"
 truncate -s 1073741825 "$work/past/data/A"
-expect 'a file past the limit: begin' 0 new bag begin "$work/no payload" one "$work/past"
-expect 'a file past the limit' 1 'refused data/A: too large' bag intake "$work/no payload" one "$work/past"
-expect 'a file past the limit: the log is gone' 0 '' nothing "$work/no payload-wal"
+expect 'a file past the limit: begin' 0 new bag begin "$work/limit" past "$work/past"
+expect 'a file past the limit' 1 'refused data/A: too large' bag intake "$work/limit" past "$work/past"
+expect 'a file past the limit: the log is gone' 0 '' nothing "$work/limit-wal"
+expect 'a file past the limit: nothing is held' 0 '0 0' rows "$work/limit"
+expect 'a file past the limit: report' 1 $'manifest-md5.txt: missing: data/A\nnot complete' bag report "$work/limit" past
+# The digest of 1,073,741,824 octets 0 is that of md5sum.
+mv "$work/past" "$work/at"
+put "$work/at/manifest-md5.txt" $'cd573cfaace07e7949bc0c46028904ff  data/A\n'
+truncate -s 1073741824 "$work/at/data/A"
+expect 'a file at the limit: begin' 0 new bag begin "$work/limit" at "$work/at"
+expect 'a file at the limit' 0 'taken data/A' bag intake "$work/limit" at "$work/at"
+expect 'a file at the limit: all of it is held' 0 '1 16384' rows "$work/limit"
+expect 'a file at the limit: report' 0 valid bag report "$work/limit" at
+rm "$work/limit" "$work/at/data/A"
 
 # Files that may not be read or written.
 chmod 711 "$work"

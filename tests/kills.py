@@ -3,9 +3,12 @@
 
 After each kill the next command must work, and must find everything that was answered before the kill (a line that was read, or
 a command that had ended), and of the killed command the first of its deliveries. In the end everything is delivered to each
-ledger, and the exported bag is the one that was delivered. It ends after KILLS kills (150), and writes the seed and what was tried
+ledger, and the exported bag is the one that was delivered. Commands are killed after a random time, once the log of the ledger has
+grown by a random number of octets, or after a random number of lines. At least a third of all kills must fall among the deliveries,
+so that some of them are held and some are not. It ends after KILLS kills (150) or some more, and writes the seed and what was tried
 to TRIED, or to standard output. If it fails, it prints the seed as well.
 """
+import contextlib
 import hashlib
 import itertools
 import os
@@ -22,11 +25,12 @@ import time
 DECLARATION = b"BagIt-Version: 1.0\nTag-File-Character-Encoding: UTF-8\n"
 NAMES = ["first", "second"]
 FILES, LONGEST = 24, 300_000
-KILLS_OF_A_LEDGER = 15
+STEPS_OF_A_LEDGER = 20
 
 
 class Bag:
-    """The bag of a transfer, and folders with parts of it: whole, damaged, with files that it doesn't list, and a supplier's."""
+    """The bag of a transfer, and folders with parts of it: whole, damaged, with files that it doesn't list, with one file, and a
+    supplier's."""
 
     def __init__(self, rng, folder):
         self.contents = {f"data/{number:02}": rng.randbytes(rng.choice([0, 1, 65_536, rng.randrange(LONGEST)])) for number in range(FILES)}
@@ -37,6 +41,9 @@ class Bag:
         self.whole = folder / "whole"
         write(self.whole, {**self.tags, **self.contents})
         self.parts = [self.part(rng, folder / f"part{number}") for number in range(4)] + [(self.whole, self.contents)]
+        self.singles = [(folder / f"single{path[5:]}", {path: octets}) for path, octets in self.contents.items()]
+        for single, files in self.singles:
+            write(single, files)
 
     def part(self, rng, folder):
         items = {path: self.contents[path] for path in rng.sample(sorted(self.contents), FILES // 2)}
@@ -61,12 +68,15 @@ class Ledger:
         self.file, self.tables, self.held, self.exports = folder / "ledger", False, {}, itertools.count()
 
     def run(self, words, until=None):
-        """The status (None if it was killed) and the whole lines that were read. It is killed after this many seconds."""
-        with subprocess.Popen([self.program, *words], stdout=subprocess.PIPE, stderr=subprocess.PIPE) as ran:
+        """The status (None if it was killed) and the whole lines that were read. It is killed once `until` has returned, with what it
+        has read."""
+        with subprocess.Popen([self.program, *words], bufsize=0, stdout=subprocess.PIPE, stderr=subprocess.PIPE) as ran:
+            begun = b""
             if until is not None:
-                time.sleep(until)
+                begun = until(ran)
                 ran.kill()
             printed, said = ran.communicate(timeout=60)
+            printed = begun + printed
         self.tried["commands"] += 1
         assert not said, (words, said)
         killed = ran.returncode == -signal.SIGKILL
@@ -91,6 +101,8 @@ class Ledger:
             deliveries = [(path, bag.contents[path]) for path in bag.fetched if path not in self.held.get(name, ())]
         if command == "intake":
             parts = self.rng.choices(bag.parts, k=self.rng.randrange(1, 4))
+            if self.rng.randrange(3):
+                parts = self.rng.sample(bag.singles, self.rng.randrange(8, FILES + 1))
             words += [folder for folder, _ in parts]
             deliveries = [(path, items[path]) for _, items in parts for path in sorted(items)]
         if command in ("intake", "fetch"):
@@ -139,12 +151,51 @@ class Ledger:
         if command in ("intake", "fetch") and name in self.held:
             self.held[name] |= {path for path, _ in lines if path}
 
+    def goods(self, name, lines):
+        """The paths that these answers add to the transfer, in order."""
+        return list(dict.fromkeys(path for path, _ in lines if path and path not in self.held[name]))
+
+    def log_grows(self, octets):
+        """Waits until the log has grown by this many octets, or the command has ended."""
+
+        def wait(ran):
+            least = None
+            while ran.poll() is None:
+                with contextlib.suppress(FileNotFoundError):
+                    size = os.stat(f"{self.file}-wal").st_size
+                    least = size if least is None else min(least, size)
+                    if size - least >= octets:
+                        break
+            return b""
+
+        return wait
+
+    def moment(self, command, name, lines, times):
+        """When the command is killed, if it is: mostly where it takes in something."""
+        goods = self.goods(name, lines) if name in self.held else []
+        is_first = command == "begin" and not self.tables
+        if self.rng.randrange(6) < (1 if len(goods) > 2 else 3 if is_first else 5):
+            return None
+        way = self.rng.randrange(8)
+        if len(goods) > 2 and way > 1:
+            number = self.rng.randrange(1, 1 + len(lines) // 2)
+            return lambda ran: b"".join(ran.stdout.readline() for _ in range(number))
+        if len(goods) > 2 and way:
+            octets = sum(len(self.bags[name].contents[path]) for path in goods)
+            return self.log_grows(self.rng.randrange(octets + 1))
+        if command not in times:
+            return None
+        seconds = self.rng.uniform(0, 1.2 * times[command])
+        return lambda ran: time.sleep(seconds) or b""
+
     def step(self, times):
         """Runs a random command, which may be killed once it is known how long it takes, and then looks at what the ledger holds."""
-        command = self.rng.choice(["begin", "begin", "intake", "intake", "intake", "fetch", "report", "audit", "export", "list"])
+        command = self.rng.choice(["begin", "begin", *["intake"] * 8, "fetch", "report", "audit", "export", "list"])
+        if not self.held and self.rng.randrange(2):
+            command = "begin"
         name, words, lines, status = self.words(command)
         wanted = self.expected(command, name, lines, status)
-        until = self.rng.uniform(0, 1.2 * times[command]) if command in times and self.rng.randrange(4) else None
+        until = self.moment(command, name, lines, times)
         began = time.monotonic()
         ended, printed = self.run(words, until)
         if ended is not None:
@@ -170,7 +221,7 @@ class Ledger:
         if command == "begin" and (name in found or printed):
             due = {**before, name: before.get(name, set())}
         if command in ("intake", "fetch") and name in before:
-            goods = list(dict.fromkeys(path for path, _ in lines if path and path not in before[name]))
+            goods = self.goods(name, lines)
             number = len(found[name] - before[name])
             due = {**before, name: before[name] | set(goods[:number])}
             answered = {path for path, _ in lines[: len(printed)] if path}
@@ -238,6 +289,10 @@ class Ledger:
         assert files == {**bag.tags, **{path: bag.contents[path] for path in held}}, (folder, held)
         shutil.rmtree(folder)
 
+    def is_full(self):
+        """Whether all payload files of all transfers are held."""
+        return len(self.held) == len(NAMES) and all(len(held) == FILES for held in self.held.values())
+
     def finish(self):
         """Delivers everything, and compares the export with what was delivered."""
         for name, bag in self.bags.items():
@@ -260,13 +315,15 @@ def main(program, kills="150", seed=None, tried_file="/dev/stdout"):
     try:
         with tempfile.TemporaryDirectory() as folder:
             bags = {name: Bag(rng, pathlib.Path(folder) / name) for name in NAMES}
-            while tried["kills"] < int(kills):
+            while tried["kills"] < int(kills) or 3 * tried["part"] < tried["kills"]:
+                assert tried["kills"] < 2 * int(kills), tried
                 tried["ledgers"] += 1
-                home, enough = pathlib.Path(folder) / f"{tried['ledgers']}", tried["kills"] + KILLS_OF_A_LEDGER
+                home = pathlib.Path(folder) / f"{tried['ledgers']}"
                 home.mkdir()
                 ledger = Ledger(os.path.abspath(program), rng, home, bags, tried)
-                while tried["kills"] < min(enough, int(kills)):
-                    ledger.step(times)
+                for _ in range(STEPS_OF_A_LEDGER):
+                    if not ledger.is_full():
+                        ledger.step(times)
                 ledger.finish()
                 shutil.rmtree(home)
         assert tried["part"] and (tried["no ledger"] or int(kills) < 100), tried
