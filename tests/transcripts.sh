@@ -1,6 +1,7 @@
 #!/usr/bin/env bash
 # The transcripts in the documents: each block marked `console` is run in a directory with the script `bag` and a fresh
-# copy of the examples, and must print what it shows.
+# copy of the examples, must print what it shows, and removes what it made. So a reader can run one after the other in a
+# clone.
 set -u
 cd "$(dirname -- "$0")/.." || exit 1
 . tests/common.bash
@@ -9,12 +10,19 @@ top=$PWD
 build_first
 
 # Git keeps no empty directories, so they are removed from the copy too.
+mkdir "$work/fresh"
+ln -s "$top/bag" "$work/fresh/bag"
+cp -r examples "$work/fresh/examples"
+find "$work/fresh/examples" -type d -empty -delete
+
 fresh() {
     rm -rf "$work/transcript"
-    mkdir "$work/transcript"
-    ln -s "$top/bag" "$work/transcript/bag"
-    cp -r examples "$work/transcript/examples"
-    find "$work/transcript/examples" -type d -empty -delete
+    cp -r "$work/fresh" "$work/transcript"
+}
+
+# left_behind: names what the commands left beside the script and the examples, and what they changed in these.
+left_behind() {
+    diff -rq --no-dereference "$work/fresh" "$work/transcript"
 }
 
 # transcript NAME: runs the commands of the block in $work/block.
@@ -28,6 +36,7 @@ transcript() {
         status=$?
     done < <(sed -n 's/^\$ //p' "$work/block") >"$work/shown"
     expect "$1" 0 '' diff -u "$work/block" "$work/shown"
+    expect "$1: nothing is left" 0 '' left_behind
 }
 
 for file in README.md examples/README.md docs/*.md; do
