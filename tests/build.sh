@@ -5,12 +5,12 @@ set -u
 cd "$(dirname -- "$0")/.." || exit 1
 . tests/common.bash
 
-# A repository of two crates, and a third that isn't part of the program. The stand-in for rt makes a program that
+# A repository of two crates, and two that aren't part of the program. The stand-in for rt makes a program that
 # prints its arguments, one per line.
 repository="$work/a repository"
 crate=$repository/crates/bag_cmd
 mkdir -p "$crate/src" "$crate/specs" "$crate/proofs" "$repository/crates/low/src" "$work/kit"
-printf '# Each crate.\nlow: std\nbag_cmd: low\nother: low\n' >"$repository/crates.txt"
+printf '# Each crate.\nlow: std\nlow_tests: low\nbag_cmd: low\nother: low\n' >"$repository/crates.txt"
 touch "$crate/src/main.rt" "$crate/src/old.rt" "$crate/specs/Lib.antt" "$crate/proofs/Lib.antt"
 cp bag "$repository/bag"
 ln -s "$repository/bag" "$work/link"
