@@ -1,19 +1,22 @@
 //! Laws on ledgers in files: what one run of the program leaves is what the next one holds. Each function's contract is
 //! one law, and its body is empty.
-ghost use Rattle.std.specs.Prelude.{◌≡◌, ◌⊎◌, ◌∷◌, ◌++◌, [], ℕ, List};
-ghost use Rattle.bag_cmd.specs.LedgerFiles.{HoldsLedgerIn, IsAdoptedFrom, IsNumbered, IsStopOf, MayBeLeft};
+ghost use Rattle.std.specs.Prelude.{◌↔◌, ◌≡◌, ◌⊎◌, ◌∷◌, ◌++◌, [], ℕ, List};
+ghost use Rattle.bag_cmd.specs.LedgerFiles.{HoldsLedgerIn, IsAdoptedFrom, IsMadeIn, IsNumbered, IsStopOf, IsUnopened, MayBeLeft};
 ghost use Rattle.bag_ledger.specs.Ledgers.{Ledger};
 ghost use Rattle.bag_receiver.specs.Receivers.{IsKept};
 ghost use Rattle.bag_receiver.specs.Receiving.{Happened, LedgerState, settled};
 ghost use Rattle.bag_receiver.specs.Stops.{Event, Stop};
 ghost use Rattle.bag_rules.specs.Faults.{Has};
 ghost use Rattle.bag_rules.specs.Files.{Files as OctetsByPath};
+ghost use Rattle.bag_sqlite.specs.declared.adopting.AdoptFault.{AdoptFault};
 ghost use Rattle.sqlite_wal.specs.Files.{image_at};
 ghost use Rattle.sqlite_wal.specs.Recovery.{Image};
 
+use crate::ledger::{LedgerFiles, Ledgers};
 use crate::ledger_file::FileKeeper;
 use bag_ledger::Keeper;
-use sqlite::Start;
+use sqlite::{FileFrom, FileStore, Start};
+use sqlite_trees::store::Store;
 
 /// After a stop the files hold what was held, or a ledger that was doubtful. A run that opens the ledger on them holds
 /// that, a crash leaves it alone, and the stop is one more event of each transfer.
@@ -52,4 +55,26 @@ pub fn the_disk_leaves_what_a_stop_may_leave<S: Start>(stopped: &FileKeeper<S>)
         → ⟦<FileKeeper<S> as Keeper>⟧.holds stopped.now ledger
         → IsNumbered stopped.now.connection → MayBeLeft stopped.now.connection image
         → ∥ IsStopOf stopped.now.connection image ∥₁ }
+{}
+
+/// What is stored under a name before a ledger is opened is what the files hold. A ledger that is opened or made under a
+/// name, or refused, is so from these files.
+pub fn ledgers_in_files_are_what_the_files_hold<S: Start>(kept: &FileKeeper<S>)
+    ensures holds { (name : List ℕ) (ledger : Ledger)
+        → ⟦<LedgerFiles<'static, S> as Ledgers>⟧.holds name ledger
+        ↔ HoldsLedgerIn (image_at S.Start) ledger }
+    ensures opened { (name : List ℕ) → ⟦<LedgerFiles<'static, S> as Ledgers>⟧.opened name kept.now
+        ↔ IsAdoptedFrom (image_at S.Start) kept.now.connection }
+    ensures made { (name : List ℕ) → ⟦<LedgerFiles<'static, S> as Ledgers>⟧.made name kept.now
+        ↔ IsMadeIn (image_at S.Start) kept.now.connection }
+    ensures refused { (name : List ℕ) (fault : AdoptFault)
+        → ⟦<LedgerFiles<'static, S> as Ledgers>⟧.refused name fault
+        ↔ IsUnopened ⟦<FileStore<FileFrom<S>> as Store>⟧ (image_at S.Start) fault }
+{}
+
+/// No ledger is made where the files hold one.
+pub fn no_ledger_is_made_over_another<S: Start>(kept: &FileKeeper<S>)
+    ensures { (ledger : Ledger) → HoldsLedgerIn (image_at S.Start) ledger
+        → IsMadeIn (image_at S.Start) kept.now.connection
+        → ¬ ⟦<FileKeeper<S> as Keeper>⟧.clean kept.now }
 {}
