@@ -10,9 +10,16 @@ fields, each after one blank:
     start                                      begins a list: from here on no transfer is open
     begin NAME PATH OCTETS PATH OCTETS ..      tag files, in the order in which they are given; there may be none
     deliver NAME PATH OCTETS                   one delivery
+    read NAME PATH OCTETS                      one delivery by a reader
+    break NAME PATH OCTETS                     one by a reader that fails after these octets
     run NAME PATH OCTETS PATH OCTETS ..        a run of deliveries; there may be none
+    bring NAME PATH OCTETS PATH OCTETS ..      a run from a courier
+    bring-first NAME PATH OCTETS ..            the same; the reader of the first one fails after its octets
+    bring-end NAME PATH OCTETS ..              the same; the courier fails after the last one
     report NAME
+    audit NAME
     names
+    reopen                                     the ledger is given up and opened again
 
 A field is its octets in lowercase hex, or `-` if it is empty. Names and paths are UTF-8, and a path isn't spelled. The output,
 following section 16 of docs/FORMAT.md:
@@ -20,10 +27,13 @@ following section 16 of docs/FORMAT.md:
     start      `started`
     begin      `new`, `again`, or `refused: ` and `name`, `tag path N`, `tag too large PATH`, the line of section 12, the line of
                a fault, `clash PATH` or `differs`
-    deliver    `taken`, `repeated`, or `refused: ` and `no transfer`, `path`, `not listed`, `too large`, `length` or `digest ALG`
-    run        the answers to its deliveries, and then `done` or `too many`, joined by ` | `
+    deliver    `taken`, `repeated`, or `refused: ` and `no transfer`, `path`, `not listed`, `too large`, `length` or `digest ALG`;
+               `read` and `break` too, which may be refused by `reader`
+    run        the answers to its deliveries, and then `done` or `too many`, joined by ` | `; `bring` and its kinds too, which may
+               end with `courier`
     report     the lines of the faults, and then `valid`, `complete, not valid` or `not complete`, joined by ` | `;
-               or `refused: no transfer`
+               or `refused: no transfer`; `audit` too
+    reopen     `opened`
     names      the names, joined by one blank: an empty line if there are none
 """
 import random
@@ -180,14 +190,19 @@ def random_event(rng, offers):
     offer = offers[name]
     if sometimes(rng, 6):
         name = rng.choice(BAD_NAMES + GOOD_NAMES)
-    ways = [lambda: ("deliver", name, *offer.delivery())] * 12 + [
-        lambda: with_files("run", name, [offer.delivery() for _ in range(rng.randrange(6))]),
+    several = lambda word: with_files(word, name, [offer.delivery() for _ in range(rng.randrange(6))])
+    ways = [lambda: ("deliver", name, *offer.delivery())] * 9 + [lambda: ("read", name, *offer.delivery())] * 4 + [
+        lambda: ("break", name, *offer.delivery()),
+        lambda: several("run"),
+        lambda: several("bring"),
+        lambda: several(rng.choice(["bring-first", "bring-end"])),
+        lambda: ("reopen",),
         lambda: with_files("begin", name, offer.shuffled()),
         lambda: with_files("begin", name, rng.choice([Offer(rng), *offers.values()]).tags),
         lambda: with_files("begin", name, offer.other_tags()),
         lambda: with_files("begin", name, offer.other_tags()),
         lambda: ("report", name),
-        lambda: ("report", name),
+        lambda: ("audit", name),
         lambda: ("names",)]
     return rng.choice(ways)()
 
@@ -225,14 +240,16 @@ def answer(receiver, word, *fields):
     files = list(zip(fields[1::2], fields[2::2]))
     if word == "begin":
         return receiver.begin(fields[0], files)
-    if word == "deliver":
+    if word in ("deliver", "read"):
         return receiver.deliver(*fields)
-    if word == "run":
-        some, end = receiver.run(fields[0], files)
-        return " | ".join([*some, end])
-    if word == "report":
+    if word == "break":
+        return receiver.fail(*fields)
+    if word in ("run", "bring", "bring-first", "bring-end"):
+        some, end = receiver.run(fields[0], files, breaks=word == "bring-first")
+        return " | ".join([*some, "courier" if word == "bring-end" else end])
+    if word in ("report", "audit"):
         return " | ".join(receiver.report(*fields))
-    return b" ".join(receiver.names()).decode() if word == "names" else "started"
+    return b" ".join(receiver.names()).decode() if word == "names" else "started" if word == "start" else "opened"
 
 
 def kinds():
@@ -240,7 +257,7 @@ def kinds():
     others = {"no data directory", "manifest: digest", "fetch.txt:N: length", "bag: files", "complete, not valid"}
     return [shape for shape in random_bags.shapes() if shape not in others] + [
         "new", "again", "name", "tag path", "tag too large", "clash", "differs", "taken", "repeated", "no transfer", "path",
-        "not listed", "length", "digest", "done", "started"]
+        "not listed", "length", "digest", "reader", "done", "courier", "started", "opened"]
 
 
 def kinds_of(text):

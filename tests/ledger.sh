@@ -8,6 +8,6 @@ cd "$(dirname -- "$0")/.." || exit 1
 build_driver
 expect 'ledgers on the disk' 0 '9 ledgers read by sqlite3, 42 files adopted or refused, 41 full disks' \
     env TMPDIR="$work" python3 -B tests/ledger.py "$driver"
-expect 'stops' 0 '' python3 -B tests/stops.py "$driver" "$work/stops"
+expect 'stops, and rows' 0 '' python3 -B tests/stops.py "$driver" "$work/stops"
 cat "$work/stops"
 finish

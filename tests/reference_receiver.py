@@ -96,11 +96,14 @@ class Transfer:
         if paths & folders:
             raise Refused("clash " + printed(min(paths & folders)))
 
-    def test(self, path, octets):
+    def want(self, path):
         if not reference.is_path(path):
             raise Refused("path")
         if path not in self.listed:
             raise Refused("not listed")
+
+    def test(self, path, octets):
+        self.want(path)
         if len(octets) > ITEM_LIMIT:
             raise Refused("too large")
         if any(length != len(octets) for other, length in self.lengths if other == path):
@@ -145,9 +148,20 @@ class Receiver:
         transfer.held[path] = octets
         return "taken"
 
-    def run(self, name, items):
-        """The answers, and how the run ended. `items` are pairs of path and octets."""
-        answers = [self.deliver(name, path, octets) for path, octets in items[:RUN_LIMIT]]
+    def fail(self, name, path, octets):
+        """A delivery by a reader that fails after these octets. What no octets are read for is answered before."""
+        try:
+            self.named(name).want(path)
+        except Refused as cause:
+            return f"refused: {cause}"
+        return "refused: too large" if len(octets) > ITEM_LIMIT else "refused: reader"
+
+    def run(self, name, items, breaks=False):
+        """The answers, and how the run ended. `items` are pairs of path and octets. If it breaks, the reader of the first one fails."""
+        answers = [
+            self.fail(name, path, octets) if breaks and place == 0 else self.deliver(name, path, octets)
+            for place, (path, octets) in enumerate(items[:RUN_LIMIT])
+        ]
         return answers, "too many" if len(items) > RUN_LIMIT else "done"
 
     def report(self, name):

@@ -1,43 +1,291 @@
 #!/usr/bin/env python3
-"""stops.py DRIVER TRIED: has the driver stop a ledger's work at each call of each of the two files of its database, and judges what a
-restart finds. What was tried is written to TRIED.
+"""stops.py DRIVER TRIED: stops work on a ledger before each call of each of the two files of its database, and judges what is left.
+What was tried is written to TRIED.
 
-The work is a sequence of steps: a ledger is made, a transfer is opened, a payload file of three pieces is put through a reader, and
-ten small ones are put in a run. For each number of calls that a file (`log` or `database`) accepts, and for each way to end (`cut`,
-which loses everything that no sync had reached, or `killed`, which keeps everything that was written), the driver prints
+The driver is run as `DRIVER stop FILE CALLS HOW SEED DATABASE`. It opens the ledger in the database or makes one, answers the events
+on standard input (tests/deliveries.py describes them), and closes it. FILE (`log` or `database`) accepts CALLS calls and fails from
+then on. Then the driver leaves in DATABASE, and in the log next to it, what a stop at this moment leaves: if HOW is `cut`, as after a
+power cut, only what a sync had reached, and if it is `killed` all that was written. It prints `opened` or why it isn't, the answers,
+and `closed` or `not closed`. SEED is a number for the log.
 
-    FILE CALLS HOW: N answered, M held
-
-where N steps were answered before the stop, and the ledger that is adopted after it holds M of them. Every step that was answered is
-held, and in addition at most the one that was in progress.
+The work opens two transfers, and puts payload files by readers, in runs and from couriers. Its steps are that the ledger is made, that
+a transfer is opened, and each delivery. After a stop sqlite3 reads what is left, file by file and octet by octet. tests/reference_receiver.py
+says what there is after each step: it must be what there was after the last step that was answered, or after the next one. Then the
+same work is given again, without a stop; each answer is that of the second program, and both transfers are valid, also if they are
+audited. In the same way the opening of ledgers that were closed, killed or cut off is stopped, which must leave them as they were.
 """
-import re
+import hashlib
+import itertools
+import pathlib
+import random
+import shutil
+import sqlite3
 import subprocess
 import sys
+import tempfile
 
-STEPS = 13
-LINE = re.compile(r"(log|database) (\d+) (cut|killed): (\d+) answered, (\d+) held")
+from deliveries import answer, line
+from reference_receiver import Receiver
+
+DECLARATION = b"BagIt-Version: 1.0\nTag-File-Character-Encoding: UTF-8\n"
+TABLES = ["held", "meta", "piece", "tag", "transfer"]
+NEVER = 2**64 - 1
+PIECE = 65_536
+# How far apart the stops of the opening of a larger ledger are, in calls.
+STRIDE = 17
 
 
-def main(driver, tried):
-    printed = subprocess.run([driver, "stops"], capture_output=True, text=True, check=True).stdout.splitlines()
-    stops, under_way, last = {}, 0, {}
-    for line in printed:
-        found = LINE.fullmatch(line)
-        if not found:
-            sys.exit(f"not a stop that left a ledger: {line}")
-        file, calls, how, answered, held = found[1], int(found[2]), found[3], int(found[4]), int(found[5])
-        if held not in (answered, answered + 1) or held > STEPS:
-            sys.exit(f"another number than was answered is held: {line}")
-        if stops.get((file, how), 0) != calls:
-            sys.exit(f"a stop was left out before: {line}")
-        stops[file, how] = calls + 1
-        last[file, how] = answered
-        under_way += held > answered
-    if len(last) != 4 or set(last.values()) != {STEPS} or not under_way:
-        sys.exit(f"not all of the work was stopped: {last}, {under_way} held that were under way")
-    with open(tried, "w", encoding="ascii") as out:
-        print(f"{sum(stops.values())} stops, after {under_way} of which a step is held that wasn't answered", file=out)
+def manifest(files):
+    return b"".join(b"%s  %s\n" % (hashlib.sha256(octets).hexdigest().encode(), path) for path, octets in files)
+
+
+def tag_files(files, *more):
+    return [(b"bagit.txt", DECLARATION), (b"manifest-sha256.txt", manifest(files)), *more]
+
+
+def work():
+    """The events."""
+    rng = random.Random(1)
+    large = (b"data/a", rng.randbytes(2 * PIECE + 1))
+    small = [(b"data/%d" % n, rng.randbytes(size)) for n, size in enumerate([0, 1, 2_048, 2_048, 5_000, PIECE, 70_000, 0, 300, 9])]
+    others = [(b"data/a", b"other"), ("data/\u00e9\n%".encode(), b"")]
+    spelled = [(path.replace(b"%", b"%25").replace(b"\n", b"%0A"), octets) for path, octets in others]
+    first = tag_files([large, *small], (b"notes/odd", rng.randbytes(PIECE + 1)), (b"empty", b""))
+    fields = lambda files: [field for file in files for field in file]
+    return [
+        ("begin", b"first", *fields(first)),
+        ("break", b"first", large[0], large[1][: 2 * PIECE]),
+        ("read", b"first", *large),
+        ("run", b"first", *fields([*small, small[2], (b"data/1", b"x")])),
+        ("begin", b"second", *fields(tag_files(spelled))),
+        ("bring-first", b"second", *fields([(b"data/a", b"oth"), *others])),
+        ("report", b"first"),
+        ("audit", b"second"),
+        ("names",),
+    ]
+
+
+def parts(word, text):
+    """The answers to the deliveries of a run, each alone; the answer to another event is one."""
+    return text.split(" | ") if word in ("run", "bring-first") else [text]
+
+
+def ledger_of(receiver):
+    return {name: (dict(transfer.tags), dict(transfer.held)) for name, transfer in receiver.transfers.items()}
+
+
+def each_alone(event):
+    """The event as several, each with one delivery, if it is a run."""
+    word, *fields = event
+    if word not in ("run", "bring-first"):
+        return [event]
+    files = list(zip(fields[1::2], fields[2::2]))
+    first = "break" if word == "bring-first" else "deliver"
+    return [(first if place == 0 else "deliver", fields[0], *file) for place, file in enumerate(files)]
+
+
+def steps(receiver, events):
+    """For each step its answer, and what is held after it. The end of a run is a step too."""
+    for event in events:
+        for one in each_alone(event):
+            yield answer(receiver, *one), ledger_of(receiver)
+        if event[0] in ("run", "bring-first"):
+            yield "done", ledger_of(receiver)
+
+
+def found(database):
+    """What is held in the ledger by sqlite3, which reads a copy; None if there are no tables. Each row belongs to something."""
+    # The first page of a new database is written with another first octet, which sqlite3 doesn't accept, and that octet comes last.
+    if database.read_bytes()[:16] == b"\0QLite format 3\0":
+        assert database.stat().st_size <= 4_096
+        return None
+    with tempfile.TemporaryDirectory(dir=database.parent) as folder:
+        copy = pathlib.Path(folder) / "copy"
+        for end in ("", "-wal"):
+            if pathlib.Path(f"{database}{end}").exists():
+                shutil.copy(f"{database}{end}", f"{copy}{end}")
+        opened = sqlite3.connect(copy)
+        try:
+            return rows(lambda text, *fields: opened.execute(text, fields).fetchall())
+        finally:
+            opened.close()
+
+
+def rows(ask):
+    assert ask("PRAGMA integrity_check") == [("ok",)] and ask("PRAGMA foreign_key_check") == []
+    tables = sorted(name for (name,) in ask("SELECT name FROM sqlite_schema WHERE type = 'table'"))
+    if not tables:
+        return None
+    assert tables == TABLES and ask("SELECT k, v FROM meta") == [("bag-ledger", 2)], tables
+    for table, column, owner in (("tag", "transfer", "transfer"), ("held", "transfer", "transfer"), ("piece", "item", "held")):
+        assert ask(f"SELECT count(*) FROM {table} WHERE {column} NOT IN (SELECT id FROM {owner})") == [(0,)], table
+    ledger = {}
+    for transfer, name in ask("SELECT id, name FROM transfer"):
+        tags = {path.encode(): body for path, body in ask("SELECT path, body FROM tag WHERE transfer = ?", transfer)}
+        ledger[name.encode()] = tags, {}
+        for item, path, size in ask("SELECT id, path, size FROM held WHERE transfer = ?", transfer):
+            ledger[name.encode()][1][path.encode()] = content(ask, item, size)
+    return ledger
+
+
+def content(ask, item, size):
+    """The octets of a payload file. Its pieces are numbered from 0, and are full except for the last."""
+    pieces = ask("SELECT n, body FROM piece WHERE item = ? ORDER BY n", item)
+    octets = b"".join(body for _, body in pieces)
+    assert len(octets) == size, (item, size)
+    assert pieces == [(n, octets[at : at + PIECE]) for n, at in enumerate(range(0, size, PIECE))], item
+    return octets
+
+
+def run(driver, database, events, stop=("log", NEVER, "killed"), seeds=itertools.count()):
+    """The lines that the driver prints."""
+    file, calls, how = stop
+    words = [driver, "stop", file, str(calls), how, str(next(seeds)), database]
+    ran = subprocess.run(words, input="".join(f"{line(event)}\n" for event in events).encode(), capture_output=True, timeout=60, check=False)
+    assert ran.returncode == 0 and not ran.stderr, (stop, ran)
+    return ran.stdout.decode().split("\n")[:-1]
+
+
+def answered(events, printed, wanted):
+    """How many steps were answered, the opening included. From the first that wasn't, no answer may promise anything."""
+    if printed == ["store"]:
+        return 0
+    assert printed[0] == "opened" and len(printed) == len(events) + 2, printed
+    given = [part for event, text in zip(events, printed[1:]) for part in parts(event[0], text)]
+    assert len(given) == len(wanted), (given, wanted)
+    number = next((place for place, (text, _) in enumerate(wanted) if given[place] != text), len(given))
+    for place in range(number, len(given)):
+        changes = wanted[place][1] != wanted[place - 1][1] if place else True
+        assert given[place] == "refused: keeper" or (given[place] == wanted[place][0] and not changes), (place, given[place])
+    return 1 + number
+
+
+def known(ledger):
+    """The second program, with this ledger."""
+    receiver = Receiver()
+    for name, (tags, held) in (ledger or {}).items():
+        assert receiver.begin(name, list(tags.items())) == "new"
+        assert all(receiver.deliver(name, path, octets) == "taken" for path, octets in held.items())
+    return receiver
+
+
+def again(driver, database, left, events):
+    """Does the whole work once more with no stop: each answer is right, and in the end everything is held."""
+    more = [*events, *((word, name) for word in ("report", "audit") for name in (b"first", b"second"))]
+    receiver = known(left)
+    wanted = list(steps(receiver, more))
+    printed = run(driver, database, more)
+    assert answered(more, printed, wanted) == 1 + len(wanted) and printed[-1] == "closed", printed
+    assert printed[-5:-1] == ["valid"] * 4, printed
+    assert found(database) == ledger_of(receiver)
+
+
+def stop_work(driver, folder, events, tried, kept):
+    """Stops the work at each call. Adds what some stops leave to `kept`."""
+    wanted = list(steps(Receiver(), events))
+    states = [None, {}, *(ledger for _, ledger in wanted)]
+    for file, how in itertools.product(("log", "database"), ("cut", "killed")):
+        for calls in itertools.count():
+            database = folder / f"{file} {calls} {how}"
+            printed = run(driver, database, events, (file, calls, how))
+            number = answered(events, printed, wanted)
+            left = found(database)
+            assert left in states[number : number + 2], (file, calls, how, number, left and left.keys())
+            tried["stops"] += 1
+            tried["more"] += left != states[number]
+            if (file, how) == ("log", "killed") and (calls % 48 == 5 or printed[-1] == "closed"):
+                keep(database, kept, left)
+            again(driver, database, left, events)
+            remove(database)
+            if printed[-1] == "closed":
+                break
+            tried["closings"] += number == len(states) - 1
+        assert number == len(states) - 1 and left == states[-1]
+
+
+def keep(database, kept, left):
+    """Keeps a copy of the ledger."""
+    start = database.with_name(f"start {len(kept)}")
+    copy(database, start)
+    kept.append((start, left))
+
+
+def copy(database, to):
+    for end in ("", "-wal"):
+        shutil.copy(f"{database}{end}", f"{to}{end}")
+
+
+def remove(database):
+    for end in ("", "-wal"):
+        pathlib.Path(f"{database}{end}").unlink()
+
+
+def stop_openings(driver, folder, kept, tried):
+    """Stops the opening and closing of the first ledger at each call, and of the others at some. It leaves what there was; without
+    tables a ledger may be made."""
+    events = [("names",), ("audit", b"first"), ("audit", b"second")]
+    for place, (start, left) in enumerate(kept):
+        wanted = list(steps(known(left), events))
+        for file, how in itertools.product(("log", "database"), ("cut", "killed")):
+            for calls in itertools.count(place, STRIDE if place else 1):
+                database = folder / "opened"
+                copy(start, database)
+                printed = run(driver, database, events, (file, calls, how))
+                number = answered(events, printed, wanted)
+                after = found(database)
+                assert after == left or (left is None and after == {} and number <= 1) or (left is None and number), (start, file, calls, how)
+                tried["openings"] += 1
+                whole = run(driver, database, events)
+                assert answered(events, whole, wanted) == 1 + len(wanted) and whole[-1] == "closed", (start, file, calls, how, whole)
+                assert found(database) == (left or {}), (start, file, calls, how)
+                remove(database)
+                if printed[-1] == "closed":
+                    break
+
+
+def count_rows(driver, folder):
+    """Readers and couriers that fail, one after another, and the rows of payload files and of pieces after each. Returns how many."""
+    octets = random.Random(2).randbytes(2 * PIECE + 1)
+    changed = octets[:-1] + bytes([octets[-1] ^ 1])
+    files = tag_files([(b"data/a", octets), (b"data/b", b"b")])
+    cases = [
+        (("begin", b"t", *files[0], *files[1]), "new", (0, 0)),
+        (("break", b"t", b"data/a", octets[: 2 * PIECE]), "refused: reader", (0, 0)),
+        (("break", b"t", b"data/a", octets), "refused: reader", (0, 0)),
+        (("read", b"t", b"data/a", changed), "refused: digest sha256", (0, 0)),
+        (("bring-first", b"t", b"data/b", b"b"), "refused: reader | done", (0, 0)),
+        (("bring-end", b"t"), "courier", (0, 0)),
+        (("read", b"t", b"data/a", octets), "taken", (1, 3)),
+        (("read", b"t", b"data/a", octets), "repeated", (1, 3)),
+        (("read", b"t", b"data/a", changed), "refused: digest sha256", (1, 3)),
+        (("break", b"t", b"data/a", octets[:1]), "refused: reader", (1, 3)),
+        (("bring-end", b"t", b"data/b", b"x", b"data/b", b"b"), "refused: digest sha256 | taken | courier", (2, 4)),
+    ]
+    database = folder / "rows"
+    for event, text, wanted in cases:
+        printed = run(driver, database, [event])
+        assert printed == ["opened", text, "closed"], (event[0], printed)
+        opened = sqlite3.connect(database)
+        rows = tuple(opened.execute(f"SELECT count(*) FROM {table}").fetchone()[0] for table in ("held", "piece"))
+        opened.close()
+        assert rows == wanted, (event[0], text, rows)
+    return len(cases)
+
+
+def main(driver, tried_file):
+    tried, kept = dict.fromkeys(["stops", "more", "closings", "openings"], 0), []
+    with tempfile.TemporaryDirectory() as folder:
+        rows = count_rows(driver, pathlib.Path(folder))
+        stop_work(driver, pathlib.Path(folder), work(), tried, kept)
+        stop_openings(driver, pathlib.Path(folder), kept, tried)
+    assert tried["more"] and tried["closings"], tried
+    assert any(left is None for _, left in kept) and any(left and len(left) == 2 for _, left in kept), [left and len(left) for _, left in kept]
+    with open(tried_file, "w", encoding="ascii") as out:
+        print(
+            f"{tried['stops']} stops of the work, {tried['closings']} of them while it was closed, and after {tried['more']} a step is held"
+            f" that wasn't answered; {tried['openings']} stops while one of {len(kept)} ledgers was opened or closed; {rows} counts of rows",
+            file=out,
+        )
 
 
 if __name__ == "__main__":

@@ -1,10 +1,10 @@
 //! Puts payload files in a ledger in a new database on disk, for time measurements.
 use crate::keepers::created;
 use crate::receiving::{Items, is_taken, listing, payload, tag_files, take_in};
+use crate::text::AdoptText;
 use bag_digest::Counted;
-use bag_ledger::KeepFault;
 use bag_receiver::Receiver;
-use bag_sqlite::{AdoptFault, NotAdopted, SqlKeeper};
+use bag_sqlite::{NotAdopted, SqlKeeper};
 use sqlite::{Connection, Error, ErrorCode, File, FileStore};
 use std::alloc::Global;
 use std::fs;
@@ -56,29 +56,24 @@ pub fn adopt(rt: &HostRuntime, database: &str) -> io::Result<u8> {
             return Ok(1);
         }
     };
-    let fault = match SqlKeeper::adopt(connection) {
+    match SqlKeeper::adopt(connection) {
         Ok(keeper) => {
             writeln!(out, "adopted")?;
-            return match keeper.release().close() {
+            match keeper.release().close() {
                 Ok(()) => Ok(0),
                 Err(_) => Ok(3),
-            };
+            }
         }
         Err(
             NotAdopted {
                 fault,
                 connection: _,
             },
-        ) => fault,
-    };
-    match fault {
-        AdoptFault::Damaged { name, path } => writeln!(out, "damaged {name} {path}")?,
-        AdoptFault::Keep(KeepFault::Memory) => writeln!(out, "memory")?,
-        AdoptFault::Keep(KeepFault::Store(_)) => writeln!(out, "store")?,
-        AdoptFault::OldFormat => writeln!(out, "old format")?,
-        AdoptFault::NotALedger => writeln!(out, "not a ledger")?,
+        ) => {
+            writeln!(out, "{}", AdoptText(&fault))?;
+            Ok(1)
+        }
     }
-    Ok(1)
 }
 
 /// A receiver with a ledger made in this database.

@@ -1,11 +1,15 @@
 //! Answers lists of deliveries for `tests/deliveries.py`, which describes the input and the output.
+use crate::bringing::{Breaks, Items, Reader};
 use crate::event::{Event, bad_line};
 use crate::keepers::Anew;
 use crate::text::{AnswerText, FaultText, RefusalText, end_text, verdict_text};
+use bag_digest::Counted;
 use bag_ledger::Keeper;
-use bag_receiver::{Begun, Receiver};
+use bag_receiver::{Begun, Receiver, Run, ViewFault};
+use bag_rules::Report;
 use std::alloc::Global;
 use std::io::{self, BufRead, BufReader, BufWriter, Write};
+use std::mem;
 
 /// Answers each line of standard input with a line, using a receiver with keepers of this kind.
 ///
@@ -14,13 +18,13 @@ use std::io::{self, BufRead, BufReader, BufWriter, Write};
 /// A line is malformed, memory ran out, or a read or a write failed.
 pub fn answer_all<K: Anew, R: Input + Print + AllocGlobal>(rt: &R) -> io::Result<()> {
     let mut out = BufWriter::new(rt.alloc(), io::writer(rt))?;
-    let answered = answer_lines::<K, _, _>(rt, &mut out);
+    let answered = answer_each::<K, _, _>(rt, &mut out);
     // The answers before a malformed line are printed.
     out.flush()?;
     answered
 }
 
-fn answer_lines<K: Anew, R: Input + AllocGlobal, W: Write + Drop>(
+fn answer_each<K: Anew, R: Input + AllocGlobal, W: Write + Drop>(
     rt: &R,
     out: &mut W,
 ) -> io::Result<()> {
@@ -28,7 +32,34 @@ fn answer_lines<K: Anew, R: Input + AllocGlobal, W: Write + Drop>(
     let mut receiver = empty::<K>(alloc)?;
     for line in BufReader::new(alloc, rt.reader())?.lines(alloc) {
         let line = line?;
-        answer(alloc, &mut receiver, &Event::parse(alloc, &line)?, out)?;
+        let event = Event::parse(alloc, &line)?;
+        match event.word {
+            "start" => {
+                receiver = empty(alloc)?;
+                write!(out, "started")?;
+            }
+            "reopen" => reopen(alloc, &mut receiver, out)?,
+            _ => answer(alloc, &mut receiver, &event, out)?,
+        }
+        writeln!(out)?;
+    }
+    Ok(())
+}
+
+/// Answers each line of standard input with a line, in one ledger that is not opened again.
+///
+/// # Errors
+///
+/// Those of [`answer_all`].
+pub fn answer_lines<K: Keeper + Drop, R: Input + AllocGlobal, W: Write + Drop>(
+    rt: &R,
+    receiver: &mut Receiver<K>,
+    out: &mut W,
+) -> io::Result<()> {
+    let alloc = rt.alloc();
+    for line in BufReader::new(alloc, rt.reader())?.lines(alloc) {
+        let line = line?;
+        answer(alloc, receiver, &Event::parse(alloc, &line)?, out)?;
         writeln!(out)?;
     }
     Ok(())
@@ -40,21 +71,26 @@ fn empty<K: Anew>(alloc: Global) -> io::Result<Receiver<K>> {
 }
 
 /// Writes the answer to the event.
-fn answer<K: Anew, W: Write + Drop>(
+fn answer<K: Keeper + Drop, W: Write + Drop>(
     alloc: Global,
     receiver: &mut Receiver<K>,
     event: &Event<'_>,
     out: &mut W,
 ) -> io::Result<()> {
     match event.word {
-        "start" => {
-            *receiver = empty(alloc)?;
-            write!(out, "started")
-        }
         "begin" => begin(alloc, receiver, event, out),
         "deliver" => deliver(alloc, receiver, event, out),
-        "run" => run(alloc, receiver, event, out),
-        "report" => report(alloc, receiver, event.name.as_str(), out),
+        "read" => read(alloc, receiver, event, false, out),
+        "break" => read(alloc, receiver, event, true, out),
+        "run" => {
+            let run = receiver.run(alloc, event.name.as_str(), event.files.as_slice());
+            write_run(&run, out)
+        }
+        "bring" => bring(alloc, receiver, event, Breaks::Nothing, out),
+        "bring-first" => bring(alloc, receiver, event, Breaks::First, out),
+        "bring-end" => bring(alloc, receiver, event, Breaks::End, out),
+        "report" => write_report(receiver.report(alloc, event.name.as_str()), out),
+        "audit" => write_report(receiver.audit(alloc, event.name.as_str()), out),
         "names" => names(alloc, receiver, out),
         _ => Err(bad_line()),
     }
@@ -92,26 +128,50 @@ fn deliver<K: Keeper + Drop, W: Write + Drop>(
     write!(out, "{}", AnswerText(given))
 }
 
-fn run<K: Keeper + Drop, W: Write + Drop>(
+/// A delivery by a reader.
+fn read<K: Keeper + Drop, W: Write + Drop>(
     alloc: Global,
     receiver: &mut Receiver<K>,
     event: &Event<'_>,
+    is_broken: bool,
     out: &mut W,
 ) -> io::Result<()> {
-    let run = receiver.run(alloc, event.name.as_str(), event.files.as_slice());
+    if event.files.len() != 1 {
+        return Err(bad_line());
+    }
+    let (path, content) = &event.files[0];
+    let octets = Vec::from_slice(alloc, content.as_slice())?;
+    let mut reader = Counted::new(Reader::new(octets, is_broken));
+    let given = receiver.deliver_from(alloc, event.name.as_str(), path.as_str(), &mut reader);
+    write!(out, "{}", AnswerText(given))
+}
+
+/// A run from a courier.
+fn bring<K: Keeper + Drop, W: Write + Drop>(
+    alloc: Global,
+    receiver: &mut Receiver<K>,
+    event: &Event<'_>,
+    breaks: Breaks,
+    out: &mut W,
+) -> io::Result<()> {
+    let mut items = Vec::new(alloc);
+    for (path, content) in event.files.iter().rev() {
+        items.push((path.clone()?, Vec::from_slice(alloc, content.as_slice())?))?;
+    }
+    let mut courier = Items::new(items, breaks);
+    let (run, _) = receiver.run_from(alloc, event.name.as_str(), &mut courier);
+    write_run(&run, out)
+}
+
+fn write_run<W: Write + Drop>(run: &Run, out: &mut W) -> io::Result<()> {
     for given in run.answers.iter() {
         write!(out, "{} | ", AnswerText(*given))?;
     }
     write!(out, "{}", end_text(run.ended))
 }
 
-fn report<K: Keeper + Drop, W: Write + Drop>(
-    alloc: Global,
-    receiver: &mut Receiver<K>,
-    name: &str,
-    out: &mut W,
-) -> io::Result<()> {
-    match receiver.report(alloc, name) {
+fn write_report<W: Write + Drop>(view: Result<Report, ViewFault>, out: &mut W) -> io::Result<()> {
+    match view {
         Ok(report) => {
             for fault in report.faults() {
                 write!(out, "{} | ", FaultText(fault))?;
@@ -120,6 +180,17 @@ fn report<K: Keeper + Drop, W: Write + Drop>(
         }
         Err(fault) => write!(out, "refused: {fault}"),
     }
+}
+
+/// Opens the ledger again.
+fn reopen<K: Anew, W: Write + Drop>(
+    alloc: Global,
+    receiver: &mut Receiver<K>,
+    out: &mut W,
+) -> io::Result<()> {
+    let old = mem::replace(receiver, empty(alloc)?);
+    *receiver = Receiver::new(alloc, old.into_keeper().again()?);
+    write!(out, "opened")
 }
 
 fn names<K: Keeper + Drop, W: Write + Drop>(

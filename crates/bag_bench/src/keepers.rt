@@ -1,6 +1,6 @@
 //! The keepers with which deliveries are answered.
 use bag_ledger::{KeepFault, Keeper, MapKeeper};
-use bag_sqlite::{NotCreated, SqlKeeper};
+use bag_sqlite::{NotAdopted, NotCreated, SqlKeeper};
 use sqlite::{Alter, Connection, MemStore};
 use std::alloc::Global;
 use std::io::{self, ErrorKind};
@@ -8,11 +8,18 @@ use std::io::{self, ErrorKind};
 /// A keeper that can be made from nothing, without transfers.
 pub trait Anew: Keeper + Drop {
     fn anew(alloc: Global) -> io::Result<Self>;
+
+    /// Gives up the ledger and opens it again.
+    fn again(self) -> io::Result<Self>;
 }
 
 impl Anew for MapKeeper {
     fn anew(alloc: Global) -> io::Result<MapKeeper> {
         Ok(MapKeeper::new(alloc))
+    }
+
+    fn again(self) -> io::Result<MapKeeper> {
+        Ok(self)
     }
 }
 
@@ -20,6 +27,18 @@ impl Anew for SqlKeeper<MemStore> {
     fn anew(alloc: Global) -> io::Result<SqlKeeper<MemStore>> {
         let connection = Connection::open_in_memory(alloc)?;
         created(SqlKeeper::create(connection))
+    }
+
+    fn again(self) -> io::Result<SqlKeeper<MemStore>> {
+        match SqlKeeper::adopt(self.release()) {
+            Ok(keeper) => Ok(keeper),
+            Err(
+                NotAdopted {
+                    fault: _,
+                    connection: _,
+                },
+            ) => Err(io::Error::from(ErrorKind::Other)),
+        }
     }
 }
 

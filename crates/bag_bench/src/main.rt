@@ -16,8 +16,8 @@
 //! status is 0 if all were taken. `bag_bench adopt DATABASE` prints whether a ledger was adopted, or why not; the
 //! status is 0 if it was.
 //!
-//! `bag_bench stops` stops a ledger's work at each call of each of its two files; `tests/stops.py` describes the
-//! output.
+//! `bag_bench stop FILE CALLS HOW SEED DATABASE` does the work on standard input in the ledger of a database, and stops
+//! at a call of one of its files; `tests/stops.py` describes it.
 //!
 //! `bag_bench ALG PIECES` computes the digest of this many pieces of 65,536 octets.
 //!
@@ -42,15 +42,17 @@ use std::alloc::{AllocError, Global};
 use std::env::{self, Env};
 use std::io;
 use std::process::ExitCode;
-use stops::stop_each;
+use stopped::{Calls, stop};
 use writing::write_all;
 
+mod bringing;
 mod database;
 mod deliveries;
 mod event;
+mod fused;
 mod keepers;
 mod receiving;
-mod stops;
+mod stopped;
 mod text;
 mod writing;
 
@@ -81,7 +83,6 @@ fn run(rt: &HostRuntime) -> u8 {
     };
     let done = match words.len() {
         1 if words[0].as_str() == "write" => write_all(rt).map(|_| 0),
-        1 if words[0].as_str() == "stops" => stop_each(rt).map(|_| 0),
         2 if words[0].as_str() == "deliveries" => answer_over(rt, words[1].as_str()),
         2 if words[0].as_str() == "adopt" => adopt(rt, words[1].as_str()),
         2 => work(rt.alloc(), words[0].as_str(), words[1].as_str()),
@@ -92,6 +93,7 @@ fn run(rt: &HostRuntime) -> u8 {
             words[2].as_str(),
             words[3].as_str(),
         ),
+        6 if words[0].as_str() == "stop" => stop_at(rt, &words),
         _ => Ok(64),
     };
     done.unwrap_or(3)
@@ -105,6 +107,27 @@ fn answer_over(rt: &HostRuntime, keeper: &str) -> io::Result<u8> {
         _ => return Ok(64),
     }
     Ok(0)
+}
+
+/// Does the work on standard input, and stops at a call of a file, as the six words say.
+fn stop_at(rt: &HostRuntime, words: &[String]) -> io::Result<u8> {
+    let [_, file, calls, how, seed, database] = words else {
+        return Ok(64);
+    };
+    let (Ok(calls), Ok(seed)) = (calls.parse::<u64>(), seed.parse::<u64>()) else {
+        return Ok(64);
+    };
+    let calls = match file.as_str() {
+        "log" => Calls {
+            log: calls,
+            database: u64::MAX,
+        },
+        _ => Calls {
+            log: u64::MAX,
+            database: calls,
+        },
+    };
+    stop(rt, database.as_str(), calls, how.as_str() == "cut", seed)
 }
 
 /// Does the work of a command that takes a number.

@@ -1,8 +1,10 @@
 //! Answers and reports, in the words of `docs/FORMAT.md`.
 use bag_digest::Alg;
+use bag_ledger::KeepFault;
 use bag_path::Spelling;
 use bag_receiver::{Answer, BeginFault, DeliverFault, End};
 use bag_rules::{Fault, OutsideCause, Report};
+use bag_sqlite::AdoptFault;
 use bag_tags::{DeclFault, Kind, LineCause, ManifestName};
 use std::fmt::{Display, Formatter, Result, Write};
 
@@ -57,6 +59,22 @@ impl Display for RefusalText<'_> {
             BeginFault::Rules(fault) => write!(f, "{}", FaultText(fault)),
             BeginFault::Clash(path) => write!(f, "clash {}", Spelling(path)),
             other => write!(f, "{other}"),
+        }
+    }
+}
+
+/// Why a ledger isn't opened.
+#[derive(Clone, Copy)]
+pub struct AdoptText<'a>(pub &'a AdoptFault);
+
+impl Display for AdoptText<'_> {
+    fn fmt<W: Write>(&self, f: &mut Formatter<W>) -> Result {
+        match self.0 {
+            AdoptFault::Damaged { name, path } => write!(f, "damaged {name} {path}"),
+            AdoptFault::Keep(KeepFault::Memory) => f.write_str("memory"),
+            AdoptFault::Keep(KeepFault::Store(_)) => f.write_str("store"),
+            AdoptFault::OldFormat => f.write_str("old format"),
+            AdoptFault::NotALedger => f.write_str("not a ledger"),
         }
     }
 }
