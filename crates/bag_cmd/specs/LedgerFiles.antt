@@ -39,12 +39,14 @@ module _ {D : Type 0} {g : Ghosts D} where
   -- OPENING
 
   -- a connection was opened on what the files held, its database was verified, and a ledger that
-  -- the files held is what the keeper holds, and a crash leaves that ledger alone
+  -- the files or the connection held is what the keeper holds, and a crash leaves that ledger alone
   pub record IsAdoption (image : Image) (opened kept : Held (FileStore D g)) : Type 0 where
     pub found : FindsIn image (file_state opened)
     pub opens : IsOpened opened
     pub verified : IsVerified (over_files {D = D} {g = g}) (file_state opened).committed
     pub keeps : (ledger : Ledger) → HoldsLedgerIn image ledger
+        → KeepsAlone (file_state kept) ledger
+    pub held : (ledger : Ledger) → HoldsLedger (file_state opened) ledger
         → KeepsAlone (file_state kept) ledger
 
   -- a connection was opened on what the files held, they had no tables, and the keeper holds the

@@ -1,4 +1,4 @@
-use Rattle.std.proofs.Common.{arith, inr}
+use Rattle.std.proofs.Common.{arith, inl, inr}
 use Rattle.sqlite.specs.State.{HasCleanDisk}
 use Rattle.sqlite.specs.Files.{file_state}
 use Rattle.sqlite_wal.specs.Files.{image_at}
@@ -17,6 +17,7 @@ returns-in-Ok g c = λ connected clean.
         opens = it.1;
         verified = c.in-Ok.ensures.verified clean;
         keeps = λ ledger stored. c.in-Ok.ensures.kept clean ledger (inr (opened_on (image_at g.S.Start) (file_state opened) ledger it.0 it.1 stored));
+        held = λ ledger holds. c.in-Ok.ensures.kept clean ledger (inl (it.1.0.is_open, holds));
       },
     )
 
