@@ -109,8 +109,8 @@ def rows():
 
 
 def main(rounds="3", wanted=""):
-    # The first use of each program may build it.
-    subprocess.run([TOP / "bag"], stdout=subprocess.DEVNULL)
+    subprocess.run([TOP / "build"], check=True)
+    # The first use of the driver may build it.
     subprocess.run(["rt", "run"], cwd=TOP / "crates/bag_bench", stdin=subprocess.DEVNULL, stdout=subprocess.DEVNULL)
     print(f"{'bag':<14} {'bag check':>9} {'coreutils':>9} {'digests':>8} {'/coreutils':>10} {'/digests':>8} {'peak MiB':>8} {'octets/file':>10}")
     with tempfile.TemporaryDirectory() as folder:

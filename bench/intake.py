@@ -104,8 +104,7 @@ def commands(mebibytes, work):
 
 
 def main(rounds=3, smaller=1):
-    # The first use of the program may build it.
-    subprocess.run([TOP / "bag"], stdout=subprocess.DEVNULL)
+    subprocess.run([TOP / "build"], check=True)
     with tempfile.TemporaryDirectory() as folder:
         work = pathlib.Path(folder)
         print(f"{'payload':<16} {'bag':>8} {'cp, sum':>8} {'sqlite3':>8} {'ratio':>6} {'/sqlite3':>8} {'peak MiB':>8}")

@@ -42,8 +42,7 @@ def row(name, sizes, folders, algorithms, rounds, work):
 
 def main():
     rounds = int(sys.argv[1]) if len(sys.argv) > 1 else 3
-    # The first use of the program may build it.
-    subprocess.run([TOP / "bag"], stdout=subprocess.DEVNULL)
+    subprocess.run([TOP / "build"], check=True)
     print(f"{'payload':<20} {'bag make':>9} {'cp and sum':>10} {'ratio':>6} {'peak MiB':>8}")
     with tempfile.TemporaryDirectory() as folder:
         work = pathlib.Path(folder)

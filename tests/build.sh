@@ -1,6 +1,6 @@
 #!/usr/bin/env bash
-# The script `bag` alone: when it builds, and that it passes on arguments, output and status. The program and the kit
-# are stand-ins.
+# The scripts `bag` and `build` where there is no release: when they build, and that `bag` passes on arguments, output
+# and status. The program and the kit are stand-ins.
 set -u
 cd "$(dirname -- "$0")/.." || exit 1
 . tests/common.bash
@@ -12,7 +12,7 @@ crate=$repository/crates/bag_cmd
 mkdir -p "$crate/src" "$crate/specs" "$crate/proofs" "$repository/crates/low/src" "$work/kit"
 printf '# Each crate.\nlow: std\nlow_tests: low\nbag_cmd: low\nother: low\n' >"$repository/crates.txt"
 touch "$crate/src/main.rt" "$crate/src/old.rt" "$crate/specs/Lib.antt" "$crate/proofs/Lib.antt"
-cp bag "$repository/bag"
+cp bag build program.sh "$repository"
 ln -s "$repository/bag" "$work/link"
 cat >"$work/kit/rt" <<'KIT'
 #!/bin/sh
@@ -34,7 +34,7 @@ exec out/bag_cmd
 KIT
 chmod +x "$work/kit/rt"
 mkdir "$work/tools"
-for tool in sh dirname readlink find date touch sed mkdir; do
+for tool in sh readlink find rm; do
     ln -s "$(command -v "$tool")" "$work/tools/$tool"
 done
 PATH=$work/kit:$PATH
@@ -81,6 +81,12 @@ expect 'a built program needs no kit' 7 '<word>' without_kit "$repository/bag" w
 rm "$crate/out/bag_cmd"
 expect 'no kit' 69 'builds: 0' builds without_kit "$repository/bag" word
 expect 'no kit: one line says what is missing' 0 1 grep -c 'rt.*is not on PATH' "$work/build"
+expect 'no kit: no other line' 0 1 grep -c '' "$work/build"
+expect 'a build alone' 0 'builds: 1' builds "$repository/build"
+expect 'a build alone, of nothing new' 0 'builds: 0' builds without_kit "$repository/build"
+expect 'a program that was built alone' 7 '<word>' without_kit "$repository/bag" word
+rm "$crate/out/bag_cmd"
+expect 'a build alone without the kit' 69 'builds: 0' builds without_kit "$repository/build"
 
 # fails_in CRATE: a build that fails in this crate.
 fails_in() {

@@ -76,11 +76,10 @@ small_files() (
     exec "$@"
 )
 
-# build_first: builds the program if necessary. The output of a build would disturb the first case.
+# build_first: builds the program if necessary, so that ./bag runs that and not the released one. The output of a build
+# would disturb the first case.
 build_first() {
-    local status=0
-    ./bag >"$work/printed" || status=$?
-    [ "$status" -eq 64 ] || { echo "FAILED: ./bag without arguments: status $status instead of 64" && exit 1; }
+    ./build || { echo "FAILED: ./build: status $?" && exit 1; }
 }
 
 # build_driver: builds the driver if necessary, and sets `driver` to its name. Without arguments it ends with status 64.

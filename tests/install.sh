@@ -71,6 +71,7 @@ bag audit LEDGER NAME
 bag fetch LEDGER NAME DIR
 bag export LEDGER NAME DIR
 bag list LEDGER
+--version
 made N files, M octets
 unknown algorithm WORD
 bag: clash

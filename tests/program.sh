@@ -27,7 +27,8 @@ Commands:
   help    Print this message or the help of the given subcommand(s)
 
 Options:
-  -h, --help  Print help
+  -h, --help     Print help
+  -V, --version  Print version
 HELP
 )
 help_of_check='Judges the bag in a folder
@@ -46,13 +47,16 @@ expect 'no words' 64 'bag: check, make, begin, intake, report, audit, fetch, exp
 refuse 'a word that is no command' "error: unrecognized subcommand 'verify'" bag verify examples/first-bag
 refuse 'a command in other letters' "error: unrecognized subcommand 'Check'" bag Check examples/first-bag
 refuse 'an empty word' "error: " bag ''
-refuse 'an option in place of a command' "error: unexpected argument '--version' found" bag --version
+refuse 'an option in place of a command' "error: unexpected argument '--verify' found" bag --verify
+refuse 'the version of a command' "error: unexpected argument '--version' found" bag check --version examples/first-bag
 refuse 'a command after the mark' "error: " bag -- check examples/first-bag
 refuse 'a command without its folder' 'error: the following required arguments were not provided:' bag check
 refuse 'a command with two folders' "error: unexpected argument 'two' found" bag check examples/first-bag two
 refuse 'an option that is not there' "error: unexpected argument '-x' found" bag check -x examples/first-bag
 refuse 'an argument that is not UTF-8' 'error: an argument is not UTF-8' bag check $'\377'
 expect 'help' 0 "$help" bag --help
+expect 'the version' 0 'bag 1.0.0' bag --version
+expect 'the version, by its letter' 0 'bag 1.0.0' bag -V check examples/first-bag
 expect 'help, whatever else is there' 0 "$help" bag --help examples/first-bag
 expect 'help by its command' 0 "$help" bag help
 expect 'help of a command' 0 "$help_of_check" bag check --help

@@ -47,8 +47,9 @@ def paths(rng, number, front):
     return found
 
 
-def octets(rng):
-    sizes = [0, 0, 1, 2, 55, 300, 4_000] if rng.randrange(30) else [65_535, 65_536, 65_537, 131_072, 131_073, 200_000]
+def octets(rng, small=30):
+    """Of which one in `small` has about a piece or more."""
+    sizes = [0, 0, 1, 2, 55, 300, 4_000] if rng.randrange(small) else [65_535, 65_536, 65_537, 131_072, 131_073, 200_000]
     return rng.randbytes(rng.choice(sizes))
 
 
@@ -62,9 +63,9 @@ def spelled(file):
 
 
 class Transfer:
-    def __init__(self, rng, few):
+    def __init__(self, rng, few, small=30):
         self.name = name(rng)
-        self.files = [(file, octets(rng)) for file in paths(rng, rng.randrange(2 if few else 12), "data/")]
+        self.files = [(file, octets(rng, small)) for file in paths(rng, rng.randrange(2 if few else 12), "data/")]
         notes = [(file, octets(rng)) for file in paths(rng, rng.randrange(2), "notes/" if rng.randrange(2) else "x")]
         manifests = [(f"manifest-{alg}.txt".encode(), manifest(alg, self.files)) for alg in rng.sample(ALGORITHMS, rng.choice([1, 1, 2, 4]))]
         self.tags = [(b"bagit.txt", DECLARATION), *manifests, *notes]

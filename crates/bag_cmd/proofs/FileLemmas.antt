@@ -1,5 +1,5 @@
 -- From what the files hold to what a keeper holds, and back.
-use Rattle.std.proofs.Common.{◌≡◌, ◌⊎◌, ◌∙◌, ◌∷◌, [], inl, inr, IsTrue, ap, refl, subst, sym}
+use Rattle.std.proofs.Common.{◌≡◌, ◌≢◌, ◌⊎◌, ◌∙◌, ◌∷◌, Err, IsTrue, MatchResult, Ok, Result, ap, false, inl, inr, refl, subst, sym, true}
 use Rattle.std.proofs.Math.Logic.{∥∥₁_elim, ∥∥₁_map}
 use Rattle.bag_ledger.specs.Ledgers.{Ledger}
 use Rattle.bag_ledger.specs.declared.fault.KeepFault.TheVariants.{Memory, Store}
@@ -12,26 +12,29 @@ use Rattle.bag_sqlite.specs.Refusing.{IsNoAnswer, adopt_fault}
 use Rattle.bag_sqlite.specs.SqlKeepers.{HoldsLedger, IsOpenedOn, MayLeaveLedger}
 use Rattle.bag_sqlite.specs.Tables.{ledger_schema}
 use Rattle.bag_sqlite.specs.declared.adopting.AdoptFault.{AdoptFault}
-use Rattle.bag_sqlite.specs.declared.adopting.AdoptFault.TheVariants.{NotALedger}
 use Rattle.sqlite.proofs.Theorems.{opens_again}
 use Rattle.sqlite.specs.Closing.{HoldsAlone, IsCopied}
 use Rattle.sqlite.specs.Effect.{Database}
-use Rattle.sqlite.specs.Files.{HoldsDatabase, IsOpened, file_state, image_of}
+use Rattle.sqlite.specs.Files.{FailsToOpenFiles, HoldsDatabase, IsCleanLeft, file_state, image_of}
 use Rattle.sqlite.specs.Held.{Held}
 use Rattle.sqlite.specs.Start.{FindsIn}
-use Rattle.sqlite.specs.State.{IsLive, Opens, State}
-use Rattle.sqlite.specs.Store as store
+use Rattle.sqlite.specs.Opening.{is_open_error}
+use Rattle.sqlite.specs.State.{IsLive, Opens, State, store_error}
 use Rattle.sqlite.specs.Tree.{Trees}
 use Rattle.sqlite.specs.declared.error.Error.{Error}
 use Rattle.sqlite.specs.declared.error.Error.TheVariants.{ExecuteReturnedResults, InvalidParameterCount, InvalidQuery, MultipleStatement, QueryReturnedNoRows, SqliteFailure}
-use Rattle.sqlite.specs.declared.error.ErrorCode.TheVariants.{NotADatabase, OutOfMemory}
+use Rattle.sqlite.specs.declared.error.ErrorCode.TheVariants.{DiskFull, NotADatabase, OutOfMemory}
+use Rattle.sqlite.specs.declared.file.Leftover.{Leftover}
 use Rattle.sqlite_disk.specs.declared.Disk.{Ghosts}
 use Rattle.sqlite_disk.specs.declared.Files.{Files}
 use Rattle.sqlite_store.specs.declared.store.FileStore.{FileStore}
 use Rattle.sqlite_trees.specs.Props.{Trees-set}
+use Rattle.sqlite_trees.specs.declared.error.StoreError.{StoreError}
+use Rattle.sqlite_trees.specs.declared.error.StoreError.TheVariants.{Broken, Corrupt, Full, Io, Unstorable}
+use Rattle.sqlite_trees.specs.declared.error.StoreError.TheVariants as store_fault
 use Rattle.sqlite_wal.specs.Files.{outcomes}
 use Rattle.sqlite_wal.specs.Recovery.{Image}
-use Rattle.bag_cmd.specs.LedgerFiles.{HoldsLedgerAlone, HoldsLedgerIn, IsNumbered, IsStopOf, IsUnopened, MayBeLeft, NoAnswer, NoDatabase}
+use Rattle.bag_cmd.specs.LedgerFiles.{HoldsLedgerAlone, HoldsLedgerIn, IsNumbered, IsRefusedFrom, IsStopOf, IsUnopened, MayBeLeft, NoAnswer, NoDatabase, NoFile, Refused as WasRefused}
 
 -- what a connection that was opened found
 pub opened_on : (image : Image) (s : State) (ledger : Ledger) → FindsIn image s → Opens s × IsLive s → HoldsLedgerIn image ledger → IsOpenedOn s ledger
@@ -65,18 +68,54 @@ module _ {D : Type 0} {g : Ghosts D} (kept : Held (FileStore D g)) where
       ∥∥₁_map (opens_again kept.store numbered (λ db recovers. (ledger_schema, (holds.outcomes db recovers).1.listed)) image may)
       (λ it. let r : IsStopOf kept image = (it.0, it.1, ∣ it.2 ∣₁) in r)
 
--- an error of the kit is told as one of these
-told_as : (error : Error) → (adopt_fault error ≡ NotALedger) ⊎ IsNoAnswer (adopt_fault error)
-told_as (SqliteFailure OutOfMemory) = inr (Memory, refl)
-told_as (SqliteFailure NotADatabase) = inl refl
-told_as (SqliteFailure code) = inr (Store Refused, refl)
-told_as (InvalidParameterCount given wanted) = inr (Store Refused, refl)
-told_as ExecuteReturnedResults = inr (Store Refused, refl)
-told_as InvalidQuery = inr (Store Refused, refl)
-told_as MultipleStatement = inr (Store Refused, refl)
-told_as QueryReturnedNoRows = inr (Store Refused, refl)
-told_as error = inl refl
+-- NO CONNECTION
 
--- why no connection was opened
-pub not_connected : {S : Type 0} (g : store.Ghosts S) (image : Image) (error : Error) (fault : AdoptFault) → fault ≡ adopt_fault error → IsUnopened g image fault
-not_connected g image error fault is = subst (IsUnopened g image) (sym is) (elim (told_as error) [ inl none ↦ NoDatabase none | inr why ↦ NoAnswer why ])
+-- an error of an opening says that there is no database, or it is memory or the store
+told_as : (error : Error) → IsTrue (is_open_error error) → (error ≡ SqliteFailure NotADatabase) ⊎ IsNoAnswer (adopt_fault error)
+told_as (SqliteFailure OutOfMemory) is = inr (Memory, refl)
+told_as (SqliteFailure NotADatabase) is = inl refl
+told_as (SqliteFailure code) is = inr (Store Refused, refl)
+told_as (InvalidParameterCount given wanted) is = inr (Store Refused, refl)
+told_as ExecuteReturnedResults is = inr (Store Refused, refl)
+told_as InvalidQuery is = inr (Store Refused, refl)
+told_as MultipleStatement is = inr (Store Refused, refl)
+told_as QueryReturnedNoRows is = inr (Store Refused, refl)
+told_as error is = absurd (let e : false ≡ true = is in cc)
+
+no_fault : (kind : StoreError) → store_error kind ≢ SqliteFailure NotADatabase
+no_fault store_fault.OutOfMemory e = cc
+no_fault Io e = cc
+no_fault Corrupt e = cc
+no_fault Full e = cc
+no_fault Broken e = cc
+no_fault Unstorable e = cc
+
+module _ {D : Type 0} (g : Ghosts D) (image : Image) where
+  -- it failed because the files hold no database
+  no_database : (files : Files D) (left : Leftover D g) → image_of g files ≡ image → FailsToOpenFiles files left (SqliteFailure NotADatabase) → (db : Trees) → ¬ HoldsDatabase image db
+  no_database files left same fails db holds = elim fails [
+    | inl memory ↦ absurd (cc)
+    | inr others ↦ elim others [
+      | inl none ↦ none.1 (inl (db, subst (λ i. HoldsDatabase i db) (sym same) holds))
+      | inr fault ↦ elim fault [ inl named ↦ absurd (no_fault _ (sym named.0)) | inr full ↦ absurd (let e : SqliteFailure NotADatabase ≡ SqliteFailure DiskFull = full.0 in cc) ]
+    ]
+  ]
+
+  pub not_connected : (files : Files D) (left : Leftover D g) (error : Error) (fault : AdoptFault) → image_of g files ≡ image → IsTrue (is_open_error error)
+      → (IsCleanLeft left → FailsToOpenFiles files left error) → fault ≡ adopt_fault error → IsUnopened g image fault (Unit {0})
+  not_connected files left error fault same named cause is = elim (told_as error named) [
+    | inl none ↦ NoDatabase left (λ clean. no_database files left same (subst (FailsToOpenFiles files left) none (cause clean))) (is ∙ ap adopt_fault none)
+    | inr why ↦ NoAnswer (subst IsNoAnswer (sym is) why)
+  ]
+
+  -- the same, where less is known of there being a file
+  pub known_less : (fault : AdoptFault) (has_file less : Type 0) → (less → has_file) → IsUnopened g image fault has_file → IsUnopened g image fault less
+  known_less fault has_file less to (NoAnswer why) = NoAnswer why
+  known_less fault has_file less to (NoFile not is) = NoFile (λ l. not (to l)) is
+  known_less fault has_file less to (NoDatabase left none is) = NoDatabase left none is
+  known_less fault has_file less to (WasRefused opened refused) = WasRefused opened refused
+
+  pub adopted : {A : Type 0} (P : A → Type 0) (opened : Held (FileStore D g)) (has_file : Type 0) (answer : Result A AdoptFault)
+      → MatchResult answer P (λ fault. IsRefusedFrom g image fault opened) → MatchResult answer P (λ fault. IsUnopened g image fault has_file)
+  adopted P opened has_file (Ok a) is = is
+  adopted P opened has_file (Err fault) is = WasRefused opened is

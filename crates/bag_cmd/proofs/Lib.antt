@@ -1,4 +1,5 @@
 pub mod FileLemmas
+pub mod MakingLemmas
 pub mod RequestLemmas
 pub mod ViewLemmas
 pub mod WorkLemmas

@@ -1,5 +1,5 @@
 -- A report or an audit that answers that a transfer is valid.
-use Rattle.std.proofs.Common.{◌≡◌, ℕ, List, Option, Some, subst}
+use Rattle.std.proofs.Common.{◌≡◌, Bool, ℕ, List, Option, Some, subst}
 use Rattle.std.proofs.lemmas.Option.{same_Some}
 use Rattle.bag_ledger.specs.declared.keeper.Keeper.{Ghosts}
 use Rattle.bag_commands.specs.declared.output.Output.{Output}
@@ -31,6 +31,6 @@ module _ {K W : Type 0} (k : Ghosts K) (known : Option Listing) (contents : W �
   valid_by ListNames is does = absurd (cc)
 
 -- the ledger was opened, and not made
-pub opened_by : {K : Type 0} (opened made : List ℕ → K → Type 0) (ledger name : List ℕ) (kept : K) (work : Work) → viewed work ≡ Some name → IsOpenFor opened made ledger work kept → opened ledger kept
-opened_by opened made ledger name kept (Begin given folder) is open_for = absurd (cc)
-opened_by opened made ledger name kept work is open_for = open_for
+pub opened_by : {K : Type 0} (opened made : List ℕ → K → Type 0) (ledger name : List ℕ) (is_made : Bool) (kept : K) (work : Work) → viewed work ≡ Some name → IsOpenFor opened made ledger work is_made kept → opened ledger kept
+opened_by opened made ledger name is_made kept (Begin given folder) is open_for = absurd (cc)
+opened_by opened made ledger name is_made kept work is open_for = open_for.1

@@ -1,6 +1,6 @@
 -- Ledgers in files: what is known of a keeper from what the files held when they were opened, and what is left in the
 -- files when it is closed or the program stops.
-use Rattle.std.specs.Prelude.{◌≡◌, ◌⊎◌, [], IsTrue}
+use Rattle.std.specs.Prelude.{◌≡◌, ◌⊎◌, [], Bool, IsTrue, false, true}
 use Rattle.bag_ledger.specs.Ledgers.{Ledger}
 use Rattle.bag_sqlite.specs.Adopting.{IsVerified}
 use Rattle.bag_sqlite.specs.Databases.{IsLedgerDatabase}
@@ -9,12 +9,12 @@ use Rattle.bag_sqlite.specs.SqlKeepers.{HoldsLedger, KeepsAlone}
 use Rattle.bag_sqlite.specs.Tables.{no_schema}
 use Rattle.bag_sqlite.specs.declared.adopting.AdoptFault.{AdoptFault}
 use Rattle.bag_sqlite.specs.declared.adopting.AdoptFault.TheVariants.{NotALedger}
-use Rattle.sqlite.specs.Files.{HoldsDatabase, IsOpened, file_state, image_of, over_files}
-use Rattle.sqlite.specs.Held.{Held, state}
+use Rattle.sqlite.specs.Files.{HoldsDatabase, IsCleanLeft, IsOpened, file_state, image_of, over_files}
+use Rattle.sqlite.specs.Held.{Held}
 use Rattle.sqlite.specs.Start.{FindsIn}
 use Rattle.sqlite.specs.State.{HasCleanDisk}
-use Rattle.sqlite.specs.Store as store
 use Rattle.sqlite.specs.Tree.{Trees}
+use Rattle.sqlite.specs.declared.file.Leftover.{Leftover}
 use Rattle.sqlite_disk.specs.declared.Disk.{Ghosts}
 use Rattle.sqlite_disk.specs.declared.Files.{Files}
 use Rattle.sqlite_store.specs.FileStore as files
@@ -22,6 +22,13 @@ use Rattle.sqlite_store.specs.declared.store.FileStore.{FileStore}
 use Rattle.sqlite_wal.specs.Files.{outcomes}
 use Rattle.sqlite_wal.specs.Reads.{AreClean}
 use Rattle.sqlite_wal.specs.Recovery.{Image}
+
+-- OPENING OR MAKING
+
+-- the first if it was opened, and the second if it was made
+abbrev pub OpensOrMakes : Bool → Type 0 → Type 0 → Type 0
+OpensOrMakes is_made opens makes =
+    ((is_made ≡ false) × opens) ⊎ ((is_made ≡ true) × makes)
 
 -- WHAT THE FILES HOLD
 
@@ -34,6 +41,12 @@ HoldsLedgerIn image ledger =
 pub record HoldsLedgerAlone (image : Image) (ledger : Ledger) : Type 0 where
   pub both : HoldsLedgerIn image ledger
   pub alone : HoldsLedgerIn (record image { log = [] }) ledger
+
+-- both can be read and written, and they hold this
+pub record AreOpenOn {D : Type 0} (g : Ghosts D) (image : Image) (files : Files D) : Type 0 where
+  pub log : IsTrue (g.is_usable files.log)
+  pub db : IsTrue (g.is_usable files.db)
+  pub holds : image_of g files ≡ image
 
 module _ {D : Type 0} {g : Ghosts D} where
   -- OPENING
@@ -93,21 +106,31 @@ module _ {D : Type 0} {g : Ghosts D} where
   IsStopOf kept image =
       (db : Trees) × (file_state kept).may_leave db × ∥ HoldsDatabase image db ∥₁
 
+-- the log of some keeper was copied into the file
+abbrev pub HasCopiedLog : {D : Type 0} → (g : Ghosts D) → Files D → Type 0
+HasCopiedLog {D} g files = (kept : Held (FileStore D g)) × IsClosed kept files
+
 -- REFUSING
 
--- why no ledger was opened from what the files held, with any store
-module _ {S : Type 0} (g : store.Ghosts S) (image : Image) (fault : AdoptFault) where
+-- why no ledger was opened from what the files held
+module _ {D : Type 0} (g : Ghosts D) (image : Image) (fault : AdoptFault) where
   -- A connection was opened on what the files held, and its database was refused for this reason.
   -- If it is that of a ledger, memory ran out or the store failed.
-  pub record IsRefusal (opened refused : Held S) : Type 0 where
-    pub found : FindsIn image (state g opened)
-    pub reason : RefusesToAdopt g (state g opened).committed fault
+  pub record IsRefusal (opened : Held (FileStore D g)) : Type 0 where
+    pub found : FindsIn image (file_state opened)
+    pub reason : RefusesToAdopt (over_files {D = D} {g = g}) (file_state opened).committed fault
     pub own : (ledger : Ledger) → HoldsLedgerIn image ledger → IsNoAnswer fault
 
-  -- Memory ran out, or the store failed; or there is no plain file, or none that is a database; or
-  -- its database was refused.
-  pub data IsUnopened : Type 0 where
-    NoAnswer : IsNoAnswer fault → IsUnopened
-    NoDatabase : fault ≡ NotALedger → IsUnopened
-    Refused : (opened refused : Held S)
-        → (HasCleanDisk (state g refused) → IsRefusal opened refused) → IsUnopened
+  -- the same, for a store that returns what was written to it
+  abbrev pub IsRefusedFrom : Held (FileStore D g) → Type 0
+  IsRefusedFrom opened =
+      (refused : Held (FileStore D g)) × (HasCleanDisk (file_state refused) → IsRefusal opened)
+
+  -- Memory ran out, or the store failed; or there is no such file; or the files hold no database;
+  -- or its database was refused.
+  pub data IsUnopened (has_file : Type 0) : Type 0 where
+    NoAnswer : IsNoAnswer fault → IsUnopened has_file
+    NoFile : ¬ has_file → fault ≡ NotALedger → IsUnopened has_file
+    NoDatabase : (left : Leftover D g) → (IsCleanLeft left → (db : Trees) → ¬ HoldsDatabase image db)
+        → fault ≡ NotALedger → IsUnopened has_file
+    Refused : (opened : Held (FileStore D g)) → IsRefusedFrom opened → IsUnopened has_file

@@ -1,5 +1,5 @@
 -- Work on a ledger: how it is opened, and what is done with it.
-use Rattle.std.specs.Prelude.{◌≡◌, ◌⊎◌, ◌∷◌, ◌++◌, [], ℕ, Contains, List, None, Option, Some, codes, is_some, map, string_bytes}
+use Rattle.std.specs.Prelude.{◌≡◌, ◌∷◌, ◌++◌, [], ℕ, Bool, Contains, List, None, Option, Some, codes, false, is_some, map, string_bytes}
 use Rattle.bag_ledger.specs.Ledgers.{Ledger, Transfer}
 use Rattle.bag_ledger.specs.declared.keeper.Keeper.{Ghosts}
 use Rattle.bag_path.specs.Spellings.{written_spelling}
@@ -35,6 +35,7 @@ use Rattle.bag_cmd.specs.declared.request.Work.TheVariants.{Audit, Begin, Export
 use Rattle.bag_folder.specs.Bringing.{Bringing, courier_of, to_come}
 use Rattle.bag_folder.specs.Directories.{Listing}
 use Rattle.bag_folder.specs.Folders.{FolderShown, IsOpened, IsRefused}
+use Rattle.bag_cmd.specs.LedgerFiles.{OpensOrMakes}
 use Rattle.bag_cmd.specs.Stops.{stop_of_open}
 use Rattle.bag_cmd.specs.Making.{MakesInto}
 use Rattle.bag_folder.specs.SinkFolders.{SinkShown}
@@ -42,11 +43,12 @@ use Rattle.bag_folder.specs.Supplying.{IsReadyFolder, SupplierShown, unknown}
 
 -- OPENING
 
--- the ledger that was opened for this work; `begin` may have made it
+-- the ledger that was opened for this work, or that `begin` made
 abbrev pub IsOpenFor : {K : Type 0} → (List ℕ → K → Type 0) → (List ℕ → K → Type 0) → List ℕ → Work
-    → K → Type 0
-IsOpenFor opened made ledger (Begin name folder) kept = opened ledger kept ⊎ made ledger kept
-IsOpenFor opened made ledger work kept = opened ledger kept
+    → Bool → K → Type 0
+IsOpenFor opened made ledger (Begin name folder) is_made kept =
+    OpensOrMakes is_made (opened ledger kept) (made ledger kept)
+IsOpenFor opened made ledger work is_made kept = (is_made ≡ false) × opened ledger kept
 
 -- the line that says why it wasn't opened
 abbrev pub unopened_line : AdoptFault → List ℕ
@@ -199,8 +201,9 @@ pub record Works {K W : Type 0} (k : Ghosts K) (opened made : List ℕ → K →
     (folder now : Option (List ℕ)) (after : Receiver K) (old new : Output W) (result : ℕ)
     : Type 0 where
   pub kept : K
+  pub is_made : Bool
   pub before : Receiver K
-  pub open_for : IsOpenFor opened made ledger work kept
+  pub open_for : IsOpenFor opened made ledger work is_made kept
   pub over : IsOver k kept before
   pub done : DoesWork k known contents work folder now before after old new result
 

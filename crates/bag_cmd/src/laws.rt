@@ -15,8 +15,8 @@ ghost use Rattle.sqlite_wal.specs.Recovery.{Image};
 use crate::ledger::{LedgerFiles, Ledgers};
 use crate::ledger_file::FileKeeper;
 use bag_ledger::Keeper;
-use sqlite::{FileFrom, FileStore, Start};
-use sqlite_trees::store::Store;
+use sqlite::{FileFrom, Start};
+use sqlite_disk::Disk;
 
 /// After a stop the files hold what was held, or a ledger that was doubtful. A run that opens the ledger on them holds
 /// that, a crash leaves it alone, and the stop is one more event of each transfer.
@@ -69,7 +69,7 @@ pub fn ledgers_in_files_are_what_the_files_hold<S: Start>(kept: &FileKeeper<S>)
         ↔ IsMadeIn (image_at S.Start) kept.now.connection }
     ensures refused { (name : List ℕ) (fault : AdoptFault)
         → ⟦<LedgerFiles<'static, S> as Ledgers>⟧.refused name fault
-        ↔ IsUnopened ⟦<FileStore<FileFrom<S>> as Store>⟧ (image_at S.Start) fault }
+        ↔ IsUnopened ⟦<FileFrom<S> as Disk>⟧ (image_at S.Start) fault ⊥ }
 {}
 
 /// No ledger is made where the files hold one.

@@ -1,5 +1,6 @@
 //! Opens and closes ledgers by name.
-ghost use Rattle.std.specs.Prelude.{◌⊎◌, [], ℕ, IfErr, List, MatchResult};
+ghost use Rattle.std.specs.Prelude.{◌≡◌, [], ℕ, IfErr, List, MatchResult, false, true};
+ghost use Rattle.bag_cmd.specs.LedgerFiles.{OpensOrMakes};
 ghost use Rattle.bag_ledger.specs.Ledgers.{Ledger};
 ghost use Rattle.bag_receiver.specs.Receivers.{IsKept};
 ghost use Rattle.bag_receiver.specs.Receiving.{settled};
@@ -9,8 +10,39 @@ ghost use Rattle.bag_sqlite.specs.declared.adopting.AdoptFault.{AdoptFault};
 use crate::ledger_file::{FileKeeper, LedgerFile};
 use bag_ledger::{KeepFault, Keeper, StoreFault};
 use bag_sqlite::AdoptFault;
-use sqlite::{FileFrom, FileStore, Start};
-use sqlite_trees::store::Store;
+use sqlite::{FileFrom, Start};
+use sqlite_disk::Disk;
+
+/// The keeper of a ledger that was opened or made.
+#[derive(Drop)]
+pub struct Opened<K> {
+    /// The keeper.
+    pub kept: K,
+    /// Whether the ledger was made.
+    pub is_made: bool,
+}
+
+impl<K> Opened<K> {
+    /// The ledger existed.
+    pub fn found(kept: K) -> Opened<K>
+        ensures { (result.kept ≡ kept) × (result.is_made ≡ false) }
+    {
+        Opened {
+            kept,
+            is_made: false,
+        }
+    }
+
+    /// The ledger was made.
+    pub fn made(kept: K) -> Opened<K>
+        ensures { (result.kept ≡ kept) × (result.is_made ≡ true) }
+    {
+        Opened {
+            kept,
+            is_made: true,
+        }
+    }
+}
 
 /// Opens a ledger by its name.
 pub trait Ledgers {
@@ -41,16 +73,18 @@ pub trait Ledgers {
     ///
     /// # Errors
     ///
-    /// Those of `open`, except that the ledger may be missing. Whatever was created until the error is removed.
-    fn open_or_make(&mut self, ledger: &str) -> Result<Self::Kept, AdoptFault>
-        ensures { MatchResult result (λ kept. opened ledger.now kept ⊎ made ledger.now kept)
-            (refused ledger.now) };
+    /// Those of `open`, except that the ledger may be missing. Whatever was created until the error is removed, unless
+    /// another run may use it.
+    fn open_or_make(&mut self, ledger: &str) -> Result<Opened<Self::Kept>, AdoptFault>
+        ensures { MatchResult result (λ it. OpensOrMakes it.is_made
+            (opened ledger.now it.kept) (made ledger.now it.kept)) (refused ledger.now) };
 
     /// Closes the ledger that was opened.
     fn close(&mut self, kept: Self::Kept);
 
-    /// Closes the ledger, but removes it if it was made by `open_or_make`.
-    fn give_up(&mut self, kept: Self::Kept);
+    /// Closes a ledger without transfers that `open_or_make` made. If nothing existed before, removes it.
+    fn give_up(&mut self, kept: Self::Kept)
+        requires { Self.Kept.Keeper.clean kept → Self.Kept.Keeper.holds kept [] };
 
     /// A ledger that was opened holds what is stored under its name, and a crash leaves that alone.
     ghost keeps: { (name : List ℕ) (kept : Self.Kept) (ledger : Ledger) → opened name kept
@@ -108,20 +142,20 @@ impl<'a, S: Start> Ledgers for LedgerFiles<'a, S> {
     ghost made = { λ ledger kept. IsMadeIn (image_at S.Start) kept.connection };
 
     ghost refused = { λ ledger fault.
-        IsUnopened ⟦<FileStore<FileFrom<S>> as Store>⟧ (image_at S.Start) fault };
+        IsUnopened ⟦<FileFrom<S> as Disk>⟧ (image_at S.Start) fault ⊥ };
 
     fn open(&mut self, ledger: &str) -> Result<FileKeeper<S>, AdoptFault> {
-        let (start, file) = self.find(ledger)?;
+        let (start, mut file) = self.find(ledger)?;
         let kept = file.open(start)?;
         self.file = Some(file);
         Ok(kept)
     }
 
-    fn open_or_make(&mut self, ledger: &str) -> Result<FileKeeper<S>, AdoptFault> {
+    fn open_or_make(&mut self, ledger: &str) -> Result<Opened<FileKeeper<S>>, AdoptFault> {
         let (start, mut file) = self.find(ledger)?;
-        let kept = file.open_or_make(start)?;
+        let opened = file.open_or_make(start)?;
         self.file = Some(file);
-        Ok(kept)
+        Ok(opened)
     }
 
     fn close(&mut self, kept: FileKeeper<S>) {

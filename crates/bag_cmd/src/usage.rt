@@ -4,10 +4,13 @@ use clap::error::ErrorKind;
 use clap::{Arg, Command};
 use std::alloc::{AllocError, Global};
 
+/// The version of the program.
+const VERSION: &str = "1.0.0";
+
 /// The answer to a command line that is no known command.
 #[derive(Debug, Drop)]
 pub enum Usage {
-    /// The help text that was asked for.
+    /// The help text, or the version, that was asked for.
     Help(String),
     /// The usage error.
     Refused(String),
@@ -27,7 +30,7 @@ impl Usage {
                 let text = format!(in alloc; "{error}")?;
                 match error.kind() {
                     ErrorKind::OutOfMemory => Err(AllocError),
-                    ErrorKind::DisplayHelp => Ok(Usage::Help(text)),
+                    ErrorKind::DisplayHelp | ErrorKind::DisplayVersion => Ok(Usage::Help(text)),
                     _ => Ok(Usage::Refused(text)),
                 }
             }
@@ -40,6 +43,7 @@ fn command_line<'a>(alloc: Global) -> Result<Command<'a>, AllocError> {
     let command = Command::new(alloc, "bag")
         .about("Checks, makes and receives bags of the BagIt File Packaging Format (RFC 8493)")
         .bin_name("bag")?
+        .version(VERSION)
         .no_binary_name(true)
         .subcommand_required(true);
     let command = with_folder_commands(alloc, command)?;

@@ -3,7 +3,7 @@ use Rattle.std.specs.Prelude.{◌≡◌, ℕ, List, None, Option, IfErr, IfOk, I
 use Rattle.std.specs.List.{AllByRecursion}
 use Rattle.std.specs.declared.alloc.Global.{Global}
 use Rattle.std.specs.declared.vec.Vec.{Vec}
-use Rattle.bag_digest.specs.Device.{CountsIf}
+use Rattle.bag_digest.specs.Device.{CountsIf, RisesBy}
 use Rattle.bag_ledger.specs.Ledgers.{Ledger}
 use Rattle.bag_ledger.specs.declared.fault.KeepFault.TheVariants.{Store}
 use Rattle.bag_ledger.specs.declared.fault.StoreFault.{StoreFault}
@@ -15,8 +15,8 @@ use Rattle.bag_receiver.specs.Names.{IsNamed, IsTransferName}
 use Rattle.bag_receiver.specs.Receivers.{Does, IsInState}
 use Rattle.bag_receiver.specs.ReceiversInside.{Same}
 use Rattle.bag_receiver.specs.Receiving.{LedgerState}
-use Rattle.bag_receiver.specs.Runs.{CountsAtLeast, Runs}
-use Rattle.bag_receiver.specs.Suppliers.{AreReached, AsksEach, IsGotFrom, Round, Supply, deliveries_by, outcome_of, supplier_failures}
+use Rattle.bag_receiver.specs.Runs.{CountsEach, Runs}
+use Rattle.bag_receiver.specs.Suppliers.{AreReached, IsGotFrom, Round, Supply, deliveries_by, outcome_of, supplier_failures}
 
 -- Each entry in the `fetch.txt` of the transfer with this name whose path isn't held when it is reached was asked for,
 -- in order, and has its outcome. What the supplier has was delivered, and only these deliveries change what is held.
@@ -38,7 +38,7 @@ pub record IsFetching {K S : Type 0} (holds may_leave : K → Ledger → Type 0)
       → IfErr answer (λ fault. fault ≡ NoTransfer → IsNamed now.held name None)
   pub judged : ¬ IsTransferName name → IsErrOf answer NoTransfer
   pub supplier : IfOk answer (λ outcomes.
-      CountsAtLeast (supplier_failures outcomes.items) (failures before) (failures after)
-      × AsksEach (length outcomes.items) (asks before) (asks after))
+      CountsEach (supplier_failures outcomes.items) (failures before) (failures after)
+      × RisesBy (length outcomes.items) (asks before) (asks after))
   pub store : IfErr answer (λ fault. CountsIf ((store : StoreFault)
       × (fault ≡ Keeper (Store store))) (store_failures old.keeper) (store_failures new.keeper))

@@ -8,7 +8,7 @@ use Rattle.bag_receiver.specs.declared.run.End.TheVariants.{Courier, Done}
 use Rattle.bag_receiver.specs.declared.run.TheConstants.{MOST_DELIVERIES}
 use Rattle.bag_receiver.specs.Couriers.{AreBrought, AreTold, CallsNext, courier_failures}
 use Rattle.bag_receiver.specs.Deliveries.{Delivery}
-use Rattle.bag_receiver.specs.Runs.{CountsAtLeast, Runs}
+use Rattle.bag_receiver.specs.Runs.{CountsEach, Runs}
 use Rattle.bag_commands.specs.IntakeTexts.{Told}
 
 -- What was reported of a courier's run: these are the answers to its items, as far as they were delivered, for the
@@ -21,7 +21,7 @@ pub record IsRun {K C : Type 0} (holds may_leave : K → Ledger → Type 0) (cle
       × AreBrought (coming before) deliveries told.ended
       × Runs holds may_leave clean store_failures old new name deliveries
   pub within : length told.answers ≤ MOST_DELIVERIES
-  pub failed : CountsAtLeast (courier_failures told.answers told.ended)
+  pub failed : CountsEach (courier_failures told.answers told.ended)
       (failures before) (failures after)
   pub called : CallsNext (length told.answers) (nexts before) (nexts after)
   pub steady : is_steady before → told.ended ≢ Courier

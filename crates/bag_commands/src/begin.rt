@@ -1,5 +1,5 @@
 //! `begin`: opens a transfer with the tag files of a tree.
-ghost use Rattle.std.specs.Prelude.{◌≡◌, ◌∷◌, ◌<◌, [], IfOk, IsErrOf, MatchResult, length};
+ghost use Rattle.std.specs.Prelude.{◌≡◌, ◌∷◌, ◌<◌, ◌≤◌, [], IfOk, IsErrOf, MatchResult, length};
 ghost use Rattle.bag_rules.specs.Trees.{UsesTree, octets_in, paths_in};
 ghost use Rattle.bag_receiver.specs.Beginning.{given_in};
 ghost use Rattle.bag_commands.specs.Begins.{AreTagFilesIn, HasHeavyTagFile, IsBeginning, IsKnownAs, MayBeHeavy, PrintsBegin};
@@ -115,7 +115,8 @@ fn read_tag_file<T: Tree>(
     requires room { 0 < length buffer.old }
     requires inside { i < length (paths_in (T.shown tree.old)) }
     ensures octets { MatchResult result
-        (λ body. IsKnownAs (octets_in (T.shown tree.old) i) body.items)
+        (λ body. IsKnownAs (octets_in (T.shown tree.old) i) body.items
+        × (length body.items ≤ LARGEST_TAG_FILE))
         (λ fault. fault ≡ ReadFault.TooLarge → MayBeHeavy (octets_in (T.shown tree.old) i)) }
     ensures uses { UsesTree T.shown T.failures T.sure tree.old tree.new
         (IsErrOf result ReadFault.Read) }

@@ -1,5 +1,5 @@
 //! `intake`: takes in the payload files that couriers deliver.
-ghost use Rattle.std.specs.Prelude.{◌≡◌, IfOk, IsOk, List, OnErr, OnOk, length, map, string_bytes};
+ghost use Rattle.std.specs.Prelude.{◌≡◌, [], IfOk, IsOk, List, OnErr, OnOk, length, map, string_bytes};
 ghost use Rattle.std.specs.Io.Buffered.{writer_buffer};
 ghost use Rattle.bag_digest.specs.Device.{Rises};
 ghost use Rattle.bag_commands.specs.Intakes.{IsRun, TakesIn};
@@ -81,6 +81,7 @@ fn write_run<W: Write + Drop>(
     requires { length texts.now ≡ length run.now.answers.items }
     ensures ok { OnOk result (WroteLines W.contents out.old out.new
         (run_lines (told_of run.now (map string_bytes texts.now)))) }
+    ensures handed_on { OnOk result (writer_buffer out.new.writer ≡ []) }
     ensures failed { OnErr result (Rises out.old.failures out.new.failures) }
 {
     write_answers(texts, run.answers.as_slice(), out)?;

@@ -1,6 +1,6 @@
 //! Counts of failures.
-ghost use Rattle.std.specs.Prelude.{◌≡◌, ◌+◌, IsErr, MatchResult, OnErr, Ok, min};
-ghost use Rattle.bag_digest.specs.Device.{CountsFailure, greatest_count};
+ghost use Rattle.std.specs.Prelude.{◌≡◌, IsErr, MatchResult, Ok};
+ghost use Rattle.bag_digest.specs.Device.{CountsFailure};
 
 use crate::source::Failed;
 use std::marker::Model;
@@ -42,7 +42,6 @@ impl Failures {
     pub fn counted<A, E: Drop>(&mut self, answer: Result<A, E>) -> Result<A, Failed>
         ensures answer { MatchResult answer (λ value. result ≡ Ok value) (λ _. IsErr result) }
         ensures counted { CountsFailure answer self.old self.new }
-        ensures one_more { OnErr answer (self.new ≡ min (self.old + 1) greatest_count) }
     {
         match answer {
             Ok(value) => Ok(value),

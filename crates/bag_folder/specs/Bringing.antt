@@ -1,9 +1,9 @@
 -- A courier of the payload files of a tree.
-use Rattle.std.specs.Prelude.{◌≡◌, ◌+◌, ◌-◌, ◌<◌, ◌^◌, ◌∷◌, [], ℕ, Bool, List, MatchOption, Option, None, Some, drop, false, filter, if◌then◌else◌, is_some, length, map, min, refl, slice_get, true, unwrap_or}
+use Rattle.std.specs.Prelude.{◌≡◌, ◌+◌, ◌-◌, ◌<◌, ◌^◌, ◌∷◌, [], ℕ, Bool, List, MatchOption, Option, None, Some, drop, false, filter, if◌then◌else◌, is_some, length, map, refl, slice_get, true, unwrap_or}
 use Rattle.std.specs.List.{list_all}
 use Rattle.std.proofs.Common.{◌∙◌, ap₂}
 use Rattle.bag_path.specs.Paths.{is_payload}
-use Rattle.bag_digest.specs.Device.{greatest_count}
+use Rattle.bag_digest.specs.Device.{one_more}
 use Rattle.bag_rules.specs.Files.{Files}
 use Rattle.bag_rules.specs.Trees.{Shown, octets_in, paths_in}
 
@@ -88,7 +88,7 @@ pub record BringsNext {T : Type 0} (shown : T → Shown) (old new : Bringing T) 
     place = place_after old.place new.came;
     came = new.came;
     is_started = false;
-    nexts = min (old.nexts + 1) greatest_count;
+    nexts = one_more old.nexts;
   }
 
 -- there is a current file, and its tree fails neither at a start nor at a read after it

@@ -1,9 +1,9 @@
 -- What is visible of an open folder. The content of its files isn't known.
-use Rattle.std.specs.Prelude.{◌≡◌, ◌+◌, ℕ, Bool, true, All, List, Option, Some, None, Result, IsErr, IsSomeAnd, MatchResult, OnOk, codes, map, min, refl, slice_get}
+use Rattle.std.specs.Prelude.{◌≡◌, ℕ, Bool, true, All, List, Option, Some, None, Result, IsErr, IsSomeAnd, MatchResult, OnOk, codes, map, refl, slice_get}
 use Rattle.std.specs.Io.KnownBytes.{ReadConsumes}
 use Rattle.std.proofs.Common.{◌∙◌}
 use Rattle.bag_path.specs.Paths.{is_payload}
-use Rattle.bag_digest.specs.Device.{greatest_count}
+use Rattle.bag_digest.specs.Device.{one_more}
 use Rattle.bag_rules.specs.Trees.{AreRising, KeepsTree, Shown, paths_in}
 use Rattle.bag_tags.specs.Words.{without}
 use Rattle.bag_folder.specs.declared.place.Place.{Place}
@@ -52,10 +52,6 @@ pub record IsOpened (known : Option Listing) (folder : List ℕ) (place : Place)
 -- the folder can't be a bag, if the entries of directories are known
 abbrev pub IsRefused : Option Listing → List ℕ → Type 0
 IsRefused known folder = (listing : Listing) → known ≡ Some listing → IsUnfit listing folder
-
--- a count of failures, increased by one
-abbrev pub one_more : ℕ → ℕ
-one_more failures = min (failures + 1) greatest_count
 
 -- A read consumes what it gives from the open file, which stays open. If no file is open, none is opened, and the read
 -- fails.

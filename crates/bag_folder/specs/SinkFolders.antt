@@ -2,7 +2,7 @@
 use Rattle.std.specs.Prelude.{◌≡◌, ℕ, List, Option, Some, None, Result, IsErr, MatchResult, OnOk}
 use Rattle.std.specs.Io.KnownBytes.{Appends}
 use Rattle.bag_folder.specs.Directories.{name_below}
-use Rattle.bag_folder.specs.Folders.{one_more}
+use Rattle.bag_digest.specs.Device.{one_more}
 
 -- the name of the folder, and of what was made in it last; what the current file holds (if there is one, and if that is
 -- known); how many times the folder has failed

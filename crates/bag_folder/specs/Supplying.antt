@@ -1,7 +1,7 @@
 -- What is visible of a folder as a supplier. The content of its files isn't known.
-use Rattle.std.specs.Prelude.{◌≡◌, ◌+◌, ℕ, Bool, true, List, Option, None, Ok, Result, is_some, min, refl}
+use Rattle.std.specs.Prelude.{◌≡◌, ℕ, Bool, true, List, Option, None, Ok, Result, is_some, refl}
 use Rattle.std.proofs.Common.{◌∙◌}
-use Rattle.bag_digest.specs.Device.{greatest_count}
+use Rattle.bag_digest.specs.Device.{one_more}
 use Rattle.bag_receiver.specs.Suppliers.{Supply}
 use Rattle.bag_folder.specs.Directories.{name_below}
 
@@ -32,7 +32,7 @@ pub record AsksFolder {E : Type 0} (old new : SupplierShown) (path : List ℕ)
     name = new.name;
     to_read = new.to_read;
     failures = new.failures;
-    asks = min (old.asks + 1) greatest_count;
+    asks = one_more old.asks;
   }
 
 -- asked the same number of times

@@ -139,8 +139,8 @@ impl<R: Files> Source for FolderSupplier<R> {
 }
 
 impl<R: Files + Drop> Supplier for FolderSupplier<R> {
-    ghost use Rattle.std.specs.Prelude.{◌+◌, Ok, min, true};
-    ghost use Rattle.bag_digest.specs.Device.{CountsFailure, greatest_count};
+    ghost use Rattle.std.specs.Prelude.{Ok, true};
+    ghost use Rattle.bag_digest.specs.Device.{CountsFailure, one_more};
     ghost use Rattle.bag_receiver.specs.Suppliers.{IsSupplied};
     ghost use Rattle.bag_folder.specs.Supplying.{AsksFolder, keeps_nothing, unknown};
 
@@ -160,7 +160,7 @@ impl<R: Files + Drop> Supplier for FolderSupplier<R> {
         ensures supplied { IfOk result (λ has. IsSupplied None _url.now path.now has None) }
         ensures open { is_some self.new.to_read ≡ true → result ≡ Ok true }
         ensures counted { CountsFailure result self.old.failures self.new.failures }
-        ensures asked { self.new.asks ≡ min (self.old.asks + 1) greatest_count }
+        ensures asked { self.new.asks ≡ one_more self.old.asks }
         ensures exactly { AsksFolder self.old self.new path.now result }
     {
         self.file = None;

@@ -33,6 +33,14 @@ impl Fuse {
             self.calls_left -= 1;
             return Ok(());
         }
+        Err(self.refuse())
+    }
+
+    /// Refuses the call.
+    fn refuse(&mut self) -> StoreFault
+        ensures { IsTrue self.new.is_spent × Rises self.old.failures self.new.failures
+            × ((result ≡ Spent) ↔ IsTrue self.old.is_spent) }
+    {
         let fault = if self.is_spent {
             StoreFault::Spent
         } else {
@@ -40,7 +48,7 @@ impl Fuse {
         };
         self.is_spent = true;
         self.failures = self.failures.saturating_add(1);
-        Err(fault)
+        fault
     }
 }
 
@@ -157,10 +165,7 @@ impl Keeper for FailingKeeper {
     }
 
     fn blame(&mut self) -> KeepFault {
-        match self.fuse.take() {
-            Ok(()) => self.inner.blame(),
-            Err(fault) => KeepFault::Store(fault),
-        }
+        KeepFault::Store(self.fuse.refuse())
     }
 
     fn failures(&self) -> u64 {

@@ -1,5 +1,5 @@
 //! The interface of a store of transfers, such as a map in memory or a database.
-ghost use Rattle.std.specs.Prelude.{◌≡◌, ◌≤◌, ℕ, List, [], IfOk, IsErrOf, MatchResult, length, map, string_bytes};
+ghost use Rattle.std.specs.Prelude.{◌≡◌, ◌⊎◌, ◌≤◌, ℕ, List, [], IfOk, IsErrOf, MatchResult, length, map, string_bytes};
 ghost use Rattle.std.specs.Map.{keys_of};
 ghost use Rattle.std.specs.Option.{option_map, unwrap_or};
 ghost use Rattle.bag_digest.specs.Device.{UsesSource};
@@ -7,6 +7,7 @@ ghost use Rattle.bag_ledger.specs.Keeping.{IsPieceAt, IsUnused, Leaves, Puts, Re
 ghost use Rattle.bag_ledger.specs.Ledgers.{IsSound, Ledger, content_of, items_of, tags_of, with_transfer};
 ghost use Rattle.bag_ledger.specs.declared.fault.KeepFault.TheVariants.{Store};
 ghost use Rattle.bag_ledger.specs.declared.fault.PutFault.TheVariants.{Keep, Reader};
+ghost use Rattle.bag_ledger.specs.declared.fault.StoreFault.{StoreFault};
 ghost use Rattle.bag_rules.specs.Opening.{Opens};
 ghost use Rattle.bag_rules.specs.Plans.{sizes_of};
 
@@ -136,11 +137,13 @@ pub trait Keeper {
             (λ fault. IsErrOf result (Store fault)) };
 
     /// What to answer if the store gave what no clean store gives, such as fewer octets of a payload file than it said
-    /// it has. This counts as a failure of the store. A keeper whose store can't fail answers `Memory`.
+    /// it has. This counts as a failure of the store. Only a keeper whose store never fails may answer `Memory`.
     fn blame(&mut self) -> KeepFault
         ensures reads { Reads holds may_leave clean self.old self.new }
         ensures store { UsesStore failures spent self.old self.new
-            (λ fault. result ≡ Store fault) };
+            (λ fault. result ≡ Store fault) }
+        ensures blamed { ((fault : StoreFault) × (result ≡ Store fault))
+            ⊎ ((keeper : Self) → ¬ spent keeper) };
 
     /// How many times the keeper has answered `Store`. The count saturates at 2^64 - 1.
     fn failures(&self) -> u64

@@ -7,7 +7,7 @@ use Rattle.bag_receiver.specs.declared.run.End.{End}
 use Rattle.bag_receiver.specs.declared.run.End.TheVariants as end
 use Rattle.bag_receiver.specs.Couriers.{AreOf, AreTold, IsOf, courier_failures, read_failure}
 use Rattle.bag_receiver.proofs.RunLemmas.{ran_more, ran_nothing}
-use Rattle.bag_receiver.proofs.Words.{Answer, BadPath, Brought, CallsNext, ComesNext, Content, CountsAtLeast, CountsIf, Delivery, delivery_of, Digest, Does, Files, Global, greatest_count, IsAnswer, Keeper, LARGEST_ITEM, Ledger, Length, length-append, length-map, map-append, NotListed, NoTransfer, option_map, read_failures, Reader, Receiver, Receives, Refused, Repeated, Rises, Runs, slice_get-map, slice_get_read, Store, StoreFault, String, string_bytes, Taken, TooLarge, TooLong, Unread, Whole}
+use Rattle.bag_receiver.proofs.Words.{Answer, BadPath, Brought, CallsNext, ComesNext, Content, CountsEach, CountsIf, Delivery, delivery_of, Digest, Does, Files, Global, IsAnswer, Keeper, LARGEST_ITEM, Ledger, Length, length-append, length-map, map-append, NotListed, NoTransfer, one_more, option_map, read_failures, Reader, Receiver, Receives, Refused, Repeated, Rises, Runs, slice_get-map, slice_get_read, Store, StoreFault, String, string_bytes, Taken, TooLarge, TooLong, Unread, Whole}
 
 -- WHAT IS STILL TO COME
 
@@ -48,29 +48,26 @@ last_text paths texts text n path all number is =
 
 -- COUNTS
 
-pub counts_on : (n m old middle new : ℕ) → CountsAtLeast n old middle → CountsAtLeast m middle new → CountsAtLeast (n + m) old new
+pub counts_on : (n m old middle new : ℕ) → CountsEach n old middle → CountsEach m middle new → CountsEach (n + m) old new
 counts_on n m old middle new before after = record {
   stays = λ none. (let h = before.stays (omega (arith, none)) in let k = after.stays (omega (arith, none)) in k ∙ h);
-  rises = elim after.rises [
-    | inl k ↦ elim before.rises [ inl h ↦ inl (omega (arith, h, k)) | inr h ↦ inr (omega (arith, h, k)) ]
-    | inr k ↦ inr k
-  ];
+  rises = (let h = before.rises in let k = after.rises in omega (arith, h, k));
 }
 
-pub stayed : (old new : ℕ) → new ≡ old → CountsAtLeast 0 old new
-stayed old new same = record { stays = λ e. same; rises = inl (omega (arith, same)) }
+pub stayed : (old new : ℕ) → new ≡ old → CountsEach 0 old new
+stayed old new same = record { stays = λ e. same; rises = omega (arith, same) }
 
-pub rose : (old new : ℕ) → Rises old new → CountsAtLeast 1 old new
+pub rose : (old new : ℕ) → Rises old new → CountsEach 1 old new
 rose old new rises = record {
   stays = λ e. absurd (omega (arith, e));
-  rises = elim rises [ inl more ↦ inl (omega (arith, more)) | inr full ↦ inr (omega (arith, full.0, full.1)) ];
+  rises = omega (arith, rises);
 }
 
 reads_more : (answers : List Answer) (answer : Answer) → read_failures (answers ++ answer ∷ []) ≡ read_failures answers + read_failure answer
 reads_more [] answer = omega arith
 reads_more (one ∷ answers) answer = (let rest = reads_more answers answer in omega (arith, rest))
 
-pub read_counts : (answer : Answer) (old new : ℕ) → CountsIf (answer ≡ Refused Reader) old new → CountsAtLeast (read_failure answer) old new
+pub read_counts : (answer : Answer) (old new : ℕ) → CountsIf (answer ≡ Refused Reader) old new → CountsEach (read_failure answer) old new
 read_counts (Refused Reader) old new counts = rose old new (counts.rises refl)
 read_counts Taken old new counts = stayed old new (counts.stays (λ e. (let h : Taken ≡ Refused Reader = e in cc)))
 read_counts Repeated old new counts = stayed old new (counts.stays (λ e. (let h : Repeated ≡ Refused Reader = e in cc)))
@@ -83,19 +80,19 @@ read_counts (Refused (Digest alg)) old new counts = stayed old new (counts.stays
 read_counts (Refused (Keeper fault)) old new counts = stayed old new (counts.stays (λ e. (let h : Refused (Keeper fault) ≡ Refused Reader = e in cc)))
 
 -- an item whose `next` didn't fail was delivered
-pub reads_counted : (answers : List Answer) (answer : Answer) (old before middle new : ℕ) → CountsAtLeast (read_failures answers) old before → middle ≡ before
-    → CountsIf (answer ≡ Refused Reader) middle new → CountsAtLeast (read_failures (answers ++ answer ∷ [])) old new
+pub reads_counted : (answers : List Answer) (answer : Answer) (old before middle new : ℕ) → CountsEach (read_failures answers) old before → middle ≡ before
+    → CountsIf (answer ≡ Refused Reader) middle new → CountsEach (read_failures (answers ++ answer ∷ [])) old new
 reads_counted answers answer old before middle new counts same then =
-    subst (λ n. CountsAtLeast n old new) (sym (reads_more answers answer))
-    (counts_on (read_failures answers) (read_failure answer) old middle new (subst (CountsAtLeast (read_failures answers) old) (sym same) counts) (read_counts answer middle new then))
+    subst (λ n. CountsEach n old new) (sym (reads_more answers answer))
+    (counts_on (read_failures answers) (read_failure answer) old middle new (subst (CountsEach (read_failures answers) old) (sym same) counts) (read_counts answer middle new then))
 
 -- the run ended
-pub end_counted : (answers : List Answer) (ended : End) (old middle new : ℕ) → CountsAtLeast (read_failures answers) old middle
-    → CountsIf (ended ≡ end.Courier) middle new → CountsAtLeast (courier_failures answers ended) old new
+pub end_counted : (answers : List Answer) (ended : End) (old middle new : ℕ) → CountsEach (read_failures answers) old middle
+    → CountsIf (ended ≡ end.Courier) middle new → CountsEach (courier_failures answers ended) old new
 end_counted answers end.Courier old middle new counts then = counts_on (read_failures answers) 1 old middle new counts (rose middle new (then.rises refl))
-end_counted answers end.Done old middle new counts then = subst (CountsAtLeast (read_failures answers) old) (sym (then.stays (λ e. (let h : end.Done ≡ end.Courier = e in cc)))) counts
-end_counted answers end.TooMany old middle new counts then = subst (CountsAtLeast (read_failures answers) old) (sym (then.stays (λ e. (let h : end.TooMany ≡ end.Courier = e in cc)))) counts
-end_counted answers end.Memory old middle new counts then = subst (CountsAtLeast (read_failures answers) old) (sym (then.stays (λ e. (let h : end.Memory ≡ end.Courier = e in cc)))) counts
+end_counted answers end.Done old middle new counts then = subst (CountsEach (read_failures answers) old) (sym (then.stays (λ e. (let h : end.Done ≡ end.Courier = e in cc)))) counts
+end_counted answers end.TooMany old middle new counts then = subst (CountsEach (read_failures answers) old) (sym (then.stays (λ e. (let h : end.TooMany ≡ end.Courier = e in cc)))) counts
+end_counted answers end.Memory old middle new counts then = subst (CountsEach (read_failures answers) old) (sym (then.stays (λ e. (let h : end.Memory ≡ end.Courier = e in cc)))) counts
 
 pub end_failed : {A : Type 0} (result : Result A End) (ended : End) (old new : ℕ) → result ≡ Err ended → CountsIf (result ≡ Err end.Courier) old new → CountsIf (ended ≡ end.Courier) old new
 end_failed result ended old new is counts = record {
@@ -106,11 +103,7 @@ end_failed result ended old new is counts = record {
 pub not_ended : {A : Type 0} (result : Result A End) (value : A) (old new : ℕ) → result ≡ Ok value → CountsIf (result ≡ Err end.Courier) old new → new ≡ old
 not_ended result value old new is counts = counts.stays (λ e. (let h : Ok value ≡ Err end.Courier = sym is ∙ e in cc))
 
--- how many times `next` was called after one more call
-abbrev pub called : ℕ → ℕ
-called n = min (n + 1) greatest_count
-
-pub called_on : (n old before after : ℕ) → CallsNext n old (called before) → after ≡ called before → CallsNext (n + 1) old (called after)
+pub called_on : (n old before after : ℕ) → CallsNext n old (one_more before) → after ≡ one_more before → CallsNext (n + 1) old (one_more after)
 called_on n old before after calls is = omega (arith, calls, is)
 
 -- RUNS

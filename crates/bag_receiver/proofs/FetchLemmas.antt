@@ -20,7 +20,7 @@ use Rattle.bag_receiver.proofs.CourierLemmas.{counts_on, is_of}
 use Rattle.bag_receiver.proofs.ReceiverLemmas.{does_receive}
 use Rattle.bag_receiver.proofs.ReceivingLemmas.{named_there, receives}
 use Rattle.bag_receiver.proofs.RunLemmas.{ran_more, ran_nothing, steps_join}
-use Rattle.bag_receiver.proofs.Words.{AllByRecursion, Answer, AreRising, Brought, Content, CountsAtLeast, CountsIf, decided_equal, Delivery, delivery_of, DeliveryStep, Does, Files, Has, IsAcceptance, IsAnswer, IsNamed, items_of, Keeper, keys_of, Ledger, map-append, option_map, Receiver, Runs, Same, Store, StoreFault, string_bytes, Transfer, unwrap_or}
+use Rattle.bag_receiver.proofs.Words.{AllByRecursion, Answer, AreRising, Brought, Content, CountsEach, CountsIf, decided_equal, Delivery, delivery_of, DeliveryStep, Does, Files, Has, IsAcceptance, IsAnswer, IsNamed, items_of, Keeper, keys_of, Ledger, map-append, option_map, Receiver, Runs, Same, Store, StoreFault, string_bytes, Transfer, unwrap_or}
 
 -- MARKS
 
@@ -279,7 +279,7 @@ module _ {K : Type 0} (holds may_leave : K → Ledger → Type 0) (clean : K →
       leads = λ c before in_state. (let after = looks.leads c before in_state in (after.0, after.1, receives name [] before after.0 after.2));
     };
     judged = tt;
-    store = record { stays = λ e. same; rises = inl (omega (arith, same)) };
+    store = record { stays = λ e. same; rises = omega (arith, same) };
   }
 
   runs_join : (old middle new : Receiver K) (name : List ℕ) (first others : List Delivery) → Ran old middle name first → Ran middle new name others → Ran old new name (first ++ others)
@@ -292,7 +292,7 @@ module _ {K : Type 0} (holds may_leave : K → Ledger → Type 0) (clean : K →
           (two.0, two.1, receives name (first ++ others) before two.0 (steps_join name first others before one.0 two.0 one.2.steps two.2.steps)));
     };
     judged = all_join (IsAnswer name) first others ran.judged after.judged;
-    store = subst (λ n. CountsAtLeast n (failures old.keeper) (failures new.keeper)) (sym (stores_join first others)) (counts_on (store_failures first) (store_failures others) _ _ _ ran.store after.store);
+    store = subst (λ n. CountsEach n (failures old.keeper) (failures new.keeper)) (sym (stores_join first others)) (counts_on (store_failures first) (store_failures others) _ _ _ ran.store after.store);
   }
 
   pub ran_round : (old middle new : Receiver K) (name : List ℕ) (rounds : List Round) (round : Round) → Ran old middle name (deliveries_by rounds) → Ran middle new name (delivery_by round.path round.reply)
@@ -306,13 +306,13 @@ failures_more : (outcomes : List FetchOutcome) (outcome : FetchOutcome) → supp
 failures_more [] outcome = omega arith
 failures_more (one ∷ outcomes) outcome = (let rest = failures_more outcomes outcome in omega (arith, rest))
 
-pub failures_counted : (outcomes : List FetchOutcome) (outcome : FetchOutcome) (old middle new : ℕ) → CountsAtLeast (supplier_failures outcomes) old middle → CountsAtLeast (supplier_failure outcome.answer) middle new
-    → CountsAtLeast (supplier_failures (outcomes ++ outcome ∷ [])) old new
+pub failures_counted : (outcomes : List FetchOutcome) (outcome : FetchOutcome) (old middle new : ℕ) → CountsEach (supplier_failures outcomes) old middle → CountsEach (supplier_failure outcome.answer) middle new
+    → CountsEach (supplier_failures (outcomes ++ outcome ∷ [])) old new
 failures_counted outcomes outcome old middle new before after =
-    subst (λ n. CountsAtLeast n old new) (sym (failures_more outcomes outcome)) (counts_on (supplier_failures outcomes) (supplier_failure outcome.answer) old middle new before after)
+    subst (λ n. CountsEach n old new) (sym (failures_more outcomes outcome)) (counts_on (supplier_failures outcomes) (supplier_failure outcome.answer) old middle new before after)
 
-pub none_counted : (n : ℕ) → CountsAtLeast 0 n n
-none_counted n = record { stays = λ e. refl; rises = inl (omega arith) }
+pub none_counted : (n : ℕ) → CountsEach 0 n n
+none_counted n = record { stays = λ e. refl; rises = omega arith }
 
 -- OUTCOMES
 

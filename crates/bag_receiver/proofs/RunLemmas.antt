@@ -2,7 +2,7 @@
 use Rattle.std.proofs.Common.{◌≡◌, ◌≤◌, ◌+◌, ℕ, List, [], ◌∷◌, ◌++◌, Some, None, Vec, length, slice_get, refl, sym, ap, subst, ◌∙◌, inl, inr, arith}
 use Rattle.bag_receiver.specs.Runs.{store_failure, store_failures}
 use Rattle.bag_receiver.proofs.ReceivingLemmas.{receives}
-use Rattle.bag_receiver.proofs.Words.{AllByRecursion, Answer, BadPath, CountsAtLeast, CountsIf, Delivery, delivery_of, DeliverySteps, Digest, Does, Files, Global, greatest_count, IsAnswer, Keeper, Ledger, LedgerState, Length, Memory, NotListed, NoTransfer, Reader, Receiver, Receives, Refused, Repeated, Rises, Runs, Store, StoreFault, String, string_bytes, Taken, TooLarge, Whole, with_answers}
+use Rattle.bag_receiver.proofs.Words.{AllByRecursion, Answer, BadPath, CountsEach, CountsIf, Delivery, delivery_of, DeliverySteps, Digest, Does, Files, Global, IsAnswer, Keeper, Ledger, LedgerState, Length, Memory, NotListed, NoTransfer, Reader, Receiver, Receives, Refused, Repeated, Rises, Runs, Store, StoreFault, String, string_bytes, Taken, TooLarge, Whole, with_answers}
 
 pub steps_join : (name : List ℕ) (deliveries others : List Delivery) (old middle new : LedgerState) → DeliverySteps name deliveries old middle → DeliverySteps name others middle new
     → DeliverySteps name (deliveries ++ others) old new
@@ -22,22 +22,19 @@ failures_more (one ∷ deliveries) delivery = (let rest = failures_more deliveri
 abbrev IsStore : Answer → Type 0
 IsStore answer = (store : StoreFault) × (answer ≡ Refused (Keeper (Store store)))
 
-counted_none : (n old middle new : ℕ) → CountsAtLeast n old middle → new ≡ middle → CountsAtLeast (n + 0) old new
+counted_none : (n old middle new : ℕ) → CountsEach n old middle → new ≡ middle → CountsEach (n + 0) old new
 counted_none n old middle new counts same = record {
   stays = λ e. (let k = counts.stays (omega (arith, e)) in same ∙ k);
-  rises = elim counts.rises [ inl h ↦ inl (omega (arith, h, same)) | inr h ↦ inr (subst (λ m. greatest_count ≤ m) (sym same) h) ];
+  rises = (let h = counts.rises in omega (arith, h, same));
 }
 
-counted_one : (n old middle new : ℕ) → CountsAtLeast n old middle → Rises middle new → CountsAtLeast (n + 1) old new
+counted_one : (n old middle new : ℕ) → CountsEach n old middle → Rises middle new → CountsEach (n + 1) old new
 counted_one n old middle new counts rises = record {
   stays = λ e. absurd (omega (arith, e));
-  rises = elim rises [
-    | inl more ↦ elim counts.rises [ inl h ↦ inl (omega (arith, h, more)) | inr h ↦ inr (omega (arith, h, more)) ]
-    | inr full ↦ inr (subst (λ m. greatest_count ≤ m) (sym (full.0 ∙ full.1)) (omega arith))
-  ];
+  rises = (let h = counts.rises in omega (arith, h, rises));
 }
 
-counted : (answer : Answer) (n old middle new : ℕ) → CountsAtLeast n old middle → CountsIf (IsStore answer) middle new → CountsAtLeast (n + store_failure answer) old new
+counted : (answer : Answer) (n old middle new : ℕ) → CountsEach n old middle → CountsIf (IsStore answer) middle new → CountsEach (n + store_failure answer) old new
 counted (Refused (Keeper (Store fault))) n old middle new counts then = counted_one n old middle new counts (then.rises (fault, refl))
 counted (Refused (Keeper Memory)) n old middle new counts then = counted_none n old middle new counts (then.stays (λ h. absurd (let e : Refused (Keeper Memory) ≡ Refused (Keeper (Store h.0)) = h.1 in cc)))
 counted Taken n old middle new counts then = counted_none n old middle new counts (then.stays (λ h. absurd (let e : Taken ≡ Refused (Keeper (Store h.0)) = h.1 in cc)))
@@ -57,7 +54,7 @@ module _ {K : Type 0} (holds may_leave : K → Ledger → Type 0) (clean : K →
   ran_nothing receiver name = record {
     received = record { was_clean = λ c. c; leads = λ c now in_state. (now, in_state, receives name [] now now refl) };
     judged = tt;
-    store = record { stays = λ e. refl; rises = inl (omega arith) };
+    store = record { stays = λ e. refl; rises = omega arith };
   }
 
   pub ran_more : (old middle new : Receiver K) (name : List ℕ) (deliveries : List Delivery) (delivery : Delivery) → Runs holds may_leave clean failures old middle name deliveries
@@ -72,7 +69,7 @@ module _ {K : Type 0} (holds may_leave : K → Ledger → Type 0) (clean : K →
           (then.0, then.1, receives name (deliveries ++ delivery ∷ []) before then.0 (steps_join name deliveries (delivery ∷ []) before first.0 then.0 first.2.steps then.2.steps)));
     };
     judged = all_more (IsAnswer name) deliveries delivery runs.judged is;
-    store = subst (λ n. CountsAtLeast n (failures old.keeper) (failures new.keeper)) (sym (failures_more deliveries delivery)) (counted delivery.answer _ _ _ _ runs.store counts);
+    store = subst (λ n. CountsEach n (failures old.keeper) (failures new.keeper)) (sym (failures_more deliveries delivery)) (counted delivery.answer _ _ _ _ runs.store counts);
   }
 
 -- ONE MORE ANSWER

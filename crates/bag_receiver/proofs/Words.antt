@@ -6,7 +6,7 @@ pub use Rattle.bag_digest.specs.Algorithm.{place_of}
 pub use Rattle.bag_digest.specs.declared.algorithm.Alg.{Alg}
 pub use Rattle.bag_digest.specs.declared.algorithm.Alg.TheVariants.{Md5, Sha1, Sha256, Sha512}
 pub use Rattle.bag_digest.specs.declared.digest.Digest.{Digest as DigestOf}
-pub use Rattle.bag_digest.specs.Device.{CountsIf, greatest_count, Rises}
+pub use Rattle.bag_digest.specs.Device.{CountsIf, one_more, Rises}
 pub use Rattle.bag_rules.proofs.HasLemmas.{contains_from_has, has_from_contains}
 pub use Rattle.bag_rules.proofs.SameListLemmas.{asymmetric, same_list, sorted_by_key}
 pub use Rattle.bag_rules.proofs.TwoListed.{a_passes, abd_is_misfit, expected, not_expected, path_a, two}
@@ -51,7 +51,7 @@ pub use Rattle.bag_receiver.specs.PutAnswers.{deliver_fault}
 pub use Rattle.bag_receiver.specs.Receivers.{Does, IsInState, plans_in}
 pub use Rattle.bag_receiver.specs.ReceiversInside.{IsPlaceIn, IsPlanned, RefusesAny, Same}
 pub use Rattle.bag_receiver.specs.Receiving.{Adds, ArePlansIn, Brought, DeliveryStep, DeliverySteps, Happened, HasTransfer, IsAnswer, IsDueTo as IsDueThere, Judges, LedgerState, Receives, settled, with_doubtful_ledger}
-pub use Rattle.bag_receiver.specs.Runs.{CountsAtLeast, Runs, with_answers}
+pub use Rattle.bag_receiver.specs.Runs.{CountsEach, Runs, with_answers}
 pub use Rattle.bag_receiver.specs.Stops.{Answered, AnswerStep, BringsAt, Cut, Event, Gains, nothing_held, OffersIn, Step, Steps, Stop, StopRun, StopStep, transfer_state, TransferState, with_doubtful_file, with_file}
 pub use Rattle.std.proofs.lemmas.Cmp.{nat_list_cmp_total, tied_itself}
 pub use Rattle.std.proofs.lemmas.List.{length-append, length-map, map-append}

@@ -1,7 +1,7 @@
 -- Runs of deliveries, and of deliveries from couriers.
 use Rattle.std.specs.Prelude.{◌≡◌, ◌≢◌, ◌⊎◌, ◌<◌, ◌≤◌, ◌+◌, ◌∷◌, [], ℕ, List}
 use Rattle.std.specs.List.{AllByRecursion}
-use Rattle.bag_digest.specs.Device.{greatest_count}
+use Rattle.bag_digest.specs.Device.{RisesBy}
 use Rattle.bag_rules.specs.Files.{Files}
 use Rattle.bag_ledger.specs.Ledgers.{Ledger}
 use Rattle.bag_ledger.specs.declared.fault.KeepFault.TheVariants.{Store}
@@ -27,10 +27,10 @@ abbrev pub store_failures : List Delivery → ℕ
 store_failures [] = 0
 store_failures (delivery ∷ deliveries) = store_failure delivery.answer + store_failures deliveries
 
--- a count rose by at least this number, or is at its maximum; if the number is 0, it didn't change
-pub record CountsAtLeast (n old new : ℕ) : Type 0 where
+-- a count rose by this number, or is at its maximum; if the number is 0, it didn't change
+pub record CountsEach (n old new : ℕ) : Type 0 where
   pub stays : n ≡ 0 → new ≡ old
-  pub rises : (old + n ≤ new) ⊎ (greatest_count ≤ new)
+  pub rises : RisesBy n old new
 
 -- These deliveries were made to the transfer with this name and had these answers. The store failed where an answer
 -- says so, and nowhere else.
@@ -39,7 +39,7 @@ pub record Runs {K : Type 0} (holds may_leave : K → Ledger → Type 0) (clean 
     : Type 0 where
   pub received : Does holds may_leave clean old new (Receives name deliveries)
   pub judged : AllByRecursion (IsAnswer name) deliveries
-  pub store : CountsAtLeast (store_failures deliveries) (failures old.keeper) (failures new.keeper)
+  pub store : CountsEach (store_failures deliveries) (failures old.keeper) (failures new.keeper)
 
 -- A LIST OF ITEMS, each the text of a path with a content
 

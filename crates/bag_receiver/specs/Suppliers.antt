@@ -1,7 +1,6 @@
 -- Suppliers, and what is fetched from them (RFC 8493 section 2.2.3).
-use Rattle.std.specs.Prelude.{◌≡◌, ◌⊎◌, ◌+◌, ◌++◌, ◌∷◌, [], ℕ, Bool, true, false, List, Option, Some, None, min}
+use Rattle.std.specs.Prelude.{◌≡◌, ◌⊎◌, ◌+◌, ◌++◌, ◌∷◌, [], ℕ, Bool, true, false, List, Option, Some, None}
 use Rattle.std.specs.Map.{keys_of}
-use Rattle.bag_digest.specs.Device.{greatest_count}
 use Rattle.bag_tags.specs.declared.fetch.FetchLine.{FetchLine}
 use Rattle.bag_rules.specs.Faults.{Has}
 use Rattle.bag_rules.specs.Plans.{AreFetchLines}
@@ -113,7 +112,3 @@ abbrev pub supplier_failures : List FetchOutcome → ℕ
 supplier_failures [] = 0
 supplier_failures (outcome ∷ outcomes) =
     supplier_failure outcome.answer + supplier_failures outcomes
-
--- `ask` was called this many times; the count saturates
-abbrev pub AsksEach : ℕ → ℕ → ℕ → Type 0
-AsksEach n old new = min new greatest_count ≡ min (old + n) greatest_count

@@ -1,6 +1,6 @@
 //! Couriers, which deliver the payload files of a transfer.
-ghost use Rattle.std.specs.Prelude.{◌≡◌, ◌≢◌, ◌+◌, [], ℕ, List, Option, true, Ok, IfOk, IsOk, min};
-ghost use Rattle.bag_digest.specs.Device.{CountsFailure, greatest_count};
+ghost use Rattle.std.specs.Prelude.{◌≡◌, ◌≢◌, [], ℕ, List, Option, true, Ok, IfOk, IsOk};
+ghost use Rattle.bag_digest.specs.Device.{CountsFailure, one_more};
 ghost use Rattle.bag_rules.specs.Files.{Files};
 ghost use Rattle.bag_receiver.specs.Couriers.{ComesNext};
 
@@ -34,7 +34,7 @@ pub trait Courier: Source {
         ensures none { result ≢ Ok true → text self.new ≡ [] }
         ensures counted { CountsFailure result (Self.failures self.old) (Self.failures self.new) }
         ensures steady { steady self.old → IsOk result × steady self.new }
-        ensures called { nexts self.new ≡ min (nexts self.old + 1) greatest_count };
+        ensures called { nexts self.new ≡ one_more (nexts self.old) };
 
     /// The path of the current item, as text; empty if there is none.
     fn path(&self) -> &str

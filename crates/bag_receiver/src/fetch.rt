@@ -1,7 +1,7 @@
 //! Fetching: asks a supplier for what the `fetch.txt` of a transfer lists and isn't held.
-ghost use Rattle.std.specs.Prelude.{◌≡◌, ◌≢◌, ◌↔◌, ◌+◌, ◌∷◌, [], ℕ, List, Some, None, IfErr, IfOk, IfNone, IfSome, IsErrOf, IsTrue, MatchResult, OnErr, length, map, min, slice_get, slice_set, string_bytes, true};
+ghost use Rattle.std.specs.Prelude.{◌≡◌, ◌≢◌, ◌↔◌, ◌∷◌, [], ℕ, List, Some, None, IfErr, IfOk, IfNone, IfSome, IsErrOf, IsTrue, MatchResult, OnErr, length, map, slice_get, slice_set, string_bytes, true};
 ghost use Rattle.std.specs.List.{AllByRecursion};
-ghost use Rattle.bag_digest.specs.Device.{CountsIf, greatest_count};
+ghost use Rattle.bag_digest.specs.Device.{CountsIf, RisesBy, one_more};
 ghost use Rattle.bag_tags.specs.declared.fetch.FetchLine.{FetchLine};
 ghost use Rattle.bag_rules.specs.Faults.{Has};
 ghost use Rattle.bag_rules.specs.Files.{Files};
@@ -14,8 +14,8 @@ ghost use Rattle.bag_receiver.specs.Names.{IsNamed, IsTransferName};
 ghost use Rattle.bag_receiver.specs.Receivers.{Does, IsInState};
 ghost use Rattle.bag_receiver.specs.ReceiversInside.{Same};
 ghost use Rattle.bag_receiver.specs.Receiving.{LedgerState};
-ghost use Rattle.bag_receiver.specs.Runs.{CountsAtLeast, Runs};
-ghost use Rattle.bag_receiver.specs.Suppliers.{AreReached, AsksEach, IsGotFrom, IsReply, Reply, Round, deliveries_by, delivery_by, outcome_of, supplier_failure, supplier_failures, told};
+ghost use Rattle.bag_receiver.specs.Runs.{CountsEach, Runs};
+ghost use Rattle.bag_receiver.specs.Suppliers.{AreReached, IsGotFrom, IsReply, Reply, Round, deliveries_by, delivery_by, outcome_of, supplier_failure, supplier_failures, told};
 
 use crate::answer::DeliverFault;
 use crate::receiver::Receiver;
@@ -96,9 +96,9 @@ impl<K: Keeper> Receiver<K> {
             → IfErr result (λ fault. fault ≡ ViewFault.NoTransfer
             → IsNamed now.held name.now None) }
         ensures judged { ¬ IsTransferName name.now → IsErrOf result ViewFault.NoTransfer }
-        ensures supplier { IfOk result (λ outcomes. CountsAtLeast (supplier_failures outcomes.items)
+        ensures supplier { IfOk result (λ outcomes. CountsEach (supplier_failures outcomes.items)
             (S.failures supplier.old) (S.failures supplier.new)
-            × AsksEach (length outcomes.items) (S.asks supplier.old) (S.asks supplier.new)) }
+            × RisesBy (length outcomes.items) (S.asks supplier.old) (S.asks supplier.new)) }
         ensures store { IfErr result (λ fault. CountsIf ((store : StoreFault)
             × (fault ≡ ViewFault.Keeper (KeepFault.Store store)))
             (K.failures self.old.keeper) (K.failures self.new.keeper)) }
@@ -131,9 +131,9 @@ impl<K: Keeper> Receiver<K> {
             × Runs K.holds K.may_leave K.clean K.failures self.old self.new name.now
             (delivery_by request.now.path reply) }
         ensures same { S.supply supplier.new ≡ S.supply supplier.old }
-        ensures failures { CountsAtLeast (supplier_failure result)
+        ensures failures { CountsEach (supplier_failure result)
             (S.failures supplier.old) (S.failures supplier.new) }
-        ensures asks { S.asks supplier.new ≡ min (S.asks supplier.old + 1) greatest_count }
+        ensures asks { S.asks supplier.new ≡ one_more (S.asks supplier.old) }
     {
         let path = request.path.as_str();
         match supplier.ask(request.url.as_str(), path) {

@@ -1,10 +1,10 @@
 //! Runs of deliveries from a courier.
-ghost use Rattle.std.specs.Prelude.{◌≡◌, ◌≢◌, ◌≤◌, ◌+◌, ◌++◌, ◌∷◌, [], Err, IfErr, List, OnErr, OnOk, length, map, min, string_bytes, true};
-ghost use Rattle.bag_digest.specs.Device.{CountsIf, greatest_count};
+ghost use Rattle.std.specs.Prelude.{◌≡◌, ◌≢◌, ◌≤◌, ◌++◌, ◌∷◌, [], Err, IfErr, List, OnErr, OnOk, length, map, string_bytes, true};
+ghost use Rattle.bag_digest.specs.Device.{CountsIf, one_more};
 ghost use Rattle.bag_receiver.specs.declared.answer.Answer.TheVariants.{Repeated};
 ghost use Rattle.bag_receiver.specs.Couriers.{AreBrought, AreTold, CallsNext, ComesNext, IsEndWith, courier_failures};
 ghost use Rattle.bag_receiver.specs.Deliveries.{Delivery};
-ghost use Rattle.bag_receiver.specs.Runs.{CountsAtLeast, Runs};
+ghost use Rattle.bag_receiver.specs.Runs.{CountsEach, Runs};
 
 use crate::answer::Answer;
 use crate::courier::Courier;
@@ -27,7 +27,7 @@ impl<K: Keeper> Receiver<K> {
             × AreBrought (C.coming courier.old) deliveries result.0.ended
             × Runs K.holds K.may_leave K.clean K.failures self.old self.new name.now deliveries }
         ensures within { length result.0.answers.items ≤ MOST_DELIVERIES }
-        ensures failures { CountsAtLeast
+        ensures failures { CountsEach
             (courier_failures result.0.answers.items result.0.ended)
             (C.failures courier.old) (C.failures courier.new) }
         ensures nexts { CallsNext (length result.0.answers.items)
@@ -59,7 +59,7 @@ fn next_item<C: Courier>(courier: &mut C, n: usize) -> Result<(), End>
     ensures ended { IfErr result (λ ended. IsEndWith ended n (C.coming courier.old)) }
     ensures failures { CountsIf (result ≡ Err End.Courier)
         (C.failures courier.old) (C.failures courier.new) }
-    ensures nexts { C.nexts courier.new ≡ min (C.nexts courier.old + 1) greatest_count }
+    ensures nexts { C.nexts courier.new ≡ one_more (C.nexts courier.old) }
     ensures steady { C.steady courier.old → (result ≢ Err End.Courier) × C.steady courier.new }
 {
     match courier.next() {

@@ -1,6 +1,6 @@
 //! Suppliers of the payload files to be fetched.
-ghost use Rattle.std.specs.Prelude.{◌≡◌, ◌+◌, ℕ, Option, true, Ok, IfOk, min};
-ghost use Rattle.bag_digest.specs.Device.{CountsFailure, greatest_count};
+ghost use Rattle.std.specs.Prelude.{◌≡◌, ◌+◌, ℕ, Option, true, Ok, IfOk};
+ghost use Rattle.bag_digest.specs.Device.{CountsFailure, one_more};
 ghost use Rattle.bag_receiver.specs.Suppliers.{IsSupplied, Supply};
 
 use bag_digest::{Failed, Source};
@@ -27,7 +27,7 @@ pub trait Supplier: Source + Drop {
         ensures same { supply self.new ≡ supply self.old }
         ensures open { Self.is_open self.new ≡ true → result ≡ Ok true }
         ensures counted { CountsFailure result (Self.failures self.old) (Self.failures self.new) }
-        ensures asked { asks self.new ≡ min (asks self.old + 1) greatest_count };
+        ensures asked { asks self.new ≡ one_more (asks self.old) };
 
     /// How many times it was asked. The count saturates at 2^64 - 1.
     fn asks(&self) -> u64

@@ -1,5 +1,5 @@
 -- A tree of files in memory, in terms of what it shows.
-use Rattle.std.specs.Prelude.{◌≡◌, ◌≢◌, ◌||◌, ◌+◌, ℕ, Bool, true, false, List, [], Option, Some, None, Result, IsSome, MatchResult, drop, is_some, min, refl, slice_get}
+use Rattle.std.specs.Prelude.{◌≡◌, ◌≢◌, ◌||◌, ℕ, Bool, true, false, List, [], Option, Some, None, Result, IsSome, MatchResult, drop, is_some, refl, slice_get}
 use Rattle.std.specs.Option.{option_map}
 use Rattle.std.specs.Ordering.{nat_cmp}
 use Rattle.std.specs.Cmp.Lexicographic.{slice_cmp}
@@ -7,7 +7,7 @@ use Rattle.std.specs.Str.{bytes_eq}
 use Rattle.std.specs.Map.{keys_of, lookup, values_of}
 use Rattle.std.specs.BTreeMap.{insert_entry}
 use Rattle.std.proofs.Common.{◌∙◌, ap}
-use Rattle.bag_digest.specs.Device.{greatest_count}
+use Rattle.bag_digest.specs.Device.{one_more}
 use Rattle.bag_path.specs.Paths.{is_payload}
 use Rattle.bag_rules.specs.Bags.{Bag, shown_of}
 use Rattle.bag_rules.specs.Trees.{KeepsTree, Shown}
@@ -69,8 +69,7 @@ abbrev pub MatchRead : {E : Type 0} → MemFiles → MemFiles → Result ℕ E �
 MatchRead old new result = MatchResult result
     (λ n. IsSome old.started × (new ≡ record old { started = option_map (drop n) old.started }))
     (λ _. (old.started ≡ None) × (new ≡ record old {
-      failures = min
-          (old.failures + 1) greatest_count;
+      failures = one_more old.failures;
     }))
 
 abbrev shown_with : List (List ℕ × List ℕ) → Bool → Shown

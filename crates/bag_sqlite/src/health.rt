@@ -1,5 +1,6 @@
 //! Whether a store has failed, and how many failures were reported.
 ghost use Rattle.std.specs.Prelude.{◌≡◌, ◌↔◌, IsErr, IsErrOf, IsTrue, OnOk, false};
+ghost use Rattle.bag_digest.specs.Device.{Rises};
 ghost use Rattle.bag_ledger.specs.Keeping.{UsesStore};
 ghost use Rattle.bag_ledger.specs.declared.fault.KeepFault.{KeepFault};
 ghost use Rattle.bag_ledger.specs.declared.fault.KeepFault.TheVariants.{Memory, Store};
@@ -43,8 +44,7 @@ impl Health {
         if !self.is_spent {
             return Ok(());
         }
-        self.failures = self.failures.saturating_add(1);
-        Err(KeepFault::Store(StoreFault::Spent))
+        Err(KeepFault::Store(self.fail()))
     }
 
     /// The fault to report for an error of the store. Every error except out of memory counts as a failure of the
@@ -60,9 +60,22 @@ impl Health {
         if matches!(error, Error::SqliteFailure(ErrorCode::OutOfMemory)) {
             return KeepFault::Memory;
         }
+        KeepFault::Store(self.fail())
+    }
+
+    /// Counts a failure of the store, and returns it.
+    pub(crate) fn fail(&mut self) -> StoreFault
+        ensures { IsTrue self.new.is_spent × Rises self.old.failures self.new.failures
+            × ((result ≡ Spent) ↔ IsTrue self.old.is_spent) }
+    {
+        let fault = if self.is_spent {
+            StoreFault::Spent
+        } else {
+            StoreFault::Refused
+        };
         self.is_spent = true;
         self.failures = self.failures.saturating_add(1);
-        KeepFault::Store(StoreFault::Refused)
+        fault
     }
 
     /// The fault to report for a payload file that isn't stored.

@@ -21,7 +21,7 @@ use bag_digest::{Source, piece_buffer};
 use bag_ledger::{KeepFault, Keeper, PutFault};
 use bag_path::BagPath;
 use bag_rules::{ItemSize, TagSet, Want};
-use sqlite::{Alter, Connection, Error, ErrorCode};
+use sqlite::{Alter, Connection};
 use std::alloc::Global;
 
 /// Transfers in a database, in ledger format 2.
@@ -200,12 +200,7 @@ impl<S: Alter> Keeper for SqlKeeper<S> {
 
     /// Counts as any other failure of the store.
     fn blame(&mut self) -> KeepFault {
-        match self.health.test() {
-            Ok(()) => self
-                .health
-                .told(&Error::SqliteFailure(ErrorCode::DatabaseCorrupt)),
-            Err(fault) => fault,
-        }
+        KeepFault::Store(self.health.fail())
     }
 
     fn failures(&self) -> u64 {

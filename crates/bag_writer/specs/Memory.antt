@@ -1,6 +1,6 @@
 -- A sink in memory, in terms of what it holds.
-use Rattle.std.specs.Prelude.{◌+◌, ℕ, Bool, Option, Some, None, is_some, min}
-use Rattle.bag_digest.specs.Device.{greatest_count}
+use Rattle.std.specs.Prelude.{ℕ, Bool, Option, Some, None, is_some}
+use Rattle.bag_digest.specs.Device.{one_more}
 use Rattle.bag_rules.specs.Bags.{Bag}
 use Rattle.bag_rules.specs.Memory.{MemFiles}
 use Rattle.bag_writer.specs.Sinks.{Stored, nothing_stored}
@@ -27,7 +27,7 @@ IsNeverSure sink = ⊥
 
 -- one more failure, up to the maximum
 abbrev pub with_failure : MemStored → MemStored
-with_failure sink = record sink { failures = min (sink.failures + 1) greatest_count }
+with_failure sink = record sink { failures = one_more sink.failures }
 
 -- the tree of the files of a bag, in which no file was started and no read has failed
 abbrev pub tree_of : Bag → MemFiles

@@ -1,16 +1,18 @@
 //! The commands on a ledger: opens it, does the work and closes it.
-ghost use Rattle.std.specs.Prelude.{◌≡◌, ℕ, IfErr, IfOk, List, MatchResult, Some};
+ghost use Rattle.std.specs.Prelude.{◌≡◌, [], ℕ, IfErr, IfOk, List, MatchResult, Some, true};
 ghost use Rattle.bag_cmd.specs.Working.{DoesWork, HoldsValidBag, IsOpenFor, Works, WorksOn, viewed};
 ghost use Rattle.bag_commands.specs.declared.status.TheConstants.{VALID};
 ghost use Rattle.bag_ledger.specs.Ledgers.{Ledger};
+ghost use Rattle.bag_receiver.specs.Receivers.{IsInState};
+ghost use Rattle.bag_receiver.specs.Receiving.{LedgerState};
 
 use super::begin::begin_with_folder;
 use super::export::export_into_folder;
 use super::fetch::fetch_from_folder;
 use super::intake::intake_folders;
-use crate::ledger::Ledgers;
+use crate::ledger::{Ledgers, Opened};
 use crate::request::Work;
-use bag_commands::status::{DONE, FAILED};
+use bag_commands::status::FAILED;
 use bag_commands::{Output, Stop, TextSpelling, audit_to, list_to, report_to};
 use bag_folder::{Destination, Directories};
 use bag_ledger::Keeper;
@@ -38,8 +40,14 @@ pub fn work_on_ledger<R: Files, D: Directories, L: Ledgers, W: Write + Drop>(
         ledger.now work.now made.old made.new out.old out.new result }
 {
     match open_and_work(rt, disk, ledgers, made, alloc, ledger, work, out) {
-        Ok((mut receiver, status)) => {
-            if has_no_transfer(alloc, &mut receiver, status) {
+        Ok(
+            Worked {
+                mut receiver,
+                is_made,
+                status,
+            },
+        ) => {
+            if is_made && has_no_transfer(alloc, &mut receiver) {
                 ledgers.give_up(receiver.into_keeper());
             } else {
                 ledgers.close(receiver.into_keeper());
@@ -48,6 +56,14 @@ pub fn work_on_ledger<R: Files, D: Directories, L: Ledgers, W: Write + Drop>(
         }
         Err(fault) => out.print(UnopenedLine(&fault), FAILED),
     }
+}
+
+/// What was done on an open ledger.
+struct Worked<K> {
+    receiver: Receiver<K>,
+    // whether the ledger was made for the work
+    is_made: bool,
+    status: u8,
 }
 
 /// Opens a ledger and does the work. The receiver is returned too, so that the ledger can be closed.
@@ -60,39 +76,58 @@ fn open_and_work<R: Files, D: Directories, L: Ledgers, W: Write + Drop>(
     ledger: &str,
     work: &Work,
     out: &mut Output<W>,
-) -> Result<(Receiver<L::Kept>, u8), AdoptFault>
+) -> Result<Worked<L::Kept>, AdoptFault>
     ensures works { IfOk result (λ done. Works L.Kept.Keeper L.opened L.made (D.listing disk.now)
-        W.contents ledger.now work.now made.old made.new done.0 out.old out.new done.1) }
+        W.contents ledger.now work.now made.old made.new done.receiver out.old out.new
+        done.status) }
     // If a report or an audit answers that a transfer is valid, the ledger that is stored holds a valid bag under this
     // name.
-    ensures valid { IfOk result (λ done. done.1 ≡ VALID → L.Kept.Keeper.clean done.0.keeper
+    ensures valid { IfOk result (λ done. done.status ≡ VALID
+        → L.Kept.Keeper.clean done.receiver.keeper
         → (name : List ℕ) → viewed work.now ≡ Some name
         → (stored : Ledger) → L.holds ledger.now stored → HoldsValidBag stored name) }
+    // It is known what a ledger holds that was made.
+    ensures made { IfOk result (λ done. done.is_made ≡ true
+        → L.Kept.Keeper.clean done.receiver.keeper → (now : LedgerState)
+        × IsInState L.Kept.Keeper.holds L.Kept.Keeper.may_leave done.receiver now) }
     ensures refused { IfErr result (λ fault. L.refused ledger.now fault
         × (made.new ≡ made.old) × (out.new ≡ out.old)) }
 {
-    let kept = open(ledgers, ledger, work)?;
-    let mut receiver = Receiver::new(alloc, kept);
+    let opened = open(ledgers, ledger, work)?;
+    let mut receiver = Receiver::new(alloc, opened.kept);
     let status = do_work(rt, disk, made, alloc, &mut receiver, work, out);
-    Ok((receiver, status))
+    Ok(Worked {
+        receiver,
+        is_made: opened.is_made,
+        status,
+    })
 }
 
 /// Opens a ledger for this work.
-fn open<L: Ledgers>(ledgers: &mut L, ledger: &str, work: &Work) -> Result<L::Kept, AdoptFault>
-    ensures { MatchResult result (IsOpenFor L.opened L.made ledger.now work.now)
+fn open<L: Ledgers>(
+    ledgers: &mut L,
+    ledger: &str,
+    work: &Work,
+) -> Result<Opened<L::Kept>, AdoptFault>
+    ensures { MatchResult result
+        (λ it. IsOpenFor L.opened L.made ledger.now work.now it.is_made it.kept)
         (L.refused ledger.now) }
 {
     match work {
         Work::Begin { .. } => ledgers.open_or_make(ledger),
-        _ => ledgers.open(ledger),
+        _ => Ok(Opened::found(ledgers.open(ledger)?)),
     }
 }
 
-/// Whether the ledger has no transfers. If that can't be read, assumes so if the work failed.
-fn has_no_transfer<K: Keeper>(alloc: Global, receiver: &mut Receiver<K>, status: u8) -> bool {
+/// Whether it can be read that the ledger has no transfers.
+fn has_no_transfer<K: Keeper>(alloc: Global, receiver: &mut Receiver<K>) -> bool
+    ensures { result ≡ true → K.clean receiver.new.keeper → K.clean receiver.old.keeper
+        × ((now : LedgerState) → IsInState K.holds K.may_leave receiver.old now
+        → K.holds receiver.new.keeper []) }
+{
     match receiver.names(alloc) {
         Ok(names) => names.is_empty(),
-        Err(_) => status != DONE,
+        Err(_) => false,
     }
 }
 

@@ -6,7 +6,7 @@ use Rattle.bag_receiver.specs.Suppliers.{IsReply, supplier_failures}
 use Rattle.bag_receiver.proofs.AuditLemmas.{none_left}
 use Rattle.bag_receiver.proofs.CountLemmas.{counts_err, no_fault}
 use Rattle.bag_receiver.proofs.FetchLemmas.{all_reached, failures_counted, got_more, none_counted, outcomes_more, passed_over, pushed_ok, ran_looked, ran_round, round_of, went_round}
-use Rattle.bag_receiver.proofs.Words.{CountsAtLeast, err_from_is_err_and, length-append, Store, string_bytes}
+use Rattle.bag_receiver.proofs.Words.{CountsEach, err_from_is_err_and, length-append, Store, string_bytes}
 use Rattle.bag_receiver.proofs.receiver.Receiver.fetch.Goals as goal
 
 pub returns-in_err-list-clause-store : goal.returns-in_err-list-clause-store
@@ -31,7 +31,7 @@ loop-request-init g c =
         λ clean now in_state. subst (λ left. IsUnderWay now.held c.args.name.now c.in_ok-list.field-0.held.items left []) (sym all) (c.in_ok-list.ensures.prepared clean now in_state),
       );
       same = refl;
-      failures = subst (λ (outcomes : List FetchOutcome). CountsAtLeast (supplier_failures outcomes) (g.S.Source.failures c.args.supplier.now) (g.S.Source.failures c.args.supplier.now)) (sym none) (none_counted (g.S.Source.failures c.args.supplier.now));
+      failures = subst (λ (outcomes : List FetchOutcome). CountsEach (supplier_failures outcomes) (g.S.Source.failures c.args.supplier.now) (g.S.Source.failures c.args.supplier.now)) (sym none) (none_counted (g.S.Source.failures c.args.supplier.now));
       asks = (let n = ap length none in omega (arith, n));
     }
 
@@ -82,7 +82,7 @@ loop-request-preserved g c =
             (λ e. c.mark_taken.ensures.taken (got.1 ∙ e)) (λ other. c.mark_taken.ensures.others (λ e. other (sym got.1 ∙ e))),
       );
       same = c.fetch_one-answer.ensures.same ∙ invariant.same;
-      failures = subst (λ (outcomes : List FetchOutcome). CountsAtLeast (supplier_failures outcomes) (g.S.Source.failures c.args.supplier.now) (g.S.Source.failures c.fetch_one-answer.new.supplier)) (sym pushed)
+      failures = subst (λ (outcomes : List FetchOutcome). CountsEach (supplier_failures outcomes) (g.S.Source.failures c.args.supplier.now) (g.S.Source.failures c.fetch_one-answer.new.supplier)) (sym pushed)
           (failures_counted old one _ _ _ invariant.failures c.fetch_one-answer.ensures.failures);
       asks = omega (arith, more, c.fetch_one-answer.ensures.asks, invariant.asks);
     }

@@ -1,8 +1,9 @@
 use Rattle.std.proofs.Common.{◌≡◌, ◌+◌, ◌≤◌, List, length, map, vec_len}
 use Rattle.std.specs.Vec.{vec_capacity}
 use Rattle.bag_receiver.specs.FetchingInside.{IsUnderWay}
-use Rattle.bag_receiver.specs.Suppliers.{AsksEach, deliveries_by, IsGotFrom, outcome_of, Round, supplier_failures}
-use Rattle.bag_receiver.proofs.Words.{AllByRecursion, CountsAtLeast, IsInState, LedgerState, Runs}
+use Rattle.bag_digest.specs.Device.{RisesBy}
+use Rattle.bag_receiver.specs.Suppliers.{deliveries_by, IsGotFrom, outcome_of, Round, supplier_failures}
+use Rattle.bag_receiver.proofs.Words.{AllByRecursion, CountsEach, IsInState, LedgerState, Runs}
 use Rattle.bag_receiver.proofs.receiver.Receiver.fetch.Given as goal
 
 abbrev pub invariant-loop-request : goal.invariant-loop-request
@@ -15,6 +16,6 @@ invariant-loop-request g l =
           × Runs keeper.holds keeper.may_leave keeper.clean keeper.failures l.fn.self l.self l.name (deliveries_by rounds)
           × (keeper.clean l.self.keeper → (now : LedgerState) → IsInState keeper.holds keeper.may_leave l.fn.self now → IsUnderWay now.held l.name l.held.items l.request-iterator.rest.items rounds);
       same : supplier.supply l.supplier ≡ supplier.supply l.fn.supplier;
-      failures : CountsAtLeast (supplier_failures l.outcomes.items) (g.S.Source.failures l.fn.supplier) (g.S.Source.failures l.supplier);
-      asks : AsksEach (length l.outcomes.items) (supplier.asks l.fn.supplier) (supplier.asks l.supplier);
+      failures : CountsEach (supplier_failures l.outcomes.items) (g.S.Source.failures l.fn.supplier) (g.S.Source.failures l.supplier);
+      asks : RisesBy (length l.outcomes.items) (supplier.asks l.fn.supplier) (supplier.asks l.supplier);
     }

@@ -1,6 +1,6 @@
-use Rattle.std.proofs.Common.{sym, ◌∙◌}
+use Rattle.std.proofs.Common.{◌≢◌, ◌∙◌, rules, sym}
 use Rattle.bag_receiver.specs.declared.begin.BeginFault.TheVariants.{Keeper}
-use Rattle.bag_receiver.proofs.BeginSteps.{counts_after, err_is, failed_answers, looked_failed, not_failed, one_of, opened_new, opening_failed, store_counted}
+use Rattle.bag_receiver.proofs.BeginSteps.{counts_after, err_is, failed_answers, found_other, looked_failed, not_failed, one_of, opened_new, opening_failed, store_counted}
 use Rattle.bag_receiver.proofs.receiver.Receiver.open_as.Goals as goal
 
 pub returns-in_err-held-clause-begun : goal.returns-in_err-held-clause-begun
@@ -26,6 +26,12 @@ returns-in_err-begin-in-None-clause-store g c =
     let fault = c.in_err-begin-in-None.field-0.0 in
     counts_after _ _ (g.K.Keeper.failures c.args.self.now.keeper) (g.K.Keeper.failures c.tags.new.self) (g.K.Keeper.failures c.begin.new.self) (not_failed c.tags.result c.in_ok-held.field-0 c.in_ok-held.was) c.tags.ensures.store.counted
     (store_counted c.begin.result c.from_residual-in_err-begin-in-None.result fault (g.K.Keeper.failures c.tags.new.self) (g.K.Keeper.failures c.begin.new.self) c.in_err-begin-in-None.was (err_is c.from_residual-in_err-begin-in-None.result (Keeper fault) c.from_residual-in_err-begin-in-None.ensures.1) c.begin.ensures.store.counted)
+
+pub returns-in-Some-clause-begun : goal.returns-in-Some-clause-begun
+returns-in-Some-clause-begun g c = λ given named taken.
+    let other : c.in-Some.held ≢ c.args.tags.now = search rules in
+    found_other g.K.Keeper.holds g.K.Keeper.may_leave g.K.Keeper.clean c.args.name.now given c.args.tags.now named taken c.args.self.now.plans c.args.self.now.keeper c.tags.new.self c.in-Some.held c.tags.ensures.reads
+    (λ clean ledger held. sym c.in-Some.is ∙ c.in_ok-held.ensures.tags clean ledger held) other
 
 pub returns-clause-begun : goal.returns-clause-begun
 returns-clause-begun g c = λ given named taken.

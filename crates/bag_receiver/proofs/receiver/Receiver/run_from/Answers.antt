@@ -1,6 +1,6 @@
-use Rattle.std.proofs.Common.{◌≡◌, ◌+◌, ◌++◌, ◌∷◌, ◌∙◌, [], inl, length, map, min, true, slice_set, refl, sym, ap, subst, rules, arith}
-use Rattle.bag_receiver.proofs.CourierLemmas.{called, called_on, end_counted, end_failed, last_text, not_ended, ran_from_more, ran_from_nothing, reads_counted, texts_ran, CameFrom}
-use Rattle.bag_receiver.proofs.Words.{CallsNext, ComesNext, greatest_count, length-append, Repeated, set-append_seam, string_bytes}
+use Rattle.std.proofs.Common.{◌≡◌, ◌+◌, ◌++◌, ◌∷◌, ◌∙◌, [], length, map, true, slice_set, refl, sym, ap, subst, rules, arith}
+use Rattle.bag_receiver.proofs.CourierLemmas.{called_on, end_counted, end_failed, last_text, not_ended, ran_from_more, ran_from_nothing, reads_counted, texts_ran, CameFrom}
+use Rattle.bag_receiver.proofs.Words.{CallsNext, ComesNext, length-append, one_more, Repeated, set-append_seam, string_bytes}
 use Rattle.bag_receiver.proofs.receiver.Receiver.run_from.Goals as goal
 
 pub items-init : goal.items-init
@@ -10,8 +10,8 @@ items-init g c =
     rw (answers, paths) (
       omega arith,
       ran_from_nothing g.K.Keeper.holds g.K.Keeper.may_leave g.K.Keeper.clean g.K.Keeper.failures c.args.self.now c.args.name.now (g.C.Courier.coming c.args.courier.now),
-      record { stays = λ e. refl; rises = inl (omega arith) },
-      ap (λ n. min (n + 1) greatest_count) (omega arith),
+      record { stays = λ e. refl; rises = omega arith },
+      ap one_more (omega arith),
       λ steady. steady,
     )
 
@@ -51,6 +51,6 @@ items-preserved g c =
           (g.C.Source.remaining c.next_item.new.courier) (g.C.Source.remaining c.deliver_from.new.reader) invariant.1 comes came c.deliver_from.ensures.store,
       reads_counted old answer (g.C.Source.failures c.args.courier.now) (g.C.Source.failures c.items.courier) (g.C.Source.failures c.next_item.new.courier) (g.C.Source.failures c.deliver_from.new.reader)
           invariant.2 (not_ended c.next_item.result c.in_default.field-0 _ _ c.in_default.is c.next_item.ensures.failures) c.deliver_from.ensures.reader.counted,
-      subst (λ m. CallsNext m (g.C.Courier.nexts c.args.courier.now) (called (g.C.Courier.nexts c.deliver_from.new.reader))) (sym more) (called_on n (g.C.Courier.nexts c.args.courier.now) (g.C.Courier.nexts c.items.courier) (g.C.Courier.nexts c.deliver_from.new.reader) invariant.3 (kept.2 ∙ c.next_item.ensures.nexts)),
+      subst (λ m. CallsNext m (g.C.Courier.nexts c.args.courier.now) (one_more (g.C.Courier.nexts c.deliver_from.new.reader))) (sym more) (called_on n (g.C.Courier.nexts c.args.courier.now) (g.C.Courier.nexts c.items.courier) (g.C.Courier.nexts c.deliver_from.new.reader) invariant.3 (kept.2 ∙ c.next_item.ensures.nexts)),
       λ steady. kept.3 (c.next_item.ensures.steady (invariant.4 steady)).1,
     )

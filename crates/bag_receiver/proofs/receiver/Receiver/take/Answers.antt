@@ -5,6 +5,11 @@ use Rattle.bag_receiver.proofs.ReceiverLemmas.{does_then, found_step, found_then
 use Rattle.bag_receiver.proofs.Words.{err_from_is_err_and, IsPlaceIn, IsWanted, Whole}
 use Rattle.bag_receiver.proofs.receiver.Receiver.take.Goals as goal
 
+pub returns-in_err-find_plan-clause-store : goal.returns-in_err-find_plan-clause-store
+returns-in_err-find_plan-clause-store g c =
+    let error = err_from_is_err_and c.from_residual.result c.from_residual.ensures.1 in
+    rw (error.1, error.2) (counts_on _ _ _ _ c.in_err-find_plan.ensures.store)
+
 pub returns-in_err-place-clause-taken : goal.returns-in_err-place-clause-taken
 returns-in_err-place-clause-taken g c =
     let error = err_from_is_err_and c.from_residual-in_err-place.result c.from_residual-in_err-place.ensures.1 in

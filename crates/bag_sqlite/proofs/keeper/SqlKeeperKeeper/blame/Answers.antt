@@ -1,13 +1,27 @@
-use Rattle.std.proofs.Common.{Err, IsTrue, ap}
+use Rattle.std.proofs.Common.{◌≡◌, ◌↔◌, IsTrue, ap, refl}
+use Rattle.bag_ledger.specs.declared.fault.KeepFault.{KeepFault}
+use Rattle.bag_ledger.specs.declared.fault.KeepFault.TheVariants.{Store}
+use Rattle.bag_ledger.specs.declared.fault.StoreFault.{StoreFault}
+use Rattle.bag_ledger.specs.declared.fault.StoreFault.TheVariants.{Spent}
+use Rattle.bag_ledger.specs.Keeping.{UsesStore}
+use Rattle.bag_digest.specs.Device.{Rises}
 use Rattle.bag_sqlite.proofs.Words.{Health}
-use Rattle.bag_sqlite.proofs.SqlLemmas.{same_fault, uses_as}
+use Rattle.bag_sqlite.proofs.SqlLemmas.{uses_as}
 use Rattle.bag_sqlite.proofs.keeper.SqlKeeperKeeper.blame.Goals as goal
 
-pub returns-in-Ok-clause-store : goal.returns-in-Ok-clause-store
-returns-in-Ok-clause-store g c =
-    uses_as (λ keeper. keeper.health) (λ (health : Health). health.failures) (λ health. IsTrue health.is_spent) c.args.self.now _ _ _ (λ fault e. e) (λ fault e. e)
-    (rw c.in-Ok.ensures.well.1 at c.told.ensures.store)
+same : (a b : StoreFault) → Store a ≡ Store b → a ≡ b
+same a b e = cc
 
-pub returns-in-Err-clause-store : goal.returns-in-Err-clause-store
-returns-in-Err-clause-store g c =
-    uses_as (λ keeper. keeper.health) (λ (health : Health). health.failures) (λ health. IsTrue health.is_spent) c.args.self.now _ _ _ (λ fault e. same_fault e) (λ fault e. ap Err e) c.in-Err.ensures.store
+fails : (old new : Health) (fault : StoreFault) → IsTrue new.is_spent × Rises old.failures new.failures × ((fault ≡ Spent) ↔ IsTrue old.is_spent)
+    → UsesStore (λ (health : Health). health.failures) (λ (health : Health). IsTrue health.is_spent) old new (λ told. fault ≡ told)
+fails old new fault it = record {
+  counted = record { rises = λ _. it.1; stays = λ none. absurd (none (fault, refl)) };
+  spent_before = it.2.1;
+  spent_first = it.2.0;
+  spent_now = ((λ _. (fault, refl)), (λ _. it.0));
+}
+
+pub returns-clause-store : goal.returns-clause-store
+returns-clause-store g c =
+    uses_as (λ keeper. keeper.health) (λ (health : Health). health.failures) (λ health. IsTrue health.is_spent) c.args.self.now _ _ _ (λ fault e. ap Store e) (λ fault e. same _ _ e)
+    (fails c.args.self.now.health _ _ c.fail.ensures)
