@@ -1,5 +1,5 @@
 -- What was written is the whole bag, or part of it.
-use Rattle.std.proofs.Common.{◌≡◌, ◌∙◌, ◌<◌, ◌≤◌, ◌++◌, ◌∷◌, [], ℕ, true, List, Option, Some, None, Result, Ok, Err, MatchResult, length, slice_get, take, drop, refl, sym, ap, subst, inl, inr, arith}
+use Rattle.std.proofs.Common.{◌≡◌, ◌∙◌, ◌≤◌, ◌++◌, ◌∷◌, [], ℕ, true, List, Option, Some, None, Result, Ok, Err, MatchResult, length, slice_get, take, drop, refl, sym, ap, subst, inl, inr, arith}
 use Rattle.std.specs.List.{AllByRecursion, filter}
 use Rattle.std.specs.Option.{option_map}
 use Rattle.std.proofs.lemmas.List.{take-append-drop}
@@ -10,10 +10,11 @@ use Rattle.bag_rules.proofs.HasLemmas.{has_at}
 use Rattle.bag_writer.specs.Sinks.{Begun, Stored, nothing_stored, with_begun, with_octets, with_payload_dir, without_begun}
 use Rattle.bag_writer.specs.Steps.{ArePart, AreWhole, HasFrontOf, HasNoFile, HasPayloadAlone, IsWritable, with_wholes, written_payload}
 use Rattle.bag_writer.specs.WrittenBags.{IsFileOf, tag_files}
-use Rattle.bag_writer.specs.Writing.{HasLongFile, HasPart, HasWhole, IsAccepted, IsDone, IsReadFrom, oxum_of, payload_paths}
+use Rattle.bag_writer.specs.Writing.{HasLongFile, HasPart, HasWhole, IsAccepted, IsDone, IsReadFrom, IsTooLarge, empty_files, oxum_of, payload_paths}
 use Rattle.bag_writer.specs.declared.fault.WriteFault.{WriteFault}
 use Rattle.bag_writer.specs.declared.fault.WriteFault.TheVariants.{TooLarge}
 use Rattle.bag_writer.specs.declared.spec.Spec.{Spec}
+use Rattle.bag_writer.proofs.EmptyBags.{filled_large}
 use Rattle.bag_writer.proofs.ReadPayload.{some_payload}
 use Rattle.bag_writer.proofs.SinkUses.{payload_alone}
 use Rattle.bag_writer.proofs.StepLemmas.{part_after, part_more, whole_on}
@@ -108,13 +109,13 @@ module _ (shown : Shown) (spec : Spec) where
   written_alone payload read mid new whole none = payload_alone (written_payload spec payload) mid new whole (written_are spec payload (paths_are shown payload read)) none
 
   -- nothing was written
-  pub unwritten_done : (known : Option Stored) (fault : WriteFault) → (fault ≡ TooLarge → MOST_LINES < length (payload_paths shown))
+  pub unwritten_done : (known : Option Stored) (fault : WriteFault) → (fault ≡ TooLarge → IsTooLarge spec (empty_files (payload_paths shown)))
       → (payload : Files) × IsDone shown spec (Err fault) known known payload
-  unwritten_done known fault many = let some = some_payload shown in (
+  unwritten_done known fault large = let some = some_payload shown in (
     some.0,
     record {
       read = some.1;
-      answers = λ e. inl (omega (arith, many e, same_number shown some.0 some.1));
+      answers = λ e. filled_large spec some.0 (payload_paths shown) some.1.paths (large e);
       stores = λ nothing. (nothing_stored, nothing, part_nothing spec some.0);
     },
   )

@@ -37,3 +37,5 @@ pub mod ExampleTags
 pub mod ExampleFits
 pub mod FittingLemmas
 pub mod LimitsMet
+pub mod MeasuredTags
+pub mod EmptyBags

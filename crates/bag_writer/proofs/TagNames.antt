@@ -14,7 +14,7 @@ use Rattle.bag_writer.specs.declared.spec.Spec.{Spec}
 use Rattle.bag_writer.specs.WrittenBags.{algs_in, fetch_files, listed_tags, manifest_of, tag_files}
 
 -- the elements of the list whose place is marked
-abbrev chosen : {X : Type 0} → List Bool → List X → List X
+abbrev pub chosen : {X : Type 0} → List Bool → List X → List X
 chosen (true ∷ bs) (x ∷ xs) = x ∷ chosen bs xs
 chosen (false ∷ bs) (x ∷ xs) = chosen bs xs
 chosen _ _ = []
@@ -43,9 +43,13 @@ names = text_file Info ∷ declaration_file ∷ text_file FetchList
     ∷ manifest_file Payload Md5 ∷ manifest_file Payload Sha1 ∷ manifest_file Payload Sha256 ∷ manifest_file Payload Sha512
     ∷ manifest_file Tag Md5 ∷ manifest_file Tag Sha1 ∷ manifest_file Tag Sha256 ∷ manifest_file Tag Sha512 ∷ []
 
-abbrev has_some : List Hole → Bool
+abbrev pub has_some : List Hole → Bool
 has_some [] = false
 has_some (hole ∷ holes) = true
+
+abbrev pub which_listed : Spec → List Bool
+which_listed spec = true ∷ true ∷ has_some spec.holes.items
+    ∷ has spec.algs Md5 ∷ has spec.algs Sha1 ∷ has spec.algs Sha256 ∷ has spec.algs Sha512 ∷ []
 
 abbrev which : Spec → List Bool
 which spec = true ∷ true ∷ has_some spec.holes.items
@@ -56,7 +60,11 @@ names_rise : AreRising names
 unfolding IsStrictlySortedBy
 names_rise = search
 
-listed_names_rise : AreRising (text_file Info ∷ declaration_file ∷ text_file FetchList ∷ manifest_file Payload Md5 ∷ manifest_file Payload Sha1 ∷ manifest_file Payload Sha256 ∷ manifest_file Payload Sha512 ∷ [])
+-- the names that tag manifests may list
+abbrev pub listed_of : List (List ℕ)
+listed_of = text_file Info ∷ declaration_file ∷ text_file FetchList ∷ manifest_file Payload Md5 ∷ manifest_file Payload Sha1 ∷ manifest_file Payload Sha256 ∷ manifest_file Payload Sha512 ∷ []
+
+listed_names_rise : AreRising listed_of
 unfolding IsStrictlySortedBy
 listed_names_rise = search
 
@@ -108,7 +116,7 @@ module _ (spec : Spec) (payload : Files) where
   abbrev manifests : Kind → List (List ℕ)
   manifests kind = manifest_file kind Md5 ∷ manifest_file kind Sha1 ∷ manifest_file kind Sha256 ∷ manifest_file kind Sha512 ∷ []
 
-  listed_names : keys_of (listed_tags spec payload) ≡ chosen (true ∷ true ∷ has_some spec.holes.items ∷ by) (text_file Info ∷ declaration_file ∷ text_file FetchList ∷ manifests Payload)
+  pub listed_names : keys_of (listed_tags spec payload) ≡ chosen (which_listed spec) listed_of
   listed_names = ap (λ rest. text_file Info ∷ declaration_file ∷ rest) (
       map-append (λ (file : List ℕ × List ℕ). file.0) (fetch_files payload spec.holes.items) (map (manifest_of Payload payload) (algs_in spec.algs))
       ∙ (λ t. fetch_names payload spec.holes.items t ++ manifest_names Payload spec.algs payload t)

@@ -1,5 +1,5 @@
--- What is refused before anything is written, and what is there after writing.
-use Rattle.std.specs.Prelude.{◌≡◌, ◌⊎◌, ◌<◌, ◌++◌, ℕ, List, Option, Some, None, Result, Contains, MatchResult, false, length, slice_get, string_bytes, true}
+-- What is too large, what is refused before anything is written, and what is there after writing.
+use Rattle.std.specs.Prelude.{◌≡◌, ◌⊎◌, ◌<◌, ◌++◌, [], ℕ, List, Option, Some, None, Result, Contains, MatchResult, false, length, map, slice_get, string_bytes, true}
 use Rattle.std.specs.List.{filter}
 use Rattle.std.specs.Map.{keys_of}
 use Rattle.bag_path.specs.Paths.{is_payload}
@@ -20,6 +20,21 @@ use Rattle.bag_writer.specs.declared.fault.WriteFault.{WriteFault}
 use Rattle.bag_writer.specs.declared.fault.WriteFault.TheVariants.{NoAlgorithm, OxumGiven, BadHole, Clash, Tree, Sink, TooLarge, Memory}
 use Rattle.bag_writer.specs.declared.spec.Hole.{Hole}
 use Rattle.bag_writer.specs.declared.spec.Spec.{Spec}
+
+-- WHAT IS TOO LARGE
+
+abbrev pub HasLongFile : Files → ℕ → Type 0
+HasLongFile files limit = (path : List ℕ) × ((octets : List ℕ) × Has files (path, octets)
+    × (limit < length octets))
+
+-- more files than a manifest may list, or a file that no check would read to its end
+abbrev pub IsTooLarge : Spec → Files → Type 0
+IsTooLarge spec payload = (MOST_LINES < length payload) ⊎ HasLongFile payload LARGEST_FILE
+    ⊎ HasLongFile (tag_files spec payload) LARGEST_TAG_FILE
+
+-- an empty file at each of these paths
+abbrev pub empty_files : List (List ℕ) → Files
+empty_files paths = map (λ path. (path, [])) paths
 
 -- WHAT IS REFUSED BEFORE ANYTHING IS WRITTEN
 
@@ -65,9 +80,9 @@ Refuses paths spec (Clash path) = HasAlgorithm spec × (¬ GivesOxum spec)
 Refuses paths spec Memory = Unit {0}
 Refuses paths spec fault = IsAccepted paths spec
 
--- it isn't accepted, or has more payload files than a manifest may list; nothing is written
+-- It isn't accepted, or something would be too large even if every payload file were empty. Nothing is written.
 abbrev pub IsRefusedUnwritten : List (List ℕ) → Spec → Type 0
-IsRefusedUnwritten paths spec = (¬ IsAccepted paths spec) ⊎ (MOST_LINES < length paths)
+IsRefusedUnwritten paths spec = (¬ IsAccepted paths spec) ⊎ IsTooLarge spec (empty_files paths)
 
 -- a failure of the tree or of the sink
 abbrev pub IsOfDevice : WriteFault → Type 0
@@ -84,17 +99,6 @@ IsMetLater fault = IsOfDevice fault
 abbrev pub IsMetBefore : WriteFault → Type 0
 IsMetBefore TooLarge = ⊥
 IsMetBefore fault = ¬ IsOfDevice fault
-
--- WHAT IS TOO LARGE
-
-abbrev pub HasLongFile : Files → ℕ → Type 0
-HasLongFile files limit = (path : List ℕ) × ((octets : List ℕ) × Has files (path, octets)
-    × (limit < length octets))
-
--- more files than a manifest may list, or a file that no check would read to its end
-abbrev pub IsTooLarge : Spec → Files → Type 0
-IsTooLarge spec payload = (MOST_LINES < length payload) ⊎ HasLongFile payload LARGEST_FILE
-    ⊎ HasLongFile (tag_files spec payload) LARGEST_TAG_FILE
 
 -- WHAT IS THERE AFTERWARDS
 

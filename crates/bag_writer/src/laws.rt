@@ -3,6 +3,7 @@
 ghost use Rattle.std.specs.Prelude.{◌≡◌, ◌≤◌, [], ℕ, List, length, not};
 ghost use Rattle.std.specs.List.{filter};
 ghost use Rattle.std.specs.Map.{keys_of};
+ghost use Rattle.bag_digest.specs.declared.algorithm.Alg.{Alg};
 ghost use Rattle.bag_path.specs.Paths.{is_payload};
 ghost use Rattle.bag_rules.specs.Bags.{Bag};
 ghost use Rattle.bag_rules.specs.Faults.{Has};
@@ -13,8 +14,10 @@ ghost use Rattle.bag_rules.specs.Transfers.{AreExpected, Passes};
 ghost use Rattle.bag_rules.specs.Validity.{IsValid};
 ghost use Rattle.bag_rules.specs.declared.limits.TheConstants.{LARGEST_ITEM};
 ghost use Rattle.bag_rules.specs.declared.outcome.CheckFault.{CheckFault};
+ghost use Rattle.bag_tags.specs.declared.listing.Kind.TheVariants.{Payload};
 ghost use Rattle.bag_writer.specs.FilledBags.{IsFilled, IsPayloadFor};
-ghost use Rattle.bag_writer.specs.WrittenBags.{IsWritten, tag_files};
+ghost use Rattle.bag_writer.specs.WrittenBags.{IsWritten, manifest_of, tag_files};
+ghost use Rattle.bag_writer.specs.Writing.{empty_files};
 ghost use Rattle.bag_writer.specs.declared.spec.Spec.{Spec};
 
 /// A written bag whose holes are filled is valid.
@@ -33,6 +36,12 @@ pub fn a_written_bag_without_holes_is_valid()
 pub fn no_limit_stops_a_check_of_a_written_bag()
     ensures { (spec : Spec) (payload : Files) (bag : Bag) (fault : CheckFault)
         → IsPayloadFor spec payload → IsFilled spec payload bag → ¬ Stops bag fault }
+{}
+
+/// The length of a payload manifest doesn't depend on what the files contain. So it is known before anything is written.
+pub fn a_manifest_is_as_long_as_with_empty_files()
+    ensures { (alg : Alg) (payload : Files) → length (manifest_of Payload payload alg).1
+        ≡ length (manifest_of Payload (empty_files (keys_of payload)) alg).1 }
 {}
 
 /// The tag files of a written bag are its files that aren't payload.

@@ -14,6 +14,7 @@ pub mod fitting;
 mod item;
 mod items;
 pub mod laws;
+mod measuring;
 mod memory;
 mod payload;
 mod sink;

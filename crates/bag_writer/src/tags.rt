@@ -24,7 +24,7 @@ use tag_file::{manifest_path, tag_path, write_listed, write_whole};
 use texts::{fetch_text, info_text, manifest_text, total_octets};
 
 mod tag_file;
-mod texts;
+pub(crate) mod texts;
 
 /// Writes the tag files of a payload that was written, and returns its Oxum.
 ///

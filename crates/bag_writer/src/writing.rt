@@ -9,12 +9,12 @@ ghost use Rattle.bag_writer.specs.declared.fault.WriteFault.{WriteFault};
 
 use crate::accepting::accepted_holes;
 use crate::fault::WriteFault;
+use crate::measuring::is_too_large_empty;
 use crate::payload::{BUFFER, write_payload};
 use crate::sink::Sink;
 use crate::spec::Spec;
 use crate::tags::write_tag_files;
 use bag_digest::buffer_of;
-use bag_rules::limits::MOST_LINES;
 use bag_rules::{Paths, Tree};
 use bag_tags::Oxum;
 use std::alloc::Global;
@@ -60,7 +60,8 @@ pub fn write_bag<T: Tree, S: Sink>(
         result (IsErrOf result WriteFault.Sink) }
 {
     let marks = accepted_holes(alloc, tree, spec)?;
-    if payload_count(tree) > MOST_LINES {
+    let count = payload_count(tree);
+    if is_too_large_empty(alloc, tree, spec, count)? {
         return Err(WriteFault::TooLarge);
     }
     write_accepted(alloc, tree, spec, marks.as_slice(), sink)

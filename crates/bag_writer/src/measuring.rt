@@ -1,0 +1,135 @@
+//! Measures tag files before anything is written.
+ghost use Rattle.std.specs.Prelude.{◌≡◌, ◌≤◌, ◌<◌, ◌↔◌, List, ℕ, IfOk, IsTrue, MatchOption, false, length, true};
+ghost use Rattle.bag_digest.specs.Algorithm.{has, size_of};
+ghost use Rattle.bag_digest.specs.declared.algorithm.Alg.{Alg};
+ghost use Rattle.bag_path.specs.Spellings.{written_part, written_spelling};
+ghost use Rattle.bag_rules.specs.declared.limits.TheConstants.{LARGEST_TAG_FILE};
+ghost use Rattle.bag_tags.specs.declared.listing.Kind.TheVariants.{Payload};
+ghost use Rattle.bag_writer.specs.WrittenBags.{algs_in, fetch_files, manifest_of};
+ghost use Rattle.bag_writer.specs.Writing.{HasLongFile, IsTooLarge, empty_files, payload_paths};
+
+use crate::spec::{Hole, Spec};
+use crate::tags::texts::info_text;
+use bag_digest::{Alg, AlgSet};
+use bag_path::BagPath;
+use bag_rules::Paths;
+use bag_rules::limits::{LARGEST_TAG_FILE, MOST_LINES};
+use bag_tags::Oxum;
+use std::alloc::{AllocError, Global};
+
+/// Whether a bag with this many payload files would be too large even if each of them were empty. What the files
+/// contain doesn't change the lengths of manifests, and can only make `bag-info.txt` and `fetch.txt` longer.
+pub(crate) fn is_too_large_empty<P: Paths>(
+    alloc: Global,
+    tree: &P,
+    spec: &Spec,
+    count: usize,
+) -> Result<bool, AllocError>
+    requires { count ≡ length (payload_paths (P.shown tree.now)) }
+    ensures { IfOk result (λ large. IsTrue large
+        ↔ IsTooLarge spec.now (empty_files (payload_paths (P.shown tree.now)))) }
+{
+    if count > MOST_LINES
+        || has_long_manifest(tree, spec.algs)
+        || is_long_fetch(spec.holes.as_slice())
+    {
+        return Ok(true);
+    }
+    let oxum = Oxum {
+        octets: 0,
+        streams: count as u64,
+    };
+    let info = info_text(alloc, &spec.info, oxum)?;
+    Ok(info.len() as u64 > LARGEST_TAG_FILE)
+}
+
+/// Whether a payload manifest by one of these algorithms would be too long.
+fn has_long_manifest<P: Paths>(tree: &P, set: AlgSet) -> bool
+    ensures { IsTrue result ↔ ((alg : Alg) × (has set alg ≡ true) × (LARGEST_TAG_FILE
+        < length (manifest_of Payload (empty_files (payload_paths (P.shown tree.now))) alg).1)) }
+{
+    match longest(set) {
+        Some(alg) => is_long_manifest(tree, alg),
+        None => false,
+    }
+}
+
+/// The algorithm of the set that has the longest digests.
+fn longest(set: AlgSet) -> Option<Alg>
+    ensures { MatchOption result ((alg : Alg) → has set alg ≡ false)
+        (λ found. (has set found ≡ true)
+        × ((alg : Alg) → has set alg ≡ true → size_of alg ≤ size_of found)) }
+{
+    if set.has(Alg::Sha512) {
+        Some(Alg::Sha512)
+    } else if set.has(Alg::Sha256) {
+        Some(Alg::Sha256)
+    } else if set.has(Alg::Sha1) {
+        Some(Alg::Sha1)
+    } else if set.has(Alg::Md5) {
+        Some(Alg::Md5)
+    } else {
+        None
+    }
+}
+
+/// Whether the payload manifest by this algorithm would be too long.
+fn is_long_manifest<P: Paths>(tree: &P, alg: Alg) -> bool
+    ensures { IsTrue result ↔ (LARGEST_TAG_FILE
+        < length (manifest_of Payload (empty_files (payload_paths (P.shown tree.now))) alg).1) }
+{
+    // Each line is a digest in hex, two spaces, the path and LF.
+    let around = 2 * alg.len() as u64 + 3;
+    let mut left = LARGEST_TAG_FILE;
+    for i in 0..tree.count() {
+        let path = tree.path(i);
+        if !path.is_payload() {
+            continue;
+        }
+        let line = around + spelled_length(path);
+        if line > left {
+            return true;
+        }
+        left -= line;
+    }
+    false
+}
+
+/// Whether `fetch.txt` would be too long if each of these holes were empty.
+fn is_long_fetch(holes: &[Hole]) -> bool
+    ensures { (paths : List (List ℕ)) → (IsTrue result
+        ↔ HasLongFile (fetch_files (empty_files paths) holes.now) LARGEST_TAG_FILE) }
+{
+    let mut left = LARGEST_TAG_FILE;
+    for hole in holes {
+        // The URL, ` 0 `, the path and LF.
+        let line = (hole.url.len() as u64).saturating_add(4 + spelled_length(&hole.path));
+        if line > left {
+            return true;
+        }
+        left -= line;
+    }
+    false
+}
+
+/// The length of the written spelling of a path.
+fn spelled_length(path: &BagPath) -> u64
+    ensures exact { result ≡ length (written_spelling path.now) }
+    ensures small { result ≤ 12288 }
+{
+    let mut length = 0;
+    for octet in path.as_str().as_bytes() {
+        length += part_length(*octet);
+    }
+    length
+}
+
+/// The length of what is written for an octet of a path.
+fn part_length(octet: u8) -> u64
+    ensures { result ≡ length (written_part octet) }
+{
+    match octet {
+        b'%' | b'\n' | b'\r' => 3,
+        _ => 1,
+    }
+}
