@@ -32,7 +32,7 @@ abbrev pub IsTooLarge : Spec → Files → Type 0
 IsTooLarge spec payload = (MOST_LINES < length payload) ⊎ HasLongFile payload LARGEST_FILE
     ⊎ HasLongFile (tag_files spec payload) LARGEST_TAG_FILE
 
--- an empty file at each of these paths
+-- An empty file at each of these paths. What is too large even then is known before any file is read.
 abbrev pub empty_files : List (List ℕ) → Files
 empty_files paths = map (λ path. (path, [])) paths
 

@@ -5,7 +5,7 @@ ghost use Rattle.bag_digest.specs.declared.algorithm.Alg.{Alg};
 ghost use Rattle.bag_path.specs.Spellings.{written_part, written_spelling};
 ghost use Rattle.bag_rules.specs.declared.limits.TheConstants.{LARGEST_TAG_FILE};
 ghost use Rattle.bag_tags.specs.declared.listing.Kind.TheVariants.{Payload};
-ghost use Rattle.bag_writer.specs.WrittenBags.{algs_in, fetch_files, manifest_of};
+ghost use Rattle.bag_writer.specs.WrittenBags.{fetch_files, manifest_of};
 ghost use Rattle.bag_writer.specs.Writing.{HasLongFile, IsTooLarge, empty_files, payload_paths};
 
 use crate::spec::{Hole, Spec};
@@ -18,7 +18,8 @@ use bag_tags::Oxum;
 use std::alloc::{AllocError, Global};
 
 /// Whether a bag with this many payload files would be too large even if each of them were empty. What the files
-/// contain doesn't change the lengths of manifests, and can only make `bag-info.txt` and `fetch.txt` longer.
+/// contain doesn't change the lengths of manifests, and can only make `bag-info.txt` and `fetch.txt` longer. Tag
+/// manifests are never too long, since they list seven files at most.
 pub(crate) fn is_too_large_empty<P: Paths>(
     alloc: Global,
     tree: &P,

@@ -34,10 +34,11 @@ use std::alloc::Global;
 /// # Errors
 ///
 /// Before anything is written, the first that applies: `NoAlgorithm`; `OxumGiven`; `BadHole` for the first bad hole;
-/// `Clash` for the least path; `TooLarge` for more than 100,000 payload files. After that, as the work meets them:
-/// `Tree` or `Sink` if the tree or the sink failed, and it has counted the failure; `TooLarge` for a payload file of
-/// more than 2^40 octets or a tag file of more than 16,777,216. The sink then holds part of the bag. `Memory` may be
-/// returned in place of any other.
+/// `Clash` for the least path; `TooLarge` for more than 100,000 payload files, or if a tag file would have more than
+/// 16,777,216 octets even if every payload file were empty. After that, as the work meets them: `Tree` or `Sink` if the
+/// tree or the sink failed, and it has counted the failure; `TooLarge` for a payload file of more than 2^40 octets, or
+/// for a `bag-info.txt` or a `fetch.txt` that only the numbers of octets in it make too long. The sink then holds part
+/// of the bag. `Memory` may be returned in place of any other.
 pub fn write_bag<T: Tree, S: Sink>(
     alloc: Global,
     tree: &mut T,
