@@ -1,7 +1,8 @@
 //! Measures tag files before anything is written.
-ghost use Rattle.std.specs.Prelude.{◌≡◌, ◌≤◌, ◌<◌, ◌↔◌, List, ℕ, IfOk, IsTrue, MatchOption, false, length, true};
+ghost use Rattle.std.specs.Prelude.{◌≡◌, ◌≤◌, ◌<◌, ◌*◌, ◌↔◌, List, ℕ, IfOk, IsTrue, MatchOption, false, length, true};
 ghost use Rattle.bag_digest.specs.Algorithm.{has, size_of};
 ghost use Rattle.bag_digest.specs.declared.algorithm.Alg.{Alg};
+ghost use Rattle.bag_path.specs.declared.path.TheConstants.{LONGEST_PATH};
 ghost use Rattle.bag_path.specs.Spellings.{written_part, written_spelling};
 ghost use Rattle.bag_rules.specs.declared.limits.TheConstants.{LARGEST_TAG_FILE};
 ghost use Rattle.bag_tags.specs.declared.listing.Kind.TheVariants.{Payload};
@@ -116,7 +117,7 @@ fn is_long_fetch(holes: &[Hole]) -> bool
 /// The length of the written spelling of a path.
 fn spelled_length(path: &BagPath) -> u64
     ensures exact { result ≡ length (written_spelling path.now) }
-    ensures small { result ≤ 12288 }
+    ensures small { result ≤ 3 * LONGEST_PATH }
 {
     let mut length = 0;
     for octet in path.as_str().as_bytes() {
