@@ -146,6 +146,22 @@ refused 'no payload' 3 'bag: files' "$work/none" "$work/new" sha256
 refused 'no payload, and an unknown algorithm' 3 'bag: files' "$work/none" "$work/new" sha224
 refused 'a file in place of the payload' 3 'bag: files' "$work/letters/a.txt" "$work/new" sha256
 refused 'an empty name' 3 'bag: files' '' "$work/new" sha256
+# Paths of 3,523 octets: data/, 14 folders with names of 250 and their slashes, and four. A line by SHA-512 has 131 octets more: 128
+# digits, two blanks and LF. 4,591 such lines are 16,775,514, which leaves 1,702 of the 16,777,216 that a manifest may have: a line
+# with a path of 1,571 octets, in the sixth folder, with a name of 60.
+deep=$(printf 'n%.0s' {1..250})
+sixth=$work/long/$deep/$deep/$deep/$deep/$deep/$deep
+mkdir -p "$sixth/$deep/$deep/$deep/$deep/$deep/$deep/$deep/$deep"
+(cd "$sixth/$deep/$deep/$deep/$deep/$deep/$deep/$deep/$deep" && seq -w 4591 | xargs touch)
+name=$(printf 'x%.0s' {1..60})
+touch "$sixth/$name"
+expect 'as long a manifest as may be' 0 'made 4592 files, 0 octets' bag make "$work/long" "$work/longest" sha512
+expect 'as long a manifest as may be: it is valid' 0 valid valid_bag "$work/long" "$work/longest"
+expect 'as long a manifest as may be: its length' 0 16777216 stat -c %s "$work/longest/manifest-sha512.txt"
+mv "$sixth/$name" "$sixth/x$name"
+refused 'a manifest with an octet too many' 1 'bag: too large' "$work/long" "$work/new" sha512
+refused 'a manifest with an octet too many, and a shorter one' 1 'bag: too large' "$work/long" "$work/new" sha512 md5
+expect 'the shorter one' 0 'made 4592 files, 0 octets' bag make "$work/long" "$work/shorter" md5
 mkdir "$work/with link" "$work/with fifo" "$work/other octets"
 ln -s ../letters/a.txt "$work/with link/b.txt"
 refused 'a link' 3 'bag: files' "$work/with link" "$work/new" sha256
@@ -191,6 +207,11 @@ chmod 000 "$work/unread/k/x"
 expect 'a file that may not be read' 3 'bag: files' nobody "$work/program" make "$work/unread" "$work/open/part" sha256
 expect 'a file that may not be read: what was written stays' 0 'data
 data/a.txt' below "$work/open/part"
+chmod -R a+rX "$work/long"
+chmod 000 "$sixth/x$name"
+expect 'a manifest that is too long, and a file that may not be read' 1 'bag: too large' \
+    nobody "$work/program" make "$work/long" "$work/open/long" sha512
+expect 'a manifest that is too long: nothing is made' 0 '' nothing "$work/open/long"
 expect 'a file that may not be read: no part is a bag' 1 $'no bagit.txt\nnot complete' bag check "$work/open/part"
 
 expect 'a file that takes a part' 3 'bag: files' small_files "$work/program" make "$work/large" "$work/part" sha256

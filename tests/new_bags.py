@@ -84,7 +84,13 @@ class Order:
         clashes = folders.intersection(self.payload)
         if clashes:
             return "clash " + spelled(min(clashes)).decode()
-        return "too large" if len(self.payload) > MOST_FILES else None
+        return "too large" if self.is_too_large_empty() else None
+
+    def is_too_large_empty(self):
+        """Whether something is too large even if every payload file is empty [17.1]."""
+        empty = Order({path.decode(): b"" for path in self.payload}, self.algorithms, self.elements)
+        empty.holes = self.holes
+        return len(self.payload) > MOST_FILES or any(len(octets) > LARGEST_TAG_FILE for _, octets in empty.tag_files())
 
     def answer(self):
         """The first line, and the files that are there then [17.1, 17.2]."""
@@ -221,7 +227,28 @@ def chosen_orders():
     rest = LARGEST_TAG_FILE - len("A: \nPayload-Oxum: 3.2\n")
     yield "as long a tag file as may be", Order(two, elements=[("A", "x" * rest)])
     yield "a tag file with an octet too many", Order(two, elements=[("A", "x" * (rest + 1))])
+    yield "a tag file that the Oxum makes too long", Order({**two, "data/b": b"1234567"}, elements=[("A", "x" * rest)])
+    # An entry of `fetch.txt` has 10 octets beside its url: ` 0 data/a` and LF.
+    url = "x:" + "y" * (LARGEST_TAG_FILE - 10 - len("x:"))
+    yield "as long a fetch list as may be", Order({"data/a": b"123456789"}, holes=[("data/a", url)])
+    yield "a fetch list with an octet too many", Order({"data/a": b"123456789"}, holes=[("data/a", url + "y")])
+    yield "a fetch list that a length makes too long", Order({"data/a": b"1234567890"}, holes=[("data/a", url)])
     yield "a manifest that is too long", Order({f"data/{number:06}" + "n" * 40: b"" for number in range(MOST_FILES)}, ["md5", "sha512"])
+    yield from ((name, Order(files, ["sha512"])) for name, files in long_manifests())
+
+
+def long_manifests():
+    """Payloads whose manifest by SHA-512 has 16,777,216 octets, or one more: by name. A line has 131 octets beside its path: 128
+    digits, two blanks and LF."""
+    # 3,969 lines of 4,096 + 131 octets are 16,776,963, which leaves 253: a line with a path of 122 octets.
+    longest = {f"data/{number:04}" + "n" * 4087: b"" for number in range(3969)}
+    yield "as long a manifest as may be", {**longest, "data/" + "n" * 117: b"x"}
+    yield "a manifest with an octet too many", {**longest, "data/" + "n" * 118: b"x"}
+    # With three octets for each of 4,087 a path of 4,096 octets has 12,270. 1,352 lines of 12,270 + 131 are 16,766,152, which leaves
+    # 11,064: a line with a path of 10,933, which are 7 and three for each of 3,642.
+    escaped = {f"data/{number:04}" + ("%\n\r" * 1363)[:4087]: b"" for number in range(1352)}
+    yield "as long a manifest of escapes as may be", {**escaped, "data/" + "%" * 3642 + "nn": b"x"}
+    yield "a manifest of escapes with an octet too many", {**escaped, "data/" + "%" * 3642 + "nnn": b"x"}
 
 
 def fits_coreutils(line):
