@@ -1,0 +1,346 @@
+#!/usr/bin/env bash
+# Sizes and numbers at a limit and just above it: what is too large is told as that, and not as want of memory. And files
+# whose lengths are those of pieces, or nearly. Limits that program.sh, commands.sh, hostile.py and deliveries.py have are
+# left out here.
+set -u
+cd "$(dirname -- "$0")/.." || exit 1
+. tests/common.bash
+
+build_first
+program=$PWD/crates/bag_cmd/out/bag_cmd
+
+# bag ARGUMENT..: runs the program in the folder `work`, so that names can be short.
+bag() {
+    env -C "$work" timeout 120 "$program" "$@"
+}
+
+# little ARGUMENT..: the same with at most 2 GB of memory, into which no file fits that is far past a limit.
+little() (
+    ulimit -v 2000000
+    bag "$@"
+)
+
+e_sha256=e3b0c44298fc1c149afbf4c8996fb92427ae41e4649b934ca495991b7852b855
+declaration=$'BagIt-Version: 1.0\nTag-File-Character-Encoding: UTF-8\n'
+
+# new_bag NAME: makes a bag with one payload file, which is empty.
+new_bag() {
+    mkdir -p "$work/$1/data"
+    printf %s "$declaration" >"$work/$1/bagit.txt"
+    echo "$e_sha256  data/e" >"$work/$1/manifest-sha256.txt"
+    : >"$work/$1/data/e"
+}
+
+# refused NAME LINE BAG: no transfer is opened with the tag files of this folder, and no ledger is made.
+refused() {
+    expect "$1" 1 "$2" little begin new t1 "$3"
+    expect "$1: no ledger is made" 0 '' nothing "$work/new"
+}
+
+# Tag files of 16,777,216 octets, and with one octet more.
+# filled FILE LENGTH START OCTET END: writes a file of this length, in which the octet stands as often as needed between
+# the start and the end.
+filled() {
+    {
+        printf %s "$3"
+        head -c $(($2 - ${#3} - ${#5})) /dev/zero | tr '\0' "$4"
+        printf %s "$5"
+    } >"$1"
+}
+new_bag small
+listed=$(sha256sum "$work/small/manifest-sha256.txt")
+for file in bagit.txt manifest-sha256.txt tagmanifest-sha256.txt bag-info.txt fetch.txt; do
+    case $file in
+    bagit.txt) parts=('' A '') ;;
+    manifest-*) parts=("$e_sha256" ' ' $'data/e\n') ;;
+    tagmanifest-*) parts=("${listed%% *}" ' ' $'manifest-sha256.txt\n') ;;
+    bag-info.txt) parts=('Note: ' x '') ;;
+    fetch.txt) parts=('http:' x $' 0 data/e\n') ;;
+    esac
+    new_bag tag
+    filled "$work/tag/$file" 16777216 "${parts[@]}"
+    expect "$file at the limit: its length" 0 16777216 stat -c %s "$work/tag/$file"
+    case $file in
+    bagit.txt)
+        refused "$file at the limit: begin" 'refused: bagit.txt: line count' tag
+        ;;
+    *)
+        expect "$file at the limit: check" 0 valid bag check tag
+        expect "$file at the limit: begin" 0 new bag begin at t1 tag
+        expect "$file at the limit: begin again" 0 again bag begin at t1 tag
+        expect "$file at the limit: intake" 0 'taken data/e' bag intake at t1 tag
+        expect "$file at the limit: report" 0 valid bag report at t1
+        expect "$file at the limit: export" 0 "exported $(find "$work/tag" -type f | wc -l) files" bag export at t1 out
+        expect "$file at the limit: the bag" 0 '' diff -r "$work/tag" "$work/out"
+        rm -r "$work/at" "$work/out"
+        ;;
+    esac
+    filled "$work/tag/$file" 16777217 "${parts[@]}"
+    [ "$file" = bagit.txt ] || expect "$file past the limit: check" 3 'bag: tag too large' bag check tag
+    refused "$file past the limit: begin" 'refused: tag too large' tag
+    if truncate -s 64G "$work/tag/$file"; then
+        expect "$file far past the limit: check" 3 'bag: tag too large' little check tag
+        refused "$file far past the limit: begin" 'refused: tag too large' tag
+    else
+        lacking "$file far past the limit (no sparse files)"
+    fi
+    rm -r "$work/tag"
+done
+new_bag tag
+if truncate -s 64G "$work/tag/notes.bin"; then
+    expect 'another tag file far past the limit: check, which reads none that is not listed' 0 valid little check tag
+    refused 'another tag file far past the limit: begin' 'refused: tag too large' tag
+fi
+rm -r "$work/tag"
+
+# Lines of the tag files of a transfer.
+new_bag lines
+for file in fetch.txt tagmanifest-sha256.txt bag-info.txt; do
+    case $file in
+    tagmanifest-*) first=${listed/"$work/small/"/} ;;
+    *) first='' ;;
+    esac
+    { echo "$first" && yes '' | head -n 99999; } >"$work/lines/$file"
+    expect "100,000 lines of $file: begin" 0 new bag begin lined "${file%%[-.]*}" lines
+    echo >>"$work/lines/$file"
+    if [ "$file" = bag-info.txt ]; then
+        expect "100,001 lines of $file, which are not counted: begin" 0 new bag begin lined info lines
+    else
+        refused "100,001 lines of $file: begin" 'refused: tag too large' lines
+        expect "100,001 lines of $file: check" 3 'bag: too many' bag check lines
+    fi
+    rm "$work/lines/$file"
+done
+
+# Payload files whose lengths are around those of pieces, of 65,536 octets. Their digests are those of coreutils, and their
+# rows those that section 18 of docs/FORMAT.md asks for.
+lengths=(65535 65536 65537 131071 131072 131073 196608 196609)
+new_bag pieces
+rm "$work/pieces/data/e" "$work/pieces/manifest-sha256.txt"
+for length in "${lengths[@]}"; do
+    seq "$length" 999999 | head -c "$length" >"$work/pieces/data/$length"
+    echo "http://example.org/ $length data/$length" >>"$work/pieces/fetch.txt"
+done
+for alg in md5 sha512; do
+    (cd "$work/pieces" && "${alg}sum" data/*) >"$work/pieces/manifest-$alg.txt"
+done
+# of_each BEFORE AFTER: a line for each file, in the order of their paths.
+paths=$(printf 'data/%s\n' "${lengths[@]}" | LC_ALL=C sort)
+of_each() {
+    while IFS= read -r path; do printf '%s\n' "$1$path$2"; done <<<"$paths"
+}
+# pieces_of LEDGER TRANSFER: each payload file that is held, with its length and the lengths of its pieces in their order.
+pieces_of() {
+    python3 - "$work/$1" "$2" <<'PYTHON'
+import sqlite3, sys
+database = sqlite3.connect(sys.argv[1])
+text = "SELECT held.id, path, size FROM held JOIN transfer ON transfer.id = transfer WHERE name = ? ORDER BY path"
+for item, path, size in database.execute(text, sys.argv[2:]).fetchall():
+    pieces = database.execute("SELECT n, length(body) FROM piece WHERE item = ? ORDER BY n", (item,)).fetchall()
+    print(path, size, *(f"{n}:{length}" for n, length in pieces))
+PYTHON
+}
+# wanted_pieces: the same, of all these files.
+wanted_pieces() {
+    local path rest number
+    while IFS= read -r path; do
+        rest=${path#data/} number=0
+        printf '%s %s' "$path" "$rest"
+        while [ "$rest" -gt 65536 ]; do
+            printf ' %s:65536' "$number"
+            rest=$((rest - 65536)) number=$((number + 1))
+        done
+        printf ' %s:%s\n' "$number" "$rest"
+    done <<<"$paths"
+}
+expect 'pieces: check' 0 valid bag check pieces
+expect 'pieces: make' 0 "made ${#lengths[@]} files, 983041 octets" bag make pieces/data made md5 sha512
+expect 'pieces: the files that are made' 0 '' diff -r "$work/pieces/data" "$work/made/data"
+for alg in md5 sha512; do
+    expect "pieces: the manifest by $alg that is made" 0 '' cmp "$work/pieces/manifest-$alg.txt" "$work/made/manifest-$alg.txt"
+done
+for way in intake fetch; do
+    expect "pieces by $way: begin" 0 new bag begin ledger "$way" pieces
+    # Each file with one octet changed, at several places, and with one octet less or more.
+    for damage in 0 65534 last shorter longer; do
+        cp -r "$work/pieces" "$work/damaged"
+        for length in "${lengths[@]}"; do
+            file=$work/damaged/data/$length
+            case $damage in
+            shorter) truncate -s -1 "$file" ;;
+            longer) printf x >>"$file" ;;
+            last) printf x | dd of="$file" bs=1 seek=$((length - 1)) conv=notrunc status=none ;;
+            *) printf x | dd of="$file" bs=1 seek="$damage" conv=notrunc status=none ;;
+            esac
+        done
+        case $damage in
+        shorter | longer) cause=length ;;
+        *) cause='digest md5' ;;
+        esac
+        expect "pieces by $way, damaged ($damage)" 1 "$(
+            if [ "$way" = intake ]; then
+                of_each 'refused ' ": $cause"
+            else
+                printf "refused data/%s: $cause\n" "${lengths[@]}"
+            fi
+        )" bag "$way" ledger "$way" damaged
+        if [ "$way" = intake ] && [ "$cause" != length ]; then
+            expect "pieces: check, damaged ($damage)" 1 "$(
+                of_each 'manifest-md5.txt: digest: ' ''
+                of_each 'manifest-sha512.txt: digest: ' ''
+                echo 'complete, not valid'
+            )" bag check damaged
+        fi
+        rm -r "$work/damaged"
+    done
+    expect "pieces by $way: nothing is held" 0 '' pieces_of ledger "$way"
+    expect "pieces by $way" 0 "$(
+        if [ "$way" = intake ]; then of_each 'taken ' ''; else printf 'taken data/%s\n' "${lengths[@]}"; fi
+    )" bag "$way" ledger "$way" pieces
+    expect "pieces by $way: what is held" 0 "$(wanted_pieces)" pieces_of ledger "$way"
+    expect "pieces by $way: audit" 0 valid bag audit ledger "$way"
+    expect "pieces by $way: export" 0 "exported $((${#lengths[@]} + 4)) files" bag export ledger "$way" "by $way"
+    expect "pieces by $way: the bag" 0 '' diff -r "$work/pieces" "$work/by $way"
+done
+
+# A file of 1 GiB and an octet, from a supplier. That it is too large is told before its length is compared.
+new_bag large
+rm "$work/large/data/e"
+echo 'http://example.org/ 5 data/e' >"$work/large/fetch.txt"
+expect 'a file past the limit: begin' 0 new bag begin past t1 large
+if truncate -s 1073741825 "$work/large/data/e"; then
+    expect 'a file past the limit: fetch' 1 'refused data/e: too large' bag fetch past t1 large
+    truncate -s 1073741824 "$work/large/data/e"
+    expect 'a file at the limit: fetch' 1 'refused data/e: length' bag fetch past t1 large
+    expect 'a file at the limit: report' 1 $'manifest-sha256.txt: missing: data/e\nnot complete' bag report past t1
+else
+    lacking 'a file past the limit (no sparse files)'
+fi
+rm -r "$work/large"
+
+# Urls of any length.
+new_bag urls
+: >"$work/urls/fetch.txt"
+for length in 2048 2049 65536 1000000; do
+    echo "$e_sha256  data/$length" >>"$work/urls/manifest-sha256.txt"
+    : >"$work/urls/data/$length"
+    filled "$work/url" "$length" http: x ''
+    echo "$(<"$work/url") 0 data/$length" >>"$work/urls/fetch.txt"
+done
+expect 'urls: check' 0 valid bag check urls
+expect 'urls: begin' 0 new bag begin ledger urls urls
+expect 'urls: fetch' 0 $'taken data/2048\ntaken data/2049\ntaken data/65536\ntaken data/1000000' bag fetch ledger urls urls
+
+# Names of transfers, of which the longest has 64 octets.
+longest=$(printf 'n%.0s' {1..64})
+filled "$work/name" 100000 '' n ''
+expect 'the longest name: begin' 0 new bag begin names "$longest" small
+expect 'the longest name: intake' 0 'taken data/e' bag intake names "$longest" small
+expect 'the longest name: report' 0 valid bag report names "$longest"
+expect 'the longest name: audit' 0 valid bag audit names "$longest"
+expect 'the longest name: fetch' 0 '' bag fetch names "$longest" small
+expect 'the longest name: export' 0 'exported 3 files' bag export names "$longest" named
+for name in "${longest}n" "$(<"$work/name")"; do
+    kind="a name of ${#name} octets"
+    expect "$kind: begin" 1 'refused: name' bag begin names "$name" small
+    expect "$kind: intake" 1 'refused data/e: no transfer' bag intake names "$name" small
+    expect "$kind: report" 1 'bag: no transfer' bag report names "$name"
+    expect "$kind: audit" 1 'bag: no transfer' bag audit names "$name"
+    expect "$kind: fetch" 1 'bag: no transfer' bag fetch names "$name" small
+    expect "$kind: export" 1 'bag: no transfer' bag export names "$name" unmade
+    expect "$kind: no bag is made" 0 '' nothing "$work/unmade"
+done
+expect 'names: list' 0 "$longest" bag list names
+
+# Paths of 4,096 octets, the longest, and of 4,097, in each list. No folder can have such a file.
+letters=$(printf 'k%.0s' {1..199})
+path=data$(printf "/$letters%.0s" {1..20})/${letters:0:91}
+tag_path=tags$(printf "/$letters%.0s" {1..20})/${letters:0:91}
+expect 'a path of 4,096 octets' 0 4096 expr length "$path"
+new_bag paths
+echo "$e_sha256  $path" >>"$work/paths/manifest-sha256.txt"
+echo "http://example.org/ - $path" >"$work/paths/fetch.txt"
+one_missing="manifest-sha256.txt: missing: $path
+not complete"
+expect 'a path of 4,096 octets: check' 1 "$one_missing" bag check paths
+expect 'a path of 4,096 octets: begin' 0 new bag begin ledger paths paths
+expect 'a path of 4,096 octets: intake' 0 'taken data/e' bag intake ledger paths paths
+expect 'a path of 4,096 octets: fetch' 3 "refused $path: supplier" bag fetch ledger paths paths
+expect 'a path of 4,096 octets: report' 1 "$one_missing" bag report ledger paths
+expect 'a path of 4,096 octets: export' 0 'exported 4 files' bag export ledger paths pathed
+cp "$work/paths/manifest-sha256.txt" "$work/manifest"
+for file in manifest-sha256.txt fetch.txt tagmanifest-sha256.txt; do
+    cp "$work/manifest" "$work/paths/manifest-sha256.txt"
+    echo "http://example.org/ - $path" >"$work/paths/fetch.txt"
+    case $file in
+    manifest-*) echo "$e_sha256  ${path}k" >>"$work/paths/$file" ;;
+    fetch.txt) echo "http://example.org/ - ${path}k" >>"$work/paths/$file" ;;
+    tagmanifest-*)
+        (cd "$work/paths" && sha256sum manifest-sha256.txt) >"$work/paths/$file"
+        echo "$e_sha256  ${tag_path}k" >>"$work/paths/$file"
+        ;;
+    esac
+    number=$(wc -l <"$work/paths/$file")
+    expect "a path of 4,097 octets in $file: check" 1 "$file:$number: path
+not complete" bag check paths
+    refused "a path of 4,097 octets in $file: begin" "refused: $file:$number: path" paths
+done
+sed -i 's/k$//' "$work/paths/tagmanifest-sha256.txt"
+refused 'a path of 4,096 octets in a tag manifest: begin' "refused: tagmanifest-sha256.txt: missing: $tag_path" paths
+
+# More folders than can be numbered in 16 bits.
+new_bag folders
+(cd "$work/folders" && seq 70000 | xargs mkdir)
+expect '70,000 folders: check' 0 valid bag check folders
+expect '70,000 folders: begin' 0 new bag begin ledger folders folders
+rm -r "$work/folders"
+
+# More files than `check` takes: there is no such limit for a transfer. And more than can be in a new bag.
+new_bag many
+(cd "$work/many/data" && seq 200001 | xargs touch)
+expect '200,002 files: check' 3 'bag: too many' bag check many
+expect '200,002 files: begin' 0 new bag begin lmany many many
+{ seq 200001 && echo e; } | LC_ALL=C sort | sed -e 's/^e$/taken data\/e/' -e 's/^[0-9].*/refused data\/&: not listed/' >"$work/answers"
+# The list is too long for a word.
+intake_of_many() {
+    local status=0
+    bag intake lmany many many >"$work/answered" || status=$?
+    cmp "$work/answers" "$work/answered"
+    return "$status"
+}
+expect '200,002 files: intake' 1 '' intake_of_many
+expect '200,002 files: make' 1 'bag: too large' bag make many/data made100k md5
+expect '200,002 files: no bag is made' 0 '' nothing "$work/made100k"
+(cd "$work/many/data" && seq 100001 200001 | xargs rm)
+expect '100,001 files: make' 1 'bag: too large' bag make many/data made100k md5
+expect '100,001 files: no bag is made' 0 '' nothing "$work/made100k"
+rm "$work/many/data/e"
+expect '100,000 files: make' 0 'made 100000 files, 0 octets' bag make many/data made100k md5
+expect '100,000 files: check' 0 valid bag check made100k
+expect '100,000 files: begin' 0 new bag begin lmade made made100k
+rm -r "$work/many" "$work/made100k"
+
+# A new bag whose manifest has 16,777,216 octets: 4,162 lines of 4,031, with paths of 3,900, and one of 194.
+folders=$(printf "$letters/%.0s" {1..19})
+folders+=${letters:0:3888-${#folders}}
+mkdir -p "$work/source"
+(cd "$work/source" && mkdir -p "$folders" && cd "$folders" && seq -w 100001 104162 | xargs touch)
+: >"$work/source/z${letters:0:57}"
+expect 'a manifest at the limit: make' 0 'made 4163 files, 0 octets' bag make source m sha512
+expect 'a manifest at the limit: its length' 0 16777216 stat -c %s "$work/m/manifest-sha512.txt"
+expect 'a manifest at the limit: check' 0 valid bag check m
+mv "$work/source/z${letters:0:57}" "$work/source/z${letters:0:58}"
+expect 'a manifest past the limit: make' 1 'bag: too large' bag make source n sha512
+rm -r "$work/source" "$work/m" "$work/n"
+
+# Many words.
+mapfile -t words < <(yes small | head -n 3000)
+mapfile -t algorithms < <(yes md5 | head -n 3000)
+taken=$(echo 'taken data/e' && yes 'repeated data/e' | head -n 2999)
+expect '3,000 folders: begin' 0 new bag begin lwords words small
+expect '3,000 folders: intake' 0 "$taken" bag intake lwords words "${words[@]}"
+expect '3,000 folders, and one that is not there: intake' 3 'bag: files' bag intake lwords words "${words[@]}" none
+expect '3,000 algorithms: make' 0 'made 1 files, 0 octets' bag make small/data worded "${algorithms[@]}"
+expect '3,000 algorithms, and another: make' 64 'unknown algorithm md4' bag make small/data unmade "${algorithms[@]}" md4
+expect '3,000 algorithms, and another: no bag is made' 0 '' nothing "$work/unmade"
+finish
