@@ -22,6 +22,16 @@ DECLARATION = b"BagIt-Version: 1.0\nTag-File-Character-Encoding: UTF-8\n"
 URL = "http://example.org/"
 
 
+def tables():
+    """The texts of the tables of a ledger, as FORMAT.md has them, but for blanks."""
+    text = (pathlib.Path(__file__).parent.parent / "docs/FORMAT.md").read_text(encoding="utf-8")
+    block = text.partition("```sql\n")[2].partition("```")[0]
+    return sorted("CREATE TABLE " + " ".join(part.split()) for part in block.split("CREATE TABLE ")[1:])
+
+
+TABLES = tables()
+
+
 class Place:
     """A folder with a ledger, next to the folders that the commands are given."""
 
@@ -164,10 +174,17 @@ DAMAGES = [
     ("UPDATE held SET size = 4 WHERE path = 'data/a.txt'", "bag: damaged t1 data/a.txt"),
     ("INSERT INTO held (transfer, path, size) VALUES (1, 'data/q', 0)", "bag: damaged t1 data/q"),
     ("INSERT INTO held (transfer, path, size) VALUES (1, 'data/%' || char(10), 0)", "bag: damaged t1 data/%25%0A"),
+    # Paths of 4,097 octets and more, which are no paths.
+    *[(f"INSERT INTO held (transfer, path, size) VALUES (1, 'data/' || hex(zeroblob({number})), 0)",
+       f"bag: damaged t1 data/{'0' * 2 * number}") for number in (2_046, 9_999)],
+    ("UPDATE tag SET path = hex(zeroblob(9999)) WHERE path = 'bagit.txt'", "bag: damaged t1 "),
     ("UPDATE tag SET body = x'' WHERE path = 'bagit.txt'", "bag: damaged t1 "),
     ("UPDATE tag SET path = '../x' WHERE path = 'bagit.txt'", "bag: damaged t1 "),
     ("UPDATE meta SET v = 9", "bag: not a ledger"),
     ("UPDATE meta SET v = 1", "bag: old format"),
+    # The tables of an old ledger are others.
+    ("UPDATE meta SET v = 1; DROP TABLE piece; DROP TABLE held", "bag: old format"),
+    ("UPDATE meta SET v = 1; DROP TABLE piece; DROP TABLE held; DROP TABLE tag; DROP TABLE transfer", "bag: old format"),
     ("INSERT INTO meta VALUES ('more', 1)", "bag: not a ledger"),
     ("DELETE FROM meta", "bag: not a ledger"),
     ("DROP TABLE piece", "bag: not a ledger"),
@@ -242,6 +259,8 @@ def judge(place, held):
     """The tables have exactly the rows of one transfer with these payload files (section 18 of FORMAT.md)."""
     assert place.sql("PRAGMA integrity_check") == [("ok",)] and place.sql("PRAGMA foreign_key_check") == []
     assert place.sql("SELECT k, v FROM meta") == [("bag-ledger", 2)]
+    texts = place.sql("SELECT sql FROM sqlite_schema WHERE sql IS NOT NULL")
+    assert sorted(" ".join(text.split()) for (text,) in texts) == TABLES, texts
     [(transfer, name)] = place.sql("SELECT id, name FROM transfer")
     assert name == "t1"
     assert sorted(place.sql("SELECT transfer, path, body FROM tag")) == sorted((transfer, *tag) for tag in place.tags.items())

@@ -381,6 +381,18 @@ rm -r "$work/named"/data/[!m]*
 expect 'names: one that is not listed' 1 'repeated data/manifest-sha256.txt
 refused data/more%0A%25: not listed' bag intake "$work/a ledger's name %0A é" names "$work/named"
 
+# Folders whose names begin as the name of another does. The octets of a slash are above those of a hyphen and a dot.
+for name in a 'a ' 'a!' a-1 a.b a0 ab; do
+    put "$work/alike/$name/$name/x" x
+    put "$work/alike/$name/x" x
+done
+expect 'names that begin alike' 0 'made 14 files, 14 octets' bag make "$work/alike" "$work/alike bag" md5
+expect 'names that begin alike: begin' 0 new bag begin "$work/alike ledger" t1 "$work/alike bag"
+expect 'names that begin alike: intake' 0 "$(cut -c 35- "$work/alike bag/manifest-md5.txt" | sed 's/^/taken /')" \
+    bag intake "$work/alike ledger" t1 "$work/alike bag"
+expect 'names that begin alike: export' 0 'exported 18 files' bag export "$work/alike ledger" t1 "$work/alike again"
+expect 'names that begin alike: the bag' 0 $'valid\nvalid' same_bag "$work/alike bag" "$work/alike again"
+
 # The longest path that can be opened from a folder with a one-letter name has 4,093 octets.
 name=$(printf 'k%.0s' {1..225})
 mkdir -p "$work/long/b/data"
@@ -484,8 +496,9 @@ expect 'a directory that may not be read: fetch' 3 'refused data/a.txt: supplier
     nobody "$work/program" fetch "$work/open/ledger" t3 "$work/unread"
 chmod 755 "$work/unread/data"
 chmod 000 "$work/open/ledger"
-for words in "report $work/open/ledger t1" "list $work/open/ledger" "begin $work/open/ledger t1 $work/tags" \
-    "intake $work/open/ledger t1 $work/e" "export $work/open/ledger t1 $work/open/new"; do
+for words in "report $work/open/ledger t1" "audit $work/open/ledger t1" "list $work/open/ledger" \
+    "begin $work/open/ledger t1 $work/tags" "intake $work/open/ledger t1 $work/e" "fetch $work/open/ledger t1 $work/e" \
+    "export $work/open/ledger t1 $work/open/new"; do
     # shellcheck disable=SC2086
     expect "a ledger that may not be read: ${words%% *}" 3 'bag: store' nobody "$work/program" $words
 done

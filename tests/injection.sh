@@ -167,6 +167,28 @@ if strace -o "$work/calls" true 2>"$work/no strace"; then
     expect 'files that break off' 0 '' each_call read error=EIO 3 'bag: files'
     expect 'reads that are interrupted' 0 '' each_call read error=EINTR 3 'bag: files'
     expect 'files whose closing fails: they were read' 0 '' each_call close error=EIO 0 valid
+    # fails_once FILE NUMBER ARGUMENT..: this read of the file fails, and another try of it would not. A read that failed is
+    # never made again.
+    fails_once() {
+        injects "inject=read:error=EIO:when=$2" -P "$1" "$program" "${@:3}"
+    }
+    mkdir "$work/once"
+    cp examples/first-bag/*.txt "$work/once"
+    echo 'http://example.org/a - data/a.txt' >"$work/once/fetch.txt"
+    file=$PWD/examples/first-bag/data/a.txt
+    for number in 1 2; do
+        rm -f "$work/once/ledger"
+        expect "a read that fails, $number: begin" 0 new "$program" begin "$work/once/ledger" t1 "$work/once"
+        expect "a read that fails, $number: check" 3 'bag: files' fails_once "$file" "$number" check examples/first-bag
+        expect "a read that fails, $number: make" 3 'bag: files' \
+            fails_once "$file" "$number" make examples/first-bag "$work/once/made$number" md5
+        expect "a read that fails, $number: fetch" 3 'refused data/a.txt: reader' \
+            fails_once "$file" "$number" fetch "$work/once/ledger" t1 examples/first-bag
+        expect "a read that fails, $number: intake" 3 $'refused data/a.txt: reader\ntaken data/e.txt' \
+            fails_once "$file" "$number" intake "$work/once/ledger" t1 examples/first-bag
+        expect "a read that fails, $number: what is held" 1 $'manifest-sha256.txt: missing: data/a.txt\nnot complete' \
+            "$program" audit "$work/once/ledger" t1
+    done
     for error in ENOSPC EPIPE EIO EDQUOT; do
         expect "writes that fail with $error" 3 '' \
             injects "inject=write:error=$error" "$program" check examples/whole-format

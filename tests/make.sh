@@ -99,6 +99,14 @@ expect 'names: the spellings' 0 ' data/ first blank
  data/return%0D
  data/two  blanks/last blank ' cut -c 66- "$work/named/manifest-sha256.txt"
 
+# Folders whose names begin as the name of another does. The octets of a slash are above those of a hyphen and a dot.
+for name in a 'a ' 'a!' a-1 a.b a0 ab; do
+    mkdir -p "$work/alike/$name/$name"
+    printf x | tee "$work/alike/$name/x" >"$work/alike/$name/$name/x"
+done
+expect 'names that begin alike' 0 'made 14 files, 14 octets' bag make "$work/alike" "$work/alike bag" sha256
+expect 'names that begin alike: it is valid' 0 valid valid_bag "$work/alike" "$work/alike bag"
+
 mkdir -p "$work/empty/none/at all"
 expect 'a folder without files' 0 'made 0 files, 0 octets' bag make "$work/empty" "$work/no files" sha1
 expect 'a folder without files: the files' 0 'bag-info.txt

@@ -56,6 +56,49 @@ each_growth() {
     refusing 1 "$program" check "$1"
 }
 
+# each_growth_of_words WORD..: the same for words that are no command. What is wrong with them is on standard error.
+each_growth_of_words() {
+    local answer status=0 printed number
+    answer=$(refusing 0 "$program" "$@" 2>&1) || status=$?
+    answer="$status $answer"
+    count_asked || echo "no allocations were counted"
+    [ "$asked" -gt 10 ] || echo "only $asked allocations were counted"
+    for number in $(seq "$asked"); do
+        status=0
+        printed=$(refusing "$number" "$program" "$@" 2>&1) || status=$?
+        count_refusal "$*" "$number"
+        case "$status $printed" in
+        "$answer" | '3 bag: memory') ;;
+        *) echo "allocation $number of $asked: status $status: $printed" ;;
+        esac
+    done
+    refusing 1 "$program" "$@"
+}
+
+# each_growth_of_make SRC ALG..: the same for a new bag, into which something was written, or which is not there.
+each_growth_of_make() {
+    local answer printed number status=0
+    answer=$(refusing 0 "$program" make "$1" "$work/made" "${@:2}") || status=$?
+    [ "$status" -eq 0 ] || echo "status $status: $answer"
+    count_asked || echo "no allocations were counted"
+    [ "$asked" -gt 10 ] || echo "only $asked allocations were counted"
+    for number in $(seq "$asked"); do
+        rm -rf -- "$work/made"
+        status=0
+        printed=$(refusing "$number" "$program" make "$1" "$work/made" "${@:2}") || status=$?
+        count_refusal "$1" "$number"
+        case "$status $printed" in
+        "0 $answer") [ -d "$work/made/data" ] || echo "allocation $number of $asked: nothing is made" ;;
+        '3 bag: memory')
+            [ ! -e "$work/made" ] || [ -n "$(ls "$work/made")" ] || echo "allocation $number of $asked: an empty folder is left"
+            ;;
+        *) echo "allocation $number of $asked: status $status: $printed" ;;
+        esac
+    done
+    rm -rf -- "$work/made"
+    refusing 1 "$program" make "$1" "$work/made" "${@:2}"
+}
+
 # list_tests CRATE PROGRAM: keeps the names of the crate's tests. Their number agrees with the list and with the
 # sources.
 list_tests() {
@@ -124,6 +167,18 @@ if cc -shared -fPIC -O1 -o "$work/no_memory.so" tests/no_memory.c 2>"$work/no cc
         no-declaration no-manifest manifest-not-listed fetch-not-listed fetch-length'
     for bag in $bags; do
         expect "no memory for a check of $bag" 3 'bag: memory' each_growth "examples/$bag"
+    done
+    # A path that is longer than most names, for which there must be room all the same.
+    cp -r examples/first-bag "$work/long path"
+    long_path=data/$(printf 'folder/%.0s' {1..200})file
+    mkdir -p "$work/long path/${long_path%/*}"
+    printf abc >"$work/long path/$long_path"
+    (cd "$work/long path" && sha256sum "$long_path") >>"$work/long path/manifest-sha256.txt"
+    expect 'no memory for a check of a long path' 3 'bag: memory' each_growth "$work/long path"
+    expect 'no memory for a new bag' 3 'bag: memory' each_growth_of_make "$work/long path" sha256 md5
+    for words in check help 'help make' --version 'list one more' 'make a' 'intake --no'; do
+        # shellcheck disable=SC2086
+        expect "no memory for the words $words" 3 'bag: memory' each_growth_of_words $words
     done
     allocations=60
     [ "${1-}" != --all ] || allocations=0
