@@ -241,9 +241,14 @@ done
 for kind in 'a file' 'a link to a file' 'a link to nothing' 'a link to a fifo' "${specials[@]}"; do
     fresh
     put "$kind" "$place/odd"
-    refuses "a ledger below $kind" 'bag: not a ledger' "$place/odd/ledger" "${commands[@]:1}"
-    refuses "a ledger below $kind" 'bag: store' "$place/odd/ledger" begin
+    for name in "$place/odd/ledger" "$place/odd/none/ledger"; do
+        refuses "$name, below $kind" 'bag: not a ledger' "$name" "${commands[@]:1}"
+        refuses "$name, below $kind" 'bag: store' "$name" begin
+    done
 done
+fresh
+refuses 'no name for a ledger' 'bag: not a ledger' '' "${commands[@]:1}"
+refuses 'no name for a ledger' 'bag: store' '' begin
 fresh
 expect 'a ledger with two names' 0 new bag begin "$place/ledger" t1 "$work/tags"
 expect 'a ledger with two names: a file' 0 $'taken data/a.txt\ntaken data/e.txt' bag intake "$place/ledger" t1 "$whole"
@@ -441,6 +446,16 @@ expect 'a name that is too long: check' 3 'bag: files' bag check "$long/${letter
 expect 'a name that is too long: make' 3 'bag: files' bag make "$work/letters" "$long/${letters}k" md5
 expect 'a name that is too long: begin' 3 'bag: store' bag begin "$long/${letters}k" t1 "$whole"
 expect 'a name that is too long: export' 3 'bag: files' bag export "$ledger" t1 "$long/${letters}k"
+word=$(printf 'k/%.0s' {1..2500})
+expect 'a word that is too long: check' 3 'bag: files' bag check "$word"
+expect 'a word that is too long: make' 3 'bag: files' bag make "$word" "$work/new" md5
+expect 'a word that is too long: make, its second' 3 'bag: files' bag make "$work/letters" "$word" md5
+expect 'a word that is too long: begin' 3 'bag: files' bag begin "$ledger" t1 "$word"
+expect 'a word that is too long: begin, its first' 3 'bag: store' bag begin "$word" t1 "$whole"
+expect 'a word that is too long: intake' 3 'bag: files' bag intake "$ledger" t1 "$word"
+expect 'a word that is too long: fetch' 3 'bag: files' bag fetch "$ledger" t1 "$word"
+expect 'a word that is too long: export' 3 'bag: files' bag export "$ledger" t1 "$word"
+no_new 'a word that is too long'
 # The name of a log has four octets more.
 expect 'the longest name of a ledger' 0 new bag begin "$long/${letters:4}" t1 "$whole"
 expect 'the longest name of a ledger: list' 0 t1 bag list "$long/${letters:4}"
@@ -528,6 +543,14 @@ for length in 4094 4095 4096; do
     expect "fetch of a path of $length octets" 3 "refused $path: supplier" here fetch "l$length" t1 f
     mv "$work/deep/f" "$work/deep/f$length"
 done
+# No system has a file with this name.
+mkdir "$work/deep/none"
+cp examples/first-bag/bagit.txt "$work/deep/none"
+echo "$a_sha256  data/${letters}k" >"$work/deep/none/manifest-sha256.txt"
+echo "http://example.org/ - data/${letters}k" >"$work/deep/none/fetch.txt"
+mkdir "$work/deep/none/data"
+expect 'fetch of a name of 256 octets: begin' 0 new here begin l256 t1 none
+expect 'fetch of a name of 256 octets' 3 "refused data/${letters}k: supplier" here fetch l256 t1 none
 
 # Words in other octets are no command.
 fresh
