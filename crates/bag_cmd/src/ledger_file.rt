@@ -1,10 +1,10 @@
 //! Ledgers in files on disk.
-ghost use Rattle.std.specs.Prelude.{◌≡◌, ◌≢◌, [], Err, IfErr, IfSome, MatchResult, true, false};
+ghost use Rattle.std.specs.Prelude.{◌≡◌, ◌≢◌, [], Err, IfErr, IfOk, MatchResult, true, false};
 ghost use Rattle.bag_cmd.specs.LedgerFiles.{AreOpenOn, HasCopiedLog, IsAdoptedFrom, IsClosed, IsConnectedTo, IsMadeIn, IsRefusedFrom, IsUnopened, OpensOrMakes};
 ghost use Rattle.bag_sqlite.specs.Refusing.{IsNoAnswer};
 ghost use Rattle.bag_sqlite.specs.SqlKeepers.{HoldsLedger};
 ghost use Rattle.bag_sqlite.specs.Tables.{no_schema};
-ghost use Rattle.sqlite.specs.Files.{file_state};
+ghost use Rattle.sqlite.specs.Files.{IsClosed as HasNoNewOutcome, file_state};
 ghost use Rattle.sqlite.specs.Held.{state};
 ghost use Rattle.sqlite.specs.State.{HasCleanDisk};
 ghost use Rattle.sqlite_wal.specs.Files.{image_at};
@@ -154,8 +154,9 @@ impl<'a> LedgerFile<'a> {
     /// Closes a ledger that this opened. The content of the log is copied into the file, and the log is removed. If
     /// that fails, both remain and nothing is lost.
     pub fn close<S: Start>(&self, keeper: FileKeeper<S>) {
-        if let Some(files) = copy_log(keeper) {
-            self.remove_copied_log(files);
+        match copy_log(keeper) {
+            Ok(files) => self.remove_copied_log(files),
+            Err(store) => drop(store),
         }
     }
 
@@ -181,8 +182,10 @@ impl<'a> LedgerFile<'a> {
     /// of them; or the file was removed, or made, after it was looked for. A file that was made stays then, since
     /// another run may use it.
     fn lock<S: Start>(&mut self, start: S) -> Result<Files<FileFrom<S>>, AdoptFault>
-        ensures { MatchResult result (AreOpenOn ⟦<FileFrom<S> as Disk>⟧ (image_at S.Start))
+        ensures locked { MatchResult result (AreOpenOn ⟦<FileFrom<S> as Disk>⟧ (image_at S.Start))
             IsNoAnswer }
+        ensures new { IfOk result (λ _. self.new.is_new ≡ true
+            → (self.old.found ≡ Found.Nothing) × (self.new.found ≡ Found.Empty)) }
     {
         let is_made = self.found == Found::Nothing;
         let file = open_apart(self.rt, self.name.as_str(), is_made)?;
@@ -301,14 +304,18 @@ impl<'a> LedgerFile<'a> {
     }
 }
 
-/// Copies the log into the file, and gives both back. Then the file alone holds what the keeper held. `None` if that
-/// fails; nothing is lost.
-fn copy_log<S: Start>(keeper: FileKeeper<S>) -> Option<Files<FileFrom<S>>>
-    ensures { IfSome result (IsClosed keeper.connection) }
+/// Copies the log into the file, and gives both back. Then the file alone holds what the keeper held.
+///
+/// # Errors
+///
+/// If that fails: the store that has both. A crash leaves of it what it could leave of the keeper's, so nothing is lost.
+fn copy_log<S: Start>(keeper: FileKeeper<S>) -> Result<Files<FileFrom<S>>, FileStore<FileFrom<S>>>
+    ensures { MatchResult result
+        (IsClosed keeper.connection) (HasNoNewOutcome keeper.connection) }
 {
     match keeper.release().close_files() {
-        Ok(files) => Some(files),
-        Err(_) => None,
+        Ok(files) => Ok(files),
+        Err((_, store)) => Err(store),
     }
 }
 
