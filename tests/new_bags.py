@@ -244,8 +244,8 @@ def long_manifests():
     longest = {f"data/{number:04}" + "n" * 4087: b"" for number in range(3969)}
     yield "as long a manifest as may be", {**longest, "data/" + "n" * 117: b"x"}
     yield "a manifest with an octet too many", {**longest, "data/" + "n" * 118: b"x"}
-    # With three octets for each of 4,087 a path of 4,096 octets has 12,270. 1,352 lines of 12,270 + 131 are 16,766,152, which leaves
-    # 11,064: a line with a path of 10,933, which are 7 and three for each of 3,642.
+    # A path of 4,096 octets of which 4,087 are escaped is spelled in 12,270. 1,352 lines of 12,270 + 131 are 16,766,152, which
+    # leaves 11,064: a line with a spelling of 10,933, which are 7 and three for each of 3,642.
     escaped = {f"data/{number:04}" + ("%\n\r" * 1363)[:4087]: b"" for number in range(1352)}
     yield "as long a manifest of escapes as may be", {**escaped, "data/" + "%" * 3642 + "nn": b"x"}
     yield "a manifest of escapes with an octet too many", {**escaped, "data/" + "%" * 3642 + "nnn": b"x"}
