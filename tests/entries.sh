@@ -197,9 +197,11 @@ unopened() {
 if strace -o "$work/calls" true 2>"$work/no strace"; then
     opening 'what is opened' 0 valid check "$whole"
     expect 'what is opened: it is seen' 0 '' grep -qF "$whole/data/a.txt" "$work/calls"
-    echo "$a_sha256  data/odd" >"$work/hole/manifest-sha256.txt"
-    echo 'http://example.org/f - data/odd' >"$work/hole/fetch.txt"
-    expect 'what is opened: a transfer' 0 new bag begin "$holes" t2 "$work/hole"
+    mkdir "$work/odd hole"
+    cp examples/first-bag/bagit.txt "$work/odd hole"
+    echo "$a_sha256  data/odd" >"$work/odd hole/manifest-sha256.txt"
+    echo 'http://example.org/f - data/odd' >"$work/odd hole/fetch.txt"
+    expect 'what is opened: a transfer' 0 new bag begin "$holes" t2 "$work/odd hole"
     for kind in "${odd[@]}"; do
         fresh examples/first-bag
         put "$kind" "$place/data/odd"
@@ -262,6 +264,14 @@ ln -s "$place/folder" "$outside/linked"
 expect 'a ledger below a link to a folder' 0 new bag begin "$outside/linked/ledger" t1 "$whole"
 expect 'a ledger below a link to a folder: it is in the folder' 0 t1 bag list "$place/folder/ledger"
 
+# The log beside a ledger. What else is in its place is not followed, and stays.
+for kind in 'a folder' 'a link to a file' 'a link to a folder' 'a link to nothing' 'a link to a fifo' "${specials[@]}"; do
+    fresh
+    cp "$ledger" "$place/ledger"
+    put "$kind" "$place/ledger-wal"
+    refuses "$kind for a log" 'bag: store' "$place/ledger"
+done
+
 # A file without octets, by its name and by a link: what a refused beginning leaves is a ledger without a transfer.
 # refused_beginning NAME STATUS LINE WORD..: a beginning with these words is refused, and the next one is not.
 refused_beginning() {
@@ -303,7 +313,8 @@ for kind in 'a file' "${no_folders[@]}"; do
 done
 fresh
 put 'a link to a folder' "$place/odd"
-keeps 'export of no transfer below a link to a folder' 1 'bag: no transfer' bag export "$ledger" t2 "$place/odd/new"
+expect 'export of no transfer below a link to a folder' 1 'bag: no transfer' bag export "$ledger" t2 "$place/odd/new"
+expect 'export of no transfer below a link to a folder: nothing is made' 0 '' nothing "$outside/folder/new"
 expect 'export below a link to a folder' 0 'exported 2 files' bag export "$ledger" t1 "$place/odd/new"
 expect 'export below a link to a folder: the files' 0 $'bagit.txt\ndata\nmanifest-sha256.txt' below "$outside/folder/new"
 rm -r "$outside/folder/new"
@@ -350,8 +361,7 @@ keeps 'check with a locked file that no manifest lists' 3 'bag: files' "${as[@]}
 keeps 'intake with a locked file that no manifest lists' 1 'taken data/a.txt
 taken data/e.txt
 refused data/k/f: not listed' "${as[@]}" intake "$open/ledger" t1 "$place"
-cp "$holes" "$open/holes"
-chmod 666 "$open/holes"
+expect 'as nobody: a transfer with a hole' 0 new "${as[@]}" begin "$open/holes" t1 "$work/hole"
 for name in . data data/k data/k/f 444=. 444=data/k 200=data/k/f; do
     locked "$name"
     keeps "fetch with $name locked" 3 'refused data/k/f: supplier' "${as[@]}" fetch "$open/holes" t1 "$place"
@@ -456,9 +466,9 @@ expect 'a word that is too long: intake' 3 'bag: files' bag intake "$ledger" t1 
 expect 'a word that is too long: fetch' 3 'bag: files' bag fetch "$ledger" t1 "$word"
 expect 'a word that is too long: export' 3 'bag: files' bag export "$ledger" t1 "$word"
 no_new 'a word that is too long'
-# The name of a log has four octets more.
-expect 'the longest name of a ledger' 0 new bag begin "$long/${letters:4}" t1 "$whole"
-expect 'the longest name of a ledger: list' 0 t1 bag list "$long/${letters:4}"
+# Names with more octets at their ends are looked up beside a ledger.
+expect 'a long name of a ledger' 0 new bag begin "$long/${letters:8}" t1 "$whole"
+expect 'a long name of a ledger: list' 0 t1 bag list "$long/${letters:8}"
 
 # Paths that are as long as the system allows: 4,095 octets with the name of the folder.
 # deep FOLDER START LENGTH: makes a file with the octets abc below the folder. Its path begins with START and has this many
@@ -543,14 +553,6 @@ for length in 4094 4095 4096; do
     expect "fetch of a path of $length octets" 3 "refused $path: supplier" here fetch "l$length" t1 f
     mv "$work/deep/f" "$work/deep/f$length"
 done
-# No system has a file with this name.
-mkdir "$work/deep/none"
-cp examples/first-bag/bagit.txt "$work/deep/none"
-echo "$a_sha256  data/${letters}k" >"$work/deep/none/manifest-sha256.txt"
-echo "http://example.org/ - data/${letters}k" >"$work/deep/none/fetch.txt"
-mkdir "$work/deep/none/data"
-expect 'fetch of a name of 256 octets: begin' 0 new here begin l256 t1 none
-expect 'fetch of a name of 256 octets' 3 "refused data/${letters}k: supplier" here fetch l256 t1 none
 
 # Words in other octets are no command.
 fresh

@@ -265,7 +265,7 @@ not complete"
 expect 'a path of 4,096 octets: check' 1 "$one_missing" bag check paths
 expect 'a path of 4,096 octets: begin' 0 new bag begin ledger paths paths
 expect 'a path of 4,096 octets: intake' 0 'taken data/e' bag intake ledger paths paths
-expect 'a path of 4,096 octets: fetch' 3 "refused $path: supplier" bag fetch ledger paths paths
+expect 'a path of 4,096 octets: fetch' 1 "refused $path: not supplied" bag fetch ledger paths paths
 expect 'a path of 4,096 octets: report' 1 "$one_missing" bag report ledger paths
 expect 'a path of 4,096 octets: export' 0 'exported 4 files' bag export ledger paths pathed
 cp "$work/paths/manifest-sha256.txt" "$work/manifest"
@@ -331,7 +331,7 @@ expect 'a manifest at the limit: its length' 0 16777216 stat -c %s "$work/m/mani
 expect 'a manifest at the limit: check' 0 valid bag check m
 mv "$work/source/z${letters:0:57}" "$work/source/z${letters:0:58}"
 expect 'a manifest past the limit: make' 1 'bag: too large' bag make source n sha512
-rm -r "$work/source" "$work/m" "$work/n"
+rm -rf "$work/source" "$work/m" "$work/n"
 
 # Many words.
 mapfile -t words < <(yes small | head -n 3000)
