@@ -1,7 +1,7 @@
 #!/usr/bin/env python3
 """failing_commands.py PROGRAM MOST allocations LIBRARY, or failing_commands.py PROGRAM MOST calls: runs each command on a
 ledger with one failing memory allocation, or with one failing system call, once for each of them (for at most MOST of one
-command, spread over all; 0 for all).
+command, spread over all, and for the last allocations of a new ledger; 0 for all).
 
 After each run the answer is the normal one, or it names what failed. What was answered is held, as sqlite3 reads it, and
 nothing else except what failed. Then the same command and a report, with nothing failing, answer as
@@ -60,6 +60,8 @@ ERRORS = {
     "mkdir": ["EACCES"], "mkdirat": ["EACCES"], "fcntl": ["EIO"], "statx": ["EIO"], "fstat": ["EIO"], "newfstatat": ["EIO"],
     "lseek": ["EIO"], "getdents64": ["EIO"], "close": ["EIO"], "mmap": ["ENOMEM"], "mremap": ["ENOMEM"],
     "getrandom": ["EIO"], "readlink": ["EIO"], "readlinkat": ["EIO"], "fchmod": ["EPERM"], "fchown": ["EPERM"], "fadvise64": ["EINVAL"]}
+# How many of the last allocations fail in any case.
+LAST = 60
 CALL = re.compile(r"([a-z0-9_]+)\(")
 
 
@@ -134,12 +136,18 @@ class Case:
         names = set(os.listdir("."))
         self.judge_made(names, lines == self.wanted.lines, failed)
         begins = self.words[0] == b"begin" and status == 0
-        is_due = self.ledger or begins or ("ledger" in names and lines in (["bag: store"], ["bag: memory"]) and self.is_unopened(names))
+        is_due = self.ledger or begins or self.is_unseen(names, failed, lines) or (
+            "ledger" in names and lines in (["bag: store"], ["bag: memory"]) and self.is_unopened(names))
         wanted = {"ledger"} if is_due else set()
         if names - {"out", "ledger-wal" if wanted else "out"} != wanted and not failed.startswith("unlink"):
             raise Otherwise(f"{lines}: there are {names}")
         if self.ledger:
             self.judge_held(failed, lines)
+
+    def is_unseen(self, names, failed, lines):
+        """Whether a refused `begin` leaves a ledger without a transfer, which the failure kept it from seeing."""
+        is_refused = self.words[0] == b"begin" and self.wanted.status != 0 and lines == self.wanted.lines
+        return is_refused and failed != "nothing" and "ledger" in names and not read_ledger("ledger").transfers
 
     def is_unopened(self, names):
         """Whether the ledger to be made is an empty file: a program that couldn't open a file doesn't know that no other program
@@ -236,8 +244,12 @@ def refuse_growths(case, most, library):
     case.start()
     case.run([], {**variables, "REFUSE": "0"})
     with open("../asked", encoding="ascii") as file:
-        numbers = spread(range(1, int(file.read()) + 1), most)
-    for number in numbers:
+        asked = int(file.read())
+    numbers = set(spread(range(1, asked + 1), most))
+    if case.words[0] == b"begin" and not case.ledger:
+        # Whether a new ledger stays depends on what is done after the answer, which asks for memory less often.
+        numbers.update(range(max(1, asked - LAST), asked + 1))
+    for number in sorted(numbers):
         case.start()
         ran = case.run([], {**variables, "REFUSE": str(number)})
         if not os.path.exists("../refused"):

@@ -180,6 +180,22 @@ if cc -shared -fPIC -O1 -o "$work/no_memory.so" tests/no_memory.c 2>"$work/no cc
         # shellcheck disable=SC2086
         expect "no memory for the words $words" 3 'bag: memory' each_growth_of_words $words
     done
+    # An audit reads the pieces of what is held once more, which takes memory for each, and a report does not.
+    mkdir -p "$work/pieces/data"
+    cp examples/first-bag/bagit.txt "$work/pieces"
+    seq 400000 | head -c 1310720 >"$work/pieces/data/a" # 20 pieces
+    (cd "$work/pieces" && sha256sum data/a) >"$work/pieces/manifest-sha256.txt"
+    expect 'pieces: begin' 0 new "$program" begin "$work/ledger" t1 "$work/pieces"
+    expect 'pieces: intake' 0 'taken data/a' "$program" intake "$work/ledger" t1 "$work/pieces"
+    # audit_asks_more: an audit asks for memory more often than a report, at least once for each piece.
+    audit_asks_more() {
+        local report
+        refusing 0 "$program" report "$work/ledger" t1
+        count_asked && report=$asked
+        refusing 0 "$program" audit "$work/ledger" t1
+        count_asked && [ $((asked - report)) -ge 20 ]
+    }
+    expect 'an audit reads what is held again, and a report does not' 0 $'valid\nvalid' audit_asks_more
     allocations=60
     [ "${1-}" != --all ] || allocations=0
     expect 'no memory for the commands' 0 '' env TMPDIR="$work" sh -c 'python3 -B tests/failing_commands.py "$@" >"$0"' \
