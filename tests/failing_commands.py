@@ -145,7 +145,8 @@ class Case:
             self.judge_held(failed, lines)
 
     def is_unseen(self, names, failed, lines):
-        """Whether a refused `begin` leaves a ledger without a transfer, which the failure kept it from seeing."""
+        """Whether a refused `begin` leaves a ledger without a transfer, since the failure kept it from seeing that there is none, or
+        from removing it."""
         is_refused = self.words[0] == b"begin" and self.wanted.status != 0 and lines == self.wanted.lines
         return is_refused and failed != "nothing" and "ledger" in names and not read_ledger("ledger").transfers
 

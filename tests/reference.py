@@ -355,8 +355,6 @@ class Folder(Bag):
         self.folder = folder
         paths, directories = [], []
         self.walk(b"", paths, directories)
-        if len(paths) > FILE_LIMIT:
-            raise End(["bag: too many"], 3)
         super().__init__(paths, b"data" in directories)
 
     def walk(self, below, paths, directories):
@@ -389,6 +387,8 @@ def check(folder):
         bag = Folder(folder)
     except End as end:
         return end.lines, end.status
+    if len(bag.paths) > FILE_LIMIT:
+        return ["bag: too many"], 3
     return bag.judge()
 
 
