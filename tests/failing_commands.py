@@ -148,7 +148,12 @@ class Case:
         """Whether a refused `begin` leaves a ledger without a transfer, since the failure kept it from seeing that there is none, or
         from removing it."""
         is_refused = self.words[0] == b"begin" and self.wanted.status != 0 and lines == self.wanted.lines
-        return is_refused and failed != "nothing" and "ledger" in names and not read_ledger("ledger").transfers
+        if not is_refused or failed == "nothing" or "ledger" not in names:
+            return False
+        try:
+            return not read_ledger("ledger").transfers
+        except reference.End:
+            return False
 
     def is_unopened(self, names):
         """Whether the ledger to be made is an empty file: a program that couldn't open a file doesn't know that no other program
