@@ -1,4 +1,5 @@
 pub mod CourierLemmas
+pub mod FaultLemmas
 pub mod Listings
 pub mod PayloadFolders
 pub mod WalkLemmas

@@ -62,7 +62,8 @@ pub below_in_order : (listing : Listing) (folder : List ℕ) (found once : List 
 below_in_order listing folder found once found_dir has_dir below kept is = record {
   files = λ path. (λ here. (below.files path).0 ((kept path).0 here), λ there. (kept path).1 ((below.files path).1 there));
   listed = below.listed;
-  nothing_else = below.nothing_else;
+  no_link = below.no_link;
+  nothing_special = below.nothing_special;
   payload = λ there. is ∙ or_left found_dir (list_any is_payload found) (below.payload there);
   no_payload = λ here. elim (or_cases found_dir (list_any is_payload found) (sym is ∙ here)) [
     | inl before ↦ elim (below.no_payload before) [ inl there ↦ inl there | inr file ↦ inr (file.0, (kept file.0).1 file.1, file.2) ]

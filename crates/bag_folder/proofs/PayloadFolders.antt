@@ -7,7 +7,7 @@ use Rattle.std.proofs.Math.Seq.{take-append_seam}
 use Rattle.std.proofs.lemmas.List.{take-append-drop}
 use Rattle.std.proofs.lemmas.Slice.Eq.{bytes_eq-Decides}
 use Rattle.bag_tags.specs.Words.{without}
-use Rattle.bag_folder.specs.declared.fault.OpenFault.{OpenFault}
+use Rattle.std.specs.declared.io.Error.{Error}
 use Rattle.bag_folder.specs.Directories.{AnswersEntries, EntryShown, Listing, data_entry, in_payload, name_below, payload_listing}
 
 same_listing : (a b : Listing) → Some a ≡ Some b → a ≡ b
@@ -16,19 +16,19 @@ same_listing a b h = cc
 none_is_not_some : (a : Listing) → None ≡ Some a → ⊥
 none_is_not_some a h = cc
 
-answers_same : {Entries : Type 0} (shown : Entries → List EntryShown) (a b : Listing) (at there : List ℕ) (answer : Result Entries OpenFault) → a at ≡ b there
+answers_same : {Entries : Type 0} (shown : Entries → List EntryShown) (a b : Listing) (at there : List ℕ) (answer : Result Entries Error) → a at ≡ b there
     → AnswersEntries shown b there answer → AnswersEntries shown a at answer
 answers_same shown a b at there (Ok entries) same h = same ∙ h
-answers_same shown a b at there (Err fault) same h = λ files. same ∙ h files
+answers_same shown a b at there (Err error) same h = λ not_memory. same ∙ h not_memory
 
 listed_below : (folder directory name : List ℕ) (inner : Listing) → bytes_eq directory (name_below folder []) ≡ false
     → name ≡ name_below folder (without (name_below folder (codes "data/")) directory) → payload_listing folder inner directory ≡ inner name
 listed_below folder directory name inner not_base named =
     let outside = inner (name_below folder (without (name_below folder (codes "data/")) directory)) in
-    subst (λ (b : Bool). (if b then Some (data_entry ∷ []) else outside) ≡ inner name) (sym not_base) (ap inner (sym named))
+    subst (λ (b : Bool). (if b then Ok (data_entry ∷ []) else outside) ≡ inner name) (sym not_base) (ap inner (sym named))
 
 -- the answer for a directory outside is the right answer for the one in the payload directory
-pub answers_below : {Entries : Type 0} (shown : Entries → List EntryShown) (folder directory name : List ℕ) (listed : Option Listing) (answer : Result Entries OpenFault)
+pub answers_below : {Entries : Type 0} (shown : Entries → List EntryShown) (folder directory name : List ℕ) (listed : Option Listing) (answer : Result Entries Error)
     → bytes_eq directory (name_below folder []) ≡ false → name ≡ name_below folder (without (name_below folder (codes "data/")) directory)
     → ((inner : Listing) → listed ≡ Some inner → AnswersEntries shown inner name answer)
     → (known : Listing) → in_payload listed folder ≡ Some known → AnswersEntries shown known directory answer

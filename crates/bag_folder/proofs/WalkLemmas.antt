@@ -1,13 +1,15 @@
 -- A walk that leaves no directory unread has found what is below the folder.
-use Rattle.std.proofs.Common.{◌≡◌, ◌++◌, ℕ, Bool, true, false, List, [], ◌∷◌, All, Contains, Some, codes, refl, sym, subst, ◌∙◌, inl, inr, arith}
+use Rattle.std.proofs.Common.{◌≡◌, ◌++◌, ℕ, Bool, true, false, List, [], ◌∷◌, All, Contains, Result, Ok, codes, refl, sym, subst, inl, inr, arith}
 use Rattle.std.specs.Prelude.{fold}
 use Rattle.std.specs.Str.{bytes_eq}
 use Rattle.std.proofs.lemmas.Bool.{or_cases, or_left, or_right}
 use Rattle.std.proofs.lemmas.List.Elements.{All-nil, All-cons, All-head, All-tail, All-push, All-weaker, All-contains, All-contains_itself, Contains-append_left, Contains-append_right, Contains-append_cases, Contains-push, Contains-push_cases}
 use Rattle.std.proofs.lemmas.Slice.Eq.{bytes_eq-Decides}
+use Rattle.std.specs.declared.io.Error.{Error}
 use Rattle.bag_folder.specs.declared.directory.EntryKind.{EntryKind}
-use Rattle.bag_folder.specs.declared.directory.EntryKind.TheVariants.{File, Directory, Other}
-use Rattle.bag_folder.specs.Directories.{EntryShown, Listing, HasEntry, IsFront, AtFolder, Inside, IsBelow, IsUnfit, Unlisted, NoFile, BadPath, Stands, name_below}
+use Rattle.bag_folder.specs.declared.directory.EntryKind.TheVariants.{File, Directory, Link, Special}
+use Rattle.bag_folder.specs.declared.unfit.Cause.{Cause}
+use Rattle.bag_folder.specs.Directories.{EntryShown, Listing, HasEntry, IsFront, AtFolder, Inside, IsBelow, IsUnfit, Unlisted, NotAllowed, Stands, name_below}
 use Rattle.bag_folder.specs.Walks.{EntryFits, FitsBag, LooksInto, RefusesFront, Walked, with_entry, with_path}
 
 false_is_not_true : false ≡ true → ⊥
@@ -16,8 +18,8 @@ false_is_not_true h = cc
 nothing_in_none : (front : List ℕ) → Contains [] front → ⊥
 nothing_in_none front here = omega (arith, here.1)
 
-some_same : (a b : List EntryShown) → Some a ≡ Some b → a ≡ b
-some_same a b h = cc
+ok_same : (answer : Result (List EntryShown) Error) (a b : List EntryShown) → answer ≡ Ok a → answer ≡ Ok b → a ≡ b
+ok_same answer a b is was = cc
 
 -- WHAT WAS ADDED STAYS
 
@@ -33,7 +35,8 @@ grows_by_path walked path Directory = record {
   left = λ f h. Contains-append_left walked.left ((path ++ codes "/") ∷ []) f h;
   has_dir = λ h. or_left walked.has_dir (bytes_eq path (codes "data")) h;
 }
-grows_by_path walked path Other = record { paths = λ p h. h; left = λ f h. h; has_dir = λ h. h }
+grows_by_path walked path Link = record { paths = λ p h. h; left = λ f h. h; has_dir = λ h. h }
+grows_by_path walked path Special = record { paths = λ p h. h; left = λ f h. h; has_dir = λ h. h }
 
 grows_by_all : (front : List ℕ) (entries : List EntryShown) (walked : Walked) → Grows walked (fold (with_entry front) walked entries)
 grows_by_all front [] walked = record { paths = λ p h. h; left = λ f h. h; has_dir = λ h. h }
@@ -46,13 +49,15 @@ grows_by_all front (entry ∷ entries) walked =
 abbrev pub IsTaken : List (List ℕ) → Bool → List (List ℕ) → List ℕ → EntryKind → Type 0
 IsTaken paths has_dir seen path File = Contains paths path
 IsTaken paths has_dir seen path Directory = Contains seen (path ++ codes "/") × (path ≡ codes "data" → has_dir ≡ true)
-IsTaken paths has_dir seen path Other = ⊥
+IsTaken paths has_dir seen path Link = ⊥
+IsTaken paths has_dir seen path Special = ⊥
 
 taken_on : (old new : Walked) (before after : List (List ℕ)) (path : List ℕ) (kind : EntryKind) → Grows old new → ((front : List ℕ) → Contains before front → Contains after front)
     → IsTaken old.paths old.has_dir before path kind → IsTaken new.paths new.has_dir after path kind
 taken_on old new before after path File grows seen h = grows.paths path h
 taken_on old new before after path Directory grows seen h = (seen (path ++ codes "/") h.0, λ is. grows.has_dir (h.1 is))
-taken_on old new before after path Other grows seen h = h
+taken_on old new before after path Link grows seen h = h
+taken_on old new before after path Special grows seen h = h
 
 -- the entries of the directory at this front were added
 abbrev pub AllTaken : Walked → List (List ℕ) → List ℕ → List EntryShown → Type 0
@@ -69,7 +74,8 @@ taken_once : (walked : Walked) (path : List ℕ) (kind : EntryKind) → FitsBag 
 taken_once walked path File fits = Contains-push walked.paths path
 taken_once walked path Directory fits =
     (Contains-push walked.left (path ++ codes "/"), λ is. or_right walked.has_dir (bytes_eq path (codes "data")) ((bytes_eq-Decides path (codes "data")).1 is))
-taken_once walked path Other fits = fits
+taken_once walked path Link fits = fits
+taken_once walked path Special fits = fits
 
 taken_all : (front : List ℕ) (entries : List EntryShown) (walked : Walked) → All (EntryFits front) entries
     → AllTaken (fold (with_entry front) walked entries) (fold (with_entry front) walked entries).left front entries
@@ -118,7 +124,8 @@ module _ (listing : Listing) (folder : List ℕ) where
       | inr here ↦ subst (λ path. Stands listing folder path Directory) ((bytes_eq-Decides (front ++ name) (codes "data")).0 here) (stands front name Directory below entry)
     ];
   }
-  sound_once front name Other walked below entry sound = sound
+  sound_once front name Link walked below entry sound = sound
+  sound_once front name Special walked below entry sound = sound
 
   sound_all : (front : List ℕ) (entries : List EntryShown) (walked : Walked) → IsFront listing folder front → All (λ entry. HasEntry listing folder front entry.name entry.kind) entries → IsSound walked → IsSound (fold (with_entry front) walked entries)
   sound_all front [] walked below there sound = sound
@@ -127,7 +134,7 @@ module _ (listing : Listing) (folder : List ℕ) where
       sound_all front entries (with_entry front walked entry) below (All-tail P entry entries there)
       (sound_once front entry.name entry.kind walked below (All-head P entry entries there) sound)
 
-  each_entry : (front : List ℕ) (entries : List EntryShown) → listing (name_below folder front) ≡ Some entries → All (λ entry. HasEntry listing folder front entry.name entry.kind) entries
+  each_entry : (front : List ℕ) (entries : List EntryShown) → listing (name_below folder front) ≡ Ok entries → All (λ entry. HasEntry listing folder front entry.name entry.kind) entries
   each_entry front entries listed =
       All-weaker (Contains entries) (λ entry. HasEntry listing folder front entry.name entry.kind) (λ entry there. record { entries = entries; listed = listed; there = there }) entries (All-contains_itself entries)
 
@@ -136,7 +143,7 @@ module _ (listing : Listing) (folder : List ℕ) where
   -- the directory at this front was read, and each of its entries was added
   pub record IsCovered (walked : Walked) (seen : List (List ℕ)) (front : List ℕ) : Type 0 where
     pub entries : List EntryShown
-    pub listed : listing (name_below folder front) ≡ Some entries
+    pub listed : listing (name_below folder front) ≡ Ok entries
     pub taken : AllTaken walked seen front entries
 
   -- these directories were read
@@ -211,7 +218,7 @@ module _ (listing : Listing) (folder : List ℕ) where
     taken_at : (front name : List ℕ) (kind : EntryKind) → Contains done front → HasEntry listing folder front name kind → IsTaken walked.paths walked.has_dir (done ++ walked.left) (front ++ name) kind
     taken_at front name kind here entry =
         let covered = covers front here in
-        let same : covered.entries ≡ entry.entries = some_same covered.entries entry.entries (sym covered.listed ∙ entry.listed) in
+        let same : covered.entries ≡ entry.entries = ok_same (listing (name_below folder front)) covered.entries entry.entries covered.listed entry.listed in
         All-contains (λ (e : EntryShown). IsTaken walked.paths walked.has_dir (done ++ walked.left) (front ++ e.name) e.kind) covered.entries (record { name = name; kind = kind }) covered.taken
         (subst (λ (xs : List EntryShown). Contains xs (record { name = name; kind = kind })) (sym same) entry.there)
 
@@ -227,22 +234,21 @@ module _ (listing : Listing) (folder : List ℕ) where
     walk_ends = record {
       files = λ path. (λ here. All-contains (λ p. Stands listing folder p File) walked.paths path walking.sound.files here, λ there. standing path File there);
       listed = λ front below. let covered = covers front (each_front front below) in (covered.entries, covered.listed);
-      nothing_else = λ path there. standing path Other there;
+      no_link = λ path there. standing path Link there;
+      nothing_special = λ path there. standing path Special there;
       payload = λ there. (standing (codes "data") Directory there).1 refl;
       no_payload = λ is. inl (walking.sound.payload is);
     }
 
-  -- what is refused makes the folder unfit
-  unfit_entry : (front name : List ℕ) (kind : EntryKind) → IsFront listing folder front → HasEntry listing folder front name kind → ¬ FitsBag (front ++ name) kind → IsUnfit listing folder
-  unfit_entry front name File below entry unfit = BadPath (front ++ name) (stands front name File below entry) unfit
-  unfit_entry front name Directory below entry unfit = absurd (unfit tt)
-  unfit_entry front name Other below entry unfit = NoFile (front ++ name) (stands front name Other below entry)
-
-  pub walk_refuses : (old walked : Walked) (done : List (List ℕ)) (front : List ℕ) → old ≡ record walked { left = walked.left ++ front ∷ [] } → IsWalking old done → RefusesFront listing folder front → IsUnfit listing folder
-  walk_refuses old walked done front is was refuses =
+  -- what is refused makes the folder unfit, at the same path
+  pub walk_refuses : (old walked : Walked) (done : List (List ℕ)) (front path : List ℕ) (cause : Cause) → old ≡ record walked { left = walked.left ++ front ∷ [] } → IsWalking old done
+      → RefusesFront listing folder front path cause → IsUnfit listing folder path cause
+  walk_refuses old walked done front path cause is was refuses =
       let walking : IsWalking (record walked { left = walked.left ++ front ∷ [] }) done = subst (λ w. IsWalking w done) is was in
       let below : IsFront listing folder front = All-contains (IsFront listing folder) (walked.left ++ front ∷ []) front walking.sound.fronts (Contains-push walked.left front) in
       elim refuses [
-        | inl unlisted ↦ Unlisted front below unlisted
-        | inr unfit ↦ unfit_entry front unfit.1.name unfit.1.kind below (record { entries = unfit.0; listed = unfit.2; there = unfit.3 }) unfit.4
+        | inl unlisted ↦ subst (λ (p : List ℕ). IsUnfit listing folder p cause) (sym unlisted.0) (Unlisted unlisted.1 below unlisted.2 unlisted.3)
+        | inr unfit ↦
+            let stands : Stands listing folder path unfit.1.kind = record { front = front; name = unfit.1.name; below = below; entry = record { entries = unfit.0; listed = unfit.2; there = unfit.3 }; path_is = unfit.4 } in
+            NotAllowed unfit.1.kind stands unfit.5
       ]

@@ -1,5 +1,5 @@
 -- What is visible of an open folder. The content of its files isn't known.
-use Rattle.std.specs.Prelude.{◌≡◌, ℕ, Bool, true, All, List, Option, Some, None, Result, IsErr, IsSomeAnd, MatchResult, OnOk, codes, map, refl, slice_get}
+use Rattle.std.specs.Prelude.{◌≡◌, ◌∷◌, ℕ, Bool, true, All, List, [], Option, Some, None, Result, IfSome, IsErr, IsSomeAnd, MatchResult, OnOk, codes, map, refl, slice_get}
 use Rattle.std.specs.Io.KnownBytes.{ReadConsumes}
 use Rattle.std.proofs.Common.{◌∙◌}
 use Rattle.bag_path.specs.Paths.{is_payload}
@@ -9,6 +9,7 @@ use Rattle.bag_tags.specs.Words.{without}
 use Rattle.bag_folder.specs.declared.place.Place.{Place}
 use Rattle.bag_folder.specs.declared.place.Place.TheVariants.{Base, Payload}
 use Rattle.bag_folder.specs.Directories.{IsBelow, IsUnfit, Listing, name_below}
+use Rattle.bag_folder.specs.Unfits.{IsToldAt, UnfitShown}
 
 -- what is shown of files with these paths and unknown octets
 abbrev pub shown_by : List (List ℕ) → Bool → Shown
@@ -22,9 +23,14 @@ abbrev pub path_below : Place → List ℕ → List ℕ
 path_below Base path = path
 path_below Payload path = without (codes "data/") path
 
+-- the name on disk of what has this path below the folder: that of the folder itself, if the path is empty
+abbrev pub told_name : List ℕ → List ℕ → List ℕ
+told_name folder [] = folder
+told_name folder (octet ∷ path) = name_below folder (octet ∷ path)
+
 -- its files, and whether there is a payload directory; the name of the folder; where its files belong in a bag; the
 -- name of the last file looked up; what the open file will still give (if one is open, and if that is known); how many
--- times the folder has failed
+-- times the folder has failed, and what couldn't be used the last time, if that is told
 pub record FolderShown : Type 0 where
   pub shown : Shown
   pub folder : List ℕ
@@ -32,6 +38,7 @@ pub record FolderShown : Type 0 where
   pub name : List ℕ
   pub to_read : Option (Option (List ℕ))
   pub failures : ℕ
+  pub trouble : Option UnfitShown
 
 -- the paths are in order, and a payload file has its directory (RFC 8493 section 2.1.2)
 pub record IsListing (paths : List (List ℕ)) (has_dir : Bool) : Type 0 where
@@ -46,12 +53,18 @@ pub record IsOpened (known : Option Listing) (folder : List ℕ) (place : Place)
   pub placed : tree.place ≡ place
   pub closed : tree.to_read ≡ None
   pub not_failed : tree.failures ≡ 0
+  pub no_trouble : tree.trouble ≡ None
   pub shows : (listing : Listing) → known ≡ Some listing
       → IsBelow listing folder (paths_in tree.shown) tree.shown.has_payload_dir
 
--- the folder can't be a bag, if the entries of directories are known
-abbrev pub IsRefused : Option Listing → List ℕ → Type 0
-IsRefused known folder = (listing : Listing) → known ≡ Some listing → IsUnfit listing folder
+-- The name is that of the folder or of something below it. If the entries of directories are known, the folder can't be
+-- a bag because of that, and this is the cause.
+pub record IsRefused (known : Option Listing) (folder : List ℕ) (place : Place)
+    (unfit : UnfitShown) : Type 0 where
+  pub path : List ℕ
+  pub named : unfit.path ≡ told_name folder (path_below place path)
+  pub because : (listing : Listing) → known ≡ Some listing
+      → IsUnfit listing folder path unfit.cause
 
 -- A read consumes what it gives from the open file, which stays open. If no file is open, none is opened, and the read
 -- fails.
@@ -62,15 +75,20 @@ ReadsOpen None (Some new) result buf = ⊥
 ReadsOpen (Some old) None result buf = ⊥
 ReadsOpen (Some old) (Some new) result buf = ReadConsumes old new result buf
 
--- a read changes what is left to read, and its failure is counted
+-- a read changes what is left to read, and its failure is counted, and told of the file that is open
 pub record ReadsFolder {E : Type 0} (old new : FolderShown) (result : Result ℕ E) (buf : List ℕ)
     : Type 0 where
   pub reads_on : ReadsOpen old.to_read new.to_read result buf
   pub changes : MatchResult result (λ _. new ≡ record old { to_read = new.to_read })
-      (λ _. new ≡ record old { to_read = new.to_read; failures = one_more old.failures })
+      (λ _. new ≡ record old {
+        to_read = new.to_read;
+        failures = one_more old.failures;
+        trouble = new.trouble;
+      })
+  pub told : IsErr result → IsToldAt old.name new.trouble
 
--- A start opens the file at this index by its name below the folder, and its failure is counted. No other file stays
--- open.
+-- A start opens the file at this index by its name below the folder, and its failure is counted, and told of that name.
+-- No other file stays open.
 pub record StartsFile {E : Type 0} (old new : FolderShown) (i : ℕ) (result : Result (Unit {0}) E)
     : Type 0 where
   pub named : OnOk result (IsSomeAnd (slice_get (paths_in old.shown) i)
@@ -81,7 +99,11 @@ pub record StartsFile {E : Type 0} (old new : FolderShown) (i : ℕ) (result : R
         name = new.name;
         to_read = None;
         failures = one_more old.failures;
+        trouble = new.trouble;
       })
+  pub told : IsErr result → IfSome new.trouble (λ unfit.
+      IsSomeAnd (slice_get (paths_in old.shown) i)
+      (λ path. unfit.path ≡ name_below old.folder (path_below old.place path)))
 
 -- the same files
 abbrev pub SameShown : FolderShown → FolderShown → Type 0

@@ -1,17 +1,21 @@
 -- What is visible of a folder as a supplier. The content of its files isn't known.
-use Rattle.std.specs.Prelude.{◌≡◌, ℕ, Bool, true, List, Option, None, Ok, Result, is_some, refl}
+use Rattle.std.specs.Prelude.{◌≡◌, ℕ, Bool, true, List, Option, None, Ok, Result, IfSome, IsErr, MatchResult, OnSome, is_some, refl, take}
 use Rattle.std.proofs.Common.{◌∙◌}
 use Rattle.bag_digest.specs.Device.{one_more}
 use Rattle.bag_receiver.specs.Suppliers.{Supply}
+use Rattle.bag_folder.specs.declared.unfit.Cause.{Cause}
 use Rattle.bag_folder.specs.Directories.{name_below}
+use Rattle.bag_folder.specs.Unfits.{UnfitShown}
 
 -- the name of the folder, and of the last file looked up; what the open file will still give (if one is open, and if
--- that is known); how many times the folder failed, and how many times it was asked
+-- that is known); how many times the folder failed, and what couldn't be used the last time, if that is told; how many
+-- times it was asked
 pub record SupplierShown : Type 0 where
   pub folder : List ℕ
   pub name : List ℕ
   pub to_read : Option (Option (List ℕ))
   pub failures : ℕ
+  pub trouble : Option UnfitShown
   pub asks : ℕ
 
 -- a supplier of the files below this folder, before any call
@@ -19,10 +23,20 @@ pub record IsReadyFolder (folder : List ℕ) (supplier : SupplierShown) : Type 0
   pub named : supplier.folder ≡ folder
   pub closed : supplier.to_read ≡ None
   pub not_failed : supplier.failures ≡ 0
+  pub no_trouble : supplier.trouble ≡ None
   pub not_asked : supplier.asks ≡ 0
 
+-- the name below the folder of this path, or of one that it begins with
+abbrev pub IsNameTo : List ℕ → List ℕ → List ℕ → Type 0
+IsNameTo folder path name = (n : ℕ) × (name ≡ name_below folder (take n path))
+
+-- a call that looked up such names, and this one last
+abbrev pub LooksUp : {A : Type 0} → List ℕ → List ℕ → List ℕ → Result A (Option Cause) → Type 0
+LooksUp folder path name result = MatchResult result (λ _. IsNameTo folder path name)
+    (λ cause. OnSome cause (IsNameTo folder path name))
+
 -- The request is counted. Afterwards a file is open exactly if the folder has it, and it is the one with this path
--- below the folder.
+-- below the folder. A failure is told of the file, or of a directory that it is to be in.
 pub record AsksFolder {E : Type 0} (old new : SupplierShown) (path : List ℕ)
     (result : Result Bool E) : Type 0 where
   pub opened : is_some new.to_read ≡ true
@@ -32,8 +46,11 @@ pub record AsksFolder {E : Type 0} (old new : SupplierShown) (path : List ℕ)
     name = new.name;
     to_read = new.to_read;
     failures = new.failures;
+    trouble = new.trouble;
     asks = one_more old.asks;
   }
+  pub told : IsErr result
+      → IfSome new.trouble (λ unfit. IsNameTo old.folder path unfit.path)
 
 -- asked the same number of times
 abbrev pub AsOftenAsked : SupplierShown → SupplierShown → Type 0

@@ -56,6 +56,13 @@ impl<T: Tree> TreeCourier<T> {
         }
     }
 
+    /// The tree.
+    pub fn tree(&self) -> &T
+        ensures { result.now ≡ self.now.tree }
+    {
+        &self.tree
+    }
+
     /// Reads from the current file, and opens it first if necessary.
     fn read_on(&mut self, buf: &mut [u8]) -> Result<usize, Failed>
         ensures bound { IfOk result (λ n. n ≤ length buf.new) }

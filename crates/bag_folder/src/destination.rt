@@ -1,5 +1,6 @@
 //! Makes the folder for a new bag.
-ghost use Rattle.std.specs.Prelude.{◌≡◌, IfOk, MatchResult, None, Some};
+ghost use Rattle.std.specs.Prelude.{◌≡◌, IfErr, IfOk, MatchResult, None, Some};
+ghost use Rattle.bag_folder.specs.Faults.{IfUnfit};
 ghost use Rattle.bag_folder.specs.SinkFolders.{IsCreated};
 
 use crate::fault::OpenFault;
@@ -39,6 +40,8 @@ impl<'a, R: Files> Destination<'a, R> {
     /// Those of [`FolderSink::create`]. No folder is made then.
     pub fn create(&mut self, alloc: Global, folder: &str) -> Result<FolderSink<&'a R>, OpenFault>
         ensures created { IfOk result (IsCreated folder.now) }
+        ensures refused { IfErr result (λ fault. IfUnfit fault (λ unfit.
+            unfit.path ≡ folder.now)) }
         ensures made { MatchResult result
             (λ _. self.new ≡ Some folder.now) (λ _. self.new ≡ self.old) }
     {

@@ -3,39 +3,43 @@ ghost use Rattle.std.specs.Prelude.{◌≡◌, IfOk, List};
 ghost use Rattle.std.specs.Iterator.{Drains, IsFinite};
 ghost use Rattle.bag_folder.specs.Directories.{AreGiven};
 
-use crate::fault::OpenFault;
 use std::alloc::Global;
 use std::fs::{self, DirEntry, FileType};
 use std::io;
 use std::marker::Model;
 use std::rt::Files;
 
-/// The kind of a directory entry. A symbolic link is `Other`, wherever it leads.
+/// The kind of a directory entry.
 #[derive(Clone, Copy, Debug, PartialEq, Eq)]
 pub enum EntryKind {
     /// A regular file.
     File,
     /// A directory.
     Directory,
-    /// A symbolic link, a named pipe, a socket or a device.
-    Other,
+    /// A symbolic link, wherever it leads.
+    Link,
+    /// A named pipe, a socket or a device.
+    Special,
 }
 
 impl EntryKind {
-    ghost use Rattle.std.specs.Fs.{IsDir, IsFile};
+    ghost use Rattle.std.specs.Fs.{IsDir, IsFile, IsSymlink};
     ghost use Rattle.std.specs.Prelude.{◌↔◌};
 
     /// The kind for a file type of the operating system.
     pub fn of(kind: FileType) -> EntryKind
         ensures file { (result ≡ EntryKind.File) ↔ IsFile kind }
         ensures directory { (result ≡ EntryKind.Directory) ↔ IsDir kind }
+        ensures link { (result ≡ EntryKind.Link) ↔ IsSymlink kind }
     {
         if kind.is_file() {
             EntryKind::File
         } else if kind.is_dir() {
             EntryKind::Directory
+        } else if kind.is_symlink() {
+            EntryKind::Link
         } else {
-            EntryKind::Other
+            EntryKind::Special
         }
     }
 }
@@ -70,9 +74,9 @@ pub trait Directories {
     ///
     /// # Errors
     ///
-    /// `Files` if the directory doesn't exist or can't be read, or one of its names isn't UTF-8. `Memory` if memory
-    /// runs out.
-    fn entries(&self, alloc: Global, directory: &str) -> Result<Vec<Entry>, OpenFault>
+    /// The error of the operating system if the directory doesn't exist or can't be read. `InvalidFilename` of the
+    /// library's own if one of its names isn't UTF-8, as [`fs::read_dir`] has it. `OutOfMemory` if memory runs out.
+    fn entries(&self, alloc: Global, directory: &str) -> io::Result<Vec<Entry>>
         ensures { (known : Listing) → listing self.now ≡ Some known
             → AnswersEntries (λ entries. entries.items) known directory.now result };
 }
@@ -86,7 +90,7 @@ impl<R: Files> Directories for Disk<'_, R> {
 
     ghost listing = { λ _. None };
 
-    fn entries(&self, alloc: Global, directory: &str) -> Result<Vec<Entry>, OpenFault> {
+    fn entries(&self, alloc: Global, directory: &str) -> io::Result<Vec<Entry>> {
         gathered(alloc, fs::read_dir(&(self.0, alloc), directory)?)
     }
 }
@@ -95,11 +99,11 @@ impl<R: Files> Directories for Disk<'_, R> {
 ///
 /// # Errors
 ///
-/// `Files` if reading an entry fails, or its type can't be determined. `Memory` if memory runs out.
+/// The error if reading an entry fails, or its type can't be determined. `OutOfMemory` if memory runs out.
 fn gathered<R: Files + Drop, I: Iterator<Item = io::Result<DirEntry<R>>>>(
     alloc: Global,
     directory: I,
-) -> Result<Vec<Entry>, OpenFault>
+) -> io::Result<Vec<Entry>>
     requires can_next { I.can_next directory }
     requires finite { IsFinite (I.remaining directory) }
     ensures { IfOk result (λ entries. (given : List _)

@@ -10,6 +10,7 @@ pub use place::Place;
 pub use sink::FolderSink;
 pub use supplier::FolderSupplier;
 pub use tree::FolderTree;
+pub use unfit::{Cause, Unfit};
 
 mod courier;
 mod destination;
@@ -21,4 +22,6 @@ mod place;
 mod sink;
 mod supplier;
 mod tree;
+mod troubles;
+mod unfit;
 mod walk;

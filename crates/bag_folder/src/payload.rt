@@ -1,12 +1,13 @@
 //! A folder as the payload directory of a bag.
 ghost use Rattle.std.specs.Prelude.{◌≡◌, ◌∷◌, [], IfErr, IfOk, codes, string_bytes};
+ghost use Rattle.std.specs.IoError.{error_kind};
 ghost use Rattle.bag_tags.specs.Words.{without};
 ghost use Rattle.bag_folder.specs.Directories.{data_entry, in_payload, name_below};
 
 use crate::directory::{Directories, Entry, EntryKind};
-use crate::fault::OpenFault;
 use crate::name::spell;
 use std::alloc::{AllocError, Global};
+use std::io::{self, ErrorKind};
 
 /// The directories as seen from a bag whose payload directory is the given folder.
 #[derive(Drop)]
@@ -20,7 +21,7 @@ pub struct InPayload<'a, D> {
 impl<D: Directories> Directories for InPayload<'_, D> {
     ghost listing = { λ inside. in_payload (D.listing inside.disk.now) inside.folder.now };
 
-    fn entries(&self, alloc: Global, directory: &str) -> Result<Vec<Entry>, OpenFault> {
+    fn entries(&self, alloc: Global, directory: &str) -> io::Result<Vec<Entry>> {
         let mut base = String::new(alloc);
         spell(&mut base, self.folder, "")?;
         if directory == base.as_str() {
@@ -55,10 +56,10 @@ fn without<'a>(front: &str, text: &'a str) -> &'a str
 }
 
 /// The payload directory as the only entry.
-fn payload_alone(alloc: Global) -> Result<Vec<Entry>, OpenFault>
+fn payload_alone(alloc: Global) -> io::Result<Vec<Entry>>
     ensures alone { IfOk result (λ entries. entries.items
         ≡ data_entry ∷ []) }
-    ensures memory { IfErr result (λ fault. fault ≡ OpenFault.Memory) }
+    ensures memory { IfErr result (λ error. error_kind error ≡ ErrorKind.OutOfMemory) }
 {
     let mut entries = Vec::new(alloc);
     let name = String::from_str(alloc, "data")?;

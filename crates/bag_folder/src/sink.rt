@@ -1,16 +1,19 @@
 //! A folder on disk that a bag is written to.
-ghost use Rattle.std.specs.Prelude.{◌≡◌, ◌||◌, IfOk, IsErr, None, OnErr, OnOk, [], codes, false, is_ok, is_some, true};
+ghost use Rattle.std.specs.Prelude.{◌≡◌, ◌||◌, IfErr, IfOk, IsErr, MatchOption, None, OnErr, OnOk, Some, [], codes, false, is_ok, is_some, true};
 ghost use Rattle.std.specs.Option.{option_map};
+ghost use Rattle.bag_folder.specs.Faults.{IfUnfit, no_name};
 ghost use Rattle.bag_folder.specs.SinkFolders.{IsCreated};
 
 use crate::fault::OpenFault;
 use crate::name::{created, spell};
-use bag_digest::{Failed, Failures};
+use crate::troubles::Troubles;
+use crate::unfit::{Cause, Unfit};
+use bag_digest::Failed;
 use bag_path::{BagPath, LONGEST_PATH};
 use bag_writer::Sink;
 use std::alloc::Global;
 use std::fs;
-use std::io::Write;
+use std::io::{self, Write};
 use std::marker::Model;
 use std::rt::Files;
 
@@ -24,7 +27,7 @@ pub struct FolderSink<R: Files> {
     // the name of the directory that the last file was made in; its capacity is enough for all names
     made: String,
     file: Option<R::File>,
-    failures: Failures,
+    troubles: Troubles,
 }
 
 impl<R: Files> Model for FolderSink<R> {
@@ -37,7 +40,8 @@ impl<R: Files> Model for FolderSink<R> {
       folder = string_bytes sink.folder;
       name = string_bytes sink.name;
       written = option_map R.File.contents sink.file;
-      failures = sink.failures;
+      failures = sink.troubles.failures;
+      trouble = sink.troubles.last;
     } };
 }
 
@@ -49,25 +53,39 @@ impl<R: Files + Drop> FolderSink<R> {
     /// `Files` if the folder can't be made, for example because something with its name exists. `Memory` if memory runs
     /// out; no folder is made then.
     pub fn create(rt: R, alloc: Global, folder: &str) -> Result<FolderSink<R>, OpenFault>
-        ensures no_name { folder.now ≡ [] → result ≡ Err OpenFault.Files }
+        ensures no_name { folder.now ≡ [] → result ≡ Err no_name }
         ensures created { IfOk result (IsCreated folder.now) }
+        ensures refused { IfErr result (λ fault. IfUnfit fault (λ unfit.
+            unfit.path ≡ folder.now)) }
     {
         if folder.is_empty() {
-            return Err(OpenFault::Files);
+            return Err(OpenFault::no_name(alloc));
         }
         let longest = folder.len().saturating_add(1 + LONGEST_PATH);
         let name = String::with_capacity(alloc, longest)?;
         let made = String::with_capacity(alloc, longest)?;
+        let troubles = Troubles::none(alloc, longest)?;
         let kept = String::from_str(alloc, folder)?;
-        fs::create_dir(&rt, folder)?;
+        if let Err(error) = fs::create_dir(&rt, folder) {
+            return Err(OpenFault::system(kept, error));
+        }
         Ok(FolderSink {
             rt,
             folder: kept,
             name,
             made,
             file: None,
-            failures: Failures::none(),
+            troubles,
         })
+    }
+
+    /// What couldn't be used at the last failure: the file or directory that couldn't be made or written. `None` if nothing
+    /// has failed, or if the last call failed for another reason.
+    pub fn trouble(&self) -> Option<&Unfit>
+        ensures { MatchOption result (self.now.trouble ≡ None)
+            (λ unfit. self.now.trouble ≡ Some unfit.now) }
+    {
+        self.troubles.last()
     }
 }
 
@@ -91,10 +109,10 @@ impl<R: Files> Sink for FolderSink<R> {
     {
         self.name.clear();
         let answer = match spell(&mut self.name, self.folder.as_str(), "data") {
-            Ok(()) => fs::create_dir_all(&self.rt, self.name.as_str()).map_err(|_| Failed),
-            Err(_) => Err(Failed),
+            Ok(()) => with_cause(fs::create_dir_all(&self.rt, self.name.as_str())),
+            Err(_) => Err(None),
         };
-        self.failures.counted(answer)
+        self.troubles.counted(self.name.as_str(), answer)
     }
 
     /// Creates the file, which must not exist yet, and its parent directories. Allocates no memory.
@@ -108,22 +126,22 @@ impl<R: Files> Sink for FolderSink<R> {
         ensures exactly { MakesBelow self.old self.new path.now result }
     {
         let answer = match self.file {
-            Some(_) => Err(Failed),
-            None => {
-                self.file = created(
-                    &self.rt,
-                    &mut self.name,
-                    &mut self.made,
-                    self.folder.as_str(),
-                    path.as_str(),
-                );
-                match self.file {
-                    Some(_) => Ok(()),
-                    None => Err(Failed),
+            Some(_) => Err(None),
+            None => match created(
+                &self.rt,
+                &mut self.name,
+                &mut self.made,
+                self.folder.as_str(),
+                path.as_str(),
+            ) {
+                Ok(file) => {
+                    self.file = Some(file);
+                    Ok(())
                 }
-            }
+                Err(cause) => Err(cause),
+            },
         };
-        self.failures.counted(answer)
+        self.troubles.counted(self.name.as_str(), answer)
     }
 
     /// Passes the octets to the operating system.
@@ -135,10 +153,10 @@ impl<R: Files> Sink for FolderSink<R> {
         ensures exactly { WritesFolder self.old self.new result octets.now }
     {
         let answer = match &mut self.file {
-            Some(file) => file.write_all(octets).map_err(|_| Failed),
-            None => Err(Failed),
+            Some(file) => with_cause(file.write_all(octets)),
+            None => Err(None),
         };
-        self.failures.counted(answer)
+        self.troubles.counted(self.name.as_str(), answer)
     }
 
     /// Closes the file, without waiting until its content is on the disk.
@@ -150,13 +168,23 @@ impl<R: Files> Sink for FolderSink<R> {
         ensures exactly { EndsFile self.old self.new result }
     {
         let answer = match self.file.take() {
-            Some(mut file) => file.flush().map_err(|_| Failed),
-            None => Err(Failed),
+            Some(mut file) => with_cause(file.flush()),
+            None => Err(None),
         };
-        self.failures.counted(answer)
+        self.troubles.counted(self.name.as_str(), answer)
     }
 
     fn failures(&self) -> u64 {
-        self.failures.count()
+        self.troubles.failures()
+    }
+}
+
+/// The result of a call of the operating system, with the cause of its error.
+fn with_cause(answer: io::Result<()>) -> Result<(), Option<Cause>>
+    ensures { is_ok result ≡ is_ok answer }
+{
+    match answer {
+        Ok(()) => Ok(()),
+        Err(error) => Err(Some(Cause::of(error))),
     }
 }

@@ -1,16 +1,21 @@
 //! A folder on disk as a supplier of payload files.
-ghost use Rattle.std.specs.Prelude.{◌≡◌, ◌≤◌, [], Err, IfOk, IsErr, None, Ok, is_some, length, true};
+ghost use Rattle.std.specs.Prelude.{◌≡◌, ◌≤◌, [], Err, IfErr, IfOk, IsErr, MatchOption, MatchResult, None, Ok, OnSome, Some, is_some, length, string_bytes, true};
 ghost use Rattle.bag_folder.specs.Directories.{name_below};
-ghost use Rattle.bag_folder.specs.Supplying.{IsReadyFolder};
+ghost use Rattle.bag_folder.specs.Faults.{IfUnfit, no_name};
+ghost use Rattle.bag_folder.specs.Supplying.{IsNameTo, IsReadyFolder, LooksUp};
+ghost use Rattle.bag_folder.specs.Unfits.{IsToldAt};
 
+use crate::directory::EntryKind;
 use crate::fault::OpenFault;
-use crate::name::opened;
-use bag_digest::{Failed, Failures, Source};
+use crate::name::{opened, spell};
+use crate::troubles::Troubles;
+use crate::unfit::{Cause, Unfit};
+use bag_digest::{Failed, Source};
 use bag_path::LONGEST_PATH;
 use bag_receiver::Supplier;
 use std::alloc::Global;
 use std::fs;
-use std::io::{ErrorKind, Read};
+use std::io::{self, ErrorKind, Read};
 use std::marker::Model;
 use std::rt::Files;
 
@@ -22,7 +27,7 @@ pub struct FolderSupplier<R: Files> {
     // the name of the last file looked up; its capacity is enough for all names
     name: String,
     file: Option<R::File>,
-    failures: Failures,
+    troubles: Troubles,
     asks: u64,
 }
 
@@ -36,7 +41,8 @@ impl<R: Files> Model for FolderSupplier<R> {
       folder = string_bytes supplier.folder;
       name = string_bytes supplier.name;
       to_read = option_map R.File.remaining supplier.file;
-      failures = supplier.failures;
+      failures = supplier.troubles.failures;
+      trouble = supplier.troubles.last;
       asks = supplier.asks;
     } };
 }
@@ -49,47 +55,64 @@ impl<R: Files + Drop> FolderSupplier<R> {
     ///
     /// `Files` if it doesn't exist or isn't a folder. `Memory` if memory runs out.
     pub fn open(rt: R, alloc: Global, folder: &str) -> Result<FolderSupplier<R>, OpenFault>
-        ensures no_name { folder.now ≡ [] → result ≡ Err OpenFault.Files }
+        ensures no_name { folder.now ≡ [] → result ≡ Err no_name }
         ensures opened { IfOk result (IsReadyFolder folder.now) }
+        ensures refused { IfErr result (λ fault. IfUnfit fault (λ unfit.
+            unfit.path ≡ folder.now)) }
     {
         if folder.is_empty() {
-            return Err(OpenFault::Files);
+            return Err(OpenFault::no_name(alloc));
         }
-        if !fs::metadata(&rt, folder)?.is_dir() {
-            return Err(OpenFault::Files);
+        let kept = String::from_str(alloc, folder)?;
+        if let Err(error) = standing_as_folder(&rt, folder) {
+            return Err(OpenFault::system(kept, error));
         }
-        let name = String::with_capacity(alloc, folder.len().saturating_add(1 + LONGEST_PATH))?;
-        let folder = String::from_str(alloc, folder)?;
+        let longest = folder.len().saturating_add(1 + LONGEST_PATH);
+        let name = String::with_capacity(alloc, longest)?;
+        let troubles = Troubles::none(alloc, longest)?;
         Ok(FolderSupplier {
             rt,
-            folder,
+            folder: kept,
             name,
             file: None,
-            failures: Failures::none(),
+            troubles,
             asks: 0,
         })
     }
 
+    /// What couldn't be used at the last failure: what stood in place of the file or of a directory that it is to be in,
+    /// or the file that couldn't be opened or read. `None` if nothing has failed, or if the last call failed for another
+    /// reason.
+    pub fn trouble(&self) -> Option<&Unfit>
+        ensures { MatchOption result (self.now.trouble ≡ None)
+            (λ unfit. self.now.trouble ≡ Some unfit.now) }
+    {
+        self.troubles.last()
+    }
+
     /// Opens the file with this path, if there is one.
-    fn seek(&mut self, path: &str) -> Result<bool, Failed>
+    fn seek(&mut self, path: &str) -> Result<bool, Option<Cause>>
         requires { self.old.to_read ≡ None }
         ensures opened { is_some self.new.to_read ≡ true → (result ≡ Ok true)
             × (self.new.name ≡ name_below self.old.folder path.now) }
         ensures found { result ≡ Ok true → is_some self.new.to_read ≡ true }
+        ensures failed { IfErr result (λ cause. OnSome cause
+            (IsNameTo self.old.folder path.now self.new.name)) }
         ensures same { self.new
             ≡ record self.old { name = self.new.name; to_read = self.new.to_read } }
     {
         match standing_below(&self.rt, &mut self.name, self.folder.as_str(), path)? {
-            Standing::Nothing => Ok(false),
-            Standing::Directory | Standing::Other => Err(Failed),
-            Standing::File => {
-                self.file = opened(&self.rt, &mut self.name, self.folder.as_str(), path);
-                if self.file.is_some() {
-                    Ok(true)
-                } else {
-                    Err(Failed)
-                }
+            None => Ok(false),
+            Some(EntryKind::File) => {
+                self.file = Some(opened(&self.rt, &mut self.name, self.folder.as_str(), path)?);
+                Ok(true)
             }
+            Some(EntryKind::Directory) => {
+                let error = io::Error::from(ErrorKind::IsADirectory);
+                Err(Some(Cause::System(error)))
+            }
+            Some(EntryKind::Link) => Err(Some(Cause::Link)),
+            Some(EntryKind::Special) => Err(Some(Cause::Special)),
         }
     }
 }
@@ -120,17 +143,21 @@ impl<R: Files> Source for FolderSupplier<R> {
         ensures same { self.new ≡ record self.old {
           to_read = self.new.to_read;
           failures = self.new.failures;
-        } }
+          trouble = self.new.trouble;
+        } × (IsErr result → IsToldAt self.old.name self.new.trouble) }
     {
         let answer = match &mut self.file {
-            Some(file) => file.read(buf).map_err(|_| Failed),
-            None => Err(Failed),
+            Some(file) => match file.read(buf) {
+                Ok(n) => Ok(n),
+                Err(error) => Err(Some(Cause::of(error))),
+            },
+            None => Err(None),
         };
-        self.failures.counted(answer)
+        self.troubles.counted(self.name.as_str(), answer)
     }
 
     fn failures(&self) -> u64 {
-        self.failures.count()
+        self.troubles.failures()
     }
 
     ghost keeps_itself = { asked_itself };
@@ -166,7 +193,7 @@ impl<R: Files + Drop> Supplier for FolderSupplier<R> {
         self.file = None;
         self.asks = self.asks.saturating_add(1);
         let answer = self.seek(path);
-        self.failures.counted(answer)
+        self.troubles.counted(self.name.as_str(), answer)
     }
 
     fn asks(&self) -> u64 {
@@ -176,51 +203,61 @@ impl<R: Files + Drop> Supplier for FolderSupplier<R> {
     ghost keeps_supply = { keeps_nothing };
 }
 
-/// What a name refers to.
-#[derive(Clone, Copy, Debug, PartialEq, Eq)]
-enum Standing {
-    Nothing,
-    File,
-    Directory,
-    // such as a symbolic link or a named pipe
-    Other,
+/// Fails if this name doesn't refer to a folder.
+fn standing_as_folder<R: Files>(rt: &R, folder: &str) -> io::Result<()> {
+    if fs::metadata(rt, folder)?.is_dir() {
+        Ok(())
+    } else {
+        Err(io::Error::from(ErrorKind::NotADirectory))
+    }
 }
 
-/// What this path below the folder refers to, without following symbolic links. `Nothing` also if a parent is a file.
+/// What stands at this path below the folder, without following symbolic links. `None` also if a parent is a file.
+/// `name` is overwritten with the name that was looked up last.
+///
+/// # Errors
+///
+/// The cause why it isn't known what stands there; none if memory ran out.
 fn standing_below<R: Files>(
     rt: &R,
     name: &mut String,
     folder: &str,
     path: &str,
-) -> Result<Standing, Failed> {
-    let mut standing = Standing::Directory;
-    name.clear();
-    push(name, folder)?;
-    for segment in path.split('/') {
-        match standing {
-            Standing::Directory => {}
-            Standing::File => return Ok(Standing::Nothing),
-            Standing::Nothing | Standing::Other => return Ok(standing),
+) -> Result<Option<EntryKind>, Option<Cause>>
+    ensures { LooksUp folder.now path.now (string_bytes name.new) result }
+{
+    for end in 0..path.len() {
+        match path.split_at_checked(end) {
+            Some((front, rest)) if rest.starts_with('/') => {
+                match standing_at(rt, name, folder, front)? {
+                    Some(EntryKind::Directory) => {}
+                    Some(EntryKind::File) => return Ok(None),
+                    standing => return Ok(standing),
+                }
+            }
+            _ => {}
         }
-        push(name, "/")?;
-        push(name, segment)?;
-        standing = standing_at(rt, name.as_str())?;
     }
-    Ok(standing)
+    standing_at(rt, name, folder, path)
 }
 
-/// What this name refers to, if all its parents are directories.
-fn standing_at<R: Files>(rt: &R, name: &str) -> Result<Standing, Failed> {
-    match fs::symlink_metadata(rt, name) {
-        Ok(about) if about.is_file() => Ok(Standing::File),
-        Ok(about) if about.is_dir() => Ok(Standing::Directory),
-        Ok(_) => Ok(Standing::Other),
-        Err(error) if error.kind() == ErrorKind::NotFound => Ok(Standing::Nothing),
-        Err(_) => Err(Failed),
+/// What stands at this path below the folder, if all its parents are directories.
+fn standing_at<R: Files>(
+    rt: &R,
+    name: &mut String,
+    folder: &str,
+    path: &str,
+) -> Result<Option<EntryKind>, Option<Cause>>
+    ensures { MatchResult result (λ _. string_bytes name.new ≡ name_below folder.now path.now)
+        (λ cause. OnSome cause (string_bytes name.new ≡ name_below folder.now path.now)) }
+{
+    name.clear();
+    if spell(name, folder, path).is_err() {
+        return Err(None);
     }
-}
-
-/// Appends a text to a name, whose capacity is enough.
-fn push(name: &mut String, text: &str) -> Result<(), Failed> {
-    name.push_str(text).map_err(|_| Failed)
+    match fs::symlink_metadata(rt, name.as_str()) {
+        Ok(about) => Ok(Some(EntryKind::of(about.file_type()))),
+        Err(error) if error.kind() == ErrorKind::NotFound => Ok(None),
+        Err(error) => Err(Some(Cause::of(error))),
+    }
 }

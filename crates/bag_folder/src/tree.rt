@@ -1,9 +1,10 @@
 //! A folder on disk, as a tree of files.
-ghost use Rattle.std.specs.Prelude.{◌≡◌, ◌↔◌, ◌||◌, ℕ, List, Contains, [], None, string_bytes, ◌<◌, ◌≤◌, IfOk, IsErr, OnOk, is_ok, is_some, length};
+ghost use Rattle.std.specs.Prelude.{◌≡◌, ◌↔◌, ◌||◌, ℕ, List, Contains, [], None, string_bytes, ◌<◌, ◌≤◌, IfErr, IfOk, IsErr, MatchOption, OnOk, Some, is_ok, is_some, length};
 ghost use Rattle.std.specs.List.{list_any};
 ghost use Rattle.bag_path.specs.Paths.{is_payload};
 ghost use Rattle.bag_rules.specs.Trees.{AreRising, octets_in, paths_in};
 ghost use Rattle.bag_folder.specs.Directories.{in_payload};
+ghost use Rattle.bag_folder.specs.Faults.{IfUnfit, no_name};
 ghost use Rattle.bag_folder.specs.Folders.{IsOpened, IsRefused};
 
 use crate::directory::Directories;
@@ -11,8 +12,10 @@ use crate::fault::OpenFault;
 use crate::name::opened;
 use crate::payload::InPayload;
 use crate::place::Place;
+use crate::troubles::Troubles;
+use crate::unfit::{Cause, Unfit};
 use crate::walk::{Below, walk};
-use bag_digest::{Failed, Failures, Source};
+use bag_digest::{Failed, Source};
 use bag_path::{BagPath, LONGEST_PATH};
 use bag_rules::{Paths, Tree};
 use std::alloc::Global;
@@ -31,7 +34,7 @@ pub struct FolderTree<R: Files> {
     paths: Vec<BagPath>,
     has_dir: bool,
     file: Option<R::File>,
-    failures: Failures,
+    troubles: Troubles,
 }
 
 impl<R: Files> Model for FolderTree<R> {
@@ -46,7 +49,8 @@ impl<R: Files> Model for FolderTree<R> {
       place = tree.place;
       name = string_bytes tree.name;
       to_read = option_map R.File.remaining tree.file;
-      failures = tree.failures;
+      failures = tree.troubles.failures;
+      trouble = tree.troubles.last;
     } };
 
     ghost invariant = { λ tree. IsListing tree.paths.items tree.has_dir };
@@ -64,16 +68,18 @@ impl<R: Files + Drop> FolderTree<R> {
     /// `Files` if the folder doesn't exist, isn't a folder or can't be read; or if something in it or below it is
     /// neither a regular file nor a directory (a symbolic link, a named pipe, a socket, a device), has a name that
     /// isn't UTF-8, or has a path that [`BagPath::parse`] refuses (longer than 4,096 octets; a regular file named
-    /// `data` in the folder itself). `Memory` if memory runs out. No file is opened.
+    /// `data` in the folder itself). It tells the first such thing that was met. `Memory` if memory runs out. No file
+    /// is opened.
     pub fn open<D: Directories>(
         rt: R,
         disk: &D,
         alloc: Global,
         folder: &str,
     ) -> Result<FolderTree<R>, OpenFault>
-        ensures no_name { folder.now ≡ [] → result ≡ Err OpenFault.Files }
+        ensures no_name { folder.now ≡ [] → result ≡ Err no_name }
         ensures opened { IfOk result (IsOpened (D.listing disk.now) folder.now Place.Base) }
-        ensures refused { result ≡ Err OpenFault.Files → IsRefused (D.listing disk.now) folder.now }
+        ensures refused { IfErr result (λ fault. IfUnfit fault
+            (IsRefused (D.listing disk.now) folder.now Place.Base)) }
     {
         FolderTree::open_at(rt, disk, alloc, folder, Place::Base)
     }
@@ -85,21 +91,30 @@ impl<R: Files + Drop> FolderTree<R> {
     /// # Errors
     ///
     /// Those of [`FolderTree::open`], except that the folder may contain a regular file named `data`, and that a path
-    /// in the folder is limited to 4,091 octets.
+    /// in the folder is limited to 4,091 octets. The names that they tell are those on disk, without `data/`.
     pub fn open_payload<D: Directories>(
         rt: R,
         disk: &D,
         alloc: Global,
         folder: &str,
     ) -> Result<FolderTree<R>, OpenFault>
-        ensures no_name { folder.now ≡ [] → result ≡ Err OpenFault.Files }
+        ensures no_name { folder.now ≡ [] → result ≡ Err no_name }
         ensures opened { IfOk result
             (IsOpened (in_payload (D.listing disk.now) folder.now) folder.now Place.Payload) }
-        ensures refused { result ≡ Err OpenFault.Files
-            → IsRefused (in_payload (D.listing disk.now) folder.now) folder.now }
+        ensures refused { IfErr result (λ fault. IfUnfit fault
+            (IsRefused (in_payload (D.listing disk.now) folder.now) folder.now Place.Payload)) }
     {
         let inside = InPayload { disk, folder };
         FolderTree::open_at(rt, &inside, alloc, folder, Place::Payload)
+    }
+
+    /// What couldn't be used at the last failure: the file that couldn't be started or read. `None` if nothing has failed,
+    /// or if the last call failed for another reason.
+    pub fn trouble(&self) -> Option<&Unfit>
+        ensures { MatchOption result (self.now.trouble ≡ None)
+            (λ unfit. self.now.trouble ≡ Some unfit.now) }
+    {
+        self.troubles.last()
     }
 
     /// The tree of the files below the folder that these directories list.
@@ -110,17 +125,23 @@ impl<R: Files + Drop> FolderTree<R> {
         folder: &str,
         place: Place,
     ) -> Result<FolderTree<R>, OpenFault>
-        ensures no_name { folder.now ≡ [] → result ≡ Err OpenFault.Files }
+        ensures no_name { folder.now ≡ [] → result ≡ Err no_name }
         ensures opened { IfOk result (IsOpened (D.listing disk.now) folder.now place) }
-        ensures refused { result ≡ Err OpenFault.Files → IsRefused (D.listing disk.now) folder.now }
+        ensures refused { IfErr result (λ fault. IfUnfit fault
+            (IsRefused (D.listing disk.now) folder.now place)) }
     {
         if folder.is_empty() {
-            return Err(OpenFault::Files);
+            return Err(OpenFault::no_name(alloc));
         }
-        let below = walk(disk, alloc, folder)?;
+        let below = match walk(disk, alloc, folder) {
+            Ok(below) => below,
+            Err(fault) => return Err(fault.on_disk(alloc, folder, place)),
+        };
         let folder = String::from_str(alloc, folder)?;
-        let name = String::with_capacity(alloc, folder.len().saturating_add(1 + LONGEST_PATH))?;
-        Ok(tree_of(rt, folder, place, name, below))
+        let longest = folder.len().saturating_add(1 + LONGEST_PATH);
+        let name = String::with_capacity(alloc, longest)?;
+        let troubles = Troubles::none(alloc, longest)?;
+        Ok(tree_of(rt, folder, place, name, troubles, below))
     }
 }
 
@@ -130,16 +151,22 @@ fn tree_of<R: Files + Drop>(
     folder: String,
     place: Place,
     name: String,
+    troubles: Troubles,
     below: Below,
 ) -> FolderTree<R>
     ensures paths { (path : List ℕ)
         → Contains (paths_in result.shown) path ↔ Contains below.paths.items path }
     ensures payload { result.shown.has_payload_dir
         ≡ (below.has_dir || list_any is_payload below.paths.items) }
-    ensures named { result.folder ≡ string_bytes folder }
-    ensures placed { result.place ≡ place }
-    ensures closed { result.to_read ≡ None }
-    ensures not_failed { result.failures ≡ 0 }
+    ensures rest { result ≡ record {
+      shown = result.shown;
+      folder = string_bytes folder;
+      place = place;
+      name = string_bytes name;
+      to_read = None;
+      failures = troubles.failures;
+      trouble = troubles.last;
+    } }
 {
     let has_dir = below.has_dir || has_payload(&below.paths);
     FolderTree {
@@ -150,7 +177,7 @@ fn tree_of<R: Files + Drop>(
         paths: in_order(below.paths),
         has_dir,
         file: None,
-        failures: Failures::none(),
+        troubles,
     }
 }
 
@@ -188,14 +215,17 @@ impl<R: Files> Source for FolderTree<R> {
         ensures exactly { ReadsFolder self.old self.new result buf.new }
     {
         let answer = match &mut self.file {
-            Some(file) => file.read(buf).map_err(|_| Failed),
-            None => Err(Failed),
+            Some(file) => match file.read(buf) {
+                Ok(n) => Ok(n),
+                Err(error) => Err(Some(Cause::of(error))),
+            },
+            None => Err(None),
         };
-        self.failures.counted(answer)
+        self.troubles.counted(self.name.as_str(), answer)
     }
 
     fn failures(&self) -> u64 {
-        self.failures.count()
+        self.troubles.failures()
     }
 
     ghost keeps_itself = { same_itself };
@@ -241,13 +271,13 @@ impl<R: Files> Tree for FolderTree<R> {
         self.file = None;
         let path = self.place.path_below(self.paths[i].as_str());
         let answer = match opened(&self.rt, &mut self.name, self.folder.as_str(), path) {
-            Some(file) => {
+            Ok(file) => {
                 self.file = Some(file);
                 Ok(())
             }
-            None => Err(Failed),
+            Err(cause) => Err(cause),
         };
-        self.failures.counted(answer)
+        self.troubles.counted(self.name.as_str(), answer)
     }
 
     ghost reads_keep = { keeps_tree };

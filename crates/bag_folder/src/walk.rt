@@ -1,11 +1,13 @@
 //! A walk through the directories below a folder.
-ghost use Rattle.std.specs.Prelude.{◌≡◌, ◌++◌, ◌∷◌, [], Some, IsErrOf, MatchOption, MatchResult, OnOk, string_bytes};
+ghost use Rattle.std.specs.Prelude.{◌≡◌, ◌++◌, ◌∷◌, [], Some, IfErr, MatchOption, MatchResult, OnOk, string_bytes};
 ghost use Rattle.bag_folder.specs.Directories.{IsBelow, IsUnfit, Listing};
+ghost use Rattle.bag_folder.specs.Faults.{IfUnfit};
 ghost use Rattle.bag_folder.specs.Walks.{LooksInto, RefusesFront, Walked};
 
 use crate::directory::{Directories, EntryKind};
 use crate::fault::OpenFault;
 use crate::name::spell;
+use crate::unfit::{Cause, Unfit};
 use bag_path::BagPath;
 use std::alloc::Global;
 use std::marker::Model;
@@ -42,23 +44,29 @@ impl Model for Found {
 }
 
 impl Found {
+    ghost use Rattle.bag_folder.specs.Directories.{Forbids};
     ghost use Rattle.bag_folder.specs.Walks.{FitsBag, with_path};
 
     /// Adds what was found at this path.
     fn take(&mut self, alloc: Global, path: String, kind: EntryKind) -> Result<(), OpenFault>
         ensures taken { OnOk result (self.new ≡ with_path self.old (string_bytes path) kind) }
         ensures fits { OnOk result (FitsBag (string_bytes path) kind) }
-        ensures refused { IsErrOf result OpenFault.Files → ¬ FitsBag (string_bytes path) kind }
+        ensures refused { IfErr result (λ fault. IfUnfit fault (λ unfit.
+            (unfit.path ≡ string_bytes path) × Forbids unfit.path kind unfit.cause)) }
     {
         match kind {
-            EntryKind::File => self.paths.push(BagPath::parse(alloc, path.as_str())?)?,
+            EntryKind::File => match BagPath::parse(alloc, path.as_str()) {
+                Ok(path) => self.paths.push(path)?,
+                Err(fault) => return Err(OpenFault::no_path(path, fault)),
+            },
             EntryKind::Directory => {
                 let mut path = path;
                 self.has_dir |= path.as_str() == "data";
                 path.push('/')?;
                 self.left.push(path)?;
             }
-            EntryKind::Other => return Err(OpenFault::Files),
+            EntryKind::Link => return Err(refusal(path, Cause::Link)),
+            EntryKind::Special => return Err(refusal(path, Cause::Special)),
         }
         Ok(())
     }
@@ -73,15 +81,24 @@ impl Found {
     }
 }
 
+/// The fault that this can't be used.
+fn refusal(path: String, cause: Cause) -> OpenFault
+    ensures { result ≡ OpenFault.Files (record { path = string_bytes path; cause = cause }) }
+{
+    OpenFault::Files(Unfit { path, cause })
+}
+
 /// Everything below a folder.
 ///
 /// # Errors
 ///
-/// `Files` if a directory can't be read, or something isn't allowed in a bag. `Memory` if memory runs out.
+/// `Files` if a directory can't be read, or something isn't allowed in a bag; its path is told as it is below the
+/// folder, and is empty for the folder itself. `Memory` if memory runs out.
 pub fn walk<D: Directories>(disk: &D, alloc: Global, folder: &str) -> Result<Below, OpenFault>
     ensures { (listing : Listing) → D.listing disk.now ≡ Some listing → MatchResult result
         (λ below. IsBelow listing folder.now below.paths.items below.has_dir)
-        (λ fault. fault ≡ OpenFault.Files → IsUnfit listing folder.now) }
+        (λ fault. IfUnfit fault (λ unfit.
+        IsUnfit listing folder.now unfit.path unfit.cause)) }
 {
     let mut found = Found {
         paths: Vec::new(alloc),
@@ -112,11 +129,18 @@ fn look_into<D: Directories>(
 ) -> Result<(), OpenFault>
     ensures { (listing : Listing) → D.listing disk.now ≡ Some listing → MatchResult result
         (λ _. LooksInto listing folder.now front.now found.old found.new)
-        (λ fault. fault ≡ OpenFault.Files → RefusesFront listing folder.now front.now) }
+        (λ fault. IfUnfit fault (λ unfit.
+        RefusesFront listing folder.now front.now unfit.path unfit.cause)) }
 {
     let mut directory = String::new(alloc);
     spell(&mut directory, folder, front)?;
-    let entries = disk.entries(alloc, directory.as_str())?;
+    let entries = match disk.entries(alloc, directory.as_str()) {
+        Ok(entries) => entries,
+        Err(error) => {
+            let path = String::from_str(alloc, front)?;
+            return Err(OpenFault::system(path, error));
+        }
+    };
     for entry in &entries {
         let mut path = String::from_str(alloc, front)?;
         path.push_str(entry.name.as_str())?;

@@ -1,7 +1,9 @@
-use Rattle.std.proofs.Common.{◌≡◌, ◌++◌, ◌∷◌, [], ℕ, List, map, string_bytes, ap, sym, subst, ◌∙◌}
+use Rattle.std.proofs.Common.{◌≡◌, ◌++◌, ◌∷◌, [], ℕ, List, map, string_bytes, ap, sym, subst}
 use Rattle.std.proofs.lemmas.Result.{err_from_is_err_and}
-use Rattle.bag_folder.specs.Directories.{IsBelow}
+use Rattle.bag_folder.specs.Directories.{IsBelow, IsUnfit}
 use Rattle.bag_folder.specs.Walks.{LooksInto, RefusesFront, Walked}
+use Rattle.bag_folder.specs.Unfits.{UnfitShown}
+use Rattle.bag_folder.proofs.FaultLemmas.{IfUnfit-weaker}
 use Rattle.bag_folder.proofs.WalkLemmas.{walking_begins, walking_on, walk_ends, walk_refuses}
 use Rattle.bag_folder.proofs.walk.walk.Goals as goal
 
@@ -31,5 +33,7 @@ returns-in_err-look_into g c = λ listing known.
     let before = c.loop.invariant listing known in
     let front = string_bytes c.in-Some.front in
     let error = err_from_is_err_and c.from_residual-in_err-look_into.result c.from_residual-in_err-look_into.ensures.1 in
-    rw error.1 (λ is. walk_refuses listing c.args.folder.now c.loop.found c.next.new.self before.0 front c.in-Some.ensures before.1
-    (subst (λ (f : List ℕ). RefusesFront listing c.args.folder.now f) c.as_str.ensures.value (c.in_err-look_into.ensures listing known (sym error.2 ∙ is))))
+    let Refuses = λ (f : List ℕ) (unfit : UnfitShown). RefusesFront listing c.args.folder.now f unfit.path unfit.cause in
+    rw (error.1, error.2) (IfUnfit-weaker c.in_err-look_into.field-0.0 (Refuses c.as_str.result.now) (λ unfit. IsUnfit listing c.args.folder.now unfit.path unfit.cause)
+    (λ unfit refuses. walk_refuses listing c.args.folder.now c.loop.found c.next.new.self before.0 front unfit.path unfit.cause c.in-Some.ensures before.1
+    (subst (λ (f : List ℕ). Refuses f unfit) c.as_str.ensures.value refuses)) (c.in_err-look_into.ensures listing known))

@@ -1,25 +1,25 @@
-use Rattle.std.proofs.Common.{◌≡◌, string_bytes}
-use Rattle.std.proofs.lemmas.Result.{err_from_is_err_and}
+use Rattle.std.proofs.Common.{◌≡◌, ◌∙◌, ap, string_bytes}
 use Rattle.bag_rules.specs.Trees.{paths_in}
-use Rattle.bag_folder.specs.declared.fault.OpenFault.TheVariants.{Files}
+use Rattle.bag_folder.specs.Folders.{FolderShown}
+use Rattle.bag_folder.specs.Unfits.{TroublesShown}
+use Rattle.bag_folder.proofs.FaultLemmas.{refused_on_disk}
 use Rattle.bag_folder.proofs.Listings.{below_in_order}
 use Rattle.bag_folder.proofs.tree.FolderTree.open_at.Goals as goal
 
-pub returns-in_err-below-clause-refused : goal.returns-in_err-below-clause-refused
-returns-in_err-below-clause-refused g c = λ is listing known.
-    let error = err_from_is_err_and c.from_residual.result c.from_residual.ensures.1 in
-    let files : c.in_err-below.field-0.0 ≡ Files = cc (error.1, error.2, is) in
-    c.in_err-below.ensures listing known files
+pub returns-in-Err-clause-refused : goal.returns-in-Err-clause-refused
+returns-in-Err-clause-refused g c = refused_on_disk (g.D.Directories.listing c.args.disk.now) c.args.folder.now c.args.place c.in-Err.fault c.on_disk.result c.in-Err.ensures c.on_disk.ensures
 
 pub returns-clause-opened : goal.returns-clause-opened
 returns-clause-opened g c =
     let folder : string_bytes c.in_ok-folder.folder ≡ c.args.folder.now = c.in_ok-folder.ensures.ok in
+    let is = c.tree_of.ensures.rest in
     record {
-      named = cc (folder, c.tree_of.ensures.named);
-      placed = c.tree_of.ensures.placed;
-      closed = c.tree_of.ensures.closed;
-      not_failed = c.tree_of.ensures.not_failed;
+      named = ap (λ (tree : FolderShown). tree.folder) is ∙ folder;
+      placed = ap (λ (tree : FolderShown). tree.place) is;
+      closed = ap (λ (tree : FolderShown). tree.to_read) is;
+      not_failed = ap (λ (tree : FolderShown). tree.failures) is ∙ ap (λ (troubles : TroublesShown). troubles.failures) c.in_ok-troubles.ensures;
+      no_trouble = ap (λ (tree : FolderShown). tree.trouble) is ∙ ap (λ (troubles : TroublesShown). troubles.last) c.in_ok-troubles.ensures;
       shows = λ listing known.
-          below_in_order listing c.args.folder.now c.in_ok-below.below.paths.items (paths_in c.tree_of.result.shown) c.in_ok-below.below.has_dir c.tree_of.result.shown.has_payload_dir
-          (c.in_ok-below.ensures listing known) c.tree_of.ensures.paths c.tree_of.ensures.payload;
+          below_in_order listing c.args.folder.now c.in-Ok.below.paths.items (paths_in c.tree_of.result.shown) c.in-Ok.below.has_dir c.tree_of.result.shown.has_payload_dir
+          (c.in-Ok.ensures listing known) c.tree_of.ensures.paths c.tree_of.ensures.payload;
     }

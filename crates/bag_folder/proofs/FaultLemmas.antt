@@ -1,0 +1,56 @@
+-- What a fault tells, and what a trouble tells.
+use Rattle.std.proofs.Common.{◌≡◌, ◌∙◌, ℕ, List, None, Option, Some, Result, Ok, Err, false, true, ap, length, subst, sym}
+use Rattle.std.proofs.Math.Nat.{le_refl}
+use Rattle.std.proofs.lemmas.List.{take_all}
+use Rattle.std.specs.Prelude.{IfErr, IfSome, IsErr, MatchResult, OnSome}
+use Rattle.bag_folder.specs.declared.fault.OpenFault.{OpenFault}
+use Rattle.bag_folder.specs.declared.fault.OpenFault.TheVariants.{Files, Memory}
+use Rattle.bag_folder.specs.declared.place.Place.{Place}
+use Rattle.bag_folder.specs.declared.unfit.Cause.{Cause}
+use Rattle.bag_folder.specs.Directories.{IsUnfit, Listing, name_below}
+use Rattle.bag_folder.specs.Faults.{IfUnfit, TellsBelow}
+use Rattle.bag_folder.specs.Folders.{IsRefused}
+use Rattle.bag_folder.specs.Supplying.{IsNameTo}
+use Rattle.bag_folder.specs.Unfits.{CountsTrouble, TellsLast, TroublesShown, UnfitShown}
+
+pub IfUnfit-weaker : (fault : OpenFault) (P Q : UnfitShown → Type 0) → ((unfit : UnfitShown) → P unfit → Q unfit) → IfUnfit fault P → IfUnfit fault Q
+IfUnfit-weaker (Files unfit) P Q weaker here = weaker unfit here
+IfUnfit-weaker Memory P Q weaker here = tt
+
+pub OnSome-weaker : {A : Type 0} (o : Option A) (P Q : Type 0) → (P → Q) → OnSome o P → OnSome o Q
+OnSome-weaker (Some value) P Q weaker here = weaker here
+OnSome-weaker None P Q weaker here = tt
+
+-- the name of the whole path
+pub whole_name : (folder path name : List ℕ) → name ≡ name_below folder path → IsNameTo folder path name
+whole_name folder path name is = (length path, is ∙ ap (name_below folder) (sym (take_all (length path) path (le_refl (length path)))))
+
+-- what a walk refuses is told by its name on disk
+pub refused_on_disk : (known : Option Listing) (folder : List ℕ) (place : Place) (fault told : OpenFault)
+    → ((listing : Listing) → known ≡ Some listing → IfUnfit fault (λ unfit. IsUnfit listing folder unfit.path unfit.cause))
+    → IfUnfit told (TellsBelow fault folder place) → IfUnfit told (IsRefused known folder place)
+refused_on_disk known folder place fault told refused tells =
+    IfUnfit-weaker told (TellsBelow fault folder place) (IsRefused known folder place) (λ unfit here. record {
+      path = here.below.path;
+      named = here.path_is;
+      because = λ listing is.
+          let below : IsUnfit listing folder here.below.path here.below.cause = subst (λ (f : OpenFault). IfUnfit f (λ unfit. IsUnfit listing folder unfit.path unfit.cause)) here.was (refused listing is) in
+          subst (λ (cause : Cause). IsUnfit listing folder here.below.path cause) (sym here.same_cause) below;
+    }) tells
+
+false_is_not_true : false ≡ true → ⊥
+false_is_not_true h = cc
+
+none_is_not_some : (cause : Cause) → None ≡ Some cause → ⊥
+none_is_not_some cause h = cc
+
+-- what is told of a failed call has the name that was looked up
+pub told_by_name : {A E : Type 0} (answer : Result A (Option Cause)) (result : Result A E) (name : List ℕ) (old new : TroublesShown) (P : List ℕ → Type 0)
+    → MatchResult answer (λ value. result ≡ Ok value) (λ _. IsErr result) → CountsTrouble answer name old new → IfErr answer (λ cause. OnSome cause (P name))
+    → IsErr result → IfSome new.last (λ unfit. P unfit.path)
+told_by_name {E = E} (Ok value) result name old new P same counts looked_up failed = absurd (false_is_not_true (subst (λ (r : Result _ E). IsErr r) same failed))
+told_by_name (Err cause) result name old new P same counts looked_up failed = go new.last cause counts.1 looked_up where
+  go : (last : Option UnfitShown) (cause : Option Cause) → TellsLast name cause last → OnSome cause (P name) → IfSome last (λ unfit. P unfit.path)
+  go None cause tells here = tt
+  go (Some unfit) None tells here = absurd (none_is_not_some unfit.cause tells.1)
+  go (Some unfit) (Some cause) tells here = subst P (sym tells.0) here
