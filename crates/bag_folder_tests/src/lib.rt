@@ -4,6 +4,8 @@
 #[cfg(test)]
 mod courier;
 #[cfg(test)]
+mod faults;
+#[cfg(test)]
 mod supplier;
 #[cfg(test)]
 mod told;

@@ -1,6 +1,6 @@
 //! A folder as a supplier.
 use bag_digest::{Failed, Source};
-use bag_folder::{FolderSupplier, OpenFault};
+use bag_folder::FolderSupplier;
 use bag_receiver::Supplier;
 use std::fs;
 use std::os::unix::fs::symlink;
@@ -43,22 +43,5 @@ fn a_folder_supplies_its_plain_files_by_their_paths(rt: HostRuntime) -> Result<(
     assert_eq!(rt; (supplier.asks(), supplier.failures()), (9, 13));
     drop(supplier);
     fs::remove_dir_all(&rt, folder)?;
-    Ok(())
-}
-
-#[test]
-fn what_is_no_folder_is_no_supplier(rt: HostRuntime) -> Result<(), Fail> {
-    fs::write(&rt, "bag_folder_test_no_supplier", b"".as_slice())?;
-    for name in [
-        "",
-        "bag_folder_test_no_supplier",
-        "bag_folder_test_not_there",
-    ] {
-        match FolderSupplier::open(&rt, rt.alloc(), name) {
-            Ok(_) => assert!(rt; false, "{name}"),
-            Err(fault) => assert_eq!(rt; fault, OpenFault::Files),
-        }
-    }
-    fs::remove_file(&rt, "bag_folder_test_no_supplier")?;
     Ok(())
 }

@@ -5,6 +5,7 @@ use bag_folder::{Disk, Entry, EntryKind, FolderTree};
 use bag_rules::{Paths, Tree};
 use std::alloc::Global;
 use std::fs;
+use std::io::{self, ErrorKind};
 use std::test::Fail;
 
 fn start<T: Tree>(tree: &mut T, i: usize) -> Result<(), Failed> {
@@ -95,7 +96,10 @@ fn each_entry_that_is_told_is_taken_or_looked_into(rt: HostRuntime) -> Result<()
     tell(rt.alloc(), &mut told, "bag/", &top)?;
     tell(rt.alloc(), &mut told, "bag/data/", &[])?;
     tell(rt.alloc(), &mut told, "bag/a/", &below)?;
-    let bag = ToldDirectories { all: told };
+    let bag = ToldDirectories {
+        all: told,
+        others: io::Error::from(ErrorKind::NotFound),
+    };
     let tree = FolderTree::open(&rt, &bag, rt.alloc(), "bag")?;
     assert!(rt; has_paths(&tree, &[".DS_Store", "a/.c", "a/b"]));
     assert!(rt; tree.has_payload_dir());
