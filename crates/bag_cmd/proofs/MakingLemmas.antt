@@ -33,7 +33,7 @@ module _ {K W : Type 0} (k : Ghosts K) (known : Option Listing) (contents : W �
   in_folder : (folder : List ℕ) (does : FolderShown → FolderShown → Type 0) → ((tree later : FolderShown) → does tree later → GoesOn)
       → WithFolder contents known folder (after ≡ before) does old new result → GoesOn
   in_folder folder does went (Opened tree later opened did) = went tree later did
-  in_folder folder does went (Refused refused same printed) = stayed same
+  in_folder folder does went (Refused unfit refused same printed) = stayed same
   in_folder folder does went (NoMemory same printed) = stayed same
 
   -- only `begin` makes a ledger

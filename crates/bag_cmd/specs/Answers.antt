@@ -13,6 +13,7 @@ use Rattle.bag_commands.specs.StopTexts.{stop_text}
 use Rattle.bag_folder.specs.declared.place.Place.TheVariants.{Base}
 use Rattle.bag_folder.specs.Directories.{Listing}
 use Rattle.bag_folder.specs.Folders.{FolderShown, IsOpened, IsRefused}
+use Rattle.bag_folder.specs.Unfits.{UnfitShown}
 use Rattle.bag_cmd.specs.declared.request.Request.{Request}
 use Rattle.bag_cmd.specs.declared.request.Request.TheVariants.{Check, Ledger, Make}
 use Rattle.bag_cmd.specs.Making.{PrintsMake}
@@ -30,7 +31,8 @@ pub data PrintsCheck {W : Type 0} (contents : W → Option (List ℕ)) (known : 
   Answered : (tree later : FolderShown) → IsOpened known folder Base tree
       → PrintedOf contents old new result (IsFolderAnswer tree later)
       → PrintsCheck contents known folder old new result
-  Refused : IsRefused known folder → Printed contents old new result (stop_text Files ∷ []) FAILED
+  Refused : (unfit : UnfitShown) → IsRefused known folder Base unfit
+      → Printed contents old new result (stop_text Files ∷ []) FAILED
       → PrintsCheck contents known folder old new result
   NoMemory : Printed contents old new result (stop_text Memory ∷ []) FAILED
       → PrintsCheck contents known folder old new result

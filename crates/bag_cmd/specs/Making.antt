@@ -12,6 +12,7 @@ use Rattle.bag_folder.specs.declared.fault.OpenFault.{OpenFault}
 use Rattle.bag_folder.specs.declared.place.Place.TheVariants.{Payload}
 use Rattle.bag_folder.specs.Directories.{Listing, in_payload}
 use Rattle.bag_folder.specs.Folders.{FolderShown, IsOpened, IsRefused}
+use Rattle.bag_folder.specs.Unfits.{UnfitShown}
 use Rattle.bag_cmd.specs.Stops.{stop_of_open}
 use Rattle.bag_folder.specs.SinkFolders.{IsCreated, SinkShown}
 
@@ -65,7 +66,8 @@ pub data PrintsMake {W : Type 0} (contents : W → Option (List ℕ)) (known : O
       (λ (tree : FolderShown). tree.failures) (λ (tree : FolderShown). ⊥) tree later words.names
       old new result) (later ≡ tree) words.destination before after old new result
       → PrintsMake contents known words before after old new result
-  Refused : IsRefused (in_payload known words.source) words.source → after ≡ before
+  Refused : (unfit : UnfitShown)
+      → IsRefused (in_payload known words.source) words.source Payload unfit → after ≡ before
       → Printed contents old new result (stop_text stop.Files ∷ []) FAILED
       → PrintsMake contents known words before after old new result
   NoMemory : after ≡ before → Printed contents old new result (stop_text stop.Memory ∷ []) FAILED

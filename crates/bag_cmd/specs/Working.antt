@@ -40,6 +40,7 @@ use Rattle.bag_cmd.specs.Stops.{stop_of_open}
 use Rattle.bag_cmd.specs.Making.{MakesInto}
 use Rattle.bag_folder.specs.SinkFolders.{SinkShown}
 use Rattle.bag_folder.specs.Supplying.{IsReadyFolder, SupplierShown, unknown}
+use Rattle.bag_folder.specs.Unfits.{UnfitShown}
 
 -- OPENING
 
@@ -74,7 +75,7 @@ pub data WithFolder {W : Type 0} (contents : W → Option (List ℕ)) (known : O
     (old new : Output W) (result : ℕ) : Type 0 where
   Opened : (tree later : FolderShown) → IsOpened known folder Base tree → does tree later
       → WithFolder contents known folder untouched does old new result
-  Refused : IsRefused known folder → untouched
+  Refused : (unfit : UnfitShown) → IsRefused known folder Base unfit → untouched
       → Printed contents old new result (stop_text stop.Files ∷ []) FAILED
       → WithFolder contents known folder untouched does old new result
   NoMemory : untouched → Printed contents old new result (stop_text stop.Memory ∷ []) FAILED
@@ -87,9 +88,9 @@ AreOpened known (folder ∷ folders) (tree ∷ trees) =
     IsOpened known folder Base tree × AreOpened known folders trees
 AreOpened known folders trees = ⊥
 
-abbrev pub SomeIsRefused : Option Listing → List (List ℕ) → Type 0
-SomeIsRefused known folders =
-    (folder : List ℕ) × Contains folders folder × IsRefused known folder
+abbrev pub SomeIsRefused : Option Listing → List (List ℕ) → UnfitShown → Type 0
+SomeIsRefused known folders unfit =
+    (folder : List ℕ) × Contains folders folder × IsRefused known folder Base unfit
 
 -- the same for several folders
 pub data WithFolders {W : Type 0} (contents : W → Option (List ℕ)) (known : Option Listing)
@@ -97,7 +98,7 @@ pub data WithFolders {W : Type 0} (contents : W → Option (List ℕ)) (known : 
     (old new : Output W) (result : ℕ) : Type 0 where
   AllOpened : (trees : List FolderShown) → AreOpened known folders trees → does trees
       → WithFolders contents known folders untouched does old new result
-  OneRefused : SomeIsRefused known folders → untouched
+  OneRefused : (unfit : UnfitShown) → SomeIsRefused known folders unfit → untouched
       → Printed contents old new result (stop_text stop.Files ∷ []) FAILED
       → WithFolders contents known folders untouched does old new result
   OutOfMemory : untouched → Printed contents old new result (stop_text stop.Memory ∷ []) FAILED

@@ -18,7 +18,7 @@ fn stop_of(fault: OpenFault) -> Stop
     ensures { result ≡ stop_of_open fault }
 {
     match fault {
-        OpenFault::Files => Stop::Files,
+        OpenFault::Files(_) => Stop::Files,
         OpenFault::Memory => Stop::Memory,
     }
 }

@@ -1,5 +1,6 @@
 //! `bag intake LEDGER NAME DIR..`: takes in the payload files of folders.
-ghost use Rattle.std.specs.Prelude.{◌≡◌, Err, IfOk, List, map, string_bytes};
+ghost use Rattle.std.specs.Prelude.{◌≡◌, IfErr, IfOk, List, map, string_bytes};
+ghost use Rattle.bag_folder.specs.Faults.{IfUnfit};
 ghost use Rattle.bag_folder.specs.Folders.{FolderShown};
 ghost use Rattle.bag_folder.specs.Bringing.{courier_of};
 ghost use Rattle.bag_cmd.specs.Working.{AreOpened, SomeIsRefused, TakesInFrom};
@@ -43,8 +44,8 @@ fn open_all<'a, R: Files, D: Directories>(
     ensures opened { IfOk result (λ couriers. (trees : List FolderShown)
         × AreOpened (D.listing disk.now) (map string_bytes folders.now) trees
         × (couriers.items ≡ map courier_of trees)) }
-    ensures refused { result ≡ Err OpenFault.Files
-        → SomeIsRefused (D.listing disk.now) (map string_bytes folders.now) }
+    ensures refused { IfErr result (λ fault. IfUnfit fault
+        (SomeIsRefused (D.listing disk.now) (map string_bytes folders.now))) }
 {
     let mut couriers = Vec::new(alloc);
     for folder in folders {

@@ -1,4 +1,4 @@
-use Rattle.std.proofs.Common.{◌∷◌, [], Err, ap, refl, subst}
+use Rattle.std.proofs.Common.{◌∷◌, [], refl, subst}
 use Rattle.bag_commands.specs.declared.status.TheConstants.{FAILED}
 use Rattle.bag_commands.specs.declared.stop.Stop.{Stop}
 use Rattle.bag_commands.specs.Printing.{Printed}
@@ -14,4 +14,4 @@ pub returns-in-Err : goal.returns-in-Err
 returns-in-Err g c =
     let printed = subst (λ (stop : Stop). Printed g.W.Write.contents c.args.out.now c.print_stop.new.out c.print_stop.result (stop_text stop ∷ []) FAILED) c.stop_of.ensures c.print_stop.ensures in
     not_opened g.W.Write.contents (g.D.Directories.listing c.args.disk.now) _ c.args.out.now c.print_stop.new.out c.print_stop.result c.args.folder.now _ c.in-Err.fault
-    (λ is. c.in-Err.ensures.refused (ap Err is)) refl printed
+    c.in-Err.ensures.refused refl printed

@@ -1,4 +1,4 @@
-use Rattle.std.proofs.Common.{◌∙◌, ◌∷◌, [], Err, ap, map, refl, string_bytes, subst}
+use Rattle.std.proofs.Common.{◌∙◌, ◌∷◌, [], map, refl, string_bytes, subst}
 use Rattle.bag_commands.specs.declared.status.TheConstants.{FAILED}
 use Rattle.bag_commands.specs.declared.stop.Stop.{Stop}
 use Rattle.bag_commands.specs.Printing.{Printed}
@@ -17,4 +17,4 @@ pub returns-in-Err : goal.returns-in-Err
 returns-in-Err g c =
     let printed = subst (λ (stop : Stop). Printed g.W.Write.contents c.args.out.now c.print_stop.new.out c.print_stop.result (stop_text stop ∷ []) FAILED) c.stop_of.ensures c.print_stop.ensures in
     none_opened g.W.Write.contents (g.D.Directories.listing c.args.disk.now) _ c.args.out.now c.print_stop.new.out c.print_stop.result (map string_bytes c.args.folders.now) _ c.in-Err.fault
-    (λ is. c.in-Err.ensures.refused (ap Err is)) refl printed
+    c.in-Err.ensures.refused refl printed

@@ -1,10 +1,12 @@
-use Rattle.std.proofs.Common.{◌≡◌, ◌∷◌, ℕ, List, [], Err, Option, ap, refl, subst}
+use Rattle.std.proofs.Common.{◌∷◌, ℕ, List, [], Option, refl, subst}
 use Rattle.bag_folder.specs.declared.fault.OpenFault.{OpenFault}
 use Rattle.bag_folder.specs.declared.fault.OpenFault.TheVariants as open_fault
 use Rattle.bag_commands.specs.declared.output.Output.{Output}
 use Rattle.bag_commands.specs.declared.status.TheConstants.{FAILED}
 use Rattle.bag_commands.specs.declared.stop.Stop.{Stop}
+use Rattle.bag_folder.specs.declared.place.Place.TheVariants.{Payload}
 use Rattle.bag_folder.specs.Directories.{Listing, in_payload}
+use Rattle.bag_folder.specs.Faults.{IfUnfit}
 use Rattle.bag_folder.specs.Folders.{IsRefused}
 use Rattle.bag_cmd.specs.Stops.{stop_of_open}
 use Rattle.bag_cmd.specs.Making.{MakingShown, NoMemory, Opened, PrintsMake, Refused, words_given}
@@ -14,9 +16,9 @@ use Rattle.bag_cmd.proofs.commands.make.make_folder.Goals as goal
 
 -- the reason why the payload wasn't opened was printed, and no folder was made
 not_opened : {W : Type 0} (contents : W → Option (List ℕ)) (known : Option Listing) (words : MakingShown) (made : Option (List ℕ)) (old new : Output W) (result : ℕ) (fault : OpenFault)
-    → (fault ≡ open_fault.Files → IsRefused (in_payload known words.source) words.source) → Printed contents old new result (stop_text (stop_of_open fault) ∷ []) FAILED
+    → IfUnfit fault (IsRefused (in_payload known words.source) words.source Payload) → Printed contents old new result (stop_text (stop_of_open fault) ∷ []) FAILED
     → PrintsMake contents known words made made old new result
-not_opened contents known words made old new result open_fault.Files refused printed = Refused (refused refl) refl printed
+not_opened contents known words made old new result (open_fault.Files unfit) refused printed = Refused unfit refused refl printed
 not_opened contents known words made old new result open_fault.Memory refused printed = NoMemory refl printed
 
 pub returns-in-Ok : goal.returns-in-Ok
@@ -26,4 +28,4 @@ pub returns-in-Err : goal.returns-in-Err
 returns-in-Err g c =
     let printed = subst (λ (stop : Stop). Printed g.W.Write.contents c.args.out.now c.print_stop.new.out c.print_stop.result (stop_text stop ∷ []) FAILED) c.stop_of.ensures c.print_stop.ensures in
     not_opened g.W.Write.contents (g.D.Directories.listing c.args.disk.now) (words_given c.args.making.now) c.args.made.now c.args.out.now c.print_stop.new.out c.print_stop.result c.in-Err.fault
-    (λ is. c.in-Err.ensures.refused (ap Err is)) printed
+    c.in-Err.ensures.refused printed
