@@ -28,6 +28,7 @@ import types
 import new_bags
 import reference_commands
 from deliveries import answer, line
+from explaining import is_explained
 from left_logs import HeldUp
 from reference_receiver import Receiver
 from stops import answered, found, known, ledger_of, run, steps
@@ -164,7 +165,8 @@ class Ledger:
         wanted = self.commands.answer(words)
         ran = subprocess.run([self.program, *words], capture_output=True, timeout=120, check=False)
         assert ran.stdout.decode().split("\n") == [*wanted.lines, ""], (words, ran, wanted.lines)
-        assert not ran.stderr and ran.returncode == wanted.status, (words, ran, wanted.status)
+        assert is_explained(wanted.lines, wanted.status, ran.stderr), (words, ran)
+        assert ran.returncode == wanted.status, (words, ran, wanted.status)
         return wanted
 
     def judge(self):

@@ -17,6 +17,8 @@ import subprocess
 import sys
 import tempfile
 
+from explaining import is_explained
+
 PIECE = 65_536
 DECLARATION = b"BagIt-Version: 1.0\nTag-File-Character-Encoding: UTF-8\n"
 URL = "http://example.org/"
@@ -48,7 +50,7 @@ class Place:
             (self.bag / path).write_bytes(octets)
 
     def run(self, *words, limit=None):
-        """The status and the lines of a command. Standard error must be empty."""
+        """The status and the lines of a command. Standard error must be empty, but for what explains a line."""
 
         def limited():
             if limit is not None:
@@ -56,8 +58,9 @@ class Place:
                 resource.setrlimit(resource.RLIMIT_FSIZE, (limit, limit))
 
         ran = subprocess.run([self.program, *words], preexec_fn=limited, capture_output=True, timeout=60, check=False)
-        assert not ran.stderr, (words, ran)
-        return ran.returncode, ran.stdout.decode().splitlines()
+        lines = ran.stdout.decode().splitlines()
+        assert is_explained(lines, ran.returncode, ran.stderr), (words, ran)
+        return ran.returncode, lines
 
     def words(self, command):
         """The arguments of a command on the ledger and its transfer t1, with a new folder to export to."""

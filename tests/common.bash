@@ -8,13 +8,37 @@ passed=0
 failed=0
 
 # expect NAME STATUS LINES COMMAND..: the command ends with this status, prints these lines (none if LINES is empty) and
-# prints nothing on standard error.
+# prints nothing on standard error, except for one line that explains one of these.
 expect() {
     local name=$1 wanted=$2 lines=$3 status=0
     shift 3
     "$@" </dev/null >"$work/printed" 2>"$work/said" || status=$?
     printf '%s' "${lines:+$lines$'\n'}" >"$work/wanted"
-    if diff -u "$work/wanted" "$work/printed" && diff -u /dev/null "$work/said" && [ "$status" -eq "$wanted" ]; then
+    if diff -u "$work/wanted" "$work/printed" && explained "$wanted" "$lines" && [ "$status" -eq "$wanted" ]; then
+        passed=$((passed + 1))
+    else
+        failed=$((failed + 1))
+        echo "FAILED: $name: status $status instead of $wanted"
+    fi
+}
+
+# explained STATUS LINES: what was said on standard error is one line `bag: ..` if the lines say that folders or files can't
+# be used, and otherwise nothing. FORMAT.md, section 14, says which lines these are.
+explained() {
+    if [ "$1" -eq 3 ] && grep -qxE 'bag: (files|tag too large|too large|too many)' <<<"$2"; then
+        [[ $(<"$work/said") == 'bag: '?* ]] && [ "$(wc -l <"$work/said")" -eq 1 ] && return
+        cat "$work/said" && return 1
+    fi
+    diff -u /dev/null "$work/said"
+}
+
+# explain NAME STATUS LINE COMMAND..: the command ends with this status, and says this line and nothing else on standard
+# error. What it prints is for `expect`.
+explain() {
+    local name=$1 wanted=$2 line=$3 status=0
+    shift 3
+    "$@" </dev/null >"$work/printed" 2>"$work/said" || status=$?
+    if diff -u <(printf '%s\n' "$line") "$work/said" && [ "$status" -eq "$wanted" ]; then
         passed=$((passed + 1))
     else
         failed=$((failed + 1))

@@ -91,7 +91,8 @@ def put_in_the_way(place, words, path, put):
         ran.send_signal(signal.SIGCONT)
         printed, said = ran.communicate(timeout=60)
         if is_early:
-            assert (ran.returncode, printed, said) == (3, b"bag: files\n", b""), ran
+            assert (ran.returncode, printed) == (3, b"bag: files\n"), ran
+            assert said.startswith(b"bag: " + os.fsencode(path) + b": "), said
             assert (path.lstat().st_mode, path.is_file() and path.read_bytes()) == before
             assert not (path.parent / "new").exists()
     shutil.rmtree(words[-1])

@@ -19,6 +19,7 @@ import tempfile
 import new_bags
 import reference
 import reference_commands
+from explaining import is_explained
 from reference_commands import Answer, Commands, read_ledger
 from small_bags import DECLARATION
 
@@ -112,7 +113,10 @@ class Case:
     def judge(self, ran, failed):
         """Judges the result of a run in which this failed, an allocation or the text of a call, and what follows."""
         lines = ran.stdout.decode().split("\n")
-        if ran.stderr or lines.pop() or ran.returncode not in (3, self.wanted.status):
+        if lines.pop() or ran.returncode not in (3, self.wanted.status):
+            raise Otherwise(f"{ran}")
+        is_lost = failed.startswith("write(") and ran.returncode == 3
+        if not is_explained(lines, ran.returncode, ran.stderr) and not is_lost:
             raise Otherwise(f"{ran}")
         is_whole = (lines, ran.returncode) == (self.wanted.lines, self.wanted.status)
         is_unwritten = failed.startswith("write(1, ") and lines == self.wanted.lines[:len(lines)]
@@ -222,7 +226,8 @@ class Case:
         for words in [again, [b"report", b"ledger", b"t1"]]:
             wanted = Commands().answer(words)
             ran = subprocess.run([self.program, *words], capture_output=True, timeout=60, check=False)
-            if (ran.stdout, ran.returncode, ran.stderr) != (text_of(wanted.lines), wanted.status, b""):
+            is_said = is_explained(wanted.lines, wanted.status, ran.stderr)
+            if (ran.stdout, ran.returncode) != (text_of(wanted.lines), wanted.status) or not is_said:
                 raise Otherwise(f"then: {ran} instead of {wanted[:2]}")
 
 

@@ -10,6 +10,8 @@ import subprocess
 import sys
 import tempfile
 
+from explaining import is_explained
+
 DECLARATION = b"BagIt-Version: 1.0\nTag-File-Character-Encoding: UTF-8\n"
 OF_0_97 = DECLARATION.replace(b"1.0", b"0.97")
 PAYLOAD = {b"data/a.txt": b"abc", b"data/e.txt": b""}
@@ -290,7 +292,7 @@ def judged(program, kind, families):
             write(folder, files)
             told = subprocess.run([program, "check", folder], capture_output=True, timeout=100, check=False)
             printed = told.stdout.decode().splitlines()
-            if (printed, told.returncode) != (lines, status) or told.stderr:
+            if (printed, told.returncode) != (lines, status) or not is_explained(lines, status, told.stderr):
                 failed += 1
                 print(f"{name}: status {told.returncode}: {printed} instead of status {status}: {lines}")
             shutil.rmtree(folder)

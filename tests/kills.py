@@ -22,6 +22,8 @@ import sys
 import tempfile
 import time
 
+from explaining import is_explained
+
 DECLARATION = b"BagIt-Version: 1.0\nTag-File-Character-Encoding: UTF-8\n"
 NAMES = ["first", "second"]
 FILES, LONGEST = 24, 300_000
@@ -78,11 +80,11 @@ class Ledger:
             printed, said = ran.communicate(timeout=60)
             printed = begun + printed
         self.tried["commands"] += 1
-        assert not said, (words, said)
         killed = ran.returncode == -signal.SIGKILL
         self.tried["kills"] += killed
         assert killed or printed.endswith(b"\n") or not printed, (words, printed)
         lines = printed.decode().split("\n")[:-1]
+        assert killed or is_explained(lines, ran.returncode, said), (words, said)
         return None if killed else ran.returncode, lines
 
     def words(self, command):

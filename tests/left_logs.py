@@ -17,6 +17,7 @@ import tempfile
 import time
 
 from command_ledgers import ALL, DAMAGES, PIECE, SMALL, Place
+from explaining import is_explained
 
 SET_PIPE_SIZE = 1031
 
@@ -52,8 +53,9 @@ class HeldUp:
         with open(self.output, "rb") as output:
             printed = output.read()
         said = self.ran.communicate()[1]
-        assert not said, said
-        return self.ran.returncode, printed[self.before :].decode().splitlines()
+        lines = printed[self.before :].decode().splitlines()
+        assert is_explained(lines, self.ran.returncode, said), said
+        return self.ran.returncode, lines
 
 
 def folder(place, name, files):

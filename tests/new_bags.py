@@ -27,6 +27,7 @@ import sys
 import tempfile
 
 import reference
+from explaining import is_explained
 
 ALGORITHMS = ["md5", "sha1", "sha256", "sha512"]
 MOST_FILES, LARGEST_TAG_FILE = 100000, 16777216
@@ -301,7 +302,7 @@ class Judges:
             return None
         ran = subprocess.run([self.program, "check", folder], capture_output=True, timeout=60, check=False)
         wanted = "".join(line + "\n" for line in lines).encode()
-        if (ran.stdout, ran.stderr, ran.returncode) != (wanted, b"", status):
+        if (ran.stdout, ran.returncode) != (wanted, status) or not is_explained(lines, status, ran.stderr):
             return f"bag check prints {ran.stdout + ran.stderr} with {ran.returncode} instead of {wanted}"
         return None
 

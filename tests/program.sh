@@ -160,5 +160,6 @@ expect 'a file more' 3 'bag: too many' bag check "$work/files"
 expect 'a closed output' 3 '' closed bag check examples/first-bag
 expect 'a closed output, and no words' 3 '' closed bag
 expect 'a full output' 3 '' full bag check examples/first-bag
-expect 'a full output, and a folder that is not there' 3 '' full bag check "$work/none"
+explain 'a full output, and a folder that is not there' 3 "bag: $work/none: No such file or directory (os error 2)" \
+    full bag check "$work/none"
 finish

@@ -13,6 +13,7 @@ import sys
 import tempfile
 
 import reference
+from explaining import is_explained
 
 VERSIONS = [b"1.0", b"0.97"]
 ALGORITHMS = ["md5", "sha1", "sha256", "sha512"]
@@ -425,7 +426,7 @@ def main(program, seed, number):
         command = [program, "check", folder]
         ran = subprocess.run(command, stdin=subprocess.DEVNULL, capture_output=True, timeout=60, check=False)
         wanted = "".join(line + "\n" for line in lines).encode()
-        if (ran.stdout, ran.stderr, ran.returncode) != (wanted, b"", status):
+        if (ran.stdout, ran.returncode) != (wanted, status) or not is_explained(lines, status, ran.stderr):
             print(f"bag {i} of seed {seed}, kept as {folder}:")
             print(f"the program ({ran.returncode}):\n{(ran.stdout + ran.stderr).decode(errors='replace')}")
             print(f"the reference ({status}):\n{wanted.decode()}")

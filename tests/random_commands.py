@@ -19,6 +19,7 @@ import deliveries
 import random_bags
 import reference
 import reference_commands
+from explaining import is_explained
 from random_bags import sometimes
 from reference_receiver import Receiver
 
@@ -303,7 +304,9 @@ class Run:
         lines = None if wanted.lines is None else "".join(line + "\n" for line in wanted.lines).encode()
         is_usage = wanted.status == 64 and not wanted.lines
         is_text = ran.stdout.endswith(b"\n") if lines is None else ran.stdout == lines
-        if not is_text or ran.returncode != wanted.status or bool(ran.stderr) != is_usage:
+        printed = ran.stdout.decode(errors="replace").splitlines()
+        is_said = bool(ran.stderr) if is_usage else is_explained(printed, ran.returncode, ran.stderr)
+        if not is_text or ran.returncode != wanted.status or not is_said:
             raise Otherwise(f"the program ({ran.returncode}):\n{(ran.stdout + ran.stderr).decode(errors='replace')}\n"
                             f"the reference ({wanted.status}):\n{(lines or b'').decode()}")
 

@@ -22,6 +22,8 @@ import subprocess
 import sys
 import tempfile
 
+from explaining import is_explained
+
 DECLARATION = b"BagIt-Version: 1.0\nTag-File-Character-Encoding: UTF-8\n"
 PAYLOAD = {f"data/{folder}{number}": f"{folder}{number}\n".encode() * length
            for folder in "ab" for number, length in enumerate([1, 0, 30_000])}
@@ -104,7 +106,7 @@ class Place:
         printed, said = ran.communicate(timeout=120)
         # A command that is killed under strace kills strace.
         killed = ran.returncode == -signal.SIGKILL
-        if said:
+        if not killed and not is_explained(printed.decode().splitlines(), ran.returncode, said):
             raise Otherwise(f"{command}: {said}")
         doubtful = command.fault is not None or command.blocks is not None
         return Run(self.arguments(command), None if killed else ran.returncode, printed, doubtful)

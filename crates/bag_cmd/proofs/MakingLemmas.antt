@@ -9,11 +9,12 @@ use Rattle.bag_receiver.specs.declared.receiver.Receiver.{Receiver}
 use Rattle.bag_receiver.specs.Receivers.{IsInState}
 use Rattle.bag_receiver.specs.Receiving.{LedgerState}
 use Rattle.bag_rules.specs.Trees.{Shown}
+use Rattle.bag_cmd.specs.declared.ended.Ended.{Ended}
 use Rattle.bag_cmd.specs.declared.request.Work.{Work}
 use Rattle.bag_cmd.specs.declared.request.Work.TheVariants.{Audit, Begin, Export, Fetch, Intake, List as ListNames, Report}
 use Rattle.bag_cmd.specs.Working.{DoesWork, IsOpenFor, NoMemory, Opened, Refused, WithFolder}
 
-module _ {K W : Type 0} (k : Ghosts K) (known : Option Listing) (contents : W → Option (List ℕ)) (made now : Option (List ℕ)) (before after : Receiver K) (old new : Output W) (result : ℕ) where
+module _ {K W : Type 0} (k : Ghosts K) (known : Option Listing) (contents : W → Option (List ℕ)) (made now : Option (List ℕ)) (before after : Receiver K) (old new : Output W) (result : Ended) where
   -- if the keeper is clean now it was before, and if it was known what was held, it is known what is
   abbrev pub GoesOn : Type 0
   GoesOn = k.clean after.keeper → k.clean before.keeper
@@ -23,7 +24,7 @@ module _ {K W : Type 0} (k : Ghosts K) (known : Option Listing) (contents : W �
   stayed same clean = (subst (λ (r : Receiver K). k.clean r.keeper) same clean, λ state is. (state, subst (λ r. IsInState k.holds k.may_leave r state) (sym same) is))
 
   began : (shown : Shown) (uses : Type 0 → Type 0) (name : List ℕ)
-      → PrintsBegin contents shown uses (IsBeginning k.holds k.may_leave k.clean k.failures name before after) (after ≡ before) name old new result → GoesOn
+      → PrintsBegin contents shown uses (IsBeginning k.holds k.may_leave k.clean k.failures name before after) (after ≡ before) name old new result.status → GoesOn
   began shown uses name (Began given answer are begins used printed) = λ clean. (begins.begun.was_clean clean, λ state is. let it = begins.begun.leads clean state is in (it.0, it.1))
   began shown uses name (Unnamed not same used printed) = stayed same
   began shown uses name (Heavy named heavy same used printed) = stayed same
@@ -32,9 +33,9 @@ module _ {K W : Type 0} (k : Ghosts K) (known : Option Listing) (contents : W �
 
   in_folder : (folder : List ℕ) (does : FolderShown → FolderShown → Type 0) → ((tree later : FolderShown) → does tree later → GoesOn)
       → WithFolder contents known folder (after ≡ before) does old new result → GoesOn
-  in_folder folder does went (Opened tree later opened did) = went tree later did
-  in_folder folder does went (Refused unfit refused same printed) = stayed same
-  in_folder folder does went (NoMemory same printed) = stayed same
+  in_folder folder does went (Opened tree later opened did why) = went tree later did
+  in_folder folder does went (Refused unfit refused same printed why) = stayed same
+  in_folder folder does went (NoMemory same printed why) = stayed same
 
   -- only `begin` makes a ledger
   pub goes_on : (opens makes : List ℕ → K → Type 0) (ledger : List ℕ) (is_made : Bool) (kept : K) (work : Work) → is_made ≡ true → IsOpenFor opens makes ledger work is_made kept

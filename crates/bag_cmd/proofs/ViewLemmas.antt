@@ -8,11 +8,12 @@ use Rattle.bag_folder.specs.Directories.{Listing}
 use Rattle.bag_receiver.specs.declared.receiver.Receiver.{Receiver}
 use Rattle.bag_receiver.specs.Receivers.{IsInState}
 use Rattle.bag_receiver.specs.Receiving.{LedgerState}
+use Rattle.bag_cmd.specs.declared.ended.Ended.{Ended}
 use Rattle.bag_cmd.specs.declared.request.Work.{Work}
 use Rattle.bag_cmd.specs.declared.request.Work.TheVariants.{Audit, Begin, Export, Fetch, Intake, List as ListNames, Report}
 use Rattle.bag_cmd.specs.Working.{DoesWork, HoldsValidBag, IsOpenFor, Views, viewed}
 
-module _ {K W : Type 0} (k : Ghosts K) (known : Option Listing) (contents : W → Option (List ℕ)) (made now : Option (List ℕ)) (before after : Receiver K) (old new : Output W) (result : ℕ) (valid : result ≡ VALID)
+module _ {K W : Type 0} (k : Ghosts K) (known : Option Listing) (contents : W → Option (List ℕ)) (made now : Option (List ℕ)) (before after : Receiver K) (old new : Output W) (result : Ended) (valid : result.status ≡ VALID)
     (clean : k.clean after.keeper) (name : List ℕ) where
   -- the keeper was clean before, and whatever the receiver held, it held a valid bag
   abbrev Valid : Type 0

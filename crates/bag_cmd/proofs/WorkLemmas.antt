@@ -17,21 +17,29 @@ use Rattle.bag_folder.specs.Bringing.{Bringing, courier_of}
 use Rattle.bag_folder.specs.Directories.{Listing}
 use Rattle.bag_folder.specs.Faults.{IfUnfit}
 use Rattle.bag_folder.specs.Folders.{FolderShown, IsOpened, IsRefused}
+use Rattle.bag_cmd.specs.declared.ended.Ended.{Ended}
+use Rattle.bag_cmd.specs.Endings.{why_unopened}
 use Rattle.bag_cmd.specs.Stops.{stop_of_open}
 use Rattle.bag_cmd.specs.Making.{kept_folder}
 use Rattle.bag_cmd.specs.Working.{AreOpened, NoMemory, OneRefused, OutOfMemory, Refused, SomeIsRefused, WithFolder, WithFolders}
 use Rattle.bag_cmd.proofs.RequestLemmas.{word_at}
 
-module _ {W : Type 0} (contents : W → Option (List ℕ)) (known : Option Listing) (untouched : Type 0) (old new : Output W) (result : ℕ) where
+module _ {W : Type 0} (contents : W → Option (List ℕ)) (known : Option Listing) (untouched : Type 0) (old new : Output W) (result : Ended) where
   pub not_opened : (folder : List ℕ) (does : FolderShown → FolderShown → Type 0) (fault : OpenFault) → IfUnfit fault (IsRefused known folder Base) → untouched
-      → Printed contents old new result (stop_text (stop_of_open fault) ∷ []) FAILED → WithFolder contents known folder untouched does old new result
-  not_opened folder does (open_fault.Files unfit) refused same printed = Refused unfit refused same printed
-  not_opened folder does open_fault.Memory refused same printed = NoMemory same printed
+      → Printed contents old new result.status (stop_text (stop_of_open fault) ∷ []) FAILED → result.why ≡ why_unopened fault → WithFolder contents known folder untouched does old new result
+  not_opened folder does (open_fault.Files unfit) refused same printed why = Refused unfit refused same printed why
+  not_opened folder does open_fault.Memory refused same printed why = NoMemory same printed why
 
   pub none_opened : (folders : List (List ℕ)) (does : List FolderShown → Type 0) (fault : OpenFault) → IfUnfit fault (SomeIsRefused known folders) → untouched
-      → Printed contents old new result (stop_text (stop_of_open fault) ∷ []) FAILED → WithFolders contents known folders untouched does old new result
-  none_opened folders does (open_fault.Files unfit) refused same printed = OneRefused unfit refused same printed
-  none_opened folders does open_fault.Memory refused same printed = OutOfMemory same printed
+      → Printed contents old new result.status (stop_text (stop_of_open fault) ∷ []) FAILED → result.why ≡ why_unopened fault → WithFolders contents known folders untouched does old new result
+  none_opened folders does (open_fault.Files unfit) refused same printed why = OneRefused unfit refused same printed why
+  none_opened folders does open_fault.Memory refused same printed why = OutOfMemory same printed why
+
+-- a folder that can't be used is one of several
+pub one_refused : (known : Option Listing) (folders : List (List ℕ)) (folder : List ℕ) → Contains folders folder → (fault : OpenFault) → IfUnfit fault (IsRefused known folder Base)
+    → IfUnfit fault (SomeIsRefused known folders)
+one_refused known folders folder there (open_fault.Files unfit) refused = (folder, there, refused)
+one_refused known folders folder there open_fault.Memory refused = refused
 
 pub given_up : (folder : List ℕ) (status : ℕ) (now given : Option (List ℕ)) → now ≡ given → given ≡ None → status ≢ DONE → now ≡ kept_folder folder status
 given_up folder status now given is none other = let left : None ≡ kept_folder folder status = grind (arith, common_steps) in is ∙ none ∙ left
@@ -59,11 +67,6 @@ module _ {X : Type 0} (octets : X → List ℕ) (known : Option Listing) where
       let at = word_at octets folders folders i (length folders) folder text refl refl inside item is in
       let texts = map octets folders in
       subst (Contains texts) (get_or_from_slice_get texts i text text at) (Contains-get_or texts i text (slice_get_within texts i text at))
-
--- a folder that is refused is one of those that are named
-pub some_refused : (known : Option Listing) (folders : List (List ℕ)) (folder : List ℕ) (fault : OpenFault) → Contains folders folder → IfUnfit fault (IsRefused known folder Base) → IfUnfit fault (SomeIsRefused known folders)
-some_refused known folders folder (open_fault.Files unfit) here refused = (folder, here, refused)
-some_refused known folders folder open_fault.Memory here refused = tt
 
 pub couriers_more : (couriers : List (Bringing FolderShown)) (trees : List FolderShown) (tree : FolderShown) → couriers ≡ map courier_of trees → couriers ++ courier_of tree ∷ [] ≡ map courier_of (trees ++ tree ∷ [])
 couriers_more couriers trees tree is = ap (λ (cs : List (Bringing FolderShown)). cs ++ courier_of tree ∷ []) is ∙ sym (map-append courier_of trees (tree ∷ []))

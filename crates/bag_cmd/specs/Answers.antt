@@ -1,5 +1,5 @@
 -- What a command prints.
-use Rattle.std.specs.Prelude.{◌≡◌, ◌≢◌, ℕ, List, [], ◌∷◌, Option, None, Result, codes, map, string_bytes}
+use Rattle.std.specs.Prelude.{◌≡◌, ◌≢◌, ℕ, List, [], ◌∷◌, Option, None, Result, Some, codes, map, string_bytes}
 use Rattle.bag_ledger.specs.declared.keeper.Keeper.{Ghosts}
 use Rattle.bag_rules.specs.declared.outcome.Outcome.{Outcome}
 use Rattle.bag_rules.specs.declared.outcome.CheckFault.{CheckFault}
@@ -14,8 +14,11 @@ use Rattle.bag_folder.specs.declared.place.Place.TheVariants.{Base}
 use Rattle.bag_folder.specs.Directories.{Listing}
 use Rattle.bag_folder.specs.Folders.{FolderShown, IsOpened, IsRefused}
 use Rattle.bag_folder.specs.Unfits.{UnfitShown}
+use Rattle.bag_cmd.specs.declared.ended.Ended.{Ended}
+use Rattle.bag_cmd.specs.declared.ended.Why.TheVariants.{Unfit}
 use Rattle.bag_cmd.specs.declared.request.Request.{Request}
 use Rattle.bag_cmd.specs.declared.request.Request.TheVariants.{Check, Ledger, Make}
+use Rattle.bag_cmd.specs.Endings.{why_unchecked}
 use Rattle.bag_cmd.specs.Making.{PrintsMake}
 use Rattle.bag_cmd.specs.Requests.{AsksFor, NamesCommand}
 use Rattle.bag_cmd.specs.Working.{WorksOn}
@@ -24,17 +27,21 @@ use Rattle.bag_cmd.specs.Working.{WorksOn}
 abbrev pub IsFolderAnswer : FolderShown → FolderShown → Result Outcome CheckFault → Type 0
 IsFolderAnswer = IsAnswer (λ tree. tree.shown) (λ tree. tree.failures) (λ tree. ⊥)
 
--- What `check` prints for a folder. The entries of directories may be known. Either a result for what was opened under
--- this name; or `bag: files` because something isn't allowed in a bag; or that memory ran out.
+-- What `check` prints for a folder, and what is told of it besides. The entries of directories may be known. Either a
+-- result for what was opened under this name, with the reason if there is no answer; or `bag: files` because something
+-- isn't allowed in a bag, which is told; or that memory ran out.
 pub data PrintsCheck {W : Type 0} (contents : W → Option (List ℕ)) (known : Option Listing)
-    (folder : List ℕ) (old new : Output W) (result : ℕ) : Type 0 where
+    (folder : List ℕ) (old new : Output W) (result : Ended) : Type 0 where
   Answered : (tree later : FolderShown) → IsOpened known folder Base tree
-      → PrintedOf contents old new result (IsFolderAnswer tree later)
+      → PrintedOf contents old new result.status (λ answer. IsFolderAnswer tree later answer
+      × (result.why ≡ why_unchecked later answer))
       → PrintsCheck contents known folder old new result
   Refused : (unfit : UnfitShown) → IsRefused known folder Base unfit
-      → Printed contents old new result (stop_text Files ∷ []) FAILED
+      → Printed contents old new result.status (stop_text Files ∷ []) FAILED
+      → result.why ≡ Some (Unfit unfit)
       → PrintsCheck contents known folder old new result
-  NoMemory : Printed contents old new result (stop_text Memory ∷ []) FAILED
+  NoMemory : Printed contents old new result.status (stop_text Memory ∷ []) FAILED
+      → result.why ≡ None
       → PrintsCheck contents known folder old new result
 
 -- The answer to arguments that are no known command: help, a usage error on standard error, or that memory ran out.
@@ -50,11 +57,11 @@ pub data Refuses {W : Type 0} (contents : W → Option (List ℕ)) (old new : Ou
 abbrev pub usage_line : List ℕ
 usage_line = codes "bag: check, make, begin, intake, report, audit, fetch, export, list"
 
--- What a command did: what it printed, and the folder that was made for a bag and not given up, which only `make` and
--- `export` change.
+-- What a command did: what it printed, what is told of it besides, and the folder that was made for a bag and not given
+-- up, which only `make` and `export` change.
 abbrev pub Runs : {K W : Type 0} → Ghosts K → (List ℕ → K → Type 0) → (List ℕ → K → Type 0)
     → (List ℕ → AdoptFault → Type 0) → Option Listing → (W → Option (List ℕ)) → Request
-    → Option (List ℕ) → Option (List ℕ) → Output W → Output W → ℕ → Type 0
+    → Option (List ℕ) → Option (List ℕ) → Output W → Output W → Ended → Type 0
 Runs k opened made refused known contents (Check folder) before after old new result =
     (after ≡ before) × PrintsCheck contents known (string_bytes folder) old new result
 Runs k opened made refused known contents (Make source destination algorithms) before after old new
@@ -73,23 +80,25 @@ Runs k opened made refused known contents (Ledger ledger work) before after old 
 pub data RunsCommand {K W : Type 0} (k : Ghosts K) (opened made : List ℕ → K → Type 0)
     (refused : List ℕ → AdoptFault → Type 0) (known : Option Listing)
     (contents : W → Option (List ℕ)) (words : List (List ℕ)) (before after : Option (List ℕ))
-    (old new : Output W) (result : ℕ) : Type 0 where
+    (old new : Output W) (result : Ended) : Type 0 where
   Named : (request : Request) → AsksFor words request
       → Runs k opened made refused known contents request before after old new result
       → RunsCommand k opened made refused known contents words before after old new result
   NoWords : words ≡ [] → after ≡ before
-      → Printed contents old new result (usage_line ∷ []) USAGE
+      → Printed contents old new result.status (usage_line ∷ []) USAGE → result.why ≡ None
       → RunsCommand k opened made refused known contents words before after old new result
   NoCommand : words ≢ [] → ¬ NamesCommand words → after ≡ before
-      → Refuses contents old new result
+      → Refuses contents old new result.status → result.why ≡ None
       → RunsCommand k opened made refused known contents words before after old new result
   NoMemory : words ≢ [] → after ≡ before
-      → Printed contents old new result (stop_text Memory ∷ []) FAILED
+      → Printed contents old new result.status (stop_text Memory ∷ []) FAILED
+      → result.why ≡ None
       → RunsCommand k opened made refused known contents words before after old new result
 
--- some command line was run on the directories of the file system
+-- some command line was run on the directories of the file system, and ended with this status
 abbrev pub Ran : {K W : Type 0} → Ghosts K → (List ℕ → K → Type 0) → (List ℕ → K → Type 0)
     → (List ℕ → AdoptFault → Type 0) → (W → Option (List ℕ)) → Output W → Output W → ℕ → Type 0
 Ran k opened made refused contents old new result =
-    (words : List (List ℕ)) × (after : Option (List ℕ))
-    × RunsCommand k opened made refused None contents words None after old new result
+    (words : List (List ℕ)) × (after : Option (List ℕ)) × (ended : Ended)
+    × RunsCommand k opened made refused None contents words None after old new ended
+    × (result ≡ ended.status)

@@ -8,11 +8,15 @@ use Rattle.bag_commands.specs.Making.{IsWriting, MakesOf}
 use Rattle.bag_commands.specs.Printing.{Printed}
 use Rattle.bag_commands.specs.StopTexts.{stop_text}
 use Rattle.bag_cmd.specs.declared.commands.make.Making.{Making}
+use Rattle.bag_cmd.specs.declared.ended.Ended.{Ended}
+use Rattle.bag_cmd.specs.declared.ended.Why.TheVariants.{Unfit}
 use Rattle.bag_folder.specs.declared.fault.OpenFault.{OpenFault}
 use Rattle.bag_folder.specs.declared.place.Place.TheVariants.{Payload}
 use Rattle.bag_folder.specs.Directories.{Listing, in_payload}
+use Rattle.bag_folder.specs.Faults.{IfUnfit}
 use Rattle.bag_folder.specs.Folders.{FolderShown, IsOpened, IsRefused}
 use Rattle.bag_folder.specs.Unfits.{UnfitShown}
+use Rattle.bag_cmd.specs.Endings.{or_why, why_failed, why_unopened}
 use Rattle.bag_cmd.specs.Stops.{stop_of_open}
 use Rattle.bag_folder.specs.SinkFolders.{IsCreated, SinkShown}
 
@@ -30,16 +34,23 @@ MakesFolder contents shown failures sure old_tree new_tree words old new result 
 abbrev pub kept_folder : List ℕ → ℕ → Option (List ℕ)
 kept_folder folder status = if nat_eq status DONE then Some folder else None
 
--- What was done to write a bag: either a folder with this name was made, the bag was written to it, and the result
--- decided whether it is kept; or the folder couldn't be made, which was printed, and nothing else was done.
+-- a folder with this name couldn't be made, which the fault tells, unless memory ran out
+abbrev pub IsUnmade : List ℕ → OpenFault → Type 0
+IsUnmade folder fault = IfUnfit fault (λ unfit. unfit.path ≡ folder)
+
+-- What was done to write a bag: either a folder with this name was made, the bag was written to it, the result decided
+-- whether it is kept, and if the folder failed the last trouble is told; or the folder couldn't be made, which was
+-- printed and told, and nothing else was done.
 pub data MakesInto {W : Type 0} (contents : W → Option (List ℕ))
     (writes : SinkShown → SinkShown → Type 0) (untouched : Type 0) (folder : List ℕ)
-    (before after : Option (List ℕ)) (old new : Output W) (result : ℕ) : Type 0 where
+    (before after : Option (List ℕ)) (old new : Output W) (result : Ended) : Type 0 where
   Written : (sink later : SinkShown) → IsCreated folder sink → writes sink later
-      → after ≡ kept_folder folder result
+      → after ≡ kept_folder folder result.status
+      → result.why ≡ why_failed later.failures later.trouble
       → MakesInto contents writes untouched folder before after old new result
-  NotMade : (fault : OpenFault) → after ≡ before → untouched
-      → Printed contents old new result (stop_text (stop_of_open fault) ∷ []) FAILED
+  NotMade : (fault : OpenFault) → IsUnmade folder fault → after ≡ before → untouched
+      → Printed contents old new result.status (stop_text (stop_of_open fault) ∷ []) FAILED
+      → result.why ≡ why_unopened fault
       → MakesInto contents writes untouched folder before after old new result
 
 -- the operands of `make`: the folder that contains the payload, the folder for the bag, and the names of algorithms
@@ -55,20 +66,25 @@ words_given making = record {
   names = map string_bytes making.names.now;
 }
 
--- What `make` did. The entries of directories may be known. Either the payload was opened, and this was done with it;
--- or no folder was made, and `bag: files` was printed because something isn't allowed in a bag, or that memory ran out.
+-- What `make` did. The entries of directories may be known. Either the payload was opened, and this was done with it,
+-- and if its folder failed the last trouble is told; or no folder was made, and `bag: files` was printed because
+-- something isn't allowed in a bag, which is told, or that memory ran out.
 pub data PrintsMake {W : Type 0} (contents : W → Option (List ℕ)) (known : Option Listing)
-    (words : MakingShown) (before after : Option (List ℕ)) (old new : Output W) (result : ℕ)
+    (words : MakingShown) (before after : Option (List ℕ)) (old new : Output W) (result : Ended)
     : Type 0 where
-  Opened : (tree later : FolderShown)
+  Opened : (tree later : FolderShown) (ended : Ended)
       → IsOpened (in_payload known words.source) words.source Payload tree
       → MakesInto contents (MakesFolder contents (λ (tree : FolderShown). tree.shown)
       (λ (tree : FolderShown). tree.failures) (λ (tree : FolderShown). ⊥) tree later words.names
-      old new result) (later ≡ tree) words.destination before after old new result
+      old new ended.status) (later ≡ tree) words.destination before after old new ended
+      → result ≡ or_why ended (why_failed later.failures later.trouble)
       → PrintsMake contents known words before after old new result
   Refused : (unfit : UnfitShown)
       → IsRefused (in_payload known words.source) words.source Payload unfit → after ≡ before
-      → Printed contents old new result (stop_text stop.Files ∷ []) FAILED
+      → Printed contents old new result.status (stop_text stop.Files ∷ []) FAILED
+      → result.why ≡ Some (Unfit unfit)
       → PrintsMake contents known words before after old new result
-  NoMemory : after ≡ before → Printed contents old new result (stop_text stop.Memory ∷ []) FAILED
+  NoMemory : after ≡ before
+      → Printed contents old new result.status (stop_text stop.Memory ∷ []) FAILED
+      → result.why ≡ None
       → PrintsMake contents known words before after old new result

@@ -1,5 +1,5 @@
 -- Work on a ledger: how it is opened, and what is done with it.
-use Rattle.std.specs.Prelude.{◌≡◌, ◌∷◌, ◌++◌, [], ℕ, Bool, Contains, List, None, Option, Some, codes, false, is_some, map, string_bytes}
+use Rattle.std.specs.Prelude.{◌≡◌, ◌⊎◌, ◌∷◌, ◌++◌, [], ℕ, Bool, Contains, List, None, Option, Some, codes, false, is_some, map, string_bytes}
 use Rattle.bag_ledger.specs.Ledgers.{Ledger, Transfer}
 use Rattle.bag_ledger.specs.declared.keeper.Keeper.{Ghosts}
 use Rattle.bag_path.specs.Spellings.{written_spelling}
@@ -30,14 +30,17 @@ use Rattle.bag_commands.specs.Viewing.{IsReporting}
 use Rattle.bag_commands.specs.ViewTexts.{view_lines, view_status}
 use Rattle.bag_folder.specs.declared.fault.OpenFault.{OpenFault}
 use Rattle.bag_folder.specs.declared.place.Place.TheVariants.{Base}
+use Rattle.bag_cmd.specs.declared.ended.Ended.{Ended}
+use Rattle.bag_cmd.specs.declared.ended.Why.TheVariants.{Unfit}
 use Rattle.bag_cmd.specs.declared.request.Work.{Work}
 use Rattle.bag_cmd.specs.declared.request.Work.TheVariants.{Audit, Begin, Export, Fetch, Intake, List as ListNames, Report}
 use Rattle.bag_folder.specs.Bringing.{Bringing, courier_of, to_come}
 use Rattle.bag_folder.specs.Directories.{Listing}
 use Rattle.bag_folder.specs.Folders.{FolderShown, IsOpened, IsRefused}
 use Rattle.bag_cmd.specs.LedgerFiles.{OpensOrMakes}
+use Rattle.bag_cmd.specs.Endings.{why_failed, why_unopened}
 use Rattle.bag_cmd.specs.Stops.{stop_of_open}
-use Rattle.bag_cmd.specs.Making.{MakesInto}
+use Rattle.bag_cmd.specs.Making.{IsUnmade, MakesInto}
 use Rattle.bag_folder.specs.SinkFolders.{SinkShown}
 use Rattle.bag_folder.specs.Supplying.{IsReadyFolder, SupplierShown, unknown}
 use Rattle.bag_folder.specs.Unfits.{UnfitShown}
@@ -67,18 +70,21 @@ viewed work = None
 
 -- FOLDERS
 
--- What a command on the bag in a folder did. The entries of directories may be known. Either the folder was opened, and
--- this was done with it; or nothing was done, and `bag: files` was printed because something isn't allowed in a bag, or
--- that memory ran out.
+-- What a command on the bag in a folder did. The entries of directories may be known. Either the folder was opened, this
+-- was done with it, and if it failed the last trouble is told; or nothing was done, and `bag: files` was printed because
+-- something isn't allowed in a bag, which is told, or that memory ran out.
 pub data WithFolder {W : Type 0} (contents : W → Option (List ℕ)) (known : Option Listing)
     (folder : List ℕ) (untouched : Type 0) (does : FolderShown → FolderShown → Type 0)
-    (old new : Output W) (result : ℕ) : Type 0 where
+    (old new : Output W) (result : Ended) : Type 0 where
   Opened : (tree later : FolderShown) → IsOpened known folder Base tree → does tree later
+      → result.why ≡ why_failed later.failures later.trouble
       → WithFolder contents known folder untouched does old new result
   Refused : (unfit : UnfitShown) → IsRefused known folder Base unfit → untouched
-      → Printed contents old new result (stop_text stop.Files ∷ []) FAILED
+      → Printed contents old new result.status (stop_text stop.Files ∷ []) FAILED
+      → result.why ≡ Some (Unfit unfit)
       → WithFolder contents known folder untouched does old new result
-  NoMemory : untouched → Printed contents old new result (stop_text stop.Memory ∷ []) FAILED
+  NoMemory : untouched → Printed contents old new result.status (stop_text stop.Memory ∷ []) FAILED
+      → result.why ≡ None
       → WithFolder contents known folder untouched does old new result
 
 -- these folders were opened, in this order
@@ -92,16 +98,20 @@ abbrev pub SomeIsRefused : Option Listing → List (List ℕ) → UnfitShown →
 SomeIsRefused known folders unfit =
     (folder : List ℕ) × Contains folders folder × IsRefused known folder Base unfit
 
--- the same for several folders
+-- the same for several folders, and nothing is told of folders that were opened
 pub data WithFolders {W : Type 0} (contents : W → Option (List ℕ)) (known : Option Listing)
     (folders : List (List ℕ)) (untouched : Type 0) (does : List FolderShown → Type 0)
-    (old new : Output W) (result : ℕ) : Type 0 where
+    (old new : Output W) (result : Ended) : Type 0 where
   AllOpened : (trees : List FolderShown) → AreOpened known folders trees → does trees
+      → result.why ≡ None
       → WithFolders contents known folders untouched does old new result
   OneRefused : (unfit : UnfitShown) → SomeIsRefused known folders unfit → untouched
-      → Printed contents old new result (stop_text stop.Files ∷ []) FAILED
+      → Printed contents old new result.status (stop_text stop.Files ∷ []) FAILED
+      → result.why ≡ Some (Unfit unfit)
       → WithFolders contents known folders untouched does old new result
-  OutOfMemory : untouched → Printed contents old new result (stop_text stop.Memory ∷ []) FAILED
+  OutOfMemory : untouched
+      → Printed contents old new result.status (stop_text stop.Memory ∷ []) FAILED
+      → result.why ≡ None
       → WithFolders contents known folders untouched does old new result
 
 -- WORK
@@ -119,50 +129,54 @@ HoldsValidBag ledger name = (transfer : Transfer) × IsNamed ledger name (Some t
 
 -- A report or an audit was printed. The status is 0 only if the transfer holds a valid bag.
 pub record Views {K W : Type 0} (k : Ghosts K) (contents : W → Option (List ℕ)) (name : List ℕ)
-    (before after : Receiver K) (old new : Output W) (result : ℕ) : Type 0 where
-  pub valid : result ≡ VALID → k.clean after.keeper → (now : LedgerState)
+    (before after : Receiver K) (old new : Output W) (result : Ended) : Type 0 where
+  pub valid : result.status ≡ VALID → k.clean after.keeper → (now : LedgerState)
       → IsInState k.holds k.may_leave before now → HoldsValidBag now.held name
-  pub printed : PrintedBy contents view_lines view_status old new result
+  pub printed : PrintedBy contents view_lines view_status old new result.status
       (IsReporting k.holds k.may_leave k.clean k.failures name before after)
+  pub untold : result.why ≡ None
 
 -- Either the folder was searched for what `fetch.txt` lists and isn't held, or it couldn't be opened and that was
--- printed.
+-- printed and told.
 pub data FetchesFrom {K W : Type 0} (k : Ghosts K) (contents : W → Option (List ℕ))
-    (name folder : List ℕ) (before after : Receiver K) (old new : Output W) (result : ℕ)
+    (name folder : List ℕ) (before after : Receiver K) (old new : Output W) (result : Ended)
     : Type 0 where
   Fetched : (supplier later : SupplierShown) → IsReadyFolder folder supplier
-      → PrintedBy contents fetch_lines fetch_status old new result (IsFetching k.holds
+      → PrintedBy contents fetch_lines fetch_status old new result.status (IsFetching k.holds
       k.may_leave k.clean k.failures unknown (λ (supplier : SupplierShown). supplier.failures)
       (λ (supplier : SupplierShown). supplier.asks) name before after supplier later)
+      → result.why ≡ None
       → FetchesFrom k contents name folder before after old new result
-  NoFolder : (fault : OpenFault) → after ≡ before
-      → Printed contents old new result (stop_text (stop_of_open fault) ∷ []) FAILED
+  NoFolder : (fault : OpenFault) → IsUnmade folder fault → after ≡ before
+      → Printed contents old new result.status (stop_text (stop_of_open fault) ∷ []) FAILED
+      → result.why ≡ why_unopened fault
       → FetchesFrom k contents name folder before after old new result
 
 -- the bag that is held was exported to a folder that was made for it
 abbrev pub ExportsInto : {K W : Type 0} → Ghosts K → (W → Option (List ℕ)) → List ℕ → List ℕ
-    → Option (List ℕ) → Option (List ℕ) → Receiver K → Receiver K → Output W → Output W → ℕ → Type 0
+    → Option (List ℕ) → Option (List ℕ) → Receiver K → Receiver K → Output W → Output W → Ended
+    → Type 0
 ExportsInto k contents name folder made now before after old new result =
-    MakesInto contents (λ sink later. PrintedOne contents export_text export_status old new result
-    (IsExporting k.holds k.may_leave k.clean k.failures (λ (sink : SinkShown). None)
+    MakesInto contents (λ sink later. PrintedOne contents export_text export_status old new
+    result.status (IsExporting k.holds k.may_leave k.clean k.failures (λ (sink : SinkShown). None)
     (λ (sink : SinkShown). is_some sink.written) (λ (sink : SinkShown). sink.failures)
     (λ (sink : SinkShown). ⊥) name before after sink later)) (after ≡ before) folder made now
     old new result
 
 module _ {K W : Type 0} (k : Ghosts K) (known : Option Listing)
     (contents : W → Option (List ℕ)) where
-  abbrev pub BeginsWith : List ℕ → List ℕ → Receiver K → Receiver K → Output W → Output W → ℕ
+  abbrev pub BeginsWith : List ℕ → List ℕ → Receiver K → Receiver K → Output W → Output W → Ended
       → Type 0
   BeginsWith name folder before after old new result =
       WithFolder contents known folder (after ≡ before) (λ tree later.
       PrintsBegin contents tree.shown (UsesTree (λ (tree : FolderShown). tree.shown)
       (λ (tree : FolderShown). tree.failures) (λ (tree : FolderShown). ⊥) tree later)
       (IsBeginning k.holds k.may_leave k.clean k.failures name before after) (after ≡ before)
-      name old new result) old new result
+      name old new result.status) old new result
 
   -- the payload files of these folders were taken in
   abbrev pub TakesInFrom : List ℕ → List (List ℕ) → Receiver K → Receiver K → Output W → Output W
-      → ℕ → Type 0
+      → Ended → Type 0
   TakesInFrom name folders before after old new result =
       WithFolders contents known folders (after ≡ before) (λ trees.
       (laters : List (Bringing FolderShown)) × (told : List Told)
@@ -172,12 +186,13 @@ module _ {K W : Type 0} (k : Ghosts K) (known : Option Listing)
       (λ (courier : Bringing FolderShown). courier.nexts)
       (λ (courier : Bringing FolderShown). Unit {0}) name)
       (map courier_of trees) laters told before after
-      × Printed contents old new result (intake_lines told) (intake_status told)) old new result
+      × Printed contents old new result.status (intake_lines told) (intake_status told)) old new
+      result
 
   -- what was done on the ledger, and the folder that was made for a bag and not given up, which
   -- only `export` changes
   abbrev pub DoesWork : Work → Option (List ℕ) → Option (List ℕ) → Receiver K → Receiver K
-      → Output W → Output W → ℕ → Type 0
+      → Output W → Output W → Ended → Type 0
   DoesWork (Begin name folder) made now before after old new result = (now ≡ made)
       × BeginsWith (string_bytes name) (string_bytes folder) before after old new result
   DoesWork (Intake name folders) made now before after old new result = (now ≡ made)
@@ -193,13 +208,14 @@ module _ {K W : Type 0} (k : Ghosts K) (known : Option Listing)
       ExportsInto k contents (string_bytes name) (string_bytes folder) made now before after old new
       result
   DoesWork ListNames made now before after old new result = (now ≡ made)
-      × PrintedBy contents list_lines list_status old new result
+      × PrintedBy contents list_lines list_status old new result.status
       (IsListing k.holds k.may_leave k.clean k.failures before after)
+      × (result.why ≡ None)
 
 -- the ledger was opened, and this was done with it
 pub record Works {K W : Type 0} (k : Ghosts K) (opened made : List ℕ → K → Type 0)
     (known : Option Listing) (contents : W → Option (List ℕ)) (ledger : List ℕ) (work : Work)
-    (folder now : Option (List ℕ)) (after : Receiver K) (old new : Output W) (result : ℕ)
+    (folder now : Option (List ℕ)) (after : Receiver K) (old new : Output W) (result : Ended)
     : Type 0 where
   pub kept : K
   pub is_made : Bool
@@ -213,10 +229,11 @@ pub record Works {K W : Type 0} (k : Ghosts K) (opened made : List ℕ → K →
 pub data WorksOn {K W : Type 0} (k : Ghosts K) (opened made : List ℕ → K → Type 0)
     (refused : List ℕ → AdoptFault → Type 0) (known : Option Listing)
     (contents : W → Option (List ℕ)) (ledger : List ℕ) (work : Work)
-    (folder now : Option (List ℕ)) (old new : Output W) (result : ℕ) : Type 0 where
+    (folder now : Option (List ℕ)) (old new : Output W) (result : Ended) : Type 0 where
   Worked : (after : Receiver K)
       → Works k opened made known contents ledger work folder now after old new result
       → WorksOn k opened made refused known contents ledger work folder now old new result
   Unopened : (fault : AdoptFault) → refused ledger fault → now ≡ folder
-      → Printed contents old new result (unopened_line fault ∷ []) FAILED
+      → Printed contents old new result.status (unopened_line fault ∷ []) FAILED
+      → result.why ≡ None
       → WorksOn k opened made refused known contents ledger work folder now old new result

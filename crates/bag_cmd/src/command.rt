@@ -5,6 +5,7 @@ ghost use Rattle.bag_cmd.specs.Answers.{Refuses, Runs, RunsCommand};
 use crate::commands::check::check_folder;
 use crate::commands::ledger::work_on_ledger;
 use crate::commands::make::{Making, make_folder};
+use crate::ended::Ended;
 use crate::ledger::Ledgers;
 use crate::request::Request;
 use crate::usage::Usage;
@@ -15,7 +16,7 @@ use std::alloc::{AllocError, Global};
 use std::io::Write;
 use std::rt::Files;
 
-/// Runs the command that these arguments ask for, and returns its status.
+/// Runs the command that these arguments ask for.
 pub fn command<R: Files + Eprint, D: Directories, L: Ledgers, W: Write + Drop>(
     rt: &R,
     disk: &D,
@@ -24,26 +25,26 @@ pub fn command<R: Files + Eprint, D: Directories, L: Ledgers, W: Write + Drop>(
     alloc: Global,
     words: Vec<String>,
     out: &mut Output<W>,
-) -> u8
+) -> Ended
     ensures { RunsCommand L.Kept.Keeper L.opened L.made L.refused (D.listing disk.now) W.contents
         (map string_bytes words.items) made.old made.new out.old out.new result }
 {
     if words.is_empty() {
-        return out.print_line(
+        return Ended::plain(out.print_line(
             "bag: check, make, begin, intake, report, audit, fetch, export, list",
             USAGE,
-        );
+        ));
     }
     let Ok(given) = words.clone() else {
-        return print_stop(Stop::Memory, out);
+        return Ended::plain(print_stop(Stop::Memory, out));
     };
     match Request::parse(words) {
         Some(request) => run_request(rt, disk, ledgers, made, alloc, &request, out),
-        None => refuse(rt, alloc, &given, out),
+        None => Ended::plain(refuse(rt, alloc, &given, out)),
     }
 }
 
-/// Runs a command, and returns its status.
+/// Runs a command.
 fn run_request<R: Files, D: Directories, L: Ledgers, W: Write + Drop>(
     rt: &R,
     disk: &D,
@@ -52,7 +53,7 @@ fn run_request<R: Files, D: Directories, L: Ledgers, W: Write + Drop>(
     alloc: Global,
     request: &Request,
     out: &mut Output<W>,
-) -> u8
+) -> Ended
     ensures { Runs L.Kept.Keeper L.opened L.made L.refused (D.listing disk.now) W.contents
         request.now made.old made.new out.old out.new result }
 {

@@ -1,9 +1,15 @@
 //! The commands, one module each.
-ghost use Rattle.std.specs.Prelude.{◌≡◌};
+ghost use Rattle.std.specs.Prelude.{◌≡◌, ◌∷◌, []};
+ghost use Rattle.bag_commands.specs.declared.status.TheConstants.{FAILED};
+ghost use Rattle.bag_commands.specs.Printing.{Printed};
+ghost use Rattle.bag_commands.specs.StopTexts.{stop_text};
+ghost use Rattle.bag_cmd.specs.Endings.{why_unopened};
 ghost use Rattle.bag_cmd.specs.Stops.{stop_of_open};
 
-use bag_commands::Stop;
+use crate::ended::{Ended, Why};
+use bag_commands::{Output, Stop, print_stop};
 use bag_folder::OpenFault;
+use std::io::Write;
 
 pub mod begin;
 pub mod check;
@@ -13,12 +19,17 @@ pub mod intake;
 pub mod ledger;
 pub mod make;
 
-/// Why a command stops if a folder can't be opened or made.
-fn stop_of(fault: OpenFault) -> Stop
-    ensures { result ≡ stop_of_open fault }
+/// Prints why a command stops if a folder can't be opened or made.
+fn stop_unopened<W: Write + Drop>(fault: OpenFault, out: &mut Output<W>) -> Ended
+    ensures printed { Printed W.contents out.old out.new result.status
+        (stop_text (stop_of_open fault) ∷ []) FAILED }
+    ensures why { result.why ≡ why_unopened fault }
 {
     match fault {
-        OpenFault::Files(_) => Stop::Files,
-        OpenFault::Memory => Stop::Memory,
+        OpenFault::Files(unfit) => Ended {
+            status: print_stop(Stop::Files, out),
+            why: Some(Why::Unfit(unfit)),
+        },
+        OpenFault::Memory => Ended::plain(print_stop(Stop::Memory, out)),
     }
 }

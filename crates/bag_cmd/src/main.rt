@@ -18,6 +18,7 @@ use bag_commands::{Output, Stop, print_stop};
 use bag_folder::{Destination, Disk};
 use bag_ledger::Keeper;
 use command::command;
+use ended::Ended;
 use ledger::{LedgerFiles, Ledgers};
 use ledger_file::FileKeeper;
 use sqlite::{Start, Unknown};
@@ -30,10 +31,13 @@ use std::{env, io};
 
 mod command;
 mod commands;
+mod ended;
+mod excess;
 mod laws;
 mod ledger;
 mod ledger_file;
 mod request;
+mod told_name;
 mod usage;
 
 fn main(rt: HostRuntime) -> ExitCode {
@@ -69,7 +73,8 @@ fn run<R: Files + Env + Print + Eprint + AllocGlobal, L: Ledgers>(rt: &R, ledger
     }
 }
 
-/// The same, with the output written to `out`.
+/// The same, with the output written to `out`. What else there is to say of a command that wasn't done is told on
+/// standard error.
 fn run_words<R: Files + Env + Eprint + AllocGlobal, L: Ledgers, W: Write + Drop>(
     rt: &R,
     ledgers: &mut L,
@@ -83,7 +88,8 @@ fn run_words<R: Files + Env + Eprint + AllocGlobal, L: Ledgers, W: Write + Drop>
         Ok(words) => match words.skip(1).collect(alloc) {
             Ok(words) => {
                 let mut made = Destination::new(rt);
-                command(rt, &Disk(rt), ledgers, &mut made, alloc, words, out)
+                let ended = command(rt, &Disk(rt), ledgers, &mut made, alloc, words, out);
+                explain(rt, ended)
             }
             Err(AllocError) => print_stop(Stop::Memory, out),
         },
@@ -93,4 +99,14 @@ fn run_words<R: Files + Env + Eprint + AllocGlobal, L: Ledgers, W: Write + Drop>
             USAGE
         }
     }
+}
+
+/// Says on standard error why a command wasn't done, if it wasn't, and returns the status.
+fn explain<R: Eprint>(rt: &R, ended: Ended) -> u8
+    ensures { result ≡ ended.status }
+{
+    if let Some(why) = &ended.why {
+        let _ = eprintln!(rt; "bag: {why}");
+    }
+    ended.status
 }

@@ -87,6 +87,13 @@ impl<R: Files + Drop> FolderSink<R> {
     {
         self.troubles.last()
     }
+
+    /// Closes the folder, and gives what [`FolderSink::trouble`] gives.
+    pub fn into_trouble(self) -> Option<Unfit>
+        ensures { result ≡ self.trouble }
+    {
+        self.troubles.into_last()
+    }
 }
 
 impl<R: Files> Sink for FolderSink<R> {

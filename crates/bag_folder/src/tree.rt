@@ -117,6 +117,27 @@ impl<R: Files + Drop> FolderTree<R> {
         self.troubles.last()
     }
 
+    /// Closes the folder, and gives what [`FolderTree::trouble`] gives.
+    pub fn into_trouble(self) -> Option<Unfit>
+        ensures { result ≡ self.trouble }
+    {
+        self.troubles.into_last()
+    }
+
+    /// Closes the folder, and gives its name.
+    pub fn into_folder(self) -> String
+        ensures { string_bytes result ≡ self.folder }
+    {
+        self.folder
+    }
+
+    /// Closes the folder, and gives the name of the last file looked up.
+    pub fn into_name(self) -> String
+        ensures { string_bytes result ≡ self.name }
+    {
+        self.name
+    }
+
     /// The tree of the files below the folder that these directories list.
     fn open_at<D: Directories>(
         rt: R,

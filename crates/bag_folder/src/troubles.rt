@@ -81,6 +81,13 @@ impl Troubles {
     {
         if self.is_told { Some(&self.last) } else { None }
     }
+
+    /// The same, for good.
+    pub fn into_last(self) -> Option<Unfit>
+        ensures { result ≡ self.last }
+    {
+        if self.is_told { Some(self.last) } else { None }
+    }
 }
 
 /// Whether what can't be used has now this path and this cause.

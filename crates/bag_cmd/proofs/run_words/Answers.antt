@@ -1,5 +1,7 @@
 use Rattle.std.proofs.Common.{◌∷◌, [], None, refl}
+use Rattle.bag_commands.specs.declared.status.TheConstants.{USAGE}
 use Rattle.bag_cmd.specs.Answers.{NoCommand, Told}
+use Rattle.bag_cmd.specs.Endings.{plain}
 use Rattle.bag_cmd.proofs.RequestLemmas.{unnamed}
 use Rattle.bag_cmd.proofs.run_words.Goals as goal
 
@@ -7,5 +9,7 @@ pub returns-in-Err-2 : goal.returns-in-Err-2
 returns-in-Err-2 g c = λ other. (
   [] ∷ [],
   None,
-  NoCommand (λ none. absurd (cc none)) (unnamed ([] ∷ []) refl) refl (Told refl refl),
+  plain USAGE,
+  NoCommand (λ none. absurd (cc none)) (unnamed ([] ∷ []) refl) refl (Told refl refl) refl,
+  refl,
 )

@@ -1,8 +1,10 @@
 //! `bag begin LEDGER NAME DIR`: opens a transfer with the tag files in a folder.
 ghost use Rattle.bag_cmd.specs.Working.{BeginsWith};
 
-use super::stop_of;
-use bag_commands::{Output, begin_to, print_stop};
+use super::stop_unopened;
+use crate::ended::{Ended, Why};
+use bag_commands::{Output, begin_to};
+use bag_digest::Source;
 use bag_folder::{Directories, FolderTree};
 use bag_ledger::Keeper;
 use bag_receiver::Receiver;
@@ -10,8 +12,8 @@ use std::alloc::Global;
 use std::io::Write;
 use std::rt::Files;
 
-/// Opens a transfer with the tag files in a folder, prints the result and returns the status, as [`begin_to`] does. If
-/// the folder can't be opened, prints why.
+/// Opens a transfer with the tag files in a folder and prints the result, as [`begin_to`] does. If the folder can't be
+/// opened, prints that.
 pub fn begin_with_folder<K: Keeper, R: Files + Drop, D: Directories, W: Write + Drop>(
     rt: R,
     disk: &D,
@@ -20,12 +22,15 @@ pub fn begin_with_folder<K: Keeper, R: Files + Drop, D: Directories, W: Write + 
     name: &str,
     folder: &str,
     out: &mut Output<W>,
-) -> u8
+) -> Ended
     ensures { BeginsWith K.Keeper (D.listing disk.now) W.contents name.now folder.now
         receiver.old receiver.new out.old out.new result }
 {
     match FolderTree::open(rt, disk, alloc, folder) {
-        Ok(mut tree) => begin_to(alloc, receiver, name, &mut tree, out),
-        Err(fault) => print_stop(stop_of(fault), out),
+        Ok(mut tree) => Ended {
+            status: begin_to(alloc, receiver, name, &mut tree, out),
+            why: Why::of_failures(tree.failures(), tree.into_trouble()),
+        },
+        Err(fault) => stop_unopened(fault, out),
     }
 }

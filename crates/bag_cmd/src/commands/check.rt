@@ -1,26 +1,79 @@
 //! `bag check DIR`: judges the bag in a folder.
+ghost use Rattle.std.specs.Prelude.{◌≡◌};
 ghost use Rattle.bag_cmd.specs.Answers.{PrintsCheck};
+ghost use Rattle.bag_cmd.specs.Endings.{why_too_many, why_unchecked};
 
-use super::stop_of;
-use bag_commands::{Output, check_to, print_stop};
+use super::stop_unopened;
+use crate::ended::{Ended, Why};
+use crate::excess::{Excess, Limit};
+use bag_commands::{Output, print_outcome};
 use bag_folder::{Directories, FolderTree};
+use bag_rules::limits::MOST_FILES;
+use bag_rules::{CheckFault, Outcome, Paths, check};
 use std::alloc::Global;
 use std::io::Write;
 use std::rt::Files;
 
-/// Checks the bag in a folder, prints the result and returns the status, as [`check_to`] does. If the folder can't be
-/// opened, prints why.
+/// Checks the bag in a folder and prints the result, as [`bag_commands::check_to`] does. If the folder can't be opened,
+/// prints that.
 pub fn check_folder<R: Files + Drop, D: Directories, W: Write + Drop>(
     rt: R,
     disk: &D,
     alloc: Global,
     folder: &str,
     out: &mut Output<W>,
-) -> u8
+) -> Ended
     ensures { PrintsCheck W.contents (D.listing disk.now) folder.now out.old out.new result }
 {
     match FolderTree::open(rt, disk, alloc, folder) {
-        Ok(mut tree) => check_to(alloc, &mut tree, out),
-        Err(fault) => print_stop(stop_of(fault), out),
+        Ok(mut tree) => {
+            let answer = check(alloc, &mut tree);
+            let status = print_outcome(&answer, out);
+            Ended {
+                status,
+                why: why_unchecked(answer, tree),
+            }
+        }
+        Err(fault) => stop_unopened(fault, out),
     }
+}
+
+/// Why the bag in this folder couldn't be checked, if it couldn't.
+fn why_unchecked<R: Files + Drop>(
+    answer: Result<Outcome, CheckFault>,
+    tree: FolderTree<R>,
+) -> Option<Why>
+    ensures { result ≡ why_unchecked tree answer }
+{
+    match answer {
+        Err(CheckFault::Tree) => Why::of_trouble(tree.into_trouble()),
+        Err(CheckFault::TagTooLarge(path)) => Some(Why::Exceeds(Excess {
+            name: tree.into_folder(),
+            limit: Limit::TagFile(path),
+        })),
+        Err(CheckFault::TooLarge(path)) => Some(Why::Exceeds(Excess {
+            name: tree.into_folder(),
+            limit: Limit::File(path),
+        })),
+        Err(CheckFault::TooMany) => why_too_many(tree),
+        Ok(_) | Err(CheckFault::Memory) => None,
+    }
+}
+
+/// What there is too much of: files in the folder, or lines in the file that was looked up last.
+fn why_too_many<R: Files + Drop>(tree: FolderTree<R>) -> Option<Why>
+    ensures { result ≡ why_too_many tree }
+{
+    let excess = if tree.count() > MOST_FILES {
+        Excess {
+            name: tree.into_folder(),
+            limit: Limit::Files,
+        }
+    } else {
+        Excess {
+            name: tree.into_name(),
+            limit: Limit::Lines,
+        }
+    };
+    Some(Why::Exceeds(excess))
 }

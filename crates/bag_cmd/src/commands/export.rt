@@ -1,18 +1,20 @@
 //! `bag export LEDGER NAME DIR`: writes the bag that is held to a new folder.
 ghost use Rattle.bag_cmd.specs.Working.{ExportsInto};
 
-use super::stop_of;
+use super::stop_unopened;
+use crate::ended::{Ended, Why};
 use bag_commands::status::DONE;
-use bag_commands::{Output, export_to, print_stop};
+use bag_commands::{Output, export_to};
 use bag_folder::Destination;
 use bag_ledger::Keeper;
 use bag_receiver::Receiver;
+use bag_writer::Sink;
 use std::alloc::Global;
 use std::io::Write;
 use std::rt::Files;
 
-/// Writes the bag of a transfer, as it is held, to a new folder, prints the result and returns the status, as
-/// [`export_to`] does. If the folder can't be made, prints why.
+/// Writes the bag of a transfer, as it is held, to a new folder and prints the result, as [`export_to`] does. If the
+/// folder can't be made, prints that.
 ///
 /// If the status isn't 0, the folder is given up, that is, removed if it is empty.
 pub fn export_into_folder<K: Keeper, R: Files, W: Write + Drop>(
@@ -22,7 +24,7 @@ pub fn export_into_folder<K: Keeper, R: Files, W: Write + Drop>(
     name: &str,
     folder: &str,
     out: &mut Output<W>,
-) -> u8
+) -> Ended
     ensures { ExportsInto K.Keeper W.contents name.now folder.now made.old made.new
         receiver.old receiver.new out.old out.new result }
 {
@@ -32,8 +34,11 @@ pub fn export_into_folder<K: Keeper, R: Files, W: Write + Drop>(
             if status != DONE {
                 made.give_up();
             }
-            status
+            Ended {
+                status,
+                why: Why::of_failures(sink.failures(), sink.into_trouble()),
+            }
         }
-        Err(fault) => print_stop(stop_of(fault), out),
+        Err(fault) => stop_unopened(fault, out),
     }
 }

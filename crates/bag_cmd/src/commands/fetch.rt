@@ -1,8 +1,9 @@
 //! `bag fetch LEDGER NAME DIR`: looks in a folder for the files that `fetch.txt` lists and that aren't held.
 ghost use Rattle.bag_cmd.specs.Working.{FetchesFrom};
 
-use super::stop_of;
-use bag_commands::{Output, fetch_to, print_stop};
+use super::stop_unopened;
+use crate::ended::Ended;
+use bag_commands::{Output, fetch_to};
 use bag_folder::FolderSupplier;
 use bag_ledger::Keeper;
 use bag_receiver::Receiver;
@@ -11,8 +12,8 @@ use std::io::Write;
 use std::rt::Files;
 
 /// Looks in a folder for each payload file that the transfer's `fetch.txt` lists and that isn't held, by its path and
-/// whatever its url. Takes in the files found, prints the results and returns the status, as [`fetch_to`] does. If the
-/// folder can't be opened, prints why.
+/// whatever its url. Takes in the files found and prints the results, as [`fetch_to`] does. If the folder can't be
+/// opened, prints that.
 pub fn fetch_from_folder<K: Keeper, R: Files + Drop, W: Write + Drop>(
     rt: R,
     alloc: Global,
@@ -20,12 +21,12 @@ pub fn fetch_from_folder<K: Keeper, R: Files + Drop, W: Write + Drop>(
     name: &str,
     folder: &str,
     out: &mut Output<W>,
-) -> u8
+) -> Ended
     ensures { FetchesFrom K.Keeper W.contents name.now folder.now receiver.old receiver.new
         out.old out.new result }
 {
     match FolderSupplier::open(rt, alloc, folder) {
-        Ok(mut supplier) => fetch_to(alloc, receiver, name, &mut supplier, out),
-        Err(fault) => print_stop(stop_of(fault), out),
+        Ok(mut supplier) => Ended::plain(fetch_to(alloc, receiver, name, &mut supplier, out)),
+        Err(fault) => stop_unopened(fault, out),
     }
 }

@@ -5,8 +5,9 @@ ghost use Rattle.bag_folder.specs.Folders.{FolderShown};
 ghost use Rattle.bag_folder.specs.Bringing.{courier_of};
 ghost use Rattle.bag_cmd.specs.Working.{AreOpened, SomeIsRefused, TakesInFrom};
 
-use super::stop_of;
-use bag_commands::{Output, intake_to, print_stop};
+use super::stop_unopened;
+use crate::ended::Ended;
+use bag_commands::{Output, intake_to};
 use bag_folder::{Directories, FolderTree, OpenFault, TreeCourier};
 use bag_ledger::Keeper;
 use bag_receiver::Receiver;
@@ -14,8 +15,8 @@ use std::alloc::Global;
 use std::io::Write;
 use std::rt::Files;
 
-/// Takes in the payload files of these folders for a transfer, prints the results and returns the status, as
-/// [`intake_to`] does. If one of the folders can't be opened, takes in nothing and prints why.
+/// Takes in the payload files of these folders for a transfer and prints the results, as [`intake_to`] does. If one of
+/// the folders can't be opened, takes in nothing and prints that.
 pub fn intake_folders<K: Keeper, R: Files, D: Directories, W: Write + Drop>(
     rt: &R,
     disk: &D,
@@ -24,13 +25,15 @@ pub fn intake_folders<K: Keeper, R: Files, D: Directories, W: Write + Drop>(
     name: &str,
     folders: &[String],
     out: &mut Output<W>,
-) -> u8
+) -> Ended
     ensures { TakesInFrom K.Keeper (D.listing disk.now) W.contents name.now
         (map string_bytes folders.now) receiver.old receiver.new out.old out.new result }
 {
     match open_all(rt, disk, alloc, folders) {
-        Ok(mut couriers) => intake_to(alloc, receiver, name, couriers.as_mut_slice(), out),
-        Err(fault) => print_stop(stop_of(fault), out),
+        Ok(mut couriers) => {
+            Ended::plain(intake_to(alloc, receiver, name, couriers.as_mut_slice(), out))
+        }
+        Err(fault) => stop_unopened(fault, out),
     }
 }
 

@@ -10,6 +10,7 @@ use super::begin::begin_with_folder;
 use super::export::export_into_folder;
 use super::fetch::fetch_from_folder;
 use super::intake::intake_folders;
+use crate::ended::Ended;
 use crate::ledger::{Ledgers, Opened};
 use crate::request::Work;
 use bag_commands::status::FAILED;
@@ -23,7 +24,7 @@ use std::fmt::{self, Display, Formatter};
 use std::io::Write;
 use std::rt::Files;
 
-/// Opens a ledger, does the work, prints the result and returns the status. If the ledger can't be opened, prints why.
+/// Opens a ledger, does the work and prints the result. If the ledger can't be opened, prints why.
 ///
 /// `begin` makes the ledger if there is none. A ledger that it made is removed if no transfer was opened.
 pub fn work_on_ledger<R: Files, D: Directories, L: Ledgers, W: Write + Drop>(
@@ -35,7 +36,7 @@ pub fn work_on_ledger<R: Files, D: Directories, L: Ledgers, W: Write + Drop>(
     ledger: &str,
     work: &Work,
     out: &mut Output<W>,
-) -> u8
+) -> Ended
     ensures { WorksOn L.Kept.Keeper L.opened L.made L.refused (D.listing disk.now) W.contents
         ledger.now work.now made.old made.new out.old out.new result }
 {
@@ -44,7 +45,7 @@ pub fn work_on_ledger<R: Files, D: Directories, L: Ledgers, W: Write + Drop>(
             Worked {
                 mut receiver,
                 is_made,
-                status,
+                ended,
             },
         ) => {
             if is_made && has_no_transfer(alloc, &mut receiver) {
@@ -52,9 +53,9 @@ pub fn work_on_ledger<R: Files, D: Directories, L: Ledgers, W: Write + Drop>(
             } else {
                 ledgers.close(receiver.into_keeper());
             }
-            status
+            ended
         }
-        Err(fault) => out.print(UnopenedLine(&fault), FAILED),
+        Err(fault) => Ended::plain(out.print(UnopenedLine(&fault), FAILED)),
     }
 }
 
@@ -63,7 +64,7 @@ struct Worked<K> {
     receiver: Receiver<K>,
     // whether the ledger was made for the work
     is_made: bool,
-    status: u8,
+    ended: Ended,
 }
 
 /// Opens a ledger and does the work. The receiver is returned too, so that the ledger can be closed.
@@ -79,10 +80,10 @@ fn open_and_work<R: Files, D: Directories, L: Ledgers, W: Write + Drop>(
 ) -> Result<Worked<L::Kept>, AdoptFault>
     ensures works { IfOk result (λ done. Works L.Kept.Keeper L.opened L.made (D.listing disk.now)
         W.contents ledger.now work.now made.old made.new done.receiver out.old out.new
-        done.status) }
+        done.ended) }
     // If a report or an audit answers that a transfer is valid, the ledger that is stored holds a valid bag under this
     // name.
-    ensures valid { IfOk result (λ done. done.status ≡ VALID
+    ensures valid { IfOk result (λ done. done.ended.status ≡ VALID
         → L.Kept.Keeper.clean done.receiver.keeper
         → (name : List ℕ) → viewed work.now ≡ Some name
         → (stored : Ledger) → L.holds ledger.now stored → HoldsValidBag stored name) }
@@ -95,11 +96,11 @@ fn open_and_work<R: Files, D: Directories, L: Ledgers, W: Write + Drop>(
 {
     let opened = open(ledgers, ledger, work)?;
     let mut receiver = Receiver::new(alloc, opened.kept);
-    let status = do_work(rt, disk, made, alloc, &mut receiver, work, out);
+    let ended = do_work(rt, disk, made, alloc, &mut receiver, work, out);
     Ok(Worked {
         receiver,
         is_made: opened.is_made,
-        status,
+        ended,
     })
 }
 
@@ -140,7 +141,7 @@ fn do_work<K: Keeper, R: Files, D: Directories, W: Write + Drop>(
     receiver: &mut Receiver<K>,
     work: &Work,
     out: &mut Output<W>,
-) -> u8
+) -> Ended
     ensures { DoesWork K.Keeper (D.listing disk.now) W.contents work.now made.old made.new
         receiver.old receiver.new out.old out.new result }
 {
@@ -159,15 +160,15 @@ fn do_work<K: Keeper, R: Files, D: Directories, W: Write + Drop>(
         Work::Intake { name, folders } => {
             intake_folders(rt, disk, alloc, receiver, name.as_str(), folders, out)
         }
-        Work::Report { name } => report_to(alloc, receiver, name.as_str(), out),
-        Work::Audit { name } => audit_to(alloc, receiver, name.as_str(), out),
+        Work::Report { name } => Ended::plain(report_to(alloc, receiver, name.as_str(), out)),
+        Work::Audit { name } => Ended::plain(audit_to(alloc, receiver, name.as_str(), out)),
         Work::Fetch { name, folder } => {
             fetch_from_folder(rt, alloc, receiver, name.as_str(), folder.as_str(), out)
         }
         Work::Export { name, folder } => {
             export_into_folder(made, alloc, receiver, name.as_str(), folder.as_str(), out)
         }
-        Work::List => list_to(alloc, receiver, out),
+        Work::List => Ended::plain(list_to(alloc, receiver, out)),
     }
 }
 

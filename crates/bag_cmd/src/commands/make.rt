@@ -2,11 +2,14 @@
 ghost use Rattle.std.specs.Prelude.{◌≡◌};
 ghost use Rattle.bag_cmd.specs.Making.{MakesFolder, MakesInto, PrintsMake, words_given};
 
-use super::stop_of;
+use super::stop_unopened;
+use crate::ended::{Ended, Why};
 use bag_commands::status::DONE;
-use bag_commands::{Output, make_to, print_stop};
+use bag_commands::{Output, make_to};
+use bag_digest::Source;
 use bag_folder::{Destination, Directories, FolderTree};
 use bag_rules::Tree;
+use bag_writer::Sink;
 use std::alloc::Global;
 use std::io::Write;
 use std::rt::Files;
@@ -22,8 +25,8 @@ pub struct Making<'a> {
     pub names: &'a [String],
 }
 
-/// Writes a bag of the files in a folder to a new folder, prints the result and returns the status, as [`make_to`]
-/// does. If the source can't be opened or the destination can't be made, prints why.
+/// Writes a bag of the files in a folder to a new folder and prints the result, as [`make_to`] does. If the source can't
+/// be opened or the destination can't be made, prints that.
 ///
 /// The source is opened first, then the destination is made, and then the names of the algorithms are checked. If the
 /// status isn't 0, the destination is given up, that is, removed if it is empty.
@@ -34,13 +37,16 @@ pub fn make_folder<R: Files, D: Directories, W: Write + Drop>(
     alloc: Global,
     making: &Making<'_>,
     out: &mut Output<W>,
-) -> u8
+) -> Ended
     ensures { PrintsMake W.contents (D.listing disk.now) (words_given making.now) made.old made.new
         out.old out.new result }
 {
     match FolderTree::open_payload(rt, disk, alloc, making.source) {
-        Ok(mut tree) => make_into(alloc, making, &mut tree, made, out),
-        Err(fault) => print_stop(stop_of(fault), out),
+        Ok(mut tree) => {
+            let ended = make_into(alloc, making, &mut tree, made, out);
+            ended.or(Why::of_failures(tree.failures(), tree.into_trouble()))
+        }
+        Err(fault) => stop_unopened(fault, out),
     }
 }
 
@@ -51,9 +57,9 @@ fn make_into<T: Tree, R: Files, W: Write + Drop>(
     tree: &mut T,
     made: &mut Destination<'_, R>,
     out: &mut Output<W>,
-) -> u8
+) -> Ended
     ensures { MakesInto W.contents (MakesFolder W.contents T.shown T.failures T.sure
-        tree.old tree.new (words_given making.now).names out.old out.new result)
+        tree.old tree.new (words_given making.now).names out.old out.new result.status)
         (tree.new ≡ tree.old) making.now.destination.now made.old made.new out.old out.new result }
 {
     match made.create(alloc, making.destination) {
@@ -62,8 +68,11 @@ fn make_into<T: Tree, R: Files, W: Write + Drop>(
             if status != DONE {
                 made.give_up();
             }
-            status
+            Ended {
+                status,
+                why: Why::of_failures(sink.failures(), sink.into_trouble()),
+            }
         }
-        Err(fault) => print_stop(stop_of(fault), out),
+        Err(fault) => stop_unopened(fault, out),
     }
 }

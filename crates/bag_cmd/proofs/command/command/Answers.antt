@@ -6,7 +6,7 @@ use Rattle.bag_cmd.proofs.command.command.Goals as goal
 pub returns-then-is_empty : goal.returns-then-is_empty
 returns-then-is_empty g c =
     let empty : length c.args.words.items ≡ 0 = search rules in
-    NoWords (ap (map string_bytes) (no_words c.args.words.items empty)) refl c.print_line.ensures
+    rw c.plain.ensures (NoWords (ap (map string_bytes) (no_words c.args.words.items empty)) refl c.print_line.ensures refl)
 
 pub returns-in-Some : goal.returns-in-Some
 returns-in-Some g c = Named c.in-Some.request c.in-Some.ensures.request c.run_request.ensures
@@ -15,4 +15,4 @@ pub returns : goal.returns
 returns g c =
     let some : map string_bytes c.args.words.items ≢ [] =
     λ none. let empty : length c.args.words.items ≡ 0 = none_named string_bytes c.args.words.items none in search rules in
-    NoCommand some c.in-None.ensures.none refl c.refuse.ensures
+    rw c.plain-in-None.ensures (NoCommand some c.in-None.ensures.none refl c.refuse.ensures refl)

@@ -1,8 +1,8 @@
-use Rattle.std.proofs.Common.{◌∙◌, ◌≤◌, ◌++◌, ◌∷◌, [], ap, length, map, rules, string_bytes, subst}
+use Rattle.std.proofs.Common.{◌≡◌, ◌∙◌, ◌≤◌, ◌++◌, ◌∷◌, [], ap, length, map, rules, string_bytes, subst}
 use Rattle.std.proofs.lemmas.List.{take_all}
 use Rattle.std.proofs.lemmas.Result.{err_from_is_err_and}
 use Rattle.bag_cmd.specs.Working.{AreOpened}
-use Rattle.bag_cmd.proofs.WorkLemmas.{contained, couriers_more, opened_more, some_refused}
+use Rattle.bag_cmd.proofs.WorkLemmas.{contained, couriers_more, one_refused, opened_more}
 use Rattle.bag_cmd.proofs.commands.intake.open_all.Goals as goal
 
 pub loop-folder-init : goal.loop-folder-init
@@ -10,10 +10,9 @@ loop-folder-init g c = ([], tt, c.new-couriers.ensures.items)
 
 pub returns-in_err-tree-clause-refused : goal.returns-in_err-tree-clause-refused
 returns-in_err-tree-clause-refused g c =
-    let known = g.D.Directories.listing c.args.disk.now in
-    let here = contained string_bytes known c.args.folders.now c.loop-folder.folder-index c.folder-item.result c.as_str.result.now c.loop-folder-test.true c.folder-item.is c.as_str.ensures.value in
     let error = err_from_is_err_and c.from_residual.result c.from_residual.ensures.1 in
-    rw (error.1, error.2) (some_refused known (map string_bytes c.args.folders.now) c.as_str.result.now c.in_err-tree.field-0.0 here c.in_err-tree.ensures.refused)
+    let there = contained string_bytes (g.D.Directories.listing c.args.disk.now) c.args.folders.now c.loop-folder.folder-index c.folder-item.result c.as_str.result.now c.loop-folder-test.true c.folder-item.is c.as_str.ensures.value in
+    rw (error.1, error.2) (one_refused (g.D.Directories.listing c.args.disk.now) (map string_bytes c.args.folders.now) c.as_str.result.now there c.in_err-tree.field-0.0 c.in_err-tree.ensures.refused)
 
 pub loop-folder-preserved : goal.loop-folder-preserved
 loop-folder-preserved g c =

@@ -8,10 +8,10 @@ pub returns-in-Intake : goal.returns-in-Intake
 returns-in-Intake g c = rw c.in-Intake.is (refl, rw (← c.as_str-in-Intake.ensures.value, ← c.deref.ensures.value) c.intake_folders.ensures)
 
 pub returns-in-Report : goal.returns-in-Report
-returns-in-Report g c = rw c.in-Report.is (refl, rw (← c.as_str-in-Report.ensures.value) (record { valid = c.report_to.ensures.valid; printed = c.report_to.ensures.printed }))
+returns-in-Report g c = rw (c.in-Report.is, c.plain.ensures) (refl, rw (← c.as_str-in-Report.ensures.value) (record { valid = c.report_to.ensures.valid; printed = c.report_to.ensures.printed; untold = refl }))
 
 pub returns-in-Audit : goal.returns-in-Audit
-returns-in-Audit g c = rw c.in-Audit.is (refl, rw (← c.as_str-in-Audit.ensures.value) (record { valid = c.audit_to.ensures.valid; printed = c.audit_to.ensures.printed }))
+returns-in-Audit g c = rw (c.in-Audit.is, c.plain-in-Audit.ensures) (refl, rw (← c.as_str-in-Audit.ensures.value) (record { valid = c.audit_to.ensures.valid; printed = c.audit_to.ensures.printed; untold = refl }))
 
 pub returns-in-Fetch : goal.returns-in-Fetch
 returns-in-Fetch g c = rw c.in-Fetch.is (refl, rw (← c.as_str-in-Fetch.ensures.value, ← c.as_str-in-Fetch-2.ensures.value) c.fetch_from_folder.ensures)

@@ -1,13 +1,14 @@
-use Rattle.std.proofs.Common.{◌∷◌, ℕ, List, [], Option, refl, subst}
+use Rattle.std.proofs.Common.{◌≡◌, ◌∙◌, ◌∷◌, ℕ, List, [], Option, ap, ap₂, refl}
 use Rattle.bag_folder.specs.declared.fault.OpenFault.{OpenFault}
 use Rattle.bag_folder.specs.declared.fault.OpenFault.TheVariants as open_fault
 use Rattle.bag_commands.specs.declared.output.Output.{Output}
 use Rattle.bag_commands.specs.declared.status.TheConstants.{FAILED}
-use Rattle.bag_commands.specs.declared.stop.Stop.{Stop}
 use Rattle.bag_folder.specs.declared.place.Place.TheVariants.{Payload}
 use Rattle.bag_folder.specs.Directories.{Listing, in_payload}
 use Rattle.bag_folder.specs.Faults.{IfUnfit}
 use Rattle.bag_folder.specs.Folders.{IsRefused}
+use Rattle.bag_cmd.specs.declared.ended.Ended.{Ended}
+use Rattle.bag_cmd.specs.Endings.{or_why, why_failed, why_unopened}
 use Rattle.bag_cmd.specs.Stops.{stop_of_open}
 use Rattle.bag_cmd.specs.Making.{MakingShown, NoMemory, Opened, PrintsMake, Refused, words_given}
 use Rattle.bag_commands.specs.Printing.{Printed}
@@ -15,17 +16,19 @@ use Rattle.bag_commands.specs.StopTexts.{stop_text}
 use Rattle.bag_cmd.proofs.commands.make.make_folder.Goals as goal
 
 -- the reason why the payload wasn't opened was printed, and no folder was made
-not_opened : {W : Type 0} (contents : W → Option (List ℕ)) (known : Option Listing) (words : MakingShown) (made : Option (List ℕ)) (old new : Output W) (result : ℕ) (fault : OpenFault)
-    → IfUnfit fault (IsRefused (in_payload known words.source) words.source Payload) → Printed contents old new result (stop_text (stop_of_open fault) ∷ []) FAILED
-    → PrintsMake contents known words made made old new result
-not_opened contents known words made old new result (open_fault.Files unfit) refused printed = Refused unfit refused refl printed
-not_opened contents known words made old new result open_fault.Memory refused printed = NoMemory refl printed
+not_opened : {W : Type 0} (contents : W → Option (List ℕ)) (known : Option Listing) (words : MakingShown) (made : Option (List ℕ)) (old new : Output W) (result : Ended) (fault : OpenFault)
+    → IfUnfit fault (IsRefused (in_payload known words.source) words.source Payload) → Printed contents old new result.status (stop_text (stop_of_open fault) ∷ []) FAILED
+    → result.why ≡ why_unopened fault → PrintsMake contents known words made made old new result
+not_opened contents known words made old new result (open_fault.Files unfit) refused printed why = Refused unfit refused refl printed why
+not_opened contents known words made old new result open_fault.Memory refused printed why = NoMemory refl printed why
 
 pub returns-in-Ok : goal.returns-in-Ok
-returns-in-Ok g c = Opened c.in-Ok.tree c.make_into.new.tree c.in-Ok.ensures.opened c.make_into.ensures
+returns-in-Ok g c =
+    Opened c.in-Ok.tree c.make_into-ended.new.tree c.make_into-ended.result c.in-Ok.ensures.opened c.make_into-ended.ensures
+    (c.or.ensures ∙ ap (or_why c.make_into-ended.result) (c.of_failures.ensures ∙ ap₂ why_failed c.failures.ensures c.into_trouble.ensures))
 
 pub returns-in-Err : goal.returns-in-Err
 returns-in-Err g c =
-    let printed = subst (λ (stop : Stop). Printed g.W.Write.contents c.args.out.now c.print_stop.new.out c.print_stop.result (stop_text stop ∷ []) FAILED) c.stop_of.ensures c.print_stop.ensures in
-    not_opened g.W.Write.contents (g.D.Directories.listing c.args.disk.now) (words_given c.args.making.now) c.args.made.now c.args.out.now c.print_stop.new.out c.print_stop.result c.in-Err.fault
-    c.in-Err.ensures.refused printed
+    let stopped = c.stop_unopened.ensures in
+    not_opened g.W.Write.contents (g.D.Directories.listing c.args.disk.now) (words_given c.args.making.now) c.args.made.now c.args.out.now c.stop_unopened.new.out c.stop_unopened.result c.in-Err.fault
+    c.in-Err.ensures.refused stopped.printed stopped.why

@@ -1,0 +1,57 @@
+-- How a command has ended, and what is told of it besides its lines.
+use Rattle.std.specs.Prelude.{ℕ, List, None, Option, Result, Some, Err, if◌then◌else◌, length, nat_eq, nat_lt}
+use Rattle.std.specs.Option.{option_map}
+use Rattle.bag_folder.specs.declared.fault.OpenFault.{OpenFault}
+use Rattle.bag_folder.specs.declared.fault.OpenFault.TheVariants as open_fault
+use Rattle.bag_folder.specs.Folders.{FolderShown}
+use Rattle.bag_folder.specs.Unfits.{UnfitShown}
+use Rattle.bag_rules.specs.declared.limits.TheConstants.{MOST_FILES}
+use Rattle.bag_rules.specs.declared.outcome.Outcome.{Outcome}
+use Rattle.bag_rules.specs.declared.outcome.CheckFault.{CheckFault}
+use Rattle.bag_rules.specs.declared.outcome.CheckFault.TheVariants as check_fault
+use Rattle.bag_rules.specs.Trees.{paths_in}
+use Rattle.bag_cmd.specs.declared.ended.Ended.{Ended}
+use Rattle.bag_cmd.specs.declared.excess.Limit.{Limit}
+use Rattle.bag_cmd.specs.declared.excess.Limit.TheVariants as limit
+use Rattle.bag_cmd.specs.declared.ended.Why.{Why}
+use Rattle.bag_cmd.specs.declared.ended.Why.TheVariants.{Exceeds, Unfit}
+
+-- a command with this status, of which nothing is told
+abbrev pub plain : ℕ → Ended
+plain status = record { status = status; why = None }
+
+-- the first reason, if there is one, and otherwise the second
+abbrev pub first_why : Option Why → Option Why → Option Why
+first_why None why = why
+first_why (Some first) why = Some first
+
+abbrev pub or_why : Ended → Option Why → Ended
+or_why ended why = record { status = ended.status; why = first_why ended.why why }
+
+-- why a folder wasn't opened or made: what can't be used, unless memory ran out
+abbrev pub why_unopened : OpenFault → Option Why
+why_unopened (open_fault.Files unfit) = Some (Unfit unfit)
+why_unopened open_fault.Memory = None
+
+-- what is told of a folder, by how many times it has failed and what couldn't be used the last time: nothing if it
+-- hasn't failed
+abbrev pub why_failed : ℕ → Option UnfitShown → Option Why
+why_failed failures trouble = if nat_eq failures 0 then None else option_map Unfit trouble
+
+-- what is told if a limit is exceeded by something with this name
+abbrev pub why_exceeds : List ℕ → Limit → Option Why
+why_exceeds name exceeded = Some (Exceeds (record { name = name; limit = exceeded }))
+
+-- There are too many files in the folder, or too many lines in a tag file: the one that was looked up last.
+abbrev pub why_too_many : FolderShown → Option Why
+why_too_many tree = if nat_lt MOST_FILES (length (paths_in tree.shown))
+    then why_exceeds tree.folder limit.Files else why_exceeds tree.name limit.Lines
+
+-- what is told of a result of `check` for a folder: what couldn't be used the last time, or what exceeds a limit
+abbrev pub why_unchecked : FolderShown → Result Outcome CheckFault → Option Why
+why_unchecked tree (Err check_fault.Tree) = option_map Unfit tree.trouble
+why_unchecked tree (Err (check_fault.TagTooLarge path)) =
+    why_exceeds tree.folder (limit.TagFile path)
+why_unchecked tree (Err (check_fault.TooLarge path)) = why_exceeds tree.folder (limit.File path)
+why_unchecked tree (Err check_fault.TooMany) = why_too_many tree
+why_unchecked tree answer = None

@@ -1,0 +1,81 @@
+//! How a command has ended, and why it wasn't done.
+ghost use Rattle.std.specs.Prelude.{◌≡◌};
+ghost use Rattle.std.specs.Option.{option_map};
+ghost use Rattle.bag_cmd.specs.Endings.{or_why, plain, why_failed};
+
+use crate::excess::Excess;
+use crate::told_name::ToldName;
+use bag_folder::Unfit;
+use std::fmt::{self, Display, Formatter};
+
+/// How a command has ended.
+#[derive(Debug, Drop)]
+pub struct Ended {
+    /// The exit status.
+    pub status: u8,
+    /// Why the command wasn't done, if it printed `bag: ..` and more is known than that line says.
+    pub why: Option<Why>,
+}
+
+impl Ended {
+    /// There is nothing to explain.
+    pub fn plain(status: u8) -> Ended
+        ensures { result ≡ plain status }
+    {
+        Ended { status, why: None }
+    }
+
+    /// The same, with this reason if it has none.
+    pub fn or(self, why: Option<Why>) -> Ended
+        ensures { result ≡ or_why self why }
+    {
+        let Ended { status, why: first } = self;
+        match first {
+            Some(first) => Ended {
+                status,
+                why: Some(first),
+            },
+            None => Ended { status, why },
+        }
+    }
+}
+
+/// Why a command wasn't done.
+#[derive(Debug, Drop)]
+pub enum Why {
+    /// Something on disk can't be used.
+    Unfit(Unfit),
+    /// Something on disk exceeds a limit.
+    Exceeds(Excess),
+}
+
+impl Why {
+    /// What couldn't be used, if that is known.
+    pub fn of_trouble(trouble: Option<Unfit>) -> Option<Why>
+        ensures { result ≡ option_map Why.Unfit trouble }
+    {
+        match trouble {
+            Some(unfit) => Some(Why::Unfit(unfit)),
+            None => None,
+        }
+    }
+
+    /// The same for a folder that has failed this many times. Nothing is told of one that hasn't failed.
+    pub fn of_failures(failures: u64, trouble: Option<Unfit>) -> Option<Why>
+        ensures { result ≡ why_failed failures trouble }
+    {
+        match failures {
+            0 => None,
+            _ => Why::of_trouble(trouble),
+        }
+    }
+}
+
+impl Display for Why {
+    fn fmt<W: fmt::Write>(&self, f: &mut Formatter<W>) -> fmt::Result {
+        match self {
+            Why::Unfit(unfit) => write!(f, "{}: {}", ToldName(unfit.path.as_str()), unfit.cause),
+            Why::Exceeds(excess) => write!(f, "{excess}"),
+        }
+    }
+}

@@ -1,0 +1,65 @@
+//! What exceeds a limit.
+use crate::told_name::ToldName;
+use bag_path::BagPath;
+use std::fmt::{self, Display, Formatter};
+use std::marker::Model;
+
+/// A folder or a file that exceeds a limit.
+#[derive(Debug, Drop)]
+pub struct Excess {
+    /// Its name on disk; for a limit with a path, that of the folder which the path begins in.
+    pub name: String,
+    /// The limit.
+    pub limit: Limit,
+}
+
+impl Model for Excess {
+    ghost use Rattle.std.specs.Prelude.{string_bytes};
+    ghost use Rattle.bag_cmd.specs.Excesses.{ExcessShown};
+
+    ghost Value = { ExcessShown };
+
+    ghost view = { λ excess. record { name = string_bytes excess.name; limit = excess.limit } };
+}
+
+/// A limit that is exceeded.
+#[derive(Debug, Drop)]
+pub enum Limit {
+    /// The size of the tag file with this path.
+    TagFile(BagPath),
+    /// The size of the file with this path.
+    File(BagPath),
+    /// The number of files in a folder.
+    Files,
+    /// The number of lines in a tag file.
+    Lines,
+}
+
+impl Display for Excess {
+    fn fmt<W: fmt::Write>(&self, f: &mut Formatter<W>) -> fmt::Result {
+        write!(f, "{}{}", ToldName(self.name.as_str()), self.limit)
+    }
+}
+
+impl Display for Limit {
+    fn fmt<W: fmt::Write>(&self, f: &mut Formatter<W>) -> fmt::Result {
+        match self {
+            Limit::TagFile(path) => {
+                write!(
+                    f,
+                    "/{}: it has more than 16,777,216 octets",
+                    ToldName(path.as_str())
+                )
+            }
+            Limit::File(path) => {
+                write!(
+                    f,
+                    "/{}: it has more than 1,099,511,627,776 octets",
+                    ToldName(path.as_str())
+                )
+            }
+            Limit::Files => f.write_str(": it has more than 200,000 files"),
+            Limit::Lines => f.write_str(": it has more than 100,000 lines"),
+        }
+    }
+}

@@ -1,0 +1,137 @@
+#!/usr/bin/env bash
+# What is said on standard error if folders or files can't be used: the texts of FORMAT.md, section 14, to the octet. The texts
+# of the system are those of strerror.
+set -u
+cd "$(dirname -- "$0")/.." || exit 1
+. tests/common.bash
+build_first
+
+missing='No such file or directory (os error 2)'
+denied='Permission denied (os error 13)'
+exists='File exists (os error 17)'
+no_directory='Not a directory (os error 20)'
+too_large='File too large (os error 27)'
+no_room='No space left on device (os error 28)'
+too_long='File name too long (os error 36)'
+
+# new NAME: a copy of a valid bag in a folder of this name.
+new() {
+    cp -r examples/first-bag "$work/$1"
+}
+
+# A folder as a whole, by each command that opens or makes one.
+expect 'a ledger' 0 new bag begin "$work/ledger" t1 examples/first-bag
+touch "$work/file"
+mkdir "$work/there"
+for words in check "begin $work/ledger t2" "intake $work/ledger t1" "fetch $work/ledger t1"; do
+    explain "${words%% *}: nothing is there" 3 "bag: $work/none: $missing" bag $words "$work/none"
+    explain "${words%% *}: no name" 3 'bag: : the name is empty' bag $words ''
+done
+for words in check "begin $work/ledger t2" "intake $work/ledger t1"; do
+    explain "${words%% *}: a plain file" 3 "bag: $work/file: $no_directory" bag $words "$work/file"
+done
+explain 'fetch: a plain file' 3 "bag: $work/file: not a directory" bag fetch "$work/ledger" t1 "$work/file"
+explain 'make: no payload is there' 3 "bag: $work/none: $missing" bag make "$work/none" "$work/made" md5
+explain 'intake: the second folder is not there' 3 "bag: $work/none: $missing" bag intake "$work/ledger" t1 examples/first-bag "$work/none"
+for words in "make examples/first-bag/data DST md5" "export $work/ledger t1 DST"; do
+    explain "${words%% *}: it exists" 3 "bag: $work/there: $exists" bag ${words/DST/"$work/there"}
+    explain "${words%% *}: no folder for it" 3 "bag: $work/none/made: $missing" bag ${words/DST/"$work/none/made"}
+    explain "${words%% *}: in a plain file" 3 "bag: $work/file/made: $no_directory" bag ${words/DST/"$work/file/made"}
+done
+long=$work/$(printf 'k%.0s' {1..300})
+explain 'a name that is too long' 3 "bag: $long: $too_long" bag check "$long"
+explain 'a full output' 3 "bag: $work/none: $missing" full bag check "$work/none"
+expect 'a wrong name of a transfer has no more to it' 1 'bag: no transfer' bag report "$work/ledger" t2
+
+# What is below a folder.
+new link
+ln -s a.txt "$work/link/data/b.txt"
+explain 'a link' 3 "bag: $work/link/data/b.txt: it is a symbolic link" bag check "$work/link"
+explain 'a slash after the name' 3 "bag: $work/link//data/b.txt: it is a symbolic link" bag check "$work/link/"
+explain 'make: a link' 3 "bag: $work/link/data/b.txt: it is a symbolic link" bag make "$work/link/data" "$work/made" md5
+new fifo
+mkfifo "$work/fifo/data/pipe"
+explain 'a fifo' 3 "bag: $work/fifo/data/pipe: it is a named pipe, a socket or a device" bag check "$work/fifo"
+new socket
+python3 -c 'import socket, sys; socket.socket(socket.AF_UNIX).bind(sys.argv[1])' "$work/socket/s"
+explain 'a socket' 3 "bag: $work/socket/s: it is a named pipe, a socket or a device" bag check "$work/socket"
+new octets
+touch "$work/octets/data/"$'\377'
+explain 'a name that is not UTF-8' 3 "bag: $work/octets/data/: a name in it is not UTF-8" bag check "$work/octets"
+new data
+rm -r "$work/data/data"
+touch "$work/data/data"
+explain 'a plain file named data' 3 "bag: $work/data/data: the path is that of the payload directory" bag check "$work/data"
+name=$(printf 'k%.0s' {1..200})
+below=$(printf "$name/%.0s" {1..20})
+new deep
+(cd "$work/deep/data" && for _ in {1..21}; do mkdir "$name" && cd "$name" || exit; done)
+explain 'a name that the system cannot reach' 3 "bag: $work/deep/data/$below: $too_long" bag check "$work/deep"
+new escaped
+ln -s . "$work/escaped/data/a%b"$'\n\t\033[1m\302\233\177'é
+explain 'a name with control characters' 3 "bag: $work/escaped/data/a%25b%0A%09%1B[1m%C2%9B%7Fé: it is a symbolic link" bag check "$work/escaped"
+
+# What may not be read or written.
+chmod 711 "$work"
+cp crates/bag_cmd/out/bag_cmd "$work/program"
+new locked
+mkdir -m 777 "$work/open"
+chmod -R a+rX "$work/program" "$work/locked"
+chmod 000 "$work/locked/data/a.txt"
+file=$(printf 'f%.0s' {1..72})
+mkdir "$work/s"
+(cd "$work/s" && for _ in {1..20}; do mkdir "$name" && cd "$name" || exit; done && touch "$file")
+explain 'a path in the bag of 4,097 octets' 3 "bag: s/$below$file: the path has more than 4,096 octets" env -C "$work" "$work/program" make s made md5
+explain 'a file that may not be read' 3 "bag: $work/locked/data/a.txt: $denied" nobody "$work/program" check "$work/locked"
+explain 'make: a file that may not be read' 3 "bag: $work/locked/data/a.txt: $denied" \
+    nobody "$work/program" make "$work/locked/data" "$work/open/made" md5
+chmod 000 "$work/locked/bagit.txt"
+explain 'begin: a file that may not be read' 3 "bag: $work/locked/bagit.txt: $denied" \
+    nobody "$work/program" begin "$work/open/ledger" t1 "$work/locked"
+chmod 000 "$work/locked/data"
+explain 'a directory that may not be read' 3 "bag: $work/locked/data/: $denied" nobody "$work/program" check "$work/locked"
+chmod 000 "$work/locked"
+explain 'a folder that may not be read' 3 "bag: $work/locked: $denied" nobody "$work/program" check "$work/locked"
+chmod -R 755 "$work/locked"
+explain 'make: a folder that may not be written' 3 "bag: $work/there/made: $denied" \
+    nobody "$work/program" make "$work/locked/data" "$work/there/made" md5
+
+# Limits.
+new large
+head -c 16777217 /dev/zero | tr '\0' A >"$work/large/bagit.txt"
+explain 'a tag file past the limit' 3 "bag: $work/large/bagit.txt: it has more than 16,777,216 octets" bag check "$work/large"
+cp -r examples/empty-payload "$work/lines"
+mkdir -p "$work/lines/data"
+yes '' | head -n 100001 >"$work/lines/manifest-sha256.txt"
+explain 'lines past the limit' 3 "bag: $work/lines/manifest-sha256.txt: it has more than 100,000 lines" bag check "$work/lines"
+mkdir "$work/files"
+(cd "$work/files" && seq 200001 | xargs touch)
+explain 'files past the limit' 3 "bag: $work/files: it has more than 200,000 files" bag check "$work/files"
+
+# A file that can't be written whole, and a disk without room.
+mkdir "$work/payload"
+head -c 200000 /dev/zero >"$work/payload/A"
+explain 'make: a file that is cut short' 3 "bag: $work/cut/data/A: $too_large" small_files "$work/program" make "$work/payload" "$work/cut" md5
+expect 'a bag to export' 0 'made 1 files, 200000 octets' bag make "$work/payload" "$work/bag" md5
+expect 'a transfer to export' 0 new bag begin "$work/large ledger" t1 "$work/bag"
+expect 'a transfer to export: its payload' 0 'taken data/A' bag intake "$work/large ledger" t1 "$work/bag"
+explain 'export: a file that is cut short' 3 "bag: $work/out/data/A: $too_large" \
+    small_files "$work/program" export "$work/large ledger" t1 "$work/out"
+if unshare -m sh -c "mkdir '$work/disk' && mount -t tmpfs -o size=100k bag '$work/disk'" 2>"$work/no mount"; then
+    on_disk() {
+        unshare -m sh -c 'mount -t tmpfs -o size=100k bag "$1/disk" && "$1/program" make "$1/payload" "$1/disk/bag" md5' sh "$work"
+    }
+    explain 'a full disk' 3 "bag: $work/disk/bag/data/A: $no_room" on_disk
+else
+    lacking 'a full disk (no permission to mount one)'
+fi
+
+# muted: an export that is cut short, with a closed standard error. Nothing is said while a file is open, so what it wrote is part
+# of the payload file and nothing else.
+muted() {
+    small_files "$work/program" export "$work/large ledger" t1 "$work/muted" >"$work/heard" 2>&-
+    cat "$work/heard"
+    head -c 65536 "$work/payload/A" | cmp - "$work/muted/data/A"
+}
+expect 'a closed standard error' 0 'bag: files' muted
+finish

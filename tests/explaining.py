@@ -1,0 +1,10 @@
+"""What the program may say on standard error about a command that it ran (FORMAT.md, section 14)."""
+
+EXPLAINED = {"bag: files", "bag: tag too large", "bag: too large", "bag: too many"}
+
+
+def is_explained(lines, status, said):
+    """Whether this may be said after these lines: one line if they say that folders or files can't be used, and otherwise nothing."""
+    if status != 3 or not EXPLAINED & set(lines):
+        return not said
+    return said.startswith(b"bag: ") and said.count(b"\n") == 1 and said.endswith(b"\n")
