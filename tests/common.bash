@@ -23,13 +23,13 @@ expect() {
 }
 
 # explained STATUS LINES: what was said on standard error is one line `bag: ..` if the lines say that folders or files can't
-# be used, and otherwise nothing. FORMAT.md, section 14, says which lines these are.
+# be used, and otherwise nothing, or that a folder has no payload. FORMAT.md, section 14, says which lines these are.
 explained() {
     if [ "$1" -eq 3 ] && grep -qxE 'bag: (files|tag too large|too large|too many)' <<<"$2"; then
         [[ $(<"$work/said") == 'bag: '?* ]] && [ "$(wc -l <"$work/said")" -eq 1 ] && return
         cat "$work/said" && return 1
     fi
-    diff -u /dev/null "$work/said"
+    diff -u /dev/null <(grep -avx 'bag: .*: it has no payload file below data/' "$work/said")
 }
 
 # explain NAME STATUS LINE COMMAND..: the command ends with this status, and says this line and nothing else on standard

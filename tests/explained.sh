@@ -43,6 +43,14 @@ explain 'a name that is too long' 3 "bag: $long: $too_long" bag check "$long"
 explain 'a full output' 3 "bag: $work/none: $missing" full bag check "$work/none"
 expect 'a wrong name of a transfer has no more to it' 1 'bag: no transfer' bag report "$work/ledger" t2
 
+# A folder without a payload.
+nothing_below='it has no payload file below data/'
+explain 'intake: the payload in place of the bag' 0 "bag: examples/first-bag/data: $nothing_below" \
+    bag intake "$work/ledger" t1 examples/first-bag/data
+explain 'intake: an empty folder after another' 0 "bag: $work/there: $nothing_below" \
+    bag intake "$work/ledger" t1 examples/first-bag "$work/there" examples/first-bag/data
+explain 'intake: an empty folder, and a refusal' 1 "bag: $work/there: $nothing_below" bag intake "$work/ledger" t2 "$work/there" examples/first-bag
+
 # What is below a folder.
 new link
 ln -s a.txt "$work/link/data/b.txt"

@@ -4,7 +4,9 @@ EXPLAINED = {"bag: files", "bag: tag too large", "bag: too large", "bag: too man
 
 
 def is_explained(lines, status, said):
-    """Whether this may be said after these lines: one line if they say that folders or files can't be used, and otherwise nothing."""
-    if status != 3 or not EXPLAINED & set(lines):
-        return not said
-    return said.startswith(b"bag: ") and said.count(b"\n") == 1 and said.endswith(b"\n")
+    """Whether this may be said after these lines: one line if they say that folders or files can't be used, and otherwise nothing, or
+    that a folder has no payload."""
+    is_line = said.startswith(b"bag: ") and said.count(b"\n") == 1 and said.endswith(b"\n")
+    if status == 3 and EXPLAINED & set(lines):
+        return is_line
+    return not said or is_line and said.endswith(b": it has no payload file below data/\n")

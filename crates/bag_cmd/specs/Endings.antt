@@ -1,5 +1,6 @@
 -- How a command has ended, and what is told of it besides its lines.
-use Rattle.std.specs.Prelude.{ℕ, List, None, Option, Result, Some, Err, if◌then◌else◌, length, nat_eq, nat_lt}
+use Rattle.std.specs.Prelude.{ℕ, List, [], ◌∷◌, None, Option, Result, Some, Err, if◌then◌else◌, length, nat_eq, nat_lt}
+use Rattle.std.specs.List.{list_any}
 use Rattle.std.specs.Option.{option_map}
 use Rattle.bag_folder.specs.declared.fault.OpenFault.{OpenFault}
 use Rattle.bag_folder.specs.declared.fault.OpenFault.TheVariants as open_fault
@@ -9,6 +10,7 @@ use Rattle.bag_rules.specs.declared.limits.TheConstants.{MOST_FILES}
 use Rattle.bag_rules.specs.declared.outcome.Outcome.{Outcome}
 use Rattle.bag_rules.specs.declared.outcome.CheckFault.{CheckFault}
 use Rattle.bag_rules.specs.declared.outcome.CheckFault.TheVariants as check_fault
+use Rattle.bag_path.specs.Paths.{is_payload}
 use Rattle.bag_rules.specs.Trees.{paths_in}
 use Rattle.bag_cmd.specs.declared.ended.Ended.{Ended}
 use Rattle.bag_cmd.specs.declared.excess.Limit.{Limit}
@@ -37,6 +39,20 @@ why_unopened open_fault.Memory = None
 -- hasn't failed
 abbrev pub why_failed : ℕ → Option UnfitShown → Option Why
 why_failed failures trouble = if nat_eq failures 0 then None else option_map Unfit trouble
+
+-- the name of a folder without payload files
+abbrev pub name_if_empty : FolderShown → Option (List ℕ)
+name_if_empty tree = if list_any is_payload (paths_in tree.shown) then None else Some tree.folder
+
+-- the first name, if there is one, and otherwise the second
+abbrev pub first_name : Option (List ℕ) → Option (List ℕ) → Option (List ℕ)
+first_name None name = name
+first_name (Some first) name = Some first
+
+-- the name of the first folder without payload files
+abbrev pub first_empty : List FolderShown → Option (List ℕ)
+first_empty [] = None
+first_empty (tree ∷ trees) = first_name (name_if_empty tree) (first_empty trees)
 
 -- what is told if a limit is exceeded by something with this name
 abbrev pub why_exceeds : List ℕ → Limit → Option Why

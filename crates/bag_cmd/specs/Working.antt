@@ -1,5 +1,6 @@
 -- Work on a ledger: how it is opened, and what is done with it.
 use Rattle.std.specs.Prelude.{◌≡◌, ◌⊎◌, ◌∷◌, ◌++◌, [], ℕ, Bool, Contains, List, None, Option, Some, codes, false, is_some, map, string_bytes}
+use Rattle.std.specs.Option.{option_map}
 use Rattle.bag_ledger.specs.Ledgers.{Ledger, Transfer}
 use Rattle.bag_ledger.specs.declared.keeper.Keeper.{Ghosts}
 use Rattle.bag_path.specs.Spellings.{written_spelling}
@@ -31,14 +32,14 @@ use Rattle.bag_commands.specs.ViewTexts.{view_lines, view_status}
 use Rattle.bag_folder.specs.declared.fault.OpenFault.{OpenFault}
 use Rattle.bag_folder.specs.declared.place.Place.TheVariants.{Base}
 use Rattle.bag_cmd.specs.declared.ended.Ended.{Ended}
-use Rattle.bag_cmd.specs.declared.ended.Why.TheVariants.{Unfit}
+use Rattle.bag_cmd.specs.declared.ended.Why.TheVariants.{Empty, Unfit}
 use Rattle.bag_cmd.specs.declared.request.Work.{Work}
 use Rattle.bag_cmd.specs.declared.request.Work.TheVariants.{Audit, Begin, Export, Fetch, Intake, List as ListNames, Report}
 use Rattle.bag_folder.specs.Bringing.{Bringing, courier_of, to_come}
 use Rattle.bag_folder.specs.Directories.{Listing}
 use Rattle.bag_folder.specs.Folders.{FolderShown, IsOpened, IsRefused}
 use Rattle.bag_cmd.specs.LedgerFiles.{OpensOrMakes}
-use Rattle.bag_cmd.specs.Endings.{why_failed, why_unopened}
+use Rattle.bag_cmd.specs.Endings.{first_empty, why_failed, why_unopened}
 use Rattle.bag_cmd.specs.Stops.{stop_of_open}
 use Rattle.bag_cmd.specs.Making.{IsUnmade, MakesInto}
 use Rattle.bag_folder.specs.SinkFolders.{SinkShown}
@@ -98,12 +99,12 @@ abbrev pub SomeIsRefused : Option Listing → List (List ℕ) → UnfitShown →
 SomeIsRefused known folders unfit =
     (folder : List ℕ) × Contains folders folder × IsRefused known folder Base unfit
 
--- the same for several folders, and nothing is told of folders that were opened
+-- the same for several folders, and if they were opened, the first without payload files is told
 pub data WithFolders {W : Type 0} (contents : W → Option (List ℕ)) (known : Option Listing)
     (folders : List (List ℕ)) (untouched : Type 0) (does : List FolderShown → Type 0)
     (old new : Output W) (result : Ended) : Type 0 where
   AllOpened : (trees : List FolderShown) → AreOpened known folders trees → does trees
-      → result.why ≡ None
+      → result.why ≡ option_map Empty (first_empty trees)
       → WithFolders contents known folders untouched does old new result
   OneRefused : (unfit : UnfitShown) → SomeIsRefused known folders unfit → untouched
       → Printed contents old new result.status (stop_text stop.Files ∷ []) FAILED

@@ -1,9 +1,9 @@
-//! How a command has ended, and why it wasn't done.
+//! How a command has ended, and why it wasn't done or had nothing to do.
 ghost use Rattle.std.specs.Prelude.{◌≡◌};
 ghost use Rattle.std.specs.Option.{option_map};
 ghost use Rattle.bag_cmd.specs.Endings.{or_why, plain, why_failed};
 
-use crate::excess::Excess;
+use crate::excess::{Excess, FolderName};
 use crate::told_name::ToldName;
 use bag_folder::Unfit;
 use std::fmt::{self, Display, Formatter};
@@ -13,12 +13,13 @@ use std::fmt::{self, Display, Formatter};
 pub struct Ended {
     /// The exit status.
     pub status: u8,
-    /// Why the command wasn't done, if it printed `bag: ..` and more is known than that line says.
+    /// Why the command wasn't done, if it printed `bag: ..` and more is known than that line says, or why it had nothing to
+    /// do.
     pub why: Option<Why>,
 }
 
 impl Ended {
-    /// There is nothing to explain.
+    /// Nothing has to be explained.
     pub fn plain(status: u8) -> Ended
         ensures { result ≡ plain status }
     {
@@ -40,16 +41,28 @@ impl Ended {
     }
 }
 
-/// Why a command wasn't done.
+/// Why a command wasn't done, or had nothing to do.
 #[derive(Debug, Drop)]
 pub enum Why {
     /// Something on disk can't be used.
     Unfit(Unfit),
     /// Something on disk exceeds a limit.
     Exceeds(Excess),
+    /// There are no payload files in this folder.
+    Empty(FolderName),
 }
 
 impl Why {
+    /// The folder has no payload files, if there is one.
+    pub fn of_empty(folder: Option<FolderName>) -> Option<Why>
+        ensures { result ≡ option_map Why.Empty folder }
+    {
+        match folder {
+            Some(folder) => Some(Why::Empty(folder)),
+            None => None,
+        }
+    }
+
     /// What couldn't be used, if that is known.
     pub fn of_trouble(trouble: Option<Unfit>) -> Option<Why>
         ensures { result ≡ option_map Why.Unfit trouble }
@@ -76,6 +89,10 @@ impl Display for Why {
         match self {
             Why::Unfit(unfit) => write!(f, "{}: {}", ToldName(unfit.path.as_str()), unfit.cause),
             Why::Exceeds(excess) => write!(f, "{excess}"),
+            Why::Empty(folder) => {
+                let folder = ToldName(folder.text.as_str());
+                write!(f, "{folder}: it has no payload file below data/")
+            }
         }
     }
 }

@@ -1,8 +1,22 @@
-//! What exceeds a limit.
+//! What exceeds a limit, or is empty.
 use crate::told_name::ToldName;
 use bag_path::BagPath;
 use std::fmt::{self, Display, Formatter};
 use std::marker::Model;
+
+/// The name of a folder.
+#[derive(Debug, Drop)]
+pub struct FolderName {
+    pub text: String,
+}
+
+impl Model for FolderName {
+    ghost use Rattle.std.specs.Prelude.{ℕ, List, string_bytes};
+
+    ghost Value = { List ℕ };
+
+    ghost view = { λ name. string_bytes name.text };
+}
 
 /// A folder or a file that exceeds a limit.
 #[derive(Debug, Drop)]

@@ -117,6 +117,13 @@ impl<R: Files + Drop> FolderTree<R> {
         self.troubles.last()
     }
 
+    /// Whether some file has its path in the payload directory.
+    pub fn has_payload(&self) -> bool
+        ensures { result ≡ list_any is_payload (paths_in self.now.shown) }
+    {
+        has_payload(&self.paths)
+    }
+
     /// Closes the folder, and gives what [`FolderTree::trouble`] gives.
     pub fn into_trouble(self) -> Option<Unfit>
         ensures { result ≡ self.trouble }
