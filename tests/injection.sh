@@ -143,29 +143,31 @@ injects() {
     return "$status"
 }
 
-# each_call NAME FAULT STATUS LINES: checks a bag with all kinds of tag files, once for each of these calls, which then
-# fails with this fault. The calls that the program makes before it looks at its arguments belong to its start.
+# each_call NAME FAULT STATUS LINES [CAUSE]: checks a bag with all kinds of tag files, once for each of these calls, which then
+# fails with this fault. Standard error names the folder or something in it, with this cause. The calls that the program makes
+# before it looks at its arguments belong to its start.
 each_call() {
-    local nth status printed start all
+    local nth status printed said start all
     start=$(calls "$1" "$program")
     all=$(calls "$1" "$program" check examples/whole-format)
     [ "$all" -gt "$start" ] || echo "no such call: $1"
     for nth in $(seq $((start + 1)) "$all"); do
         status=0
-        printed=$(injects "inject=$1:$2:when=$nth" "$program" check examples/whole-format) || status=$?
+        printed=$(injects "inject=$1:$2:when=$nth" "$program" check examples/whole-format 2>"$work/told") || status=$?
         injected=$((injected + 1))
-        [ "$status $printed" = "$3 $4" ] || echo "call $nth: status $status: $printed"
+        said=$(sed 's|^bag: examples/whole-format[^:]*: ||' "$work/told")
+        [ "$status $printed $said" = "$3 $4 ${5-}" ] || echo "call $nth: status $status: $printed: $said"
     done
 }
 
 if strace -o "$work/calls" true 2>"$work/no strace"; then
-    expect 'no directory or file that can be opened' 0 '' each_call openat error=EACCES 3 'bag: files'
-    expect 'no handle left' 0 '' each_call openat error=EMFILE 3 'bag: files'
-    expect 'directories and files that vanish' 0 '' each_call openat error=ENOENT 3 'bag: files'
-    expect 'directories that break off' 0 '' each_call getdents64 error=EIO 3 'bag: files'
-    expect 'names without a file' 0 '' each_call statx error=ENOENT 3 'bag: files'
-    expect 'files that break off' 0 '' each_call read error=EIO 3 'bag: files'
-    expect 'reads that are interrupted' 0 '' each_call read error=EINTR 3 'bag: files'
+    expect 'no directory or file that can be opened' 0 '' each_call openat error=EACCES 3 'bag: files' 'Permission denied (os error 13)'
+    expect 'no handle left' 0 '' each_call openat error=EMFILE 3 'bag: files' 'Too many open files (os error 24)'
+    expect 'directories and files that vanish' 0 '' each_call openat error=ENOENT 3 'bag: files' 'No such file or directory (os error 2)'
+    expect 'directories that break off' 0 '' each_call getdents64 error=EIO 3 'bag: files' 'Input/output error (os error 5)'
+    expect 'names without a file' 0 '' each_call statx error=ENOENT 3 'bag: files' 'No such file or directory (os error 2)'
+    expect 'files that break off' 0 '' each_call read error=EIO 3 'bag: files' 'Input/output error (os error 5)'
+    expect 'reads that are interrupted' 0 '' each_call read error=EINTR 3 'bag: files' 'Interrupted system call (os error 4)'
     expect 'files whose closing fails: they were read' 0 '' each_call close error=EIO 0 valid
     # fails_once FILE NUMBER ARGUMENT..: this read of the file fails, and another try of it would not. A read that failed is
     # never made again.
