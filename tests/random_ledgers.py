@@ -30,6 +30,7 @@ import time
 import new_bags
 import reference_commands
 from chains import Ledger, damaged
+from explaining import is_explained
 from reopened import Transfer
 from stops import NEVER, answered, found, known, ledger_of, run, steps
 
@@ -127,8 +128,8 @@ class Home:
                     if os.stat(f"{self.file}-wal").st_size >= octets:
                         break
             ran.kill()
-            _, said = ran.communicate()
-        assert not said, (words, said)
+            printed, said = ran.communicate()
+        assert is_explained(printed.decode().splitlines(), ran.returncode, said), (words, said)
         self.tried["kills"] += ran.returncode < 0
 
 
