@@ -1,8 +1,8 @@
 #!/usr/bin/env python3
 """The times of opening ledgers, compared with those of the digest function alone; and the peak memory.
 
-Each row is a ledger with so many payload files of one length, which sqlite3 writes. To open it, all of it is read and hashed. The two
-take turns, by default for three rounds, and the least time of each counts.
+Each row is a ledger with so many payload files of one length, which sqlite3 writes. `bag list` opens it, and so reads and hashes all of
+it. The two take turns, by default for three rounds, and the least time of each counts.
 
     bench/opening.py [ROUNDS]
 """
@@ -13,7 +13,7 @@ import subprocess
 import sys
 import tempfile
 
-from check import DIGESTS, PIECE, TOP, run
+from check import DIGESTS, PIECE, PROGRAM, TOP, run
 from ledger import opened, put
 
 LEDGERS = ((20_000, 2_048), (10_000, 20_000), (10_000, 65_536), (10_000, 65_537), (10, 64 << 20))
@@ -36,8 +36,8 @@ def row(number, length, work, rounds):
     write(database, number, length)
     times, peaks = {}, {}
     for _ in range(rounds):
-        for who, command in (("opening", ["adopt", database]), ("digests", ["sha256", str(number * length // PIECE)])):
-            seconds, memory = run([[DIGESTS, *command]], work)
+        for who, command in (("opening", [PROGRAM, "list", database]), ("digests", [DIGESTS, "sha256", str(number * length // PIECE)])):
+            seconds, memory = run([command], work)
             times[who] = min(seconds, times.get(who, seconds))
             peaks[who] = max(memory, peaks.get(who, 0))
     database.unlink()
@@ -49,6 +49,7 @@ def row(number, length, work, rounds):
 
 
 def main(rounds=3):
+    subprocess.run([TOP / "build"], check=True)
     # Without arguments the driver ends with status 64.
     subprocess.run(["rt", "run"], cwd=TOP / "crates/bag_bench", stdin=subprocess.DEVNULL, stdout=sys.stderr)
     print(f"{'payload files':<18} {'opening':>7} {'digests':>8} {'ratio':>6} {'peak MiB':>9}")

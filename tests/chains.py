@@ -310,8 +310,7 @@ def released_in_files(program, driver, whole, folder, tried):
     for place, events in enumerate(rounds(whole)):
         wanted = [answer(receiver, *one) for one in events]
         assert run(driver, database, events) == ["opened", *wanted, "closed"], (place, wanted)
-        ran = subprocess.run([driver, "adopt", database], capture_output=True, timeout=120, check=False)
-        assert (ran.stdout, ran.stderr, ran.returncode) == (b"adopted\n", b"", 0), (place, ran)
+        assert run(driver, database, []) == ["opened", "closed"], place
         ledger.judge()
         tried["adopted"] += 1
         ledger.run("list")

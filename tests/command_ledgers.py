@@ -91,6 +91,18 @@ class Place:
         return rows
 
 
+    def changed(self, text):
+        """The answer of `list` after this change, which is in the file and not in its log. If it is refused, the file stays."""
+        database = sqlite3.connect(self.ledger)
+        database.executescript(text)
+        database.execute("PRAGMA wal_checkpoint(TRUNCATE)")
+        database.close()
+        before = self.ledger.read_bytes()
+        found = self.run("list", self.ledger)
+        assert found[0] == 0 or self.ledger.read_bytes() == before, text
+        return found
+
+
 ALL = ["begin", "intake", "report", "audit", "fetch", "export", "list"]
 SMALL = {"data/a.txt": b"abc", "data/e.txt": b""}
 
@@ -215,6 +227,116 @@ def damaged(make):
     return len(DAMAGES)
 
 
+# Two transfers. `t1` lists `abc`, an empty content and 65,537 zeros, and holds all three, the zeros in two pieces; `t2` lists and holds
+# `abc`. The ids of the payload files are 1 to 4.
+TWO = {"t1": {"data/a.txt": b"abc", "data/e.txt": b"", "data/z": bytes(PIECE + 1)}, "t2": {"data/a.txt": b"abc"}}
+# Pieces in a table of any types and without owners, which is as good until its rows are not.
+LOOSE = """CREATE TABLE loose (item, n, body, PRIMARY KEY (item, n)); INSERT INTO loose SELECT * FROM piece; DROP TABLE piece;
+    ALTER TABLE loose RENAME TO piece; """
+OPENED = "t1", "t2"
+# A change to that ledger, and the lines of `list` afterwards.
+CHANGES = [
+    ("", *OPENED),
+    ("VACUUM", *OPENED),
+    ("DELETE FROM held WHERE id = 2", *OPENED),
+    ("DELETE FROM meta", "bag: not a ledger"),
+    ("UPDATE meta SET v = 9", "bag: not a ledger"),
+    ("UPDATE meta SET v = 3", "bag: not a ledger"),
+    ("UPDATE meta SET v = 1", "bag: old format"),
+    ("UPDATE meta SET k = 'ledger'", "bag: not a ledger"),
+    ("INSERT INTO meta (k, v) VALUES ('other', 2)", "bag: not a ledger"),
+    ("DROP TABLE piece", "bag: not a ledger"),
+    ("DELETE FROM piece", "bag: damaged t1 data/a.txt"),
+    ("DELETE FROM piece WHERE item = 4", "bag: damaged t2 data/a.txt"),
+    ("DELETE FROM piece WHERE item = 3 AND n = 1", "bag: damaged t1 data/z"),
+    ("UPDATE piece SET n = 1 WHERE item = 1", "bag: damaged t1 data/a.txt"),
+    ("UPDATE piece SET n = 2 WHERE item = 3 AND n = 1", "bag: damaged t1 data/z"),
+    ("UPDATE piece SET n = n + 9 WHERE item = 3; UPDATE piece SET n = 10 - n WHERE item = 3", "bag: damaged t1 data/z"),
+    ("UPDATE piece SET body = x'616264' WHERE item = 1", "bag: damaged t1 data/a.txt"),
+    ("UPDATE piece SET body = x'01' WHERE item = 3 AND n = 1", "bag: damaged t1 data/z"),
+    ("UPDATE piece SET body = zeroblob(65537) WHERE item = 3 AND n = 0", "bag: damaged t1 data/z"),
+    ("UPDATE piece SET body = x'616264' WHERE item = 1; DELETE FROM piece WHERE item = 3", "bag: damaged t1 data/a.txt"),
+    ("UPDATE held SET size = 4 WHERE id = 1", "bag: damaged t1 data/a.txt"),
+    ("UPDATE held SET size = size - 1 WHERE id = 3", "bag: damaged t1 data/z"),
+    ("UPDATE held SET size = -3 WHERE id = 1", "bag: damaged t1 data/a.txt"),
+    ("UPDATE held SET path = 'data/other' WHERE id = 3", "bag: damaged t1 data/other"),
+    ("INSERT INTO piece (item, n, body) VALUES (2, 0, x'')", "bag: damaged t1 data/e.txt"),
+    ("INSERT INTO held (transfer, path, size) VALUES (1, 'data/q', 0)", "bag: damaged t1 data/q"),
+    ("INSERT INTO held (transfer, path, size) VALUES (1, '../x', 0)", "bag: damaged t1 ../x"),
+    ("UPDATE tag SET body = x'' WHERE transfer = 1 AND path = 'bagit.txt'", "bag: damaged t1 "),
+    ("UPDATE tag SET path = '../x' WHERE transfer = 1 AND path = 'bagit.txt'", "bag: damaged t1 "),
+    ("UPDATE tag SET path = 'tag.txt' WHERE transfer = 1 AND path = 'bagit.txt'", "bag: damaged t1 "),
+    ("DELETE FROM tag WHERE transfer = 2 AND path = 'bagit.txt'", "bag: damaged t2 "),
+    ("INSERT INTO transfer (name) VALUES ('t0')", "bag: damaged t0 "),
+    ("DROP TABLE piece; CREATE TABLE piece (item INTEGER, n INTEGER, body BLOB); INSERT INTO piece VALUES (9, 0, x'00')",
+     "bag: not a ledger"),
+    ("PRAGMA foreign_keys = OFF; DELETE FROM held", "bag: not a ledger"),
+    (LOOSE, *OPENED),
+    (LOOSE + "UPDATE piece SET body = CAST(zeroblob(65536) AS TEXT) WHERE item = 3 AND n = 0", "bag: damaged t1 data/z"),
+    (LOOSE + "UPDATE piece SET body = NULL WHERE item = 3 AND n = 1", "bag: damaged t1 data/z"),
+    (LOOSE + "UPDATE piece SET n = 'one' WHERE item = 3 AND n = 1", "bag: not a ledger"),
+    (LOOSE + "INSERT INTO piece VALUES (99, 0, x'00')", "bag: not a ledger"),
+    (LOOSE + "INSERT INTO piece SELECT item, 1.5, body FROM piece WHERE item = 3 AND n = 1", "bag: not a ledger"),
+    # No name is judged, and each stays on its line.
+    ("UPDATE transfer SET name = 'a' || char(10) || 't0' || char(13) || '%' WHERE id = 1", "a%0At0%0D%25", "t2"),
+]
+
+
+def two_transfers(make):
+    """A place with that ledger, which sqlite3 writes."""
+    place = make({})
+    database = sqlite3.connect(place.ledger)
+    for text in TABLES:
+        database.execute(text)
+    database.execute("INSERT INTO meta (k, v) VALUES ('bag-ledger', 2)")
+    for name, files in TWO.items():
+        transfer = database.execute("INSERT INTO transfer (name) VALUES (?)", [name]).lastrowid
+        lines = "".join(f"{hashlib.sha256(octets).hexdigest()}  {path}\n" for path, octets in files.items())
+        for path, body in (("bagit.txt", DECLARATION), ("manifest-sha256.txt", lines.encode())):
+            database.execute("INSERT INTO tag (transfer, path, body) VALUES (?, ?, ?)", (transfer, path, body))
+        for path, octets in files.items():
+            text = "INSERT INTO held (transfer, path, size) VALUES (?, ?, ?)"
+            item = database.execute(text, (transfer, path, len(octets))).lastrowid
+            for n, at in enumerate(range(0, len(octets), PIECE)):
+                database.execute("INSERT INTO piece (item, n, body) VALUES (?, ?, ?)", (item, n, octets[at : at + PIECE]))
+    database.commit()
+    database.close()
+    return place
+
+
+def changed(make):
+    """A ledger of two transfers after each change. Returns how many there were, with those of a ledger of many files."""
+    for change, *lines in CHANGES:
+        found = two_transfers(make).changed(change)
+        assert found == (3 if lines[0].startswith("bag: ") else 0, lines), (change, found)
+    place = make({f"data/folder/{number}.txt": number.to_bytes(4, "little") + b"." * 2_044 for number in range(300)})
+    assert place.run(*place.words("begin")) == (0, ["new"])
+    assert place.run(*place.words("intake")) == (0, [f"taken {path}" for path in sorted(place.contents)])
+    judge(place, place.contents)
+    whole, damages = place.ledger.read_bytes(), list(damages_among(sorted(place.contents)))
+    for damage, line in damages:
+        place.ledger.write_bytes(whole)
+        assert place.changed(damage) == (3, [line]), (damage, line)
+    return len(CHANGES) + len(damages)
+
+
+def damages_among(paths):
+    """Damages of one of these payload files and of the last: the first by path is named, wherever its batch begins or ends."""
+    item = "item = (SELECT id FROM held WHERE path = '{}')"
+    last = f"DELETE FROM piece WHERE {item.format(paths[-1])}"
+    for place in (0, 1, 62, 63, 64, 65, 127, 128, len(paths) - 2):
+        path = paths[place]
+        yield f"UPDATE piece SET body = zeroblob(2048) WHERE {item.format(path)}; {last}", f"bag: damaged t1 {path}"
+
+
+def no_second_ledger(make):
+    """A beginning over a ledger of another name leaves what that holds."""
+    place = two_transfers(make)
+    assert place.run(*place.words("begin")) == (1, ["refused: differs"])
+    assert place.run("begin", place.ledger, "t3", place.bag) == (0, ["new"])
+    assert place.run("list", place.ledger) == (0, ["t1", "t2", "t3"])
+
+
 def expected(place, command, held):
     """The answer of a command if the transfer is open (`held` isn't None) and holds these payload files, and what it holds
     afterwards."""
@@ -286,6 +408,8 @@ def read_back(make):
     place = make(contents)
     assert place.run(*place.words("begin")) == (0, ["new"])
     judge(place, [])
+    place.sql("VACUUM")
+    judge(place, [])
     one = place.work / "one"
     path = f"data/{3 * PIECE + 17} %"
     (one / "data").mkdir(parents=True)
@@ -297,6 +421,8 @@ def read_back(make):
     assert place.run("intake", place.ledger, "t1", one) == (0, [f"taken {spelled}"])
     judge(place, [path])
     assert place.run(*place.words("intake"))[0] == 0
+    judge(place, contents)
+    place.sql("VACUUM")
     judge(place, contents)
     assert place.run(*place.words("export")) == (0, [f"exported {2 + len(contents)} files"])
     exported(place, place.work / f"out{place.exports}", contents)
@@ -380,10 +506,11 @@ def main(program):
     with tempfile.TemporaryDirectory() as folder:
         number = itertools.count()
         make = lambda contents, fetched=(): Place(os.path.abspath(program), pathlib.Path(folder) / str(next(number)), contents, fetched)
-        kinds = no_ledgers, damaged, each_after_each, read_back, counted_rows, many_items, full_disks
-        none, damages, orders, files, rows, items, disks = (kind(make) for kind in kinds)
+        kinds = no_ledgers, damaged, changed, each_after_each, read_back, counted_rows, many_items, full_disks
+        none, damages, changes, orders, files, rows, items, disks = (kind(make) for kind in kinds)
+        no_second_ledger(make)
     print(
-        f"{none} that are not ledgers, {damages} damaged, {orders} orders, {files} files read by sqlite3,"
+        f"{none} that are not ledgers, {damages} damaged, {changes} changed, {orders} orders, {files} files read by sqlite3,"
         f" {rows} deliveries whose rows were counted, {items} payload files in one ledger, {disks} full disks"
     )
 

@@ -510,13 +510,14 @@ if unshare -m sh -c "mkdir '$work/disk' && mount -t tmpfs -o size=1m bag '$work/
     on_disk() {
         unshare -m sh -c 'mount -t tmpfs -o size=1m bag "$1/disk" && cd "$1" || exit
             "$1/program" begin disk/ledger one "large again"; echo "$?"
-            "$1/program" intake disk/ledger one "large again"; echo "$?"
+            "$1/program" intake disk/ledger one "large again" 2>&1; echo "$?"
             "$1/program" report disk/ledger one; echo "$?"
             "$1/program" export disk/ledger one disk/bag; echo "$?"' sh "$work"
     }
     expect 'a full disk' 0 'new
 0
 refused data/A: store
+bag: disk/ledger: database or disk is full
 3
 manifest-md5.txt: missing: data/A
 manifest-sha512.txt: missing: data/A

@@ -22,10 +22,11 @@ expect() {
     fi
 }
 
-# explained STATUS LINES: what was said on standard error is one line `bag: ..` if the lines say that folders or files can't
-# be used, and otherwise nothing, or that a folder has no payload. FORMAT.md, section 14, says which lines these are.
+# explained STATUS LINES: what was said on standard error is one line `bag: ..` if the lines say that folders, files or a
+# ledger can't be used, and otherwise nothing, or that a folder has no payload. FORMAT.md, section 14, says which lines
+# these are.
 explained() {
-    if [ "$1" -eq 3 ] && grep -qxE 'bag: (files|tag too large|too large|too many)' <<<"$2"; then
+    if [ "$1" -ne 0 ] && grep -qxE 'bag: (files|tag too large|too large|too many|not a ledger)|.*: store' <<<"$2"; then
         [[ $(<"$work/said") == 'bag: '?* ]] && [ "$(wc -l <"$work/said")" -eq 1 ] && return
         cat "$work/said" && return 1
     fi

@@ -1,5 +1,5 @@
 #!/usr/bin/env bash
-# What is said on standard error if folders or files can't be used: the texts of FORMAT.md, section 14, to the octet. The texts
+# What is said on standard error if folders, files or ledgers can't be used: the texts of FORMAT.md, section 14, to the octet. The texts
 # of the system are those of strerror.
 set -u
 cd "$(dirname -- "$0")/.." || exit 1
@@ -42,6 +42,50 @@ long=$work/$(printf 'k%.0s' {1..300})
 explain 'a name that is too long' 3 "bag: $long: $too_long" bag check "$long"
 explain 'a full output' 3 "bag: $work/none: $missing" full bag check "$work/none"
 expect 'a wrong name of a transfer has no more to it' 1 'bag: no transfer' bag report "$work/ledger" t2
+
+# A ledger that can't be used. The texts of a database are those of the kit's sqlite.
+for command in list "report t1" "intake t1 examples/first-bag"; do
+    words=(${command#* }) && [ "$command" != list ] || words=()
+    used() {
+        bag "${command%% *}" "$@" "${words[@]}"
+    }
+    explain "$command: nothing is there" 3 "bag: $work/none: it does not exist" used "$work/none"
+    explain "$command: an empty file" 3 "bag: $work/file: it is empty" used "$work/file"
+done
+explain 'a folder for a ledger' 3 "bag: $work/there: it is not a file that can be a database" bag list "$work/there"
+explain 'begin: a folder for a ledger' 3 "bag: $work/there: it is not a file that can be a database" bag begin "$work/there" t1 examples/first-bag
+mkfifo "$work/pipe"
+explain 'a fifo for a ledger' 3 "bag: $work/pipe: it is not a file that can be a database" bag list "$work/pipe"
+printf S >"$work/octet"
+explain 'one octet for a ledger' 3 "bag: $work/octet: it is not a file that can be a database" bag list "$work/octet"
+seq 9999 >"$work/text"
+explain 'a text for a ledger' 3 "bag: $work/text: it is not a database" bag list "$work/text"
+explain 'begin: a text for a ledger' 3 "bag: $work/text: it is not a database" bag begin "$work/text" t1 examples/first-bag
+python3 -c 'import sqlite3, sys; sqlite3.connect(sys.argv[1]).executescript("CREATE TABLE visits (page TEXT)")' "$work/other"
+explain 'another database' 3 "bag: $work/other: it is a database, but not a ledger" bag list "$work/other"
+explain 'begin: no folder for a ledger' 3 "bag: $work/none/ledger: $missing" bag begin "$work/none/ledger" t1 examples/first-bag
+explain 'list: no folder for a ledger' 3 "bag: $work/none/ledger: it does not exist" bag list "$work/none/ledger"
+explain 'a name of a ledger that is too long' 3 "bag: $long: $too_long" bag begin "$long" t1 examples/first-bag
+ln "$work/ledger" "$work/second name"
+explain 'a ledger with two names' 3 "bag: $work/ledger: it has several names, or is not a plain file" bag list "$work/ledger"
+rm "$work/second name"
+printf 'a journal' >"$work/ledger-journal"
+explain 'a journal' 3 "bag: $work/ledger: there is a rollback journal beside it" bag list "$work/ledger"
+rm "$work/ledger-journal"
+mkdir "$work/ledger-wal"
+explain 'a folder for a log' 3 "bag: $work/ledger: it has several names, or is not a plain file" bag list "$work/ledger"
+rmdir "$work/ledger-wal"
+# locked COMMAND..: runs it while another program holds the locks of SQLite on the ledger.
+locked() {
+    python3 -c 'import fcntl, os, subprocess, sys
+fcntl.lockf(os.open(sys.argv[1], os.O_RDWR), fcntl.LOCK_EX, 512, 1 << 30)
+sys.exit(subprocess.run(sys.argv[2:]).returncode)' "$work/ledger" "$@"
+}
+explain 'a ledger that is open' 3 "bag: $work/ledger: it is in use" locked ./bag list "$work/ledger"
+ln -s ledger "$work/linked"
+explain 'a ledger that is open, by a link' 3 "bag: $work/linked: it is in use" locked ./bag list "$work/linked"
+explain 'a name with control characters for a ledger' 3 "bag: $work/a%25%0Ab: it does not exist" bag list "$work/a%"$'\n'b
+explain 'a ledger, and a full output' 3 "bag: $work/none: it does not exist" full bag list "$work/none"
 
 # A folder without a payload.
 nothing_below='it has no payload file below data/'
@@ -101,6 +145,9 @@ explain 'a directory that may not be read' 3 "bag: $work/locked/data/: $denied" 
 chmod 000 "$work/locked"
 explain 'a folder that may not be read' 3 "bag: $work/locked: $denied" nobody "$work/program" check "$work/locked"
 chmod -R 755 "$work/locked"
+chmod 600 "$work/ledger"
+explain 'a ledger that may not be read' 3 "bag: $work/ledger: $denied" nobody "$work/program" list "$work/ledger"
+explain 'a folder that takes no ledger' 3 "bag: $work/there/ledger: $denied" nobody "$work/program" begin "$work/there/ledger" t1 "$work/locked"
 explain 'make: a folder that may not be written' 3 "bag: $work/there/made: $denied" \
     nobody "$work/program" make "$work/locked/data" "$work/there/made" md5
 
@@ -116,6 +163,25 @@ mkdir "$work/files"
 (cd "$work/files" && seq 200001 | xargs touch)
 explain 'files past the limit' 3 "bag: $work/files: it has more than 200,000 files" bag check "$work/files"
 
+# Limits of make, and of intake.
+explain 'make: files past the limit' 1 "bag: $work/files: it has more than 100,000 files" bag make "$work/files" "$work/made" md5
+expect 'make: nothing is left' 0 '' nothing "$work/made"
+rm -r "$work/files"
+# A path of 5 + 19 * 201 + 4 octets, and 128 or 40 digits, two spaces and LF: 3,959 or 3,871 octets a line.
+mkdir "$work/wide"
+(cd "$work/wide" && for _ in {1..19}; do mkdir "$name" && cd "$name" || exit; done && seq 1000 5399 | xargs touch)
+explain 'make: a manifest past the limit' 1 "bag: $work/wide: manifest-sha512.txt would have more than 16,777,216 octets" \
+    bag make "$work/wide" "$work/made" sha512 md5
+explain 'make: a manifest past the limit, by another algorithm' 1 "bag: $work/wide: manifest-sha1.txt would have more than 16,777,216 octets" \
+    bag make "$work/wide" "$work/made" md5 sha1
+mkdir -p "$work/crowd/data"
+(cd "$work/crowd/data" && seq 1000001 | xargs touch)
+explain 'intake: files past the limit' 3 "bag: $work/crowd: it has more than 1,000,000 payload files below data/" \
+    bag intake "$work/ledger" t2 "$work/there" "$work/crowd"
+rm "$work/crowd/data/1"
+explain 'intake: as many files as may be' 1 "bag: $work/there: $nothing_below" bag intake "$work/ledger" t2 "$work/there" "$work/crowd"
+rm -r "$work/crowd"
+
 # A file that can't be written whole, and a disk without room.
 mkdir "$work/payload"
 head -c 200000 /dev/zero >"$work/payload/A"
@@ -130,6 +196,12 @@ if unshare -m sh -c "mkdir '$work/disk' && mount -t tmpfs -o size=100k bag '$wor
         unshare -m sh -c 'mount -t tmpfs -o size=100k bag "$1/disk" && "$1/program" make "$1/payload" "$1/disk/bag" md5' sh "$work"
     }
     explain 'a full disk' 3 "bag: $work/disk/bag/data/A: $no_room" on_disk
+    # on_full_disk COMMAND..: on a disk that a ledger of one transfer finds no room on, or its payload.
+    on_full_disk() {
+        unshare -m sh -c 'mount -t tmpfs -o size="$1" bag "$2/disk" && shift && work=$1 && shift && "$work/program" begin "$work/disk/ledger" t1 "$work/bag" >/dev/null && exec "$work/program" "$@"' \
+            sh 100k "$work" "$@"
+    }
+    explain 'a ledger on a full disk' 3 "bag: $work/disk/ledger: database or disk is full" on_full_disk intake "$work/disk/ledger" t1 "$work/bag"
 else
     lacking 'a full disk (no permission to mount one)'
 fi

@@ -115,7 +115,7 @@ class Case:
         lines = ran.stdout.decode().split("\n")
         if lines.pop() or ran.returncode not in (3, self.wanted.status):
             raise Otherwise(f"{ran}")
-        is_lost = failed.startswith("write(") and ran.returncode == 3
+        is_lost = ran.returncode == 3 and (failed.startswith("write(") or is_memory(failed) and not ran.stderr)
         if not is_explained(lines, ran.returncode, ran.stderr) and not is_lost:
             raise Otherwise(f"{ran}")
         is_whole = (lines, ran.returncode) == (self.wanted.lines, self.wanted.status)

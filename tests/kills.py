@@ -258,8 +258,9 @@ class Ledger:
                 shutil.copy(f"{self.file}{end}", f"{copy}{end}")
         database = sqlite3.connect(copy)
         ask = lambda text: database.execute(text).fetchall()
-        tables = ask("SELECT name FROM sqlite_schema")
-        found = {}
+        tables, found = None, {}
+        with contextlib.suppress(sqlite3.DatabaseError):
+            tables = ask("SELECT name FROM sqlite_schema")
         if tables:
             assert ask("PRAGMA integrity_check") == [("ok",)] and ask("PRAGMA foreign_key_check") == []
             assert ask("SELECT k, v FROM meta") == [("bag-ledger", 2)]
@@ -273,7 +274,8 @@ class Ledger:
         database.close()
         for file in self.folder.glob("copy*"):
             file.unlink()
-        return bool(tables), found
+        # A first page that was about to be written is no database to sqlite3. Then the program tells whether anything was held.
+        return self.by_reports() if tables is None else (bool(tables), found)
 
     def by_exports(self):
         """The same, by exporting each transfer."""

@@ -35,6 +35,8 @@ MOST_FILES, LARGEST_TAG_FILE = 100000, 16777216
 LONGEST_IN_FOLDER = 3900
 # On both sides of the length up to which the digests of files are taken together, and of half of it.
 EDGES = [0, 1, 65535, 65536, 65537, 131071, 131072, 131073, 200000]
+# Around the edges of the blocks that are hashed.
+BLOCKS = [0, 1, 55, 56, 63, 64, 65, 119, 120, 127, 128, 129, 1000]
 # The answers and the judges, each of which must occur at least once.
 KINDS = ["written", "refused: no algorithm", "refused: Oxum given", "refused: bad hole", "refused: clash", "refused: too large",
          "refused after the payload: too large"]
@@ -43,7 +45,7 @@ JUDGED = ["in a folder", "with a path that no folder takes", "valid", "not compl
 # A scheme, a colon, and more without blanks and controls [8].
 URL = re.compile("[A-Za-z][A-Za-z0-9+.-]*:[^\\x00- \\x7f]+")
 GOOD_URLS = ["http://example.org/a", "x:y", "a+b.c-1:%41", "https://example.org/\u00e9?a=b#c", "urn:*"]
-BAD_URLS = ["", "http", ":x", "http:", "1x:y", "http://example.org/a b", "http:\n", "http:\x7f", "h\u00e9:x", "a_b:c"]
+BAD_URLS = ["", "http", ":x", "http:", "1x:y", "x y:z", "http://example.org/a b", "http:\n", "http:\x7f", "h\u00e9:x", "a_b:c"]
 PIECES = ["a", "b", "a.txt", "A", "*", "*a", " a", "\ta", "a ", "100%", "%41", "%0A", "%25", "a\nb", "\r", "a\r\nb", "\\", "a\\nb",
           "\u00e9", "e\u0301", "\ufeff", "...", "-", "~", "#", "\U0001f4c4", ".-x", "\x01", "\u2028", "'\"`$"]
 TAGS = ["bagit.txt", "bag-info.txt", "fetch.txt", "manifest-md5.txt", "tagmanifest-sha256.txt", "note", "*", " x", "datax"]
@@ -192,6 +194,10 @@ def chosen_orders():
     yield "holes among them", Order(mixed, ALGORITHMS, holes=[(path, "x:y") for path in list(mixed)[::3]])
     for number in (31, 32, 33, 64, 65):
         yield f"{number} short files", Order(dict(list(short.items())[:number]))
+    for number in range(1, 14):
+        lengths = [BLOCKS[(place * 5 + number) % 13] for place in range(number)]
+        files = {f"data/{place:02}": bytes(at % 251 for at in range(length)) for place, length in enumerate(lengths)}
+        yield f"{number} files around the edges of blocks", Order(files, ALGORITHMS)
     yield "tag files of the tree aren't taken", Order({**two, **{name: b"x" for name in TAGS}})
     yield "line ends and percent", Order({"data/a\nb": b"1", "data/\r": b"2", "data/100%": b"3", "data/%0A": b"4", "data/%": b"5"})
     yield "marks and blanks", Order({"data/*": b"1", "data/ x": b"2", "data/*x /\ty": b"3", "data/x ": b"4"}, ALGORITHMS)
@@ -199,6 +205,11 @@ def chosen_orders():
     yield "a path of 4096 octets", Order({"data/" + "/".join(["n" * 99] * 40) + "/" + "m" * 91: b"x"}, ["md5"])
     yield "order of octets", Order({f"data/{name}": name.encode() for name in ["a.b", "a/b", "a0", "A", "\u00e9", "\uffff", "\U00010000"]})
     yield "lines of elements", Order(two, elements=[("A", "one\ntwo\nthree"), ("B", ""), ("B", "\nsecond"), ("A", " x ")])
+    yield "values that are that label", Order(two, elements=[("Contact-Name", "Payload-Oxum"), ("A", "\nPayload-Oxum: 3.2")])
+    worked = {"data/a.txt": b"abc", "data/e.txt": b"", "note.txt": b"x"}
+    yield "a hole, an element and a tag file of the tree", Order(
+        worked, ["md5", "sha512"], [("Source-Organization", "Test")], [("data/e.txt", "http://example.org/e")])
+    yield "holes, given in another order", Order({**two, "bagit.txt": b"", "data/c": b""}, holes=[("data/c", "x:y"), ("data/a", "x:y")])
     yield "holes", Order(two, ["md5", "sha512"], holes=[("data/b", "x:y"), ("data/a", "http://example.org/a")])
     yield "every file a hole", Order({"data/a/b": b"abc"}, holes=[("data/a/b", "x:y")])
     yield "a hole whose name is spelled", Order({"data/a\r\n%": b"abc", "data/*": b"1"}, holes=[("data/*", "x:*"), ("data/a\r\n%", "x:y")])
@@ -211,6 +222,7 @@ def chosen_orders():
     yield "a hole that isn't there", Order(two, holes=[("data/a", "x:y"), ("data/c", "x:y")])
     yield "a hole that is a tag file", Order({**two, "note": b"x"}, holes=[("note", "x:y")])
     yield "a hole that is a folder", Order({"data/a/b": b"x"}, holes=[("data/a", "x:y")])
+    yield "the first of bad holes", Order(two, holes=[("data/a", "x:y"), ("data/a", "x:y"), ("data/c", "x:y")])
     yield "a hole twice", Order(two, holes=[("data/a", "x:y"), ("data/b", "x:y"), ("data/a", "x:z")])
     for url in BAD_URLS:
         yield f"bad url {url!r}", Order(two, holes=[("data/b", "x:y"), ("data/a", url)])
@@ -220,8 +232,11 @@ def chosen_orders():
     yield "a clash", Order({"data/a": b"", "data/a/b": b""})
     yield "a clash far away", Order({"data/a": b"", "data/a.b": b"", "data/a/b/c": b"", "data/a0": b""})
     yield "the first of clashes", Order({"data/b": b"", "data/b/c": b"", "data/a\n%/b": b"", "data/a\n%": b""})
-    yield "a clash of a hole", Order({"data/a": b"", "data/a/b": b""}, holes=[("data/a", "x:y")])
+    for hole in ("data/a", "data/a/b"):
+        yield f"a clash of the hole {hole}", Order({"data/a": b"", "data/a/b": b""}, holes=[(hole, "x:y")])
+    yield "no clash of names that begin alike", Order({"data/a.txt": b"", "data/a/b": b"", "data/a0": b""})
     yield "no clash of tag files", Order({"data/b": b"", "a": b"", "a/b": b""})
+    yield "no clash of tag files, and a hole", Order({"data/b": b"", "a": b"", "a/b": b""}, holes=[("data/b", "x:y")])
     most = {f"data/{number:06}": b"" for number in range(MOST_FILES)}
     yield "as many files as may be", Order(most, ["md5"])
     yield "a file too many", Order({**most, "data/more": b""}, ["md5"])

@@ -114,6 +114,38 @@ BY_COREUTILS = {
 }
 
 
+# The digests that RFC 1321 (A.5) and the examples for FIPS 180-4 publish, each with the name of its algorithm.
+EXAMPLES = [b"abc", b"abcdbcdecdefdefgefghfghighijhijkijkljklmklmnlmnomnopnopq",
+            b"abcdefghbcdefghicdefghijdefghijkefghijklfghijklmghijklmnhijklmnoijklmnopjklmnopqklmnopqrlmnopqrsmnopqrstnopqrstu"]
+LETTERS = b"ABCDEFGHIJKLMNOPQRSTUVWXYZabcdefghijklmnopqrstuvwxyz0123456789"
+PUBLISHED = {
+    "md5": {
+        b"": E_MD5,
+        b"a": b"0cc175b9c0f1b6a831c399e269772661",
+        b"abc": A_MD5,
+        b"message digest": b"f96b697d7cb7938d525a2f31aaf161d0",
+        bytes(range(97, 123)): b"c3fcd3d76192e4007dfb496cca67e13b",
+        LETTERS: b"d174ab98d277d9f5a5611c2c9f419d9f",
+        b"1234567890" * 8: b"57edf4a22be3c955ac49da2e2107b67a",
+    },
+    "sha1": dict(zip(EXAMPLES, [
+        b"a9993e364706816aba3e25717850c26c9cd0d89d",
+        b"84983e441c3bd26ebaae4aa1f95129e5e54670f1",
+        b"a49b2446a02c645bf419f995b67091253a04a259"])),
+    "sha256": dict(zip(EXAMPLES, [
+        A_SHA256,
+        b"248d6a61d20638b8e5c026930c3e6039a33ce45964ff2167f6ecedd419db06c1",
+        b"cf5b16a778af8380036ce59e7b0492370b249b11e8f07a51afac45037afee9d1"])),
+    "sha512": dict(zip(EXAMPLES, [
+        b"ddaf35a193617abacc417349ae20413112e6fa4e89a97ea20a9eeee64b55d39a"
+        b"2192992a274fc1a836ba3c23a3feebbd454d4423643ce80e2a9ac94fa54ca49f",
+        b"204a8fc6dda82f0a0ced7beb8e08a41657c16ef468b228a8279be331a703c335"
+        b"96fd15c13b1b07f9aa1d3bea57789ca031ad85c7a71dd70354ec631238ca3445",
+        b"8e959b75dae313da8cf4f72814fc143f8f7779c6eb9f7fa17299aeadb6889018"
+        b"501d289e4900f7e4331b99dec4b5433ac7d329eeb6dd26545e96e55b874be909"])),
+}
+
+
 def tags(files=None):
     """The bag of two files, with the digests above, and with these files replaced or added."""
     return bag(files={b"manifest-sha256.txt": MANIFEST, **(files or {})})
@@ -329,6 +361,13 @@ def digests():
         lines = [digests[i] + b"  data/%d\n" % length for length, digests in BY_COREUTILS.items()]
         files[name] = b"".join(lines)
     yield "messages of 1 to 129 octets, and of a million", empty(files), VALID
+    for name, published in PUBLISHED.items():
+        lines = [digest + b"  data/%d\n" % place for place, digest in enumerate(published.values())]
+        files = {b"data/%d" % place: message for place, message in enumerate(published)}
+        yield f"the published digests by {name}", empty({f"manifest-{name}.txt".encode(): b"".join(lines), **files}), VALID
+    digits = [PUBLISHED[name][b"abc"] for name in PUBLISHED]
+    swapped = {b"data/a": b"abc", **{name: digest[:-1] + b"0  data/a" for name, digest in zip(MANIFESTS, digits)}}
+    yield "a last digit that is another", empty(swapped), complete(*[f"{name.decode()}: digest: data/a" for name in MANIFESTS])
 
 
 def payloads():
@@ -652,7 +691,19 @@ def several_tag_files():
     files = {b"bag-info.txt": b"Payload-Oxum: 9.9\n x\n:\n", b"tagmanifest-md5.txt": b"?", b"data/z": b""}
     answer = not_complete("bag-info.txt:3: label", "tagmanifest-md5.txt:1: separator")
     yield "faulty lines, which hide the faults of the files", tags(files), answer
-    files = dict.fromkeys([b"manifest-.txt", b"x/bagit.txt", b"manifest-sha 256.txt", b"readme"], b"")
+    # Of each file the first faulty line is told, and the files stand in the order of their names.
+    files = {b"tagmanifest-md5.txt": b"?", b"manifest-sha512.txt": b"\n" * 8 + b"?\n?\n", b"fetch.txt": b"\n?\n?",
+             b"bag-info.txt": b"\n\n?\n?", b"manifest-md5.txt": b"?"}
+    lines = ["bag-info.txt:3", "fetch.txt:2", "manifest-md5.txt:1", "manifest-sha512.txt:9", "tagmanifest-md5.txt:1"]
+    yield "five files with faulty lines", tags(files), not_complete(*[f"{line}: separator" for line in lines])
+    gone = b"0" * 32 + b"  data/b\n" + b"0" * 32 + b"  data/B\n"
+    files = empty({b"manifest-md5.txt": gone, b"manifest-sha1.txt": b"".join(b"0" * 40 + line[32:] for line in gone.splitlines(True)),
+                   b"tagmanifest-md5.txt": b"0" * 32 + b" manifest-md5.txt\n" + b"0" * 32 + b" manifest-sha1.txt\n"
+                   + b"0" * 32 + b" bag-info.txt"})
+    lines = [f"manifest-{alg}.txt: missing: data/{name}" for alg in ("md5", "sha1") for name in "Bb"]
+    digests = [f"tagmanifest-md5.txt: digest: manifest-{alg}.txt" for alg in ("md5", "sha1")]
+    yield "missing files, by manifest and path", files, not_complete(*lines, "tagmanifest-md5.txt: missing: bag-info.txt", *digests)
+    files = dict.fromkeys([b"manifest-.txt", b"x/bagit.txt", b"manifest-sha 256.txt", b"readme", b"DATA", b"data.txt", b"data2/a"], b"")
     yield "files without a meaning", tags(files), VALID
 
 

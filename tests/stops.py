@@ -148,7 +148,7 @@ def run(driver, database, events, stop=("log", NEVER, "killed"), seeds=itertools
 
 def answered(events, printed, wanted):
     """How many steps were answered, the opening included. From the first that wasn't, no answer may promise anything."""
-    if printed == ["store"]:
+    if printed == ["no answer"]:
         return 0
     assert printed[0] == "opened" and len(printed) == len(events) + 2, printed
     given = [part for event, text in zip(events, printed[1:]) for part in parts(event[0], text)]
@@ -156,7 +156,7 @@ def answered(events, printed, wanted):
     number = next((place for place, (text, _) in enumerate(wanted) if given[place] != text), len(given))
     for place in range(number, len(given)):
         changes = wanted[place][1] != wanted[place - 1][1] if place else True
-        assert given[place] == "refused: keeper" or (given[place] == wanted[place][0] and not changes), (place, given[place])
+        assert given[place] == "refused: store" or (given[place] == wanted[place][0] and not changes), (place, given[place])
     return 1 + number
 
 

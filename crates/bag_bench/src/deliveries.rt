@@ -2,7 +2,8 @@
 use crate::bringing::{Breaks, Items, Reader};
 use crate::event::{Event, bad_line};
 use crate::keepers::Anew;
-use crate::text::{AnswerText, FaultText, RefusalText, end_text, verdict_text};
+use crate::text::{AnswerText, UnbegunText, end_text, keep_text, view_text};
+use bag_commands::{FaultLine, verdict_text};
 use bag_digest::Counted;
 use bag_ledger::Keeper;
 use bag_receiver::{Begun, Receiver, Run, ViewFault};
@@ -38,7 +39,10 @@ fn answer_each<K: Anew, R: Input + AllocGlobal, W: Write + Drop>(
                 receiver = empty(alloc)?;
                 write!(out, "started")?;
             }
-            "reopen" => reopen(alloc, &mut receiver, out)?,
+            "reopen" => {
+                reopen(alloc, &mut receiver)?;
+                write!(out, "opened")?;
+            }
             _ => answer(alloc, &mut receiver, &event, out)?,
         }
         writeln!(out)?;
@@ -105,7 +109,7 @@ fn begin<K: Keeper + Drop, W: Write + Drop>(
     match receiver.begin(alloc, event.name.as_str(), event.files.as_slice()) {
         Ok(Begun::New) => write!(out, "new"),
         Ok(Begun::Again) => write!(out, "again"),
-        Err(fault) => write!(out, "refused: {}", RefusalText(&fault)),
+        Err(fault) => write!(out, "refused: {}", UnbegunText(&fault)),
     }
 }
 
@@ -174,23 +178,19 @@ fn write_report<W: Write + Drop>(view: Result<Report, ViewFault>, out: &mut W) -
     match view {
         Ok(report) => {
             for fault in report.faults() {
-                write!(out, "{} | ", FaultText(fault))?;
+                write!(out, "{} | ", FaultLine(fault))?;
             }
             write!(out, "{}", verdict_text(&report))
         }
-        Err(fault) => write!(out, "refused: {fault}"),
+        Err(fault) => write!(out, "refused: {}", view_text(fault)),
     }
 }
 
 /// Opens the ledger again.
-fn reopen<K: Anew, W: Write + Drop>(
-    alloc: Global,
-    receiver: &mut Receiver<K>,
-    out: &mut W,
-) -> io::Result<()> {
+fn reopen<K: Anew>(alloc: Global, receiver: &mut Receiver<K>) -> io::Result<()> {
     let old = mem::replace(receiver, empty(alloc)?);
     *receiver = Receiver::new(alloc, old.into_keeper().again()?);
-    write!(out, "opened")
+    Ok(())
 }
 
 fn names<K: Keeper + Drop, W: Write + Drop>(
@@ -198,8 +198,9 @@ fn names<K: Keeper + Drop, W: Write + Drop>(
     receiver: &mut Receiver<K>,
     out: &mut W,
 ) -> io::Result<()> {
-    let Ok(names) = receiver.names(alloc) else {
-        return write!(out, "refused: keeper");
+    let names = match receiver.names(alloc) {
+        Ok(names) => names,
+        Err(fault) => return write!(out, "refused: {}", keep_text(fault)),
     };
     for (i, name) in names.iter().enumerate() {
         if i > 0 {

@@ -34,9 +34,13 @@ pub fn open(alloc: Global, files: Fused, seed: u64) -> Result<FusedKeeper, (Adop
 fn make(connection: Connection<FusedStore>) -> Result<FusedKeeper, (AdoptFault, Fused)> {
     match SqlKeeper::create(connection) {
         Ok(keeper) => Ok(keeper),
-        Err(NotCreated { fault, connection }) => {
-            Err((AdoptFault::Keep(fault), connection.into_store().close()))
-        }
+        Err(
+            NotCreated {
+                fault,
+                trouble: _,
+                connection,
+            },
+        ) => { Err((AdoptFault::Keep(fault), connection.into_store().close())) }
     }
 }
 

@@ -1,11 +1,11 @@
 //! The keepers with which deliveries are answered.
 use bag_ledger::{KeepFault, Keeper, MapKeeper};
 use bag_sqlite::{NotAdopted, NotCreated, SqlKeeper};
-use sqlite::{Alter, Connection, MemStore};
+use sqlite::{Connection, MemStore};
 use std::alloc::Global;
 use std::io::{self, ErrorKind};
 
-/// A keeper that can be made from nothing, without transfers.
+/// A keeper of an empty ledger in memory, which can be opened again.
 pub trait Anew: Keeper + Drop {
     fn anew(alloc: Global) -> io::Result<Self>;
 
@@ -43,14 +43,15 @@ impl Anew for SqlKeeper<MemStore> {
 }
 
 /// The keeper of a ledger that was made; a fault is returned as an error.
-pub fn created<S: Alter + Drop>(
-    made: Result<SqlKeeper<S>, NotCreated<S>>,
-) -> io::Result<SqlKeeper<S>> {
+fn created(
+    made: Result<SqlKeeper<MemStore>, NotCreated<MemStore>>,
+) -> io::Result<SqlKeeper<MemStore>> {
     match made {
         Ok(keeper) => Ok(keeper),
         Err(
             NotCreated {
                 fault,
+                trouble: _,
                 connection: _,
             },
         ) => Err(io::Error::from(match fault {

@@ -11,11 +11,6 @@
 //! one, and `bag_bench run FILES` takes them in in one run. `bag_bench copies FILES` computes their digests and copies
 //! them into a map; `bag_bench items FILES` only makes them. The status is 0 if all were taken.
 //!
-//! `bag_bench put FILES DATABASE` makes this many payload files of 2,048 octets and takes them in, in one run, into a
-//! ledger in a new database. `bag_bench put-file FILE DIGEST DATABASE` takes in one file, listed with this SHA-256. The
-//! status is 0 if all were taken. `bag_bench adopt DATABASE` prints whether a ledger was adopted, or why not; the
-//! status is 0 if it was.
-//!
 //! `bag_bench stop FILE CALLS HOW SEED DATABASE` does the work on standard input in the ledger of a database, and stops
 //! at a call of one of its files; `tests/stops.py` describes it.
 //!
@@ -34,7 +29,6 @@ use bag_path::Version;
 use bag_rules::{Plan, TagSet};
 use bag_sqlite::SqlKeeper;
 use bag_tags::{Kind, read_fetch, read_info, read_manifest, write_declaration};
-use database::{adopt, put, put_file};
 use deliveries::answer_all;
 use receiving::receive;
 use sqlite::MemStore;
@@ -46,7 +40,6 @@ use stopped::{Calls, stop};
 use writing::write_all;
 
 mod bringing;
-mod database;
 mod deliveries;
 mod event;
 mod fused;
@@ -84,15 +77,7 @@ fn run(rt: &HostRuntime) -> u8 {
     let done = match words.len() {
         1 if words[0].as_str() == "write" => write_all(rt).map(|_| 0),
         2 if words[0].as_str() == "deliveries" => answer_over(rt, words[1].as_str()),
-        2 if words[0].as_str() == "adopt" => adopt(rt, words[1].as_str()),
         2 => work(rt.alloc(), words[0].as_str(), words[1].as_str()),
-        3 if words[0].as_str() == "put" => put(rt, words[1].as_str(), words[2].as_str()),
-        4 if words[0].as_str() == "put-file" => put_file(
-            rt,
-            words[1].as_str(),
-            words[2].as_str(),
-            words[3].as_str(),
-        ),
         6 if words[0].as_str() == "stop" => stop_at(rt, &words),
         _ => Ok(64),
     };

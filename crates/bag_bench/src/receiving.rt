@@ -1,14 +1,14 @@
 //! Deliveries to one transfer, for time measurements.
 
 use bag_digest::{Alg, AlgSet, Digest, Multi};
-use bag_ledger::{Keeper, MapKeeper};
+use bag_ledger::MapKeeper;
 use bag_receiver::{Answer, Receiver};
 use bag_tags::write_declaration;
 use std::alloc::{AllocError, Global};
 use std::collections::BTreeMap;
 
 /// Files by their paths.
-pub(crate) type Items = Vec<(String, Vec<u8>)>;
+type Items = Vec<(String, Vec<u8>)>;
 
 /// The number of octets of each payload file.
 const OCTETS: usize = 2_048;
@@ -21,22 +21,14 @@ pub(crate) fn receive(alloc: Global, work: &str, number: u32) -> Result<u8, Allo
     match work {
         "items" => Ok(0),
         "copies" => copy(alloc, &items),
-        _ => {
-            let mut receiver = Receiver::new(alloc, MapKeeper::new(alloc));
-            Ok(take_in(alloc, &mut receiver, work, &tags, &items))
-        }
+        _ => Ok(take_in(alloc, work, &tags, &items)),
     }
 }
 
 /// Opens a transfer with these tag files and takes in the payload files, in a run or one by one. The status is 0 if all
 /// were taken.
-pub(crate) fn take_in<K: Keeper + Drop>(
-    alloc: Global,
-    receiver: &mut Receiver<K>,
-    work: &str,
-    tags: &Items,
-    items: &Items,
-) -> u8 {
+fn take_in(alloc: Global, work: &str, tags: &Items, items: &Items) -> u8 {
+    let mut receiver = Receiver::new(alloc, MapKeeper::new(alloc));
     if receiver.begin(alloc, "bench", tags.as_slice()).is_err() {
         return 1;
     }
@@ -57,7 +49,7 @@ pub(crate) fn take_in<K: Keeper + Drop>(
     0
 }
 
-pub(crate) fn is_taken(answer: &Answer) -> bool {
+fn is_taken(answer: &Answer) -> bool {
     *answer == Answer::Taken
 }
 
@@ -83,7 +75,7 @@ fn sha256(octets: &[u8]) -> Option<Digest> {
 }
 
 /// Payload files of 2,048 octets, each with a different number at its front.
-pub(crate) fn payload(alloc: Global, number: u32) -> Result<Items, AllocError> {
+fn payload(alloc: Global, number: u32) -> Result<Items, AllocError> {
     let mut items = Vec::new(alloc);
     for place in 0..number {
         let path = format!(in alloc; "data/folder/{place}.txt")?;
@@ -98,7 +90,7 @@ pub(crate) fn payload(alloc: Global, number: u32) -> Result<Items, AllocError> {
 }
 
 /// The tag files of a transfer of these payload files.
-pub(crate) fn tag_files(alloc: Global, items: &Items) -> Result<Items, AllocError> {
+fn tag_files(alloc: Global, items: &Items) -> Result<Items, AllocError> {
     let mut manifest = Vec::new(alloc);
     for (path, content) in items {
         if let Some(digest) = sha256(content.as_slice()) {
@@ -107,11 +99,6 @@ pub(crate) fn tag_files(alloc: Global, items: &Items) -> Result<Items, AllocErro
             manifest.extend_from_slice(line.as_bytes())?;
         }
     }
-    listing(alloc, manifest)
-}
-
-/// The tag files of a transfer with this text as its manifest by SHA-256.
-pub(crate) fn listing(alloc: Global, manifest: Vec<u8>) -> Result<Items, AllocError> {
     let mut tags = Vec::new(alloc);
     tags.push((
         String::from_str(alloc, "bagit.txt")?,

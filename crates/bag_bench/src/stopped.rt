@@ -1,7 +1,6 @@
 //! Work on a ledger that stops at a call of one of its two files, for `tests/stops.py`.
 use crate::deliveries::answer_lines;
 use crate::fused::{Fused, FusedKeeper, close, open};
-use crate::text::AdoptText;
 use bag_ledger::Keeper;
 use bag_receiver::Receiver;
 use bag_sqlite::SqlKeeper;
@@ -74,7 +73,7 @@ fn work_into<W: Write + Drop>(
     match open(rt.alloc(), files, seed) {
         Ok(keeper) => work_in(rt, keeper, out),
         Err((fault, left)) => {
-            writeln!(out, "{}", AdoptText(&fault))?;
+            writeln!(out, "{fault}")?;
             Ok(left)
         }
     }

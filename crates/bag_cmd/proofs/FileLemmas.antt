@@ -1,5 +1,5 @@
 -- From what the files hold to what a keeper holds, and back.
-use Rattle.std.proofs.Common.{◌≡◌, ◌≢◌, ◌⊎◌, ◌∙◌, ◌∷◌, Err, IsTrue, MatchResult, Ok, Result, ap, false, inl, inr, refl, subst, sym, true}
+use Rattle.std.proofs.Common.{◌≡◌, ◌≢◌, ◌⊎◌, ◌∙◌, ◌∷◌, Err, IsTrue, MatchResult, None, Ok, Result, ap, false, inl, inr, refl, subst, sym, true}
 use Rattle.std.proofs.Math.Logic.{∥∥₁_elim, ∥∥₁_map}
 use Rattle.bag_ledger.specs.Ledgers.{Ledger}
 use Rattle.bag_ledger.specs.declared.fault.KeepFault.TheVariants.{Memory, Store}
@@ -12,6 +12,7 @@ use Rattle.bag_sqlite.specs.Refusing.{IsNoAnswer, adopt_fault}
 use Rattle.bag_sqlite.specs.SqlKeepers.{HoldsLedger, IsOpenedOn, MayLeaveLedger}
 use Rattle.bag_sqlite.specs.Tables.{ledger_schema}
 use Rattle.bag_sqlite.specs.declared.adopting.AdoptFault.{AdoptFault}
+use Rattle.bag_sqlite.specs.declared.adopting.AdoptFault.TheVariants.{Keep}
 use Rattle.sqlite.proofs.Theorems.{opens_again}
 use Rattle.sqlite.specs.Closing.{HoldsAlone, IsCopied}
 use Rattle.sqlite.specs.Effect.{Database}
@@ -19,7 +20,7 @@ use Rattle.sqlite.specs.Files.{FailsToOpenFiles, HoldsDatabase, IsCleanLeft, fil
 use Rattle.sqlite.specs.Held.{Held}
 use Rattle.sqlite.specs.Start.{FindsIn}
 use Rattle.sqlite.specs.Opening.{is_open_error}
-use Rattle.sqlite.specs.State.{IsLive, Opens, State, store_error}
+use Rattle.sqlite.specs.State.{HasCleanDisk, IsLive, Opens, State, store_error}
 use Rattle.sqlite.specs.Tree.{Trees}
 use Rattle.sqlite.specs.declared.error.Error.{Error}
 use Rattle.sqlite.specs.declared.error.Error.TheVariants.{ExecuteReturnedResults, InvalidParameterCount, InvalidQuery, MultipleStatement, QueryReturnedNoRows, SqliteFailure}
@@ -34,7 +35,12 @@ use Rattle.sqlite_trees.specs.declared.error.StoreError.TheVariants.{Broken, Cor
 use Rattle.sqlite_trees.specs.declared.error.StoreError.TheVariants as store_fault
 use Rattle.sqlite_wal.specs.Files.{outcomes}
 use Rattle.sqlite_wal.specs.Recovery.{Image}
-use Rattle.bag_cmd.specs.LedgerFiles.{HoldsLedgerAlone, HoldsLedgerIn, IsNumbered, IsRefusedFrom, IsStopOf, IsUnopened, MayBeLeft, NoAnswer, NoDatabase, NoFile, Refused as WasRefused}
+use Rattle.bag_cmd.specs.LedgerFiles.{HoldsLedgerAlone, HoldsLedgerIn, IsNumbered, IsRefusal, IsStopOf, IsUnopened, MayBeLeft, NoAnswer, NoDatabase, NoFile, Refused as WasRefused}
+use Rattle.bag_cmd.specs.Unopened.{cause_of_error, cause_of_fault}
+use Rattle.bag_cmd.specs.declared.found.Seen.{Seen}
+use Rattle.bag_cmd.specs.declared.unopened.Left.{Left}
+use Rattle.bag_cmd.specs.declared.unopened.Left.TheVariants as left
+use Rattle.bag_cmd.specs.declared.unopened.Unopened.{Unopened}
 
 -- what a connection that was opened found
 pub opened_on : (image : Image) (s : State) (ledger : Ledger) → FindsIn image s → Opens s × IsLive s → HoldsLedgerIn image ledger → IsOpenedOn s ledger
@@ -82,6 +88,18 @@ told_as MultipleStatement is = inr (Store Refused, refl)
 told_as QueryReturnedNoRows is = inr (Store Refused, refl)
 told_as error is = absurd (let e : false ≡ true = is in cc)
 
+-- nothing is told of want of memory
+untold : (error : Error) → adopt_fault error ≡ Keep Memory → cause_of_error error ≡ None
+untold (SqliteFailure OutOfMemory) is = refl
+untold (SqliteFailure NotADatabase) is = cc
+untold (SqliteFailure code) is = cc
+untold (InvalidParameterCount given wanted) is = cc
+untold ExecuteReturnedResults is = cc
+untold InvalidQuery is = cc
+untold MultipleStatement is = cc
+untold QueryReturnedNoRows is = cc
+untold error is = cc
+
 no_fault : (kind : StoreError) → store_error kind ≢ SqliteFailure NotADatabase
 no_fault store_fault.OutOfMemory e = cc
 no_fault Io e = cc
@@ -101,21 +119,27 @@ module _ {D : Type 0} (g : Ghosts D) (image : Image) where
     ]
   ]
 
-  pub not_connected : (files : Files D) (left : Leftover D g) (error : Error) (fault : AdoptFault) → image_of g files ≡ image → IsTrue (is_open_error error)
-      → (IsCleanLeft left → FailsToOpenFiles files left error) → fault ≡ adopt_fault error → IsUnopened g image fault (Unit {0})
-  not_connected files left error fault same named cause is = elim (told_as error named) [
-    | inl none ↦ NoDatabase left (λ clean. no_database files left same (subst (FailsToOpenFiles files left) none (cause clean))) (is ∙ ap adopt_fault none)
-    | inr why ↦ NoAnswer (subst IsNoAnswer (sym is) why)
+  pub not_connected : (files : Files D) (rest : Leftover D g) (error : Error) (it : Unopened (Left D g)) → image_of g files ≡ image → IsTrue (is_open_error error)
+      → (IsCleanLeft rest → FailsToOpenFiles files rest error) → it.left ≡ left.Files rest → it.fault ≡ adopt_fault error → it.cause ≡ cause_of_error error → IsUnopened g image it (λ _. ⊥)
+  not_connected files rest error it same named why left fault cause = elim (told_as error named) [
+    | inl none ↦ NoDatabase rest left (λ clean. no_database files rest same (subst (FailsToOpenFiles files rest) none (why clean))) (fault ∙ ap adopt_fault none) (cause ∙ ap cause_of_error none)
+    | inr keep ↦ NoAnswer (record { no_answer = subst IsNoAnswer (sym fault) keep; memory = λ is. cause ∙ untold error (sym fault ∙ is) })
   ]
 
-  -- the same, where less is known of there being a file
-  pub known_less : (fault : AdoptFault) (has_file less : Type 0) → (less → has_file) → IsUnopened g image fault has_file → IsUnopened g image fault less
-  known_less fault has_file less to (NoAnswer why) = NoAnswer why
-  known_less fault has_file less to (NoFile not is) = NoFile (λ l. not (to l)) is
-  known_less fault has_file less to (NoDatabase left none is) = NoDatabase left none is
-  known_less fault has_file less to (WasRefused opened refused) = WasRefused opened refused
+  -- the database was refused for this fault
+  pub not_adopted : (it : Unopened (Left D g)) (fault : AdoptFault) (opened refused : Held (FileStore D g)) → it.left ≡ left.Database refused
+      → (it.fault ≡ fault) × (it.cause ≡ cause_of_fault fault) → (HasCleanDisk (file_state refused) → IsRefusal g image fault opened) → IsUnopened g image it (λ _. ⊥)
+  not_adopted it fault opened refused left told why =
+      WasRefused opened refused left (subst (λ f. HasCleanDisk (file_state refused) → IsRefusal g image f opened) (sym told.0) why) (told.1 ∙ ap cause_of_fault (sym told.0))
 
-  pub adopted : {A : Type 0} (P : A → Type 0) (opened : Held (FileStore D g)) (has_file : Type 0) (answer : Result A AdoptFault)
-      → MatchResult answer P (λ fault. IsRefusedFrom g image fault opened) → MatchResult answer P (λ fault. IsUnopened g image fault has_file)
-  adopted P opened has_file (Ok a) is = is
-  adopted P opened has_file (Err fault) is = WasRefused opened is
+  -- the same, where more may have been seen in place of a file
+  pub known_less : (it : Unopened (Left D g)) (none more : Seen → Type 0) → ((seen : Seen) → none seen → more seen) → IsUnopened g image it none → IsUnopened g image it more
+  known_less it none more to (NoAnswer why) = NoAnswer why
+  known_less it none more to (NoFile seen left is fault cause) = NoFile seen left (to seen is) fault cause
+  known_less it none more to (NoDatabase files left not fault cause) = NoDatabase files left not fault cause
+  known_less it none more to (WasRefused opened refused left why cause) = WasRefused opened refused left why cause
+
+  pub adopted : {A : Type 0} (P : A → Type 0) (more : Seen → Type 0) (answer : Result A (Unopened (Left D g)))
+      → MatchResult answer P (λ it. IsUnopened g image it (λ _. ⊥)) → MatchResult answer P (λ it. IsUnopened g image it more)
+  adopted P more (Ok a) is = is
+  adopted P more (Err it) is = known_less it (λ _. ⊥) more (λ seen none. absurd none) is

@@ -4,6 +4,7 @@ use Rattle.std.proofs.lemmas.List.{map-append}
 use Rattle.std.proofs.lemmas.List.Elements.{Contains-get_or}
 use Rattle.std.proofs.lemmas.Option.{get_or_from_slice_get, slice_get_within}
 use Rattle.std.proofs.lemmas.Grind.{common_steps}
+use Rattle.std.specs.Option.{option_or}
 use Rattle.bag_commands.specs.declared.output.Output.{Output}
 use Rattle.bag_commands.specs.declared.status.TheConstants.{DONE, FAILED}
 use Rattle.bag_commands.specs.Intakes.{TakesIn}
@@ -18,7 +19,7 @@ use Rattle.bag_folder.specs.Directories.{Listing}
 use Rattle.bag_folder.specs.Faults.{IfUnfit}
 use Rattle.bag_folder.specs.Folders.{FolderShown, IsOpened, IsRefused}
 use Rattle.bag_cmd.specs.declared.ended.Ended.{Ended}
-use Rattle.bag_cmd.specs.Endings.{first_empty, first_name, name_if_empty, why_unopened}
+use Rattle.bag_cmd.specs.Endings.{first_name, why_unopened}
 use Rattle.bag_cmd.specs.Stops.{stop_of_open}
 use Rattle.bag_cmd.specs.Making.{kept_folder}
 use Rattle.bag_cmd.specs.Working.{AreOpened, NoMemory, OneRefused, OutOfMemory, Refused, SomeIsRefused, WithFolder, WithFolders}
@@ -71,27 +72,28 @@ module _ {X : Type 0} (octets : X → List ℕ) (known : Option Listing) where
 pub couriers_more : (couriers : List (Bringing FolderShown)) (trees : List FolderShown) (tree : FolderShown) → couriers ≡ map courier_of trees → couriers ++ courier_of tree ∷ [] ≡ map courier_of (trees ++ tree ∷ [])
 couriers_more couriers trees tree is = ap (λ (cs : List (Bringing FolderShown)). cs ++ courier_of tree ∷ []) is ∙ sym (map-append courier_of trees (tree ∷ []))
 
--- the first of several folders that is empty, once there is one more
-first_none : (name : Option (List ℕ)) → first_name name None ≡ name
+-- the first name of several folders, once there is one more
+first_none : (name : Option (List ℕ)) → option_or name None ≡ name
 first_none None = refl
 first_none (Some name) = refl
 
-first_of_three : (a b c : Option (List ℕ)) → first_name a (first_name b c) ≡ first_name (first_name a b) c
+first_of_three : (a b c : Option (List ℕ)) → option_or a (option_or b c) ≡ option_or (option_or a b) c
 first_of_three None b c = refl
 first_of_three (Some name) b c = refl
 
-pub empty_more : (trees : List FolderShown) (tree : FolderShown) → first_empty (trees ++ tree ∷ []) ≡ first_name (first_empty trees) (name_if_empty tree)
-empty_more [] tree = first_none (name_if_empty tree)
-empty_more (t ∷ ts) tree = ap (first_name (name_if_empty t)) (empty_more ts tree) ∙ first_of_three (name_if_empty t) (first_empty ts) (name_if_empty tree)
+module _ (named : FolderShown → Option (List ℕ)) where
+  name_more : (trees : List FolderShown) (tree : FolderShown) → first_name named (trees ++ tree ∷ []) ≡ option_or (first_name named trees) (named tree)
+  name_more [] tree = first_none (named tree)
+  name_more (t ∷ ts) tree = ap (option_or (named t)) (name_more ts tree) ∙ first_of_three (named t) (first_name named ts) (named tree)
 
--- no folder was empty before, or one was
-pub empty_now : (was : Option (List ℕ)) (trees : List FolderShown) (tree : FolderShown) → is_some was ≡ false → was ≡ first_empty trees → name_if_empty tree ≡ first_empty (trees ++ tree ∷ [])
-empty_now None trees tree none is = sym (empty_more trees tree ∙ ap (λ first. first_name first (name_if_empty tree)) (sym is))
-empty_now (Some name) trees tree none is = absurd (let e : true ≡ false = none in cc)
+  -- none was named before, or one was
+  pub named_now : (was : Option (List ℕ)) (trees : List FolderShown) (tree : FolderShown) → is_some was ≡ false → was ≡ first_name named trees → named tree ≡ first_name named (trees ++ tree ∷ [])
+  named_now None trees tree none is = sym (name_more trees tree ∙ ap (λ first. option_or first (named tree)) (sym is))
+  named_now (Some name) trees tree none is = absurd (let e : true ≡ false = none in cc)
 
-pub empty_before : (was : Option (List ℕ)) (trees : List FolderShown) (tree : FolderShown) → is_some was ≡ true → was ≡ first_empty trees → was ≡ first_empty (trees ++ tree ∷ [])
-empty_before None trees tree some is = absurd (let e : false ≡ true = some in cc)
-empty_before (Some name) trees tree some is = sym (empty_more trees tree ∙ ap (λ first. first_name first (name_if_empty tree)) (sym is))
+  pub named_before : (was : Option (List ℕ)) (trees : List FolderShown) (tree : FolderShown) → is_some was ≡ true → was ≡ first_name named trees → was ≡ first_name named (trees ++ tree ∷ [])
+  named_before None trees tree some is = absurd (let e : false ≡ true = some in cc)
+  named_before (Some name) trees tree some is = sym (name_more trees tree ∙ ap (λ first. option_or first (named tree)) (sym is))
 
 pub taken_from : {R C : Type 0} (runs : R → R → C → C → Told → Type 0) (before now laters : List C) (told : List Told) (old new : R) → before ≡ now → TakesIn runs before laters told old new → TakesIn runs now laters told old new
 taken_from runs before now laters told old new is takes = subst (λ couriers. TakesIn runs couriers laters told old new) is takes

@@ -1,7 +1,7 @@
 -- How a command has ended, and what is told of it besides its lines.
-use Rattle.std.specs.Prelude.{ℕ, List, [], ◌∷◌, None, Option, Result, Some, Err, if◌then◌else◌, length, nat_eq, nat_lt}
+use Rattle.std.specs.Prelude.{◌≡◌, ℕ, List, [], ◌∷◌, None, Option, Result, Some, Err, if◌then◌else◌, length, nat_eq, nat_lt}
 use Rattle.std.specs.List.{list_any}
-use Rattle.std.specs.Option.{option_map}
+use Rattle.std.specs.Option.{option_map, option_or}
 use Rattle.bag_folder.specs.declared.fault.OpenFault.{OpenFault}
 use Rattle.bag_folder.specs.declared.fault.OpenFault.TheVariants as open_fault
 use Rattle.bag_folder.specs.Folders.{FolderShown}
@@ -12,23 +12,24 @@ use Rattle.bag_rules.specs.declared.outcome.CheckFault.{CheckFault}
 use Rattle.bag_rules.specs.declared.outcome.CheckFault.TheVariants as check_fault
 use Rattle.bag_path.specs.Paths.{is_payload}
 use Rattle.bag_rules.specs.Trees.{paths_in}
+use Rattle.bag_receiver.specs.declared.run.TheConstants.{MOST_DELIVERIES}
+use Rattle.bag_writer.specs.Writing.{payload_paths}
+use Rattle.bag_writer.specs.declared.fault.Large.{Large}
+use Rattle.bag_writer.specs.declared.fault.Large.TheVariants as large
 use Rattle.bag_cmd.specs.declared.ended.Ended.{Ended}
 use Rattle.bag_cmd.specs.declared.excess.Limit.{Limit}
 use Rattle.bag_cmd.specs.declared.excess.Limit.TheVariants as limit
 use Rattle.bag_cmd.specs.declared.ended.Why.{Why}
-use Rattle.bag_cmd.specs.declared.ended.Why.TheVariants.{Exceeds, Unfit}
+use Rattle.bag_cmd.specs.declared.ended.Why.TheVariants.{Empty, Exceeds, Ledger, Unfit}
+use Rattle.bag_cmd.specs.declared.unopened.LedgerCause.{LedgerCause}
 
 -- a command with this status, of which nothing is told
 abbrev pub plain : ℕ → Ended
 plain status = record { status = status; why = None }
 
--- the first reason, if there is one, and otherwise the second
-abbrev pub first_why : Option Why → Option Why → Option Why
-first_why None why = why
-first_why (Some first) why = Some first
-
+-- the same status with the first reason, if there is one, and otherwise the second
 abbrev pub or_why : Ended → Option Why → Ended
-or_why ended why = record { status = ended.status; why = first_why ended.why why }
+or_why ended why = record { status = ended.status; why = option_or ended.why why }
 
 -- why a folder wasn't opened or made: what can't be used, unless memory ran out
 abbrev pub why_unopened : OpenFault → Option Why
@@ -44,19 +45,29 @@ why_failed failures trouble = if nat_eq failures 0 then None else option_map Unf
 abbrev pub name_if_empty : FolderShown → Option (List ℕ)
 name_if_empty tree = if list_any is_payload (paths_in tree.shown) then None else Some tree.folder
 
--- the first name, if there is one, and otherwise the second
-abbrev pub first_name : Option (List ℕ) → Option (List ℕ) → Option (List ℕ)
-first_name None name = name
-first_name (Some first) name = Some first
+-- the name of a folder with more payload files than one run delivers
+abbrev pub name_if_crowded : FolderShown → Option (List ℕ)
+name_if_crowded tree =
+    if nat_lt MOST_DELIVERIES (length (payload_paths tree.shown)) then Some tree.folder else None
 
--- the name of the first folder without payload files
-abbrev pub first_empty : List FolderShown → Option (List ℕ)
-first_empty [] = None
-first_empty (tree ∷ trees) = first_name (name_if_empty tree) (first_empty trees)
+-- the first name that is given so of one of several folders
+abbrev pub first_name : (FolderShown → Option (List ℕ)) → List FolderShown → Option (List ℕ)
+first_name named [] = None
+first_name named (tree ∷ trees) = option_or (named tree) (first_name named trees)
 
 -- what is told if a limit is exceeded by something with this name
 abbrev pub why_exceeds : List ℕ → Limit → Option Why
 why_exceeds name exceeded = Some (Exceeds (record { name = name; limit = exceeded }))
+
+-- what is told of folders whose payload files are delivered: the first of them that has too many, and otherwise the
+-- first without any
+abbrev pub why_undelivered : Option (List ℕ) → Option (List ℕ) → Option Why
+why_undelivered (Some crowded) empty = why_exceeds crowded limit.Deliveries
+why_undelivered None empty = option_map Empty empty
+
+abbrev pub why_undelivered_of : List FolderShown → Option Why
+why_undelivered_of trees =
+    why_undelivered (first_name name_if_crowded trees) (first_name name_if_empty trees)
 
 -- There are too many files in the folder, or too many lines in a tag file: the one that was looked up last.
 abbrev pub why_too_many : FolderShown → Option Why
@@ -71,3 +82,21 @@ why_unchecked tree (Err (check_fault.TagTooLarge path)) =
 why_unchecked tree (Err (check_fault.TooLarge path)) = why_exceeds tree.folder (limit.File path)
 why_unchecked tree (Err check_fault.TooMany) = why_too_many tree
 why_unchecked tree answer = None
+
+-- the limit that is exceeded by what is too large to be written
+abbrev pub limit_of : Large → Limit
+limit_of large.Payload = limit.NewPayload
+limit_of (large.File path) = limit.NewFile path
+limit_of (large.TagFile path) = limit.NewTagFile path
+
+-- what is told of a payload of which a bag was to be made: what is too large, or if its folder failed what couldn't be
+-- used the last time
+abbrev pub why_unmade : FolderShown → Option Large → Option Why
+why_unmade tree (Some what) = why_exceeds tree.folder (limit_of what)
+why_unmade tree None = why_failed tree.failures tree.trouble
+
+-- what is told of a ledger with this name for a cause: nothing if there is none, or memory ran out
+abbrev pub IsWhyOf : List ℕ → Option LedgerCause → Option Why → Type 0
+IsWhyOf name cause None = Unit {0}
+IsWhyOf name cause (Some why) = (known : LedgerCause) × (cause ≡ Some known)
+    × (why ≡ Ledger (record { name = name; cause = known }))

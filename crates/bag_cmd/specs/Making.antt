@@ -1,12 +1,14 @@
 -- What `make` does with folders: the payload that it opens, and the folder that it makes for the bag.
 use Rattle.std.specs.Prelude.{◌≡◌, ◌∷◌, ℕ, List, [], None, Option, Some, false, if◌then◌else◌, is_some, map, nat_eq, string_bytes}
 use Rattle.bag_rules.specs.Trees.{Shown}
+use Rattle.bag_commands.specs.declared.make.MakeEnd.{MakeEnd}
 use Rattle.bag_commands.specs.declared.output.Output.{Output}
 use Rattle.bag_commands.specs.declared.status.TheConstants.{DONE, FAILED}
 use Rattle.bag_commands.specs.declared.stop.Stop.TheVariants as stop
 use Rattle.bag_commands.specs.Making.{IsWriting, MakesOf}
 use Rattle.bag_commands.specs.Printing.{Printed}
 use Rattle.bag_commands.specs.StopTexts.{stop_text}
+use Rattle.bag_cmd.specs.declared.commands.make.Made.{Made}
 use Rattle.bag_cmd.specs.declared.commands.make.Making.{Making}
 use Rattle.bag_cmd.specs.declared.ended.Ended.{Ended}
 use Rattle.bag_cmd.specs.declared.ended.Why.TheVariants.{Unfit}
@@ -16,14 +18,14 @@ use Rattle.bag_folder.specs.Directories.{Listing, in_payload}
 use Rattle.bag_folder.specs.Faults.{IfUnfit}
 use Rattle.bag_folder.specs.Folders.{FolderShown, IsOpened, IsRefused}
 use Rattle.bag_folder.specs.Unfits.{UnfitShown}
-use Rattle.bag_cmd.specs.Endings.{or_why, why_failed, why_unopened}
+use Rattle.bag_cmd.specs.Endings.{or_why, why_failed, why_unmade, why_unopened}
 use Rattle.bag_cmd.specs.Stops.{stop_of_open}
 use Rattle.bag_folder.specs.SinkFolders.{IsCreated, SinkShown}
 
 -- the same for a folder that was made for the bag, from its state then to a later state
 abbrev pub MakesFolder : {T W : Type 0} → (W → Option (List ℕ)) → (T → Shown) → (T → ℕ)
-    → (T → Type 0) → T → T → List (List ℕ) → Output W → Output W → ℕ → SinkShown → SinkShown
-    → Type 0
+    → (T → Type 0) → T → T → List (List ℕ) → Output W → Output W → MakeEnd → SinkShown
+    → SinkShown → Type 0
 MakesFolder contents shown failures sure old_tree new_tree words old new result sink later =
     MakesOf contents (IsWriting shown failures sure (λ _. None)
     (λ (sink : SinkShown). is_some sink.written ≡ false) (λ (sink : SinkShown). sink.failures)
@@ -66,18 +68,23 @@ words_given making = record {
   names = map string_bytes making.names.now;
 }
 
+-- how `make` ended for a payload, given what is told of the new folder
+abbrev pub make_end : Made → MakeEnd
+make_end made = record { status = made.ended.status; large = made.large }
+
 -- What `make` did. The entries of directories may be known. Either the payload was opened, and this was done with it,
--- and if its folder failed the last trouble is told; or no folder was made, and `bag: files` was printed because
--- something isn't allowed in a bag, which is told, or that memory ran out.
+-- and what is too large is told, or if its folder failed the last trouble; or no folder was made, and `bag: files` was
+-- printed because something isn't allowed in a bag, which is told, or that memory ran out.
 pub data PrintsMake {W : Type 0} (contents : W → Option (List ℕ)) (known : Option Listing)
     (words : MakingShown) (before after : Option (List ℕ)) (old new : Output W) (result : Ended)
     : Type 0 where
-  Opened : (tree later : FolderShown) (ended : Ended)
+  Opened : (tree later : FolderShown) (made : Made)
       → IsOpened (in_payload known words.source) words.source Payload tree
       → MakesInto contents (MakesFolder contents (λ (tree : FolderShown). tree.shown)
       (λ (tree : FolderShown). tree.failures) (λ (tree : FolderShown). ⊥) tree later words.names
-      old new ended.status) (later ≡ tree) words.destination before after old new ended
-      → result ≡ or_why ended (why_failed later.failures later.trouble)
+      old new (make_end made)) ((later ≡ tree) × (made.large ≡ None)) words.destination
+      before after old new made.ended
+      → result ≡ or_why made.ended (why_unmade later made.large)
       → PrintsMake contents known words before after old new result
   Refused : (unfit : UnfitShown)
       → IsRefused (in_payload known words.source) words.source Payload unfit → after ≡ before

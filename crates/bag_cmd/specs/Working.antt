@@ -1,12 +1,12 @@
 -- Work on a ledger: how it is opened, and what is done with it.
-use Rattle.std.specs.Prelude.{◌≡◌, ◌⊎◌, ◌∷◌, ◌++◌, [], ℕ, Bool, Contains, List, None, Option, Some, codes, false, is_some, map, string_bytes}
-use Rattle.std.specs.Option.{option_map}
+use Rattle.std.specs.Prelude.{◌≡◌, ◌↔◌, ◌⊎◌, ◌∷◌, ◌++◌, [], ℕ, Bool, Contains, List, None, Option, Some, codes, false, is_some, map, string_bytes}
 use Rattle.bag_ledger.specs.Ledgers.{Ledger, Transfer}
 use Rattle.bag_ledger.specs.declared.keeper.Keeper.{Ghosts}
 use Rattle.bag_path.specs.Spellings.{written_spelling}
 use Rattle.bag_receiver.specs.declared.receiver.Receiver.{Receiver}
 use Rattle.bag_receiver.specs.Names.{IsNamed}
-use Rattle.bag_receiver.specs.Receivers.{IsInState, IsKept}
+use Rattle.bag_receiver.specs.Receivers.{Does, IsInState, IsKept}
+use Rattle.bag_receiver.specs.ReceiversInside.{Same}
 use Rattle.bag_receiver.specs.Receiving.{LedgerState}
 use Rattle.bag_rules.specs.Transfers.{held_bag}
 use Rattle.bag_rules.specs.Trees.{UsesTree}
@@ -32,14 +32,17 @@ use Rattle.bag_commands.specs.ViewTexts.{view_lines, view_status}
 use Rattle.bag_folder.specs.declared.fault.OpenFault.{OpenFault}
 use Rattle.bag_folder.specs.declared.place.Place.TheVariants.{Base}
 use Rattle.bag_cmd.specs.declared.ended.Ended.{Ended}
-use Rattle.bag_cmd.specs.declared.ended.Why.TheVariants.{Empty, Unfit}
+use Rattle.bag_cmd.specs.declared.ended.Why.{Why}
+use Rattle.bag_cmd.specs.declared.ended.Why.TheVariants.{Unfit}
 use Rattle.bag_cmd.specs.declared.request.Work.{Work}
 use Rattle.bag_cmd.specs.declared.request.Work.TheVariants.{Audit, Begin, Export, Fetch, Intake, List as ListNames, Report}
 use Rattle.bag_folder.specs.Bringing.{Bringing, courier_of, to_come}
 use Rattle.bag_folder.specs.Directories.{Listing}
 use Rattle.bag_folder.specs.Folders.{FolderShown, IsOpened, IsRefused}
 use Rattle.bag_cmd.specs.LedgerFiles.{OpensOrMakes}
-use Rattle.bag_cmd.specs.Endings.{first_empty, why_failed, why_unopened}
+use Rattle.bag_cmd.specs.declared.unopened.LedgerCause.{LedgerCause}
+use Rattle.bag_cmd.specs.declared.unopened.Unopened.{Unopened}
+use Rattle.bag_cmd.specs.Endings.{IsWhyOf, or_why, why_failed, why_undelivered_of, why_unopened}
 use Rattle.bag_cmd.specs.Stops.{stop_of_open}
 use Rattle.bag_cmd.specs.Making.{IsUnmade, MakesInto}
 use Rattle.bag_folder.specs.SinkFolders.{SinkShown}
@@ -99,12 +102,12 @@ abbrev pub SomeIsRefused : Option Listing → List (List ℕ) → UnfitShown →
 SomeIsRefused known folders unfit =
     (folder : List ℕ) × Contains folders folder × IsRefused known folder Base unfit
 
--- the same for several folders, and if they were opened, the first without payload files is told
+-- the same for several folders, and if they were opened, the first is told that has too many payload files or none
 pub data WithFolders {W : Type 0} (contents : W → Option (List ℕ)) (known : Option Listing)
     (folders : List (List ℕ)) (untouched : Type 0) (does : List FolderShown → Type 0)
     (old new : Output W) (result : Ended) : Type 0 where
   AllOpened : (trees : List FolderShown) → AreOpened known folders trees → does trees
-      → result.why ≡ option_map Empty (first_empty trees)
+      → result.why ≡ why_undelivered_of trees
       → WithFolders contents known folders untouched does old new result
   OneRefused : (unfit : UnfitShown) → SomeIsRefused known folders unfit → untouched
       → Printed contents old new result.status (stop_text stop.Files ∷ []) FAILED
@@ -225,16 +228,31 @@ pub record Works {K W : Type 0} (k : Ghosts K) (opened made : List ℕ → K →
   pub over : IsOver k kept before
   pub done : DoesWork k known contents work folder now before after old new result
 
--- What work on a ledger did: either the ledger was opened and this was done with it, or it wasn't, and the reason that
--- its opening had was printed.
-pub data WorksOn {K W : Type 0} (k : Ghosts K) (opened made : List ℕ → K → Type 0)
-    (refused : List ℕ → AdoptFault → Type 0) (known : Option Listing)
+-- The ledger was closed after the work. At most its names were read before that. If the store has failed, why is told,
+-- unless more is told already or memory ran out.
+pub record IsClosedAfter {K C : Type 0} (k : Ghosts K) (closed : K → C → Type 0)
+    (ledger : List ℕ) (after : Receiver K) (ended result : Ended) : Type 0 where
+  pub last : Receiver K
+  pub only_read : Does k.holds k.may_leave k.clean after last Same
+  pub left : C
+  pub is_left : closed last.keeper left
+  pub cause : Option LedgerCause
+  pub failed : (cause ≡ None) ↔ (k.failures last.keeper ≡ 0)
+  pub why : Option Why
+  pub is_why : IsWhyOf ledger cause why
+  pub told : result ≡ or_why ended why
+
+-- What work on a ledger did: either the ledger was opened, this was done with it and it was closed; or it wasn't opened,
+-- and the fault that its opening had was printed, and its cause is told, unless memory ran out.
+pub data WorksOn {K L C W : Type 0} (k : Ghosts K) (opened made : List ℕ → K → Type 0)
+    (refused : List ℕ → Unopened L → Type 0) (closed : K → C → Type 0) (known : Option Listing)
     (contents : W → Option (List ℕ)) (ledger : List ℕ) (work : Work)
     (folder now : Option (List ℕ)) (old new : Output W) (result : Ended) : Type 0 where
-  Worked : (after : Receiver K)
-      → Works k opened made known contents ledger work folder now after old new result
-      → WorksOn k opened made refused known contents ledger work folder now old new result
-  Unopened : (fault : AdoptFault) → refused ledger fault → now ≡ folder
-      → Printed contents old new result.status (unopened_line fault ∷ []) FAILED
-      → result.why ≡ None
-      → WorksOn k opened made refused known contents ledger work folder now old new result
+  Worked : (after : Receiver K) (ended : Ended)
+      → Works k opened made known contents ledger work folder now after old new ended
+      → IsClosedAfter k closed ledger after ended result
+      → WorksOn k opened made refused closed known contents ledger work folder now old new result
+  NotOpened : (it : Unopened L) → refused ledger it → now ≡ folder
+      → Printed contents old new result.status (unopened_line it.fault ∷ []) FAILED
+      → IsWhyOf ledger it.cause result.why
+      → WorksOn k opened made refused closed known contents ledger work folder now old new result

@@ -7,6 +7,7 @@ use crate::commands::ledger::work_on_ledger;
 use crate::commands::make::{Making, make_folder};
 use crate::ended::Ended;
 use crate::ledger::Ledgers;
+use crate::progress::Progress;
 use crate::request::Request;
 use crate::usage::Usage;
 use bag_commands::status::{DONE, USAGE};
@@ -19,6 +20,7 @@ use std::rt::Files;
 /// Runs the command that these arguments ask for.
 pub fn command<R: Files + Eprint, D: Directories, L: Ledgers, W: Write + Drop>(
     rt: &R,
+    progress: &Progress<'_, R>,
     disk: &D,
     ledgers: &mut L,
     made: &mut Destination<'_, R>,
@@ -26,7 +28,7 @@ pub fn command<R: Files + Eprint, D: Directories, L: Ledgers, W: Write + Drop>(
     words: Vec<String>,
     out: &mut Output<W>,
 ) -> Ended
-    ensures { RunsCommand L.Kept.Keeper L.opened L.made L.refused (D.listing disk.now) W.contents
+    ensures { RunsCommand L.Kept.Keeper L.opened L.made L.refused L.closed (D.listing disk.now) W.contents
         (map string_bytes words.items) made.old made.new out.old out.new result }
 {
     if words.is_empty() {
@@ -39,14 +41,15 @@ pub fn command<R: Files + Eprint, D: Directories, L: Ledgers, W: Write + Drop>(
         return Ended::plain(print_stop(Stop::Memory, out));
     };
     match Request::parse(words) {
-        Some(request) => run_request(rt, disk, ledgers, made, alloc, &request, out),
+        Some(request) => run_request(rt, progress, disk, ledgers, made, alloc, &request, out),
         None => Ended::plain(refuse(rt, alloc, &given, out)),
     }
 }
 
 /// Runs a command.
-fn run_request<R: Files, D: Directories, L: Ledgers, W: Write + Drop>(
+fn run_request<R: Files + Eprint, D: Directories, L: Ledgers, W: Write + Drop>(
     rt: &R,
+    progress: &Progress<'_, R>,
     disk: &D,
     ledgers: &mut L,
     made: &mut Destination<'_, R>,
@@ -54,11 +57,11 @@ fn run_request<R: Files, D: Directories, L: Ledgers, W: Write + Drop>(
     request: &Request,
     out: &mut Output<W>,
 ) -> Ended
-    ensures { Runs L.Kept.Keeper L.opened L.made L.refused (D.listing disk.now) W.contents
+    ensures { Runs L.Kept.Keeper L.opened L.made L.refused L.closed (D.listing disk.now) W.contents
         request.now made.old made.new out.old out.new result }
 {
     match request {
-        Request::Check { folder } => check_folder(rt, disk, alloc, folder.as_str(), out),
+        Request::Check { folder } => check_folder(rt, progress, disk, alloc, folder.as_str(), out),
         Request::Make {
             source,
             destination,
@@ -69,10 +72,20 @@ fn run_request<R: Files, D: Directories, L: Ledgers, W: Write + Drop>(
                 destination: destination.as_str(),
                 names: algorithms,
             };
-            make_folder(rt, disk, made, alloc, &making, out)
+            make_folder(rt, progress, disk, made, alloc, &making, out)
         }
         Request::Ledger { ledger, work } => {
-            work_on_ledger(rt, disk, ledgers, made, alloc, ledger.as_str(), work, out)
+            work_on_ledger(
+                rt,
+                progress,
+                disk,
+                ledgers,
+                made,
+                alloc,
+                ledger.as_str(),
+                work,
+                out,
+            )
         }
     }
 }

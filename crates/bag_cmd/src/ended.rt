@@ -1,12 +1,15 @@
 //! How a command has ended, and why it wasn't done or had nothing to do.
 ghost use Rattle.std.specs.Prelude.{◌≡◌};
 ghost use Rattle.std.specs.Option.{option_map};
-ghost use Rattle.bag_cmd.specs.Endings.{or_why, plain, why_failed};
+ghost use Rattle.bag_cmd.specs.Endings.{IsWhyOf, or_why, plain, why_failed};
 
 use crate::excess::{Excess, FolderName};
 use crate::told_name::ToldName;
+use crate::unopened::LedgerCause;
 use bag_folder::Unfit;
+use std::alloc::Global;
 use std::fmt::{self, Display, Formatter};
+use std::marker::Model;
 
 /// How a command has ended.
 #[derive(Debug, Drop)]
@@ -30,15 +33,29 @@ impl Ended {
     pub fn or(self, why: Option<Why>) -> Ended
         ensures { result ≡ or_why self why }
     {
-        let Ended { status, why: first } = self;
-        match first {
-            Some(first) => Ended {
-                status,
-                why: Some(first),
-            },
-            None => Ended { status, why },
+        Ended {
+            status: self.status,
+            why: self.why.or(why),
         }
     }
+}
+
+/// A ledger that can't be used, and why.
+#[derive(Debug, Drop)]
+pub struct NamedCause {
+    /// Its name, as it was given.
+    pub name: String,
+    /// Why it can't be used.
+    pub cause: LedgerCause,
+}
+
+impl Model for NamedCause {
+    ghost use Rattle.std.specs.Prelude.{string_bytes};
+    ghost use Rattle.bag_cmd.specs.Unopened.{CauseShown};
+
+    ghost Value = { CauseShown };
+
+    ghost view = { λ it. record { name = string_bytes it.name; cause = it.cause } };
 }
 
 /// Why a command wasn't done, or had nothing to do.
@@ -50,6 +67,8 @@ pub enum Why {
     Exceeds(Excess),
     /// There are no payload files in this folder.
     Empty(FolderName),
+    /// A ledger can't be used.
+    Ledger(NamedCause),
 }
 
 impl Why {
@@ -82,6 +101,15 @@ impl Why {
             _ => Why::of_trouble(trouble),
         }
     }
+
+    /// The ledger with this name can't be used for this cause, if that is known and memory suffices.
+    pub fn of_ledger(alloc: Global, name: &str, cause: Option<LedgerCause>) -> Option<Why>
+        ensures { IsWhyOf name.now cause result }
+    {
+        let cause = cause?;
+        let name = String::from_str(alloc, name).ok()?;
+        Some(Why::Ledger(NamedCause { name, cause }))
+    }
 }
 
 impl Display for Why {
@@ -92,6 +120,9 @@ impl Display for Why {
             Why::Empty(folder) => {
                 let folder = ToldName(folder.text.as_str());
                 write!(f, "{folder}: it has no payload file below data/")
+            }
+            Why::Ledger(NamedCause { name, cause }) => {
+                write!(f, "{}: {cause}", ToldName(name.as_str()))
             }
         }
     }

@@ -47,6 +47,14 @@ pub enum Limit {
     Files,
     /// The number of lines in a tag file.
     Lines,
+    /// The number of files in a folder of which a bag is made.
+    NewPayload,
+    /// The size of the payload file with this path, in such a folder.
+    NewFile(BagPath),
+    /// The size that the tag file with this path would have in the bag of such a folder.
+    NewTagFile(BagPath),
+    /// The number of payload files that are delivered from a folder.
+    Deliveries,
 }
 
 impl Display for Excess {
@@ -74,6 +82,30 @@ impl Display for Limit {
             }
             Limit::Files => f.write_str(": it has more than 200,000 files"),
             Limit::Lines => f.write_str(": it has more than 100,000 lines"),
+            Limit::NewPayload => f.write_str(": it has more than 100,000 files"),
+            Limit::NewFile(path) => {
+                write!(
+                    f,
+                    "/{}: it has more than 1,099,511,627,776 octets",
+                    ToldName(below_payload(path))
+                )
+            }
+            Limit::NewTagFile(path) => {
+                write!(
+                    f,
+                    ": {} would have more than 16,777,216 octets",
+                    ToldName(path.as_str())
+                )
+            }
+            Limit::Deliveries => {
+                f.write_str(": it has more than 1,000,000 payload files below data/")
+            }
         }
     }
+}
+
+/// The path of a payload file below the payload directory.
+fn below_payload(path: &BagPath) -> &str {
+    let path = path.as_str();
+    path.strip_prefix("data/").unwrap_or(path)
 }

@@ -1,14 +1,13 @@
 //! Laws on ledgers in files: what one run of the program leaves is what the next one holds. Each function's contract is
 //! one law, and its body is empty.
 ghost use Rattle.std.specs.Prelude.{◌↔◌, ◌≡◌, ◌⊎◌, ◌∷◌, ◌++◌, [], ℕ, List};
-ghost use Rattle.bag_cmd.specs.LedgerFiles.{HoldsLedgerIn, IsAdoptedFrom, IsMadeIn, IsNumbered, IsStopOf, IsUnopened, MayBeLeft};
+ghost use Rattle.bag_cmd.specs.LedgerFiles.{HoldsLedgerIn, IsAdoptedFrom, IsMadeIn, IsNumbered, IsLeftBy, IsStopOf, IsUnopenedFile, MayBeLeft};
 ghost use Rattle.bag_ledger.specs.Ledgers.{Ledger};
 ghost use Rattle.bag_receiver.specs.Receivers.{IsKept};
 ghost use Rattle.bag_receiver.specs.Receiving.{Happened, LedgerState, settled};
 ghost use Rattle.bag_receiver.specs.Stops.{Event, Stop};
 ghost use Rattle.bag_rules.specs.Faults.{Has};
 ghost use Rattle.bag_rules.specs.Files.{Files as OctetsByPath};
-ghost use Rattle.bag_sqlite.specs.declared.adopting.AdoptFault.{AdoptFault};
 ghost use Rattle.sqlite_wal.specs.Files.{image_at};
 ghost use Rattle.sqlite_wal.specs.Recovery.{Image};
 
@@ -58,7 +57,7 @@ pub fn the_disk_leaves_what_a_stop_may_leave<S: Start>(stopped: &FileKeeper<S>)
 {}
 
 /// What is stored under a name before a ledger is opened is what the files hold. A ledger that is opened or made under a
-/// name, or refused, is so from these files.
+/// name, or refused, is so from these files, and what is left of it is what its keeper leaves of them.
 pub fn ledgers_in_files_are_what_the_files_hold<S: Start>(kept: &FileKeeper<S>)
     ensures holds { (name : List ℕ) (ledger : Ledger)
         → ⟦<LedgerFiles<'static, S> as Ledgers>⟧.holds name ledger
@@ -67,9 +66,11 @@ pub fn ledgers_in_files_are_what_the_files_hold<S: Start>(kept: &FileKeeper<S>)
         ↔ IsAdoptedFrom (image_at S.Start) kept.now.connection }
     ensures made { (name : List ℕ) → ⟦<LedgerFiles<'static, S> as Ledgers>⟧.made name kept.now
         ↔ IsMadeIn (image_at S.Start) kept.now.connection }
-    ensures refused { (name : List ℕ) (fault : AdoptFault)
-        → ⟦<LedgerFiles<'static, S> as Ledgers>⟧.refused name fault
-        ↔ IsUnopened ⟦<FileFrom<S> as Disk>⟧ (image_at S.Start) fault ⊥ }
+    ensures refused { (name : List ℕ) (it : _)
+        → ⟦<LedgerFiles<'static, S> as Ledgers>⟧.refused name it
+        ↔ IsUnopenedFile ⟦<FileFrom<S> as Disk>⟧ (image_at S.Start) it }
+    ensures closed { (closed : _) → ⟦<LedgerFiles<'static, S> as Ledgers>⟧.closed kept.now closed
+        ↔ IsLeftBy kept.now.connection closed }
 {}
 
 /// No ledger is made where the files hold one.

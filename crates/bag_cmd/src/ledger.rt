@@ -1,15 +1,14 @@
 //! Opens and closes ledgers by name.
-ghost use Rattle.std.specs.Prelude.{◌≡◌, [], ℕ, IfErr, List, MatchResult, false, true};
+ghost use Rattle.std.specs.Prelude.{◌≡◌, ◌↔◌, [], ℕ, List, MatchResult, None, false, true};
 ghost use Rattle.bag_cmd.specs.LedgerFiles.{OpensOrMakes};
 ghost use Rattle.bag_ledger.specs.Ledgers.{Ledger};
 ghost use Rattle.bag_receiver.specs.Receivers.{IsKept};
 ghost use Rattle.bag_receiver.specs.Receiving.{settled};
-ghost use Rattle.bag_sqlite.specs.Refusing.{IsNoAnswer};
-ghost use Rattle.bag_sqlite.specs.declared.adopting.AdoptFault.{AdoptFault};
+ghost use Rattle.bag_cmd.specs.declared.unopened.Unopened.{Unopened};
 
-use crate::ledger_file::{FileKeeper, LedgerFile};
-use bag_ledger::{KeepFault, Keeper, StoreFault};
-use bag_sqlite::AdoptFault;
+use crate::ledger_file::{Closed, FileKeeper, LedgerFile, UnopenedFile};
+use crate::unopened::{Barred, LedgerCause, Left, Unopened};
+use bag_ledger::Keeper;
 use sqlite::{FileFrom, Start};
 use sqlite_disk::Disk;
 
@@ -49,6 +48,12 @@ pub trait Ledgers {
     /// The keeper of an open ledger.
     type Kept: Keeper;
 
+    /// What was opened of a ledger that can't be used.
+    type Left: Drop;
+
+    /// What is left of a ledger that was closed. Until it is dropped, nobody else can open the ledger.
+    type Closed: Drop;
+
     /// What is stored under this name before a ledger is opened.
     ghost holds: { List ℕ → Ledger → Type 0 };
 
@@ -58,15 +63,18 @@ pub trait Ledgers {
     /// What is known of a ledger that was made under this name.
     ghost made: { List ℕ → Self.Kept → Type 0 };
 
-    /// What is known if no ledger was opened under this name, and this is told as the reason.
-    ghost refused: { List ℕ → AdoptFault → Type 0 };
+    /// What is known if no ledger was opened under this name, and this is why.
+    ghost refused: { List ℕ → Unopened Self.Left → Type 0 };
+
+    /// What is known of what is left of a ledger that this keeper held.
+    ghost closed: { Self.Kept → Self.Closed → Type 0 };
 
     /// Opens the ledger with this name. If it doesn't exist, it isn't made.
     ///
     /// # Errors
     ///
     /// It doesn't exist, isn't a ledger, is damaged or can't be read or written, or another program has it open.
-    fn open(&mut self, ledger: &str) -> Result<Self::Kept, AdoptFault>
+    fn open(&mut self, ledger: &str) -> Result<Self::Kept, Unopened<Self::Left>>
         ensures { MatchResult result (opened ledger.now) (refused ledger.now) };
 
     /// Opens the ledger with this name. If it doesn't exist or has no tables, makes a ledger without transfers.
@@ -75,16 +83,22 @@ pub trait Ledgers {
     ///
     /// Those of `open`, except that the ledger may be missing. Whatever was created until the error is removed, unless
     /// another run may use it.
-    fn open_or_make(&mut self, ledger: &str) -> Result<Opened<Self::Kept>, AdoptFault>
+    fn open_or_make(&mut self, ledger: &str) -> Result<Opened<Self::Kept>, Unopened<Self::Left>>
         ensures { MatchResult result (λ it. OpensOrMakes it.is_made
             (opened ledger.now it.kept) (made ledger.now it.kept)) (refused ledger.now) };
 
+    /// Why the store of an open ledger failed. `None` if it hasn't failed.
+    fn trouble(&self, kept: &Self::Kept) -> Option<LedgerCause>
+        ensures { (result ≡ None) ↔ (Self.Kept.Keeper.failures kept.now ≡ 0) };
+
     /// Closes the ledger that was opened.
-    fn close(&mut self, kept: Self::Kept);
+    fn close(&mut self, kept: Self::Kept) -> Self::Closed
+        ensures { closed kept result };
 
     /// Closes a ledger without transfers that `open_or_make` made. If nothing existed before, removes it.
-    fn give_up(&mut self, kept: Self::Kept)
-        requires { Self.Kept.Keeper.clean kept → Self.Kept.Keeper.holds kept [] };
+    fn give_up(&mut self, kept: Self::Kept) -> Self::Closed
+        requires { Self.Kept.Keeper.clean kept → Self.Kept.Keeper.holds kept [] }
+        ensures { closed kept result };
 
     /// A ledger that was opened holds what is stored under its name, and a crash leaves that alone.
     ghost keeps: { (name : List ℕ) (kept : Self.Kept) (ledger : Ledger) → opened name kept
@@ -118,22 +132,24 @@ impl<'a, S: Start> LedgerFiles<'a, S> {
     }
 
     /// What the file holds, and the file with this name. Only the first call succeeds.
-    fn find(&mut self, ledger: &str) -> Result<(S, LedgerFile<'a>), AdoptFault>
-        ensures { IfErr result IsNoAnswer }
-    {
+    fn find(&mut self, ledger: &str) -> Result<(S, LedgerFile<'a>), Barred> {
         match self.start.take() {
             Some(start) => Ok((start, LedgerFile::find(self.rt, ledger)?)),
-            None => Err(AdoptFault::Keep(KeepFault::Store(StoreFault::Spent))),
+            None => Err(Barred::For(LedgerCause::Busy)),
         }
     }
 }
 
 impl<'a, S: Start> Ledgers for LedgerFiles<'a, S> {
     ghost use Rattle.std.proofs.Common.{inl};
-    ghost use Rattle.bag_cmd.specs.LedgerFiles.{HoldsLedgerIn, IsAdoptedFrom, IsMadeIn, IsUnopened};
+    ghost use Rattle.bag_cmd.specs.LedgerFiles.{HoldsLedgerIn, IsAdoptedFrom, IsLeftBy, IsMadeIn, IsUnopenedFile};
     ghost use Rattle.sqlite_wal.specs.Files.{image_at};
 
     type Kept = FileKeeper<S>;
+
+    type Left = Left<FileFrom<S>>;
+
+    type Closed = Closed<FileFrom<S>>;
 
     ghost holds = { λ name ledger. HoldsLedgerIn (image_at S.Start) ledger };
 
@@ -141,34 +157,43 @@ impl<'a, S: Start> Ledgers for LedgerFiles<'a, S> {
 
     ghost made = { λ ledger kept. IsMadeIn (image_at S.Start) kept.connection };
 
-    ghost refused = { λ ledger fault.
-        IsUnopened ⟦<FileFrom<S> as Disk>⟧ (image_at S.Start) fault ⊥ };
+    ghost refused = { λ ledger it.
+        IsUnopenedFile ⟦<FileFrom<S> as Disk>⟧ (image_at S.Start) it };
 
-    fn open(&mut self, ledger: &str) -> Result<FileKeeper<S>, AdoptFault> {
+    ghost closed = { λ kept closed. IsLeftBy kept.connection closed };
+
+    fn open(&mut self, ledger: &str) -> Result<FileKeeper<S>, UnopenedFile<S>> {
         let (start, mut file) = self.find(ledger)?;
         let kept = file.open(start)?;
         self.file = Some(file);
         Ok(kept)
     }
 
-    fn open_or_make(&mut self, ledger: &str) -> Result<Opened<FileKeeper<S>>, AdoptFault> {
+    fn open_or_make(&mut self, ledger: &str) -> Result<Opened<FileKeeper<S>>, UnopenedFile<S>> {
         let (start, mut file) = self.find(ledger)?;
         let opened = file.open_or_make(start)?;
         self.file = Some(file);
         Ok(opened)
     }
 
-    fn close(&mut self, kept: FileKeeper<S>) {
-        match &self.file {
-            Some(file) => file.close(kept),
-            None => drop(kept),
+    fn trouble(&self, kept: &FileKeeper<S>) -> Option<LedgerCause> {
+        match kept.failures() {
+            0 => None,
+            _ => Some(LedgerCause::of_store(kept.trouble())),
         }
     }
 
-    fn give_up(&mut self, kept: FileKeeper<S>) {
+    fn close(&mut self, kept: FileKeeper<S>) -> Closed<FileFrom<S>> {
+        match &self.file {
+            Some(file) => file.close(kept),
+            None => Closed::Open(kept.release()),
+        }
+    }
+
+    fn give_up(&mut self, kept: FileKeeper<S>) -> Closed<FileFrom<S>> {
         match &self.file {
             Some(file) => file.give_up(kept),
-            None => drop(kept),
+            None => Closed::Open(kept.release()),
         }
     }
 

@@ -1,7 +1,7 @@
 //! Ledgers in files on disk.
-ghost use Rattle.std.specs.Prelude.{◌≡◌, ◌≢◌, [], Err, IfErr, IfOk, MatchResult, true, false};
-ghost use Rattle.bag_cmd.specs.LedgerFiles.{AreOpenOn, HasCopiedLog, IsAdoptedFrom, IsClosed, IsConnectedTo, IsMadeIn, IsRefusedFrom, IsUnopened, OpensOrMakes};
-ghost use Rattle.bag_sqlite.specs.Refusing.{IsNoAnswer};
+ghost use Rattle.std.specs.Prelude.{◌≡◌, ◌≢◌, [], IfErr, IfOk, MatchResult, true, false};
+ghost use Rattle.bag_cmd.specs.LedgerFiles.{AreOpenOn, HasCopiedLog, IsAdoptedFrom, IsClosed, IsConnectedTo, IsLeftBy, IsMadeIn, IsPlain, IsUnopened, OpensOrMakes};
+ghost use Rattle.bag_sqlite.specs.declared.adopting.AdoptFault.{AdoptFault};
 ghost use Rattle.bag_sqlite.specs.SqlKeepers.{HoldsLedger};
 ghost use Rattle.bag_sqlite.specs.Tables.{no_schema};
 ghost use Rattle.sqlite.specs.Files.{IsClosed as HasNoNewOutcome, file_state};
@@ -9,32 +9,35 @@ ghost use Rattle.sqlite.specs.Held.{state};
 ghost use Rattle.sqlite.specs.State.{HasCleanDisk};
 ghost use Rattle.sqlite_wal.specs.Files.{image_at};
 
+use crate::found::{Found, Seen, is_absence};
 use crate::ledger::Opened;
-use bag_ledger::{KeepFault, StoreFault};
-use bag_sqlite::{AdoptFault, NotAdopted, NotCreated, SqlKeeper};
+use crate::unopened::{Barred, LedgerCause, Left, Unopened};
+use bag_sqlite::{NotAdopted, NotCreated, SqlKeeper};
 use sqlite::{Alter, Connection, FileFrom, FileStore, Files, Options, Start};
 use sqlite_disk::Disk;
-use sqlite_std_file::OpenError;
 use std::fs::{self, File, OpenOptions};
 use std::hash::{BuildHasher, RandomState};
-use std::io::{self, ErrorKind};
+use std::io;
 use std::os::fd::AsRawFd;
 use std::os::unix::fs::{MetadataExt, OpenOptionsExt};
 
 /// A keeper in a file. `S` says what the file held when it was opened.
 pub type FileKeeper<S> = SqlKeeper<FileStore<FileFrom<S>>>;
 
-/// What is found at a file name.
-#[derive(Clone, Copy, Debug, PartialEq, Eq)]
-pub enum Found {
-    /// Nothing.
-    Nothing,
-    /// A file of zero octets without a log.
-    Empty,
-    /// A file that may be a database.
-    File,
-    /// Anything else, such as a directory.
-    Other,
+/// Why the ledger in a file wasn't opened.
+pub type UnopenedFile<S> = Unopened<Left<FileFrom<S>>>;
+
+/// What a run leaves of the files of a ledger. They are locked until this is dropped.
+#[derive(Drop)]
+pub enum Closed<D: Disk> {
+    /// The log was copied into the file and removed.
+    Copied(Files<D>),
+    /// The log wasn't copied, and both stay as they are.
+    Uncopied(FileStore<D>),
+    /// They weren't closed, and both stay as they are.
+    Open(Connection<FileStore<D>>),
+    /// They were removed, if they had been made.
+    Removed(Connection<FileStore<D>>),
 }
 
 /// The file of a ledger and its log, whose name is the file's name followed by `-wal`.
@@ -50,9 +53,8 @@ pub struct LedgerFile<'a> {
     // the path without symbolic links, if the file exists
     name: String,
     log: String,
-    found: Found,
-    // whether there was anything in the log
-    had_log: bool,
+    // what was seen at both names
+    seen: Seen,
     // whether this made the file, and no other run wrote to it before it was locked
     is_new: bool,
     // the file apart from the connection, once it is locked
@@ -64,29 +66,25 @@ impl<'a> LedgerFile<'a> {
     ///
     /// # Errors
     ///
-    /// `Keep`: memory ran out, or the operating system doesn't give the information.
-    pub fn find(rt: &'a HostRuntime, name: &str) -> Result<LedgerFile<'a>, AdoptFault>
-        ensures { IfErr result IsNoAnswer }
-    {
+    /// Memory ran out, or the operating system doesn't give the information.
+    pub fn find(rt: &'a HostRuntime, name: &str) -> Result<LedgerFile<'a>, Barred> {
         let alloc = rt.alloc();
         let name = match fs::canonicalize(rt, name) {
             Ok(real) => String::from_str(alloc, real.as_str())?,
             Err(error) if is_absence(&error) => String::from_str(alloc, name)?,
-            Err(error) => return Err(AdoptFault::from(error)),
+            Err(error) => return Err(Barred::from(error)),
         };
         let log = format!(in alloc; "{name}-wal")?;
-        let mut file = LedgerFile {
+        let seen = Seen::look(rt, name.as_str(), log.as_str())?;
+        Ok(LedgerFile {
             rt,
             seed: RandomState::new(rt)?.hash_one(&0u8),
             name,
             log,
-            found: Found::Nothing,
-            had_log: false,
+            seen,
             is_new: false,
             file: None,
-        };
-        file.look()?;
-        Ok(file)
+        })
     }
 
     /// Opens the ledger in the file, as [`SqlKeeper::adopt`] does.
@@ -96,21 +94,22 @@ impl<'a> LedgerFile<'a> {
     /// Those of [`SqlKeeper::adopt`]. Also `NotALedger` if there is no file or it is empty, and `Keep(Store(Refused))`
     /// if the file can't be opened for writing or another program has it open; in these cases nothing is created or
     /// changed.
-    pub fn open<S: Start>(&mut self, start: S) -> Result<FileKeeper<S>, AdoptFault>
+    pub fn open<S: Start>(&mut self, start: S) -> Result<FileKeeper<S>, UnopenedFile<S>>
         ensures opened { MatchResult result
             (λ keeper. IsAdoptedFrom (image_at S.Start) keeper.connection)
-            (λ fault. IsUnopened ⟦<FileFrom<S> as Disk>⟧ (image_at S.Start) fault
-            (self.new.found ≡ Found.File)) }
-        ensures none { self.old.found ≢ Found.File → result ≡ Err AdoptFault.NotALedger }
+            (λ it. IsUnopened ⟦<FileFrom<S> as Disk>⟧ (image_at S.Start) it
+            (λ seen. seen.found ≢ Found.File)) }
+        ensures none { self.old.seen.found ≢ Found.File
+            → MatchResult result (λ _. ⊥) (λ it. it.fault ≡ AdoptFault.NotALedger) }
     {
-        if !matches!(self.found, Found::File) {
-            return Err(AdoptFault::NotALedger);
+        if !self.seen.has_file() {
+            return Err(Unopened::saw(self.seen));
         }
         let files = self.lock(start)?;
         // It may have been emptied before it was locked.
-        if self.found != Found::File {
+        if !self.seen.has_file() {
             self.leave(files);
-            return Err(AdoptFault::NotALedger);
+            return Err(Unopened::saw(self.seen));
         }
         let connection = self.connect(files)?;
         self.adopt(connection)
@@ -122,20 +121,23 @@ impl<'a> LedgerFile<'a> {
     ///
     /// Those of [`LedgerFile::open`], except that the file may be missing or empty. Whatever was created until the
     /// error is removed, unless another run may use it.
-    pub fn open_or_make<S: Start>(&mut self, start: S) -> Result<Opened<FileKeeper<S>>, AdoptFault>
+    pub fn open_or_make<S: Start>(
+        &mut self,
+        start: S,
+    ) -> Result<Opened<FileKeeper<S>>, UnopenedFile<S>>
         ensures { MatchResult result (λ it. OpensOrMakes it.is_made
             (IsAdoptedFrom (image_at S.Start) it.kept.connection)
             (IsMadeIn (image_at S.Start) it.kept.connection))
-            (λ fault. IsUnopened ⟦<FileFrom<S> as Disk>⟧ (image_at S.Start) fault
-            (self.new.found ≢ Found.Other)) }
+            (λ it. IsUnopened ⟦<FileFrom<S> as Disk>⟧ (image_at S.Start) it
+            (λ seen. seen.found ≡ Found.Other)) }
     {
-        if self.found == Found::Other {
-            return Err(AdoptFault::NotALedger);
+        if self.seen.has_other() {
+            return Err(Unopened::saw(self.seen));
         }
         let files = self.lock(start)?;
-        if self.found == Found::Other {
+        if self.seen.has_other() {
             self.leave(files);
-            return Err(AdoptFault::NotALedger);
+            return Err(Unopened::saw(self.seen));
         }
         let connection = self.connect(files)?;
         if !has_nothing(&connection) {
@@ -143,33 +145,44 @@ impl<'a> LedgerFile<'a> {
         }
         match SqlKeeper::create(connection) {
             Ok(keeper) => Ok(Opened::made(keeper)),
-            Err(NotCreated { fault, connection }) => {
+            Err(
+                NotCreated {
+                    fault,
+                    trouble,
+                    connection,
+                },
+            ) => {
                 self.remove_made();
-                drop(connection);
-                Err(AdoptFault::Keep(fault))
+                Err(Unopened::unmade(fault, trouble, connection))
             }
         }
     }
 
     /// Closes a ledger that this opened. The content of the log is copied into the file, and the log is removed. If
     /// that fails, both remain and nothing is lost.
-    pub fn close<S: Start>(&self, keeper: FileKeeper<S>) {
+    pub fn close<S: Start>(&self, keeper: FileKeeper<S>) -> Closed<FileFrom<S>>
+        ensures { IsLeftBy keeper.connection result }
+    {
         match copy_log(keeper) {
-            Ok(files) => self.remove_copied_log(files),
-            Err(store) => drop(store),
+            Ok(files) => {
+                self.remove_copied_log(&files);
+                Closed::Copied(files)
+            }
+            Err(store) => Closed::Uncopied(store),
         }
     }
 
     /// Closes a ledger without transfers that this made. If there was no file, removes it.
-    pub fn give_up<S: Start>(&self, keeper: FileKeeper<S>)
+    pub fn give_up<S: Start>(&self, keeper: FileKeeper<S>) -> Closed<FileFrom<S>>
         requires { HasCleanDisk (file_state keeper.connection)
             → HoldsLedger (file_state keeper.connection) [] }
+        ensures { IsLeftBy keeper.connection result }
     {
-        if self.is_new && !self.had_log {
+        if self.is_new && !self.seen.had_log() {
             self.remove_made();
-            drop(keeper);
+            Closed::Removed(keeper.release())
         } else {
-            self.close(keeper);
+            self.close(keeper)
         }
     }
 
@@ -178,53 +191,43 @@ impl<'a> LedgerFile<'a> {
     ///
     /// # Errors
     ///
-    /// `Keep`: memory ran out; the file or the log can't be opened for writing or made; another program has locked one
-    /// of them; or the file was removed, or made, after it was looked for. A file that was made stays then, since
-    /// another run may use it.
-    fn lock<S: Start>(&mut self, start: S) -> Result<Files<FileFrom<S>>, AdoptFault>
-        ensures locked { MatchResult result (AreOpenOn ⟦<FileFrom<S> as Disk>⟧ (image_at S.Start))
-            IsNoAnswer }
+    /// Memory ran out; the file or the log can't be opened for writing or made; another program has locked one of them;
+    /// or the file was removed, or made, after it was looked for. A file that was made stays then, since another run may
+    /// use it.
+    fn lock<S: Start>(&mut self, start: S) -> Result<Files<FileFrom<S>>, Barred>
+        ensures locked { IfOk result (AreOpenOn ⟦<FileFrom<S> as Disk>⟧ (image_at S.Start)) }
         ensures new { IfOk result (λ _. self.new.is_new ≡ true
-            → (self.old.found ≡ Found.Nothing) × (self.new.found ≡ Found.Empty)) }
+            → (self.old.seen.found ≡ Found.Nothing) × (self.new.seen.found ≡ Found.Empty)) }
     {
-        let is_made = self.found == Found::Nothing;
+        let is_made = self.seen.found() == Found::Nothing;
         let file = open_apart(self.rt, self.name.as_str(), is_made)?;
         let files = open_locked(self.rt, self.name.as_str(), start)?;
         // Another run may have removed it before it was locked.
         if !is_named(self.rt, &file, self.name.as_str())? {
-            return Err(AdoptFault::Keep(KeepFault::Store(StoreFault::Refused)));
+            return Err(Barred::For(LedgerCause::Busy));
         }
-        self.look()?;
+        self.seen = Seen::look(self.rt, self.name.as_str(), self.log.as_str())?;
         // Another run may have written to it before it was locked.
-        self.is_new = is_made && self.found == Found::Empty;
+        self.is_new = is_made && self.seen.found() == Found::Empty;
         self.file = Some(file);
         Ok(files)
-    }
-
-    /// Looks up what exists.
-    fn look(&mut self) -> io::Result<()>
-        ensures { self.new.is_new ≡ self.old.is_new }
-    {
-        self.had_log = length_at(self.rt, self.log.as_str())?.is_some_and(|length| length > 0);
-        self.found = found_at(self.rt, self.name.as_str(), self.had_log)?;
-        Ok(())
     }
 
     /// Opens the database in the files.
     fn connect<S: Start>(
         &self,
         files: Files<FileFrom<S>>,
-    ) -> Result<Connection<FileStore<FileFrom<S>>>, AdoptFault>
+    ) -> Result<Connection<FileStore<FileFrom<S>>>, UnopenedFile<S>>
         requires { AreOpenOn ⟦<FileFrom<S> as Disk>⟧ (image_at S.Start) files }
-        ensures { MatchResult result (IsConnectedTo (image_at S.Start)) (λ fault.
-            IsUnopened ⟦<FileFrom<S> as Disk>⟧ (image_at S.Start) fault (Unit {0})) }
+        ensures connected { MatchResult result (IsConnectedTo (image_at S.Start)) (λ it.
+            IsUnopened ⟦<FileFrom<S> as Disk>⟧ (image_at S.Start) it (λ _. ⊥)) }
+        ensures plain { IfOk result (IsPlain (image_at S.Start)) }
     {
         match Connection::open_files_with(self.rt.alloc(), files, Options::new(self.seed), false) {
             Ok(connection) => Ok(connection),
             Err((error, left)) => {
                 self.remove_made();
-                drop(left);
-                Err(AdoptFault::from(error))
+                Err(Unopened::unconnected(error, left))
             }
         }
     }
@@ -233,36 +236,41 @@ impl<'a> LedgerFile<'a> {
     fn adopt<S: Start>(
         &self,
         connection: Connection<FileStore<FileFrom<S>>>,
-    ) -> Result<FileKeeper<S>, AdoptFault>
+    ) -> Result<FileKeeper<S>, UnopenedFile<S>>
         ensures { IsConnectedTo (image_at S.Start) connection → MatchResult result
-            (λ keeper. IsAdoptedFrom (image_at S.Start) keeper.connection) (λ fault.
-            IsRefusedFrom ⟦<FileFrom<S> as Disk>⟧ (image_at S.Start) fault connection) }
+            (λ keeper. IsAdoptedFrom (image_at S.Start) keeper.connection) (λ it.
+            IsUnopened ⟦<FileFrom<S> as Disk>⟧ (image_at S.Start) it (λ _. ⊥)) }
     {
         match SqlKeeper::adopt(connection) {
             Ok(keeper) => Ok(keeper),
             Err(NotAdopted { fault, connection }) => {
-                self.leave(connection);
-                Err(fault)
+                self.leave_log();
+                Err(Unopened::unadopted(fault, connection))
             }
         }
     }
 
-    /// Closes what this opened and hasn't changed, and removes a log in which nothing was found.
-    fn leave<T: Drop>(&self, opened: T) {
-        if !self.had_log {
+    /// Closes files that haven't changed, and removes a log in which nothing was found.
+    fn leave<S: Start>(&self, files: Files<FileFrom<S>>) {
+        self.leave_log();
+        drop(files);
+    }
+
+    /// Removes the log, unless anything was found in it.
+    fn leave_log(&self) {
+        if !self.seen.had_log() {
             self.remove_new_log();
         }
-        drop(opened);
     }
 
     /// Removes the log, and the file if this made it; empties the file if it was empty. All of it stays if anything was
     /// found in the log, which may hold a ledger.
     fn remove_made(&self) {
-        if self.had_log {
+        if self.seen.had_log() {
             return;
         }
         // Without the log, part of a first page would be taken for no database.
-        if self.found == Found::Empty && self.empty().is_err() {
+        if self.seen.found() == Found::Empty && self.empty().is_err() {
             return;
         }
         self.remove_new_log();
@@ -273,7 +281,7 @@ impl<'a> LedgerFile<'a> {
 
     /// Empties the file, which was empty when it was locked.
     fn empty(&self) -> io::Result<()>
-        requires { self.now.found ≡ Found.Empty }
+        requires { self.now.seen.found ≡ Found.Empty }
     {
         match &self.file {
             Some(file) => file.set_len(0),
@@ -283,7 +291,7 @@ impl<'a> LedgerFile<'a> {
 
     /// Removes a log in which nothing was found when the file was locked.
     fn remove_new_log(&self)
-        requires { self.now.had_log ≡ false }
+        requires { self.now.seen.had_log ≡ false }
     {
         let _ = fs::remove_file(self.rt, self.log.as_str());
     }
@@ -295,12 +303,11 @@ impl<'a> LedgerFile<'a> {
         let _ = fs::remove_file(self.rt, self.name.as_str());
     }
 
-    /// Removes the log, whose content the file holds, and closes both.
-    fn remove_copied_log<S: Start>(&self, files: Files<FileFrom<S>>)
-        requires { HasCopiedLog ⟦<FileFrom<S> as Disk>⟧ files }
+    /// Removes the log, whose content the file holds, while both are locked.
+    fn remove_copied_log<S: Start>(&self, _files: &Files<FileFrom<S>>)
+        requires { HasCopiedLog ⟦<FileFrom<S> as Disk>⟧ _files.now }
     {
         let _ = fs::remove_file(self.rt, self.log.as_str());
-        drop(files);
     }
 }
 
@@ -340,16 +347,12 @@ fn open_locked<S: Start>(
     rt: &HostRuntime,
     name: &str,
     start: S,
-) -> Result<Files<FileFrom<S>>, AdoptFault>
-    ensures { MatchResult result (AreOpenOn ⟦<FileFrom<S> as Disk>⟧ (image_at S.Start)) IsNoAnswer }
+) -> Result<Files<FileFrom<S>>, Barred>
+    ensures { IfOk result (AreOpenOn ⟦<FileFrom<S> as Disk>⟧ (image_at S.Start)) }
 {
     match sqlite_std_file::open(rt, name, start) {
         Ok(files) => Ok(files),
-        Err(OpenError::Io(error)) => Err(AdoptFault::from(error)),
-        Err(OpenError::OutOfMemory) => Err(AdoptFault::Keep(KeepFault::Memory)),
-        Err(OpenError::Busy) | Err(OpenError::HotJournal) => {
-            Err(AdoptFault::Keep(KeepFault::Store(StoreFault::Refused)))
-        }
+        Err(error) => Err(Barred::from(error)),
     }
 }
 
@@ -357,38 +360,6 @@ fn open_locked<S: Start>(
 fn is_named(rt: &HostRuntime, file: &File, name: &str) -> io::Result<bool> {
     let (opened, named) = (file.metadata()?, fs::metadata(rt, name)?);
     Ok(opened.dev() == named.dev() && opened.ino() == named.ino())
-}
-
-/// What exists at this name. `had_log` says whether there is anything in its log.
-///
-/// A file of one octet without one is `Other`, because the store would take it for a database that it was about to
-/// create.
-fn found_at(rt: &HostRuntime, name: &str, had_log: bool) -> io::Result<Found> {
-    let about = match fs::metadata(rt, name) {
-        Ok(about) => about,
-        Err(error) if is_absence(&error) => return Ok(Found::Nothing),
-        Err(error) => return Err(error),
-    };
-    Ok(match about.len() {
-        _ if !about.is_file() => Found::Other,
-        0 if !had_log => Found::Empty,
-        1 if !had_log => Found::Other,
-        _ => Found::File,
-    })
-}
-
-/// The length in octets of what exists at this name. `None` if nothing does.
-fn length_at(rt: &HostRuntime, name: &str) -> io::Result<Option<u64>> {
-    match fs::metadata(rt, name) {
-        Ok(about) => Ok(Some(about.len())),
-        Err(error) if is_absence(&error) => Ok(None),
-        Err(error) => Err(error),
-    }
-}
-
-/// Whether the error means that nothing exists at the name.
-fn is_absence(error: &io::Error) -> bool {
-    matches!(error.kind(), ErrorKind::NotFound | ErrorKind::NotADirectory)
 }
 
 /// Whether a database has no tables, indexes or views.

@@ -17,28 +17,36 @@ use bag_commands::status::{FAILED, USAGE};
 use bag_commands::{Output, Stop, print_stop};
 use bag_folder::{Destination, Disk};
 use bag_ledger::Keeper;
+use clearing::Clearing;
 use command::command;
 use ended::Ended;
 use ledger::{LedgerFiles, Ledgers};
 use ledger_file::FileKeeper;
+use progress::Progress;
 use sqlite::{Start, Unknown};
 use std::alloc::{AllocError, Global};
 use std::env::Env;
-use std::io::{BufWriter, ErrorKind, Printer, Write};
+use std::io::{BufWriter, ErrorKind, IsTerminal, Printer, Write};
 use std::process::ExitCode;
 use std::rt::Files;
 use std::{env, io};
 
+mod clearing;
 mod command;
 mod commands;
 mod ended;
 mod excess;
+mod found;
 mod laws;
 mod ledger;
 mod ledger_file;
+mod meter;
+mod progress;
 mod request;
 mod told_name;
+mod unopened;
 mod usage;
+mod watched;
 
 fn main(rt: HostRuntime) -> ExitCode {
     ExitCode::from(run_on_disk(&rt, Unknown))
@@ -50,22 +58,28 @@ fn run_on_disk<S: Start>(rt: &HostRuntime, start: S) -> u8
         × Ran ⟦<FileKeeper<S> as Keeper>⟧ ⟦<LedgerFiles<'static, S> as Ledgers>⟧.opened
         ⟦<LedgerFiles<'static, S> as Ledgers>⟧.made
         ⟦<LedgerFiles<'static, S> as Ledgers>⟧.refused
+        ⟦<LedgerFiles<'static, S> as Ledgers>⟧.closed
         ⟦<Printer<'static, HostRuntime> as Write>⟧.contents old new result }
 {
+    let progress = Progress::new(rt, rt.stderr().is_terminal());
     let mut ledgers = LedgerFiles::new(rt, start);
-    run(rt, &mut ledgers)
+    run(rt, &progress, &mut ledgers)
 }
 
 /// Runs the command on the command line, and returns the exit status. The output is buffered until the command has
 /// ended or the buffer is full.
-fn run<R: Files + Env + Print + Eprint + AllocGlobal, L: Ledgers>(rt: &R, ledgers: &mut L) -> u8
+fn run<R: Files + Env + Print + Eprint + AllocGlobal, L: Ledgers>(
+    rt: &R,
+    progress: &Progress<'_, R>,
+    ledgers: &mut L,
+) -> u8
     // Every status except that of a failure comes from a command.
     ensures { result ≢ FAILED
         → (old : _) × (new : _) × Ran L.Kept.Keeper L.opened L.made L.refused
-        ⟦<Printer<'static, R> as Write>⟧.contents old new result }
+        L.closed ⟦<Printer<'static, R> as Write>⟧.contents old new result }
 {
-    match BufWriter::new(rt.alloc(), io::writer(rt)) {
-        Ok(writer) => run_words(rt, ledgers, &mut Output::new(writer)),
+    match BufWriter::new(rt.alloc(), Clearing::new(io::writer(rt), progress)) {
+        Ok(writer) => run_words(rt, progress, ledgers, &mut Output::new(writer)),
         Err(_) => {
             let mut out = Output::unbuffered(rt.alloc(), io::writer(rt));
             print_stop(Stop::Memory, &mut out)
@@ -77,18 +91,29 @@ fn run<R: Files + Env + Print + Eprint + AllocGlobal, L: Ledgers>(rt: &R, ledger
 /// standard error.
 fn run_words<R: Files + Env + Eprint + AllocGlobal, L: Ledgers, W: Write + Drop>(
     rt: &R,
+    progress: &Progress<'_, R>,
     ledgers: &mut L,
     out: &mut Output<W>,
 ) -> u8
     ensures { result ≢ FAILED
-        → Ran L.Kept.Keeper L.opened L.made L.refused W.contents out.old out.new result }
+        → Ran L.Kept.Keeper L.opened L.made L.refused L.closed W.contents out.old out.new result }
 {
     let alloc = rt.alloc();
     match env::args(rt) {
         Ok(words) => match words.skip(1).collect(alloc) {
             Ok(words) => {
                 let mut made = Destination::new(rt);
-                let ended = command(rt, &Disk(rt), ledgers, &mut made, alloc, words, out);
+                let ended = command(
+                    rt,
+                    progress,
+                    &Disk(rt),
+                    ledgers,
+                    &mut made,
+                    alloc,
+                    words,
+                    out,
+                );
+                progress.clear();
                 explain(rt, ended)
             }
             Err(AllocError) => print_stop(Stop::Memory, out),

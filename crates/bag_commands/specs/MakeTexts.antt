@@ -1,7 +1,8 @@
 -- The result of `make` as printed, and its status.
-use Rattle.std.specs.Prelude.{ℕ, List, ◌++◌, Result, Ok, Err, codes}
+use Rattle.std.specs.Prelude.{ℕ, List, ◌++◌, None, Option, Result, Ok, Err, Some, codes}
 use Rattle.std.specs.Fmt.{decimal}
 use Rattle.bag_tags.specs.declared.oxum.Oxum.{Oxum}
+use Rattle.bag_writer.specs.declared.fault.Large.{Large}
 use Rattle.bag_writer.specs.declared.fault.WriteFault.{WriteFault}
 use Rattle.bag_writer.specs.declared.fault.WriteFault.TheVariants as fault
 use Rattle.bag_commands.specs.declared.status.TheConstants.{DONE, FAILED, REFUSED}
@@ -14,7 +15,7 @@ fault_line (fault.BadHole i) = codes "bag: bad hole"
 fault_line (fault.Clash path) = codes "bag: clash"
 fault_line fault.Tree = codes "bag: files"
 fault_line fault.Sink = codes "bag: files"
-fault_line fault.TooLarge = codes "bag: too large"
+fault_line (fault.TooLarge large) = codes "bag: too large"
 fault_line fault.Memory = codes "bag: memory"
 
 -- its line: the number of payload files and of their octets, or the fault
@@ -33,3 +34,8 @@ fault_status why = REFUSED
 abbrev pub make_status : Result Oxum WriteFault → ℕ
 make_status (Ok oxum) = DONE
 make_status (Err why) = fault_status why
+
+-- what is too large, if the result says that something is
+abbrev pub large_in : Result Oxum WriteFault → Option Large
+large_in (Err (fault.TooLarge large)) = Some large
+large_in answer = None

@@ -1,5 +1,5 @@
 -- What `make` does: the names of algorithms, and the results that a written bag allows.
-use Rattle.std.specs.Prelude.{◌≡◌, ◌↔◌, ◌++◌, ◌∷◌, ℕ, List, [], All, Contains, IsErrOf, MatchResult, Option, Result, Some, codes, slice_get, take, true}
+use Rattle.std.specs.Prelude.{◌≡◌, ◌↔◌, ◌++◌, ◌∷◌, ℕ, List, [], All, Contains, IsErrOf, MatchResult, None, Option, Result, Some, codes, slice_get, take, true}
 use Rattle.bag_digest.specs.Algorithm.{has, name_of}
 use Rattle.bag_digest.specs.declared.algorithm.Alg.{Alg}
 use Rattle.bag_digest.specs.declared.algorithm.AlgSet.{AlgSet}
@@ -13,7 +13,8 @@ use Rattle.bag_writer.specs.declared.fault.WriteFault.TheVariants.{Tree, Sink}
 use Rattle.bag_writer.specs.declared.spec.Spec.{Spec}
 use Rattle.bag_commands.specs.declared.output.Output.{Output}
 use Rattle.bag_commands.specs.declared.status.TheConstants.{USAGE}
-use Rattle.bag_commands.specs.MakeTexts.{make_status, make_text}
+use Rattle.bag_commands.specs.declared.make.MakeEnd.{MakeEnd}
+use Rattle.bag_commands.specs.MakeTexts.{large_in, make_status, make_text}
 use Rattle.bag_commands.specs.Printing.{Printed}
 
 -- THE NAMES OF ALGORITHMS
@@ -62,22 +63,24 @@ pub record IsWriting {T S : Type 0} (shown : T → Shown) (tree_failures : T →
   pub sink : UsesSink sink_failures sink_sure old_sink new_sink
       (is_open old_sink × IsEmptySink (stored old_sink)) (IsErrOf answer Sink)
 
--- an answer of this kind was printed, with its status
-abbrev pub PrintedMaking : {W : Type 0} → (W → Option (List ℕ)) → Output W → Output W → ℕ
+-- an answer of this kind was printed, with its status, and what is too large in it is told
+abbrev pub PrintedMaking : {W : Type 0} → (W → Option (List ℕ)) → Output W → Output W → MakeEnd
     → (Result Oxum WriteFault → Type 0) → Type 0
 PrintedMaking contents old new result kind =
     (answer : Result Oxum WriteFault) × kind answer
-    × Printed contents old new result (make_text answer ∷ []) (make_status answer)
+    × Printed contents old new result.status (make_text answer ∷ []) (make_status answer)
+    × (result.large ≡ large_in answer)
 
 -- What `make` did with these names: either it wrote a bag with the algorithms that they name and printed the result; or
 -- one of them is unknown, which was printed with the status of an unknown command line, and nothing was read or
 -- written.
 pub data MakesOf {W : Type 0} (contents : W → Option (List ℕ))
     (writing : Spec → Result Oxum WriteFault → Type 0) (untouched : Type 0)
-    (words : List (List ℕ)) (old new : Output W) (result : ℕ) : Type 0 where
+    (words : List (List ℕ)) (old new : Output W) (result : MakeEnd) : Type 0 where
   Made : (set : AlgSet) (spec : Spec) → NamesSet words set → IsPlain set spec
       → PrintedMaking contents old new result (writing spec)
       → MakesOf contents writing untouched words old new result
   Unknown : (word : List ℕ) → IsFirstUnknown words word → untouched
-      → Printed contents old new result (unknown_text word ∷ []) USAGE
+      → Printed contents old new result.status (unknown_text word ∷ []) USAGE
+      → result.large ≡ None
       → MakesOf contents writing untouched words old new result

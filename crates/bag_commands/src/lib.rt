@@ -1,6 +1,7 @@
 //! The commands of the program on trees, sinks and writers: what each one does, prints and returns as its status.
 #![tactic(auto)]
 
+pub use answer::RefusalText;
 pub use audit::audit_to;
 pub use begin::{begin_to, print_beginning};
 pub use check::{check_to, print_outcome};
@@ -8,11 +9,13 @@ pub use export::{export_to, print_export};
 pub use fetch::{fetch_to, print_fetch};
 pub use intake::intake_to;
 pub use list::list_to;
-pub use make::{make_to, print_making};
+pub use make::{MakeEnd, make_to, print_making};
 pub use output::Output;
 pub use report::{print_view, report_to};
 pub use spelling::TextSpelling;
 pub use stop::{Stop, print_stop};
+pub use text::{FaultLine, OutsideLine};
+pub use verdict::verdict_text;
 
 mod answer;
 mod audit;

@@ -1,7 +1,7 @@
 //! `make`: writes a bag of a tree's payload files.
 ghost use Rattle.std.specs.Prelude.{◌≡◌, ◌∷◌, [], IfErr, IfOk, false, map, string_bytes};
 ghost use Rattle.bag_writer.specs.declared.spec.Spec.{Spec};
-ghost use Rattle.bag_commands.specs.MakeTexts.{fault_line, make_status, make_text};
+ghost use Rattle.bag_commands.specs.MakeTexts.{fault_line, large_in, make_status, make_text};
 ghost use Rattle.bag_commands.specs.Making.{IsFirstUnknown, IsPlain, IsWriting, MakesOf, NamesSet};
 ghost use Rattle.bag_commands.specs.Printing.{Printed};
 
@@ -10,10 +10,19 @@ use crate::status::{DONE, FAILED, REFUSED, USAGE};
 use bag_digest::{Alg, AlgSet};
 use bag_rules::Tree;
 use bag_tags::{Info, Oxum};
-use bag_writer::{Sink, Spec, WriteFault, write_bag};
+use bag_writer::{Large, Sink, Spec, WriteFault, write_bag};
 use std::alloc::Global;
 use std::fmt::{self, Display, Formatter};
 use std::io::Write;
+
+/// How `make` ended.
+#[derive(Debug, Drop)]
+pub struct MakeEnd {
+    /// The exit status.
+    pub status: u8,
+    /// What is too large, if the printed line says that something is.
+    pub large: Option<Large>,
+}
 
 /// Writes a bag of a tree's payload files to a sink, with manifests by the algorithms with these names, prints the
 /// result and returns the status, as [`print_making`] does. An algorithm that is named twice counts once.
@@ -25,15 +34,34 @@ pub fn make_to<T: Tree, S: Sink, W: Write + Drop>(
     tree: &mut T,
     sink: &mut S,
     out: &mut Output<W>,
-) -> u8
+) -> MakeEnd
     ensures { MakesOf W.contents (IsWriting T.shown T.failures T.sure S.stored
         (λ (s : S). S.is_open s ≡ false) S.failures S.sure tree.old tree.new sink.old sink.new)
         ((tree.new ≡ tree.old) × (sink.new ≡ sink.old))
         (map string_bytes names.now) out.old out.new result }
 {
     match named_algs(names) {
-        Ok(algs) => print_making(&write_plain(alloc, algs, tree, sink), out),
-        Err(word) => out.print(UnknownLine(word), USAGE),
+        Ok(algs) => {
+            let answer = write_plain(alloc, algs, tree, sink);
+            MakeEnd {
+                status: print_making(&answer, out),
+                large: large_in(answer),
+            }
+        }
+        Err(word) => MakeEnd {
+            status: out.print(UnknownLine(word), USAGE),
+            large: None,
+        },
+    }
+}
+
+/// What is too large, by a result.
+fn large_in(answer: Result<Oxum, WriteFault>) -> Option<Large>
+    ensures { result ≡ large_in answer }
+{
+    match answer {
+        Err(WriteFault::TooLarge(large)) => Some(large),
+        _ => None,
     }
 }
 
@@ -106,7 +134,7 @@ fn fault_line(fault: &WriteFault) -> &'static str
         WriteFault::BadHole(_) => "bag: bad hole",
         WriteFault::Clash(_) => "bag: clash",
         WriteFault::Tree | WriteFault::Sink => "bag: files",
-        WriteFault::TooLarge => "bag: too large",
+        WriteFault::TooLarge(_) => "bag: too large",
         WriteFault::Memory => "bag: memory",
     }
 }

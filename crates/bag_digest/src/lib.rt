@@ -24,5 +24,3 @@ pub mod laws;
 mod multi;
 mod reading;
 mod source;
-#[cfg(test)]
-mod tests;

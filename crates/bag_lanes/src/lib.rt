@@ -19,6 +19,4 @@ mod padding;
 mod sha1_rounds;
 mod sha256_rounds;
 mod tasks;
-#[cfg(test)]
-mod tests;
 mod words;

@@ -11,6 +11,4 @@ pub mod laws;
 mod lines;
 mod path;
 mod spelling;
-#[cfg(test)]
-mod tests;
 mod version;

@@ -1,7 +1,20 @@
--- What a keeper that contains the store puts.
-use Rattle.std.proofs.Common.{◌≡◌, ◌≤◌, ℕ, List, Option, Some, Result, Ok, Err, inl, inr, length, refl}
+-- What a keeper that contains the store answers and puts.
+use Rattle.std.proofs.Common.{◌≡◌, ◌≤◌, ℕ, List, MatchResult, Option, Some, Result, Ok, Err, inl, inr, length, refl}
 use Rattle.bag_sqlite.proofs.Words.{all_known, Digest, GaveAll, Given, given_by, known, LARGEST_ITEM, Ledger, Length, more_known, PutFault, Puts, Reader, RefusesGiven, TooLarge, Want}
+use Rattle.bag_digest.specs.declared.reading.SourceFault.TheVariants as source
+use Rattle.bag_ledger.specs.declared.fault.KeepFault.{KeepFault}
 use Rattle.bag_ledger.specs.declared.fault.PutFault.TheVariants.{Keep}
+use Rattle.bag_rules.specs.declared.want.WantFault.TheVariants as other
+use Rattle.bag_sqlite.specs.Contents.{answer_of}
+use Rattle.bag_sqlite.specs.declared.putting.NotPut.{NotPut}
+use Rattle.bag_sqlite.specs.declared.putting.NotPut.TheVariants.{Source, Misfit, Store}
+
+-- what holds of each result of the store holds of the answer to it
+pub answered : {A E F : Type 0} {P Q : A → Type 0} {S T : Type 0} (R : F → E → Type 0) (stored : Result A E) (answer : Result A F)
+    → MatchResult answer (λ value. stored ≡ Ok value) (λ fault. (error : E) × (stored ≡ Err error) × R fault error)
+    → ((a : A) → P a → Q a) → (S → T) → MatchResult stored P (λ _. S) → MatchResult answer Q (λ _. T)
+answered R stored (Ok a) told ok err it = ok a (rw told at it)
+answered R stored (Err fault) told ok err it = err (rw told.1 at it)
 
 -- the same for a structure that contains the store
 module _ {K L : Type 0} (part : L → K) (holds may_leave : K → Ledger → Type 0) (clean : K → Type 0) (old new : L) (given : Given) (name : List ℕ) (want : Want) where
@@ -20,6 +33,18 @@ module _ {K L : Type 0} (part : L → K) (holds may_leave : K → Ledger → Typ
           )
     ],
   )
+
+-- a failed read is told as that, and nothing else is
+pub a_reader_failed : (told : KeepFault) (put : Result Unit NotPut) → answer_of told put ≡ Err Reader → put ≡ Err (Source source.Read)
+a_reader_failed told (Ok done) e = absurd cc
+a_reader_failed told (Err (Source source.Read)) e = refl
+a_reader_failed told (Err (Source source.TooLarge)) e = absurd cc
+a_reader_failed told (Err (Misfit other.Length)) e = absurd cc
+a_reader_failed told (Err (Misfit (other.Digest alg))) e = absurd cc
+a_reader_failed told (Err (Store error)) e = absurd cc
+
+pub told_a_reader : (told : KeepFault) (put : Result Unit NotPut) → put ≡ Err (Source source.Read) → answer_of told put ≡ Err Reader
+told_a_reader told put e = rw e refl
 
 -- THE SAME FOR OCTETS IN MEMORY
 

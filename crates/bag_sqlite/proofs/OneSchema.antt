@@ -1,5 +1,5 @@
 -- Trees list at most one schema.
-use Rattle.std.proofs.Common.{◌≡◌, ◌+◌, ℕ, List, [], ◌∷◌, Some, false, filter, pos, slice_get, true, refl, sym, ap, subst, ◌∙◌, arith}
+use Rattle.std.proofs.Common.{◌≡◌, ◌+◌, ℕ, List, [], ◌∷◌, false, filter, pos, slice_get, true, refl, sym, ap, subst, ◌∙◌, arith}
 use Rattle.std.specs.List.{AllZip}
 use Rattle.sqlite_catalog.proofs.AlterLemmas.{numbers_differ}
 use Rattle.sqlite_catalog.proofs.StepLemmas.{named_once, same_itself}

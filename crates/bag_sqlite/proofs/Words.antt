@@ -41,7 +41,7 @@ pub use Rattle.bag_rules.specs.declared.plan.Plan.{Plan}
 pub use Rattle.bag_rules.specs.declared.want.Want.{Want}
 pub use Rattle.bag_rules.specs.declared.want.WantFault.{WantFault}
 pub use Rattle.bag_sqlite.specs.Adopting.{count_text, file_in, files_in, format_text, HasFormat, HasPieces, IsRead, ItemPasses, items_text, OnlyReads, piece_text, RowPasses, Stands, stray_texts, tag_files_text, Tells, TellsOne, TransferPasses, transfers_text}
-pub use Rattle.bag_sqlite.specs.Batches.{AreCovered, AreWanted, Covers, HasMisfit, HasOneMore, IsEmpty, IsFindingOf, TakesAlso, Took}
+pub use Rattle.bag_sqlite.specs.Batches.{AreCovered, AreWanted, Covers, HasMisfit, HasOneMore, IsEmpty, IsFindingOf, IsHeld, TakesAlso, Took}
 pub use Rattle.bag_sqlite.specs.Contents.{HasContentMore, HasRead, in_pieces}
 pub use Rattle.bag_sqlite.specs.Databases.{AreApart, AreCut, AreTablesOf, format_row, held_rows, IsInOrder, IsLedgerDatabase, items_in, ListLedger, NumberedItem, NumberedTransfer, piece_rows, size_of, tag_rows, transfer_row, without_number, without_rowids}
 pub use Rattle.bag_sqlite.specs.Items.{HasItem, HasItemRow, HasPieceRow}

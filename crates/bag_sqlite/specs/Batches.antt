@@ -1,11 +1,12 @@
 -- Payload files that are read, and tested later, when the digests of several are taken together. Only private functions cite these.
-use Rattle.std.specs.Prelude.{◌≡◌, ◌++◌, ◌∷◌, ◌⊎◌, [], ℕ, ℤ, true, List, Vec}
+use Rattle.std.specs.Prelude.{◌≡◌, ◌++◌, ◌∷◌, ◌⊎◌, ◌<◌, ◌≤◌, [], ℕ, ℤ, true, List, Vec, length}
 use Rattle.std.specs.List.{AllByRecursion}
 use Rattle.std.specs.declared.alloc.Global.{Global}
 use Rattle.bag_digest.specs.Algorithm.{has}
 use Rattle.bag_digest.specs.Hash.{Holds}
 use Rattle.bag_digest.specs.declared.algorithm.Alg.{Alg}
 use Rattle.bag_digest.specs.declared.algorithm.AlgSet.{AlgSet}
+use Rattle.bag_digest.specs.declared.reading.TheConstants.{PIECE}
 use Rattle.bag_rules.specs.Files.{Files}
 use Rattle.bag_rules.specs.Wants.{IsWanted, lists_by}
 use Rattle.bag_rules.specs.declared.want.Want.{Want}
@@ -23,6 +24,11 @@ use Rattle.bag_sqlite.specs.declared.verifying.Finding.TheVariants.{Valid, Damag
 abbrev pub Took : Content → AlgSet → List ℕ → Type 0
 Took (Whole whole) set octets = whole.items ≡ octets
 Took (Hashed multi) set octets = Holds multi set octets
+
+-- It is held whole exactly if it has at most one piece: then all octets that were taken are held, and otherwise none.
+abbrev pub IsHeld : Content → ℕ → ℕ → Type 0
+IsHeld (Whole whole) size taken = (size ≤ PIECE) × (length whole.items ≡ taken)
+IsHeld (Hashed multi) size taken = PIECE < size
 
 -- these octets are taken after those that were taken before
 abbrev pub TakesAlso : Content → Content → List ℕ → Type 0
@@ -62,6 +68,12 @@ HasMisfit (want ∷ wants) [] path = ⊥
 HasMisfit (want ∷ wants) (content ∷ contents) path =
     ((¬ IsWanted want content.items) × (want.path.now ≡ path))
     ⊎ (IsWanted want content.items × HasMisfit wants contents path)
+
+-- the content that is still to be tested has at most one piece
+abbrev pub HoldsLittle : Finding → Type 0
+HoldsLittle Valid = Unit {0}
+HoldsLittle Damaged = Unit {0}
+HoldsLittle (Untested want content) = length content.items ≤ PIECE
 
 module _ {S : Type 0} (g : Ghosts S) (db : Database) where
   -- the payload file is valid, or it isn't; or it is exactly if this is the content that is wanted

@@ -1,6 +1,8 @@
 -- Why a database isn't opened as a ledger: what its queries show that those of a ledger don't.
 use Rattle.std.specs.Prelude.{◌≡◌, ◌≢◌, ◌⊎◌, ◌<◌, ◌≤◌, ◌-◌, ℕ, ℤ, min, pos, List, [], ◌∷◌, Some, IsUtf8, codes, length, slice_get, string_bytes, take}
 use Rattle.std.specs.List.{AllByRecursion, concat}
+use Rattle.std.specs.declared.io.ErrorKind.{ErrorKind}
+use Rattle.std.specs.declared.io.ErrorKind.TheVariants as kind
 use Rattle.bag_digest.specs.declared.reading.TheConstants.{PIECE}
 use Rattle.bag_ledger.specs.declared.fault.KeepFault.{KeepFault}
 use Rattle.bag_ledger.specs.declared.fault.KeepFault.TheVariants.{Memory, Store}
@@ -45,6 +47,11 @@ adopt_fault InvalidQuery = Keep (Store Refused)
 adopt_fault MultipleStatement = Keep (Store Refused)
 adopt_fault QueryReturnedNoRows = Keep (Store Refused)
 adopt_fault error = NotALedger
+
+-- the same for an error of the operating system
+abbrev pub system_fault : ErrorKind → KeepFault
+system_fault kind.OutOfMemory = Memory
+system_fault _ = Store Refused
 
 -- memory ran out, or the store failed
 abbrev pub IsNoAnswer : AdoptFault → Type 0
@@ -278,8 +285,8 @@ module _ {S : Type 0} (g : Ghosts S) (db : Database) where
   HasNoFormat = DoesNotShow format_text [] (MayShow the_format)
 
   -- Why it isn't opened. The format is looked at first: if it is no ledger for another reason, or
-  -- damaged, it has format 2. If it is damaged, it has no row without an owner. Nothing is said here
-  -- about memory and the store.
+  -- damaged, it has format 2. If it is damaged, it has no row without an owner. Nothing is said
+  -- here about memory and the store.
   abbrev pub RefusesToAdopt : AdoptFault → Type 0
   RefusesToAdopt NotALedger = HasNoFormat ⊎ (HasFormat g db (pos 2) × IsNoLedger)
   RefusesToAdopt OldFormat = HasFormat g db (pos 1)

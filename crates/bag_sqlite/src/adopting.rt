@@ -68,9 +68,12 @@ impl From<Error> for AdoptFault {
 }
 
 impl From<io::Error> for AdoptFault {
-    ghost use Rattle.bag_sqlite.specs.Refusing.{IsNoAnswer};
+    ghost use Rattle.std.specs.IoError.{error_kind};
+    ghost use Rattle.std.specs.Prelude.{◌≡◌};
+    ghost use Rattle.bag_sqlite.specs.Refusing.{system_fault};
+    ghost use Rattle.bag_sqlite.specs.declared.adopting.AdoptFault.TheVariants.{Keep};
 
-    ghost from_gives = { λ _ fault. IsNoAnswer fault };
+    ghost from_gives = { λ error fault. fault ≡ Keep (system_fault (error_kind error)) };
 
     fn from(error: io::Error) -> AdoptFault {
         match error.kind() {

@@ -1,5 +1,7 @@
 //! Payload files that are read one after another, so that their digests can be taken side by side.
-ghost use Rattle.std.specs.Prelude.{◌≡◌, ◌++◌, ◌∷◌, [], IfOk, MatchOption, OnOk, string_bytes, vec_len};
+ghost use Rattle.std.specs.Prelude.{◌≡◌, ◌<◌, ◌≤◌, ◌++◌, ◌∷◌, [], All, IfOk, MatchOption, OnOk, false, length, string_bytes, vec_len};
+ghost use Rattle.bag_digest.specs.declared.reading.TheConstants.{PIECE};
+ghost use Rattle.bag_sqlite.specs.declared.batch.TheConstants.{MOST_FILES};
 
 use bag_digest::{AlgSet, digest_each};
 use bag_rules::Want;
@@ -18,6 +20,8 @@ pub(crate) struct Batch<'a> {
     /// The algorithms by which their paths are listed.
     set: AlgSet,
     ghost paired: { vec_len wants ≡ vec_len contents },
+    ghost few: { vec_len contents ≤ MOST_FILES },
+    ghost small: { All (λ content. length content.items ≤ PIECE) contents.items },
 }
 
 impl<'a> Batch<'a> {
@@ -35,12 +39,16 @@ impl<'a> Batch<'a> {
     }
 
     /// Whether it has as many files as it may have.
-    pub(crate) fn is_full(&self) -> bool {
+    pub(crate) fn is_full(&self) -> bool
+        ensures { result ≡ false → vec_len self.now.contents < MOST_FILES }
+    {
         self.wants.len() >= MOST_FILES
     }
 
     /// The same files and one more.
     pub(crate) fn add(self, want: Want<'a>, content: Vec<u8>) -> Result<Batch<'a>, AllocError>
+        requires room { vec_len self.contents < MOST_FILES }
+        requires small { length content.items ≤ PIECE }
         ensures { IfOk result (HasOneMore want.entry content self.entry) }
     {
         let Batch {

@@ -1,5 +1,5 @@
 //! The content of a payload file while it is read.
-ghost use Rattle.std.specs.Prelude.{◌≡◌, [], OnOk};
+ghost use Rattle.std.specs.Prelude.{◌≡◌, ◌+◌, ℕ, [], OnOk, length};
 
 use bag_digest::{AlgSet, Multi, PIECE};
 use std::alloc::{AllocError, Global};
@@ -14,11 +14,12 @@ pub(crate) enum Content {
 }
 
 impl Content {
-    ghost use Rattle.bag_sqlite.specs.Batches.{Took, TakesAlso};
+    ghost use Rattle.bag_sqlite.specs.Batches.{IsHeld, Took, TakesAlso};
 
     /// Nothing yet of a payload file of this size, which is to be hashed by the algorithms of the set.
     pub(crate) fn none(alloc: Global, size: u64, set: AlgSet) -> Content
-        ensures { Took result set [] }
+        ensures taken { Took result set [] }
+        ensures held { IsHeld result size 0 }
     {
         if size <= PIECE as u64 {
             return Content::Whole(Vec::new(alloc));
@@ -28,7 +29,9 @@ impl Content {
 
     /// Takes the next piece, which follows the earlier ones.
     pub(crate) fn take(&mut self, piece: &[u8]) -> Result<(), AllocError>
-        ensures { OnOk result (TakesAlso self.old self.new piece.now) }
+        ensures taken { OnOk result (TakesAlso self.old self.new piece.now) }
+        ensures held { OnOk result ((size taken : ℕ) → IsHeld self.old size taken
+            → IsHeld self.new size (taken + length piece.now)) }
     {
         match self {
             Content::Whole(octets) => octets.extend_from_slice(piece)?,

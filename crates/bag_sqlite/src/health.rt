@@ -1,24 +1,27 @@
-//! Whether a store has failed, and how many failures were reported.
-ghost use Rattle.std.specs.Prelude.{◌≡◌, ◌↔◌, IsErr, IsErrOf, IsTrue, OnOk, false};
+//! Whether a store has failed, why, and how many failures were reported.
+ghost use Rattle.std.specs.Prelude.{◌≡◌, ◌≢◌, ◌↔◌, Err, IfErr, IsErr, IsErrOf, IsTrue, MatchResult, Ok, OnOk, Some, false};
 ghost use Rattle.bag_digest.specs.Device.{Rises};
 ghost use Rattle.bag_ledger.specs.Keeping.{UsesStore};
 ghost use Rattle.bag_ledger.specs.declared.fault.KeepFault.{KeepFault};
 ghost use Rattle.bag_ledger.specs.declared.fault.KeepFault.TheVariants.{Memory, Store};
 ghost use Rattle.bag_ledger.specs.declared.fault.PutFault.TheVariants.{Keep};
 ghost use Rattle.bag_ledger.specs.declared.fault.StoreFault.TheVariants.{Spent};
-ghost use Rattle.bag_sqlite.specs.Contents.{put_fault_of};
+ghost use Rattle.bag_sqlite.specs.Contents.{answer_of, put_fault_of};
 ghost use Rattle.bag_sqlite.specs.declared.health.Health.{Health};
+ghost use Rattle.sqlite.specs.declared.error.Error.{Error as SqlError};
 
 use crate::putting::NotPut;
 use bag_digest::ReadFault;
 use bag_ledger::{KeepFault, PutFault, StoreFault};
 use sqlite::{Error, ErrorCode};
 
-/// Whether the store has failed, and how many failures were reported. The count saturates at 2^64 - 1.
+/// Whether the store has failed, why, and how many failures were reported. The count saturates at 2^64 - 1.
 #[derive(Drop)]
 pub(crate) struct Health {
     is_spent: bool,
     failures: u64,
+    // the error of the store, if it has failed with one
+    trouble: Option<Error>,
 }
 
 impl Health {
@@ -30,6 +33,7 @@ impl Health {
         Health {
             is_spent: false,
             failures: 0,
+            trouble: None,
         }
     }
 
@@ -47,20 +51,57 @@ impl Health {
         Err(KeepFault::Store(self.fail()))
     }
 
+    /// The keeper's answer where its store gave this result.
+    pub(crate) fn answer<T: Drop>(&mut self, stored: Result<T, Error>) -> Result<T, KeepFault>
+        requires { self.old.is_spent ≡ false }
+        ensures told { MatchResult result (λ value. stored ≡ Ok value)
+            (λ fault. (error : SqlError) × (stored ≡ Err error)
+            × ((fault ≡ Memory) ↔ (error ≡ Error.SqliteFailure ErrorCode.OutOfMemory))) }
+        ensures trouble { IfErr result (λ fault. fault ≢ Memory
+            → (error : SqlError) × (stored ≡ Err error) × (self.new.trouble ≡ Some error)) }
+        ensures store { UsesStore (λ (health : Health). health.failures)
+            (λ (health : Health). IsTrue health.is_spent) self.old self.new
+            (λ fault. IsErrOf result (Store fault)) }
+    {
+        match stored {
+            Ok(value) => Ok(value),
+            Err(error) => Err(self.told(&error)),
+        }
+    }
+
+    /// The keeper's answer where this came of a payload file.
+    pub(crate) fn put_answer(&mut self, put: Result<(), NotPut>) -> Result<(), PutFault>
+        requires { self.old.is_spent ≡ false }
+        ensures told { (fault : KeepFault) × (result ≡ answer_of fault put) }
+        ensures memory { IsErrOf result (Keep Memory)
+            ↔ IsErrOf put (NotPut.Store (Error.SqliteFailure ErrorCode.OutOfMemory)) }
+        ensures store { UsesStore (λ (health : Health). health.failures)
+            (λ (health : Health). IsTrue health.is_spent) self.old self.new
+            (λ fault. IsErrOf result (Keep (Store fault))) }
+    {
+        match put {
+            Ok(()) => Ok(()),
+            Err(refusal) => Err(self.told_of(&refusal)),
+        }
+    }
+
     /// The fault to report for an error of the store. Every error except out of memory counts as a failure of the
     /// store.
-    pub(crate) fn told(&mut self, error: &Error) -> KeepFault
+    fn told(&mut self, error: &Error) -> KeepFault
         requires { self.old.is_spent ≡ false }
         ensures memory { (result ≡ Memory)
             ↔ (error.now ≡ Error.SqliteFailure ErrorCode.OutOfMemory) }
         ensures store { UsesStore (λ (health : Health). health.failures)
             (λ (health : Health). IsTrue health.is_spent) self.old self.new
             (λ fault. result ≡ Store fault) }
+        ensures trouble { result ≢ Memory → self.new.trouble ≡ Some error.now }
     {
         if matches!(error, Error::SqliteFailure(ErrorCode::OutOfMemory)) {
             return KeepFault::Memory;
         }
-        KeepFault::Store(self.fail())
+        let fault = self.fail();
+        self.trouble = Some(*error);
+        KeepFault::Store(fault)
     }
 
     /// Counts a failure of the store, and returns it.
@@ -79,7 +120,7 @@ impl Health {
     }
 
     /// The fault to report for a payload file that isn't stored.
-    pub(crate) fn told_of(&mut self, refusal: &NotPut) -> PutFault
+    fn told_of(&mut self, refusal: &NotPut) -> PutFault
         requires { self.old.is_spent ≡ false }
         ensures told { (fault : KeepFault) × (result ≡ put_fault_of fault refusal.now) }
         ensures memory { (result ≡ Keep Memory)
@@ -93,6 +134,13 @@ impl Health {
             NotPut::Misfit(fault) => PutFault::from(*fault),
             NotPut::Store(error) => PutFault::Keep(self.told(error)),
         }
+    }
+
+    /// The error of the store, if it has failed with one.
+    pub(crate) fn trouble(&self) -> Option<Error>
+        ensures { result ≡ self.now.trouble }
+    {
+        self.trouble
     }
 
     /// How many failures were reported.

@@ -1,5 +1,5 @@
 //! A keeper in a database.
-ghost use Rattle.std.specs.Prelude.{◌≡◌, [], IfErr, IfOk, IsErrOf, IsTrue, MatchResult, false, map, string_bytes};
+ghost use Rattle.std.specs.Prelude.{◌≡◌, ◌≢◌, [], IfErr, IfOk, IsErrOf, IsTrue, MatchResult, false, map, string_bytes};
 ghost use Rattle.std.specs.Map.{keys_of};
 ghost use Rattle.bag_ledger.specs.Keeping.{Reads, UsesStore};
 ghost use Rattle.bag_ledger.specs.Ledgers.{Ledger};
@@ -7,6 +7,7 @@ ghost use Rattle.bag_sqlite.specs.Making.{IsLeft, MakesLedger};
 ghost use Rattle.bag_sqlite.specs.SqlKeepers.{HoldsLedger, KeepsAlone, MayLeaveLedger};
 ghost use Rattle.bag_sqlite.specs.Tables.{no_schema};
 ghost use Rattle.bag_ledger.specs.declared.fault.KeepFault.TheVariants.{Store};
+ghost use Rattle.bag_ledger.specs.declared.fault.StoreFault.TheVariants.{Spent};
 ghost use Rattle.bag_sqlite.specs.declared.health.Health.{Health};
 ghost use Rattle.sqlite.specs.Held.{Held, state};
 ghost use Rattle.sqlite.specs.State.{HasCleanDisk, Survives};
@@ -21,7 +22,7 @@ use bag_digest::{Source, piece_buffer};
 use bag_ledger::{KeepFault, Keeper, PutFault};
 use bag_path::BagPath;
 use bag_rules::{ItemSize, TagSet, Want};
-use sqlite::{Alter, Connection};
+use sqlite::{Alter, Connection, Error};
 use std::alloc::Global;
 
 /// Transfers in a database, in ledger format 2.
@@ -40,6 +41,8 @@ pub struct NotCreated<S: Alter> {
     /// `Memory`, or `Store(Refused)`: a transaction was open, a table already has the name of one of the ledger's
     /// tables, or the store failed.
     pub fault: KeepFault,
+    /// The error of the store, if it has failed.
+    pub trouble: Option<Error>,
     /// The connection that was passed in.
     pub connection: Connection<S>,
 }
@@ -57,8 +60,8 @@ impl<S: Alter> SqlKeeper<S> {
         ensures opened { IfOk result (λ keeper. HasCleanDisk (state S.Store keeper.connection)
             → (state S.Store connection).now.schema ≡ no_schema
             → IsTrue (state S.Store keeper.connection).is_open) }
-        ensures unfailed { IfOk result (λ keeper. (keeper.health.is_spent ≡ false)
-            × (keeper.health.failures ≡ 0)) }
+        ensures unfailed { MatchResult result (λ keeper. (keeper.health.is_spent ≡ false)
+            × (keeper.health.failures ≡ 0)) (λ refused. refused.fault ≢ Store Spent) }
         ensures handed_back { IfErr result (λ refused.
             HasCleanDisk (state S.Store refused.connection)
             → IsLeft (state S.Store connection) (state S.Store refused.connection)) }
@@ -70,13 +73,21 @@ impl<S: Alter> SqlKeeper<S> {
     {
         let mut connection = connection;
         let mut health = Health::new();
-        match make_ledger(&mut connection) {
+        match health.answer(make_ledger(&mut connection)) {
             Ok(()) => Ok(SqlKeeper { connection, health }),
-            Err(error) => Err(NotCreated {
-                fault: health.told(&error),
+            Err(fault) => Err(NotCreated {
+                fault,
+                trouble: health.trouble(),
                 connection,
             }),
         }
+    }
+
+    /// The error with which the store has failed. `None` if it hasn't failed, or only gave what no clean store gives.
+    pub fn trouble(&self) -> Option<Error>
+        ensures { result ≡ self.now.health.trouble }
+    {
+        self.health.trouble()
     }
 
     /// Returns the connection. Its database is unchanged.
@@ -108,18 +119,14 @@ impl<S: Alter> Keeper for SqlKeeper<S> {
 
     fn begin(&mut self, _alloc: Global, name: &str, tags: &TagSet) -> Result<(), KeepFault> {
         self.health.test()?;
-        match begin_transfer(&mut self.connection, name, tags) {
-            Ok(()) => Ok(()),
-            Err(error) => Err(self.health.told(&error)),
-        }
+        self.health
+            .answer(begin_transfer(&mut self.connection, name, tags))
     }
 
     fn tags(&mut self, alloc: Global, name: &str) -> Result<Option<TagSet>, KeepFault> {
         self.health.test()?;
-        match transfers::tags(alloc, &mut self.connection, name) {
-            Ok(tags) => Ok(tags),
-            Err(error) => Err(self.health.told(&error)),
-        }
+        self.health
+            .answer(transfers::tags(alloc, &mut self.connection, name))
     }
 
     fn size_of(
@@ -129,18 +136,14 @@ impl<S: Alter> Keeper for SqlKeeper<S> {
         path: &BagPath,
     ) -> Result<Option<u64>, KeepFault> {
         self.health.test()?;
-        match items::size_of(&mut self.connection, name, path.as_str()) {
-            Ok(size) => Ok(size),
-            Err(error) => Err(self.health.told(&error)),
-        }
+        self.health
+            .answer(items::size_of(&mut self.connection, name, path.as_str()))
     }
 
     fn sizes(&mut self, alloc: Global, name: &str) -> Result<Vec<ItemSize>, KeepFault> {
         self.health.test()?;
-        match transfers::sizes(alloc, &mut self.connection, name) {
-            Ok(sizes) => Ok(sizes),
-            Err(error) => Err(self.health.told(&error)),
-        }
+        self.health
+            .answer(transfers::sizes(alloc, &mut self.connection, name))
     }
 
     fn put(
@@ -163,16 +166,13 @@ impl<S: Alter> Keeper for SqlKeeper<S> {
     ) -> Result<(), PutFault> {
         self.health.test()?;
         let mut buffer = piece_buffer(alloc)?;
-        match put_content(
+        self.health.put_answer(put_content(
             &mut self.connection,
             name,
             want,
             buffer.as_mut_slice(),
             reader,
-        ) {
-            Ok(()) => Ok(()),
-            Err(refusal) => Err(self.health.told_of(&refusal)),
-        }
+        ))
     }
 
     fn read_piece(
@@ -184,18 +184,19 @@ impl<S: Alter> Keeper for SqlKeeper<S> {
         buf: &mut [u8],
     ) -> Result<usize, KeepFault> {
         self.health.test()?;
-        match items::read_piece(&mut self.connection, name, path.as_str(), offset, buf) {
-            Ok(n) => Ok(n),
-            Err(error) => Err(self.health.told(&error)),
-        }
+        self.health.answer(items::read_piece(
+            &mut self.connection,
+            name,
+            path.as_str(),
+            offset,
+            buf,
+        ))
     }
 
     fn names(&mut self, alloc: Global) -> Result<Vec<String>, KeepFault> {
         self.health.test()?;
-        match reading::names(alloc, &mut self.connection) {
-            Ok(names) => Ok(names),
-            Err(error) => Err(self.health.told(&error)),
-        }
+        self.health
+            .answer(reading::names(alloc, &mut self.connection))
     }
 
     /// Counts as any other failure of the store.

@@ -1,11 +1,11 @@
 //! Reads and verifies the transfers of a database, each payload file piece by piece.
-ghost use Rattle.std.specs.Prelude.{◌≡◌, ◌≤◌, ◌⊎◌, ◌↔◌, ℕ, ℤ, pos, List, [], ◌∷◌, Err, IfErr, IfNone, IfOk, IfSome, IsTrue, MatchOption, MatchResult, OnOk, Ok, false, length, string_bytes};
+ghost use Rattle.std.specs.Prelude.{◌≡◌, ◌≤◌, ◌+◌, ◌⊎◌, ◌↔◌, ℕ, ℤ, pos, List, [], ◌∷◌, Err, IfErr, IfNone, IfOk, IfSome, IsTrue, MatchOption, MatchResult, OnOk, Ok, false, length, string_bytes};
 ghost use Rattle.std.specs.List.{AllByRecursion, concat};
 ghost use Rattle.bag_rules.specs.Files.{Files};
 ghost use Rattle.bag_rules.specs.Plans.{IsPlanOf};
 ghost use Rattle.bag_rules.specs.declared.limits.TheConstants.{LARGEST_ITEM as LARGEST};
 ghost use Rattle.bag_sqlite.specs.Adopting.{HasPieces, ItemPasses, OnlyReads, RowPasses, Stands, Tells, TellsOne, TransferPasses, TransfersPass, count_text, files_in, items_text, piece_text, tag_files_text, transfers_text};
-ghost use Rattle.bag_sqlite.specs.Batches.{Took, IsFindingOf, TakesAlso};
+ghost use Rattle.bag_sqlite.specs.Batches.{HoldsLittle, IsFindingOf, IsHeld, TakesAlso, Took};
 ghost use Rattle.bag_sqlite.specs.Refusing.{AreTags, DoNotOpen, HasDamagedItem, HasMorePieces, IsBlob, IsNoLedger, IsNoneFor, IsSize, ItemFails, LacksPiece, OpensNone, RefusesTransfer, RefusesTransfers, ShowsOctets, adopt_fault};
 ghost use Rattle.sqlite.specs.Effect.{Database};
 ghost use Rattle.sqlite.specs.Held.{state};
@@ -255,6 +255,7 @@ fn read_item<'a, S: Alter>(
         → Stands (state S.Store connection.old) db → (tags : Files) → IsPlanOf tags plan.now
         → MatchResult result (IsFindingOf S.Store db tags item path.now size)
         (IsNoneFor (IsNoLedger S.Store db)) }
+    ensures little { IfOk result HoldsLittle }
     ensures reads { OnlyReads S.Store connection.old connection.new }
 {
     let Some(path) = unless_corrupt(path_in(alloc, path))? else {
@@ -297,13 +298,13 @@ fn content_of<S: Alter>(
     size: u64,
     set: AlgSet,
 ) -> Result<Option<Content>, AdoptFault>
-    requires idle { connection.old.in_transaction ≡ false }
-    requires within { size ≤ LARGEST }
+    requires { (connection.old.in_transaction ≡ false) × (size ≤ LARGEST) }
     ensures content { HasCleanDisk (state S.Store connection.new) → (db : Database)
         → Stands (state S.Store connection.old) db
         → IfOk result (λ content. IfSome content (λ content. (pieces : List (List ℕ))
         × HasPieces S.Store db item pieces × (size ≡ length (concat pieces))
         × Took content set (concat pieces))) }
+    ensures held { IfOk result (λ content. IfSome content (λ content. IsHeld content size size)) }
     ensures refused { HasCleanDisk (state S.Store connection.new) → (db : Database)
         → Stands (state S.Store connection.old) db
         → MatchResult result (λ content. IfNone content (LacksPiece S.Store db item size
@@ -347,6 +348,8 @@ fn take_piece<S: Alter>(
         → MatchResult result (λ taken. taken ≡ false → (rows : List Row)
         × Tells S.Store db piece_text (Int item ∷ Int n ∷ []) rows × ¬ ShowsOctets rows octets)
         (IsNoneFor (IsNoLedger S.Store db)) }
+    ensures held { IfOk result (λ taken. IsTrue taken → (size before : ℕ)
+        → IsHeld content.old size before → IsHeld content.new size (before + octets)) }
     ensures reads { OnlyReads S.Store connection.old connection.new }
 {
     let rows = rows_of(

@@ -8,9 +8,11 @@ use Rattle.bag_rules.specs.declared.limits.TheConstants.{LARGEST_FILE, LARGEST_T
 use Rattle.bag_rules.proofs.Words.{AreRising, Files, Holds, Oxum, Shown, cases_Bool, is_payload, keys_of, length-map, nat_cmp, paths_in, slice_cmp}
 use Rattle.bag_rules.proofs.HasLemmas.{has_at}
 use Rattle.bag_writer.specs.Sinks.{Begun, Stored, nothing_stored, with_begun, with_octets, with_payload_dir, without_begun}
-use Rattle.bag_writer.specs.Steps.{ArePart, AreWhole, HasFrontOf, HasNoFile, HasPayloadAlone, IsWritable, with_wholes, written_payload}
+use Rattle.bag_writer.specs.Steps.{ArePart, AreWhole, HasFrontOf, HasNoFile, HasPayloadAlone, IsWritable, NamesLong, with_wholes, written_payload}
 use Rattle.bag_writer.specs.WrittenBags.{IsFileOf, tag_files}
-use Rattle.bag_writer.specs.Writing.{HasLongFile, HasPart, HasWhole, IsAccepted, IsDone, IsReadFrom, IsTooLarge, empty_files, oxum_of, payload_paths}
+use Rattle.bag_writer.specs.Writing.{HasLongFile, HasPart, HasWhole, IsAccepted, IsDone, IsLarge, IsReadFrom, IsTooLarge, empty_files, oxum_of, payload_paths}
+use Rattle.bag_writer.specs.declared.fault.Large.{Large}
+use Rattle.bag_writer.specs.declared.fault.Large.TheVariants as large
 use Rattle.bag_writer.specs.declared.fault.WriteFault.{WriteFault}
 use Rattle.bag_writer.specs.declared.fault.WriteFault.TheVariants.{TooLarge}
 use Rattle.bag_writer.specs.declared.spec.Spec.{Spec}
@@ -109,13 +111,13 @@ module _ (shown : Shown) (spec : Spec) where
   written_alone payload read mid new whole none = payload_alone (written_payload spec payload) mid new whole (written_are spec payload (paths_are shown payload read)) none
 
   -- nothing was written
-  pub unwritten_done : (known : Option Stored) (fault : WriteFault) → (fault ≡ TooLarge → IsTooLarge spec (empty_files (payload_paths shown)))
+  pub unwritten_done : (known : Option Stored) (fault : WriteFault) → ((what : Large) → fault ≡ TooLarge what → IsLarge spec (empty_files (payload_paths shown)) what)
       → (payload : Files) × IsDone shown spec (Err fault) known known payload
-  unwritten_done known fault large = let some = some_payload shown in (
+  unwritten_done known fault told = let some = some_payload shown in (
     some.0,
     record {
       read = some.1;
-      answers = λ e. filled_large spec some.0 (payload_paths shown) some.1.paths (large e);
+      answers = λ what e. filled_large spec some.0 (payload_paths shown) some.1.paths what (told what e);
       stores = λ nothing. (nothing_stored, nothing, part_nothing spec some.0);
     },
   )
@@ -130,11 +132,11 @@ module _ (shown : Shown) (spec : Spec) where
     partly : (new : Option Stored) → ArePart all_of mid new → (old ≡ Some nothing_stored) → (stored : Stored) × (new ≡ Some stored) × HasPart spec payload stored
     partly new part nothing = part_done spec payload (paths_rise shown payload rising read) (paths_are shown payload read) new (subst (λ s. ArePart all_of s new) (at_first nothing) part)
 
-    pub payload_failed : (new : Option Stored) (fault : WriteFault) → (fault ≡ TooLarge → HasLongFile payload LARGEST_FILE) → ArePart (written_payload spec payload) mid new
+    pub payload_failed : (new : Option Stored) (fault : WriteFault) → NamesLong large.File payload LARGEST_FILE fault → ArePart (written_payload spec payload) mid new
         → IsDone shown spec (Err fault) old new payload
     payload_failed new fault long part = record {
       read = read;
-      answers = λ e. inr (inl (long e));
+      answers = λ what e. let it = long what e in subst (IsLarge spec payload) (sym it.1) it.2;
       stores = partly new (part_more (written_payload spec payload) (tag_files spec payload) mid new part);
     }
 
@@ -148,19 +150,21 @@ module _ (shown : Shown) (spec : Spec) where
         short = short;
       }
 
+      none_large : ¬ HasLongFile (tag_files spec payload) LARGEST_TAG_FILE → ¬ IsTooLarge spec payload
+      none_large tags (large.Payload, many) = omega (arith, many, writable.few)
+      none_large tags (large.File path, long) = short (path, long)
+      none_large tags (large.TagFile path, long) = tags (path, long)
+
       module _ (next new : Option Stored) (whole : AreWhole (written_payload spec payload) mid next) where
         pub tags_done : (result : Result Oxum WriteFault) → MatchResult result
             (λ oxum. (oxum ≡ oxum_of payload) × (¬ HasLongFile (tag_files spec payload) LARGEST_TAG_FILE) × AreWhole (tag_files spec payload) next new)
-            (λ fault. (fault ≡ TooLarge → HasLongFile (tag_files spec payload) LARGEST_TAG_FILE) × ArePart (tag_files spec payload) next new)
+            (λ fault. NamesLong large.TagFile (tag_files spec payload) LARGEST_TAG_FILE fault × ArePart (tag_files spec payload) next new)
             → IsDone shown spec result old new payload
         tags_done (Ok oxum) told = record {
           read = read;
           answers = (
             told.0,
-            λ large. elim large [
-              | inl many ↦ omega (arith, many, writable.few)
-              | inr file ↦ elim file [ inl long ↦ short long | inr tag ↦ told.1 tag ]
-            ],
+            none_large told.1,
           );
           stores = λ nothing. (
             with_wholes all_of opened,
@@ -170,6 +174,6 @@ module _ (shown : Shown) (spec : Spec) where
         }
         tags_done (Err fault) told = record {
           read = read;
-          answers = λ e. inr (inr (told.0 e));
+          answers = λ what e. let it = told.0 what e in subst (IsLarge spec payload) (sym it.1) it.2;
           stores = partly new (part_after (written_payload spec payload) (tag_files spec payload) mid next new whole told.1);
         }

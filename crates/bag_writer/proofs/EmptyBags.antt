@@ -3,7 +3,7 @@ use Rattle.std.proofs.Common.{◌≡◌, ◌∙◌, ◌⊎◌, ◌<◌, ◌≤�
 use Rattle.std.proofs.lemmas.List.Sums.{sum_by-cons}
 use Rattle.std.specs.List.{sum_by}
 use Rattle.bag_rules.proofs.HasLemmas.{has_from_map}
-use Rattle.bag_rules.proofs.Words.{Alg, FetchList, Files, Kind, Md5, Payload, Sha1, Sha256, Sha512, Tag, declaration_file, has, keys_of, length-map, manifest_file, text_file, written_declaration}
+use Rattle.bag_rules.proofs.Words.{Alg, FetchList, Files, Info, Kind, Md5, Payload, Sha1, Sha256, Sha512, Tag, declaration_file, has, keys_of, length-map, manifest_file, text_file, written_declaration}
 use Rattle.bag_rules.specs.Bags.{octet_count}
 use Rattle.bag_rules.specs.declared.limits.TheConstants.{LARGEST_FILE, LARGEST_TAG_FILE, MOST_LINES}
 use Rattle.bag_tags.specs.ManifestWriting.{written_manifest}
@@ -11,7 +11,9 @@ use Rattle.bag_writer.proofs.MeasuredTags.{empty_fetched, empty_keys, fetched_gr
 use Rattle.bag_writer.proofs.TagCases.{TagCase, a_manifest, fetch_octets, files_in, has_declaration, has_fetch, has_info, has_left, has_manifest, listed_tag, tag_case, the_declaration, the_fetch, the_info}
 use Rattle.bag_writer.proofs.TagNames.{chosen, listed_names, listed_of, which_listed}
 use Rattle.bag_writer.specs.WrittenBags.{fetch_files, info_file, listed_tags, manifest_of, pairs_by, tag_files}
-use Rattle.bag_writer.specs.Writing.{HasLongFile, IsTooLarge, empty_files}
+use Rattle.bag_writer.specs.Writing.{HasLongFile, IsLarge, IsLongIn, IsTooLarge, empty_files}
+use Rattle.bag_writer.specs.declared.fault.Large.{Large}
+use Rattle.bag_writer.specs.declared.fault.Large.TheVariants as large
 use Rattle.bag_writer.specs.declared.spec.Hole.{Hole}
 use Rattle.bag_writer.specs.declared.spec.Spec.{Spec}
 
@@ -40,9 +42,12 @@ all_lines Sha512 = let all : lines Sha512 listed_of ≡ 1018 = refl in omega (ar
 
 -- FETCH.TXT
 
+fetch_named : (paths : List (List ℕ)) (holes : List Hole) → LARGEST_TAG_FILE < sum_by hole_line holes → IsLongIn (fetch_files (empty_files paths) holes) LARGEST_TAG_FILE (text_file FetchList)
+fetch_named paths [] less = absurd (omega (arith, less))
+fetch_named paths (hole ∷ holes) less = (fetch_octets (empty_files paths) (hole ∷ holes), inl refl, omega (arith, less, empty_fetched paths (hole ∷ holes)))
+
 pub fetch_long : (paths : List (List ℕ)) (holes : List Hole) → LARGEST_TAG_FILE < sum_by hole_line holes → HasLongFile (fetch_files (empty_files paths) holes) LARGEST_TAG_FILE
-fetch_long paths [] less = absurd (omega (arith, less))
-fetch_long paths (hole ∷ holes) less = (text_file FetchList, (fetch_octets (empty_files paths) (hole ∷ holes), inl refl, omega (arith, less, empty_fetched paths (hole ∷ holes))))
+fetch_long paths holes less = (text_file FetchList, fetch_named paths holes less)
 
 pub long_fetch : (paths : List (List ℕ)) (holes : List Hole) → HasLongFile (fetch_files (empty_files paths) holes) LARGEST_TAG_FILE → LARGEST_TAG_FILE < sum_by hole_line holes
 long_fetch paths [] (path, (octets, has, less)) = absurd has
@@ -83,23 +88,32 @@ module _ (spec : Spec) (paths : List (List ℕ)) where
       omega (arith, less, none)
 
   large_part : IsTooLarge spec (empty_files paths) → (MOST_LINES < length paths) ⊎ HasLongPart
-  large_part (inl many) = inl (omega (arith, many, as_many (empty_files paths) paths (empty_keys paths)))
-  large_part (inr (inl item)) = absurd (no_long_item item)
-  large_part (inr (inr (path, (octets, h, less)))) = inr (long_part path octets (tag_case spec (empty_files paths) path octets h) less)
+  large_part (large.Payload, many) = inl (omega (arith, many, as_many (empty_files paths) paths (empty_keys paths)))
+  large_part (large.File path, item) = absurd (no_long_item (path, item))
+  large_part (large.TagFile path, (octets, h, less)) = inr (long_part path octets (tag_case spec (empty_files paths) path octets h) less)
 
-  pub part_large : (MOST_LINES < length paths) ⊎ HasLongPart → IsTooLarge spec (empty_files paths)
-  part_large (inl many) = inl (omega (arith, many, as_many (empty_files paths) paths (empty_keys paths)))
-  part_large (inr (inl info)) = inr (inr ((info_file spec (empty_files paths)).0, ((info_file spec (empty_files paths)).1, listed_tag spec (empty_files paths) _ _ (has_info spec (empty_files paths)), info)))
-  part_large (inr (inr (inl (path, (octets, h, less))))) = inr (inr (path, (octets, listed_tag spec (empty_files paths) path octets (inr (inr (has_left _ _ _ h))), less)))
-  part_large (inr (inr (inr (alg, given, less)))) = inr (inr (manifest_file Payload alg, (written_manifest (pairs_by alg (empty_files paths)), has_manifest spec (empty_files paths) Payload alg given, less)))
+  -- what is too large
+  pub many_large : MOST_LINES < length paths → IsLarge spec (empty_files paths) large.Payload
+  many_large many = omega (arith, many, as_many (empty_files paths) paths (empty_keys paths))
 
-  pub info_alone : IsTooLarge spec (empty_files paths) → ¬ (MOST_LINES < length paths) → ¬ HasLongFile (fetch_files (empty_files paths) spec.holes.items) LARGEST_TAG_FILE
-      → ¬ ((alg : Alg) × (has spec.algs alg ≡ true) × (LARGEST_TAG_FILE < length (manifest_of Payload (empty_files paths) alg).1)) → LARGEST_TAG_FILE < length (info_file spec (empty_files paths)).1
-  info_alone large few no_fetch no_manifest = elim (large_part large) [
-    | inl many ↦ absurd (few many)
+  pub info_large : LARGEST_TAG_FILE < length (info_file spec (empty_files paths)).1 → IsLarge spec (empty_files paths) (large.TagFile (text_file Info))
+  info_large less = ((info_file spec (empty_files paths)).1, listed_tag spec (empty_files paths) _ _ (has_info spec (empty_files paths)), less)
+
+  pub fetch_large : HasLongFile (fetch_files (empty_files paths) spec.holes.items) LARGEST_TAG_FILE → IsLarge spec (empty_files paths) (large.TagFile (text_file FetchList))
+  fetch_large long =
+      let it = fetch_named paths spec.holes.items (long_fetch paths spec.holes.items long) in
+      (it.0, listed_tag spec (empty_files paths) (text_file FetchList) it.0 (inr (inr (has_left _ _ _ it.1))), it.2)
+
+  pub manifest_large : (alg : Alg) → has spec.algs alg ≡ true → LARGEST_TAG_FILE < length (manifest_of Payload (empty_files paths) alg).1 → IsLarge spec (empty_files paths) (large.TagFile (manifest_file Payload alg))
+  manifest_large alg given less = (written_manifest (pairs_by alg (empty_files paths)), has_manifest spec (empty_files paths) Payload alg given, less)
+
+  pub none_large : ¬ (MOST_LINES < length paths) → ((alg : Alg) → has spec.algs alg ≡ true → ¬ (LARGEST_TAG_FILE < length (manifest_of Payload (empty_files paths) alg).1))
+      → ¬ HasLongFile (fetch_files (empty_files paths) spec.holes.items) LARGEST_TAG_FILE → ¬ (LARGEST_TAG_FILE < length (info_file spec (empty_files paths)).1) → ¬ IsTooLarge spec (empty_files paths)
+  none_large few no_manifest no_fetch no_info too_large = elim (large_part too_large) [
+    | inl many ↦ few many
     | inr part ↦ elim part [
-      | inl info ↦ info
-      | inr other ↦ elim other [ inl fetch ↦ absurd (no_fetch fetch) | inr manifest ↦ absurd (no_manifest manifest) ]
+      | inl info ↦ no_info info
+      | inr other ↦ elim other [ inl fetch ↦ no_fetch fetch | inr manifest ↦ no_manifest manifest.0 manifest.1 manifest.2 ]
     ]
   ]
 
@@ -125,33 +139,29 @@ module _ (spec : Spec) (payload : Files) (paths : List (List ℕ)) (same : keys_
       let least = ap (λ (oxum : ℕ × ℕ). info_octets spec.info oxum.0 oxum.1) (λ t. (no_octets paths t, files t)) in
       omega (arith, grows, least)
 
-  filled_long : (path octets : List ℕ) → TagCase spec empty path octets → LARGEST_TAG_FILE < length octets → HasLongFile (tag_files spec payload) LARGEST_TAG_FILE
-  filled_long path octets (the_info is text) less = (
-    (info_file spec payload).0,
-    ((info_file spec payload).1, listed_tag spec payload _ _ (has_info spec payload), omega (arith, less, ap (λ (t : List ℕ). length t) text, info_less)),
+  filled_long : (path octets : List ℕ) → TagCase spec empty path octets → LARGEST_TAG_FILE < length octets → IsLongIn (tag_files spec payload) LARGEST_TAG_FILE path
+  filled_long path octets (the_info is text) less = rw is (
+    (info_file spec payload).1,
+    listed_tag spec payload _ _ (has_info spec payload),
+    omega (arith, less, ap (λ (t : List ℕ). length t) text, info_less),
   )
-  filled_long path octets (the_declaration is text) less = (
-    declaration_file,
-    (written_declaration, listed_tag spec payload _ _ (has_declaration spec payload), subst (λ t. LARGEST_TAG_FILE < length t) text less),
+  filled_long path octets (the_declaration is text) less = rw is (
+    written_declaration,
+    listed_tag spec payload _ _ (has_declaration spec payload),
+    subst (λ t. LARGEST_TAG_FILE < length t) text less,
   )
-  filled_long path octets (the_fetch is text some) less = (
-    text_file FetchList,
-    (
-      fetch_octets payload spec.holes.items,
-      listed_tag spec payload _ _ (has_fetch spec payload some),
-      omega (arith, less, ap (λ (t : List ℕ). length t) text, empty_fetched paths spec.holes.items, fetched_grows payload spec.holes.items),
-    ),
+  filled_long path octets (the_fetch is text some) less = rw is (
+    fetch_octets payload spec.holes.items,
+    listed_tag spec payload _ _ (has_fetch spec payload some),
+    omega (arith, less, ap (λ (t : List ℕ). length t) text, empty_fetched paths spec.holes.items, fetched_grows payload spec.holes.items),
   )
-  filled_long path octets (a_manifest kind alg given is text) less = (
-    manifest_file kind alg,
-    (
-      written_manifest (pairs_by alg (files_in spec payload kind)),
-      has_manifest spec payload kind alg given,
-      omega (arith, less, ap (λ (t : List ℕ). length t) text, manifest_same (files_in spec empty kind) (files_in spec payload kind) alg (same_keys kind)),
-    ),
+  filled_long path octets (a_manifest kind alg given is text) less = rw is (
+    written_manifest (pairs_by alg (files_in spec payload kind)),
+    has_manifest spec payload kind alg given,
+    omega (arith, less, ap (λ (t : List ℕ). length t) text, manifest_same (files_in spec empty kind) (files_in spec payload kind) alg (same_keys kind)),
   )
 
-  pub filled_large : IsTooLarge spec empty → IsTooLarge spec payload
-  filled_large (inl many) = inl (omega (arith, many, as_many empty paths (empty_keys paths), as_many payload paths same))
-  filled_large (inr (inl item)) = absurd (no_long_item spec paths item)
-  filled_large (inr (inr (path, (octets, h, less)))) = inr (inr (filled_long path octets (tag_case spec empty path octets h) less))
+  pub filled_large : (what : Large) → IsLarge spec empty what → IsLarge spec payload what
+  filled_large large.Payload many = omega (arith, many, as_many empty paths (empty_keys paths), as_many payload paths same)
+  filled_large (large.File path) item = absurd (no_long_item spec paths (path, item))
+  filled_large (large.TagFile path) (octets, h, less) = filled_long path octets (tag_case spec empty path octets h) less

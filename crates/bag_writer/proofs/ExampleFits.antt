@@ -15,6 +15,7 @@ use Rattle.bag_writer.specs.ExampleBags.{file_a, file_e, IsPlain, IsWithHole, pa
 use Rattle.bag_writer.specs.FilledBags.{IsPayloadFor, IsPayloadPath}
 use Rattle.bag_writer.specs.WrittenBags.{tag_files}
 use Rattle.bag_writer.specs.Writing.{GivesOxum, HasLongFile, IsBadHole, IsTooLarge}
+use Rattle.bag_writer.specs.declared.fault.Large.TheVariants as large
 use Rattle.bag_writer.specs.declared.spec.Hole.{Hole}
 use Rattle.bag_writer.specs.declared.spec.Spec.{Spec}
 
@@ -93,9 +94,9 @@ module _ (spec : Spec) (is : IsWithHole spec) where
   good holes same (suc i) (hole, at, bad) = let k : None ≡ Some hole = ap (λ (hs : List Hole). slice_get hs (suc i)) (sym same) ∙ at in cc
 
   too_large : ¬ IsTooLarge spec payload_of_two
-  too_large (inl many) = omega (arith, many)
-  too_large (inr (inl long)) = none_long payload_of_two ((file_a, 3) ∷ (file_e, 0) ∷ []) _ refl (omega arith, (omega arith, tt)) long
-  too_large (inr (inr long)) = none_long (tag_files spec payload_of_two) _ _ (lengths_two spec is) (omega arith, (omega arith, (omega arith, (omega arith, (omega arith, (omega arith, (omega arith, tt))))))) long
+  too_large (large.Payload, many) = omega (arith, many)
+  too_large (large.File path, long) = none_long payload_of_two ((file_a, 3) ∷ (file_e, 0) ∷ []) _ refl (omega arith, (omega arith, tt)) (path, long)
+  too_large (large.TagFile path, long) = none_long (tag_files spec payload_of_two) _ _ (lengths_two spec is) (omega arith, (omega arith, (omega arith, (omega arith, (omega arith, (omega arith, (omega arith, tt))))))) (path, long)
 
   pub fits_two : IsPayloadFor spec payload_of_two
   unfolding IsStrictlySortedBy
@@ -116,9 +117,9 @@ module _ (spec : Spec) (is : IsWithHole spec) where
 
 module _ (spec : Spec) (is : IsPlain spec) where
   small : ¬ IsTooLarge spec []
-  small (inl many) = omega (arith, many)
-  small (inr (inl (path, (octets, h, long)))) = h
-  small (inr (inr long)) = none_long (tag_files spec []) _ _ (lengths_none spec is) (omega arith, (omega arith, (omega arith, (omega arith, tt)))) long
+  small (large.Payload, many) = omega (arith, many)
+  small (large.File path, (octets, h, long)) = h
+  small (large.TagFile path, long) = none_long (tag_files spec []) _ _ (lengths_none spec is) (omega arith, (omega arith, (omega arith, (omega arith, tt)))) (path, long)
 
   pub fits_none : IsPayloadFor spec []
   unfolding IsStrictlySortedBy

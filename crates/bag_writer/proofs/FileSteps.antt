@@ -12,8 +12,12 @@ use Rattle.bag_digest.specs.declared.reading.Found.TheVariants.{Whole, Hashed}
 use Rattle.bag_writer.specs.PayloadSteps.{AreOctetsOf, HasFrontFrom, IsCutShort, IsFoundOf, IsReadAs, IsTaken, IsReadUntil, IsReadWhole, IsWithin, unless_hole, Writes, WritesFront}
 use Rattle.bag_writer.specs.Sinks.{StaysOrIsLost, Stored, with_begun}
 use Rattle.bag_writer.specs.Steps.{ArePart, AreWhole, HasFrontOf}
+use Rattle.bag_writer.specs.declared.fault.Large.{Large}
+use Rattle.bag_writer.specs.declared.fault.Large.TheVariants.{File}
 use Rattle.bag_writer.specs.declared.fault.WriteFault.{WriteFault}
-use Rattle.bag_writer.specs.declared.fault.WriteFault.TheVariants.{Sink, TooLarge}
+use Rattle.bag_writer.specs.declared.fault.WriteFault.TheVariants.{TooLarge}
+use Rattle.bag_writer.specs.declared.payload.CopyFault.{CopyFault}
+use Rattle.bag_writer.specs.declared.payload.CopyFault.TheVariants as copy
 use Rattle.bag_writer.proofs.StepLemmas.{begun_empty, begun_front, begun_lost, begun_more, front_part, HasBegun, part_none, part_whole}
 
 -- A FILE THAT IS BEGUN
@@ -35,7 +39,7 @@ module _ (path octets : List ℕ) {old mid new : Option Stored} (begun : mid ≡
   not_ended {end} written lost = λ rest. begun_lost rest (all_begun written) lost
 
 -- what was read whole was read until the sink failed
-pub until_sink : {set : AlgSet} {source left : Option (List ℕ)} {buffer : List ℕ} {found : Found} {octets : List ℕ} → IsReadWhole set source left buffer found octets → IsReadUntil source left Sink octets
+pub until_sink : {set : AlgSet} {source left : Option (List ℕ)} {buffer : List ℕ} {found : Found} {octets : List ℕ} → IsReadWhole set source left buffer found octets → IsReadUntil source left copy.Sink octets
 until_sink whole = record { gave = whole.gave.gave; long = λ e. cc }
 
 consumes_none : (source : Option (List ℕ)) → Consumes source source []
@@ -43,11 +47,11 @@ consumes_none None = tt
 consumes_none (Some octets) = refl
 
 -- nothing was read until a fault
-pub none_until : (source : Option (List ℕ)) (fault : WriteFault) → ¬ (fault ≡ TooLarge) → IsReadUntil source source fault []
+pub none_until : (source : Option (List ℕ)) (fault : CopyFault) → ¬ (fault ≡ copy.TooLarge) → IsReadUntil source source fault []
 none_until source fault other = record { gave = consumes_none source; long = λ e. absurd (other e) }
 
 -- a file that isn't a hole is processed if it is copied
-pub taken_as_file : (set : AlgSet) (source left : Option (List ℕ)) (path octets : List ℕ) (old new : Option Stored) (buffer : List ℕ) (is_hole : Bool) → is_hole ≡ false → (result : Result Found WriteFault)
+pub taken_as_file : (set : AlgSet) (source left : Option (List ℕ)) (path octets : List ℕ) (old new : Option Stored) (buffer : List ℕ) (is_hole : Bool) → is_hole ≡ false → (result : Result Found CopyFault)
     → MatchResult result (λ found. IsReadWhole set source left buffer found octets × AreWhole ((path, octets) ∷ []) old new) (λ fault. IsReadUntil source left fault octets × HasFrontFrom path octets old new)
     → MatchResult result (λ found. IsReadWhole set source left buffer found octets × AreWhole (unless_hole is_hole (path, octets)) old new) (λ fault. IsReadUntil source left fault octets × ((rest : List ℕ) → ArePart (unless_hole is_hole (path, octets ++ rest)) old new))
 taken_as_file set source left path octets old new buffer is_hole e (Ok found) copied = rw e copied
@@ -72,20 +76,20 @@ octets_unread None = ([], tt)
 octets_unread (Some known) = (known, refl)
 
 -- a file that wasn't read, for another reason than that it is too large
-pub cut_unread : (is_hole : Bool) (shown : List ℕ × Option (List ℕ)) (s : Option Stored) (fault : WriteFault) → ¬ (fault ≡ TooLarge) → (file : List ℕ × List ℕ) × IsReadAs shown file × IsCutShort is_hole file s s fault
+pub cut_unread : (is_hole : Bool) (shown : List ℕ × Option (List ℕ)) (s : Option Stored) (fault : WriteFault) → ((large : Large) → ¬ (fault ≡ TooLarge large)) → (file : List ℕ × List ℕ) × IsReadAs shown file × IsCutShort is_hole file s s fault
 cut_unread is_hole shown s fault other =
     let some = octets_unread shown.1 in
-    ((shown.0, some.0), (refl, some.1), record { long = λ e. absurd (other e); written = part_none (unless_hole is_hole (shown.0, some.0)) s })
+    ((shown.0, some.0), (refl, some.1), record { long = λ large e. absurd (other large e); written = part_none (unless_hole is_hole (shown.0, some.0)) s })
 
 module _ (is_hole : Bool) (set : AlgSet) (shown : List ℕ × Option (List ℕ)) (path octets : List ℕ) (source left : Option (List ℕ)) (old new : Option Stored) (named : path ≡ shown.0) (started : source ≡ shown.1) where
   -- a file that was read until a fault
-  pub cut_short : (fault : WriteFault) → IsReadUntil source left fault octets → ((rest : List ℕ) → ArePart (unless_hole is_hole (path, octets ++ rest)) old new) → (file : List ℕ × List ℕ) × IsReadAs shown file × IsCutShort is_hole file old new fault
-  cut_short fault until part =
+  pub cut_short : (fault : CopyFault) (told : WriteFault) → ((large : Large) → told ≡ TooLarge large → (large ≡ File path) × (fault ≡ copy.TooLarge)) → IsReadUntil source left fault octets → ((rest : List ℕ) → ArePart (unless_hole is_hole (path, octets ++ rest)) old new) → (file : List ℕ × List ℕ) × IsReadAs shown file × IsCutShort is_hole file old new told
+  cut_short fault told names until part =
       let some = some_octets shown.1 left octets (subst (λ s. Consumes s left octets) started until.gave) in (
         (path, octets ++ some.0),
         (named, some.1),
         record {
-          long = λ e. let k = until.long e in omega (arith, k, length-append octets some.0);
+          long = λ large e. let it = names large e in let k = until.long it.1 in (it.0, omega (arith, k, length-append octets some.0));
           written = part some.0;
         },
       )
@@ -105,9 +109,9 @@ within_of set buffer (Whole n) octets is = is.0
 within_of set buffer (Hashed n digests) octets is = tt
 
 -- a file that was written, after which there was another fault than that it is too large
-pub cut_after : (set : AlgSet) (is_hole : Bool) (file : List ℕ × List ℕ) (old new : Option Stored) (buffer : List ℕ) (found : List ℕ × Found) (fault : WriteFault) → IsTaken set is_hole file old new buffer found → ¬ (fault ≡ TooLarge) → IsCutShort is_hole file old new fault
+pub cut_after : (set : AlgSet) (is_hole : Bool) (file : List ℕ × List ℕ) (old new : Option Stored) (buffer : List ℕ) (found : List ℕ × Found) (fault : WriteFault) → IsTaken set is_hole file old new buffer found → ((large : Large) → ¬ (fault ≡ TooLarge large)) → IsCutShort is_hole file old new fault
 cut_after set is_hole file old new buffer found fault taken other = record {
-  long = λ e. absurd (other e);
+  long = λ large e. absurd (other large e);
   written = subst (λ list. ArePart list old new) (append-nil (unless_hole is_hole file)) (part_whole (unless_hole is_hole file) [] old new taken.written);
 }
 

@@ -13,6 +13,7 @@ use Rattle.bag_writer.proofs.SaidElements.{few_files, short}
 use Rattle.bag_writer.specs.FilledBags.{IsFilled, IsPayloadFor}
 use Rattle.bag_writer.specs.WrittenBags.{algs_in, listed_tags, manifest_of, tag_files}
 use Rattle.bag_writer.specs.declared.spec.Spec.{Spec}
+use Rattle.bag_writer.specs.declared.fault.Large.TheVariants as large
 
 abbrev File : Type 0
 File = List ℕ × List ℕ
@@ -37,11 +38,11 @@ module _ (spec : Spec) (payload : Files) (fits : IsPayloadFor spec payload) (bag
 
   -- no file is longer than any file may be, and no tag file than a tag file
   tag_short : (path octets : List ℕ) → Has (tag_files spec payload) (path, octets) → length octets ≤ LARGEST_TAG_FILE
-  tag_short path octets h = short (tag_files spec payload) LARGEST_TAG_FILE (λ long. fits.not_too_large (inr (inr long))) path octets h
+  tag_short path octets h = short (tag_files spec payload) LARGEST_TAG_FILE (λ long. fits.not_too_large (large.TagFile long.0, long.1)) path octets h
 
   all_short : (path octets : List ℕ) → Holds bag path octets → length octets ≤ LARGEST_FILE
   all_short path octets holds = elim ((filled.exact path octets).0 holds) [
-    | inl item ↦ short payload LARGEST_FILE (λ long. fits.not_too_large (inr (inl long))) path octets item
+    | inl item ↦ short payload LARGEST_FILE (λ long. fits.not_too_large (large.File long.0, long.1)) path octets item
     | inr tag ↦ omega (arith, tag_short path octets tag)
   ]
 

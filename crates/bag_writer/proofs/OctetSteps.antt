@@ -17,8 +17,8 @@ use Rattle.bag_digest.specs.declared.reading.Found.TheVariants.{Hashed}
 use Rattle.bag_rules.specs.declared.limits.TheConstants.{LARGEST_FILE}
 use Rattle.bag_writer.specs.PayloadSteps.{IsReadUntil, IsReadWhole, Writes, WritesFront}
 use Rattle.bag_writer.specs.Sinks.{Begun, Stored, with_octets}
-use Rattle.bag_writer.specs.declared.fault.WriteFault.{WriteFault}
-use Rattle.bag_writer.specs.declared.fault.WriteFault.TheVariants.{Sink, TooLarge, Tree}
+use Rattle.bag_writer.specs.declared.payload.CopyFault.{CopyFault}
+use Rattle.bag_writer.specs.declared.payload.CopyFault.TheVariants.{Sink, TooLarge, Tree}
 
 -- WHAT IS WRITTEN
 
@@ -73,7 +73,7 @@ module _ {set : AlgSet} {source left : Option (List ℕ)} {old new : Option Stor
       }
 
   -- what was given before a fault
-  pub until_fault : (last : List ℕ) (after : Option (List ℕ)) (fault : WriteFault) → Consumes left after last → (fault ≡ TooLarge → LARGEST_FILE < length (octets ++ last)) → IsReadUntil source after fault (octets ++ last)
+  pub until_fault : (last : List ℕ) (after : Option (List ℕ)) (fault : CopyFault) → Consumes left after last → (fault ≡ TooLarge → LARGEST_FILE < length (octets ++ last)) → IsReadUntil source after fault (octets ++ last)
   until_fault last after fault gave long = record { gave = Consumes-trans source left after octets last so_far.given.gave gave; long = long }
 
   -- a read failed, a piece was too long, or the sink failed

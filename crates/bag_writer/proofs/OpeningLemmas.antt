@@ -31,6 +31,7 @@ use Rattle.bag_writer.specs.FilledBags.{IsPayloadFor}
 use Rattle.bag_writer.specs.WrittenBags.{algs_in, fetch_files, listed_tags, manifest_of, pairs_by, tag_files}
 use Rattle.bag_writer.specs.declared.spec.Hole.{Hole}
 use Rattle.bag_writer.specs.declared.spec.Spec.{Spec}
+use Rattle.bag_writer.specs.declared.fault.Large.TheVariants as large
 
 abbrev File : Type 0
 File = List ℕ × List ℕ
@@ -173,7 +174,7 @@ module _ (spec : Spec) (payload : Files) (fits : IsPayloadFor spec payload) wher
     rising = tags_rise spec payload;
     each = all_of IsTagFile (tag_files spec payload) (λ file h. (
       (tag_path spec payload file.0 file.1 (tag_case spec payload file.0 file.1 h), tag_plain spec payload file.0 file.1 (tag_case spec payload file.0 file.1 h)),
-      short (tag_files spec payload) LARGEST_TAG_FILE (λ long. fits.not_too_large (inr (inr long))) file.0 file.1 h,
+      short (tag_files spec payload) LARGEST_TAG_FILE (λ long. fits.not_too_large (large.TagFile long.0, long.1)) file.0 file.1 h,
     ));
   }
 

@@ -9,10 +9,11 @@ use Rattle.bag_rules.specs.declared.limits.TheConstants.{LARGEST_FILE}
 use Rattle.bag_writer.specs.PayloadSteps.{IsCutShort, IsReadAs, IsTaken, unless_hole}
 use Rattle.bag_writer.specs.Sinks.{IsFree, Stored}
 use Rattle.bag_writer.specs.HeldFiles.{AddsFile, AreItemsSoFar}
-use Rattle.bag_writer.specs.Steps.{AreHoleMarks, AreItemsOf, ArePart, AreWhole, HasNoFile, is_hole, written_payload}
+use Rattle.bag_writer.specs.Steps.{AreHoleMarks, AreItemsOf, ArePart, AreWhole, HasNoFile, NamesLong, is_hole, written_payload}
 use Rattle.bag_writer.specs.Writing.{HasLongFile, IsReadFrom}
+use Rattle.bag_writer.specs.declared.fault.Large.TheVariants as large
 use Rattle.bag_writer.specs.declared.fault.WriteFault.{WriteFault}
-use Rattle.bag_writer.specs.declared.fault.WriteFault.TheVariants.{Memory, TooLarge}
+use Rattle.bag_writer.specs.declared.fault.WriteFault.TheVariants.{Memory}
 use Rattle.bag_writer.specs.declared.item.Item.{Item}
 use Rattle.bag_writer.specs.declared.items.Items.{Items}
 use Rattle.bag_writer.specs.declared.spec.Spec.{Spec}
@@ -48,27 +49,13 @@ module _ (spec : Spec) (tree : Shown) (n : ℕ) (old new : Option Stored) (items
   -- the same for the items of all, or if memory ran out for them
   pub all_finished : length tree.files ≤ n → (result : Result (Vec Item Global) WriteFault) → IfOk result (λ all. AreItemsOf spec.algs all.items (payload_of files)) → IfErr result (λ fault. fault ≡ Memory)
       → (payload : Files) × IsReadFrom tree payload × MatchResult result (λ all. AreItemsOf spec.algs all.items payload × (¬ HasLongFile payload LARGEST_FILE) × AreWhole (written_payload spec payload) old new)
-      (λ fault. (fault ≡ TooLarge → HasLongFile payload LARGEST_FILE) × ArePart (written_payload spec payload) old new)
+      (λ fault. NamesLong large.File payload LARGEST_FILE fault × ArePart (written_payload spec payload) old new)
   all_finished all (Ok made) are refused = (payload_of files, all_written all, (are, so_far.short, so_far.whole))
   all_finished all (Err fault) are refused = (
     payload_of files,
     all_written all,
-    ((λ e. cc), subst (λ list. ArePart list old new) (append-nil (written_of spec files)) (part_whole (written_of spec files) [] old new so_far.whole)),
+    ((λ large e. cc), subst (λ list. ArePart list old new) (append-nil (written_of spec files)) (part_whole (written_of spec files) [] old new so_far.whole)),
   )
-
-  -- between two files
-  pub stopped_between : (fault : WriteFault) → ¬ (fault ≡ TooLarge)
-      → (payload : Files) × IsReadFrom tree payload × ((fault ≡ TooLarge → HasLongFile payload LARGEST_FILE) × ArePart (written_payload spec payload) old new)
-  stopped_between fault other =
-      let rest = unread (drop n tree.files) in (
-        payload_of (files ++ rest),
-        payload_read tree (files ++ rest)
-            (subst (λ shown. AreReadAs shown (files ++ rest)) (take-append-drop n tree.files) (read_on (take n tree.files) (drop n tree.files) files rest so_far.read (unread_is (drop n tree.files)))),
-        (
-          (λ e. absurd (other e)),
-          subst (λ list. ArePart list old new) (sym (written_on spec files rest)) (part_whole (written_of spec files) (written_of spec rest) old new so_far.whole),
-        ),
-      )
 
   module _ (shown : ShownFile) (here : slice_get tree.files n ≡ Some shown) where
     next : take (n + 1) tree.files ≡ take n tree.files ++ shown ∷ []
@@ -112,7 +99,7 @@ module _ (spec : Spec) (tree : Shown) (n : ℕ) (old new : Option Stored) (items
 
       -- a payload file at which writing stopped
       pub stopped_in : (end : Option Stored) (fault : WriteFault) → IsCutShort mark file new end fault
-          → (all : Files) × IsReadFrom tree all × ((fault ≡ TooLarge → HasLongFile all LARGEST_FILE) × ArePart (written_payload spec all) old end)
+          → (all : Files) × IsReadFrom tree all × (NamesLong large.File all LARGEST_FILE fault × ArePart (written_payload spec all) old end)
       stopped_in end fault cut =
           let rest = unread (drop (n + 1) tree.files) in
           let shown_rest = shown ∷ drop (n + 1) tree.files in
@@ -121,7 +108,7 @@ module _ (spec : Spec) (tree : Shown) (n : ℕ) (old new : Option Stored) (items
             payload_read tree (files ++ file ∷ rest)
                 (subst (λ list. AreReadAs list (files ++ file ∷ rest)) (ap (λ list. take n tree.files ++ list) (sym (rest_from tree.files n shown here)) ∙ take-append-drop n tree.files) joined),
             (
-              (λ e. (file.0, (file.1, subst (λ list. Has list file) (sym (next_payload rest)) (has_middle (payload_of files) (payload_of rest) file), cut.long e))),
+              (λ what e. let long = cut.long what e in (file.0, long.0, (file.1, subst (λ list. Has list file) (sym (next_payload rest)) (has_middle (payload_of files) (payload_of rest) file), long.1))),
               subst (λ list. ArePart list old end) (sym (next_written rest))
                   (part_after (written_of spec files) (unless_hole mark file ++ written_of spec rest) old new end so_far.whole (part_more (unless_hole mark file) (written_of spec rest) new end cut.written)),
             ),

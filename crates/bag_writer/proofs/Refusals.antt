@@ -34,5 +34,5 @@ refused_holes payload spec some none (BadHole i) refused = ((some, none, refused
 refused_holes payload spec some none (Clash path) refused = absurd refused
 refused_holes payload spec some none Tree refused = absurd refused
 refused_holes payload spec some none Sink refused = absurd refused
-refused_holes payload spec some none TooLarge refused = absurd refused
+refused_holes payload spec some none (TooLarge large) refused = absurd refused
 refused_holes payload spec some none Memory refused = (tt, λ x. x)

@@ -24,6 +24,7 @@ use Rattle.bag_writer.specs.FilledBags.{IsPayloadFor}
 use Rattle.bag_writer.specs.Writing.{HasLongFile}
 use Rattle.bag_writer.specs.WrittenBags.{oxum_element}
 use Rattle.bag_writer.specs.declared.spec.Spec.{Spec}
+use Rattle.bag_writer.specs.declared.fault.Large.TheVariants as large
 
 -- NUMBERS
 
@@ -47,11 +48,11 @@ product n limit few e = subst (λ k. n * k < 2 ^ 64) (sym e) (omega (arith, few)
 
 module _ (spec : Spec) (payload : Files) (fits : IsPayloadFor spec payload) where
   pub few_files : length payload ≤ 100000
-  few_files = elim (cases_lt 100000 (length payload)) [ inl more ↦ absurd (fits.not_too_large (inl more)) | inr few ↦ few ]
+  few_files = elim (cases_lt 100000 (length payload)) [ inl more ↦ absurd (fits.not_too_large (large.Payload, more)) | inr few ↦ few ]
 
   pub count_fits : octet_count payload < 2 ^ 64
   count_fits =
-      let all = octets_within payload LARGEST_FILE (short payload LARGEST_FILE (λ long. fits.not_too_large (inr (inl long)))) in
+      let all = octets_within payload LARGEST_FILE (short payload LARGEST_FILE (λ long. fits.not_too_large (large.File long.0, long.1))) in
       let bound = product (length payload) LARGEST_FILE few_files refl in
       omega (arith, all, bound)
 

@@ -20,6 +20,7 @@ use Rattle.bag_writer.specs.FilledBags.{IsPayloadFor}
 use Rattle.bag_writer.specs.WrittenBags.{entry_of}
 use Rattle.bag_writer.specs.declared.spec.Hole.{Hole}
 use Rattle.bag_writer.specs.declared.spec.Spec.{Spec}
+use Rattle.bag_writer.specs.declared.fault.Large.TheVariants as large
 
 -- LINES
 
@@ -78,7 +79,7 @@ module _ (spec : Spec) (payload : Files) (fits : IsPayloadFor spec payload) wher
   can_be_fetched hole h =
       let file = hole_file hole h in
       let path = payload_path spec payload fits hole.path file.0 file.1 in
-      let within : length file.0 ≤ 1099511627776 = short payload LARGEST_FILE (λ long. fits.not_too_large (inr (inl long))) hole.path file.0 file.1 in (
+      let within : length file.0 ≤ 1099511627776 = short payload LARGEST_FILE (λ long. fits.not_too_large (large.File long.0, long.1)) hole.path file.0 file.1 in (
         record { utf8 = IsUtf8-string_bytes hole.url; url = url_fits hole h; path = path.0; payload = path.1 },
         fits_length _ (length file.0) (length_given hole file.0 file.1) (omega (arith, within)),
       )

@@ -6,9 +6,11 @@ use Rattle.bag_digest.specs.Device.{Rises}
 use Rattle.bag_rules.specs.declared.limits.TheConstants.{LARGEST_TAG_FILE}
 use Rattle.bag_rules.proofs.Words.{AlgSet, Files, Has}
 use Rattle.bag_writer.specs.Sinks.{StaysOrIsLost, Stored, with_begun, with_ended, with_octets}
-use Rattle.bag_writer.specs.Steps.{AreItemsOf, ArePart, AreWhole, HasFrontOf, with_whole, with_wholes}
+use Rattle.bag_writer.specs.Steps.{AreItemsOf, ArePart, AreWhole, HasFrontOf, NamesLong, with_whole, with_wholes}
 use Rattle.bag_writer.specs.TagWriting.{AddsItems, AreFree, WritesAll, WritesFiles}
 use Rattle.bag_writer.specs.Writing.{HasLongFile}
+use Rattle.bag_writer.specs.declared.fault.Large.{Large}
+use Rattle.bag_writer.specs.declared.fault.Large.TheVariants.{TagFile}
 use Rattle.bag_writer.specs.declared.fault.WriteFault.{WriteFault}
 use Rattle.bag_writer.specs.declared.item.Item.{Item}
 use Rattle.bag_writer.specs.declared.fault.WriteFault.TheVariants.{Memory, Sink, TooLarge, Tree}
@@ -82,11 +84,12 @@ has_either (first ∷ files) more file P front back has = elim has [
   | inr later ↦ has_either files more file P (λ h. front (inr h)) back later
 ]
 
-pub long_front : (files more : Files) (limit : ℕ) → HasLongFile files limit → HasLongFile (files ++ more) limit
-long_front files more limit long = (long.0, (long.1.0, has_front files more (long.0, long.1.0) long.1.1, long.1.2))
+module _ (named : List ℕ → Large) (files more : Files) (limit : ℕ) (fault : WriteFault) where
+  pub long_front : NamesLong named files limit fault → NamesLong named (files ++ more) limit fault
+  long_front long = λ what is. let it = long what is in (it.0, it.1, (it.2.0, has_front files more (it.0, it.2.0) it.2.1, it.2.2))
 
-pub long_back : (files more : Files) (limit : ℕ) → HasLongFile more limit → HasLongFile (files ++ more) limit
-long_back files more limit long = (long.0, (long.1.0, has_back files more (long.0, long.1.0) long.1.1, long.1.2))
+  pub long_back : NamesLong named more limit fault → NamesLong named (files ++ more) limit fault
+  long_back long = λ what is. let it = long what is in (it.0, it.1, (it.2.0, has_back files more (it.0, it.2.0) it.2.1, it.2.2))
 
 pub none_long : (files more : Files) (limit : ℕ) → (HasLongFile files limit → ⊥) → (HasLongFile more limit → ⊥) → HasLongFile (files ++ more) limit → ⊥
 none_long files more limit front back long = has_either files more (long.0, long.1.0) ⊥ (λ h. front (long.0, (long.1.0, h, long.1.2))) (λ h. back (long.0, (long.1.0, h, long.1.2))) long.1.1
@@ -95,7 +98,7 @@ none_long files more limit front back long = has_either files more (long.0, long
 
 all_after : (files more : Files) (old mid new : Option Stored) (fault : Option WriteFault) → WritesAll files old mid None → WritesAll more mid new fault → WritesAll (files ++ more) old new fault
 all_after files more old mid new None first second = (whole_on files more old mid new first.0 second.0, none_long files more LARGEST_TAG_FILE first.1 second.1)
-all_after files more old mid new (Some fault) first second = (part_after files more old mid new first.0 second.0, second.1, λ large. long_back files more LARGEST_TAG_FILE (second.2 large))
+all_after files more old mid new (Some fault) first second = (part_after files more old mid new first.0 second.0, second.1, long_back TagFile files more LARGEST_TAG_FILE fault second.2)
 
 module _ {S : Type 0} (stored : S → Option Stored) (is_open : S → Bool) (failures : S → ℕ) (sure : S → Type 0) where
   abbrev pub Writes : Files → S → S → Option WriteFault → Type 0
@@ -117,7 +120,7 @@ module _ {S : Type 0} (stored : S → Option Stored) (is_open : S → Bool) (fai
 
   pub writes_stopped : (files : Files) (now : S) → Writes files now now (Some Memory)
   writes_stopped files now = record {
-    written = (part_none files (stored now), (tt, λ is. (let no : Memory ≡ Tree = is in cc)), λ is. (let no : Memory ≡ TooLarge = is in cc));
+    written = (part_none files (stored now), (tt, λ is. (let no : Memory ≡ Tree = is in cc)), λ what is. (let no : Memory ≡ TooLarge what = is in cc));
     closed = λ _ is. (let no : Some Memory ≡ None = is in cc);
     uses = record {
       counted = record { rises = λ is. (let no : Some Memory ≡ Some Sink = is in cc); stays = λ _. refl };
@@ -126,20 +129,21 @@ module _ {S : Type 0} (stored : S → Option Stored) (is_open : S → Bool) (fai
   }
 
   -- a file that is too long isn't begun
-  pub writes_refused : (file : File) (now : S) → LARGEST_TAG_FILE < length file.1 → Writes (file ∷ []) now now (Some TooLarge)
-  writes_refused file now long = record {
-    written = (part_none (file ∷ []) (stored now), (tt, λ is. (let no : TooLarge ≡ Tree = is in cc)), λ _. (file.0, (file.1, inl refl, long)));
-    closed = λ _ is. (let no : Some TooLarge ≡ None = is in cc);
-    uses = record {
-      counted = record { rises = λ is. (let no : Some TooLarge ≡ Some Sink = is in cc); stays = λ _. refl };
-      stays_sure = λ surely. (surely, λ _ is. (let no : Some TooLarge ≡ Some Sink = is in cc));
-    };
-  }
+  pub writes_refused : (file : File) (now : S) → LARGEST_TAG_FILE < length file.1 → Writes (file ∷ []) now now (Some (TooLarge (TagFile file.0)))
+  writes_refused file now long =
+      let told : WriteFault = TooLarge (TagFile file.0) in record {
+        written = (part_none (file ∷ []) (stored now), (tt, λ is. (let no : told ≡ Tree = is in cc)), λ what is. (let same : TagFile file.0 ≡ what = cc in (file.0, sym same, (file.1, inl refl, long))));
+        closed = λ _ is. (let no : Some told ≡ None = is in cc);
+        uses = record {
+          counted = record { rises = λ is. (let no : Some told ≡ Some Sink = is in cc); stays = λ _. refl };
+          stays_sure = λ surely. (surely, λ _ is. (let no : Some told ≡ Some Sink = is in cc));
+        };
+      }
 
   -- all was written, and then memory ran out
   pub writes_forgotten : (files : Files) (old new : S) → Writes files old new None → Writes files old new (Some Memory)
   writes_forgotten files old new all = record {
-    written = (whole_part files (stored old) (stored new) all.written.0, (tt, λ is. (let no : Memory ≡ Tree = is in cc)), λ is. (let no : Memory ≡ TooLarge = is in cc));
+    written = (whole_part files (stored old) (stored new) all.written.0, (tt, λ is. (let no : Memory ≡ Tree = is in cc)), λ what is. (let no : Memory ≡ TooLarge what = is in cc));
     closed = λ _ is. (let no : Some Memory ≡ None = is in cc);
     uses = record {
       counted = record { rises = λ is. (let no : Some Memory ≡ Some Sink = is in cc); stays = λ _. all.uses.counted.stays no_fault };
@@ -168,7 +172,7 @@ module _ {S : Type 0} (stored : S → Option Stored) (is_open : S → Bool) (fai
   -- a fault ends the writing
   pub writes_cut : (files more : Files) (old new : S) (fault : WriteFault) → Writes files old new (Some fault) → Writes (files ++ more) old new (Some fault)
   writes_cut files more old new fault first = record {
-    written = (part_more files more (stored old) (stored new) first.written.0, first.written.1, λ large. long_front files more LARGEST_TAG_FILE (first.written.2 large));
+    written = (part_more files more (stored old) (stored new) first.written.0, first.written.1, long_front TagFile files more LARGEST_TAG_FILE fault first.written.2);
     closed = λ _ is. (let no : Some fault ≡ None = is in cc);
     uses = record {
       counted = first.uses.counted;

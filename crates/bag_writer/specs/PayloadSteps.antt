@@ -10,8 +10,12 @@ use Rattle.bag_rules.specs.Files.{Files}
 use Rattle.bag_rules.specs.declared.limits.TheConstants.{LARGEST_FILE}
 use Rattle.bag_writer.specs.Sinks.{Stored, with_octets}
 use Rattle.bag_writer.specs.Steps.{ArePart, AreWhole, HasFrontOf}
+use Rattle.bag_writer.specs.declared.fault.Large.{Large}
+use Rattle.bag_writer.specs.declared.fault.Large.TheVariants.{File}
 use Rattle.bag_writer.specs.declared.fault.WriteFault.{WriteFault}
 use Rattle.bag_writer.specs.declared.fault.WriteFault.TheVariants.{TooLarge}
+use Rattle.bag_writer.specs.declared.payload.CopyFault.{CopyFault}
+use Rattle.bag_writer.specs.declared.payload.CopyFault.TheVariants as copy
 
 -- OCTETS FROM A SOURCE TO A SINK
 
@@ -32,10 +36,10 @@ pub record IsReadWhole (set : AlgSet) (source left : Option (List ℕ)) (buffer 
   pub found_is : IsFoundOf set buffer found octets
 
 -- the source gave these octets before the fault; if the fault is `TooLarge`, they are more than a file may have
-pub record IsReadUntil (source left : Option (List ℕ)) (fault : WriteFault)
+pub record IsReadUntil (source left : Option (List ℕ)) (fault : CopyFault)
     (octets : List ℕ) : Type 0 where
   pub gave : Consumes source left octets
-  pub long : fault ≡ TooLarge → LARGEST_FILE < length octets
+  pub long : fault ≡ copy.TooLarge → LARGEST_FILE < length octets
 
 -- all of the octets, or some of the first ones, were written to the file that was begun
 abbrev pub Writes : List ℕ → Option Stored → Option Stored → Type 0
@@ -73,8 +77,9 @@ pub record IsTaken (set : AlgSet) (is_hole : Bool) (file : List ℕ × List ℕ)
   pub within : length file.1 ≤ LARGEST_FILE
   pub written : AreWhole (unless_hole is_hole file) old new
 
--- the file is too large if that is the fault, and a front of it was written unless it is a hole
+-- the file is too large and named if that is the fault, and a front of it was written unless it is a hole
 pub record IsCutShort (is_hole : Bool) (file : List ℕ × List ℕ)
     (old new : Option Stored) (fault : WriteFault) : Type 0 where
-  pub long : fault ≡ TooLarge → LARGEST_FILE < length file.1
+  pub long : (large : Large) → fault ≡ TooLarge large
+      → (large ≡ File file.0) × (LARGEST_FILE < length file.1)
   pub written : ArePart (unless_hole is_hole file) old new

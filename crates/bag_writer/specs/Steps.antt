@@ -12,7 +12,10 @@ use Rattle.bag_rules.specs.Trees.{AreRising, Shown, paths_in}
 use Rattle.bag_rules.specs.declared.limits.TheConstants.{LARGEST_FILE, MOST_LINES}
 use Rattle.bag_rules.specs.Files.{Files}
 use Rattle.bag_writer.specs.Sinks.{Stored, with_begun, with_ended, with_octets, without_begun}
-use Rattle.bag_writer.specs.Writing.{HasLongFile, IsAccepted, payload_paths}
+use Rattle.bag_writer.specs.Writing.{HasLongFile, IsAccepted, IsLongIn, payload_paths}
+use Rattle.bag_writer.specs.declared.fault.Large.{Large}
+use Rattle.bag_writer.specs.declared.fault.WriteFault.{WriteFault}
+use Rattle.bag_writer.specs.declared.fault.WriteFault.TheVariants.{TooLarge}
 use Rattle.bag_writer.specs.declared.item.Item.{Item}
 use Rattle.bag_writer.specs.declared.spec.Hole.{Hole}
 use Rattle.bag_writer.specs.declared.spec.Spec.{Spec}
@@ -60,6 +63,11 @@ HasNoFile known = (stored : Stored) → known ≡ Some stored → stored.bag.fil
 abbrev pub HasPayloadAlone : Option Stored → Type 0
 HasPayloadAlone known = (stored : Stored) → known ≡ Some stored → (path : List ℕ)
     → Contains (paths_of stored.bag) path → is_payload path ≡ true
+
+-- if the fault is `TooLarge`, it names in this way a file, one of these, that is longer than the limit
+abbrev pub NamesLong : (List ℕ → Large) → Files → ℕ → WriteFault → Type 0
+NamesLong named files limit fault = (large : Large) → fault ≡ TooLarge large
+    → (path : List ℕ) × (large ≡ named path) × IsLongIn files limit path
 
 -- WHAT WAS READ
 

@@ -1,22 +1,26 @@
 -- How the tag files are made and written. Only private functions cite these.
-use Rattle.std.specs.Prelude.{◌≡◌, ◌≢◌, ◌++◌, [], ◌∷◌, ℕ, Bool, true, false, List, Option, Some, None, Contains, string_bytes}
+use Rattle.std.specs.Prelude.{◌≡◌, ◌≢◌, ◌<◌, ◌++◌, [], ◌∷◌, ℕ, Bool, true, false, List, Option, Some, None, Contains, length, string_bytes}
 use Rattle.std.specs.List.{AllByRecursion}
 use Rattle.std.specs.Map.{keys_of}
 use Rattle.std.specs.Option.{option_map}
+use Rattle.bag_digest.specs.declared.algorithm.Alg.{Alg}
 use Rattle.bag_digest.specs.declared.algorithm.AlgSet.{AlgSet}
 use Rattle.bag_path.specs.Paths.{is_payload}
 use Rattle.bag_tags.specs.FetchEntries.{IsUrl}
 use Rattle.bag_tags.specs.Listings.{IsInPlace}
 use Rattle.bag_tags.specs.declared.listing.Kind.{Kind}
+use Rattle.bag_tags.specs.declared.listing.Kind.TheVariants.{Payload}
 use Rattle.bag_rules.specs.Faults.{Has}
 use Rattle.bag_rules.specs.Files.{Files}
 use Rattle.bag_rules.specs.Trees.{AreRising}
 use Rattle.bag_rules.specs.declared.limits.TheConstants.{LARGEST_TAG_FILE}
 use Rattle.bag_writer.specs.Sinks.{IsFree, Stored, UsesSink}
-use Rattle.bag_writer.specs.Steps.{AreItemsOf, ArePart, AreWhole, with_whole}
-use Rattle.bag_writer.specs.Writing.{HasLongFile, IsMetLater}
+use Rattle.bag_writer.specs.Steps.{AreItemsOf, ArePart, AreWhole, NamesLong, with_whole}
+use Rattle.bag_writer.specs.WrittenBags.{manifest_of}
+use Rattle.bag_writer.specs.Writing.{HasLongFile, IsMetLater, empty_files}
+use Rattle.bag_writer.specs.declared.fault.Large.TheVariants.{TagFile}
 use Rattle.bag_writer.specs.declared.fault.WriteFault.{WriteFault}
-use Rattle.bag_writer.specs.declared.fault.WriteFault.TheVariants.{Sink, TooLarge, Tree}
+use Rattle.bag_writer.specs.declared.fault.WriteFault.TheVariants.{Sink, Tree}
 use Rattle.bag_writer.specs.declared.item.Item.{Item}
 use Rattle.bag_writer.specs.declared.spec.Hole.{Hole}
 
@@ -34,6 +38,11 @@ pub record CanBeFetched (payload : Files) (holes : List Hole) : Type 0 where
   pub there : (hole : Hole) → Has holes hole → ¬ ¬ Contains (keys_of payload) hole.path
   pub urls : (hole : Hole) → Has holes hole → ¬ ¬ IsUrl (string_bytes hole.url)
 
+-- the payload manifest by this algorithm is too long, whatever the files at these paths contain
+abbrev pub IsManifestLong : List (List ℕ) → Alg → Type 0
+IsManifestLong paths alg =
+    LARGEST_TAG_FILE < length (manifest_of Payload (empty_files paths) alg).1
+
 -- WHAT IS WRITTEN
 
 -- when it is a file's turn, no file with its path is there
@@ -47,11 +56,11 @@ abbrev pub IsMetHere : WriteFault → Type 0
 IsMetHere fault = IsMetLater fault × (fault ≢ Tree)
 
 -- If there is no fault, the files were written whole and are within the limit. Otherwise part of them was written, and
--- if the fault is `TooLarge`, one of them is beyond the limit.
+-- if the fault is `TooLarge`, it names one of them that is beyond the limit.
 abbrev pub WritesAll : Files → Option Stored → Option Stored → Option WriteFault → Type 0
 WritesAll files old new None = AreWhole files old new × ¬ HasLongFile files LARGEST_TAG_FILE
 WritesAll files old new (Some fault) = ArePart files old new × IsMetHere fault
-    × (fault ≡ TooLarge → HasLongFile files LARGEST_TAG_FILE)
+    × NamesLong TagFile files LARGEST_TAG_FILE fault
 
 -- what writing these tag files does to a sink, with this fault or none
 pub record WritesFiles {S : Type 0} (stored : S → Option Stored) (is_open : S → Bool)

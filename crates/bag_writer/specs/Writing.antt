@@ -16,6 +16,8 @@ use Rattle.bag_rules.specs.Trees.{Shown, paths_in}
 use Rattle.bag_rules.specs.declared.limits.TheConstants.{LARGEST_FILE, LARGEST_TAG_FILE, MOST_LINES}
 use Rattle.bag_writer.specs.Sinks.{Begun, Stored, nothing_stored}
 use Rattle.bag_writer.specs.WrittenBags.{IsFileOf, IsWritten, tag_files}
+use Rattle.bag_writer.specs.declared.fault.Large.{Large}
+use Rattle.bag_writer.specs.declared.fault.Large.TheVariants.{File, Payload, TagFile}
 use Rattle.bag_writer.specs.declared.fault.WriteFault.{WriteFault}
 use Rattle.bag_writer.specs.declared.fault.WriteFault.TheVariants.{NoAlgorithm, OxumGiven, BadHole, Clash, Tree, Sink, TooLarge, Memory}
 use Rattle.bag_writer.specs.declared.spec.Hole.{Hole}
@@ -23,14 +25,21 @@ use Rattle.bag_writer.specs.declared.spec.Spec.{Spec}
 
 -- WHAT IS TOO LARGE
 
-abbrev pub HasLongFile : Files → ℕ → Type 0
-HasLongFile files limit = (path : List ℕ) × ((octets : List ℕ) × Has files (path, octets)
-    × (limit < length octets))
+-- a file with this path, one of these, has more octets than the limit
+abbrev pub IsLongIn : Files → ℕ → List ℕ → Type 0
+IsLongIn files limit path = (octets : List ℕ) × Has files (path, octets) × (limit < length octets)
 
--- more files than a manifest may list, or a file that no check would read to its end
+abbrev pub HasLongFile : Files → ℕ → Type 0
+HasLongFile files limit = (path : List ℕ) × IsLongIn files limit path
+
+-- this is too large: more files than a manifest may list, or a file that no check would read to its end
+abbrev pub IsLarge : Spec → Files → Large → Type 0
+IsLarge spec payload Payload = MOST_LINES < length payload
+IsLarge spec payload (File path) = IsLongIn payload LARGEST_FILE path
+IsLarge spec payload (TagFile path) = IsLongIn (tag_files spec payload) LARGEST_TAG_FILE path
+
 abbrev pub IsTooLarge : Spec → Files → Type 0
-IsTooLarge spec payload = (MOST_LINES < length payload) ⊎ HasLongFile payload LARGEST_FILE
-    ⊎ HasLongFile (tag_files spec payload) LARGEST_TAG_FILE
+IsTooLarge spec payload = (large : Large) × IsLarge spec payload large
 
 -- An empty file at each of these paths. What is too large even then is known before any file is read.
 abbrev pub empty_files : List (List ℕ) → Files
@@ -92,12 +101,12 @@ IsOfDevice fault = ⊥
 
 -- a fault that is met before anything is written, or while it is
 abbrev pub IsMetLater : WriteFault → Type 0
-IsMetLater TooLarge = Unit {0}
+IsMetLater (TooLarge large) = Unit {0}
 IsMetLater Memory = Unit {0}
 IsMetLater fault = IsOfDevice fault
 
 abbrev pub IsMetBefore : WriteFault → Type 0
-IsMetBefore TooLarge = ⊥
+IsMetBefore (TooLarge large) = ⊥
 IsMetBefore fault = ¬ IsOfDevice fault
 
 -- WHAT IS THERE AFTERWARDS
@@ -105,11 +114,11 @@ IsMetBefore fault = ¬ IsOfDevice fault
 abbrev pub oxum_of : Files → Oxum
 oxum_of payload = record { octets = octet_count payload; streams = length payload }
 
--- The result is the Oxum of the payload, and nothing in it is too large; or it is `TooLarge`, and something is.
+-- The result is the Oxum of the payload, and nothing in it is too large; or if it is `TooLarge`, it names what is.
 abbrev pub Answers : Spec → Files → Result Oxum WriteFault → Type 0
 Answers spec payload result = MatchResult result
     (λ oxum. (oxum ≡ oxum_of payload) × ¬ IsTooLarge spec payload)
-    (λ fault. fault ≡ TooLarge → IsTooLarge spec payload)
+    (λ fault. (large : Large) → fault ≡ TooLarge large → IsLarge spec payload large)
 
 -- the whole bag is there, and no file is begun
 pub record HasWhole (spec : Spec) (payload : Files) (stored : Stored) : Type 0 where

@@ -25,13 +25,23 @@ pub enum WriteFault {
     /// The sink failed, and it has counted the failure.
     #[error("the sink failed")]
     Sink,
-    /// There are more than 100,000 payload files, a payload file has more than 2^40 octets, or a tag file has more than
-    /// 16,777,216 octets.
+    /// Something in the bag is too large.
     #[error("too large")]
-    TooLarge,
+    TooLarge(Large),
     /// Memory ran out.
     #[error("out of memory")]
     Memory,
+}
+
+/// What is too large to be written.
+#[derive(Debug, Drop)]
+pub enum Large {
+    /// There are more than 100,000 payload files.
+    Payload,
+    /// The payload file with this path has more than 2^40 octets.
+    File(BagPath),
+    /// The tag file with this path would have more than 16,777,216 octets.
+    TagFile(BagPath),
 }
 
 impl From<AllocError> for WriteFault {

@@ -1,11 +1,11 @@
 //! The writer of bags: makes a bag of version 1.0 from a payload and a specification (RFC 8493 section 2).
 #![tactic(auto)]
 
-pub use fault::WriteFault;
+pub use fault::{Large, WriteFault};
 pub use memory::MemSink;
 pub use sink::Sink;
 pub use spec::{Hole, Spec};
-pub use writing::write_bag;
+pub use writing::{payload_count, write_bag};
 
 mod accepting;
 pub mod examples;

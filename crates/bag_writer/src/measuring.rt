@@ -1,58 +1,71 @@
 //! Measures tag files before anything is written.
-ghost use Rattle.std.specs.Prelude.{◌≡◌, ◌≤◌, ◌<◌, ◌*◌, ◌↔◌, List, ℕ, IfOk, IsTrue, MatchOption, false, length, true};
+ghost use Rattle.std.specs.Prelude.{◌≡◌, ◌≤◌, ◌*◌, ◌↔◌, List, ℕ, IfOk, IsTrue, MatchOption, false, length, true};
 ghost use Rattle.bag_digest.specs.Algorithm.{has, size_of};
 ghost use Rattle.bag_digest.specs.declared.algorithm.Alg.{Alg};
 ghost use Rattle.bag_path.specs.declared.path.TheConstants.{LONGEST_PATH};
 ghost use Rattle.bag_path.specs.Spellings.{written_part, written_spelling};
 ghost use Rattle.bag_rules.specs.declared.limits.TheConstants.{LARGEST_TAG_FILE};
-ghost use Rattle.bag_tags.specs.declared.listing.Kind.TheVariants.{Payload};
-ghost use Rattle.bag_writer.specs.WrittenBags.{fetch_files, manifest_of};
-ghost use Rattle.bag_writer.specs.Writing.{HasLongFile, IsTooLarge, empty_files, payload_paths};
+ghost use Rattle.bag_writer.specs.TagWriting.{IsManifestLong};
+ghost use Rattle.bag_writer.specs.WrittenBags.{fetch_files};
+ghost use Rattle.bag_writer.specs.Writing.{HasLongFile, IsLarge, IsTooLarge, empty_files, payload_paths};
 
+use crate::fault::Large;
 use crate::spec::{Hole, Spec};
+use crate::tags::tag_file::{manifest_path, tag_path};
 use crate::tags::texts::info_text;
 use bag_digest::{Alg, AlgSet};
 use bag_path::BagPath;
 use bag_rules::Paths;
 use bag_rules::limits::{LARGEST_TAG_FILE, MOST_LINES};
-use bag_tags::Oxum;
+use bag_tags::{Kind, Oxum};
 use std::alloc::{AllocError, Global};
 
-/// Whether a bag with this many payload files would be too large even if each of them were empty. What the files
-/// contain doesn't change the lengths of manifests, and can only make `bag-info.txt` and `fetch.txt` longer. Tag
+/// What would be too large in a bag with this many payload files even if each of them were empty, if anything. What the
+/// files contain doesn't change the lengths of manifests, and can only make `bag-info.txt` and `fetch.txt` longer. Tag
 /// manifests are never too long, since they list seven files at most.
-pub(crate) fn is_too_large_empty<P: Paths>(
+pub(crate) fn large_if_empty<P: Paths>(
     alloc: Global,
     tree: &P,
     spec: &Spec,
     count: usize,
-) -> Result<bool, AllocError>
+) -> Result<Option<Large>, AllocError>
     requires { count ≡ length (payload_paths (P.shown tree.now)) }
-    ensures { IfOk result (λ large. IsTrue large
-        ↔ IsTooLarge spec.now (empty_files (payload_paths (P.shown tree.now)))) }
+    ensures { IfOk result (λ found. MatchOption found
+        (¬ IsTooLarge spec.now (empty_files (payload_paths (P.shown tree.now))))
+        (IsLarge spec.now (empty_files (payload_paths (P.shown tree.now))))) }
 {
-    if count > MOST_LINES
-        || has_long_manifest(tree, spec.algs)
-        || is_long_fetch(spec.holes.as_slice())
-    {
-        return Ok(true);
+    if count > MOST_LINES {
+        return Ok(Some(Large::Payload));
+    }
+    if let Some(alg) = long_manifest(tree, spec.algs) {
+        let path = manifest_path(alloc, Kind::Payload, alg)?;
+        return Ok(Some(Large::TagFile(path)));
+    }
+    if is_long_fetch(spec.holes.as_slice()) {
+        return Ok(Some(Large::TagFile(tag_path(alloc, "fetch.txt")?)));
     }
     let oxum = Oxum {
         octets: 0,
         streams: count as u64,
     };
     let info = info_text(alloc, &spec.info, oxum)?;
-    Ok(info.len() as u64 > LARGEST_TAG_FILE)
+    if info.len() as u64 > LARGEST_TAG_FILE {
+        return Ok(Some(Large::TagFile(tag_path(alloc, "bag-info.txt")?)));
+    }
+    Ok(None)
 }
 
-/// Whether a payload manifest by one of these algorithms would be too long.
-fn has_long_manifest<P: Paths>(tree: &P, set: AlgSet) -> bool
-    ensures { IsTrue result ↔ ((alg : Alg) × (has set alg ≡ true) × (LARGEST_TAG_FILE
-        < length (manifest_of Payload (empty_files (payload_paths (P.shown tree.now))) alg).1)) }
+/// An algorithm of this set by which the payload manifest would be too long, if there is one.
+fn long_manifest<P: Paths>(tree: &P, set: AlgSet) -> Option<Alg>
+    ensures { MatchOption result
+        ((alg : Alg) → has set alg ≡ true → ¬ IsManifestLong (payload_paths (P.shown tree.now)) alg)
+        (λ alg. (has set alg ≡ true) × IsManifestLong (payload_paths (P.shown tree.now)) alg) }
 {
-    match longest(set) {
-        Some(alg) => is_long_manifest(tree, alg),
-        None => false,
+    let alg = longest(set)?;
+    if is_long_manifest(tree, alg) {
+        Some(alg)
+    } else {
+        None
     }
 }
 
@@ -77,8 +90,7 @@ fn longest(set: AlgSet) -> Option<Alg>
 
 /// Whether the payload manifest by this algorithm would be too long.
 fn is_long_manifest<P: Paths>(tree: &P, alg: Alg) -> bool
-    ensures { IsTrue result ↔ (LARGEST_TAG_FILE
-        < length (manifest_of Payload (empty_files (payload_paths (P.shown tree.now))) alg).1) }
+    ensures { IsTrue result ↔ IsManifestLong (payload_paths (P.shown tree.now)) alg }
 {
     // Each line is a digest in hex, two spaces, the path and LF.
     let around = 2 * alg.len() as u64 + 3;

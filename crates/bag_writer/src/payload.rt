@@ -6,11 +6,13 @@ ghost use Rattle.bag_rules.specs.Trees.{UsesTree, paths_in};
 ghost use Rattle.bag_rules.specs.declared.limits.TheConstants.{LARGEST_FILE};
 ghost use Rattle.bag_writer.specs.Sinks.{ClosesSink, IsFree, UsesClosedSink, UsesOpenSink};
 ghost use Rattle.bag_writer.specs.PayloadSteps.{HasFrontFrom, IsCutShort, IsReadAs, IsReadUntil, IsReadWhole, IsTaken, Writes, WritesFront, unless_hole};
-ghost use Rattle.bag_writer.specs.Steps.{AreHoleMarks, AreItemsOf, ArePart, AreWhole, HasNoFile, written_payload};
+ghost use Rattle.bag_writer.specs.Steps.{AreHoleMarks, AreItemsOf, ArePart, AreWhole, HasNoFile, NamesLong, written_payload};
 ghost use Rattle.bag_writer.specs.Writing.{HasLongFile, IsMetLater, IsReadFrom};
+ghost use Rattle.bag_writer.specs.declared.fault.Large.{Large};
 ghost use Rattle.bag_writer.specs.declared.fault.WriteFault.{WriteFault};
+ghost use Rattle.bag_writer.specs.declared.payload.CopyFault.{CopyFault};
 
-use crate::fault::WriteFault;
+use crate::fault::{Large, WriteFault};
 use crate::item::Item;
 use crate::items::Items;
 use crate::sink::Sink;
@@ -23,6 +25,17 @@ use std::alloc::Global;
 
 /// The length of the buffer in octets. A file that ends within it is held until its digests are taken.
 pub(crate) const BUFFER: usize = 2 * PIECE;
+
+/// Why a file wasn't copied to its end.
+#[derive(Clone, Copy, Debug)]
+enum CopyFault {
+    /// A read failed.
+    Tree,
+    /// A write failed.
+    Sink,
+    /// The source gave more than 2^40 octets.
+    TooLarge,
+}
 
 /// Reads the payload files by path, writes each that isn't a hole, and returns what manifests need to know about each.
 ///
@@ -45,7 +58,7 @@ pub(crate) fn write_payload<T: Tree, S: Sink>(
         × MatchResult result (λ items. AreItemsOf spec.now.algs items.items payload
         × (¬ HasLongFile payload LARGEST_FILE)
         × AreWhole (written_payload spec.now payload) (S.stored sink.old) (S.stored sink.new))
-        (λ fault. (fault ≡ WriteFault.TooLarge → HasLongFile payload LARGEST_FILE)
+        (λ fault. NamesLong Large.File payload LARGEST_FILE fault
         × ArePart (written_payload spec.now payload) (S.stored sink.old) (S.stored sink.new)) }
     ensures err { IfErr result IsMetLater }
     ensures tree { UsesTree T.shown T.failures T.sure tree.old tree.new
@@ -98,8 +111,12 @@ fn write_file<T: Tree, S: Sink>(
     let Ok(()) = tree.start(i) else {
         return Err(WriteFault::Tree);
     };
-    let found = copy_unless_hole(buffer, tree, &path, is_hole, set, sink)?;
-    Ok((path, found))
+    match copy_unless_hole(buffer, tree, &path, is_hole, set, sink) {
+        Ok(found) => Ok((path, found)),
+        Err(CopyFault::Tree) => Err(WriteFault::Tree),
+        Err(CopyFault::Sink) => Err(WriteFault::Sink),
+        Err(CopyFault::TooLarge) => Err(WriteFault::TooLarge(Large::File(path))),
+    }
 }
 
 /// Reads a source to its end, and writes what it gives as a file unless that is a hole. Returns what was found.
@@ -110,7 +127,7 @@ fn copy_unless_hole<R: Source, S: Sink>(
     is_hole: bool,
     set: AlgSet,
     sink: &mut S,
-) -> Result<Found, WriteFault>
+) -> Result<Found, CopyFault>
     requires { 0 < length buffer.old }
     ensures taken { (octets : List ℕ) × MatchResult result
         (λ found. IsReadWhole set (R.remaining source.old) (R.remaining source.new)
@@ -120,12 +137,11 @@ fn copy_unless_hole<R: Source, S: Sink>(
         (λ fault. IsReadUntil (R.remaining source.old) (R.remaining source.new) fault octets
         × ((rest : List ℕ) → ArePart (unless_hole is_hole (path.now, octets ++ rest))
         (S.stored sink.old) (S.stored sink.new))) }
-    ensures err { IfErr result IsMetLater }
     ensures source { UsesSource R.failures R.ready R.keeps source.old source.new
-        (IsErrOf result WriteFault.Tree) }
+        (IsErrOf result CopyFault.Tree) }
     ensures sink { UsesClosedSink S.is_open S.failures S.sure sink.old sink.new
         ((S.is_open sink.old ≡ false) × IsFree (S.stored sink.old) path.now)
-        result (IsErrOf result WriteFault.Sink) }
+        result (IsErrOf result CopyFault.Sink) }
 {
     if is_hole {
         read_hole(buffer, source, set)
@@ -135,21 +151,21 @@ fn copy_unless_hole<R: Source, S: Sink>(
 }
 
 /// Reads a source to its end. Returns what was found.
-fn read_hole<R: Source>(buffer: &mut [u8], source: &mut R, set: AlgSet) -> Result<Found, WriteFault>
+fn read_hole<R: Source>(buffer: &mut [u8], source: &mut R, set: AlgSet) -> Result<Found, CopyFault>
     requires { 0 < length buffer.old }
     ensures read { (octets : List ℕ) × MatchResult result
         (λ found. IsReadWhole set (R.remaining source.old) (R.remaining source.new)
         buffer.new found octets)
         (λ fault. IsReadUntil (R.remaining source.old) (R.remaining source.new) fault octets) }
     ensures err { IfErr result (λ fault.
-        (fault ≡ WriteFault.Tree) ⊎ (fault ≡ WriteFault.TooLarge)) }
+        (fault ≡ CopyFault.Tree) ⊎ (fault ≡ CopyFault.TooLarge)) }
     ensures source { UsesSource R.failures R.ready R.keeps source.old source.new
-        (IsErrOf result WriteFault.Tree) }
+        (IsErrOf result CopyFault.Tree) }
 {
     match read_or_digest(buffer, source, set, LARGEST_FILE) {
         Ok(found) => Ok(found),
-        Err(SourceFault::Read) => Err(WriteFault::Tree),
-        Err(SourceFault::TooLarge) => Err(WriteFault::TooLarge),
+        Err(SourceFault::Read) => Err(CopyFault::Tree),
+        Err(SourceFault::TooLarge) => Err(CopyFault::TooLarge),
     }
 }
 
@@ -160,7 +176,7 @@ fn copy_file<R: Source, S: Sink>(
     path: &BagPath,
     set: AlgSet,
     sink: &mut S,
-) -> Result<Found, WriteFault>
+) -> Result<Found, CopyFault>
     requires { 0 < length buffer.old }
     ensures copied { (octets : List ℕ) × MatchResult result
         (λ found. IsReadWhole set (R.remaining source.old) (R.remaining source.new)
@@ -168,20 +184,19 @@ fn copy_file<R: Source, S: Sink>(
         × AreWhole ((path.now, octets) ∷ []) (S.stored sink.old) (S.stored sink.new))
         (λ fault. IsReadUntil (R.remaining source.old) (R.remaining source.new) fault octets
         × HasFrontFrom path.now octets (S.stored sink.old) (S.stored sink.new)) }
-    ensures err { IfErr result IsMetLater }
     ensures source { UsesSource R.failures R.ready R.keeps source.old source.new
-        (IsErrOf result WriteFault.Tree) }
+        (IsErrOf result CopyFault.Tree) }
     ensures sink { ClosesSink S.is_open S.failures S.sure sink.old sink.new
         ((S.is_open sink.old ≡ false) × IsFree (S.stored sink.old) path.now)
-        result (IsErrOf result WriteFault.Sink) }
+        result (IsErrOf result CopyFault.Sink) }
 {
     let Ok(()) = sink.file(path) else {
-        return Err(WriteFault::Sink);
+        return Err(CopyFault::Sink);
     };
     let found = copy_octets(buffer, source, set, sink)?;
     match sink.end() {
         Ok(()) => Ok(found),
-        Err(Failed) => Err(WriteFault::Sink),
+        Err(Failed) => Err(CopyFault::Sink),
     }
 }
 
@@ -196,7 +211,7 @@ fn copy_octets<R: Source, S: Sink>(
     source: &mut R,
     set: AlgSet,
     sink: &mut S,
-) -> Result<Found, WriteFault>
+) -> Result<Found, CopyFault>
     requires { 0 < length buffer.old }
     ensures copied { (octets : List ℕ) × MatchResult result
         (λ found. IsReadWhole set (R.remaining source.old) (R.remaining source.new)
@@ -204,19 +219,18 @@ fn copy_octets<R: Source, S: Sink>(
         × Writes octets (S.stored sink.old) (S.stored sink.new))
         (λ fault. IsReadUntil (R.remaining source.old) (R.remaining source.new) fault octets
         × WritesFront octets (S.stored sink.old) (S.stored sink.new)) }
-    ensures err { IfErr result IsMetLater }
     ensures source { UsesSource R.failures R.ready R.keeps source.old source.new
-        (IsErrOf result WriteFault.Tree) }
+        (IsErrOf result CopyFault.Tree) }
     ensures sink { UsesOpenSink S.is_open S.failures S.sure sink.old sink.new
-        (IsErrOf result WriteFault.Sink) }
+        (IsErrOf result CopyFault.Sink) }
 {
     let mut multi = Multi::new(set);
     let mut total = 0u64;
     'pieces: loop {
         let n = match fill(buffer, source, LARGEST_FILE - total) {
             Ok(n) => n,
-            Err(SourceFault::Read) => return Err(WriteFault::Tree),
-            Err(SourceFault::TooLarge) => return Err(WriteFault::TooLarge),
+            Err(SourceFault::Read) => return Err(CopyFault::Tree),
+            Err(SourceFault::TooLarge) => return Err(CopyFault::TooLarge),
         };
         write_piece(&buffer[..n], sink)?;
         let is_last = n < buffer.len();
@@ -232,19 +246,19 @@ fn copy_octets<R: Source, S: Sink>(
 }
 
 /// Writes these octets to the file that was begun, if there are any.
-fn write_piece<S: Sink>(octets: &[u8], sink: &mut S) -> Result<(), WriteFault>
+fn write_piece<S: Sink>(octets: &[u8], sink: &mut S) -> Result<(), CopyFault>
     ensures written { MatchResult result
         (λ done. Writes octets.now (S.stored sink.old) (S.stored sink.new))
         (λ fault. WritesFront octets.now (S.stored sink.old) (S.stored sink.new)) }
-    ensures err { IfErr result (λ fault. fault ≡ WriteFault.Sink) }
+    ensures err { IfErr result (λ fault. fault ≡ CopyFault.Sink) }
     ensures sink { UsesOpenSink S.is_open S.failures S.sure sink.old sink.new
-        (IsErrOf result WriteFault.Sink) }
+        (IsErrOf result CopyFault.Sink) }
 {
     if octets.is_empty() {
         return Ok(());
     }
     match sink.write(octets) {
         Ok(()) => Ok(()),
-        Err(Failed) => Err(WriteFault::Sink),
+        Err(Failed) => Err(CopyFault::Sink),
     }
 }

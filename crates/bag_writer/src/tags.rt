@@ -7,10 +7,11 @@ ghost use Rattle.bag_tags.specs.declared.listing.Kind.TheVariants.{Payload, Tag}
 ghost use Rattle.bag_rules.specs.Files.{Files};
 ghost use Rattle.bag_rules.specs.declared.limits.TheConstants.{LARGEST_TAG_FILE};
 ghost use Rattle.bag_writer.specs.Sinks.{UsesClosedSink};
-ghost use Rattle.bag_writer.specs.Steps.{AreItemsOf, ArePart, AreWhole, HasPayloadAlone, IsWritable};
+ghost use Rattle.bag_writer.specs.Steps.{AreItemsOf, ArePart, AreWhole, HasPayloadAlone, IsWritable, NamesLong};
 ghost use Rattle.bag_writer.specs.TagWriting.{AddsItems, CanBeFetched, CanBeListed, WritesFiles};
 ghost use Rattle.bag_writer.specs.WrittenBags.{algs_in, bagit_file, fetch_files, info_file, listed_tags, manifest_of, tag_files};
 ghost use Rattle.bag_writer.specs.Writing.{HasLongFile, IsMetLater, oxum_of};
+ghost use Rattle.bag_writer.specs.declared.fault.Large.{Large};
 ghost use Rattle.bag_writer.specs.declared.fault.WriteFault.{WriteFault};
 
 use crate::fault::WriteFault;
@@ -23,7 +24,7 @@ use std::alloc::Global;
 use tag_file::{manifest_path, tag_path, write_listed, write_whole};
 use texts::{fetch_text, info_text, manifest_text, total_octets};
 
-mod tag_file;
+pub(crate) mod tag_file;
 pub(crate) mod texts;
 
 /// Writes the tag files of a payload that was written, and returns its Oxum.
@@ -43,8 +44,7 @@ pub(crate) fn write_tag_files<S: Sink>(
         → IsWritable spec.now payload → MatchResult result (λ oxum. (oxum ≡ oxum_of payload)
         × (¬ HasLongFile (tag_files spec.now payload) LARGEST_TAG_FILE)
         × AreWhole (tag_files spec.now payload) (S.stored sink.old) (S.stored sink.new))
-        (λ fault. (fault ≡ WriteFault.TooLarge
-        → HasLongFile (tag_files spec.now payload) LARGEST_TAG_FILE)
+        (λ fault. NamesLong Large.TagFile (tag_files spec.now payload) LARGEST_TAG_FILE fault
         × ArePart (tag_files spec.now payload) (S.stored sink.old) (S.stored sink.new)) }
     ensures err { IfErr result (λ fault. IsMetLater fault × (fault ≢ WriteFault.Tree)) }
     ensures sink { UsesClosedSink S.is_open S.failures S.sure sink.old sink.new

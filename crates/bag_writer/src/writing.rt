@@ -9,7 +9,7 @@ ghost use Rattle.bag_writer.specs.declared.fault.WriteFault.{WriteFault};
 
 use crate::accepting::accepted_holes;
 use crate::fault::WriteFault;
-use crate::measuring::is_too_large_empty;
+use crate::measuring::large_if_empty;
 use crate::payload::{BUFFER, write_payload};
 use crate::sink::Sink;
 use crate::spec::Spec;
@@ -62,8 +62,8 @@ pub fn write_bag<T: Tree, S: Sink>(
 {
     let marks = accepted_holes(alloc, tree, spec)?;
     let count = payload_count(tree);
-    if is_too_large_empty(alloc, tree, spec, count)? {
-        return Err(WriteFault::TooLarge);
+    if let Some(large) = large_if_empty(alloc, tree, spec, count)? {
+        return Err(WriteFault::TooLarge(large));
     }
     write_accepted(alloc, tree, spec, marks.as_slice(), sink)
 }
@@ -95,7 +95,7 @@ fn write_accepted<T: Tree, S: Sink>(
 }
 
 /// The number of payload files.
-fn payload_count<P: Paths>(paths: &P) -> usize
+pub fn payload_count<P: Paths>(paths: &P) -> usize
     ensures count { result ≡ length (payload_paths (P.shown paths.now)) }
     ensures rising { AreRising (paths_in (P.shown paths.now)) }
 {

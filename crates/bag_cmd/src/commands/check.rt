@@ -6,6 +6,9 @@ ghost use Rattle.bag_cmd.specs.Endings.{why_too_many, why_unchecked};
 use super::stop_unopened;
 use crate::ended::{Ended, Why};
 use crate::excess::{Excess, Limit};
+use crate::meter::{Activity, Meter};
+use crate::progress::Progress;
+use crate::watched::Watched;
 use bag_commands::{Output, print_outcome};
 use bag_folder::{Directories, FolderTree};
 use bag_rules::limits::MOST_FILES;
@@ -16,8 +19,9 @@ use std::rt::Files;
 
 /// Checks the bag in a folder and prints the result, as [`bag_commands::check_to`] does. If the folder can't be opened,
 /// prints that.
-pub fn check_folder<R: Files + Drop, D: Directories, W: Write + Drop>(
-    rt: R,
+pub fn check_folder<R: Files + Eprint, D: Directories, W: Write + Drop>(
+    rt: &R,
+    progress: &Progress<'_, R>,
     disk: &D,
     alloc: Global,
     folder: &str,
@@ -26,12 +30,15 @@ pub fn check_folder<R: Files + Drop, D: Directories, W: Write + Drop>(
     ensures { PrintsCheck W.contents (D.listing disk.now) folder.now out.old out.new result }
 {
     match FolderTree::open(rt, disk, alloc, folder) {
-        Ok(mut tree) => {
+        Ok(tree) => {
+            let meter = Meter::new(progress, Activity::Checking);
+            meter.expect(tree.count());
+            let mut tree = Watched::new(tree, &meter);
             let answer = check(alloc, &mut tree);
             let status = print_outcome(&answer, out);
             Ended {
                 status,
-                why: why_unchecked(answer, tree),
+                why: why_unchecked(answer, tree.into_inside()),
             }
         }
         Err(fault) => stop_unopened(fault, out),

@@ -3,6 +3,9 @@ ghost use Rattle.bag_cmd.specs.Working.{ExportsInto};
 
 use super::stop_unopened;
 use crate::ended::{Ended, Why};
+use crate::meter::{Activity, Meter};
+use crate::progress::Progress;
+use crate::watched::Watched;
 use bag_commands::status::DONE;
 use bag_commands::{Output, export_to};
 use bag_folder::Destination;
@@ -17,7 +20,8 @@ use std::rt::Files;
 /// folder can't be made, prints that.
 ///
 /// If the status isn't 0, the folder is given up, that is, removed if it is empty.
-pub fn export_into_folder<K: Keeper, R: Files, W: Write + Drop>(
+pub fn export_into_folder<K: Keeper, R: Files + Eprint, W: Write + Drop>(
+    progress: &Progress<'_, R>,
     made: &mut Destination<'_, R>,
     alloc: Global,
     receiver: &mut Receiver<K>,
@@ -29,8 +33,11 @@ pub fn export_into_folder<K: Keeper, R: Files, W: Write + Drop>(
         receiver.old receiver.new out.old out.new result }
 {
     match made.create(alloc, folder) {
-        Ok(mut sink) => {
+        Ok(sink) => {
+            let meter = Meter::new(progress, Activity::Exporting);
+            let mut sink = Watched::new(sink, &meter);
             let status = export_to(alloc, receiver, name, &mut sink, out);
+            let sink = sink.into_inside();
             if status != DONE {
                 made.give_up();
             }

@@ -3,16 +3,19 @@ ghost use Rattle.std.specs.Prelude.{◌≡◌, [], ℕ, IfErr, IfOk, List, Match
 ghost use Rattle.bag_cmd.specs.Working.{DoesWork, HoldsValidBag, IsOpenFor, Works, WorksOn, viewed};
 ghost use Rattle.bag_commands.specs.declared.status.TheConstants.{VALID};
 ghost use Rattle.bag_ledger.specs.Ledgers.{Ledger};
-ghost use Rattle.bag_receiver.specs.Receivers.{IsInState};
+ghost use Rattle.bag_receiver.specs.Receivers.{Does, IsInState};
+ghost use Rattle.bag_receiver.specs.ReceiversInside.{Same};
 ghost use Rattle.bag_receiver.specs.Receiving.{LedgerState};
 
 use super::begin::begin_with_folder;
 use super::export::export_into_folder;
 use super::fetch::fetch_from_folder;
 use super::intake::intake_folders;
-use crate::ended::Ended;
+use crate::ended::{Ended, Why};
 use crate::ledger::{Ledgers, Opened};
+use crate::progress::Progress;
 use crate::request::Work;
+use crate::unopened::Unopened;
 use bag_commands::status::FAILED;
 use bag_commands::{Output, Stop, TextSpelling, audit_to, list_to, report_to};
 use bag_folder::{Destination, Directories};
@@ -27,8 +30,9 @@ use std::rt::Files;
 /// Opens a ledger, does the work and prints the result. If the ledger can't be opened, prints why.
 ///
 /// `begin` makes the ledger if there is none. A ledger that it made is removed if no transfer was opened.
-pub fn work_on_ledger<R: Files, D: Directories, L: Ledgers, W: Write + Drop>(
+pub fn work_on_ledger<R: Files + Eprint, D: Directories, L: Ledgers, W: Write + Drop>(
     rt: &R,
+    progress: &Progress<'_, R>,
     disk: &D,
     ledgers: &mut L,
     made: &mut Destination<'_, R>,
@@ -37,10 +41,10 @@ pub fn work_on_ledger<R: Files, D: Directories, L: Ledgers, W: Write + Drop>(
     work: &Work,
     out: &mut Output<W>,
 ) -> Ended
-    ensures { WorksOn L.Kept.Keeper L.opened L.made L.refused (D.listing disk.now) W.contents
-        ledger.now work.now made.old made.new out.old out.new result }
+    ensures { WorksOn L.Kept.Keeper L.opened L.made L.refused L.closed (D.listing disk.now)
+        W.contents ledger.now work.now made.old made.new out.old out.new result }
 {
-    match open_and_work(rt, disk, ledgers, made, alloc, ledger, work, out) {
+    match open_and_work(rt, progress, disk, ledgers, made, alloc, ledger, work, out) {
         Ok(
             Worked {
                 mut receiver,
@@ -48,14 +52,20 @@ pub fn work_on_ledger<R: Files, D: Directories, L: Ledgers, W: Write + Drop>(
                 ended,
             },
         ) => {
-            if is_made && has_no_transfer(alloc, &mut receiver) {
-                ledgers.give_up(receiver.into_keeper());
-            } else {
-                ledgers.close(receiver.into_keeper());
-            }
-            ended
+            let is_vain = is_vain(alloc, is_made, &mut receiver);
+            let keeper = receiver.into_keeper();
+            let cause = ledgers.trouble(&keeper);
+            let closed = close(ledgers, keeper, is_vain);
+            drop(closed);
+            ended.or(Why::of_ledger(alloc, ledger, cause))
         }
-        Err(fault) => Ended::plain(out.print(UnopenedLine(&fault), FAILED)),
+        Err(Unopened { fault, cause, left }) => {
+            drop(left);
+            Ended {
+                status: out.print(UnopenedLine(&fault), FAILED),
+                why: Why::of_ledger(alloc, ledger, cause),
+            }
+        }
     }
 }
 
@@ -68,8 +78,9 @@ struct Worked<K> {
 }
 
 /// Opens a ledger and does the work. The receiver is returned too, so that the ledger can be closed.
-fn open_and_work<R: Files, D: Directories, L: Ledgers, W: Write + Drop>(
+fn open_and_work<R: Files + Eprint, D: Directories, L: Ledgers, W: Write + Drop>(
     rt: &R,
+    progress: &Progress<'_, R>,
     disk: &D,
     ledgers: &mut L,
     made: &mut Destination<'_, R>,
@@ -77,7 +88,7 @@ fn open_and_work<R: Files, D: Directories, L: Ledgers, W: Write + Drop>(
     ledger: &str,
     work: &Work,
     out: &mut Output<W>,
-) -> Result<Worked<L::Kept>, AdoptFault>
+) -> Result<Worked<L::Kept>, Unopened<L::Left>>
     ensures works { IfOk result (λ done. Works L.Kept.Keeper L.opened L.made (D.listing disk.now)
         W.contents ledger.now work.now made.old made.new done.receiver out.old out.new
         done.ended) }
@@ -91,12 +102,13 @@ fn open_and_work<R: Files, D: Directories, L: Ledgers, W: Write + Drop>(
     ensures made { IfOk result (λ done. done.is_made ≡ true
         → L.Kept.Keeper.clean done.receiver.keeper → (now : LedgerState)
         × IsInState L.Kept.Keeper.holds L.Kept.Keeper.may_leave done.receiver now) }
-    ensures refused { IfErr result (λ fault. L.refused ledger.now fault
+    ensures refused { IfErr result (λ it. L.refused ledger.now it
         × (made.new ≡ made.old) × (out.new ≡ out.old)) }
 {
+    progress.show_reading(ledger);
     let opened = open(ledgers, ledger, work)?;
     let mut receiver = Receiver::new(alloc, opened.kept);
-    let ended = do_work(rt, disk, made, alloc, &mut receiver, work, out);
+    let ended = do_work(rt, progress, disk, made, alloc, &mut receiver, work, out);
     Ok(Worked {
         receiver,
         is_made: opened.is_made,
@@ -109,7 +121,7 @@ fn open<L: Ledgers>(
     ledgers: &mut L,
     ledger: &str,
     work: &Work,
-) -> Result<Opened<L::Kept>, AdoptFault>
+) -> Result<Opened<L::Kept>, Unopened<L::Left>>
     ensures { MatchResult result
         (λ it. IsOpenFor L.opened L.made ledger.now work.now it.is_made it.kept)
         (L.refused ledger.now) }
@@ -120,21 +132,39 @@ fn open<L: Ledgers>(
     }
 }
 
-/// Whether it can be read that the ledger has no transfers.
-fn has_no_transfer<K: Keeper>(alloc: Global, receiver: &mut Receiver<K>) -> bool
-    ensures { result ≡ true → K.clean receiver.new.keeper → K.clean receiver.old.keeper
+/// Whether the ledger was made for the work, and it can be read that it has no transfers.
+fn is_vain<K: Keeper>(alloc: Global, is_made: bool, receiver: &mut Receiver<K>) -> bool
+    ensures none { result ≡ true → (is_made ≡ true)
+        × (K.clean receiver.new.keeper → K.clean receiver.old.keeper
         × ((now : LedgerState) → IsInState K.holds K.may_leave receiver.old now
-        → K.holds receiver.new.keeper []) }
+        → K.holds receiver.new.keeper [])) }
+    ensures reads { Does K.holds K.may_leave K.clean receiver.old receiver.new Same }
 {
+    if !is_made {
+        return false;
+    }
     match receiver.names(alloc) {
         Ok(names) => names.is_empty(),
         Err(_) => false,
     }
 }
 
+/// Closes a ledger after the work on it. `is_vain` says whether it is given up.
+fn close<L: Ledgers>(ledgers: &mut L, keeper: L::Kept, is_vain: bool) -> L::Closed
+    requires { is_vain ≡ true → L.Kept.Keeper.clean keeper → L.Kept.Keeper.holds keeper [] }
+    ensures { L.closed keeper result }
+{
+    if is_vain {
+        ledgers.give_up(keeper)
+    } else {
+        ledgers.close(keeper)
+    }
+}
+
 /// Does the work on an open ledger.
-fn do_work<K: Keeper, R: Files, D: Directories, W: Write + Drop>(
+fn do_work<K: Keeper, R: Files + Eprint, D: Directories, W: Write + Drop>(
     rt: &R,
+    progress: &Progress<'_, R>,
     disk: &D,
     made: &mut Destination<'_, R>,
     alloc: Global,
@@ -158,7 +188,16 @@ fn do_work<K: Keeper, R: Files, D: Directories, W: Write + Drop>(
             )
         }
         Work::Intake { name, folders } => {
-            intake_folders(rt, disk, alloc, receiver, name.as_str(), folders, out)
+            intake_folders(
+                rt,
+                progress,
+                disk,
+                alloc,
+                receiver,
+                name.as_str(),
+                folders,
+                out,
+            )
         }
         Work::Report { name } => Ended::plain(report_to(alloc, receiver, name.as_str(), out)),
         Work::Audit { name } => Ended::plain(audit_to(alloc, receiver, name.as_str(), out)),
@@ -166,7 +205,15 @@ fn do_work<K: Keeper, R: Files, D: Directories, W: Write + Drop>(
             fetch_from_folder(rt, alloc, receiver, name.as_str(), folder.as_str(), out)
         }
         Work::Export { name, folder } => {
-            export_into_folder(made, alloc, receiver, name.as_str(), folder.as_str(), out)
+            export_into_folder(
+                progress,
+                made,
+                alloc,
+                receiver,
+                name.as_str(),
+                folder.as_str(),
+                out,
+            )
         }
         Work::List => Ended::plain(list_to(alloc, receiver, out)),
     }

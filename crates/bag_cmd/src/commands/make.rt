@@ -1,15 +1,20 @@
 //! `bag make SRC DST ALG..`: writes a bag of the files in a folder.
-ghost use Rattle.std.specs.Prelude.{◌≡◌};
-ghost use Rattle.bag_cmd.specs.Making.{MakesFolder, MakesInto, PrintsMake, words_given};
+ghost use Rattle.std.specs.Prelude.{◌≡◌, None};
+ghost use Rattle.bag_cmd.specs.Endings.{limit_of, why_unmade};
+ghost use Rattle.bag_cmd.specs.Making.{MakesFolder, MakesInto, PrintsMake, make_end, words_given};
 
 use super::stop_unopened;
 use crate::ended::{Ended, Why};
+use crate::excess::{Excess, Limit};
+use crate::meter::{Activity, Meter};
+use crate::progress::Progress;
+use crate::watched::Watched;
 use bag_commands::status::DONE;
-use bag_commands::{Output, make_to};
+use bag_commands::{MakeEnd, Output, make_to};
 use bag_digest::Source;
 use bag_folder::{Destination, Directories, FolderTree};
-use bag_rules::Tree;
-use bag_writer::Sink;
+use bag_rules::{Paths, Tree};
+use bag_writer::{Large, Sink};
 use std::alloc::Global;
 use std::io::Write;
 use std::rt::Files;
@@ -30,8 +35,9 @@ pub struct Making<'a> {
 ///
 /// The source is opened first, then the destination is made, and then the names of the algorithms are checked. If the
 /// status isn't 0, the destination is given up, that is, removed if it is empty.
-pub fn make_folder<R: Files, D: Directories, W: Write + Drop>(
+pub fn make_folder<R: Files + Eprint, D: Directories, W: Write + Drop>(
     rt: &R,
+    progress: &Progress<'_, R>,
     disk: &D,
     made: &mut Destination<'_, R>,
     alloc: Global,
@@ -42,12 +48,23 @@ pub fn make_folder<R: Files, D: Directories, W: Write + Drop>(
         out.old out.new result }
 {
     match FolderTree::open_payload(rt, disk, alloc, making.source) {
-        Ok(mut tree) => {
-            let ended = make_into(alloc, making, &mut tree, made, out);
-            ended.or(Why::of_failures(tree.failures(), tree.into_trouble()))
+        Ok(tree) => {
+            let meter = Meter::new(progress, Activity::Copying);
+            meter.expect(tree.count());
+            let mut tree = Watched::new(tree, &meter);
+            let Made { ended, large } = make_into(alloc, making, &mut tree, made, out);
+            ended.or(why_unmade(tree.into_inside(), large))
         }
         Err(fault) => stop_unopened(fault, out),
     }
+}
+
+/// How `make` ended, given what is told of the folder for the bag.
+#[derive(Debug, Drop)]
+struct Made {
+    ended: Ended,
+    // what is too large, if something is
+    large: Option<Large>,
 }
 
 /// Makes the folder for the bag, and in it the bag of a tree's files.
@@ -57,22 +74,51 @@ fn make_into<T: Tree, R: Files, W: Write + Drop>(
     tree: &mut T,
     made: &mut Destination<'_, R>,
     out: &mut Output<W>,
-) -> Ended
+) -> Made
     ensures { MakesInto W.contents (MakesFolder W.contents T.shown T.failures T.sure
-        tree.old tree.new (words_given making.now).names out.old out.new result.status)
-        (tree.new ≡ tree.old) making.now.destination.now made.old made.new out.old out.new result }
+        tree.old tree.new (words_given making.now).names out.old out.new (make_end result))
+        ((tree.new ≡ tree.old) × (result.large ≡ None)) making.now.destination.now
+        made.old made.new out.old out.new result.ended }
 {
     match made.create(alloc, making.destination) {
         Ok(mut sink) => {
-            let status = make_to(alloc, making.names, tree, &mut sink, out);
+            let MakeEnd { status, large } = make_to(alloc, making.names, tree, &mut sink, out);
             if status != DONE {
                 made.give_up();
             }
-            Ended {
-                status,
-                why: Why::of_failures(sink.failures(), sink.into_trouble()),
+            let why = Why::of_failures(sink.failures(), sink.into_trouble());
+            Made {
+                ended: Ended { status, why },
+                large,
             }
         }
-        Err(fault) => stop_unopened(fault, out),
+        Err(fault) => Made {
+            ended: stop_unopened(fault, out),
+            large: None,
+        },
+    }
+}
+
+/// What is told of the payload: what is too large, or what couldn't be used.
+fn why_unmade<R: Files + Drop>(tree: FolderTree<R>, large: Option<Large>) -> Option<Why>
+    ensures { result ≡ why_unmade tree large }
+{
+    match large {
+        Some(large) => Some(Why::Exceeds(Excess {
+            name: tree.into_folder(),
+            limit: limit_of(large),
+        })),
+        None => Why::of_failures(tree.failures(), tree.into_trouble()),
+    }
+}
+
+/// The limit that is exceeded.
+fn limit_of(large: Large) -> Limit
+    ensures { result ≡ limit_of large }
+{
+    match large {
+        Large::Payload => Limit::NewPayload,
+        Large::File(path) => Limit::NewFile(path),
+        Large::TagFile(path) => Limit::NewTagFile(path),
     }
 }

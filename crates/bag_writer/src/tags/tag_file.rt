@@ -8,7 +8,7 @@ ghost use Rattle.bag_writer.specs.Sinks.{ClosesSink, IsFree};
 ghost use Rattle.bag_writer.specs.Steps.{ArePart, AreWhole, IsItemOf};
 ghost use Rattle.bag_writer.specs.TagWriting.{AddsItems, WritesFiles};
 
-use crate::fault::WriteFault;
+use crate::fault::{Large, WriteFault};
 use crate::item::Item;
 use crate::sink::Sink;
 use bag_digest::{Alg, AlgSet, Failed, Multi};
@@ -46,7 +46,8 @@ pub(crate) fn write_listed<S: Sink>(
 ///
 /// # Errors
 ///
-/// `Sink` if the sink failed; `TooLarge` if the file has more than 16,777,216 octets. It is then not begun.
+/// `Sink` if the sink failed; `TooLarge` if the file has more than 16,777,216 octets, or `Memory` if memory runs out for
+/// its path then. It is not begun in these cases.
 pub(crate) fn write_whole<S: Sink>(
     path: &BagPath,
     octets: &[u8],
@@ -56,7 +57,7 @@ pub(crate) fn write_whole<S: Sink>(
         ((path.now, octets.now) ∷ []) sink.old sink.new (result_err result) }
 {
     if octets.len() as u64 > LARGEST_TAG_FILE {
-        return Err(WriteFault::TooLarge);
+        return Err(WriteFault::TooLarge(Large::TagFile(path.clone()?)));
     }
     match write_through(path, octets, sink) {
         Ok(()) => Ok(()),

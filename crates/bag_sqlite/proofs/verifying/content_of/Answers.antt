@@ -1,6 +1,6 @@
 use Rattle.std.proofs.Common.{FitsSigned, to_z, ap, subst, sym, [], ◌∷◌, ◌≡◌, ◌<◌, ◌≤◌, ◌^◌, ◌+◌, ◌∙◌, arith, length, pos, rules, w64, inl, inr, min, ◌-◌}
 use mir.Val.{of_z}
-use Rattle.bag_sqlite.proofs.Words.{concat, count_text, err_from_is_err_and, HasCleanDisk, Int, PIECE, piece_text, ShowsOctets, state, Tells, TellsOne, to_z-of_z, to_z_pos}
+use Rattle.bag_sqlite.proofs.Words.{concat, count_text, err_from_is_err_and, HasCleanDisk, Int, IsHeld, PIECE, piece_text, ShowsOctets, state, Tells, TellsOne, to_z-of_z, to_z_pos}
 use Rattle.bag_sqlite.proofs.AdoptingLemmas.{reads_same, reads_then, stands_still}
 use Rattle.bag_sqlite.proofs.PiecesRead.{nothing_taken, one_taken}
 use Rattle.bag_sqlite.proofs.verifying.content_of.Goals as goal
@@ -8,10 +8,11 @@ use Rattle.bag_sqlite.proofs.verifying.content_of.Goals as goal
 pub loop-taken-init : goal.loop-taken-init
 loop-taken-init g c =
     record {
-      reads = reads_same c.requires.idle;
+      reads = reads_same c.requires.0;
       within = omega arith;
       few = omega arith;
-      pieces = λ clean db stands. nothing_taken g.S.Store db _ c.args.set c.none-content.result c.args.size c.none-content.ensures;
+      held = c.none-content.ensures.held;
+      pieces = λ clean db stands. nothing_taken g.S.Store db _ c.args.set c.none-content.result c.args.size c.none-content.ensures.taken;
     }
 
 pub loop-taken-preserved : goal.loop-taken-preserved
@@ -25,11 +26,12 @@ loop-taken-preserved g c =
     let octets = c.min-octets.result in
     let some : 0 < octets = omega (arith, c.min-octets.ensures, c.loop-taken-test.true) in
     let fits : taken + octets ≤ c.args.size = omega (arith, c.min-octets.ensures, c.loop-taken-test.true) in
-    let low : c.loop-taken.n < 2 ^ 63 = omega (arith, so_far.few, so_far.within, c.requires.within) in
+    let low : c.loop-taken.n < 2 ^ 63 = omega (arith, so_far.few, so_far.within, c.requires.1) in
     record {
       reads = reads_then so_far.reads c.take_piece.ensures.reads;
       within = fits;
       few = omega (arith, so_far.few, some);
+      held = c.in_ok-take_piece.ensures.held c.if-not-branch.false c.args.size taken so_far.held;
       pieces = λ clean db stands.
           let still = stands_still old mid db (so_far.reads.read (before clean)) stands in
           let (piece, told, long, takes) = rw (to_z-of_z w64 c.args.item c.ranges.item, to_z_pos w64 low) at (c.in_ok-take_piece.ensures.taken clean db still) c.if-not-branch.false in
@@ -48,11 +50,16 @@ returns-clause-content g c clean db stands =
     let still = stands_still old mid db (c.loop-taken.invariant.reads.read early) stands in
     let count = rw (to_z-of_z w64 c.args.item c.ranges.item) at (c.in_ok-count_of.ensures.count clean db still) in
     let all : c.args.size ≡ length (concat so_far.pieces) = omega (arith, so_far.taken_is, c.loop-taken.invariant.within, c.loop-taken-test.false) in
-    let low : c.loop-taken.n < 2 ^ 63 = omega (arith, c.loop-taken.invariant.few, c.loop-taken.invariant.within, c.requires.within) in
+    let low : c.loop-taken.n < 2 ^ 63 = omega (arith, c.loop-taken.invariant.few, c.loop-taken.invariant.within, c.requires.1) in
     let number = c.in_ok-count_of.field-0 in
     let fits : FitsSigned w64 number = search rules in
     let same : number ≡ pos (length so_far.pieces) = sym (to_z-of_z w64 number fits) ∙ ap (to_z w64) c.if-branch-n.false ∙ to_z_pos w64 low ∙ ap pos so_far.count in
     (so_far.pieces, record { each = so_far.each; count = subst (λ m. TellsOne g.S.Store db count_text (Int c.args.item ∷ []) (Int m)) same count; cut = so_far.cut }, all, so_far.holds)
+
+pub returns-clause-held : goal.returns-clause-held
+returns-clause-held g c =
+    let all : c.loop-taken.taken ≡ c.args.size = omega (arith, c.loop-taken.invariant.within, c.loop-taken-test.false) in
+    subst (IsHeld c.loop-taken.content c.args.size) all c.loop-taken.invariant.held
 
 pub returns-in_err-take_piece-clause-refused : goal.returns-in_err-take_piece-clause-refused
 returns-in_err-take_piece-clause-refused g c clean db stands =
@@ -69,7 +76,7 @@ returns-then-not-branch-clause-refused g c clean db stands =
     let mid = state g.S.Store c.loop-taken.connection in
     let early : HasCleanDisk mid = omega (arith, clean, c.take_piece.ensures.reads.survives.clean) in
     let still = stands_still old mid db (c.loop-taken.invariant.reads.read early) stands in
-    let low : c.loop-taken.n < 2 ^ 63 = omega (arith, c.loop-taken.invariant.few, c.loop-taken.invariant.within, c.requires.within) in
+    let low : c.loop-taken.n < 2 ^ 63 = omega (arith, c.loop-taken.invariant.few, c.loop-taken.invariant.within, c.requires.1) in
     let so_far = rw (to_z-of_z w64 c.args.item c.ranges.item) at (c.loop-taken.invariant.pieces early db stands) in
     let it = rw (to_z-of_z w64 c.args.item c.ranges.item, to_z_pos w64 low) at (c.in_ok-take_piece.ensures.refused clean db still) c.if-not-branch.true in
     let wanted : c.min-octets.result ≡ min (c.args.size - length (concat so_far.pieces)) PIECE = omega (arith, c.min-octets.ensures, so_far.taken_is) in

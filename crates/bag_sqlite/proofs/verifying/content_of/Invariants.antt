@@ -1,5 +1,5 @@
 use Rattle.std.proofs.Common.{◌-◌, ◌≤◌}
-use Rattle.bag_sqlite.proofs.Words.{Database, HasCleanDisk, OnlyReads, Stands, state}
+use Rattle.bag_sqlite.proofs.Words.{Database, HasCleanDisk, IsHeld, OnlyReads, Stands, state}
 use Rattle.bag_sqlite.proofs.PiecesRead.{HasTaken}
 use Rattle.bag_sqlite.proofs.verifying.content_of.Given as goal
 
@@ -11,6 +11,7 @@ invariant-loop-taken g l =
       reads : OnlyReads g.S.Store l.fn.connection l.connection;
       within : l.taken ≤ l.size;
       few : l.n ≤ l.taken;
+      held : IsHeld l.content l.size l.taken;
       pieces : HasCleanDisk now → (db : Database) → Stands old db → HasTaken g.S.Store db l.item l.fn.set l.content l.size l.taken l.n;
     }
 

@@ -1,4 +1,4 @@
-use Rattle.std.proofs.Common.{◌≡◌, ◌∙◌, Ok, w64, inl, inr}
+use Rattle.std.proofs.Common.{◌≡◌, ◌∙◌, Ok, arith, w64, inl, inr}
 use Rattle.bag_sqlite.proofs.Words.{AreSumsFor, concat, err_from_is_err_and, IsWantOf, to_z-of_z}
 use Rattle.bag_sqlite.proofs.BatchLemmas.{known_by, misfit_other}
 use Rattle.bag_sqlite.proofs.RefusingLemmas.{bad_path, path_error}
@@ -60,3 +60,8 @@ returns-clause-found g c clean db stands tags plan =
     let taken = rw c.in-Hashed.is at it.3 in
     let sums : AreSumsFor c.in-Some-want.want (concat it.0) c.in-Some-size_in.size c.finish.result = record { set = c.algs.result; length_is = it.2; digests_are = c.finish.ensures c.algs.result (concat it.0) taken; covers = λ alg listed. c.algs.ensures alg ∙ listed } in
     known.1 (misfit_other c.in-Some-want.want (concat it.0) _ (c.in-Err.ensures.octets (concat it.0) sums))
+
+pub returns-in-Whole-clause-little : goal.returns-in-Whole-clause-little
+returns-in-Whole-clause-little g c =
+    let held = rw c.in-Whole.is at (rw c.in-Some-2.is at c.in_ok-content.ensures.held) in
+    omega (arith, held.0, held.1)

@@ -50,4 +50,9 @@ returns-clause-taken g c clean db stands _ =
     let blob = rw c.in-Some.is at c.blob_in.ensures in
     let first : column (slice_index_or rows 0 []) 0 ≡ Blob c.in-Some.piece.now = ap (λ r. column r 0) (row_at rows c.index.result.now one c.index.ensures) ∙ blob in
     let long : length c.in-Some.piece.now ≡ c.args.octets = search rules in
-    (c.in-Some.piece.now, one_told g.S.Store db piece_text (Int c.args.item ∷ Int c.args.n ∷ []) rows _ one first told, long, λ set before. c.in_ok-take.ensures set before)
+    (c.in-Some.piece.now, one_told g.S.Store db piece_text (Int c.args.item ∷ Int c.args.n ∷ []) rows _ one first told, long, λ set before. c.in_ok-take.ensures.taken set before)
+
+pub returns-clause-held : goal.returns-clause-held
+returns-clause-held g c _ size before held =
+    let long : length c.in-Some.piece.now ≡ c.args.octets = search rules in
+    rw long at (c.in_ok-take.ensures.held size before held)

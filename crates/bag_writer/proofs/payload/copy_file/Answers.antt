@@ -1,6 +1,6 @@
 use Rattle.std.proofs.Common.{[], inl}
 use Rattle.std.proofs.lemmas.Result.{err_from_is_err_and}
-use Rattle.bag_writer.specs.declared.fault.WriteFault.TheVariants.{Sink}
+use Rattle.bag_writer.specs.declared.payload.CopyFault.TheVariants.{Sink}
 use Rattle.bag_writer.proofs.FileSteps.{none_until, not_ended, part_begun, until_sink}
 use Rattle.bag_writer.proofs.payload.copy_file.Goals as goal
 

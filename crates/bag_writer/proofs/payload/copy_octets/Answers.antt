@@ -1,7 +1,7 @@
 use Rattle.std.proofs.Common.{◌≡◌, ◌++◌, take}
 use Rattle.std.proofs.lemmas.Result.{err_from_is_err_and}
 use Rattle.bag_digest.specs.declared.reading.SourceFault.TheVariants as cause
-use Rattle.bag_writer.specs.declared.fault.WriteFault.TheVariants.{Sink}
+use Rattle.bag_writer.specs.declared.payload.CopyFault.TheVariants.{Sink}
 use Rattle.bag_writer.proofs.OctetSteps.{found_hashed, read_fails, read_is_too_long, write_failed}
 use Rattle.bag_writer.proofs.payload.copy_octets.Goals as goal
 

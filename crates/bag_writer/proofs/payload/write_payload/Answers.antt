@@ -63,7 +63,7 @@ returns-in_err-items-clause-written g c =
     let marked = marked_at c.args.spec.now tree c.args.marks.now c.loop-i.i place.0 c.requires.marks place.1.0 in
     let taken = c.in_ok-path.ensures.taken place.0 (ap (λ (s : Shown). slice_get s.files c.loop-i.i) inv.read.same ∙ place.1.0) in
     let refused : c.in_err-items.field-0.0 ≡ Memory = c.in_err-items.ensures.err in
-    rw (p.1, p.2, refused) (stopped_in c.args.spec.now tree c.loop-i.i _ _ c.loop-i.items inv.written.0 inv.written.1 place.0 place.1.0 _ taken.0 is marked taken.1 _ Memory (cut_after _ _ _ _ _ _ _ Memory taken.2 (λ e. cc)))
+    rw (p.1, p.2, refused) (stopped_in c.args.spec.now tree c.loop-i.i _ _ c.loop-i.items inv.written.0 inv.written.1 place.0 place.1.0 _ taken.0 is marked taken.1 _ Memory (cut_after _ _ _ _ _ _ _ Memory taken.2 (λ large e. cc)))
 
 pub loop-i-preserved : goal.loop-i-preserved
 loop-i-preserved g c =

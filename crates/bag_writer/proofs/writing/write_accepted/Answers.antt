@@ -9,11 +9,11 @@ use Rattle.bag_writer.proofs.writing.write_accepted.Goals as goal
 pub returns-in_err-buffer-clause-done : goal.returns-in_err-buffer-clause-done
 returns-in_err-buffer-clause-done g c =
     let error = err_from_is_err_and c.from_residual.result c.from_residual.ensures.1 in
-    rw (error.1, error.2) (unwritten_done (g.T.Paths.shown c.args.tree.now) c.args.spec.now (g.S.Sink.stored c.args.sink.now) Memory (λ e. absurd (cc)))
+    rw (error.1, error.2) (unwritten_done (g.T.Paths.shown c.args.tree.now) c.args.spec.now (g.S.Sink.stored c.args.sink.now) Memory (λ what e. absurd (cc)))
 
 pub returns-in_default-clause-done : goal.returns-in_default-clause-done
 returns-in_default-clause-done g c =
-    rw c.in_default.ensures.kept (unwritten_done (g.T.Paths.shown c.args.tree.now) c.args.spec.now (g.S.Sink.stored c.args.sink.now) Sink (λ e. absurd (cc)))
+    rw c.in_default.ensures.kept (unwritten_done (g.T.Paths.shown c.args.tree.now) c.args.spec.now (g.S.Sink.stored c.args.sink.now) Sink (λ what e. absurd (cc)))
 
 pub returns-in_err-items-clause-done : goal.returns-in_err-items-clause-done
 returns-in_err-items-clause-done g c =

@@ -1,11 +1,11 @@
-use Rattle.std.proofs.Common.{◌≡◌, ◌∷◌, ℕ, List, [], Option}
+use Rattle.std.proofs.Common.{◌≡◌, ◌∙◌, ◌∷◌, ℕ, List, [], Option, ap}
 use Rattle.bag_folder.specs.declared.fault.OpenFault.{OpenFault}
 use Rattle.bag_folder.specs.declared.fault.OpenFault.TheVariants as open_fault
 use Rattle.bag_commands.specs.declared.output.Output.{Output}
 use Rattle.bag_commands.specs.declared.status.TheConstants.{FAILED}
 use Rattle.bag_cmd.specs.declared.ended.Ended.{Ended}
 use Rattle.bag_cmd.specs.Answers.{Answered, IsFolderAnswer, NoMemory, PrintsCheck, Refused}
-use Rattle.bag_cmd.specs.Endings.{why_unopened}
+use Rattle.bag_cmd.specs.Endings.{why_unchecked, why_unopened}
 use Rattle.bag_folder.specs.declared.place.Place.TheVariants.{Base}
 use Rattle.bag_folder.specs.Directories.{Listing}
 use Rattle.bag_folder.specs.Faults.{IfUnfit}
@@ -25,7 +25,7 @@ not_opened contents known folder old new result open_fault.Memory refused printe
 pub returns-in-Ok : goal.returns-in-Ok
 returns-in-Ok g c =
     let checked = c.check-answer.ensures in
-    let answer : IsFolderAnswer c.in-Ok.tree c.check-answer.new.tree c.check-answer.result = record {
+    let answer : IsFolderAnswer c.new-tree.result c.check-answer.new.tree c.check-answer.result = record {
       verdict = checked.verdict;
       meaning = checked.meaning;
       limits = checked.limits;
@@ -33,8 +33,9 @@ returns-in-Ok g c =
       too_many = checked.too_many;
       undeclared = checked.undeclared;
     } in
-    Answered c.in-Ok.tree c.check-answer.new.tree c.in-Ok.ensures.opened
-    (c.check-answer.result, (answer, c.why_unchecked.ensures), c.print_outcome-status.ensures)
+    let why = c.why_unchecked.ensures ∙ ap (λ tree. why_unchecked tree c.check-answer.result) c.into_inside.ensures in
+    Answered c.new-tree.result c.check-answer.new.tree (rw c.new-tree.ensures c.in-Ok.ensures.opened)
+    (c.check-answer.result, (answer, why), c.print_outcome-status.ensures)
 
 pub returns-in-Err : goal.returns-in-Err
 returns-in-Err g c =

@@ -1,4 +1,5 @@
-use Rattle.std.proofs.Common.{◌∙◌, ◌≡◌, ap₂, refl}
+use Rattle.std.proofs.Common.{◌∙◌, ◌≡◌, ap, ap₂, refl}
+use Rattle.bag_folder.specs.SinkFolders.{SinkShown}
 use Rattle.bag_cmd.specs.Making.{NotMade, Written, kept_folder}
 use Rattle.bag_cmd.specs.Endings.{why_failed}
 use Rattle.bag_cmd.proofs.WorkLemmas.{given_up, kept}
@@ -13,7 +14,9 @@ returns-after-status-ne-DONE g c =
       | then-status-ne-DONE w ↦ given_up folder status c.if-status-ne-DONE.made w.give_up.new.self w.made-is w.give_up.ensures w.if-status-ne-DONE.true
       | else-status-ne-DONE w ↦ kept folder status c.if-status-ne-DONE.made c.create.new.self w.made-is c.in-Ok.ensures.made w.if-status-ne-DONE.false
     ] in
-    Written c.in-Ok.sink c.export_to-status.new.sink c.in-Ok.ensures.created c.export_to-status.ensures after (c.of_failures.ensures ∙ ap₂ why_failed c.failures.ensures c.into_trouble.ensures)
+    let failures = c.failures.ensures ∙ ap (λ (sink : SinkShown). sink.failures) c.into_inside-sink.ensures in
+    let trouble = c.into_trouble.ensures ∙ ap (λ (sink : SinkShown). sink.trouble) c.into_inside-sink.ensures in
+    Written c.new-sink.result c.export_to-status.new.sink (rw c.new-sink.ensures c.in-Ok.ensures.created) c.export_to-status.ensures after (c.of_failures.ensures ∙ ap₂ why_failed failures trouble)
 
 pub returns-in-Err : goal.returns-in-Err
 returns-in-Err g c =

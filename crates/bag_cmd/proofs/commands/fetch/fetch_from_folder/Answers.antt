@@ -1,4 +1,4 @@
-use Rattle.std.proofs.Common.{ap, refl}
+use Rattle.std.proofs.Common.{refl}
 use Rattle.bag_cmd.specs.Working.{Fetched, NoFolder}
 use Rattle.bag_cmd.proofs.commands.fetch.fetch_from_folder.Goals as goal
 

@@ -1,6 +1,5 @@
-use Rattle.std.proofs.Common.{◌∙◌, ap, map, refl, string_bytes}
-use Rattle.std.specs.Option.{option_map}
-use Rattle.bag_cmd.specs.declared.ended.Why.TheVariants.{Empty}
+use Rattle.std.proofs.Common.{◌∙◌, ap₂, map, refl, string_bytes}
+use Rattle.bag_cmd.specs.Endings.{why_undelivered}
 use Rattle.bag_cmd.specs.Working.{AllOpened}
 use Rattle.bag_cmd.proofs.WorkLemmas.{none_opened, taken_from}
 use Rattle.bag_cmd.proofs.commands.intake.intake_folders.Goals as goal
@@ -10,7 +9,7 @@ returns-in-Ok g c =
     let opened = c.in-Ok.ensures.opened in
     let done = c.intake_to.ensures in
     AllOpened opened.0 opened.1 (c.intake_to.new.couriers, done.0, taken_from _ _ _ _ _ _ _ (c.as_mut_slice.ensures.value ∙ opened.2) done.1, done.2)
-    (c.of_empty.ensures ∙ ap (option_map Empty) opened.3)
+    (c.why_undelivered.ensures ∙ ap₂ why_undelivered opened.3 opened.4)
 
 pub returns-in-Err : goal.returns-in-Err
 returns-in-Err g c =

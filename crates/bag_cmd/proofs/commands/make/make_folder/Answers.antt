@@ -1,4 +1,4 @@
-use Rattle.std.proofs.Common.{◌≡◌, ◌∙◌, ◌∷◌, ℕ, List, [], Option, ap, ap₂, refl}
+use Rattle.std.proofs.Common.{◌≡◌, ◌∙◌, ◌∷◌, ℕ, List, [], Option, ap, refl}
 use Rattle.bag_folder.specs.declared.fault.OpenFault.{OpenFault}
 use Rattle.bag_folder.specs.declared.fault.OpenFault.TheVariants as open_fault
 use Rattle.bag_commands.specs.declared.output.Output.{Output}
@@ -8,7 +8,7 @@ use Rattle.bag_folder.specs.Directories.{Listing, in_payload}
 use Rattle.bag_folder.specs.Faults.{IfUnfit}
 use Rattle.bag_folder.specs.Folders.{IsRefused}
 use Rattle.bag_cmd.specs.declared.ended.Ended.{Ended}
-use Rattle.bag_cmd.specs.Endings.{or_why, why_failed, why_unopened}
+use Rattle.bag_cmd.specs.Endings.{or_why, why_unmade, why_unopened}
 use Rattle.bag_cmd.specs.Stops.{stop_of_open}
 use Rattle.bag_cmd.specs.Making.{MakingShown, NoMemory, Opened, PrintsMake, Refused, words_given}
 use Rattle.bag_commands.specs.Printing.{Printed}
@@ -24,8 +24,9 @@ not_opened contents known words made old new result open_fault.Memory refused pr
 
 pub returns-in-Ok : goal.returns-in-Ok
 returns-in-Ok g c =
-    Opened c.in-Ok.tree c.make_into-ended.new.tree c.make_into-ended.result c.in-Ok.ensures.opened c.make_into-ended.ensures
-    (c.or.ensures ∙ ap (or_why c.make_into-ended.result) (c.of_failures.ensures ∙ ap₂ why_failed c.failures.ensures c.into_trouble.ensures))
+    let why = c.why_unmade.ensures ∙ ap (λ tree. why_unmade tree c.make_into-ended.result.large) c.into_inside.ensures in
+    Opened c.new-tree.result c.make_into-ended.new.tree c.make_into-ended.result (rw c.new-tree.ensures c.in-Ok.ensures.opened) c.make_into-ended.ensures
+    (c.or.ensures ∙ ap (or_why c.make_into-ended.result.ended) why)
 
 pub returns-in-Err : goal.returns-in-Err
 returns-in-Err g c =

@@ -2,7 +2,7 @@ use Rattle.std.proofs.Common.{arith, inl, inr}
 use Rattle.sqlite.specs.State.{HasCleanDisk}
 use Rattle.sqlite.specs.Files.{file_state}
 use Rattle.sqlite_wal.specs.Files.{image_at}
-use Rattle.bag_cmd.proofs.FileLemmas.{opened_on}
+use Rattle.bag_cmd.proofs.FileLemmas.{not_adopted, opened_on}
 use Rattle.bag_cmd.proofs.ledger_file.LedgerFile.adopt.Goals as goal
 
 pub returns-in-Ok : goal.returns-in-Ok
@@ -16,20 +16,17 @@ returns-in-Ok g c = λ connected clean.
         opens = it.1;
         verified = c.in-Ok.ensures.verified clean;
         keeps = λ ledger stored. c.in-Ok.ensures.kept clean ledger (inr (opened_on (image_at g.S.Start) (file_state opened) ledger it.0 it.1 stored));
-        held = λ ledger holds. c.in-Ok.ensures.kept clean ledger (inl (it.1.0.is_open, holds));
       },
     )
 
 pub returns-in-Err : goal.returns-in-Err
-returns-in-Err g c = λ connected. (
-  c.in-Err.field-0.connection,
-  λ clean.
-      let opened = c.args.connection in
-      let before : HasCleanDisk (file_state opened) = omega (arith, c.in-Err.ensures.survives.clean, clean) in
-      let it = connected before in
-      record {
-        found = it.0;
-        reason = c.in-Err.ensures.refused clean;
-        own = λ ledger stored. c.in-Err.ensures.own clean ledger (inr (opened_on (image_at g.S.Start) (file_state opened) ledger it.0 it.1 stored));
-      },
-)
+returns-in-Err g c = λ connected. not_adopted _ (image_at g.S.Start) c.unadopted.result c.in-Err.field-0.fault c.args.connection c.in-Err.field-0.connection c.unadopted.ensures.left c.unadopted.ensures.fault
+    (λ clean.
+    let opened = c.args.connection in
+    let before : HasCleanDisk (file_state opened) = omega (arith, c.in-Err.ensures.survives.clean, clean) in
+    let it = connected before in
+    record {
+      found = it.0;
+      reason = c.in-Err.ensures.refused clean;
+      own = λ ledger stored. c.in-Err.ensures.own clean ledger (inr (opened_on (image_at g.S.Start) (file_state opened) ledger it.0 it.1 stored));
+    })

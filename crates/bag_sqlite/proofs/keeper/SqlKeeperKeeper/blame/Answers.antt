@@ -1,5 +1,4 @@
 use Rattle.std.proofs.Common.{◌≡◌, ◌↔◌, IsTrue, ap, refl}
-use Rattle.bag_ledger.specs.declared.fault.KeepFault.{KeepFault}
 use Rattle.bag_ledger.specs.declared.fault.KeepFault.TheVariants.{Store}
 use Rattle.bag_ledger.specs.declared.fault.StoreFault.{StoreFault}
 use Rattle.bag_ledger.specs.declared.fault.StoreFault.TheVariants.{Spent}

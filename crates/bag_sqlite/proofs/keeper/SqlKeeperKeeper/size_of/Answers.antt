@@ -1,9 +1,13 @@
-use Rattle.std.proofs.Common.{Err, IsTrue, ap}
+use Rattle.std.proofs.Common.{IsTrue}
 use Rattle.bag_sqlite.proofs.Words.{Health}
-use Rattle.bag_sqlite.proofs.SqlLemmas.{same_fault, uses_as}
+use Rattle.bag_sqlite.proofs.KeepingLemmas.{answered}
+use Rattle.bag_sqlite.proofs.SqlLemmas.{uses_as}
 use Rattle.bag_sqlite.proofs.keeper.SqlKeeperKeeper.size_of.Goals as goal
 
-pub returns-in-Err-clause-store : goal.returns-in-Err-clause-store
-returns-in-Err-clause-store g c =
-    uses_as (λ keeper. keeper.health) (λ (health : Health). health.failures) (λ health. IsTrue health.is_spent) c.args.self.now _ _ _ (λ fault e. ap Err e) (λ fault e. same_fault e)
-    (rw c.in_ok-test.ensures.well.1 at c.told.ensures.store)
+pub returns-clause-size : goal.returns-clause-size
+returns-clause-size g c clean ledger holds = answered _ c.size_of.result c.answer.result c.answer.ensures.told (λ value it. it) (λ none. none) (rw c.as_str.ensures.text at (c.size_of.ensures.size clean ledger holds))
+
+pub returns-clause-store : goal.returns-clause-store
+returns-clause-store g c =
+    uses_as (λ keeper. keeper.health) (λ (health : Health). health.failures) (λ health. IsTrue health.is_spent) c.args.self.now _ _ _ (λ fault e. e) (λ fault e. e)
+    (rw c.in_ok-test.ensures.well.1 at c.answer.ensures.store)

@@ -1,0 +1,94 @@
+//! What is found at the name of a ledger.
+ghost use Rattle.std.specs.Prelude.{◌≡◌, ◌↔◌, true};
+
+use std::fs;
+use std::io::{self, ErrorKind};
+
+/// What is found at a file name.
+#[derive(Clone, Copy, Debug, PartialEq, Eq)]
+pub enum Found {
+    /// Nothing.
+    Nothing,
+    /// A file of zero octets without a log.
+    Empty,
+    /// A file that may be a database.
+    File,
+    /// Anything else, such as a directory.
+    Other,
+}
+
+/// What was seen at the names of a file and its log.
+#[derive(Clone, Copy, Debug)]
+pub struct Seen {
+    found: Found,
+    had_log: bool,
+}
+
+impl Seen {
+    /// Looks up what exists at these names, without opening it.
+    pub fn look(rt: &HostRuntime, name: &str, log: &str) -> io::Result<Seen> {
+        let had_log = length_at(rt, log)?.is_some_and(|length| length > 0);
+        let found = found_at(rt, name, had_log)?;
+        Ok(Seen { found, had_log })
+    }
+
+    /// What was found at the name of the file.
+    pub fn found(&self) -> Found
+        ensures { result ≡ self.now.found }
+    {
+        self.found
+    }
+
+    /// Whether a file was found that may be a database.
+    pub fn has_file(&self) -> bool
+        ensures { (result ≡ true) ↔ (self.now.found ≡ Found.File) }
+    {
+        matches!(self.found, Found::File)
+    }
+
+    /// Whether something was found in which no database can be made.
+    pub fn has_other(&self) -> bool
+        ensures { (result ≡ true) ↔ (self.now.found ≡ Found.Other) }
+    {
+        matches!(self.found, Found::Other)
+    }
+
+    /// Whether there was anything in the log.
+    pub fn had_log(&self) -> bool
+        ensures { result ≡ self.now.had_log }
+    {
+        self.had_log
+    }
+}
+
+/// What exists at this name. `had_log` says whether there is anything in its log.
+///
+/// A file of one octet without one is `Other`, because the store would take it for a database that it was about to
+/// create.
+fn found_at(rt: &HostRuntime, name: &str, had_log: bool) -> io::Result<Found> {
+    let about = match fs::metadata(rt, name) {
+        Ok(about) => about,
+        Err(error) if is_absence(&error) => return Ok(Found::Nothing),
+        Err(error) => return Err(error),
+    };
+    Ok(match about.len() {
+        _ if !about.is_file() => Found::Other,
+        0 if !had_log => Found::Empty,
+        1 if !had_log => Found::Other,
+        _ => Found::File,
+    })
+}
+
+/// The length in octets of what exists at this name. `None` if nothing does.
+fn length_at(rt: &HostRuntime, name: &str) -> io::Result<Option<u64>> {
+    match fs::metadata(rt, name) {
+        Ok(about) => Ok(Some(about.len())),
+        Err(error) if is_absence(&error) => Ok(None),
+        Err(error) => Err(error),
+    }
+}
+
+/// Whether the error means that nothing exists at the name.
+pub fn is_absence(error: &io::Error) -> bool {
+    matches!(error.kind(), ErrorKind::NotFound | ErrorKind::NotADirectory)
+}

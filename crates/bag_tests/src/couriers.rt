@@ -1,0 +1,293 @@
+//! Couriers that fail, and one whose items are known.
+use crate::printing::{kept, printed};
+use bag_commands::intake_to;
+use bag_digest::{Failed, Failures, Source};
+use bag_ledger::MapKeeper;
+use bag_receiver::{Answer, Courier, End, Receiver};
+use std::alloc::{AllocError, Global};
+use std::io::Read;
+use std::test::Fail;
+
+// Two files, with the digests of `abc` and of the empty message (FIPS 180-4, example B.1, and RFC 6234 section 8.5).
+const TAG_FILES: [(&str, &str); 2] = [
+    (
+        "bagit.txt",
+        "BagIt-Version: 1.0\nTag-File-Character-Encoding: UTF-8\n",
+    ),
+    (
+        "manifest-sha256.txt",
+        "ba7816bf8f01cfea414140de5dae2223b00361a396177a9cb410ff61f20015ad  data/a.txt
+e3b0c44298fc1c149afbf4c8996fb92427ae41e4649b934ca495991b7852b855  data/e.txt
+",
+    ),
+];
+
+fn owned(alloc: Global, pairs: &[(&str, &str)]) -> Result<Vec<(String, Vec<u8>)>, AllocError> {
+    let mut all = Vec::new(alloc);
+    for (path, text) in pairs.iter().copied() {
+        let octets = Vec::from_slice(alloc, text.as_bytes())?;
+        all.push((String::from_str(alloc, path)?, octets))?;
+    }
+    Ok(all)
+}
+
+/// A receiver with a transfer of these two files.
+fn opened(alloc: Global) -> Result<Receiver<MapKeeper>, Fail> {
+    let mut receiver = Receiver::new(alloc, MapKeeper::new(alloc));
+    receiver.begin(alloc, "t1", owned(alloc, &TAG_FILES)?.as_slice())?;
+    Ok(receiver)
+}
+
+/// The text of a path, and the octets still to be read.
+#[derive(Drop)]
+struct Item {
+    path: String,
+    content: Vec<u8>,
+}
+
+/// Delivers items, the last one first, and then fails unless it is to end well. The octets of each come from its end,
+/// one per read; reading `!` fails.
+#[derive(Drop)]
+struct Items {
+    left: Vec<Item>,
+    ends_well: bool,
+    path: String,
+    content: Option<Vec<u8>>,
+    failures: Failures,
+    nexts: u64,
+}
+
+impl Items {
+    /// Delivers these items, each with its content, in this order.
+    fn new(alloc: Global, items: &[(&str, &str)], ends_well: bool) -> Result<Items, AllocError> {
+        let mut left = Vec::new(alloc);
+        for (path, text) in items.iter().rev().copied() {
+            let mut content = Vec::from_slice(alloc, text.as_bytes())?;
+            content.reverse();
+            left.push(Item {
+                path: String::from_str(alloc, path)?,
+                content,
+            })?;
+        }
+        Ok(Items {
+            left,
+            ends_well,
+            path: String::new(alloc),
+            content: None,
+            failures: Failures::none(),
+            nexts: 0,
+        })
+    }
+}
+
+impl Source for Items {
+    ghost use Rattle.std.specs.Prelude.{◌≡◌, None, refl, string_bytes};
+    ghost use Rattle.std.specs.Option.{is_some};
+    ghost use Rattle.std.proofs.Common.{◌∙◌};
+
+    ghost remaining = { λ _. None };
+
+    ghost failures = { λ it. it.failures };
+
+    ghost ready = { λ _. ⊥ };
+
+    ghost is_open = { λ it. is_some it.content };
+
+    ghost keeps = { λ a b. (string_bytes b.path ≡ string_bytes a.path) × (b.nexts ≡ a.nexts) };
+
+    fn read(&mut self, buf: &mut [u8]) -> Result<usize, Failed> {
+        let Some(content) = &mut self.content else {
+            return self.failures.counted(Err(Failed));
+        };
+        let Some(octet) = content.pop() else {
+            return Ok(0);
+        };
+        if octet == b'!' {
+            return self.failures.counted(Err(Failed));
+        }
+        let Some(first) = buf.first_mut() else {
+            return Ok(0);
+        };
+        *first = octet;
+        Ok(1)
+    }
+
+    fn failures(&self) -> u64 {
+        self.failures.count()
+    }
+
+    ghost keeps_itself = { λ a. (refl, refl) };
+
+    ghost keeps_on = { λ a b c p q. (q.0 ∙ p.0, q.1 ∙ p.1) };
+}
+
+impl Courier for Items {
+    ghost use Rattle.std.specs.Prelude.{None, refl, string_bytes};
+
+    ghost coming = { λ _. None };
+
+    ghost text = { λ it. string_bytes it.path };
+
+    ghost nexts = { λ it. it.nexts };
+
+    ghost steady = { λ _. ⊥ };
+
+    fn next(&mut self) -> Result<bool, Failed> {
+        self.nexts = self.nexts.saturating_add(1);
+        let Some(item) = self.left.pop() else {
+            self.path.clear();
+            self.content = None;
+            let answer = if self.ends_well {
+                Ok(false)
+            } else {
+                Err(Failed)
+            };
+            return self.failures.counted(answer);
+        };
+        self.path = item.path;
+        self.content = Some(item.content);
+        Ok(true)
+    }
+
+    fn path(&self) -> &str {
+        self.path.as_str()
+    }
+
+    fn nexts(&self) -> u64 {
+        self.nexts
+    }
+
+    ghost keeps_item = { λ old new kept. (refl, kept.0, kept.1, λ none. none) };
+}
+
+#[test]
+fn a_refusal_ends_nothing_and_a_courier_that_fails_is_the_last(
+    rt: HostRuntime,
+) -> Result<(), Fail> {
+    let alloc = rt.alloc();
+    let mut receiver = opened(alloc)?;
+    let mut couriers = [
+        Items::new(alloc, &[("../q", ""), ("data/100%\n", "")], true)?,
+        Items::new(alloc, &[("data/a.txt", "abc"), ("data/e.txt", "!")], false)?,
+        Items::new(alloc, &[("data/e.txt", "")], true)?,
+    ];
+    let mut out = kept(alloc)?;
+    let status = intake_to(alloc, &mut receiver, "t1", &mut couriers, &mut out);
+    let expected = "refused ../q: path
+refused data/100%25%0A: not listed
+taken data/a.txt
+refused data/e.txt: reader
+bag: files
+";
+    assert_eq!(rt; (status, printed(&out)), (3, Some(expected)));
+    assert_eq!(rt; couriers[1].failures(), 2);
+    assert_eq!(rt; couriers[2].nexts(), 0);
+    Ok(())
+}
+
+/// Delivers the items of a list, in order.
+#[derive(Drop)]
+struct Listed<'a> {
+    items: &'a [(String, Vec<u8>)],
+    path: &'a str,
+    content: &'a [u8],
+    is_open: bool,
+    failures: Failures,
+    nexts: u64,
+}
+
+impl Source for Listed<'_> {
+    ghost use Rattle.std.specs.Prelude.{◌≡◌, Some, refl};
+    ghost use Rattle.std.proofs.Common.{◌∙◌};
+
+    ghost remaining = { λ it. Some it.content.now };
+
+    ghost failures = { λ it. it.failures };
+
+    ghost ready = { λ _. ⊥ };
+
+    ghost is_open = { λ it. it.is_open };
+
+    ghost keeps = { λ a b. (b.items ≡ a.items) × (b.path ≡ a.path) × (b.nexts ≡ a.nexts) };
+
+    fn read(&mut self, buf: &mut [u8]) -> Result<usize, Failed> {
+        if !self.is_open {
+            return self.failures.counted(Err(Failed));
+        }
+        self.failures.counted(self.content.read(buf))
+    }
+
+    fn failures(&self) -> u64 {
+        self.failures.count()
+    }
+
+    ghost keeps_itself = { λ a. (refl, refl, refl) };
+
+    ghost keeps_on = { λ a b c p q. (q.0 ∙ p.0, q.1 ∙ p.1, q.2 ∙ p.2) };
+}
+
+impl Courier for Listed<'_> {
+    ghost use Rattle.std.specs.Prelude.{Some};
+    ghost use Rattle.std.proofs.Common.{ap};
+    ghost use Rattle.bag_receiver.specs.Beginning.{given_in};
+
+    ghost coming = { λ it. Some (given_in it.items.now) };
+
+    ghost text = { λ it. it.path.now };
+
+    ghost nexts = { λ it. it.nexts };
+
+    ghost steady = { λ _. Unit {0} };
+
+    fn next(&mut self) -> Result<bool, Failed> {
+        self.nexts = self.nexts.saturating_add(1);
+        let Some((item, rest)) = self.items.split_first() else {
+            self.path = "";
+            self.content = &[];
+            self.is_open = false;
+            return Ok(false);
+        };
+        self.items = rest;
+        self.path = item.0.as_str();
+        self.content = item.1.as_slice();
+        self.is_open = true;
+        Ok(true)
+    }
+
+    fn path(&self) -> &str {
+        self.path
+    }
+
+    fn nexts(&self) -> u64 {
+        self.nexts
+    }
+
+    ghost keeps_item = { λ old new kept. (
+      ap (λ items. Some (given_in items.now)) kept.0,
+      ap (λ path. path.now) kept.1,
+      kept.2,
+      λ steady. steady,
+    ) };
+}
+
+#[test]
+fn the_items_that_were_to_come_are_delivered_in_order(rt: HostRuntime) -> Result<(), Fail> {
+    let alloc = rt.alloc();
+    let items = owned(alloc, &[("data/e.txt", ""), ("data/a.txt", "abc")])?;
+    let mut courier = Listed {
+        items: items.as_slice(),
+        path: "",
+        content: &[],
+        is_open: false,
+        failures: Failures::none(),
+        nexts: 0,
+    };
+    let mut receiver = opened(alloc)?;
+    let (run, paths) = receiver.run_from(alloc, "t1", &mut courier);
+    let answers = [Answer::Taken, Answer::Taken];
+    assert_eq!(rt; run.answers.as_slice(), answers.as_slice());
+    assert_eq!(rt; run.ended, End::Done);
+    assert_eq!(rt; paths.len(), 2);
+    assert_eq!(rt; (courier.nexts(), courier.failures()), (3, 0));
+    Ok(())
+}

@@ -1,0 +1,23 @@
+//! Tests of what no line of output shows: misuse, devices that fail inside a call, and values that are read but not printed.
+#![tactic(auto)]
+
+#[cfg(test)]
+mod couriers;
+#[cfg(test)]
+mod folders;
+#[cfg(test)]
+mod keepers;
+#[cfg(test)]
+mod ledgers;
+#[cfg(test)]
+mod paths;
+#[cfg(test)]
+mod printing;
+#[cfg(test)]
+mod sinks;
+#[cfg(test)]
+mod sources;
+#[cfg(test)]
+mod tags;
+#[cfg(test)]
+mod trees;

@@ -1,0 +1,264 @@
+#!/usr/bin/env python3
+"""progress.py PROGRAM: the line of progress on a terminal. At the end it prints how many commands were run.
+
+Each command is run with standard error on a terminal, and once more without one. A terminal of one's own shows what is written there:
+how each line of progress reads, and what is left when the command has ended. Sizes and numbers are those of the files that were made.
+"""
+import hashlib
+import os
+import pathlib
+import pty
+import re
+import resource
+import shutil
+import signal
+import subprocess
+import sys
+import tempfile
+import tty
+
+DECLARATION = b"BagIt-Version: 1.0\nTag-File-Character-Encoding: UTF-8\n"
+MEBIBYTE = 1 << 20
+UNITS = {"KiB": 1 << 10, "MiB": 1 << 20, "GiB": 1 << 30}
+LINE = re.compile(r"bag: ([a-z ]+) ([0-9,]+)(?: of ([0-9,]+))? files, ([0-9.]+) (KiB|MiB|GiB)")
+# A line is shown after so many octets, and a file counts as so many besides its own.
+PER_LINE = 64 * MEBIBYTE
+PER_FILE = 64 << 10
+FILES = 3_000
+LENGTH = 1_500
+
+
+class Ended:
+    """How a command ended: its status, what it wrote on standard output, and on standard error."""
+
+    def __init__(self, status, printed, said):
+        self.status, self.printed, self.said = status, printed, said
+
+    def lines(self):
+        """The lines of progress in what was said, in order. Each begins with a CR and ends by erasing the rest of its line."""
+        return [text for text in re.findall(r"\r([^\r\n]+)\x1b\[K", self.said.decode())]
+
+    def screen(self):
+        return screen(self.said.decode())
+
+
+def screen(text):
+    """The lines that a terminal shows in the end, without empty ones at the end."""
+    rows, column = [""], 0
+    for part in re.findall(r"\x1b\[K|\r|\n|[^\r\n\x1b]+", text):
+        row = rows[-1]
+        if part == "\x1b[K":
+            rows[-1] = row[:column]
+        elif part == "\r":
+            column = 0
+        elif part == "\n":
+            rows.append("")
+            column = 0
+        else:
+            rows[-1] = row[:column].ljust(column) + part + row[column + len(part):]
+            column += len(part)
+    while rows and not rows[-1].strip():
+        rows.pop()
+    return rows
+
+
+class Place:
+    """Where commands are run. Counts them."""
+
+    def __init__(self, program, work):
+        self.program, self.work, self.count = program, pathlib.Path(work), 0
+
+    def run(self, *words):
+        """The command without a terminal."""
+        self.count += 1
+        done = subprocess.run([self.program, *words], stdin=subprocess.DEVNULL, capture_output=True, timeout=300)
+        return Ended(done.returncode, done.stdout, done.stderr)
+
+    def watch(self, *words, output=None, stop=False, limit=None):
+        """The same with standard error on a terminal, and standard output there too if `output` is `terminal`. If `stop`, the terminal
+        goes away once something is said. Files can't be longer than `limit`."""
+        self.count += 1
+        ours, theirs = pty.openpty()
+        tty.setraw(theirs)
+        with open(self.work / "printed", "w+b") as printed:
+            child = subprocess.Popen(
+                [self.program, *words], stdin=subprocess.DEVNULL, stdout=theirs if output == "terminal" else printed, stderr=theirs,
+                preexec_fn=lambda: limited(limit))
+            os.close(theirs)
+            said = b""
+            while piece := read(ours):
+                said += piece
+                if stop:
+                    break
+            os.close(ours)
+            status = child.wait(timeout=300)
+            printed.seek(0)
+            return Ended(status, printed.read(), said)
+
+
+def limited(limit):
+    """Limits the files of this process."""
+    if limit:
+        signal.signal(signal.SIGXFSZ, signal.SIG_IGN)
+        resource.setrlimit(resource.RLIMIT_FSIZE, (limit, limit))
+
+
+def read(terminal):
+    """What is said next; nothing once all that had the terminal open have ended."""
+    try:
+        return os.read(terminal, 65_536)
+    except OSError:
+        return b""
+
+
+def bag(folder, contents):
+    """A valid bag of these payload files, with a manifest. Returns the octets of its tag files."""
+    lines = []
+    for path, octets in contents.items():
+        (folder / path).parent.mkdir(parents=True, exist_ok=True)
+        (folder / path).write_bytes(octets)
+        lines.append(f"{hashlib.sha256(octets).hexdigest()}  {path}\n".encode())
+    (folder / "bagit.txt").write_bytes(DECLARATION)
+    (folder / "manifest-sha256.txt").write_bytes(b"".join(lines))
+    return len(DECLARATION) + sum(map(len, lines))
+
+
+def number(text):
+    assert re.fullmatch(r"[0-9]{1,3}(,[0-9]{3})*", text), text
+    return int(text.replace(",", ""))
+
+
+def follow(ended, work, expected, before, lengths):
+    """Checks the lines of this work: how many files are expected, if that is told; the octets read before the first file that counts,
+    and the lengths of the files that count, in order. A line can be written at the start of a file or while it is read."""
+    ends = [before]
+    for length in lengths:
+        ends.append(ends[-1] + length)
+    counted, last = [], 0
+    for line in ended.lines():
+        told, files, of, size, unit = LINE.fullmatch(line).groups()
+        files = number(files)
+        assert told == work and (of and number(of)) == expected, line
+        assert (unit == "KiB") == ("." not in size) and float(size) < 1024, line
+        octets, rounded = float(size) * UNITS[unit], UNITS[unit] / (1 if unit == "KiB" else 10)
+        assert ends[files - 1] - rounded < octets <= ends[files], (line, ends[files - 1], ends[files])
+        weight = files * PER_FILE + octets
+        assert weight >= last and files <= len(lengths), line
+        last = weight
+        counted.append(weight)
+    # None is missing, and none comes too soon. Reads are of at most 1 MiB.
+    whole = len(lengths) * PER_FILE + ends[-1]
+    for earlier, later in zip([0, *counted], [*counted, whole]):
+        assert later - earlier < PER_LINE + 2 * MEBIBYTE, (earlier, later)
+    for earlier, later in zip(counted, counted[1:]):
+        assert later - earlier > PER_LINE - 2 * MEBIBYTE, (earlier, later)
+    assert len(counted) >= 2, counted
+
+
+def both(place, work, expected, before, lengths, *words, again=lambda: None, status=0):
+    """Runs the command without a terminal and with one. Both answer the same, and the line is gone at the end."""
+    quiet = place.run(*words)
+    again()
+    watched = place.watch(*words)
+    again()
+    together = place.watch(*words, output="terminal")
+    again()
+    stopped = place.watch(*words, stop=True)
+    assert quiet.said == b"" and quiet.status == status, (words, quiet.status, quiet.said)
+    assert (watched.status, watched.printed) == (status, quiet.printed), (words, watched.status)
+    assert (stopped.status, stopped.printed) == (status, quiet.printed), (words, stopped.status)
+    assert together.status == status and together.screen() == quiet.printed.decode().splitlines(), (words, together.screen())
+    assert watched.screen() == [], watched.screen()
+    follow(watched, work, expected, before, lengths)
+
+
+def many_files(place):
+    """A bag of many small files, by each command that reads or writes files."""
+    base, made, ledger = place.work / "many", place.work / "made", place.work / "ledger"
+    paths = [f"data/{number:04}" for number in range(FILES)]
+    tags = bag(base, {path: os.urandom(LENGTH) for path in paths})
+    lengths = [LENGTH] * FILES
+    both(place, "checking", FILES + 2, 0, [len(DECLARATION), tags - len(DECLARATION), *lengths], "check", str(base))
+    remove = lambda: shutil.rmtree(made)
+    both(place, "copying", FILES, 0, lengths, "make", str(base / "data"), str(made), "md5", again=remove)
+    remove()
+
+    def anew():
+        ledger.unlink(missing_ok=True)
+        assert place.run("begin", str(ledger), "t", str(base)).printed == b"new\n"
+
+    anew()
+    both(place, "taking in", FILES, 0, lengths, "intake", str(ledger), "t", str(base), again=anew)
+    # The same from two folders.
+    anew()
+    halves = [place.work / "half 1", place.work / "half 2"]
+    for half, folder in zip((paths[:FILES // 2], paths[FILES // 2:]), halves):
+        bag(folder, {path: (base / path).read_bytes() for path in half})
+    both(place, "taking in", FILES, 0, lengths, "intake", str(ledger), "t", *map(str, halves), again=anew)
+    manifest = tags - len(DECLARATION)
+    both(place, "exporting", None, 0, [len(DECLARATION), manifest, *lengths], "export", str(ledger), "t", str(made), again=remove)
+    remove()
+
+
+def one_file(place):
+    """One large file, and a ledger that has it."""
+    base, ledger = place.work / "one", place.work / "large ledger"
+    content = bytes(200 * MEBIBYTE)
+    tags = bag(base, {"data/f": content})
+    both(place, "checking", 3, 0, [len(DECLARATION), tags - len(DECLARATION), len(content)], "check", str(base))
+    assert place.run("begin", str(ledger), "t", str(base)).printed == b"new\n"
+    assert place.run("intake", str(ledger), "t", str(base)).printed == b"taken data/f\n"
+    size = f"{ledger.stat().st_size * 10 // MEBIBYTE / 10} MiB"
+    for words in ["list", str(ledger)], ["report", str(ledger), "t"]:
+        quiet, watched = place.run(*words), place.watch(*words)
+        assert (watched.status, watched.printed) == (quiet.status, quiet.printed) and quiet.status == 0
+        assert watched.lines() == [f"bag: reading the ledger, {size}"] and watched.screen() == [], watched.said
+
+
+def short_work(place):
+    """Nothing is shown of work on few small files."""
+    base, made, ledger = place.work / "few", place.work / "made of few", place.work / "small ledger"
+    bag(base, {"data/f": b"f\n"})
+    for words in (["check", base], ["make", base / "data", made, "md5"], ["begin", ledger, "t", base], ["intake", ledger, "t", base],
+                  ["report", ledger, "t"], ["audit", ledger, "t"], ["fetch", ledger, "t", base], ["list", ledger],
+                  ["export", ledger, "t", place.work / "exported"]):
+        ended = place.watch(*map(str, words))
+        assert ended.status == 0 and ended.said == b"", (words, ended.status, ended.said)
+
+
+def failures(place):
+    """A command that fails after a line of progress, a missing folder, and a wrong word: what is said of it stands alone."""
+    base, made = place.work / "many", place.work / "made in part"
+    (base / "data/last").write_bytes(bytes(2 * MEBIBYTE))
+    too_large = f"bag: {made}/data/last: File too large (os error 27)"
+    words = ["make", str(base / "data"), str(made), "md5"]
+    ended = place.watch(*words, output="terminal", limit=MEBIBYTE)
+    assert ended.lines() and ended.screen() == ["bag: files", too_large] and ended.status == 3, ended.screen()
+    shutil.rmtree(made)
+    missing = place.work / "missing"
+    ended = place.watch("check", str(missing))
+    assert ended.said.decode() == f"bag: {missing}: No such file or directory (os error 2)\n" and ended.status == 3, ended.said
+    assert place.watch("chek").said == place.run("chek").said
+
+
+def closed(place):
+    """Standard error is closed: the first file that is opened takes its place, and nothing else is written to that."""
+    base, made = place.work / "few", place.work / "made of many"
+    ended = subprocess.run(["sh", "-c", 'exec "$@" 2>&-', "sh", place.program, "make", place.work / "many/data", made, "md5"], check=True,
+                           capture_output=True)
+    assert ended.stderr == b"" and place.run("check", str(made)).printed == b"valid\n", ended
+    place.count += 1
+
+
+def main():
+    with tempfile.TemporaryDirectory() as work:
+        place = Place(os.path.abspath(sys.argv[1]), work)
+        many_files(place)
+        one_file(place)
+        short_work(place)
+        failures(place)
+        closed(place)
+        print(f"{place.count} commands")
+
+
+main()

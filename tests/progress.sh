@@ -1,0 +1,9 @@
+#!/usr/bin/env bash
+# The line that shows on a terminal how far a command has come.
+set -u
+cd "$(dirname -- "$0")/.." || exit 1
+. tests/common.bash
+
+build_first
+expect 'progress' 0 '53 commands' env TMPDIR="$work" python3 -B tests/progress.py crates/bag_cmd/out/bag_cmd
+finish
