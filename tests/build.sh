@@ -16,12 +16,21 @@ cp bag build program.sh "$repository"
 ln -s "$repository/bag" "$work/link"
 cat >"$work/kit/rt" <<'KIT'
 #!/bin/sh
-echo "rt $1 in ${PWD##*/}" >>../../builds
+echo "rt $1 in ${PWD##*/}" >>"$REPOSITORY/builds"
 echo "so far: 3 of 40 functions checked; the verdict comes last"
 echo "what rt says of ${PWD##*/}" >&2
-[ ! -e "../../broken-${PWD##*/}" ] || exit 1
-[ "$1" = run ] || exit 0
+[ ! -e "$REPOSITORY/broken-${PWD##*/}" ] || exit 1
 mkdir -p out
+if [ "$1" = lib ]; then
+    mkdir -p out/rlib out/incremental
+    {
+        [ "$PWD" -ef "$REPOSITORY/crates/${PWD##*/}" ] || echo "${PWD##*/} is a copy"
+        cat src/lib.rt ../low/out/rlib/made out/incremental/made
+    } >>"$REPOSITORY/seen" 2>/dev/null
+    echo "${PWD##*/} was built" >out/rlib/made
+    echo "${PWD##*/} was proved" >out/incremental/made
+    exit 0
+fi
 cat >out/bag_cmd.new <<'PROGRAM'
 #!/bin/sh
 [ "$#" -gt 0 ] || { echo "no words"; exit 64; }
@@ -38,6 +47,7 @@ for tool in sh readlink find rm; do
     ln -s "$(command -v "$tool")" "$work/tools/$tool"
 done
 PATH=$work/kit:$PATH
+export REPOSITORY=$repository
 
 # builds COMMAND..: runs the command, and then prints how many times it built. Its standard error is kept.
 builds() {
@@ -127,4 +137,78 @@ else
     lacking 'a build on a terminal (script is not installed)'
 fi
 expect 'the build after it' 7 $'<word>\nbuilds: 1' builds "$repository/bag" word
+
+# Two crates that don't stand on each other: one of them is proved in a copy, if there is room.
+printf '%s\n' 'low: std' 'left: low' 'low_tests: low' 'right: low std' 'bag_cmd: left right' 'other: low' >"$repository/crates.txt"
+mkdir -p "$repository/crates/"{left,right}/src
+for name in low left right; do
+    echo "the source of $name" >"$repository/crates/$name/src/lib.rt"
+done
+printf '#!/bin/sh\necho "$PROCESSORS"\n' >"$work/kit/nproc"
+chmod +x "$work/kit/nproc"
+
+# builds_all PROCESSORS: builds with this many processors. Prints what was built, what the kit saw there, and which files
+# there are then.
+builds_all() {
+    local status=0
+    touch "$repository/crates.txt"
+    : >"$repository/seen"
+    PROCESSORS=$1 builds "$repository/build" || status=$?
+    sort "$repository/builds" "$repository/seen"
+    (cd "$repository/crates" && LC_ALL=C ls -d ./*/out/*)
+    return "$status"
+}
+files='./bag_cmd/out/bag_cmd
+./bag_cmd/out/build.lock
+./bag_cmd/out/build.log
+./left/out/incremental
+./left/out/rlib
+./low/out/incremental
+./low/out/rlib
+./right/out/incremental
+./right/out/rlib'
+built='rt lib in left
+rt lib in low
+rt lib in right
+rt run in bag_cmd
+the source of left
+the source of low
+the source of right'
+below='low was built
+low was built'
+rm -rf -- "$repository/crates/"*/out
+expect 'two crates, from nothing, one by one' 0 "builds: 1
+$below
+$built
+$files" builds_all 1
+again="builds: 1
+left was proved
+low was built
+$below
+low was proved
+right was proved
+$built
+$files"
+expect 'two crates, from what was kept, one by one' 0 "$again" builds_all 1
+if [ "$(sed -n 's/^MemAvailable: *\([0-9]*\) kB$/\1/p' /proc/meminfo)" -ge 12000000 ]; then
+    rm -rf -- "$repository/crates/"*/out
+    expect 'two crates, from nothing, side by side' 0 "builds: 1
+$below
+right is a copy
+$built
+$files" builds_all 4
+    expect 'two crates, from what was kept, side by side' 0 "${again/right was/right is a copy$'\n'right was}" builds_all 4
+    for name in left right; do
+        touch "$repository/broken-$name"
+        # shellcheck disable=SC2034
+        builds_all 4 >"$work/broken" && echo "$name"
+        rm "$repository/broken-$name"
+    done >"$work/built"
+    expect 'if one of two crates fails, nothing is built' 0 '' cat "$work/built"
+    expect 'and the output of rt is there' 0 $'what rt says of left\nwhat rt says of low\nwhat rt says of right' \
+        sh -c 'grep ^what "$1" | sort' sh "$crate/out/build.log"
+    expect 'the build after it, side by side' 0 "${again/right was/right is a copy$'\n'right was}" builds_all 4
+else
+    lacking 'two crates side by side (there is too little memory)'
+fi
 finish

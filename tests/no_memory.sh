@@ -101,8 +101,8 @@ each_growth_of_make() {
 }
 
 # each_growth_of_driver CAUSE FILE WORD..: has the driver read the file, once with no failing allocation, and then with
-# each (of more than `most`, a hundred of them). It prints the same, or a front of it with status 3, or nothing with
-# status 64 if its own words find no memory; or the first line that is another tells this cause.
+# each (of more than `most`, a hundred of them). It prints the same, or a front of it with status 3; or the first line
+# that is another tells this cause.
 each_growth_of_driver() {
     local number status step told
     refusing 0 "$driver" "${@:3}" <"$2" >"$work/whole" || echo "with enough memory: status $?"
@@ -113,7 +113,7 @@ each_growth_of_driver() {
         refusing "$number" "$driver" "${@:3}" <"$2" >"$work/part" || status=$?
         count_refusal "$*" "$number"
         if head -c "$(stat -c %s "$work/part")" "$work/whole" | cmp -s - "$work/part"; then
-            [ "$status" -eq 3 ] || { [ "$status" -eq 64 ] && [ ! -s "$work/part" ]; } || cmp "$work/whole" "$work/part"
+            [ "$status" -eq 3 ] || cmp "$work/whole" "$work/part"
         else
             told=$(diff "$work/whole" "$work/part" | sed -n 's/^> //p' | head -n 1)
             [[ $told =~ $1 ]] || echo "allocation $number of $asked: status $status: $told"
@@ -235,14 +235,12 @@ if cc -shared -fPIC -O1 -o "$work/no_memory.so" tests/no_memory.c 2>"$work/no cc
         more_refusals each_growth_of_driver 'out of memory|the sink failed' "$work/write" write
     # Left out are tests that say whether an answer was right, and not what it was.
     left_out='^(couriers|keepers|ledgers|sinks)::'
-    for crate in bag_ledger bag_tests; do
-        tests=$PWD/crates/$crate/out/${crate}_tests
-        if [ -x "$tests" ]; then
-            expect "no memory for the tests in $crate" 0 '' more_refusals in_each_test "$crate" "$tests" "$left_out"
-        else
-            lacking "failing allocations in the tests of $crate (./test builds their program)"
-        fi
-    done
+    tests=$PWD/crates/bag_tests/out/bag_tests_tests
+    if [ -x "$tests" ]; then
+        expect 'no memory for the tests in Rattle' 0 '' more_refusals in_each_test bag_tests "$tests" "$left_out"
+    else
+        lacking 'failing allocations in the tests in Rattle (./test builds their program)'
+    fi
     echo "$runs runs with enough memory, $refusals with one failing allocation"
     expect 'allocations failed' 0 '' [ "$refusals" -gt 500 ]
 else

@@ -148,7 +148,7 @@ def run(driver, database, events, stop=("log", NEVER, "killed"), seeds=itertools
 
 def answered(events, printed, wanted):
     """How many steps were answered, the opening included. From the first that wasn't, no answer may promise anything."""
-    if printed == ["no answer"]:
+    if printed == ["the store failed"]:
         return 0
     assert printed[0] == "opened" and len(printed) == len(events) + 2, printed
     given = [part for event, text in zip(events, printed[1:]) for part in parts(event[0], text)]

@@ -1,7 +1,8 @@
 //! Answers lists of deliveries for `tests/deliveries.py`, which describes the input and the output.
 use crate::bringing::{Breaks, Items, Reader};
-use crate::event::{Event, bad_line};
+use crate::event::Event;
 use crate::keepers::Anew;
+use crate::lines::{Answers, bad_line};
 use crate::text::{AnswerText, UnbegunText, end_text, keep_text, view_text};
 use bag_commands::{FaultLine, verdict_text};
 use bag_digest::Counted;
@@ -9,69 +10,62 @@ use bag_ledger::Keeper;
 use bag_receiver::{Begun, Receiver, Run, ViewFault};
 use bag_rules::Report;
 use std::alloc::Global;
-use std::io::{self, BufRead, BufReader, BufWriter, Write};
+use std::io::{self, Write};
 use std::mem;
 
-/// Answers each line of standard input with a line, using a receiver with keepers of this kind.
-///
-/// # Errors
-///
-/// A line is malformed, memory ran out, or a read or a write failed.
-pub fn answer_all<K: Anew, R: Input + Print + AllocGlobal>(rt: &R) -> io::Result<()> {
-    let mut out = BufWriter::new(rt.alloc(), io::writer(rt))?;
-    let answered = answer_each::<K, _, _>(rt, &mut out);
-    // The answers before a malformed line are printed.
-    out.flush()?;
-    answered
+/// Answers lists of deliveries. Each begins with an empty ledger, which may be opened again.
+#[derive(Drop)]
+pub struct Lists<K: Anew> {
+    receiver: Receiver<K>,
 }
 
-fn answer_each<K: Anew, R: Input + AllocGlobal, W: Write + Drop>(
-    rt: &R,
-    out: &mut W,
-) -> io::Result<()> {
-    let alloc = rt.alloc();
-    let mut receiver = empty::<K>(alloc)?;
-    for line in BufReader::new(alloc, rt.reader())?.lines(alloc) {
-        let line = line?;
-        let event = Event::parse(alloc, &line)?;
-        match event.word {
-            "start" => {
-                receiver = empty(alloc)?;
-                write!(out, "started")?;
+impl<K: Anew> Lists<K> {
+    /// A first list.
+    pub fn new(alloc: Global) -> io::Result<Lists<K>> {
+        let receiver = Receiver::new(alloc, K::anew(alloc)?);
+        Ok(Lists { receiver })
+    }
+
+    /// Opens the ledger again.
+    fn reopen(&mut self, alloc: Global) -> io::Result<()> {
+        let Lists { receiver } = mem::replace(self, Lists::new(alloc)?);
+        self.receiver = Receiver::new(alloc, receiver.into_keeper().again()?);
+        Ok(())
+    }
+}
+
+impl<K: Anew> Answers for Lists<K> {
+    fn answer<W: Write + Drop>(
+        &mut self,
+        alloc: Global,
+        words: &[&str],
+        out: &mut W,
+    ) -> io::Result<()> {
+        match words {
+            ["start"] => {
+                *self = Lists::new(alloc)?;
+                writeln!(out, "started")
             }
-            "reopen" => {
-                reopen(alloc, &mut receiver)?;
-                write!(out, "opened")?;
+            ["reopen"] => {
+                self.reopen(alloc)?;
+                writeln!(out, "opened")
             }
-            _ => answer(alloc, &mut receiver, &event, out)?,
+            _ => self.receiver.answer(alloc, words, out),
         }
-        writeln!(out)?;
     }
-    Ok(())
 }
 
-/// Answers each line of standard input with a line, in one ledger that is not opened again.
-///
-/// # Errors
-///
-/// Those of [`answer_all`].
-pub fn answer_lines<K: Keeper + Drop, R: Input + AllocGlobal, W: Write + Drop>(
-    rt: &R,
-    receiver: &mut Receiver<K>,
-    out: &mut W,
-) -> io::Result<()> {
-    let alloc = rt.alloc();
-    for line in BufReader::new(alloc, rt.reader())?.lines(alloc) {
-        let line = line?;
-        answer(alloc, receiver, &Event::parse(alloc, &line)?, out)?;
-        writeln!(out)?;
+/// Answers a list of deliveries, in a ledger that is not opened again.
+impl<K: Keeper + Drop> Answers for Receiver<K> {
+    fn answer<W: Write + Drop>(
+        &mut self,
+        alloc: Global,
+        words: &[&str],
+        out: &mut W,
+    ) -> io::Result<()> {
+        answer(alloc, self, &Event::parse(alloc, words)?, out)?;
+        writeln!(out)
     }
-    Ok(())
-}
-
-/// A receiver without transfers.
-fn empty<K: Anew>(alloc: Global) -> io::Result<Receiver<K>> {
-    Ok(Receiver::new(alloc, K::anew(alloc)?))
 }
 
 /// Writes the answer to the event.
@@ -119,16 +113,8 @@ fn deliver<K: Keeper + Drop, W: Write + Drop>(
     event: &Event<'_>,
     out: &mut W,
 ) -> io::Result<()> {
-    if event.files.len() != 1 {
-        return Err(bad_line());
-    }
-    let (path, content) = &event.files[0];
-    let given = receiver.deliver(
-        alloc,
-        event.name.as_str(),
-        path.as_str(),
-        content.as_slice(),
-    );
+    let (path, content) = event.file()?;
+    let given = receiver.deliver(alloc, event.name.as_str(), path, content);
     write!(out, "{}", AnswerText(given))
 }
 
@@ -140,13 +126,10 @@ fn read<K: Keeper + Drop, W: Write + Drop>(
     is_broken: bool,
     out: &mut W,
 ) -> io::Result<()> {
-    if event.files.len() != 1 {
-        return Err(bad_line());
-    }
-    let (path, content) = &event.files[0];
-    let octets = Vec::from_slice(alloc, content.as_slice())?;
+    let (path, content) = event.file()?;
+    let octets = Vec::from_slice(alloc, content)?;
     let mut reader = Counted::new(Reader::new(octets, is_broken));
-    let given = receiver.deliver_from(alloc, event.name.as_str(), path.as_str(), &mut reader);
+    let given = receiver.deliver_from(alloc, event.name.as_str(), path, &mut reader);
     write!(out, "{}", AnswerText(given))
 }
 
@@ -184,13 +167,6 @@ fn write_report<W: Write + Drop>(view: Result<Report, ViewFault>, out: &mut W) -
         }
         Err(fault) => write!(out, "refused: {}", view_text(fault)),
     }
-}
-
-/// Opens the ledger again.
-fn reopen<K: Anew>(alloc: Global, receiver: &mut Receiver<K>) -> io::Result<()> {
-    let old = mem::replace(receiver, empty(alloc)?);
-    *receiver = Receiver::new(alloc, old.into_keeper().again()?);
-    Ok(())
 }
 
 fn names<K: Keeper + Drop, W: Write + Drop>(

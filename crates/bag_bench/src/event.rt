@@ -1,7 +1,8 @@
 //! The events in a list of deliveries. Each is a line: a word, then the name of a transfer and the path and octets of
-//! each file, each after one space, all in hex, or `-` if empty.
+//! each file, all in hex.
+use crate::lines::{bad_line, octets_of, text_of};
 use std::alloc::Global;
-use std::io::{self, ErrorKind};
+use std::io;
 
 /// What happens to the transfer with this name, which may be invalid, with these files.
 #[derive(Drop)]
@@ -12,56 +13,39 @@ pub struct Event<'a> {
 }
 
 impl<'a> Event<'a> {
-    /// Parses the event in this line.
+    /// The event of a line with these words.
     ///
     /// # Errors
     ///
     /// `InvalidData` if the fields are malformed; or memory ran out.
-    pub fn parse(alloc: Global, line: &'a str) -> io::Result<Event<'a>> {
-        let fields: Vec<&str> = line.split(' ').collect(alloc)?;
-        let word = fields[0];
-        if fields.len() < 2 {
-            return Ok(Event {
-                word,
-                name: String::new(alloc),
-                files: Vec::new(alloc),
-            });
-        }
+    pub fn parse(alloc: Global, words: &[&'a str]) -> io::Result<Event<'a>> {
+        let Some((word, fields)) = words.split_first() else {
+            return Err(bad_line());
+        };
         let mut files = Vec::new(alloc);
-        for pair in fields[2..].chunks(2) {
+        let Some((name, fields)) = fields.split_first() else {
+            let name = String::new(alloc);
+            return Ok(Event { word, name, files });
+        };
+        for pair in fields.chunks(2) {
             if pair.len() < 2 {
                 return Err(bad_line());
             }
             files.push((text_of(alloc, pair[0])?, octets_of(alloc, pair[1])?))?;
         }
-        Ok(Event {
-            word,
-            name: text_of(alloc, fields[1])?,
-            files,
-        })
+        let name = text_of(alloc, name)?;
+        Ok(Event { word, name, files })
     }
-}
 
-/// The error for a malformed line.
-pub fn bad_line() -> io::Error {
-    io::Error::from(ErrorKind::InvalidData)
-}
-
-/// The text that a field gives in hex, or as `-` if it is empty.
-pub fn text_of(alloc: Global, field: &str) -> io::Result<String> {
-    match String::from_utf8(octets_of(alloc, field)?) {
-        Ok(text) => Ok(text),
-        Err(_) => Err(bad_line()),
-    }
-}
-
-/// The octets that a field gives in hex, or as `-` if there are none.
-pub fn octets_of(alloc: Global, field: &str) -> io::Result<Vec<u8>> {
-    if field == "-" {
-        return Ok(Vec::new(alloc));
-    }
-    match hex::decode(alloc, field) {
-        Ok(octets) => Ok(octets),
-        Err(_) => Err(bad_line()),
+    /// The path and the octets of its one file.
+    ///
+    /// # Errors
+    ///
+    /// `InvalidData` if it has no file, or several.
+    pub fn file(&self) -> io::Result<(&str, &[u8])> {
+        match self.files.as_slice() {
+            [(path, octets)] => Ok((path.as_str(), octets.as_slice())),
+            _ => Err(bad_line()),
+        }
     }
 }

@@ -36,11 +36,17 @@ fn make(connection: Connection<FusedStore>) -> Result<FusedKeeper, (AdoptFault, 
         Ok(keeper) => Ok(keeper),
         Err(
             NotCreated {
-                fault,
-                trouble: _,
+                fault: _,
+                trouble,
                 connection,
             },
-        ) => { Err((AdoptFault::Keep(fault), connection.into_store().close())) }
+        ) => {
+            let fault = match trouble {
+                Some(error) => AdoptFault::Store(error),
+                None => AdoptFault::Memory,
+            };
+            Err((fault, connection.into_store().close()))
+        }
     }
 }
 

@@ -21,6 +21,8 @@
 //!
 //! `bag_bench write` writes in memory the bags that standard input asks for, as described in `tests/new_bags.py`. The
 //! status is 0 if each line was read.
+//!
+//! The status is 3 if memory ran out, a line is malformed, or a read or a write failed, and 64 for other words.
 #![tactic(auto)]
 
 use bag_digest::{Alg, AlgSet, Multi, piece_buffer};
@@ -29,21 +31,23 @@ use bag_path::Version;
 use bag_rules::{Plan, TagSet};
 use bag_sqlite::SqlKeeper;
 use bag_tags::{Kind, read_fetch, read_info, read_manifest, write_declaration};
-use deliveries::answer_all;
+use deliveries::Lists;
+use lines::answer_lines;
 use receiving::receive;
 use sqlite::MemStore;
 use std::alloc::{AllocError, Global};
-use std::env::{self, Env};
-use std::io;
+use std::env;
+use std::io::{self, BufWriter, Write};
 use std::process::ExitCode;
 use stopped::{Calls, stop};
-use writing::write_all;
+use writing::Order;
 
 mod bringing;
 mod deliveries;
 mod event;
 mod fused;
 mod keepers;
+mod lines;
 mod receiving;
 mod stopped;
 mod text;
@@ -70,32 +74,49 @@ fn main(rt: HostRuntime) -> ExitCode {
     ExitCode::from(run(&rt))
 }
 
+/// Does the work that the command line names. Memory that ran out, a malformed line, and a failed read or write are
+/// status 3.
 fn run(rt: &HostRuntime) -> u8 {
-    let Ok(words) = words(rt, rt.alloc()) else {
-        return 64;
-    };
-    let done = match words.len() {
-        1 if words[0].as_str() == "write" => write_all(rt).map(|_| 0),
-        2 if words[0].as_str() == "deliveries" => answer_over(rt, words[1].as_str()),
-        2 => work(rt.alloc(), words[0].as_str(), words[1].as_str()),
-        6 if words[0].as_str() == "stop" => stop_at(rt, &words),
+    work(rt).unwrap_or(3)
+}
+
+/// The same. What was written before an error is printed.
+fn work(rt: &HostRuntime) -> io::Result<u8> {
+    let words: Vec<String> = env::args(rt)?.skip(1).collect(rt.alloc())?;
+    let mut out = BufWriter::new(rt.alloc(), io::writer(rt))?;
+    let done = work_into(rt, &words, &mut out);
+    out.flush()?;
+    done
+}
+
+/// The same, with the lines written to `out`.
+fn work_into<W: Write + Drop>(rt: &HostRuntime, words: &[String], out: &mut W) -> io::Result<u8> {
+    let alloc = rt.alloc();
+    match words.len() {
+        1 if words[0].as_str() == "write" => {
+            answer_lines(rt, &mut Order::new(alloc), out)?;
+            Ok(0)
+        }
+        2 if words[0].as_str() == "deliveries" => answer_over(rt, words[1].as_str(), out),
+        2 => measure(alloc, words[0].as_str(), words[1].as_str()),
+        6 if words[0].as_str() == "stop" => stop_at(rt, words, out),
         _ => Ok(64),
-    };
-    done.unwrap_or(3)
+    }
 }
 
 /// Answers the lists of deliveries with the keeper of this name.
-fn answer_over(rt: &HostRuntime, keeper: &str) -> io::Result<u8> {
+fn answer_over<W: Write + Drop>(rt: &HostRuntime, keeper: &str, out: &mut W) -> io::Result<u8> {
+    let alloc = rt.alloc();
     match keeper {
-        "map" => answer_all::<MapKeeper, _>(rt)?,
-        "sqlite" => answer_all::<SqlKeeper<MemStore>, _>(rt)?,
+        "map" => answer_lines(rt, &mut Lists::<MapKeeper>::new(alloc)?, out)?,
+        "sqlite" => answer_lines(rt, &mut Lists::<SqlKeeper<MemStore>>::new(alloc)?, out)?,
         _ => return Ok(64),
     }
     Ok(0)
 }
 
 /// Does the work on standard input, and stops at a call of a file, as the six words say.
-fn stop_at(rt: &HostRuntime, words: &[String]) -> io::Result<u8> {
+fn stop_at<W: Write + Drop>(rt: &HostRuntime, words: &[String], out: &mut W) -> io::Result<u8> {
     let [_, file, calls, how, seed, database] = words else {
         return Ok(64);
     };
@@ -112,11 +133,19 @@ fn stop_at(rt: &HostRuntime, words: &[String]) -> io::Result<u8> {
             database: calls,
         },
     };
-    stop(rt, database.as_str(), calls, how.as_str() == "cut", seed)
+    stop(
+        rt,
+        database.as_str(),
+        calls,
+        how.as_str() == "cut",
+        seed,
+        out,
+    )?;
+    Ok(0)
 }
 
 /// Does the work of a command that takes a number.
-fn work(alloc: Global, work: &str, number: &str) -> io::Result<u8> {
+fn measure(alloc: Global, work: &str, number: &str) -> io::Result<u8> {
     let Ok(number) = number.parse::<u32>() else {
         return Ok(64);
     };
@@ -129,13 +158,6 @@ fn work(alloc: Global, work: &str, number: &str) -> io::Result<u8> {
         None => read(alloc, work, number)?,
     };
     Ok(status)
-}
-
-fn words<R: Env + AllocGlobal>(rt: &R, alloc: Global) -> Result<Vec<String>, AllocError> {
-    match env::args(rt) {
-        Ok(words) => words.skip(1).collect(alloc),
-        Err(_) => Ok(Vec::new(alloc)),
-    }
 }
 
 /// Computes the digest of this many pieces.
@@ -191,16 +213,17 @@ fn manifest_of(alloc: Global, digest: &str, lines: u32) -> Result<Vec<u8>, Alloc
     Ok(text)
 }
 
-/// A text of this many lines.
+/// A text of this many lines. That of any kind but `info` and `fetch` is a manifest.
 fn text_of(alloc: Global, kind: &str, lines: u32) -> Result<Vec<u8>, AllocError> {
+    if kind != "info" && kind != "fetch" {
+        return manifest_of(alloc, NOTHING, lines);
+    }
     let mut text = Vec::new(alloc);
     for number in 0..lines {
-        let line = match kind {
-            "info" => format!(in alloc; "Label-{number}: the value of this line\n")?,
-            "fetch" => format!(in alloc;
-                "http://example.org/{number} {number} data/folder/{number}.txt\n"
-            )?,
-            _ => format!(in alloc; "{NOTHING}  data/folder/{number}.txt\n")?,
+        let line = if kind == "info" {
+            format!(in alloc; "Label-{number}: the value of this line\n")?
+        } else {
+            format!(in alloc; "http://example.org/{number} {number} data/folder/{number}.txt\n")?
         };
         text.extend_from_slice(line.as_bytes())?;
     }

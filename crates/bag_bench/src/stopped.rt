@@ -1,13 +1,13 @@
 //! Work on a ledger that stops at a call of one of its two files, for `tests/stops.py`.
-use crate::deliveries::answer_lines;
 use crate::fused::{Fused, FusedKeeper, close, open};
+use crate::lines::answer_lines;
 use bag_ledger::Keeper;
 use bag_receiver::Receiver;
 use bag_sqlite::SqlKeeper;
 use sqlite::{Alter, Files};
 use sqlite_disk::{Crash, Disk, Fuse, Memory};
 use std::fs;
-use std::io::{self, BufWriter, ErrorKind, Write};
+use std::io::{self, ErrorKind, Write};
 
 /// How many calls the log and the database accept before they fail.
 #[derive(Clone, Copy)]
@@ -19,26 +19,26 @@ pub struct Calls {
 /// Opens the ledger in this database or makes one, answers the events on standard input, and closes the ledger. All of
 /// that is done with copies of the files in memory. What a stop at their last call would leave is then written back:
 /// if `is_cut`, without what no sync had reached.
-pub fn stop(
+pub fn stop<W: Write + Drop>(
     rt: &HostRuntime,
     database: &str,
     calls: Calls,
     is_cut: bool,
     seed: u64,
-) -> io::Result<u8> {
+    out: &mut W,
+) -> io::Result<()> {
     let log = format!(in rt.alloc(); "{database}-wal")?;
     let files = Files {
         log: copied(rt, log.as_str(), calls.log)?,
         db: copied(rt, database, calls.database)?,
     };
-    let mut left = work(rt, files, seed)?;
+    let mut left = work(rt, files, seed, out)?;
     if is_cut {
         left.log.crash();
         left.db.crash();
     }
     fs::write(rt, log.as_str(), left.log.inner().bytes())?;
-    fs::write(rt, database, left.db.inner().bytes())?;
-    Ok(0)
+    fs::write(rt, database, left.db.inner().bytes())
 }
 
 /// A copy of the file in memory, which accepts this many calls. If there is no file, the copy is empty.
@@ -55,16 +55,8 @@ fn copied(rt: &HostRuntime, name: &str, calls: u64) -> io::Result<Fuse<Memory>> 
     Ok(Fuse::new(copy, calls))
 }
 
-/// Prints a line for the opening, one for each event, and one for the closing. Returns the files.
-fn work(rt: &HostRuntime, files: Fused, seed: u64) -> io::Result<Fused> {
-    let mut out = BufWriter::new(rt.alloc(), io::writer(rt))?;
-    let left = work_into(rt, files, seed, &mut out)?;
-    out.flush()?;
-    Ok(left)
-}
-
-/// The same, with the lines written to `out`.
-fn work_into<W: Write + Drop>(
+/// Writes a line for the opening, one for each event, and one for the closing. Returns the files.
+fn work<W: Write + Drop>(
     rt: &HostRuntime,
     files: Fused,
     seed: u64,

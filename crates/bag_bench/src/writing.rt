@@ -1,52 +1,44 @@
 //! Writes bags in memory for `tests/new_bags.py`, which describes the input and the output.
-use crate::event::{bad_line, octets_of, text_of};
+use crate::lines::{Answers, bad_line, octets_of, text_of};
 use bag_digest::{Alg, AlgSet};
 use bag_path::{BagPath, Spelling};
 use bag_rules::{MemTree, Paths};
 use bag_tags::{Element, Info, Oxum};
 use bag_writer::{Hole, MemSink, Spec, WriteFault, write_bag};
 use std::alloc::Global;
-use std::fmt;
-use std::io::{self, BufRead, BufReader, BufWriter, Write};
+use std::io::{self, Write};
+use std::{fmt, mem};
 
-/// Writes each bag that standard input asks for, and prints the result and the files.
-///
-/// # Errors
-///
-/// A line is malformed, memory ran out, or a read or a write failed.
-pub fn write_all<R: Input + Print + AllocGlobal>(rt: &R) -> io::Result<()> {
-    let mut out = BufWriter::new(rt.alloc(), io::writer(rt))?;
-    let written = write_asked(rt, &mut out);
-    // The bags before a malformed line are printed.
-    out.flush()?;
-    written
-}
-
-fn write_asked<R: Input + AllocGlobal, W: Write + Drop>(rt: &R, out: &mut W) -> io::Result<()> {
-    let alloc = rt.alloc();
-    let mut order = Order::new(alloc);
-    for line in BufReader::new(alloc, rt.reader())?.lines(alloc) {
-        let line = line?;
-        if line.as_str() == "write" {
-            order.write(alloc, out)?;
-            order = Order::new(alloc);
-        } else {
-            let fields: Vec<&str> = line.split(' ').collect(alloc)?;
-            order.take(alloc, fields.as_slice())?;
-        }
-    }
-    Ok(())
-}
-
-/// A bag to write: the files of its tree, and what to write it with.
+/// A bag to write: the files of its tree, and what to write it with. When it is written another one begins.
 #[derive(Drop)]
-struct Order {
+pub struct Order {
     tree: MemTree,
     spec: Spec,
 }
 
+impl Answers for Order {
+    fn answer<W: Write + Drop>(
+        &mut self,
+        alloc: Global,
+        words: &[&str],
+        out: &mut W,
+    ) -> io::Result<()> {
+        match words {
+            ["write"] => {
+                let mut order = mem::replace(self, Order::new(alloc));
+                order.write(alloc, out)
+            }
+            ["by", name] => self.by(name),
+            ["file", path, content] => self.file(alloc, path, content),
+            ["element", label, value] => self.element(alloc, label, value),
+            ["hole", path, url] => self.hole(alloc, path, url),
+            _ => Err(bad_line()),
+        }
+    }
+}
+
 impl Order {
-    fn new(alloc: Global) -> Order {
+    pub fn new(alloc: Global) -> Order {
         Order {
             tree: MemTree::new(alloc),
             spec: Spec {
@@ -54,22 +46,6 @@ impl Order {
                 info: Info::new(alloc),
                 holes: Vec::new(alloc),
             },
-        }
-    }
-
-    /// Adds what a line specifies.
-    fn take(&mut self, alloc: Global, fields: &[&str]) -> io::Result<()> {
-        if fields.len() == 2 && fields[0] == "by" {
-            return self.by(fields[1]);
-        }
-        if fields.len() != 3 {
-            return Err(bad_line());
-        }
-        match fields[0] {
-            "file" => self.file(alloc, fields[1], fields[2]),
-            "element" => self.element(alloc, fields[1], fields[2]),
-            "hole" => self.hole(alloc, fields[1], fields[2]),
-            _ => Err(bad_line()),
         }
     }
 

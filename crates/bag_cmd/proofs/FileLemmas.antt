@@ -1,9 +1,9 @@
 -- From what the files hold to what a keeper holds, and back.
-use Rattle.std.proofs.Common.{◌≡◌, ◌≢◌, ◌⊎◌, ◌∙◌, ◌∷◌, Err, IsTrue, MatchResult, None, Ok, Result, ap, false, inl, inr, refl, subst, sym, true}
+use Rattle.std.proofs.Common.{◌≡◌, ◌≢◌, ◌⊎◌, ◌∙◌, ◌∷◌, Bool, Err, IsTrue, MatchResult, None, Ok, Option, Result, Some, ap, false, inl, inr, refl, subst, sym, true}
 use Rattle.std.proofs.Math.Logic.{∥∥₁_elim, ∥∥₁_map}
 use Rattle.bag_ledger.specs.Ledgers.{Ledger}
-use Rattle.bag_ledger.specs.declared.fault.KeepFault.TheVariants.{Memory, Store}
-use Rattle.bag_ledger.specs.declared.fault.StoreFault.TheVariants.{Refused}
+use Rattle.bag_ledger.specs.declared.fault.KeepFault.{KeepFault}
+use Rattle.bag_ledger.specs.declared.fault.KeepFault.TheVariants as keep
 use Rattle.bag_receiver.specs.Receivers.{IsKept}
 use Rattle.bag_receiver.specs.Receiving.{LedgerState}
 use Rattle.bag_rules.specs.Faults.{Has}
@@ -12,11 +12,11 @@ use Rattle.bag_sqlite.specs.Refusing.{IsNoAnswer, adopt_fault}
 use Rattle.bag_sqlite.specs.SqlKeepers.{HoldsLedger, IsOpenedOn, MayLeaveLedger}
 use Rattle.bag_sqlite.specs.Tables.{ledger_schema}
 use Rattle.bag_sqlite.specs.declared.adopting.AdoptFault.{AdoptFault}
-use Rattle.bag_sqlite.specs.declared.adopting.AdoptFault.TheVariants.{Keep}
+use Rattle.bag_sqlite.specs.declared.adopting.AdoptFault.TheVariants.{Memory, Store}
 use Rattle.sqlite.proofs.Theorems.{opens_again}
 use Rattle.sqlite.specs.Closing.{HoldsAlone, IsCopied}
 use Rattle.sqlite.specs.Effect.{Database}
-use Rattle.sqlite.specs.Files.{FailsToOpenFiles, HoldsDatabase, IsCleanLeft, file_state, image_of}
+use Rattle.sqlite.specs.Files.{FailsToOpenFiles, HoldsDatabase, IsCleanLeft, LeavesFiles, file_state, image_of}
 use Rattle.sqlite.specs.Held.{Held}
 use Rattle.sqlite.specs.Start.{FindsIn}
 use Rattle.sqlite.specs.Opening.{is_open_error}
@@ -26,6 +26,7 @@ use Rattle.sqlite.specs.declared.error.Error.{Error}
 use Rattle.sqlite.specs.declared.error.Error.TheVariants.{ExecuteReturnedResults, InvalidParameterCount, InvalidQuery, MultipleStatement, QueryReturnedNoRows, SqliteFailure}
 use Rattle.sqlite.specs.declared.error.ErrorCode.TheVariants.{DiskFull, NotADatabase, OutOfMemory}
 use Rattle.sqlite.specs.declared.file.Leftover.{Leftover}
+use Rattle.sqlite.specs.declared.file.Leftover.TheVariants as leftover
 use Rattle.sqlite_disk.specs.declared.Disk.{Ghosts}
 use Rattle.sqlite_disk.specs.declared.Files.{Files}
 use Rattle.sqlite_store.specs.declared.store.FileStore.{FileStore}
@@ -35,11 +36,14 @@ use Rattle.sqlite_trees.specs.declared.error.StoreError.TheVariants.{Broken, Cor
 use Rattle.sqlite_trees.specs.declared.error.StoreError.TheVariants as store_fault
 use Rattle.sqlite_wal.specs.Files.{outcomes}
 use Rattle.sqlite_wal.specs.Recovery.{Image}
-use Rattle.bag_cmd.specs.LedgerFiles.{HoldsLedgerAlone, HoldsLedgerIn, IsNumbered, IsRefusal, IsStopOf, IsUnopened, MayBeLeft, NoAnswer, NoDatabase, NoFile, Refused as WasRefused}
-use Rattle.bag_cmd.specs.Unopened.{cause_of_error, cause_of_fault}
+use Rattle.bag_cmd.specs.LedgerFiles.{AreOpenOn, HoldsLedgerAlone, HoldsLedgerIn, IsAsItWas, IsHandedBack, IsNumbered, IsRefusal, IsStopOf, IsUnopened, MayBeLeft, NoAnswer, NoDatabase, NoFile, OpensOrMakes, Refused as WasRefused}
+use Rattle.bag_cmd.specs.Unopened.{HasNoAnswer, cause_barred, cause_of_error, cause_of_fault, cause_of_store, cause_unmade, fault_barred, fault_unmade}
+use Rattle.bag_cmd.specs.declared.barred.Barred.{Barred}
+use Rattle.bag_cmd.specs.declared.barred.Barred.TheVariants as why
 use Rattle.bag_cmd.specs.declared.found.Seen.{Seen}
 use Rattle.bag_cmd.specs.declared.unopened.Left.{Left}
 use Rattle.bag_cmd.specs.declared.unopened.Left.TheVariants as left
+use Rattle.bag_cmd.specs.declared.unopened.LedgerCause.{LedgerCause}
 use Rattle.bag_cmd.specs.declared.unopened.Unopened.{Unopened}
 
 -- what a connection that was opened found
@@ -78,18 +82,18 @@ module _ {D : Type 0} {g : Ghosts D} (kept : Held (FileStore D g)) where
 
 -- an error of an opening says that there is no database, or it is memory or the store
 told_as : (error : Error) → IsTrue (is_open_error error) → (error ≡ SqliteFailure NotADatabase) ⊎ IsNoAnswer (adopt_fault error)
-told_as (SqliteFailure OutOfMemory) is = inr (Memory, refl)
+told_as (SqliteFailure OutOfMemory) is = inr tt
 told_as (SqliteFailure NotADatabase) is = inl refl
-told_as (SqliteFailure code) is = inr (Store Refused, refl)
-told_as (InvalidParameterCount given wanted) is = inr (Store Refused, refl)
-told_as ExecuteReturnedResults is = inr (Store Refused, refl)
-told_as InvalidQuery is = inr (Store Refused, refl)
-told_as MultipleStatement is = inr (Store Refused, refl)
-told_as QueryReturnedNoRows is = inr (Store Refused, refl)
+told_as (SqliteFailure code) is = inr tt
+told_as (InvalidParameterCount given wanted) is = inr tt
+told_as ExecuteReturnedResults is = inr tt
+told_as InvalidQuery is = inr tt
+told_as MultipleStatement is = inr tt
+told_as QueryReturnedNoRows is = inr tt
 told_as error is = absurd (let e : false ≡ true = is in cc)
 
 -- nothing is told of want of memory
-untold : (error : Error) → adopt_fault error ≡ Keep Memory → cause_of_error error ≡ None
+untold : (error : Error) → adopt_fault error ≡ Memory → cause_of_error error ≡ None
 untold (SqliteFailure OutOfMemory) is = refl
 untold (SqliteFailure NotADatabase) is = cc
 untold (SqliteFailure code) is = cc
@@ -100,6 +104,18 @@ untold MultipleStatement is = cc
 untold QueryReturnedNoRows is = cc
 untold error is = cc
 
+-- and a cause is told if the store failed
+told : (error shown : Error) → adopt_fault error ≡ Store shown → (cause : LedgerCause) × (cause_of_error error ≡ Some cause)
+told (SqliteFailure OutOfMemory) shown is = absurd cc
+told (SqliteFailure NotADatabase) shown is = absurd cc
+told (SqliteFailure code) shown is = (_, refl)
+told (InvalidParameterCount given wanted) shown is = (_, refl)
+told ExecuteReturnedResults shown is = (_, refl)
+told InvalidQuery shown is = (_, refl)
+told MultipleStatement shown is = (_, refl)
+told QueryReturnedNoRows shown is = (_, refl)
+told error shown is = absurd cc
+
 no_fault : (kind : StoreError) → store_error kind ≢ SqliteFailure NotADatabase
 no_fault store_fault.OutOfMemory e = cc
 no_fault Io e = cc
@@ -107,6 +123,15 @@ no_fault Corrupt e = cc
 no_fault Full e = cc
 no_fault Broken e = cc
 no_fault Unstorable e = cc
+
+-- what is told of a cause that was barred
+pub barred : {L : Type 0} (it : Unopened L) (why : Barred) → it.fault ≡ fault_barred why → it.cause ≡ cause_barred why → HasNoAnswer it
+barred it why.Memory fault cause = record { no_answer = subst IsNoAnswer (sym fault) tt; memory = λ is. cause; store = λ error is. absurd (let e = sym fault ∙ is in cc) }
+barred it (why.For given) fault cause = record { no_answer = subst IsNoAnswer (sym fault) tt; memory = λ is. absurd (let e = sym fault ∙ is in cc); store = λ error is. (given, cause) }
+
+pub unmade : {L : Type 0} (it : Unopened L) (fault : KeepFault) (trouble : Option Error) → it.fault ≡ fault_unmade fault trouble → it.cause ≡ cause_unmade fault trouble → HasNoAnswer it
+unmade it keep.Memory trouble fault cause = record { no_answer = subst IsNoAnswer (sym fault) tt; memory = λ is. cause; store = λ error is. absurd (let e = sym fault ∙ is in cc) }
+unmade it (keep.Store kind) trouble fault cause = record { no_answer = subst IsNoAnswer (sym fault) tt; memory = λ is. absurd (let e = sym fault ∙ is in cc); store = λ error is. (cause_of_store trouble, cause) }
 
 module _ {D : Type 0} (g : Ghosts D) (image : Image) where
   -- it failed because the files hold no database
@@ -119,27 +144,45 @@ module _ {D : Type 0} (g : Ghosts D) (image : Image) where
     ]
   ]
 
-  pub not_connected : (files : Files D) (rest : Leftover D g) (error : Error) (it : Unopened (Left D g)) → image_of g files ≡ image → IsTrue (is_open_error error)
-      → (IsCleanLeft rest → FailsToOpenFiles files rest error) → it.left ≡ left.Files rest → it.fault ≡ adopt_fault error → it.cause ≡ cause_of_error error → IsUnopened g image it (λ _. ⊥)
-  not_connected files rest error it same named why left fault cause = elim (told_as error named) [
-    | inl none ↦ NoDatabase rest left (λ clean. no_database files rest same (subst (FailsToOpenFiles files rest) none (why clean))) (fault ∙ ap adopt_fault none) (cause ∙ ap cause_of_error none)
-    | inr keep ↦ NoAnswer (record { no_answer = subst IsNoAnswer (sym fault) keep; memory = λ is. cause ∙ untold error (sym fault ∙ is) })
-  ]
+module _ {S D : Type 0} (g : Ghosts D) (image : Image) where
+  -- files that were opened and not used are as they were
+  pub unused : (files : Files D) (rest : Left S D g) → rest ≡ left.Files (leftover.Files files) → AreOpenOn g image files → IsAsItWas g image rest
+  unused files rest is usable = subst (IsAsItWas {S = S} g image) (sym is) (files, usable, λ clean image may. may)
+
+  pub not_connected : (files : Files D) (rest : Leftover D g) (error : Error) (it : Unopened (Left S D g)) → AreOpenOn g image files → IsTrue (is_open_error error)
+      → (IsCleanLeft rest → FailsToOpenFiles files rest error) → (IsCleanLeft rest → LeavesFiles files rest) → it.left ≡ left.Files rest → it.fault ≡ adopt_fault error → it.cause ≡ cause_of_error error → IsUnopened g image it (λ _. ⊥)
+  not_connected files rest error it usable named why unharmed left fault cause =
+      let as_it_was : IsAsItWas g image it.left = subst (IsAsItWas {S = S} g image) (sym left) (files, usable, unharmed) in
+      elim (told_as error named) [
+        | inl none ↦ NoDatabase rest left (λ clean. no_database g image files rest usable.holds (subst (FailsToOpenFiles files rest) none (why clean))) (fault ∙ ap adopt_fault none) (cause ∙ ap cause_of_error none) as_it_was
+        | inr keep ↦ NoAnswer (record { no_answer = subst IsNoAnswer (sym fault) keep; memory = λ is. cause ∙ untold error (sym fault ∙ is); store = λ shown is. let it = told error shown (sym fault ∙ is) in (it.0, cause ∙ it.1) }) as_it_was
+      ]
 
   -- the database was refused for this fault
-  pub not_adopted : (it : Unopened (Left D g)) (fault : AdoptFault) (opened refused : Held (FileStore D g)) → it.left ≡ left.Database refused
-      → (it.fault ≡ fault) × (it.cause ≡ cause_of_fault fault) → (HasCleanDisk (file_state refused) → IsRefusal g image fault opened) → IsUnopened g image it (λ _. ⊥)
-  not_adopted it fault opened refused left told why =
-      WasRefused opened refused left (subst (λ f. HasCleanDisk (file_state refused) → IsRefusal g image f opened) (sym told.0) why) (told.1 ∙ ap cause_of_fault (sym told.0))
+  pub not_adopted : (it : Unopened (Left S D g)) (fault : AdoptFault) (opened refused : Held (FileStore D g)) → it.left ≡ left.Database refused
+      → (it.fault ≡ fault) × (it.cause ≡ cause_of_fault fault) → IsHandedBack image opened refused (λ _. ⊥) → (HasCleanDisk (file_state refused) → IsRefusal image fault opened) → IsUnopened g image it (λ _. ⊥)
+  not_adopted it fault opened refused left told back why =
+      WasRefused opened refused left back (subst (λ f. HasCleanDisk (file_state refused) → IsRefusal image f opened) (sym told.0) why) (told.1 ∙ ap cause_of_fault (sym told.0))
 
   -- the same, where more may have been seen in place of a file
-  pub known_less : (it : Unopened (Left D g)) (none more : Seen → Type 0) → ((seen : Seen) → none seen → more seen) → IsUnopened g image it none → IsUnopened g image it more
-  known_less it none more to (NoAnswer why) = NoAnswer why
-  known_less it none more to (NoFile seen left is fault cause) = NoFile seen left (to seen is) fault cause
-  known_less it none more to (NoDatabase files left not fault cause) = NoDatabase files left not fault cause
-  known_less it none more to (WasRefused opened refused left why cause) = WasRefused opened refused left why cause
+  pub known_less : (it : Unopened (Left S D g)) (none more : Seen → Type 0) → ((seen : Seen) → none seen → more seen) → IsUnopened g image it none → IsUnopened g image it more
+  known_less it none more to (NoAnswer why as_it_was) = NoAnswer why as_it_was
+  known_less it none more to (NoFile seen saw is fault cause as_it_was) = NoFile seen saw (to seen is) fault cause as_it_was
+  known_less it none more to (NoDatabase files left not fault cause as_it_was) = NoDatabase files left not fault cause as_it_was
+  known_less it none more to (WasRefused opened refused left back why cause) = WasRefused opened refused left back why cause
 
-  pub adopted : {A : Type 0} (P : A → Type 0) (more : Seen → Type 0) (answer : Result A (Unopened (Left D g)))
-      → MatchResult answer P (λ it. IsUnopened g image it (λ _. ⊥)) → MatchResult answer P (λ it. IsUnopened g image it more)
-  adopted P more (Ok a) is = is
-  adopted P more (Err it) is = known_less it (λ _. ⊥) more (λ seen none. absurd none) is
+  pub adopted : {A : Type 0} (P : A → Type 0) (none more : Seen → Type 0) → ((seen : Seen) → none seen → more seen) → (answer : Result A (Unopened (Left S D g)))
+      → MatchResult answer P (λ it. IsUnopened g image it none) → MatchResult answer P (λ it. IsUnopened g image it more)
+  adopted P none more to (Ok a) is = is
+  adopted P none more to (Err it) is = known_less it none more to is
+
+  -- the same for an opening that may make a ledger
+  pub opened_or_not : {A : Type 0} (is_made : A → Bool) (opens makes : A → Type 0) (more : Seen → Type 0) (answer : Result A (Unopened (Left S D g)))
+      → MatchResult answer (λ it. (is_made it ≡ false) × opens it) (λ it. IsUnopened g image it (λ _. ⊥)) → MatchResult answer (λ it. OpensOrMakes (is_made it) (opens it) (makes it)) (λ it. IsUnopened g image it more)
+  opened_or_not is_made opens makes more (Ok a) is = inl is
+  opened_or_not is_made opens makes more (Err it) is = known_less it (λ _. ⊥) more (λ seen none. absurd none) is
+
+  pub made_or_not : {A : Type 0} (is_made : A → Bool) (opens makes : A → Type 0) (more : Seen → Type 0) (answer : Result A (Unopened (Left S D g)))
+      → MatchResult answer (λ it. (is_made it ≡ true) × makes it) (λ it. IsUnopened g image it (λ _. ⊥)) → MatchResult answer (λ it. OpensOrMakes (is_made it) (opens it) (makes it)) (λ it. IsUnopened g image it more)
+  made_or_not is_made opens makes more (Ok a) is = inr is
+  made_or_not is_made opens makes more (Err it) is = known_less it (λ _. ⊥) more (λ seen none. absurd none) is

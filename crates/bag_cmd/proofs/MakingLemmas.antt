@@ -10,6 +10,7 @@ use Rattle.bag_receiver.specs.Receivers.{IsInState}
 use Rattle.bag_receiver.specs.Receiving.{LedgerState}
 use Rattle.bag_rules.specs.Trees.{Shown}
 use Rattle.bag_cmd.specs.declared.ended.Ended.{Ended}
+use Rattle.bag_cmd.specs.declared.ledger.Ledgers.{Ghosts as Ledgers}
 use Rattle.bag_cmd.specs.declared.request.Work.{Work}
 use Rattle.bag_cmd.specs.declared.request.Work.TheVariants.{Audit, Begin, Export, Fetch, Intake, List as ListNames, Report}
 use Rattle.bag_cmd.specs.Working.{DoesWork, IsOpenFor, NoMemory, Opened, Refused, WithFolder}
@@ -38,15 +39,15 @@ module _ {K W : Type 0} (k : Ghosts K) (known : Option Listing) (contents : W �
   in_folder folder does went (NoMemory same printed why) = stayed same
 
   -- only `begin` makes a ledger
-  pub goes_on : (opens makes : List ℕ → K → Type 0) (ledger : List ℕ) (is_made : Bool) (kept : K) (work : Work) → is_made ≡ true → IsOpenFor opens makes ledger work is_made kept
-      → DoesWork k known contents work made now before after old new result → makes ledger kept × GoesOn
-  goes_on opens makes ledger is_made kept (Begin name folder) is open_for does = elim open_for [
+  pub goes_on : {L F U C : Type 0} (l : Ledgers L K F U C) (ledger : List ℕ) (is_made : Bool) (kept : K) (work : Work) → is_made ≡ true → IsOpenFor l ledger work is_made kept
+      → DoesWork k known contents work made now before after old new result → l.made ledger kept × GoesOn
+  goes_on l ledger is_made kept (Begin name folder) is open_for does = elim open_for [
     | inl not ↦ absurd (let e : false ≡ true = sym not.0 ∙ is in cc)
     | inr made ↦ (made.1, in_folder _ _ (λ tree later did. began _ _ _ did) does.1)
   ]
-  goes_on opens makes ledger is_made kept (Intake name folders) is open_for does = absurd (let e : false ≡ true = sym open_for.0 ∙ is in cc)
-  goes_on opens makes ledger is_made kept (Report name) is open_for does = absurd (let e : false ≡ true = sym open_for.0 ∙ is in cc)
-  goes_on opens makes ledger is_made kept (Audit name) is open_for does = absurd (let e : false ≡ true = sym open_for.0 ∙ is in cc)
-  goes_on opens makes ledger is_made kept (Fetch name folder) is open_for does = absurd (let e : false ≡ true = sym open_for.0 ∙ is in cc)
-  goes_on opens makes ledger is_made kept (Export name folder) is open_for does = absurd (let e : false ≡ true = sym open_for.0 ∙ is in cc)
-  goes_on opens makes ledger is_made kept ListNames is open_for does = absurd (let e : false ≡ true = sym open_for.0 ∙ is in cc)
+  goes_on l ledger is_made kept (Intake name folders) is open_for does = absurd (let e : false ≡ true = sym open_for.0 ∙ is in cc)
+  goes_on l ledger is_made kept (Report name) is open_for does = absurd (let e : false ≡ true = sym open_for.0 ∙ is in cc)
+  goes_on l ledger is_made kept (Audit name) is open_for does = absurd (let e : false ≡ true = sym open_for.0 ∙ is in cc)
+  goes_on l ledger is_made kept (Fetch name folder) is open_for does = absurd (let e : false ≡ true = sym open_for.0 ∙ is in cc)
+  goes_on l ledger is_made kept (Export name folder) is open_for does = absurd (let e : false ≡ true = sym open_for.0 ∙ is in cc)
+  goes_on l ledger is_made kept ListNames is open_for does = absurd (let e : false ≡ true = sym open_for.0 ∙ is in cc)

@@ -9,6 +9,7 @@ use Rattle.bag_receiver.specs.declared.receiver.Receiver.{Receiver}
 use Rattle.bag_receiver.specs.Receivers.{IsInState}
 use Rattle.bag_receiver.specs.Receiving.{LedgerState}
 use Rattle.bag_cmd.specs.declared.ended.Ended.{Ended}
+use Rattle.bag_cmd.specs.declared.ledger.Ledgers.{Ghosts as Ledgers}
 use Rattle.bag_cmd.specs.declared.request.Work.{Work}
 use Rattle.bag_cmd.specs.declared.request.Work.TheVariants.{Audit, Begin, Export, Fetch, Intake, List as ListNames, Report}
 use Rattle.bag_cmd.specs.Working.{DoesWork, HoldsValidBag, IsOpenFor, Views, viewed}
@@ -32,6 +33,6 @@ module _ {K W : Type 0} (k : Ghosts K) (known : Option Listing) (contents : W �
   valid_by ListNames is does = absurd (cc)
 
 -- the ledger was opened, and not made
-pub opened_by : {K : Type 0} (opened made : List ℕ → K → Type 0) (ledger name : List ℕ) (is_made : Bool) (kept : K) (work : Work) → viewed work ≡ Some name → IsOpenFor opened made ledger work is_made kept → opened ledger kept
-opened_by opened made ledger name is_made kept (Begin given folder) is open_for = absurd (cc)
-opened_by opened made ledger name is_made kept work is open_for = open_for.1
+pub opened_by : {L K F U C : Type 0} (l : Ledgers L K F U C) (ledger name : List ℕ) (is_made : Bool) (kept : K) (work : Work) → viewed work ≡ Some name → IsOpenFor l ledger work is_made kept → l.opened ledger kept
+opened_by l ledger name is_made kept (Begin given folder) is open_for = absurd (cc)
+opened_by l ledger name is_made kept work is open_for = open_for.1

@@ -1,10 +1,15 @@
 -- What happens to folders that aren't opened, and to one that was made for a bag.
-use Rattle.std.proofs.Common.{◌≡◌, ◌≢◌, ◌∙◌, ◌∷◌, ◌++◌, ◌+◌, ◌<◌, ℕ, Contains, List, [], None, Option, Some, ap, arith, false, get_or, is_some, length, map, refl, subst, suc, sym, take, true, zero}
+use Rattle.std.proofs.Common.{◌≡◌, ◌≢◌, ◌∙◌, ◌∷◌, ◌++◌, ◌+◌, ◌<◌, ℕ, Bool, Contains, List, [], None, Option, Some, ap, arith, get_or, length, map, nat_lt, not, refl, subst, suc, sym, take, zero}
 use Rattle.std.proofs.lemmas.List.{map-append}
 use Rattle.std.proofs.lemmas.List.Elements.{Contains-get_or}
 use Rattle.std.proofs.lemmas.Option.{get_or_from_slice_get, slice_get_within}
 use Rattle.std.proofs.lemmas.Grind.{common_steps}
+use Rattle.std.specs.List.{list_any}
 use Rattle.std.specs.Option.{option_or}
+use Rattle.bag_path.specs.Paths.{is_payload}
+use Rattle.bag_receiver.specs.declared.run.TheConstants.{MOST_DELIVERIES}
+use Rattle.bag_rules.specs.Trees.{paths_in}
+use Rattle.bag_writer.specs.Writing.{payload_paths}
 use Rattle.bag_commands.specs.declared.output.Output.{Output}
 use Rattle.bag_commands.specs.declared.status.TheConstants.{DONE, FAILED}
 use Rattle.bag_commands.specs.Intakes.{TakesIn}
@@ -19,7 +24,7 @@ use Rattle.bag_folder.specs.Directories.{Listing}
 use Rattle.bag_folder.specs.Faults.{IfUnfit}
 use Rattle.bag_folder.specs.Folders.{FolderShown, IsOpened, IsRefused}
 use Rattle.bag_cmd.specs.declared.ended.Ended.{Ended}
-use Rattle.bag_cmd.specs.Endings.{first_name, why_unopened}
+use Rattle.bag_cmd.specs.Endings.{first_name, name_if, name_if_crowded, name_if_empty, why_unopened}
 use Rattle.bag_cmd.specs.Stops.{stop_of_open}
 use Rattle.bag_cmd.specs.Making.{kept_folder}
 use Rattle.bag_cmd.specs.Working.{AreOpened, NoMemory, OneRefused, OutOfMemory, Refused, SomeIsRefused, WithFolder, WithFolders}
@@ -86,14 +91,18 @@ module _ (named : FolderShown → Option (List ℕ)) where
   name_more [] tree = first_none (named tree)
   name_more (t ∷ ts) tree = ap (option_or (named t)) (name_more ts tree) ∙ first_of_three (named t) (first_name named ts) (named tree)
 
-  -- none was named before, or one was
-  pub named_now : (was : Option (List ℕ)) (trees : List FolderShown) (tree : FolderShown) → is_some was ≡ false → was ≡ first_name named trees → named tree ≡ first_name named (trees ++ tree ∷ [])
-  named_now None trees tree none is = sym (name_more trees tree ∙ ap (λ first. option_or first (named tree)) (sym is))
-  named_now (Some name) trees tree none is = absurd (let e : true ≡ false = none in cc)
+  -- the name that was told already, or that of the next folder
+  first_so : (was : Option (List ℕ)) (trees : List FolderShown) (tree : FolderShown) → was ≡ first_name named trees → option_or was (named tree) ≡ first_name named (trees ++ tree ∷ [])
+  first_so was trees tree is = ap (λ first. option_or first (named tree)) is ∙ sym (name_more trees tree)
 
-  pub named_before : (was : Option (List ℕ)) (trees : List FolderShown) (tree : FolderShown) → is_some was ≡ true → was ≡ first_name named trees → was ≡ first_name named (trees ++ tree ∷ [])
-  named_before None trees tree some is = absurd (let e : false ≡ true = some in cc)
-  named_before (Some name) trees tree some is = sym (name_more trees tree ∙ ap (λ first. option_or first (named tree)) (sym is))
+module _ (was : Option (List ℕ)) (trees : List FolderShown) (tree : FolderShown) (name : List ℕ) (is : name ≡ tree.folder) where
+  pub crowded_so : (count : ℕ) → count ≡ length (payload_paths tree.shown) → was ≡ first_name name_if_crowded trees
+      → option_or was (name_if (nat_lt MOST_DELIVERIES count) name) ≡ first_name name_if_crowded (trees ++ tree ∷ [])
+  crowded_so count counted before = rw (counted, is) (first_so name_if_crowded was trees tree before)
+
+  pub empty_so : (has_payload : Bool) → has_payload ≡ list_any is_payload (paths_in tree.shown) → was ≡ first_name name_if_empty trees
+      → option_or was (name_if (not has_payload) name) ≡ first_name name_if_empty (trees ++ tree ∷ [])
+  empty_so has_payload known before = rw (known, is) (first_so name_if_empty was trees tree before)
 
 pub taken_from : {R C : Type 0} (runs : R → R → C → C → Told → Type 0) (before now laters : List C) (told : List Told) (old new : R) → before ≡ now → TakesIn runs before laters told old new → TakesIn runs now laters told old new
 taken_from runs before now laters told old new is takes = subst (λ couriers. TakesIn runs couriers laters told old new) is takes

@@ -14,13 +14,13 @@ use Rattle.bag_folder.specs.Directories.{Listing}
 use Rattle.bag_folder.specs.Folders.{FolderShown, IsOpened, IsRefused}
 use Rattle.bag_folder.specs.Unfits.{UnfitShown}
 use Rattle.bag_cmd.specs.declared.ended.Ended.{Ended}
+use Rattle.bag_cmd.specs.declared.ledger.Ledgers.{Ghosts as Ledgers}
 use Rattle.bag_cmd.specs.declared.ended.Why.TheVariants.{Unfit}
 use Rattle.bag_cmd.specs.declared.request.Request.{Request}
 use Rattle.bag_cmd.specs.declared.request.Request.TheVariants.{Check, Ledger, Make}
 use Rattle.bag_cmd.specs.Endings.{why_unchecked}
 use Rattle.bag_cmd.specs.Making.{PrintsMake}
 use Rattle.bag_cmd.specs.Requests.{AsksFor, NamesCommand}
-use Rattle.bag_cmd.specs.declared.unopened.Unopened.{Unopened}
 use Rattle.bag_cmd.specs.Working.{WorksOn}
 
 -- a result of `check` for an open folder, which may fail
@@ -57,50 +57,42 @@ pub data Refuses {W : Type 0} (contents : W → Option (List ℕ)) (old new : Ou
 abbrev pub usage_line : List ℕ
 usage_line = codes "bag: check, make, begin, intake, report, audit, fetch, export, list"
 
--- What a command did: what it printed, what is told of it besides, and the folder that was made for a bag and not given
--- up, which only `make` and `export` change.
-abbrev pub Runs : {K L C W : Type 0} → Ghosts K → (List ℕ → K → Type 0) → (List ℕ → K → Type 0)
-    → (List ℕ → Unopened L → Type 0) → (K → C → Type 0) → Option Listing
-    → (W → Option (List ℕ)) → Request → Option (List ℕ) → Option (List ℕ) → Output W → Output W
-    → Ended → Type 0
-Runs k opened made refused closed known contents (Check folder) before after old new result =
-    (after ≡ before) × PrintsCheck contents known (string_bytes folder) old new result
-Runs k opened made refused closed known contents (Make source destination algorithms) before after
-    old new result =
-    PrintsMake contents known (record {
-      source = string_bytes source;
-      destination = string_bytes destination;
-      names = map string_bytes algorithms.items;
-    }) before after old new result
-Runs k opened made refused closed known contents (Ledger ledger work) before after old new result =
-    WorksOn k opened made refused closed known contents (string_bytes ledger) work before after old
-    new result
+module _ {L K F U C W : Type 0} (k : Ghosts K) (l : Ledgers L K F U C)
+    (contents : W → Option (List ℕ)) where
+  -- What a command did: what it printed, what is told of it besides, and the folder that was made
+  -- for a bag and not given up, which only `make` and `export` change.
+  abbrev pub Runs : Option Listing → Request → Option (List ℕ) → Option (List ℕ) → Output W
+      → Output W → Ended → Type 0
+  Runs known (Check folder) before after old new result =
+      (after ≡ before) × PrintsCheck contents known (string_bytes folder) old new result
+  Runs known (Make source destination algorithms) before after old new result =
+      PrintsMake contents known (record {
+        source = string_bytes source;
+        destination = string_bytes destination;
+        names = map string_bytes algorithms.items;
+      }) before after old new result
+  Runs known (Ledger ledger work) before after old new result =
+      WorksOn k l known contents (string_bytes ledger) work before after old new result
 
--- What a command line did: either it ran the command that its arguments ask for, or they are no known command, which
--- was reported.
-pub data RunsCommand {K L C W : Type 0} (k : Ghosts K) (opened made : List ℕ → K → Type 0)
-    (refused : List ℕ → Unopened L → Type 0) (closed : K → C → Type 0) (known : Option Listing)
-    (contents : W → Option (List ℕ)) (words : List (List ℕ)) (before after : Option (List ℕ))
-    (old new : Output W) (result : Ended) : Type 0 where
-  Named : (request : Request) → AsksFor words request
-      → Runs k opened made refused closed known contents request before after old new result
-      → RunsCommand k opened made refused closed known contents words before after old new result
-  NoWords : words ≡ [] → after ≡ before
-      → Printed contents old new result.status (usage_line ∷ []) USAGE → result.why ≡ None
-      → RunsCommand k opened made refused closed known contents words before after old new result
-  NoCommand : words ≢ [] → ¬ NamesCommand words → after ≡ before
-      → Refuses contents old new result.status → result.why ≡ None
-      → RunsCommand k opened made refused closed known contents words before after old new result
-  NoMemory : words ≢ [] → after ≡ before
-      → Printed contents old new result.status (stop_text Memory ∷ []) FAILED
-      → result.why ≡ None
-      → RunsCommand k opened made refused closed known contents words before after old new result
+  -- What a command line did: either it ran the command that its arguments ask for, or they are no
+  -- known command, which was reported.
+  pub data RunsCommand (known : Option Listing) (words : List (List ℕ))
+      (before after : Option (List ℕ)) (old new : Output W) (result : Ended) : Type 0 where
+    Named : (request : Request) → AsksFor words request
+        → Runs known request before after old new result
+        → RunsCommand known words before after old new result
+    NoWords : words ≡ [] → after ≡ before
+        → Printed contents old new result.status (usage_line ∷ []) USAGE → result.why ≡ None
+        → RunsCommand known words before after old new result
+    NoCommand : words ≢ [] → ¬ NamesCommand words → after ≡ before
+        → Refuses contents old new result.status → result.why ≡ None
+        → RunsCommand known words before after old new result
+    NoMemory : words ≢ [] → after ≡ before
+        → Printed contents old new result.status (stop_text Memory ∷ []) FAILED
+        → result.why ≡ None
+        → RunsCommand known words before after old new result
 
--- some command line was run on the directories of the file system, and ended with this status
-abbrev pub Ran : {K L C W : Type 0} → Ghosts K → (List ℕ → K → Type 0) → (List ℕ → K → Type 0)
-    → (List ℕ → Unopened L → Type 0) → (K → C → Type 0) → (W → Option (List ℕ)) → Output W
-    → Output W → ℕ → Type 0
-Ran k opened made refused closed contents old new result =
-    (words : List (List ℕ)) × (after : Option (List ℕ)) × (ended : Ended)
-    × RunsCommand k opened made refused closed None contents words None after old new ended
-    × (result ≡ ended.status)
+  -- some command line was run on the directories of the file system, and ended with this status
+  abbrev pub Ran : Output W → Output W → ℕ → Type 0
+  Ran old new result = (words : List (List ℕ)) × (after : Option (List ℕ)) × (ended : Ended)
+      × RunsCommand None words None after old new ended × (result ≡ ended.status)

@@ -1,5 +1,5 @@
 -- How a command has ended, and what is told of it besides its lines.
-use Rattle.std.specs.Prelude.{◌≡◌, ℕ, List, [], ◌∷◌, None, Option, Result, Some, Err, if◌then◌else◌, length, nat_eq, nat_lt}
+use Rattle.std.specs.Prelude.{◌≡◌, ℕ, Bool, List, [], ◌∷◌, None, Option, Result, Some, Err, if◌then◌else◌, length, nat_eq, nat_lt, not}
 use Rattle.std.specs.List.{list_any}
 use Rattle.std.specs.Option.{option_map, option_or}
 use Rattle.bag_folder.specs.declared.fault.OpenFault.{OpenFault}
@@ -41,14 +41,18 @@ why_unopened open_fault.Memory = None
 abbrev pub why_failed : ℕ → Option UnfitShown → Option Why
 why_failed failures trouble = if nat_eq failures 0 then None else option_map Unfit trouble
 
+-- a name, if it is to be told
+abbrev pub name_if : Bool → List ℕ → Option (List ℕ)
+name_if is_told name = if is_told then Some name else None
+
 -- the name of a folder without payload files
 abbrev pub name_if_empty : FolderShown → Option (List ℕ)
-name_if_empty tree = if list_any is_payload (paths_in tree.shown) then None else Some tree.folder
+name_if_empty tree = name_if (not (list_any is_payload (paths_in tree.shown))) tree.folder
 
 -- the name of a folder with more payload files than one run delivers
 abbrev pub name_if_crowded : FolderShown → Option (List ℕ)
 name_if_crowded tree =
-    if nat_lt MOST_DELIVERIES (length (payload_paths tree.shown)) then Some tree.folder else None
+    name_if (nat_lt MOST_DELIVERIES (length (payload_paths tree.shown))) tree.folder
 
 -- the first name that is given so of one of several folders
 abbrev pub first_name : (FolderShown → Option (List ℕ)) → List FolderShown → Option (List ℕ)
@@ -57,7 +61,7 @@ first_name named (tree ∷ trees) = option_or (named tree) (first_name named tre
 
 -- what is told if a limit is exceeded by something with this name
 abbrev pub why_exceeds : List ℕ → Limit → Option Why
-why_exceeds name exceeded = Some (Exceeds (record { name = name; limit = exceeded }))
+why_exceeds name exceeded = Some (Exceeds (record { name = name; what = exceeded }))
 
 -- what is told of folders whose payload files are delivered: the first of them that has too many, and otherwise the
 -- first without any
@@ -99,4 +103,4 @@ why_unmade tree None = why_failed tree.failures tree.trouble
 abbrev pub IsWhyOf : List ℕ → Option LedgerCause → Option Why → Type 0
 IsWhyOf name cause None = Unit {0}
 IsWhyOf name cause (Some why) = (known : LedgerCause) × (cause ≡ Some known)
-    × (why ≡ Ledger (record { name = name; cause = known }))
+    × (why ≡ Ledger (record { name = name; what = known }))

@@ -1,5 +1,5 @@
 -- Work on a ledger: how it is opened, and what is done with it.
-use Rattle.std.specs.Prelude.{◌≡◌, ◌↔◌, ◌⊎◌, ◌∷◌, ◌++◌, [], ℕ, Bool, Contains, List, None, Option, Some, codes, false, is_some, map, string_bytes}
+use Rattle.std.specs.Prelude.{◌≡◌, ◌↔◌, ◌∷◌, ◌++◌, [], ℕ, Bool, Contains, List, None, Option, Some, codes, false, is_some, map, string_bytes}
 use Rattle.bag_ledger.specs.Ledgers.{Ledger, Transfer}
 use Rattle.bag_ledger.specs.declared.keeper.Keeper.{Ghosts}
 use Rattle.bag_path.specs.Spellings.{written_spelling}
@@ -12,7 +12,7 @@ use Rattle.bag_rules.specs.Transfers.{held_bag}
 use Rattle.bag_rules.specs.Trees.{UsesTree}
 use Rattle.bag_rules.specs.Validity.{IsValid}
 use Rattle.bag_sqlite.specs.declared.adopting.AdoptFault.{AdoptFault}
-use Rattle.bag_sqlite.specs.declared.adopting.AdoptFault.TheVariants.{Damaged, Keep, NotALedger, OldFormat}
+use Rattle.bag_sqlite.specs.declared.adopting.AdoptFault.TheVariants.{Damaged, Memory, NotALedger, OldFormat, Store}
 use Rattle.bag_commands.specs.declared.output.Output.{Output}
 use Rattle.bag_commands.specs.declared.status.TheConstants.{FAILED, VALID}
 use Rattle.bag_commands.specs.declared.stop.Stop.TheVariants as stop
@@ -26,7 +26,7 @@ use Rattle.bag_commands.specs.IntakeTexts.{Told, intake_lines, intake_status}
 use Rattle.bag_commands.specs.Listing.{IsListing}
 use Rattle.bag_commands.specs.ListTexts.{list_lines, list_status}
 use Rattle.bag_commands.specs.Printing.{Printed, PrintedBy, PrintedOne}
-use Rattle.bag_commands.specs.StopTexts.{stop_of_keep, stop_text}
+use Rattle.bag_commands.specs.StopTexts.{stop_text}
 use Rattle.bag_commands.specs.Viewing.{IsReporting}
 use Rattle.bag_commands.specs.ViewTexts.{view_lines, view_status}
 use Rattle.bag_folder.specs.declared.fault.OpenFault.{OpenFault}
@@ -40,6 +40,7 @@ use Rattle.bag_folder.specs.Bringing.{Bringing, courier_of, to_come}
 use Rattle.bag_folder.specs.Directories.{Listing}
 use Rattle.bag_folder.specs.Folders.{FolderShown, IsOpened, IsRefused}
 use Rattle.bag_cmd.specs.LedgerFiles.{OpensOrMakes}
+use Rattle.bag_cmd.specs.declared.ledger.Ledgers.{Ghosts as Ledgers}
 use Rattle.bag_cmd.specs.declared.unopened.LedgerCause.{LedgerCause}
 use Rattle.bag_cmd.specs.declared.unopened.Unopened.{Unopened}
 use Rattle.bag_cmd.specs.Endings.{IsWhyOf, or_why, why_failed, why_undelivered_of, why_unopened}
@@ -52,11 +53,16 @@ use Rattle.bag_folder.specs.Unfits.{UnfitShown}
 -- OPENING
 
 -- the ledger that was opened for this work, or that `begin` made
-abbrev pub IsOpenFor : {K : Type 0} → (List ℕ → K → Type 0) → (List ℕ → K → Type 0) → List ℕ → Work
-    → Bool → K → Type 0
-IsOpenFor opened made ledger (Begin name folder) is_made kept =
-    OpensOrMakes is_made (opened ledger kept) (made ledger kept)
-IsOpenFor opened made ledger work is_made kept = (is_made ≡ false) × opened ledger kept
+abbrev pub IsOpenFor : {L K F U C : Type 0} → Ledgers L K F U C → List ℕ → Work → Bool → K → Type 0
+IsOpenFor l ledger (Begin name folder) is_made kept =
+    OpensOrMakes is_made (l.opened ledger kept) (l.made ledger kept)
+IsOpenFor l ledger work is_made kept = (is_made ≡ false) × l.opened ledger kept
+
+-- no ledger was opened for this work, nor made by `begin`, and this is why
+abbrev pub IsUnopenedFor : {L K F U C : Type 0} → Ledgers L K F U C → List ℕ → Work → Unopened U
+    → Type 0
+IsUnopenedFor l ledger (Begin name folder) = l.unmade ledger
+IsUnopenedFor l ledger work = l.unopened ledger
 
 -- the line that says why it wasn't opened
 abbrev pub unopened_line : AdoptFault → List ℕ
@@ -64,7 +70,8 @@ unopened_line NotALedger = codes "bag: not a ledger"
 unopened_line OldFormat = codes "bag: old format"
 unopened_line (Damaged name path) = codes "bag: damaged " ++ written_spelling (string_bytes name)
     ++ codes " " ++ written_spelling (string_bytes path)
-unopened_line (Keep why) = stop_text (stop_of_keep why)
+unopened_line Memory = stop_text stop.Memory
+unopened_line (Store error) = stop_text stop.Store
 
 -- the transfer that is reported on
 abbrev pub viewed : Work → Option (List ℕ)
@@ -216,43 +223,38 @@ module _ {K W : Type 0} (k : Ghosts K) (known : Option Listing)
       (IsListing k.holds k.may_leave k.clean k.failures before after)
       × (result.why ≡ None)
 
--- the ledger was opened, and this was done with it
-pub record Works {K W : Type 0} (k : Ghosts K) (opened made : List ℕ → K → Type 0)
-    (known : Option Listing) (contents : W → Option (List ℕ)) (ledger : List ℕ) (work : Work)
-    (folder now : Option (List ℕ)) (after : Receiver K) (old new : Output W) (result : Ended)
-    : Type 0 where
-  pub kept : K
-  pub is_made : Bool
-  pub before : Receiver K
-  pub open_for : IsOpenFor opened made ledger work is_made kept
-  pub over : IsOver k kept before
-  pub done : DoesWork k known contents work folder now before after old new result
+module _ {L K F U C W : Type 0} (k : Ghosts K) (l : Ledgers L K F U C) (known : Option Listing)
+    (contents : W → Option (List ℕ)) (ledger : List ℕ) where
+  -- the ledger was opened, and this was done with it
+  pub record Works (work : Work) (folder now : Option (List ℕ)) (after : Receiver K)
+      (old new : Output W) (result : Ended) : Type 0 where
+    pub kept : K
+    pub is_made : Bool
+    pub before : Receiver K
+    pub open_for : IsOpenFor l ledger work is_made kept
+    pub over : IsOver k kept before
+    pub done : DoesWork k known contents work folder now before after old new result
 
--- The ledger was closed after the work. At most its names were read before that. If the store has failed, why is told,
--- unless more is told already or memory ran out.
-pub record IsClosedAfter {K C : Type 0} (k : Ghosts K) (closed : K → C → Type 0)
-    (ledger : List ℕ) (after : Receiver K) (ended result : Ended) : Type 0 where
-  pub last : Receiver K
-  pub only_read : Does k.holds k.may_leave k.clean after last Same
-  pub left : C
-  pub is_left : closed last.keeper left
-  pub cause : Option LedgerCause
-  pub failed : (cause ≡ None) ↔ (k.failures last.keeper ≡ 0)
-  pub why : Option Why
-  pub is_why : IsWhyOf ledger cause why
-  pub told : result ≡ or_why ended why
+  -- The ledger was closed after the work. At most its names were read before that. If the store has
+  -- failed, why is told, unless more is told already or memory ran out.
+  pub record IsClosedAfter (after : Receiver K) (ended result : Ended) : Type 0 where
+    pub last : Receiver K
+    pub only_read : Does k.holds k.may_leave k.clean after last Same
+    pub left : C
+    pub is_left : l.closed last.keeper left
+    pub cause : Option LedgerCause
+    pub failed : (cause ≡ None) ↔ (k.failures last.keeper ≡ 0)
+    pub why : Option Why
+    pub is_why : IsWhyOf ledger cause why
+    pub told : result ≡ or_why ended why
 
--- What work on a ledger did: either the ledger was opened, this was done with it and it was closed; or it wasn't opened,
--- and the fault that its opening had was printed, and its cause is told, unless memory ran out.
-pub data WorksOn {K L C W : Type 0} (k : Ghosts K) (opened made : List ℕ → K → Type 0)
-    (refused : List ℕ → Unopened L → Type 0) (closed : K → C → Type 0) (known : Option Listing)
-    (contents : W → Option (List ℕ)) (ledger : List ℕ) (work : Work)
-    (folder now : Option (List ℕ)) (old new : Output W) (result : Ended) : Type 0 where
-  Worked : (after : Receiver K) (ended : Ended)
-      → Works k opened made known contents ledger work folder now after old new ended
-      → IsClosedAfter k closed ledger after ended result
-      → WorksOn k opened made refused closed known contents ledger work folder now old new result
-  NotOpened : (it : Unopened L) → refused ledger it → now ≡ folder
-      → Printed contents old new result.status (unopened_line it.fault ∷ []) FAILED
-      → IsWhyOf ledger it.cause result.why
-      → WorksOn k opened made refused closed known contents ledger work folder now old new result
+  -- What work on a ledger did: either the ledger was opened, this was done with it and it was
+  -- closed; or it wasn't opened, and the fault that its opening had was printed, and its cause is
+  -- told, unless memory ran out.
+  pub data WorksOn (work : Work) (folder now : Option (List ℕ)) (old new : Output W)
+      (result : Ended) : Type 0 where
+    Worked : (after : Receiver K) (ended : Ended) → Works work folder now after old new ended
+        → IsClosedAfter after ended result → WorksOn work folder now old new result
+    NotOpened : (it : Unopened U) → IsUnopenedFor l ledger work it → now ≡ folder
+        → Printed contents old new result.status (unopened_line it.fault ∷ []) FAILED
+        → IsWhyOf ledger it.cause result.why → WorksOn work folder now old new result

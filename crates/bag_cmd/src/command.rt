@@ -22,13 +22,13 @@ pub fn command<R: Files + Eprint, D: Directories, L: Ledgers, W: Write + Drop>(
     rt: &R,
     progress: &Progress<'_, R>,
     disk: &D,
-    ledgers: &mut L,
+    ledgers: L,
     made: &mut Destination<'_, R>,
     alloc: Global,
     words: Vec<String>,
     out: &mut Output<W>,
 ) -> Ended
-    ensures { RunsCommand L.Kept.Keeper L.opened L.made L.refused L.closed (D.listing disk.now) W.contents
+    ensures { RunsCommand L.Kept.Keeper L.Ledgers W.contents (D.listing disk.now)
         (map string_bytes words.items) made.old made.new out.old out.new result }
 {
     if words.is_empty() {
@@ -51,14 +51,14 @@ fn run_request<R: Files + Eprint, D: Directories, L: Ledgers, W: Write + Drop>(
     rt: &R,
     progress: &Progress<'_, R>,
     disk: &D,
-    ledgers: &mut L,
+    ledgers: L,
     made: &mut Destination<'_, R>,
     alloc: Global,
     request: &Request,
     out: &mut Output<W>,
 ) -> Ended
-    ensures { Runs L.Kept.Keeper L.opened L.made L.refused L.closed (D.listing disk.now) W.contents
-        request.now made.old made.new out.old out.new result }
+    ensures { Runs L.Kept.Keeper L.Ledgers W.contents (D.listing disk.now) request.now made.old
+        made.new out.old out.new result }
 {
     match request {
         Request::Check { folder } => check_folder(rt, progress, disk, alloc, folder.as_str(), out),

@@ -1,15 +1,15 @@
 //! How a command has ended, and why it wasn't done or had nothing to do.
-ghost use Rattle.std.specs.Prelude.{◌≡◌};
+ghost use Rattle.std.specs.Prelude.{◌≡◌, string_bytes};
 ghost use Rattle.std.specs.Option.{option_map};
-ghost use Rattle.bag_cmd.specs.Endings.{IsWhyOf, or_why, plain, why_failed};
+ghost use Rattle.bag_cmd.specs.Endings.{IsWhyOf, or_why, plain, why_exceeds, why_failed};
 
-use crate::excess::{Excess, FolderName};
+use crate::excess::{FolderName, Limit};
+use crate::named::Named;
 use crate::told_name::ToldName;
 use crate::unopened::LedgerCause;
 use bag_folder::Unfit;
 use std::alloc::Global;
 use std::fmt::{self, Display, Formatter};
-use std::marker::Model;
 
 /// How a command has ended.
 #[derive(Debug, Drop)]
@@ -40,35 +40,17 @@ impl Ended {
     }
 }
 
-/// A ledger that can't be used, and why.
-#[derive(Debug, Drop)]
-pub struct NamedCause {
-    /// Its name, as it was given.
-    pub name: String,
-    /// Why it can't be used.
-    pub cause: LedgerCause,
-}
-
-impl Model for NamedCause {
-    ghost use Rattle.std.specs.Prelude.{string_bytes};
-    ghost use Rattle.bag_cmd.specs.Unopened.{CauseShown};
-
-    ghost Value = { CauseShown };
-
-    ghost view = { λ it. record { name = string_bytes it.name; cause = it.cause } };
-}
-
 /// Why a command wasn't done, or had nothing to do.
 #[derive(Debug, Drop)]
 pub enum Why {
     /// Something on disk can't be used.
     Unfit(Unfit),
     /// Something on disk exceeds a limit.
-    Exceeds(Excess),
+    Exceeds(Named<Limit>),
     /// There are no payload files in this folder.
     Empty(FolderName),
     /// A ledger can't be used.
-    Ledger(NamedCause),
+    Ledger(Named<LedgerCause>),
 }
 
 impl Why {
@@ -102,13 +84,20 @@ impl Why {
         }
     }
 
+    /// What has this name exceeds a limit.
+    pub fn of_excess(name: String, limit: Limit) -> Option<Why>
+        ensures { result ≡ why_exceeds (string_bytes name) limit }
+    {
+        Some(Why::Exceeds(Named { name, what: limit }))
+    }
+
     /// The ledger with this name can't be used for this cause, if that is known and memory suffices.
     pub fn of_ledger(alloc: Global, name: &str, cause: Option<LedgerCause>) -> Option<Why>
         ensures { IsWhyOf name.now cause result }
     {
         let cause = cause?;
         let name = String::from_str(alloc, name).ok()?;
-        Some(Why::Ledger(NamedCause { name, cause }))
+        Some(Why::Ledger(Named { name, what: cause }))
     }
 }
 
@@ -116,14 +105,12 @@ impl Display for Why {
     fn fmt<W: fmt::Write>(&self, f: &mut Formatter<W>) -> fmt::Result {
         match self {
             Why::Unfit(unfit) => write!(f, "{}: {}", ToldName(unfit.path.as_str()), unfit.cause),
-            Why::Exceeds(excess) => write!(f, "{excess}"),
+            Why::Exceeds(Named { name, what }) => write!(f, "{}{what}", ToldName(name.as_str())),
             Why::Empty(folder) => {
                 let folder = ToldName(folder.text.as_str());
                 write!(f, "{folder}: it has no payload file below data/")
             }
-            Why::Ledger(NamedCause { name, cause }) => {
-                write!(f, "{}: {cause}", ToldName(name.as_str()))
-            }
+            Why::Ledger(Named { name, what }) => write!(f, "{}: {what}", ToldName(name.as_str())),
         }
     }
 }

@@ -18,25 +18,8 @@ impl Model for FolderName {
     ghost view = { λ name. string_bytes name.text };
 }
 
-/// A folder or a file that exceeds a limit.
-#[derive(Debug, Drop)]
-pub struct Excess {
-    /// Its name on disk; for a limit with a path, that of the folder which the path begins in.
-    pub name: String,
-    /// The limit.
-    pub limit: Limit,
-}
-
-impl Model for Excess {
-    ghost use Rattle.std.specs.Prelude.{string_bytes};
-    ghost use Rattle.bag_cmd.specs.Excesses.{ExcessShown};
-
-    ghost Value = { ExcessShown };
-
-    ghost view = { λ excess. record { name = string_bytes excess.name; limit = excess.limit } };
-}
-
-/// A limit that is exceeded.
+/// A limit that a folder or a file exceeds. The name that is told with it is that of this, or for a limit with a path that
+/// of the folder which the path begins in.
 #[derive(Debug, Drop)]
 pub enum Limit {
     /// The size of the tag file with this path.
@@ -55,12 +38,6 @@ pub enum Limit {
     NewTagFile(BagPath),
     /// The number of payload files that are delivered from a folder.
     Deliveries,
-}
-
-impl Display for Excess {
-    fn fmt<W: fmt::Write>(&self, f: &mut Formatter<W>) -> fmt::Result {
-        write!(f, "{}{}", ToldName(self.name.as_str()), self.limit)
-    }
 }
 
 impl Display for Limit {

@@ -1,6 +1,7 @@
 //! What is found at the name of a ledger.
-ghost use Rattle.std.specs.Prelude.{◌≡◌, ◌↔◌, true};
+ghost use Rattle.std.specs.Prelude.{◌≡◌, ◌↔◌, ◌++◌, IfOk, codes, string_bytes, true};
 
+use crate::barred::Barred;
 use std::fs;
 use std::io::{self, ErrorKind};
 
@@ -17,19 +18,62 @@ pub enum Found {
     Other,
 }
 
-/// What was seen at the names of a file and its log.
-#[derive(Clone, Copy, Debug)]
+/// What was seen at the names of a file and its log, which has the file's name followed by `-wal`.
+#[derive(Drop)]
 pub struct Seen {
+    name: String,
+    log: String,
     found: Found,
     had_log: bool,
+    ghost pair: { string_bytes log ≡ string_bytes name ++ codes "-wal" },
 }
 
 impl Seen {
-    /// Looks up what exists at these names, without opening it.
-    pub fn look(rt: &HostRuntime, name: &str, log: &str) -> io::Result<Seen> {
-        let had_log = length_at(rt, log)?.is_some_and(|length| length > 0);
-        let found = found_at(rt, name, had_log)?;
-        Ok(Seen { found, had_log })
+    /// Looks up what exists at the name of a file and at its log's, without opening it.
+    ///
+    /// # Errors
+    ///
+    /// Memory ran out, or the operating system doesn't give the information.
+    pub fn look(rt: &HostRuntime, name: String) -> Result<Seen, Barred>
+        ensures { IfOk result (λ seen. seen.name ≡ name) }
+    {
+        let log = format!(in rt.alloc(); "{}-wal", name.as_str())?;
+        let seen = Seen {
+            name,
+            log,
+            found: Found::Nothing,
+            had_log: false,
+        };
+        Ok(seen.again(rt)?)
+    }
+
+    /// Looks again at the same names.
+    pub fn again(self, rt: &HostRuntime) -> io::Result<Seen>
+        ensures { IfOk result (λ seen. (seen.name ≡ self.name) × (seen.log ≡ self.log)) }
+    {
+        let Seen { name, log, .. } = self;
+        let had_log = length_at(rt, log.as_str())?.is_some_and(|length| length > 0);
+        let found = found_at(rt, name.as_str(), had_log)?;
+        Ok(Seen {
+            name,
+            log,
+            found,
+            had_log,
+        })
+    }
+
+    /// The name of the file.
+    pub fn name(&self) -> &str
+        ensures { result.now ≡ string_bytes self.now.name }
+    {
+        self.name.as_str()
+    }
+
+    /// The name of its log.
+    pub fn log(&self) -> &str
+        ensures { result.now ≡ string_bytes self.now.log }
+    {
+        self.log.as_str()
     }
 
     /// What was found at the name of the file.

@@ -1,7 +1,7 @@
 //! Laws on ledgers in files: what one run of the program leaves is what the next one holds. Each function's contract is
 //! one law, and its body is empty.
 ghost use Rattle.std.specs.Prelude.{◌↔◌, ◌≡◌, ◌⊎◌, ◌∷◌, ◌++◌, [], ℕ, List};
-ghost use Rattle.bag_cmd.specs.LedgerFiles.{HoldsLedgerIn, IsAdoptedFrom, IsMadeIn, IsNumbered, IsLeftBy, IsStopOf, IsUnopenedFile, MayBeLeft};
+ghost use Rattle.bag_cmd.specs.LedgerFiles.{HoldsLedgerIn, IsAdoptedFrom, IsMadeIn, IsNumbered, IsLeftBy, IsStopOf, IsUnmadeFile, IsUnopenedFile, MayBeLeft};
 ghost use Rattle.bag_ledger.specs.Ledgers.{Ledger};
 ghost use Rattle.bag_receiver.specs.Receivers.{IsKept};
 ghost use Rattle.bag_receiver.specs.Receiving.{Happened, LedgerState, settled};
@@ -12,7 +12,7 @@ ghost use Rattle.sqlite_wal.specs.Files.{image_at};
 ghost use Rattle.sqlite_wal.specs.Recovery.{Image};
 
 use crate::ledger::{LedgerFiles, Ledgers};
-use crate::ledger_file::FileKeeper;
+use crate::open_file::FileKeeper;
 use bag_ledger::Keeper;
 use sqlite::{FileFrom, Start};
 use sqlite_disk::Disk;
@@ -66,9 +66,12 @@ pub fn ledgers_in_files_are_what_the_files_hold<S: Start>(kept: &FileKeeper<S>)
         ↔ IsAdoptedFrom (image_at S.Start) kept.now.connection }
     ensures made { (name : List ℕ) → ⟦<LedgerFiles<'static, S> as Ledgers>⟧.made name kept.now
         ↔ IsMadeIn (image_at S.Start) kept.now.connection }
-    ensures refused { (name : List ℕ) (it : _)
-        → ⟦<LedgerFiles<'static, S> as Ledgers>⟧.refused name it
+    ensures unopened { (name : List ℕ) (it : _)
+        → ⟦<LedgerFiles<'static, S> as Ledgers>⟧.unopened name it
         ↔ IsUnopenedFile ⟦<FileFrom<S> as Disk>⟧ (image_at S.Start) it }
+    ensures unmade { (name : List ℕ) (it : _)
+        → ⟦<LedgerFiles<'static, S> as Ledgers>⟧.unmade name it
+        ↔ IsUnmadeFile ⟦<FileFrom<S> as Disk>⟧ (image_at S.Start) it }
     ensures closed { (closed : _) → ⟦<LedgerFiles<'static, S> as Ledgers>⟧.closed kept.now closed
         ↔ IsLeftBy kept.now.connection closed }
 {}

@@ -1,52 +1,62 @@
 //! Opens and closes ledgers by name.
-ghost use Rattle.std.specs.Prelude.{◌≡◌, ◌↔◌, [], ℕ, List, MatchResult, None, false, true};
-ghost use Rattle.bag_cmd.specs.LedgerFiles.{OpensOrMakes};
+ghost use Rattle.std.specs.Prelude.{◌≡◌, ◌↔◌, [], ℕ, IfErr, List, MatchResult, None, false, true};
+ghost use Rattle.bag_cmd.specs.LedgerFiles.{IsUnopened, OpensOrMakes};
 ghost use Rattle.bag_ledger.specs.Ledgers.{Ledger};
 ghost use Rattle.bag_receiver.specs.Receivers.{IsKept};
 ghost use Rattle.bag_receiver.specs.Receiving.{settled};
 ghost use Rattle.bag_cmd.specs.declared.unopened.Unopened.{Unopened};
+ghost use Rattle.sqlite_wal.specs.Files.{image_at};
 
-use crate::ledger_file::{Closed, FileKeeper, LedgerFile, UnopenedFile};
-use crate::unopened::{Barred, LedgerCause, Left, Unopened};
+use crate::ledger_file::{LedgerFile, OpenedFile, UnopenedFile};
+use crate::open_file::{Closed, FileKeeper, OpenFile};
+use crate::progress::Progress;
+use crate::unopened::{LedgerCause, Left, Unopened};
 use bag_ledger::Keeper;
 use sqlite::{FileFrom, Start};
 use sqlite_disk::Disk;
 
-/// The keeper of a ledger that was opened or made.
+/// A ledger that was opened or made.
 #[derive(Drop)]
-pub struct Opened<K> {
+pub struct Opened<K, F> {
     /// The keeper.
     pub kept: K,
+    /// What the ledger is closed with.
+    pub file: F,
     /// Whether the ledger was made.
     pub is_made: bool,
 }
 
-impl<K> Opened<K> {
+impl<K, F> Opened<K, F> {
     /// The ledger existed.
-    pub fn found(kept: K) -> Opened<K>
-        ensures { (result.kept ≡ kept) × (result.is_made ≡ false) }
+    pub fn found(kept: K, file: F) -> Opened<K, F>
+        ensures { (result.kept ≡ kept) × (result.file ≡ file) × (result.is_made ≡ false) }
     {
         Opened {
             kept,
+            file,
             is_made: false,
         }
     }
 
     /// The ledger was made.
-    pub fn made(kept: K) -> Opened<K>
-        ensures { (result.kept ≡ kept) × (result.is_made ≡ true) }
+    pub fn made(kept: K, file: F) -> Opened<K, F>
+        ensures { (result.kept ≡ kept) × (result.file ≡ file) × (result.is_made ≡ true) }
     {
         Opened {
             kept,
+            file,
             is_made: true,
         }
     }
 }
 
-/// Opens a ledger by its name.
-pub trait Ledgers {
+/// Opens a ledger by its name. This is used up, so that no second one is opened.
+pub trait Ledgers: Drop {
     /// The keeper of an open ledger.
     type Kept: Keeper;
+
+    /// What an open ledger is closed with.
+    type File: Drop;
 
     /// What was opened of a ledger that can't be used.
     type Left: Drop;
@@ -64,7 +74,10 @@ pub trait Ledgers {
     ghost made: { List ℕ → Self.Kept → Type 0 };
 
     /// What is known if no ledger was opened under this name, and this is why.
-    ghost refused: { List ℕ → Unopened Self.Left → Type 0 };
+    ghost unopened: { List ℕ → Unopened Self.Left → Type 0 };
+
+    /// What is known if no ledger was opened or made under this name, and this is why.
+    ghost unmade: { List ℕ → Unopened Self.Left → Type 0 };
 
     /// What is known of what is left of a ledger that this keeper held.
     ghost closed: { Self.Kept → Self.Closed → Type 0 };
@@ -74,8 +87,9 @@ pub trait Ledgers {
     /// # Errors
     ///
     /// It doesn't exist, isn't a ledger, is damaged or can't be read or written, or another program has it open.
-    fn open(&mut self, ledger: &str) -> Result<Self::Kept, Unopened<Self::Left>>
-        ensures { MatchResult result (opened ledger.now) (refused ledger.now) };
+    fn open(self, ledger: &str) -> Result<Opened<Self::Kept, Self::File>, Unopened<Self::Left>>
+        ensures { MatchResult result (λ it. (it.is_made ≡ false) × opened ledger.now it.kept)
+            (unopened ledger.now) };
 
     /// Opens the ledger with this name. If it doesn't exist or has no tables, makes a ledger without transfers.
     ///
@@ -83,20 +97,23 @@ pub trait Ledgers {
     ///
     /// Those of `open`, except that the ledger may be missing. Whatever was created until the error is removed, unless
     /// another run may use it.
-    fn open_or_make(&mut self, ledger: &str) -> Result<Opened<Self::Kept>, Unopened<Self::Left>>
+    fn open_or_make(
+        self,
+        ledger: &str,
+    ) -> Result<Opened<Self::Kept, Self::File>, Unopened<Self::Left>>
         ensures { MatchResult result (λ it. OpensOrMakes it.is_made
-            (opened ledger.now it.kept) (made ledger.now it.kept)) (refused ledger.now) };
+            (opened ledger.now it.kept) (made ledger.now it.kept)) (unmade ledger.now) };
 
     /// Why the store of an open ledger failed. `None` if it hasn't failed.
-    fn trouble(&self, kept: &Self::Kept) -> Option<LedgerCause>
+    fn trouble(kept: &Self::Kept) -> Option<LedgerCause>
         ensures { (result ≡ None) ↔ (Self.Kept.Keeper.failures kept.now ≡ 0) };
 
-    /// Closes the ledger that was opened.
-    fn close(&mut self, kept: Self::Kept) -> Self::Closed
+    /// Closes a ledger.
+    fn close(file: Self::File, kept: Self::Kept) -> Self::Closed
         ensures { closed kept result };
 
-    /// Closes a ledger without transfers that `open_or_make` made. If nothing existed before, removes it.
-    fn give_up(&mut self, kept: Self::Kept) -> Self::Closed
+    /// Closes a ledger without transfers. If nothing existed before it was made, removes it.
+    fn give_up(file: Self::File, kept: Self::Kept) -> Self::Closed
         requires { Self.Kept.Keeper.clean kept → Self.Kept.Keeper.holds kept [] }
         ensures { closed kept result };
 
@@ -111,43 +128,45 @@ pub trait Ledgers {
         → IsKept Self.Kept.Keeper.holds Self.Kept.Keeper.may_leave kept (settled []) };
 }
 
-/// Opens one ledger in a file. `S` says what the file holds. A second ledger isn't opened.
+/// Opens a ledger in a file. `S` says what the file holds.
 #[derive(Drop)]
 pub struct LedgerFiles<'a, S: Start> {
     rt: &'a HostRuntime,
-    // what the file holds; `None` once a ledger was opened
-    start: Option<S>,
-    // the file that was opened
-    file: Option<LedgerFile<'a>>,
+    progress: &'a Progress<'a, HostRuntime>,
+    start: S,
 }
 
 impl<'a, S: Start> LedgerFiles<'a, S> {
-    /// No ledger is open yet.
-    pub fn new(rt: &'a HostRuntime, start: S) -> Self {
+    /// Opens a ledger in a file that holds this, and shows how far the opening has come.
+    pub fn new(rt: &'a HostRuntime, progress: &'a Progress<'a, HostRuntime>, start: S) -> Self {
         LedgerFiles {
             rt,
-            start: Some(start),
-            file: None,
+            progress,
+            start,
         }
     }
 
-    /// What the file holds, and the file with this name. Only the first call succeeds.
-    fn find(&mut self, ledger: &str) -> Result<(S, LedgerFile<'a>), Barred> {
-        match self.start.take() {
-            Some(start) => Ok((start, LedgerFile::find(self.rt, ledger)?)),
-            None => Err(Barred::For(LedgerCause::Busy)),
+    /// Looks up the file with this name. Returns what it holds, too.
+    fn find(self, ledger: &str) -> Result<(LedgerFile<'a>, S), UnopenedFile<S>>
+        ensures { IfErr result (λ it.
+            IsUnopened ⟦<FileFrom<S> as Disk>⟧ (image_at S.Start) it (λ _. ⊥)) }
+    {
+        match LedgerFile::find(self.rt, self.progress, ledger) {
+            Ok(file) => Ok((file, self.start)),
+            Err(why) => Err(Unopened::barred(why, Left::Unused(self.start))),
         }
     }
 }
 
 impl<'a, S: Start> Ledgers for LedgerFiles<'a, S> {
     ghost use Rattle.std.proofs.Common.{inl};
-    ghost use Rattle.bag_cmd.specs.LedgerFiles.{HoldsLedgerIn, IsAdoptedFrom, IsLeftBy, IsMadeIn, IsUnopenedFile};
-    ghost use Rattle.sqlite_wal.specs.Files.{image_at};
+    ghost use Rattle.bag_cmd.specs.LedgerFiles.{HoldsLedgerIn, IsAdoptedFrom, IsLeftBy, IsMadeIn, IsUnmadeFile, IsUnopenedFile};
 
     type Kept = FileKeeper<S>;
 
-    type Left = Left<FileFrom<S>>;
+    type File = OpenFile<'a>;
+
+    type Left = Left<S, FileFrom<S>>;
 
     type Closed = Closed<FileFrom<S>>;
 
@@ -157,51 +176,46 @@ impl<'a, S: Start> Ledgers for LedgerFiles<'a, S> {
 
     ghost made = { λ ledger kept. IsMadeIn (image_at S.Start) kept.connection };
 
-    ghost refused = { λ ledger it.
+    ghost unopened = { λ ledger it.
         IsUnopenedFile ⟦<FileFrom<S> as Disk>⟧ (image_at S.Start) it };
+
+    ghost unmade = { λ ledger it.
+        IsUnmadeFile ⟦<FileFrom<S> as Disk>⟧ (image_at S.Start) it };
 
     ghost closed = { λ kept closed. IsLeftBy kept.connection closed };
 
-    fn open(&mut self, ledger: &str) -> Result<FileKeeper<S>, UnopenedFile<S>> {
-        let (start, mut file) = self.find(ledger)?;
-        let kept = file.open(start)?;
-        self.file = Some(file);
-        Ok(kept)
+    fn open(self, ledger: &str) -> Result<OpenedFile<'a, S>, UnopenedFile<S>> {
+        let (file, start) = self.find(ledger)?;
+        file.open(start)
     }
 
-    fn open_or_make(&mut self, ledger: &str) -> Result<Opened<FileKeeper<S>>, UnopenedFile<S>> {
-        let (start, mut file) = self.find(ledger)?;
-        let opened = file.open_or_make(start)?;
-        self.file = Some(file);
-        Ok(opened)
+    fn open_or_make(self, ledger: &str) -> Result<OpenedFile<'a, S>, UnopenedFile<S>> {
+        let (file, start) = self.find(ledger)?;
+        file.open_or_make(start)
     }
 
-    fn trouble(&self, kept: &FileKeeper<S>) -> Option<LedgerCause> {
+    fn trouble(kept: &FileKeeper<S>) -> Option<LedgerCause>
+        ensures { (result ≡ None) ↔ (⟦<FileKeeper<S> as Keeper>⟧.failures kept.now ≡ 0) }
+    {
         match kept.failures() {
             0 => None,
             _ => Some(LedgerCause::of_store(kept.trouble())),
         }
     }
 
-    fn close(&mut self, kept: FileKeeper<S>) -> Closed<FileFrom<S>> {
-        match &self.file {
-            Some(file) => file.close(kept),
-            None => Closed::Open(kept.release()),
-        }
+    fn close(file: OpenFile<'a>, kept: FileKeeper<S>) -> Closed<FileFrom<S>> {
+        file.close(kept)
     }
 
-    fn give_up(&mut self, kept: FileKeeper<S>) -> Closed<FileFrom<S>> {
-        match &self.file {
-            Some(file) => file.give_up(kept),
-            None => Closed::Open(kept.release()),
-        }
+    fn give_up(file: OpenFile<'a>, kept: FileKeeper<S>) -> Closed<FileFrom<S>> {
+        file.give_up(kept)
     }
 
     ghost keeps = { λ name kept ledger opened holds clean.
-        let it = (opened clean).1.keeps ledger holds in
+        let it = (opened.adopts clean).keeps ledger holds in
         record { held = it.holds; left = λ crashed may. inl (it.alone crashed may) } };
 
     ghost begins = { λ name kept made clean.
-        let it = (made clean).1.keeps in
+        let it = (made.makes clean).keeps in
         record { held = it.holds; left = λ crashed may. inl (it.alone crashed may) } };
 }

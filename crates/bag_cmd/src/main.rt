@@ -21,7 +21,7 @@ use clearing::Clearing;
 use command::command;
 use ended::Ended;
 use ledger::{LedgerFiles, Ledgers};
-use ledger_file::FileKeeper;
+use open_file::FileKeeper;
 use progress::Progress;
 use sqlite::{Start, Unknown};
 use std::alloc::{AllocError, Global};
@@ -31,6 +31,8 @@ use std::process::ExitCode;
 use std::rt::Files;
 use std::{env, io};
 
+mod abandoned;
+mod barred;
 mod clearing;
 mod command;
 mod commands;
@@ -40,7 +42,10 @@ mod found;
 mod laws;
 mod ledger;
 mod ledger_file;
+mod locked_file;
 mod meter;
+mod named;
+mod open_file;
 mod progress;
 mod request;
 mod told_name;
@@ -55,15 +60,11 @@ fn main(rt: HostRuntime) -> ExitCode {
 /// Runs the command on the command line, with ledgers in files. `S` says what the opened ledger's file holds.
 fn run_on_disk<S: Start>(rt: &HostRuntime, start: S) -> u8
     ensures { result ≢ FAILED → (old : _) × (new : _)
-        × Ran ⟦<FileKeeper<S> as Keeper>⟧ ⟦<LedgerFiles<'static, S> as Ledgers>⟧.opened
-        ⟦<LedgerFiles<'static, S> as Ledgers>⟧.made
-        ⟦<LedgerFiles<'static, S> as Ledgers>⟧.refused
-        ⟦<LedgerFiles<'static, S> as Ledgers>⟧.closed
+        × Ran ⟦<FileKeeper<S> as Keeper>⟧ ⟦<LedgerFiles<'static, S> as Ledgers>⟧
         ⟦<Printer<'static, HostRuntime> as Write>⟧.contents old new result }
 {
     let progress = Progress::new(rt, rt.stderr().is_terminal());
-    let mut ledgers = LedgerFiles::new(rt, start);
-    run(rt, &progress, &mut ledgers)
+    run(rt, &progress, LedgerFiles::new(rt, &progress, start))
 }
 
 /// Runs the command on the command line, and returns the exit status. The output is buffered until the command has
@@ -71,12 +72,12 @@ fn run_on_disk<S: Start>(rt: &HostRuntime, start: S) -> u8
 fn run<R: Files + Env + Print + Eprint + AllocGlobal, L: Ledgers>(
     rt: &R,
     progress: &Progress<'_, R>,
-    ledgers: &mut L,
+    ledgers: L,
 ) -> u8
     // Every status except that of a failure comes from a command.
     ensures { result ≢ FAILED
-        → (old : _) × (new : _) × Ran L.Kept.Keeper L.opened L.made L.refused
-        L.closed ⟦<Printer<'static, R> as Write>⟧.contents old new result }
+        → (old : _) × (new : _) × Ran L.Kept.Keeper L.Ledgers
+        ⟦<Printer<'static, R> as Write>⟧.contents old new result }
 {
     match BufWriter::new(rt.alloc(), Clearing::new(io::writer(rt), progress)) {
         Ok(writer) => run_words(rt, progress, ledgers, &mut Output::new(writer)),
@@ -92,11 +93,11 @@ fn run<R: Files + Env + Print + Eprint + AllocGlobal, L: Ledgers>(
 fn run_words<R: Files + Env + Eprint + AllocGlobal, L: Ledgers, W: Write + Drop>(
     rt: &R,
     progress: &Progress<'_, R>,
-    ledgers: &mut L,
+    ledgers: L,
     out: &mut Output<W>,
 ) -> u8
     ensures { result ≢ FAILED
-        → Ran L.Kept.Keeper L.opened L.made L.refused L.closed W.contents out.old out.new result }
+        → Ran L.Kept.Keeper L.Ledgers W.contents out.old out.new result }
 {
     let alloc = rt.alloc();
     match env::args(rt) {

@@ -1,18 +1,20 @@
 //! Why a ledger wasn't opened.
-ghost use Rattle.std.specs.Prelude.{◌≡◌, Some};
-ghost use Rattle.bag_cmd.specs.Unopened.{HasNoAnswer, cause_of_error, cause_of_fault, cause_seen};
+ghost use Rattle.std.specs.Prelude.{◌≡◌, ◌≢◌, Some};
+ghost use Rattle.bag_cmd.specs.Unopened.{cause_barred, cause_of_error, cause_of_fault, cause_of_store, cause_seen, cause_unmade, fault_barred, fault_unmade};
 ghost use Rattle.bag_sqlite.specs.Refusing.{adopt_fault};
 ghost use Rattle.bag_sqlite.specs.declared.adopting.AdoptFault.TheVariants.{NotALedger};
 
+use crate::barred::{Barred, NotLocked};
 use crate::found::{Found, Seen};
-use bag_ledger::{KeepFault, StoreFault};
+use bag_ledger::KeepFault;
 use bag_sqlite::AdoptFault;
 use sqlite::{Connection, Error, ErrorCode, FileStore, Leftover};
 use sqlite_disk::Disk;
-use sqlite_std_file::OpenError;
-use std::alloc::AllocError;
 use std::fmt::{self, Display, Formatter};
-use std::io::{self, ErrorKind};
+use std::io;
+
+/// The error of a store that told none: no database was opened.
+const UNTOLD: Error = Error::SqliteFailure(ErrorCode::CannotOpen);
 
 /// Why a ledger wasn't opened, and what is left of it.
 #[derive(Drop)]
@@ -21,19 +23,21 @@ pub struct Unopened<L> {
     pub fault: AdoptFault,
     /// The cause, if it is known and the fault doesn't say it.
     pub cause: Option<LedgerCause>,
+    /// What was seen in place of a database, if it is the cause.
+    pub seen: Option<Seen>,
     /// What was opened of it.
     pub left: L,
 }
 
 /// What was opened of a ledger in a file that can't be used. The file is closed, and no longer locked, when this is
-/// dropped.
+/// dropped. `S` says what the file holds.
 #[derive(Drop)]
-pub enum Left<D: Disk> {
+pub enum Left<S, D: Disk> {
+    /// Nothing.
+    Unused(S),
     /// Nothing, since the file couldn't be opened and locked.
-    Nothing,
-    /// Nothing, since this was seen in place of a database.
-    Saw(Seen),
-    /// The file and its log, on which no connection could be opened.
+    NotLocked(NotLocked<S>),
+    /// The file and its log, on which no connection was opened.
     Files(Leftover<D>),
     /// A connection. Its database can't be used, or no ledger could be made in it.
     Database(Connection<FileStore<D>>),
@@ -68,7 +72,9 @@ pub enum LedgerCause {
 
 impl LedgerCause {
     /// The store of an open ledger has failed, with this error if it told one.
-    pub fn of_store(trouble: Option<Error>) -> LedgerCause {
+    pub fn of_store(trouble: Option<Error>) -> LedgerCause
+        ensures { result ≡ cause_of_store trouble }
+    {
         match trouble {
             Some(error) => LedgerCause::Database(error),
             None => LedgerCause::Unreadable,
@@ -94,10 +100,11 @@ impl Display for LedgerCause {
     }
 }
 
-impl<D: Disk> Unopened<Left<D>> {
+impl<S, D: Disk> Unopened<Left<S, D>> {
     /// This was seen, and no ledger can be opened in it.
-    pub fn saw(seen: Seen) -> Unopened<Left<D>>
-        ensures left { result.left ≡ Left.Saw seen }
+    pub fn saw(seen: Seen, left: Left<S, D>) -> Unopened<Left<S, D>>
+        requires { seen.found ≢ Found.File }
+        ensures left { (result.left ≡ left) × (result.seen ≡ Some seen) }
         ensures fault { (result.fault ≡ NotALedger) × (result.cause ≡ Some (cause_seen seen.found)) }
     {
         let cause = match seen.found() {
@@ -109,12 +116,30 @@ impl<D: Disk> Unopened<Left<D>> {
         Unopened {
             fault: AdoptFault::NotALedger,
             cause: Some(cause),
-            left: Left::Saw(seen),
+            seen: Some(seen),
+            left,
+        }
+    }
+
+    /// The file couldn't be opened and locked, or it isn't known what it is.
+    pub fn barred(why: Barred, left: Left<S, D>) -> Unopened<Left<S, D>>
+        ensures left { result.left ≡ left }
+        ensures fault { (result.fault ≡ fault_barred why) × (result.cause ≡ cause_barred why) }
+    {
+        let (fault, cause) = match why {
+            Barred::Memory => (AdoptFault::Memory, None),
+            Barred::For(cause) => (AdoptFault::Store(UNTOLD), Some(cause)),
+        };
+        Unopened {
+            fault,
+            cause,
+            seen: None,
+            left,
         }
     }
 
     /// No connection was opened on the files, because of this error.
-    pub fn unconnected(error: Error, files: Leftover<D>) -> Unopened<Left<D>>
+    pub fn unconnected(error: Error, files: Leftover<D>) -> Unopened<Left<S, D>>
         ensures left { result.left ≡ Left.Files files }
         ensures fault { (result.fault ≡ adopt_fault error)
             × (result.cause ≡ cause_of_error error) }
@@ -127,25 +152,28 @@ impl<D: Disk> Unopened<Left<D>> {
         Unopened {
             fault: AdoptFault::from(error),
             cause,
+            seen: None,
             left: Left::Files(files),
         }
     }
 
     /// The database isn't opened as a ledger, because of this fault.
-    pub fn unadopted(fault: AdoptFault, connection: Connection<FileStore<D>>) -> Unopened<Left<D>>
+    pub fn unadopted(
+        fault: AdoptFault,
+        connection: Connection<FileStore<D>>,
+    ) -> Unopened<Left<S, D>>
         ensures left { result.left ≡ Left.Database connection }
         ensures fault { (result.fault ≡ fault) × (result.cause ≡ cause_of_fault fault) }
     {
         let cause = match &fault {
             AdoptFault::NotALedger => Some(LedgerCause::NoLedger),
-            AdoptFault::Keep(KeepFault::Store(_)) => Some(LedgerCause::Unreadable),
-            AdoptFault::OldFormat
-            | AdoptFault::Damaged { .. }
-            | AdoptFault::Keep(KeepFault::Memory) => None,
+            AdoptFault::Store(error) => Some(LedgerCause::Database(*error)),
+            AdoptFault::OldFormat | AdoptFault::Damaged { .. } | AdoptFault::Memory => None,
         };
         Unopened {
             fault,
             cause,
+            seen: None,
             left: Left::Database(connection),
         }
     }
@@ -155,73 +183,23 @@ impl<D: Disk> Unopened<Left<D>> {
         fault: KeepFault,
         trouble: Option<Error>,
         connection: Connection<FileStore<D>>,
-    ) -> Unopened<Left<D>>
-        ensures { HasNoAnswer result }
+    ) -> Unopened<Left<S, D>>
+        ensures left { result.left ≡ Left.Database connection }
+        ensures fault { (result.fault ≡ fault_unmade fault trouble)
+            × (result.cause ≡ cause_unmade fault trouble) }
     {
-        let cause = match fault {
-            KeepFault::Memory => None,
-            KeepFault::Store(_) => Some(LedgerCause::of_store(trouble)),
-        };
-        Unopened {
-            fault: AdoptFault::Keep(fault),
-            cause,
-            left: Left::Database(connection),
-        }
-    }
-}
-
-/// Why the file of a ledger couldn't be opened and locked.
-#[derive(Clone, Copy, Debug)]
-pub enum Barred {
-    /// Memory ran out.
-    Memory,
-    /// This is why.
-    For(LedgerCause),
-}
-
-impl<D: Disk> From<Barred> for Unopened<Left<D>> {
-    ghost use Rattle.bag_cmd.specs.Unopened.{HasNoAnswer};
-
-    ghost from_gives = { λ barred it. HasNoAnswer it };
-
-    fn from(barred: Barred) -> Unopened<Left<D>> {
-        let (fault, cause) = match barred {
-            Barred::Memory => (KeepFault::Memory, None),
-            Barred::For(cause) => (KeepFault::Store(StoreFault::Refused), Some(cause)),
-        };
-        Unopened {
-            fault: AdoptFault::Keep(fault),
-            cause,
-            left: Left::Nothing,
-        }
-    }
-}
-
-impl From<io::Error> for Barred {
-    fn from(error: io::Error) -> Barred {
-        match error.kind() {
-            ErrorKind::OutOfMemory => Barred::Memory,
-            _ => Barred::For(LedgerCause::System(error)),
-        }
-    }
-}
-
-impl From<AllocError> for Barred {
-    fn from(_: AllocError) -> Barred {
-        Barred::Memory
-    }
-}
-
-impl From<OpenError> for Barred {
-    fn from(error: OpenError) -> Barred {
-        match error {
-            OpenError::Io(error) if error.kind() == ErrorKind::Unsupported => {
-                Barred::For(LedgerCause::NotPlain)
+        let (fault, cause) = match fault {
+            KeepFault::Memory => (AdoptFault::Memory, None),
+            KeepFault::Store(_) => {
+                let cause = LedgerCause::of_store(trouble);
+                (AdoptFault::Store(trouble.unwrap_or(UNTOLD)), Some(cause))
             }
-            OpenError::Io(error) => Barred::from(error),
-            OpenError::OutOfMemory => Barred::Memory,
-            OpenError::Busy => Barred::For(LedgerCause::Busy),
-            OpenError::HotJournal => Barred::For(LedgerCause::Journal),
+        };
+        Unopened {
+            fault,
+            cause,
+            seen: None,
+            left: Left::Database(connection),
         }
     }
 }

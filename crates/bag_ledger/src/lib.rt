@@ -6,13 +6,9 @@ pub use keeper::Keeper;
 pub use map_keeper::MapKeeper;
 pub use testing::{test_content, test_reader};
 
-#[cfg(test)]
-mod failing;
 mod fault;
 mod keeper;
 pub mod laws;
 mod map_keeper;
 mod stored;
 mod testing;
-#[cfg(test)]
-mod tests;

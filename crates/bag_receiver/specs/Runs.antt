@@ -1,5 +1,5 @@
 -- Runs of deliveries, and of deliveries from couriers.
-use Rattle.std.specs.Prelude.{◌≡◌, ◌≢◌, ◌⊎◌, ◌<◌, ◌≤◌, ◌+◌, ◌∷◌, [], ℕ, List}
+use Rattle.std.specs.Prelude.{◌≡◌, ◌≢◌, ◌<◌, ◌+◌, ◌∷◌, [], ℕ, List}
 use Rattle.std.specs.List.{AllByRecursion}
 use Rattle.bag_digest.specs.Device.{RisesBy}
 use Rattle.bag_rules.specs.Files.{Files}

@@ -1,5 +1,5 @@
 -- What is shown of files in memory, and what a search among them finds.
-use Rattle.std.proofs.Common.{◌≡◌, ℕ, ◌+◌, ◌<◌, ◌-◌, List, Some, Result, Ok, Err, IfOk, IfErr, slice_get, get_or, length, refl, sym, ap, subst, ◌∙◌, arith, inl, inr}
+use Rattle.std.proofs.Common.{◌≡◌, ℕ, ◌+◌, ◌<◌, List, Some, Result, Ok, Err, IfOk, IfErr, slice_get, get_or, length, refl, sym, ap, subst, ◌∙◌, arith, inl, inr}
 use Rattle.bag_rules.proofs.Words.{AreRising, bytes_eq, exact_bytes, File, insert, is_lt, IsBinarySearchResult, IsGapFor, IsNonDecreasingBy, IsSearchInRange, length-map, lookup, nat_cmp, nat_list_cmp_total, option_map, Ordering, ordering_index, ordering_reverse, same_Some, searchable_from_sorted, files_of, slice_cmp, slice_get-map, slice_get_cases, slice_get_read, slice_get_within, values_of}
 use Rattle.bag_rules.specs.Files.{paths_of}
 use Rattle.std.proofs.lemmas.List.{get_or_default}

@@ -1,10 +1,7 @@
 -- How the fields of a tree in memory show its files, and what is always true of them.
-use Rattle.std.specs.Prelude.{◌≡◌, ◌<◌, ◌≤◌, ℕ, true, List, Option, Some, All, drop, length, slice_get, nat_le, ◌+◌, if◌then◌else◌}
+use Rattle.std.specs.Prelude.{◌≡◌, ◌<◌, ℕ, true, List, Option, All, drop, length, slice_get, nat_le, ◌+◌, if◌then◌else◌}
 use Rattle.std.specs.Option.{ForSome, option_map, option_and_then}
-use Rattle.std.specs.Ordering.{nat_cmp}
-use Rattle.std.specs.declared.cmp.Ordering.TheVariants.{Less, Greater}
-use Rattle.std.specs.Cmp.Lexicographic.{slice_cmp}
-use Rattle.std.specs.Map.{keys_of, values_of}
+use Rattle.std.specs.Map.{values_of}
 use Rattle.bag_path.specs.Paths.{is_payload}
 use Rattle.bag_rules.specs.declared.file.File.{File}
 use Rattle.bag_rules.specs.declared.memory.Reading.{Reading}

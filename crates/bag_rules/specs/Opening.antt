@@ -6,10 +6,8 @@ use Rattle.std.specs.declared.cmp.Ordering.{Ordering}
 use Rattle.std.specs.declared.cmp.Ordering.TheVariants.{Greater}
 use Rattle.bag_path.specs.Lines.{lines_of}
 use Rattle.bag_path.specs.Octets.{slash}
-use Rattle.bag_digest.specs.declared.algorithm.Alg.{Alg}
 use Rattle.bag_tags.specs.declared.listing.Kind.TheVariants.{Payload}
 use Rattle.bag_tags.specs.declared.name.LineFile.{LineFile}
-use Rattle.bag_tags.specs.declared.name.ManifestName.{ManifestName}
 use Rattle.bag_tags.specs.Names.{text_file}
 use Rattle.bag_rules.specs.declared.fault.Fault.{Fault}
 use Rattle.bag_rules.specs.declared.fault.Fault.TheVariants.{Missing, Unlisted, OxumWrong}

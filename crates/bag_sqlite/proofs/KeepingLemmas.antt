@@ -1,5 +1,5 @@
 -- What a keeper that contains the store answers and puts.
-use Rattle.std.proofs.Common.{◌≡◌, ◌≤◌, ℕ, List, MatchResult, Option, Some, Result, Ok, Err, inl, inr, length, refl}
+use Rattle.std.proofs.Common.{◌≡◌, ◌≤◌, ℕ, List, MatchResult, Option, Some, Result, Ok, Err, ap, inl, inr, length, refl}
 use Rattle.bag_sqlite.proofs.Words.{all_known, Digest, GaveAll, Given, given_by, known, LARGEST_ITEM, Ledger, Length, more_known, PutFault, Puts, Reader, RefusesGiven, TooLarge, Want}
 use Rattle.bag_digest.specs.declared.reading.SourceFault.TheVariants as source
 use Rattle.bag_ledger.specs.declared.fault.KeepFault.{KeepFault}
@@ -8,6 +8,7 @@ use Rattle.bag_rules.specs.declared.want.WantFault.TheVariants as other
 use Rattle.bag_sqlite.specs.Contents.{answer_of}
 use Rattle.bag_sqlite.specs.declared.putting.NotPut.{NotPut}
 use Rattle.bag_sqlite.specs.declared.putting.NotPut.TheVariants.{Source, Misfit, Store}
+use Rattle.bag_sqlite.proofs.SqlLemmas.{same_fault}
 
 -- what holds of each result of the store holds of the answer to it
 pub answered : {A E F : Type 0} {P Q : A → Type 0} {S T : Type 0} (R : F → E → Type 0) (stored : Result A E) (answer : Result A F)
@@ -15,6 +16,10 @@ pub answered : {A E F : Type 0} {P Q : A → Type 0} {S T : Type 0} (R : F → E
     → ((a : A) → P a → Q a) → (S → T) → MatchResult stored P (λ _. S) → MatchResult answer Q (λ _. T)
 answered R stored (Ok a) told ok err it = ok a (rw told at it)
 answered R stored (Err fault) told ok err it = err (rw told.1 at it)
+
+-- a fault that is passed on in place of another answer
+pub passed_on : {A B E : Type 0} {a b : E} → ◌≡◌ {A = Result A E} (Err a) (Err b) → ◌≡◌ {A = Result B E} (Err a) (Err b)
+passed_on e = ap Err (same_fault e)
 
 -- the same for a structure that contains the store
 module _ {K L : Type 0} (part : L → K) (holds may_leave : K → Ledger → Type 0) (clean : K → Type 0) (old new : L) (given : Given) (name : List ℕ) (want : Want) where

@@ -2,10 +2,11 @@
 use Rattle.std.proofs.Common.{◌≡◌, ◌∙◌, inl, inr, IsTrue, string_bytes, refl, sym, ap, subst}
 use Rattle.bag_rules.proofs.InPlace.{expected_path}
 use Rattle.bag_rules.specs.Files.{IsTagFile}
-use Rattle.bag_sqlite.proofs.Words.{AdoptFault, all_has, AreTablesOf, concat, Damaged, Database, Ghosts, Has, has_map, HoldsLedger, IsNoAnswer, IsSound, Keep, Ledger, ledger_schema, NotALedger, NumberedTransfer, OldFormat, RefusesToAdopt, State, without_number}
+use Rattle.bag_sqlite.proofs.Words.{AdoptFault, all_has, AreTablesOf, concat, Damaged, Database, Ghosts, Has, has_map, HoldsLedger, IsNoAnswer, IsSound, Ledger, ledger_schema, NotALedger, NumberedTransfer, OldFormat, RefusesToAdopt, State, without_number}
 use Rattle.bag_sqlite.proofs.DamageLemmas.{in_ledger, is_undamaged, stands}
 use Rattle.bag_sqlite.proofs.NoLedgerLemmas.{format_shown, format_stands, IsInText, is_ledger}
 use Rattle.bag_sqlite.proofs.OneLedger.{read}
+use Rattle.bag_sqlite.specs.declared.adopting.AdoptFault.TheVariants.{Memory, Store}
 
 module _ {S : Type 0} (g : Ghosts S) (db : Database) (ledger : Ledger) (has : db.schema ≡ ledger_schema) (tables : AreTablesOf db.trees ledger) (sound : IsSound ledger) where
   in_text : (t : NumberedTransfer) → Has tables.transfers t → IsInText t
@@ -22,7 +23,8 @@ module _ {S : Type 0} (g : Ghosts S) (db : Database) (ledger : Ledger) (has : db
   a_ledger_is_not_refused NotALedger (inr other) = absurd (is_ledger g db ledger has tables in_text other.1)
   a_ledger_is_not_refused OldFormat old = absurd (format_stands g db ledger has tables old)
   a_ledger_is_not_refused (Damaged name path) damaged = absurd (is_undamaged g db ledger has tables sound (string_bytes name) (string_bytes path) damaged.2)
-  a_ledger_is_not_refused (Keep why) any = (why, refl)
+  a_ledger_is_not_refused Memory any = tt
+  a_ledger_is_not_refused (Store error) any = tt
 
 -- on a connection that is open, and holds it
 pub not_refused : {S : Type 0} (g : Ghosts S) (s : State) (ledger : Ledger) → IsTrue s.is_open → HoldsLedger s ledger → (fault : AdoptFault) → RefusesToAdopt g s.committed fault → IsNoAnswer fault

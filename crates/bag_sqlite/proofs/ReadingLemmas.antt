@@ -96,6 +96,13 @@ keeps_reading g old new idle queries = record {
   left = λ clean crashed may. (may.0, elim (queries.survives.crash clean may.0 may.1) [ inl before ↦ before | inr none ↦ absurd none ], may.2);
 }
 
+-- the same for a structure that contains the connection
+pub keeps_reading_in : {S L : Type 0} (g : Ghosts S) (part : L → Held S) (old new : L) → (part old).in_transaction ≡ false → OnlyQueries g (part old) (part new)
+    → Reads (λ l. HoldsLedger (state g (part l))) (λ l. MayLeaveLedger (state g (part l))) (λ l. HasCleanDisk (state g (part l))) old new
+keeps_reading_in g part old new idle queries =
+    let reads = keeps_reading g (part old) (part new) idle queries in
+    record { was_clean = reads.was_clean; held = reads.held; left = reads.left }
+
 -- QUERIES
 
 abbrev pub as_text : String Global → Value

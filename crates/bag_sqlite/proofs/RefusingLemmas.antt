@@ -1,9 +1,10 @@
 -- Why a database isn't opened, from the results of its reads.
 use Rattle.std.proofs.Common.{◌↔◌, ◌∙◌, Bool, ◌≡◌, ◌≢◌, ◌⊎◌, ◌<◌, ◌≤◌, ℕ, ℤ, pos, zero, suc, List, [], ◌∷◌, Option, None, Some, Err, IfErr, IfNone, MatchResult, Ok, OnOk, false, true, string_bytes, Result, IsTrue, ap, arith, codes, get_or, inl, inr, length, refl, subst, sym, slice_index_or}
-use Rattle.bag_sqlite.proofs.Words.{adopt_fault, AdoptFault, AllByRecursion, AreNoneFor, Broken, cases_lt, column, Command, Compiled, Corrupt, Damaged, Database, Error, ExecuteReturnedResults, Fails, FailsToQuery, FailsToShow, Full, Ghosts, HasFormat, HasNoFormat, Int, IntegralValueOutOfRange, InvalidColumnIndex, InvalidColumnType, InvalidParameterCount, InvalidQuery, Io, IsBlob, IsDamaged, IsInt, IsNoLedger, IsNoneFor, IsNoQuery, IsNoStatement, IsNotRun, IsReadError, IsText, IsTooLate, IsUnchanged, Keep, MayShow, MultipleStatement, NotALedger, Null, OldFormat, OutOfMemory, params_of, QueryReturnedNoRows, Question, RefusesToAdopt, RefusesToRead, RefusesTransfer, RefusesTransfers, Returning, Row, Rows, SaysFormat, Select, SqlInputError, SqliteFailure, State, store_error, StoreError, stray_texts, Tells, Text, text_of, TransferFails, understood, Unstorable, Utf8Error, Value}
+use Rattle.bag_sqlite.proofs.Words.{adopt_fault, AdoptFault, AllByRecursion, AreNoneFor, Broken, cases_lt, column, Command, Compiled, Corrupt, Damaged, Database, Error, ExecuteReturnedResults, Fails, FailsToQuery, FailsToShow, Full, Ghosts, HasFormat, HasNoFormat, Int, IntegralValueOutOfRange, InvalidColumnIndex, InvalidColumnType, InvalidParameterCount, InvalidQuery, Io, IsBlob, IsDamaged, IsInt, IsNoLedger, IsNoneFor, IsNoQuery, IsNoStatement, IsNotRun, IsReadError, IsText, IsTooLate, IsUnchanged, MayShow, MultipleStatement, NotALedger, Null, OldFormat, OutOfMemory, params_of, QueryReturnedNoRows, Question, RefusesToAdopt, RefusesToRead, RefusesTransfer, RefusesTransfers, Returning, Row, Rows, SaysFormat, Select, SqlInputError, SqliteFailure, State, store_error, StoreError, stray_texts, Tells, Text, text_of, TransferFails, understood, Unstorable, Utf8Error, Value}
 use Rattle.sqlite.specs.Given.{IsPlain}
 use Rattle.sqlite.specs.declared.error.ErrorCode.TheVariants as code
 use Rattle.bag_sqlite.proofs.AdoptingLemmas.{row_at}
+use Rattle.bag_sqlite.specs.declared.adopting.AdoptFault.TheVariants.{Memory, Store}
 
 -- QUERIES THAT FAIL
 
@@ -85,7 +86,7 @@ misread P none row at e named kind = elim named [
   | inr (inl type) ↦ misread_as _ e _ type (unlike (λ m. cc (type, m)))
   | inr (inr (inl range)) ↦ misread_as _ e (IntegralValueOutOfRange at) range (unlike (λ m. cc (range, m)))
   | inr (inr (inr (inl text))) ↦ misread_as _ e (Utf8Error at) text (unlike (λ m. cc (text, m)))
-  | inr (inr (inr (inr memory))) ↦ misread_as _ e (SqliteFailure code.OutOfMemory) memory refl
+  | inr (inr (inr (inr memory))) ↦ misread_as _ e (SqliteFailure code.OutOfMemory) memory tt
 ]
   where
     unlike : e ≢ SqliteFailure code.OutOfMemory → ¬ P (column row at)
@@ -99,13 +100,15 @@ pub rows_for : (P Q : Type 0) → (P → Q) → (fault : AdoptFault) → AreNone
 rows_for P Q f NotALedger h = f h
 rows_for P Q f OldFormat h = absurd h
 rows_for P Q f (Damaged name path) h = absurd h
-rows_for P Q f (Keep fault) h = h
+rows_for P Q f Memory h = tt
+rows_for P Q f (Store error) h = absurd h
 
 pub by_rows : (P Q : Type 0) → (P → Q) → (fault : AdoptFault) → AreNoneFor P fault → IsNoneFor Q fault
 by_rows P Q f NotALedger h = f h
 by_rows P Q f OldFormat h = absurd h
 by_rows P Q f (Damaged name path) h = absurd h
-by_rows P Q f (Keep fault) h = tt
+by_rows P Q f Memory h = tt
+by_rows P Q f (Store error) h = absurd h
 
 pub not_read : (P : Value → Type 0) → ¬ P Null → (row : Row) (at : ℕ) (e : Error) → IsReadError at (column row at) e
     → (e ≢ SqliteFailure code.OutOfMemory → at < length row → ¬ P (column row at)) → IsNoneFor (¬ P (column row at)) (adopt_fault e)
@@ -122,7 +125,8 @@ pub none_for : (P Q : Type 0) → (P → Q) → (fault : AdoptFault) → IsNoneF
 none_for P Q f NotALedger h = f h
 none_for P Q f OldFormat h = absurd h
 none_for P Q f (Damaged name path) h = absurd h
-none_for P Q f (Keep fault) h = tt
+none_for P Q f Memory h = tt
+none_for P Q f (Store error) h = tt
 
 pub null_int : ¬ IsInt Null
 null_int it = let e = it.1 in cc
@@ -145,33 +149,38 @@ module _ {S : Type 0} (g : Ghosts S) (db : Database) where
   by_format NotALedger h = inl h
   by_format OldFormat h = absurd h
   by_format (Damaged name path) h = absurd h
-  by_format (Keep fault) h = tt
+  by_format Memory h = tt
+  by_format (Store error) h = tt
 
   -- once the format was checked
   pub to_adopt : (fault : AdoptFault) → HasFormat g db (pos 2) → IsNoneFor (IsNoLedger g db) fault → RefusesToAdopt g db fault
   to_adopt NotALedger format h = inr (format, h)
   to_adopt OldFormat format h = absurd h
   to_adopt (Damaged name path) format h = absurd h
-  to_adopt (Keep fault) format h = tt
+  to_adopt Memory format h = tt
+  to_adopt (Store error) format h = tt
 
   pub to_transfers : (fault : AdoptFault) → IsNoneFor (IsNoLedger g db) fault → RefusesTransfers g db fault
   to_transfers NotALedger h = h
   to_transfers OldFormat h = absurd h
   to_transfers (Damaged name path) h = absurd h
-  to_transfers (Keep fault) h = tt
+  to_transfers Memory h = tt
+  to_transfers (Store error) h = tt
 
   -- once the format and the rows without an owner were checked
   pub in_order : (fault : AdoptFault) → HasFormat g db (pos 2) → AllByRecursion (λ text. Tells g db text [] []) stray_texts → RefusesTransfers g db fault → RefusesToAdopt g db fault
   in_order NotALedger format none h = inr (format, h)
   in_order OldFormat format none h = absurd h
   in_order (Damaged name path) format none h = (format, none, h)
-  in_order (Keep fault) format none h = tt
+  in_order Memory format none h = tt
+  in_order (Store error) format none h = tt
 
   pub to_transfer : (transfer : ℤ) (name : List ℕ) (fault : AdoptFault) → IsNoneFor (IsNoLedger g db) fault → RefusesTransfer g db transfer name fault
   to_transfer transfer name NotALedger h = h
   to_transfer transfer name OldFormat h = absurd h
   to_transfer transfer name (Damaged named path) h = absurd h
-  to_transfer transfer name (Keep fault) h = tt
+  to_transfer transfer name Memory h = tt
+  to_transfer transfer name (Store error) h = tt
 
 -- what holds of each row holds of the one at an index
 pub all_at : {X : Type 0} (P : X → Type 0) (xs : List X) (i : ℕ) (x : X) → AllByRecursion P xs → i < length xs → x ≡ get_or xs i x → P x
@@ -221,7 +230,8 @@ module _ {S : Type 0} (g : Ghosts S) (db : Database) where
   adopt_transfer transfer name NotALedger damaged h = h
   adopt_transfer transfer name OldFormat damaged h = absurd h
   adopt_transfer transfer name (Damaged named path) damaged h = subst (λ n. IsDamaged g db n (string_bytes path)) (sym h.0) (damaged (string_bytes path) h.1)
-  adopt_transfer transfer name (Keep fault) damaged h = tt
+  adopt_transfer transfer name Memory damaged h = tt
+  adopt_transfer transfer name (Store error) damaged h = tt
 
 pub both_ways : {A E P P' : Type 0} (r : Result A E) (Q Q' : E → Type 0) → (P → P') → ((e : E) → Q e → Q' e) → OnOk r P → IfErr r Q → MatchResult r (λ _. P') Q'
 both_ways (Ok a) Q Q' f h p q = f p

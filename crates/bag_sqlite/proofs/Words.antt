@@ -54,7 +54,7 @@ pub use Rattle.bag_sqlite.specs.SqlKeepers.{HoldsLedger, KeepsAlone, MayLeaveLed
 pub use Rattle.bag_sqlite.specs.Tables.{held, held_tree, ledger_schema, meta, meta_tree, no_schema, piece, piece_tree, schema_to_held, schema_to_meta, schema_to_tag, schema_to_transfer, tag, tag_tree, transfer, transfer_tree}
 pub use Rattle.bag_sqlite.specs.Transactions.{CommitsNothing}
 pub use Rattle.bag_sqlite.specs.declared.adopting.AdoptFault.{AdoptFault}
-pub use Rattle.bag_sqlite.specs.declared.adopting.AdoptFault.TheVariants.{Damaged, Keep, NotALedger, OldFormat}
+pub use Rattle.bag_sqlite.specs.declared.adopting.AdoptFault.TheVariants.{Damaged, NotALedger, OldFormat}
 pub use Rattle.bag_sqlite.specs.declared.batch.Batch.{Batch}
 pub use Rattle.bag_sqlite.specs.declared.content.Content.{Content}
 pub use Rattle.bag_sqlite.specs.declared.health.Health.{Health}

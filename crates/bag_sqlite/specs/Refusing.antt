@@ -1,12 +1,7 @@
 -- Why a database isn't opened as a ledger: what its queries show that those of a ledger don't.
 use Rattle.std.specs.Prelude.{◌≡◌, ◌≢◌, ◌⊎◌, ◌<◌, ◌≤◌, ◌-◌, ℕ, ℤ, min, pos, List, [], ◌∷◌, Some, IsUtf8, codes, length, slice_get, string_bytes, take}
 use Rattle.std.specs.List.{AllByRecursion, concat}
-use Rattle.std.specs.declared.io.ErrorKind.{ErrorKind}
-use Rattle.std.specs.declared.io.ErrorKind.TheVariants as kind
 use Rattle.bag_digest.specs.declared.reading.TheConstants.{PIECE}
-use Rattle.bag_ledger.specs.declared.fault.KeepFault.{KeepFault}
-use Rattle.bag_ledger.specs.declared.fault.KeepFault.TheVariants.{Memory, Store}
-use Rattle.bag_ledger.specs.declared.fault.StoreFault.TheVariants.{Refused}
 use Rattle.bag_path.specs.Paths.{IsPath}
 use Rattle.bag_rules.specs.Faults.{Has}
 use Rattle.bag_rules.specs.Files.{AreTagFiles, Files}
@@ -33,43 +28,42 @@ use Rattle.sqlite.specs.declared.types.Value.TheVariants.{Blob, Int, Text}
 use Rattle.bag_sqlite.specs.Adopting.{HasFormat, HasPieces, RowPasses, Tells, TellsOne, TransferPasses, count_text, files_in, format_text, items_text, piece_text, stray_texts, tag_files_text, transfers_text}
 use Rattle.bag_sqlite.specs.Databases.{AreCut}
 use Rattle.bag_sqlite.specs.declared.adopting.AdoptFault.{AdoptFault}
-use Rattle.bag_sqlite.specs.declared.adopting.AdoptFault.TheVariants.{NotALedger, OldFormat, Damaged, Keep}
+use Rattle.bag_sqlite.specs.declared.adopting.AdoptFault.TheVariants.{NotALedger, OldFormat, Damaged, Memory, Store}
 
 -- HOW AN ERROR IS REPORTED
 
 abbrev pub adopt_fault : Error → AdoptFault
-adopt_fault (SqliteFailure OutOfMemory) = Keep Memory
+adopt_fault (SqliteFailure OutOfMemory) = Memory
 adopt_fault (SqliteFailure NotADatabase) = NotALedger
-adopt_fault (SqliteFailure code) = Keep (Store Refused)
-adopt_fault (InvalidParameterCount given wanted) = Keep (Store Refused)
-adopt_fault ExecuteReturnedResults = Keep (Store Refused)
-adopt_fault InvalidQuery = Keep (Store Refused)
-adopt_fault MultipleStatement = Keep (Store Refused)
-adopt_fault QueryReturnedNoRows = Keep (Store Refused)
+adopt_fault (SqliteFailure code) = Store (SqliteFailure code)
+adopt_fault (InvalidParameterCount given wanted) = Store (InvalidParameterCount given wanted)
+adopt_fault ExecuteReturnedResults = Store ExecuteReturnedResults
+adopt_fault InvalidQuery = Store InvalidQuery
+adopt_fault MultipleStatement = Store MultipleStatement
+adopt_fault QueryReturnedNoRows = Store QueryReturnedNoRows
 adopt_fault error = NotALedger
-
--- the same for an error of the operating system
-abbrev pub system_fault : ErrorKind → KeepFault
-system_fault kind.OutOfMemory = Memory
-system_fault _ = Store Refused
 
 -- memory ran out, or the store failed
 abbrev pub IsNoAnswer : AdoptFault → Type 0
-IsNoAnswer fault = (why : KeepFault) × (fault ≡ Keep why)
+IsNoAnswer Memory = Unit {0}
+IsNoAnswer (Store error) = Unit {0}
+IsNoAnswer fault = ⊥
 
 -- if the fault is `NotALedger`, this is the reason; out of memory and failures of the store say nothing
 abbrev pub IsNoneFor : Type 0 → AdoptFault → Type 0
 IsNoneFor reason NotALedger = reason
 IsNoneFor reason OldFormat = ⊥
 IsNoneFor reason (Damaged name path) = ⊥
-IsNoneFor reason (Keep fault) = Unit {0}
+IsNoneFor reason Memory = Unit {0}
+IsNoneFor reason (Store error) = Unit {0}
 
 -- If the fault is `NotALedger`, this is the reason; otherwise memory ran out. The store isn't involved.
 abbrev pub AreNoneFor : Type 0 → AdoptFault → Type 0
 AreNoneFor reason NotALedger = reason
 AreNoneFor reason OldFormat = ⊥
 AreNoneFor reason (Damaged name path) = ⊥
-AreNoneFor reason (Keep fault) = fault ≡ Memory
+AreNoneFor reason Memory = Unit {0}
+AreNoneFor reason (Store error) = ⊥
 
 -- the text can't be understood as a query that shows rows, writes nothing and doesn't read the time
 abbrev pub IsNoQuery : Schema → List ℕ → Type 0
@@ -271,14 +265,16 @@ module _ {S : Type 0} (g : Ghosts S) (db : Database) where
   RefusesTransfer transfer name OldFormat = ⊥
   RefusesTransfer transfer name (Damaged named path) = (string_bytes named ≡ name)
       × TransferFails transfer (string_bytes path)
-  RefusesTransfer transfer name (Keep fault) = Unit {0}
+  RefusesTransfer transfer name Memory = Unit {0}
+  RefusesTransfer transfer name (Store error) = Unit {0}
 
   -- why its transfers aren't accepted
   abbrev pub RefusesTransfers : AdoptFault → Type 0
   RefusesTransfers NotALedger = IsNoLedger
   RefusesTransfers OldFormat = ⊥
   RefusesTransfers (Damaged name path) = IsDamaged (string_bytes name) (string_bytes path)
-  RefusesTransfers (Keep fault) = Unit {0}
+  RefusesTransfers Memory = Unit {0}
+  RefusesTransfers (Store error) = Unit {0}
 
   -- it names no format that there is
   abbrev pub HasNoFormat : Type 0
@@ -293,4 +289,5 @@ module _ {S : Type 0} (g : Ghosts S) (db : Database) where
   RefusesToAdopt (Damaged name path) = HasFormat g db (pos 2)
       × AllByRecursion (λ text. Tells g db text [] []) stray_texts
       × IsDamaged (string_bytes name) (string_bytes path)
-  RefusesToAdopt (Keep fault) = Unit {0}
+  RefusesToAdopt Memory = Unit {0}
+  RefusesToAdopt (Store error) = Unit {0}

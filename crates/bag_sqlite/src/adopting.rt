@@ -1,11 +1,10 @@
 //! Opens a database as the ledger that it holds.
 ghost use Rattle.std.specs.Prelude.{◌≡◌, pos, [], IfErr, IfOk, MatchResult, OnOk, false};
 ghost use Rattle.std.specs.List.{AllByRecursion};
-ghost use Rattle.bag_ledger.specs.Ledgers.{Ledger};
 ghost use Rattle.bag_sqlite.specs.Adopting.{HasFormat, IsVerified, OnlyReads, Stands, Tells, stray_texts};
 ghost use Rattle.bag_sqlite.specs.Making.{IsLeft};
-ghost use Rattle.bag_sqlite.specs.Refusing.{AreNoneFor, DoesNotShow, IsNoAnswer, IsNoLedger, IsNoQuery, IsNoneFor, RefusesToAdopt, SayNoFormat, SaysFormat};
-ghost use Rattle.bag_sqlite.specs.SqlKeepers.{HoldsLedger, KeepsAlone, Offers};
+ghost use Rattle.bag_sqlite.specs.Refusing.{AreNoneFor, DoesNotShow, IsNoLedger, IsNoQuery, IsNoneFor, RefusesToAdopt, SayNoFormat, SaysFormat};
+ghost use Rattle.bag_sqlite.specs.SqlKeepers.{IsAdopted, IsNotAdopted};
 ghost use Rattle.sqlite.specs.Effect.{Database};
 ghost use Rattle.sqlite.specs.Held.{state};
 ghost use Rattle.sqlite.specs.State.{HasCleanDisk, Survives};
@@ -15,15 +14,14 @@ use crate::health::Health;
 use crate::keeper::SqlKeeper;
 use crate::reading::query;
 use crate::verifying::verify_transfers;
-use bag_ledger::{KeepFault, StoreFault};
+use crate::watch::{Unwatched, Watch};
 use sqlite::types::ValueRef;
 use sqlite::{Alter, Connection, Error, ErrorCode, Row};
 use std::alloc::AllocError;
-use std::io::{self, ErrorKind};
 use thiserror::Error as ErrorText;
 
-/// Why a database isn't opened as a ledger. If several reasons apply, the first in this order is reported; `Keep` may
-/// be reported in place of any of them.
+/// Why a database isn't opened as a ledger. If several reasons apply, the first in this order is reported; `Memory` and
+/// `Store` may be reported in place of any of them.
 #[derive(Debug, Drop, ErrorText)]
 pub enum AdoptFault {
     /// It doesn't name the format of a ledger; or it names format 2 and doesn't have its tables, or has rows that no
@@ -42,9 +40,12 @@ pub enum AdoptFault {
         /// The path of the payload file; empty if the tag files are at fault.
         path: String,
     },
-    /// Memory ran out, or the store failed.
-    #[error("no answer")]
-    Keep(KeepFault),
+    /// Memory ran out.
+    #[error("out of memory")]
+    Memory,
+    /// The store failed with this error.
+    #[error("the store failed")]
+    Store(Error),
 }
 
 impl From<Error> for AdoptFault {
@@ -55,43 +56,26 @@ impl From<Error> for AdoptFault {
 
     fn from(error: Error) -> AdoptFault {
         match error {
-            Error::SqliteFailure(ErrorCode::OutOfMemory) => AdoptFault::Keep(KeepFault::Memory),
+            Error::SqliteFailure(ErrorCode::OutOfMemory) => AdoptFault::Memory,
             Error::SqliteFailure(ErrorCode::NotADatabase)
             | Error::SqlInputError(_)
             | Error::InvalidColumnIndex(_)
             | Error::InvalidColumnType(_, _)
             | Error::IntegralValueOutOfRange(_)
             | Error::Utf8Error(_) => AdoptFault::NotALedger,
-            _ => AdoptFault::Keep(KeepFault::Store(StoreFault::Refused)),
-        }
-    }
-}
-
-impl From<io::Error> for AdoptFault {
-    ghost use Rattle.std.specs.IoError.{error_kind};
-    ghost use Rattle.std.specs.Prelude.{◌≡◌};
-    ghost use Rattle.bag_sqlite.specs.Refusing.{system_fault};
-    ghost use Rattle.bag_sqlite.specs.declared.adopting.AdoptFault.TheVariants.{Keep};
-
-    ghost from_gives = { λ error fault. fault ≡ Keep (system_fault (error_kind error)) };
-
-    fn from(error: io::Error) -> AdoptFault {
-        match error.kind() {
-            ErrorKind::OutOfMemory => AdoptFault::Keep(KeepFault::Memory),
-            _ => AdoptFault::Keep(KeepFault::Store(StoreFault::Refused)),
+            _ => AdoptFault::Store(error),
         }
     }
 }
 
 impl From<AllocError> for AdoptFault {
     ghost use Rattle.std.specs.Prelude.{◌≡◌};
-    ghost use Rattle.bag_ledger.specs.declared.fault.KeepFault.TheVariants.{Memory};
-    ghost use Rattle.bag_sqlite.specs.declared.adopting.AdoptFault.TheVariants.{Keep};
+    ghost use Rattle.bag_sqlite.specs.declared.adopting.AdoptFault.TheVariants.{Memory};
 
-    ghost from_gives = { λ _ fault. fault ≡ Keep Memory };
+    ghost from_gives = { λ _ fault. fault ≡ Memory };
 
     fn from(_: AllocError) -> AdoptFault {
-        AdoptFault::Keep(KeepFault::Memory)
+        AdoptFault::Memory
     }
 }
 
@@ -113,35 +97,34 @@ impl<S: Alter> SqlKeeper<S> {
     /// # Errors
     ///
     /// The first fault in the order of [`AdoptFault`]: for a database that holds a ledger, as a keeper wrote it, only
-    /// `Keep`. If a transaction is open, `Keep(Store(Refused))`.
+    /// `Memory` or `Store`. If a transaction is open, `Store`.
     pub fn adopt(connection: Connection<S>) -> Result<SqlKeeper<S>, NotAdopted<S>>
-        ensures verified { IfOk result (λ keeper. HasCleanDisk (state S.Store keeper.connection)
-            → IsVerified S.Store (state S.Store connection).committed) }
-        ensures held { IfOk result (λ keeper. HasCleanDisk (state S.Store keeper.connection)
-            → (ledger : Ledger) → HoldsLedger (state S.Store connection) ledger
-            → HoldsLedger (state S.Store keeper.connection) ledger) }
-        ensures kept { IfOk result (λ keeper. HasCleanDisk (state S.Store keeper.connection)
-            → (ledger : Ledger) → Offers (state S.Store connection) ledger
-            → KeepsAlone (state S.Store keeper.connection) ledger) }
+        ensures adopted { MatchResult result
+            (λ keeper. IsAdopted S.Store connection keeper.connection)
+            (λ refused. IsNotAdopted S.Store connection refused.fault refused.connection) }
         ensures unfailed { IfOk result (λ keeper. (keeper.health.is_spent ≡ false)
             × (keeper.health.failures ≡ 0)) }
-        ensures handed_back { IfErr result (λ refused.
-            HasCleanDisk (state S.Store refused.connection)
-            → IsLeft (state S.Store connection) (state S.Store refused.connection)) }
-        ensures refused { IfErr result (λ refused.
-            HasCleanDisk (state S.Store refused.connection)
-            → RefusesToAdopt S.Store (state S.Store connection).committed refused.fault) }
-        ensures own { IfErr result (λ refused. HasCleanDisk (state S.Store refused.connection)
-            → (ledger : Ledger) → Offers (state S.Store connection) ledger
-            → IsNoAnswer refused.fault) }
-        ensures survives { MatchResult result
-            (λ keeper. Survives (state S.Store connection) (state S.Store keeper.connection)
-            (λ _. ⊥))
-            (λ refused. Survives (state S.Store connection) (state S.Store refused.connection)
-            (λ _. ⊥)) }
+    {
+        SqlKeeper::adopt_watched(connection, &Unwatched)
+    }
+
+    /// The same, with a watcher that is told what is read.
+    ///
+    /// # Errors
+    ///
+    /// Those of [`SqlKeeper::adopt`].
+    pub fn adopt_watched<W: Watch>(
+        connection: Connection<S>,
+        watch: &W,
+    ) -> Result<SqlKeeper<S>, NotAdopted<S>>
+        ensures adopted { MatchResult result
+            (λ keeper. IsAdopted S.Store connection keeper.connection)
+            (λ refused. IsNotAdopted S.Store connection refused.fault refused.connection) }
+        ensures unfailed { IfOk result (λ keeper. (keeper.health.is_spent ≡ false)
+            × (keeper.health.failures ≡ 0)) }
     {
         let mut connection = connection;
-        match verify_ledger(&mut connection) {
+        match verify_ledger(&mut connection, watch) {
             Ok(()) => Ok(SqlKeeper {
                 connection,
                 health: Health::new(),
@@ -152,7 +135,10 @@ impl<S: Alter> SqlKeeper<S> {
 }
 
 /// Reads a database and verifies what it holds.
-fn verify_ledger<S: Alter>(connection: &mut Connection<S>) -> Result<(), AdoptFault>
+fn verify_ledger<S: Alter, W: Watch>(
+    connection: &mut Connection<S>,
+    watch: &W,
+) -> Result<(), AdoptFault>
     ensures verified { HasCleanDisk (state S.Store connection.new) → MatchResult result
         (λ done. IsVerified S.Store (state S.Store connection.old).committed)
         (RefusesToAdopt S.Store (state S.Store connection.old).committed) }
@@ -165,11 +151,12 @@ fn verify_ledger<S: Alter>(connection: &mut Connection<S>) -> Result<(), AdoptFa
         (λ _. ⊥) }
 {
     if !connection.is_autocommit() {
-        return Err(AdoptFault::Keep(KeepFault::Store(StoreFault::Refused)));
+        let error = Error::SqliteFailure(ErrorCode::TransactionState);
+        return Err(AdoptFault::Store(error));
     }
     test_format(connection)?;
     test_rows(connection)?;
-    verify_transfers(connection)
+    verify_transfers(connection, watch)
 }
 
 /// Checks that the database names one format, and that it is format 2.

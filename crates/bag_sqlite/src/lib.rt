@@ -16,6 +16,8 @@ mod reading;
 mod rows;
 mod transfers;
 mod verifying;
+mod watch;
 
 pub use adopting::{AdoptFault, NotAdopted};
 pub use keeper::{NotCreated, SqlKeeper};
+pub use watch::Watch;

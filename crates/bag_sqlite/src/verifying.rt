@@ -18,8 +18,8 @@ use crate::adopting::{AdoptFault, rows_of};
 use crate::batch::Batch;
 use crate::content::Content;
 use crate::transfers::{path_in, tag_set_in};
+use crate::watch::Watch;
 use bag_digest::{AlgSet, PIECE};
-use bag_ledger::KeepFault;
 use bag_rules::limits::LARGEST_ITEM;
 use bag_rules::{Plan, PlanFault, Want};
 use sqlite::types::ValueRef;
@@ -27,7 +27,10 @@ use sqlite::{Alter, Connection, Error, ErrorCode, Row, params};
 use std::alloc::Global;
 
 /// Verifies all transfers, by name.
-pub(crate) fn verify_transfers<S: Alter>(connection: &mut Connection<S>) -> Result<(), AdoptFault>
+pub(crate) fn verify_transfers<S: Alter, W: Watch>(
+    connection: &mut Connection<S>,
+    watch: &W,
+) -> Result<(), AdoptFault>
     requires idle { connection.old.in_transaction ≡ false }
     ensures verified { HasCleanDisk (state S.Store connection.new) → (db : Database)
         → Stands (state S.Store connection.old) db
@@ -42,13 +45,14 @@ pub(crate) fn verify_transfers<S: Alter>(connection: &mut Connection<S>) -> Resu
         "SELECT id, name FROM transfer ORDER BY name",
         &[],
     )?;
-    verify_rows(*rows.allocator(), connection, rows.as_slice())
+    verify_rows(*rows.allocator(), connection, watch, rows.as_slice())
 }
 
 /// Verifies the transfers with these numbers and names.
-fn verify_rows<S: Alter>(
+fn verify_rows<S: Alter, W: Watch>(
     alloc: Global,
     connection: &mut Connection<S>,
+    watch: &W,
     rows: &[Row],
 ) -> Result<(), AdoptFault>
     requires idle { connection.old.in_transaction ≡ false }
@@ -62,15 +66,16 @@ fn verify_rows<S: Alter>(
     ensures reads { OnlyReads S.Store connection.old connection.new }
 {
     for row in rows {
-        verify_transfer(alloc, connection, row.get(0)?, row.get(1)?)?;
+        verify_transfer(alloc, connection, watch, row.get(0)?, row.get(1)?)?;
     }
     Ok(())
 }
 
 /// Verifies the tag files of a transfer, and then its payload files by path.
-fn verify_transfer<S: Alter>(
+fn verify_transfer<S: Alter, W: Watch>(
     alloc: Global,
     connection: &mut Connection<S>,
+    watch: &W,
     transfer: i64,
     name: String,
 ) -> Result<(), AdoptFault>
@@ -87,7 +92,7 @@ fn verify_transfer<S: Alter>(
         let path = String::new(alloc);
         return Err(AdoptFault::Damaged { name, path });
     };
-    match first_damaged(alloc, connection, transfer, &plan)? {
+    match first_damaged(alloc, connection, watch, transfer, &plan)? {
         Some(path) => Err(AdoptFault::Damaged { name, path }),
         None => Ok(()),
     }
@@ -132,7 +137,7 @@ fn plan_in(alloc: Global, rows: &[Row]) -> Result<Option<Plan>, AdoptFault>
         Ok(plan) => Ok(Some(plan)),
         Err(fault) => {
             if is_memory(&fault) {
-                Err(AdoptFault::Keep(KeepFault::Memory))
+                Err(AdoptFault::Memory)
             } else {
                 Ok(None)
             }
@@ -161,9 +166,10 @@ fn unless_corrupt<T: Drop>(read: Result<T, Error>) -> Result<Option<T>, AdoptFau
 }
 
 /// The first path of a payload file of the transfer that isn't valid, if there is one.
-fn first_damaged<S: Alter>(
+fn first_damaged<S: Alter, W: Watch>(
     alloc: Global,
     connection: &mut Connection<S>,
+    watch: &W,
     transfer: i64,
     plan: &Plan,
 ) -> Result<Option<String>, AdoptFault>
@@ -186,13 +192,14 @@ fn first_damaged<S: Alter>(
         "SELECT id, path, size FROM held WHERE transfer = ?1 ORDER BY path",
         params![transfer],
     )?;
-    damaged_in(alloc, connection, plan, rows.as_slice())
+    damaged_in(alloc, connection, watch, plan, rows.as_slice())
 }
 
 /// The path of the first payload file in these rows that isn't valid, if there is one.
-fn damaged_in<S: Alter>(
+fn damaged_in<S: Alter, W: Watch>(
     alloc: Global,
     connection: &mut Connection<S>,
+    watch: &W,
     plan: &Plan,
     rows: &[Row],
 ) -> Result<Option<String>, AdoptFault>
@@ -220,7 +227,7 @@ fn damaged_in<S: Alter>(
             }
             batch = Batch::none(alloc);
         }
-        let finding = read_item(alloc, connection, plan, item, path.as_str(), size)?;
+        let finding = read_item(alloc, connection, watch, plan, item, path.as_str(), size)?;
         match finding {
             Finding::Valid => {}
             Finding::Damaged => return Ok(Some(batch.first_damaged(alloc)?.unwrap_or(path))),
@@ -242,9 +249,10 @@ enum Finding<'a> {
 }
 
 /// Reads a payload file. A content of at most one piece isn't tested.
-fn read_item<'a, S: Alter>(
+fn read_item<'a, S: Alter, W: Watch>(
     alloc: Global,
     connection: &mut Connection<S>,
+    watch: &W,
     plan: &'a Plan,
     item: i64,
     path: &str,
@@ -267,7 +275,7 @@ fn read_item<'a, S: Alter>(
     let Some(size) = size_in(size) else {
         return Ok(Finding::Damaged);
     };
-    let Some(content) = content_of(alloc, connection, item, size, want.algs())? else {
+    let Some(content) = content_of(alloc, connection, watch, item, size, want.algs())? else {
         return Ok(Finding::Damaged);
     };
     match content {
@@ -291,9 +299,10 @@ fn size_in(size: i64) -> Option<u64>
 }
 
 /// The content of a payload file, if its pieces are complete and have this size in all.
-fn content_of<S: Alter>(
+fn content_of<S: Alter, W: Watch>(
     alloc: Global,
     connection: &mut Connection<S>,
+    watch: &W,
     item: i64,
     size: u64,
     set: AlgSet,
@@ -315,6 +324,7 @@ fn content_of<S: Alter>(
     let mut content = Content::none(alloc, size, set);
     let mut taken = 0;
     let mut n: u64 = 0;
+    watch.add_file();
     while taken < size {
         let octets = (size - taken).min(PIECE as u64);
         if !take_piece(connection, item, n as i64, octets, &mut content)? {
@@ -322,6 +332,7 @@ fn content_of<S: Alter>(
         }
         taken += octets;
         n += 1;
+        watch.add_octets(octets);
     }
     if count_of(connection, item)? != n as i64 {
         return Ok(None);

@@ -1,7 +1,7 @@
 //! Ledgers in connections that no command has: over another ledger, and in a transaction.
 use bag_ledger::{KeepFault, StoreFault};
 use bag_sqlite::{AdoptFault, NotAdopted, NotCreated, SqlKeeper};
-use sqlite::{Connection, MemStore};
+use sqlite::{Connection, Error, ErrorCode, MemStore};
 use std::alloc::Global;
 use std::test::Fail;
 
@@ -49,6 +49,11 @@ fn in_a_transaction_the_store_is_blamed(rt: HostRuntime) -> Result<(), Fail> {
     let mut ledger = made(in_memory(rt.alloc())?)?;
     ledger.execute_batch("BEGIN")?;
     let fault = not_adopted(ledger);
-    assert!(rt; matches!(fault, Some(AdoptFault::Keep(KeepFault::Store(_)))));
+    assert!(rt;
+        matches!(
+            fault,
+            Some(AdoptFault::Store(Error::SqliteFailure(ErrorCode::TransactionState)))
+        )
+    );
     Ok(())
 }

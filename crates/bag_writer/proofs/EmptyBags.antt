@@ -3,7 +3,7 @@ use Rattle.std.proofs.Common.{◌≡◌, ◌∙◌, ◌⊎◌, ◌<◌, ◌≤�
 use Rattle.std.proofs.lemmas.List.Sums.{sum_by-cons}
 use Rattle.std.specs.List.{sum_by}
 use Rattle.bag_rules.proofs.HasLemmas.{has_from_map}
-use Rattle.bag_rules.proofs.Words.{Alg, FetchList, Files, Info, Kind, Md5, Payload, Sha1, Sha256, Sha512, Tag, declaration_file, has, keys_of, length-map, manifest_file, text_file, written_declaration}
+use Rattle.bag_rules.proofs.Words.{Alg, FetchList, Files, Info, Kind, Md5, Payload, Sha1, Sha256, Sha512, Tag, has, keys_of, length-map, manifest_file, text_file, written_declaration}
 use Rattle.bag_rules.specs.Bags.{octet_count}
 use Rattle.bag_rules.specs.declared.limits.TheConstants.{LARGEST_FILE, LARGEST_TAG_FILE, MOST_LINES}
 use Rattle.bag_tags.specs.ManifestWriting.{written_manifest}

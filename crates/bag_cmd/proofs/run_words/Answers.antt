@@ -5,8 +5,8 @@ use Rattle.bag_cmd.specs.Endings.{plain}
 use Rattle.bag_cmd.proofs.RequestLemmas.{unnamed}
 use Rattle.bag_cmd.proofs.run_words.Goals as goal
 
-pub returns-in-Err-2 : goal.returns-in-Err-2
-returns-in-Err-2 g c = λ other. (
+pub returns : goal.returns
+returns g c = λ other. (
   [] ∷ [],
   None,
   plain USAGE,

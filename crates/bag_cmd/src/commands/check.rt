@@ -5,7 +5,7 @@ ghost use Rattle.bag_cmd.specs.Endings.{why_too_many, why_unchecked};
 
 use super::stop_unopened;
 use crate::ended::{Ended, Why};
-use crate::excess::{Excess, Limit};
+use crate::excess::Limit;
 use crate::meter::{Activity, Meter};
 use crate::progress::Progress;
 use crate::watched::Watched;
@@ -32,7 +32,7 @@ pub fn check_folder<R: Files + Eprint, D: Directories, W: Write + Drop>(
     match FolderTree::open(rt, disk, alloc, folder) {
         Ok(tree) => {
             let meter = Meter::new(progress, Activity::Checking);
-            meter.expect(tree.count());
+            meter.expect_files(tree.count());
             let mut tree = Watched::new(tree, &meter);
             let answer = check(alloc, &mut tree);
             let status = print_outcome(&answer, out);
@@ -54,14 +54,10 @@ fn why_unchecked<R: Files + Drop>(
 {
     match answer {
         Err(CheckFault::Tree) => Why::of_trouble(tree.into_trouble()),
-        Err(CheckFault::TagTooLarge(path)) => Some(Why::Exceeds(Excess {
-            name: tree.into_folder(),
-            limit: Limit::TagFile(path),
-        })),
-        Err(CheckFault::TooLarge(path)) => Some(Why::Exceeds(Excess {
-            name: tree.into_folder(),
-            limit: Limit::File(path),
-        })),
+        Err(CheckFault::TagTooLarge(path)) => {
+            Why::of_excess(tree.into_folder(), Limit::TagFile(path))
+        }
+        Err(CheckFault::TooLarge(path)) => Why::of_excess(tree.into_folder(), Limit::File(path)),
         Err(CheckFault::TooMany) => why_too_many(tree),
         Ok(_) | Err(CheckFault::Memory) => None,
     }
@@ -71,16 +67,9 @@ fn why_unchecked<R: Files + Drop>(
 fn why_too_many<R: Files + Drop>(tree: FolderTree<R>) -> Option<Why>
     ensures { result ≡ why_too_many tree }
 {
-    let excess = if tree.count() > MOST_FILES {
-        Excess {
-            name: tree.into_folder(),
-            limit: Limit::Files,
-        }
+    if tree.count() > MOST_FILES {
+        Why::of_excess(tree.into_folder(), Limit::Files)
     } else {
-        Excess {
-            name: tree.into_name(),
-            limit: Limit::Lines,
-        }
-    };
-    Some(Why::Exceeds(excess))
+        Why::of_excess(tree.into_name(), Limit::Lines)
+    }
 }

@@ -3,12 +3,13 @@ ghost use Rattle.std.specs.Prelude.{◌≡◌, IfErr, IfOk, List, map, string_by
 ghost use Rattle.bag_folder.specs.Faults.{IfUnfit};
 ghost use Rattle.bag_folder.specs.Folders.{FolderShown};
 ghost use Rattle.bag_folder.specs.Bringing.{courier_of};
-ghost use Rattle.bag_cmd.specs.Endings.{first_name, name_if_crowded, name_if_empty, why_undelivered};
+ghost use Rattle.std.specs.Option.{option_or};
+ghost use Rattle.bag_cmd.specs.Endings.{first_name, name_if, name_if_crowded, name_if_empty, why_undelivered};
 ghost use Rattle.bag_cmd.specs.Working.{AreOpened, SomeIsRefused, TakesInFrom};
 
 use super::stop_unopened;
 use crate::ended::{Ended, Why};
-use crate::excess::{Excess, FolderName, Limit};
+use crate::excess::{FolderName, Limit};
 use crate::meter::{Activity, Meter};
 use crate::progress::Progress;
 use crate::watched::Watched;
@@ -62,10 +63,7 @@ fn why_undelivered(crowded: Option<FolderName>, empty: Option<FolderName>) -> Op
     ensures { result ≡ why_undelivered crowded empty }
 {
     match crowded {
-        Some(folder) => Some(Why::Exceeds(Excess {
-            name: folder.text,
-            limit: Limit::Deliveries,
-        })),
+        Some(folder) => Why::of_excess(folder.text, Limit::Deliveries),
         None => Why::of_empty(empty),
     }
 }
@@ -91,13 +89,10 @@ fn open_all<'a, R: Files + Eprint, D: Directories>(
     let mut empty = None;
     for folder in folders {
         let tree = FolderTree::open(rt, disk, alloc, folder.as_str())?;
-        if crowded.is_none() {
-            crowded = name_if_crowded(alloc, &tree, folder.as_str())?;
-        }
-        if empty.is_none() {
-            empty = name_if_empty(alloc, &tree, folder.as_str())?;
-        }
-        meter.expect(payload_count(&tree));
+        let count = payload_count(&tree);
+        crowded = first_told(alloc, crowded, count > MOST_DELIVERIES, folder.as_str())?;
+        empty = first_told(alloc, empty, !tree.has_payload(), folder.as_str())?;
+        meter.expect_files(count);
         couriers.push(Watched::new(TreeCourier::new(tree), meter))?;
     }
     Ok(AllOpened {
@@ -107,33 +102,17 @@ fn open_all<'a, R: Files + Eprint, D: Directories>(
     })
 }
 
-/// The name of this folder, if it has more payload files than a run delivers.
-fn name_if_crowded<R: Files + Drop>(
+/// The name that is told already, if there is one; otherwise the name of this folder, if it is to be told.
+fn first_told(
     alloc: Global,
-    tree: &FolderTree<R>,
+    first: Option<FolderName>,
+    is_told: bool,
     folder: &str,
 ) -> Result<Option<FolderName>, AllocError>
-    requires { tree.now.folder ≡ folder.now }
-    ensures { IfOk result (λ name. name ≡ name_if_crowded tree.now) }
+    ensures { IfOk result (λ name. name ≡ option_or first (name_if is_told folder.now)) }
 {
-    if payload_count(tree) <= MOST_DELIVERIES {
-        return Ok(None);
-    }
-    let text = String::from_str(alloc, folder)?;
-    Ok(Some(FolderName { text }))
-}
-
-/// The name of this folder, if it has no payload files.
-fn name_if_empty<R: Files + Drop>(
-    alloc: Global,
-    tree: &FolderTree<R>,
-    folder: &str,
-) -> Result<Option<FolderName>, AllocError>
-    requires { tree.now.folder ≡ folder.now }
-    ensures { IfOk result (λ name. name ≡ name_if_empty tree.now) }
-{
-    if tree.has_payload() {
-        return Ok(None);
+    if first.is_some() || !is_told {
+        return Ok(first);
     }
     let text = String::from_str(alloc, folder)?;
     Ok(Some(FolderName { text }))

@@ -1,6 +1,6 @@
 //! The commands on a ledger: opens it, does the work and closes it.
 ghost use Rattle.std.specs.Prelude.{◌≡◌, [], ℕ, IfErr, IfOk, List, MatchResult, Some, true};
-ghost use Rattle.bag_cmd.specs.Working.{DoesWork, HoldsValidBag, IsOpenFor, Works, WorksOn, viewed};
+ghost use Rattle.bag_cmd.specs.Working.{DoesWork, HoldsValidBag, IsOpenFor, IsUnopenedFor, Works, WorksOn, viewed};
 ghost use Rattle.bag_commands.specs.declared.status.TheConstants.{VALID};
 ghost use Rattle.bag_ledger.specs.Ledgers.{Ledger};
 ghost use Rattle.bag_receiver.specs.Receivers.{Does, IsInState};
@@ -13,9 +13,11 @@ use super::fetch::fetch_from_folder;
 use super::intake::intake_folders;
 use crate::ended::{Ended, Why};
 use crate::ledger::{Ledgers, Opened};
+use crate::meter::{Activity, Meter};
 use crate::progress::Progress;
 use crate::request::Work;
 use crate::unopened::Unopened;
+use crate::watched::Watched;
 use bag_commands::status::FAILED;
 use bag_commands::{Output, Stop, TextSpelling, audit_to, list_to, report_to};
 use bag_folder::{Destination, Directories};
@@ -34,32 +36,46 @@ pub fn work_on_ledger<R: Files + Eprint, D: Directories, L: Ledgers, W: Write + 
     rt: &R,
     progress: &Progress<'_, R>,
     disk: &D,
-    ledgers: &mut L,
+    ledgers: L,
     made: &mut Destination<'_, R>,
     alloc: Global,
     ledger: &str,
     work: &Work,
     out: &mut Output<W>,
 ) -> Ended
-    ensures { WorksOn L.Kept.Keeper L.opened L.made L.refused L.closed (D.listing disk.now)
-        W.contents ledger.now work.now made.old made.new out.old out.new result }
+    ensures { WorksOn L.Kept.Keeper L.Ledgers (D.listing disk.now) W.contents ledger.now work.now
+        made.old made.new out.old out.new result }
 {
-    match open_and_work(rt, progress, disk, ledgers, made, alloc, ledger, work, out) {
+    let meter = Meter::new(progress, Activity::Auditing);
+    if !matches!(work, Work::Audit { .. }) {
+        meter.stop();
+    }
+    match open_and_work(
+        rt, progress, &meter, disk, ledgers, made, alloc, ledger, work, out,
+    ) {
         Ok(
             Worked {
                 mut receiver,
+                file,
                 is_made,
                 ended,
             },
         ) => {
             let is_vain = is_vain(alloc, is_made, &mut receiver);
-            let keeper = receiver.into_keeper();
-            let cause = ledgers.trouble(&keeper);
-            let closed = close(ledgers, keeper, is_vain);
+            let keeper = receiver.into_keeper().into_inside();
+            let cause = L::trouble(&keeper);
+            let closed = close::<L>(file, keeper, is_vain);
             drop(closed);
             ended.or(Why::of_ledger(alloc, ledger, cause))
         }
-        Err(Unopened { fault, cause, left }) => {
+        Err(
+            Unopened {
+                fault,
+                cause,
+                seen: _,
+                left,
+            },
+        ) => {
             drop(left);
             Ended {
                 status: out.print(UnopenedLine(&fault), FAILED),
@@ -70,26 +86,30 @@ pub fn work_on_ledger<R: Files + Eprint, D: Directories, L: Ledgers, W: Write + 
 }
 
 /// What was done on an open ledger.
-struct Worked<K> {
+struct Worked<K, F> {
     receiver: Receiver<K>,
+    // what the ledger is closed with
+    file: F,
     // whether the ledger was made for the work
     is_made: bool,
     ended: Ended,
 }
 
-/// Opens a ledger and does the work. The receiver is returned too, so that the ledger can be closed.
-fn open_and_work<R: Files + Eprint, D: Directories, L: Ledgers, W: Write + Drop>(
+/// Opens a ledger and does the work. The receiver is returned too, so that the ledger can be closed. The meter counts
+/// what is read of the ledger.
+fn open_and_work<'a, R: Files + Eprint, D: Directories, L: Ledgers, W: Write + Drop>(
     rt: &R,
     progress: &Progress<'_, R>,
+    meter: &'a Meter<'a, R>,
     disk: &D,
-    ledgers: &mut L,
+    ledgers: L,
     made: &mut Destination<'_, R>,
     alloc: Global,
     ledger: &str,
     work: &Work,
     out: &mut Output<W>,
-) -> Result<Worked<L::Kept>, Unopened<L::Left>>
-    ensures works { IfOk result (λ done. Works L.Kept.Keeper L.opened L.made (D.listing disk.now)
+) -> Result<Worked<Watched<'a, L::Kept, R>, L::File>, Unopened<L::Left>>
+    ensures works { IfOk result (λ done. Works L.Kept.Keeper L.Ledgers (D.listing disk.now)
         W.contents ledger.now work.now made.old made.new done.receiver out.old out.new
         done.ended) }
     // If a report or an audit answers that a transfer is valid, the ledger that is stored holds a valid bag under this
@@ -102,15 +122,15 @@ fn open_and_work<R: Files + Eprint, D: Directories, L: Ledgers, W: Write + Drop>
     ensures made { IfOk result (λ done. done.is_made ≡ true
         → L.Kept.Keeper.clean done.receiver.keeper → (now : LedgerState)
         × IsInState L.Kept.Keeper.holds L.Kept.Keeper.may_leave done.receiver now) }
-    ensures refused { IfErr result (λ it. L.refused ledger.now it
+    ensures unopened { IfErr result (λ it. IsUnopenedFor L.Ledgers ledger.now work.now it
         × (made.new ≡ made.old) × (out.new ≡ out.old)) }
 {
-    progress.show_reading(ledger);
     let opened = open(ledgers, ledger, work)?;
-    let mut receiver = Receiver::new(alloc, opened.kept);
+    let mut receiver = Receiver::new(alloc, Watched::new(opened.kept, meter));
     let ended = do_work(rt, progress, disk, made, alloc, &mut receiver, work, out);
     Ok(Worked {
         receiver,
+        file: opened.file,
         is_made: opened.is_made,
         ended,
     })
@@ -118,17 +138,17 @@ fn open_and_work<R: Files + Eprint, D: Directories, L: Ledgers, W: Write + Drop>
 
 /// Opens a ledger for this work.
 fn open<L: Ledgers>(
-    ledgers: &mut L,
+    ledgers: L,
     ledger: &str,
     work: &Work,
-) -> Result<Opened<L::Kept>, Unopened<L::Left>>
+) -> Result<Opened<L::Kept, L::File>, Unopened<L::Left>>
     ensures { MatchResult result
-        (λ it. IsOpenFor L.opened L.made ledger.now work.now it.is_made it.kept)
-        (L.refused ledger.now) }
+        (λ it. IsOpenFor L.Ledgers ledger.now work.now it.is_made it.kept)
+        (IsUnopenedFor L.Ledgers ledger.now work.now) }
 {
     match work {
         Work::Begin { .. } => ledgers.open_or_make(ledger),
-        _ => Ok(Opened::found(ledgers.open(ledger)?)),
+        _ => ledgers.open(ledger),
     }
 }
 
@@ -150,14 +170,14 @@ fn is_vain<K: Keeper>(alloc: Global, is_made: bool, receiver: &mut Receiver<K>) 
 }
 
 /// Closes a ledger after the work on it. `is_vain` says whether it is given up.
-fn close<L: Ledgers>(ledgers: &mut L, keeper: L::Kept, is_vain: bool) -> L::Closed
+fn close<L: Ledgers>(file: L::File, keeper: L::Kept, is_vain: bool) -> L::Closed
     requires { is_vain ≡ true → L.Kept.Keeper.clean keeper → L.Kept.Keeper.holds keeper [] }
     ensures { L.closed keeper result }
 {
     if is_vain {
-        ledgers.give_up(keeper)
+        L::give_up(file, keeper)
     } else {
-        ledgers.close(keeper)
+        L::close(file, keeper)
     }
 }
 
@@ -202,7 +222,15 @@ fn do_work<K: Keeper, R: Files + Eprint, D: Directories, W: Write + Drop>(
         Work::Report { name } => Ended::plain(report_to(alloc, receiver, name.as_str(), out)),
         Work::Audit { name } => Ended::plain(audit_to(alloc, receiver, name.as_str(), out)),
         Work::Fetch { name, folder } => {
-            fetch_from_folder(rt, alloc, receiver, name.as_str(), folder.as_str(), out)
+            fetch_from_folder(
+                rt,
+                progress,
+                alloc,
+                receiver,
+                name.as_str(),
+                folder.as_str(),
+                out,
+            )
         }
         Work::Export { name, folder } => {
             export_into_folder(
@@ -237,7 +265,8 @@ impl Display for UnopenedLine<'_> {
                 let name = TextSpelling(name.as_str());
                 write!(f, "bag: damaged {name} {}", TextSpelling(path.as_str()))
             }
-            AdoptFault::Keep(why) => f.write_str(Stop::from(*why).text()),
+            AdoptFault::Memory => f.write_str(Stop::Memory.text()),
+            AdoptFault::Store(_) => f.write_str(Stop::Store.text()),
         }
     }
 }

@@ -5,7 +5,7 @@ ghost use Rattle.bag_cmd.specs.Making.{MakesFolder, MakesInto, PrintsMake, make_
 
 use super::stop_unopened;
 use crate::ended::{Ended, Why};
-use crate::excess::{Excess, Limit};
+use crate::excess::Limit;
 use crate::meter::{Activity, Meter};
 use crate::progress::Progress;
 use crate::watched::Watched;
@@ -50,7 +50,7 @@ pub fn make_folder<R: Files + Eprint, D: Directories, W: Write + Drop>(
     match FolderTree::open_payload(rt, disk, alloc, making.source) {
         Ok(tree) => {
             let meter = Meter::new(progress, Activity::Copying);
-            meter.expect(tree.count());
+            meter.expect_files(tree.count());
             let mut tree = Watched::new(tree, &meter);
             let Made { ended, large } = make_into(alloc, making, &mut tree, made, out);
             ended.or(why_unmade(tree.into_inside(), large))
@@ -104,10 +104,7 @@ fn why_unmade<R: Files + Drop>(tree: FolderTree<R>, large: Option<Large>) -> Opt
     ensures { result ≡ why_unmade tree large }
 {
     match large {
-        Some(large) => Some(Why::Exceeds(Excess {
-            name: tree.into_folder(),
-            limit: limit_of(large),
-        })),
+        Some(large) => Why::of_excess(tree.into_folder(), limit_of(large)),
         None => Why::of_failures(tree.failures(), tree.into_trouble()),
     }
 }

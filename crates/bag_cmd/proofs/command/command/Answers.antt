@@ -11,8 +11,8 @@ returns-then-is_empty g c =
 pub returns-in-Some : goal.returns-in-Some
 returns-in-Some g c = Named c.in-Some.request c.in-Some.ensures.request c.run_request.ensures
 
-pub returns : goal.returns
-returns g c =
+pub returns-in-None : goal.returns-in-None
+returns-in-None g c =
     let some : map string_bytes c.args.words.items ≢ [] =
     λ none. let empty : length c.args.words.items ≡ 0 = none_named string_bytes c.args.words.items none in search rules in
     rw c.plain-in-None.ensures (NoCommand some c.in-None.ensures.none refl c.refuse.ensures refl)

@@ -3,5 +3,5 @@ use Rattle.bag_cmd.proofs.laws.a_ledger_goes_on_after_a_close.Goals as goal
 
 pub returns : goal.returns
 returns g c ledger stored adopted clean =
-    let kept = (adopted clean).1.keeps ledger stored in
+    let kept = (adopted.adopts clean).keeps ledger stored in
     record { held = kept.holds; left = λ crashed may. inl (kept.alone crashed may) }

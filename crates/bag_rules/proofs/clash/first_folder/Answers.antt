@@ -1,4 +1,4 @@
-use Rattle.std.proofs.Common.{◌<◌, ◌∙◌, List, ℕ, [], arith, below_more, get_or, length, subst, sym}
+use Rattle.std.proofs.Common.{◌∙◌, List, ℕ, [], arith, below_more, get_or, subst, sym}
 use Rattle.std.proofs.lemmas.List.{get_or_default}
 use Rattle.bag_rules.specs.Opening.{HasInside, IsFirstPath, IsFolderAmong}
 use Rattle.bag_rules.proofs.ClashLemmas.{AreInOrder, no_folder, first_is}

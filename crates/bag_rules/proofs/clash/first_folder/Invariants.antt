@@ -1,4 +1,4 @@
-use Rattle.std.proofs.Common.{ℕ, ◌<◌, get_or, List, []}
+use Rattle.std.proofs.Common.{ℕ, ◌<◌, get_or, []}
 use Rattle.bag_rules.specs.Opening.{HasInside}
 use Rattle.bag_rules.proofs.clash.first_folder.Given as goal
 

@@ -1,10 +1,9 @@
-use Rattle.std.proofs.Common.{◌≡◌, ◌∙◌, ◌≤◌, ◌++◌, ◌∷◌, [], ap, length, map, not, refl, rules, string_bytes, subst}
+use Rattle.std.proofs.Common.{◌≡◌, ◌∙◌, ◌≤◌, ◌++◌, ◌∷◌, [], ap, length, map, refl, rules, string_bytes, subst, sym}
 use Rattle.std.proofs.lemmas.List.{take_all}
 use Rattle.std.proofs.lemmas.Result.{err_from_is_err_and}
 use Rattle.bag_cmd.specs.Endings.{first_name, name_if_crowded, name_if_empty}
 use Rattle.bag_cmd.specs.Working.{AreOpened}
-use Rattle.bag_cmd.proofs.WorkLemmas.{contained, couriers_more, named_before, named_now, one_refused, opened_more}
-use Rattle.bag_cmd.proofs.commands.intake.open_all.Goals.{then-is_none+in_ok-crowded, else-is_none, then-is_none-2+in_ok-empty, else-is_none-2}
+use Rattle.bag_cmd.proofs.WorkLemmas.{contained, couriers_more, crowded_so, empty_so, one_refused, opened_more}
 use Rattle.bag_cmd.proofs.commands.intake.open_all.Goals as goal
 
 pub loop-folder-init : goal.loop-folder-init
@@ -21,14 +20,11 @@ loop-folder-preserved g c =
     let before = c.loop-folder.invariant in
     let trees = before.0 in
     let tree = c.in_ok-tree.tree in
-    let crowded : c.if-is_none.crowded ≡ first_name name_if_crowded (trees ++ tree ∷ []) = elim c.if-is_none.branch [
-      | then-is_none+in_ok-crowded w ↦ w.crowded-is ∙ w.in_ok-crowded.ensures ∙ named_now name_if_crowded c.loop-folder.crowded trees tree (c.is_none.ensures ∙ ap not w.if-is_none.true) before.3
-      | else-is_none w ↦ w.crowded-is ∙ named_before name_if_crowded c.loop-folder.crowded trees tree (c.is_none.ensures ∙ ap not w.if-is_none.false) before.3
-    ] in
-    let empty : c.if-is_none-2.empty ≡ first_name name_if_empty (trees ++ tree ∷ []) = elim c.if-is_none-2.branch [
-      | then-is_none-2+in_ok-empty w ↦ w.empty-is ∙ w.in_ok-empty.ensures ∙ named_now name_if_empty c.loop-folder.empty trees tree (c.is_none-in-loop-folder.ensures ∙ ap not w.if-is_none-2.true) before.4
-      | else-is_none-2 w ↦ w.empty-is ∙ named_before name_if_empty c.loop-folder.empty trees tree (c.is_none-in-loop-folder.ensures ∙ ap not w.if-is_none-2.false) before.4
-    ] in (
+    let named = c.in_ok-tree.ensures.opened.named in
+    let crowded : c.in_ok-crowded.crowded ≡ first_name name_if_crowded (trees ++ tree ∷ []) =
+    c.in_ok-crowded.ensures ∙ crowded_so c.loop-folder.crowded trees tree c.as_str-in-loop-folder.result.now (c.as_str-in-loop-folder.ensures.value ∙ sym c.as_str.ensures.value ∙ sym named) c.payload_count-count.result c.payload_count-count.ensures.count before.3 in
+    let empty : c.in_ok-empty.empty ≡ first_name name_if_empty (trees ++ tree ∷ []) =
+    c.in_ok-empty.ensures ∙ empty_so c.loop-folder.empty trees tree c.as_str-in-loop-folder-2.result.now (c.as_str-in-loop-folder-2.ensures.value ∙ sym c.as_str.ensures.value ∙ sym named) c.has_payload.result c.has_payload.ensures before.4 in (
       _,
       opened_more string_bytes (g.D.Directories.listing c.args.disk.now) c.args.folders.now c.loop-folder.folder-index c.folder-item.result c.as_str.result.now trees c.in_ok-tree.tree c.loop-folder-test.true c.folder-item.is c.as_str.ensures.value c.loop-folder.invariant.1 c.in_ok-tree.ensures.opened,
       c.in_ok-push.ensures.items ∙ ap (λ one. c.loop-folder.couriers.items ++ one ∷ []) (c.new-in-loop-folder.ensures ∙ c.new.ensures) ∙ couriers_more c.loop-folder.couriers.items trees c.in_ok-tree.tree c.loop-folder.invariant.2,

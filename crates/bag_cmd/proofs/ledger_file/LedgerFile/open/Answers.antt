@@ -1,25 +1,35 @@
-use Rattle.std.proofs.Common.{◌≡◌, ◌∙◌, false, sym, true}
+use Rattle.std.proofs.Common.{◌≡◌, ◌∙◌, ap, false, refl, subst, sym, true}
 use Rattle.std.proofs.lemmas.Result.{err_from_is_err_and}
-use Rattle.bag_cmd.specs.LedgerFiles.{NoFile}
-use Rattle.bag_cmd.proofs.FileLemmas.{adopted, known_less}
+use Rattle.sqlite_wal.specs.Files.{image_at}
+use Rattle.bag_cmd.specs.LedgerFiles.{IsAsItWas, NoFile}
+use Rattle.bag_cmd.specs.declared.found.Seen.{Seen}
+use Rattle.bag_cmd.proofs.FileLemmas.{adopted, known_less, unused}
 use Rattle.bag_cmd.proofs.ledger_file.LedgerFile.open.Goals as goal
-
-pub returns-in_err-connection-clause-opened : goal.returns-in_err-connection-clause-opened
-returns-in_err-connection-clause-opened g c =
-    let error = err_from_is_err_and c.from_residual-in_err-connection.result c.from_residual-in_err-connection.ensures.1 in
-    rw (error.1, error.2) (known_less _ _ _ _ _ (λ seen none. absurd none) c.in_err-connection.ensures.connected)
-
-pub returns-clause-opened : goal.returns-clause-opened
-returns-clause-opened g c = adopted _ _ _ _ c.adopt.result (c.adopt.ensures c.in_ok-connection.ensures.connected)
 
 pub returns-then-not-has_file-clause-opened : goal.returns-then-not-has_file-clause-opened
 returns-then-not-has_file-clause-opened g c =
-    NoFile c.args.self.now.seen c.saw.ensures.left (λ file. absurd (let e : true ≡ false = sym (c.has_file.ensures.1 file) ∙ c.if-not-has_file.true in cc)) c.saw.ensures.fault.0 c.saw.ensures.fault.1
+    let saw = c.saw.ensures in
+    NoFile c.args.self.seen saw.left.1 (refl, λ file. absurd (let e : true ≡ false = sym (c.has_file.ensures.1 file) ∙ c.if-not-has_file.true in cc)) saw.fault.0 saw.fault.1
+    (subst (IsAsItWas _ (image_at g.S.Start)) (sym saw.left.0) tt)
+
+pub returns-in_err-file-clause-opened : goal.returns-in_err-file-clause-opened
+returns-in_err-file-clause-opened g c =
+    let error = err_from_is_err_and c.from_residual.result c.from_residual.ensures.1 in
+    rw (error.1, error.2) (known_less _ _ _ _ _ (λ seen none. absurd none) c.in_err-file.ensures.locked)
 
 pub returns-then-not-has_file-2-clause-opened : goal.returns-then-not-has_file-2-clause-opened
 returns-then-not-has_file-2-clause-opened g c =
     let saw = c.saw-then-not-has_file-2.ensures in
-    NoFile _ saw.left (λ file. absurd (let e : true ≡ false = sym (c.has_file-2.ensures.1 file) ∙ c.if-not-has_file-2.true in cc)) saw.fault.0 saw.fault.1
+    let seen : c.leave_log-seen.result ≡ c.seen.result.now = c.leave_log-seen.ensures ∙ sym c.seen.ensures in
+    NoFile c.leave_log-seen.result saw.left.1 (
+      ap (λ (it : Seen). it.name) c.leave_log-seen.ensures ∙ c.in_ok-file.ensures.same,
+      λ file. absurd (let e : true ≡ false = sym (c.has_file-2.ensures.1 (rw seen at file)) ∙ c.if-not-has_file-2.true in cc),
+    ) saw.fault.0 saw.fault.1 (unused _ (image_at g.S.Start) c.in_ok-file.files _ saw.left.0 c.in_ok-file.ensures.locked)
 
-pub returns-clause-none : goal.returns-clause-none
-returns-clause-none g c other = absurd (other (c.has_file.ensures.0 c.if-not-has_file.false))
+pub returns-in_err-file-2-clause-opened : goal.returns-in_err-file-2-clause-opened
+returns-in_err-file-2-clause-opened g c =
+    let error = err_from_is_err_and c.from_residual-in_err-file-2.result c.from_residual-in_err-file-2.ensures.1 in
+    rw (error.1, error.2) (known_less _ _ _ _ _ (λ seen none. absurd none) c.in_err-file-2.ensures.connected)
+
+pub returns-clause-opened : goal.returns-clause-opened
+returns-clause-opened g c = adopted _ _ _ (λ _. ⊥) _ (λ seen none. absurd none) c.adopt.result c.adopt.ensures.opened

@@ -1,9 +1,21 @@
-use Rattle.std.proofs.Common.{◌≡◌, true, false, subst, inl, inr, rules}
+use Rattle.std.proofs.Common.{◌≡◌, true, false, ap, subst, inl, inr, rules}
 use Rattle.bag_receiver.proofs.CountLemmas.{counts_after, counts_on, counts_put, no_fault}
-use Rattle.bag_receiver.proofs.PlaceLemmas.{known_refused, repeated}
+use Rattle.bag_receiver.proofs.PlaceLemmas.{known_refused, no_plan_judged, repeated}
 use Rattle.bag_receiver.proofs.ReceiverLemmas.{does_then, found_step, found_then, known_refused_by, known_taken, refused_step}
-use Rattle.bag_receiver.proofs.Words.{err_from_is_err_and, IsPlaceIn, IsWanted, Whole}
+use Rattle.bag_receiver.proofs.Words.{err_from_is_err_and, IsPlaceIn, IsWanted, Refused, Whole}
 use Rattle.bag_receiver.proofs.receiver.Receiver.take.Goals as goal
+
+pub returns-in_err-find_plan-clause-taken : goal.returns-in_err-find_plan-clause-taken
+returns-in_err-find_plan-clause-taken g c =
+    let error = err_from_is_err_and c.from_residual.result c.from_residual.ensures.1 in
+    rw (error.1, error.2) (refused_step g.K.Keeper.holds g.K.Keeper.may_leave g.K.Keeper.clean _ _ c.args.name.now c.args.path.now (Whole c.args.content.now) _
+    (c.find_plan.ensures.looks, c.in_err-find_plan.ensures.finds c.args.path.now))
+
+pub returns-in_err-find_plan-clause-judged : goal.returns-in_err-find_plan-clause-judged
+returns-in_err-find_plan-clause-judged g c =
+    let error = err_from_is_err_and c.from_residual.result c.from_residual.ensures.1 in
+    let why = c.in_err-find_plan.ensures.named in
+    rw (error.1, error.2) (record { unnamed = λ other. ap Refused (why.1 other); judges = no_plan_judged _ (Whole c.args.content.now) _ why.0 })
 
 pub returns-in_err-find_plan-clause-store : goal.returns-in_err-find_plan-clause-store
 returns-in_err-find_plan-clause-store g c =
@@ -16,6 +28,11 @@ returns-in_err-place-clause-taken g c =
     rw (error.1, error.2) (refused_step g.K.Keeper.holds g.K.Keeper.may_leave g.K.Keeper.clean _ _ c.args.name.now c.args.path.now (Whole c.args.content.now) _
     (found_then g.K.Keeper.holds g.K.Keeper.may_leave g.K.Keeper.clean c.args.self.now c.find_plan.new.self _ _ _ (c.find_plan.ensures.looks, c.in_ok-find_plan.ensures.finds c.args.path.now) c.place_of.ensures.looks
     (λ clean now in_state planned. c.in_err-place.ensures.finds (λ ledger. planned) clean now in_state)))
+
+pub returns-in_err-place-clause-judged : goal.returns-in_err-place-clause-judged
+returns-in_err-place-clause-judged g c =
+    let error = err_from_is_err_and c.from_residual-in_err-place.result c.from_residual-in_err-place.ensures.1 in
+    rw (error.1, error.2) (record { unnamed = λ other. absurd (other c.in_ok-find_plan.ensures.named); judges = c.in_err-place.ensures.judged (Whole c.args.content.now) })
 
 pub returns-in_err-place-clause-store : goal.returns-in_err-place-clause-store
 returns-in_err-place-clause-store g c =

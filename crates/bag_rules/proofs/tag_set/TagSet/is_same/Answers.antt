@@ -1,4 +1,4 @@
-use Rattle.std.proofs.Common.{ap, sym, ◌∙◌}
+use Rattle.std.proofs.Common.{sym, ◌∙◌}
 use Rattle.bag_rules.proofs.SameFiles.{same_files}
 use Rattle.bag_rules.proofs.tag_set.TagSet.is_same.Goals as goal
 

@@ -1,8 +1,13 @@
 use Rattle.std.proofs.Common.{IsTrue}
-use Rattle.bag_sqlite.proofs.Words.{Health}
+use Rattle.bag_sqlite.proofs.Words.{err_from_is_err_and, Health}
 use Rattle.bag_sqlite.proofs.KeepingLemmas.{answered}
 use Rattle.bag_sqlite.proofs.SqlLemmas.{uses_as}
 use Rattle.bag_sqlite.proofs.keeper.SqlKeeperKeeper.begin.Goals as goal
+
+pub returns-in_err-test-clause-store : goal.returns-in_err-test-clause-store
+returns-in_err-test-clause-store g c =
+    let error = err_from_is_err_and c.from_residual.result c.from_residual.ensures.1 in
+    rw (error.1, error.2) (uses_as (λ keeper. keeper.health) (λ (health : Health). health.failures) (λ health. IsTrue health.is_spent) c.args.self.now _ _ _ (λ fault e. e) (λ fault e. e) c.in_err-test.ensures.store)
 
 pub returns-clause-begun : goal.returns-clause-begun
 returns-clause-begun g c =

@@ -1,0 +1,79 @@
+//! The file of a ledger in which none is opened: what is emptied and removed.
+ghost use Rattle.std.specs.Prelude.{◌≡◌, false, true};
+
+use crate::found::{Found, Seen};
+use std::fs::{self, File};
+use std::io;
+
+/// The file of a ledger and its log, which are locked, and in which no ledger is opened anymore.
+#[derive(Drop)]
+pub struct Abandoned<'a> {
+    rt: &'a HostRuntime,
+    // what was seen since both are locked
+    seen: Seen,
+    // whether this run made the file, and no other one wrote to it before it was locked
+    is_new: bool,
+    // the file apart from a connection
+    file: File,
+}
+
+impl<'a> Abandoned<'a> {
+    /// No ledger is opened in this file.
+    pub fn new(rt: &'a HostRuntime, seen: Seen, is_new: bool, file: File) -> Abandoned<'a>
+        ensures { (result.seen ≡ seen) × (result.is_new ≡ is_new) }
+    {
+        Abandoned {
+            rt,
+            seen,
+            is_new,
+            file,
+        }
+    }
+
+    /// Removes the log, unless anything was found in it. Returns what was seen.
+    pub fn leave_log(self) -> Seen
+        ensures { result ≡ self.entry.seen }
+    {
+        if !self.seen.had_log() {
+            self.remove_new_log();
+        }
+        self.seen
+    }
+
+    /// Removes the log, and the file if this run made it; empties the file again if it was empty. All of it stays if
+    /// anything was found in the log, which may hold a ledger.
+    pub fn remove_made(self) {
+        if self.seen.had_log() {
+            return;
+        }
+        // Without the log, part of a first page would be taken for no database.
+        if self.seen.found() == Found::Empty && self.empty().is_err() {
+            return;
+        }
+        self.remove_new_log();
+        if self.is_new {
+            self.remove_new_file();
+        }
+    }
+
+    /// Empties the file, which was empty when it was locked.
+    fn empty(&self) -> io::Result<()>
+        requires { self.now.seen.found ≡ Found.Empty }
+    {
+        self.file.set_len(0)
+    }
+
+    /// Removes a log in which nothing was found when the file was locked.
+    fn remove_new_log(&self)
+        requires { self.now.seen.had_log ≡ false }
+    {
+        let _ = fs::remove_file(self.rt, self.seen.log());
+    }
+
+    /// Removes the file that this run made, and to which no other one has written.
+    fn remove_new_file(&self)
+        requires { self.now.is_new ≡ true }
+    {
+        let _ = fs::remove_file(self.rt, self.seen.name());
+    }
+}
