@@ -191,6 +191,16 @@ if strace -o "$work/calls" true 2>"$work/no strace"; then
         expect "a read that fails, $number: what is held" 1 $'manifest-sha256.txt: missing: data/a.txt\nnot complete' \
             "$program" audit "$work/once/ledger" t1
     done
+    # A long ledger is not held in memory, but read again while it is verified.
+    mkdir -p "$work/long/data"
+    head -c 8M /dev/urandom >"$work/long/data/f"
+    cp examples/first-bag/bagit.txt "$work/long"
+    (cd "$work/long" && md5sum data/f >manifest-md5.txt)
+    expect 'a long ledger' 0 new "$program" begin "$work/long ledger" t1 "$work/long"
+    expect 'a long ledger: intake' 0 'taken data/f' "$program" intake "$work/long ledger" t1 "$work/long"
+    reads=$(calls pread64 "$program" list "$work/long ledger")
+    explain 'a ledger that cannot be read while it is verified' 3 "bag: $work/long ledger: disk I/O error" \
+        injects "inject=pread64:error=EIO:when=$((reads - 100))" "$program" list "$work/long ledger"
     for error in ENOSPC EPIPE EIO EDQUOT; do
         expect "writes that fail with $error" 3 '' \
             injects "inject=write:error=$error" "$program" check examples/whole-format

@@ -5,6 +5,7 @@ Each command is run with standard error on a terminal, and once more without one
 how each line of progress reads, and what is left when the command has ended. Sizes and numbers are those of the files that were made.
 """
 import hashlib
+import itertools
 import os
 import pathlib
 import pty
@@ -20,7 +21,8 @@ import tty
 DECLARATION = b"BagIt-Version: 1.0\nTag-File-Character-Encoding: UTF-8\n"
 MEBIBYTE = 1 << 20
 UNITS = {"KiB": 1 << 10, "MiB": 1 << 20, "GiB": 1 << 30}
-LINE = re.compile(r"bag: ([a-z ]+) ([0-9,]+)(?: of ([0-9,]+))? files, ([0-9.]+) (KiB|MiB|GiB)")
+LINE = re.compile(
+    r"bag: ([a-z]+(?: in| the ledger,)?) ([0-9,]+)(?: of ([0-9,]+))? files, ([0-9.]+) (KiB|MiB|GiB)(?: of ([0-9.]+ [KMG]iB))?")
 # A line is shown after so many octets, and a file counts as so many besides its own.
 PER_LINE = 64 * MEBIBYTE
 PER_FILE = 64 << 10
@@ -60,6 +62,14 @@ def screen(text):
     while rows and not rows[-1].strip():
         rows.pop()
     return rows
+
+
+class Work:
+    """Work of which lines tell: how it is called, how many files are expected, if that is told; the octets read before the first file that
+    counts, and the lengths of the files that count, in order; and how many octets are expected, if that is told."""
+
+    def __init__(self, told, files, lengths, before=0, octets=None):
+        self.told, self.files, self.lengths, self.before, self.octets = told, files, lengths, before, octets
 
 
 class Place:
@@ -128,26 +138,35 @@ def number(text):
     return int(text.replace(",", ""))
 
 
-def follow(ended, work, expected, before, lengths):
-    """Checks the lines of this work: how many files are expected, if that is told; the octets read before the first file that counts,
-    and the lengths of the files that count, in order. A line can be written at the start of a file or while it is read."""
-    ends = [before]
-    for length in lengths:
+def size(octets):
+    """This many octets as a line tells them."""
+    unit = next(unit for unit in ("GiB", "MiB", "KiB") if octets >= UNITS[unit] or unit == "KiB")
+    return f"{octets // UNITS[unit]} KiB" if unit == "KiB" else f"{octets * 10 // UNITS[unit] / 10} {unit}"
+
+
+def follow(lines, work):
+    """Checks the lines of this work. A line can be written at the start of a file or while it is read, and once more before all files
+    if the octets that are expected are enough for one."""
+    ends = [work.before]
+    for length in work.lengths:
         ends.append(ends[-1] + length)
     counted, last = [], 0
-    for line in ended.lines():
-        told, files, of, size, unit = LINE.fullmatch(line).groups()
+    for line in lines:
+        told, files, of, shown, unit, total = LINE.fullmatch(line).groups()
         files = number(files)
-        assert told == work and (of and number(of)) == expected, line
-        assert (unit == "KiB") == ("." not in size) and float(size) < 1024, line
-        octets, rounded = float(size) * UNITS[unit], UNITS[unit] / (1 if unit == "KiB" else 10)
-        assert ends[files - 1] - rounded < octets <= ends[files], (line, ends[files - 1], ends[files])
+        assert told == work.told and (of and number(of)) == work.files, line
+        assert total == (None if work.octets is None else size(work.octets)), line
+        assert (unit == "KiB") == ("." not in shown) and float(shown) < 1024, line
+        octets, rounded = float(shown) * UNITS[unit], UNITS[unit] / (1 if unit == "KiB" else 10)
+        assert ends[max(files - 1, 0)] - rounded < octets <= ends[files], (line, ends[files - 1], ends[files])
         weight = files * PER_FILE + octets
-        assert weight >= last and files <= len(lengths), line
+        assert weight >= last and files <= len(work.lengths), line
         last = weight
         counted.append(weight)
+    if (work.octets or 0) >= PER_LINE:
+        assert counted.pop(0) == 0, lines
     # None is missing, and none comes too soon. Reads are of at most 1 MiB.
-    whole = len(lengths) * PER_FILE + ends[-1]
+    whole = len(work.lengths) * PER_FILE + ends[-1]
     for earlier, later in zip([0, *counted], [*counted, whole]):
         assert later - earlier < PER_LINE + 2 * MEBIBYTE, (earlier, later)
     for earlier, later in zip(counted, counted[1:]):
@@ -155,8 +174,9 @@ def follow(ended, work, expected, before, lengths):
     assert len(counted) >= 2, counted
 
 
-def both(place, work, expected, before, lengths, *words, again=lambda: None, status=0):
-    """Runs the command without a terminal and with one. Both answer the same, and the line is gone at the end."""
+def both(place, works, *words, again=lambda: None, status=0):
+    """Runs the command without a terminal and with one. Both answer the same, lines tell of these works in turn, and the line is gone at
+    the end."""
     quiet = place.run(*words)
     again()
     watched = place.watch(*words)
@@ -169,7 +189,10 @@ def both(place, work, expected, before, lengths, *words, again=lambda: None, sta
     assert (stopped.status, stopped.printed) == (status, quiet.printed), (words, stopped.status)
     assert together.status == status and together.screen() == quiet.printed.decode().splitlines(), (words, together.screen())
     assert watched.screen() == [], watched.screen()
-    follow(watched, work, expected, before, lengths)
+    told = [(name, list(lines)) for name, lines in itertools.groupby(watched.lines(), lambda line: LINE.fullmatch(line).group(1))]
+    assert [name for name, _ in told] == [work.told for work in works], (words, watched.lines())
+    for (_, lines), work in zip(told, works):
+        follow(lines, work)
 
 
 def many_files(place):
@@ -178,25 +201,37 @@ def many_files(place):
     paths = [f"data/{number:04}" for number in range(FILES)]
     tags = bag(base, {path: os.urandom(LENGTH) for path in paths})
     lengths = [LENGTH] * FILES
-    both(place, "checking", FILES + 2, 0, [len(DECLARATION), tags - len(DECLARATION), *lengths], "check", str(base))
+    tag_files = [len(DECLARATION), tags - len(DECLARATION)]
+    both(place, [Work("checking", FILES + 2, [*tag_files, *lengths])], "check", str(base))
     remove = lambda: shutil.rmtree(made)
-    both(place, "copying", FILES, 0, lengths, "make", str(base / "data"), str(made), "md5", again=remove)
+    both(place, [Work("copying", FILES, lengths)], "make", str(base / "data"), str(made), "md5", again=remove)
     remove()
 
-    def anew():
+    def anew(folder=base):
         ledger.unlink(missing_ok=True)
-        assert place.run("begin", str(ledger), "t", str(base)).printed == b"new\n"
+        assert place.run("begin", str(ledger), "t", str(folder)).printed == b"new\n"
 
+    # From another folder, whose fetch.txt lists the files in falling order.
+    listed = place.work / "listed"
+    bag(listed, {})
+    shutil.copy(base / "manifest-sha256.txt", listed)
+    (listed / "fetch.txt").write_text("".join(f"http://example.org/{path} {LENGTH} {path}\n" for path in reversed(paths)))
+    fetch = lambda: anew(listed)
+    fetch()
+    both(place, [Work("fetching", None, lengths)], "fetch", str(ledger), "t", str(base), again=fetch)
     anew()
-    both(place, "taking in", FILES, 0, lengths, "intake", str(ledger), "t", str(base), again=anew)
+    both(place, [Work("taking in", FILES, lengths)], "intake", str(ledger), "t", str(base), again=anew)
     # The same from two folders.
     anew()
     halves = [place.work / "half 1", place.work / "half 2"]
     for half, folder in zip((paths[:FILES // 2], paths[FILES // 2:]), halves):
         bag(folder, {path: (base / path).read_bytes() for path in half})
-    both(place, "taking in", FILES, 0, lengths, "intake", str(ledger), "t", *map(str, halves), again=anew)
-    manifest = tags - len(DECLARATION)
-    both(place, "exporting", None, 0, [len(DECLARATION), manifest, *lengths], "export", str(ledger), "t", str(made), again=remove)
+    both(place, [Work("taking in", FILES, lengths)], "intake", str(ledger), "t", *map(str, halves), again=anew)
+    reading = Work("reading the ledger,", None, lengths, octets=ledger.stat().st_size)
+    both(place, [reading], "list", str(ledger))
+    both(place, [reading], "report", str(ledger), "t")
+    both(place, [reading, Work("auditing", None, lengths, octets=sum(lengths))], "audit", str(ledger), "t")
+    both(place, [reading, Work("exporting", None, [*tag_files, *lengths])], "export", str(ledger), "t", str(made), again=remove)
     remove()
 
 
@@ -205,14 +240,12 @@ def one_file(place):
     base, ledger = place.work / "one", place.work / "large ledger"
     content = bytes(200 * MEBIBYTE)
     tags = bag(base, {"data/f": content})
-    both(place, "checking", 3, 0, [len(DECLARATION), tags - len(DECLARATION), len(content)], "check", str(base))
+    both(place, [Work("checking", 3, [len(DECLARATION), tags - len(DECLARATION), len(content)])], "check", str(base))
     assert place.run("begin", str(ledger), "t", str(base)).printed == b"new\n"
     assert place.run("intake", str(ledger), "t", str(base)).printed == b"taken data/f\n"
-    size = f"{ledger.stat().st_size * 10 // MEBIBYTE / 10} MiB"
-    for words in ["list", str(ledger)], ["report", str(ledger), "t"]:
-        quiet, watched = place.run(*words), place.watch(*words)
-        assert (watched.status, watched.printed) == (quiet.status, quiet.printed) and quiet.status == 0
-        assert watched.lines() == [f"bag: reading the ledger, {size}"] and watched.screen() == [], watched.said
+    reading = Work("reading the ledger,", None, [len(content)], octets=ledger.stat().st_size)
+    both(place, [reading], "report", str(ledger), "t")
+    both(place, [reading, Work("auditing", None, [len(content)], octets=len(content))], "audit", str(ledger), "t")
 
 
 def short_work(place):

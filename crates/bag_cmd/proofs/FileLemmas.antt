@@ -1,23 +1,22 @@
 -- From what the files hold to what a keeper holds, and back.
-use Rattle.std.proofs.Common.{◌≡◌, ◌≢◌, ◌⊎◌, ◌∙◌, ◌∷◌, Err, IsTrue, MatchResult, None, Ok, Result, ap, false, inl, inr, refl, subst, sym, true}
+use Rattle.std.proofs.Common.{◌≡◌, ◌≢◌, ◌⊎◌, ◌∙◌, ◌∷◌, Err, IsTrue, MatchResult, None, Ok, Result, ap, false, inl, inr, refl, subst, sym, true, arith, length}
 use Rattle.std.proofs.Math.Logic.{∥∥₁_elim, ∥∥₁_map}
 use Rattle.bag_ledger.specs.Ledgers.{Ledger}
-use Rattle.bag_ledger.specs.declared.fault.KeepFault.TheVariants.{Memory, Store}
-use Rattle.bag_ledger.specs.declared.fault.StoreFault.TheVariants.{Refused}
 use Rattle.bag_receiver.specs.Receivers.{IsKept}
 use Rattle.bag_receiver.specs.Receiving.{LedgerState}
 use Rattle.bag_rules.specs.Faults.{Has}
-use Rattle.bag_sqlite.specs.Databases.{IsLedgerDatabase}
+use Rattle.bag_sqlite.specs.Databases.{IsDatabaseOf, IsLedgerDatabase}
 use Rattle.bag_sqlite.specs.Refusing.{IsNoAnswer, adopt_fault}
 use Rattle.bag_sqlite.specs.SqlKeepers.{HoldsLedger, IsOpenedOn, MayLeaveLedger}
-use Rattle.bag_sqlite.specs.Tables.{ledger_schema}
+use Rattle.bag_sqlite.specs.Tables.{First, Layout, Migrated, New, no_schema, schema_of, Second}
 use Rattle.bag_sqlite.specs.declared.adopting.AdoptFault.{AdoptFault}
-use Rattle.bag_sqlite.specs.declared.adopting.AdoptFault.TheVariants.{Keep}
+use Rattle.bag_sqlite.specs.declared.adopting.AdoptFault.TheVariants.{Memory}
 use Rattle.sqlite.proofs.Theorems.{opens_again}
 use Rattle.sqlite.specs.Closing.{HoldsAlone, IsCopied}
 use Rattle.sqlite.specs.Effect.{Database}
 use Rattle.sqlite.specs.Files.{FailsToOpenFiles, HoldsDatabase, IsCleanLeft, file_state, image_of}
 use Rattle.sqlite.specs.Held.{Held}
+use Rattle.sqlite.specs.Schema.{Schema}
 use Rattle.sqlite.specs.Start.{FindsIn}
 use Rattle.sqlite.specs.Opening.{is_open_error}
 use Rattle.sqlite.specs.State.{HasCleanDisk, IsLive, Opens, State, store_error}
@@ -48,13 +47,20 @@ opened_on image s ledger found opens held =
     let same : s.committed.trees ≡ held.0 = ∥∥₁_elim held.1 (Trees-set _ _) (found.holds held.0) in
     record { opens = opens.0; live = opens.1; database = subst (λ (t : Trees). IsLedgerDatabase t ledger) (sym same) held.2 }
 
+-- the database of a ledger has tables
+pub has_tables : (l : Layout) → schema_of l ≢ no_schema
+has_tables First none = absurd (let four : 4 ≡ 0 = ap (λ (schema : Schema). length schema.tables) none in omega (arith, four))
+has_tables (Second New) none = absurd (let five : 5 ≡ 0 = ap (λ (schema : Schema). length schema.tables) none in omega (arith, five))
+has_tables (Second Migrated) none = absurd (let six : 6 ≡ 0 = ap (λ (schema : Schema). length schema.tables) none in omega (arith, six))
+
 module _ {D : Type 0} {g : Ghosts D} (kept : Held (FileStore D g)) where
   -- what a close left
   pub left_alone : (files : Files D) (ledger : Ledger) (image : Image) → IsCopied kept files → HoldsLedger (file_state kept) ledger → (image ≡ image_of g files) ⊎ outcomes g files.log files.db image
       → HoldsLedgerAlone image ledger
   left_alone files ledger image copied holds is =
-      let shows = holds.shows copied.was_open in
-      let database = subst (λ (d : Database). IsLedgerDatabase d.trees ledger) (sym shows.committed) shows.database in
+      let (o, shows) = holds.shows copied.was_open in
+      let stored = subst (λ (d : Database). IsDatabaseOf (Second o) d.trees ledger) (sym shows.committed) shows.database in
+      let database : IsLedgerDatabase (file_state kept).committed.trees ledger = (Second o, stored) in
       let there : HoldsAlone image (file_state kept).committed.trees = elim is [ inl same ↦ subst (λ i. HoldsAlone i (file_state kept).committed.trees) (sym same) copied.seen | inr may ↦ copied.left image may ] in
       record { both = (_, there.both, database); alone = (_, there.alone, database) }
 
@@ -71,25 +77,25 @@ module _ {D : Type 0} {g : Ghosts D} (kept : Held (FileStore D g)) where
   -- what the disk may leave
   pub stop_of : (ledger : Ledger) → HoldsLedger (file_state kept) ledger → (image : Image) → IsNumbered kept → MayBeLeft kept image → ∥ IsStopOf kept image ∥₁
   stop_of ledger holds image numbered may =
-      ∥∥₁_map (opens_again kept.store numbered (λ db recovers. (ledger_schema, (holds.outcomes db recovers).1.listed)) image may)
+      ∥∥₁_map (opens_again kept.store numbered (λ db recovers. let it = holds.outcomes db recovers in (schema_of it.1.0, it.1.1.listed)) image may)
       (λ it. let r : IsStopOf kept image = (it.0, it.1, ∣ it.2 ∣₁) in r)
 
 -- NO CONNECTION
 
 -- an error of an opening says that there is no database, or it is memory or the store
 told_as : (error : Error) → IsTrue (is_open_error error) → (error ≡ SqliteFailure NotADatabase) ⊎ IsNoAnswer (adopt_fault error)
-told_as (SqliteFailure OutOfMemory) is = inr (Memory, refl)
+told_as (SqliteFailure OutOfMemory) is = inr tt
 told_as (SqliteFailure NotADatabase) is = inl refl
-told_as (SqliteFailure code) is = inr (Store Refused, refl)
-told_as (InvalidParameterCount given wanted) is = inr (Store Refused, refl)
-told_as ExecuteReturnedResults is = inr (Store Refused, refl)
-told_as InvalidQuery is = inr (Store Refused, refl)
-told_as MultipleStatement is = inr (Store Refused, refl)
-told_as QueryReturnedNoRows is = inr (Store Refused, refl)
+told_as (SqliteFailure code) is = inr tt
+told_as (InvalidParameterCount given wanted) is = inr tt
+told_as ExecuteReturnedResults is = inr tt
+told_as InvalidQuery is = inr tt
+told_as MultipleStatement is = inr tt
+told_as QueryReturnedNoRows is = inr tt
 told_as error is = absurd (let e : false ≡ true = is in cc)
 
 -- nothing is told of want of memory
-untold : (error : Error) → adopt_fault error ≡ Keep Memory → cause_of_error error ≡ None
+untold : (error : Error) → adopt_fault error ≡ Memory → cause_of_error error ≡ None
 untold (SqliteFailure OutOfMemory) is = refl
 untold (SqliteFailure NotADatabase) is = cc
 untold (SqliteFailure code) is = cc

@@ -1,6 +1,6 @@
 -- Ledgers in files: what is known of a keeper from what the files held when they were opened, and what is left in the
 -- files when it is closed or the program stops.
-use Rattle.std.specs.Prelude.{◌≡◌, ◌≢◌, ◌⊎◌, [], Bool, IsTrue, None, Some, false, true}
+use Rattle.std.specs.Prelude.{◌≡◌, ◌≢◌, ◌⊎◌, [], Bool, IsTrue, Some, false, true}
 use Rattle.bag_ledger.specs.Ledgers.{Ledger}
 use Rattle.bag_sqlite.specs.Adopting.{IsVerified}
 use Rattle.bag_sqlite.specs.Databases.{IsLedgerDatabase}

@@ -1,16 +1,15 @@
 -- Why a ledger wasn't opened: the cause that is told besides its fault.
 use Rattle.std.specs.Prelude.{◌≡◌, ℕ, List, None, Option, Some}
-use Rattle.bag_ledger.specs.declared.fault.KeepFault.TheVariants.{Memory, Store}
 use Rattle.bag_sqlite.specs.Refusing.{IsNoAnswer}
 use Rattle.bag_sqlite.specs.declared.adopting.AdoptFault.{AdoptFault}
-use Rattle.bag_sqlite.specs.declared.adopting.AdoptFault.TheVariants.{Damaged, Keep, NotALedger, OldFormat}
+use Rattle.bag_sqlite.specs.declared.adopting.AdoptFault.TheVariants.{Damaged, Memory, NotALedger, Store}
 use Rattle.sqlite.specs.declared.error.Error.{Error}
 use Rattle.sqlite.specs.declared.error.Error.TheVariants.{SqliteFailure}
 use Rattle.sqlite.specs.declared.error.ErrorCode.TheVariants.{NotADatabase, OutOfMemory}
 use Rattle.bag_cmd.specs.declared.found.Found.{Found}
 use Rattle.bag_cmd.specs.declared.found.Found.TheVariants as found
 use Rattle.bag_cmd.specs.declared.unopened.LedgerCause.{LedgerCause}
-use Rattle.bag_cmd.specs.declared.unopened.LedgerCause.TheVariants.{Database, Empty, Missing, NoDatabase, NoLedger, NotFile, Unreadable}
+use Rattle.bag_cmd.specs.declared.unopened.LedgerCause.TheVariants.{Database, Empty, Missing, NoDatabase, NoLedger, NotFile}
 use Rattle.bag_cmd.specs.declared.unopened.Unopened.{Unopened}
 
 -- a ledger by its name, and why it can't be used
@@ -31,15 +30,14 @@ cause_of_error (SqliteFailure OutOfMemory) = None
 cause_of_error (SqliteFailure NotADatabase) = Some NoDatabase
 cause_of_error error = Some (Database error)
 
--- why the database was refused; an old format and damage are told by the fault
+-- why the database was refused; damage is told by the fault
 abbrev pub cause_of_fault : AdoptFault → Option LedgerCause
 cause_of_fault NotALedger = Some NoLedger
-cause_of_fault OldFormat = None
 cause_of_fault (Damaged name path) = None
-cause_of_fault (Keep Memory) = None
-cause_of_fault (Keep (Store fault)) = Some Unreadable
+cause_of_fault Memory = None
+cause_of_fault (Store error) = Some (Database error)
 
 -- memory ran out, of which nothing is told, or the store failed
 pub record HasNoAnswer {L : Type 0} (it : Unopened L) : Type 0 where
   pub no_answer : IsNoAnswer it.fault
-  pub memory : it.fault ≡ Keep Memory → it.cause ≡ None
+  pub memory : it.fault ≡ Memory → it.cause ≡ None

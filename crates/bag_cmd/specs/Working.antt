@@ -1,5 +1,5 @@
 -- Work on a ledger: how it is opened, and what is done with it.
-use Rattle.std.specs.Prelude.{◌≡◌, ◌↔◌, ◌⊎◌, ◌∷◌, ◌++◌, [], ℕ, Bool, Contains, List, None, Option, Some, codes, false, is_some, map, string_bytes}
+use Rattle.std.specs.Prelude.{◌≡◌, ◌↔◌, ◌∷◌, ◌++◌, [], ℕ, Bool, Contains, List, None, Option, Some, codes, false, is_some, map, string_bytes}
 use Rattle.bag_ledger.specs.Ledgers.{Ledger, Transfer}
 use Rattle.bag_ledger.specs.declared.keeper.Keeper.{Ghosts}
 use Rattle.bag_path.specs.Spellings.{written_spelling}
@@ -12,7 +12,7 @@ use Rattle.bag_rules.specs.Transfers.{held_bag}
 use Rattle.bag_rules.specs.Trees.{UsesTree}
 use Rattle.bag_rules.specs.Validity.{IsValid}
 use Rattle.bag_sqlite.specs.declared.adopting.AdoptFault.{AdoptFault}
-use Rattle.bag_sqlite.specs.declared.adopting.AdoptFault.TheVariants.{Damaged, Keep, NotALedger, OldFormat}
+use Rattle.bag_sqlite.specs.declared.adopting.AdoptFault.TheVariants.{Damaged, Memory, NotALedger, Store}
 use Rattle.bag_commands.specs.declared.output.Output.{Output}
 use Rattle.bag_commands.specs.declared.status.TheConstants.{FAILED, VALID}
 use Rattle.bag_commands.specs.declared.stop.Stop.TheVariants as stop
@@ -26,7 +26,7 @@ use Rattle.bag_commands.specs.IntakeTexts.{Told, intake_lines, intake_status}
 use Rattle.bag_commands.specs.Listing.{IsListing}
 use Rattle.bag_commands.specs.ListTexts.{list_lines, list_status}
 use Rattle.bag_commands.specs.Printing.{Printed, PrintedBy, PrintedOne}
-use Rattle.bag_commands.specs.StopTexts.{stop_of_keep, stop_text}
+use Rattle.bag_commands.specs.StopTexts.{stop_text}
 use Rattle.bag_commands.specs.Viewing.{IsReporting}
 use Rattle.bag_commands.specs.ViewTexts.{view_lines, view_status}
 use Rattle.bag_folder.specs.declared.fault.OpenFault.{OpenFault}
@@ -61,10 +61,10 @@ IsOpenFor opened made ledger work is_made kept = (is_made ≡ false) × opened l
 -- the line that says why it wasn't opened
 abbrev pub unopened_line : AdoptFault → List ℕ
 unopened_line NotALedger = codes "bag: not a ledger"
-unopened_line OldFormat = codes "bag: old format"
 unopened_line (Damaged name path) = codes "bag: damaged " ++ written_spelling (string_bytes name)
     ++ codes " " ++ written_spelling (string_bytes path)
-unopened_line (Keep why) = stop_text (stop_of_keep why)
+unopened_line Memory = stop_text stop.Memory
+unopened_line (Store error) = stop_text stop.Store
 
 -- the transfer that is reported on
 abbrev pub viewed : Work → Option (List ℕ)

@@ -7,6 +7,7 @@ ghost use Rattle.bag_receiver.specs.Receiving.{settled};
 ghost use Rattle.bag_cmd.specs.declared.unopened.Unopened.{Unopened};
 
 use crate::ledger_file::{Closed, FileKeeper, LedgerFile, UnopenedFile};
+use crate::progress::Progress;
 use crate::unopened::{Barred, LedgerCause, Left, Unopened};
 use bag_ledger::Keeper;
 use sqlite::{FileFrom, Start};
@@ -115,6 +116,7 @@ pub trait Ledgers {
 #[derive(Drop)]
 pub struct LedgerFiles<'a, S: Start> {
     rt: &'a HostRuntime,
+    progress: &'a Progress<'a, HostRuntime>,
     // what the file holds; `None` once a ledger was opened
     start: Option<S>,
     // the file that was opened
@@ -122,10 +124,11 @@ pub struct LedgerFiles<'a, S: Start> {
 }
 
 impl<'a, S: Start> LedgerFiles<'a, S> {
-    /// No ledger is open yet.
-    pub fn new(rt: &'a HostRuntime, start: S) -> Self {
+    /// No ledger is open yet. It is shown how far the opening has come.
+    pub fn new(rt: &'a HostRuntime, progress: &'a Progress<'a, HostRuntime>, start: S) -> Self {
         LedgerFiles {
             rt,
+            progress,
             start: Some(start),
             file: None,
         }
@@ -134,7 +137,7 @@ impl<'a, S: Start> LedgerFiles<'a, S> {
     /// What the file holds, and the file with this name. Only the first call succeeds.
     fn find(&mut self, ledger: &str) -> Result<(S, LedgerFile<'a>), Barred> {
         match self.start.take() {
-            Some(start) => Ok((start, LedgerFile::find(self.rt, ledger)?)),
+            Some(start) => Ok((start, LedgerFile::find(self.rt, self.progress, ledger)?)),
             None => Err(Barred::For(LedgerCause::Busy)),
         }
     }

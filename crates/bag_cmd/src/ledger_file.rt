@@ -11,6 +11,8 @@ ghost use Rattle.sqlite_wal.specs.Files.{image_at};
 
 use crate::found::{Found, Seen, is_absence};
 use crate::ledger::Opened;
+use crate::meter::{Activity, Meter};
+use crate::progress::Progress;
 use crate::unopened::{Barred, LedgerCause, Left, Unopened};
 use bag_sqlite::{NotAdopted, NotCreated, SqlKeeper};
 use sqlite::{Alter, Connection, FileFrom, FileStore, Files, Options, Start};
@@ -59,6 +61,8 @@ pub struct LedgerFile<'a> {
     is_new: bool,
     // the file apart from the connection, once it is locked
     file: Option<File>,
+    // counts what is read of it
+    meter: Meter<'a, HostRuntime>,
 }
 
 impl<'a> LedgerFile<'a> {
@@ -67,7 +71,11 @@ impl<'a> LedgerFile<'a> {
     /// # Errors
     ///
     /// Memory ran out, or the operating system doesn't give the information.
-    pub fn find(rt: &'a HostRuntime, name: &str) -> Result<LedgerFile<'a>, Barred> {
+    pub fn find(
+        rt: &'a HostRuntime,
+        progress: &'a Progress<'a, HostRuntime>,
+        name: &str,
+    ) -> Result<LedgerFile<'a>, Barred> {
         let alloc = rt.alloc();
         let name = match fs::canonicalize(rt, name) {
             Ok(real) => String::from_str(alloc, real.as_str())?,
@@ -76,6 +84,9 @@ impl<'a> LedgerFile<'a> {
         };
         let log = format!(in alloc; "{name}-wal")?;
         let seen = Seen::look(rt, name.as_str(), log.as_str())?;
+        let meter = Meter::new(progress, Activity::ReadingLedger);
+        meter.expect_file(rt, name.as_str());
+        meter.expect_file(rt, log.as_str());
         Ok(LedgerFile {
             rt,
             seed: RandomState::new(rt)?.hash_one(&0u8),
@@ -84,6 +95,7 @@ impl<'a> LedgerFile<'a> {
             seen,
             is_new: false,
             file: None,
+            meter,
         })
     }
 
@@ -241,7 +253,7 @@ impl<'a> LedgerFile<'a> {
             (λ keeper. IsAdoptedFrom (image_at S.Start) keeper.connection) (λ it.
             IsUnopened ⟦<FileFrom<S> as Disk>⟧ (image_at S.Start) it (λ _. ⊥)) }
     {
-        match SqlKeeper::adopt(connection) {
+        match SqlKeeper::adopt_watched(connection, &self.meter) {
             Ok(keeper) => Ok(keeper),
             Err(NotAdopted { fault, connection }) => {
                 self.leave_log();

@@ -62,7 +62,7 @@ fn run_on_disk<S: Start>(rt: &HostRuntime, start: S) -> u8
         ⟦<Printer<'static, HostRuntime> as Write>⟧.contents old new result }
 {
     let progress = Progress::new(rt, rt.stderr().is_terminal());
-    let mut ledgers = LedgerFiles::new(rt, start);
+    let mut ledgers = LedgerFiles::new(rt, &progress, start);
     run(rt, &progress, &mut ledgers)
 }
 

@@ -1,7 +1,10 @@
 //! Counts files and octets, and shows from time to time how many there were.
 use crate::progress::Progress;
+use bag_sqlite::Watch;
 use std::cell::Cell;
 use std::fmt::{self, Display, Formatter, Write};
+use std::fs;
+use std::rt::Files;
 
 /// How many octets are counted from one line to the next.
 const PER_LINE: u64 = 64 << 20;
@@ -12,18 +15,24 @@ const PER_FILE: u64 = 64 << 10;
 /// What is done with files.
 #[derive(Clone, Copy)]
 pub enum Activity {
+    ReadingLedger,
     Checking,
     Copying,
     TakingIn,
+    Auditing,
+    Fetching,
     Exporting,
 }
 
 impl Display for Activity {
     fn fmt<W: Write>(&self, f: &mut Formatter<W>) -> fmt::Result {
         f.write_str(match self {
+            Activity::ReadingLedger => "reading the ledger,",
             Activity::Checking => "checking",
             Activity::Copying => "copying",
             Activity::TakingIn => "taking in",
+            Activity::Auditing => "auditing",
+            Activity::Fetching => "fetching",
             Activity::Exporting => "exporting",
         })
     }
@@ -34,7 +43,9 @@ impl Display for Activity {
 pub struct Meter<'a, R> {
     progress: &'a Progress<'a, R>,
     activity: Activity,
-    expected: Cell<Option<usize>>,
+    is_on: Cell<bool>,
+    files_expected: Cell<Option<usize>>,
+    octets_expected: Cell<Option<u64>>,
     files: Cell<u64>,
     octets: Cell<u64>,
     // what was counted since the last line
@@ -42,38 +53,39 @@ pub struct Meter<'a, R> {
 }
 
 impl<'a, R: Eprint> Meter<'a, R> {
-    /// Nothing was counted yet.
+    /// Nothing was counted yet. If standard error is no terminal, nothing will be.
     pub fn new(progress: &'a Progress<'a, R>, activity: Activity) -> Self {
         Meter {
             progress,
             activity,
-            expected: Cell::new(None),
+            is_on: Cell::new(progress.is_terminal()),
+            files_expected: Cell::new(None),
+            octets_expected: Cell::new(None),
             files: Cell::new(0),
             octets: Cell::new(0),
             unshown: Cell::new(0),
         }
     }
 
+    /// Counts and shows nothing more.
+    pub fn stop(&self) {
+        self.is_on.set(false);
+    }
+
     /// So many more files are expected.
-    pub fn expect(&self, files: usize) {
-        let expected = self.expected.get().unwrap_or(0);
-        self.expected.set(Some(expected.saturating_add(files)));
+    pub fn expect_files(&self, files: usize) {
+        let expected = self.files_expected.get().unwrap_or(0);
+        self.files_expected
+            .set(Some(expected.saturating_add(files)));
     }
 
-    /// Counts one more file.
-    pub fn add_file(&self) {
-        if self.progress.is_terminal() {
-            self.files.set(self.files.get().saturating_add(1));
-            self.count(PER_FILE);
-        }
-    }
-
-    /// Counts more octets.
-    pub fn add_octets(&self, octets: usize) {
-        if self.progress.is_terminal() {
-            let octets = octets as u64;
-            self.octets.set(self.octets.get().saturating_add(octets));
-            self.count(octets);
+    /// So many more octets are expected. Shows a line if they are enough for one.
+    pub fn expect_octets(&self, octets: u64) {
+        let expected = self.octets_expected.get().unwrap_or(0);
+        let expected = expected.saturating_add(octets);
+        self.octets_expected.set(Some(expected));
+        if self.is_on.get() && expected >= PER_LINE {
+            self.progress.show(self.line());
         }
     }
 
@@ -93,8 +105,37 @@ impl<'a, R: Eprint> Meter<'a, R> {
         MeterLine {
             activity: self.activity,
             files: self.files.get(),
-            expected: self.expected.get(),
+            files_expected: self.files_expected.get(),
             octets: self.octets.get(),
+            octets_expected: self.octets_expected.get(),
+        }
+    }
+}
+
+impl<R: Files + Eprint> Meter<'_, R> {
+    /// The octets of the file with this name are expected, if there is one.
+    pub fn expect_file(&self, rt: &R, name: &str) {
+        if !self.is_on.get() {
+            return;
+        }
+        if let Ok(found) = fs::metadata(rt, name) {
+            self.expect_octets(found.len());
+        }
+    }
+}
+
+impl<R: Eprint> Watch for Meter<'_, R> {
+    fn add_file(&self) {
+        if self.is_on.get() {
+            self.files.set(self.files.get().saturating_add(1));
+            self.count(PER_FILE);
+        }
+    }
+
+    fn add_octets(&self, octets: u64) {
+        if self.is_on.get() {
+            self.octets.set(self.octets.get().saturating_add(octets));
+            self.count(octets);
         }
     }
 }
@@ -104,17 +145,22 @@ impl<'a, R: Eprint> Meter<'a, R> {
 struct MeterLine {
     activity: Activity,
     files: u64,
-    expected: Option<usize>,
+    files_expected: Option<usize>,
     octets: u64,
+    octets_expected: Option<u64>,
 }
 
 impl Display for MeterLine {
     fn fmt<W: Write>(&self, f: &mut Formatter<W>) -> fmt::Result {
         write!(f, "bag: {} {}", self.activity, Grouped(self.files))?;
-        if let Some(expected) = self.expected {
+        if let Some(expected) = self.files_expected {
             write!(f, " of {}", Grouped(expected as u64))?;
         }
-        write!(f, " files, {}", Size(self.octets))
+        write!(f, " files, {}", Size(self.octets))?;
+        match self.octets_expected {
+            Some(expected) => write!(f, " of {}", Size(expected)),
+            None => Ok(()),
+        }
     }
 }
 
@@ -136,7 +182,7 @@ impl Display for Grouped {
 
 /// A number of octets in KiB, or in the largest larger unit that it fills, with one decimal place.
 #[derive(Clone, Copy)]
-pub struct Size(pub u64);
+struct Size(u64);
 
 impl Display for Size {
     fn fmt<W: Write>(&self, f: &mut Formatter<W>) -> fmt::Result {

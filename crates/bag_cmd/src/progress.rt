@@ -1,12 +1,6 @@
 //! The line on standard error that says how far long work has come.
-use crate::meter::Size;
 use std::cell::Cell;
 use std::fmt::Display;
-use std::fs;
-use std::rt::Files;
-
-/// How many octets a ledger has at least if it is told that it is read.
-const LARGE_LEDGER: u64 = 64 << 20;
 
 /// One line on standard error that says how far long work has come. It is overwritten by the next one, and erased before
 /// anything else is written. If standard error is no terminal, no line is shown.
@@ -45,20 +39,6 @@ impl<'a, R: Eprint> Progress<'a, R> {
     pub fn clear(&self) {
         if self.is_shown.replace(false) {
             let _ = eprint!(self.rt; "\r\x1b[K");
-        }
-    }
-}
-
-impl<R: Files + Eprint> Progress<'_, R> {
-    /// Shows that this ledger is read, if it is large.
-    pub fn show_reading(&self, ledger: &str) {
-        if !self.is_terminal {
-            return;
-        }
-        if let Ok(found) = fs::metadata(self.rt, ledger) {
-            if found.len() >= LARGE_LEDGER {
-                self.show(format_args!("bag: reading the ledger, {}", Size(found.len())));
-            }
         }
     }
 }

@@ -5,7 +5,7 @@ ghost use Rattle.bag_sqlite.specs.Refusing.{adopt_fault};
 ghost use Rattle.bag_sqlite.specs.declared.adopting.AdoptFault.TheVariants.{NotALedger};
 
 use crate::found::{Found, Seen};
-use bag_ledger::{KeepFault, StoreFault};
+use bag_ledger::KeepFault;
 use bag_sqlite::AdoptFault;
 use sqlite::{Connection, Error, ErrorCode, FileStore, Leftover};
 use sqlite_disk::Disk;
@@ -13,6 +13,9 @@ use sqlite_std_file::OpenError;
 use std::alloc::AllocError;
 use std::fmt::{self, Display, Formatter};
 use std::io::{self, ErrorKind};
+
+/// The error of a store that told none: no database was opened.
+const UNTOLD: Error = Error::SqliteFailure(ErrorCode::CannotOpen);
 
 /// Why a ledger wasn't opened, and what is left of it.
 #[derive(Drop)]
@@ -138,10 +141,8 @@ impl<D: Disk> Unopened<Left<D>> {
     {
         let cause = match &fault {
             AdoptFault::NotALedger => Some(LedgerCause::NoLedger),
-            AdoptFault::Keep(KeepFault::Store(_)) => Some(LedgerCause::Unreadable),
-            AdoptFault::OldFormat
-            | AdoptFault::Damaged { .. }
-            | AdoptFault::Keep(KeepFault::Memory) => None,
+            AdoptFault::Store(error) => Some(LedgerCause::Database(*error)),
+            AdoptFault::Damaged { .. } | AdoptFault::Memory => None,
         };
         Unopened {
             fault,
@@ -158,14 +159,18 @@ impl<D: Disk> Unopened<Left<D>> {
     ) -> Unopened<Left<D>>
         ensures { HasNoAnswer result }
     {
-        let cause = match fault {
-            KeepFault::Memory => None,
-            KeepFault::Store(_) => Some(LedgerCause::of_store(trouble)),
-        };
-        Unopened {
-            fault: AdoptFault::Keep(fault),
-            cause,
-            left: Left::Database(connection),
+        let left = Left::Database(connection);
+        match fault {
+            KeepFault::Memory => Unopened {
+                fault: AdoptFault::Memory,
+                cause: None,
+                left,
+            },
+            KeepFault::Store(_) => Unopened {
+                fault: AdoptFault::Store(trouble.unwrap_or(UNTOLD)),
+                cause: Some(LedgerCause::of_store(trouble)),
+                left,
+            },
         }
     }
 }
@@ -185,14 +190,17 @@ impl<D: Disk> From<Barred> for Unopened<Left<D>> {
     ghost from_gives = { λ barred it. HasNoAnswer it };
 
     fn from(barred: Barred) -> Unopened<Left<D>> {
-        let (fault, cause) = match barred {
-            Barred::Memory => (KeepFault::Memory, None),
-            Barred::For(cause) => (KeepFault::Store(StoreFault::Refused), Some(cause)),
-        };
-        Unopened {
-            fault: AdoptFault::Keep(fault),
-            cause,
-            left: Left::Nothing,
+        match barred {
+            Barred::Memory => Unopened {
+                fault: AdoptFault::Memory,
+                cause: None,
+                left: Left::Nothing,
+            },
+            Barred::For(cause) => Unopened {
+                fault: AdoptFault::Store(UNTOLD),
+                cause: Some(cause),
+                left: Left::Nothing,
+            },
         }
     }
 }

@@ -1,16 +1,19 @@
-//! Counts what is read of a tree or a courier, or written to a sink.
+//! Counts what is read of a tree, a courier, a supplier or a keeper, or written to a sink.
 ghost use Rattle.std.specs.Prelude.{◌≡◌, ◌<◌, length};
 ghost use Rattle.bag_rules.specs.Trees.{paths_in};
 
 use crate::meter::Meter;
 use bag_digest::{Failed, Source};
+use bag_ledger::{KeepFault, Keeper, PutFault};
 use bag_path::BagPath;
-use bag_receiver::Courier;
-use bag_rules::{Paths, Tree};
+use bag_receiver::{Courier, Supplier};
+use bag_rules::{ItemSize, Paths, TagSet, Tree, Want};
+use bag_sqlite::Watch;
 use bag_writer::Sink;
+use std::alloc::Global;
 use std::marker::Model;
 
-/// A tree, a courier or a sink, whose files and octets a meter counts.
+/// A tree, a courier, a supplier, a keeper or a sink, whose files and octets a meter counts.
 #[derive(Drop)]
 pub struct Watched<'a, T, R> {
     inside: T,
@@ -53,7 +56,7 @@ impl<S: Source, R: Eprint> Source for Watched<'_, S, R> {
     fn read(&mut self, buf: &mut [u8]) -> Result<usize, Failed> {
         let answer = self.inside.read(buf);
         if let Ok(n) = answer {
-            self.meter.add_octets(n);
+            self.meter.add_octets(n as u64);
         }
         answer
     }
@@ -122,6 +125,125 @@ impl<C: Courier, R: Eprint> Courier for Watched<'_, C, R> {
     ghost keeps_item = { C.keeps_item };
 }
 
+impl<S: Supplier, R: Eprint> Supplier for Watched<'_, S, R> {
+    ghost supply = { S.supply };
+
+    ghost asks = { S.asks };
+
+    fn ask(&mut self, url: &str, path: &str) -> Result<bool, Failed> {
+        let answer = self.inside.ask(url, path);
+        if let Ok(true) = answer {
+            self.meter.add_file();
+        }
+        answer
+    }
+
+    fn asks(&self) -> u64 {
+        self.inside.asks()
+    }
+
+    ghost keeps_supply = { S.keeps_supply };
+}
+
+/// Counts the payload files that are read again and have octets. Their octets are expected once their sizes are known.
+impl<K: Keeper, R: Eprint> Keeper for Watched<'_, K, R> {
+    ghost holds = { K.holds };
+
+    ghost may_leave = { K.may_leave };
+
+    ghost clean = { K.clean };
+
+    ghost spent = { K.spent };
+
+    ghost failures = { K.failures };
+
+    fn begin(&mut self, alloc: Global, name: &str, tags: &TagSet) -> Result<(), KeepFault> {
+        self.inside.begin(alloc, name, tags)
+    }
+
+    fn tags(&mut self, alloc: Global, name: &str) -> Result<Option<TagSet>, KeepFault> {
+        self.inside.tags(alloc, name)
+    }
+
+    fn size_of(
+        &mut self,
+        alloc: Global,
+        name: &str,
+        path: &BagPath,
+    ) -> Result<Option<u64>, KeepFault> {
+        self.inside.size_of(alloc, name, path)
+    }
+
+    fn sizes(&mut self, alloc: Global, name: &str) -> Result<Vec<ItemSize>, KeepFault> {
+        let answer = self.inside.sizes(alloc, name);
+        if let Ok(sizes) = &answer {
+            self.meter.expect_octets(total(sizes.as_slice()));
+        }
+        answer
+    }
+
+    fn put(
+        &mut self,
+        alloc: Global,
+        name: &str,
+        want: &Want<'_>,
+        content: &[u8],
+    ) -> Result<(), PutFault> {
+        self.inside.put(alloc, name, want, content)
+    }
+
+    fn put_from<S: Source>(
+        &mut self,
+        alloc: Global,
+        name: &str,
+        want: &Want<'_>,
+        reader: &mut S,
+    ) -> Result<(), PutFault> {
+        self.inside.put_from(alloc, name, want, reader)
+    }
+
+    fn read_piece(
+        &mut self,
+        alloc: Global,
+        name: &str,
+        path: &BagPath,
+        offset: u64,
+        buf: &mut [u8],
+    ) -> Result<usize, KeepFault> {
+        if offset == 0 {
+            self.meter.add_file();
+        }
+        let answer = self.inside.read_piece(alloc, name, path, offset, buf);
+        if let Ok(n) = answer {
+            self.meter.add_octets(n as u64);
+        }
+        answer
+    }
+
+    fn names(&mut self, alloc: Global) -> Result<Vec<String>, KeepFault> {
+        self.inside.names(alloc)
+    }
+
+    fn blame(&mut self) -> KeepFault {
+        self.inside.blame()
+    }
+
+    fn failures(&self) -> u64 {
+        self.inside.failures()
+    }
+
+    ghost sound = { K.sound };
+}
+
+/// How many octets these payload files have together. Saturates at 2^64 - 1.
+fn total(sizes: &[ItemSize]) -> u64 {
+    let mut octets = 0u64;
+    for size in sizes {
+        octets = octets.saturating_add(size.octets);
+    }
+    octets
+}
+
 impl<S: Sink, R: Eprint> Sink for Watched<'_, S, R> {
     ghost stored = { S.stored };
 
@@ -141,7 +263,7 @@ impl<S: Sink, R: Eprint> Sink for Watched<'_, S, R> {
     }
 
     fn write(&mut self, octets: &[u8]) -> Result<(), Failed> {
-        self.meter.add_octets(octets.len());
+        self.meter.add_octets(octets.len() as u64);
         self.inside.write(octets)
     }
 

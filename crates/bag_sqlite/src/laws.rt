@@ -2,8 +2,9 @@
 //! empty.
 ghost use Rattle.std.specs.Prelude.{◌≡◌, ◌↔◌, IsTrue};
 ghost use Rattle.bag_ledger.specs.Ledgers.{Ledger};
-ghost use Rattle.bag_sqlite.specs.Databases.{AreTablesOf};
+ghost use Rattle.bag_sqlite.specs.Databases.{AreTablesOf, IsLedgerDatabase};
 ghost use Rattle.bag_sqlite.specs.SqlKeepers.{HoldsLedger, MayLeaveLedger};
+ghost use Rattle.bag_sqlite.specs.Tables.{Layout};
 ghost use Rattle.sqlite.specs.Held.{state};
 ghost use Rattle.sqlite.specs.State.{HasCleanDisk};
 ghost use Rattle.sqlite.specs.Tree.{Trees};
@@ -12,10 +13,12 @@ use crate::keeper::SqlKeeper;
 use bag_ledger::Keeper;
 use sqlite::Alter;
 
-/// The tables of a database hold at most one ledger.
+/// The tables of a database hold at most one ledger, and so does a database, whichever of them it has.
 pub fn tables_hold_one_ledger()
-    ensures { (trees : Trees) (ledger other : Ledger) → AreTablesOf trees ledger
-        → AreTablesOf trees other → ledger ≡ other }
+    ensures tables { (layout : Layout) (trees : Trees) (ledger other : Ledger)
+        → AreTablesOf layout trees ledger → AreTablesOf layout trees other → ledger ≡ other }
+    ensures databases { (trees : Trees) (ledger other : Ledger) → IsLedgerDatabase trees ledger
+        → IsLedgerDatabase trees other → ledger ≡ other }
 {}
 
 /// A keeper in a database holds the ledger that its connection holds, and a crash leaves what it leaves of that

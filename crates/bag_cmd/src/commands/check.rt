@@ -32,7 +32,7 @@ pub fn check_folder<R: Files + Eprint, D: Directories, W: Write + Drop>(
     match FolderTree::open(rt, disk, alloc, folder) {
         Ok(tree) => {
             let meter = Meter::new(progress, Activity::Checking);
-            meter.expect(tree.count());
+            meter.expect_files(tree.count());
             let mut tree = Watched::new(tree, &meter);
             let answer = check(alloc, &mut tree);
             let status = print_outcome(&answer, out);

@@ -3,6 +3,9 @@ ghost use Rattle.bag_cmd.specs.Working.{FetchesFrom};
 
 use super::stop_unopened;
 use crate::ended::Ended;
+use crate::meter::{Activity, Meter};
+use crate::progress::Progress;
+use crate::watched::Watched;
 use bag_commands::{Output, fetch_to};
 use bag_folder::FolderSupplier;
 use bag_ledger::Keeper;
@@ -14,8 +17,9 @@ use std::rt::Files;
 /// Looks in a folder for each payload file that the transfer's `fetch.txt` lists and that isn't held, by its path and
 /// whatever its url. Takes in the files found and prints the results, as [`fetch_to`] does. If the folder can't be
 /// opened, prints that.
-pub fn fetch_from_folder<K: Keeper, R: Files + Drop, W: Write + Drop>(
-    rt: R,
+pub fn fetch_from_folder<K: Keeper, R: Files + Eprint, W: Write + Drop>(
+    rt: &R,
+    progress: &Progress<'_, R>,
     alloc: Global,
     receiver: &mut Receiver<K>,
     name: &str,
@@ -26,7 +30,11 @@ pub fn fetch_from_folder<K: Keeper, R: Files + Drop, W: Write + Drop>(
         out.old out.new result }
 {
     match FolderSupplier::open(rt, alloc, folder) {
-        Ok(mut supplier) => Ended::plain(fetch_to(alloc, receiver, name, &mut supplier, out)),
+        Ok(supplier) => {
+            let meter = Meter::new(progress, Activity::Fetching);
+            let mut supplier = Watched::new(supplier, &meter);
+            Ended::plain(fetch_to(alloc, receiver, name, &mut supplier, out))
+        }
         Err(fault) => stop_unopened(fault, out),
     }
 }

@@ -97,7 +97,7 @@ fn open_all<'a, R: Files + Eprint, D: Directories>(
         if empty.is_none() {
             empty = name_if_empty(alloc, &tree, folder.as_str())?;
         }
-        meter.expect(payload_count(&tree));
+        meter.expect_files(payload_count(&tree));
         couriers.push(Watched::new(TreeCourier::new(tree), meter))?;
     }
     Ok(AllOpened {

@@ -13,9 +13,11 @@ use super::fetch::fetch_from_folder;
 use super::intake::intake_folders;
 use crate::ended::{Ended, Why};
 use crate::ledger::{Ledgers, Opened};
+use crate::meter::{Activity, Meter};
 use crate::progress::Progress;
 use crate::request::Work;
 use crate::unopened::Unopened;
+use crate::watched::Watched;
 use bag_commands::status::FAILED;
 use bag_commands::{Output, Stop, TextSpelling, audit_to, list_to, report_to};
 use bag_folder::{Destination, Directories};
@@ -44,7 +46,13 @@ pub fn work_on_ledger<R: Files + Eprint, D: Directories, L: Ledgers, W: Write + 
     ensures { WorksOn L.Kept.Keeper L.opened L.made L.refused L.closed (D.listing disk.now)
         W.contents ledger.now work.now made.old made.new out.old out.new result }
 {
-    match open_and_work(rt, progress, disk, ledgers, made, alloc, ledger, work, out) {
+    let meter = Meter::new(progress, Activity::Auditing);
+    if !matches!(work, Work::Audit { .. }) {
+        meter.stop();
+    }
+    match open_and_work(
+        rt, progress, &meter, disk, ledgers, made, alloc, ledger, work, out,
+    ) {
         Ok(
             Worked {
                 mut receiver,
@@ -53,7 +61,7 @@ pub fn work_on_ledger<R: Files + Eprint, D: Directories, L: Ledgers, W: Write + 
             },
         ) => {
             let is_vain = is_vain(alloc, is_made, &mut receiver);
-            let keeper = receiver.into_keeper();
+            let keeper = receiver.into_keeper().into_inside();
             let cause = ledgers.trouble(&keeper);
             let closed = close(ledgers, keeper, is_vain);
             drop(closed);
@@ -77,10 +85,12 @@ struct Worked<K> {
     ended: Ended,
 }
 
-/// Opens a ledger and does the work. The receiver is returned too, so that the ledger can be closed.
-fn open_and_work<R: Files + Eprint, D: Directories, L: Ledgers, W: Write + Drop>(
+/// Opens a ledger and does the work. The receiver is returned too, so that the ledger can be closed. The meter counts
+/// what is read of the ledger.
+fn open_and_work<'a, R: Files + Eprint, D: Directories, L: Ledgers, W: Write + Drop>(
     rt: &R,
     progress: &Progress<'_, R>,
+    meter: &'a Meter<'a, R>,
     disk: &D,
     ledgers: &mut L,
     made: &mut Destination<'_, R>,
@@ -88,7 +98,7 @@ fn open_and_work<R: Files + Eprint, D: Directories, L: Ledgers, W: Write + Drop>
     ledger: &str,
     work: &Work,
     out: &mut Output<W>,
-) -> Result<Worked<L::Kept>, Unopened<L::Left>>
+) -> Result<Worked<Watched<'a, L::Kept, R>>, Unopened<L::Left>>
     ensures works { IfOk result (λ done. Works L.Kept.Keeper L.opened L.made (D.listing disk.now)
         W.contents ledger.now work.now made.old made.new done.receiver out.old out.new
         done.ended) }
@@ -105,9 +115,8 @@ fn open_and_work<R: Files + Eprint, D: Directories, L: Ledgers, W: Write + Drop>
     ensures refused { IfErr result (λ it. L.refused ledger.now it
         × (made.new ≡ made.old) × (out.new ≡ out.old)) }
 {
-    progress.show_reading(ledger);
     let opened = open(ledgers, ledger, work)?;
-    let mut receiver = Receiver::new(alloc, opened.kept);
+    let mut receiver = Receiver::new(alloc, Watched::new(opened.kept, meter));
     let ended = do_work(rt, progress, disk, made, alloc, &mut receiver, work, out);
     Ok(Worked {
         receiver,
@@ -202,7 +211,15 @@ fn do_work<K: Keeper, R: Files + Eprint, D: Directories, W: Write + Drop>(
         Work::Report { name } => Ended::plain(report_to(alloc, receiver, name.as_str(), out)),
         Work::Audit { name } => Ended::plain(audit_to(alloc, receiver, name.as_str(), out)),
         Work::Fetch { name, folder } => {
-            fetch_from_folder(rt, alloc, receiver, name.as_str(), folder.as_str(), out)
+            fetch_from_folder(
+                rt,
+                progress,
+                alloc,
+                receiver,
+                name.as_str(),
+                folder.as_str(),
+                out,
+            )
         }
         Work::Export { name, folder } => {
             export_into_folder(
@@ -232,12 +249,12 @@ impl Display for UnopenedLine<'_> {
     fn fmt<W: fmt::Write>(&self, f: &mut Formatter<W>) -> fmt::Result {
         match self.0 {
             AdoptFault::NotALedger => f.write_str("bag: not a ledger"),
-            AdoptFault::OldFormat => f.write_str("bag: old format"),
             AdoptFault::Damaged { name, path } => {
                 let name = TextSpelling(name.as_str());
                 write!(f, "bag: damaged {name} {}", TextSpelling(path.as_str()))
             }
-            AdoptFault::Keep(why) => f.write_str(Stop::from(*why).text()),
+            AdoptFault::Memory => f.write_str(Stop::Memory.text()),
+            AdoptFault::Store(_) => f.write_str(Stop::Store.text()),
         }
     }
 }

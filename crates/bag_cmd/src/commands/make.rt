@@ -50,7 +50,7 @@ pub fn make_folder<R: Files + Eprint, D: Directories, W: Write + Drop>(
     match FolderTree::open_payload(rt, disk, alloc, making.source) {
         Ok(tree) => {
             let meter = Meter::new(progress, Activity::Copying);
-            meter.expect(tree.count());
+            meter.expect_files(tree.count());
             let mut tree = Watched::new(tree, &meter);
             let Made { ended, large } = make_into(alloc, making, &mut tree, made, out);
             ended.or(why_unmade(tree.into_inside(), large))

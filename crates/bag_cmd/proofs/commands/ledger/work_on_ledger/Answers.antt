@@ -1,26 +1,29 @@
-use Rattle.std.proofs.Common.{◌≡◌, ◌↔◌, None, [], subst, sym}
+use Rattle.std.proofs.Common.{◌≡◌, ◌∙◌, ◌↔◌, None, [], subst, sym}
 use Rattle.bag_cmd.specs.Working.{NotOpened, Worked}
 use Rattle.bag_cmd.proofs.commands.ledger.work_on_ledger.Goals as goal
 
 pub close-closed-requires : goal.close-closed-requires
 close-closed-requires g c vain clean =
+    let same = c.into_inside-keeper.ensures ∙ c.into_keeper.ensures in
     let it = c.is_vain-is_vain.ensures.none vain in
-    let was = it.1 (subst g.L.Kept.Keeper.clean c.into_keeper-keeper.ensures clean) in
+    let was = it.1 (subst g.L.Kept.Keeper.clean same clean) in
     let state = c.in-Ok.ensures.made it.0 was.0 in
-    subst (λ keeper. g.L.Kept.Keeper.holds keeper []) (sym c.into_keeper-keeper.ensures) (was.1 state.0 state.1)
+    subst (λ keeper. g.L.Kept.Keeper.holds keeper []) (sym same) (was.1 state.0 state.1)
 
 pub returns-in-Ok : goal.returns-in-Ok
-returns-in-Ok g c = Worked c.in-Ok.field-0.receiver c.in-Ok.field-0.ended c.in-Ok.ensures.works (record {
-  last = c.is_vain-is_vain.new.receiver;
-  only_read = c.is_vain-is_vain.ensures.reads;
-  left = c.close-closed.result;
-  is_left = subst (λ keeper. g.L.Ledgers.closed keeper c.close-closed.result) c.into_keeper-keeper.ensures c.close-closed.ensures;
-  cause = c.trouble-cause.result;
-  failed = subst (λ keeper. (c.trouble-cause.result ≡ None) ↔ (g.L.Kept.Keeper.failures keeper ≡ 0)) c.into_keeper-keeper.ensures c.trouble-cause.ensures;
-  why = c.of_ledger.result;
-  is_why = c.of_ledger.ensures;
-  told = c.or.ensures;
-})
+returns-in-Ok g c =
+    let same = c.into_inside-keeper.ensures ∙ c.into_keeper.ensures in
+    Worked c.in-Ok.field-0.receiver c.in-Ok.field-0.ended c.in-Ok.ensures.works (record {
+      last = c.is_vain-is_vain.new.receiver;
+      only_read = c.is_vain-is_vain.ensures.reads;
+      left = c.close-closed.result;
+      is_left = subst (λ keeper. g.L.Ledgers.closed keeper c.close-closed.result) same c.close-closed.ensures;
+      cause = c.trouble-cause.result;
+      failed = subst (λ keeper. (c.trouble-cause.result ≡ None) ↔ (g.L.Kept.Keeper.failures keeper ≡ 0)) same c.trouble-cause.ensures;
+      why = c.of_ledger.result;
+      is_why = c.of_ledger.ensures;
+      told = c.or.ensures;
+    })
 
 pub returns-in-Err : goal.returns-in-Err
 returns-in-Err g c =

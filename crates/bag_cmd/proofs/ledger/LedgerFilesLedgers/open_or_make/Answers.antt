@@ -1,6 +1,5 @@
 use Rattle.std.proofs.Common.{◌≡◌, ◌∙◌, sym}
 use Rattle.std.proofs.lemmas.Result.{err_from_is_err_and}
-use Rattle.bag_cmd.specs.declared.found.Found.{Found}
 use Rattle.bag_cmd.specs.declared.found.Found.TheVariants.{File, Other}
 use Rattle.bag_cmd.proofs.FileLemmas.{known_less}
 use Rattle.bag_cmd.proofs.ledger.LedgerFilesLedgers.open_or_make.Goals as goal

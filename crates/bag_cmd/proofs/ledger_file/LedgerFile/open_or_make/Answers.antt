@@ -1,4 +1,4 @@
-use Rattle.std.proofs.Common.{◌≡◌, arith, inl, inr, refl}
+use Rattle.std.proofs.Common.{◌≡◌, arith, inl, inr}
 use Rattle.std.proofs.lemmas.Result.{err_from_is_err_and}
 use Rattle.sqlite.specs.Files.{file_state}
 use Rattle.sqlite.specs.State.{HasCleanDisk}
