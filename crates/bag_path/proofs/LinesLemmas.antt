@@ -12,7 +12,7 @@ use Rattle.bag_path.specs.declared.lines.Ending.TheVariants.{Lf, Cr, CrLf, Nothi
 use Rattle.bag_path.specs.Lines.{Text, line, ending_octets, octets_of_line, octets_of_lines, IsPlain, is_lone_lf, MayStand, AreLines, HasLines, lines_with_cr, lines_with_octet, lines_of, written_lines}
 
 -- a plain octet goes to the first line
-plain_step : (octet : ℕ) (octets : List ℕ) → IsPlain octet → lines_of (octet ∷ octets) ≡ lines_with_octet octet (lines_of octets)
+pub plain_step : (octet : ℕ) (octets : List ℕ) → IsPlain octet → lines_of (octet ∷ octets) ≡ lines_with_octet octet (lines_of octets)
 unfolding lines_of
 plain_step octet octets h = rw (ne_eqb octet 10 h.0, ne_eqb octet 13 h.1) refl
 
@@ -22,7 +22,7 @@ text_step [] rest next lines h e = e
 text_step (x ∷ text) rest next lines h e = plain_step x (text ++ rest) h.0 ∙ ap (lines_with_octet x) (text_step text rest next lines h.1 e)
 
 -- a text alone is one line without an ending
-last_step : (x : ℕ) (text : List ℕ) → IsPlain x → AllByRecursion IsPlain text → lines_of (x ∷ text) ≡ line (x ∷ text) Nothing ∷ []
+pub last_step : (x : ℕ) (text : List ℕ) → IsPlain x → AllByRecursion IsPlain text → lines_of (x ∷ text) ≡ line (x ∷ text) Nothing ∷ []
 unfolding lines_of
 last_step x [] p h = plain_step x [] p
 last_step x (y ∷ text) p h = plain_step x (y ∷ text) p ∙ ap (lines_with_octet x) (last_step y text h.0 h.1)
@@ -37,7 +37,7 @@ ending_step text Cr rest (next ∷ lines) n h e = ap lines_with_cr e ∙ ap (λ 
 ending_step text Nothing rest lines n h e = absurd (n refl)
 
 -- an octet is LF, CR or plain
-by_octet : (P : ℕ → Type 0) → P 10 → P 13 → ((x : ℕ) → IsPlain x → P x) → (x : ℕ) → P x
+pub by_octet : (P : ℕ → Type 0) → P 10 → P 13 → ((x : ℕ) → IsPlain x → P x) → (x : ℕ) → P x
 by_octet P lf cr plain x = elim (eqb_tells x 10) [ inl a ↦ subst P (sym a.1) lf | inr a ↦ elim (eqb_tells x 13) [ inl b ↦ subst P (sym b.1) cr | inr b ↦ plain x (a.1, b.1) ] ]
 
 -- what may follow a line may follow one with more text
@@ -131,7 +131,7 @@ begins_plain text x [] = refl
 begins_plain text x (next ∷ lines) = refl
 
 -- lines that don't begin with LF don't begin with an empty one ended by LF
-begins : (x : ℕ) (rest : List ℕ) → x ≢ 10 → (text : List ℕ) → MayStand text Cr (lines_of (x ∷ rest))
+pub begins : (x : ℕ) (rest : List ℕ) → x ≢ 10 → (text : List ℕ) → MayStand text Cr (lines_of (x ∷ rest))
 unfolding lines_of
 begins x rest n text = by_octet (λ x. x ≢ 10 → MayStand text Cr (lines_of (x ∷ rest)))
     (λ n. absurd (n refl))

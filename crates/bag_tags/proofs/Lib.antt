@@ -30,3 +30,5 @@ pub mod EarlierDeclaration
 pub mod TextFiles
 pub mod ExactTexts
 pub mod WrittenLines
+pub mod PiecesLemmas
+pub mod FeedLemmas

@@ -1,17 +1,16 @@
 -- A text tag file is read exactly as its lines lead on.
-use Rattle.std.proofs.Common.{◌≡◌, ◌⊎◌, ◌+◌, ℕ, true, false, List, [], ◌∷◌, ◌++◌, map, Err, refl, sym, ap, ◌∙◌, subst, inl, inr, append_assoc, append-nil}
-use Rattle.std.specs.List.{AllByRecursion, enumerate_from}
+use Rattle.std.proofs.Common.{◌≡◌, ◌⊎◌, ℕ, true, false, List, [], ◌∷◌, ◌++◌, Result, Ok, Err, OnOk, IfErr, MatchResult, refl, sym, ap, ◌∙◌, subst, inl, inr}
 use Rattle.std.specs.Result.{IsErrOf}
 use Rattle.std.proofs.lemmas.Bool.{cases_Bool}
-use Rattle.bag_path.specs.Lines.{Text, HasLines, IsPlain, AreLines, lines_of}
-use Rattle.bag_path.proofs.LinesLemmas.{one_list, are_lines}
+use Rattle.bag_path.specs.Lines.{Text, HasLines, lines_of}
+use Rattle.bag_path.proofs.LinesLemmas.{one_list}
 use Rattle.bag_tags.specs.declared.fault.LineCause.{LineCause}
 use Rattle.bag_tags.specs.declared.fault.LineCause.TheVariants.{NotUtf8}
 use Rattle.bag_tags.specs.declared.fault.LineFault.{LineFault}
 use Rattle.bag_tags.specs.declared.fault.TagFault.{TagFault}
 use Rattle.bag_tags.specs.declared.fault.TagFault.TheVariants as tag
 use Rattle.bag_tags.specs.Words.{is_blank_line, without}
-use Rattle.bag_tags.specs.TagLines.{mark, TagLine, tag_line, tag_lines, LeadsOn, IsRefused, Lead, IsTextOf, StopsAt, IsFirstFault, AreExact, Faults, RefusedAt}
+use Rattle.bag_tags.specs.TagLines.{mark, TagLine, tag_lines, LeadsOn, IsRefused, Lead, IsTextOf, StopsAt, IsFirstFault, AreExact, Faults}
 use Rattle.bag_tags.proofs.DecisionLemmas.{decided_utf8}
 
 -- the numbered lines of a text
@@ -19,7 +18,7 @@ abbrev pub numbered : List ℕ → List TagLine
 numbered octets = tag_lines (lines_of (without mark octets))
 
 -- octets have their own lines and no others
-own_lines : (octets : List ℕ) → HasLines octets (lines_of octets)
+pub own_lines : (octets : List ℕ) → HasLines octets (lines_of octets)
 own_lines octets = (one_list octets (lines_of octets)).1 refl
 
 same_lines : (octets : List ℕ) (a b : List Text) → HasLines octets a → HasLines octets b → tag_lines a ≡ tag_lines b
@@ -27,66 +26,10 @@ same_lines octets a b h k = ap tag_lines ((one_list octets a).0 h ∙ sym ((one_
 
 -- READING
 
--- the lines before the rest of all lines lead to this value
-pub record HasLed {A : Type 0} (leads : A → ℕ → List ℕ → A → Type 0) (start : A) (all rest : List TagLine) (value : A) : Type 0 where
-  pub before : List TagLine
-  pub cut : all ≡ before ++ rest
-  pub lead : Lead (LeadsOn leads) start before value
-
-pub none_led : {A : Type 0} (leads : A → ℕ → List ℕ → A → Type 0) (start : A) (all : List TagLine) → HasLed leads start all all start
-none_led leads start all = record { before = []; cut = refl; lead = refl }
-
 -- one more line at the end
-lead_more : {A : Type 0} (step : A → TagLine → A → Type 0) (start value next : A) (before : List TagLine) (line : TagLine) → Lead step start before value → step value line next → Lead step start (before ++ line ∷ []) next
+pub lead_more : {A : Type 0} (step : A → TagLine → A → Type 0) (start value next : A) (before : List TagLine) (line : TagLine) → Lead step start before value → step value line next → Lead step start (before ++ line ∷ []) next
 lead_more step start value next [] line led on = (next, subst (λ v. step v line next) led on, refl)
 lead_more step start value next (first ∷ before) line led on = (led.0, led.1, lead_more step led.0 value next before line led.2 on)
-
-pub led_on : {A : Type 0} (leads : A → ℕ → List ℕ → A → Type 0) (start value next : A) (all left rest : List TagLine) (line : TagLine) → left ≡ line ∷ rest → LeadsOn leads value line next → HasLed leads start all left value → HasLed leads start all rest next
-led_on leads start value next all left rest line first on led = record {
-  before = led.before ++ line ∷ [];
-  cut = led.cut ∙ ap (λ ls. led.before ++ ls) first ∙ sym (append_assoc led.before (line ∷ []) rest);
-  lead = lead_more (LeadsOn leads) start value next led.before line led.lead on;
-}
-
--- no line is left
-pub led_all : {A : Type 0} (leads : A → ℕ → List ℕ → A → Type 0) (start value : A) (octets : List ℕ) (left : List TagLine) → left ≡ [] → HasLed leads start (numbered octets) left value → IsTextOf leads start octets value
-led_all leads start value octets left none led = record {
-  lines = lines_of (without mark octets);
-  has_lines = own_lines (without mark octets);
-  lead = subst (λ ls. Lead (LeadsOn leads) start ls value) (sym (led.cut ∙ ap (λ ls. led.before ++ ls) none ∙ append-nil led.before)) led.lead;
-}
-
--- a line is refused
-pub refused_at : {A : Type 0} (leads : A → ℕ → List ℕ → A → Type 0) (refuses : A → List ℕ → LineCause → Type 0) (start value : A) (octets : List ℕ) (left rest : List TagLine) (line : TagLine) (e : TagFault) → left ≡ line ∷ rest → Faults (RefusedAt refuses value line) e → HasLed leads start (numbered octets) left value → Faults (StopsAt leads refuses start octets) e
-refused_at leads refuses start value octets left rest line tag.Memory first refused led = tt
-refused_at leads refuses start value octets left rest line (tag.Line fault) first refused led = record {
-  lines = lines_of (without mark octets);
-  has_lines = own_lines (without mark octets);
-  before = led.before;
-  faulty = line;
-  after = rest;
-  cut = led.cut ∙ ap (λ ls. led.before ++ ls) first;
-  so_far = value;
-  lead = led.lead;
-  number = refused.0;
-  refused = refused.1;
-}
-
--- the next line has no line end in its text
-abbrev IsPlainLine : TagLine → Type 0
-IsPlainLine line = AllByRecursion IsPlain line.text
-
-plain_lines : (n : ℕ) (lines : List Text) → AreLines lines → AllByRecursion IsPlainLine (map tag_line (enumerate_from n lines))
-plain_lines n [] h = tt
-plain_lines n (line ∷ lines) h = (h.0, plain_lines (n + 1) lines h.2)
-
-at_cut : (before rest : List TagLine) (line : TagLine) → AllByRecursion IsPlainLine (before ++ line ∷ rest) → IsPlainLine line
-at_cut [] rest line h = h.0
-at_cut (first ∷ before) rest line h = at_cut before rest line h.1
-
-pub next_plain : {A : Type 0} (leads : A → ℕ → List ℕ → A → Type 0) (start value : A) (octets : List ℕ) (left rest : List TagLine) (line : TagLine) → left ≡ line ∷ rest → HasLed leads start (numbered octets) left value → AllByRecursion IsPlain line.text
-next_plain leads start value octets left rest line first led = at_cut led.before rest line
-    (subst (AllByRecursion IsPlainLine) (led.cut ∙ ap (λ ls. led.before ++ ls) first) (plain_lines 1 (lines_of (without mark octets)) (are_lines (without mark octets))))
 
 -- EXACTNESS
 
@@ -151,7 +94,7 @@ module _ {A : Type 0} (leads : A → ℕ → List ℕ → A → Type 0) (refuses
   }
 
   -- lines with a refused one among them lead to no value
-  lead_none : (before after : List TagLine) (faulty : TagLine) (start so_far value : A) → Lead Step start before so_far → ((next : A) → Step so_far faulty next → ⊥) → Lead Step start (before ++ faulty ∷ after) value → ⊥
+  pub lead_none : (before after : List TagLine) (faulty : TagLine) (start so_far value : A) → Lead Step start before so_far → ((next : A) → Step so_far faulty next → ⊥) → Lead Step start (before ++ faulty ∷ after) value → ⊥
   lead_none [] after faulty start so_far value led none h = none h.0 (subst (λ v. Step v faulty h.0) (sym led) h.1)
   lead_none (line ∷ before) after faulty start so_far value led none h =
       lead_none before after faulty led.0 so_far value led.2 none (subst (λ v. Lead Step v (before ++ faulty ∷ after) value) (one_step start line h.0 led.0 h.1 led.1) h.2)
@@ -235,3 +178,13 @@ module _ {A : Type 0} (leads : A → ℕ → List ℕ → A → Type 0) (refuses
   pub only_memory : (start : A) (octets : List ℕ) (e : TagFault) (other : A) → Faults (StopsAt leads refuses start octets) e → IsTextOf leads start octets other → e ≡ tag.Memory
   only_memory start octets tag.Memory other h t = refl
   only_memory start octets (tag.Line found) other h t = absurd (text_none start octets other found t (first_fault start octets found h))
+
+  -- what reading gives
+  pub only_value : (start : A) (octets : List ℕ) (r : Result (Unit {0}) TagFault) (value other : A) → OnOk r (IsTextOf leads start octets value) → IfErr r (Faults (StopsAt leads refuses start octets)) → IsTextOf leads start octets other
+      → MatchResult r (λ _. value ≡ other) (λ fault. fault ≡ tag.Memory)
+  only_value start octets (Ok done) value other ok err t = text_one start octets value other ok t
+  only_value start octets (Err e) value other ok err t = only_memory start octets e other err t
+
+  pub fault_of_read : (start : A) (octets : List ℕ) (r : Result (Unit {0}) TagFault) (fault : LineFault) → IfErr r (Faults (StopsAt leads refuses start octets)) → IsErrOf r (tag.Line fault) → IsFirstFault leads refuses start octets fault
+  fault_of_read start octets (Ok done) fault err e = absurd (cc)
+  fault_of_read start octets (Err found) fault err e = fault_found start octets found fault err e

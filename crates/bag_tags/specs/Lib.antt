@@ -16,3 +16,5 @@ pub mod FetchEntries
 pub mod Fetches
 pub mod FetchText
 pub mod ManifestWriting
+pub mod Pieces
+pub mod Feeds

@@ -37,7 +37,7 @@ pub fn read_fetch(alloc: Global, octets: &[u8], version: Version) -> Result<Fetc
         → FetchFault version octets.now fault }
 {
     let mut fetch = Fetch::new(alloc);
-    read_onto(&mut fetch, version, octets)?;
+    read_onto(alloc, &mut fetch, version, octets)?;
     Ok(fetch)
 }
 

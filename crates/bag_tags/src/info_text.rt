@@ -36,7 +36,7 @@ pub fn read_info(alloc: Global, octets: &[u8], version: Version) -> Result<Info,
         → InfoFault version octets.now fault }
 {
     let mut info = Info::new(alloc);
-    read_onto(&mut info, version, octets)?;
+    read_onto(alloc, &mut info, version, octets)?;
     Ok(info)
 }
 

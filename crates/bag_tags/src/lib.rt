@@ -3,6 +3,7 @@
 
 pub use declaration::{DeclFault, Declaration, read_declaration, write_declaration};
 pub use fault::{LineCause, LineFault, TagFault};
+pub use feed::{TagFeed, TagValue};
 pub use fetch::{Fetch, FetchEntry, FetchEntryFault, FetchLine, is_url};
 pub use fetch_text::{read_fetch, write_fetch};
 pub use info::{Element, ElementFault, Info};
@@ -17,10 +18,12 @@ pub use oxum::Oxum;
 mod declaration;
 pub mod examples;
 mod fault;
+mod feed;
 mod fetch;
 mod fetch_text;
 mod info;
 mod info_text;
+mod last_line;
 pub mod laws;
 mod listing;
 mod manifest;
@@ -30,5 +33,6 @@ mod name;
 mod number;
 mod oxum;
 mod path_text;
+mod pieces;
 mod reading;
 mod words;

@@ -42,7 +42,7 @@ pub fn read_manifest(
         → ManifestFault version alg kind octets.now fault }
 {
     let mut manifest = Manifest::new(alloc, alg, kind);
-    read_onto(&mut manifest, version, octets)?;
+    read_onto(alloc, &mut manifest, version, octets)?;
     Ok(manifest)
 }
 

@@ -3,10 +3,10 @@ ghost use Rattle.std.specs.Prelude.{◌≡◌, ℕ, false, List, IfErr, IsErrOf,
 ghost use Rattle.std.specs.List.{AllByRecursion};
 ghost use Rattle.std.specs.Str.{IsUtf8};
 ghost use Rattle.bag_path.specs.Lines.{IsPlain};
-ghost use Rattle.bag_path.specs.LinesLeft.{numbered_text};
 ghost use Rattle.bag_path.specs.declared.version.Version.{Version};
 ghost use Rattle.bag_tags.specs.declared.fault.LineCause.{LineCause};
 ghost use Rattle.bag_tags.specs.declared.fault.LineFault.{LineFault};
+ghost use Rattle.bag_tags.specs.Pieces.{tag_text};
 ghost use Rattle.bag_tags.specs.TagLines.{
   AreExact,
   Causes,
@@ -16,13 +16,15 @@ ghost use Rattle.bag_tags.specs.TagLines.{
   IsTextOf,
   LeadsOn,
   RefusedAt,
-  tag_line,
 };
 ghost use Rattle.bag_tags.specs.Words.{is_blank_line};
 
 use crate::fault::{LineCause, LineFault, TagCause, TagFault};
-use crate::words::{MARK, is_blank_line, without};
-use bag_path::{Line, Lines, Version};
+use crate::last_line::LastLine;
+use crate::pieces::{read_end, read_ended};
+use crate::words::is_blank_line;
+use bag_path::Version;
+use std::alloc::Global;
 use std::str;
 
 /// The value of a text tag file, to which its lines are added in order.
@@ -43,6 +45,7 @@ pub(crate) trait TagLines {
 
 /// Adds all lines of a text to a value. After an `Err` the value is not used again.
 pub(crate) fn read_onto<V: TagLines>(
+    alloc: Global,
     value: &mut V,
     version: Version,
     octets: &[u8],
@@ -54,31 +57,32 @@ pub(crate) fn read_onto<V: TagLines>(
     ensures fault { (fault : LineFault) → IsErrOf result (TagFault.Line fault)
         → IsFirstFault (V.leads version) (V.refuses version) value.old octets.now fault }
 {
-    for line in Lines::new(without(MARK, octets)) {
-        read_numbered(value, version, line)?;
-    }
-    Ok(())
+    let mut last = LastLine::first(alloc);
+    let tail = read_ended(value, version, &mut last, octets)?;
+    read_end(value, version, &mut last, tail)
 }
 
-fn read_numbered<V: TagLines>(
+/// Adds what a line says.
+pub(crate) fn read_numbered<V: TagLines>(
     value: &mut V,
     version: Version,
-    line: Line<'_>,
+    number: u64,
+    text: &[u8],
 ) -> Result<(), TagFault>
-    requires { AllByRecursion IsPlain line.text.now }
+    requires { AllByRecursion IsPlain text.now }
     ensures ok { OnOk result
-        (LeadsOn (V.leads version) value.old (tag_line (numbered_text line.entry)) value.new) }
+        (LeadsOn (V.leads version) value.old (tag_text (number, text.now)) value.new) }
     ensures err { IfErr result
-        (Faults (RefusedAt (V.refuses version) value.old (tag_line (numbered_text line.entry)))) }
+        (Faults (RefusedAt (V.refuses version) value.old (tag_text (number, text.now)))) }
 {
-    if is_blank_line(line.text) {
+    if is_blank_line(text) {
         return Ok(());
     }
-    match read_octets(value, version, line.number, line.text) {
+    match read_octets(value, version, number, text) {
         Ok(()) => Ok(()),
         Err(TagCause::Memory) => Err(TagFault::Memory),
         Err(TagCause::Line(cause)) => Err(TagFault::Line(LineFault {
-            line: line.number,
+            line: number,
             cause,
         })),
     }

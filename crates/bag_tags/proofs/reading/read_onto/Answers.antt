@@ -1,37 +1,29 @@
-use Rattle.std.proofs.Common.{◌≡◌, map, sym, ap, ◌∙◌, subst}
-use Rattle.std.specs.List.{enumerate_from}
+use Rattle.std.proofs.Common.{[]}
 use Rattle.std.proofs.lemmas.Result.{err_from_is_err_and}
-use Rattle.bag_path.specs.Lines.{lines_of}
-use Rattle.bag_path.specs.LinesLeft.{lines_left}
-use Rattle.bag_tags.specs.TagLines.{tag_line}
-use Rattle.bag_tags.proofs.TagLinesLemmas.{HasLed, numbered, none_led, led_on, led_all, refused_at, next_plain, text_one, fault_found, only_memory}
+use Rattle.bag_tags.proofs.PiecesLemmas.{awaits_rest, awaits_whole}
+use Rattle.bag_tags.proofs.TagLinesLemmas.{fault_found, only_memory, only_value, fault_of_read}
 use Rattle.bag_tags.proofs.reading.read_onto.Goals as goal
 
-pub loop-line-init : goal.loop-line-init
-loop-line-init g c =
-    let leads = g.V.TagLines.leads c.args.version in
-    let left : numbered c.args.octets.now ≡ map tag_line (lines_left c.into_iter-line-iterator.result) =
-    ap (λ o. map tag_line (enumerate_from 1 (lines_of o))) (sym c.without.ensures) ∙ ap (map tag_line) (sym c.new-line-items.ensures ∙ ap lines_left (sym c.into_iter-line-iterator.ensures.into_iter_gives)) in
-    subst (λ ls. HasLed leads c.args.value.now (numbered c.args.octets.now) ls c.args.value.now) left (none_led leads c.args.value.now (numbered c.args.octets.now))
+pub returns-in_err-tail-clause-only : goal.returns-in_err-tail-clause-only
+returns-in_err-tail-clause-only g c = λ other t.
+    let error = err_from_is_err_and c.from_residual.result c.from_residual.ensures.1 in
+    rw (error.1, error.2) (only_memory _ _ c.requires _ _ _ other (c.in_err-tail.ensures.err c.args.value.now c.args.octets.now [] (awaits_whole _ _ c.args.octets.now _ c.first-last.ensures)) t)
 
-pub read_numbered-requires : goal.read_numbered-requires
-read_numbered-requires g c = next_plain _ _ _ c.args.octets.now _ _ _ (ap (map tag_line) c.in-Some.ensures.steps) c.loop-line.invariant
-
-pub loop-line-preserved : goal.loop-line-preserved
-loop-line-preserved g c = led_on _ _ _ _ _ _ _ _ (ap (map tag_line) c.in-Some.ensures.steps) c.in_ok-read_numbered.ensures.ok c.loop-line.invariant
-
-pub returns-in_err-read_numbered-clause-only : goal.returns-in_err-read_numbered-clause-only
-returns-in_err-read_numbered-clause-only g c = λ other t.
-    let p = err_from_is_err_and c.from_residual.result c.from_residual.ensures.1 in
-    rw (p.1, p.2) (only_memory _ _ c.requires _ _ _ _ (refused_at _ _ _ _ _ _ _ _ _ (ap (map tag_line) c.in-Some.ensures.steps) c.in_err-read_numbered.ensures.err c.loop-line.invariant) t)
-
-pub returns-in_err-read_numbered-clause-fault : goal.returns-in_err-read_numbered-clause-fault
-returns-in_err-read_numbered-clause-fault g c = λ fault e.
-    let p = err_from_is_err_and c.from_residual.result c.from_residual.ensures.1 in
-    fault_found _ _ c.requires _ _ _ fault (refused_at _ _ _ _ _ _ _ _ _ (ap (map tag_line) c.in-Some.ensures.steps) c.in_err-read_numbered.ensures.err c.loop-line.invariant) (rw (p.1, p.2) at e)
+pub returns-in_err-tail-clause-fault : goal.returns-in_err-tail-clause-fault
+returns-in_err-tail-clause-fault g c = λ fault e.
+    let error = err_from_is_err_and c.from_residual.result c.from_residual.ensures.1 in
+    fault_found _ _ c.requires _ _ _ fault (c.in_err-tail.ensures.err c.args.value.now c.args.octets.now [] (awaits_whole _ _ c.args.octets.now _ c.first-last.ensures)) (rw (error.1, error.2) at e)
 
 pub returns-clause-read : goal.returns-clause-read
-returns-clause-read g c = led_all _ _ _ _ _ (ap (map tag_line) c.in-None.ensures.steps.0) c.loop-line.invariant
+returns-clause-read g c = c.read_end.ensures.ok c.args.value.now c.args.octets.now
+    (awaits_rest _ _ _ _ _ _ (c.in_ok-tail.ensures.ok c.args.value.now c.args.octets.now [] (awaits_whole _ _ c.args.octets.now _ c.first-last.ensures)))
 
 pub returns-clause-only : goal.returns-clause-only
-returns-clause-only g c = λ other t. text_one _ _ c.requires _ _ _ other (led_all _ _ _ _ _ (ap (map tag_line) c.in-None.ensures.steps.0) c.loop-line.invariant) t
+returns-clause-only g c = λ other t.
+    let rest = awaits_rest _ _ _ _ _ _ (c.in_ok-tail.ensures.ok c.args.value.now c.args.octets.now [] (awaits_whole _ _ c.args.octets.now _ c.first-last.ensures)) in
+    only_value _ _ c.requires _ _ c.read_end.result c.read_end.new.value other (c.read_end.ensures.ok c.args.value.now c.args.octets.now rest) (c.read_end.ensures.err c.args.value.now c.args.octets.now rest) t
+
+pub returns-clause-fault : goal.returns-clause-fault
+returns-clause-fault g c = λ fault e.
+    let rest = awaits_rest _ _ _ _ _ _ (c.in_ok-tail.ensures.ok c.args.value.now c.args.octets.now [] (awaits_whole _ _ c.args.octets.now _ c.first-last.ensures)) in
+    fault_of_read _ _ c.requires _ _ c.read_end.result fault (c.read_end.ensures.err c.args.value.now c.args.octets.now rest) e
