@@ -66,10 +66,11 @@ pub record IsNewFeed (value : TagValue) (version : Version) (feed : TagFeed) : T
 
 -- no line of these octets but the last one is faulty
 abbrev pub IsFaultlessBeforeLast : Version → LineFile → List ℕ → Type 0
-IsFaultlessBeforeLast version file octets = (fault : LineFault) → IsFaultOf version file octets fault
-    → length (lines_of (without mark octets)) ≤ fault.line
+IsFaultlessBeforeLast version file octets = (fault : LineFault)
+    → IsFaultOf version file octets fault → length (lines_of (without mark octets)) ≤ fault.line
 
 -- these octets were fed, in any number of pieces
-pub record Fed (version : Version) (file : LineFile) (octets : List ℕ) (feed : TagFeed) : Type 0 where
+pub record Fed (version : Version) (file : LineFile) (octets : List ℕ) (feed : TagFeed)
+    : Type 0 where
   pub by_version : feed.version ≡ version
   pub stands : StandsAt version file octets feed feed.fault

@@ -176,9 +176,11 @@ fn feed_value(
 
 /// Reads the last line, which ends where the text ends.
 fn end_value(value: &mut TagValue, version: Version, last: &mut LastLine) -> Result<(), TagFault>
-    ensures ok { (file : LineFile) (all : List ℕ) → AwaitsFor version file all [] last.old value.old
+    ensures ok { (file : LineFile) (all : List ℕ)
+        → AwaitsFor version file all [] last.old value.old
         → OnOk result (IsTextFor version file all value.new) }
-    ensures err { (file : LineFile) (all : List ℕ) → AwaitsFor version file all [] last.old value.old
+    ensures err { (file : LineFile) (all : List ℕ)
+        → AwaitsFor version file all [] last.old value.old
         → IfErr result (Faults (IsFaultOf version file all)) }
 {
     match value {
