@@ -22,6 +22,7 @@ pub mod LimitLemmas
 pub mod DeclaredLemmas
 pub mod LineFaults
 pub mod TextsRead
+pub mod TextReaderLemmas
 pub mod TextStops
 pub mod FirstFiles
 pub mod TextsMore

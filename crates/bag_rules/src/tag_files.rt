@@ -1,5 +1,7 @@
 //! Reads the tag files of a bag that are read line by line (RFC 8493 sections 2.1.3 and 2.2).
 ghost use Rattle.std.specs.Prelude.{◌≡◌, ◌<◌, ◌≤◌, ◌↔◌, ◌∷◌, [], ℕ, List, IfOk, IfErr, IsErrOf, IsTrue, MatchResult, OnOk, Some, length, slice_get};
+ghost use Rattle.bag_digest.specs.declared.algorithm.AlgSet.{AlgSet};
+ghost use Rattle.bag_path.specs.declared.version.Version.{Version};
 ghost use Rattle.bag_path.specs.Lines.{lines_of};
 ghost use Rattle.bag_rules.specs.Bags.{Bag, IsBagOf, version_of};
 ghost use Rattle.bag_rules.specs.Faults.{kind_of_lines};
@@ -7,6 +9,7 @@ ghost use Rattle.bag_rules.specs.HasFault.{HasFaultOf};
 ghost use Rattle.bag_rules.specs.Limits.{HasCountedLines, IsLongTag, FirstStops, NoneStops, Stopped, TextStops};
 ghost use Rattle.bag_rules.specs.KeptInside.{AreKept};
 ghost use Rattle.bag_rules.specs.ReadingInside.{Adds, AreTextsOf, IsBadLineOf, ReadsOn, ReadsText, ValueOf, IsFirstBadLine};
+ghost use Rattle.bag_rules.specs.TextReaders.{HasTaken, IsFoundOf, IsReadOf, fetch_in, info_in, manifest_in};
 ghost use Rattle.bag_rules.specs.Trees.{HasFileAt, UsesTree, paths_in};
 ghost use Rattle.bag_rules.specs.declared.outcome.CheckFault.{CheckFault};
 
@@ -14,12 +17,11 @@ use crate::fault::Fault;
 use crate::kept::Kept;
 use crate::limits::{LARGEST_TAG_FILE, MOST_LINES};
 use crate::outcome::CheckFault;
+use crate::text_reader::{TextRead, TextReader, feed_of, has_counted_lines, take_all};
 use crate::tree::Tree;
 use bag_digest::{ReadFault, read_to_end_within};
 use bag_path::{Lines, Version};
-use bag_tags::{
-    Fetch, FetchLine, Info, LineFile, Manifest, TagFault, read_fetch, read_info, read_manifest,
-};
+use bag_tags::{Fetch, FetchLine, Info, LineFile, Manifest, TagFault, TagValue};
 use std::alloc::Global;
 
 /// What the tag files that are read line by line say. It includes those that are there and have no faulty line.
@@ -116,12 +118,39 @@ fn read_text<T: Tree>(
     let Some(file) = LineFile::of(tree.path(i)) else {
         return Ok(());
     };
-    let text = read_tag_file(alloc, buffer, tree, i)?;
-    kept.keep(i, &text)?;
-    if has_too_many_lines(file, &text) {
+    let reader = TextReader::new(alloc, file, version, kept.set());
+    let found = read_found(buffer, tree, i, reader)?;
+    kept.add(i, found.length, found.digests)?;
+    if found.has_too_many_lines {
         return Err(CheckFault::TooMany);
     }
-    read_lines(alloc, &text, file, version, texts, faults)
+    add_text(found.read, file, texts, faults)
+}
+
+/// Reads a tag file to its end through a reader.
+fn read_found<T: Tree>(
+    buffer: &mut [u8],
+    tree: &mut T,
+    i: usize,
+    reader: TextReader,
+) -> Result<TextRead, CheckFault>
+    requires room { 0 < length buffer.old }
+    requires inside { i < length (paths_in (T.shown tree.old)) }
+    ensures known { (version : Version) (set : AlgSet) (path octets : List ℕ)
+        → HasTaken version set [] reader → HasFileAt (T.shown tree.old) i path octets
+        → MatchResult result (λ found. IsFoundOf version reader.file set octets found
+        × (length octets ≤ LARGEST_TAG_FILE)) (Stopped (IsLongTag path octets)) }
+    ensures tree { UsesTree T.shown T.failures T.sure tree.old tree.new
+        (IsErrOf result CheckFault.Tree) }
+{
+    let mut reader = reader;
+    tree.start(i)?;
+    match take_all(buffer, tree, &mut reader) {
+        Ok(length) => Ok(reader.finish(length)),
+        Err(ReadFault::Read) => Err(CheckFault::Tree),
+        Err(ReadFault::Memory) => Err(CheckFault::Memory),
+        Err(ReadFault::TooLarge) => Err(CheckFault::TagTooLarge(tree.path(i).clone()?)),
+    }
 }
 
 /// Reads a whole tag file.
@@ -155,13 +184,6 @@ pub(crate) fn has_too_many_lines(file: LineFile, text: &[u8]) -> bool
     has_counted_lines(file) && has_more_lines(text, MOST_LINES)
 }
 
-/// Whether the number of this file's lines is limited.
-fn has_counted_lines(file: LineFile) -> bool
-    ensures { IsTrue result ↔ HasCountedLines file }
-{
-    !matches!(file, LineFile::Info)
-}
-
 /// Whether a text has more lines than this number.
 fn has_more_lines(text: &[u8], most: usize) -> bool
     ensures { IsTrue result ↔ (most < length (lines_of text.now)) }
@@ -183,21 +205,76 @@ pub(crate) fn read_lines(
         (IsFirstBadLine version file text.now)) }
     ensures err { IfErr result (λ fault. fault ≡ CheckFault.Memory) }
 {
+    add_text(read_whole(alloc, text, file, version), file, texts, faults)
+}
+
+/// What a text says, or its first fault.
+fn read_whole(
+    alloc: Global,
+    text: &[u8],
+    file: LineFile,
+    version: Version,
+) -> Result<TagValue, TagFault>
+    ensures { IsReadOf version file text.now result }
+{
+    let mut feed = feed_of(alloc, file, version);
+    // If this is a fault, the feed answers it once more at its end.
+    let _ = feed.feed(text);
+    feed.finish()
+}
+
+/// Adds what was read of a tag file, or a fault for its first faulty line.
+fn add_text(
+    read: Result<TagValue, TagFault>,
+    file: LineFile,
+    texts: &mut Texts,
+    faults: &mut Vec<Fault>,
+) -> Result<(), CheckFault>
+    ensures read { (version : Version) (octets : List ℕ) → IsReadOf version file octets read
+        → OnOk result (ReadsText version file octets texts.old texts.new) }
+    ensures faulty { (version : Version) (octets : List ℕ) → IsReadOf version file octets read
+        → OnOk result
+        (Adds faults.old.items faults.new.items (IsFirstBadLine version file octets)) }
+    ensures err { IfErr result (λ fault. fault ≡ CheckFault.Memory) }
+{
+    let value = value_of(read, file, faults)?;
     match file {
-        LineFile::Info => {
-            texts.info = value_of(read_info(alloc, text, version), file, faults)?;
-        }
-        LineFile::FetchList => {
-            texts.fetch = value_of(read_fetch(alloc, text, version), file, faults)?;
-        }
-        LineFile::Manifest(name) => {
-            let read = read_manifest(alloc, text, name.alg, name.kind, version);
-            if let Some(manifest) = value_of(read, file, faults)? {
+        LineFile::Info => texts.info = info_in(value),
+        LineFile::FetchList => texts.fetch = fetch_in(value),
+        LineFile::Manifest(_) => {
+            if let Some(manifest) = manifest_in(value) {
                 texts.manifests.push(manifest)?;
             }
         }
     }
     Ok(())
+}
+
+fn info_in(value: Option<TagValue>) -> Option<Info>
+    ensures { result ≡ info_in value }
+{
+    match value {
+        Some(TagValue::Info(info)) => Some(info),
+        _ => None,
+    }
+}
+
+fn fetch_in(value: Option<TagValue>) -> Option<Fetch>
+    ensures { result ≡ fetch_in value }
+{
+    match value {
+        Some(TagValue::Fetch(fetch)) => Some(fetch),
+        _ => None,
+    }
+}
+
+fn manifest_in(value: Option<TagValue>) -> Option<Manifest>
+    ensures { result ≡ manifest_in value }
+{
+    match value {
+        Some(TagValue::Manifest(manifest)) => Some(manifest),
+        _ => None,
+    }
 }
 
 /// The value of a text. If it has none, a fault for its first faulty line is added.

@@ -4,6 +4,8 @@
 #[cfg(test)]
 mod couriers;
 #[cfg(test)]
+mod feeds;
+#[cfg(test)]
 mod folders;
 #[cfg(test)]
 mod keepers;
