@@ -36,7 +36,7 @@ use Rattle.sqlite_trees.specs.declared.error.StoreError.TheVariants.{Broken, Cor
 use Rattle.sqlite_trees.specs.declared.error.StoreError.TheVariants as store_fault
 use Rattle.sqlite_wal.specs.Files.{outcomes}
 use Rattle.sqlite_wal.specs.Recovery.{Image}
-use Rattle.bag_cmd.specs.LedgerFiles.{AreOpenOn, HoldsLedgerAlone, HoldsLedgerIn, IsAsItWas, IsHandedBack, IsNumbered, IsRefusal, IsStopOf, IsUnopened, MayBeLeft, NoAnswer, NoDatabase, NoFile, OpensOrMakes, Refused as WasRefused}
+use Rattle.bag_cmd.specs.LedgerFiles.{AreOpenOn, HoldsLedgerAlone, HoldsLedgerIn, IsAsItWas, IsHandedBack, IsNumbered, IsRefusal, IsStopOf, IsUnopened, IsUnused, MayBeLeft, NoAnswer, NoDatabase, NoFile, OpensOrMakes, Refused as WasRefused}
 use Rattle.bag_cmd.specs.Unopened.{HasNoAnswer, cause_barred, cause_of_error, cause_of_fault, cause_of_store, cause_unmade, fault_barred, fault_unmade}
 use Rattle.bag_cmd.specs.declared.barred.Barred.{Barred}
 use Rattle.bag_cmd.specs.declared.barred.Barred.TheVariants as why
@@ -150,7 +150,7 @@ module _ {S D : Type 0} (g : Ghosts D) (image : Image) where
   unused files rest is usable = subst (IsAsItWas {S = S} g image) (sym is) (files, usable, λ clean image may. may)
 
   pub not_connected : (files : Files D) (rest : Leftover D g) (error : Error) (it : Unopened (Left S D g)) → AreOpenOn g image files → IsTrue (is_open_error error)
-      → (IsCleanLeft rest → FailsToOpenFiles files rest error) → (IsCleanLeft rest → LeavesFiles files rest) → it.left ≡ left.Files rest → it.fault ≡ adopt_fault error → it.cause ≡ cause_of_error error → IsUnopened g image it (λ _. ⊥)
+      → (IsCleanLeft rest → FailsToOpenFiles files rest error) → (IsCleanLeft rest → LeavesFiles files rest) → it.left ≡ left.Files rest → it.fault ≡ adopt_fault error → it.cause ≡ cause_of_error error → IsUnused g image it
   not_connected files rest error it usable named why unharmed left fault cause =
       let as_it_was : IsAsItWas g image it.left = subst (IsAsItWas {S = S} g image) (sym left) (files, usable, unharmed) in
       elim (told_as error named) [
@@ -160,29 +160,34 @@ module _ {S D : Type 0} (g : Ghosts D) (image : Image) where
 
   -- the database was refused for this fault
   pub not_adopted : (it : Unopened (Left S D g)) (fault : AdoptFault) (opened refused : Held (FileStore D g)) → it.left ≡ left.Database refused
-      → (it.fault ≡ fault) × (it.cause ≡ cause_of_fault fault) → IsHandedBack image opened refused (λ _. ⊥) → (HasCleanDisk (file_state refused) → IsRefusal image fault opened) → IsUnopened g image it (λ _. ⊥)
+      → (it.fault ≡ fault) × (it.cause ≡ cause_of_fault fault) → IsHandedBack image opened refused (λ _. ⊥) → (HasCleanDisk (file_state refused) → IsRefusal image fault opened) → IsUnopened g image it (λ _. ⊥) (λ is. is ≡ opened)
   not_adopted it fault opened refused left told back why =
-      WasRefused opened refused left back (subst (λ f. HasCleanDisk (file_state refused) → IsRefusal image f opened) (sym told.0) why) (told.1 ∙ ap cause_of_fault (sym told.0))
+      WasRefused opened refused left refl back (subst (λ f. HasCleanDisk (file_state refused) → IsRefusal image f opened) (sym told.0) why) (told.1 ∙ ap cause_of_fault (sym told.0))
 
-  -- the same, where more may have been seen in place of a file
-  pub known_less : (it : Unopened (Left S D g)) (none more : Seen → Type 0) → ((seen : Seen) → none seen → more seen) → IsUnopened g image it none → IsUnopened g image it more
-  known_less it none more to (NoAnswer why as_it_was) = NoAnswer why as_it_was
-  known_less it none more to (NoFile seen saw is fault cause as_it_was) = NoFile seen saw (to seen is) fault cause as_it_was
-  known_less it none more to (NoDatabase files left not fault cause as_it_was) = NoDatabase files left not fault cause as_it_was
-  known_less it none more to (WasRefused opened refused left back why cause) = WasRefused opened refused left back why cause
+  -- the same, where more may have been seen in place of a file, and more is refused
+  pub known_less : (it : Unopened (Left S D g)) (none more : Seen → Type 0) (few many : Held (FileStore D g) → Type 0) → ((seen : Seen) → none seen → more seen) → ((opened : Held (FileStore D g)) → few opened → many opened)
+      → IsUnopened g image it none few → IsUnopened g image it more many
+  known_less it none more few many to also (NoAnswer why as_it_was) = NoAnswer why as_it_was
+  known_less it none more few many to also (NoFile seen saw is fault cause as_it_was) = NoFile seen saw (to seen is) fault cause as_it_was
+  known_less it none more few many to also (NoDatabase files left not fault cause as_it_was) = NoDatabase files left not fault cause as_it_was
+  known_less it none more few many to also (WasRefused opened refused left may back why cause) = WasRefused opened refused left (also opened may) back why cause
 
-  pub adopted : {A : Type 0} (P : A → Type 0) (none more : Seen → Type 0) → ((seen : Seen) → none seen → more seen) → (answer : Result A (Unopened (Left S D g)))
-      → MatchResult answer P (λ it. IsUnopened g image it none) → MatchResult answer P (λ it. IsUnopened g image it more)
-  adopted P none more to (Ok a) is = is
-  adopted P none more to (Err it) is = known_less it none more to is
+  -- nothing was seen, and nothing refused
+  pub not_used : (it : Unopened (Left S D g)) (more : Seen → Type 0) (many : Held (FileStore D g) → Type 0) → IsUnused g image it → IsUnopened g image it more many
+  not_used it more many = known_less it _ more _ many (λ seen none. absurd none) (λ opened none. absurd none)
+
+  pub adopted : {A : Type 0} (P : A → Type 0) (none more : Seen → Type 0) (few many : Held (FileStore D g) → Type 0) → ((seen : Seen) → none seen → more seen) → ((opened : Held (FileStore D g)) → few opened → many opened)
+      → (answer : Result A (Unopened (Left S D g))) → MatchResult answer P (λ it. IsUnopened g image it none few) → MatchResult answer P (λ it. IsUnopened g image it more many)
+  adopted P none more few many to also (Ok a) is = is
+  adopted P none more few many to also (Err it) is = known_less it none more few many to also is
 
   -- the same for an opening that may make a ledger
-  pub opened_or_not : {A : Type 0} (is_made : A → Bool) (opens makes : A → Type 0) (more : Seen → Type 0) (answer : Result A (Unopened (Left S D g)))
-      → MatchResult answer (λ it. (is_made it ≡ false) × opens it) (λ it. IsUnopened g image it (λ _. ⊥)) → MatchResult answer (λ it. OpensOrMakes (is_made it) (opens it) (makes it)) (λ it. IsUnopened g image it more)
-  opened_or_not is_made opens makes more (Ok a) is = inl is
-  opened_or_not is_made opens makes more (Err it) is = known_less it (λ _. ⊥) more (λ seen none. absurd none) is
+  pub opened_or_not : {A : Type 0} (is_made : A → Bool) (opens makes : A → Type 0) (more : Seen → Type 0) (few many : Held (FileStore D g) → Type 0) → ((opened : Held (FileStore D g)) → few opened → many opened) → (answer : Result A (Unopened (Left S D g)))
+      → MatchResult answer (λ it. (is_made it ≡ false) × opens it) (λ it. IsUnopened g image it (λ _. ⊥) few) → MatchResult answer (λ it. OpensOrMakes (is_made it) (opens it) (makes it)) (λ it. IsUnopened g image it more many)
+  opened_or_not is_made opens makes more few many also (Ok a) is = inl is
+  opened_or_not is_made opens makes more few many also (Err it) is = known_less it _ more few many (λ seen none. absurd none) also is
 
-  pub made_or_not : {A : Type 0} (is_made : A → Bool) (opens makes : A → Type 0) (more : Seen → Type 0) (answer : Result A (Unopened (Left S D g)))
-      → MatchResult answer (λ it. (is_made it ≡ true) × makes it) (λ it. IsUnopened g image it (λ _. ⊥)) → MatchResult answer (λ it. OpensOrMakes (is_made it) (opens it) (makes it)) (λ it. IsUnopened g image it more)
-  made_or_not is_made opens makes more (Ok a) is = inr is
-  made_or_not is_made opens makes more (Err it) is = known_less it (λ _. ⊥) more (λ seen none. absurd none) is
+  pub made_or_not : {A : Type 0} (is_made : A → Bool) (opens makes : A → Type 0) (more : Seen → Type 0) (many : Held (FileStore D g) → Type 0) (answer : Result A (Unopened (Left S D g)))
+      → MatchResult answer (λ it. (is_made it ≡ true) × makes it) (IsUnused g image) → MatchResult answer (λ it. OpensOrMakes (is_made it) (opens it) (makes it)) (λ it. IsUnopened g image it more many)
+  made_or_not is_made opens makes more many (Ok a) is = inr is
+  made_or_not is_made opens makes more many (Err it) is = not_used it more many is

@@ -26,7 +26,7 @@ use Rattle.sqlite_wal.specs.Files.{outcomes}
 use Rattle.sqlite_wal.specs.Reads.{AreClean}
 use Rattle.sqlite_wal.specs.Recovery.{Image}
 use Rattle.bag_cmd.specs.Unopened.{HasNoAnswer, cause_of_fault, cause_seen}
-use Rattle.bag_cmd.specs.declared.found.Found.TheVariants.{File, Other}
+use Rattle.bag_cmd.specs.declared.found.Found.TheVariants.{Empty, File, Nothing, Other}
 use Rattle.bag_cmd.specs.declared.found.Seen.{Seen}
 use Rattle.bag_cmd.specs.declared.open_file.Closed.{Closed}
 use Rattle.bag_cmd.specs.declared.open_file.Closed.TheVariants as closed
@@ -34,6 +34,17 @@ use Rattle.bag_cmd.specs.declared.unopened.Left.{Left}
 use Rattle.bag_cmd.specs.declared.unopened.Left.TheVariants as left
 use Rattle.bag_cmd.specs.declared.unopened.LedgerCause.TheVariants.{NoDatabase as IsNoDatabase}
 use Rattle.bag_cmd.specs.declared.unopened.Unopened.{Unopened}
+
+-- WHAT IS SEEN
+
+-- the same names were seen again once both were locked
+abbrev pub WasSeenBefore : Seen → Seen → Type 0
+WasSeenBefore seen again = (again.name ≡ seen.name) × (again.log ≡ seen.log)
+    × (again.before ≡ Some seen.found)
+
+-- nothing was there before both were locked, and then a file of zero octets without a log
+abbrev pub IsNewFile : Seen → Type 0
+IsNewFile seen = (seen.before ≡ Some Nothing) × (seen.found ≡ Empty) × (seen.had_log ≡ false)
 
 -- OPENING OR MAKING
 
@@ -73,6 +84,10 @@ module _ {D : Type 0} {g : Ghosts D} where
         → FindsIn image (file_state opened) × IsOpened opened
     pub sums : HasCleanDisk (file_state opened) → IsBlankAs false image
         → (files.view opened.store).has_sums ≡ false
+
+  -- it has tables, indexes or views
+  abbrev pub HasTables : Held (FileStore D g) → Type 0
+  HasTables opened = (file_state opened).now.schema ≢ no_schema
 
   -- its database was verified, and a ledger that the files held is what the keeper holds, and a
   -- crash leaves that ledger alone
@@ -171,21 +186,28 @@ module _ {S D : Type 0} (g : Ghosts D) (image : Image) where
   -- Memory ran out, or the store failed; or something else was seen in place of a file; or the files
   -- hold no database; or its database was refused. The last two are said of what was opened, if the
   -- store returned what was written to it.
-  pub data IsUnopened (it : Unopened (Left S D g)) (is_none : Seen → Type 0) : Type 0 where
-    NoAnswer : HasNoAnswer it → IsAsItWas it.left → IsUnopened it is_none
+  pub data IsUnopened (it : Unopened (Left S D g)) (is_none : Seen → Type 0)
+      (may_refuse : Held (FileStore D g) → Type 0) : Type 0 where
+    NoAnswer : HasNoAnswer it → IsAsItWas it.left → IsUnopened it is_none may_refuse
     NoFile : (seen : Seen) → it.seen ≡ Some seen → is_none seen → it.fault ≡ NotALedger
-        → it.cause ≡ Some (cause_seen seen.found) → IsAsItWas it.left → IsUnopened it is_none
+        → it.cause ≡ Some (cause_seen seen.found) → IsAsItWas it.left
+        → IsUnopened it is_none may_refuse
     NoDatabase : (rest : Leftover D g) → it.left ≡ left.Files rest
         → (IsCleanLeft rest → (db : Trees) → ¬ HoldsDatabase image db) → it.fault ≡ NotALedger
-        → it.cause ≡ Some IsNoDatabase → IsAsItWas it.left → IsUnopened it is_none
+        → it.cause ≡ Some IsNoDatabase → IsAsItWas it.left → IsUnopened it is_none may_refuse
     Refused : (opened refused : Held (FileStore D g)) → it.left ≡ left.Database refused
-        → IsHandedBack image opened refused (λ _. ⊥)
+        → may_refuse opened → IsHandedBack image opened refused (λ _. ⊥)
         → (HasCleanDisk (file_state refused) → IsRefusal image it.fault opened)
-        → it.cause ≡ cause_of_fault it.fault → IsUnopened it is_none
+        → it.cause ≡ cause_of_fault it.fault → IsUnopened it is_none may_refuse
 
-  -- no ledger was opened, or none was opened or made
+  -- no database was opened to be a ledger, nor was it seen that there is none
+  abbrev pub IsUnused : Unopened (Left S D g) → Type 0
+  IsUnused it = IsUnopened it (λ _. ⊥) (λ _. ⊥)
+
+  -- no ledger was opened
   abbrev pub IsUnopenedFile : Unopened (Left S D g) → Type 0
-  IsUnopenedFile it = IsUnopened it (λ seen. seen.found ≢ File)
+  IsUnopenedFile it = IsUnopened it (λ seen. seen.found ≢ File) (λ _. ⊤)
 
+  -- no ledger was opened or made; a database without tables isn't refused
   abbrev pub IsUnmadeFile : Unopened (Left S D g) → Type 0
-  IsUnmadeFile it = IsUnopened it (λ seen. seen.found ≡ Other)
+  IsUnmadeFile it = IsUnopened it (λ seen. seen.found ≡ Other) HasTables

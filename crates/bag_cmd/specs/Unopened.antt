@@ -20,8 +20,7 @@ use Rattle.bag_cmd.specs.declared.unopened.Unopened.{Unopened}
 abbrev pub cause_seen : Found → LedgerCause
 cause_seen found.Nothing = Missing
 cause_seen found.Empty = Empty
-cause_seen found.File = NoDatabase
-cause_seen found.Other = NotFile
+cause_seen _ = NotFile
 
 -- why no connection was opened; nothing is told of want of memory
 abbrev pub cause_of_error : Error → Option LedgerCause

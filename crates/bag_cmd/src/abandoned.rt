@@ -1,5 +1,6 @@
 //! The file of a ledger in which none is opened: what is emptied and removed.
-ghost use Rattle.std.specs.Prelude.{◌≡◌, false, true};
+ghost use Rattle.std.specs.Prelude.{◌≡◌, false, is_some, true};
+ghost use Rattle.bag_cmd.specs.LedgerFiles.{IsNewFile};
 
 use crate::found::{Found, Seen};
 use std::fs::{self, File};
@@ -11,23 +12,18 @@ pub struct Abandoned<'a> {
     rt: &'a HostRuntime,
     // what was seen since both are locked
     seen: Seen,
-    // whether this run made the file, and no other one wrote to it before it was locked
-    is_new: bool,
     // the file apart from a connection
     file: File,
+    ghost locked: { is_some seen.before ≡ true },
 }
 
 impl<'a> Abandoned<'a> {
     /// No ledger is opened in this file.
-    pub fn new(rt: &'a HostRuntime, seen: Seen, is_new: bool, file: File) -> Abandoned<'a>
-        ensures { (result.seen ≡ seen) × (result.is_new ≡ is_new) }
+    pub fn new(rt: &'a HostRuntime, seen: Seen, file: File) -> Abandoned<'a>
+        requires { is_some seen.before ≡ true }
+        ensures { result.seen ≡ seen }
     {
-        Abandoned {
-            rt,
-            seen,
-            is_new,
-            file,
-        }
+        Abandoned { rt, seen, file }
     }
 
     /// Removes the log, unless anything was found in it. Returns what was seen.
@@ -51,7 +47,7 @@ impl<'a> Abandoned<'a> {
             return;
         }
         self.remove_new_log();
-        if self.is_new {
+        if self.seen.is_new() {
             self.remove_new_file();
         }
     }
@@ -72,7 +68,7 @@ impl<'a> Abandoned<'a> {
 
     /// Removes the file that this run made, and to which no other one has written.
     fn remove_new_file(&self)
-        requires { self.now.is_new ≡ true }
+        requires { IsNewFile self.now.seen }
     {
         let _ = fs::remove_file(self.rt, self.seen.name());
     }

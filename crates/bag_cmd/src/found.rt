@@ -1,7 +1,8 @@
 //! What is found at the name of a ledger.
-ghost use Rattle.std.specs.Prelude.{◌≡◌, ◌↔◌, ◌++◌, IfOk, codes, string_bytes, true};
+ghost use Rattle.std.specs.Prelude.{◌≡◌, ◌↔◌, ◌++◌, IfOk, Some, codes, false, string_bytes, true};
 
 use crate::barred::Barred;
+use sqlite::{FileFrom, Files, Start};
 use std::fs;
 use std::io::{self, ErrorKind};
 
@@ -23,6 +24,8 @@ pub enum Found {
 pub struct Seen {
     name: String,
     log: String,
+    // what was found before both were locked, once they are
+    before: Option<Found>,
     found: Found,
     had_log: bool,
     ghost pair: { string_bytes log ≡ string_bytes name ++ codes "-wal" },
@@ -38,25 +41,38 @@ impl Seen {
         ensures { IfOk result (λ seen. seen.name ≡ name) }
     {
         let log = format!(in rt.alloc(); "{}-wal", name.as_str())?;
-        let seen = Seen {
-            name,
-            log,
-            found: Found::Nothing,
-            had_log: false,
-        };
-        Ok(seen.again(rt)?)
-    }
-
-    /// Looks again at the same names.
-    pub fn again(self, rt: &HostRuntime) -> io::Result<Seen>
-        ensures { IfOk result (λ seen. (seen.name ≡ self.name) × (seen.log ≡ self.log)) }
-    {
-        let Seen { name, log, .. } = self;
-        let had_log = length_at(rt, log.as_str())?.is_some_and(|length| length > 0);
+        let had_log = has_content(rt, log.as_str())?;
         let found = found_at(rt, name.as_str(), had_log)?;
         Ok(Seen {
             name,
             log,
+            before: None,
+            found,
+            had_log,
+        })
+    }
+
+    /// Looks again at the same names, now that the file and its log are locked.
+    ///
+    /// # Errors
+    ///
+    /// The operating system doesn't give the information.
+    pub fn again<S: Start>(self, rt: &HostRuntime, _locked: &Files<FileFrom<S>>) -> io::Result<Seen>
+        ensures { IfOk result (λ seen. (seen.name ≡ self.name) × (seen.log ≡ self.log)
+            × (seen.before ≡ Some self.found)) }
+    {
+        let Seen {
+            name,
+            log,
+            found: before,
+            ..
+        } = self;
+        let had_log = has_content(rt, log.as_str())?;
+        let found = found_at(rt, name.as_str(), had_log)?;
+        Ok(Seen {
+            name,
+            log,
+            before: Some(before),
             found,
             had_log,
         })
@@ -103,6 +119,15 @@ impl Seen {
     {
         self.had_log
     }
+
+    /// Whether this run made both: nothing was there before they were locked, and then a file of zero octets without a
+    /// log. No other run has written to it.
+    pub fn is_new(&self) -> bool
+        ensures { (result ≡ true) ↔ ((self.now.before ≡ Some Found.Nothing)
+            × (self.now.found ≡ Found.Empty) × (self.now.had_log ≡ false)) }
+    {
+        matches!(self.before, Some(Found::Nothing)) && self.found == Found::Empty && !self.had_log
+    }
 }
 
 /// What exists at this name. `had_log` says whether there is anything in its log.
@@ -123,11 +148,11 @@ fn found_at(rt: &HostRuntime, name: &str, had_log: bool) -> io::Result<Found> {
     })
 }
 
-/// The length in octets of what exists at this name. `None` if nothing does.
-fn length_at(rt: &HostRuntime, name: &str) -> io::Result<Option<u64>> {
+/// Whether something exists at this name that has at least one octet.
+fn has_content(rt: &HostRuntime, name: &str) -> io::Result<bool> {
     match fs::metadata(rt, name) {
-        Ok(about) => Ok(Some(about.len())),
-        Err(error) if is_absence(&error) => Ok(None),
+        Ok(about) => Ok(about.len() > 0),
+        Err(error) if is_absence(&error) => Ok(false),
         Err(error) => Err(error),
     }
 }

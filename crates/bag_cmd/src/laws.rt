@@ -57,7 +57,7 @@ pub fn the_disk_leaves_what_a_stop_may_leave<S: Start>(stopped: &FileKeeper<S>)
 {}
 
 /// What is stored under a name before a ledger is opened is what the files hold. A ledger that is opened or made under a
-/// name, or refused, is so from these files, and what is left of it is what its keeper leaves of them.
+/// name is so from these files.
 pub fn ledgers_in_files_are_what_the_files_hold<S: Start>(kept: &FileKeeper<S>)
     ensures holds { (name : List ℕ) (ledger : Ledger)
         → ⟦<LedgerFiles<'static, S> as Ledgers>⟧.holds name ledger
@@ -66,6 +66,11 @@ pub fn ledgers_in_files_are_what_the_files_hold<S: Start>(kept: &FileKeeper<S>)
         ↔ IsAdoptedFrom (image_at S.Start) kept.now.connection }
     ensures made { (name : List ℕ) → ⟦<LedgerFiles<'static, S> as Ledgers>⟧.made name kept.now
         ↔ IsMadeIn (image_at S.Start) kept.now.connection }
+{}
+
+/// If none is opened or made under a name, this is so from the files, and what is left of a ledger that was closed is what
+/// its keeper leaves of them.
+pub fn what_is_left_of_ledgers_in_files<S: Start>(kept: &FileKeeper<S>)
     ensures unopened { (name : List ℕ) (it : _)
         → ⟦<LedgerFiles<'static, S> as Ledgers>⟧.unopened name it
         ↔ IsUnopenedFile ⟦<FileFrom<S> as Disk>⟧ (image_at S.Start) it }

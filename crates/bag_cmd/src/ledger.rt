@@ -1,6 +1,6 @@
 //! Opens and closes ledgers by name.
 ghost use Rattle.std.specs.Prelude.{◌≡◌, ◌↔◌, [], ℕ, IfErr, List, MatchResult, None, false, true};
-ghost use Rattle.bag_cmd.specs.LedgerFiles.{IsUnopened, OpensOrMakes};
+ghost use Rattle.bag_cmd.specs.LedgerFiles.{IsUnused, OpensOrMakes};
 ghost use Rattle.bag_ledger.specs.Ledgers.{Ledger};
 ghost use Rattle.bag_receiver.specs.Receivers.{IsKept};
 ghost use Rattle.bag_receiver.specs.Receiving.{settled};
@@ -149,7 +149,7 @@ impl<'a, S: Start> LedgerFiles<'a, S> {
     /// Looks up the file with this name. Returns what it holds, too.
     fn find(self, ledger: &str) -> Result<(LedgerFile<'a>, S), UnopenedFile<S>>
         ensures { IfErr result (λ it.
-            IsUnopened ⟦<FileFrom<S> as Disk>⟧ (image_at S.Start) it (λ _. ⊥)) }
+            IsUnused ⟦<FileFrom<S> as Disk>⟧ (image_at S.Start) it) }
     {
         match LedgerFile::find(self.rt, self.progress, ledger) {
             Ok(file) => Ok((file, self.start)),
@@ -164,7 +164,7 @@ impl<'a, S: Start> Ledgers for LedgerFiles<'a, S> {
 
     type Kept = FileKeeper<S>;
 
-    type File = OpenFile<'a>;
+    type File = OpenFile<'a, S>;
 
     type Left = Left<S, FileFrom<S>>;
 
@@ -203,11 +203,11 @@ impl<'a, S: Start> Ledgers for LedgerFiles<'a, S> {
         }
     }
 
-    fn close(file: OpenFile<'a>, kept: FileKeeper<S>) -> Closed<FileFrom<S>> {
+    fn close(file: OpenFile<'a, S>, kept: FileKeeper<S>) -> Closed<FileFrom<S>> {
         file.close(kept)
     }
 
-    fn give_up(file: OpenFile<'a>, kept: FileKeeper<S>) -> Closed<FileFrom<S>> {
+    fn give_up(file: OpenFile<'a, S>, kept: FileKeeper<S>) -> Closed<FileFrom<S>> {
         file.give_up(kept)
     }
 

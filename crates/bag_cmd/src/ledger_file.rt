@@ -1,6 +1,6 @@
 //! Finds and opens ledgers in files on disk.
-ghost use Rattle.std.specs.Prelude.{◌≡◌, ◌≢◌, MatchResult, false};
-ghost use Rattle.bag_cmd.specs.LedgerFiles.{IsAdoptedFrom, IsMadeIn, IsUnopened, OpensOrMakes};
+ghost use Rattle.std.specs.Prelude.{◌≡◌, ◌≢◌, MatchResult, false, ⊤};
+ghost use Rattle.bag_cmd.specs.LedgerFiles.{HasTables, IsAdoptedFrom, IsMadeIn, IsUnopened, OpensOrMakes};
 ghost use Rattle.bag_sqlite.specs.declared.adopting.AdoptFault.{AdoptFault};
 ghost use Rattle.sqlite_wal.specs.Files.{image_at};
 
@@ -12,12 +12,12 @@ use crate::meter::{Activity, Meter};
 use crate::open_file::{FileKeeper, OpenFile};
 use crate::progress::Progress;
 use crate::unopened::{Left, Unopened};
-use sqlite::{FileFrom, Leftover, Start};
+use sqlite::{FileFrom, Start};
 use sqlite_disk::Disk;
 use std::fs;
 
 /// The ledger in a file. `S` says what the file held when it was opened.
-pub type OpenedFile<'a, S> = Opened<FileKeeper<S>, OpenFile<'a>>;
+pub type OpenedFile<'a, S> = Opened<FileKeeper<S>, OpenFile<'a, S>>;
 
 /// Why the ledger in a file wasn't opened.
 pub type UnopenedFile<S> = Unopened<Left<S, FileFrom<S>>>;
@@ -60,13 +60,13 @@ impl<'a> LedgerFile<'a> {
     ///
     /// # Errors
     ///
-    /// Those of `adopt`. Also `NotALedger` if there is no file or it is empty, and `Store` if the file
-    /// can't be opened for writing or another program has it open; in these cases nothing is created or changed.
+    /// Those of `adopt`. Also `NotALedger` if there is no file or it is empty, and `Store` if the file can't be opened for
+    /// writing or another program has it open. The file stays as it was, and so does its log, unless this made it.
     pub fn open<S: Start>(self, start: S) -> Result<OpenedFile<'a, S>, UnopenedFile<S>>
         ensures opened { MatchResult result (λ it. (it.is_made ≡ false)
             × IsAdoptedFrom (image_at S.Start) it.kept.connection)
             (λ it. IsUnopened ⟦<FileFrom<S> as Disk>⟧ (image_at S.Start) it
-            (λ seen. (seen.name ≡ self.entry.seen.name) × (seen.found ≢ Found.File))) }
+            (λ seen. (seen.name ≡ self.entry.seen.name) × (seen.found ≢ Found.File)) (λ _. ⊤)) }
         ensures none { self.entry.seen.found ≢ Found.File
             → MatchResult result (λ _. ⊥) (λ it. it.fault ≡ AdoptFault.NotALedger) }
     {
@@ -76,8 +76,7 @@ impl<'a> LedgerFile<'a> {
         let (file, files) = LockedFile::lock(self.rt, self.seen, start)?;
         // It may have been emptied before it was locked.
         if !file.seen().has_file() {
-            let seen = file.leave_log();
-            return Err(Unopened::saw(seen, Left::Files(Leftover::Files(files))));
+            return Err(file.refuse(files));
         }
         let (file, connection) = file.connect(files)?;
         file.adopt(connection, &self.meter)
@@ -94,7 +93,7 @@ impl<'a> LedgerFile<'a> {
             (IsAdoptedFrom (image_at S.Start) it.kept.connection)
             (IsMadeIn (image_at S.Start) it.kept.connection))
             (λ it. IsUnopened ⟦<FileFrom<S> as Disk>⟧ (image_at S.Start) it
-            (λ seen. (seen.name ≡ self.entry.seen.name) × (seen.found ≡ Found.Other))) }
+            (λ seen. (seen.name ≡ self.entry.seen.name) × (seen.found ≡ Found.Other)) HasTables) }
         ensures none { self.entry.seen.found ≡ Found.Other
             → MatchResult result (λ _. ⊥) (λ it. it.fault ≡ AdoptFault.NotALedger) }
     {
@@ -103,8 +102,7 @@ impl<'a> LedgerFile<'a> {
         }
         let (file, files) = LockedFile::lock(self.rt, self.seen, start)?;
         if file.seen().has_other() {
-            let seen = file.leave_log();
-            return Err(Unopened::saw(seen, Left::Files(Leftover::Files(files))));
+            return Err(file.refuse(files));
         }
         let (file, connection) = file.connect(files)?;
         if has_nothing(&connection) {

@@ -1,6 +1,7 @@
 //! The file of a ledger while it is locked and no ledger is open in it: what is made, emptied and removed.
-ghost use Rattle.std.specs.Prelude.{◌≡◌, IfOk, MatchResult, false, true};
-ghost use Rattle.bag_cmd.specs.LedgerFiles.{AreOpenOn, HasCopiedLog, IsAdoptedFrom, IsConnectedTo, IsMadeIn, IsUnopened};
+ghost use Rattle.std.specs.Prelude.{◌≡◌, ◌≢◌, ◌↔◌, IfOk, MatchResult, false, is_some, true};
+ghost use Rattle.bag_cmd.specs.LedgerFiles.{AreOpenOn, HasCopiedLog, IsAdoptedFrom, IsConnectedTo, IsMadeIn, IsNewFile, IsUnopened, IsUnused, WasSeenBefore};
+ghost use Rattle.bag_sqlite.specs.declared.adopting.AdoptFault.{AdoptFault};
 ghost use Rattle.bag_sqlite.specs.Tables.{no_schema};
 ghost use Rattle.sqlite.specs.Files.{file_state};
 ghost use Rattle.sqlite.specs.Held.{state};
@@ -20,31 +21,32 @@ use sqlite_disk::Disk;
 use std::fs::{self, File, OpenOptions};
 use std::hash::{BuildHasher, RandomState};
 use std::io;
+use std::marker::PhantomData;
 use std::os::fd::AsRawFd;
 use std::os::unix::fs::{MetadataExt, OpenOptionsExt};
 
-/// The file of a ledger and its log, which are locked.
+/// The file of a ledger and its log, which are locked. `S` says what they held when they were opened.
 ///
 /// Both are locked from before it is decided what they are until they are closed. What is found in them then, made and
 /// removed is changed by no other run, and no other program can open them. What has to be removed is removed while they
 /// are still open.
 ///
 /// What removes or empties anything is an [`Abandoned`], for which this is given up: so nothing is removed once a ledger
-/// was opened, but for a log that was copied.
+/// was opened, but for a log that was copied, and files that this run made for a ledger without transfers.
 #[derive(Drop)]
-pub struct LockedFile<'a> {
+pub struct LockedFile<'a, S> {
     rt: &'a HostRuntime,
     // from which a new log draws its salts
     seed: u64,
     // what was seen since both are locked
     seen: Seen,
-    // whether this made the file, and no other run wrote to it before it was locked
-    is_new: bool,
     // the file apart from the connection
     file: File,
+    start: PhantomData<S>,
+    ghost locked: { is_some seen.before ≡ true },
 }
 
-impl<'a> LockedFile<'a> {
+impl<'a, S: Start> LockedFile<'a, S> {
     /// Opens and locks the file and its log, and looks again what exists. A file that doesn't exist is made, with zero
     /// octets, and so is the log.
     ///
@@ -53,17 +55,15 @@ impl<'a> LockedFile<'a> {
     /// Memory ran out; the file or the log can't be opened for writing or made; another program has locked one of them;
     /// or the file was removed, or made, after it was looked for. A file that was made stays then, since another run may
     /// use it.
-    pub fn lock<S: Start>(
+    pub fn lock(
         rt: &'a HostRuntime,
         seen: Seen,
         start: S,
-    ) -> Result<(LockedFile<'a>, Files<FileFrom<S>>), UnopenedFile<S>>
+    ) -> Result<(LockedFile<'a, S>, Files<FileFrom<S>>), UnopenedFile<S>>
         ensures locked { MatchResult result
             (λ it. AreOpenOn ⟦<FileFrom<S> as Disk>⟧ (image_at S.Start) it.1)
-            (λ it. IsUnopened ⟦<FileFrom<S> as Disk>⟧ (image_at S.Start) it (λ _. ⊥)) }
-        ensures same { IfOk result (λ it. it.0.seen.name ≡ seen.name) }
-        ensures new { IfOk result (λ it. it.0.is_new ≡ true
-            → (seen.found ≡ Found.Nothing) × (it.0.seen.found ≡ Found.Empty)) }
+            (λ it. IsUnused ⟦<FileFrom<S> as Disk>⟧ (image_at S.Start) it) }
+        ensures seen { IfOk result (λ it. WasSeenBefore seen it.0.seen) }
     {
         let file = match open_apart(rt, &seen) {
             Ok(file) => file,
@@ -86,30 +86,25 @@ impl<'a> LockedFile<'a> {
     /// # Errors
     ///
     /// Memory ran out; the operating system doesn't give the information; or the file was removed before it was locked.
-    fn settle<S: Start>(
+    fn settle(
         rt: &'a HostRuntime,
         seen: Seen,
         file: File,
-        _locked: &Files<FileFrom<S>>,
-    ) -> Result<LockedFile<'a>, Barred>
-        ensures same { IfOk result (λ it. it.seen.name ≡ seen.name) }
-        ensures new { IfOk result (λ it. it.is_new ≡ true
-            → (seen.found ≡ Found.Nothing) × (it.seen.found ≡ Found.Empty)) }
+        locked: &Files<FileFrom<S>>,
+    ) -> Result<LockedFile<'a, S>, Barred>
+        ensures { IfOk result (λ it. WasSeenBefore seen it.seen) }
     {
         if !is_named(rt, &file, seen.name())? {
             return Err(Barred::For(LedgerCause::Busy));
         }
         let seed = RandomState::new(rt)?.hash_one(&0u8);
-        let is_made = seen.found() == Found::Nothing;
-        let seen = seen.again(rt)?;
-        // Another run may have written to it before it was locked.
-        let is_new = is_made && seen.found() == Found::Empty;
+        let seen = seen.again(rt, locked)?;
         Ok(LockedFile {
             rt,
             seed,
             seen,
-            is_new,
             file,
+            start: PhantomData,
         })
     }
 
@@ -120,35 +115,40 @@ impl<'a> LockedFile<'a> {
         &self.seen
     }
 
-    /// Whether both were made, and nothing was in them.
-    pub fn is_new(&self) -> bool
-        ensures { result ≡ true → (self.now.is_new ≡ true) × (self.now.seen.had_log ≡ false) }
+    /// Opens no ledger, since none is in what was seen. Removes the log, unless anything was found in it.
+    pub fn refuse(self, files: Files<FileFrom<S>>) -> UnopenedFile<S>
+        requires open { AreOpenOn ⟦<FileFrom<S> as Disk>⟧ (image_at S.Start) files }
+        requires none { self.seen.found ≢ Found.File }
+        ensures unopened { IsUnopened ⟦<FileFrom<S> as Disk>⟧ (image_at S.Start) result
+            (λ seen. seen ≡ self.entry.seen) (λ _. ⊥) }
+        ensures fault { result.fault ≡ AdoptFault.NotALedger }
     {
-        self.is_new && !self.seen.had_log()
+        let seen = self.abandon().leave_log();
+        Unopened::saw(seen, Left::Files(Leftover::Files(files)))
     }
 
     /// Opens the database in the files.
-    pub fn connect<S: Start>(
+    pub fn connect(
         self,
         files: Files<FileFrom<S>>,
-    ) -> Result<(LockedFile<'a>, Connection<FileStore<FileFrom<S>>>), UnopenedFile<S>>
+    ) -> Result<(LockedFile<'a, S>, Connection<FileStore<FileFrom<S>>>), UnopenedFile<S>>
         requires { AreOpenOn ⟦<FileFrom<S> as Disk>⟧ (image_at S.Start) files }
         ensures connected { MatchResult result (λ it. IsConnectedTo (image_at S.Start) it.1)
-            (λ it. IsUnopened ⟦<FileFrom<S> as Disk>⟧ (image_at S.Start) it (λ _. ⊥)) }
+            (λ it. IsUnused ⟦<FileFrom<S> as Disk>⟧ (image_at S.Start) it) }
         ensures file { IfOk result (λ it. it.0 ≡ self.entry) }
     {
         let options = Options::new(self.seed);
         match Connection::open_files_with(self.rt.alloc(), files, options, false) {
             Ok(connection) => Ok((self, connection)),
             Err((error, left)) => {
-                self.remove_made();
+                self.abandon().remove_made();
                 Err(Unopened::unconnected(error, left))
             }
         }
     }
 
     /// Opens the database as the ledger that it holds, and counts what is read of it.
-    pub fn adopt<S: Start>(
+    pub fn adopt(
         self,
         connection: Connection<FileStore<FileFrom<S>>>,
         meter: &Meter<'_, HostRuntime>,
@@ -156,20 +156,21 @@ impl<'a> LockedFile<'a> {
         requires { IsConnectedTo (image_at S.Start) connection }
         ensures opened { MatchResult result (λ it. (it.is_made ≡ false)
             × IsAdoptedFrom (image_at S.Start) it.kept.connection)
-            (λ it. IsUnopened ⟦<FileFrom<S> as Disk>⟧ (image_at S.Start) it (λ _. ⊥)) }
+            (λ it. IsUnopened ⟦<FileFrom<S> as Disk>⟧ (image_at S.Start) it (λ _. ⊥)
+            (λ refused. refused ≡ connection)) }
         ensures file { IfOk result (λ it. it.file.locked ≡ self.entry) }
     {
         match SqlKeeper::adopt_watched(connection, meter) {
             Ok(keeper) => Ok(Opened::found(keeper, OpenFile::new(self))),
             Err(NotAdopted { fault, connection }) => {
-                let _ = self.leave_log();
+                let _ = self.abandon().leave_log();
                 Err(Unopened::unadopted(fault, connection))
             }
         }
     }
 
     /// Makes a ledger without transfers in a database without tables.
-    pub fn make<S: Start>(
+    pub fn make(
         self,
         connection: Connection<FileStore<FileFrom<S>>>,
     ) -> Result<OpenedFile<'a, S>, UnopenedFile<S>>
@@ -177,7 +178,7 @@ impl<'a> LockedFile<'a> {
         requires none { (file_state connection).now.schema ≡ no_schema }
         ensures made { MatchResult result (λ it. (it.is_made ≡ true)
             × IsMadeIn (image_at S.Start) it.kept.connection)
-            (λ it. IsUnopened ⟦<FileFrom<S> as Disk>⟧ (image_at S.Start) it (λ _. ⊥)) }
+            (λ it. IsUnused ⟦<FileFrom<S> as Disk>⟧ (image_at S.Start) it) }
         ensures file { IfOk result (λ it. it.file.locked ≡ self.entry) }
     {
         match SqlKeeper::create(connection) {
@@ -189,33 +190,28 @@ impl<'a> LockedFile<'a> {
                     connection,
                 },
             ) => {
-                self.remove_made();
+                self.abandon().remove_made();
                 Err(Unopened::unmade(fault, trouble, connection))
             }
         }
     }
 
-    /// Removes the log, unless anything was found in it. Returns what was seen.
-    pub fn leave_log(self) -> Seen
-        ensures { result ≡ self.entry.seen }
+    /// No ledger is opened in the file.
+    fn abandon(self) -> Abandoned<'a>
+        ensures { result.seen ≡ self.entry.seen }
     {
-        self.abandon().leave_log()
+        Abandoned::new(self.rt, self.seen, self.file)
     }
 
-    /// Removes the log, and the file if this made it, as [`Abandoned::remove_made`] does.
-    pub fn remove_made(self) {
+    /// Removes the file and its log, which this run made.
+    pub fn remove_new(self)
+        requires { IsNewFile self.seen }
+    {
         self.abandon().remove_made();
     }
 
-    /// No ledger is opened in the file.
-    fn abandon(self) -> Abandoned<'a>
-        ensures { (result.seen ≡ self.entry.seen) × (result.is_new ≡ self.entry.is_new) }
-    {
-        Abandoned::new(self.rt, self.seen, self.is_new, self.file)
-    }
-
     /// Removes the log, whose content the file holds, while both are locked.
-    pub fn remove_copied_log<S: Start>(&self, _files: &Files<FileFrom<S>>)
+    pub fn remove_copied_log(&self, _files: &Files<FileFrom<S>>)
         requires { HasCopiedLog ⟦<FileFrom<S> as Disk>⟧ _files.now }
     {
         let _ = fs::remove_file(self.rt, self.seen.log());
@@ -246,7 +242,7 @@ fn is_named(rt: &HostRuntime, file: &File, name: &str) -> io::Result<bool> {
 
 /// Whether a database has no tables, indexes or views.
 pub fn has_nothing<S: Alter>(connection: &Connection<S>) -> bool
-    ensures { result ≡ true → (state S.Store connection.now).now.schema ≡ no_schema }
+    ensures { (result ≡ true) ↔ ((state S.Store connection.now).now.schema ≡ no_schema) }
 {
     let schema = connection.schema();
     schema.tables.is_empty() && schema.indexes.is_empty() && schema.views.is_empty()

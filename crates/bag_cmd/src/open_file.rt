@@ -24,15 +24,15 @@ pub enum Closed<D: Disk> {
     Removed(Connection<FileStore<D>>),
 }
 
-/// The file of an open ledger.
+/// The file of an open ledger. `S` says what it held when it was opened.
 #[derive(Drop)]
-pub struct OpenFile<'a> {
-    locked: LockedFile<'a>,
+pub struct OpenFile<'a, S> {
+    locked: LockedFile<'a, S>,
 }
 
-impl<'a> OpenFile<'a> {
+impl<'a, S: Start> OpenFile<'a, S> {
     /// A ledger was opened in this file.
-    pub fn new(locked: LockedFile<'a>) -> OpenFile<'a>
+    pub fn new(locked: LockedFile<'a, S>) -> OpenFile<'a, S>
         ensures { result.locked ≡ locked.entry }
     {
         OpenFile { locked }
@@ -40,7 +40,7 @@ impl<'a> OpenFile<'a> {
 
     /// Closes the ledger. The content of the log is copied into the file, and the log is removed. If that fails, both
     /// remain and nothing is lost.
-    pub fn close<S: Start>(&self, keeper: FileKeeper<S>) -> Closed<FileFrom<S>>
+    pub fn close(&self, keeper: FileKeeper<S>) -> Closed<FileFrom<S>>
         ensures { IsLeftBy keeper.connection result }
     {
         match copy_log(keeper) {
@@ -53,13 +53,13 @@ impl<'a> OpenFile<'a> {
     }
 
     /// Closes a ledger without transfers. If it was made in files that didn't exist, removes them.
-    pub fn give_up<S: Start>(self, keeper: FileKeeper<S>) -> Closed<FileFrom<S>>
+    pub fn give_up(self, keeper: FileKeeper<S>) -> Closed<FileFrom<S>>
         requires { HasCleanDisk (file_state keeper.connection)
             → HoldsLedger (file_state keeper.connection) [] }
         ensures { IsLeftBy keeper.connection result }
     {
-        if self.locked.is_new() {
-            self.locked.remove_made();
+        if self.locked.seen().is_new() {
+            self.locked.remove_new();
             Closed::Removed(keeper.release())
         } else {
             self.close(keeper)

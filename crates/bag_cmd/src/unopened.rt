@@ -110,8 +110,7 @@ impl<S, D: Disk> Unopened<Left<S, D>> {
         let cause = match seen.found() {
             Found::Nothing => LedgerCause::Missing,
             Found::Empty => LedgerCause::Empty,
-            Found::File => LedgerCause::NoDatabase,
-            Found::Other => LedgerCause::NotFile,
+            Found::File | Found::Other => LedgerCause::NotFile,
         };
         Unopened {
             fault: AdoptFault::NotALedger,

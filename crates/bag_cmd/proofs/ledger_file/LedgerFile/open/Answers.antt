@@ -3,7 +3,7 @@ use Rattle.std.proofs.lemmas.Result.{err_from_is_err_and}
 use Rattle.sqlite_wal.specs.Files.{image_at}
 use Rattle.bag_cmd.specs.LedgerFiles.{IsAsItWas, NoFile}
 use Rattle.bag_cmd.specs.declared.found.Seen.{Seen}
-use Rattle.bag_cmd.proofs.FileLemmas.{adopted, known_less, unused}
+use Rattle.bag_cmd.proofs.FileLemmas.{adopted, known_less, not_used}
 use Rattle.bag_cmd.proofs.ledger_file.LedgerFile.open.Goals as goal
 
 pub returns-then-not-has_file-clause-opened : goal.returns-then-not-has_file-clause-opened
@@ -15,21 +15,21 @@ returns-then-not-has_file-clause-opened g c =
 pub returns-in_err-file-clause-opened : goal.returns-in_err-file-clause-opened
 returns-in_err-file-clause-opened g c =
     let error = err_from_is_err_and c.from_residual.result c.from_residual.ensures.1 in
-    rw (error.1, error.2) (known_less _ _ _ _ _ (λ seen none. absurd none) c.in_err-file.ensures.locked)
+    rw (error.1, error.2) (not_used _ _ _ _ _ c.in_err-file.ensures.locked)
 
 pub returns-then-not-has_file-2-clause-opened : goal.returns-then-not-has_file-2-clause-opened
 returns-then-not-has_file-2-clause-opened g c =
-    let saw = c.saw-then-not-has_file-2.ensures in
-    let seen : c.leave_log-seen.result ≡ c.seen.result.now = c.leave_log-seen.ensures ∙ sym c.seen.ensures in
-    NoFile c.leave_log-seen.result saw.left.1 (
-      ap (λ (it : Seen). it.name) c.leave_log-seen.ensures ∙ c.in_ok-file.ensures.same,
-      λ file. absurd (let e : true ≡ false = sym (c.has_file-2.ensures.1 (rw seen at file)) ∙ c.if-not-has_file-2.true in cc),
-    ) saw.fault.0 saw.fault.1 (unused _ (image_at g.S.Start) c.in_ok-file.files _ saw.left.0 c.in_ok-file.ensures.locked)
+    known_less _ (image_at g.S.Start) c.refuse.result _ _ _ _
+    (λ seen is. (
+      ap (λ (it : Seen). it.name) is ∙ c.in_ok-file.ensures.seen.0,
+      λ file. absurd (let e : true ≡ false = sym (c.has_file-2.ensures.1 (ap (λ (it : Seen). it.found) (c.seen.ensures ∙ sym is) ∙ file)) ∙ c.if-not-has_file-2.true in cc),
+    ))
+    (λ opened none. absurd none) c.refuse.ensures.unopened
 
 pub returns-in_err-file-2-clause-opened : goal.returns-in_err-file-2-clause-opened
 returns-in_err-file-2-clause-opened g c =
     let error = err_from_is_err_and c.from_residual-in_err-file-2.result c.from_residual-in_err-file-2.ensures.1 in
-    rw (error.1, error.2) (known_less _ _ _ _ _ (λ seen none. absurd none) c.in_err-file-2.ensures.connected)
+    rw (error.1, error.2) (not_used _ _ _ _ _ c.in_err-file-2.ensures.connected)
 
 pub returns-clause-opened : goal.returns-clause-opened
-returns-clause-opened g c = adopted _ _ _ (λ _. ⊥) _ (λ seen none. absurd none) c.adopt.result c.adopt.ensures.opened
+returns-clause-opened g c = adopted _ _ _ (λ _. ⊥) _ _ _ (λ seen none. absurd none) (λ opened same. tt) c.adopt.result c.adopt.ensures.opened
