@@ -196,10 +196,10 @@ DAMAGES = [
     ("UPDATE tag SET body = x'' WHERE path = 'bagit.txt'", "bag: damaged t1 "),
     ("UPDATE tag SET path = '../x' WHERE path = 'bagit.txt'", "bag: damaged t1 "),
     ("UPDATE meta SET v = 9", "bag: not a ledger"),
-    ("UPDATE meta SET v = 1", "bag: old format"),
-    # The tables of an old ledger are others.
-    ("UPDATE meta SET v = 1; DROP TABLE piece; DROP TABLE held", "bag: old format"),
-    ("UPDATE meta SET v = 1; DROP TABLE piece; DROP TABLE held; DROP TABLE tag; DROP TABLE transfer", "bag: old format"),
+    ("UPDATE meta SET v = 1", "bag: not a ledger"),
+    # The tables of format 1 are others.
+    ("UPDATE meta SET v = 1; DROP TABLE piece; DROP TABLE held", "bag: not a ledger"),
+    ("UPDATE meta SET v = 1; DROP TABLE piece; DROP TABLE held; DROP TABLE tag; DROP TABLE transfer", "bag: not a ledger"),
     ("INSERT INTO meta VALUES ('more', 1)", "bag: not a ledger"),
     ("DELETE FROM meta", "bag: not a ledger"),
     ("DROP TABLE piece", "bag: not a ledger"),
@@ -242,7 +242,7 @@ CHANGES = [
     ("DELETE FROM meta", "bag: not a ledger"),
     ("UPDATE meta SET v = 9", "bag: not a ledger"),
     ("UPDATE meta SET v = 3", "bag: not a ledger"),
-    ("UPDATE meta SET v = 1", "bag: old format"),
+    ("UPDATE meta SET v = 1", "bag: not a ledger"),
     ("UPDATE meta SET k = 'ledger'", "bag: not a ledger"),
     ("INSERT INTO meta (k, v) VALUES ('other', 2)", "bag: not a ledger"),
     ("DROP TABLE piece", "bag: not a ledger"),

@@ -17,6 +17,7 @@ import sys
 import tempfile
 
 import new_bags
+import random_commands
 import reference
 import reference_commands
 from explaining import is_explained
@@ -38,7 +39,7 @@ FOLDERS = {
     "supplier": {b"data/e.txt": b"", b"data/z%": b"another line\n"},
     "letters": {b"a.txt": b"abc", b"k/x": b"defgh", b"k0": b""},
 }
-# The ledgers, by the commands that make them.
+# The ledgers, by the commands that make them. One more, `old`, is `half` in format 1.
 LEDGERS = {
     "begun": [["begin", "t1", "sender"]],
     "half": [["begin", "t1", "sender"], ["intake", "t1", "first"]],
@@ -51,7 +52,7 @@ CASES = [
     ("full", "intake ledger t1 ../second"), ("full", "intake ledger t9 ../second"), ("half", "report ledger t1"),
     ("full", "report ledger t1"), ("half", "audit ledger t1"), ("full", "audit ledger t1"), ("half", "fetch ledger t1 ../supplier"),
     ("begun", "fetch ledger t1 ../whole"), ("full", "export ledger t1 out"), ("full", "export ledger t9 out"), ("full", "list ledger"),
-    (None, "list ledger"), (None, "make ../letters out sha256 md5"), (None, "make ../letters out sha224"), (None, "check ../whole"),
+    (None, "list ledger"), ("old", "list ledger"), ("old", "audit ledger t1"), (None, "make ../letters out sha256 md5"), (None, "make ../letters out sha224"), (None, "check ../whole"),
 ]
 # How system calls fail. `brk` is left out: the system never returns an error for it, and the C library would take one for an
 # address.
@@ -80,6 +81,8 @@ def prepare(program):
         for command, transfer, *folders in commands:
             ran = subprocess.run([program, command, name, transfer, *folders], capture_output=True, timeout=60, check=False)
             assert ran.returncode in (0, 1) and not ran.stderr, ran
+    reference_commands.copy_ledger("half", "old")
+    random_commands.Run.alter("old", random_commands.FIRST)
     os.mkdir("run")
     os.chdir("run")
 

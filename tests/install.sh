@@ -123,7 +123,6 @@ supplier
 exported N files
 bag: no transfer
 bag: not a ledger
-bag: old format
 bag: damaged NAME PATH
 bag: store
 bag: check, make, begin, intake, report, audit, fetch, export, list

@@ -20,12 +20,12 @@ from reference_receiver import Refused, printed
 # The number of operands of each command; the last one may be repeated.
 OPERANDS = {b"check": (1, False), b"make": (3, True), b"begin": (3, False), b"intake": (3, True), b"report": (2, False),
             b"audit": (2, False), b"fetch": (3, False), b"export": (3, False), b"list": (1, False)}
-COLUMNS = {"meta": "k, v", "transfer": "id, name", "tag": "transfer, path, body", "held": "id, transfer, path, size",
-           "piece": "item, n, body"}
-# Finds a row without an owner, if there is one [18].
-BELONG = ("SELECT 1 FROM tag WHERE transfer NOT IN (SELECT id FROM transfer)",
-          "SELECT 1 FROM held WHERE transfer NOT IN (SELECT id FROM transfer)",
-          "SELECT 1 FROM piece WHERE item NOT IN (SELECT id FROM held)")
+# The columns of each table, by the number of the format [18].
+BOTH = {"meta": "k, v", "transfer": "id, name", "tag": "transfer, path, body"}
+COLUMNS = {1: {**BOTH, "item": "transfer, path, size, body"},
+           2: {**BOTH, "held": "id, transfer, path, size", "piece": "item, n, body"}}
+# The tables whose rows have owners: the column that says which, and the table of the owners.
+OWNERS = {"tag": ("transfer", "transfer"), "item": ("transfer", "transfer"), "held": ("transfer", "transfer"), "piece": ("item", "held")}
 PIECE = 65536
 
 # The lines, if they are known, and the status. `made` is the octets of the files, by path, in the folder that is made.
@@ -157,26 +157,26 @@ def read_ledger(file):
         if not os.path.isfile(file):
             raise fault("not a ledger")
         with Database(file) as database:
-            refuse_format(database)
-            return held_in(database)
+            return held_in(database, format_of(database))
     except sqlite3.DatabaseError:
         raise fault("not a ledger") from None
 
 
-def refuse_format(database):
-    """The tables are those of a ledger, and belong together [18.5]."""
+def format_of(database):
+    """The number of the format. Its tables are those of a ledger, and belong together [18.5, 18.6]."""
     rows = database.ask("SELECT k, v FROM meta")
-    if rows == [("bag-ledger", 1)]:
-        raise fault("old format")
-    if rows != [("bag-ledger", 2)]:
+    if rows not in ([("bag-ledger", 1)], [("bag-ledger", 2)]):
         raise fault("not a ledger")
-    for name, columns in COLUMNS.items():
+    number = rows[0][1]
+    for name, columns in COLUMNS[number].items():
         database.ask(f"SELECT {columns} FROM {name} LIMIT 1")
-    if any(database.ask(text) for text in BELONG):
-        raise fault("not a ledger")
+        column, owner = OWNERS.get(name, ("", ""))
+        if owner and database.ask(f"SELECT 1 FROM {name} WHERE {column} NOT IN (SELECT id FROM {owner})"):
+            raise fault("not a ledger")
+    return number
 
 
-def held_in(database):
+def held_in(database, number):
     receiver = reference_receiver.Receiver()
     for transfer, name in sorted(database.ask("SELECT id, name FROM transfer"), key=lambda row: row[1].encode()):
         tags = {path.encode(): body for path, body in database.ask("SELECT path, body FROM tag WHERE transfer = ?", transfer)}
@@ -184,9 +184,10 @@ def held_in(database):
             found = reference_receiver.Transfer(reference_receiver.tags_of(tags.items()))
         except Refused:
             raise fault(f"damaged {printed(name.encode())} ") from None
-        held = database.ask("SELECT path, id, size FROM held WHERE transfer = ?", transfer)
+        text = "SELECT path, rowid, size FROM item" if number == 1 else "SELECT path, id, size FROM held"
+        held = database.ask(f"{text} WHERE transfer = ?", transfer)
         for path, item, size in sorted((path.encode(), item, size) for path, item, size in held):
-            octets = content(database, item, size)
+            octets = whole_content(database, item, size) if number == 1 else content(database, item, size)
             if octets is None or not passes(found, path, octets):
                 raise fault(f"damaged {printed(name.encode())} {printed(path)}")
             found.held[path] = octets
@@ -209,6 +210,12 @@ def content(database, item, size):
         if place != number or len(piece) != min(PIECE, size - PIECE * number) or not piece:
             return None
         octets += piece
+    return octets if len(octets) == size else None
+
+
+def whole_content(database, item, size):
+    """The same in format 1 [18.6]."""
+    [(octets,)] = database.ask("SELECT body FROM item WHERE rowid = ?", item)
     return octets if len(octets) == size else None
 
 

@@ -12,7 +12,8 @@ The work opens two transfers, and puts payload files by readers, in runs and fro
 a transfer is opened, and each delivery. After a stop sqlite3 reads what is left, file by file and octet by octet. tests/reference_receiver.py
 says what there is after each step: it must be what there was after the last step that was answered, or after the next one. Then the
 same work is given again, without a stop; each answer is that of the second program, and both transfers are valid, also if they are
-audited. In the same way the opening of ledgers that were closed, killed or cut off is stopped, which must leave them as they were.
+audited. In the same way the opening of ledgers that were closed, killed or cut off is stopped, which must leave them as they were; and
+the opening of a ledger of format 1, which must leave it in the one format or in the other.
 """
 import hashlib
 import itertools
@@ -25,10 +26,14 @@ import sys
 import tempfile
 
 from deliveries import answer, line
+from first_format import write_first
 from reference_receiver import Receiver
 
 DECLARATION = b"BagIt-Version: 1.0\nTag-File-Character-Encoding: UTF-8\n"
-TABLES = ["held", "meta", "piece", "tag", "transfer"]
+# The tables of format 1, and those of format 2 in a new ledger and in one that was moved.
+FIRST, SECOND = ["item", "meta", "tag", "transfer"], ["held", "meta", "piece", "tag", "transfer"]
+MOVED = sorted({*FIRST, *SECOND})
+OWNERS = {"tag": ("transfer", "transfer"), "item": ("transfer", "transfer"), "held": ("transfer", "transfer"), "piece": ("item", "held")}
 NEVER = 2**64 - 1
 PIECE = 65_536
 # How far apart the stops of the opening of a larger ledger are, in calls.
@@ -116,13 +121,19 @@ def rows(ask):
     tables = sorted(name for (name,) in ask("SELECT name FROM sqlite_schema WHERE type = 'table'"))
     if not tables:
         return None
-    assert tables == TABLES and ask("SELECT k, v FROM meta") == [("bag-ledger", 2)], tables
-    for table, column, owner in (("tag", "transfer", "transfer"), ("held", "transfer", "transfer"), ("piece", "item", "held")):
-        assert ask(f"SELECT count(*) FROM {table} WHERE {column} NOT IN (SELECT id FROM {owner})") == [(0,)], table
+    [(name, number)] = ask("SELECT k, v FROM meta")
+    assert name == "bag-ledger" and (number, tables) in [(1, FIRST), (2, SECOND), (2, MOVED)], (number, tables)
+    assert tables != MOVED or ask("SELECT * FROM item") == []
+    for table, (column, owner) in OWNERS.items():
+        if table in tables:
+            assert ask(f"SELECT count(*) FROM {table} WHERE {column} NOT IN (SELECT id FROM {owner})") == [(0,)], table
     ledger = {}
     for transfer, name in ask("SELECT id, name FROM transfer"):
         tags = {path.encode(): body for path, body in ask("SELECT path, body FROM tag WHERE transfer = ?", transfer)}
         ledger[name.encode()] = tags, {}
+        if number == 1:
+            ledger[name.encode()][1].update((path.encode(), body) for path, body in ask("SELECT path, body FROM item WHERE transfer = ?", transfer))
+            continue
         for item, path, size in ask("SELECT id, path, size FROM held WHERE transfer = ?", transfer):
             ledger[name.encode()][1][path.encode()] = content(ask, item, size)
     return ledger
@@ -243,6 +254,47 @@ def stop_openings(driver, folder, kept, tried):
                     break
 
 
+def number_of_format(database):
+    """The number of the format of a ledger; its log, if there is one, is read with it."""
+    with tempfile.TemporaryDirectory(dir=database.parent) as folder:
+        copy(database, pathlib.Path(folder) / "copy")
+        opened = sqlite3.connect(pathlib.Path(folder) / "copy")
+        try:
+            return opened.execute("SELECT v FROM meta").fetchone()[0]
+        finally:
+            opened.close()
+
+
+def stop_moves(driver, folder, tried):
+    """Stops the opening of a ledger of format 1 at each call."""
+    rng = random.Random(5)
+    files = {"data/0": b"", "data/1": b"x", "data/2": rng.randbytes(PIECE), "data/3": rng.randbytes(2 * PIECE + 1)}
+    start = folder / "format 1"
+    write_first(start, {"first": files, "second": {"data/a": b"a"}})
+    pathlib.Path(f"{start}-wal").touch()
+    events = [("names",), ("audit", b"first"), ("audit", b"second")]
+    held = found(start)
+    wanted = list(steps(known(held), events))
+    for file, how in itertools.product(("log", "database"), ("cut", "killed")):
+        formats = set()
+        for calls in itertools.count():
+            database = folder / "moved"
+            copy(start, database)
+            printed = run(driver, database, events, (file, calls, how))
+            number = answered(events, printed, wanted)
+            assert found(database) == held, (file, calls, how)
+            formats.add(number_of_format(database))
+            assert not number or number_of_format(database) == 2, (file, calls, how)
+            tried["moves"] += 1
+            whole = run(driver, database, events)
+            assert answered(events, whole, wanted) == 1 + len(wanted) and whole[-1] == "closed", (file, calls, how, whole)
+            assert found(database) == held and number_of_format(database) == 2, (file, calls, how)
+            remove(database)
+            if printed[-1] == "closed":
+                break
+        assert formats == {1, 2}, (file, how, formats)
+
+
 def count_rows(driver, folder):
     """Readers and couriers that fail, one after another, and the rows of payload files and of pieces after each. Returns how many."""
     octets = random.Random(2).randbytes(2 * PIECE + 1)
@@ -273,17 +325,19 @@ def count_rows(driver, folder):
 
 
 def main(driver, tried_file):
-    tried, kept = dict.fromkeys(["stops", "more", "closings", "openings"], 0), []
+    tried, kept = dict.fromkeys(["stops", "more", "closings", "openings", "moves"], 0), []
     with tempfile.TemporaryDirectory() as folder:
         rows = count_rows(driver, pathlib.Path(folder))
         stop_work(driver, pathlib.Path(folder), work(), tried, kept)
         stop_openings(driver, pathlib.Path(folder), kept, tried)
+        stop_moves(driver, pathlib.Path(folder), tried)
     assert tried["more"] and tried["closings"], tried
     assert any(left is None for _, left in kept) and any(left and len(left) == 2 for _, left in kept), [left and len(left) for _, left in kept]
     with open(tried_file, "w", encoding="ascii") as out:
         print(
             f"{tried['stops']} stops of the work, {tried['closings']} of them while it was closed, and after {tried['more']} a step is held"
-            f" that wasn't answered; {tried['openings']} stops while one of {len(kept)} ledgers was opened or closed; {rows} counts of rows",
+            f" that wasn't answered; {tried['openings']} stops while one of {len(kept)} ledgers was opened or closed; {tried['moves']} while one of format 1 was opened;"
+            f" {rows} counts of rows",
             file=out,
         )
 

@@ -1,5 +1,5 @@
 -- From what the files hold to what a keeper holds, and back.
-use Rattle.std.proofs.Common.{◌≡◌, ◌≢◌, ◌⊎◌, ◌∙◌, ◌∷◌, Bool, Err, IsTrue, MatchResult, None, Ok, Option, Result, Some, ap, false, inl, inr, refl, subst, sym, true}
+use Rattle.std.proofs.Common.{◌≡◌, ◌≢◌, ◌⊎◌, ◌∙◌, ◌∷◌, Bool, Err, IsTrue, MatchResult, None, Ok, Option, Result, Some, ap, arith, false, inl, inr, length, refl, subst, sym, true}
 use Rattle.std.proofs.Math.Logic.{∥∥₁_elim, ∥∥₁_map}
 use Rattle.bag_ledger.specs.Ledgers.{Ledger}
 use Rattle.bag_ledger.specs.declared.fault.KeepFault.{KeepFault}
@@ -7,10 +7,10 @@ use Rattle.bag_ledger.specs.declared.fault.KeepFault.TheVariants as keep
 use Rattle.bag_receiver.specs.Receivers.{IsKept}
 use Rattle.bag_receiver.specs.Receiving.{LedgerState}
 use Rattle.bag_rules.specs.Faults.{Has}
-use Rattle.bag_sqlite.specs.Databases.{IsLedgerDatabase}
+use Rattle.bag_sqlite.specs.Databases.{IsDatabaseOf, IsLedgerDatabase}
 use Rattle.bag_sqlite.specs.Refusing.{IsNoAnswer, adopt_fault}
 use Rattle.bag_sqlite.specs.SqlKeepers.{HoldsLedger, IsOpenedOn, MayLeaveLedger}
-use Rattle.bag_sqlite.specs.Tables.{ledger_schema}
+use Rattle.bag_sqlite.specs.Tables.{First, Layout, Migrated, New, no_schema, schema_of, Second}
 use Rattle.bag_sqlite.specs.declared.adopting.AdoptFault.{AdoptFault}
 use Rattle.bag_sqlite.specs.declared.adopting.AdoptFault.TheVariants.{Memory, Store}
 use Rattle.sqlite.proofs.Theorems.{opens_again}
@@ -18,6 +18,7 @@ use Rattle.sqlite.specs.Closing.{HoldsAlone, IsCopied}
 use Rattle.sqlite.specs.Effect.{Database}
 use Rattle.sqlite.specs.Files.{FailsToOpenFiles, HoldsDatabase, IsCleanLeft, LeavesFiles, file_state, image_of}
 use Rattle.sqlite.specs.Held.{Held}
+use Rattle.sqlite.specs.Schema.{Schema}
 use Rattle.sqlite.specs.Start.{FindsIn}
 use Rattle.sqlite.specs.Opening.{is_open_error}
 use Rattle.sqlite.specs.State.{HasCleanDisk, IsLive, Opens, State, store_error}
@@ -36,7 +37,7 @@ use Rattle.sqlite_trees.specs.declared.error.StoreError.TheVariants.{Broken, Cor
 use Rattle.sqlite_trees.specs.declared.error.StoreError.TheVariants as store_fault
 use Rattle.sqlite_wal.specs.Files.{outcomes}
 use Rattle.sqlite_wal.specs.Recovery.{Image}
-use Rattle.bag_cmd.specs.LedgerFiles.{AreOpenOn, HoldsLedgerAlone, HoldsLedgerIn, IsAsItWas, IsHandedBack, IsNumbered, IsRefusal, IsStopOf, IsUnopened, IsUnused, MayBeLeft, NoAnswer, NoDatabase, NoFile, OpensOrMakes, Refused as WasRefused}
+use Rattle.bag_cmd.specs.LedgerFiles.{AreOpenOn, HoldsLedgerAlone, HoldsLedgerIn, IsAsItWas, IsHandedBack, IsNumbered, IsRefusal, IsStopOf, IsUnopened, IsUnused, MayBeLeft, Migrates, NoAnswer, NoDatabase, NoFile, OpensOrMakes, Refused as WasRefused}
 use Rattle.bag_cmd.specs.Unopened.{HasNoAnswer, cause_barred, cause_of_error, cause_of_fault, cause_of_store, cause_unmade, fault_barred, fault_unmade}
 use Rattle.bag_cmd.specs.declared.barred.Barred.{Barred}
 use Rattle.bag_cmd.specs.declared.barred.Barred.TheVariants as why
@@ -52,13 +53,20 @@ opened_on image s ledger found opens held =
     let same : s.committed.trees ≡ held.0 = ∥∥₁_elim held.1 (Trees-set _ _) (found.holds held.0) in
     record { opens = opens.0; live = opens.1; database = subst (λ (t : Trees). IsLedgerDatabase t ledger) (sym same) held.2 }
 
+-- the database of a ledger has tables
+pub has_tables : (l : Layout) → schema_of l ≢ no_schema
+has_tables First none = absurd (let four : 4 ≡ 0 = ap (λ (schema : Schema). length schema.tables) none in omega (arith, four))
+has_tables (Second New) none = absurd (let five : 5 ≡ 0 = ap (λ (schema : Schema). length schema.tables) none in omega (arith, five))
+has_tables (Second Migrated) none = absurd (let six : 6 ≡ 0 = ap (λ (schema : Schema). length schema.tables) none in omega (arith, six))
+
 module _ {D : Type 0} {g : Ghosts D} (kept : Held (FileStore D g)) where
   -- what a close left
   pub left_alone : (files : Files D) (ledger : Ledger) (image : Image) → IsCopied kept files → HoldsLedger (file_state kept) ledger → (image ≡ image_of g files) ⊎ outcomes g files.log files.db image
       → HoldsLedgerAlone image ledger
   left_alone files ledger image copied holds is =
-      let shows = holds.shows copied.was_open in
-      let database = subst (λ (d : Database). IsLedgerDatabase d.trees ledger) (sym shows.committed) shows.database in
+      let (o, shows) = holds.shows copied.was_open in
+      let stored = subst (λ (d : Database). IsDatabaseOf (Second o) d.trees ledger) (sym shows.committed) shows.database in
+      let database : IsLedgerDatabase (file_state kept).committed.trees ledger = (Second o, stored) in
       let there : HoldsAlone image (file_state kept).committed.trees = elim is [ inl same ↦ subst (λ i. HoldsAlone i (file_state kept).committed.trees) (sym same) copied.seen | inr may ↦ copied.left image may ] in
       record { both = (_, there.both, database); alone = (_, there.alone, database) }
 
@@ -75,7 +83,7 @@ module _ {D : Type 0} {g : Ghosts D} (kept : Held (FileStore D g)) where
   -- what the disk may leave
   pub stop_of : (ledger : Ledger) → HoldsLedger (file_state kept) ledger → (image : Image) → IsNumbered kept → MayBeLeft kept image → ∥ IsStopOf kept image ∥₁
   stop_of ledger holds image numbered may =
-      ∥∥₁_map (opens_again kept.store numbered (λ db recovers. (ledger_schema, (holds.outcomes db recovers).1.listed)) image may)
+      ∥∥₁_map (opens_again kept.store numbered (λ db recovers. let it = holds.outcomes db recovers in (schema_of it.1.0, it.1.1.listed)) image may)
       (λ it. let r : IsStopOf kept image = (it.0, it.1, ∣ it.2 ∣₁) in r)
 
 -- NO CONNECTION
@@ -160,7 +168,7 @@ module _ {S D : Type 0} (g : Ghosts D) (image : Image) where
 
   -- the database was refused for this fault
   pub not_adopted : (it : Unopened (Left S D g)) (fault : AdoptFault) (opened refused : Held (FileStore D g)) → it.left ≡ left.Database refused
-      → (it.fault ≡ fault) × (it.cause ≡ cause_of_fault fault) → IsHandedBack image opened refused (λ _. ⊥) → (HasCleanDisk (file_state refused) → IsRefusal image fault opened) → IsUnopened g image it (λ _. ⊥) (λ is. is ≡ opened)
+      → (it.fault ≡ fault) × (it.cause ≡ cause_of_fault fault) → IsHandedBack image opened refused (Migrates opened) → (HasCleanDisk (file_state refused) → IsRefusal image fault opened) → IsUnopened g image it (λ _. ⊥) (λ is. is ≡ opened)
   not_adopted it fault opened refused left told back why =
       WasRefused opened refused left refl back (subst (λ f. HasCleanDisk (file_state refused) → IsRefusal image f opened) (sym told.0) why) (told.1 ∙ ap cause_of_fault (sym told.0))
 

@@ -5,6 +5,7 @@ use Rattle.bag_ledger.specs.Ledgers.{Ledger}
 use Rattle.bag_sqlite.specs.Adopting.{IsVerified}
 use Rattle.bag_sqlite.specs.Databases.{IsLedgerDatabase}
 use Rattle.bag_sqlite.specs.Making.{IsLeft, MakesLedger}
+use Rattle.bag_sqlite.specs.Migrating.{MigratesLedger}
 use Rattle.bag_sqlite.specs.Refusing.{IsNoAnswer, RefusesToAdopt}
 use Rattle.bag_sqlite.specs.SqlKeepers.{HoldsLedger, KeepsAlone}
 use Rattle.bag_sqlite.specs.Tables.{no_schema}
@@ -102,11 +103,15 @@ module _ {D : Type 0} {g : Ghosts D} where
     pub none : (file_state opened).now.schema ≡ no_schema
     pub keeps : KeepsAlone (file_state kept) []
 
+  -- the ledger that was opened is committed in format 2, if it was of format 1
+  abbrev pub Migrates : Held (FileStore D g) → Trees → Type 0
+  Migrates opened = MigratesLedger (over_files {D = D} {g = g}) (file_state opened)
+
   -- the keeper adopted a connection that was opened on what the files held
   pub record IsAdoptedFrom (image : Image) (kept : Held (FileStore D g)) : Type 0 where
     pub opened : Held (FileStore D g)
     pub connected : IsConnectedTo image opened
-    pub survives : Survives (file_state opened) (file_state kept) (λ _. ⊥)
+    pub survives : Survives (file_state opened) (file_state kept) (Migrates opened)
     pub adopts : HasCleanDisk (file_state kept) → IsAdoption image opened kept
 
   -- the keeper was made in a connection that was opened on what the files held
@@ -196,7 +201,7 @@ module _ {S D : Type 0} (g : Ghosts D) (image : Image) where
         → (IsCleanLeft rest → (db : Trees) → ¬ HoldsDatabase image db) → it.fault ≡ NotALedger
         → it.cause ≡ Some IsNoDatabase → IsAsItWas it.left → IsUnopened it is_none may_refuse
     Refused : (opened refused : Held (FileStore D g)) → it.left ≡ left.Database refused
-        → may_refuse opened → IsHandedBack image opened refused (λ _. ⊥)
+        → may_refuse opened → IsHandedBack image opened refused (Migrates opened)
         → (HasCleanDisk (file_state refused) → IsRefusal image it.fault opened)
         → it.cause ≡ cause_of_fault it.fault → IsUnopened it is_none may_refuse
 

@@ -4,7 +4,7 @@ use Rattle.bag_ledger.specs.declared.fault.KeepFault.{KeepFault}
 use Rattle.bag_ledger.specs.declared.fault.KeepFault.TheVariants as keep
 use Rattle.bag_sqlite.specs.Refusing.{IsNoAnswer}
 use Rattle.bag_sqlite.specs.declared.adopting.AdoptFault.{AdoptFault}
-use Rattle.bag_sqlite.specs.declared.adopting.AdoptFault.TheVariants.{Damaged, Memory, NotALedger, OldFormat, Store}
+use Rattle.bag_sqlite.specs.declared.adopting.AdoptFault.TheVariants.{Damaged, Memory, NotALedger, Store}
 use Rattle.sqlite.specs.declared.error.Error.{Error}
 use Rattle.sqlite.specs.declared.error.Error.TheVariants.{SqliteFailure}
 use Rattle.sqlite.specs.declared.error.ErrorCode.TheVariants.{CannotOpen, NotADatabase, OutOfMemory}
@@ -28,10 +28,9 @@ cause_of_error (SqliteFailure OutOfMemory) = None
 cause_of_error (SqliteFailure NotADatabase) = Some NoDatabase
 cause_of_error error = Some (Database error)
 
--- why the database was refused; an old format and damage are told by the fault
+-- why the database was refused; damage is told by the fault
 abbrev pub cause_of_fault : AdoptFault → Option LedgerCause
 cause_of_fault NotALedger = Some NoLedger
-cause_of_fault OldFormat = None
 cause_of_fault (Damaged name path) = None
 cause_of_fault Memory = None
 cause_of_fault (Store error) = Some (Database error)

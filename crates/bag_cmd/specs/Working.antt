@@ -12,7 +12,7 @@ use Rattle.bag_rules.specs.Transfers.{held_bag}
 use Rattle.bag_rules.specs.Trees.{UsesTree}
 use Rattle.bag_rules.specs.Validity.{IsValid}
 use Rattle.bag_sqlite.specs.declared.adopting.AdoptFault.{AdoptFault}
-use Rattle.bag_sqlite.specs.declared.adopting.AdoptFault.TheVariants.{Damaged, Memory, NotALedger, OldFormat, Store}
+use Rattle.bag_sqlite.specs.declared.adopting.AdoptFault.TheVariants.{Damaged, Memory, NotALedger, Store}
 use Rattle.bag_commands.specs.declared.output.Output.{Output}
 use Rattle.bag_commands.specs.declared.status.TheConstants.{FAILED, VALID}
 use Rattle.bag_commands.specs.declared.stop.Stop.TheVariants as stop
@@ -67,7 +67,6 @@ IsUnopenedFor l ledger work = l.unopened ledger
 -- the line that says why it wasn't opened
 abbrev pub unopened_line : AdoptFault → List ℕ
 unopened_line NotALedger = codes "bag: not a ledger"
-unopened_line OldFormat = codes "bag: old format"
 unopened_line (Damaged name path) = codes "bag: damaged " ++ written_spelling (string_bytes name)
     ++ codes " " ++ written_spelling (string_bytes path)
 unopened_line Memory = stop_text stop.Memory

@@ -1,20 +1,23 @@
 //! Laws on ledgers in files: what one run of the program leaves is what the next one holds. Each function's contract is
-//! one law, and its body is empty.
+//! one law, and its body is empty, or another law.
 ghost use Rattle.std.specs.Prelude.{◌↔◌, ◌≡◌, ◌⊎◌, ◌∷◌, ◌++◌, [], ℕ, List};
-ghost use Rattle.bag_cmd.specs.LedgerFiles.{HoldsLedgerIn, IsAdoptedFrom, IsMadeIn, IsNumbered, IsLeftBy, IsStopOf, IsUnmadeFile, IsUnopenedFile, MayBeLeft};
+ghost use Rattle.bag_cmd.specs.LedgerFiles.{HoldsLedgerIn, IsAdoptedFrom, IsConnectedTo, IsMadeIn, IsNumbered, IsLeftBy, IsStopOf, IsUnmadeFile, IsUnopenedFile, MayBeLeft, Migrates};
 ghost use Rattle.bag_ledger.specs.Ledgers.{Ledger};
 ghost use Rattle.bag_receiver.specs.Receivers.{IsKept};
 ghost use Rattle.bag_receiver.specs.Receiving.{Happened, LedgerState, settled};
 ghost use Rattle.bag_receiver.specs.Stops.{Event, Stop};
 ghost use Rattle.bag_rules.specs.Faults.{Has};
 ghost use Rattle.bag_rules.specs.Files.{Files as OctetsByPath};
+ghost use Rattle.sqlite.specs.Files.{file_state};
+ghost use Rattle.sqlite.specs.State.{HasCleanDisk, Survives};
 ghost use Rattle.sqlite_wal.specs.Files.{image_at};
 ghost use Rattle.sqlite_wal.specs.Recovery.{Image};
 
 use crate::ledger::{LedgerFiles, Ledgers};
 use crate::open_file::FileKeeper;
 use bag_ledger::Keeper;
-use sqlite::{FileFrom, Start};
+use bag_sqlite::laws::a_stopped_opening_leaves_the_ledger;
+use sqlite::{Connection, FileFrom, FileStore, Start};
 use sqlite_disk::Disk;
 
 /// After a stop the files hold what was held, or a ledger that was doubtful. A run that opens the ledger on them holds
@@ -46,6 +49,21 @@ pub fn a_ledger_goes_on_after_a_close<T: Start>(opened: &FileKeeper<T>)
         → IsKept ⟦<FileKeeper<T> as Keeper>⟧.holds ⟦<FileKeeper<T> as Keeper>⟧.may_leave
         opened.now (settled ledger) }
 {}
+
+/// A run that stops while it opens a ledger, or that hands it back, leaves files that hold the same ledger, whether it was
+/// moved to format 2 or not.
+pub fn a_ledger_stays_after_a_stopped_opening<S: Start>(
+    opened: &Connection<FileStore<FileFrom<S>>>,
+    stopped: &Connection<FileStore<FileFrom<S>>>,
+)
+    ensures { (ledger : Ledger) (image : Image) → HoldsLedgerIn (image_at S.Start) ledger
+        → IsConnectedTo (image_at S.Start) opened.now
+        → Survives (file_state opened.now) (file_state stopped.now) (Migrates opened.now)
+        → HasCleanDisk (file_state stopped.now) → IsStopOf stopped.now image
+        → HoldsLedgerIn image ledger }
+{
+    a_stopped_opening_leaves_the_ledger(opened, stopped);
+}
 
 /// Whatever the disk may leave of the files is what a stop may leave of them. That the store numbers its tables as the
 /// kit does is an invariant of every connection, which the kit keeps to itself.

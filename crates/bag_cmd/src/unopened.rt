@@ -167,7 +167,7 @@ impl<S, D: Disk> Unopened<Left<S, D>> {
         let cause = match &fault {
             AdoptFault::NotALedger => Some(LedgerCause::NoLedger),
             AdoptFault::Store(error) => Some(LedgerCause::Database(*error)),
-            AdoptFault::OldFormat | AdoptFault::Damaged { .. } | AdoptFault::Memory => None,
+            AdoptFault::Damaged { .. } | AdoptFault::Memory => None,
         };
         Unopened {
             fault,

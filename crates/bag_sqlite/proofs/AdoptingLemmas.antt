@@ -1,6 +1,6 @@
 -- What a database shows while it is read and verified.
 use Rattle.std.proofs.Common.{ap, Result, Ok, Err, IfOk, IfSome, IfNone, Option, None, Some, ◌≡◌, ◌<◌, ◌+◌, ◌++◌, ℕ, ℤ, get_or, suc, take, List, [], ◌∷◌, arith, length, map, refl, subst, sym, ◌∙◌, false, IsTrue, slice_index_or}
-use Rattle.bag_sqlite.proofs.Words.{AllByRecursion, bytes, Database, file_in, Files, Ghosts, HasCleanDisk, Held, insert_entry, Int, IsLeft, IsRead, nat_cmp, OnlyQueries, OnlyReads, Row, slice_cmp, Stands, State, state, take-suc, Tells, TellsOne, TransferPasses, Value, with_files, column}
+use Rattle.bag_sqlite.proofs.Words.{AllByRecursion, bytes, column, Database, file_in, Files, Format, Ghosts, HasCleanDisk, Held, insert_entry, Int, IsLeft, IsRead, nat_cmp, OnlyQueries, OnlyReads, Row, slice_cmp, Stands, State, state, take-suc, Tells, TellsOne, TransferPasses, Value, with_files}
 use Rattle.bag_sqlite.specs.Reading.{ShowsRows}
 use Rattle.bag_sqlite.proofs.ReadingLemmas.{was_open}
 use Rattle.bag_sqlite.proofs.SqlLemmas.{survives_both, survives_same}
@@ -21,7 +21,7 @@ read_same s = record { was_open = λ h. h; committed = λ _. refl; settled = λ 
 pub read_then : (a b c : State) → IsRead a b → IsRead b c → IsRead a c
 read_then a b c p q = record { was_open = λ h. p.was_open (q.was_open h); committed = λ h. q.committed h ∙ p.committed (q.was_open h); settled = λ h. q.settled (p.settled h) }
 
-left_then : (a b c : State) → b.in_transaction ≡ false → IsLeft a b → IsLeft b c → IsLeft a c
+pub left_then : (a b c : State) → b.in_transaction ≡ false → IsLeft a b → IsLeft b c → IsLeft a c
 left_then a b c idle p q = record {
   mode = q.mode ∙ p.mode;
   was_open = λ h. p.was_open (q.was_open h);
@@ -96,8 +96,8 @@ put_as_with files (row ∷ rows) = put_as_with (insert_entry (slice_cmp nat_cmp)
 -- ROWS IN SEQUENCE
 
 -- the transfer in this row is valid
-abbrev pub Verifies : {S : Type 0} → Ghosts S → Database → Row → Type 0
-Verifies g db row = (transfer : ℤ) × (column row 0 ≡ Int transfer) × TransferPasses g db transfer
+abbrev pub Verifies : {S : Type 0} → Ghosts S → Database → Format → Row → Type 0
+Verifies g db format row = (transfer : ℤ) × (column row 0 ≡ Int transfer) × TransferPasses g db format transfer
 
 all_last : {X : Type 0} (P : X → Type 0) (xs : List X) (x : X) → AllByRecursion P xs → P x → AllByRecursion P (xs ++ x ∷ [])
 all_last P [] x all here = (here, tt)

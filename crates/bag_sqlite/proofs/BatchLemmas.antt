@@ -1,6 +1,6 @@
 -- Payload files that are tested together, and what is known of the rows that were read before they are tested.
 use Rattle.std.proofs.Common.{IfNone, IfSome, MatchOption, None, Option, Some, string_bytes, ◌≡◌, ◌||◌, ◌∙◌, ◌++◌, ◌∷◌, ◌+◌, ◌<◌, ◌≤◌, ◌⊎◌, [], ℕ, ℤ, List, Vec, ap, arith, drop, get_or, inl, inr, length, pos, refl, suc, subst, sym, take, unwrap_or}
-use Rattle.bag_sqlite.proofs.Words.{Alg, AlgSet, AllByRecursion, AreCovered, AreDigestsOfEach, AreSumsFor, AreWanted, Batch, column, concat, Covers, Database, Digests, drop-cons, Files, Ghosts, Global, has, HasDamagedItem, HasMisfit, HasOneMore, HasPieces, Int, IsEmpty, IsFindingOf, IsFirstMisfitOf, IsWanted, IsWantOf, ItemFails, ItemPasses, items_text, LARGEST_ITEM, or-true, passes_wanted, Row, RowPasses, slice_get_read, String, Tells, Text, Untested, Want, wanted_passes, WantFault}
+use Rattle.bag_sqlite.proofs.Words.{Alg, AlgSet, AllByRecursion, AreCovered, AreDigestsOfEach, AreSumsFor, AreWanted, Batch, column, Covers, Database, Digests, drop-cons, Files, Format, Ghosts, Global, has, HasContent, HasDamagedItem, HasMisfit, HasOneMore, Int, IsEmpty, IsFindingOf, IsFirstMisfitOf, IsWanted, IsWantOf, ItemFails, ItemPasses, items_text, LARGEST_ITEM, or-true, passes_wanted, Row, RowPasses, slice_get_read, String, Tells, Text, Untested, Want, wanted_passes, WantFault}
 use Rattle.bag_rules.specs.declared.want.WantFault.TheVariants.{Digest as WrongDigest, Length}
 use Rattle.bag_sqlite.proofs.AdoptingLemmas.{all_more}
 use Rattle.bag_sqlite.proofs.RefusingLemmas.{all_at}
@@ -12,11 +12,11 @@ misfit_other want octets Length misfit wanted = misfit wanted.lengths
 misfit_other want octets (WrongDigest alg) (fits, (first, least)) wanted = first.is_such.2 (wanted.digests first.listing first.is_such.0 first.has first.is_such.1)
 
 -- a complete payload file is valid if its content is the one that is wanted, and otherwise it isn't
-pub known_by : {S : Type 0} (g : Ghosts S) (db : Database) (tags : Files) (item : ℤ) (path : List ℕ) (size : ℤ) (octets : ℕ) (pieces : List (List ℕ)) (want : Want) → IsWantOf tags path want → HasPieces g db item pieces
-    → size ≡ pos octets → octets ≤ LARGEST_ITEM → octets ≡ length (concat pieces) → (IsWanted want (concat pieces) → ItemPasses g db tags item path size) × ((¬ IsWanted want (concat pieces)) → ItemFails g db tags item path size)
-known_by g db tags item path size octets pieces want is has same within count = (
-  λ wanted. record { pieces = pieces; has = has; size_is = same ∙ ap pos count; passes = wanted_passes tags path (concat pieces) want is (omega (arith, within, count)) wanted },
-  λ other. inr (inr (octets, same, inr (inr (record { pieces = pieces; has = has; size_is = count; other = λ passes. other (passes_wanted tags path (concat pieces) want is passes) })))),
+pub known_by : {S : Type 0} (g : Ghosts S) (db : Database) (format : Format) (tags : Files) (item : ℤ) (path : List ℕ) (size : ℤ) (octets : ℕ) (content : List ℕ) (want : Want) → IsWantOf tags path want → HasContent g db format item content
+    → size ≡ pos octets → octets ≤ LARGEST_ITEM → octets ≡ length content → (IsWanted want content → ItemPasses g db format tags item path size) × ((¬ IsWanted want content) → ItemFails g db format tags item path size)
+known_by g db format tags item path size octets content want is has same within count = (
+  λ wanted. record { content = content; has = has; size_is = same ∙ ap pos count; passes = wanted_passes tags path content want is (omega (arith, within, count)) wanted },
+  λ other. inr (inr (octets, same, inr (record { content = content; has = has; size_is = count; other = λ passes. other (passes_wanted tags path content want is passes) }))),
 )
 
 -- BATCHES
@@ -90,19 +90,19 @@ either_path M N (Some q) path f h is = f (string_bytes q) is
 abbrev pub Shows : Row → ℤ → List ℕ → ℤ → Type 0
 Shows row item path size = (column row 0 ≡ Int item) × (column row 1 ≡ Text path) × (column row 2 ≡ Int size)
 
-module _ {S : Type 0} (g : Ghosts S) (db : Database) (tags : Files) (rows : List Row) where
+module _ {S : Type 0} (g : Ghosts S) (db : Database) (format : Format) (tags : Files) (rows : List Row) where
   -- a payload file with this path is the first of these that isn't valid
   abbrev pub IsFirst : List ℕ → Type 0
-  IsFirst path = (transfer : ℤ) → Tells g db items_text (Int transfer ∷ []) rows → HasDamagedItem g db tags transfer path
+  IsFirst path = (transfer : ℤ) → Tells g db (items_text format) (Int transfer ∷ []) rows → HasDamagedItem g db format tags transfer path
 
   -- once the files of the batch are tested, so are the rows before this place
   pub record SoFar (batch : Batch) (place : ℕ) : Type 0 where
     pub covered : AreCovered batch
-    pub passing : AreWanted batch.wants.items batch.contents.items → AllByRecursion (RowPasses g db tags) (take place rows)
+    pub passing : AreWanted batch.wants.items batch.contents.items → AllByRecursion (RowPasses g db format tags) (take place rows)
     pub damaged : (path : List ℕ) → HasMisfit batch.wants.items batch.contents.items path → IsFirst path
 
   -- the batch is empty
-  pub none_left : (batch : Batch) (place : ℕ) → IsEmpty batch → AllByRecursion (RowPasses g db tags) (take place rows) → SoFar batch place
+  pub none_left : (batch : Batch) (place : ℕ) → IsEmpty batch → AllByRecursion (RowPasses g db format tags) (take place rows) → SoFar batch place
   none_left batch place empty all = record {
     covered = rw empty.0 tt;
     passing = λ _. all;
@@ -110,10 +110,10 @@ module _ {S : Type 0} (g : Ghosts S) (db : Database) (tags : Files) (rows : List
   }
 
   module _ (place : ℕ) (row : Row) (low : place < length rows) (here : row ≡ get_or rows place row) (item : ℤ) (path : List ℕ) (size : ℤ) (row_is : Shows row item path size) where
-    passes_more : AllByRecursion (RowPasses g db tags) (take place rows) → ItemPasses g db tags item path size → AllByRecursion (RowPasses g db tags) (take (place + 1) rows)
-    passes_more all passes = all_more (RowPasses g db tags) rows place row low here all (record { item = item; path = path; size = size; row_is = row_is; passes = passes })
+    passes_more : AllByRecursion (RowPasses g db format tags) (take place rows) → ItemPasses g db format tags item path size → AllByRecursion (RowPasses g db format tags) (take (place + 1) rows)
+    passes_more all passes = all_more (RowPasses g db format tags) rows place row low here all (record { item = item; path = path; size = size; row_is = row_is; passes = passes })
 
-    pub first_at : AllByRecursion (RowPasses g db tags) (take place rows) → ItemFails g db tags item path size → IsFirst path
+    pub first_at : AllByRecursion (RowPasses g db format tags) (take place rows) → ItemFails g db format tags item path size → IsFirst path
     first_at all fails transfer told = record {
       rows = rows;
       told = told;
@@ -127,10 +127,10 @@ module _ {S : Type 0} (g : Ghosts S) (db : Database) (tags : Files) (rows : List
       fails = fails;
     }
 
-    pub one_passes : (batch : Batch) → SoFar batch place → ItemPasses g db tags item path size → SoFar batch (place + 1)
+    pub one_passes : (batch : Batch) → SoFar batch place → ItemPasses g db format tags item path size → SoFar batch (place + 1)
     one_passes batch so_far passes = record { covered = so_far.covered; passing = λ all. passes_more (so_far.passing all) passes; damaged = so_far.damaged }
 
-    pub one_added : (want : Want) (content : Vec ℕ Global) (old new : Batch) → SoFar old place → HasOneMore want content old new → IsFindingOf g db tags item path size (Untested want content) → SoFar new (place + 1)
+    pub one_added : (want : Want) (content : Vec ℕ Global) (old new : Batch) → SoFar old place → HasOneMore want content old new → IsFindingOf g db format tags item path size (Untested want content) → SoFar new (place + 1)
     one_added want content old new so_far adds found =
         let same : length old.wants.items ≡ length old.contents.items = omega (arith, old.paired, old.wants.ok.0, old.contents.ok.0) in
         record {

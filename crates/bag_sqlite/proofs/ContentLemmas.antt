@@ -1,11 +1,11 @@
 -- What a ledger holds for a path, according to the rows of its tables.
 use Rattle.std.proofs.Common.{◌+◌, ◌*◌, ◌≡◌, ◌≤◌, ◌/◌, ◌%◌, ℕ, ℤ, List, [], ◌∷◌, Option, Some, None, arith, length, map, pos, refl, slice_get, sym, ap, subst, ◌∙◌, MatchOption, unwrap_or}
-use Rattle.bag_sqlite.proofs.Words.{all_has, AreCut, AreTablesOf, Blob, bytes_eq, concat, content_of, div-add-mod, enumerate_from, flat_map, Has, has_from_map, has_map, HasItem, HasItemRow, HasPieceRow, HasTransferRow, held_rows, Int, IsPermutation-sym, IsPieceAt, Item, item_row, items_in, Ledger, lookup, NumberedItem, NumberedTransfer, option_map, PIECE, piece_rows, Row, size_of, Transfer, transfer_of, Trees, without_rowids}
+use Rattle.bag_sqlite.proofs.Words.{all_has, AreCut, Blob, bytes_eq, concat, content_of, div-add-mod, enumerate_from, flat_map, Has, has_from_map, has_map, HasItem, HasItemRow, HasPieceRow, HasTransferRow, held_rows, held_tree, HoldTransfers, Int, IsPermutation-sym, IsPieceAt, Item, item_row, items_in, Ledger, lookup, NumberedItem, NumberedTransfer, option_map, Origin, PIECE, piece_rows, piece_tree, Row, Second, size_of, Transfer, transfer_of, Trees, without_rowids}
 use Rattle.bag_sqlite.proofs.CutLemmas.{is_numbered, length_concat, no_number, numbered_is, past_pieces, piece_in}
 use Rattle.bag_sqlite.proofs.OneLedger.{has_flat, has_from_flat, has_moved, items_rise, one_of, read, same_held_row, same_piece_row}
 use Rattle.bag_sqlite.proofs.TransferLemmas.{entry_found, found_entry, transfer_at}
 
-module _ (trees : Trees) (ledger : Ledger) (tables : AreTablesOf trees ledger) (name path : List ℕ) where
+module _ {o : Origin} (trees : Trees) (ledger : Ledger) (tables : HoldTransfers (Second o) trees ledger) (name path : List ℕ) where
   -- of a transfer that exists
   held_by : (t : NumberedTransfer) → transfer_of ledger name ≡ Some (record { tags = t.tags; items = map read t.items }) → content_of ledger name path ≡ lookup (bytes_eq path) (map read t.items)
   held_by t there = ap (λ o. lookup (bytes_eq path) (unwrap_or (option_map (λ (transfer : Transfer). transfer.items) o) [])) there
@@ -14,10 +14,10 @@ module _ (trees : Trees) (ledger : Ledger) (tables : AreTablesOf trees ledger) (
   no_transfer none = ap (λ o. lookup (bytes_eq path) (unwrap_or (option_map (λ (transfer : Transfer). transfer.items) o) [])) none
 
   -- the transfer has no row for the path
-  pub no_item : (transfer : ℤ) → HasTransferRow trees name transfer → ((number : ℤ) (size : ℕ) → ¬ HasItemRow trees number transfer path size) → content_of ledger name path ≡ None
+  pub no_item : (transfer : ℤ) → HasTransferRow trees name transfer → ((number : ℤ) (size : ℕ) → ¬ HasItemRow o trees number transfer path size) → content_of ledger name path ≡ None
   no_item transfer named none = go (content_of ledger name path) refl
     where
-      row_there : (content : List ℕ) → content_of ledger name path ≡ Some content → (number : ℤ) × (size : ℕ) × HasItemRow trees number transfer path size
+      row_there : (content : List ℕ) → content_of ledger name path ≡ Some content → (number : ℤ) × (size : ℕ) × HasItemRow o trees number transfer path size
       row_there content here =
           let t = transfer_at trees ledger tables name transfer named in
           let found = has_from_map read t.0.items (path, content) (entry_found (map read t.0.items) path content (sym (held_by t.0 t.3) ∙ here)) in
@@ -25,15 +25,15 @@ module _ (trees : Trees) (ledger : Ledger) (tables : AreTablesOf trees ledger) (
           let row = item_row item.number t.0.number item.path (size_of item) in
           let listed = has_flat held_rows tables.transfers t.0 row t.1 (has_map (λ (x : NumberedItem). item_row x.number t.0.number x.path (size_of x)) t.0.items item found.1) in
           let same : item.path ≡ path = ap (λ (e : List ℕ × List ℕ). e.0) found.2 in
-          (item.number, size_of item, subst (Has (trees 6)) (λ i. item_row item.number (t.2 i) (same i) (size_of item)) (has_moved (flat_map held_rows tables.transfers) (trees 6) row tables.rows.held listed))
+          (item.number, size_of item, subst (Has (trees (held_tree o))) (λ i. item_row item.number (t.2 i) (same i) (size_of item)) (has_moved (flat_map held_rows tables.transfers) (trees (held_tree o)) row tables.rows.items.held listed))
 
       go : (o : Option (List ℕ)) → content_of ledger name path ≡ o → content_of ledger name path ≡ None
       go None here = here
       go (Some content) here = absurd (let it = row_there content here in none it.0 it.1 it.2)
 
-  pub item_told : (transfer : ℤ) → HasTransferRow trees name transfer → (o : Option Item)
-      → MatchOption o ((number : ℤ) (size : ℕ) → ¬ HasItemRow trees number transfer path size) (λ item. HasItemRow trees item.number transfer path item.size)
-      → MatchOption o (content_of ledger name path ≡ None) (λ item. HasItem trees name path item.number item.size)
+  pub item_told : (transfer : ℤ) → HasTransferRow trees name transfer → (it : Option Item)
+      → MatchOption it ((number : ℤ) (size : ℕ) → ¬ HasItemRow o trees number transfer path size) (λ item. HasItemRow o trees item.number transfer path item.size)
+      → MatchOption it (content_of ledger name path ≡ None) (λ item. HasItem o trees name path item.number item.size)
   item_told transfer named None none = no_item transfer named none
   item_told transfer named (Some item) row = record { transfer = transfer; named = named; held = row }
 
@@ -45,11 +45,11 @@ module _ (trees : Trees) (ledger : Ledger) (tables : AreTablesOf trees ledger) (
     pub size_is : size_of item ≡ size
     pub content : content_of ledger name path ≡ Some (concat item.pieces)
 
-  pub numbered_item : (number : ℤ) (size : ℕ) → HasItem trees name path number size → IsNumbered number size
+  pub numbered_item : (number : ℤ) (size : ℕ) → HasItem o trees name path number size → IsNumbered number size
   numbered_item number size rows =
       let t = transfer_at trees ledger tables name rows.transfer rows.named in
       let row = item_row number rows.transfer path size in
-      let listed = has_from_flat held_rows tables.transfers row (has_moved (trees 6) (flat_map held_rows tables.transfers) row (IsPermutation-sym _ _ tables.rows.held) rows.held) in
+      let listed = has_from_flat held_rows tables.transfers row (has_moved (trees (held_tree o)) (flat_map held_rows tables.transfers) row (IsPermutation-sym _ _ tables.rows.items.held) rows.held) in
       let v = listed.0 in
       let it = has_from_map (λ (x : NumberedItem). item_row x.number v.number x.path (size_of x)) v.items row listed.2 in
       let item = it.0 in
@@ -67,18 +67,18 @@ module _ (trees : Trees) (ledger : Ledger) (tables : AreTablesOf trees ledger) (
 
   -- ITS SIZE
 
-  pub size_held : (number : ℤ) (size : ℕ) → HasItem trees name path number size → Some size ≡ option_map length (content_of ledger name path)
+  pub size_held : (number : ℤ) (size : ℕ) → HasItem o trees name path number size → Some size ≡ option_map length (content_of ledger name path)
   size_held number size rows =
       let it = numbered_item number size rows in
       ap Some (sym it.size_is ∙ sym (length_concat it.item.pieces)) ∙ sym (ap (option_map length) it.content)
 
   -- ITS PIECES
 
-  piece_there : (item : NumberedItem) → Has (items_in tables.transfers) item → (n : ℕ) (body : List ℕ) → HasPieceRow trees item.number n body → slice_get item.pieces n ≡ Some body
+  piece_there : (item : NumberedItem) → Has (items_in tables.transfers) item → (n : ℕ) (body : List ℕ) → HasPieceRow o trees item.number n body → slice_get item.pieces n ≡ Some body
   piece_there item there n body row_there =
       let row : Row = Int item.number ∷ Int (pos n) ∷ Blob body ∷ [] in
       let rows = flat_map piece_rows (items_in tables.transfers) in
-      let listed = has_from_flat piece_rows (items_in tables.transfers) row (has_moved (without_rowids (trees 8)) rows row (IsPermutation-sym _ _ tables.rows.pieces) row_there) in
+      let listed = has_from_flat piece_rows (items_in tables.transfers) row (has_moved (without_rowids (trees (piece_tree o))) rows row (IsPermutation-sym _ _ tables.rows.items.pieces) row_there) in
       let v = listed.0 in
       let it = has_from_map (λ (piece : ℕ × List ℕ). Int v.number ∷ Int (pos piece.0) ∷ Blob piece.1 ∷ []) (enumerate_from 0 v.pieces) row listed.2 in
       let same = same_piece_row v.number item.number it.0.0 n it.0.1 body it.2 in
@@ -86,16 +86,16 @@ module _ (trees : Trees) (ledger : Ledger) (tables : AreTablesOf trees ledger) (
       let is : it.0 ≡ (n, body) = λ i. (same.1 i, same.2 i) in
       numbered_is n item.pieces body (subst (λ (x : NumberedItem). Has (enumerate_from 0 x.pieces) (n, body)) one (subst (Has (enumerate_from 0 v.pieces)) is it.1))
 
-  row_of_piece : (item : NumberedItem) → Has (items_in tables.transfers) item → (n : ℕ) (body : List ℕ) → slice_get item.pieces n ≡ Some body → HasPieceRow trees item.number n body
+  row_of_piece : (item : NumberedItem) → Has (items_in tables.transfers) item → (n : ℕ) (body : List ℕ) → slice_get item.pieces n ≡ Some body → HasPieceRow o trees item.number n body
   row_of_piece item there n body at =
       let row : Row = Int item.number ∷ Int (pos n) ∷ Blob body ∷ [] in
       let numbered = has_map (λ (piece : ℕ × List ℕ). Int item.number ∷ Int (pos piece.0) ∷ Blob piece.1 ∷ []) (enumerate_from 0 item.pieces) (n, body) (is_numbered n item.pieces body at) in
-      has_moved (flat_map piece_rows (items_in tables.transfers)) (without_rowids (trees 8)) row tables.rows.pieces (has_flat piece_rows (items_in tables.transfers) item row there numbered)
+      has_moved (flat_map piece_rows (items_in tables.transfers)) (without_rowids (trees (piece_tree o))) row tables.rows.items.pieces (has_flat piece_rows (items_in tables.transfers) item row there numbered)
 
   abbrev held : List ℕ
   held = unwrap_or (content_of ledger name path) []
 
-  module _ (number : ℤ) (size offset : ℕ) (buffer : List ℕ) (rows : HasItem trees name path number size) where
+  module _ (number : ℤ) (size offset : ℕ) (buffer : List ℕ) (rows : HasItem o trees name path number size) where
     it : IsNumbered number size
     it = numbered_item number size rows
 
@@ -106,14 +106,14 @@ module _ (trees : Trees) (ledger : Ledger) (tables : AreTablesOf trees ledger) (
     as_held m n place at = subst (λ content. IsPieceAt content offset n buffer) (sym (ap (λ o. unwrap_or o []) it.content)) (subst (λ k. IsPieceAt (concat it.item.pieces) k n buffer) place at)
 
     -- the piece that its row gives
-    pub piece_held : (body : List ℕ) (n : ℕ) → HasPieceRow trees number (offset / PIECE) body → IsPieceAt body (offset % PIECE) n buffer → IsPieceAt held offset n buffer
+    pub piece_held : (body : List ℕ) (n : ℕ) → HasPieceRow o trees number (offset / PIECE) body → IsPieceAt body (offset % PIECE) n buffer → IsPieceAt held offset n buffer
     piece_held body n row at =
-        let here = piece_there it.item it.there (offset / PIECE) body (subst (λ k. HasPieceRow trees k (offset / PIECE) body) (sym it.number_is) row) in
+        let here = piece_there it.item it.there (offset / PIECE) body (subst (λ k. HasPieceRow o trees k (offset / PIECE) body) (sym it.number_is) row) in
         as_held (PIECE * (offset / PIECE) + offset % PIECE) n (div-add-mod offset PIECE) (piece_in it.item.pieces cut (offset / PIECE) (offset % PIECE) n body buffer (omega arith) here at)
 
     -- there is no row past the end
-    pub no_piece_held : ((body : List ℕ) → ¬ HasPieceRow trees number (offset / PIECE) body) → IsPieceAt held offset 0 buffer
+    pub no_piece_held : ((body : List ℕ) → ¬ HasPieceRow o trees number (offset / PIECE) body) → IsPieceAt held offset 0 buffer
     no_piece_held none = as_held offset 0 refl (past_pieces it.item.pieces cut offset buffer (past (offset / PIECE) none))
       where
-        past : (n : ℕ) → ((body : List ℕ) → ¬ HasPieceRow trees number n body) → length it.item.pieces ≤ n
-        past n none = no_number n it.item.pieces (λ body at. none body (subst (λ k. HasPieceRow trees k n body) it.number_is (row_of_piece it.item it.there n body at)))
+        past : (n : ℕ) → ((body : List ℕ) → ¬ HasPieceRow o trees number n body) → length it.item.pieces ≤ n
+        past n none = no_number n it.item.pieces (λ body at. none body (subst (λ k. HasPieceRow o trees k n body) it.number_is (row_of_piece it.item it.there n body at)))

@@ -5,7 +5,7 @@ use Rattle.std.specs.Prelude.{IsPermutation}
 use Rattle.sqlite_sql.specs.Aggregate.{count}
 use Rattle.sqlite_sql.specs.Group.{IsSummary, value_over}
 use Rattle.sqlite_sql.specs.Query.{matches}
-use Rattle.bag_sqlite.proofs.Words.{end, Env, filter, holds, inner, IsAnswer, length-map, length_permutation, list_all, one_permutation, Output, output, Row, same_Some, Trees, Value}
+use Rattle.bag_sqlite.proofs.Words.{end, Env, filter, holds, inner, IsAnswer, length-map, length_permutation, list_all, one_permutation, Origin, Output, output, piece_tree, Row, same_Some, Trees, Value}
 use Rattle.bag_sqlite.proofs.AdoptingMeanings.{all_counted, count_query, count_where}
 use Rattle.bag_sqlite.proofs.NamesLemmas.{drop_zero}
 
@@ -19,11 +19,11 @@ summary group row s = go s.0 s.1 s.2
     go (v ∷ w ∷ more) zip is = absurd zip.1
 
 -- one row is shown, with the number of the rows that pass
-pub counted : (trees : Trees) (params : Row) (rows : List Row) → IsAnswer count_query trees params rows → rows ≡ (count (length (matches trees count_where (inner 8 end) (params ∷ []))) ∷ []) ∷ []
-counted trees params rows a = go a.grouped.groups a.grouped.rows a.grouped.grouping.2 a.grouped.summaries a.grouped.having
+pub counted : (o : Origin) (trees : Trees) (params : Row) (rows : List Row) → IsAnswer (count_query o) trees params rows → rows ≡ (count (length (matches trees count_where (inner (piece_tree o) end) (params ∷ []))) ∷ []) ∷ []
+counted o trees params rows a = go a.grouped.groups a.grouped.rows a.grouped.grouping.2 a.grouped.summaries a.grouped.having
   where
     all : List Env
-    all = matches trees count_where (inner 8 end) (params ∷ [])
+    all = matches trees count_where (inner (piece_tree o) end) (params ∷ [])
 
     number : Value
     number = count (length all)
@@ -35,7 +35,7 @@ counted trees params rows a = go a.grouped.groups a.grouped.rows a.grouped.group
         let order : group ≡ a.grouped.grouping.0 = cc in
         let same : length group ≡ length all = ap length order ∙ length_permutation all a.grouped.grouping.0 a.grouped.grouping.1 in
         let one : row ≡ number ∷ [] = summary group row zip.0 ∙ ap (λ n. count n ∷ []) same in
-        let kept : a.kept ≡ ([], number ∷ []) ∷ [] = a.distinct ∙ ap (map (output count_query)) having ∙ ap (λ r. output count_query (params ∷ r ∷ []) ∷ []) one in
+        let kept : a.kept ≡ ([], number ∷ []) ∷ [] = a.distinct ∙ ap (map (output (count_query o))) having ∙ ap (λ r. output (count_query o) (params ∷ r ∷ []) ∷ []) one in
         let ordered : a.ordered ≡ ([], number ∷ []) ∷ [] = one_permutation ([], number ∷ []) a.ordered (subst (λ k. IsPermutation k a.ordered) kept a.same) in
         a.shown ∙ drop_zero (map (λ (o : Output). o.1) a.ordered) ∙ ap (map (λ (o : Output). o.1)) ordered
     go (group ∷ []) [] is zip having = absurd zip

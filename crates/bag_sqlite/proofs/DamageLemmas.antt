@@ -10,7 +10,7 @@ use Rattle.bag_rules.proofs.NotRefused.{front_by_path, refused_by_memory, tag_fi
 use Rattle.bag_rules.specs.declared.tag_set.TagSetFault.{TagSetFault}
 use Rattle.bag_rules.specs.declared.tag_set.TagSetFault.TheVariants as tag
 use Rattle.bag_sqlite.specs.Refusing.{HasBadTag}
-use Rattle.bag_sqlite.proofs.Words.{AreTablesOf, Blob, column, concat, Database, file_in, Files, files_in, Ghosts, Has, has_map, HasDamagedItem, Int, IsDamaged, IsSound, ItemFails, Ledger, ledger_schema, NumberedItem, NumberedTransfer, OpensNone, option_map, Refuses, RefusesFile, Row, size_of, State, state, tag_files_text, tag_shown, Tells, Text, Transfer, TransferFails, transfer_of, transfer_row, with_files, without_number}
+use Rattle.bag_sqlite.proofs.Words.{Blob, column, concat, Database, file_in, Files, files_in, format_of, Ghosts, Has, has_map, HasDamagedItem, HoldTransfers, Int, IsDamaged, IsSound, ItemFails, Layout, Ledger, NumberedItem, NumberedTransfer, OpensNone, option_map, Refuses, RefusesFile, Row, schema_of, size_of, State, state, tag_files_text, tag_shown, Tells, Text, Transfer, transfer_of, transfer_row, TransferFails, with_files, without_number}
 use Rattle.bag_sqlite.proofs.OneLedger.{has_flat, one_of, read}
 use Rattle.bag_sqlite.proofs.PassingItems.{item_stands}
 use Rattle.bag_sqlite.proofs.ToldLemmas.{item_told, transfer_told}
@@ -47,7 +47,7 @@ module _ (rows : List Row) (tags : Files) (are : rows ≡ map tag_shown tags) (i
 
 -- A TRANSFER OF THE LEDGER
 
-module _ {S : Type 0} (g : Ghosts S) (db : Database) (ledger : Ledger) (has : db.schema ≡ ledger_schema) (tables : AreTablesOf db.trees ledger) where
+module _ {S : Type 0} {l : Layout} (g : Ghosts S) (db : Database) (ledger : Ledger) (has : db.schema ≡ schema_of l) (tables : HoldTransfers l db.trees ledger) where
   pub in_ledger : (t : NumberedTransfer) → Has tables.transfers t → transfer_of ledger t.name ≡ Some (without_number t).1
   in_ledger t there = found_entry ledger (without_number t) tables.order.names (subst (λ l. Has l (without_number t)) (sym tables.is) (has_map without_number tables.transfers t there))
 
@@ -56,7 +56,7 @@ module _ {S : Type 0} (g : Ghosts S) (db : Database) (ledger : Ledger) (has : db
   tags_told t there rows told =
       let s : State = state g (record told.at { in_transaction = true }) in
       let back = sym told.is in
-      let shown = tags_shown s (state g told.shown.then) rows ledger t.name t.number (ap (λ (d : Database). d.schema) told.is ∙ has) (subst (λ (d : Database). AreTablesOf d.trees ledger) back tables)
+      let shown = tags_shown s (state g told.shown.then) rows ledger t.name t.number (ap (λ (d : Database). d.schema) told.is ∙ has) (subst (λ (d : Database). HoldTransfers l d.trees ledger) back tables)
       (subst (λ (d : Database). Has (d.trees 2) (transfer_row t)) back (row_there db.trees ledger tables t there)) told.shown.shown in
       let same : Some shown.0 ≡ Some t.tags = sym shown.1 ∙ ap (option_map (λ (transfer : Transfer). transfer.tags)) (in_ledger t there) in
       let files : shown.0 ≡ t.tags = cc in
@@ -64,7 +64,7 @@ module _ {S : Type 0} (g : Ghosts S) (db : Database) (ledger : Ledger) (has : db
 
 -- WHAT ISN'T DAMAGED
 
-module _ {S : Type 0} (g : Ghosts S) (db : Database) (ledger : Ledger) (has : db.schema ≡ ledger_schema) (tables : AreTablesOf db.trees ledger) (sound : IsSound ledger) where
+module _ {S : Type 0} {l : Layout} (g : Ghosts S) (db : Database) (ledger : Ledger) (has : db.schema ≡ schema_of l) (tables : HoldTransfers l db.trees ledger) (sound : IsSound ledger) where
   abbrev IsIn : NumberedTransfer → Type 0
   IsIn t = Has tables.transfers t
 
@@ -88,12 +88,12 @@ module _ {S : Type 0} (g : Ghosts S) (db : Database) (ledger : Ledger) (has : db
       ]
 
   -- a payload file that is told is one that it holds
-  item_passes : (t : NumberedTransfer) → IsIn t → (item : NumberedItem) → Has t.items item → ¬ ItemFails g db t.tags item.number item.path (pos (size_of item))
+  item_passes : (t : NumberedTransfer) → IsIn t → (item : NumberedItem) → Has t.items item → ¬ ItemFails g db (format_of l) t.tags item.number item.path (pos (size_of item))
   item_passes t there item owned =
       let passes = (stands t there).held.passing item.path (concat item.pieces) (has_map read t.items item owned) in
       item_stands g db ledger has tables item (has_flat (λ (u : NumberedTransfer). u.items) tables.transfers t item there owned) t.tags (expected_path t.tags item.path passes.expected) passes
 
-  no_damaged_item : (t : NumberedTransfer) → IsIn t → (path : List ℕ) → ¬ HasDamagedItem g db t.tags t.number path
+  no_damaged_item : (t : NumberedTransfer) → IsIn t → (path : List ℕ) → ¬ HasDamagedItem g db (format_of l) t.tags t.number path
   no_damaged_item t there path damaged =
       let it = item_told g db ledger has tables t.number damaged.rows damaged.told damaged.row (has_at damaged.rows damaged.at damaged.row damaged.here) in
       let same : it.transfer ≡ t = one_of (λ (u : NumberedTransfer). u.number) tables.transfers it.transfer t tables.numbers it.there there it.number_is in
@@ -105,16 +105,16 @@ module _ {S : Type 0} (g : Ghosts S) (db : Database) (ledger : Ledger) (has : db
       let named : item.path ≡ path = cc in
       let size : pos (size_of item) ≡ damaged.size = cc in
       item_passes t there item (subst (λ (u : NumberedTransfer). Has u.items item) same it.owned)
-      (subst (λ (q : ℤ × List ℕ × ℤ). ItemFails g db t.tags q.0 q.1 q.2) (λ i. (sym number i, sym named i, sym size i)) damaged.fails)
+      (subst (λ (q : ℤ × List ℕ × ℤ). ItemFails g db (format_of l) t.tags q.0 q.1 q.2) (λ i. (sym number i, sym named i, sym size i)) damaged.fails)
 
-  transfer_passes : (t : NumberedTransfer) → IsIn t → (path : List ℕ) → ¬ TransferFails g db t.number path
+  transfer_passes : (t : NumberedTransfer) → IsIn t → (path : List ℕ) → ¬ TransferFails g db (format_of l) t.number path
   transfer_passes t there path (inl fails) = opens_one t there fails.0
-  transfer_passes t there path (inr damage) = no_damaged_item t there path (subst (λ files. HasDamagedItem g db files t.number path) (tags_read t there damage.tag_rows damage.tags_told) damage.item)
+  transfer_passes t there path (inr damage) = no_damaged_item t there path (subst (λ files. HasDamagedItem g db (format_of l) files t.number path) (tags_read t there damage.tag_rows damage.tags_told) damage.item)
 
-  pub is_undamaged : (name path : List ℕ) → ¬ IsDamaged g db name path
+  pub is_undamaged : (name path : List ℕ) → ¬ IsDamaged g db (format_of l) name path
   is_undamaged name path damaged =
       let it = transfer_told g db ledger has tables damaged.rows damaged.told damaged.row (has_at damaged.rows damaged.at damaged.row damaged.here) in
       let t = it.transfer in
       let first : Int t.number ≡ Int damaged.transfer = ap (λ r. column r 0) (sym it.is) ∙ damaged.row_is.0 in
       let number : t.number ≡ damaged.transfer = cc in
-      transfer_passes t it.there path (subst (λ n. TransferFails g db n path) (sym number) damaged.fails)
+      transfer_passes t it.there path (subst (λ n. TransferFails g db (format_of l) n path) (sym number) damaged.fails)

@@ -1,7 +1,8 @@
 -- The tables of a ledger after a transfer is added.
 use Rattle.std.proofs.Common.{◌≡◌, ◌≢◌, ℕ, Bool, true, false, List, [], ◌∷◌, ◌++◌, Option, Some, None, cond, is_eq, map, refl, sym, ap, subst, ◌∙◌, ℤ, Ordering, Equal, Greater, Less}
-use Rattle.bag_sqlite.proofs.Words.{All-from_recursion, All-permutation, AllByRecursion, AreApart, AreRising, AreTablesOf, begun, bytes_eq, column, entry_rising, Files, flat_map, HasOneTransferMore, held_rows, insert_entry, Int, is_eq-slice_cmp, IsPermutation-append_right, IsPermutation-cons, IsPermutation-flat_map, IsPermutation-map, IsPermutation-middle, IsPermutation-sym, IsPermutation-trans, IsStrictlySortedBy, IsUnused, items_in, keys_of, Ledger, lookup, match_ordering, nat_cmp, NumberedTransfer, opened_under, recursion_from_All, Row, slice_cmp, tag_rows, Transfer, transfer_row, Trees, with_transfer, without_number, without_rowids}
+use Rattle.bag_sqlite.proofs.Words.{All-from_recursion, All-permutation, AllByRecursion, AreApart, AreRising, AreTablesOf, begun, bytes_eq, column, entry_rising, Files, flat_map, HasOneTransferMore, held_rows, HoldTransfers, insert_entry, Int, is_eq-slice_cmp, IsPermutation-append_right, IsPermutation-cons, IsPermutation-flat_map, IsPermutation-map, IsPermutation-middle, IsPermutation-sym, IsPermutation-trans, IsStrictlySortedBy, IsUnused, items_in, keys_of, Ledger, lookup, match_ordering, nat_cmp, NumberedTransfer, opened_under, Origin, recursion_from_All, Row, Second, slice_cmp, tag_rows, Transfer, transfer_row, Trees, with_transfer, without_number, without_rowids}
 use Rattle.std.specs.Prelude.{IsPermutation}
+use Rattle.bag_sqlite.proofs.LayoutLemmas.{still_moved}
 
 -- ONE ENTRY ADDED IN THE MIDDLE
 
@@ -62,7 +63,7 @@ module _ {X Y : Type 0} (entry : X → List ℕ × Y) (x : X) where
 
 -- ONE TRANSFER ADDED
 
-module _ (old new : Trees) (ledger : Ledger) (number : ℤ) (name : List ℕ) (tags : Files) where
+module _ (number : ℤ) (name : List ℕ) (tags : Files) where
   abbrev more : NumberedTransfer
   more = opened_under number name tags
 
@@ -70,34 +71,34 @@ module _ (old new : Trees) (ledger : Ledger) (number : ℤ) (name : List ℕ) (t
   apart_from_all [] all = tt
   apart_from_all (u ∷ us) all = ((λ e. all.0 (ap Int e)), apart_from_all us all.1)
 
-  pub begun_tables : (p : AreTablesOf old ledger) → IsUnused name ledger → AreRising (keys_of tags) → HasOneTransferMore old new more
-      → AreTablesOf new (with_transfer ledger name tags)
+module _ {o : Origin} (old new : Trees) (ledger : Ledger) (number : ℤ) (name : List ℕ) (tags : Files) where
+  begun_transfers : (p : HoldTransfers (Second o) old ledger) → IsUnused name ledger → AreRising (keys_of tags) → HasOneTransferMore o old new (more number name tags)
+      → HoldTransfers (Second o) new (with_transfer ledger name tags)
   unfolding IsStrictlySortedBy
-  begun_tables p unused rising rows =
+  begun_transfers p unused rising rows =
+      let it = opened_under number name tags in
       let free = λ (row : Row). column row 0 ≢ Int number in
       let were = map transfer_row p.transfers in
-      let fresh = apart_from_all p.transfers (recursion_from_All free were (All-permutation free (old 2) were (IsPermutation-sym were (old 2) p.rows.transfers) (All-from_recursion free (old 2) rows.fresh))) in
-      let at = place without_number more p.transfers (subst (λ l. lookup (bytes_eq name) l ≡ None) p.is unused) in
+      let fresh = apart_from_all number name tags p.transfers (recursion_from_All free were (All-permutation free (old 2) were (IsPermutation-sym were (old 2) p.rows.transfers) (All-from_recursion free (old 2) rows.fresh))) in
+      let at = place without_number it p.transfers (subst (λ l. lookup (bytes_eq name) l ≡ None) p.is unused) in
       let fore = at.before in
       let bs = at.after in
-      let all = fore ++ more ∷ bs in
+      let all = fore ++ it ∷ bs in
       let is : with_transfer ledger name tags ≡ map without_number all = ap (λ l. insert_entry (slice_cmp nat_cmp) l name (begun tags)) p.is ∙ at.put in
-      let middle = IsPermutation-middle fore more bs in
-      let front : IsPermutation all (more ∷ p.transfers) = subst (λ us. IsPermutation all (more ∷ us)) (sym at.split) middle in
-      let items : items_in all ≡ items_in p.transfers = flat_without more (λ (u : NumberedTransfer). u.items) refl fore bs ∙ ap items_in (sym at.split) in
-      let kept : flat_map held_rows all ≡ flat_map held_rows p.transfers = flat_without more held_rows refl fore bs ∙ ap (flat_map held_rows) (sym at.split) in
+      let middle = IsPermutation-middle fore it bs in
+      let front : IsPermutation all (it ∷ p.transfers) = subst (λ us. IsPermutation all (it ∷ us)) (sym at.split) middle in
+      let items : items_in all ≡ items_in p.transfers = flat_without it (λ (u : NumberedTransfer). u.items) refl fore bs ∙ ap items_in (sym at.split) in
+      let kept : flat_map held_rows all ≡ flat_map held_rows p.transfers = flat_without it held_rows refl fore bs ∙ ap (flat_map held_rows) (sym at.split) in
       record {
         transfers = all;
         rows = record {
-          format = ap without_rowids rows.kept.format ∙ p.rows.format;
-          transfers = IsPermutation-trans _ _ (new 2) (IsPermutation-map transfer_row all (more ∷ p.transfers) front)
-              (IsPermutation-trans _ _ (new 2) (IsPermutation-cons (transfer_row more) (map transfer_row p.transfers) (old 2) p.rows.transfers) rows.transfers);
-          tags = IsPermutation-trans _ _ (without_rowids (new 4)) (IsPermutation-flat_map tag_rows all (more ∷ p.transfers) front)
-              (IsPermutation-trans _ _ (without_rowids (new 4)) (IsPermutation-append_right (tag_rows more) (flat_map tag_rows p.transfers) (without_rowids (old 4)) p.rows.tags) rows.tags);
-          held = rw (kept, rows.kept.held) p.rows.held;
-          pieces = rw (items, rows.kept.pieces) p.rows.pieces;
+          transfers = IsPermutation-trans _ _ (new 2) (IsPermutation-map transfer_row all (it ∷ p.transfers) front)
+              (IsPermutation-trans _ _ (new 2) (IsPermutation-cons (transfer_row it) (map transfer_row p.transfers) (old 2) p.rows.transfers) rows.transfers);
+          tags = IsPermutation-trans _ _ (without_rowids (new 4)) (IsPermutation-flat_map tag_rows all (it ∷ p.transfers) front)
+              (IsPermutation-trans _ _ (without_rowids (new 4)) (IsPermutation-append_right (tag_rows it) (flat_map tag_rows p.transfers) (without_rowids (old 4)) p.rows.tags) rows.tags);
+          items = record { held = rw (kept, rows.kept.held) p.rows.items.held; pieces = rw (items, rows.kept.pieces) p.rows.items.pieces };
         };
-        numbers = apart_middle more (λ (u : NumberedTransfer). u.number) fore bs (subst (AllByRecursion (λ (u : NumberedTransfer). u.number ≢ number)) at.split fresh)
+        numbers = apart_middle it (λ (u : NumberedTransfer). u.number) fore bs (subst (AllByRecursion (λ (u : NumberedTransfer). u.number ≢ number)) at.split fresh)
             (subst (AreApart (λ (u : NumberedTransfer). u.number)) at.split p.numbers);
         item_numbers = rw items p.item_numbers;
         cut = rw items p.cut;
@@ -105,10 +106,19 @@ module _ (old new : Trees) (ledger : Ledger) (number : ℤ) (name : List ℕ) (t
         order = record {
           names = entry_rising name (begun tags) ledger p.order.names;
           tags = subst (AllByRecursion (λ (e : List ℕ × Transfer). AreRising (keys_of e.1.tags))) (sym is)
-              (all_mapped more without_number (λ e. AreRising (keys_of e.1.tags)) fore bs rising
+              (all_mapped it without_number (λ e. AreRising (keys_of e.1.tags)) fore bs rising
               (subst (λ us. AllByRecursion (λ (e : List ℕ × Transfer). AreRising (keys_of e.1.tags)) (map without_number us)) at.split (subst (AllByRecursion (λ (e : List ℕ × Transfer). AreRising (keys_of e.1.tags))) p.is p.order.tags)));
           items = subst (AllByRecursion (λ (e : List ℕ × Transfer). AreRising (keys_of e.1.items))) (sym is)
-              (all_mapped more without_number (λ e. AreRising (keys_of e.1.items)) fore bs tt
+              (all_mapped it without_number (λ e. AreRising (keys_of e.1.items)) fore bs tt
               (subst (λ us. AllByRecursion (λ (e : List ℕ × Transfer). AreRising (keys_of e.1.items)) (map without_number us)) at.split (subst (AllByRecursion (λ (e : List ℕ × Transfer). AreRising (keys_of e.1.items))) p.is p.order.items)));
         };
       }
+
+  -- the same for all tables
+  pub begun_tables : (p : AreTablesOf (Second o) old ledger) → IsUnused name ledger → AreRising (keys_of tags) → HasOneTransferMore o old new (more number name tags)
+      → AreTablesOf (Second o) new (with_transfer ledger name tags)
+  begun_tables p unused rising rows = record {
+    format = (p.format.0, rows.kept.format ∙ p.format.1);
+    held = begun_transfers p.held unused rising rows;
+    moved = still_moved o old new rows.kept.first p.moved;
+  }

@@ -1,9 +1,10 @@
 -- The tables of a ledger after a payload file is added.
 use Rattle.std.proofs.Common.{◌≡◌, ◌≢◌, cond, ℕ, ℤ, List, [], ◌∷◌, ◌++◌, Bool, true, false, Some, None, Less, append_assoc, inl, inr, is_eq, map, refl, sym, ap, subst, ◌∙◌, unwrap_or}
-use Rattle.bag_sqlite.proofs.Words.{all_has, all_map, all_unmap, all_weaker, AllByRecursion, AreApart, AreCut, AreRising, AreTablesOf, bytes_eq, bytes_eq-Decides, column, concat, content_of, entry_rising, flat_map, flat_map-append, Has, has_map, HasOneItemMore, HasTransferRow, held_rows, held_tree, holding, Int, is_eq-slice_cmp, IsFree, IsInOrder, IsPermutation-append_right, IsPermutation-cons, IsPermutation-flat_map, IsPermutation-middle, IsPermutation-trans, IsStrictlySortedBy, item_names, item_row, items_in, keys_of, Ledger, lookup, map-append, map_twice, nat_cmp, nat_list_cmp_total, Null, NumberedItem, NumberedTransfer, option_map, ordering_reverse, piece_rows, Row, size_of, slice_cmp, tag_rows, Text, Transfer, transfer_of, transfer_row, Trees, with_item, without_number, without_rowids}
+use Rattle.bag_sqlite.proofs.Words.{all_has, all_map, all_unmap, all_weaker, AllByRecursion, AreApart, AreCut, AreRising, AreTablesOf, bytes_eq, bytes_eq-Decides, column, concat, content_of, entry_rising, flat_map, flat_map-append, Has, has_map, HasOneItemMore, HasTransferRow, held_rows, held_tree, holding, HoldTransfers, Int, is_eq-slice_cmp, IsFree, IsInOrder, IsPermutation-append_right, IsPermutation-cons, IsPermutation-flat_map, IsPermutation-middle, IsPermutation-trans, IsStrictlySortedBy, item_names, item_row, items_in, keys_of, Ledger, lookup, map-append, map_twice, nat_cmp, nat_list_cmp_total, Null, NumberedItem, NumberedTransfer, option_map, ordering_reverse, Origin, piece_rows, piece_tree, Row, Second, size_of, slice_cmp, tag_rows, Text, Transfer, transfer_of, transfer_row, Trees, with_item, without_number, without_rowids}
 use Rattle.std.specs.Prelude.{IsPermutation}
 use Rattle.bag_sqlite.proofs.GrowthLemmas.{Place, all_middle, apart_middle, place}
 use Rattle.bag_sqlite.proofs.InsertLemmas.{apart_from}
+use Rattle.bag_sqlite.proofs.LayoutLemmas.{still_moved}
 use Rattle.bag_sqlite.proofs.OneLedger.{all_of, has_flat, has_from_flat, has_moved, read}
 use Rattle.bag_sqlite.proofs.TransferLemmas.{found_entry, row_of, same_row}
 
@@ -118,18 +119,18 @@ in_order ledger name path content order =
     }
 
 -- no payload file has a free number
-fresh : (trees : Trees) (ledger : Ledger) (p : AreTablesOf trees ledger) (number : ℤ) → IsFree number (trees held_tree) → AllByRecursion (λ (i : NumberedItem). i.number ≢ number) (items_in p.transfers)
-fresh trees ledger p number free = all_of (λ (i : NumberedItem). i.number ≢ number) (items_in p.transfers) (λ i has same.
+fresh : {o : Origin} (trees : Trees) (ledger : Ledger) (p : HoldTransfers (Second o) trees ledger) (number : ℤ) → IsFree number (trees (held_tree o)) → AllByRecursion (λ (i : NumberedItem). i.number ≢ number) (items_in p.transfers)
+fresh {o} trees ledger p number free = all_of (λ (i : NumberedItem). i.number ≢ number) (items_in p.transfers) (λ i has same.
     let from = has_from_flat (λ (t : NumberedTransfer). t.items) p.transfers i has in
     let t = from.0 in
     let row : Row = item_row i.number t.number i.path (size_of i) in
     let listed = has_flat held_rows p.transfers t row from.1 (has_map (λ (j : NumberedItem). item_row j.number t.number j.path (size_of j)) t.items i from.2) in
-    all_has (λ (r : Row). column r 0 ≢ Int number) (trees held_tree) row (apart_from number (trees held_tree) free)
-    (has_moved (flat_map held_rows p.transfers) (trees held_tree) row p.rows.held listed) (ap Int same))
+    all_has (λ (r : Row). column r 0 ≢ Int number) (trees (held_tree o)) row (apart_from number (trees (held_tree o)) free)
+    (has_moved (flat_map held_rows p.transfers) (trees (held_tree o)) row p.rows.items.held listed) (ap Int same))
 
-pub held_tables : (old new : Trees) (ledger : Ledger) (name : List ℕ) (number : ℤ) (item : NumberedItem) → AreTablesOf old ledger → HasTransferRow old name number → HasOneItemMore old new number item
-    → AreCut item.pieces → content_of ledger name item.path ≡ None → AreTablesOf new (with_item ledger name item.path (concat item.pieces))
-held_tables old new ledger name number item p named rows cut none =
+pub held_transfers : {o : Origin} (old new : Trees) (ledger : Ledger) (name : List ℕ) (number : ℤ) (item : NumberedItem) → HoldTransfers (Second o) old ledger → HasTransferRow old name number → HasOneItemMore o old new number item
+    → AreCut item.pieces → content_of ledger name item.path ≡ None → HoldTransfers (Second o) new (with_item ledger name item.path (concat item.pieces))
+held_transfers {o} old new ledger name number item p named rows cut none =
     let found = row_of old ledger p (Int number ∷ Null ∷ Text name ∷ []) named in
     let t = found.0 in
     let same = same_row old ledger p t.number number t.name name found.2 in
@@ -153,22 +154,23 @@ held_tables old new ledger name number item p named rows cut none =
     let held_many : flat_map held_rows all ≡ held_front ++ row ∷ held_rest = flat_at held_rows it.fore it.back u befores (row ∷ []) afters (map-append row_of_item at.before (item ∷ at.after)) in
     let held_few : flat_map held_rows p.transfers ≡ held_front ++ held_rest =
     ap (flat_map held_rows) it.split ∙ flat_at held_rows it.fore it.back t befores [] afters (ap (map row_of_item) at.split ∙ map-append row_of_item at.before at.after) in
-    let more_held : IsPermutation (row ∷ old 6) (new 6) = subst (λ n. IsPermutation (item_row item.number n item.path (size_of item) ∷ old 6) (new 6)) (sym same.0) rows.held in
+    let more_held : IsPermutation (row ∷ old (held_tree o)) (new (held_tree o)) = subst (λ n. IsPermutation (item_row item.number n item.path (size_of item) ∷ old (held_tree o)) (new (held_tree o))) (sym same.0) rows.held in
     let moved : IsPermutation (items_in all) (item ∷ items_in p.transfers) =
     subst (λ l. IsPermutation l (item ∷ items_in p.transfers)) (sym many) (subst (λ l. IsPermutation (front ++ item ∷ rest) (item ∷ l)) (sym few) (IsPermutation-middle front item rest)) in
     let item_number = λ (i : NumberedItem). i.number in
     record {
       transfers = all;
       rows = record {
-        format = ap without_rowids rows.kept.format ∙ p.rows.format;
         transfers = subst (IsPermutation (map transfer_row all)) (sym rows.kept.transfers)
             (subst (λ l. IsPermutation l (old 2)) (ap (map transfer_row) it.split ∙ sym (same_map t u transfer_row refl it.fore it.back)) p.rows.transfers);
         tags = subst (λ r. IsPermutation (flat_map tag_rows all) (without_rowids r)) (sym rows.kept.tags)
             (subst (λ l. IsPermutation l (without_rowids (old 4))) (ap (flat_map tag_rows) it.split ∙ sym (same_flat t u tag_rows refl it.fore it.back)) p.rows.tags);
-        held = subst (λ l. IsPermutation l (new 6)) (sym held_many) (IsPermutation-trans _ _ (new 6) (IsPermutation-middle held_front row held_rest)
-            (IsPermutation-trans _ _ (new 6) (IsPermutation-cons row (held_front ++ held_rest) (old 6) (subst (λ l. IsPermutation l (old 6)) held_few p.rows.held)) more_held));
-        pieces = IsPermutation-trans _ _ (without_rowids (new 8)) (IsPermutation-flat_map piece_rows (items_in all) (item ∷ items_in p.transfers) moved)
-            (IsPermutation-trans _ _ (without_rowids (new 8)) (IsPermutation-append_right (piece_rows item) (flat_map piece_rows (items_in p.transfers)) (without_rowids (old 8)) p.rows.pieces) rows.pieces);
+        items = record {
+          held = subst (λ l. IsPermutation l (new (held_tree o))) (sym held_many) (IsPermutation-trans _ _ (new (held_tree o)) (IsPermutation-middle held_front row held_rest)
+              (IsPermutation-trans _ _ (new (held_tree o)) (IsPermutation-cons row (held_front ++ held_rest) (old (held_tree o)) (subst (λ l. IsPermutation l (old (held_tree o))) held_few p.rows.items.held)) more_held));
+          pieces = IsPermutation-trans _ _ (without_rowids (new (piece_tree o))) (IsPermutation-flat_map piece_rows (items_in all) (item ∷ items_in p.transfers) moved)
+              (IsPermutation-trans _ _ (without_rowids (new (piece_tree o))) (IsPermutation-append_right (piece_rows item) (flat_map piece_rows (items_in p.transfers)) (without_rowids (old (piece_tree o))) p.rows.items.pieces) rows.pieces);
+        };
       };
       numbers = apart_changed t u (λ (v : NumberedTransfer). v.number) refl it.fore it.back (subst (AreApart (λ (v : NumberedTransfer). v.number)) it.split p.numbers);
       item_numbers = subst (AreApart item_number) (sym many) (apart_middle item item_number front rest (subst (AllByRecursion (λ i. i.number ≢ item.number)) few (fresh old ledger p item.number rows.fresh))
@@ -177,3 +179,12 @@ held_tables old new ledger name number item p named rows cut none =
       is = ap (λ l. with_item l name item.path (concat item.pieces)) p.is ∙ ap (λ n. with_item (map without_number p.transfers) n item.path (concat item.pieces)) (sym same.1) ∙ it.put;
       order = in_order ledger name item.path (concat item.pieces) p.order;
     }
+
+-- the same for all tables
+pub put_tables : {o : Origin} (old new : Trees) (ledger : Ledger) (name : List ℕ) (number : ℤ) (item : NumberedItem) → AreTablesOf (Second o) old ledger → HasTransferRow old name number → HasOneItemMore o old new number item
+    → AreCut item.pieces → content_of ledger name item.path ≡ None → AreTablesOf (Second o) new (with_item ledger name item.path (concat item.pieces))
+put_tables {o} old new ledger name number item p named rows cut none = record {
+  format = (p.format.0, rows.kept.format ∙ p.format.1);
+  held = held_transfers old new ledger name number item p.held named rows cut none;
+  moved = still_moved o old new rows.kept.first p.moved;
+}

@@ -1,6 +1,6 @@
 -- What an INSERT of values writes, for any table.
 use Rattle.std.proofs.Common.{◌≡◌, ◌≢◌, ◌⊎◌, inl, inr, ℕ, ℤ, ◌/◌, List, [], ◌∷◌, length, false, Option, Some, None, slice_get, unwrap_or, Ok, Err, Result, Ordering, Less, Equal, Greater, true≢false, refl, sym, ap, subst, ◌∙◌, is_eq}
-use Rattle.bag_sqlite.proofs.Words.{AllByRecursion, and_parts, AtPlace, Chosen, column, command_of, Database, Does, Edit, edit_of, Enforced, Executes, Insert, Inserts, Int, is_taken, IsDatabase, IsFree, IsPermutation, IsPermutation-cons, IsPermutation-middle, IsPermutation-refl, IsPermutation-trans, IsPlain, last_id, ledger_schema, ListLedger, match_ordering, Mode, mode_of, next_rowid, not-true, one_step, OnRows, or_parts, put_all, put_row, Row, rowid, runs_as, Schema, stamped, State, statement_of, Table, Tally, Task, Term, tied_itself, Trees, understood, value_cmp, value_cmp_total, value_rows, Values, works, Writes, Written}
+use Rattle.bag_sqlite.proofs.Words.{AllByRecursion, and_parts, AtPlace, Chosen, column, command_of, Database, Does, Edit, edit_of, Enforced, Executes, Insert, Inserts, Int, is_taken, IsDatabase, IsFree, IsPermutation, IsPermutation-cons, IsPermutation-middle, IsPermutation-refl, IsPermutation-trans, IsPlain, last_id, ListLedger, match_ordering, Migrated, Mode, mode_of, New, next_rowid, not-true, one_step, OnRows, or_parts, Origin, put_all, put_row, Row, rowid, runs_as, Schema, Second, second_schema, stamped, State, statement_of, Table, Tally, Task, Term, tied_itself, Trees, understood, value_cmp, value_cmp_total, value_rows, Values, works, Writes, Written}
 
 pub went : {B E R : Type 0} {b : B} {Stops : E → Type 0} → ((stop : E) × Stops stop × (Ok b ≡ Err stop)) ⊎ R → R
 went (inl stopped) = absurd (let e = stopped.2 in cc)
@@ -68,43 +68,44 @@ apart_from number (r ∷ rows) free = (
 )
 
 -- a database with this schema lists its tables
-pub lists_ledger : (db : Database) → db.schema ≡ ledger_schema → IsDatabase db → ListLedger db.trees
-lists_ledger db is sound = subst (λ (schema : Schema). IsDatabase (record { schema = schema; trees = db.trees })) is sound
+pub lists_ledger : (o : Origin) (db : Database) → db.schema ≡ second_schema o → IsDatabase db → ListLedger (Second o) db.trees
+lists_ledger o db is sound = subst (λ (schema : Schema). IsDatabase (record { schema = schema; trees = db.trees })) is sound
 
 -- what an INSERT of one row without a rowid does: the row is added under a rowid that was free, and the connection
 -- reports that rowid
-pub record InsertsRow (tree : ℕ) (values : Row) (old new : State) : Type 0 where
-  pub schema_is : new.now.schema ≡ ledger_schema
-  pub listed : ListLedger new.now.trees
+pub record InsertsRow (o : Origin) (tree : ℕ) (values : Row) (old new : State) : Type 0 where
+  pub schema_is : new.now.schema ≡ second_schema o
+  pub listed : ListLedger (Second o) new.now.trees
   pub fresh : IsFree new.last_rowid (old.now.trees tree)
   pub rows : IsPermutation ((Int new.last_rowid ∷ values) ∷ old.now.trees tree) (new.now.trees tree)
-  pub others : AllByRecursion (λ (t : Table). t.tree ≢ tree → new.now.trees t.tree ≡ old.now.trees t.tree) ledger_schema.tables
+  pub others : AllByRecursion (λ (t : Table). t.tree ≢ tree → new.now.trees t.tree ≡ old.now.trees t.tree) (second_schema o).tables
 
-no_action : (tree : ℕ) (row : Row) → works ledger_schema Enforced 0 tree [] (row ∷ []) ≡ []
-no_action tree row = refl
+no_action : (o : Origin) (tree : ℕ) (row : Row) → works (second_schema o) Enforced 0 tree [] (row ∷ []) ≡ []
+no_action New tree row = refl
+no_action Migrated tree row = refl
 
-module _ (t : Table) (at : ℕ) (terms : List Term) (width : ℕ) (text : List ℕ) (params values : Row) (old new : State) (count : ℕ) where
+module _ (o : Origin) (t : Table) (at : ℕ) (terms : List Term) (width : ℕ) (text : List ℕ) (params values : Row) (old new : State) (count : ℕ) where
   abbrev Edits : Edit
-  Edits = given old.step_limit (mode_of old) ledger_schema t params at terms width old.now.trees
+  Edits = given old.step_limit (mode_of old) (second_schema o) t params at terms width old.now.trees
 
-  pub row_inserted : old.now.schema ≡ ledger_schema → slice_get ledger_schema.tables at ≡ Some (uncounted t)
-      → command_of (understood ledger_schema text) ≡ Insert at (Values terms width) → IsPlain (understood ledger_schema text)
+  pub row_inserted : old.now.schema ≡ second_schema o → slice_get (second_schema o).tables at ≡ Some (uncounted t)
+      → command_of (understood (second_schema o) text) ≡ Insert at (Values terms width) → IsPlain (understood (second_schema o) text)
       → Edits.news ≡ (Int (next_rowid (old.now.trees t.tree)) ∷ values) ∷ []
-      → Executes text params old new (Ok count) → InsertsRow t.tree values old new
+      → Executes text params old new (Ok count) → InsertsRow o t.tree values old new
   row_inserted has found is plain news ran =
       let number = next_rowid (old.now.trees t.tree) in
       let command = Insert at (Values terms width) in
-      let said = statement_of text (understood ledger_schema text) in
-      let w = runs_as text params old new ledger_schema has command is plain count ran in
+      let said = statement_of text (understood (second_schema o) text) in
+      let w = runs_as text params old new (second_schema o) has command is plain count ran in
       let changed = subst (λ s. Does old.step_limit (mode_of old) params (record old.now { schema = s }) said None command (Ok (w.tally, new.now))) has w.changed in
-      let (next, (wrote, last), now) = insert_gives old.step_limit (mode_of old) ledger_schema t params at terms width old.now.trees new.now said w.tally found changed in
-      let step = one_step ledger_schema Enforced old.now.trees next Edits (rw news (no_action t.tree (Int number ∷ values))) wrote in
+      let (next, (wrote, last), now) = insert_gives old.step_limit (mode_of old) (second_schema o) t params at terms width old.now.trees new.now said w.tally found changed in
+      let step = one_step (second_schema o) Enforced old.now.trees next Edits (rw news (no_action o t.tree (Int number ∷ values))) wrote in
       let told : new.last_rowid ≡ number = w.last_rowid ∙ ap (λ o. unwrap_or o old.last_rowid) (last ∙ ap last_id news) in
       let free : is_taken (old.now.trees t.tree) (Int number ∷ values) ≡ false = not-true _ (and_parts _ _ (rw news at step.fresh)).0 in
       let rows : next t.tree ≡ put_row (Int number ∷ values) (old.now.trees t.tree) = step.rows ∙ ap (put_all (old.now.trees t.tree)) news in
       record {
         schema_is = ap (λ (d : Database). d.schema) now;
-        listed = lists_ledger new.now (ap (λ (d : Database). d.schema) now) w.sound;
+        listed = lists_ledger o new.now (ap (λ (d : Database). d.schema) now) w.sound;
         fresh = rw told free;
         rows = rw (told, now, rows) (put_fresh (Int number ∷ values) (old.now.trees t.tree) free);
         others = rw now step.tables;

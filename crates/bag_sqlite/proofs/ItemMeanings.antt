@@ -1,6 +1,6 @@
 -- The meanings of the queries for a payload file.
 use Rattle.std.proofs.Common.{◌≡◌, ℕ, List, [], ◌∷◌, codes, false, refl}
-use Rattle.bag_sqlite.proofs.Words.{col, Command, command_of, everything, IsPlain, ledger_schema, reads_listing, Select, Term, understood}
+use Rattle.bag_sqlite.proofs.Words.{col, Command, command_of, everything, held_tree, IsPlain, Migrated, New, Origin, piece_tree, reads_listing, second_schema, Select, Term, understood}
 use Rattle.bag_sqlite.proofs.WhereLemmas.{equals, over}
 
 abbrev pub item_text : List ℕ
@@ -13,20 +13,23 @@ item_terms = equals (col 1 2) (col 0 0) ∷ equals (col 1 3) (col 0 1) ∷ []
 abbrev pub item_columns : List Term
 item_columns = col 1 0 ∷ col 1 4 ∷ []
 
-abbrev pub item_command : Command
-item_command = Select (record { lets = []; body = over 6 item_terms item_columns [] }) (codes "id" ∷ codes "size" ∷ [])
+abbrev pub item_command : Origin → Command
+item_command o = Select (record { lets = []; body = over (held_tree o) item_terms item_columns [] }) (codes "id" ∷ codes "size" ∷ [])
 
-pub item_is : command_of (understood ledger_schema item_text) ≡ item_command
+pub item_is : (o : Origin) → command_of (understood (second_schema o) item_text) ≡ item_command o
 unfolding understood everything
-item_is = refl
+item_is New = refl
+item_is Migrated = refl
 
-pub item_plain : IsPlain (understood ledger_schema item_text)
+pub item_plain : (o : Origin) → IsPlain (understood (second_schema o) item_text)
 unfolding understood everything
-item_plain = (refl, refl)
+item_plain New = (refl, refl)
+item_plain Migrated = (refl, refl)
 
-pub item_unlisted : reads_listing ledger_schema item_text ≡ false
+pub item_unlisted : (o : Origin) → reads_listing (second_schema o) item_text ≡ false
 unfolding everything
-item_unlisted = refl
+item_unlisted New = refl
+item_unlisted Migrated = refl
 
 abbrev pub piece_text : List ℕ
 piece_text = codes "SELECT body FROM piece WHERE item = ?1 AND n = ?2"
@@ -38,17 +41,20 @@ piece_terms = equals (col 1 1) (col 0 0) ∷ equals (col 1 2) (col 0 1) ∷ []
 abbrev pub piece_columns : List Term
 piece_columns = col 1 3 ∷ []
 
-abbrev pub piece_command : Command
-piece_command = Select (record { lets = []; body = over 8 piece_terms piece_columns [] }) (codes "body" ∷ [])
+abbrev pub piece_command : Origin → Command
+piece_command o = Select (record { lets = []; body = over (piece_tree o) piece_terms piece_columns [] }) (codes "body" ∷ [])
 
-pub piece_is : command_of (understood ledger_schema piece_text) ≡ piece_command
+pub piece_is : (o : Origin) → command_of (understood (second_schema o) piece_text) ≡ piece_command o
 unfolding understood everything
-piece_is = refl
+piece_is New = refl
+piece_is Migrated = refl
 
-pub piece_plain : IsPlain (understood ledger_schema piece_text)
+pub piece_plain : (o : Origin) → IsPlain (understood (second_schema o) piece_text)
 unfolding understood everything
-piece_plain = (refl, refl)
+piece_plain New = (refl, refl)
+piece_plain Migrated = (refl, refl)
 
-pub piece_unlisted : reads_listing ledger_schema piece_text ≡ false
+pub piece_unlisted : (o : Origin) → reads_listing (second_schema o) piece_text ≡ false
 unfolding everything
-piece_unlisted = refl
+piece_unlisted New = refl
+piece_unlisted Migrated = refl

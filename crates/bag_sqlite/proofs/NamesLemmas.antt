@@ -1,6 +1,6 @@
 -- The names that a query shows are those of the ledger, in order.
 use Rattle.std.proofs.Common.{◌≡◌, ◌<◌, ◌+◌, ℕ, List, [], ◌∷◌, Ordering, Less, Equal, Greater, drop, is_lt, length, map, refl, sym, ap, subst, ◌∙◌, arith, slice_index_or}
-use Rattle.bag_sqlite.proofs.Words.{All-from_recursion, All-permutation, AllByRecursion, AreRising, AreTablesOf, bytes, flat_map, get_or-map, IsAnswer, IsAscending, IsPermutation-map, IsPermutation-trans, IsSorted, IsStrictlySortedBy, keys_of, Ledger, ledger_schema, length-map, map_twice, nat_cmp, nat_list_cmp_total, Null, NumberedTransfer, ordering_then, Output, output, output_cmp, overlay, reads_as, recursion_from_All, Row, Shown, slice_cmp, sorted_unique, State, Text, transfer_row, value_cmp-Text, without_number, column}
+use Rattle.bag_sqlite.proofs.Words.{All-from_recursion, All-permutation, AllByRecursion, AreRising, bytes, column, flat_map, get_or-map, HoldTransfers, IsAnswer, IsAscending, IsPermutation-map, IsPermutation-trans, IsSorted, IsStrictlySortedBy, keys_of, Layout, Ledger, length-map, map_twice, nat_cmp, nat_list_cmp_total, Null, NumberedTransfer, ordering_then, output, Output, output_cmp, overlay, reads_as, recursion_from_All, Row, schema_of, Shown, slice_cmp, sorted_unique, State, Text, transfer_row, value_cmp-Text, without_number}
 use Rattle.std.specs.Prelude.{IsPermutation}
 use Rattle.bag_sqlite.proofs.QueryMeanings.{names_command, names_is, names_plain, names_query, names_text, names_unlisted}
 
@@ -70,10 +70,10 @@ same_outs names os rising moves sorted =
 abbrev made : Row → Output
 made r = output names_query ([] ∷ r ∷ [])
 
-pub names_shown : (s new : State) (rows : List Row) (ledger : Ledger) → s.now.schema ≡ ledger_schema → AreTablesOf s.now.trees ledger → Shown names_text [] s new rows
+pub names_shown : {l : Layout} (s new : State) (rows : List Row) (ledger : Ledger) → s.now.schema ≡ schema_of l → HoldTransfers l s.now.trees ledger → Shown names_text [] s new rows
     → rows ≡ map (λ name. Text name ∷ []) (keys_of ledger)
-names_shown s new rows ledger has tables shown =
-    let got = reads_as names_text [] s new ledger_schema has names_command names_is names_plain names_unlisted rows shown in
+names_shown {l} s new rows ledger has tables shown =
+    let got = reads_as names_text [] s new (schema_of l) has names_command (names_is l) (names_plain l) (names_unlisted l) rows shown in
     let a : IsAnswer names_query (overlay s.now.trees []) [] rows = got.answer Null in
     let db = s.now.trees 2 in
     let staged : a.staged ≡ map (λ r. [] ∷ r ∷ []) db = a.grouped ∙ flat_single (λ r. [] ∷ r ∷ []) db in

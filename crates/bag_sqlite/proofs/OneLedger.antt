@@ -1,6 +1,6 @@
 -- Tables hold at most one ledger.
 use Rattle.std.proofs.Common.{◌≡◌, ◌≢◌, ◌⊎◌, ◌≤◌, ◌+◌, inl, inr, ℕ, List, [], ◌∷◌, ◌++◌, map, refl, sym, ap, subst, ◌∙◌, arith, pos, ℤ}
-use Rattle.bag_sqlite.proofs.Words.{all_has, AllByRecursion, AreApart, AreRising, AreTablesOf, asymmetric, Blob, concat, Contains-permutation, contains_from_has, enumerate_from, flat_map, Has, has_from_contains, has_from_map, has_map, held_rows, Int, IsPermutation, IsPermutation-sym, items_in, keys_of, Ledger, nat_cmp, nat_list_cmp_total, Null, NumberedItem, NumberedTransfer, piece_rows, Row, same_list, size_of, slice_cmp, sorted_by_key, tag_rows, Text, Transfer, transfer_row, Trees, without_number, without_rowids}
+use Rattle.bag_sqlite.proofs.Words.{all_has, AllByRecursion, AreApart, AreRising, asymmetric, Blob, concat, Contains-permutation, contains_from_has, enumerate_from, First, flat_map, Has, has_from_contains, has_from_map, has_map, held_rows, held_tree, HoldTransfers, Int, IsPermutation, IsPermutation-sym, item_rows, item_tree, items_in, keys_of, Layout, Ledger, nat_cmp, nat_list_cmp_total, Null, NumberedItem, NumberedTransfer, Origin, piece_rows, piece_tree, Row, same_list, Second, size_of, slice_cmp, sorted_by_key, tag_rows, Text, Transfer, transfer_row, Trees, without_number, without_rowids}
 
 -- MEMBERS
 
@@ -95,6 +95,9 @@ same_tag_row a b s t u v e = (cc, cc, cc)
 pub same_held_row : (a b c d : ℤ) (s t : List ℕ) (m n : ℕ) → ◌≡◌ {A = Row} (Int a ∷ Null ∷ Int c ∷ Text s ∷ Int (pos m) ∷ []) (Int b ∷ Null ∷ Int d ∷ Text t ∷ Int (pos n) ∷ []) → (a ≡ b) × (c ≡ d) × (s ≡ t) × (m ≡ n)
 same_held_row a b c d s t m n e = (cc, cc, cc, cc)
 
+same_item_row : (a b c d : ℤ) (s t u v : List ℕ) (m n : ℕ) → ◌≡◌ {A = Row} (Int a ∷ Int c ∷ Text s ∷ Int (pos m) ∷ Blob u ∷ []) (Int b ∷ Int d ∷ Text t ∷ Int (pos n) ∷ Blob v ∷ []) → (a ≡ b) × (c ≡ d) × (s ≡ t) × (u ≡ v)
+same_item_row a b c d s t u v m n e = (cc, cc, cc, cc)
+
 pub same_piece_row : (a b : ℤ) (m n : ℕ) (s t : List ℕ) → ◌≡◌ {A = Row} (Int a ∷ Int (pos m) ∷ Blob s ∷ []) (Int b ∷ Int (pos n) ∷ Blob t ∷ []) → (a ≡ b) × (m ≡ n) × (s ≡ t)
 same_piece_row a b m n s t e = (cc, cc, cc)
 
@@ -109,7 +112,7 @@ item_number item = item.number
 abbrev pub read : NumberedItem → List ℕ × List ℕ
 read item = (item.path, concat item.pieces)
 
-module _ (trees : Trees) (a b : Ledger) (p : AreTablesOf trees a) (q : AreTablesOf trees b) where
+module _ {l : Layout} (trees : Trees) (a b : Ledger) (p : HoldTransfers l trees a) (q : HoldTransfers l trees b) where
   tags_inside : (t u : NumberedTransfer) → Has p.transfers t → Has q.transfers u → t.number ≡ u.number → (file : List ℕ × List ℕ) → Has t.tags file → Has u.tags file
   tags_inside t u in_p in_q same file has =
       let row : Row = Int t.number ∷ Text file.0 ∷ Blob file.1 ∷ [] in
@@ -122,22 +125,6 @@ module _ (trees : Trees) (a b : Ledger) (p : AreTablesOf trees a) (q : AreTables
       let one : v ≡ u = one_of number_of q.transfers v u q.numbers yours.1 in_q (rows.0 ∙ same) in
       subst (λ (w : NumberedTransfer). Has w.tags file) one (subst (Has v.tags) is found.1)
 
-  pieces_inside : (i j : NumberedItem) → Has (items_in p.transfers) i → Has (items_in q.transfers) j → i.number ≡ j.number
-      → (piece : ℕ × List ℕ) → Has (enumerate_from 0 i.pieces) piece → Has (enumerate_from 0 j.pieces) piece
-  pieces_inside i j in_p in_q same piece has =
-      let row : Row = Int i.number ∷ Int (pos piece.0) ∷ Blob piece.1 ∷ [] in
-      let mine = has_flat piece_rows (items_in p.transfers) i row in_p (has_map (λ (x : ℕ × List ℕ). Int i.number ∷ Int (pos x.0) ∷ Blob x.1 ∷ []) (enumerate_from 0 i.pieces) piece has) in
-      let yours = has_from_flat piece_rows (items_in q.transfers) row
-      (has_through (flat_map piece_rows (items_in p.transfers)) (without_rowids (trees 8)) (flat_map piece_rows (items_in q.transfers)) row p.rows.pieces q.rows.pieces mine) in
-      let v = yours.0 in
-      let found = has_from_map (λ (x : ℕ × List ℕ). Int v.number ∷ Int (pos x.0) ∷ Blob x.1 ∷ []) (enumerate_from 0 v.pieces) row yours.2 in
-      let rows = same_piece_row v.number i.number found.0.0 piece.0 found.0.1 piece.1 found.2 in
-      let is : found.0 ≡ piece = λ k. (rows.1 k, rows.2 k) in
-      let one : v ≡ j = one_of item_number (items_in q.transfers) v j q.item_numbers yours.1 in_q (rows.0 ∙ same) in
-      subst (λ (w : NumberedItem). Has (enumerate_from 0 w.pieces) piece) one (subst (Has (enumerate_from 0 v.pieces)) is found.1)
-
--- each entry of one ledger is in the other
-module _ (trees : Trees) (a b : Ledger) (p : AreTablesOf trees a) (q : AreTablesOf trees b) where
   -- the transfer of the other ledger with the same number
   other_of : (t : NumberedTransfer) → Has p.transfers t → (u : NumberedTransfer) × Has q.transfers u × (u.number ≡ t.number) × (u.name ≡ t.name)
   other_of t in_p =
@@ -146,11 +133,29 @@ module _ (trees : Trees) (a b : Ledger) (p : AreTablesOf trees a) (q : AreTables
       let rows = same_transfer_row yours.0.number t.number yours.0.name t.name yours.2 in
       (yours.0, yours.1, rows.0, rows.1)
 
-  item_inside : (t u : NumberedTransfer) → Has p.transfers t → Has q.transfers u → t.number ≡ u.number → (i : NumberedItem) → Has t.items i → Has (map read u.items) (read i)
-  item_inside t u in_p in_q same i has =
+-- IN FORMAT 2
+
+module _ {o : Origin} (trees : Trees) (a b : Ledger) (p : HoldTransfers (Second o) trees a) (q : HoldTransfers (Second o) trees b) where
+  pieces_inside : (i j : NumberedItem) → Has (items_in p.transfers) i → Has (items_in q.transfers) j → i.number ≡ j.number
+      → (piece : ℕ × List ℕ) → Has (enumerate_from 0 i.pieces) piece → Has (enumerate_from 0 j.pieces) piece
+  pieces_inside i j in_p in_q same piece has =
+      let row : Row = Int i.number ∷ Int (pos piece.0) ∷ Blob piece.1 ∷ [] in
+      let mine = has_flat piece_rows (items_in p.transfers) i row in_p (has_map (λ (x : ℕ × List ℕ). Int i.number ∷ Int (pos x.0) ∷ Blob x.1 ∷ []) (enumerate_from 0 i.pieces) piece has) in
+      let yours = has_from_flat piece_rows (items_in q.transfers) row
+      (has_through (flat_map piece_rows (items_in p.transfers)) (without_rowids (trees (piece_tree o))) (flat_map piece_rows (items_in q.transfers)) row p.rows.items.pieces q.rows.items.pieces mine) in
+      let v = yours.0 in
+      let found = has_from_map (λ (x : ℕ × List ℕ). Int v.number ∷ Int (pos x.0) ∷ Blob x.1 ∷ []) (enumerate_from 0 v.pieces) row yours.2 in
+      let rows = same_piece_row v.number i.number found.0.0 piece.0 found.0.1 piece.1 found.2 in
+      let is : found.0 ≡ piece = λ k. (rows.1 k, rows.2 k) in
+      let one : v ≡ j = one_of item_number (items_in q.transfers) v j q.item_numbers yours.1 in_q (rows.0 ∙ same) in
+      subst (λ (w : NumberedItem). Has (enumerate_from 0 w.pieces) piece) one (subst (Has (enumerate_from 0 v.pieces)) is found.1)
+
+module _ {o : Origin} (trees : Trees) (a b : Ledger) (p : HoldTransfers (Second o) trees a) (q : HoldTransfers (Second o) trees b) where
+  second_inside : (t u : NumberedTransfer) → Has p.transfers t → Has q.transfers u → t.number ≡ u.number → (i : NumberedItem) → Has t.items i → Has (map read u.items) (read i)
+  second_inside t u in_p in_q same i has =
       let row : Row = Int i.number ∷ Null ∷ Int t.number ∷ Text i.path ∷ Int (pos (size_of i)) ∷ [] in
       let mine = has_flat held_rows p.transfers t row in_p (has_map (λ (x : NumberedItem). Int x.number ∷ Null ∷ Int t.number ∷ Text x.path ∷ Int (pos (size_of x)) ∷ []) t.items i has) in
-      let yours = has_from_flat held_rows q.transfers row (has_through (flat_map held_rows p.transfers) (trees 6) (flat_map held_rows q.transfers) row p.rows.held q.rows.held mine) in
+      let yours = has_from_flat held_rows q.transfers row (has_through (flat_map held_rows p.transfers) (trees (held_tree o)) (flat_map held_rows q.transfers) row p.rows.items.held q.rows.items.held mine) in
       let v = yours.0 in
       let found = has_from_map (λ (x : NumberedItem). Int x.number ∷ Null ∷ Int v.number ∷ Text x.path ∷ Int (pos (size_of x)) ∷ []) v.items row yours.2 in
       let j = found.0 in
@@ -162,23 +167,48 @@ module _ (trees : Trees) (a b : Ledger) (p : AreTablesOf trees a) (q : AreTables
       let is : read j ≡ read i = λ k. (rows.2 k, concat (sym pieces k)) in
       subst (λ (w : NumberedTransfer). Has (map read w.items) (read i)) one (subst (Has (map read v.items)) is (has_map read v.items j found.1))
 
+-- IN FORMAT 1
+
+module _ (trees : Trees) (a b : Ledger) (p : HoldTransfers First trees a) (q : HoldTransfers First trees b) where
+  first_inside : (t u : NumberedTransfer) → Has p.transfers t → Has q.transfers u → t.number ≡ u.number → (i : NumberedItem) → Has t.items i → Has (map read u.items) (read i)
+  first_inside t u in_p in_q same i has =
+      let row : Row = Int i.number ∷ Int t.number ∷ Text i.path ∷ Int (pos (size_of i)) ∷ Blob (concat i.pieces) ∷ [] in
+      let mine = has_flat item_rows p.transfers t row in_p (has_map (λ (x : NumberedItem). Int x.number ∷ Int t.number ∷ Text x.path ∷ Int (pos (size_of x)) ∷ Blob (concat x.pieces) ∷ []) t.items i has) in
+      let yours = has_from_flat item_rows q.transfers row (has_through (flat_map item_rows p.transfers) (trees item_tree) (flat_map item_rows q.transfers) row p.rows.items q.rows.items mine) in
+      let v = yours.0 in
+      let found = has_from_map (λ (x : NumberedItem). Int x.number ∷ Int v.number ∷ Text x.path ∷ Int (pos (size_of x)) ∷ Blob (concat x.pieces) ∷ []) v.items row yours.2 in
+      let j = found.0 in
+      let rows = same_item_row j.number i.number v.number t.number j.path i.path (concat j.pieces) (concat i.pieces) (size_of j) (size_of i) found.2 in
+      let one : v ≡ u = one_of number_of q.transfers v u q.numbers yours.1 in_q (rows.1 ∙ same) in
+      let is : read j ≡ read i = λ k. (rows.2 k, rows.3 k) in
+      subst (λ (w : NumberedTransfer). Has (map read w.items) (read i)) one (subst (Has (map read v.items)) is (has_map read v.items j found.1))
+
+-- EACH ENTRY OF ONE LEDGER IS IN THE OTHER
+
+-- in either format
+item_inside : {l : Layout} (trees : Trees) (a b : Ledger) (p : HoldTransfers l trees a) (q : HoldTransfers l trees b) (t u : NumberedTransfer) → Has p.transfers t → Has q.transfers u → t.number ≡ u.number
+    → (i : NumberedItem) → Has t.items i → Has (map read u.items) (read i)
+item_inside {l = First} trees a b p q = first_inside trees a b p q
+item_inside {l = Second o} trees a b p q = second_inside trees a b p q
+
+module _ {l : Layout} (trees : Trees) (a b : Ledger) (p : HoldTransfers l trees a) (q : HoldTransfers l trees b) where
   items_inside : (t u : NumberedTransfer) → Has p.transfers t → Has q.transfers u → t.number ≡ u.number → (e : List ℕ × List ℕ) → Has (map read t.items) e → Has (map read u.items) e
   items_inside t u in_p in_q same e has =
       let found = has_from_map read t.items e has in
-      subst (Has (map read u.items)) found.2 (item_inside t u in_p in_q same found.0 found.1)
+      subst (Has (map read u.items)) found.2 (item_inside trees a b p q t u in_p in_q same found.0 found.1)
 
 -- the files of a transfer in a ledger are in order
-pub tags_rise : (trees : Trees) (a : Ledger) (p : AreTablesOf trees a) (t : NumberedTransfer) → Has p.transfers t → AreRising (keys_of t.tags)
+pub tags_rise : {l : Layout} (trees : Trees) (a : Ledger) (p : HoldTransfers l trees a) (t : NumberedTransfer) → Has p.transfers t → AreRising (keys_of t.tags)
 tags_rise trees a p t has =
     all_has (λ (e : List ℕ × Transfer). AreRising (keys_of e.1.tags)) (map without_number p.transfers) (without_number t)
     (subst (AllByRecursion (λ (e : List ℕ × Transfer). AreRising (keys_of e.1.tags))) p.is p.order.tags) (has_map without_number p.transfers t has)
 
-pub items_rise : (trees : Trees) (a : Ledger) (p : AreTablesOf trees a) (t : NumberedTransfer) → Has p.transfers t → AreRising (keys_of (map read t.items))
+pub items_rise : {l : Layout} (trees : Trees) (a : Ledger) (p : HoldTransfers l trees a) (t : NumberedTransfer) → Has p.transfers t → AreRising (keys_of (map read t.items))
 items_rise trees a p t has =
     all_has (λ (e : List ℕ × Transfer). AreRising (keys_of e.1.items)) (map without_number p.transfers) (without_number t)
     (subst (AllByRecursion (λ (e : List ℕ × Transfer). AreRising (keys_of e.1.items))) p.is p.order.items) (has_map without_number p.transfers t has)
 
-entry_inside : (trees : Trees) (a b : Ledger) → AreTablesOf trees a → AreTablesOf trees b → (e : List ℕ × Transfer) → Has a e → Has b e
+entry_inside : {l : Layout} (trees : Trees) (a b : Ledger) → HoldTransfers l trees a → HoldTransfers l trees b → (e : List ℕ × Transfer) → Has a e → Has b e
 entry_inside trees a b p q e has =
     let mine = has_from_map without_number p.transfers e (subst (λ l. Has l e) p.is has) in
     let t = mine.0 in
@@ -191,5 +221,5 @@ entry_inside trees a b p q e has =
     let same : without_number u ≡ without_number t = λ i. (other.3 i, record { tags = sym tags i; items = sym items i }) in
     subst (λ l. Has l e) (sym q.is) (subst (Has (map without_number q.transfers)) (same ∙ mine.2) (has_map without_number q.transfers u other.1))
 
-pub one_ledger : (trees : Trees) (a b : Ledger) → AreTablesOf trees a → AreTablesOf trees b → a ≡ b
+pub one_ledger : {l : Layout} (trees : Trees) (a b : Ledger) → HoldTransfers l trees a → HoldTransfers l trees b → a ≡ b
 one_ledger trees a b p q = same_files a b p.order.names q.order.names (entry_inside trees a b p q) (entry_inside trees b a q p)

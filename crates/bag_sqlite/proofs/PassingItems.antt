@@ -2,10 +2,15 @@
 use Rattle.std.proofs.Common.{◌≡◌, ◌≤◌, ◌-◌, inl, inr, ℕ, List, [], ◌∷◌, None, Option, Some, arith, length, min, pos, refl, slice_get, sym, ap, subst, ◌∙◌}
 use Rattle.bag_path.specs.Paths.{IsPath}
 use Rattle.bag_rules.specs.Transfers.{Passes}
-use Rattle.bag_sqlite.specs.Refusing.{ArePieces, HasMorePieces, HasOtherContent, LacksPiece}
-use Rattle.bag_sqlite.proofs.Words.{all_has, AreCut, AreTablesOf, Blob, column, concat, Database, Files, Ghosts, Has, Int, ItemFails, items_in, LARGEST_ITEM, Ledger, ledger_schema, NumberedItem, PIECE, Row, size_of}
+use Rattle.bag_sqlite.specs.Refusing.{ArePieces, HasMorePieces, LacksPiece}
+use Rattle.bag_sqlite.specs.declared.format.Format.TheVariants as form
+use Rattle.bag_sqlite.proofs.Words.{all_has, AreCut, Blob, body_text, column, concat, Database, Files, First, first_schema, format_of, Ghosts, Has, has_from_map, HasContent, HoldTransfers, Int, ItemFails, items_in, LacksContent, LARGEST_ITEM, Layout, Ledger, NumberedItem, Origin, PIECE, Row, schema_of, Second, second_schema, size_of, Tells}
+use Rattle.bag_sqlite.proofs.AdoptingMeanings.{body_columns, body_is, body_plain, body_unlisted, body_where}
+use Rattle.bag_sqlite.proofs.BodyLemmas.{Owned, has_body, one_body, owned, owned_items}
 use Rattle.bag_sqlite.proofs.CutLemmas.{all_pieces, AreFirstOf, few_pieces, length_concat, next_piece}
 use Rattle.bag_sqlite.proofs.PieceTold.{piece_shown, piece_told, pieces_counted}
+use Rattle.bag_sqlite.proofs.ToldLemmas.{told_lists}
+use Rattle.bag_sqlite.proofs.WhereLemmas.{Lists}
 
 -- the one row that is told is that of a piece
 only_piece : (o : Option (List ℕ)) (row : Row) (piece : List ℕ) → row ∷ [] ≡ piece_shown o → column row 0 ≡ Blob piece → o ≡ Some piece
@@ -16,7 +21,9 @@ only_piece (Some body) row piece is value =
     let octets : body ≡ piece = cc in
     ap Some octets
 
-module _ {S : Type 0} (g : Ghosts S) (db : Database) (ledger : Ledger) (has : db.schema ≡ ledger_schema) (tables : AreTablesOf db.trees ledger)
+-- IN FORMAT 2
+
+module _ {S : Type 0} {o : Origin} (g : Ghosts S) (db : Database) (ledger : Ledger) (has : db.schema ≡ second_schema o) (tables : HoldTransfers (Second o) db.trees ledger)
     (item : NumberedItem) (there : Has (items_in tables.transfers) item) where
   abbrev whole : List ℕ
   whole = concat item.pieces
@@ -47,19 +54,57 @@ module _ {S : Type 0} (g : Ghosts S) (db : Database) (ledger : Ledger) (has : db
         let same : more.number ≡ pos (length item.pieces) = cc in
         more.other (same ∙ ap (λ pieces. pos (length pieces)) (sym all))
 
-    has_no_other : (tags : Files) → Passes tags item.path whole → ¬ HasOtherContent g db tags item.number item.path octets
-    has_no_other tags passes other =
-        let all = all_pieces other.pieces item.pieces (first_told other.pieces other.has.each) cut (sym other.size_is ∙ size) in
-        other.other (subst (λ pieces. Passes tags item.path (concat pieces)) (sym all) passes)
+    -- its pieces are those of its size
+    second_lacks_none : length whole ≤ LARGEST_ITEM → ¬ LacksContent g db form.Second item.number octets
+    second_lacks_none within (inl lacks) = lacks_none lacks
+    second_lacks_none within (inr more) = has_no_more within more
 
-  pub item_stands : (tags : Files) → IsPath item.path → Passes tags item.path whole → ¬ ItemFails g db tags item.number item.path (pos (size_of item))
+    second_same : (content : List ℕ) → HasContent g db form.Second item.number content → octets ≡ length content → content ≡ whole
+    second_same content has is = has.2 ∙ ap concat (all_pieces has.0 item.pieces (first_told has.0 has.1.each) cut (ap length (sym has.2) ∙ sym is ∙ size))
+
+-- IN FORMAT 1
+
+module _ {S : Type 0} (g : Ghosts S) (db : Database) (ledger : Ledger) (has : db.schema ≡ first_schema) (tables : HoldTransfers First db.trees ledger) (item : NumberedItem) (there : Has (items_in tables.transfers) item) where
+  body_told : (rows : List Row) → Tells g db body_text (Int item.number ∷ []) rows → rows ≡ (Blob (concat item.pieces) ∷ []) ∷ []
+  body_told rows told =
+      let from = has_from_map (λ (o : Owned). o.1) (owned tables.transfers) item (subst (λ l. Has l item) (sym (owned_items tables.transfers)) there) in
+      let o = from.0 in
+      let body = has_body db.trees ledger tables o from.1 in
+      let lists = told_lists g first_schema db has 6 body_where body_columns [] body_text (Int item.number ∷ []) rows _ body_is body_plain body_unlisted refl told in
+      one_body db.trees o.1.number o.0 o.1.path (concat o.1.pieces) body rows (subst (λ n. Lists 6 body_where body_columns [] (Int n ∷ []) (db.trees 6) rows) (ap (λ (i : NumberedItem). i.number) (sym from.2)) lists)
+      ∙ ap (λ (i : NumberedItem). (Blob (concat i.pieces) ∷ []) ∷ []) from.2
+
+  module _ (octets : ℕ) (size : octets ≡ length (concat item.pieces)) where
+    first_lacks_none : ¬ LacksContent g db form.First item.number octets
+    first_lacks_none lacks = lacks.other (_, body_told lacks.rows lacks.told, concat item.pieces, refl, sym size)
+
+    first_same : (content : List ℕ) → HasContent g db form.First item.number content → content ≡ concat item.pieces
+    first_same content one =
+        let is = body_told (one.row ∷ []) one.told in
+        let row : one.row ≡ Blob (concat item.pieces) ∷ [] = cc in
+        let same : Blob content ≡ Blob (concat item.pieces) = sym one.value_is ∙ ap (λ r. column r 0) row in
+        cc
+
+-- IN EITHER FORMAT
+
+lacks_nothing : {S : Type 0} {l : Layout} (g : Ghosts S) (db : Database) (ledger : Ledger) (has : db.schema ≡ schema_of l) (tables : HoldTransfers l db.trees ledger) (item : NumberedItem) → Has (items_in tables.transfers) item
+    → (octets : ℕ) → octets ≡ length (concat item.pieces) → length (concat item.pieces) ≤ LARGEST_ITEM → ¬ LacksContent g db (format_of l) item.number octets
+lacks_nothing {S} {l = First} g db ledger has tables item there octets size within = first_lacks_none g db ledger has tables item there octets size
+lacks_nothing {S} {l = Second o} g db ledger has tables item there octets size within = second_lacks_none g db ledger has tables item there octets size within
+
+same_content : {S : Type 0} {l : Layout} (g : Ghosts S) (db : Database) (ledger : Ledger) (has : db.schema ≡ schema_of l) (tables : HoldTransfers l db.trees ledger) (item : NumberedItem) → Has (items_in tables.transfers) item
+    → (octets : ℕ) → octets ≡ length (concat item.pieces) → (content : List ℕ) → HasContent g db (format_of l) item.number content → octets ≡ length content → content ≡ concat item.pieces
+same_content {S} {l = First} g db ledger has tables item there octets size content is long = first_same g db ledger has tables item there octets size content is
+same_content {S} {l = Second o} g db ledger has tables item there octets size content is long = second_same g db ledger has tables item there octets size content is long
+
+module _ {S : Type 0} {l : Layout} (g : Ghosts S) (db : Database) (ledger : Ledger) (has : db.schema ≡ schema_of l) (tables : HoldTransfers l db.trees ledger) (item : NumberedItem) (there : Has (items_in tables.transfers) item) where
+  pub item_stands : (tags : Files) → IsPath item.path → Passes tags item.path (concat item.pieces) → ¬ ItemFails g db (format_of l) tags item.number item.path (pos (size_of item))
   item_stands tags path passes (inl unlisted) = unlisted (path, passes.expected)
   item_stands tags path passes (inr (inl large)) = large (size_of item, refl, omega (arith, passes.within, length_concat item.pieces))
   item_stands tags path passes (inr (inr it)) =
       let same : size_of item ≡ it.0 = let is = it.1 in cc in
-      let size : it.0 ≡ length whole = sym same ∙ sym (length_concat item.pieces) in
+      let size : it.0 ≡ length (concat item.pieces) = sym same ∙ sym (length_concat item.pieces) in
       elim it.2 [
-        | inl lacks ↦ lacks_none it.0 size lacks
-        | inr (inl more) ↦ has_no_more it.0 size passes.within more
-        | inr (inr other) ↦ has_no_other it.0 size tags passes other
+        | inl lacks ↦ lacks_nothing g db ledger has tables item there it.0 size passes.within lacks
+        | inr other ↦ other.other (subst (Passes tags item.path) (sym (same_content g db ledger has tables item there it.0 size other.content other.has other.size_is)) passes)
       ]

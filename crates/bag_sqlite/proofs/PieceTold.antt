@@ -1,13 +1,14 @@
 -- The pieces of a payload file that a database tells: exactly those of the ledger, and their number.
-use Rattle.std.proofs.Common.{◌≡◌, ◌≢◌, ◌+◌, ◌≤◌, ◌&&◌, ℕ, zero, suc, ℤ, List, [], ◌∷◌, Bool, None, Option, Some, arith, drop, false, length, map, min, pos, refl, slice_get, sym, true, ap, subst, ◌∙◌}
+use Rattle.std.proofs.Common.{◌≡◌, ◌≢◌, ◌+◌, ◌≤◌, ◌&&◌, cond, ℕ, zero, suc, ℤ, List, [], ◌∷◌, Bool, None, Option, Some, arith, drop, false, length, map, min, pos, refl, slice_get, sym, true, ap, subst, ◌∙◌}
 use Rattle.std.proofs.lemmas.List.FromFn.{length-enumerate_from}
 use Rattle.std.specs.Prelude.{IsPermutation}
 use Rattle.sqlite_sql.specs.Aggregate.{count}
 use Rattle.sqlite_sql.specs.Query.{matches}
-use Rattle.bag_sqlite.proofs.Words.{all_map, AllByRecursion, AreTablesOf, Binary, binary, Blob, col, column, Compare, count_text, Database, enumerate_from, Eq, filter, filter-map, filter_all, filter_none, filter_same, flat_map, Ghosts, Has, inner, end, Int, int_eq, is_true, IsInt, IsPermutation-filter, IsPermutation-map, IsPermutation-trans, items_in, Ledger, ledger_schema, length-map, length_permutation, map_same, map_twice, Null, NumberedItem, one_permutation, Output, overlay, piece_rows, piece_text, Row, Select, Tells, Term, Trees, without_rowids}
+use Rattle.bag_sqlite.proofs.Words.{all_map, AllByRecursion, binary, Binary, Blob, col, column, Compare, count_text, Database, end, enumerate_from, Eq, filter, filter-map, filter_all, filter_none, filter_same, flat_map, Ghosts, Has, HoldTransfers, inner, Int, int_eq, is_true, IsInt, IsPermutation-filter, IsPermutation-map, IsPermutation-trans, items_in, Ledger, length-map, length_permutation, map_same, map_twice, Null, NumberedItem, one_permutation, Origin, Output, overlay, piece_rows, piece_text, piece_tree, Row, Second, second_schema, Select, Tells, Term, Trees, without_rowids}
 use Rattle.bag_sqlite.proofs.AdoptingMeanings.{count_is, count_plain, count_query, count_unlisted, count_where}
 use Rattle.bag_sqlite.proofs.CountLemmas.{counted}
 use Rattle.bag_sqlite.proofs.ItemMeanings.{piece_columns, piece_is, piece_plain, piece_terms, piece_unlisted}
+use Rattle.bag_sqlite.proofs.LayoutLemmas.{piece_seen}
 use Rattle.bag_sqlite.proofs.OneLedger.{all_of, numbered_from}
 use Rattle.bag_sqlite.proofs.ToldLemmas.{told_lists, told_reads}
 use Rattle.bag_sqlite.proofs.TransferLemmas.{alone}
@@ -67,7 +68,7 @@ bare_count = equals (col 1 0) (col 0 0) ∷ []
 abbrev bare_made : Row → Output
 bare_made row = ([], column row 2 ∷ [])
 
-module _ (trees : Trees) (ledger : Ledger) (tables : AreTablesOf trees ledger) (item : NumberedItem) (there : Has (items_in tables.transfers) item) where
+module _ {o : Origin} (trees : Trees) (ledger : Ledger) (tables : HoldTransfers (Second o) trees ledger) (item : NumberedItem) (there : Has (items_in tables.transfers) item) where
   -- the rows of other payload files don't pass
   rows_apart : (conditions : List Term) (params : Row) → ((number : ℤ) (piece : ℕ × List ℕ) → number ≢ item.number → passes conditions params (piece_row number piece) ≡ false)
       → filter (passes conditions params) (flat_map piece_rows (items_in tables.transfers)) ≡ filter (passes conditions params) (piece_rows item)
@@ -103,13 +104,13 @@ module _ (trees : Trees) (ledger : Ledger) (tables : AreTablesOf trees ledger) (
         ∙ ap (map piece_out) few
 
     -- the query computes the same from the rows with and without their rowids
-    bare_pieces : (table : List Row) → map (made 8 piece_terms piece_columns [] at_piece) (filter (passes piece_terms at_piece) table) ≡ map bare_made (filter (passes bare_piece at_piece) (without_rowids table))
+    bare_pieces : (table : List Row) → map (made (piece_tree o) piece_terms piece_columns [] at_piece) (filter (passes piece_terms at_piece) table) ≡ map bare_made (filter (passes bare_piece at_piece) (without_rowids table))
     bare_pieces table =
         let test = passes bare_piece at_piece in
         let same_test : (row : Row) → passes piece_terms at_piece row ≡ test (drop 1 row) =
         λ row i. is_true (binary (Compare Eq Binary) (sym (later row 0) i) (Int item.number)) && (is_true (binary (Compare Eq Binary) (sym (later row 1) i) (Int (pos n))) && true) in
-        let same_made : (row : Row) → made 8 piece_terms piece_columns [] at_piece row ≡ bare_made (drop 1 row) = λ row i. ([], sym (later row 2) i ∷ []) in
-        ap (map (made 8 piece_terms piece_columns [] at_piece)) (filter_same (passes piece_terms at_piece) (λ row. test (drop 1 row)) same_test table)
+        let same_made : (row : Row) → made (piece_tree o) piece_terms piece_columns [] at_piece row ≡ bare_made (drop 1 row) = λ row i. ([], sym (later row 2) i ∷ []) in
+        ap (map (made (piece_tree o) piece_terms piece_columns [] at_piece)) (filter_same (passes piece_terms at_piece) (λ row. test (drop 1 row)) same_test table)
         ∙ map_same _ (λ row. bare_made (drop 1 row)) same_made (filter (λ row. test (drop 1 row)) table)
         ∙ sym (map_twice (drop 1) bare_made (filter (λ row. test (drop 1 row)) table))
         ∙ ap (map bare_made) (sym (filter-map test (drop 1) table))
@@ -122,10 +123,10 @@ module _ (trees : Trees) (ledger : Ledger) (tables : AreTablesOf trees ledger) (
   count_tested : (number : ℤ) (piece : ℕ × List ℕ) (b : Bool) → int_eq number item.number ≡ b → passes bare_count of_item (piece_row number piece) ≡ b
   count_tested number piece b is = alone _ ∙ equal_numbers number item.number ∙ is
 
-  rows_counted : length (filter (passes count_where of_item) (trees 8)) ≡ length item.pieces
+  rows_counted : length (filter (passes count_where of_item) (trees (piece_tree o))) ≡ length item.pieces
   rows_counted =
       let test = passes bare_count of_item in
-      let table = trees 8 in
+      let table = trees (piece_tree o) in
       let same_test : (row : Row) → passes count_where of_item row ≡ test (drop 1 row) = λ row i. is_true (binary (Compare Eq Binary) (sym (later row 0) i) (Int item.number)) && true in
       let numbered = enumerate_from 0 item.pieces in
       let own = all_map (λ row. test row ≡ true) (piece_row item.number) numbered
@@ -134,38 +135,39 @@ module _ (trees : Trees) (ledger : Ledger) (tables : AreTablesOf trees ledger) (
       ap length (filter_same (passes count_where of_item) (λ row. test (drop 1 row)) same_test table)
       ∙ sym (length-map (filter (λ row. test (drop 1 row)) table) (drop 1)) ∙ ap length (sym (filter-map test (drop 1) table)) in
       bare
-      ∙ length_permutation _ _ (IsPermutation-filter test (flat_map piece_rows (items_in tables.transfers)) (without_rowids table) tables.rows.pieces)
+      ∙ length_permutation _ _ (IsPermutation-filter test (flat_map piece_rows (items_in tables.transfers)) (without_rowids table) tables.rows.items.pieces)
       ∙ ap length (rows_apart bare_count of_item (λ number piece apart. count_tested number piece false (other_number number item.number apart)) ∙ filter_all test (piece_rows item) own)
       ∙ length-map numbered (piece_row item.number) ∙ length-enumerate_from 0 item.pieces
 
 -- WHAT IS TOLD
 
-module _ {S : Type 0} (g : Ghosts S) (db : Database) (has : db.schema ≡ ledger_schema) where
+module _ {S : Type 0} (o : Origin) (g : Ghosts S) (db : Database) (has : db.schema ≡ second_schema o) where
   count_is_told : (number : ℤ) (rows : List Row) → Tells g db count_text (Int number ∷ []) rows
-      → rows ≡ (count (length (filter (passes count_where (Int number ∷ [])) (db.trees 8))) ∷ []) ∷ []
+      → rows ≡ (count (length (filter (passes count_where (Int number ∷ [])) (db.trees (piece_tree o)))) ∷ []) ∷ []
   count_is_told number rows told =
       let params : Row = Int number ∷ [] in
-      let got = told_reads g db has count_text params rows (Select (record { lets = []; body = count_query }) _) count_is count_plain count_unlisted told in
-      let kept = filter (passes count_where params) (db.trees 8) in
-      let all : matches (overlay db.trees []) count_where (inner 8 end) (params ∷ []) ≡ map (λ row. params ∷ row ∷ []) kept = flat_kept (passes count_where params) (λ row. params ∷ row ∷ []) (db.trees 8) in
-      counted (overlay db.trees []) params rows (got.answer Null) ∙ ap (λ n. (count n ∷ []) ∷ []) (ap length all ∙ length-map kept (λ row. params ∷ row ∷ []))
+      let got = told_reads g (second_schema o) db has count_text params rows (Select (record { lets = []; body = count_query o }) _) (count_is o) (count_plain o) (count_unlisted o) told in
+      let kept = filter (passes count_where params) (db.trees (piece_tree o)) in
+      let all : matches (overlay db.trees []) count_where (inner (piece_tree o) end) (params ∷ []) ≡ map (λ row. params ∷ row ∷ []) kept =
+      ap (flat_map (λ row. cond (passes count_where params row) ((params ∷ row ∷ []) ∷ []) [])) (piece_seen o db.trees) ∙ flat_kept (passes count_where params) (λ row. params ∷ row ∷ []) (db.trees (piece_tree o)) in
+      counted o (overlay db.trees []) params rows (got.answer Null) ∙ ap (λ n. (count n ∷ []) ∷ []) (ap length all ∙ length-map kept (λ row. params ∷ row ∷ []))
 
   -- one row with a number
   pub count_told : (number : ℤ) (rows : List Row) → Tells g db count_text (Int number ∷ []) rows → (row : Row) × (rows ≡ row ∷ []) × IsInt (column row 0)
   count_told number rows told = (_, count_is_told number rows told, (_, refl))
 
-  module _ (ledger : Ledger) (tables : AreTablesOf db.trees ledger) (item : NumberedItem) (there : Has (items_in tables.transfers) item) where
-    pub pieces_counted : (rows : List Row) → length item.pieces ≤ 9223372036854775807 → Tells g db count_text (Int item.number ∷ []) rows → rows ≡ (Int (pos (length item.pieces)) ∷ []) ∷ []
-    pieces_counted rows few told =
-        let exact : min (length item.pieces) 9223372036854775807 ≡ length item.pieces = omega (arith, few) in
-        count_is_told item.number rows told ∙ ap (λ n. (count n ∷ []) ∷ []) (rows_counted db.trees ledger tables item there) ∙ ap (λ n. (Int (pos n) ∷ []) ∷ []) exact
+module _ {S : Type 0} {o : Origin} (g : Ghosts S) (db : Database) (has : db.schema ≡ second_schema o) (ledger : Ledger) (tables : HoldTransfers (Second o) db.trees ledger) (item : NumberedItem) (there : Has (items_in tables.transfers) item) where
+  pub pieces_counted : (rows : List Row) → length item.pieces ≤ 9223372036854775807 → Tells g db count_text (Int item.number ∷ []) rows → rows ≡ (Int (pos (length item.pieces)) ∷ []) ∷ []
+  pieces_counted rows few told =
+      let exact : min (length item.pieces) 9223372036854775807 ≡ length item.pieces = omega (arith, few) in
+      count_is_told o g db has item.number rows told ∙ ap (λ n. (count n ∷ []) ∷ []) (rows_counted db.trees ledger tables item there) ∙ ap (λ n. (Int (pos n) ∷ []) ∷ []) exact
 
-    pub piece_told : (n : ℕ) (rows : List Row) → Tells g db piece_text (Int item.number ∷ Int (pos n) ∷ []) rows → rows ≡ piece_shown (slice_get item.pieces n)
-    piece_told n rows told =
-        let params : Row = Int item.number ∷ Int (pos n) ∷ [] in
-        let lists = told_lists g db has 8 piece_terms piece_columns [] piece_text params rows _ piece_is piece_plain piece_unlisted refl told in
-        let test = passes bare_piece params in
-        let moves = IsPermutation-map bare_made _ _ (IsPermutation-filter test (flat_map piece_rows (items_in tables.transfers)) (without_rowids (db.trees 8)) tables.rows.pieces) in
-        let same = subst (λ l. IsPermutation l lists.ordered) (bare_pieces db.trees ledger tables item there n (db.trees 8)) lists.same in
-        let all = IsPermutation-trans _ _ lists.ordered moves same in
-        lists.shown ∙ at_most_one (slice_get item.pieces n) lists.ordered (subst (λ l. IsPermutation l lists.ordered) (pieces_made db.trees ledger tables item there n) all)
+  pub piece_told : (n : ℕ) (rows : List Row) → Tells g db piece_text (Int item.number ∷ Int (pos n) ∷ []) rows → rows ≡ piece_shown (slice_get item.pieces n)
+  piece_told n rows told =
+      let params : Row = Int item.number ∷ Int (pos n) ∷ [] in
+      let lists = told_lists g (second_schema o) db has (piece_tree o) piece_terms piece_columns [] piece_text params rows _ (piece_is o) (piece_plain o) (piece_unlisted o) (piece_seen o db.trees) told in
+      let test = passes bare_piece params in
+      let moves = IsPermutation-map bare_made _ _ (IsPermutation-filter test (flat_map piece_rows (items_in tables.transfers)) (without_rowids (db.trees (piece_tree o))) tables.rows.items.pieces) in
+      let same = subst (λ l. IsPermutation l lists.ordered) (bare_pieces db.trees ledger tables item there n (db.trees (piece_tree o))) lists.same in
+      let all = IsPermutation-trans _ _ lists.ordered moves same in
+      lists.shown ∙ at_most_one (slice_get item.pieces n) lists.ordered (subst (λ l. IsPermutation l lists.ordered) (pieces_made db.trees ledger tables item there n) all)

@@ -1,7 +1,9 @@
 -- Reading and writing a payload file piece by piece.
-use Rattle.std.proofs.Common.{◌≡◌, ◌≤◌, ◌<◌, ◌+◌, ◌-◌, ◌*◌, ◌/◌, ℕ, ℤ, List, [], ◌∷◌, ◌++◌, Option, length, map, take, pos, true, append_assoc, append-nil, arith, refl, sym, ap, subst, ◌∙◌, length-append}
-use Rattle.bag_sqlite.proofs.Words.{AddsItem, AddsPiece, AddsPieces, Alg, AlgSet, AllByRecursion, AreCut, AreDigests, Blob, concat, concat-append, Consumes-nil, Digests, enumerate_from, GaveBefore, GavePiece, given_by, given_more, has, HasContentMore, HasGiven, HasRead, Holds, in_pieces, Int, IsAtEnd, IsPermutation, IsPermutation-cons, IsPermutation-middle, IsPermutation-refl, IsPermutation-trans, IsUnderWay, LARGEST_ITEM, length-take-le, lists_by, map-append, mul-div_cancel_left, Multi, PIECE, piece_rows, piece_tree, put_fault, read_fault, RefusesGiven, Row, SetsSize, SourceFault, State, Trees, uses_as, uses_on, UsesSource, Want, without_rowids}
+use Rattle.std.proofs.Common.{◌≡◌, ◌≤◌, ◌<◌, ◌+◌, ◌-◌, ◌*◌, ◌/◌, ℕ, ℤ, List, [], ◌∷◌, ◌++◌, Option, drop, length, length-drop, map, min, take, pos, true, append_assoc, append-nil, arith, refl, sym, ap, subst, ◌∙◌, length-append}
+use Rattle.bag_sqlite.proofs.Words.{AddsItem, AddsPiece, AddsPieces, Alg, AlgSet, AllByRecursion, AreCut, AreDigests, Blob, concat, concat-append, Consumes-nil, Digests, enumerate_from, GaveBefore, GavePiece, given_by, given_more, has, HasContentMore, HasGiven, HasRead, Holds, in_pieces, Int, IsAtEnd, IsPermutation, IsPermutation-cons, IsPermutation-middle, IsPermutation-refl, IsPermutation-trans, IsUnderWay, LARGEST_ITEM, length-take-le, lists_by, map-append, mul-div_cancel_left, Multi, Origin, PIECE, piece_rows, piece_tree, put_fault, read_fault, RefusesGiven, Row, SetsSize, SourceFault, State, Trees, uses_as, uses_on, UsesSource, Want, without_rowids}
+use Rattle.std.proofs.Math.Seq.{take-add}
 use Rattle.bag_digest.specs.declared.reading.SourceFault.TheVariants as source
+use Rattle.bag_sqlite.proofs.LayoutLemmas.{keeps_transfers_same, keeps_transfers_then}
 use Rattle.bag_sqlite.proofs.RowLemmas.{item_written}
 
 -- WHAT WAS READ
@@ -112,8 +114,8 @@ module _ {S : Type 0} {failures : S → ℕ} {ready : S → Type 0} {keeps : S �
 
 -- THE ROWS
 
-pub no_pieces : (a : Trees) (item : ℤ) → AddsPieces a a (in_pieces item [] [])
-no_pieces a item = record { kept = record { format = refl; transfers = refl; tags = refl }; held = refl; pieces = IsPermutation-refl (without_rowids (a piece_tree)) }
+pub no_pieces : {o : Origin} (a : Trees) (item : ℤ) → AddsPieces o a a (in_pieces item [] [])
+no_pieces {o} a item = record { kept = keeps_transfers_same o a; held = refl; pieces = IsPermutation-refl (without_rowids (a (piece_tree o))) }
 
 numbered_last : {X : Type 0} (k : ℕ) (xs : List X) (x : X) → enumerate_from k (xs ++ x ∷ []) ≡ enumerate_from k xs ++ (k + length xs, x) ∷ []
 numbered_last k [] x = ap (λ n. (n, x) ∷ []) (omega arith)
@@ -122,37 +124,35 @@ numbered_last k (y ∷ ys) x =
     ap (λ l. (k, y) ∷ l) (numbered_last (k + 1) ys x ∙ ap (λ n. enumerate_from (k + 1) ys ++ (n, x) ∷ []) next)
 
 -- one more piece
-module _ (a b c : Trees) (item : ℤ) where
-  abbrev row_of : ℕ × List ℕ → Row
-  row_of piece = Int item ∷ Int (pos piece.0) ∷ Blob piece.1 ∷ []
-
-  pub pieces_grow : (pieces : List (List ℕ)) (body : List ℕ) → AddsPieces a b (in_pieces item [] pieces) → AddsPiece b c item (length pieces) body → AddsPieces a c (in_pieces item [] (pieces ++ body ∷ []))
+module _ {o : Origin} (a b c : Trees) (item : ℤ) where
+  pub pieces_grow : (pieces : List (List ℕ)) (body : List ℕ) → AddsPieces o a b (in_pieces item [] pieces) → AddsPiece o b c item (length pieces) body → AddsPieces o a c (in_pieces item [] (pieces ++ body ∷ []))
   pieces_grow pieces body p q =
+      let row_of = λ (piece : ℕ × List ℕ). let row : Row = Int item ∷ Int (pos piece.0) ∷ Blob piece.1 ∷ [] in row in
       let rows = piece_rows (in_pieces item [] pieces) in
-      let was = without_rowids (a piece_tree) in
-      let end = without_rowids (c piece_tree) in
+      let was = without_rowids (a (piece_tree o)) in
+      let end = without_rowids (c (piece_tree o)) in
       let row = row_of (length pieces, body) in
       let zero_on : 0 + length pieces ≡ length pieces = omega arith in
       let listed : piece_rows (in_pieces item [] (pieces ++ body ∷ [])) ≡ rows ++ row ∷ [] = ap (map row_of) (numbered_last 0 pieces body ∙ ap (λ n. enumerate_from 0 pieces ++ (n, body) ∷ []) zero_on) ∙ map-append row_of (enumerate_from 0 pieces) ((length pieces, body) ∷ []) in
       let split : piece_rows (in_pieces item [] (pieces ++ body ∷ [])) ++ was ≡ rows ++ row ∷ was = ap (λ l. l ++ was) listed ∙ append_assoc rows (row ∷ []) was in
       record {
-        kept = record { format = q.kept.format ∙ p.kept.format; transfers = q.kept.transfers ∙ p.kept.transfers; tags = q.kept.tags ∙ p.kept.tags };
+        kept = keeps_transfers_then o a b c p.kept q.kept;
         held = q.held ∙ p.held;
         pieces = subst (λ l. IsPermutation l end) (sym split) (IsPermutation-trans _ _ end (IsPermutation-middle rows row was)
-            (IsPermutation-trans _ _ end (IsPermutation-cons row (rows ++ was) (without_rowids (b piece_tree)) p.pieces) q.pieces));
+            (IsPermutation-trans _ _ end (IsPermutation-cons row (rows ++ was) (without_rowids (b (piece_tree o))) p.pieces) q.pieces));
       }
 
-pub rows_then : (a b c : State) (item : ℤ) (total : ℕ) (pieces : List (List ℕ)) (body : List ℕ) → total / PIECE ≡ length pieces → (IsUnderWay a → IsUnderWay b × AddsPieces a.now.trees b.now.trees (in_pieces item [] pieces))
-    → (IsUnderWay b → IsUnderWay c × AddsPiece b.now.trees c.now.trees item (total / PIECE) body) → IsUnderWay a → IsUnderWay c × AddsPieces a.now.trees c.now.trees (in_pieces item [] (pieces ++ body ∷ []))
-rows_then a b c item total pieces body number before one way =
+pub rows_then : {o : Origin} (a b c : State) (item : ℤ) (total : ℕ) (pieces : List (List ℕ)) (body : List ℕ) → total / PIECE ≡ length pieces → (IsUnderWay o a → IsUnderWay o b × AddsPieces o a.now.trees b.now.trees (in_pieces item [] pieces))
+    → (IsUnderWay o b → IsUnderWay o c × AddsPiece o b.now.trees c.now.trees item (total / PIECE) body) → IsUnderWay o a → IsUnderWay o c × AddsPieces o a.now.trees c.now.trees (in_pieces item [] (pieces ++ body ∷ []))
+rows_then {o} a b c item total pieces body number before one way =
     let so_far = before way in
     let more = one so_far.0 in
-    (more.0, pieces_grow a.now.trees b.now.trees c.now.trees item pieces body so_far.1 (subst (λ n. AddsPiece b.now.trees c.now.trees item n body) number more.1))
+    (more.0, pieces_grow a.now.trees b.now.trees c.now.trees item pieces body so_far.1 (subst (λ n. AddsPiece o b.now.trees c.now.trees item n body) number more.1))
 
 -- the row of a payload file, its pieces and its size
-pub content_then : (a b c d : State) (item transfer : ℤ) (path : List ℕ) (pieces : List (List ℕ)) (size : ℕ) → AreCut pieces → size ≡ length (concat pieces)
-    → (IsUnderWay a → IsUnderWay b × AddsItem a.now.trees b.now.trees item transfer path 0) → (IsUnderWay b → IsUnderWay c × AddsPieces b.now.trees c.now.trees (in_pieces item [] pieces))
-    → (IsUnderWay c → IsUnderWay d × SetsSize c.now.trees d.now.trees item size) → IsUnderWay a → IsUnderWay d × HasContentMore a.now.trees d.now.trees transfer path (concat pieces)
+pub content_then : {o : Origin} (a b c d : State) (item transfer : ℤ) (path : List ℕ) (pieces : List (List ℕ)) (size : ℕ) → AreCut pieces → size ≡ length (concat pieces)
+    → (IsUnderWay o a → IsUnderWay o b × AddsItem o a.now.trees b.now.trees item transfer path 0) → (IsUnderWay o b → IsUnderWay o c × AddsPieces o b.now.trees c.now.trees (in_pieces item [] pieces))
+    → (IsUnderWay o c → IsUnderWay o d × SetsSize o c.now.trees d.now.trees item size) → IsUnderWay o a → IsUnderWay o d × HasContentMore o a.now.trees d.now.trees transfer path (concat pieces)
 content_then a b c d item transfer path pieces size cut sized first second third way =
     let p = first way in
     let q = second p.0 in
@@ -166,3 +166,38 @@ content_then a b c d item transfer path pieces size cut sized first second third
         more = item_written a.now.trees b.now.trees c.now.trees d.now.trees transfer item path pieces size sized p.1 q.1 r.1;
       },
     )
+
+-- A CONTENT IN MEMORY
+
+-- its octets before this offset, in pieces
+pub record IsCutTo (content : List ℕ) (offset : ℕ) (pieces : List (List ℕ)) : Type 0 where
+  pub octets : concat pieces ≡ take offset content
+  pub cut : AreCut pieces
+  pub within : offset ≤ length content
+  pub full : offset < length content → AllByRecursion (λ piece. length piece ≡ PIECE) pieces × (offset ≡ PIECE * length pieces)
+
+pub cut_nothing : (content : List ℕ) → IsCutTo content 0 []
+cut_nothing content = record { octets = refl; cut = tt; within = omega arith; full = λ _. (tt, omega arith) }
+
+-- one more piece
+pub cut_more : (content : List ℕ) (offset end : ℕ) (pieces : List (List ℕ)) (body : List ℕ) → IsCutTo content offset pieces → offset < length content → end ≡ min (length content) (offset + PIECE) → body ≡ take (end - offset) (drop offset content)
+    → IsCutTo content end (pieces ++ body ∷ [])
+cut_more content offset end pieces body so_far more is body_is =
+    let full = so_far.full more in
+    let some : offset < end = omega (arith, is, more) in
+    let within : end ≤ length content = omega (arith, is) in
+    let enough : end - offset ≤ length (drop offset content) = omega (arith, within, some, length-drop offset content) in
+    let long : length body ≡ end - offset = ap length body_is ∙ length-take-le (end - offset) (drop offset content) enough in
+    let on : offset + (end - offset) ≡ end = omega (arith, some) in
+    record {
+      octets = joined_last pieces body ∙ (λ i. so_far.octets i ++ body_is i) ∙ sym (take-add offset (end - offset) content) ∙ ap (λ n. take n content) on;
+      cut = cut_last pieces body full.0 (omega (arith, long, some)) (omega (arith, long, is));
+      within = within;
+      full = λ low. (full_last pieces body full.0 (omega (arith, long, is, low)), omega (arith, full.1, is, low, length-append pieces (body ∷ [])));
+    }
+
+-- the number of the piece that begins at the next octet
+pub cut_number : (content : List ℕ) (offset : ℕ) (pieces : List (List ℕ)) → IsCutTo content offset pieces → offset < length content → offset / PIECE ≡ length pieces
+cut_number content offset pieces so_far more =
+    let some : 0 < PIECE = omega arith in
+    ap (λ n. n / PIECE) (so_far.full more).1 ∙ mul-div_cancel_left (length pieces) some

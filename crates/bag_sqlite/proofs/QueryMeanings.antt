@@ -1,6 +1,6 @@
 -- The meanings of a ledger's queries.
 use Rattle.std.proofs.Common.{◌≡◌, ℕ, List, [], ◌∷◌, None, codes, false, negsuc, pos, refl}
-use Rattle.bag_sqlite.proofs.Words.{ascending, Binary, col, Command, command_of, end, everything, inner, Int, IsPlain, ledger_schema, lit, Query, reads_listing, Select, understood}
+use Rattle.bag_sqlite.proofs.Words.{ascending, Binary, col, Command, command_of, end, everything, First, inner, Int, IsPlain, Layout, lit, Migrated, New, Query, reads_listing, schema_of, Second, Select, understood}
 
 abbrev pub names_text : List ℕ
 names_text = codes "SELECT name FROM transfer ORDER BY name"
@@ -21,14 +21,20 @@ names_query = record {
 abbrev pub names_command : Command
 names_command = Select (record { lets = []; body = names_query }) (codes "name" ∷ [])
 
-pub names_is : command_of (understood ledger_schema names_text) ≡ names_command
+pub names_is : (l : Layout) → command_of (understood (schema_of l) names_text) ≡ names_command
 unfolding understood everything
-names_is = refl
+names_is First = refl
+names_is (Second New) = refl
+names_is (Second Migrated) = refl
 
-pub names_plain : IsPlain (understood ledger_schema names_text)
+pub names_plain : (l : Layout) → IsPlain (understood (schema_of l) names_text)
 unfolding understood everything
-names_plain = (refl, refl)
+names_plain First = (refl, refl)
+names_plain (Second New) = (refl, refl)
+names_plain (Second Migrated) = (refl, refl)
 
-pub names_unlisted : reads_listing ledger_schema names_text ≡ false
+pub names_unlisted : (l : Layout) → reads_listing (schema_of l) names_text ≡ false
 unfolding everything
-names_unlisted = refl
+names_unlisted First = refl
+names_unlisted (Second New) = refl
+names_unlisted (Second Migrated) = refl

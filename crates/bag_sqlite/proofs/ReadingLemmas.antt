@@ -1,6 +1,6 @@
 -- A query commits nothing, and queries are read in sequence.
 use Rattle.std.proofs.Common.{false, ◌≡◌, ◌⊎◌, ◌<◌, ◌+◌, inl, inr, ℕ, suc, List, [], ◌∷◌, ◌++◌, Option, Some, None, Result, Ok, Err, IfOk, IsTrue, true, get_or, length, map, string_bytes, take, ap, refl, subst, sym, if◌then◌else◌, ◌∙◌, arith}
-use Rattle.bag_sqlite.proofs.Words.{bytes, Compiled, Database, Error, FailsToQuery, FailsToShow, Ghosts, Global, HasCleanDisk, Held, HoldsLedger, IsLedgerDatabase, IsLeft, IsNotRun, IsRolledBack, IsTooLate, IsUnchanged, KeepsCommit, Ledger, map_twice, MayLeaveLedger, OnlyQueries, Returning, Row, Shown, ShowsRows, State, state, String, Survives, survives_begin, take-suc, Text, unchanged_keeps, Value, column}
+use Rattle.bag_sqlite.proofs.Words.{bytes, column, CommitsNothingWithin, Compiled, Database, Error, FailsToQuery, FailsToShow, Ghosts, Global, HasCleanDisk, Held, HoldsLedger, IsDatabaseOf, IsLeft, IsNotRun, IsRolledBack, IsTooLate, IsUnchanged, KeepsCommit, Layout, Ledger, map_twice, MayLeaveLedger, MutBor, OnlyQueries, Returning, Row, Shown, ShowsLedger, ShowsRows, State, state, String, Survives, survives_begin, take-suc, Text, unchanged_keeps, Value}
 use Rattle.bag_ledger.specs.Keeping.{Reads}
 use Rattle.bag_sqlite.proofs.MakingLemmas.{kept_since, left_by_undoing}
 use Rattle.bag_sqlite.proofs.SqlLemmas.{survives_both}
@@ -24,6 +24,15 @@ module _ (old new : State) (sql : List ℕ) (params : Row) where
   pub was_open : (rows : List Row) → Shown sql params old new rows → IsTrue old.is_open
   unfolding Shown
   was_open rows h = open_by h.0 _ rows h.0.returning h.2
+
+  mode_by : (c : Compiled) (given : Row) (rows : List Row) (o : Option Returning) → ShowsRows old new sql c given rows o → new.in_transaction ≡ old.in_transaction
+  mode_by c given rows None h = h.3.0.mode
+  mode_by c given rows (Some what) h = h.1.shown.mode
+
+  -- a query ends no transaction
+  pub same_mode : (rows : List Row) → Shown sql params old new rows → new.in_transaction ≡ old.in_transaction
+  unfolding Shown
+  same_mode rows h = mode_by h.0 _ rows h.0.returning h.2
 
   stays_by : (c : Compiled) (given : Row) (e : Error) (o : Option Returning) → FailsToShow old new sql c given e o → IsUnchanged old new ⊎ IsRolledBack old new
   stays_by c given e None h = inl h.3
@@ -52,6 +61,14 @@ module _ {S : Type 0} (g : Ghosts S) (old begun : Held S) (mid : State) (sql : L
       let start = state g (record old { in_transaction = true }) in
       kept_since g old mid (kept_failed start mid sql params e (subst (λ (h : Held S). FailsToQuery sql params (state g h) mid e ⊎ IsTooLate sql params (state g h) mid e) is failed))
 
+-- in a transaction that was under way
+module _ {S : Type 0} {g : Ghosts S} {old new : MutBor (Held S)} (sql : List ℕ) (params : Row) (same : new.ghost_name ≡ old.ghost_name) (survives : Survives (state g old.now) (state g new.now) (λ _. ⊥)) where
+  pub within_query : (rows : List Row) → (HasCleanDisk (state g new.now) → Shown sql params (state g old.now) (state g new.now) rows) → CommitsNothingWithin g old new
+  within_query rows shown = record { same_reference = same; commit = λ clean mode. kept_shown (state g old.now) (state g new.now) sql params rows mode (shown clean); survives = survives }
+
+  pub within_refusal : (e : Error) → (HasCleanDisk (state g new.now) → FailsToQuery sql params (state g old.now) (state g new.now) e ⊎ IsTooLate sql params (state g old.now) (state g new.now) e) → CommitsNothingWithin g old new
+  within_refusal e failed = record { same_reference = same; commit = λ clean mode. kept_failed (state g old.now) (state g new.now) sql params e (failed clean); survives = survives }
+
 -- it was undone
 pub queries_undone : {S : Type 0} (g : Ghosts S) (old end : Held S) (mid : State) → old.in_transaction ≡ false → end.in_transaction ≡ false
     → (HasCleanDisk mid → KeepsCommit (state g old) mid) → Survives (state g (record old { in_transaction = true })) mid (λ _. ⊥)
@@ -70,18 +87,23 @@ queries_undone g old end mid idle ended kept ran undone ends = record {
 pub same_shown : (old new : State) → IsLeft old new → old.in_transaction ≡ false → IsTrue new.is_open → old.committed ≡ old.now → new.now ≡ old.now
 same_shown old new left idle is_open committed = left.now is_open idle ∙ committed
 
+-- and shows the ledger that it showed before
+pub still_shows : {l : Layout} (old new : State) (ledger : Ledger) → IsLeft old new → old.in_transaction ≡ false → IsTrue new.is_open → ShowsLedger l old ledger → ShowsLedger l new ledger
+still_shows {l} old new ledger left idle is_open shows =
+    let same = same_shown old new left idle is_open shows.committed in
+    record {
+      schema_is = ap (λ (d : Database). d.schema) same ∙ shows.schema_is;
+      database = subst (λ (d : Database). IsDatabaseOf l d.trees ledger) (sym same) shows.database;
+      committed = left.committed is_open ∙ sym (left.now is_open idle);
+    }
+
 -- and holds what it held before
 pub still_holds : (old new : State) (ledger : Ledger) → HasCleanDisk new → IsLeft old new → old.in_transaction ≡ false → Survives old new (λ _. ⊥) → HoldsLedger old ledger → HoldsLedger new ledger
 still_holds old new ledger clean left idle survives holds = record {
   sound = holds.sound;
   shows = λ is_open.
-      let shows = holds.shows (left.was_open is_open) in
-      let same = same_shown old new left idle is_open shows.committed in
-      record {
-        schema_is = ap (λ (d : Database). d.schema) same ∙ shows.schema_is;
-        database = subst (λ (d : Database). IsLedgerDatabase d.trees ledger) (sym same) shows.database;
-        committed = left.committed is_open ∙ sym (left.now is_open idle);
-      };
+      let (o, shows) = holds.shows (left.was_open is_open) in
+      (o, still_shows old new ledger left idle is_open shows);
   outcomes = λ trees may. holds.outcomes trees (elim (survives.crash clean trees may) [ inl before ↦ before | inr none ↦ absurd none ]);
 }
 

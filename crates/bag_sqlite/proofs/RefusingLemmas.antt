@@ -1,6 +1,6 @@
 -- Why a database isn't opened, from the results of its reads.
-use Rattle.std.proofs.Common.{◌↔◌, ◌∙◌, Bool, ◌≡◌, ◌≢◌, ◌⊎◌, ◌<◌, ◌≤◌, ℕ, ℤ, pos, zero, suc, List, [], ◌∷◌, Option, None, Some, Err, IfErr, IfNone, MatchResult, Ok, OnOk, false, true, string_bytes, Result, IsTrue, ap, arith, codes, get_or, inl, inr, length, refl, subst, sym, slice_index_or}
-use Rattle.bag_sqlite.proofs.Words.{adopt_fault, AdoptFault, AllByRecursion, AreNoneFor, Broken, cases_lt, column, Command, Compiled, Corrupt, Damaged, Database, Error, ExecuteReturnedResults, Fails, FailsToQuery, FailsToShow, Full, Ghosts, HasFormat, HasNoFormat, Int, IntegralValueOutOfRange, InvalidColumnIndex, InvalidColumnType, InvalidParameterCount, InvalidQuery, Io, IsBlob, IsDamaged, IsInt, IsNoLedger, IsNoneFor, IsNoQuery, IsNoStatement, IsNotRun, IsReadError, IsText, IsTooLate, IsUnchanged, MayShow, MultipleStatement, NotALedger, Null, OldFormat, OutOfMemory, params_of, QueryReturnedNoRows, Question, RefusesToAdopt, RefusesToRead, RefusesTransfer, RefusesTransfers, Returning, Row, Rows, SaysFormat, Select, SqlInputError, SqliteFailure, State, store_error, StoreError, stray_texts, Tells, Text, text_of, TransferFails, understood, Unstorable, Utf8Error, Value}
+use Rattle.std.proofs.Common.{◌↔◌, ◌∙◌, Bool, ◌≡◌, ◌≢◌, ◌⊎◌, ◌<◌, ◌≤◌, ℕ, ℤ, zero, suc, List, [], ◌∷◌, Option, None, Some, Err, IfErr, IfNone, MatchResult, Ok, OnOk, false, true, string_bytes, Result, IsTrue, ap, arith, codes, get_or, inl, inr, length, refl, subst, sym, slice_index_or}
+use Rattle.bag_sqlite.proofs.Words.{adopt_fault, AdoptFault, AllByRecursion, AreNoneFor, Broken, cases_lt, column, Command, Compiled, Corrupt, Damaged, Database, Error, ExecuteReturnedResults, Fails, FailsToQuery, FailsToShow, Format, Full, Ghosts, HasFormat, HasNoFormat, Int, IntegralValueOutOfRange, InvalidColumnIndex, InvalidColumnType, InvalidParameterCount, InvalidQuery, Io, IsAsked, IsBlob, IsDamaged, IsInt, IsNoLedger, IsNoneFor, IsNoQuery, IsNoStatement, IsNotRun, IsReadError, IsText, IsTooLate, IsUnchanged, MayShow, MultipleStatement, NotALedger, Null, number_of, OutOfMemory, params_of, QueryReturnedNoRows, Question, RefusesToAdopt, RefusesToRead, RefusesTransfer, RefusesTransfers, Returning, Row, Rows, SaysFormat, Select, SqlInputError, SqliteFailure, State, store_error, StoreError, stray_texts, Tells, Text, text_of, TransferFails, understood, Unstorable, Utf8Error, Value}
 use Rattle.sqlite.specs.Given.{IsPlain}
 use Rattle.sqlite.specs.declared.error.ErrorCode.TheVariants as code
 use Rattle.bag_sqlite.proofs.AdoptingLemmas.{row_at}
@@ -98,14 +98,12 @@ misread P none row at e named kind = elim named [
 -- another reason, if the store is involved
 pub rows_for : (P Q : Type 0) → (P → Q) → (fault : AdoptFault) → AreNoneFor P fault → AreNoneFor Q fault
 rows_for P Q f NotALedger h = f h
-rows_for P Q f OldFormat h = absurd h
 rows_for P Q f (Damaged name path) h = absurd h
 rows_for P Q f Memory h = tt
 rows_for P Q f (Store error) h = absurd h
 
 pub by_rows : (P Q : Type 0) → (P → Q) → (fault : AdoptFault) → AreNoneFor P fault → IsNoneFor Q fault
 by_rows P Q f NotALedger h = f h
-by_rows P Q f OldFormat h = absurd h
 by_rows P Q f (Damaged name path) h = absurd h
 by_rows P Q f Memory h = tt
 by_rows P Q f (Store error) h = absurd h
@@ -123,7 +121,6 @@ null_blob it = let e = it.1 in cc
 -- another reason
 pub none_for : (P Q : Type 0) → (P → Q) → (fault : AdoptFault) → IsNoneFor P fault → IsNoneFor Q fault
 none_for P Q f NotALedger h = f h
-none_for P Q f OldFormat h = absurd h
 none_for P Q f (Damaged name path) h = absurd h
 none_for P Q f Memory h = tt
 none_for P Q f (Store error) h = tt
@@ -133,54 +130,53 @@ null_int it = let e = it.1 in cc
 
 -- WHAT IS REPORTED FOR A COLUMN OR A QUERY
 
-module _ {S : Type 0} (g : Ghosts S) (db : Database) where
+module _ {S : Type 0} (g : Ghosts S) (db : Database) (format : Format) where
   -- the query can't be understood
-  pub no_query : (asked : Question) (fault : AdoptFault) → IsNoneFor (IsNoQuery db.schema (text_of asked)) fault → IsNoneFor (IsNoLedger g db) fault
-  no_query asked fault h = none_for _ _ (λ no. (asked, inl no)) fault h
+  pub no_query : (asked : Question) → IsAsked format asked → (fault : AdoptFault) → IsNoneFor (IsNoQuery db.schema (text_of format asked)) fault → IsNoneFor (IsNoLedger g db format) fault
+  no_query asked is fault h = none_for _ _ (λ no. (asked, is, inl no)) fault h
 
   -- a column can't be read
-  pub no_column : (asked : Question) (P : Value → Type 0) → ¬ P Null → (row : Row) (at : ℕ) (e : Error) (rows : List Row) → Tells g db (text_of asked) (params_of asked) rows → (MayShow asked rows → P (column row at))
-      → IsReadError at (column row at) e → (e ≢ SqliteFailure code.OutOfMemory → at < length row → ¬ P (column row at)) → IsNoneFor (IsNoLedger g db) (adopt_fault e)
-  no_column asked P none row at e rows told such named kind =
-      none_for (¬ P (column row at)) (IsNoLedger g db) (λ no. (asked, inr (rows, told, λ may. no (such may)))) (adopt_fault e) (not_read P none row at e named kind)
+  pub no_column : (asked : Question) → IsAsked format asked → (P : Value → Type 0) → ¬ P Null → (row : Row) (at : ℕ) (e : Error) (rows : List Row) → Tells g db (text_of format asked) (params_of asked) rows → (MayShow asked rows → P (column row at))
+      → IsReadError at (column row at) e → (e ≢ SqliteFailure code.OutOfMemory → at < length row → ¬ P (column row at)) → IsNoneFor (IsNoLedger g db format) (adopt_fault e)
+  no_column asked is P none row at e rows told such named kind =
+      none_for (¬ P (column row at)) (IsNoLedger g db format) (λ no. (asked, is, inr (rows, told, λ may. no (such may)))) (adopt_fault e) (not_read P none row at e named kind)
 
-  -- when the format is read
-  pub by_format : (fault : AdoptFault) → IsNoneFor (HasNoFormat g db) fault → RefusesToAdopt g db fault
-  by_format NotALedger h = inl h
-  by_format OldFormat h = absurd h
-  by_format (Damaged name path) h = absurd h
-  by_format Memory h = tt
-  by_format (Store error) h = tt
-
-  -- once the format was checked
-  pub to_adopt : (fault : AdoptFault) → HasFormat g db (pos 2) → IsNoneFor (IsNoLedger g db) fault → RefusesToAdopt g db fault
-  to_adopt NotALedger format h = inr (format, h)
-  to_adopt OldFormat format h = absurd h
-  to_adopt (Damaged name path) format h = absurd h
-  to_adopt Memory format h = tt
-  to_adopt (Store error) format h = tt
-
-  pub to_transfers : (fault : AdoptFault) → IsNoneFor (IsNoLedger g db) fault → RefusesTransfers g db fault
+  pub to_transfers : (fault : AdoptFault) → IsNoneFor (IsNoLedger g db format) fault → RefusesTransfers g db format fault
   to_transfers NotALedger h = h
-  to_transfers OldFormat h = absurd h
   to_transfers (Damaged name path) h = absurd h
   to_transfers Memory h = tt
   to_transfers (Store error) h = tt
 
-  -- once the format and the rows without an owner were checked
-  pub in_order : (fault : AdoptFault) → HasFormat g db (pos 2) → AllByRecursion (λ text. Tells g db text [] []) stray_texts → RefusesTransfers g db fault → RefusesToAdopt g db fault
-  in_order NotALedger format none h = inr (format, h)
-  in_order OldFormat format none h = absurd h
-  in_order (Damaged name path) format none h = (format, none, h)
-  in_order Memory format none h = tt
-  in_order (Store error) format none h = tt
-
-  pub to_transfer : (transfer : ℤ) (name : List ℕ) (fault : AdoptFault) → IsNoneFor (IsNoLedger g db) fault → RefusesTransfer g db transfer name fault
+  pub to_transfer : (transfer : ℤ) (name : List ℕ) (fault : AdoptFault) → IsNoneFor (IsNoLedger g db format) fault → RefusesTransfer g db format transfer name fault
   to_transfer transfer name NotALedger h = h
-  to_transfer transfer name OldFormat h = absurd h
   to_transfer transfer name (Damaged named path) h = absurd h
   to_transfer transfer name Memory h = tt
   to_transfer transfer name (Store error) h = tt
+
+-- THE ORDER OF THE TESTS
+
+module _ {S : Type 0} (g : Ghosts S) (db : Database) where
+  -- when the format is read
+  pub by_format : (fault : AdoptFault) → IsNoneFor (HasNoFormat g db) fault → RefusesToAdopt g db fault
+  by_format NotALedger h = inl h
+  by_format (Damaged name path) h = absurd h
+  by_format Memory h = tt
+  by_format (Store error) h = tt
+
+  module _ (format : Format) (named : HasFormat g db (number_of format)) where
+    -- once the format was checked
+    pub to_adopt : (fault : AdoptFault) → IsNoneFor (IsNoLedger g db format) fault → RefusesToAdopt g db fault
+    to_adopt NotALedger h = inr (format, named, h)
+    to_adopt (Damaged name path) h = absurd h
+    to_adopt Memory h = tt
+    to_adopt (Store error) h = tt
+
+    -- once the format and the rows without an owner were checked
+    pub in_order : (fault : AdoptFault) → AllByRecursion (λ text. Tells g db text [] []) (stray_texts format) → RefusesTransfers g db format fault → RefusesToAdopt g db fault
+    in_order NotALedger none h = inr (format, named, h)
+    in_order (Damaged name path) none h = (format, named, (none, h))
+    in_order Memory none h = tt
+    in_order (Store error) none h = tt
 
 -- what holds of each row holds of the one at an index
 pub all_at : {X : Type 0} (P : X → Type 0) (xs : List X) (i : ℕ) (x : X) → AllByRecursion P xs → i < length xs → x ≡ get_or xs i x → P x
@@ -224,12 +220,11 @@ tags_error R X r e fault is said told = subst (IsNoneFor R) (sym told) (rw is at
 pub bad_tag : {A : Type 0} (R X : Type 0) (r : Result A Error) → r ≡ Err (SqliteFailure code.DatabaseCorrupt) → IfErr r (λ x. (x ≡ SqliteFailure code.DatabaseCorrupt → X) × IsNoneFor R (adopt_fault x)) → X
 bad_tag R X r is said = (rw is at said).0 refl
 
-module _ {S : Type 0} (g : Ghosts S) (db : Database) where
+module _ {S : Type 0} (g : Ghosts S) (db : Database) (format : Format) where
   -- a transfer that isn't accepted, with what is known of it
-  pub adopt_transfer : (transfer : ℤ) (name : List ℕ) (fault : AdoptFault) → ((path : List ℕ) → TransferFails g db transfer path → IsDamaged g db name path) → RefusesTransfer g db transfer name fault → RefusesTransfers g db fault
+  pub adopt_transfer : (transfer : ℤ) (name : List ℕ) (fault : AdoptFault) → ((path : List ℕ) → TransferFails g db format transfer path → IsDamaged g db format name path) → RefusesTransfer g db format transfer name fault → RefusesTransfers g db format fault
   adopt_transfer transfer name NotALedger damaged h = h
-  adopt_transfer transfer name OldFormat damaged h = absurd h
-  adopt_transfer transfer name (Damaged named path) damaged h = subst (λ n. IsDamaged g db n (string_bytes path)) (sym h.0) (damaged (string_bytes path) h.1)
+  adopt_transfer transfer name (Damaged named path) damaged h = subst (λ n. IsDamaged g db format n (string_bytes path)) (sym h.0) (damaged (string_bytes path) h.1)
   adopt_transfer transfer name Memory damaged h = tt
   adopt_transfer transfer name (Store error) damaged h = tt
 

@@ -1,6 +1,7 @@
 -- The meanings of the statements that write a payload file.
 use Rattle.std.proofs.Common.{◌≡◌, ℕ, List, [], ◌∷◌, codes, pos, refl}
-use Rattle.bag_sqlite.proofs.Words.{col, command_of, everything, Insert, Int, IsPlain, ledger_schema, lit, Null, Query, Term, understood, Update, Values}
+use Rattle.bag_sqlite.proofs.Words.{col, command_of, everything, held_tree, Insert, Int, IsPlain, lit, Migrated, New, Null, Origin, Query, second_schema, Term, understood, Update, Values}
+use Rattle.bag_sqlite.proofs.LayoutLemmas.{held_place, piece_place}
 use Rattle.bag_sqlite.proofs.WhereLemmas.{equals, over}
 
 abbrev pub new_item_text : List ℕ
@@ -9,13 +10,15 @@ new_item_text = codes "INSERT INTO held (transfer, path, size) VALUES (?1, ?2, 0
 abbrev pub new_item_terms : List Term
 new_item_terms = lit Null ∷ lit Null ∷ col 0 0 ∷ col 0 1 ∷ lit (Int (pos 0)) ∷ []
 
-pub new_item_is : command_of (understood ledger_schema new_item_text) ≡ Insert 3 (Values new_item_terms 5)
+pub new_item_is : (o : Origin) → command_of (understood (second_schema o) new_item_text) ≡ Insert (held_place o) (Values new_item_terms 5)
 unfolding understood everything
-new_item_is = refl
+new_item_is New = refl
+new_item_is Migrated = refl
 
-pub new_item_plain : IsPlain (understood ledger_schema new_item_text)
+pub new_item_plain : (o : Origin) → IsPlain (understood (second_schema o) new_item_text)
 unfolding understood everything
-new_item_plain = (refl, refl)
+new_item_plain New = (refl, refl)
+new_item_plain Migrated = (refl, refl)
 
 abbrev pub new_piece_text : List ℕ
 new_piece_text = codes "INSERT INTO piece (item, n, body) VALUES (?1, ?2, ?3)"
@@ -23,13 +26,15 @@ new_piece_text = codes "INSERT INTO piece (item, n, body) VALUES (?1, ?2, ?3)"
 abbrev pub new_piece_terms : List Term
 new_piece_terms = lit Null ∷ col 0 0 ∷ col 0 1 ∷ col 0 2 ∷ []
 
-pub new_piece_is : command_of (understood ledger_schema new_piece_text) ≡ Insert 4 (Values new_piece_terms 4)
+pub new_piece_is : (o : Origin) → command_of (understood (second_schema o) new_piece_text) ≡ Insert (piece_place o) (Values new_piece_terms 4)
 unfolding understood everything
-new_piece_is = refl
+new_piece_is New = refl
+new_piece_is Migrated = refl
 
-pub new_piece_plain : IsPlain (understood ledger_schema new_piece_text)
+pub new_piece_plain : (o : Origin) → IsPlain (understood (second_schema o) new_piece_text)
 unfolding understood everything
-new_piece_plain = (refl, refl)
+new_piece_plain New = (refl, refl)
+new_piece_plain Migrated = (refl, refl)
 
 abbrev pub size_text : List ℕ
 size_text = codes "UPDATE held SET size = ?2 WHERE id = ?1"
@@ -42,13 +47,15 @@ size_where = equals (col 1 0) (col 0 0) ∷ []
 abbrev pub size_terms : List Term
 size_terms = col 1 0 ∷ col 1 0 ∷ lit Null ∷ col 1 2 ∷ col 1 3 ∷ col 0 1 ∷ []
 
-abbrev pub size_query : Query
-size_query = over 6 size_where size_terms []
+abbrev pub size_query : Origin → Query
+size_query o = over (held_tree o) size_where size_terms []
 
-pub size_is : command_of (understood ledger_schema size_text) ≡ Update 3 (record { lets = []; body = size_query })
+pub size_is : (o : Origin) → command_of (understood (second_schema o) size_text) ≡ Update (held_place o) (record { lets = []; body = size_query o })
 unfolding understood everything
-size_is = refl
+size_is New = refl
+size_is Migrated = refl
 
-pub size_plain : IsPlain (understood ledger_schema size_text)
+pub size_plain : (o : Origin) → IsPlain (understood (second_schema o) size_text)
 unfolding understood everything
-size_plain = (refl, refl)
+size_plain New = (refl, refl)
+size_plain Migrated = (refl, refl)

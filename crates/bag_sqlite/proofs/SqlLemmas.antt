@@ -1,6 +1,6 @@
 -- Statements in sequence, in a transaction.
 use Rattle.std.proofs.Common.{ℕ, ◌≡◌, Bool, true, false, cond, Ok, Err, Result, OnOk, OnErr, IfErr, IfOk, MatchResult, IsTrue, List, arith, inl, inr, refl, subst, sym, ◌∙◌, ℤ}
-use Rattle.bag_sqlite.proofs.Words.{cases_Bool, cast, CommitsNothing, Error, ExecutesInside, Ghosts, HasCleanDisk, Held, inside_keeps, Int, Integer, KeepsCommit, MutBor, Null, Row, Spent, State, state, StoreFault, Survives, survives_then, unary, UsesStore, Value}
+use Rattle.bag_sqlite.proofs.Words.{cases_Bool, cast, CommitsNothing, CommitsNothingWithin, Error, ExecutesInside, Ghosts, HasCleanDisk, Held, inside_keeps, Int, Integer, KeepsCommit, MutBor, Null, Row, Spent, State, state, StoreFault, Survives, survives_then, unary, UsesStore, Value}
 
 pub on_ok : {A E P Q : Type 0} (r : Result A E) → (P → Q) → OnOk r P → OnOk r Q
 on_ok (Ok a) f h = f h
@@ -75,6 +75,20 @@ nothing_then {S} {g} {a} {b} {c} p q = record {
   commit = λ clean.
       let early : HasCleanDisk (state g b.now) = omega (arith, clean, q.survives.clean) in
       kept_then (state g a.now) (state g b.now) (state g c.now) (p.commit early) (q.commit clean);
+  survives = survives_both (state g a.now) (state g b.now) (state g c.now) p.survives q.survives;
+}
+
+-- in a transaction that no failure has ended
+pub within_transaction : {S : Type 0} {g : Ghosts S} {old new : MutBor (Held S)} → CommitsNothing g old new → CommitsNothingWithin g old new
+within_transaction {S} {g} {old} {new} kept = record { same_reference = kept.same_reference; commit = λ clean inside. kept.commit clean; survives = kept.survives }
+
+pub within_then : {S : Type 0} {g : Ghosts S} {a b c : MutBor (Held S)} → CommitsNothingWithin g a b → (HasCleanDisk (state g b.now) → IsTrue (state g a.now).in_transaction → IsTrue (state g b.now).in_transaction) → CommitsNothingWithin g b c
+    → CommitsNothingWithin g a c
+within_then {S} {g} {a} {b} {c} p inside q = record {
+  same_reference = q.same_reference ∙ p.same_reference;
+  commit = λ clean mode.
+      let early : HasCleanDisk (state g b.now) = omega (arith, clean, q.survives.clean) in
+      kept_then (state g a.now) (state g b.now) (state g c.now) (p.commit early mode) (q.commit clean (inside early mode));
   survives = survives_both (state g a.now) (state g b.now) (state g c.now) p.survives q.survives;
 }
 

@@ -1,17 +1,17 @@
 -- Storing a payload file in one transaction.
 use Rattle.std.proofs.Common.{◌≡◌, ◌≤◌, true, false, ℕ, ℤ, List, IsTrue, length, refl, subst, sym, arith}
-use Rattle.bag_sqlite.proofs.Words.{AreTablesOf, Awaits, Database, Ghosts, HasCleanDisk, HasContentMore, HasTransferRow, Held, HoldsLedger, in_pieces, IsUnderWay, IsWanted, KeepsCommit, LARGEST_ITEM, Ledger, OnlyQueries, sound_put, State, state, Survives, survives_begin, Trees, Want, with_item}
+use Rattle.bag_sqlite.proofs.Words.{AreTablesOf, Awaits, Database, Ghosts, HasCleanDisk, HasContentMore, HasTransferRow, Held, HoldsLedger, in_pieces, IsUnderWay, IsWanted, KeepsCommit, LARGEST_ITEM, Ledger, OnlyQueries, Origin, Second, sound_put, state, State, Survives, survives_begin, Trees, Want, with_item}
 use Rattle.bag_sqlite.proofs.CommitLemmas.{Prepares}
-use Rattle.bag_sqlite.proofs.HoldingLemmas.{held_tables}
+use Rattle.bag_sqlite.proofs.HoldingLemmas.{put_tables}
 use Rattle.bag_sqlite.proofs.MakingLemmas.{kept_since}
 use Rattle.bag_sqlite.proofs.ReadingLemmas.{same_shown, still_holds}
 use Rattle.bag_sqlite.proofs.SqlLemmas.{kept_then, survives_both}
 
-more_held : (old new : Trees) (ledger : Ledger) (name content : List ℕ) (want : Want) (number : ℤ) → AreTablesOf old ledger → HasTransferRow old name number → Awaits name want ledger
-    → HasContentMore old new number want.path.now content → AreTablesOf new (with_item ledger name want.path.now content)
-more_held old new ledger name content want number tables named awaits it =
-    subst (λ octets. AreTablesOf new (with_item ledger name want.path.now octets)) it.joined
-    (held_tables old new ledger name number (in_pieces it.number want.path.now it.pieces) tables named it.more it.cut awaits.not_held)
+more_held : {o : Origin} (old new : Trees) (ledger : Ledger) (name content : List ℕ) (want : Want) (number : ℤ) → AreTablesOf (Second o) old ledger → HasTransferRow old name number → Awaits name want ledger
+    → HasContentMore o old new number want.path.now content → AreTablesOf (Second o) new (with_item ledger name want.path.now content)
+more_held {o} old new ledger name content want number tables named awaits it =
+    subst (λ octets. AreTablesOf (Second o) new (with_item ledger name want.path.now octets)) it.joined
+    (put_tables old new ledger name number (in_pieces it.number want.path.now it.pieces) tables named it.more it.cut awaits.not_held)
 
 -- the number of the transfer was looked up before the transaction began
 module _ {S : Type 0} (g : Ghosts S) (old asked : Held S) (mid : State) (name : List ℕ) (want : Want) (number : ℤ) (content : List ℕ) where
@@ -23,7 +23,7 @@ module _ {S : Type 0} (g : Ghosts S) (old asked : Held S) (mid : State) (name : 
 
   pub prepares_put : (state g old).in_transaction ≡ false → OnlyQueries g old asked
       → (HasCleanDisk (state g asked) → (ledger : Ledger) → HoldsLedger (state g old) ledger → HasTransferRow (state g old).now.trees name number) → length content ≤ LARGEST_ITEM → IsWanted want content
-      → (HasCleanDisk mid → IsUnderWay begun → IsUnderWay mid × HasContentMore begun.now.trees mid.now.trees number want.path.now content) → (HasCleanDisk mid → IsTrue begun.in_transaction → IsTrue begun.is_open)
+      → (HasCleanDisk mid → (o : Origin) → IsUnderWay o begun → IsUnderWay o mid × HasContentMore o begun.now.trees mid.now.trees number want.path.now content) → (HasCleanDisk mid → IsTrue begun.in_transaction → IsTrue begun.is_open)
       → (HasCleanDisk mid → KeepsCommit begun mid) → Survives begun mid (λ _. ⊥) → Prepares g (Awaits name want) puts_it old mid
   prepares_put idle asks named within wanted written opened kept survives =
       let on = survives_begin g asked mid _ survives in
@@ -37,10 +37,11 @@ module _ {S : Type 0} (g : Ghosts S) (old asked : Held S) (mid : State) (name : 
             let was = asks.left (early clean) in
             let is_open = opened clean refl in
             let still = still_holds (state g old) (state g asked) ledger (early clean) was idle asks.survives holds in
-            let shows = still.shows is_open in
-            let same = same_shown (state g old) (state g asked) was idle is_open (holds.shows (was.was_open is_open)).committed in
+            let (o, shows) = still.shows is_open in
+            let same = same_shown (state g old) (state g asked) was idle is_open (holds.shows (was.was_open is_open)).1.committed in
             let row = subst (λ (d : Database). HasTransferRow d.trees name number) (sym same) (named (early clean) ledger holds) in
-            let it = written clean (record { mode = refl; schema_is = shows.schema_is; listed = shows.database.listed }) in (
+            let it = written clean o (record { mode = refl; schema_is = shows.schema_is; listed = shows.database.listed }) in (
+              o,
               it.0,
               record {
                 listed = it.0.listed;

@@ -2,12 +2,13 @@
 use Rattle.std.proofs.Common.{◌≡◌, ◌≤◌, ◌&&◌, ◌++◌, inl, inr, ℕ, ℤ, List, [], ◌∷◌, arith, codes, drop, false, length, length-append, map, min, pos, refl, sym, true, ap, subst, ◌∙◌}
 use Rattle.std.specs.Prelude.{IsPermutation}
 use Rattle.sqlite_sql.specs.Query.{counted, matches}
-use Rattle.bag_sqlite.specs.Adopting.{stray_items_text, stray_pieces_text, stray_tag_files_text, stray_transfers_text}
-use Rattle.bag_sqlite.proofs.Words.{AreTablesOf, Binary, binary, Blob, col, column, command_of, Compare, Database, end, enumerate_from, Eq, flat_map, Ghosts, Has, has_from_map, has_map, held_rows, holds, inner, Int, is_true, IsAnswer, IsPermutation-sym, IsPlain, item_row, items_in, Ledger, ledger_schema, list_all, Null, NumberedItem, NumberedTransfer, Output, output, overlay, piece_rows, reads_listing, Row, size_of, stray_texts, tag_rows, Tells, Term, Text, transfer_row, Trees, unary, understood, value_cmp-Text, without_rowids}
+use Rattle.bag_sqlite.specs.Adopting.{stray_items_text, stray_pieces_text, stray_tag_files_text, stray_transfers_text, stray_whole_items_text}
+use Rattle.bag_sqlite.proofs.Words.{binary, Binary, Blob, col, column, command_of, Compare, concat, Database, end, enumerate_from, Eq, First, first_schema, flat_map, format_of, Ghosts, Has, has_from_map, has_map, held_rows, held_tree, holds, HoldTransfers, inner, Int, is_true, IsAnswer, IsPermutation-sym, IsPlain, item_row, item_rows, items_in, Layout, Ledger, list_all, Null, NumberedItem, NumberedTransfer, Origin, output, Output, overlay, piece_rows, piece_tree, reads_listing, Row, Schema, schema_of, Second, second_schema, size_of, stray_item_texts, stray_texts, tag_rows, Tells, Term, Text, transfer_row, Trees, unary, understood, value_cmp-Text, without_rowids}
+use Rattle.bag_sqlite.proofs.LayoutLemmas.{held_seen, piece_seen}
 use Rattle.bag_sqlite.proofs.NamesLemmas.{drop_zero}
 use Rattle.bag_sqlite.proofs.OneLedger.{has_flat, has_from_flat, has_moved}
 use Rattle.bag_sqlite.proofs.PieceTold.{none_moved}
-use Rattle.bag_sqlite.proofs.StrayMeanings.{just_one, item_owner, meant, over_owned, piece_owner, stray_items, stray_items_is, stray_items_plain, stray_items_unlisted, stray_pieces, stray_pieces_is, stray_pieces_plain, stray_pieces_unlisted, stray_tag_files, stray_tag_files_is, stray_tag_files_plain, stray_tag_files_unlisted, stray_transfers, stray_transfers_is, stray_transfers_plain, stray_transfers_unlisted, tag_owner, with_owners}
+use Rattle.bag_sqlite.proofs.StrayMeanings.{just_one, item_owner, meant, over_owned, piece_owner, stray_items, stray_items_is, stray_items_plain, stray_items_unlisted, stray_pieces, stray_pieces_is, stray_pieces_plain, stray_pieces_unlisted, stray_tag_files, stray_tag_files_is, stray_tag_files_plain, stray_tag_files_unlisted, stray_transfers, stray_transfers_is, stray_transfers_plain, stray_transfers_unlisted, stray_whole_items, stray_whole_items_is, stray_whole_items_plain, stray_whole_items_unlisted, tag_owner, whole_owner, with_owners}
 use Rattle.bag_sqlite.proofs.ToldLemmas.{told_lists, told_reads}
 use Rattle.bag_sqlite.proofs.TransferLemmas.{row_of, row_there}
 use Rattle.bag_sqlite.proofs.TransferRows.{later}
@@ -85,11 +86,15 @@ item_proper : (item : NumberedItem) (t : NumberedTransfer) → IsProper stray_it
 unfolding binary unary
 item_proper item t = rw (value_cmp-Text (codes "integer") (codes "integer"), value_cmp-Text (codes "text") (codes "text")) refl
 
+whole_proper : (item : NumberedItem) (t : NumberedTransfer) → IsProper stray_whole_items (Int item.number ∷ Int t.number ∷ Text item.path ∷ Int (pos (size_of item)) ∷ Blob (concat item.pieces) ∷ [])
+unfolding binary unary
+whole_proper item t = rw (value_cmp-Text (codes "integer") (codes "integer"), value_cmp-Text (codes "text") (codes "text")) refl
+
 piece_proper : (row : Row) (n : ℤ) → column row 2 ≡ Int n → IsProper stray_pieces row
 unfolding binary unary
 piece_proper row n number = rw (number, value_cmp-Text (codes "integer") (codes "integer")) refl
 
-module _ (trees : Trees) (ledger : Ledger) (tables : AreTablesOf trees ledger) where
+module _ {l : Layout} (trees : Trees) (ledger : Ledger) (tables : HoldTransfers l trees ledger) where
   tag_owned : (row : Row) → Has (trees 4) row → IsOwned (trees 2) tag_owner stray_tag_files row
   tag_owned row has =
       let by_transfer = has_from_flat tag_rows tables.transfers (drop 1 row)
@@ -103,9 +108,10 @@ module _ (trees : Trees) (ledger : Ledger) (tables : AreTablesOf trees ledger) w
         owns = owns_at 1 t.number row (transfer_row t) refl (sym (later row 0) ∙ ap (λ r. column r 0) (sym by_file.2));
       }
 
-  item_owned : (row : Row) → Has (trees 6) row → IsOwned (trees 2) item_owner stray_items row
+module _ {o : Origin} (trees : Trees) (ledger : Ledger) (tables : HoldTransfers (Second o) trees ledger) where
+  item_owned : (row : Row) → Has (trees (held_tree o)) row → IsOwned (trees 2) item_owner stray_items row
   item_owned row has =
-      let by_transfer = has_from_flat held_rows tables.transfers row (has_moved (trees 6) (flat_map held_rows tables.transfers) row (IsPermutation-sym _ _ tables.rows.held) has) in
+      let by_transfer = has_from_flat held_rows tables.transfers row (has_moved (trees (held_tree o)) (flat_map held_rows tables.transfers) row (IsPermutation-sym _ _ tables.rows.items.held) has) in
       let t = by_transfer.0 in
       let by_item = has_from_map (λ (item : NumberedItem). item_row item.number t.number item.path (size_of item)) t.items row by_transfer.2 in
       record {
@@ -115,10 +121,10 @@ module _ (trees : Trees) (ledger : Ledger) (tables : AreTablesOf trees ledger) w
         owns = owns_at 2 t.number row (transfer_row t) refl (ap (λ r. column r 2) (sym by_item.2));
       }
 
-  piece_owned : (row : Row) → Has (trees 8) row → IsOwned (trees 6) piece_owner stray_pieces row
+  piece_owned : (row : Row) → Has (trees (piece_tree o)) row → IsOwned (trees (held_tree o)) piece_owner stray_pieces row
   piece_owned row has =
       let by_item = has_from_flat piece_rows (items_in tables.transfers) (drop 1 row)
-      (has_moved (without_rowids (trees 8)) (flat_map piece_rows (items_in tables.transfers)) (drop 1 row) (IsPermutation-sym _ _ tables.rows.pieces) (has_map (drop 1) (trees 8) row has)) in
+      (has_moved (without_rowids (trees (piece_tree o))) (flat_map piece_rows (items_in tables.transfers)) (drop 1 row) (IsPermutation-sym _ _ tables.rows.items.pieces) (has_map (drop 1) (trees (piece_tree o)) row has)) in
       let item = by_item.0 in
       let by_piece = has_from_map (λ (piece : ℕ × List ℕ). Int item.number ∷ Int (pos piece.0) ∷ Blob piece.1 ∷ []) (enumerate_from 0 item.pieces) (drop 1 row) by_item.2 in
       let by_transfer = has_from_flat (λ (t : NumberedTransfer). t.items) tables.transfers item by_item.1 in
@@ -127,14 +133,27 @@ module _ (trees : Trees) (ledger : Ledger) (tables : AreTablesOf trees ledger) w
       record {
         proper = piece_proper row (pos by_piece.0.0) (sym (later row 1) ∙ ap (λ r. column r 1) (sym by_piece.2));
         by = held;
-        there = has_moved (flat_map held_rows tables.transfers) (trees 6) held tables.rows.held
+        there = has_moved (flat_map held_rows tables.transfers) (trees (held_tree o)) held tables.rows.items.held
             (has_flat held_rows tables.transfers t held by_transfer.1 (has_map (λ (i : NumberedItem). item_row i.number t.number i.path (size_of i)) t.items item by_transfer.2));
         owns = owns_at 1 item.number row held refl (sym (later row 0) ∙ ap (λ r. column r 0) (sym by_piece.2));
       }
 
+module _ (trees : Trees) (ledger : Ledger) (tables : HoldTransfers First trees ledger) where
+  whole_owned : (row : Row) → Has (trees 6) row → IsOwned (trees 2) whole_owner stray_whole_items row
+  whole_owned row has =
+      let by_transfer = has_from_flat item_rows tables.transfers row (has_moved (trees 6) (flat_map item_rows tables.transfers) row (IsPermutation-sym _ _ tables.rows.items) has) in
+      let t = by_transfer.0 in
+      let by_item = has_from_map (λ (item : NumberedItem). Int item.number ∷ Int t.number ∷ Text item.path ∷ Int (pos (size_of item)) ∷ Blob (concat item.pieces) ∷ []) t.items row by_transfer.2 in
+      record {
+        proper = subst (IsProper stray_whole_items) by_item.2 (whole_proper by_item.0 t);
+        by = transfer_row t;
+        there = row_there trees ledger tables t by_transfer.1;
+        owns = owns_at 1 t.number row (transfer_row t) refl (ap (λ r. column r 1) (sym by_item.2));
+      }
+
 -- WHAT IS TOLD
 
-module _ {S : Type 0} (g : Ghosts S) (db : Database) (ledger : Ledger) (has : db.schema ≡ ledger_schema) (tables : AreTablesOf db.trees ledger) where
+module _ {S : Type 0} {l : Layout} (g : Ghosts S) (db : Database) (ledger : Ledger) (has : db.schema ≡ schema_of l) (tables : HoldTransfers l db.trees ledger) where
   no_transfer : (rows : List Row) → Lists 2 stray_transfers just_one [] [] (db.trees 2) rows → rows ≡ []
   no_transfer [] lists = refl
   no_transfer (row ∷ rows) lists =
@@ -143,28 +162,36 @@ module _ {S : Type 0} (g : Ghosts S) (db : Database) (ledger : Ledger) (has : db
       let no : passes stray_transfers [] from.0 ≡ false = ap (passes stray_transfers []) (sym it.2) ∙ transfer_proper it.0 in
       absurd (let e : true ≡ false = sym from.2 ∙ no in cc)
 
-  no_strays : (sql : List ℕ) (tree parent : ℕ) (owner stray : List Term) → command_of (understood ledger_schema sql) ≡ meant (over_owned tree parent owner stray) → IsPlain (understood ledger_schema sql)
-      → reads_listing ledger_schema sql ≡ false → ((row : Row) → Has (overlay db.trees [] tree) row → IsOwned (overlay db.trees [] parent) owner stray row) → (rows : List Row) → Tells g db sql [] rows → rows ≡ []
+  no_strays : (sql : List ℕ) (tree parent : ℕ) (owner stray : List Term) → command_of (understood (schema_of l) sql) ≡ meant (over_owned tree parent owner stray) → IsPlain (understood (schema_of l) sql)
+      → reads_listing (schema_of l) sql ≡ false → ((row : Row) → Has (overlay db.trees [] tree) row → IsOwned (overlay db.trees [] parent) owner stray row) → (rows : List Row) → Tells g db sql [] rows → rows ≡ []
   no_strays sql tree parent owner stray is plain unlisted owned rows told =
-      let got = told_reads g db has sql [] rows (meant (over_owned tree parent owner stray)) is plain unlisted told in
+      let got = told_reads g (schema_of l) db has sql [] rows (meant (over_owned tree parent owner stray)) is plain unlisted told in
       nothing_shown (overlay db.trees []) tree parent owner stray rows owned (got.answer Null)
 
-  -- each of these queries can be understood, and shows nothing
-  pub stray_told : (text : List ℕ) → Has stray_texts text → IsPlain (understood ledger_schema text) × ((rows : List Row) → Tells g db text [] rows → rows ≡ [])
-  stray_told text (inl is) = subst (λ sql. IsPlain (understood ledger_schema sql) × ((rows : List Row) → Tells g db sql [] rows → rows ≡ [])) is (
-    stray_transfers_plain,
-    λ rows told. no_transfer rows (told_lists g db has 2 stray_transfers just_one [] stray_transfers_text [] rows _ stray_transfers_is stray_transfers_plain stray_transfers_unlisted refl told),
-  )
-  stray_told text (inr (inl is)) = subst (λ sql. IsPlain (understood ledger_schema sql) × ((rows : List Row) → Tells g db sql [] rows → rows ≡ [])) is (
-    stray_tag_files_plain,
-    no_strays stray_tag_files_text 4 2 tag_owner stray_tag_files stray_tag_files_is stray_tag_files_plain stray_tag_files_unlisted (tag_owned db.trees ledger tables),
-  )
-  stray_told text (inr (inr (inl is))) = subst (λ sql. IsPlain (understood ledger_schema sql) × ((rows : List Row) → Tells g db sql [] rows → rows ≡ [])) is (
-    stray_items_plain,
-    no_strays stray_items_text 6 2 item_owner stray_items stray_items_is stray_items_plain stray_items_unlisted (item_owned db.trees ledger tables),
-  )
-  stray_told text (inr (inr (inr (inl is)))) = subst (λ sql. IsPlain (understood ledger_schema sql) × ((rows : List Row) → Tells g db sql [] rows → rows ≡ [])) is (
-    stray_pieces_plain,
-    no_strays stray_pieces_text 8 6 piece_owner stray_pieces stray_pieces_is stray_pieces_plain stray_pieces_unlisted (piece_owned db.trees ledger tables),
-  )
-  stray_told text (inr (inr (inr (inr none)))) = absurd none
+-- the query can be understood, and shows nothing
+abbrev ShowsNone : {S : Type 0} → Ghosts S → Database → List ℕ → Type 0
+ShowsNone g db sql = IsPlain (understood db.schema sql) × ((rows : List Row) → Tells g db sql [] rows → rows ≡ [])
+
+by_schema : {S : Type 0} (g : Ghosts S) (schema : Schema) (db : Database) (sql : List ℕ) → db.schema ≡ schema → IsPlain (understood schema sql) → ((rows : List Row) → Tells g db sql [] rows → rows ≡ []) → ShowsNone g db sql
+by_schema g schema db sql has plain none = (subst (λ s. IsPlain (understood s sql)) (sym has) plain, none)
+
+-- the queries for the rows of payload files
+items_told : {S : Type 0} {l : Layout} (g : Ghosts S) (db : Database) (ledger : Ledger) (has : db.schema ≡ schema_of l) (tables : HoldTransfers l db.trees ledger) (text : List ℕ) → Has (stray_item_texts (format_of l)) text → ShowsNone g db text
+items_told {S} {l = First} g db ledger has tables text (inl is) = subst (ShowsNone g db) is (by_schema g first_schema db stray_whole_items_text has stray_whole_items_plain
+    (no_strays g db ledger has tables stray_whole_items_text 6 2 whole_owner stray_whole_items stray_whole_items_is stray_whole_items_plain stray_whole_items_unlisted (whole_owned db.trees ledger tables)))
+items_told {S} {l = First} g db ledger has tables text (inr none) = absurd none
+items_told {S} {l = Second o} g db ledger has tables text (inl is) = subst (ShowsNone g db) is (by_schema g (second_schema o) db stray_items_text has (stray_items_plain o)
+    (no_strays g db ledger has tables stray_items_text (held_tree o) 2 item_owner stray_items (stray_items_is o) (stray_items_plain o) (stray_items_unlisted o)
+    (λ row there. item_owned db.trees ledger tables row (subst (λ rows. Has rows row) (held_seen o db.trees) there))))
+items_told {S} {l = Second o} g db ledger has tables text (inr (inl is)) = subst (ShowsNone g db) is (by_schema g (second_schema o) db stray_pieces_text has (stray_pieces_plain o)
+    (no_strays g db ledger has tables stray_pieces_text (piece_tree o) (held_tree o) piece_owner stray_pieces (stray_pieces_is o) (stray_pieces_plain o) (stray_pieces_unlisted o)
+    (λ row there. subst (λ rows. IsOwned rows piece_owner stray_pieces row) (sym (held_seen o db.trees)) (piece_owned db.trees ledger tables row (subst (λ rows. Has rows row) (piece_seen o db.trees) there)))))
+items_told {S} {l = Second o} g db ledger has tables text (inr (inr none)) = absurd none
+
+-- each of these queries can be understood, and shows nothing
+pub stray_told : {S : Type 0} {l : Layout} (g : Ghosts S) (db : Database) (ledger : Ledger) (has : db.schema ≡ schema_of l) (tables : HoldTransfers l db.trees ledger) (text : List ℕ) → Has (stray_texts (format_of l)) text → ShowsNone g db text
+stray_told {S} {l} g db ledger has tables text (inl is) = subst (ShowsNone g db) is (by_schema g (schema_of l) db stray_transfers_text has (stray_transfers_plain l)
+    (λ rows told. no_transfer g db ledger has tables rows (told_lists g (schema_of l) db has 2 stray_transfers just_one [] stray_transfers_text [] rows _ (stray_transfers_is l) (stray_transfers_plain l) (stray_transfers_unlisted l) refl told)))
+stray_told {S} {l} g db ledger has tables text (inr (inl is)) = subst (ShowsNone g db) is (by_schema g (schema_of l) db stray_tag_files_text has (stray_tag_files_plain l)
+    (no_strays g db ledger has tables stray_tag_files_text 4 2 tag_owner stray_tag_files (stray_tag_files_is l) (stray_tag_files_plain l) (stray_tag_files_unlisted l) (tag_owned db.trees ledger tables)))
+stray_told {S} {l} g db ledger has tables text (inr (inr one)) = items_told g db ledger has tables text one

@@ -5,8 +5,8 @@ use Rattle.sqlite_sql.specs.Term.{op1}
 use Rattle.sqlite_sql.specs.declared.ops.BinaryOp.TheVariants.{Or}
 use Rattle.sqlite_sql.specs.declared.ops.CompareOp.TheVariants.{Ne}
 use Rattle.sqlite_sql.specs.declared.ops.UnaryOp.TheVariants.{Not, TypeOf}
-use Rattle.bag_sqlite.specs.Adopting.{stray_items_text, stray_pieces_text, stray_tag_files_text, stray_transfers_text}
-use Rattle.bag_sqlite.proofs.Words.{Binary, col, Command, command_of, Compare, end, everything, inner, Int, IsPlain, ledger_schema, lit, op2, Query, reads_listing, Select, Term, Text, understood}
+use Rattle.bag_sqlite.specs.Adopting.{stray_items_text, stray_pieces_text, stray_tag_files_text, stray_transfers_text, stray_whole_items_text}
+use Rattle.bag_sqlite.proofs.Words.{Binary, col, Command, command_of, Compare, end, everything, First, first_schema, held_tree, inner, Int, IsPlain, Layout, lit, Migrated, New, op2, Origin, piece_tree, Query, reads_listing, schema_of, Second, second_schema, Select, Term, Text, understood}
 use Rattle.bag_sqlite.proofs.WhereLemmas.{equals, over}
 
 -- the value has another type
@@ -51,17 +51,23 @@ stray_transfers = either (is_other (col 1 0) (codes "integer")) (is_other (col 1
 abbrev pub stray_transfers_query : Query
 stray_transfers_query = over 2 stray_transfers just_one []
 
-pub stray_transfers_is : command_of (understood ledger_schema stray_transfers_text) ≡ meant stray_transfers_query
+pub stray_transfers_is : (l : Layout) → command_of (understood (schema_of l) stray_transfers_text) ≡ meant stray_transfers_query
 unfolding understood everything
-stray_transfers_is = refl
+stray_transfers_is First = refl
+stray_transfers_is (Second New) = refl
+stray_transfers_is (Second Migrated) = refl
 
-pub stray_transfers_plain : IsPlain (understood ledger_schema stray_transfers_text)
+pub stray_transfers_plain : (l : Layout) → IsPlain (understood (schema_of l) stray_transfers_text)
 unfolding understood everything
-stray_transfers_plain = (refl, refl)
+stray_transfers_plain First = (refl, refl)
+stray_transfers_plain (Second New) = (refl, refl)
+stray_transfers_plain (Second Migrated) = (refl, refl)
 
-pub stray_transfers_unlisted : reads_listing ledger_schema stray_transfers_text ≡ false
+pub stray_transfers_unlisted : (l : Layout) → reads_listing (schema_of l) stray_transfers_text ≡ false
 unfolding everything
-stray_transfers_unlisted = refl
+stray_transfers_unlisted First = refl
+stray_transfers_unlisted (Second New) = refl
+stray_transfers_unlisted (Second Migrated) = refl
 
 -- TAG FILES
 
@@ -74,17 +80,23 @@ stray_tag_files = either (either (is_other (col 1 2) (codes "text")) (is_other (
 abbrev pub stray_tag_files_query : Query
 stray_tag_files_query = over_owned 4 2 tag_owner stray_tag_files
 
-pub stray_tag_files_is : command_of (understood ledger_schema stray_tag_files_text) ≡ meant stray_tag_files_query
+pub stray_tag_files_is : (l : Layout) → command_of (understood (schema_of l) stray_tag_files_text) ≡ meant stray_tag_files_query
 unfolding understood everything
-stray_tag_files_is = refl
+stray_tag_files_is First = refl
+stray_tag_files_is (Second New) = refl
+stray_tag_files_is (Second Migrated) = refl
 
-pub stray_tag_files_plain : IsPlain (understood ledger_schema stray_tag_files_text)
+pub stray_tag_files_plain : (l : Layout) → IsPlain (understood (schema_of l) stray_tag_files_text)
 unfolding understood everything
-stray_tag_files_plain = (refl, refl)
+stray_tag_files_plain First = (refl, refl)
+stray_tag_files_plain (Second New) = (refl, refl)
+stray_tag_files_plain (Second Migrated) = (refl, refl)
 
-pub stray_tag_files_unlisted : reads_listing ledger_schema stray_tag_files_text ≡ false
+pub stray_tag_files_unlisted : (l : Layout) → reads_listing (schema_of l) stray_tag_files_text ≡ false
 unfolding everything
-stray_tag_files_unlisted = refl
+stray_tag_files_unlisted First = refl
+stray_tag_files_unlisted (Second New) = refl
+stray_tag_files_unlisted (Second Migrated) = refl
 
 -- PAYLOAD FILES
 
@@ -95,20 +107,46 @@ abbrev pub stray_items : List Term
 stray_items =
     either (either (either (is_other (col 1 0) (codes "integer")) (is_other (col 1 3) (codes "text"))) (is_other (col 1 4) (codes "integer"))) unowned ∷ []
 
-abbrev pub stray_items_query : Query
-stray_items_query = over_owned 6 2 item_owner stray_items
+abbrev pub stray_items_query : Origin → Query
+stray_items_query o = over_owned (held_tree o) 2 item_owner stray_items
 
-pub stray_items_is : command_of (understood ledger_schema stray_items_text) ≡ meant stray_items_query
+pub stray_items_is : (o : Origin) → command_of (understood (second_schema o) stray_items_text) ≡ meant (stray_items_query o)
 unfolding understood everything
-stray_items_is = refl
+stray_items_is New = refl
+stray_items_is Migrated = refl
 
-pub stray_items_plain : IsPlain (understood ledger_schema stray_items_text)
+pub stray_items_plain : (o : Origin) → IsPlain (understood (second_schema o) stray_items_text)
 unfolding understood everything
-stray_items_plain = (refl, refl)
+stray_items_plain New = (refl, refl)
+stray_items_plain Migrated = (refl, refl)
 
-pub stray_items_unlisted : reads_listing ledger_schema stray_items_text ≡ false
+pub stray_items_unlisted : (o : Origin) → reads_listing (second_schema o) stray_items_text ≡ false
 unfolding everything
-stray_items_unlisted = refl
+stray_items_unlisted New = refl
+stray_items_unlisted Migrated = refl
+
+-- THE SAME IN FORMAT 1
+
+abbrev pub whole_owner : List Term
+whole_owner = equals (col 2 0) (col 1 1) ∷ []
+
+abbrev pub stray_whole_items : List Term
+stray_whole_items = either (either (is_other (col 1 2) (codes "text")) (is_other (col 1 3) (codes "integer"))) unowned ∷ []
+
+abbrev pub stray_whole_items_query : Query
+stray_whole_items_query = over_owned 6 2 whole_owner stray_whole_items
+
+pub stray_whole_items_is : command_of (understood first_schema stray_whole_items_text) ≡ meant stray_whole_items_query
+unfolding understood everything
+stray_whole_items_is = refl
+
+pub stray_whole_items_plain : IsPlain (understood first_schema stray_whole_items_text)
+unfolding understood everything
+stray_whole_items_plain = (refl, refl)
+
+pub stray_whole_items_unlisted : reads_listing first_schema stray_whole_items_text ≡ false
+unfolding everything
+stray_whole_items_unlisted = refl
 
 -- PIECES
 
@@ -118,17 +156,20 @@ piece_owner = equals (col 2 0) (col 1 1) ∷ []
 abbrev pub stray_pieces : List Term
 stray_pieces = either (is_other (col 1 2) (codes "integer")) unowned ∷ []
 
-abbrev pub stray_pieces_query : Query
-stray_pieces_query = over_owned 8 6 piece_owner stray_pieces
+abbrev pub stray_pieces_query : Origin → Query
+stray_pieces_query o = over_owned (piece_tree o) (held_tree o) piece_owner stray_pieces
 
-pub stray_pieces_is : command_of (understood ledger_schema stray_pieces_text) ≡ meant stray_pieces_query
+pub stray_pieces_is : (o : Origin) → command_of (understood (second_schema o) stray_pieces_text) ≡ meant (stray_pieces_query o)
 unfolding understood everything
-stray_pieces_is = refl
+stray_pieces_is New = refl
+stray_pieces_is Migrated = refl
 
-pub stray_pieces_plain : IsPlain (understood ledger_schema stray_pieces_text)
+pub stray_pieces_plain : (o : Origin) → IsPlain (understood (second_schema o) stray_pieces_text)
 unfolding understood everything
-stray_pieces_plain = (refl, refl)
+stray_pieces_plain New = (refl, refl)
+stray_pieces_plain Migrated = (refl, refl)
 
-pub stray_pieces_unlisted : reads_listing ledger_schema stray_pieces_text ≡ false
+pub stray_pieces_unlisted : (o : Origin) → reads_listing (second_schema o) stray_pieces_text ≡ false
 unfolding everything
-stray_pieces_unlisted = refl
+stray_pieces_unlisted New = refl
+stray_pieces_unlisted Migrated = refl

@@ -1,6 +1,6 @@
 -- The transfer with a name, in the ledger and among the rows.
 use Rattle.std.proofs.Common.{◌≡◌, ◌&&◌, ℕ, List, [], ◌∷◌, Bool, true, false, Option, Some, None, cond, inl, inr, map, refl, sym, ap, subst, ◌∙◌, slice_index_or, MatchOption, ℤ}
-use Rattle.bag_sqlite.proofs.Words.{AreRising, AreTablesOf, bytes_eq, bytes_eq-Decides, col, column, Has, has_from_map, has_map, HasTransferRow, Int, is_eq-slice_cmp, IsDistinct, IsDistinct-from_sorted, IsPermutation-sym, keys_of, Ledger, ledger_schema, lookup, lookup_from_place, nat_cmp, nat_list_eq_equiv, Null, NumberedTransfer, place_of_has, reads_as, Row, same_Some, Shown, slice_cmp, State, Term, Text, Transfer, transfer_of, transfer_row, Trees, without_number}
+use Rattle.bag_sqlite.proofs.Words.{AreRising, bytes_eq, bytes_eq-Decides, col, column, Has, has_from_map, has_map, HasTransferRow, HoldTransfers, Int, is_eq-slice_cmp, IsDistinct, IsDistinct-from_sorted, IsPermutation-sym, keys_of, Layout, Ledger, lookup, lookup_from_place, nat_cmp, nat_list_eq_equiv, Null, NumberedTransfer, place_of_has, reads_as, Row, same_Some, schema_of, Shown, slice_cmp, State, Term, Text, Transfer, transfer_of, transfer_row, Trees, without_number}
 use Rattle.bag_sqlite.proofs.OneLedger.{has_moved}
 use Rattle.bag_sqlite.proofs.TransferMeanings.{number_command, number_is, number_plain, number_text, number_unlisted}
 use Rattle.bag_sqlite.proofs.WhereLemmas.{Lists, answer_lists, equal_texts, equals, has_from_shown, has_shown, passes}
@@ -26,7 +26,7 @@ entry_found (e ∷ es) key x here = found_by (bytes_eq key e.0) key x e es refl 
 
 -- TRANSFERS AND THEIR NUMBERS
 
-module _ (trees : Trees) (ledger : Ledger) (tables : AreTablesOf trees ledger) where
+module _ {l : Layout} (trees : Trees) (ledger : Ledger) (tables : HoldTransfers l trees ledger) where
   -- every transfer of the ledger has a number
   pub numbered : (name : List ℕ) (transfer : Transfer) → transfer_of ledger name ≡ Some transfer → (t : NumberedTransfer) × Has tables.transfers t × (without_number t ≡ (name, transfer))
   numbered name transfer there =
@@ -65,11 +65,11 @@ alone false = refl
 name_tested : (name : List ℕ) (t : NumberedTransfer) → passes named (Text name ∷ []) (transfer_row t) ≡ bytes_eq t.name name
 name_tested name t = alone _ ∙ equal_texts t.name name
 
-module _ (s new : State) (rows : List Row) (ledger : Ledger) (name : List ℕ) (has : s.now.schema ≡ ledger_schema) (tables : AreTablesOf s.now.trees ledger)
+module _ {l : Layout} (s new : State) (rows : List Row) (ledger : Ledger) (name : List ℕ) (has : s.now.schema ≡ schema_of l) (tables : HoldTransfers l s.now.trees ledger)
     (shown : Shown number_text (Text name ∷ []) s new rows) where
   lists : Lists 2 named (col 1 0 ∷ []) [] (Text name ∷ []) (s.now.trees 2) rows
   lists =
-      let got = reads_as number_text (Text name ∷ []) s new ledger_schema has number_command number_is number_plain number_unlisted rows shown in
+      let got = reads_as number_text (Text name ∷ []) s new (schema_of l) has number_command (number_is l) (number_plain l) (number_unlisted l) rows shown in
       answer_lists 2 named (col 1 0 ∷ []) [] (Text name ∷ []) s.now.trees rows (got.answer Null) refl
 
   -- a transfer with this name would be shown

@@ -1,6 +1,6 @@
 -- The meanings of the queries for a transfer.
 use Rattle.std.proofs.Common.{◌≡◌, ℕ, List, [], ◌∷◌, codes, false, refl}
-use Rattle.bag_sqlite.proofs.Words.{ascending, Binary, col, Command, command_of, everything, IsPlain, ledger_schema, Query, reads_listing, Select, understood}
+use Rattle.bag_sqlite.proofs.Words.{ascending, Binary, col, Command, command_of, everything, First, held_tree, IsPlain, Layout, Migrated, New, Origin, Query, reads_listing, schema_of, Second, second_schema, Select, understood}
 use Rattle.bag_sqlite.proofs.WhereLemmas.{equals, over}
 
 abbrev pub number_text : List ℕ
@@ -13,17 +13,23 @@ number_query = over 2 (equals (col 1 2) (col 0 0) ∷ []) (col 1 0 ∷ []) []
 abbrev pub number_command : Command
 number_command = Select (record { lets = []; body = number_query }) (codes "id" ∷ [])
 
-pub number_is : command_of (understood ledger_schema number_text) ≡ number_command
+pub number_is : (l : Layout) → command_of (understood (schema_of l) number_text) ≡ number_command
 unfolding understood everything
-number_is = refl
+number_is First = refl
+number_is (Second New) = refl
+number_is (Second Migrated) = refl
 
-pub number_plain : IsPlain (understood ledger_schema number_text)
+pub number_plain : (l : Layout) → IsPlain (understood (schema_of l) number_text)
 unfolding understood everything
-number_plain = (refl, refl)
+number_plain First = (refl, refl)
+number_plain (Second New) = (refl, refl)
+number_plain (Second Migrated) = (refl, refl)
 
-pub number_unlisted : reads_listing ledger_schema number_text ≡ false
+pub number_unlisted : (l : Layout) → reads_listing (schema_of l) number_text ≡ false
 unfolding everything
-number_unlisted = refl
+number_unlisted First = refl
+number_unlisted (Second New) = refl
+number_unlisted (Second Migrated) = refl
 
 abbrev pub tags_text : List ℕ
 tags_text = codes "SELECT path, body FROM tag WHERE transfer = ?1 ORDER BY path"
@@ -35,36 +41,45 @@ tags_query = over 4 (equals (col 1 1) (col 0 0) ∷ []) (col 1 2 ∷ col 1 3 ∷
 abbrev pub tags_command : Command
 tags_command = Select (record { lets = []; body = tags_query }) (codes "path" ∷ codes "body" ∷ [])
 
-pub tags_is : command_of (understood ledger_schema tags_text) ≡ tags_command
+pub tags_is : (l : Layout) → command_of (understood (schema_of l) tags_text) ≡ tags_command
 unfolding understood everything
-tags_is = refl
+tags_is First = refl
+tags_is (Second New) = refl
+tags_is (Second Migrated) = refl
 
-pub tags_plain : IsPlain (understood ledger_schema tags_text)
+pub tags_plain : (l : Layout) → IsPlain (understood (schema_of l) tags_text)
 unfolding understood everything
-tags_plain = (refl, refl)
+tags_plain First = (refl, refl)
+tags_plain (Second New) = (refl, refl)
+tags_plain (Second Migrated) = (refl, refl)
 
-pub tags_unlisted : reads_listing ledger_schema tags_text ≡ false
+pub tags_unlisted : (l : Layout) → reads_listing (schema_of l) tags_text ≡ false
 unfolding everything
-tags_unlisted = refl
+tags_unlisted First = refl
+tags_unlisted (Second New) = refl
+tags_unlisted (Second Migrated) = refl
 
 abbrev pub sizes_text : List ℕ
 sizes_text = codes "SELECT path, size FROM held WHERE transfer = ?1 ORDER BY path"
 
 -- the payload files of the transfer with the given number
-abbrev pub sizes_query : Query
-sizes_query = over 6 (equals (col 1 2) (col 0 0) ∷ []) (col 1 3 ∷ col 1 4 ∷ []) ((col 1 3, ascending Binary) ∷ [])
+abbrev pub sizes_query : Origin → Query
+sizes_query o = over (held_tree o) (equals (col 1 2) (col 0 0) ∷ []) (col 1 3 ∷ col 1 4 ∷ []) ((col 1 3, ascending Binary) ∷ [])
 
-abbrev pub sizes_command : Command
-sizes_command = Select (record { lets = []; body = sizes_query }) (codes "path" ∷ codes "size" ∷ [])
+abbrev pub sizes_command : Origin → Command
+sizes_command o = Select (record { lets = []; body = sizes_query o }) (codes "path" ∷ codes "size" ∷ [])
 
-pub sizes_is : command_of (understood ledger_schema sizes_text) ≡ sizes_command
+pub sizes_is : (o : Origin) → command_of (understood (second_schema o) sizes_text) ≡ sizes_command o
 unfolding understood everything
-sizes_is = refl
+sizes_is New = refl
+sizes_is Migrated = refl
 
-pub sizes_plain : IsPlain (understood ledger_schema sizes_text)
+pub sizes_plain : (o : Origin) → IsPlain (understood (second_schema o) sizes_text)
 unfolding understood everything
-sizes_plain = (refl, refl)
+sizes_plain New = (refl, refl)
+sizes_plain Migrated = (refl, refl)
 
-pub sizes_unlisted : reads_listing ledger_schema sizes_text ≡ false
+pub sizes_unlisted : (o : Origin) → reads_listing (second_schema o) sizes_text ≡ false
 unfolding everything
-sizes_unlisted = refl
+sizes_unlisted New = refl
+sizes_unlisted Migrated = refl

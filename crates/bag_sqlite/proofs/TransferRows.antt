@@ -1,8 +1,9 @@
 -- The rows of a transfer's tag files and payload files, as they are shown and as they are read in sequence.
 use Rattle.std.proofs.Common.{◌≡◌, ◌≢◌, ◌<◌, ◌+◌, ◌&&◌, ℕ, suc, List, [], ◌∷◌, ◌++◌, Bool, true, false, Some, Less, Greater, append-nil, drop, get_or, inl, inr, length, map, take, pos, refl, sym, ap, ap₂, subst, ◌∙◌, arith, ℤ, unwrap_or}
-use Rattle.bag_sqlite.proofs.Words.{all_has, all_map, all_weaker, AllByRecursion, AreApart, AreRising, AreTablesOf, ascending, Binary, binary, Blob, bytes, col, Compare, concat, Eq, Files, filter, filter-append, filter-map, filter_all, filter_none, filter_same, flat_map, Has, has_map, HasTransferRow, held_rows, insert_entry, Int, int_eq, is_true, IsPermutation-filter, IsPermutation-map, IsStrictlySortedBy, items_of, ItemSize, keys_of, Ledger, ledger_schema, map_same, map_twice, match_ordering, nat_cmp, nat_list_cmp_total, Null, NumberedItem, NumberedTransfer, option_map, ordering_reverse, Output, reads_as, Row, Shown, size_of, size_shown, sizes_of, slice_cmp, State, tag_rows, tag_shown, tags_of, take-suc, Term, Text, Transfer, Value, without_rowids, column}
+use Rattle.bag_sqlite.proofs.Words.{all_has, all_map, all_weaker, AllByRecursion, AreApart, AreRising, ascending, binary, Binary, Blob, bytes, col, column, Compare, concat, Eq, Files, filter, filter-append, filter-map, filter_all, filter_none, filter_same, flat_map, Has, has_map, HasTransferRow, held_rows, held_tree, HoldTransfers, insert_entry, Int, int_eq, is_true, IsPermutation-filter, IsPermutation-map, IsStrictlySortedBy, items_of, ItemSize, keys_of, Layout, Ledger, map_same, map_twice, match_ordering, nat_cmp, nat_list_cmp_total, Null, NumberedItem, NumberedTransfer, option_map, ordering_reverse, Origin, Output, reads_as, Row, schema_of, Second, second_schema, Shown, size_of, size_shown, sizes_of, slice_cmp, State, tag_rows, tag_shown, tags_of, take-suc, Term, Text, Transfer, Value, without_rowids}
 use Rattle.std.specs.Prelude.{IsPermutation}
 use Rattle.bag_sqlite.proofs.CutLemmas.{length_concat}
+use Rattle.bag_sqlite.proofs.LayoutLemmas.{held_seen}
 use Rattle.bag_sqlite.proofs.NamesLemmas.{drop_zero}
 use Rattle.bag_sqlite.proofs.OneLedger.{has_right, items_rise, tags_rise}
 use Rattle.bag_sqlite.proofs.TransferLemmas.{alone, transfer_at}
@@ -122,7 +123,7 @@ number_tested t n path body b is = alone _ ∙ equal_numbers t.number n ∙ is
 abbrev tags_shown_of : List Term
 tags_shown_of = col 1 2 ∷ col 1 3 ∷ []
 
-module _ (s new : State) (rows : List Row) (ledger : Ledger) (name : List ℕ) (n : ℤ) (has : s.now.schema ≡ ledger_schema) (tables : AreTablesOf s.now.trees ledger)
+module _ {l : Layout} (s new : State) (rows : List Row) (ledger : Ledger) (name : List ℕ) (n : ℤ) (has : s.now.schema ≡ schema_of l) (tables : HoldTransfers l s.now.trees ledger)
     (there : HasTransferRow s.now.trees name n) where
   tag_kept : (t : NumberedTransfer) (b : Bool) → int_eq t.number n ≡ b → AllByRecursion (λ row. passes tag_where (Int n ∷ []) row ≡ b) (tag_rows t)
   tag_kept t b is =
@@ -147,7 +148,7 @@ module _ (s new : State) (rows : List Row) (ledger : Ledger) (name : List ℕ) (
       let t = it.0 in
       let test = passes tag_where (Int n ∷ []) in
       let table = s.now.trees 4 in
-      let got = reads_as tags_text (Int n ∷ []) s new ledger_schema has tags_command tags_is tags_plain tags_unlisted rows shown in
+      let got = reads_as tags_text (Int n ∷ []) s new (schema_of l) has tags_command (tags_is l) (tags_plain l) (tags_unlisted l) rows shown in
       let lists = answer_lists 4 tags_where tags_shown_of ((col 1 2, ascending Binary) ∷ []) (Int n ∷ []) s.now.trees rows (got.answer Null) refl in
       let kept : filter test (flat_map tag_rows tables.transfers) ≡ tag_rows t =
       one_kept (λ (u : NumberedTransfer). u.number) tag_rows test n (λ u other. tag_kept u false (other_number u.number n other)) tables.transfers t tables.numbers it.1 it.2
@@ -175,7 +176,7 @@ size_made item = record { path = item.path; octets = size_of item }
 size_is : (item : NumberedItem) → size_made item ≡ record { path = item.path; octets = length (concat item.pieces) }
 size_is item = λ t. record { path = item.path; octets = sym (length_concat item.pieces) t }
 
-module _ (s new : State) (rows : List Row) (ledger : Ledger) (name : List ℕ) (n : ℤ) (has : s.now.schema ≡ ledger_schema) (tables : AreTablesOf s.now.trees ledger)
+module _ {o : Origin} (s new : State) (rows : List Row) (ledger : Ledger) (name : List ℕ) (n : ℤ) (has : s.now.schema ≡ second_schema o) (tables : HoldTransfers (Second o) s.now.trees ledger)
     (there : HasTransferRow s.now.trees name n) where
   abbrev row_of : NumberedTransfer → NumberedItem → Row
   row_of t item = Int item.number ∷ Null ∷ Int t.number ∷ Text item.path ∷ Int (pos (size_of item)) ∷ []
@@ -190,20 +191,20 @@ module _ (s new : State) (rows : List Row) (ledger : Ledger) (name : List ℕ) (
       let it = transfer_at s.now.trees ledger tables name n there in
       let t = it.0 in
       let test = passes sizes_where (Int n ∷ []) in
-      let table = s.now.trees 6 in
-      let query_made = made 6 sizes_where sizes_shown_of ((col 1 3, ascending Binary) ∷ []) (Int n ∷ []) in
+      let table = s.now.trees (held_tree o) in
+      let query_made = made (held_tree o) sizes_where sizes_shown_of ((col 1 3, ascending Binary) ∷ []) (Int n ∷ []) in
       let show : NumberedItem → Row = λ item. size_shown (size_made item) in
       let out : NumberedItem → Output = λ item. (Text item.path ∷ [], show item) in
-      let got = reads_as sizes_text (Int n ∷ []) s new ledger_schema has sizes_command sizes_is sizes_plain sizes_unlisted rows shown in
-      let lists = answer_lists 6 sizes_where sizes_shown_of ((col 1 3, ascending Binary) ∷ []) (Int n ∷ []) s.now.trees rows (got.answer Null) refl in
+      let got = reads_as sizes_text (Int n ∷ []) s new (second_schema o) has (sizes_command o) (sizes_is o) (sizes_plain o) (sizes_unlisted o) rows shown in
+      let lists = answer_lists (held_tree o) sizes_where sizes_shown_of ((col 1 3, ascending Binary) ∷ []) (Int n ∷ []) s.now.trees rows (got.answer Null) (held_seen o s.now.trees) in
       let kept : filter test (flat_map held_rows tables.transfers) ≡ held_rows t =
       one_kept (λ (u : NumberedTransfer). u.number) held_rows test n (λ u other. size_kept u false (other_number u.number n other)) tables.transfers t tables.numbers it.1 it.2
       ∙ filter_all test (held_rows t) (size_kept t true (same_number t.number n it.2)) in
-      let moved = subst (λ l. IsPermutation l (filter test table)) kept (IsPermutation-filter test (flat_map held_rows tables.transfers) table tables.rows.held) in
+      let moved = subst (λ l. IsPermutation l (filter test table)) kept (IsPermutation-filter test (flat_map held_rows tables.transfers) table tables.rows.items.held) in
       let start : map query_made (held_rows t) ≡ map out t.items = map_twice (row_of t) query_made t.items in
       let moves = subst (λ l. IsPermutation l (map query_made (filter test table))) start (IsPermutation-map query_made (held_rows t) (filter test table) moved) in
       let rising = subst AreRising (map_twice (λ (item : NumberedItem). (item.path, concat item.pieces)) (λ (e : List ℕ × List ℕ). e.0) t.items) (items_rise s.now.trees ledger tables t it.1) in
-      let all = by_text 6 sizes_where sizes_shown_of (col 1 3) (λ (item : NumberedItem). item.path) show (Int n ∷ []) table rows t.items rising moves lists in
+      let all = by_text (held_tree o) sizes_where sizes_shown_of (col 1 3) (λ (item : NumberedItem). item.path) show (Int n ∷ []) table rows t.items rising moves lists in
       let items : items_of ledger name ≡ map (λ (item : NumberedItem). (item.path, concat item.pieces)) t.items = ap (λ o. unwrap_or (option_map (λ (transfer : Transfer). transfer.items) o) []) it.3 in
       let sizes : sizes_of (items_of ledger name) ≡ map size_made t.items =
       ap sizes_of items ∙ map_twice (λ (item : NumberedItem). (item.path, concat item.pieces)) (λ (e : List ℕ × List ℕ). record { path = e.0; octets = length e.1 }) t.items ∙ sym (map_same size_made _ size_is t.items) in

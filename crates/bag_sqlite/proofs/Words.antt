@@ -40,23 +40,25 @@ pub use Rattle.bag_rules.specs.declared.plan.ItemSize.{ItemSize}
 pub use Rattle.bag_rules.specs.declared.plan.Plan.{Plan}
 pub use Rattle.bag_rules.specs.declared.want.Want.{Want}
 pub use Rattle.bag_rules.specs.declared.want.WantFault.{WantFault}
-pub use Rattle.bag_sqlite.specs.Adopting.{count_text, file_in, files_in, format_text, HasFormat, HasPieces, IsRead, ItemPasses, items_text, OnlyReads, piece_text, RowPasses, Stands, stray_texts, tag_files_text, Tells, TellsOne, TransferPasses, transfers_text}
+pub use Rattle.bag_sqlite.specs.Adopting.{body_text, count_text, file_in, files_in, format_text, HasContent, HasFormat, HasPieces, IsRead, IsVerified, IsVerifiedAs, ItemPasses, items_text, OnlyReads, piece_text, RowPasses, Stands, stray_item_texts, stray_texts, tag_files_text, Tells, TellsOne, TransferPasses, transfers_text}
 pub use Rattle.bag_sqlite.specs.Batches.{AreCovered, AreWanted, Covers, HasMisfit, HasOneMore, IsEmpty, IsFindingOf, IsHeld, TakesAlso, Took}
 pub use Rattle.bag_sqlite.specs.Contents.{HasContentMore, HasRead, in_pieces}
-pub use Rattle.bag_sqlite.specs.Databases.{AreApart, AreCut, AreTablesOf, format_row, held_rows, IsInOrder, IsLedgerDatabase, items_in, ListLedger, NumberedItem, NumberedTransfer, piece_rows, size_of, tag_rows, transfer_row, without_number, without_rowids}
+pub use Rattle.bag_sqlite.specs.Databases.{AreApart, AreCut, AreMoved, AreTablesOf, format_row, HaveHeldRows, held_rows, HoldTransfers, IsDatabaseOf, IsInOrder, IsLedgerDatabase, item_rows, items_in, ListLedger, NamesFormat, NumberedItem, NumberedTransfer, piece_rows, size_of, tag_rows, transfer_row, without_number, without_rowids}
 pub use Rattle.bag_sqlite.specs.Items.{HasItem, HasItemRow, HasPieceRow}
-pub use Rattle.bag_sqlite.specs.Making.{IsCreated, IsLeft, IsMade, IsMaking, Makes, MakesLedger}
+pub use Rattle.bag_sqlite.specs.Making.{IsCreated, IsLeft, IsMade, IsMaking, Makes, MakesLedger, no_rows}
+pub use Rattle.bag_sqlite.specs.Migrating.{Empties, HasBody, IsInBoth, IsMigrated, IsToMove, KeepsHeld, MigratesLedger, MovesLedger, SetsFormat, whole_row}
 pub use Rattle.bag_sqlite.specs.Opening.{AddsTags, AddsTransfer, HasOneTransferMore, KeepsItems, opened_under}
-pub use Rattle.bag_sqlite.specs.Putting.{AddsItem, AddsPiece, AddsPieces, HasOneItemMore, IsFree, IsUnderWay, item_row, SetsSize}
+pub use Rattle.bag_sqlite.specs.Putting.{AddsItem, AddsPiece, AddsPieces, HasOneItemMore, IsFree, IsUnderWay, item_row, KeepsFirst, KeepsTransfers, SetsSize}
 pub use Rattle.bag_sqlite.specs.Reading.{HasTransferRow, OnlyQueries, size_shown, tag_shown}
-pub use Rattle.bag_sqlite.specs.Refusing.{adopt_fault, AreFull, AreNoneFor, AreTags, count_under, DoNotOpen, HasDamagedItem, HasNoFormat, IsBlob, IsDamaged, IsNoAnswer, IsNoLedger, IsNoneFor, IsNoQuery, IsText, ItemFails, items_under, MayShow, OpensNone, params_of, piece_at, Question, RefusesToAdopt, RefusesTransfer, RefusesTransfers, SayNoFormat, SaysFormat, ShowsOctets, strays, tags_under, text_of, the_format, the_transfers, TransferFails}
-pub use Rattle.bag_sqlite.specs.SqlKeepers.{HoldsLedger, KeepsAlone, MayLeaveLedger, Offers}
-pub use Rattle.bag_sqlite.specs.Tables.{held, held_tree, ledger_schema, meta, meta_tree, no_schema, piece, piece_tree, schema_to_held, schema_to_meta, schema_to_tag, schema_to_transfer, tag, tag_tree, transfer, transfer_tree}
-pub use Rattle.bag_sqlite.specs.Transactions.{CommitsNothing}
+pub use Rattle.bag_sqlite.specs.Refusing.{adopt_fault, AreFull, AreNoneFor, AreTags, body_of, count_under, DoNotOpen, HasDamagedItem, HasNoFormat, IsAsked, IsBlob, IsDamaged, IsNoAnswer, IsNoLedger, IsNoneFor, IsNoQuery, IsText, ItemFails, items_under, LacksBody, LacksContent, MayShow, OpensNone, params_of, piece_at, Question, RefusesAs, RefusesToAdopt, RefusesTransfer, RefusesTransfers, SayNoFormat, SaysFormat, ShowsOctets, strays, tags_under, text_of, the_format, the_transfers, TransferFails}
+pub use Rattle.bag_sqlite.specs.SqlKeepers.{HoldsLedger, KeepsAlone, MayLeaveLedger, Offers, ShowsLedger}
+pub use Rattle.bag_sqlite.specs.Tables.{First, first_schema, format_of, held, held_tree, item, item_tree, Layout, meta, meta_tree, Migrated, New, no_schema, number_of, Origin, piece, piece_tree, schema_before, schema_of, schema_to_meta, schema_to_tag, schema_to_transfer, Second, second_schema, tag, tag_tree, transfer, transfer_tree}
+pub use Rattle.bag_sqlite.specs.Transactions.{CommitsNothing, CommitsNothingWithin}
 pub use Rattle.bag_sqlite.specs.declared.adopting.AdoptFault.{AdoptFault}
-pub use Rattle.bag_sqlite.specs.declared.adopting.AdoptFault.TheVariants.{Damaged, NotALedger, OldFormat}
+pub use Rattle.bag_sqlite.specs.declared.adopting.AdoptFault.TheVariants.{Damaged, NotALedger}
 pub use Rattle.bag_sqlite.specs.declared.batch.Batch.{Batch}
 pub use Rattle.bag_sqlite.specs.declared.content.Content.{Content}
+pub use Rattle.bag_sqlite.specs.declared.format.Format.{Format}
 pub use Rattle.bag_sqlite.specs.declared.health.Health.{Health}
 pub use Rattle.bag_sqlite.specs.declared.items.Item.{Item}
 pub use Rattle.bag_sqlite.specs.declared.verifying.Finding.TheVariants.{Untested}

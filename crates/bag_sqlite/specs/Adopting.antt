@@ -1,4 +1,4 @@
--- How a database is opened as a ledger: what its queries show.
+-- How a database is opened as a ledger: what its queries show. Which ones are asked goes by the format that it names.
 use Rattle.std.specs.Prelude.{◌≡◌, ℕ, ℤ, pos, List, [], ◌∷◌, ◌++◌, Some, IsTrue, codes, false, length, map, slice_get}
 use Rattle.std.specs.List.{AllByRecursion, concat}
 use Rattle.bag_rules.specs.Files.{AreTagFiles, Files}
@@ -14,6 +14,9 @@ use Rattle.sqlite.specs.declared.types.Value.TheVariants.{Blob, Int, Text}
 use Rattle.sqlite_value.specs.Order.{bytes}
 use Rattle.bag_sqlite.specs.Databases.{AreCut}
 use Rattle.bag_sqlite.specs.Reading.{ShowsRows}
+use Rattle.bag_sqlite.specs.Tables.{number_of}
+use Rattle.bag_sqlite.specs.declared.format.Format.{Format}
+use Rattle.bag_sqlite.specs.declared.format.Format.TheVariants as form
 
 -- WHAT A READ CHANGES
 
@@ -49,9 +52,17 @@ transfers_text = codes "SELECT id, name FROM transfer ORDER BY name"
 abbrev pub tag_files_text : List ℕ
 tag_files_text = codes "SELECT path, body FROM tag WHERE transfer = ?1 ORDER BY path"
 
-abbrev pub items_text : List ℕ
-items_text = codes "SELECT id, path, size FROM held WHERE transfer = ?1 ORDER BY path"
+abbrev pub items_text : Format → List ℕ
+items_text form.First =
+    codes "SELECT rowid, path, size FROM item WHERE transfer = ?1 ORDER BY path"
+items_text form.Second =
+    codes "SELECT id, path, size FROM held WHERE transfer = ?1 ORDER BY path"
 
+-- in format 1
+abbrev pub body_text : List ℕ
+body_text = codes "SELECT body FROM item WHERE rowid = ?1"
+
+-- in format 2
 abbrev pub piece_text : List ℕ
 piece_text = codes "SELECT body FROM piece WHERE item = ?1 AND n = ?2"
 
@@ -68,6 +79,11 @@ stray_tag_files_text = codes "SELECT 1 FROM tag WHERE typeof(path) <> 'text'"
     ++ codes " OR typeof(body) <> 'blob'"
     ++ codes " OR NOT EXISTS (SELECT 1 FROM transfer WHERE id = tag.transfer)"
 
+abbrev pub stray_whole_items_text : List ℕ
+stray_whole_items_text = codes "SELECT 1 FROM item WHERE typeof(path) <> 'text'"
+    ++ codes " OR typeof(size) <> 'integer'"
+    ++ codes " OR NOT EXISTS (SELECT 1 FROM transfer WHERE id = item.transfer)"
+
 abbrev pub stray_items_text : List ℕ
 stray_items_text = codes "SELECT 1 FROM held WHERE typeof(id) <> 'integer'"
     ++ codes " OR typeof(path) <> 'text' OR typeof(size) <> 'integer'"
@@ -77,9 +93,12 @@ abbrev pub stray_pieces_text : List ℕ
 stray_pieces_text = codes "SELECT 1 FROM piece WHERE typeof(n) <> 'integer'"
     ++ codes " OR NOT EXISTS (SELECT 1 FROM held WHERE id = piece.item)"
 
-abbrev pub stray_texts : List (List ℕ)
-stray_texts =
-    stray_transfers_text ∷ stray_tag_files_text ∷ stray_items_text ∷ stray_pieces_text ∷ []
+abbrev pub stray_item_texts : Format → List (List ℕ)
+stray_item_texts form.First = stray_whole_items_text ∷ []
+stray_item_texts form.Second = stray_items_text ∷ stray_pieces_text ∷ []
+
+abbrev pub stray_texts : Format → List (List ℕ)
+stray_texts format = stray_transfers_text ∷ stray_tag_files_text ∷ stray_item_texts format
 
 -- a tag file as a row shows it
 abbrev pub file_in : Row → List ℕ × List ℕ
@@ -111,12 +130,26 @@ module _ {S : Type 0} (g : Ghosts S) (db : Database) where
     pub count : TellsOne count_text (Int item ∷ []) (Int (pos (length pieces)))
     pub cut : AreCut pieces
 
+  -- this is the whole content of the payload file with this number
+  abbrev pub HasContent : Format → ℤ → List ℕ → Type 0
+  HasContent form.First item content = TellsOne body_text (Int item ∷ []) (Blob content)
+  HasContent form.Second item content = (pieces : List (List ℕ)) × HasPieces item pieces
+      × (content ≡ concat pieces)
+
+  -- it names one format, with this number
+  pub record HasFormat (number : ℤ) : Type 0 where
+    pub row : Row
+    pub told : Tells format_text [] (row ∷ [])
+    pub name_is : column row 0 ≡ Text (codes "bag-ledger")
+    pub number_is : column row 1 ≡ Int number
+
+module _ {S : Type 0} (g : Ghosts S) (db : Database) (format : Format) where
   -- the payload file with this number has this size, and its content is valid for the path
   pub record ItemPasses (tags : Files) (item : ℤ) (path : List ℕ) (size : ℤ) : Type 0 where
-    pub pieces : List (List ℕ)
-    pub has : HasPieces item pieces
-    pub size_is : size ≡ pos (length (concat pieces))
-    pub passes : Passes tags path (concat pieces)
+    pub content : List ℕ
+    pub has : HasContent g db format item content
+    pub size_is : size ≡ pos (length content)
+    pub passes : Passes tags path content
 
   -- the same for a row
   pub record RowPasses (tags : Files) (row : Row) : Type 0 where
@@ -130,29 +163,27 @@ module _ {S : Type 0} (g : Ghosts S) (db : Database) where
   -- are valid
   pub record TransferPasses (transfer : ℤ) : Type 0 where
     pub tag_rows : List Row
-    pub tags_told : Tells tag_files_text (Int transfer ∷ []) tag_rows
+    pub tags_told : Tells g db tag_files_text (Int transfer ∷ []) tag_rows
     pub tag_files : AreTagFiles (files_in tag_rows)
     pub opens : Opens (files_in tag_rows)
     pub item_rows : List Row
-    pub items_told : Tells items_text (Int transfer ∷ []) item_rows
+    pub items_told : Tells g db (items_text format) (Int transfer ∷ []) item_rows
     pub items : AllByRecursion (RowPasses (files_in tag_rows)) item_rows
 
   -- this is true of every transfer
   pub record TransfersPass : Type 0 where
     pub rows : List Row
-    pub told : Tells transfers_text [] rows
+    pub told : Tells g db transfers_text [] rows
     pub each : AllByRecursion (λ row. (transfer : ℤ)
         × (column row 0 ≡ Int transfer) × TransferPasses transfer) rows
 
-  -- it names one format, with this number
-  pub record HasFormat (format : ℤ) : Type 0 where
-    pub row : Row
-    pub told : Tells format_text [] (row ∷ [])
-    pub name_is : column row 0 ≡ Text (codes "bag-ledger")
-    pub number_is : column row 1 ≡ Int format
-
-  -- it is a ledger of format 2 without rows that lack an owner, and all of its transfers are valid
-  pub record IsVerified : Type 0 where
-    pub format : HasFormat (pos 2)
-    pub none_stray : AllByRecursion (λ text. Tells text [] []) stray_texts
+  -- it is a ledger of this format without rows that lack an owner, and all of its transfers are
+  -- valid
+  pub record IsVerifiedAs : Type 0 where
+    pub named : HasFormat g db (number_of format)
+    pub none_stray : AllByRecursion (λ text. Tells g db text [] []) (stray_texts format)
     pub transfers : TransfersPass
+
+-- the same in one of the formats
+abbrev pub IsVerified : {S : Type 0} → Ghosts S → Database → Type 0
+IsVerified g db = (format : Format) × IsVerifiedAs g db format

@@ -17,6 +17,7 @@ use Rattle.bag_sqlite.specs.Refusing.{ItemFails}
 use Rattle.bag_sqlite.specs.declared.content.Content.{Content}
 use Rattle.bag_sqlite.specs.declared.content.Content.TheVariants.{Hashed, Whole}
 use Rattle.bag_sqlite.specs.declared.batch.Batch.{Batch}
+use Rattle.bag_sqlite.specs.declared.format.Format.{Format}
 use Rattle.bag_sqlite.specs.declared.verifying.Finding.{Finding}
 use Rattle.bag_sqlite.specs.declared.verifying.Finding.TheVariants.{Valid, Damaged, Untested}
 
@@ -75,11 +76,11 @@ HoldsLittle Valid = Unit {0}
 HoldsLittle Damaged = Unit {0}
 HoldsLittle (Untested want content) = length content.items ≤ PIECE
 
-module _ {S : Type 0} (g : Ghosts S) (db : Database) where
+module _ {S : Type 0} (g : Ghosts S) (db : Database) (format : Format) where
   -- the payload file is valid, or it isn't; or it is exactly if this is the content that is wanted
   abbrev pub IsFindingOf : Files → ℤ → List ℕ → ℤ → Finding → Type 0
-  IsFindingOf tags item path size Valid = ItemPasses g db tags item path size
-  IsFindingOf tags item path size Damaged = ItemFails g db tags item path size
+  IsFindingOf tags item path size Valid = ItemPasses g db format tags item path size
+  IsFindingOf tags item path size Damaged = ItemFails g db format tags item path size
   IsFindingOf tags item path size (Untested want content) = (want.path.now ≡ path)
-      × (IsWanted want content.items → ItemPasses g db tags item path size)
-      × ((¬ IsWanted want content.items) → ItemFails g db tags item path size)
+      × (IsWanted want content.items → ItemPasses g db format tags item path size)
+      × ((¬ IsWanted want content.items) → ItemFails g db format tags item path size)

@@ -13,6 +13,7 @@ use Rattle.bag_rules.specs.declared.want.Want.{Want}
 use Rattle.sqlite.specs.Tree.{Trees}
 use Rattle.bag_sqlite.specs.Databases.{AreCut, NumberedItem}
 use Rattle.bag_sqlite.specs.Putting.{HasOneItemMore}
+use Rattle.bag_sqlite.specs.Tables.{Origin}
 use Rattle.bag_sqlite.specs.declared.putting.NotPut.{NotPut}
 use Rattle.bag_sqlite.specs.declared.putting.NotPut.TheVariants.{Source, Misfit, Store}
 
@@ -28,12 +29,13 @@ abbrev pub in_pieces : ℤ → List ℕ → List (List ℕ) → NumberedItem
 in_pieces number path pieces = record { number = number; path = path; pieces = pieces }
 
 -- a payload file with this path and this content is added
-pub record HasContentMore (old new : Trees) (transfer : ℤ) (path content : List ℕ) : Type 0 where
+pub record HasContentMore (origin : Origin) (old new : Trees) (transfer : ℤ) (path content : List ℕ)
+    : Type 0 where
   pub number : ℤ
   pub pieces : List (List ℕ)
   pub cut : AreCut pieces
   pub joined : concat pieces ≡ content
-  pub more : HasOneItemMore old new transfer (in_pieces number path pieces)
+  pub more : HasOneItemMore origin old new transfer (in_pieces number path pieces)
 
 -- what a keeper answers, if it reports a failure of its store as this fault
 abbrev pub put_fault_of : KeepFault → NotPut → PutFault

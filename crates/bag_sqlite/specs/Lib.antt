@@ -1,9 +1,11 @@
+pub mod Adopted
 pub mod Adopting
 pub mod Batches
 pub mod Contents
 pub mod Databases
 pub mod Items
 pub mod Making
+pub mod Migrating
 pub mod Opening
 pub mod Putting
 pub mod Reading

@@ -11,8 +11,8 @@ use Rattle.sqlite.specs.State.{State}
 use Rattle.sqlite.specs.Table.{Table}
 use Rattle.sqlite.specs.Tree.{Trees}
 use Rattle.sqlite.proofs.Callers.{IsPlain, command_of, statement_of}
-use Rattle.bag_sqlite.specs.Databases.{IsLedgerDatabase}
-use Rattle.bag_sqlite.specs.Tables.{ledger_schema, no_schema}
+use Rattle.bag_sqlite.specs.Databases.{IsDatabaseOf}
+use Rattle.bag_sqlite.specs.Tables.{New, Second, no_schema, second_schema}
 
 -- under this schema the statement creates this table
 pub record Makes (before : Schema) (text : List ℕ) (table : Table) : Type 0 where
@@ -22,24 +22,29 @@ pub record Makes (before : Schema) (text : List ℕ) (table : Table) : Type 0 wh
   pub defined : table_defined_by text ≡ Ok table
   pub uncounted : lacks_sequence (created before table) ≡ false
 
--- a transaction is open, and sees the tables of this schema, without rows
-pub record IsMaking (schema : Schema) (s : State) : Type 0 where
+-- a transaction is open, and sees the tables of this schema, with these rows
+pub record IsMaking (schema : Schema) (rows : Trees) (s : State) : Type 0 where
   pub mode : IsTrue s.in_transaction
   pub schema_is : s.now.schema ≡ schema
-  pub empty : AllByRecursion (λ (table : Table). s.now.trees table.tree ≡ []) schema.tables
+  pub rows_are : AllByRecursion
+      (λ (table : Table). s.now.trees table.tree ≡ rows table.tree) schema.tables
+
+-- none
+abbrev pub no_rows : Trees
+no_rows tree = []
 
 -- a transaction is open, and sees the database of a ledger without transfers
 pub record IsMade (s : State) : Type 0 where
   pub mode : IsTrue s.in_transaction
-  pub schema_is : s.now.schema ≡ ledger_schema
-  pub database : IsLedgerDatabase s.now.trees []
+  pub schema_is : s.now.schema ≡ second_schema New
+  pub database : IsDatabaseOf (Second New) s.now.trees []
 
 -- the database of a ledger without transfers is committed
 pub record IsCreated (s : State) : Type 0 where
   pub is_open : IsTrue s.is_open
   pub autocommit : s.in_transaction ≡ false
-  pub schema_is : s.now.schema ≡ ledger_schema
-  pub database : IsLedgerDatabase s.now.trees []
+  pub schema_is : s.now.schema ≡ second_schema New
+  pub database : IsDatabaseOf (Second New) s.now.trees []
   pub committed : s.committed ≡ s.now
 
 -- Nothing was committed. As long as the connection is open, it shows what was committed.
@@ -51,4 +56,4 @@ pub record IsLeft (old new : State) : Type 0 where
 
 -- a database without tables has committed a ledger without transfers
 abbrev pub MakesLedger : State → Trees → Type 0
-MakesLedger s trees = s.now.schema ≡ no_schema → IsLedgerDatabase trees []
+MakesLedger s trees = s.now.schema ≡ no_schema → IsDatabaseOf (Second New) trees []

@@ -25,10 +25,13 @@ use Rattle.sqlite.specs.declared.error.Error.TheVariants.{SqliteFailure, Invalid
 use Rattle.sqlite.specs.declared.error.ErrorCode.TheVariants.{OutOfMemory, NotADatabase}
 use Rattle.sqlite.specs.declared.types.Value.{Value}
 use Rattle.sqlite.specs.declared.types.Value.TheVariants.{Blob, Int, Text}
-use Rattle.bag_sqlite.specs.Adopting.{HasFormat, HasPieces, RowPasses, Tells, TellsOne, TransferPasses, count_text, files_in, format_text, items_text, piece_text, stray_texts, tag_files_text, transfers_text}
+use Rattle.bag_sqlite.specs.Adopting.{HasContent, HasFormat, RowPasses, Tells, TellsOne, TransferPasses, body_text, count_text, files_in, format_text, items_text, piece_text, stray_texts, tag_files_text, transfers_text}
 use Rattle.bag_sqlite.specs.Databases.{AreCut}
+use Rattle.bag_sqlite.specs.Tables.{number_of}
 use Rattle.bag_sqlite.specs.declared.adopting.AdoptFault.{AdoptFault}
-use Rattle.bag_sqlite.specs.declared.adopting.AdoptFault.TheVariants.{NotALedger, OldFormat, Damaged, Memory, Store}
+use Rattle.bag_sqlite.specs.declared.adopting.AdoptFault.TheVariants.{NotALedger, Damaged, Memory, Store}
+use Rattle.bag_sqlite.specs.declared.format.Format.{Format}
+use Rattle.bag_sqlite.specs.declared.format.Format.TheVariants as form
 
 -- HOW AN ERROR IS REPORTED
 
@@ -52,7 +55,6 @@ IsNoAnswer fault = ⊥
 -- if the fault is `NotALedger`, this is the reason; out of memory and failures of the store say nothing
 abbrev pub IsNoneFor : Type 0 → AdoptFault → Type 0
 IsNoneFor reason NotALedger = reason
-IsNoneFor reason OldFormat = ⊥
 IsNoneFor reason (Damaged name path) = ⊥
 IsNoneFor reason Memory = Unit {0}
 IsNoneFor reason (Store error) = Unit {0}
@@ -60,7 +62,6 @@ IsNoneFor reason (Store error) = Unit {0}
 -- If the fault is `NotALedger`, this is the reason; otherwise memory ran out. The store isn't involved.
 abbrev pub AreNoneFor : Type 0 → AdoptFault → Type 0
 AreNoneFor reason NotALedger = reason
-AreNoneFor reason OldFormat = ⊥
 AreNoneFor reason (Damaged name path) = ⊥
 AreNoneFor reason Memory = Unit {0}
 AreNoneFor reason (Store error) = ⊥
@@ -102,27 +103,41 @@ pub data Question : Type 0 where
   the_transfers : Question
   tags_under : ℤ → Question
   items_under : ℤ → Question
+  body_of : ℤ → Question
   piece_at : ℤ → ℤ → Question
   count_under : ℤ → Question
-  strays : (text : List ℕ) → Has stray_texts text → Question
+  strays : (text : List ℕ) → Question
 
-abbrev pub text_of : Question → List ℕ
-text_of the_format = format_text
-text_of the_transfers = transfers_text
-text_of (tags_under transfer) = tag_files_text
-text_of (items_under transfer) = items_text
-text_of (piece_at item n) = piece_text
-text_of (count_under item) = count_text
-text_of (strays text one) = text
+-- it is asked of a ledger of this format
+abbrev pub IsAsked : Format → Question → Type 0
+IsAsked format the_format = Unit {0}
+IsAsked format the_transfers = Unit {0}
+IsAsked format (tags_under transfer) = Unit {0}
+IsAsked format (items_under transfer) = Unit {0}
+IsAsked format (body_of item) = format ≡ form.First
+IsAsked format (piece_at item n) = format ≡ form.Second
+IsAsked format (count_under item) = format ≡ form.Second
+IsAsked format (strays text) = Has (stray_texts format) text
+
+abbrev pub text_of : Format → Question → List ℕ
+text_of format the_format = format_text
+text_of format the_transfers = transfers_text
+text_of format (tags_under transfer) = tag_files_text
+text_of format (items_under transfer) = items_text format
+text_of format (body_of item) = body_text
+text_of format (piece_at item n) = piece_text
+text_of format (count_under item) = count_text
+text_of format (strays text) = text
 
 abbrev pub params_of : Question → Row
 params_of the_format = []
 params_of the_transfers = []
 params_of (tags_under transfer) = Int transfer ∷ []
 params_of (items_under transfer) = Int transfer ∷ []
+params_of (body_of item) = Int item ∷ []
 params_of (piece_at item n) = Int item ∷ Int n ∷ []
 params_of (count_under item) = Int item ∷ []
-params_of (strays text one) = []
+params_of (strays text) = []
 
 -- the rows have the types that a ledger's rows have, and as many rows as a ledger can show
 abbrev pub MayShow : Question → List Row → Type 0
@@ -130,9 +145,10 @@ MayShow the_format rows = SaysFormat rows (pos 1) ⊎ SaysFormat rows (pos 2)
 MayShow the_transfers rows = AreTransfers rows
 MayShow (tags_under transfer) rows = AreTags rows
 MayShow (items_under transfer) rows = AreItems rows
+MayShow (body_of item) rows = Unit {0}
 MayShow (piece_at item n) rows = Unit {0}
 MayShow (count_under item) rows = (row : Row) × (rows ≡ row ∷ []) × IsInt (column row 0)
-MayShow (strays text one) rows = rows ≡ []
+MayShow (strays text) rows = rows ≡ []
 
 -- WHAT IS DAMAGED
 
@@ -172,10 +188,22 @@ module _ {S : Type 0} (g : Ghosts S) (db : Database) where
   DoesNotShow sql params such = IsNoQuery db.schema sql
       ⊎ ((rows : List Row) × Tells g db sql params rows × ¬ such rows)
 
-  -- one of the queries doesn't show what a ledger may show
-  abbrev pub IsNoLedger : Type 0
-  IsNoLedger = (asked : Question)
-      × DoesNotShow (text_of asked) (params_of asked) (MayShow asked)
+  -- one of the queries for this format doesn't show what a ledger may show
+  abbrev pub IsNoLedger : Format → Type 0
+  IsNoLedger format = (asked : Question) × IsAsked format asked
+      × DoesNotShow (text_of format asked) (params_of asked) (MayShow asked)
+
+  -- the tag files of the transfer with this number can't open a transfer
+  pub record OpensNone (transfer : ℤ) : Type 0 where
+    pub tag_rows : List Row
+    pub tags_told : Tells g db tag_files_text (Int transfer ∷ []) tag_rows
+    pub none : DoNotOpen tag_rows
+
+  -- there isn't one body with this many octets
+  pub record LacksBody (item : ℤ) (size : ℕ) : Type 0 where
+    pub rows : List Row
+    pub told : Tells g db body_text (Int item ∷ []) rows
+    pub other : ¬ ShowsOctets rows size
 
   -- these are the pieces, in order from the first
   abbrev pub ArePieces : ℤ → List (List ℕ) → Type 0
@@ -202,27 +230,33 @@ module _ {S : Type 0} (g : Ghosts S) (db : Database) where
     pub count : TellsOne g db count_text (Int item ∷ []) (Int number)
     pub other : number ≢ pos (length pieces)
 
+  -- its body or its pieces aren't as a payload file of this size would have them
+  abbrev pub LacksContent : Format → ℤ → ℕ → Type 0
+  LacksContent form.First item size = LacksBody item size
+  LacksContent form.Second item size = LacksPiece item size ⊎ HasMorePieces item size
+
+module _ {S : Type 0} (g : Ghosts S) (db : Database) (format : Format) where
   -- it is complete, and its content isn't valid
   pub record HasOtherContent (tags : Files) (item : ℤ) (path : List ℕ) (size : ℕ) : Type 0 where
-    pub pieces : List (List ℕ)
-    pub has : HasPieces g db item pieces
-    pub size_is : size ≡ length (concat pieces)
-    pub other : ¬ Passes tags path (concat pieces)
+    pub content : List ℕ
+    pub has : HasContent g db format item content
+    pub size_is : size ≡ length content
+    pub other : ¬ Passes tags path content
 
   -- a payload file isn't listed, isn't complete or isn't valid
   abbrev pub ItemFails : Files → ℤ → List ℕ → ℤ → Type 0
   ItemFails tags item path size = (¬ (IsPath path × IsExpected tags path))
-      ⊎ ((¬ IsSize size) ⊎ ((octets : ℕ) × (size ≡ pos octets) × (LacksPiece item octets
-      ⊎ (HasMorePieces item octets ⊎ HasOtherContent tags item path octets))))
+      ⊎ ((¬ IsSize size) ⊎ ((octets : ℕ) × (size ≡ pos octets)
+      × (LacksContent g db format item octets ⊎ HasOtherContent tags item path octets)))
 
   -- the first payload file of the transfer that isn't valid has this path
   pub record HasDamagedItem (tags : Files) (transfer : ℤ) (path : List ℕ) : Type 0 where
     pub rows : List Row
-    pub told : Tells g db items_text (Int transfer ∷ []) rows
+    pub told : Tells g db (items_text format) (Int transfer ∷ []) rows
     pub at : ℕ
     pub row : Row
     pub here : slice_get rows at ≡ Some row
-    pub passing : AllByRecursion (RowPasses g db tags) (take at rows)
+    pub passing : AllByRecursion (RowPasses g db format tags) (take at rows)
     pub item : ℤ
     pub size : ℤ
     pub row_is : (column row 0 ≡ Int item) × (column row 1 ≡ Text path) × (column row 2 ≡ Int size)
@@ -236,14 +270,8 @@ module _ {S : Type 0} (g : Ghosts S) (db : Database) where
     pub opens : Opens (files_in tag_rows)
     pub item : HasDamagedItem (files_in tag_rows) transfer path
 
-  -- its tag files can't open a transfer
-  pub record OpensNone (transfer : ℤ) : Type 0 where
-    pub tag_rows : List Row
-    pub tags_told : Tells g db tag_files_text (Int transfer ∷ []) tag_rows
-    pub none : DoNotOpen tag_rows
-
   abbrev pub TransferFails : ℤ → List ℕ → Type 0
-  TransferFails transfer path = (OpensNone transfer × (path ≡ [])) ⊎ HasDamage transfer path
+  TransferFails transfer path = (OpensNone g db transfer × (path ≡ [])) ⊎ HasDamage transfer path
 
   -- the first transfer that isn't valid has this name; the path is that of its first invalid
   -- payload file, or empty if its tag files are at fault
@@ -254,15 +282,14 @@ module _ {S : Type 0} (g : Ghosts S) (db : Database) where
     pub row : Row
     pub here : slice_get rows at ≡ Some row
     pub passing : AllByRecursion (λ row. (transfer : ℤ)
-        × (column row 0 ≡ Int transfer) × TransferPasses g db transfer) (take at rows)
+        × (column row 0 ≡ Int transfer) × TransferPasses g db format transfer) (take at rows)
     pub transfer : ℤ
     pub row_is : (column row 0 ≡ Int transfer) × (column row 1 ≡ Text name)
     pub fails : TransferFails transfer path
 
   -- why the transfer with this number and name isn't accepted
   abbrev pub RefusesTransfer : ℤ → List ℕ → AdoptFault → Type 0
-  RefusesTransfer transfer name NotALedger = IsNoLedger
-  RefusesTransfer transfer name OldFormat = ⊥
+  RefusesTransfer transfer name NotALedger = IsNoLedger g db format
   RefusesTransfer transfer name (Damaged named path) = (string_bytes named ≡ name)
       × TransferFails transfer (string_bytes path)
   RefusesTransfer transfer name Memory = Unit {0}
@@ -270,24 +297,30 @@ module _ {S : Type 0} (g : Ghosts S) (db : Database) where
 
   -- why its transfers aren't accepted
   abbrev pub RefusesTransfers : AdoptFault → Type 0
-  RefusesTransfers NotALedger = IsNoLedger
-  RefusesTransfers OldFormat = ⊥
+  RefusesTransfers NotALedger = IsNoLedger g db format
   RefusesTransfers (Damaged name path) = IsDamaged (string_bytes name) (string_bytes path)
   RefusesTransfers Memory = Unit {0}
   RefusesTransfers (Store error) = Unit {0}
 
+  -- why it isn't opened as a ledger of this format; if it is damaged, it has no row without an owner
+  abbrev pub RefusesAs : AdoptFault → Type 0
+  RefusesAs NotALedger = IsNoLedger g db format
+  RefusesAs (Damaged name path) = AllByRecursion (λ text. Tells g db text [] [])
+      (stray_texts format) × IsDamaged (string_bytes name) (string_bytes path)
+  RefusesAs Memory = Unit {0}
+  RefusesAs (Store error) = Unit {0}
+
+module _ {S : Type 0} (g : Ghosts S) (db : Database) where
   -- it names no format that there is
   abbrev pub HasNoFormat : Type 0
-  HasNoFormat = DoesNotShow format_text [] (MayShow the_format)
+  HasNoFormat = DoesNotShow g db format_text [] (MayShow the_format)
 
-  -- Why it isn't opened. The format is looked at first: if it is no ledger for another reason, or
-  -- damaged, it has format 2. If it is damaged, it has no row without an owner. Nothing is said
-  -- here about memory and the store.
+  -- Why it isn't opened. The format is looked at first, and then the tables of this format alone.
+  -- Nothing is said here about memory and the store.
   abbrev pub RefusesToAdopt : AdoptFault → Type 0
-  RefusesToAdopt NotALedger = HasNoFormat ⊎ (HasFormat g db (pos 2) × IsNoLedger)
-  RefusesToAdopt OldFormat = HasFormat g db (pos 1)
-  RefusesToAdopt (Damaged name path) = HasFormat g db (pos 2)
-      × AllByRecursion (λ text. Tells g db text [] []) stray_texts
-      × IsDamaged (string_bytes name) (string_bytes path)
+  RefusesToAdopt NotALedger = HasNoFormat
+      ⊎ ((format : Format) × HasFormat g db (number_of format) × RefusesAs g db format NotALedger)
+  RefusesToAdopt (Damaged name path) = (format : Format) × HasFormat g db (number_of format)
+      × RefusesAs g db format (Damaged name path)
   RefusesToAdopt Memory = Unit {0}
   RefusesToAdopt (Store error) = Unit {0}

@@ -1,17 +1,20 @@
 //! Opens a database as the ledger that it holds.
-ghost use Rattle.std.specs.Prelude.{◌≡◌, pos, [], IfErr, IfOk, MatchResult, OnOk, false};
+ghost use Rattle.std.specs.Prelude.{◌≡◌, [], IfErr, IfOk, IsTrue, MatchResult, OnOk, false};
 ghost use Rattle.std.specs.List.{AllByRecursion};
-ghost use Rattle.bag_sqlite.specs.Adopting.{HasFormat, IsVerified, OnlyReads, Stands, Tells, stray_texts};
+ghost use Rattle.bag_sqlite.specs.Adopted.{IsAdopted, IsNotAdopted};
+ghost use Rattle.bag_sqlite.specs.Adopting.{HasFormat, IsVerifiedAs, OnlyReads, Stands, Tells, stray_item_texts, stray_texts};
 ghost use Rattle.bag_sqlite.specs.Making.{IsLeft};
-ghost use Rattle.bag_sqlite.specs.Refusing.{AreNoneFor, DoesNotShow, IsNoLedger, IsNoQuery, IsNoneFor, RefusesToAdopt, SayNoFormat, SaysFormat};
-ghost use Rattle.bag_sqlite.specs.SqlKeepers.{IsAdopted, IsNotAdopted};
+ghost use Rattle.bag_sqlite.specs.Refusing.{AreNoneFor, DoesNotShow, HasNoFormat, IsNoAnswer, IsNoLedger, IsNoQuery, IsNoneFor, RefusesToAdopt, SayNoFormat, SaysFormat};
+ghost use Rattle.bag_sqlite.specs.Tables.{number_of};
 ghost use Rattle.sqlite.specs.Effect.{Database};
 ghost use Rattle.sqlite.specs.Held.{state};
 ghost use Rattle.sqlite.specs.State.{HasCleanDisk, Survives};
 ghost use Rattle.sqlite.specs.Values.{bound};
 
+use crate::format::Format;
 use crate::health::Health;
 use crate::keeper::SqlKeeper;
+use crate::migrating::migrate;
 use crate::reading::query;
 use crate::verifying::verify_transfers;
 use crate::watch::{Unwatched, Watch};
@@ -24,13 +27,10 @@ use thiserror::Error as ErrorText;
 /// `Store` may be reported in place of any of them.
 #[derive(Debug, Drop, ErrorText)]
 pub enum AdoptFault {
-    /// It doesn't name the format of a ledger; or it names format 2 and doesn't have its tables, or has rows that no
-    /// ledger has: with values of another type, or without an owner.
+    /// It doesn't name the format of a ledger; or it doesn't have the tables of the format that it names, or has rows
+    /// that no ledger has: with values of another type, or without an owner.
     #[error("not a ledger")]
     NotALedger,
-    /// It is a ledger of format 1.
-    #[error("a ledger of an old format")]
-    OldFormat,
     /// The tag files of a transfer can't open a transfer; or a payload file isn't listed, is incomplete or isn't valid.
     /// The first such transfer by name is reported, and its first such payload file by path.
     #[error("damaged")]
@@ -79,7 +79,7 @@ impl From<AllocError> for AdoptFault {
     }
 }
 
-/// Why the ledger wasn't opened, and the connection. Its database is unchanged.
+/// Why the ledger wasn't opened, and the connection. Its database is unchanged, whatever its format.
 #[derive(Drop)]
 pub struct NotAdopted<S: Alter> {
     /// The reason.
@@ -92,7 +92,9 @@ impl<S: Alter> SqlKeeper<S> {
     /// Opens a database as the ledger that it holds, after reading and verifying all of its transfers and payload
     /// files.
     ///
-    /// All octets of all payload files are read, one piece at a time, and hashed.
+    /// All octets of all payload files are read, one piece at a time, and hashed. In a ledger of format 1 a payload file
+    /// is one blob, and is read whole; once all are verified, they are moved to format 2 in one transaction, so that the
+    /// ledger is moved completely or not at all, even if a crash ends the call.
     ///
     /// # Errors
     ///
@@ -124,7 +126,7 @@ impl<S: Alter> SqlKeeper<S> {
             × (keeper.health.failures ≡ 0)) }
     {
         let mut connection = connection;
-        match verify_ledger(&mut connection, watch) {
+        match take_over(&mut connection, watch) {
             Ok(()) => Ok(SqlKeeper {
                 connection,
                 health: Health::new(),
@@ -134,19 +136,50 @@ impl<S: Alter> SqlKeeper<S> {
     }
 }
 
-/// Reads a database and verifies what it holds.
-fn verify_ledger<S: Alter, W: Watch>(
+/// Reads a database and verifies what it holds. The payload files of a ledger of format 1 are moved to the tables of
+/// format 2 then.
+fn take_over<S: Alter, W: Watch>(
     connection: &mut Connection<S>,
     watch: &W,
 ) -> Result<(), AdoptFault>
+    ensures adopted { MatchResult result
+        (λ done. IsAdopted S.Store connection.old connection.new)
+        (λ fault. IsNotAdopted S.Store connection.old fault connection.new) }
+    ensures idle { OnOk result (connection.new.in_transaction ≡ false) }
+{
+    match verify_ledger(connection, watch)? {
+        Format::First => match migrate(connection) {
+            Ok(()) => Ok(()),
+            Err(error) => Err(moving_fault(error)),
+        },
+        Format::Second => Ok(()),
+    }
+}
+
+/// The fault to report if the payload files can't be moved.
+fn moving_fault(error: Error) -> AdoptFault
+    ensures { IsNoAnswer result }
+{
+    match error {
+        Error::SqliteFailure(ErrorCode::OutOfMemory) => AdoptFault::Memory,
+        other => AdoptFault::Store(other),
+    }
+}
+
+/// Reads a database and verifies what it holds. Returns its format.
+fn verify_ledger<S: Alter, W: Watch>(
+    connection: &mut Connection<S>,
+    watch: &W,
+) -> Result<Format, AdoptFault>
     ensures verified { HasCleanDisk (state S.Store connection.new) → MatchResult result
-        (λ done. IsVerified S.Store (state S.Store connection.old).committed)
+        (IsVerifiedAs S.Store (state S.Store connection.old).committed)
         (RefusesToAdopt S.Store (state S.Store connection.old).committed) }
     ensures left { HasCleanDisk (state S.Store connection.new)
         → IsLeft (state S.Store connection.old) (state S.Store connection.new) }
-    ensures idle { OnOk result ((state S.Store connection.old).in_transaction ≡ false) }
-    ensures mode { (state S.Store connection.new).in_transaction
-        ≡ (state S.Store connection.old).in_transaction }
+    ensures opened { HasCleanDisk (state S.Store connection.new)
+        → OnOk result (IsTrue (state S.Store connection.old).is_open) }
+    ensures idle { OnOk result ((connection.old.in_transaction ≡ false)
+        × (connection.new.in_transaction ≡ false)) }
     ensures survives { Survives (state S.Store connection.old) (state S.Store connection.new)
         (λ _. ⊥) }
 {
@@ -154,26 +187,29 @@ fn verify_ledger<S: Alter, W: Watch>(
         let error = Error::SqliteFailure(ErrorCode::TransactionState);
         return Err(AdoptFault::Store(error));
     }
-    test_format(connection)?;
-    test_rows(connection)?;
-    verify_transfers(connection, watch)
+    let format = format_of(connection)?;
+    test_rows(connection, format)?;
+    verify_transfers(connection, watch, format)?;
+    Ok(format)
 }
 
-/// Checks that the database names one format, and that it is format 2.
-fn test_format<S: Alter>(connection: &mut Connection<S>) -> Result<(), AdoptFault>
+/// The format that the database names.
+fn format_of<S: Alter>(connection: &mut Connection<S>) -> Result<Format, AdoptFault>
     requires idle { connection.old.in_transaction ≡ false }
     ensures format { HasCleanDisk (state S.Store connection.new) → (db : Database)
         → Stands (state S.Store connection.old) db
-        → OnOk result (HasFormat S.Store db (pos 2)) }
+        → IfOk result (λ format. HasFormat S.Store db (number_of format)) }
     ensures refused { HasCleanDisk (state S.Store connection.new) → (db : Database)
         → Stands (state S.Store connection.old) db
-        → IfErr result (RefusesToAdopt S.Store db) }
+        → IfErr result (IsNoneFor (HasNoFormat S.Store db)) }
+    ensures opened { HasCleanDisk (state S.Store connection.new)
+        → OnOk result (IsTrue (state S.Store connection.old).is_open) }
     ensures reads { OnlyReads S.Store connection.old connection.new }
 {
     let rows = rows_of(connection, "SELECT k, v FROM meta", &[])?;
     match format_in(rows.as_slice())? {
-        2 => Ok(()),
-        1 => Err(AdoptFault::OldFormat),
+        1 => Ok(Format::First),
+        2 => Ok(Format::Second),
         _ => Err(AdoptFault::NotALedger),
     }
 }
@@ -194,14 +230,15 @@ fn format_in(rows: &[Row]) -> Result<i64, AdoptFault>
 
 /// Checks that the values have the types of a ledger's, and that each row has an owner: tag files and payload files a
 /// transfer, and pieces a payload file.
-fn test_rows<S: Alter>(connection: &mut Connection<S>) -> Result<(), AdoptFault>
+fn test_rows<S: Alter>(connection: &mut Connection<S>, format: Format) -> Result<(), AdoptFault>
     requires idle { connection.old.in_transaction ≡ false }
     ensures none { HasCleanDisk (state S.Store connection.new) → (db : Database)
         → Stands (state S.Store connection.old) db
-        → OnOk result (AllByRecursion (λ text. Tells S.Store db text [] []) stray_texts) }
+        → OnOk result (AllByRecursion (λ text. Tells S.Store db text [] [])
+        (stray_texts format)) }
     ensures refused { HasCleanDisk (state S.Store connection.new) → (db : Database)
         → Stands (state S.Store connection.old) db
-        → IfErr result (IsNoneFor (IsNoLedger S.Store db)) }
+        → IfErr result (IsNoneFor (IsNoLedger S.Store db format)) }
     ensures reads { OnlyReads S.Store connection.old connection.new }
 {
     test_none(
@@ -212,6 +249,42 @@ fn test_rows<S: Alter>(connection: &mut Connection<S>) -> Result<(), AdoptFault>
         connection,
         "SELECT 1 FROM tag WHERE typeof(path) <> 'text' OR typeof(body) <> 'blob' OR NOT EXISTS (SELECT 1 FROM transfer WHERE id = tag.transfer)",
     )?;
+    test_items(connection, format)
+}
+
+/// The same for the rows of payload files.
+fn test_items<S: Alter>(connection: &mut Connection<S>, format: Format) -> Result<(), AdoptFault>
+    requires idle { connection.old.in_transaction ≡ false }
+    ensures none { HasCleanDisk (state S.Store connection.new) → (db : Database)
+        → Stands (state S.Store connection.old) db
+        → OnOk result (AllByRecursion (λ text. Tells S.Store db text [] [])
+        (stray_item_texts format)) }
+    ensures refused { HasCleanDisk (state S.Store connection.new) → (db : Database)
+        → Stands (state S.Store connection.old) db
+        → IfErr result (IsNoneFor (IsNoLedger S.Store db format)) }
+    ensures reads { OnlyReads S.Store connection.old connection.new }
+{
+    match format {
+        Format::First => test_none(
+            connection,
+            "SELECT 1 FROM item WHERE typeof(path) <> 'text' OR typeof(size) <> 'integer' OR NOT EXISTS (SELECT 1 FROM transfer WHERE id = item.transfer)",
+        ),
+        Format::Second => test_pieces(connection),
+    }
+}
+
+/// The same in format 2.
+fn test_pieces<S: Alter>(connection: &mut Connection<S>) -> Result<(), AdoptFault>
+    requires idle { connection.old.in_transaction ≡ false }
+    ensures none { HasCleanDisk (state S.Store connection.new) → (db : Database)
+        → Stands (state S.Store connection.old) db
+        → OnOk result (AllByRecursion (λ text. Tells S.Store db text [] [])
+        (stray_item_texts Format.Second)) }
+    ensures refused { HasCleanDisk (state S.Store connection.new) → (db : Database)
+        → Stands (state S.Store connection.old) db
+        → IfErr result (IsNoneFor (IsNoLedger S.Store db Format.Second)) }
+    ensures reads { OnlyReads S.Store connection.old connection.new }
+{
     test_none(
         connection,
         "SELECT 1 FROM held WHERE typeof(id) <> 'integer' OR typeof(path) <> 'text' OR typeof(size) <> 'integer' OR NOT EXISTS (SELECT 1 FROM transfer WHERE id = held.transfer)",
@@ -253,6 +326,8 @@ pub(crate) fn rows_of<S: Alter>(
     ensures refused { HasCleanDisk (state S.Store connection.new) → (db : Database)
         → Stands (state S.Store connection.old) db
         → IfErr result (IsNoneFor (IsNoQuery db.schema sql.now)) }
+    ensures opened { HasCleanDisk (state S.Store connection.new)
+        → OnOk result (IsTrue (state S.Store connection.old).is_open) }
     ensures reads { OnlyReads S.Store connection.old connection.new }
 {
     Ok(query(connection, sql, params)?)

@@ -1,11 +1,12 @@
 //! Queries for one payload file.
-ghost use Rattle.std.specs.Prelude.{◌≡◌, ◌≤◌, ◌/◌, ℕ, ℤ, false, IfOk, IsSome, IsTrue, List, MatchOption, None, OnOk, [], length, pos, slice_index_or};
+ghost use Rattle.std.specs.Prelude.{◌≡◌, ◌≤◌, ◌/◌, ℕ, ℤ, false, IfOk, IsTrue, List, MatchOption, None, OnOk, [], length, pos, slice_index_or};
 ghost use Rattle.std.specs.Option.{option_map, unwrap_or};
 ghost use Rattle.bag_ledger.specs.Keeping.{IsPieceAt};
 ghost use Rattle.bag_ledger.specs.Ledgers.{Ledger, content_of};
 ghost use Rattle.bag_sqlite.specs.Items.{HasItem, HasItemRow, HasPieceRow};
 ghost use Rattle.bag_sqlite.specs.Reading.{OnlyQueries};
-ghost use Rattle.bag_sqlite.specs.SqlKeepers.{HoldsLedger};
+ghost use Rattle.bag_sqlite.specs.SqlKeepers.{HoldsLedger, ShowsLedger};
+ghost use Rattle.bag_sqlite.specs.Tables.{Origin, Second};
 ghost use Rattle.sqlite.specs.Held.{state};
 ghost use Rattle.sqlite.specs.Order.{column};
 ghost use Rattle.sqlite.specs.State.{HasCleanDisk};
@@ -75,12 +76,13 @@ fn item_of<S: Alter>(
 ) -> Result<Option<Item>, Error>
     requires { connection.old.in_transaction ≡ false }
     ensures item { HasCleanDisk (state S.Store connection.new) → (ledger : Ledger)
-        → HoldsLedger (state S.Store connection.old) ledger
+        → HoldsLedger (state S.Store connection.old) ledger → (origin : Origin)
+        → ShowsLedger (Second origin) (state S.Store connection.old) ledger
         → IfOk result (λ item. MatchOption item (content_of ledger name.now path.now ≡ None)
-        (λ item. HasItem (state S.Store connection.old).now.trees name.now path.now
+        (λ item. HasItem origin (state S.Store connection.old).now.trees name.now path.now
         item.number item.size)) }
-    ensures opened { HasCleanDisk (state S.Store connection.new) → IfOk result (λ item.
-        IsSome item → IsTrue (state S.Store connection.old).is_open) }
+    ensures opened { HasCleanDisk (state S.Store connection.new)
+        → OnOk result (IsTrue (state S.Store connection.old).is_open) }
     ensures queries { OnlyQueries S.Store connection.old connection.new }
 {
     let Some(transfer) = transfer_number(connection, name)? else {
@@ -97,11 +99,11 @@ fn item_in<S: Alter>(
 ) -> Result<Option<Item>, Error>
     requires { connection.old.in_transaction ≡ false }
     ensures item { HasCleanDisk (state S.Store connection.new) → (ledger : Ledger)
-        → HoldsLedger (state S.Store connection.old) ledger
+        → (origin : Origin) → ShowsLedger (Second origin) (state S.Store connection.old) ledger
         → IfOk result (λ item. MatchOption item
-        ((number : ℤ) (size : ℕ) → ¬ HasItemRow (state S.Store connection.old).now.trees number
-        transfer path.now size)
-        (λ item. HasItemRow (state S.Store connection.old).now.trees item.number transfer
+        ((number : ℤ) (size : ℕ) → ¬ HasItemRow origin
+        (state S.Store connection.old).now.trees number transfer path.now size)
+        (λ item. HasItemRow origin (state S.Store connection.old).now.trees item.number transfer
         path.now item.size)) }
     ensures opened { HasCleanDisk (state S.Store connection.new)
         → OnOk result (IsTrue (state S.Store connection.old).is_open) }
@@ -137,12 +139,12 @@ fn piece_at<S: Alter>(
 ) -> Result<Option<Vec<u8>>, Error>
     requires { connection.old.in_transaction ≡ false }
     ensures piece { HasCleanDisk (state S.Store connection.new) → (ledger : Ledger)
-        → HoldsLedger (state S.Store connection.old) ledger
+        → (origin : Origin) → ShowsLedger (Second origin) (state S.Store connection.old) ledger
         → IfOk result (λ piece. MatchOption piece
-        ((body : List ℕ) → ¬ HasPieceRow (state S.Store connection.old).now.trees item
+        ((body : List ℕ) → ¬ HasPieceRow origin (state S.Store connection.old).now.trees item
         (offset / PIECE) body)
-        (λ piece. HasPieceRow (state S.Store connection.old).now.trees item (offset / PIECE)
-        piece.items)) }
+        (λ piece. HasPieceRow origin (state S.Store connection.old).now.trees item
+        (offset / PIECE) piece.items)) }
     ensures opened { HasCleanDisk (state S.Store connection.new)
         → OnOk result (IsTrue (state S.Store connection.old).is_open) }
     ensures queries { OnlyQueries S.Store connection.old connection.new }

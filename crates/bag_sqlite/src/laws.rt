@@ -2,20 +2,38 @@
 //! empty.
 ghost use Rattle.std.specs.Prelude.{◌≡◌, ◌↔◌, IsTrue};
 ghost use Rattle.bag_ledger.specs.Ledgers.{Ledger};
-ghost use Rattle.bag_sqlite.specs.Databases.{AreTablesOf};
-ghost use Rattle.bag_sqlite.specs.SqlKeepers.{HoldsLedger, MayLeaveLedger};
+ghost use Rattle.bag_sqlite.specs.Databases.{AreTablesOf, IsLedgerDatabase};
+ghost use Rattle.bag_sqlite.specs.Migrating.{MigratesLedger};
+ghost use Rattle.bag_sqlite.specs.SqlKeepers.{HoldsLedger, MayLeaveLedger, Offers};
+ghost use Rattle.bag_sqlite.specs.Tables.{Layout};
 ghost use Rattle.sqlite.specs.Held.{state};
-ghost use Rattle.sqlite.specs.State.{HasCleanDisk};
+ghost use Rattle.sqlite.specs.State.{HasCleanDisk, Survives};
 ghost use Rattle.sqlite.specs.Tree.{Trees};
 
 use crate::keeper::SqlKeeper;
 use bag_ledger::Keeper;
-use sqlite::Alter;
+use sqlite::{Alter, Connection};
 
-/// The tables of a database hold at most one ledger.
+/// The tables of a database hold at most one ledger, and so does a database, whichever of them it has.
 pub fn tables_hold_one_ledger()
-    ensures { (trees : Trees) (ledger other : Ledger) → AreTablesOf trees ledger
-        → AreTablesOf trees other → ledger ≡ other }
+    ensures tables { (layout : Layout) (trees : Trees) (ledger other : Ledger)
+        → AreTablesOf layout trees ledger → AreTablesOf layout trees other → ledger ≡ other }
+    ensures databases { (trees : Trees) (ledger other : Ledger) → IsLedgerDatabase trees ledger
+        → IsLedgerDatabase trees other → ledger ≡ other }
+{}
+
+/// Whatever a stop leaves while a ledger is opened, moved to format 2 or handed back, is the database of the same ledger,
+/// in the one format or in the other.
+pub fn a_stopped_opening_leaves_the_ledger<S: Alter>(
+    offered: &Connection<S>,
+    stopped: &Connection<S>,
+)
+    ensures { (ledger : Ledger) → Offers (state S.Store offered.now) ledger
+        → Survives (state S.Store offered.now) (state S.Store stopped.now)
+        (MigratesLedger S.Store (state S.Store offered.now))
+        → HasCleanDisk (state S.Store stopped.now)
+        → (trees : Trees) → (state S.Store stopped.now).may_leave trees
+        → IsLedgerDatabase trees ledger }
 {}
 
 /// A keeper in a database holds the ledger that its connection holds, and a crash leaves what it leaves of that

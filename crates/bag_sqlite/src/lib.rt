@@ -1,14 +1,16 @@
-//! Ledgers kept in an SQLite database, in ledger format 2.
+//! Ledgers kept in an SQLite database, in ledger format 2. One of format 1 is moved to format 2 when it is opened.
 #![tactic(auto)]
 
 mod adopting;
 mod batch;
 mod content;
+mod format;
 mod health;
 mod items;
 mod keeper;
 pub mod laws;
 mod making;
+mod migrating;
 mod octets;
 mod opening;
 mod putting;

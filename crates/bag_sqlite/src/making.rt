@@ -1,13 +1,15 @@
 //! Creates the tables of a new ledger.
-ghost use Rattle.std.specs.Prelude.{◌≡◌, IsTrue, OnErr, OnOk, false};
-ghost use Rattle.bag_sqlite.specs.Making.{IsCreated, IsLeft, IsMade, IsMaking, Makes, MakesLedger};
-ghost use Rattle.bag_sqlite.specs.Tables.{ledger_schema, no_schema, schema_to_tag};
+ghost use Rattle.std.specs.Prelude.{◌≡◌, [], IsTrue, OnErr, OnOk, false};
+ghost use Rattle.bag_sqlite.specs.Making.{IsCreated, IsLeft, IsMade, IsMaking, Makes, MakesLedger, no_rows};
+ghost use Rattle.bag_sqlite.specs.Tables.{New, Origin, held_tree, no_schema, piece_tree, schema_before, schema_to_tag, second_schema};
 ghost use Rattle.bag_sqlite.specs.Transactions.{CommitsNothing};
-ghost use Rattle.sqlite.specs.Change.{created};
+ghost use Rattle.sqlite.specs.Change.{created, next_tree};
+ghost use Rattle.sqlite.specs.Effect.{IsDatabase};
 ghost use Rattle.sqlite.specs.Held.{state};
 ghost use Rattle.sqlite.specs.Schema.{Schema};
 ghost use Rattle.sqlite.specs.State.{HasCleanDisk, Survives};
 ghost use Rattle.sqlite.specs.Table.{Table};
+ghost use Rattle.sqlite.specs.Tree.{Trees};
 
 use sqlite::{Alter, Connection, Error, ErrorCode, Transaction};
 
@@ -35,8 +37,8 @@ pub(crate) fn make_ledger<S: Alter>(connection: &mut Connection<S>) -> Result<()
 /// Creates the tables of formats, transfers and tag files.
 fn make_transfer_tables<S: Alter>(tx: &mut Transaction<'_, S>) -> Result<(), Error>
     ensures made { HasCleanDisk (state S.Store tx.new.conn.now)
-        → OnOk result (IsMaking no_schema (state S.Store tx.old.conn.now)
-        → IsMaking schema_to_tag (state S.Store tx.new.conn.now)) }
+        → OnOk result (IsMaking no_schema no_rows (state S.Store tx.old.conn.now)
+        → IsMaking schema_to_tag no_rows (state S.Store tx.new.conn.now)) }
     ensures inside { HasCleanDisk (state S.Store tx.new.conn.now)
         → OnOk result (IsTrue (state S.Store tx.old.conn.now).in_transaction
         → IsTrue (state S.Store tx.new.conn.now).in_transaction) }
@@ -56,11 +58,14 @@ fn make_transfer_tables<S: Alter>(tx: &mut Transaction<'_, S>) -> Result<(), Err
     )
 }
 
-/// Creates the tables of payload files and their pieces.
-fn make_item_tables<S: Alter>(tx: &mut Transaction<'_, S>) -> Result<(), Error>
+/// Creates the tables of payload files and their pieces, in a new database or in a ledger of format 1.
+pub(crate) fn make_item_tables<S: Alter>(tx: &mut Transaction<'_, S>) -> Result<(), Error>
     ensures made { HasCleanDisk (state S.Store tx.new.conn.now)
-        → OnOk result (IsMaking schema_to_tag (state S.Store tx.old.conn.now)
-        → IsMaking ledger_schema (state S.Store tx.new.conn.now)) }
+        → OnOk result ((origin : Origin) (rows : Trees) → rows (held_tree origin) ≡ []
+        → rows (piece_tree origin) ≡ []
+        → IsMaking (schema_before origin) rows (state S.Store tx.old.conn.now)
+        → IsMaking (second_schema origin) rows (state S.Store tx.new.conn.now)
+        × IsDatabase (state S.Store tx.new.conn.now).now) }
     ensures inside { HasCleanDisk (state S.Store tx.new.conn.now)
         → OnOk result (IsTrue (state S.Store tx.old.conn.now).in_transaction
         → IsTrue (state S.Store tx.new.conn.now).in_transaction) }
@@ -79,9 +84,11 @@ fn make_item_tables<S: Alter>(tx: &mut Transaction<'_, S>) -> Result<(), Error>
 /// Creates a table.
 fn make_table<S: Alter>(tx: &mut Transaction<'_, S>, sql: &str) -> Result<(), Error>
     ensures made { HasCleanDisk (state S.Store tx.new.conn.now)
-        → OnOk result ((before : Schema) (table : Table) → Makes before sql.now table
-        → IsMaking before (state S.Store tx.old.conn.now)
-        → IsMaking (created before table) (state S.Store tx.new.conn.now)) }
+        → OnOk result ((before : Schema) (table : Table) (rows : Trees)
+        → Makes before sql.now table → rows (next_tree before) ≡ []
+        → IsMaking before rows (state S.Store tx.old.conn.now)
+        → IsMaking (created before table) rows (state S.Store tx.new.conn.now)
+        × IsDatabase (state S.Store tx.new.conn.now).now) }
     ensures inside { HasCleanDisk (state S.Store tx.new.conn.now)
         → OnOk result (IsTrue (state S.Store tx.old.conn.now).in_transaction
         → IsTrue (state S.Store tx.new.conn.now).in_transaction) }
@@ -94,7 +101,7 @@ fn make_table<S: Alter>(tx: &mut Transaction<'_, S>, sql: &str) -> Result<(), Er
 /// Inserts the row of the format.
 fn write_format<S: Alter>(tx: &mut Transaction<'_, S>) -> Result<(), Error>
     ensures made { HasCleanDisk (state S.Store tx.new.conn.now)
-        → OnOk result (IsMaking ledger_schema (state S.Store tx.old.conn.now)
+        → OnOk result (IsMaking (second_schema New) no_rows (state S.Store tx.old.conn.now)
         → IsMade (state S.Store tx.new.conn.now)) }
     ensures inside { HasCleanDisk (state S.Store tx.new.conn.now)
         → OnOk result (IsTrue (state S.Store tx.old.conn.now).in_transaction

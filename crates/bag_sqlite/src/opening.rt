@@ -7,6 +7,7 @@ ghost use Rattle.bag_rules.specs.Opening.{Opens};
 ghost use Rattle.bag_sqlite.specs.Opening.{AddsTags, AddsTransfer, HasOneTransferMore, opened_under};
 ghost use Rattle.bag_sqlite.specs.Putting.{IsUnderWay};
 ghost use Rattle.bag_sqlite.specs.SqlKeepers.{HoldsLedger, MayLeaveLedger};
+ghost use Rattle.bag_sqlite.specs.Tables.{Origin};
 ghost use Rattle.bag_sqlite.specs.Transactions.{CommitsNothing};
 ghost use Rattle.sqlite.specs.Held.{Held, state};
 ghost use Rattle.sqlite.specs.State.{HasCleanDisk};
@@ -47,9 +48,9 @@ fn write_transfer<S: Alter>(
     files: &[File],
 ) -> Result<(), Error>
     ensures written { HasCleanDisk (state S.Store tx.new.conn.now)
-        → OnOk result (IsUnderWay (state S.Store tx.old.conn.now)
-        → IsUnderWay (state S.Store tx.new.conn.now)
-        × (number : ℤ) × HasOneTransferMore (state S.Store tx.old.conn.now).now.trees
+        → OnOk result ((origin : Origin) → IsUnderWay origin (state S.Store tx.old.conn.now)
+        → IsUnderWay origin (state S.Store tx.new.conn.now)
+        × (number : ℤ) × HasOneTransferMore origin (state S.Store tx.old.conn.now).now.trees
         (state S.Store tx.new.conn.now).now.trees
         (opened_under number name.now (files_of files.now))) }
     ensures opened { HasCleanDisk (state S.Store tx.new.conn.now)
@@ -64,9 +65,10 @@ fn write_transfer<S: Alter>(
 /// Inserts the row of a transfer, and returns its number.
 fn insert_transfer<S: Alter>(tx: &mut Transaction<'_, S>, name: &str) -> Result<i64, Error>
     ensures added { HasCleanDisk (state S.Store tx.new.conn.now)
-        → IfOk result (λ transfer. IsUnderWay (state S.Store tx.old.conn.now)
-        → IsUnderWay (state S.Store tx.new.conn.now)
-        × AddsTransfer (state S.Store tx.old.conn.now).now.trees
+        → IfOk result (λ transfer. (origin : Origin)
+        → IsUnderWay origin (state S.Store tx.old.conn.now)
+        → IsUnderWay origin (state S.Store tx.new.conn.now)
+        × AddsTransfer origin (state S.Store tx.old.conn.now).now.trees
         (state S.Store tx.new.conn.now).now.trees transfer name.now) }
     ensures opened { HasCleanDisk (state S.Store tx.new.conn.now)
         → OnOk result (IsTrue (state S.Store tx.old.conn.now).in_transaction
@@ -84,9 +86,9 @@ fn insert_tags<S: Alter>(
     files: &[File],
 ) -> Result<(), Error>
     ensures added { HasCleanDisk (state S.Store tx.new.conn.now)
-        → OnOk result (IsUnderWay (state S.Store tx.old.conn.now)
-        → IsUnderWay (state S.Store tx.new.conn.now)
-        × AddsTags (state S.Store tx.old.conn.now).now.trees
+        → OnOk result ((origin : Origin) → IsUnderWay origin (state S.Store tx.old.conn.now)
+        → IsUnderWay origin (state S.Store tx.new.conn.now)
+        × AddsTags origin (state S.Store tx.old.conn.now).now.trees
         (state S.Store tx.new.conn.now).now.trees transfer (files_of files.now)) }
     ensures kept { CommitsNothing S.Store tx.old.conn tx.new.conn }
 {
@@ -104,9 +106,9 @@ fn insert_tag<S: Alter>(
     body: &[u8],
 ) -> Result<(), Error>
     ensures added { HasCleanDisk (state S.Store tx.new.conn.now)
-        → OnOk result (IsUnderWay (state S.Store tx.old.conn.now)
-        → IsUnderWay (state S.Store tx.new.conn.now)
-        × AddsTags (state S.Store tx.old.conn.now).now.trees
+        → OnOk result ((origin : Origin) → IsUnderWay origin (state S.Store tx.old.conn.now)
+        → IsUnderWay origin (state S.Store tx.new.conn.now)
+        × AddsTags origin (state S.Store tx.old.conn.now).now.trees
         (state S.Store tx.new.conn.now).now.trees transfer ((path.now, body.now) ∷ [])) }
     ensures kept { CommitsNothing S.Store tx.old.conn tx.new.conn }
 {

@@ -7,6 +7,7 @@ ghost use Rattle.bag_ledger.specs.declared.fault.KeepFault.{KeepFault};
 ghost use Rattle.bag_sqlite.specs.Contents.{HasContentMore, HasRead, answer_of, in_pieces, put_fault_of};
 ghost use Rattle.bag_sqlite.specs.Putting.{AddsPieces, IsUnderWay};
 ghost use Rattle.bag_sqlite.specs.SqlKeepers.{HoldsLedger, MayLeaveLedger};
+ghost use Rattle.bag_sqlite.specs.Tables.{Origin};
 ghost use Rattle.bag_sqlite.specs.Transactions.{CommitsNothing};
 ghost use Rattle.sqlite.specs.Held.{Held, state};
 ghost use Rattle.sqlite.specs.State.{HasCleanDisk};
@@ -108,10 +109,10 @@ fn put_item<S: Alter, R: Source>(
     requires room { length buffer.old ≡ PIECE }
     ensures put { MatchResult result (λ done. (content : List ℕ)
         × IsGiven (given_by (R.remaining reader.old) (R.remaining reader.new)) want.now content
-        × (HasCleanDisk (state S.Store tx.new.conn.now)
-        → IsUnderWay (state S.Store tx.old.conn.now)
-        → IsUnderWay (state S.Store tx.new.conn.now)
-        × HasContentMore (state S.Store tx.old.conn.now).now.trees
+        × (HasCleanDisk (state S.Store tx.new.conn.now) → (origin : Origin)
+        → IsUnderWay origin (state S.Store tx.old.conn.now)
+        → IsUnderWay origin (state S.Store tx.new.conn.now)
+        × HasContentMore origin (state S.Store tx.old.conn.now).now.trees
         (state S.Store tx.new.conn.now).now.trees transfer want.now.path.now content))
         (λ refusal. (told : KeepFault)
         → RefusesGiven (given_by (R.remaining reader.old) (R.remaining reader.new)) want.now
@@ -141,10 +142,10 @@ fn put_pieces<S: Alter, R: Source>(
     requires room { length buffer.old ≡ PIECE }
     ensures read { MatchResult result (λ found. (pieces : List (List ℕ))
         × HasRead (R.remaining reader.old) (R.remaining reader.new) want.now found pieces
-        × (HasCleanDisk (state S.Store tx.new.conn.now)
-        → IsUnderWay (state S.Store tx.old.conn.now)
-        → IsUnderWay (state S.Store tx.new.conn.now)
-        × AddsPieces (state S.Store tx.old.conn.now).now.trees
+        × (HasCleanDisk (state S.Store tx.new.conn.now) → (origin : Origin)
+        → IsUnderWay origin (state S.Store tx.old.conn.now)
+        → IsUnderWay origin (state S.Store tx.new.conn.now)
+        × AddsPieces origin (state S.Store tx.old.conn.now).now.trees
         (state S.Store tx.new.conn.now).now.trees (in_pieces item [] pieces)))
         (λ refusal. (told : KeepFault)
         → RefusesGiven (given_by (R.remaining reader.old) (R.remaining reader.new)) want.now

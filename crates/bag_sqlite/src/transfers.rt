@@ -67,6 +67,8 @@ pub(crate) fn transfer_number<S: Alter>(
         → HoldsLedger (state S.Store connection.old) ledger
         → IfOk result (λ number. MatchOption number (transfer_of ledger name.now ≡ None)
         (HasTransferRow (state S.Store connection.old).now.trees name.now)) }
+    ensures opened { HasCleanDisk (state S.Store connection.new)
+        → OnOk result (IsTrue (state S.Store connection.old).is_open) }
     ensures queries { OnlyQueries S.Store connection.old connection.new }
 {
     let rows = query(

@@ -4,9 +4,10 @@ ghost use Rattle.std.specs.List.{AllByRecursion, concat};
 ghost use Rattle.bag_rules.specs.Files.{Files};
 ghost use Rattle.bag_rules.specs.Plans.{IsPlanOf};
 ghost use Rattle.bag_rules.specs.declared.limits.TheConstants.{LARGEST_ITEM as LARGEST};
-ghost use Rattle.bag_sqlite.specs.Adopting.{HasPieces, ItemPasses, OnlyReads, RowPasses, Stands, Tells, TellsOne, TransferPasses, TransfersPass, count_text, files_in, items_text, piece_text, tag_files_text, transfers_text};
+ghost use Rattle.bag_sqlite.specs.Adopting.{HasContent, HasPieces, OnlyReads, RowPasses, Stands, Tells, TellsOne, TransferPasses, TransfersPass, body_text, count_text, files_in, items_text, piece_text, tag_files_text, transfers_text};
 ghost use Rattle.bag_sqlite.specs.Batches.{HoldsLittle, IsFindingOf, IsHeld, TakesAlso, Took};
-ghost use Rattle.bag_sqlite.specs.Refusing.{AreTags, DoNotOpen, HasDamagedItem, HasMorePieces, IsBlob, IsNoLedger, IsNoneFor, IsSize, ItemFails, LacksPiece, OpensNone, RefusesTransfer, RefusesTransfers, ShowsOctets, adopt_fault};
+ghost use Rattle.bag_sqlite.specs.declared.format.Format.{Format};
+ghost use Rattle.bag_sqlite.specs.Refusing.{AreTags, DoNotOpen, HasDamagedItem, HasMorePieces, IsBlob, IsNoLedger, IsNoneFor, IsSize, LacksBody, LacksContent, LacksPiece, OpensNone, RefusesTransfer, RefusesTransfers, ShowsOctets, adopt_fault};
 ghost use Rattle.sqlite.specs.Effect.{Database};
 ghost use Rattle.sqlite.specs.Held.{state};
 ghost use Rattle.sqlite.specs.Order.{column, Row};
@@ -17,6 +18,7 @@ ghost use Rattle.sqlite.specs.declared.types.Value.TheVariants.{Blob, Int};
 use crate::adopting::{AdoptFault, rows_of};
 use crate::batch::Batch;
 use crate::content::Content;
+use crate::format::Format;
 use crate::transfers::{path_in, tag_set_in};
 use crate::watch::Watch;
 use bag_digest::{AlgSet, PIECE};
@@ -30,14 +32,15 @@ use std::alloc::Global;
 pub(crate) fn verify_transfers<S: Alter, W: Watch>(
     connection: &mut Connection<S>,
     watch: &W,
+    format: Format,
 ) -> Result<(), AdoptFault>
     requires idle { connection.old.in_transaction ≡ false }
     ensures verified { HasCleanDisk (state S.Store connection.new) → (db : Database)
         → Stands (state S.Store connection.old) db
-        → OnOk result (TransfersPass S.Store db) }
+        → OnOk result (TransfersPass S.Store db format) }
     ensures refused { HasCleanDisk (state S.Store connection.new) → (db : Database)
         → Stands (state S.Store connection.old) db
-        → IfErr result (RefusesTransfers S.Store db) }
+        → IfErr result (RefusesTransfers S.Store db format) }
     ensures reads { OnlyReads S.Store connection.old connection.new }
 {
     let rows = rows_of(
@@ -45,7 +48,13 @@ pub(crate) fn verify_transfers<S: Alter, W: Watch>(
         "SELECT id, name FROM transfer ORDER BY name",
         &[],
     )?;
-    verify_rows(*rows.allocator(), connection, watch, rows.as_slice())
+    verify_rows(
+        *rows.allocator(),
+        connection,
+        watch,
+        format,
+        rows.as_slice(),
+    )
 }
 
 /// Verifies the transfers with these numbers and names.
@@ -53,20 +62,21 @@ fn verify_rows<S: Alter, W: Watch>(
     alloc: Global,
     connection: &mut Connection<S>,
     watch: &W,
+    format: Format,
     rows: &[Row],
 ) -> Result<(), AdoptFault>
     requires idle { connection.old.in_transaction ≡ false }
     ensures verified { HasCleanDisk (state S.Store connection.new) → (db : Database)
         → Stands (state S.Store connection.old) db
         → OnOk result (AllByRecursion (λ row. (transfer : ℤ)
-        × (column row 0 ≡ Int transfer) × TransferPasses S.Store db transfer) rows.now) }
+        × (column row 0 ≡ Int transfer) × TransferPasses S.Store db format transfer) rows.now) }
     ensures refused { HasCleanDisk (state S.Store connection.new) → (db : Database)
         → Stands (state S.Store connection.old) db → Tells S.Store db transfers_text [] rows.now
-        → IfErr result (RefusesTransfers S.Store db) }
+        → IfErr result (RefusesTransfers S.Store db format) }
     ensures reads { OnlyReads S.Store connection.old connection.new }
 {
     for row in rows {
-        verify_transfer(alloc, connection, watch, row.get(0)?, row.get(1)?)?;
+        verify_transfer(alloc, connection, watch, format, row.get(0)?, row.get(1)?)?;
     }
     Ok(())
 }
@@ -76,23 +86,24 @@ fn verify_transfer<S: Alter, W: Watch>(
     alloc: Global,
     connection: &mut Connection<S>,
     watch: &W,
+    format: Format,
     transfer: i64,
     name: String,
 ) -> Result<(), AdoptFault>
     requires idle { connection.old.in_transaction ≡ false }
     ensures verified { HasCleanDisk (state S.Store connection.new) → (db : Database)
         → Stands (state S.Store connection.old) db
-        → OnOk result (TransferPasses S.Store db transfer) }
+        → OnOk result (TransferPasses S.Store db format transfer) }
     ensures refused { HasCleanDisk (state S.Store connection.new) → (db : Database)
         → Stands (state S.Store connection.old) db
-        → IfErr result (RefusesTransfer S.Store db transfer (string_bytes name)) }
+        → IfErr result (RefusesTransfer S.Store db format transfer (string_bytes name)) }
     ensures reads { OnlyReads S.Store connection.old connection.new }
 {
     let Some(plan) = plan_of(alloc, connection, transfer)? else {
         let path = String::new(alloc);
         return Err(AdoptFault::Damaged { name, path });
     };
-    match first_damaged(alloc, connection, watch, transfer, &plan)? {
+    match first_damaged(alloc, connection, watch, format, transfer, &plan)? {
         Some(path) => Err(AdoptFault::Damaged { name, path }),
         None => Ok(()),
     }
@@ -113,7 +124,7 @@ fn plan_of<S: Alter>(
     ensures refused { HasCleanDisk (state S.Store connection.new) → (db : Database)
         → Stands (state S.Store connection.old) db
         → MatchResult result (λ plan. IfNone plan (OpensNone S.Store db transfer))
-        (IsNoneFor (IsNoLedger S.Store db)) }
+        (IsNoneFor ((format : Format) → IsNoLedger S.Store db format)) }
     ensures reads { OnlyReads S.Store connection.old connection.new }
 {
     let rows = rows_of(
@@ -170,6 +181,7 @@ fn first_damaged<S: Alter, W: Watch>(
     alloc: Global,
     connection: &mut Connection<S>,
     watch: &W,
+    format: Format,
     transfer: i64,
     plan: &Plan,
 ) -> Result<Option<String>, AdoptFault>
@@ -178,21 +190,17 @@ fn first_damaged<S: Alter, W: Watch>(
         → Stands (state S.Store connection.old) db
         → (tags : Files) → IsPlanOf tags plan.now
         → IfOk result (λ path. IfNone path ((rows : List Row)
-        × Tells S.Store db items_text (Int transfer ∷ []) rows
-        × AllByRecursion (RowPasses S.Store db tags) rows)) }
+        × Tells S.Store db (items_text format) (Int transfer ∷ []) rows
+        × AllByRecursion (RowPasses S.Store db format tags) rows)) }
     ensures refused { HasCleanDisk (state S.Store connection.new) → (db : Database)
         → Stands (state S.Store connection.old) db → (tags : Files) → IsPlanOf tags plan.now
         → MatchResult result (λ path. IfSome path (λ path.
-        HasDamagedItem S.Store db tags transfer (string_bytes path)))
-        (IsNoneFor (IsNoLedger S.Store db)) }
+        HasDamagedItem S.Store db format tags transfer (string_bytes path)))
+        (IsNoneFor (IsNoLedger S.Store db format)) }
     ensures reads { OnlyReads S.Store connection.old connection.new }
 {
-    let rows = rows_of(
-        connection,
-        "SELECT id, path, size FROM held WHERE transfer = ?1 ORDER BY path",
-        params![transfer],
-    )?;
-    damaged_in(alloc, connection, watch, plan, rows.as_slice())
+    let rows = rows_of(connection, format.items_text(), params![transfer])?;
+    damaged_in(alloc, connection, watch, format, plan, rows.as_slice())
 }
 
 /// The path of the first payload file in these rows that isn't valid, if there is one.
@@ -200,6 +208,7 @@ fn damaged_in<S: Alter, W: Watch>(
     alloc: Global,
     connection: &mut Connection<S>,
     watch: &W,
+    format: Format,
     plan: &Plan,
     rows: &[Row],
 ) -> Result<Option<String>, AdoptFault>
@@ -207,13 +216,13 @@ fn damaged_in<S: Alter, W: Watch>(
     ensures passing { HasCleanDisk (state S.Store connection.new) → (db : Database)
         → Stands (state S.Store connection.old) db
         → (tags : Files) → IsPlanOf tags plan.now → IfOk result (λ path. IfNone path
-        (AllByRecursion (RowPasses S.Store db tags) rows.now)) }
+        (AllByRecursion (RowPasses S.Store db format tags) rows.now)) }
     ensures refused { HasCleanDisk (state S.Store connection.new) → (db : Database)
         → Stands (state S.Store connection.old) db → (tags : Files) → IsPlanOf tags plan.now
-        → (transfer : ℤ) → Tells S.Store db items_text (Int transfer ∷ []) rows.now
+        → (transfer : ℤ) → Tells S.Store db (items_text format) (Int transfer ∷ []) rows.now
         → MatchResult result (λ path. IfSome path (λ path.
-        HasDamagedItem S.Store db tags transfer (string_bytes path)))
-        (IsNoneFor (IsNoLedger S.Store db)) }
+        HasDamagedItem S.Store db format tags transfer (string_bytes path)))
+        (IsNoneFor (IsNoLedger S.Store db format)) }
     ensures reads { OnlyReads S.Store connection.old connection.new }
 {
     let mut batch = Batch::none(alloc);
@@ -227,7 +236,16 @@ fn damaged_in<S: Alter, W: Watch>(
             }
             batch = Batch::none(alloc);
         }
-        let finding = read_item(alloc, connection, watch, plan, item, path.as_str(), size)?;
+        let finding = read_item(
+            alloc,
+            connection,
+            watch,
+            format,
+            plan,
+            item,
+            path.as_str(),
+            size,
+        )?;
         match finding {
             Finding::Valid => {}
             Finding::Damaged => return Ok(Some(batch.first_damaged(alloc)?.unwrap_or(path))),
@@ -253,6 +271,7 @@ fn read_item<'a, S: Alter, W: Watch>(
     alloc: Global,
     connection: &mut Connection<S>,
     watch: &W,
+    format: Format,
     plan: &'a Plan,
     item: i64,
     path: &str,
@@ -261,8 +280,8 @@ fn read_item<'a, S: Alter, W: Watch>(
     requires idle { connection.old.in_transaction ≡ false }
     ensures found { HasCleanDisk (state S.Store connection.new) → (db : Database)
         → Stands (state S.Store connection.old) db → (tags : Files) → IsPlanOf tags plan.now
-        → MatchResult result (IsFindingOf S.Store db tags item path.now size)
-        (IsNoneFor (IsNoLedger S.Store db)) }
+        → MatchResult result (IsFindingOf S.Store db format tags item path.now size)
+        (IsNoneFor (IsNoLedger S.Store db format)) }
     ensures little { IfOk result HoldsLittle }
     ensures reads { OnlyReads S.Store connection.old connection.new }
 {
@@ -275,7 +294,8 @@ fn read_item<'a, S: Alter, W: Watch>(
     let Some(size) = size_in(size) else {
         return Ok(Finding::Damaged);
     };
-    let Some(content) = content_of(alloc, connection, watch, item, size, want.algs())? else {
+    let Some(content) = content_of(alloc, connection, watch, format, item, size, want.algs())?
+    else {
         return Ok(Finding::Damaged);
     };
     match content {
@@ -298,8 +318,80 @@ fn size_in(size: i64) -> Option<u64>
     Some(size as u64)
 }
 
-/// The content of a payload file, if its pieces are complete and have this size in all.
+/// The content of a payload file, if it is complete and has this size.
 fn content_of<S: Alter, W: Watch>(
+    alloc: Global,
+    connection: &mut Connection<S>,
+    watch: &W,
+    format: Format,
+    item: i64,
+    size: u64,
+    set: AlgSet,
+) -> Result<Option<Content>, AdoptFault>
+    requires { (connection.old.in_transaction ≡ false) × (size ≤ LARGEST) }
+    ensures content { HasCleanDisk (state S.Store connection.new) → (db : Database)
+        → Stands (state S.Store connection.old) db
+        → IfOk result (λ content. IfSome content (λ content. (octets : List ℕ)
+        × HasContent S.Store db format item octets × (size ≡ length octets)
+        × Took content set octets)) }
+    ensures held { IfOk result (λ content. IfSome content (λ content. IsHeld content size size)) }
+    ensures refused { HasCleanDisk (state S.Store connection.new) → (db : Database)
+        → Stands (state S.Store connection.old) db
+        → MatchResult result (λ content. IfNone content (LacksContent S.Store db format item size))
+        (IsNoneFor (IsNoLedger S.Store db format)) }
+    ensures reads { OnlyReads S.Store connection.old connection.new }
+{
+    match format {
+        Format::First => whole_content(alloc, connection, watch, item, size, set),
+        Format::Second => content_in_pieces(alloc, connection, watch, item, size, set),
+    }
+}
+
+/// The content of a payload file that is one blob, if it has this size.
+fn whole_content<S: Alter, W: Watch>(
+    alloc: Global,
+    connection: &mut Connection<S>,
+    watch: &W,
+    item: i64,
+    size: u64,
+    set: AlgSet,
+) -> Result<Option<Content>, AdoptFault>
+    requires { connection.old.in_transaction ≡ false }
+    ensures content { HasCleanDisk (state S.Store connection.new) → (db : Database)
+        → Stands (state S.Store connection.old) db
+        → IfOk result (λ content. IfSome content (λ content. (octets : List ℕ)
+        × TellsOne S.Store db body_text (Int item ∷ []) (Blob octets) × (size ≡ length octets)
+        × Took content set octets)) }
+    ensures held { IfOk result (λ content. IfSome content (λ content. IsHeld content size size)) }
+    ensures refused { HasCleanDisk (state S.Store connection.new) → (db : Database)
+        → Stands (state S.Store connection.old) db
+        → MatchResult result (λ content. IfNone content (LacksBody S.Store db item size))
+        (IsNoneFor (IsNoLedger S.Store db Format.First)) }
+    ensures reads { OnlyReads S.Store connection.old connection.new }
+{
+    let rows = rows_of(
+        connection,
+        "SELECT body FROM item WHERE rowid = ?1",
+        params![item],
+    )?;
+    if rows.len() != 1 {
+        return Ok(None);
+    }
+    let Some(body) = blob_in(&rows[0]) else {
+        return Ok(None);
+    };
+    if body.len() as u64 != size {
+        return Ok(None);
+    }
+    watch.add_file();
+    watch.add_octets(size);
+    let mut content = Content::none(alloc, size, set);
+    content.take(body)?;
+    Ok(Some(content))
+}
+
+/// The content of a payload file in pieces, if they are complete and have this size in all.
+fn content_in_pieces<S: Alter, W: Watch>(
     alloc: Global,
     connection: &mut Connection<S>,
     watch: &W,
@@ -318,7 +410,7 @@ fn content_of<S: Alter, W: Watch>(
         → Stands (state S.Store connection.old) db
         → MatchResult result (λ content. IfNone content (LacksPiece S.Store db item size
         ⊎ HasMorePieces S.Store db item size))
-        (IsNoneFor (IsNoLedger S.Store db)) }
+        (IsNoneFor (IsNoLedger S.Store db Format.Second)) }
     ensures reads { OnlyReads S.Store connection.old connection.new }
 {
     let mut content = Content::none(alloc, size, set);
@@ -358,7 +450,7 @@ fn take_piece<S: Alter>(
         → Stands (state S.Store connection.old) db
         → MatchResult result (λ taken. taken ≡ false → (rows : List Row)
         × Tells S.Store db piece_text (Int item ∷ Int n ∷ []) rows × ¬ ShowsOctets rows octets)
-        (IsNoneFor (IsNoLedger S.Store db)) }
+        (IsNoneFor (IsNoLedger S.Store db Format.Second)) }
     ensures held { IfOk result (λ taken. IsTrue taken → (size before : ℕ)
         → IsHeld content.old size before → IsHeld content.new size (before + octets)) }
     ensures reads { OnlyReads S.Store connection.old connection.new }
@@ -399,7 +491,7 @@ fn count_of<S: Alter>(connection: &mut Connection<S>, item: i64) -> Result<i64, 
         → Stands (state S.Store connection.old) db
         → MatchResult result
         (λ count. TellsOne S.Store db count_text (Int item ∷ []) (Int count))
-        (IsNoneFor (IsNoLedger S.Store db)) }
+        (IsNoneFor (IsNoLedger S.Store db Format.Second)) }
     ensures reads { OnlyReads S.Store connection.old connection.new }
 {
     let rows = rows_of(

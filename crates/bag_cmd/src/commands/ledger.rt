@@ -260,7 +260,6 @@ impl Display for UnopenedLine<'_> {
     fn fmt<W: fmt::Write>(&self, f: &mut Formatter<W>) -> fmt::Result {
         match self.0 {
             AdoptFault::NotALedger => f.write_str("bag: not a ledger"),
-            AdoptFault::OldFormat => f.write_str("bag: old format"),
             AdoptFault::Damaged { name, path } => {
                 let name = TextSpelling(name.as_str());
                 write!(f, "bag: damaged {name} {}", TextSpelling(path.as_str()))

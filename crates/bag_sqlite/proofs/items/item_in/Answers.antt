@@ -6,16 +6,15 @@ use Rattle.bag_sqlite.proofs.SqlLemmas.{whichever}
 use Rattle.bag_sqlite.proofs.items.item_in.Goals as goal
 
 pub returns-clause-item : goal.returns-clause-item
-returns-clause-item g c clean ledger holds =
+returns-clause-item g c clean ledger o shows =
     let begun = state g.S.Store (record c.args.connection.now { in_transaction = true }) in
     let it = c.in_ok-rows.ensures.shown clean in
-    let shows = holds.shows (was_open begun (state g.S.Store it.then) _ _ _ it.shown) in
     let transfer = c.args.transfer in
     let path = c.args.path.now in
     let first = c.params-to_sql.ensures ∙ ap Int (to_z-of_z w64 c.args.transfer c.ranges.transfer) in
     if_ok c.first_item.result _
-    (λ item. MatchOption item ((number : ℤ) (size : ℕ) → ¬ HasItemRow begun.now.trees number transfer path size) (λ item. HasItemRow begun.now.trees item.number transfer path item.size))
-    (λ item read. item_shown begun (state g.S.Store it.then) c.in_ok-rows.rows.items ledger shows.schema_is shows.database.tables transfer path (rw (first, c.params-to_sql-2.ensures) at it.shown) item
+    (λ item. MatchOption item ((number : ℤ) (size : ℕ) → ¬ HasItemRow o begun.now.trees number transfer path size) (λ item. HasItemRow o begun.now.trees item.number transfer path item.size))
+    (λ item read. item_shown begun (state g.S.Store it.then) c.in_ok-rows.rows.items ledger shows.schema_is shows.database.tables.held transfer path (rw (first, c.params-to_sql-2.ensures) at it.shown) item
     (subst (λ rows. MatchOption item (rows ≡ []) (λ item. (column (slice_index_or rows 0 []) 0 ≡ Int item.number) × (column (slice_index_or rows 0 []) 1 ≡ Int (pos item.size)))) c.as_slice.ensures.value read)) c.first_item.ensures
 
 pub returns-clause-opened : goal.returns-clause-opened

@@ -6,18 +6,17 @@ use Rattle.bag_sqlite.proofs.SqlLemmas.{whichever}
 use Rattle.bag_sqlite.proofs.items.piece_at.Goals as goal
 
 pub returns-clause-piece : goal.returns-clause-piece
-returns-clause-piece g c clean ledger holds =
+returns-clause-piece g c clean ledger o shows =
     let begun = state g.S.Store (record c.args.connection.now { in_transaction = true }) in
     let it = c.in_ok-rows.ensures.shown clean in
-    let shows = holds.shows (was_open begun (state g.S.Store it.then) _ _ _ it.shown) in
     let item = c.args.item in
     let n = c.args.offset / PIECE in
     let first = c.params-to_sql.ensures ∙ ap Int (to_z-of_z w64 c.args.item c.ranges.item) in
     let low : n < 2 ^ 63 = omega (arith, c.ranges.offset.fits) in
     let second = c.params-to_sql-2.ensures ∙ ap Int (to_z_pos w64 low) in
     if_ok c.first_octets.result _
-    (λ piece. MatchOption piece ((body : List ℕ) → ¬ HasPieceRow begun.now.trees item n body) (λ piece. HasPieceRow begun.now.trees item n piece.items))
-    (λ piece read. piece_shown begun (state g.S.Store it.then) c.in_ok-rows.rows.items ledger shows.schema_is shows.database.tables item n (rw (first, second) at it.shown) piece
+    (λ piece. MatchOption piece ((body : List ℕ) → ¬ HasPieceRow o begun.now.trees item n body) (λ piece. HasPieceRow o begun.now.trees item n piece.items))
+    (λ piece read. piece_shown begun (state g.S.Store it.then) c.in_ok-rows.rows.items ledger shows.schema_is shows.database.tables.held item n (rw (first, second) at it.shown) piece
     (subst (λ rows. MatchOption piece (rows ≡ []) (λ octets. column (slice_index_or rows 0 []) 0 ≡ Blob octets.items)) c.as_slice.ensures.value read)) c.first_octets.ensures
 
 pub returns-clause-opened : goal.returns-clause-opened

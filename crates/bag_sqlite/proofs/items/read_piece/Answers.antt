@@ -2,8 +2,14 @@ use Rattle.std.proofs.Common.{FitsSigned, rules, sym, w64, arith, subst, ◌/◌
 use Rattle.bag_sqlite.proofs.Words.{Database, HasCleanDisk, HasPieceRow, IsPieceAt, PIECE, state, to_z-of_z}
 use Rattle.bag_sqlite.proofs.AdoptingLemmas.{queries_then}
 use Rattle.bag_sqlite.proofs.ContentLemmas.{no_piece_held, piece_held}
-use Rattle.bag_sqlite.proofs.ReadingLemmas.{same_shown, still_holds}
+use Rattle.bag_sqlite.proofs.ReadingLemmas.{same_shown, still_shows}
 use Rattle.bag_sqlite.proofs.items.read_piece.Goals as goal
+
+pub returns-in_default-clause-piece : goal.returns-in_default-clause-piece
+returns-in_default-clause-piece g c clean ledger holds =
+    let (o, shows) = holds.shows (c.in_ok-item.ensures.opened clean) in
+    let none = rw c.in_default.is at (c.in_ok-item.ensures.item clean ledger holds o shows) in
+    rw none (search rules)
 
 pub returns-in_default-2-clause-piece : goal.returns-in_default-2-clause-piece
 returns-in_default-2-clause-piece g c clean ledger holds =
@@ -12,14 +18,14 @@ returns-in_default-2-clause-piece g c clean ledger holds =
     let fits : FitsSigned w64 c.in-Some.item.number = search rules in
     let early : HasCleanDisk mid = omega (arith, clean, c.piece_at.ensures.queries.survives.clean) in
     let left = c.in_ok-item.ensures.queries.left early in
-    let still = still_holds old mid ledger early left c.requires c.in_ok-item.ensures.queries.survives holds in
     let is_open = c.in_ok-piece.ensures.opened clean in
-    let shows = holds.shows (left.was_open is_open) in
+    let (o, shows) = holds.shows (left.was_open is_open) in
     let same = same_shown old mid left c.requires is_open shows.committed in
-    let item = rw c.in-Some.is at (c.in_ok-item.ensures.item early ledger holds) in
-    let none = rw (c.in_default-2.is, to_z-of_z w64 c.in-Some.item.number fits) at (c.in_ok-piece.ensures.piece clean ledger still) in
-    no_piece_held old.now.trees ledger shows.database.tables c.args.name.now c.args.path.now c.in-Some.item.number c.in-Some.item.size c.args.offset c.args.buf.now item
-    (λ body row. none body (subst (λ (d : Database). HasPieceRow d.trees c.in-Some.item.number (c.args.offset / PIECE) body) (sym same) row))
+    let still = still_shows old mid ledger left c.requires is_open shows in
+    let item = rw c.in-Some.is at (c.in_ok-item.ensures.item early ledger holds o shows) in
+    let none = rw (c.in_default-2.is, to_z-of_z w64 c.in-Some.item.number fits) at (c.in_ok-piece.ensures.piece clean ledger o still) in
+    no_piece_held old.now.trees ledger shows.database.tables.held c.args.name.now c.args.path.now c.in-Some.item.number c.in-Some.item.size c.args.offset c.args.buf.now item
+    (λ body row. none body (subst (λ (d : Database). HasPieceRow o d.trees c.in-Some.item.number (c.args.offset / PIECE) body) (sym same) row))
 
 pub returns-clause-piece : goal.returns-clause-piece
 returns-clause-piece g c clean ledger holds =
@@ -28,14 +34,14 @@ returns-clause-piece g c clean ledger holds =
     let fits : FitsSigned w64 c.in-Some.item.number = search rules in
     let early : HasCleanDisk mid = omega (arith, clean, c.piece_at.ensures.queries.survives.clean) in
     let left = c.in_ok-item.ensures.queries.left early in
-    let still = still_holds old mid ledger early left c.requires c.in_ok-item.ensures.queries.survives holds in
     let is_open = c.in_ok-piece.ensures.opened clean in
-    let shows = holds.shows (left.was_open is_open) in
+    let (o, shows) = holds.shows (left.was_open is_open) in
     let same = same_shown old mid left c.requires is_open shows.committed in
-    let item = rw c.in-Some.is at (c.in_ok-item.ensures.item early ledger holds) in
-    let row = rw (c.in-Some-2.is, to_z-of_z w64 c.in-Some.item.number fits) at (c.in_ok-piece.ensures.piece clean ledger still) in
-    piece_held old.now.trees ledger shows.database.tables c.args.name.now c.args.path.now c.in-Some.item.number c.in-Some.item.size c.args.offset c.copy_from.new.buf item c.in-Some-2.piece.items c.copy_from.result
-    (subst (λ (d : Database). HasPieceRow d.trees c.in-Some.item.number (c.args.offset / PIECE) c.in-Some-2.piece.items) same row)
+    let still = still_shows old mid ledger left c.requires is_open shows in
+    let item = rw c.in-Some.is at (c.in_ok-item.ensures.item early ledger holds o shows) in
+    let row = rw (c.in-Some-2.is, to_z-of_z w64 c.in-Some.item.number fits) at (c.in_ok-piece.ensures.piece clean ledger o still) in
+    piece_held old.now.trees ledger shows.database.tables.held c.args.name.now c.args.path.now c.in-Some.item.number c.in-Some.item.size c.args.offset c.copy_from.new.buf item c.in-Some-2.piece.items c.copy_from.result
+    (subst (λ (d : Database). HasPieceRow o d.trees c.in-Some.item.number (c.args.offset / PIECE) c.in-Some-2.piece.items) same row)
     (subst (λ octets. IsPieceAt octets (c.args.offset % PIECE) c.copy_from.result c.copy_from.new.buf) c.as_slice.ensures.value c.copy_from.ensures)
 
 pub returns-in_err-piece-clause-queries : goal.returns-in_err-piece-clause-queries

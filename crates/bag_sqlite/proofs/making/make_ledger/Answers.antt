@@ -1,5 +1,5 @@
 use Rattle.std.proofs.Common.{◌≡◌, [], false, OnErr, OnOk, IsTrue, refl, sym, subst, rules, arith}
-use Rattle.bag_sqlite.proofs.Words.{HasCleanDisk, IsCreated, IsLedgerDatabase, IsLeft, IsMade, KeepsCommit, MakesLedger, no_schema, state, Survives, survives_begin, survives_then, Trees}
+use Rattle.bag_sqlite.proofs.Words.{HasCleanDisk, IsCreated, IsDatabaseOf, IsLeft, IsMade, KeepsCommit, MakesLedger, New, no_rows, no_schema, Second, state, Survives, survives_begin, survives_then, Trees}
 use Rattle.bag_sqlite.proofs.MakingLemmas.{begin_making, created_by, kept_since, left_by_failing}
 use Rattle.bag_sqlite.proofs.SqlLemmas.{kept_then, on_err, on_ok}
 use Rattle.bag_sqlite.proofs.making.make_ledger.Given.{Over}
@@ -11,7 +11,7 @@ made g c third blank =
     let second : HasCleanDisk (state g.S.Store c.make_item_tables.new.tx.conn.now) = omega (arith, third, c.write_format.ensures.kept.survives.clean) in
     let first : HasCleanDisk (state g.S.Store c.make_transfer_tables.new.tx.conn.now) = omega (arith, second, c.make_item_tables.ensures.kept.survives.clean) in
     let one = rw c.transaction-transaction.ensures.begun at (c.in_ok-make_transfer_tables.ensures.made first) in
-    c.in_ok-write_format.ensures.made third (c.in_ok-make_item_tables.ensures.made second (one (begin_making g.S.Store c.args.connection.now blank)))
+    c.in_ok-write_format.ensures.made third (c.in_ok-make_item_tables.ensures.made second New no_rows refl refl (one (begin_making g.S.Store c.args.connection.now blank))).0
 
 kept : (g : Over) (c : goal.After-connection-2-1 g) → HasCleanDisk (state g.S.Store c.write_format.new.tx.conn.now)
     → KeepsCommit (state g.S.Store c.args.connection.now) (state g.S.Store c.write_format.new.tx.conn.now)
@@ -66,6 +66,6 @@ returns-clause-survives g c =
     let last = survives_then one two three _ _ (λ _. ⊥) (λ _ db none. none) (λ _ db none. none) c.make_item_tables.ensures.kept.survives c.write_format.ensures.kept.survives in
     let inside = survives_then _ one three _ _ (λ _. ⊥) (λ _ db none. none) (λ _ db none. none) (rw c.transaction-transaction.ensures.begun at c.make_transfer_tables.ensures.kept.survives) last in
     let whole = survives_then (state g.S.Store old) three (state g.S.Store end) _ _ P (λ _ db none. absurd none)
-    (λ clean db is blank. subst (λ (t : Trees). IsLedgerDatabase t []) (sym is) (made g c (omega (arith, c.commit.ensures.survives.clean)) blank).database)
+    (λ clean db is blank. subst (λ (t : Trees). IsDatabaseOf (Second New) t []) (sym is) (made g c (omega (arith, c.commit.ensures.survives.clean)) blank).database)
     (survives_begin g.S.Store old three _ inside) c.commit.ensures.survives in
     subst (λ h. Survives (state g.S.Store old) (state g.S.Store h) P) same whole

@@ -5,7 +5,7 @@ use Rattle.bag_sqlite.proofs.OpeningLemmas.{tag_inserted}
 use Rattle.bag_sqlite.proofs.opening.insert_tag.Goals as goal
 
 pub returns-clause-added : goal.returns-clause-added
-returns-clause-added g c clean way =
+returns-clause-added g c clean o way =
     let old = state g.S.Store c.args.tx.now.conn.now in
     let new = state g.S.Store c.execute.new.self.conn.now in
     let ran : ExecutesInside 0 new_tag_text (Int c.args.transfer ∷ Text c.args.path.now ∷ Blob c.args.body.now ∷ []) old new (Ok c.in_ok-execute.field-0) =

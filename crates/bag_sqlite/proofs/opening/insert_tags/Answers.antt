@@ -13,14 +13,14 @@ loop-file-preserved g c =
     let same = to_z-of_z w64 c.args.transfer c.ranges.transfer in
     record {
       kept = nothing_then c.loop-file.invariant.kept c.insert_tag.ensures.kept;
-      rows = λ clean way.
-          let so_far = rw same at (c.loop-file.invariant.rows (before clean) way) in
-          let one = rw (same, c.as_str.ensures.text, c.path.ensures, c.body.ensures) at (c.in_ok-insert_tag.ensures.added clean so_far.0) in
+      rows = λ clean o way.
+          let so_far = rw same at (c.loop-file.invariant.rows (before clean) o way) in
+          let one = rw (same, c.as_str.ensures.text, c.path.ensures, c.body.ensures) at (c.in_ok-insert_tag.ensures.added clean o so_far.0) in
           rw same (one.0, tags_grow old.now.trees mid.now.trees new.now.trees c.args.transfer c.args.files.now c.loop-file.file-index c.file-item.result c.loop-file-test.true c.file-item.is so_far.1 one.1);
     }
 
 pub returns-clause-added : goal.returns-clause-added
-returns-clause-added g c clean way = rw (to_z-of_z w64 c.args.transfer c.ranges.transfer, take_all c.loop-file.file-index c.args.files.now c.loop-file-test.false) at (c.loop-file.invariant.rows clean way)
+returns-clause-added g c clean o way = rw (to_z-of_z w64 c.args.transfer c.ranges.transfer, take_all c.loop-file.file-index c.args.files.now c.loop-file-test.false) at (c.loop-file.invariant.rows clean o way)
 
 pub returns-in_err-insert_tag-clause-kept : goal.returns-in_err-insert_tag-clause-kept
 returns-in_err-insert_tag-clause-kept g c = nothing_then c.loop-file.invariant.kept c.insert_tag.ensures.kept

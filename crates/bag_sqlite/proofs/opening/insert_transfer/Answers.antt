@@ -5,7 +5,7 @@ use Rattle.bag_sqlite.proofs.OpeningLemmas.{transfer_inserted}
 use Rattle.bag_sqlite.proofs.opening.insert_transfer.Goals as goal
 
 pub returns-clause-added : goal.returns-clause-added
-returns-clause-added g c clean way =
+returns-clause-added g c clean o way =
     let old = state g.S.Store c.args.tx.now.conn.now in
     let new = state g.S.Store c.execute.new.self.conn.now in
     let ran : ExecutesInside 0 new_transfer_text (Text c.args.name.now ∷ []) old new (Ok c.in_ok-execute.field-0) = rw c.params-to_sql.ensures at (c.in_ok-execute.ensures.runs clean way.mode) in

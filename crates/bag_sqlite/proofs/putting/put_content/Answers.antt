@@ -7,6 +7,10 @@ use Rattle.bag_sqlite.proofs.ReadingLemmas.{ReadsLedger, keeps_reading, queries_
 use Rattle.bag_sqlite.proofs.StoringLemmas.{prepares_put, puts_it}
 use Rattle.bag_sqlite.proofs.putting.put_content.Goals as goal
 
+pub returns-in_default-clause-put : goal.returns-in_default-clause-put
+returns-in_default-clause-put g c told =
+    (search rules, inl (keeps_reading g.S.Store c.args.connection.now c.transfer_number.new.connection c.requires.idle c.transfer_number.ensures.queries))
+
 pub returns-in_err-put_item-clause-put : goal.returns-in_err-put_item-clause-put
 returns-in_err-put_item-clause-put g c =
     let p = err_from_is_err_and c.from_residual-in_err-put_item.result c.from_residual-in_err-put_item.ensures.1 in

@@ -9,7 +9,7 @@ pieces-init g c = record {
   kept = nothing_same;
   used = search rules;
   room = search rules;
-  read = ([], read_nothing _ c.args.want.now c.new-multi.result c.algs.result c.algs.ensures c.new-multi.ensures, λ clean way. (way, no_pieces _ _));
+  read = ([], read_nothing _ c.args.want.now c.new-multi.result c.algs.result c.algs.ensures c.new-multi.ensures, λ clean o way. (way, no_pieces _ _));
 }
 
 pub returns-in_err-n-clause-read : goal.returns-in_err-n-clause-read
@@ -57,8 +57,8 @@ returns-then-n-buffer-clause-read g c =
     let same = to_z-of_z w64 c.args.item c.ranges.item in (
       _,
       last,
-      λ clean. rows_then old mid new c.args.item c.pieces.total it.0 _ (next_number _ _ c.args.want.now _ _ it.0 it.1) (rw same at (it.2 (omega (arith, clean, c.insert_piece.ensures.kept.survives.clean))))
-          (rw same at (c.in_ok-insert_piece.ensures.added clean)),
+      λ clean o. rows_then old mid new c.args.item c.pieces.total it.0 _ (next_number _ _ c.args.want.now _ _ it.0 it.1) (rw same at (it.2 (omega (arith, clean, c.insert_piece.ensures.kept.survives.clean)) o))
+          (rw same at (c.in_ok-insert_piece.ensures.added clean o)),
     )
 
 pub returns-then-n-buffer-clause-uses : goal.returns-then-n-buffer-clause-uses
@@ -82,8 +82,8 @@ pieces-preserved g c =
       read = (
         _,
         read_more _ _ _ c.args.want.now _ _ c.in_ok-n.n it.0 _ it.1 c.in_ok-n.ensures.piece c.update.new.self c.update.ensures (omega (arith, room, c.if-n-buffer.false, c.in_ok-n.ensures.piece.bound)),
-        rw same (λ clean. rows_then old mid new c.args.item c.pieces.total it.0 _ (next_number _ _ c.args.want.now _ _ it.0 it.1) (rw same at (it.2 (omega (arith, clean, c.insert_piece.ensures.kept.survives.clean))))
-            (rw same at (c.in_ok-insert_piece.ensures.added clean))),
+        rw same (λ clean o. rows_then old mid new c.args.item c.pieces.total it.0 _ (next_number _ _ c.args.want.now _ _ it.0 it.1) (rw same at (it.2 (omega (arith, clean, c.insert_piece.ensures.kept.survives.clean)) o))
+            (rw same at (c.in_ok-insert_piece.ensures.added clean o))),
       );
     }
 

@@ -1,5 +1,5 @@
 use Rattle.std.proofs.Common.{◌≡◌, ◌+◌, ◌-◌, ℕ, List, [], length}
-use Rattle.bag_sqlite.proofs.Words.{AddsPieces, CommitsNothing, HasCleanDisk, in_pieces, IsUnderWay, LARGEST_ITEM, PIECE, state, UsesSource}
+use Rattle.bag_sqlite.proofs.Words.{AddsPieces, CommitsNothing, HasCleanDisk, in_pieces, IsUnderWay, LARGEST_ITEM, Origin, PIECE, state, UsesSource}
 use Rattle.bag_sqlite.proofs.PuttingLemmas.{HasReadOn}
 use Rattle.bag_sqlite.proofs.putting.put_pieces.Given as goal
 
@@ -14,7 +14,7 @@ invariant-pieces g l =
       used : UsesSource source.failures source.ready source.keeps l.fn.reader l.reader ⊥;
       room : length l.buffer ≡ PIECE;
       read : (pieces : List (List ℕ)) × HasReadOn (source.remaining l.fn.reader) (source.remaining l.reader) l.want l.multi l.total pieces
-          × (HasCleanDisk now → IsUnderWay old → IsUnderWay now × AddsPieces old.now.trees now.now.trees (in_pieces l.item [] pieces));
+          × (HasCleanDisk now → (o : Origin) → IsUnderWay o old → IsUnderWay o now × AddsPieces o old.now.trees now.now.trees (in_pieces l.item [] pieces));
     }
 
 abbrev pub decreases-pieces : goal.decreases-pieces

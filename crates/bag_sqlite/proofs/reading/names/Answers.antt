@@ -10,6 +10,6 @@ returns-clause-names g c clean ledger holds =
     let begun = state g.S.Store (record old { in_transaction = true }) in
     let it = c.in_ok-rows.ensures.shown clean in
     let is_open : IsTrue (state g.S.Store old).is_open = was_open begun (state g.S.Store it.then) _ _ _ it.shown in
-    let shows = holds.shows is_open in
-    let rows = names_shown begun (state g.S.Store it.then) _ ledger shows.schema_is shows.database.tables it.shown in
+    let (_, shows) = holds.shows is_open in
+    let rows = names_shown begun (state g.S.Store it.then) _ ledger shows.schema_is shows.database.tables.held it.shown in
     if_ok c.texts_in.result _ (λ names. map string_bytes names.items ≡ keys_of ledger) (λ names read. texts_named c.as_slice.result.now names.items (keys_of ledger) (c.as_slice.ensures.value ∙ rows) read) c.texts_in.ensures

@@ -6,7 +6,7 @@ use Rattle.bag_sqlite.proofs.SqlLemmas.{nothing_executed}
 use Rattle.bag_sqlite.proofs.rows.insert_piece.Goals as goal
 
 pub returns-clause-added : goal.returns-clause-added
-returns-clause-added g c clean way =
+returns-clause-added g c clean o way =
     let old = state g.S.Store c.args.tx.now.conn.now in
     let new = state g.S.Store c.execute.new.self.conn.now in
     let n = c.args.offset / PIECE in
@@ -19,3 +19,6 @@ returns-clause-added g c clean way =
 
 pub returns-in_err-execute-clause-kept : goal.returns-in_err-execute-clause-kept
 returns-in_err-execute-clause-kept g c = nothing_executed _ _ c.execute.result c.execute.ensures.same_reference (λ outside. (c.execute.ensures.ended outside).1) c.execute.ensures.runs c.execute.ensures.survives
+
+pub returns-clause-inside : goal.returns-clause-inside
+returns-clause-inside g c clean mode = (c.in_ok-execute.ensures.runs clean mode).1.mode

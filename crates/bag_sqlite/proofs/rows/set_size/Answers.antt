@@ -6,7 +6,7 @@ use Rattle.bag_sqlite.proofs.SqlLemmas.{nothing_executed}
 use Rattle.bag_sqlite.proofs.rows.set_size.Goals as goal
 
 pub returns-clause-set : goal.returns-clause-set
-returns-clause-set g c clean way =
+returns-clause-set g c clean o way =
     let old = state g.S.Store c.args.tx.now.conn.now in
     let new = state g.S.Store c.execute.new.self.conn.now in
     let first = c.params-to_sql.ensures ∙ ap Int (to_z-of_z w64 c.args.item c.ranges.item) in
@@ -17,3 +17,6 @@ returns-clause-set g c clean way =
 
 pub returns-in_err-execute-clause-kept : goal.returns-in_err-execute-clause-kept
 returns-in_err-execute-clause-kept g c = nothing_executed _ _ c.execute.result c.execute.ensures.same_reference (λ outside. (c.execute.ensures.ended outside).1) c.execute.ensures.runs c.execute.ensures.survives
+
+pub returns-clause-inside : goal.returns-clause-inside
+returns-clause-inside g c clean mode = (c.in_ok-execute.ensures.runs clean mode).1.mode

@@ -17,7 +17,7 @@ returns-in-Some-clause-sizes g c clean ledger holds =
     let same : to_z w64 (of_z w64 c.in-Some.transfer) ≡ c.in-Some.transfer = to_z-of_z {w = w64} (record { sfits = search rules }) in
     if_open c.sizes_under.result (λ sizes. sizes.items ≡ sizes_of (items_of ledger c.args.name.now)) (c.sizes_under.ensures.opened clean) (λ is_open.
     rw same at (c.sizes_under.ensures.sizes clean ledger still c.args.name.now)
-    (subst (λ (d : Database). HasTransferRow d.trees c.args.name.now c.in-Some.transfer) (sym (same_shown old mid left c.requires is_open (holds.shows (left.was_open is_open)).committed)) named))
+    (subst (λ (d : Database). HasTransferRow d.trees c.args.name.now c.in-Some.transfer) (sym (same_shown old mid left c.requires is_open (holds.shows (left.was_open is_open)).1.committed)) named))
 
 pub returns-in-Some-clause-queries : goal.returns-in-Some-clause-queries
 returns-in-Some-clause-queries g c = queries_then c.transfer_number.ensures.queries c.sizes_under.ensures.queries

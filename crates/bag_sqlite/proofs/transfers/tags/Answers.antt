@@ -14,5 +14,5 @@ returns-in_ok-tags_under-in-Some-clause-tags g c clean ledger holds =
     let named = rw c.in-Some.is at (c.in_ok-transfer.ensures.number early ledger holds) in
     let same : to_z w64 (of_z w64 c.in-Some.transfer) ≡ c.in-Some.transfer = to_z-of_z {w = w64} (record { sfits = search rules }) in
     let is_open = c.in_ok-tags_under-in-Some.ensures.opened clean in
-    let shown = subst (λ (d : Database). HasTransferRow d.trees c.args.name.now c.in-Some.transfer) (sym (same_shown old mid left c.requires is_open (holds.shows (left.was_open is_open)).committed)) named in
+    let shown = subst (λ (d : Database). HasTransferRow d.trees c.args.name.now c.in-Some.transfer) (sym (same_shown old mid left c.requires is_open (holds.shows (left.was_open is_open)).1.committed)) named in
     sym (rw same at (c.in_ok-tags_under-in-Some.ensures.tags clean ledger still c.args.name.now) shown)

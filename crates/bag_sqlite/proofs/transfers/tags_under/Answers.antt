@@ -11,8 +11,8 @@ returns-clause-tags g c clean ledger holds name there =
     let begun = state g.S.Store (record c.args.connection.now { in_transaction = true }) in
     let it = c.in_ok-rows.ensures.shown clean in
     let is_open : IsTrue begun.is_open = was_open begun (state g.S.Store it.then) _ _ _ it.shown in
-    let shows = holds.shows is_open in
-    let shown = tags_shown begun (state g.S.Store it.then) c.in_ok-rows.rows.items ledger name c.args.transfer shows.schema_is shows.database.tables there (rw (c.params-to_sql.ensures ∙ ap Int (to_z-of_z c.ranges.transfer)) at it.shown) in
+    let (_, shows) = holds.shows is_open in
+    let shown = tags_shown begun (state g.S.Store it.then) c.in_ok-rows.rows.items ledger name c.args.transfer shows.schema_is shows.database.tables.held there (rw (c.params-to_sql.ensures ∙ ap Int (to_z-of_z c.ranges.transfer)) at it.shown) in
     if_ok c.tag_set_in.result (λ tags. tags ≡ shown.0) (λ tags. tags_of ledger name ≡ Some tags) (λ tags is. shown.1 ∙ ap Some (sym is))
     (c.tag_set_in.ensures.files shown.0 shown.2 (c.as_slice.ensures.value ∙ shown.3))
 

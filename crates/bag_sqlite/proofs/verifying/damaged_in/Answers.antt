@@ -15,8 +15,8 @@ loop-row-preserved g c = record {
       let early : HasCleanDisk mid = omega (arith, clean, c.read_item.ensures.reads.survives.clean) in
       let still = stands_still old mid db (c.loop-row.invariant.reads.read early) stands in
       let so_far = c.loop-row.invariant.so_far early db stands tags plan in
-      let tested : SoFar g.S.Store db tags c.args.rows.now c.if-is_full.batch c.loop-row.row-index = elim c.if-is_full.branch [
-        | then-is_full+in_ok-first+in_default w ↦ rw w.batch-is (none_left g.S.Store db tags c.args.rows.now w.none-batch-then-is_full.result c.loop-row.row-index w.none-batch-then-is_full.ensures (so_far.passing (rw w.in_default.is at (w.in_ok-first.ensures so_far.covered))))
+      let tested : SoFar g.S.Store db c.args.format tags c.args.rows.now c.if-is_full.batch c.loop-row.row-index = elim c.if-is_full.branch [
+        | then-is_full+in_ok-first+in_default w ↦ rw w.batch-is (none_left g.S.Store db c.args.format tags c.args.rows.now w.none-batch-then-is_full.result c.loop-row.row-index w.none-batch-then-is_full.ensures (so_far.passing (rw w.in_default.is at (w.in_ok-first.ensures so_far.covered))))
         | else-is_full+else-size w ↦ rw w.batch-is so_far
       ] in
       let item = c.in_ok-item.item in
@@ -26,27 +26,27 @@ loop-row-preserved g c = record {
       let row_is : Shows c.row-item.result item c.as_str.result.now size = (c.in_ok-item.ensures.ok.1, c.in_ok-path.ensures.ok.1 ∙ ap Text (sym c.as_str.ensures.value), c.in_ok-size.ensures.ok.1) in
       let found = rw (to_z-of_z w64 item item_fits, to_z-of_z w64 size size_fits) at (c.in_ok-finding.ensures.found clean db still tags plan) in
       elim c.match-finding.branch [
-        | in-Valid w ↦ rw w.batch-is (one_passes g.S.Store db tags c.args.rows.now c.loop-row.row-index c.row-item.result c.loop-row-test.true c.row-item.is item c.as_str.result.now size row_is c.if-is_full.batch tested (rw w.in-Valid.is at found))
-        | in-Untested+in_ok-batch-in-Untested w ↦ rw w.batch-is (one_added g.S.Store db tags c.args.rows.now c.loop-row.row-index c.row-item.result c.loop-row-test.true c.row-item.is item c.as_str.result.now size row_is w.in-Untested.want w.in-Untested.content c.if-is_full.batch w.in_ok-batch-in-Untested.batch tested w.in_ok-batch-in-Untested.ensures (rw w.in-Untested.is at found))
+        | in-Valid w ↦ rw w.batch-is (one_passes g.S.Store db c.args.format tags c.args.rows.now c.loop-row.row-index c.row-item.result c.loop-row-test.true c.row-item.is item c.as_str.result.now size row_is c.if-is_full.batch tested (rw w.in-Valid.is at found))
+        | in-Untested+in_ok-batch-in-Untested w ↦ rw w.batch-is (one_added g.S.Store db c.args.format tags c.args.rows.now c.loop-row.row-index c.row-item.result c.loop-row-test.true c.row-item.is item c.as_str.result.now size row_is w.in-Untested.want w.in-Untested.content c.if-is_full.batch w.in_ok-batch-in-Untested.batch tested w.in_ok-batch-in-Untested.ensures (rw w.in-Untested.is at found))
       ];
 }
 
 pub returns-in_err-item-clause-refused : goal.returns-in_err-item-clause-refused
 returns-in_err-item-clause-refused g c clean db stands tags plan transfer told =
     let p = err_from_is_err_and c.from_residual.result c.from_residual.ensures.1 in
-    rw (p.1, p.2) (no_column g.S.Store db (items_under transfer) IsInt null_int c.row-item.result 0 _ c.args.rows.now told
+    rw (p.1, p.2) (no_column g.S.Store db c.args.format (items_under transfer) tt IsInt null_int c.row-item.result 0 _ c.args.rows.now told
     (λ may. (all_at _ c.args.rows.now c.loop-row.row-index c.row-item.result may c.loop-row-test.true c.row-item.is).0) c.in_err-item.ensures.named c.in_err-item.ensures.kind)
 
 pub returns-in_err-path-clause-refused : goal.returns-in_err-path-clause-refused
 returns-in_err-path-clause-refused g c clean db stands tags plan transfer told =
     let p = err_from_is_err_and c.from_residual-in_err-path.result c.from_residual-in_err-path.ensures.1 in
-    rw (p.1, p.2) (no_column g.S.Store db (items_under transfer) IsText null_text c.row-item.result 1 _ c.args.rows.now told
+    rw (p.1, p.2) (no_column g.S.Store db c.args.format (items_under transfer) tt IsText null_text c.row-item.result 1 _ c.args.rows.now told
     (λ may. (all_at _ c.args.rows.now c.loop-row.row-index c.row-item.result may c.loop-row-test.true c.row-item.is).1) c.in_err-path.ensures.named c.in_err-path.ensures.kind)
 
 pub returns-in_err-size-clause-refused : goal.returns-in_err-size-clause-refused
 returns-in_err-size-clause-refused g c clean db stands tags plan transfer told =
     let p = err_from_is_err_and c.from_residual-in_err-size.result c.from_residual-in_err-size.ensures.1 in
-    rw (p.1, p.2) (no_column g.S.Store db (items_under transfer) IsInt null_int c.row-item.result 2 _ c.args.rows.now told
+    rw (p.1, p.2) (no_column g.S.Store db c.args.format (items_under transfer) tt IsInt null_int c.row-item.result 2 _ c.args.rows.now told
     (λ may. (all_at _ c.args.rows.now c.loop-row.row-index c.row-item.result may c.loop-row-test.true c.row-item.is).2) c.in_err-size.ensures.named c.in_err-size.ensures.kind)
 
 pub returns-in-Some-clause-refused : goal.returns-in-Some-clause-refused
@@ -70,8 +70,8 @@ returns-in-Damaged-clause-refused g c clean db stands tags plan transfer told =
     let early : HasCleanDisk mid = omega (arith, clean, c.read_item.ensures.reads.survives.clean) in
     let still = stands_still old mid db (c.loop-row.invariant.reads.read early) stands in
     let so_far = c.loop-row.invariant.so_far early db stands tags plan in
-    let tested : SoFar g.S.Store db tags c.args.rows.now c.if-is_full.batch c.loop-row.row-index = elim c.if-is_full.branch [
-      | then-is_full+in_ok-first+in_default w ↦ rw w.batch-is (none_left g.S.Store db tags c.args.rows.now w.none-batch-then-is_full.result c.loop-row.row-index w.none-batch-then-is_full.ensures (so_far.passing (rw w.in_default.is at (w.in_ok-first.ensures so_far.covered))))
+    let tested : SoFar g.S.Store db c.args.format tags c.args.rows.now c.if-is_full.batch c.loop-row.row-index = elim c.if-is_full.branch [
+      | then-is_full+in_ok-first+in_default w ↦ rw w.batch-is (none_left g.S.Store db c.args.format tags c.args.rows.now w.none-batch-then-is_full.result c.loop-row.row-index w.none-batch-then-is_full.ensures (so_far.passing (rw w.in_default.is at (w.in_ok-first.ensures so_far.covered))))
       | else-is_full+else-size w ↦ rw w.batch-is so_far
     ] in
     let item = c.in_ok-item.item in
@@ -82,8 +82,8 @@ returns-in-Damaged-clause-refused g c clean db stands tags plan transfer told =
     let found = rw (to_z-of_z w64 item item_fits, to_z-of_z w64 size size_fits) at (c.in_ok-finding.ensures.found clean db still tags plan) in
     let fails = rw c.in-Damaged.is at found in
     let batch = c.if-is_full.batch in
-    let named : IsFirst g.S.Store db tags c.args.rows.now (string_bytes c.unwrap_or.result) = rw c.unwrap_or.ensures (either_path (HasMisfit batch.wants.items batch.contents.items) (IsFirst g.S.Store db tags c.args.rows.now) c.in_ok-first_damaged-in-Damaged.field-0 c.in_ok-path.path (λ path misfit. tested.damaged path misfit)
-    (λ all. subst (IsFirst g.S.Store db tags c.args.rows.now) c.as_str.ensures.value (first_at g.S.Store db tags c.args.rows.now c.loop-row.row-index c.row-item.result c.loop-row-test.true c.row-item.is item c.as_str.result.now size row_is (tested.passing all) fails))
+    let named : IsFirst g.S.Store db c.args.format tags c.args.rows.now (string_bytes c.unwrap_or.result) = rw c.unwrap_or.ensures (either_path (HasMisfit batch.wants.items batch.contents.items) (IsFirst g.S.Store db c.args.format tags c.args.rows.now) c.in_ok-first_damaged-in-Damaged.field-0 c.in_ok-path.path (λ path misfit. tested.damaged path misfit)
+    (λ all. subst (IsFirst g.S.Store db c.args.format tags c.args.rows.now) c.as_str.ensures.value (first_at g.S.Store db c.args.format tags c.args.rows.now c.loop-row.row-index c.row-item.result c.loop-row-test.true c.row-item.is item c.as_str.result.now size row_is (tested.passing all) fails))
     (c.in_ok-first_damaged-in-Damaged.ensures tested.covered)) in
     named transfer told
 

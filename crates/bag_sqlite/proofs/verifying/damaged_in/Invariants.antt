@@ -8,5 +8,5 @@ invariant-loop-row g l =
     let now = state g.S.Store l.connection in
     record {
       reads : OnlyReads g.S.Store l.fn.connection l.connection;
-      so_far : HasCleanDisk now → (db : Database) → Stands old db → (tags : Files) → IsPlanOf tags l.plan → SoFar g.S.Store db tags l.rows l.batch l.row-index;
+      so_far : HasCleanDisk now → (db : Database) → Stands old db → (tags : Files) → IsPlanOf tags l.plan → SoFar g.S.Store db l.fn.format tags l.rows l.batch l.row-index;
     }

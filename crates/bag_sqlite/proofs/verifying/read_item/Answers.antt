@@ -1,5 +1,5 @@
 use Rattle.std.proofs.Common.{◌≡◌, ◌∙◌, Ok, arith, w64, inl, inr}
-use Rattle.bag_sqlite.proofs.Words.{AreSumsFor, concat, err_from_is_err_and, IsWantOf, to_z-of_z}
+use Rattle.bag_sqlite.proofs.Words.{AreSumsFor, err_from_is_err_and, IsWantOf, to_z-of_z}
 use Rattle.bag_sqlite.proofs.BatchLemmas.{known_by, misfit_other}
 use Rattle.bag_sqlite.proofs.RefusingLemmas.{bad_path, path_error}
 use Rattle.bag_sqlite.proofs.verifying.read_item.Goals as goal
@@ -24,7 +24,7 @@ pub returns-in_default-2-clause-found : goal.returns-in_default-2-clause-found
 returns-in_default-2-clause-found g c clean db stands tags plan =
     let size = rw (to_z-of_z w64 c.args.size c.ranges.size) at c.in-Some-size_in.ensures.0 in
     let it = rw (c.in_default-2.is, to_z-of_z w64 c.args.item c.ranges.item) at (c.in_ok-content.ensures.refused clean db stands) in
-    inr (inr (c.in-Some-size_in.size, size, elim it [ inl lacks ↦ inl lacks | inr more ↦ inr (inl more) ]))
+    inr (inr (c.in-Some-size_in.size, size, inl it))
 
 pub returns-in-Whole-clause-found : goal.returns-in-Whole-clause-found
 returns-in-Whole-clause-found g c clean db stands tags plan =
@@ -33,7 +33,7 @@ returns-in-Whole-clause-found g c clean db stands tags plan =
     let is : IsWantOf tags c.args.path.now c.in-Some-want.want = rw path at (c.in-Some-want.ensures tags plan) in
     let size = rw (to_z-of_z w64 c.args.size c.ranges.size) at c.in-Some-size_in.ensures.0 in
     let it = rw (c.in-Some-2.is, to_z-of_z w64 c.args.item c.ranges.item) at (c.in_ok-content.ensures.content clean db stands) in
-    let known = known_by g.S.Store db tags c.args.item c.args.path.now c.args.size c.in-Some-size_in.size it.0 c.in-Some-want.want is it.1 size c.in-Some-size_in.ensures.1 it.2 in
+    let known = known_by g.S.Store db c.args.format tags c.args.item c.args.path.now c.args.size c.in-Some-size_in.size it.0 c.in-Some-want.want is it.1 size c.in-Some-size_in.ensures.1 it.2 in
     let taken = rw c.in-Whole.is at it.3 in
     rw taken (is.path_is, known.0, known.1)
 
@@ -44,10 +44,10 @@ returns-in-Ok-clause-found g c clean db stands tags plan =
     let is : IsWantOf tags c.args.path.now c.in-Some-want.want = rw path at (c.in-Some-want.ensures tags plan) in
     let size = rw (to_z-of_z w64 c.args.size c.ranges.size) at c.in-Some-size_in.ensures.0 in
     let it = rw (c.in-Some-2.is, to_z-of_z w64 c.args.item c.ranges.item) at (c.in_ok-content.ensures.content clean db stands) in
-    let known = known_by g.S.Store db tags c.args.item c.args.path.now c.args.size c.in-Some-size_in.size it.0 c.in-Some-want.want is it.1 size c.in-Some-size_in.ensures.1 it.2 in
+    let known = known_by g.S.Store db c.args.format tags c.args.item c.args.path.now c.args.size c.in-Some-size_in.size it.0 c.in-Some-want.want is it.1 size c.in-Some-size_in.ensures.1 it.2 in
     let taken = rw c.in-Hashed.is at it.3 in
-    let sums : AreSumsFor c.in-Some-want.want (concat it.0) c.in-Some-size_in.size c.finish.result = record { set = c.algs.result; length_is = it.2; digests_are = c.finish.ensures c.algs.result (concat it.0) taken; covers = λ alg listed. c.algs.ensures alg ∙ listed } in
-    known.0 (c.in-Ok.ensures.octets (concat it.0) sums)
+    let sums : AreSumsFor c.in-Some-want.want it.0 c.in-Some-size_in.size c.finish.result = record { set = c.algs.result; length_is = it.2; digests_are = c.finish.ensures c.algs.result it.0 taken; covers = λ alg listed. c.algs.ensures alg ∙ listed } in
+    known.0 (c.in-Ok.ensures.octets it.0 sums)
 
 pub returns-clause-found : goal.returns-clause-found
 returns-clause-found g c clean db stands tags plan =
@@ -56,10 +56,10 @@ returns-clause-found g c clean db stands tags plan =
     let is : IsWantOf tags c.args.path.now c.in-Some-want.want = rw path at (c.in-Some-want.ensures tags plan) in
     let size = rw (to_z-of_z w64 c.args.size c.ranges.size) at c.in-Some-size_in.ensures.0 in
     let it = rw (c.in-Some-2.is, to_z-of_z w64 c.args.item c.ranges.item) at (c.in_ok-content.ensures.content clean db stands) in
-    let known = known_by g.S.Store db tags c.args.item c.args.path.now c.args.size c.in-Some-size_in.size it.0 c.in-Some-want.want is it.1 size c.in-Some-size_in.ensures.1 it.2 in
+    let known = known_by g.S.Store db c.args.format tags c.args.item c.args.path.now c.args.size c.in-Some-size_in.size it.0 c.in-Some-want.want is it.1 size c.in-Some-size_in.ensures.1 it.2 in
     let taken = rw c.in-Hashed.is at it.3 in
-    let sums : AreSumsFor c.in-Some-want.want (concat it.0) c.in-Some-size_in.size c.finish.result = record { set = c.algs.result; length_is = it.2; digests_are = c.finish.ensures c.algs.result (concat it.0) taken; covers = λ alg listed. c.algs.ensures alg ∙ listed } in
-    known.1 (misfit_other c.in-Some-want.want (concat it.0) _ (c.in-Err.ensures.octets (concat it.0) sums))
+    let sums : AreSumsFor c.in-Some-want.want it.0 c.in-Some-size_in.size c.finish.result = record { set = c.algs.result; length_is = it.2; digests_are = c.finish.ensures c.algs.result it.0 taken; covers = λ alg listed. c.algs.ensures alg ∙ listed } in
+    known.1 (misfit_other c.in-Some-want.want it.0 _ (c.in-Err.ensures.octets it.0 sums))
 
 pub returns-in-Whole-clause-little : goal.returns-in-Whole-clause-little
 returns-in-Whole-clause-little g c =

@@ -1,6 +1,7 @@
-use Rattle.std.proofs.Common.{◌≡◌, ◌∙◌, [], ◌∷◌, ap, length, rules, ◌≢◌, sym, slice_index_or}
+use Rattle.std.proofs.Common.{◌≡◌, ◌∙◌, [], ◌∷◌, ap, length, refl, rules, ◌≢◌, sym, slice_index_or}
 use Rattle.std.proofs.Math.Facts.{to_z-of_z}
 use Rattle.bag_sqlite.proofs.Words.{Blob, column, err_from_is_err_and, Int, piece_at, piece_text}
+use Rattle.bag_sqlite.specs.declared.format.Format.TheVariants as form
 use Rattle.bag_sqlite.proofs.AdoptingLemmas.{one_told, row_at}
 use Rattle.bag_sqlite.proofs.RefusingLemmas.{no_query}
 use Rattle.bag_sqlite.proofs.verifying.take_piece.Goals as goal
@@ -8,7 +9,7 @@ use Rattle.bag_sqlite.proofs.verifying.take_piece.Goals as goal
 pub returns-in_err-rows-clause-refused : goal.returns-in_err-rows-clause-refused
 returns-in_err-rows-clause-refused g c clean db stands =
     let p = err_from_is_err_and c.from_residual.result c.from_residual.ensures.1 in
-    rw (p.1, p.2) (no_query g.S.Store db (piece_at c.args.item c.args.n) _ (c.in_err-rows.ensures.refused clean db stands))
+    rw (p.1, p.2) (no_query g.S.Store db form.Second (piece_at c.args.item c.args.n) refl _ (c.in_err-rows.ensures.refused clean db stands))
 
 pub returns-then-len-ne1-clause-refused : goal.returns-then-len-ne1-clause-refused
 returns-then-len-ne1-clause-refused g c clean db stands =

@@ -18,7 +18,7 @@ loop-row-preserved g c =
           let number = c.in_ok-get.field-0 in
           let fits : FitsSigned w64 number = search rules in
           let one = rw (to_z-of_z w64 number fits) at (c.in_ok-verify_transfer.ensures.verified clean db still) in
-          all_more (Verifies g.S.Store db) c.args.rows.now c.loop-row.row-index c.row-item.result c.loop-row-test.true c.row-item.is (so_far.verified (before clean) db stands)
+          all_more (Verifies g.S.Store db c.args.format) c.args.rows.now c.loop-row.row-index c.row-item.result c.loop-row-test.true c.row-item.is (so_far.verified (before clean) db stands)
           (number, c.in_ok-get.ensures.ok.1, one);
     }
 
@@ -28,13 +28,13 @@ returns-clause-verified g c clean db stands = rw (take_all c.loop-row.row-index 
 pub returns-in_err-get-clause-refused : goal.returns-in_err-get-clause-refused
 returns-in_err-get-clause-refused g c clean db stands told =
     let p = err_from_is_err_and c.from_residual.result c.from_residual.ensures.1 in
-    rw (p.1, p.2) (to_transfers g.S.Store db _ (no_column g.S.Store db the_transfers IsInt null_int c.row-item.result 0 _ c.args.rows.now told
+    rw (p.1, p.2) (to_transfers g.S.Store db c.args.format _ (no_column g.S.Store db c.args.format the_transfers tt IsInt null_int c.row-item.result 0 _ c.args.rows.now told
     (λ may. (all_at _ c.args.rows.now c.loop-row.row-index c.row-item.result may c.loop-row-test.true c.row-item.is).0) c.in_err-get.ensures.named c.in_err-get.ensures.kind))
 
 pub returns-in_err-get-2-clause-refused : goal.returns-in_err-get-2-clause-refused
 returns-in_err-get-2-clause-refused g c clean db stands told =
     let p = err_from_is_err_and c.from_residual-in_err-get-2.result c.from_residual-in_err-get-2.ensures.1 in
-    rw (p.1, p.2) (to_transfers g.S.Store db _ (no_column g.S.Store db the_transfers IsText null_text c.row-item.result 1 _ c.args.rows.now told
+    rw (p.1, p.2) (to_transfers g.S.Store db c.args.format _ (no_column g.S.Store db c.args.format the_transfers tt IsText null_text c.row-item.result 1 _ c.args.rows.now told
     (λ may. (all_at _ c.args.rows.now c.loop-row.row-index c.row-item.result may c.loop-row-test.true c.row-item.is).1) c.in_err-get-2.ensures.named c.in_err-get-2.ensures.kind))
 
 pub returns-in_err-verify_transfer-clause-refused : goal.returns-in_err-verify_transfer-clause-refused
@@ -47,7 +47,7 @@ returns-in_err-verify_transfer-clause-refused g c clean db stands told =
     let number = c.in_ok-get.field-0 in
     let fits : FitsSigned w64 number = search rules in
     let refused = rw (to_z-of_z w64 number fits) at (c.in_err-verify_transfer.ensures.refused clean db still) in
-    rw (p.1, p.2) (adopt_transfer g.S.Store db number _ _ (λ path fails. record {
+    rw (p.1, p.2) (adopt_transfer g.S.Store db c.args.format number _ _ (λ path fails. record {
       rows = c.args.rows.now;
       told = told;
       at = c.loop-row.row-index;

@@ -9,5 +9,5 @@ invariant-loop-row g l =
     let now = state g.S.Store l.connection in
     record {
       reads : OnlyReads g.S.Store l.fn.connection l.connection;
-      verified : HasCleanDisk now → (db : Database) → Stands old db → AllByRecursion (Verifies g.S.Store db) (take l.row-index l.rows);
+      verified : HasCleanDisk now → (db : Database) → Stands old db → AllByRecursion (Verifies g.S.Store db l.fn.format) (take l.row-index l.rows);
     }

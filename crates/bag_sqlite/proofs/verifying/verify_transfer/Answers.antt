@@ -1,7 +1,7 @@
 use Rattle.std.proofs.Common.{List, IfSome, [], ◌∷◌, arith, subst, w64, inl, inr, refl, rules}
-use Rattle.bag_sqlite.proofs.Words.{err_from_is_err_and, files_in, HasCleanDisk, Int, IsPlanOf, Plan, Row, state, tag_files_text, Tells, to_z-of_z}
+use Rattle.bag_sqlite.proofs.Words.{err_from_is_err_and, files_in, Format, HasCleanDisk, Int, IsNoLedger, IsPlanOf, Plan, Row, state, tag_files_text, Tells, to_z-of_z}
 use Rattle.bag_sqlite.proofs.AdoptingLemmas.{reads_then, stands_still}
-use Rattle.bag_sqlite.proofs.RefusingLemmas.{to_transfer}
+use Rattle.bag_sqlite.proofs.RefusingLemmas.{none_for, to_transfer}
 use Rattle.bag_sqlite.proofs.verifying.verify_transfer.Goals as goal
 
 pub returns-in-None-clause-verified : goal.returns-in-None-clause-verified
@@ -27,7 +27,7 @@ returns-in-None-clause-verified g c clean db stands =
 pub returns-in_err-plan-clause-refused : goal.returns-in_err-plan-clause-refused
 returns-in_err-plan-clause-refused g c clean db stands =
     let p = err_from_is_err_and c.from_residual.result c.from_residual.ensures.1 in
-    rw (p.1, p.2) (to_transfer g.S.Store db c.args.transfer _ _ (c.in_err-plan.ensures.refused clean db stands))
+    rw (p.1, p.2) (to_transfer g.S.Store db c.args.format c.args.transfer _ _ (none_for ((format : Format) → IsNoLedger g.S.Store db format) (IsNoLedger g.S.Store db c.args.format) (λ no. no c.args.format) _ (c.in_err-plan.ensures.refused clean db stands)))
 
 pub returns-in_default-clause-refused : goal.returns-in_default-clause-refused
 returns-in_default-clause-refused g c clean db stands =
@@ -44,7 +44,7 @@ returns-in_err-path-clause-refused g c clean db stands =
     let given : IfSome c.in_ok-plan.field-0 so = rw (to_z-of_z w64 c.args.transfer c.ranges.transfer) at (c.in_ok-plan.ensures.plan early db stands) in
     let plan = subst (λ o. IfSome o so) c.in-Some.is given in
     let still = stands_still old mid db (c.in_ok-plan.ensures.reads.read early) stands in
-    rw (p.1, p.2) (to_transfer g.S.Store db c.args.transfer _ _ (c.in_err-path.ensures.refused clean db still (files_in plan.0) plan.2))
+    rw (p.1, p.2) (to_transfer g.S.Store db c.args.format c.args.transfer _ _ (c.in_err-path.ensures.refused clean db still (files_in plan.0) plan.2))
 
 pub returns-in-Some-2-clause-refused : goal.returns-in-Some-2-clause-refused
 returns-in-Some-2-clause-refused g c clean db stands =

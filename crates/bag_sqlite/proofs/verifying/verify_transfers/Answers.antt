@@ -17,7 +17,7 @@ returns-clause-verified g c clean db stands =
 pub returns-in_err-rows-clause-refused : goal.returns-in_err-rows-clause-refused
 returns-in_err-rows-clause-refused g c clean db stands =
     let p = err_from_is_err_and c.from_residual.result c.from_residual.ensures.1 in
-    rw (p.1, p.2) (to_transfers g.S.Store db _ (no_query g.S.Store db the_transfers _ (c.in_err-rows.ensures.refused clean db stands)))
+    rw (p.1, p.2) (to_transfers g.S.Store db c.args.format _ (no_query g.S.Store db c.args.format the_transfers tt _ (c.in_err-rows.ensures.refused clean db stands)))
 
 pub returns-clause-refused : goal.returns-clause-refused
 returns-clause-refused g c clean db stands =

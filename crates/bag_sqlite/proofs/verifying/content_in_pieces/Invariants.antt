@@ -1,7 +1,7 @@
 use Rattle.std.proofs.Common.{◌-◌, ◌≤◌}
 use Rattle.bag_sqlite.proofs.Words.{Database, HasCleanDisk, IsHeld, OnlyReads, Stands, state}
 use Rattle.bag_sqlite.proofs.PiecesRead.{HasTaken}
-use Rattle.bag_sqlite.proofs.verifying.content_of.Given as goal
+use Rattle.bag_sqlite.proofs.verifying.content_in_pieces.Given as goal
 
 abbrev pub invariant-loop-taken : goal.invariant-loop-taken
 invariant-loop-taken g l =

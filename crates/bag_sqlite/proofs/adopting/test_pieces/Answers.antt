@@ -1,0 +1,31 @@
+use Rattle.std.proofs.Common.{arith, inl, inr, refl}
+use Rattle.bag_sqlite.proofs.Words.{err_from_is_err_and, HasCleanDisk, IsNoLedger, IsNoneFor, state, strays}
+use Rattle.bag_sqlite.specs.declared.format.Format.TheVariants as form
+use Rattle.bag_sqlite.proofs.AdoptingLemmas.{reads_then, stands_still}
+use Rattle.bag_sqlite.proofs.SqlLemmas.{on_ok}
+use Rattle.bag_sqlite.proofs.RefusingLemmas.{if_err, none_for}
+use Rattle.bag_sqlite.proofs.adopting.test_pieces.Goals as goal
+
+pub returns-clause-none : goal.returns-clause-none
+returns-clause-none g c clean db stands =
+    let s0 = state g.S.Store c.args.connection.now in
+    let s1 = state g.S.Store c.test_none.new.connection in
+    let c1 : HasCleanDisk s1 = omega (arith, clean, c.test_none-2.ensures.reads.survives.clean) in
+    let d1 = stands_still s0 s1 db (c.test_none.ensures.reads.read c1) stands in
+    on_ok c.test_none-2.result (λ last. (c.in_ok-test_none.ensures.none c1 db stands, (last, tt))) (c.test_none-2.ensures.none clean db d1)
+
+pub returns-in_err-test_none-clause-refused : goal.returns-in_err-test_none-clause-refused
+returns-in_err-test_none-clause-refused g c clean db stands =
+    let p = err_from_is_err_and c.from_residual.result c.from_residual.ensures.1 in
+    rw (p.1, p.2) (none_for _ (IsNoLedger g.S.Store db form.Second) (λ no. (strays _, inr (inr (inl refl)), no)) _ (c.in_err-test_none.ensures.refused clean db stands))
+
+pub returns-clause-refused : goal.returns-clause-refused
+returns-clause-refused g c clean db stands =
+    let s0 = state g.S.Store c.args.connection.now in
+    let s1 = state g.S.Store c.test_none.new.connection in
+    let c1 : HasCleanDisk s1 = omega (arith, clean, c.test_none-2.ensures.reads.survives.clean) in
+    if_err c.test_none-2.result _ (IsNoneFor (IsNoLedger g.S.Store db form.Second)) (λ fault h. none_for _ (IsNoLedger g.S.Store db form.Second) (λ no. (strays _, inr (inr (inr (inl refl))), no)) fault h)
+    (c.test_none-2.ensures.refused clean db (stands_still s0 s1 db (c.test_none.ensures.reads.read c1) stands))
+
+pub returns-clause-reads : goal.returns-clause-reads
+returns-clause-reads g c = reads_then c.test_none.ensures.reads c.test_none-2.ensures.reads

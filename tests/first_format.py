@@ -1,0 +1,286 @@
+#!/usr/bin/env python3
+"""first_format.py PROGRAM: ledgers of format 1, which sqlite3 writes as docs/FORMAT.md says.
+
+The first command on such a ledger must move it to format 2 and answer as on a ledger that was always of format 2. sqlite3 reads the
+tables before and after, row by row. A ledger that is refused, or for which there is no room, must stay of format 1, with all that it held.
+At the end it prints how much of each was tried.
+"""
+import contextlib
+import hashlib
+import pathlib
+import random
+import resource
+import shutil
+import signal
+import sqlite3
+import subprocess
+import sys
+import tempfile
+
+from command_ledgers import LOCK
+from explaining import is_explained
+
+PIECE = 65_536
+LARGEST = 16_777_216
+DECLARATION = b"BagIt-Version: 1.0\nTag-File-Character-Encoding: UTF-8\n"
+
+
+def blocks():
+    """The texts of the tables of both formats, as FORMAT.md has them, but for blanks: those of format 2, and then that of format 1."""
+    text = (pathlib.Path(__file__).parent.parent / "docs/FORMAT.md").read_text(encoding="utf-8")
+    found = [block.partition("```")[0] for block in text.split("```sql\n")[1:]]
+    return [["CREATE TABLE " + " ".join(part.split()) for part in block.split("CREATE TABLE ")[1:]] for block in found]
+
+
+SECOND, ITEM = blocks()
+FIRST = SECOND[:3] + ITEM
+
+
+def tags_of(files):
+    lines = "".join(f"{hashlib.sha256(octets).hexdigest()}  {path}\n" for path, octets in files.items())
+    return {"bagit.txt": DECLARATION, "manifest-sha256.txt": lines.encode()}
+
+
+def write_first(file, transfers, unlisted=None):
+    """A ledger of format 1 with these payload files in each transfer, all listed, and in `unlisted` those that are not held."""
+    with contextlib.closing(sqlite3.connect(file)) as database:
+        for text in FIRST:
+            database.execute(text)
+        database.execute("INSERT INTO meta (k, v) VALUES ('bag-ledger', 1)")
+        for name, files in transfers.items():
+            transfer = database.execute("INSERT INTO transfer (name) VALUES (?)", [name]).lastrowid
+            for path, body in tags_of({**files, **(unlisted or {}).get(name, {})}).items():
+                database.execute("INSERT INTO tag (transfer, path, body) VALUES (?, ?, ?)", (transfer, path, body))
+            for path, octets in files.items():
+                database.execute("INSERT INTO item (transfer, path, size, body) VALUES (?, ?, ?, ?)", (transfer, path, len(octets), octets))
+        database.commit()
+
+
+def change(file, text):
+    """Changes the ledger. The change is in the file and not in its log."""
+    with contextlib.closing(sqlite3.connect(file)) as database:
+        database.executescript(text)
+        database.execute("PRAGMA wal_checkpoint(TRUNCATE)")
+
+
+def read(file):
+    """The number of the format of a ledger, and for each transfer its tag files and its payload files. Each row belongs to something."""
+    with tempfile.TemporaryDirectory() as folder:
+        copy = pathlib.Path(folder) / "copy"
+        for end in ("", "-wal"):
+            if pathlib.Path(f"{file}{end}").exists():
+                shutil.copy(f"{file}{end}", f"{copy}{end}")
+        with contextlib.closing(sqlite3.connect(copy)) as database:
+            return rows(lambda text, *fields: database.execute(text, fields).fetchall())
+
+
+def rows(ask):
+    assert ask("PRAGMA integrity_check") == [("ok",)] and ask("PRAGMA foreign_key_check") == []
+    [(name, number)] = ask("SELECT k, v FROM meta")
+    assert name == "bag-ledger" and number in (1, 2), (name, number)
+    tables = sorted(text for (text,) in ask("SELECT sql FROM sqlite_schema WHERE type = 'table'"))
+    assert tables in ([sorted(FIRST)] if number == 1 else [sorted(SECOND), sorted(SECOND + ITEM)]), (number, tables)
+    if number == 2 and len(tables) == 6:
+        assert ask("SELECT * FROM item") == []
+    ledger = {}
+    for transfer, name in ask("SELECT id, name FROM transfer"):
+        tags = dict(ask("SELECT path, body FROM tag WHERE transfer = ?", transfer))
+        ledger[name] = tags, held_in_first(ask, transfer) if number == 1 else held_in_second(ask, transfer)
+    return number, ledger
+
+
+def held_in_first(ask, transfer):
+    held = ask("SELECT path, size, body FROM item WHERE transfer = ?", transfer)
+    assert all(size == len(body) for _, size, body in held)
+    return {path: body for path, _, body in held}
+
+
+def held_in_second(ask, transfer):
+    held = {}
+    for item, path, size in ask("SELECT id, path, size FROM held WHERE transfer = ?", transfer):
+        pieces = ask("SELECT n, body FROM piece WHERE item = ? ORDER BY n", item)
+        octets = b"".join(body for _, body in pieces)
+        assert len(octets) == size, (path, size)
+        assert pieces == [(n, octets[at : at + PIECE]) for n, at in enumerate(range(0, size, PIECE))], path
+        held[path] = octets
+    return held
+
+
+class Program:
+    def __init__(self, program, folder):
+        self.program, self.folder, self.places = program, folder, 0
+
+    def run(self, *words, limit=None):
+        """The status and the lines of a command. Standard error must be empty, but for what explains a line."""
+
+        def limited():
+            if limit is not None:
+                signal.signal(signal.SIGXFSZ, signal.SIG_IGN)
+                resource.setrlimit(resource.RLIMIT_FSIZE, (limit, limit))
+
+        ran = subprocess.run([self.program, *words], preexec_fn=limited, capture_output=True, timeout=120, check=False)
+        lines = ran.stdout.decode().splitlines()
+        assert is_explained(lines, ran.returncode, ran.stderr), (words, ran)
+        return ran.returncode, lines
+
+    def place(self):
+        """A new folder."""
+        self.places += 1
+        folder = self.folder / f"place{self.places}"
+        folder.mkdir()
+        return folder
+
+
+THREE = {"data/a.txt": b"abc", "data/e.txt": b""}
+
+
+def is_moved(program):
+    """A small ledger, and one with payload files of many sizes. Returns how many payload files there were."""
+    small = {"t1": THREE, "t5": {"data/b": bytes(PIECE + 1)}}
+    rng = random.Random(7)
+    sizes = [0, 1, PIECE - 1, PIECE, PIECE + 1, 2 * PIECE, 2 * PIECE + 1, LARGEST]
+    many = {"sizes": {f"data/{size}": rng.randbytes(size) for size in sizes}, "t": {"data/%25 é": b"x"}, "none": {}}
+    for transfers in (small, many):
+        file = program.place() / "ledger"
+        write_first(file, transfers)
+        was = read(file)
+        assert was[0] == 1 and {name: files for name, (_, files) in was[1].items()} == transfers
+        assert program.run("list", file) == (0, sorted(transfers)), transfers.keys()
+        assert read(file) == (2, was[1])
+        for name in transfers:
+            assert program.run("report", file, name) == (0, ["valid"]) == program.run("audit", file, name), name
+        assert read(file) == (2, was[1])
+    with contextlib.closing(sqlite3.connect(program.folder / "place1/ledger")) as database:
+        counts = [database.execute(f"SELECT count(*) FROM {table}").fetchone()[0] for table in ("held", "piece", "item")]
+    assert counts == [3, 3, 0], counts
+    return sum(len(files) for transfers in (small, many) for files in transfers.values())
+
+
+def first_commands(program):
+    """Each command as the first one on a ledger of format 1, and on the same ledger once it was moved. Returns how many there were."""
+    commands = ["begin", "intake", "report", "audit", "fetch", "export", "list"]
+    for command in commands:
+        answers = []
+        for is_moved_first in (False, True):
+            place = program.place()
+            bag = place / "bag"
+            for path, octets in {**tags_of({**THREE, "data/z": b"z"}), **THREE, "data/z": b"z"}.items():
+                (bag / path).parent.mkdir(parents=True, exist_ok=True)
+                (bag / path).write_bytes(octets)
+            write_first(place / "ledger", {"t1": THREE}, {"t1": {"data/z": b"z"}})
+            if is_moved_first:
+                assert program.run("list", place / "ledger") == (0, ["t1"])
+            more = {"begin": ["t1", bag], "intake": ["t1", bag], "fetch": ["t1", bag], "export": ["t1", place / "out"], "list": []}
+            answer = program.run(command, place / "ledger", *more.get(command, ["t1"]))
+            number, ledger = read(place / "ledger")
+            assert number == 2
+            answers.append((answer, ledger, sorted(path.relative_to(place) for path in place.rglob("*") if path.is_file())))
+        assert answers[0] == answers[1], answers
+        assert answers[0][0][0] in (0, 1), answers
+    return len(commands)
+
+
+# A table of any types, in which a row may have no owner and a path may be there twice.
+LOOSE = "CREATE TABLE loose (transfer, path, size, body); INSERT INTO loose SELECT * FROM item; DROP TABLE item; ALTER TABLE loose RENAME TO item; "
+# A change to a ledger of format 1 with two transfers, and the lines of `list` afterwards.
+CHANGES = [
+    ("", "t1", "t2"),
+    ("VACUUM", "t1", "t2"),
+    ("DELETE FROM item WHERE path = 'data/e.txt'", "t1", "t2"),
+    ("DELETE FROM meta", "bag: not a ledger"),
+    ("UPDATE meta SET v = 2", "bag: not a ledger"),
+    ("UPDATE meta SET v = 0", "bag: not a ledger"),
+    ("UPDATE meta SET k = 'ledger'", "bag: not a ledger"),
+    ("INSERT INTO meta (k, v) VALUES ('other', 1)", "bag: not a ledger"),
+    ("DROP TABLE item", "bag: not a ledger"),
+    ("DROP TABLE tag", "bag: not a ledger"),
+    ("ALTER TABLE item RENAME COLUMN body TO octets", "bag: not a ledger"),
+    ("UPDATE item SET body = x'616264' WHERE path = 'data/a.txt' AND transfer = 1", "bag: damaged t1 data/a.txt"),
+    ("UPDATE item SET body = x'6162' WHERE path = 'data/a.txt' AND transfer = 1", "bag: damaged t1 data/a.txt"),
+    ("UPDATE item SET body = zeroblob(65536) WHERE path = 'data/z'", "bag: damaged t1 data/z"),
+    ("UPDATE item SET body = x'' WHERE transfer = 2", "bag: damaged t2 data/a.txt"),
+    ("UPDATE item SET size = 4 WHERE path = 'data/a.txt' AND transfer = 1", "bag: damaged t1 data/a.txt"),
+    ("UPDATE item SET size = -3 WHERE path = 'data/a.txt' AND transfer = 1", "bag: damaged t1 data/a.txt"),
+    ("UPDATE item SET size = size - 1 WHERE path = 'data/z'", "bag: damaged t1 data/z"),
+    ("UPDATE item SET path = 'data/other' WHERE path = 'data/z'", "bag: damaged t1 data/other"),
+    ("UPDATE item SET path = '../x' WHERE path = 'data/z'", "bag: damaged t1 ../x"),
+    ("INSERT INTO item VALUES (1, 'data/q', 0, x'')", "bag: damaged t1 data/q"),
+    ("UPDATE tag SET body = x'' WHERE transfer = 1 AND path = 'bagit.txt'", "bag: damaged t1 "),
+    ("DELETE FROM tag WHERE transfer = 2 AND path = 'bagit.txt'", "bag: damaged t2 "),
+    ("INSERT INTO transfer (name) VALUES ('t0')", "bag: damaged t0 "),
+    ("INSERT INTO item VALUES (9, 'data/q', 0, x'')", "bag: not a ledger"),
+    ("PRAGMA foreign_keys = OFF; DELETE FROM transfer WHERE id = 2", "bag: not a ledger"),
+    (LOOSE, "t1", "t2"),
+    (LOOSE + "UPDATE item SET body = CAST(body AS TEXT) WHERE path = 'data/z'", "bag: damaged t1 data/z"),
+    (LOOSE + "UPDATE item SET body = NULL WHERE path = 'data/z'", "bag: damaged t1 data/z"),
+    (LOOSE + "UPDATE item SET size = 'three' WHERE path = 'data/z'", "bag: not a ledger"),
+    (LOOSE + "UPDATE item SET path = x'00' WHERE path = 'data/z'", "bag: not a ledger"),
+    (LOOSE + "INSERT INTO item VALUES (9, 'data/q', 0, x'')", "bag: not a ledger"),
+    # Every payload file is as it should be, and there is no room for them in format 2.
+    (LOOSE + "INSERT INTO item SELECT * FROM item WHERE transfer = 2", "bag: store"),
+    ("CREATE TABLE held (id INTEGER PRIMARY KEY)", "bag: store"),
+    ("CREATE TABLE piece (id INTEGER PRIMARY KEY)", "bag: store"),
+    # A table that is no one's stays.
+    ("CREATE TABLE other (id INTEGER PRIMARY KEY)", "t1", "t2"),
+]
+
+
+def changed(program):
+    """Ledgers that another program changed. Those that are refused stay octet by octet. Returns how many there were."""
+    for text, *lines in CHANGES:
+        file = program.place() / "ledger"
+        write_first(file, {"t1": {**THREE, "data/z": bytes(PIECE + 1)}, "t2": {"data/a.txt": b"abc"}})
+        change(file, text)
+        before = file.read_bytes()
+        is_refused = lines[0].startswith("bag: ")
+        found = program.run("list", file)
+        assert found == (3 if is_refused else 0, lines), (text, found)
+        if is_refused:
+            assert before == file.read_bytes() and sorted(path.name for path in file.parent.iterdir()) == ["ledger"], text
+    return len(CHANGES)
+
+
+def locked(program):
+    """While another program has the ledger open it is not moved."""
+    file = program.place() / "ledger"
+    write_first(file, {"t1": THREE})
+    before = file.read_bytes()
+    with subprocess.Popen([sys.executable, "-c", LOCK, file], stdin=subprocess.PIPE, stdout=subprocess.PIPE, text=True) as other:
+        assert other.stdout.readline() == "locked\n"
+        assert program.run("report", file, "t1") == (3, ["bag: store"])
+        other.stdin.close()
+    assert file.read_bytes() == before
+    assert program.run("report", file, "t1") == (0, ["valid"])
+
+
+def full_disks(program):
+    """A disk that is full after so many octets: the ledger stays what it was, or it is moved. Returns how often it stayed and was moved."""
+    transfers = {"t1": {**THREE, "data/z": random.Random(3).randbytes(3 * PIECE)}}
+    whole = program.place() / "ledger"
+    write_first(whole, transfers)
+    was, size, counts = read(whole)[1], whole.stat().st_size, [0, 0]
+    for limit in [0, 1, 32, 4_096, 4_128, *range(8_192, 4 * size, 12_288)]:
+        file = program.place() / "ledger"
+        shutil.copy(whole, file)
+        found = program.run("report", file, "t1", limit=limit)
+        number, ledger = read(file)
+        assert ledger == was, limit
+        assert found == (0, ["valid"]) if number == 2 and found[0] == 0 else found == (3, ["bag: store"]), (limit, found, number)
+        counts[number - 1] += 1
+        assert program.run("audit", file, "t1") == (0, ["valid"]) and read(file) == (2, was), limit
+        shutil.rmtree(file.parent)
+    assert all(counts), counts
+    return counts
+
+
+def main(program):
+    with tempfile.TemporaryDirectory() as folder:
+        tried = Program(program, pathlib.Path(folder))
+        files, commands, changes = is_moved(tried), first_commands(tried), changed(tried)
+        locked(tried)
+        stayed, moved = full_disks(tried)
+    print(f"{files} payload files moved, {commands} first commands, {changes} changed, {stayed + moved} full disks")
+
+
+if __name__ == "__main__":
+    main(*sys.argv[1:])
