@@ -185,6 +185,43 @@ def limits():
     yield "200,001 files", bag(files={**tags, b"one-more": b""}), many
 
 
+def limits_beside_faults():
+    """A limit of a file is told before a faulty line of it [13], wherever the two are."""
+    many, large = (["bag: too many"], 3), (["bag: tag too large"], 3)
+    for name in (b"fetch.txt", b"manifest-sha256.txt", b"tagmanifest-md5.txt"):
+        told = name.decode()
+        last = not_complete(f"{told}:100000: separator")
+        yield f"{told}: a faulty line and 100,000 more", with_tag(name, b"x\n" + b"\n" * 100_000), many
+        yield f"{told}: 99,999 lines and a faulty one", with_tag(name, b"\n" * 99_999 + b"x"), last
+        yield f"{told}: a faulty line and 16,777,215 octets", with_tag(name, b"x\n" + b" " * 16_777_215), large
+        yield f"{told}: 16,777,216 lines", with_tag(name, b"\n" * 16_777_216), many
+        yield f"{told}: 16,777,217 lines", with_tag(name, b"\n" * 16_777_217), large
+    first = not_complete("bag-info.txt:1: separator")
+    yield "bag-info.txt: a faulty line and 16,777,214 more", with_tag(b"bag-info.txt", b"x\n" + b"\n" * 16_777_214), first
+    yield "bag-info.txt: a faulty line and 16,777,215 more", with_tag(b"bag-info.txt", b"x\n" + b"\n" * 16_777_215), large
+
+
+def pieces():
+    """What stands where a piece of 65,536 octets ends; and manifests of several pieces, which are hashed."""
+    for octets, lines in [(b"\r\n", 2), (b"\r", 2), (b"\n", 2), ("\u00e9".encode(), 1), ("\U0001f4a9".encode(), 1), (b"\n\r\n", 3)]:
+        for before in range(len(octets) + 1):
+            text = b"Note: " + b"x" * (65_536 - 6 - before) + octets + b" y\nOther: z\n"
+            yield f"{octets} at the end of a piece, after {before} of its octets", with_tag(b"bag-info.txt", text), VALID
+            bad = not_complete(f"bag-info.txt:{lines + 2}: separator")
+            yield "the same, and a faulty line", with_tag(b"bag-info.txt", text + b"bad"), bad
+    text = MARK + b"A: " + b"x" * (65_536 - 5) + b"\xff"
+    yield "a line of more than a piece that isn't UTF-8", with_tag(b"bag-info.txt", text), not_complete("bag-info.txt:1: not UTF-8")
+    files = {b"data/%04d" % i: b"" for i in range(2_000)}
+    for ending in (b"\n", b"\r", b"\r\n"):
+        text = b"".join(line(path, b"") + ending for path in files)
+        listed = line(b"manifest-sha256.txt", text) + b"\n"
+        whole = {b"bagit.txt": DECLARATION, b"manifest-sha256.txt": text, b"tagmanifest-sha256.txt": listed, **files}
+        yield f"a manifest of 2,000 lines that end in {ending}", whole, VALID
+        other = {**whole, b"tagmanifest-sha256.txt": b"0" * 64 + listed[64:]}
+        answer = ["tagmanifest-sha256.txt: digest: manifest-sha256.txt", "complete, not valid"], 1
+        yield "the same with another digest", other, answer
+
+
 def payload_directory():
     empty = {b"bagit.txt": DECLARATION, b"manifest-sha256.txt": b""}
     yield "no data/", empty, not_complete("no data directory")
@@ -302,5 +339,5 @@ def judged(program, kind, families):
 
 if __name__ == "__main__":
     FAMILIES = (cuts_of_declaration, cuts_of_manifest, endings_and_marks, names, long_lines, numerals, payload_directory, limits,
-                names_0_97, long_paths_0_97, blanks_0_97, many_0_97)
+                limits_beside_faults, pieces, names_0_97, long_paths_0_97, blanks_0_97, many_0_97)
     sys.exit(judged(sys.argv[1], "hostile", FAMILIES))

@@ -10,7 +10,7 @@ build_first
 for kind in small hostile; do
     case $kind in
     small) table=small_bags.py number=377 ;;
-    hostile) table=hostile.py number=268 ;;
+    hostile) table=hostile.py number=330 ;;
     esac
     expect "each $kind bag has the answer that FORMAT.md requires" 0 "$number $kind bags: 0 answered differently" \
         env TMPDIR="$work" python3 -B "tests/$table" crates/bag_cmd/out/bag_cmd

@@ -225,6 +225,7 @@ if cc -shared -fPIC -O1 -o "$work/no_memory.so" tests/no_memory.c 2>"$work/no cc
     cat "$work/tried"
     python3 -B tests/small_lists.py deliveries >"$work/deliveries"
     python3 -B tests/small_lists.py write >"$work/write"
+    python3 -B tests/feeds.py 0 1 >"$work/feeds"
     for keeper in map sqlite; do
         # The files of the database are in memory: if they can't grow, the store fails.
         [ "$keeper" = map ] && causes=memory || causes='memory|store'
@@ -233,6 +234,8 @@ if cc -shared -fPIC -O1 -o "$work/no_memory.so" tests/no_memory.c 2>"$work/no cc
     done
     expect 'no memory for a bag that is written' 0 '' \
         more_refusals each_growth_of_driver 'out of memory|the sink failed' "$work/write" write
+    expect 'no memory for tag files in pieces' 0 '' \
+        more_refusals each_growth_of_driver 'out of memory' "$work/feeds" feeds
     # Left out are tests that say whether an answer was right, and not what it was.
     left_out='^(couriers|keepers|ledgers|sinks)::'
     tests=$PWD/crates/bag_tests/out/bag_tests_tests

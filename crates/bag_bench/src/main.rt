@@ -22,6 +22,9 @@
 //! `bag_bench write` writes in memory the bags that standard input asks for, as described in `tests/new_bags.py`. The
 //! status is 0 if each line was read.
 //!
+//! `bag_bench feeds` reads the tag files that standard input gives it in pieces, as described in `tests/feeds.py`. The
+//! status is 0 if each line was answered.
+//!
 //! The status is 3 if memory ran out, a line is malformed, or a read or a write failed, and 64 for other words.
 #![tactic(auto)]
 
@@ -32,6 +35,7 @@ use bag_rules::{Plan, TagSet};
 use bag_sqlite::SqlKeeper;
 use bag_tags::{Kind, read_fetch, read_info, read_manifest, write_declaration};
 use deliveries::Lists;
+use feeding::Feeds;
 use lines::answer_lines;
 use receiving::receive;
 use sqlite::MemStore;
@@ -45,6 +49,7 @@ use writing::Order;
 mod bringing;
 mod deliveries;
 mod event;
+mod feeding;
 mod fused;
 mod keepers;
 mod lines;
@@ -95,6 +100,10 @@ fn work_into<W: Write + Drop>(rt: &HostRuntime, words: &[String], out: &mut W) -
     match words.len() {
         1 if words[0].as_str() == "write" => {
             answer_lines(rt, &mut Order::new(alloc), out)?;
+            Ok(0)
+        }
+        1 if words[0].as_str() == "feeds" => {
+            answer_lines(rt, &mut Feeds, out)?;
             Ok(0)
         }
         2 if words[0].as_str() == "deliveries" => answer_over(rt, words[1].as_str(), out),

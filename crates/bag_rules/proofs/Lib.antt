@@ -4,7 +4,6 @@ pub mod MemoryFiles
 pub mod FilesShown
 pub mod MemoryShown
 pub mod MemoryAdded
-pub mod LineCount
 pub mod HasLemmas
 pub mod OrderLemmas
 pub mod FaultLemmas
@@ -22,6 +21,7 @@ pub mod LimitLemmas
 pub mod DeclaredLemmas
 pub mod LineFaults
 pub mod TextsRead
+pub mod TextReaderLemmas
 pub mod TextStops
 pub mod FirstFiles
 pub mod TextsMore

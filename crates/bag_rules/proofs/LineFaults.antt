@@ -1,40 +1,52 @@
--- What the reading of one tag file's text adds.
-use Rattle.std.proofs.Common.{◌≡◌, ◌↔◌, ℕ, List, Option, Some, None, Result, MatchResult, IfOk, IsErrOf, refl, sym, ap, ◌∙◌, subst}
-use Rattle.bag_rules.proofs.Words.{Adds, BadLine, Fault, Line, line_fault, LineCause, LineFault, LineFile, TagFault, ValueOf}
-use Rattle.bag_tags.specs.declared.fault.TagFault.TheVariants.{Memory}
+-- What the reading of one tag file's text adds to the faults.
+use Rattle.std.proofs.Common.{◌≡◌, ◌↔◌, ℕ, List, Option, Some, None, Result, IfErr, IfOk, refl, sym, ap, ◌∙◌, subst}
+use Rattle.bag_path.specs.declared.version.Version.{Version}
+use Rattle.bag_tags.specs.declared.feed.TagValue.{TagValue}
+use Rattle.bag_tags.specs.Feeds.{IsFaultOf, IsTextFor}
+use Rattle.bag_tags.specs.TagLines.{Faults}
+use Rattle.bag_tags.proofs.ExactTexts as exact
+use Rattle.bag_tags.proofs.FeedLemmas.{no_value, one_value}
+use Rattle.bag_rules.specs.ReadingInside.{IsReadOf}
+use Rattle.bag_rules.proofs.Words.{Adds, BadLine, Fault, FetchList, Info, IsFirstBadLine, line_fault, LineFault, LineFile, Manifest, TagFault, ValueOf}
 use Rattle.bag_rules.proofs.AddsLemmas.{adds_none, adds_one}
 
--- the result of a reader: what it read is what the text says, and its fault is the first one of the text
-pub record Reads {V : Type 0} (says : V → Type 0) (faulty : LineFault → Type 0) (answer : Result V TagFault) : Type 0 where
-  pub read : IfOk answer says
-  pub only : (value : V) → says value → MatchResult answer (λ v. v ≡ value) (λ fault. fault ≡ Memory)
-  pub fault : (fault : LineFault) → IsErrOf answer (Line fault) → faulty fault
+-- the first faulty line of a text, in other words
+bad_line : (version : Version) (file : LineFile) (octets : List ℕ) (f : Fault) → IsFirstBadLine version file octets f → (fault : LineFault) × IsFaultOf version file octets fault × (BadLine file fault.line fault.cause ≡ f)
+bad_line version Info octets f h = (line_fault h.0 h.1.0, h.1.1, sym h.1.2)
+bad_line version FetchList octets f h = (line_fault h.0 h.1.0, h.1.1, sym h.1.2)
+bad_line version (Manifest name) octets f h = (line_fault h.0 h.1.0, h.1.1, sym h.1.2)
 
--- what a text says, and its first faulty line
-pub record AreApart {V : Type 0} (says : V → Type 0) (faulty : LineFault → Type 0) : Type 0 where
-  pub none : (value : V) (fault : LineFault) → says value → faulty fault → ⊥
-  pub one : (fault other : LineFault) → faulty fault → faulty other → fault ≡ other
+is_bad_line : (version : Version) (file : LineFile) (octets : List ℕ) (fault : LineFault) → IsFaultOf version file octets fault → IsFirstBadLine version file octets (BadLine file fault.line fault.cause)
+is_bad_line version Info octets fault h = (fault.line, (fault.cause, h, refl))
+is_bad_line version FetchList octets fault h = (fault.line, (fault.cause, h, refl))
+is_bad_line version (Manifest name) octets fault h = (fault.line, (fault.cause, h, refl))
 
-module _ {V : Type 0} (says : V → Type 0) (faulty : LineFault → Type 0) (read : Result V TagFault) (file : LineFile) (reads : Reads says faulty read) where
+one_fault : (version : Version) (file : LineFile) (octets : List ℕ) (fault other : LineFault) → IsFaultOf version file octets fault → IsFaultOf version file octets other → fault ≡ other
+one_fault version Info octets = exact.one_info_fault version octets
+one_fault version FetchList octets = exact.one_fetch_fault version octets
+one_fault version (Manifest name) octets = exact.one_manifest_fault version name.alg name.kind octets
+
+module _ (version : Version) (file : LineFile) (octets : List ℕ) (read : Result TagValue TagFault) (reads : IsReadOf version file octets read) where
   -- the value is what the text says, if it says something
-  pub value_tells : (old new : List Fault) (value : Option V) → ValueOf read file old new value → (x : V) → (value ≡ Some x) ↔ says x
+  pub value_tells : (old new : List Fault) (v : Option TagValue) → ValueOf read file old new v → (x : TagValue) → (v ≡ Some x) ↔ IsTextFor version file octets x
   value_tells old new (Some v) is x =
-      let there = subst (λ r. IfOk r says) is.0 reads.read in (
-        λ e. (let same : v ≡ x = cc in subst says same there),
-        λ s. ap Some (subst (λ r. MatchResult r (λ w. w ≡ x) (λ fault. fault ≡ Memory)) is.0 (reads.only x s)),
+      let there : IsTextFor version file octets v = subst (λ r. IfOk r (IsTextFor version file octets)) is.0 reads.value in (
+        λ e. (let same : v ≡ x = cc in subst (IsTextFor version file octets) same there),
+        λ s. ap Some (one_value version file octets v x there s),
       )
-  value_tells old new None is x = (
-    λ e. cc,
-    λ s. absurd (let k : Line is.0 ≡ Memory = subst (λ r. MatchResult r (λ w. w ≡ x) (λ fault. fault ≡ Memory)) is.1 (reads.only x s) in cc),
-  )
+  value_tells old new None is x =
+      let here : IsFaultOf version file octets is.0 = subst (λ r. IfErr r (Faults (IsFaultOf version file octets))) is.1 reads.fault in (
+        λ e. cc,
+        λ s. absurd (no_value version file octets x is.0 s here),
+      )
 
   -- the faults that it adds are the text's first fault, if it has one
-  pub faults_told : AreApart says faulty → (old new : List Fault) (value : Option V) → ValueOf read file old new value → Adds old new (λ fault. (line : ℕ) × ((cause : LineCause) × faulty (line_fault line cause) × (fault ≡ BadLine file line cause)))
-  faults_told apart old new (Some v) is =
-      let there : says v = subst (λ r. IfOk r says) is.0 reads.read in
-      subst (λ fs. Adds old fs (λ fault. (line : ℕ) × ((cause : LineCause) × faulty (line_fault line cause) × (fault ≡ BadLine file line cause)))) (sym is.1)
-      (adds_none old _ (λ f h. apart.none v (line_fault h.0 h.1.0) there h.1.1))
-  faults_told apart old new None is =
-      let here : faulty is.0 = reads.fault is.0 is.1 in
-      adds_one old new (BadLine file is.0.line is.0.cause) _ is.2 (is.0.line, (is.0.cause, here, refl))
-      (λ f h. (let same : is.0 ≡ line_fault h.0 h.1.0 = apart.one is.0 (line_fault h.0 h.1.0) here h.1.1 in ap (λ (fault : LineFault). BadLine file fault.line fault.cause) same ∙ sym h.1.2))
+  pub faults_told : (old new : List Fault) (v : Option TagValue) → ValueOf read file old new v → Adds old new (IsFirstBadLine version file octets)
+  faults_told old new (Some v) is =
+      let there : IsTextFor version file octets v = subst (λ r. IfOk r (IsTextFor version file octets)) is.0 reads.value in
+      subst (λ fs. Adds old fs (IsFirstBadLine version file octets)) (sym is.1)
+      (adds_none old (IsFirstBadLine version file octets) (λ f h. let bad = bad_line version file octets f h in no_value version file octets v bad.0 there bad.1))
+  faults_told old new None is =
+      let here : IsFaultOf version file octets is.0 = subst (λ r. IfErr r (Faults (IsFaultOf version file octets))) is.1 reads.fault in
+      adds_one old new (BadLine file is.0.line is.0.cause) (IsFirstBadLine version file octets) is.2 (is_bad_line version file octets is.0 here)
+      (λ f h. let bad = bad_line version file octets f h in ap (λ (fault : LineFault). BadLine file fault.line fault.cause) (one_fault version file octets is.0 bad.0 here bad.1) ∙ bad.2)

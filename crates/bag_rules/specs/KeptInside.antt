@@ -27,6 +27,10 @@ abbrev pub IsTextAt : Shown → ℕ → List ℕ → Type 0
 IsTextAt shown place text = (path octets : List ℕ) → HasFileAt shown place path octets
     → (text ≡ octets) × (length octets ≤ LARGEST_TAG_FILE)
 
+abbrev pub kept_file : ℕ → ℕ → Digests → KeptFile
+kept_file place length digests =
+    record { place = place; length = length; digests = digests }
+
 -- what is kept of a file belongs to its octets, if they are known
 abbrev pub IsKeptOf : Shown → AlgSet → KeptFile → Type 0
 IsKeptOf shown set file = (path octets : List ℕ) → HasFileAt shown file.place path octets

@@ -12,6 +12,7 @@ pub mod Validity
 pub mod Limits
 pub mod ReadingInside
 pub mod KeptInside
+pub mod TextReaders
 pub mod FormInside
 pub mod Wants
 pub mod WantsInside

@@ -1,17 +1,21 @@
 -- What reading the tag files of a bag adds to what was read and to the faults. Only private functions and the
 -- definition of a plan cite these.
-use Rattle.std.specs.Prelude.{◌≡◌, ◌≢◌, ◌⊎◌, ◌↔◌, ◌++◌, ℕ, List, [], ◌∷◌, Option, Some, None, Result, Ok, Err, take}
+use Rattle.std.specs.Prelude.{◌≡◌, ◌≢◌, ◌⊎◌, ◌↔◌, ◌++◌, ℕ, List, [], ◌∷◌, Option, Some, None, Result, Ok, Err, IfErr, IfOk, take}
 use Rattle.bag_path.specs.declared.version.Version.{Version}
 use Rattle.bag_tags.specs.declared.fault.LineCause.{LineCause}
 use Rattle.bag_tags.specs.declared.fault.LineFault.{LineFault}
 use Rattle.bag_tags.specs.declared.fault.TagFault.{TagFault}
 use Rattle.bag_tags.specs.declared.fault.TagFault.TheVariants.{Line}
+use Rattle.bag_tags.specs.declared.feed.TagValue.{TagValue}
+use Rattle.bag_tags.specs.declared.feed.TagValue.TheVariants as value
 use Rattle.bag_tags.specs.declared.fetch.FetchLine.{FetchLine}
+use Rattle.bag_tags.specs.Feeds.{IsFaultOf, IsTextFor}
 use Rattle.bag_tags.specs.FetchText.{FetchText}
 use Rattle.bag_tags.specs.Infos.{MetadataElement}
 use Rattle.bag_tags.specs.InfoText.{InfoText}
 use Rattle.bag_tags.specs.Listings.{Listing}
 use Rattle.bag_tags.specs.Manifests.{ManifestText}
+use Rattle.bag_tags.specs.TagLines.{Faults}
 use Rattle.bag_rules.specs.declared.fault.Fault.{Fault}
 use Rattle.bag_rules.specs.declared.fault.Fault.TheVariants.{BadLine}
 use Rattle.bag_tags.specs.declared.name.LineFile.{LineFile}
@@ -88,9 +92,43 @@ abbrev pub IsBadLineOf : Version → List ℕ → List ℕ → Fault → Type 0
 IsBadLineOf version path octets fault = (file : LineFile) × (path ≡ text_file file)
     × IsFirstBadLine version file octets fault
 
+-- what was read of a text is what it says, or its first fault
+pub record IsReadOf (version : Version) (file : LineFile) (octets : List ℕ)
+    (read : Result TagValue TagFault) : Type 0 where
+  pub value : IfOk read (IsTextFor version file octets)
+  pub fault : IfErr read (Faults (IsFaultOf version file octets))
+
 -- the value that was read, and the same faults; or no value, and a fault for its first faulty line
-abbrev pub ValueOf : {V : Type 0} → Result V TagFault → LineFile → List Fault → List Fault
-    → Option V → Type 0
+abbrev pub ValueOf : Result TagValue TagFault → LineFile → List Fault → List Fault
+    → Option TagValue → Type 0
 ValueOf read file old new (Some value) = (read ≡ Ok value) × (new ≡ old)
 ValueOf read file old new None = (fault : LineFault) × (read ≡ Err (Line fault))
     × (new ≡ old ++ BadLine file fault.line fault.cause ∷ [])
+
+-- what a value says if it is that of a `bag-info.txt`, of a `fetch.txt` or of a manifest
+abbrev pub info_in : Option TagValue → Option (List MetadataElement)
+info_in (Some (value.Info elements)) = Some elements
+info_in _ = None
+
+abbrev pub fetch_in : Option TagValue → Option (List FetchLine)
+fetch_in (Some (value.Fetch lines)) = Some lines
+fetch_in _ = None
+
+abbrev pub manifest_in : Option TagValue → Option Listing
+manifest_in (Some (value.Manifest listing)) = Some listing
+manifest_in _ = None
+
+-- the listings after a manifest was read: one more, or the same
+abbrev pub listings_now : Option Listing → List Listing → List Listing
+listings_now (Some listing) listings = listings ++ listing ∷ []
+listings_now None listings = listings
+
+-- a value is put in the place of the one that was there, or is one more if the file is a manifest
+abbrev pub PutsValue : LineFile → Option TagValue → Texts → Texts → Type 0
+PutsValue Info v old new = (new.info ≡ info_in v) × (new.fetch ≡ old.fetch)
+    × (new.manifests.items ≡ old.manifests.items)
+PutsValue FetchList v old new = (new.fetch ≡ fetch_in v) × (new.info ≡ old.info)
+    × (new.manifests.items ≡ old.manifests.items)
+PutsValue (Manifest name) v old new =
+    (new.manifests.items ≡ listings_now (manifest_in v) old.manifests.items)
+    × (new.info ≡ old.info) × (new.fetch ≡ old.fetch)

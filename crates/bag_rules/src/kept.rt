@@ -2,7 +2,7 @@
 ghost use Rattle.std.specs.Prelude.{◌≡◌, ℕ, List, IfErr, IfSome, IsTrue, OnOk, true};
 ghost use Rattle.bag_digest.specs.Algorithm.{has};
 ghost use Rattle.bag_digest.specs.declared.algorithm.Alg.{Alg};
-ghost use Rattle.bag_rules.specs.KeptInside.{AreKept, HasSumsWithin, IsTextAt};
+ghost use Rattle.bag_rules.specs.KeptInside.{AreKept, HasSumsWithin, IsKeptOf, IsTextAt, kept_file};
 ghost use Rattle.bag_rules.specs.Trees.{HasFileAt, Shown};
 ghost use Rattle.bag_rules.specs.declared.outcome.CheckFault.{CheckFault};
 
@@ -45,13 +45,35 @@ impl Kept {
     {
         let mut multi = Multi::new(self.set);
         multi.update(text);
+        self.add(place, text.len() as u64, multi.finish())
+    }
+
+    /// Keeps the length and the digests of the file at this place.
+    pub(crate) fn add(
+        &mut self,
+        place: usize,
+        length: u64,
+        digests: Digests,
+    ) -> Result<(), CheckFault>
+        ensures kept { (shown : Shown) → AreKept shown self.old
+            → IsKeptOf shown self.old.set (kept_file place length digests)
+            → OnOk result (AreKept shown self.new) }
+        ensures err { IfErr result (λ fault. fault ≡ CheckFault.Memory) }
+    {
         let file = KeptFile {
             place,
-            length: text.len() as u64,
-            digests: multi.finish(),
+            length,
+            digests,
         };
         self.files.push(file)?;
         Ok(())
+    }
+
+    /// The algorithms by which digests are kept.
+    pub(crate) fn set(&self) -> AlgSet
+        ensures { result ≡ self.now.set }
+    {
+        self.set
     }
 
     /// The length of the file at this place and its digests by the algorithms of the set, if they were kept.

@@ -36,6 +36,7 @@ mod profile;
 mod report;
 mod tag_files;
 mod tag_set;
+mod text_reader;
 mod tree;
 mod want;
 mod wants;

@@ -1,25 +1,37 @@
 //! Reads the tag files of a bag that are read line by line (RFC 8493 sections 2.1.3 and 2.2).
-ghost use Rattle.std.specs.Prelude.{◌≡◌, ◌<◌, ◌≤◌, ◌↔◌, ◌∷◌, [], ℕ, List, IfOk, IfErr, IsErrOf, IsTrue, MatchResult, OnOk, Some, length, slice_get};
-ghost use Rattle.bag_path.specs.Lines.{lines_of};
+ghost use Rattle.std.specs.Prelude.{◌≡◌, ◌<◌, ◌≤◌, ◌∷◌, [], ℕ, List, IfOk, IfErr, IsErrOf, MatchResult, OnOk, Some, length, slice_get};
+ghost use Rattle.bag_path.specs.declared.version.Version.{Version};
 ghost use Rattle.bag_rules.specs.Bags.{Bag, IsBagOf, version_of};
 ghost use Rattle.bag_rules.specs.Faults.{kind_of_lines};
 ghost use Rattle.bag_rules.specs.HasFault.{HasFaultOf};
-ghost use Rattle.bag_rules.specs.Limits.{HasCountedLines, IsLongTag, FirstStops, NoneStops, Stopped, TextStops};
+ghost use Rattle.bag_rules.specs.Limits.{IsLongTag, FirstStops, NoneStops, Stopped, TextStops};
 ghost use Rattle.bag_rules.specs.KeptInside.{AreKept};
-ghost use Rattle.bag_rules.specs.ReadingInside.{Adds, AreTextsOf, IsBadLineOf, ReadsOn, ReadsText, ValueOf, IsFirstBadLine};
+ghost use Rattle.bag_rules.specs.ReadingInside.{
+  Adds,
+  AreTextsOf,
+  IsBadLineOf,
+  IsFirstBadLine,
+  IsReadOf,
+  PutsValue,
+  ReadsOn,
+  ReadsText,
+  ValueOf,
+  fetch_in,
+  info_in,
+  manifest_in,
+};
 ghost use Rattle.bag_rules.specs.Trees.{HasFileAt, UsesTree, paths_in};
 ghost use Rattle.bag_rules.specs.declared.outcome.CheckFault.{CheckFault};
 
 use crate::fault::Fault;
 use crate::kept::Kept;
-use crate::limits::{LARGEST_TAG_FILE, MOST_LINES};
+use crate::limits::LARGEST_TAG_FILE;
 use crate::outcome::CheckFault;
+use crate::text_reader::{TextReader, read_whole, take_file};
 use crate::tree::Tree;
 use bag_digest::{ReadFault, read_to_end_within};
-use bag_path::{Lines, Version};
-use bag_tags::{
-    Fetch, FetchLine, Info, LineFile, Manifest, TagFault, read_fetch, read_info, read_manifest,
-};
+use bag_path::Version;
+use bag_tags::{Fetch, FetchLine, Info, LineFile, Manifest, TagFault, TagValue};
 use std::alloc::Global;
 
 /// What the tag files that are read line by line say. It includes those that are there and have no faulty line.
@@ -116,12 +128,14 @@ fn read_text<T: Tree>(
     let Some(file) = LineFile::of(tree.path(i)) else {
         return Ok(());
     };
-    let text = read_tag_file(alloc, buffer, tree, i)?;
-    kept.keep(i, &text)?;
-    if has_too_many_lines(file, &text) {
+    let mut reader = TextReader::new(alloc, file, version, kept.set());
+    let total = take_file(buffer, tree, i, &mut reader)?;
+    let found = reader.finish(total);
+    kept.add(i, found.length, found.digests)?;
+    if found.has_too_many_lines {
         return Err(CheckFault::TooMany);
     }
-    read_lines(alloc, &text, file, version, texts, faults)
+    add_text(found.read, file, texts, faults)
 }
 
 /// Reads a whole tag file.
@@ -148,27 +162,6 @@ pub(crate) fn read_tag_file<T: Tree>(
     }
 }
 
-/// Whether a file of this name with this text has more lines than the limit.
-pub(crate) fn has_too_many_lines(file: LineFile, text: &[u8]) -> bool
-    ensures { IsTrue result ↔ (HasCountedLines file × (MOST_LINES < length (lines_of text.now))) }
-{
-    has_counted_lines(file) && has_more_lines(text, MOST_LINES)
-}
-
-/// Whether the number of this file's lines is limited.
-fn has_counted_lines(file: LineFile) -> bool
-    ensures { IsTrue result ↔ HasCountedLines file }
-{
-    !matches!(file, LineFile::Info)
-}
-
-/// Whether a text has more lines than this number.
-fn has_more_lines(text: &[u8], most: usize) -> bool
-    ensures { IsTrue result ↔ (most < length (lines_of text.now)) }
-{
-    Lines::new(text).nth(most).is_some()
-}
-
 /// Reads the text of a tag file. Adds what it says, or a fault for its first faulty line.
 pub(crate) fn read_lines(
     alloc: Global,
@@ -183,29 +176,33 @@ pub(crate) fn read_lines(
         (IsFirstBadLine version file text.now)) }
     ensures err { IfErr result (λ fault. fault ≡ CheckFault.Memory) }
 {
-    match file {
-        LineFile::Info => {
-            texts.info = value_of(read_info(alloc, text, version), file, faults)?;
-        }
-        LineFile::FetchList => {
-            texts.fetch = value_of(read_fetch(alloc, text, version), file, faults)?;
-        }
-        LineFile::Manifest(name) => {
-            let read = read_manifest(alloc, text, name.alg, name.kind, version);
-            if let Some(manifest) = value_of(read, file, faults)? {
-                texts.manifests.push(manifest)?;
-            }
-        }
-    }
-    Ok(())
+    add_text(read_whole(alloc, text, file, version), file, texts, faults)
+}
+
+/// Adds what was read of a tag file, or a fault for its first faulty line.
+fn add_text(
+    read: Result<TagValue, TagFault>,
+    file: LineFile,
+    texts: &mut Texts,
+    faults: &mut Vec<Fault>,
+) -> Result<(), CheckFault>
+    ensures read { (version : Version) (octets : List ℕ) → IsReadOf version file octets read
+        → OnOk result (ReadsText version file octets texts.old texts.new) }
+    ensures faulty { (version : Version) (octets : List ℕ) → IsReadOf version file octets read
+        → OnOk result
+        (Adds faults.old.items faults.new.items (IsFirstBadLine version file octets)) }
+    ensures err { IfErr result (λ fault. fault ≡ CheckFault.Memory) }
+{
+    let value = value_of(read, file, faults)?;
+    put_value(file, value, texts)
 }
 
 /// The value of a text. If it has none, a fault for its first faulty line is added.
-fn value_of<V: Drop>(
-    read: Result<V, TagFault>,
+fn value_of(
+    read: Result<TagValue, TagFault>,
     file: LineFile,
     faults: &mut Vec<Fault>,
-) -> Result<Option<V>, CheckFault>
+) -> Result<Option<TagValue>, CheckFault>
     ensures value { IfOk result (λ value.
         ValueOf read file faults.old.items faults.new.items value) }
     ensures err { IfErr result (λ fault. fault ≡ CheckFault.Memory) }
@@ -222,5 +219,49 @@ fn value_of<V: Drop>(
             Ok(None)
         }
         Err(TagFault::Memory) => Err(CheckFault::Memory),
+    }
+}
+
+/// Puts the value of a text in the place of what the file said before, or adds it to the manifests.
+fn put_value(file: LineFile, value: Option<TagValue>, texts: &mut Texts) -> Result<(), CheckFault>
+    ensures puts { OnOk result (PutsValue file value texts.old texts.new) }
+    ensures err { IfErr result (λ fault. fault ≡ CheckFault.Memory) }
+{
+    match file {
+        LineFile::Info => texts.info = info_in(value),
+        LineFile::FetchList => texts.fetch = fetch_in(value),
+        LineFile::Manifest(_) => {
+            if let Some(manifest) = manifest_in(value) {
+                texts.manifests.push(manifest)?;
+            }
+        }
+    }
+    Ok(())
+}
+
+fn info_in(value: Option<TagValue>) -> Option<Info>
+    ensures { result ≡ info_in value }
+{
+    match value {
+        Some(TagValue::Info(info)) => Some(info),
+        _ => None,
+    }
+}
+
+fn fetch_in(value: Option<TagValue>) -> Option<Fetch>
+    ensures { result ≡ fetch_in value }
+{
+    match value {
+        Some(TagValue::Fetch(fetch)) => Some(fetch),
+        _ => None,
+    }
+}
+
+fn manifest_in(value: Option<TagValue>) -> Option<Manifest>
+    ensures { result ≡ manifest_in value }
+{
+    match value {
+        Some(TagValue::Manifest(manifest)) => Some(manifest),
+        _ => None,
     }
 }

@@ -1,5 +1,6 @@
-use Rattle.std.proofs.Common.{◌≡◌, ◌<◌, true, false, length, refl, sym, ◌∙◌, inr, subst}
-use Rattle.bag_rules.proofs.Words.{err_from_is_err_and, HasCountedLines, IsBadLineOf, IsFirstBadLine, IsLongTag, lines_of, on_ok_weaker, one_file, ReadsText, Stopped, text_file, TextStops}
+use Rattle.std.proofs.Common.{◌≡◌, false, ◌∙◌, inr, refl, subst, sym, true}
+use Rattle.bag_rules.specs.TextReaders.{HasExcessLines, IsFoundOf}
+use Rattle.bag_rules.proofs.Words.{AreDigests, err_from_is_err_and, IsBadLineOf, IsFirstBadLine, IsLongTag, on_ok_weaker, one_file, ReadsText, Stopped, text_file, TextStops}
 use Rattle.bag_rules.proofs.AddsLemmas.{adds_so}
 use Rattle.bag_rules.proofs.LimitLemmas.{stopped_so}
 use Rattle.bag_rules.proofs.TextStops.{done_or_memory, long_stops, none_stops}
@@ -7,49 +8,53 @@ use Rattle.bag_rules.proofs.KeptLemmas.{on_ok_both, on_ok_of}
 use Rattle.bag_rules.proofs.TreeLemmas.{named_here}
 use Rattle.bag_rules.proofs.tag_files.read_text.Goals as goal
 
-pub returns-in_err-text-clause-limits : goal.returns-in_err-text-clause-limits
-returns-in_err-text-clause-limits g c = λ path octets at.
+pub returns-in_err-total-clause-limits : goal.returns-in_err-total-clause-limits
+returns-in_err-total-clause-limits g c = λ path octets at.
     let named : path ≡ text_file c.in-Some.file = named_here at c.path.ensures ∙ c.in-Some.ensures in
-    let stopped : Stopped (IsLongTag path octets) c.in_err-text.field-0.0 = c.in_err-text.ensures.known path octets at in
+    let stopped : Stopped (IsLongTag path octets) c.in_err-total.field-0.0 = c.in_err-total.ensures.known c.args.version c.set.result path octets c.new-reader.ensures.taken at in
     let error = err_from_is_err_and c.from_residual.result c.from_residual.ensures.1 in
-    rw (error.1, error.2) (stopped_so (IsLongTag path octets) (TextStops path octets) c.in_err-text.field-0.0 (long_stops c.in-Some.file path octets named c.in_err-text.field-0.0) stopped)
+    rw (error.1, error.2) (stopped_so (IsLongTag path octets) (TextStops path octets) c.in_err-total.field-0.0 (long_stops c.in-Some.file path octets named c.in_err-total.field-0.0) stopped)
 
-pub returns-then-has_too_many_lines-clause-limits : goal.returns-then-has_too_many_lines-clause-limits
-returns-then-has_too_many_lines-clause-limits g c = λ path octets at.
-    let named : path ≡ text_file c.in-Some.file = named_here at c.path.ensures ∙ c.in-Some.ensures in
-    let known = c.in_ok-text.ensures.known path octets at in
-    let held : c.deref-2.result.now ≡ octets = c.deref-2.ensures.value ∙ known.0 in
-    let many = c.has_too_many_lines.ensures.0 c.if-has_too_many_lines.true in
-    (c.in-Some.file, named, inr (known.1, (many.0, subst (λ o. 100000 < length (lines_of o)) held many.1, refl)))
+pub returns-then-found-clause-limits : goal.returns-then-found-clause-limits
+returns-then-found-clause-limits g c = λ path octets at.
+    let file = c.in-Some.file in
+    let named : path ≡ text_file file = named_here at c.path.ensures ∙ c.in-Some.ensures in
+    let known = c.in_ok-total.ensures.known c.args.version c.set.result path octets c.new-reader.ensures.taken at in
+    let is = subst (λ f. IsFoundOf c.args.version f c.set.result octets c.finish-found.result) (c.in_ok-total.ensures.file ∙ c.new-reader.ensures.file) (c.finish-found.ensures c.args.version c.set.result octets known.1 known.0) in
+    let many = is.too_many.0 c.if-found.true in
+    (file, named, inr (known.2, (many.0, many.1, refl)))
 
 pub returns-clause-read : goal.returns-clause-read
 returns-clause-read g c = λ path octets at.
     let file = c.in-Some.file in
     let version = c.args.version in
     let named : path ≡ text_file file = named_here at c.path.ensures ∙ c.in-Some.ensures in
-    let held : c.deref-3.result.now ≡ octets = c.deref-3.ensures.value ∙ (c.in_ok-text.ensures.known path octets at).0 in
-    on_ok_both c.read_lines.result _ _
-    (on_ok_weaker c.read_lines.result (λ reads.
+    let known = c.in_ok-total.ensures.known version c.set.result path octets c.new-reader.ensures.taken at in
+    let is = subst (λ f. IsFoundOf version f c.set.result octets c.finish-found.result) (c.in_ok-total.ensures.file ∙ c.new-reader.ensures.file) (c.finish-found.ensures version c.set.result octets known.1 known.0) in
+    let few : ¬ HasExcessLines file octets = λ many. (let k : true ≡ false = sym (is.too_many.1 many) ∙ c.if-found.false in cc) in
+    on_ok_both c.add_text.result _ _
+    (on_ok_weaker c.add_text.result (λ reads.
     record {
-      reads = λ other is. subst (λ f. ReadsText version f octets c.args.texts.now c.read_lines.new.texts) (one_file path file other named is) (subst (λ o. ReadsText version file o c.args.texts.now c.read_lines.new.texts) held reads);
+      reads = λ other named_so. subst (λ f. ReadsText version f octets c.args.texts.now c.add_text.new.texts) (one_file path file other named named_so) reads;
       leaves = λ none. absurd (none file named);
     })
-    c.read_lines.ensures.read)
-    (on_ok_weaker c.read_lines.result (adds_so c.args.faults.now.items c.read_lines.new.faults.items (IsFirstBadLine version file c.deref-3.result.now) (IsBadLineOf version path octets)
-    (λ f bad. (file, named, subst (λ o. IsFirstBadLine version file o f) held bad))
-    (λ f bad. subst (λ o. IsFirstBadLine version file o f) (sym held) (subst (λ name. IsFirstBadLine version name octets f) (one_file path bad.0 file bad.1 named) bad.2)))
-    c.read_lines.ensures.faulty)
+    (c.add_text.ensures.read version octets (is.read few)))
+    (on_ok_weaker c.add_text.result (adds_so c.args.faults.now.items c.add_text.new.faults.items (IsFirstBadLine version file octets) (IsBadLineOf version path octets)
+    (λ f bad. (file, named, bad))
+    (λ f bad. subst (λ name. IsFirstBadLine version name octets f) (one_file path bad.0 file bad.1 named) bad.2))
+    (c.add_text.ensures.faulty version octets (is.read few)))
 
 pub returns-clause-limits : goal.returns-clause-limits
 returns-clause-limits g c = λ path octets at.
-    let named : path ≡ text_file c.in-Some.file = named_here at c.path.ensures ∙ c.in-Some.ensures in
-    let known = c.in_ok-text.ensures.known path octets at in
-    let held : c.deref-2.result.now ≡ octets = c.deref-2.ensures.value ∙ known.0 in
-    let few : HasCountedLines c.in-Some.file → 100000 < length (lines_of octets) → ⊥ = λ counted many.
-    (let k : true ≡ false = sym (c.has_too_many_lines.ensures.1 (counted, subst (λ o. 100000 < length (lines_of o)) (sym held) many)) ∙ c.if-has_too_many_lines.false in cc) in
-    done_or_memory c.read_lines.result (TextStops path octets) c.read_lines.ensures.err
-    (none_stops c.in-Some.file path octets named known.1 few)
+    let file = c.in-Some.file in
+    let named : path ≡ text_file file = named_here at c.path.ensures ∙ c.in-Some.ensures in
+    let known = c.in_ok-total.ensures.known c.args.version c.set.result path octets c.new-reader.ensures.taken at in
+    let is = subst (λ f. IsFoundOf c.args.version f c.set.result octets c.finish-found.result) (c.in_ok-total.ensures.file ∙ c.new-reader.ensures.file) (c.finish-found.ensures c.args.version c.set.result octets known.1 known.0) in
+    done_or_memory c.add_text.result (TextStops path octets) c.add_text.ensures.err
+    (none_stops file path octets named known.2 (λ counted many. (let k : true ≡ false = sym (is.too_many.1 (counted, many)) ∙ c.if-found.false in cc)))
 
 pub returns-clause-kept : goal.returns-clause-kept
-returns-clause-kept g c = λ are. on_ok_of c.read_lines.result _ (c.in_ok-keep.ensures.kept (g.T.Paths.shown c.args.tree.now) are (λ path octets at.
-    let known = c.in_ok-text.ensures.known path octets at in (c.deref.ensures.value ∙ known.0, known.1)))
+returns-clause-kept g c = λ are. on_ok_of c.add_text.result _ (c.in_ok-add.ensures.kept (g.T.Paths.shown c.args.tree.now) are (λ path octets at.
+    let known = c.in_ok-total.ensures.known c.args.version c.set.result path octets c.new-reader.ensures.taken at in
+    let is = c.finish-found.ensures c.args.version c.set.result octets known.1 known.0 in
+    (is.count, subst (λ s. AreDigests c.finish-found.result.digests s octets) c.set.ensures is.digests, known.2)))
