@@ -194,9 +194,35 @@ unopened() {
     opening "$@"
     expect "$1: nothing is opened" 1 '' grep -F /odd "$work/calls"
 }
+# opened_once NAME FOLDER TEST..: of the files in the folder those of which this test of find holds were opened, each once.
+opened_once() {
+    (cd "$2" && find . -type f "${@:3}" -printf '%P\n' | LC_ALL=C sort) >"$work/wanted opened"
+    grep -vF O_DIRECTORY "$work/calls" | sed -n "s|.*openat(AT_FDCWD, \"$2/\([^\"]*\)\".*|\1|p" | LC_ALL=C sort >"$work/opened"
+    expect "$1: each file is opened once" 0 '' diff "$work/wanted opened" "$work/opened"
+}
 if strace -o "$work/calls" true 2>"$work/no strace"; then
     opening 'what is opened' 0 valid check "$whole"
     expect 'what is opened: it is seen' 0 '' grep -qF "$whole/data/a.txt" "$work/calls"
+    # More files than are read before their digests are taken, some of them longer than what is held until then.
+    many=$work/seventy made=$work/seventy-bag
+    mkdir -p "$many/k"
+    (cd "$many" && seq -w 70 | split -l 1 -a 3 -)
+    head -c 200000 /dev/zero | tee "$many/long" "$many/x" >"$many/k/long"
+    opening 'opened once: make' 0 'made 73 files, 600210 octets' make "$many" "$made" md5 sha256
+    opened_once 'make' "$many"
+    (cd "$made" && sed 's|^[^ ]*  |http://example.org/ - |' manifest-md5.txt >fetch.txt && echo note >note && rm tagmanifest-md5.txt)
+    (cd "$made" && sha256sum bag-info.txt bagit.txt fetch.txt manifest-*.txt >tagmanifest-sha256.txt)
+    opening 'opened once: check' 0 valid check "$made"
+    opened_once 'check, which reads no file that is not listed' "$made" ! -name note
+    opening 'opened once: begin' 0 new begin "$work/seventy-ledger" t1 "$made"
+    opened_once 'begin, which reads no payload' "$made" ! -path './data/*'
+    opening 'opened once: intake' 0 "$(cut -c 35- "$made/manifest-md5.txt" | sed 's/^/taken /')" \
+        intake "$work/seventy-ledger" t1 "$made"
+    opened_once 'intake, which reads the payload alone' "$made" -path './data/*'
+    expect 'opened once: another transfer' 0 new bag begin "$work/seventy-ledger" t2 "$made"
+    opening 'opened once: fetch' 0 "$(cut -c 35- "$made/manifest-md5.txt" | sed 's/^/taken /')" \
+        fetch "$work/seventy-ledger" t2 "$made"
+    opened_once 'fetch, which reads what it asks for alone' "$made" -path './data/*'
     mkdir "$work/odd hole"
     cp examples/first-bag/bagit.txt "$work/odd hole"
     echo "$a_sha256  data/odd" >"$work/odd hole/manifest-sha256.txt"

@@ -24,9 +24,13 @@ from explaining import is_explained
 from reference_commands import Answer, Commands, read_ledger
 from small_bags import DECLARATION
 
-PAYLOAD = {b"data/a.txt": b"abc", b"data/e.txt": b"", b"data/k/big": b"0123456789" * 7000, b"data/z%": b"a line\n"}
-FETCH = b"http://example.org/e 0 data/e.txt\nhttp://example.org/k - data/k/big\nhttp://example.org/z - data/z%25\n"
-TAGS = {b"bagit.txt": DECLARATION, b"bag-info.txt": b"Payload-Oxum: 70010.4\n", b"fetch.txt": FETCH,
+# A path that is longer than most names, for which there must be room before it is looked up.
+LONG = b"folder/" * 200 + b"file"
+PAYLOAD = {b"data/a.txt": b"abc", b"data/e.txt": b"", b"data/" + LONG: b"xyz", b"data/k/big": b"0123456789" * 7000,
+           b"data/z%": b"a line\n"}
+FETCH = (b"http://example.org/e 0 data/e.txt\nhttp://example.org/l 3 data/" + LONG +
+         b"\nhttp://example.org/k - data/k/big\nhttp://example.org/z - data/z%25\n")
+TAGS = {b"bagit.txt": DECLARATION, b"bag-info.txt": b"Payload-Oxum: 70013.5\n", b"fetch.txt": FETCH,
         b"manifest-md5.txt": new_bags.manifest("md5", PAYLOAD), b"manifest-sha256.txt": new_bags.manifest("sha256", PAYLOAD)}
 TAGS[b"tagmanifest-sha256.txt"] = new_bags.manifest("sha256", TAGS)
 OTHER_TAGS = {b"bagit.txt": DECLARATION, b"manifest-sha256.txt": new_bags.manifest("sha256", {b"data/a.txt": b"abc"})}
@@ -35,9 +39,9 @@ FOLDERS = {
     "whole": {**TAGS, **PAYLOAD},
     "other": OTHER_TAGS,
     "first": {b"data/a.txt": b"abc", b"data/k/big": PAYLOAD[b"data/k/big"], b"data/more": b"", b"data/z%": b"another line\n"},
-    "second": {b"data/a.txt": b"abc", b"data/e.txt": b"", b"data/z%": PAYLOAD[b"data/z%"]},
-    "supplier": {b"data/e.txt": b"", b"data/z%": b"another line\n"},
-    "letters": {b"a.txt": b"abc", b"k/x": b"defgh", b"k0": b""},
+    "second": {b"data/a.txt": b"abc", b"data/e.txt": b"", b"data/" + LONG: b"xyz", b"data/z%": PAYLOAD[b"data/z%"]},
+    "supplier": {b"data/e.txt": b"", b"data/" + LONG: b"xyz", b"data/z%": b"another line\n"},
+    "letters": {b"a.txt": b"abc", LONG: b"xyz", b"k/x": b"defgh", b"k0": b""},
 }
 # The ledgers, by the commands that make them. One more, `old`, is `half` in format 1.
 LEDGERS = {

@@ -201,6 +201,24 @@ if strace -o "$work/calls" true 2>"$work/no strace"; then
     reads=$(calls pread64 "$program" list "$work/long ledger")
     explain 'a ledger that cannot be read while it is verified' 3 "bag: $work/long ledger: disk I/O error" \
         injects "inject=pread64:error=EIO:when=$((reads - 100))" "$program" list "$work/long ledger"
+    # The last reads of a command come after that: of names, of tag files and of pieces. A store that fails then is told as that too.
+    expect 'a long ledger: what begin would read' 0 again "$program" begin "$work/long ledger" t1 "$work/long"
+    for command in list report audit begin intake export; do
+        words=("$work/long ledger" t1)
+        line='bag: store'
+        case $command in
+        list) words=("$work/long ledger") ;;
+        begin) words+=("$work/long") ;;
+        intake) words+=("$work/long") line='refused data/f: store' ;;
+        export) words+=("$work/exported") ;;
+        esac
+        reads=$(calls pread64 "$program" "$command" "${words[@]}")
+        for number in $(seq "$((reads - 4))" "$reads"); do
+            rm -rf "$work/exported"
+            expect "a ledger that cannot be read after it was verified, $number of $reads: $command" 3 "$line" \
+                injects "inject=pread64:error=EIO:when=$number" "$program" "$command" "${words[@]}"
+        done
+    done
     for error in ENOSPC EPIPE EIO EDQUOT; do
         expect "writes that fail with $error" 3 '' \
             injects "inject=write:error=$error" "$program" check examples/whole-format

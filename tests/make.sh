@@ -215,6 +215,10 @@ chmod 000 "$work/unread/k/x"
 expect 'a file that may not be read' 3 'bag: files' nobody "$work/program" make "$work/unread" "$work/open/part" sha256
 expect 'a file that may not be read: what was written stays' 0 'data
 data/a.txt' below "$work/open/part"
+chmod 755 "$work/unread/k/x"
+chmod 000 "$work/unread/a.txt"
+expect 'a first file that may not be read' 3 'bag: files' nobody "$work/program" make "$work/unread" "$work/open/none" sha256
+expect 'a first file that may not be read: the payload directory was made before it' 0 data below "$work/open/none"
 chmod -R a+rX "$work/long"
 chmod 000 "$sixth/x$name"
 expect 'a manifest that is too long, and a file that may not be read' 1 'bag: too large' \

@@ -187,6 +187,7 @@ def chosen_orders():
     yield "an empty file", Order({"data/a": b""}, ["md5"])
     yield "one octet", Order({"data/a": b"\0"}, ["sha1"])
     yield "long file", Order({"data/a": bytes(range(256)) * 4096 + b"x"}, ALGORITHMS)
+    yield "files past 16 and 64 MiB", Order({"data/a": bytes(16777217), "data/b": b"x" * 67108865}, ["md5"])
     short = {f"data/{number:02}": b"%d" % number * number for number in range(100)}
     edges = {f"data/{place:02}.{length}": bytes(range(place, 256)) * 1200 for place in (3, 64) for length in EDGES}
     mixed = {path: octets[:int(path.partition(".")[2] or len(octets))] for path, octets in {**short, **edges}.items()}

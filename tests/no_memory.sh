@@ -100,6 +100,63 @@ each_growth_of_make() {
     refusing 1 "$program" make "$1" "$work/made" "${@:2}"
 }
 
+# each_growth_of_fetch LEDGER PATH FOLDER: fetches the file with this path, once with no failing allocation, and then with each that
+# comes after the ledger was opened. It is taken, or not for want of memory, which is not told as a failure of the folder.
+each_growth_of_fetch() {
+    local printed number first status=0
+    cp "$1" "$work/fetching"
+    refusing 0 "$program" fetch "$work/fetching" t1 "$work/no folder" >"$work/told" 2>&1 || status=$?
+    count_asked && first=$asked || echo "no allocations were counted"
+    status=0
+    printed=$(refusing 0 "$program" fetch "$work/fetching" t1 "$3") || status=$?
+    [ "$status $printed" = "0 taken $2" ] || echo "status $status: $printed"
+    count_asked || echo "no allocations were counted"
+    [ "$asked" -gt "$((first + 10))" ] || echo "only $((asked - first)) allocations were counted"
+    for number in $(seq "$((first - 30))" "$asked"); do
+        cp "$1" "$work/fetching"
+        status=0
+        printed=$(refusing "$number" "$program" fetch "$work/fetching" t1 "$3") || status=$?
+        count_refusal "$2" "$number"
+        case "$status $printed" in
+        "0 taken $2" | "3 refused $2: memory" | '3 bag: memory') ;;
+        *) echo "allocation $number of $asked: status $status: $printed" ;;
+        esac
+        rm -f "$work/fetching-wal"
+    done
+}
+
+# files_of NUMBER: makes a bag with this many payload files, and a fetch.txt that lists them.
+files_of() {
+    mkdir -p "$work/of $1/data"
+    cp examples/first-bag/bagit.txt "$work/of $1"
+    (cd "$work/of $1" && seq -w "$1" | (cd data && split -l 1 -a 4 -) && md5sum data/* >manifest-md5.txt \
+        && sed 's|^[^ ]*  |http://example.org/ - |' manifest-md5.txt >fetch.txt)
+}
+
+# asked_by COMMAND NUMBER: how often this command asks for memory with the bag of this many files.
+asked_by() {
+    local bag="$work/of $2" ledger="$work/of $2.ledger" name=t1
+    [ "$1" != fetch ] || name=t2
+    case $1 in
+    check) set -- "$1" "$bag" ;;
+    make) set -- "$1" "$bag" "$bag.made" md5 ;;
+    begin | intake | fetch) set -- "$1" "$ledger" "$name" "$bag" ;;
+    export) set -- "$1" "$ledger" "$name" "$bag.exported" ;;
+    report | audit) set -- "$1" "$ledger" "$name" ;;
+    esac
+    refusing 0 "$program" "$@" >"$work/printed_by_asked" || echo "$*: status $?"
+    count_asked || echo "no allocations were counted"
+}
+
+# asks_in_line COMMAND: for more files it asks for memory more often, by about as much for each file as before.
+asks_in_line() {
+    local least less
+    asked_by "$1" 100 && least=$asked
+    asked_by "$1" 200 && less=$asked
+    asked_by "$1" 400
+    [ "$((least < less && 2 * (asked - less) < 5 * (less - least)))" -eq 1 ] || echo "$least, $less, $asked"
+}
+
 # each_growth_of_driver CAUSE FILE WORD..: has the driver read the file, once with no failing allocation, and then with
 # each (of more than `most`, a hundred of them). It prints the same, or a front of it with status 3; or the first line
 # that is another tells this cause.
@@ -197,6 +254,12 @@ if cc -shared -fPIC -O1 -o "$work/no_memory.so" tests/no_memory.c 2>"$work/no cc
     printf abc >"$work/long path/$long_path"
     (cd "$work/long path" && sha256sum "$long_path") >>"$work/long path/manifest-sha256.txt"
     expect 'no memory for a check of a long path' 3 'bag: memory' each_growth "$work/long path"
+    cp -r "$work/long path" "$work/long hole"
+    echo "http://example.org/ - $long_path" >"$work/long hole/fetch.txt"
+    rm -r "$work/long hole/data"
+    expect 'a long hole: begin' 0 new "$program" begin "$work/long ledger" t1 "$work/long hole"
+    expect 'no memory for a fetch of a long path' 0 '' \
+        more_refusals each_growth_of_fetch "$work/long ledger" "$long_path" "$work/long path"
     expect 'no memory for a new bag' 3 'bag: memory' each_growth_of_make "$work/long path" sha256 md5
     for words in check help 'help make' --version 'list one more' 'make a' 'intake --no'; do
         # shellcheck disable=SC2086
@@ -218,6 +281,15 @@ if cc -shared -fPIC -O1 -o "$work/no_memory.so" tests/no_memory.c 2>"$work/no cc
         count_asked && [ $((asked - report)) -ge 20 ]
     }
     expect 'an audit reads what is held again, and a report does not' 0 $'valid\nvalid' audit_asks_more
+    # What was read, and what is held, is not gone through once more for each file.
+    for number in 100 200 400; do files_of "$number"; done
+    for command in check make begin intake report audit export; do
+        expect "allocations for more files: $command" 0 '' asks_in_line "$command"
+    done
+    for number in 100 200 400; do
+        expect "allocations for $number files: another transfer" 0 new "$program" begin "$work/of $number.ledger" t2 "$work/of $number"
+    done
+    expect 'allocations for more files: fetch' 0 '' asks_in_line fetch
     allocations=60
     [ "${1-}" != --all ] || allocations=0
     expect 'no memory for the commands' 0 '' env TMPDIR="$work" sh -c 'python3 -B tests/failing_commands.py "$@" >"$0"' \

@@ -218,10 +218,43 @@ else
 fi
 rm -r "$work/large"
 
+# A file of 256 MiB in little memory: it is read, hashed and stored piece by piece.
+# tight ARGUMENT..: runs the program with at most 64 MB of memory.
+tight() (
+    ulimit -v 64000
+    bag "$@"
+)
+new_bag heavy
+if truncate -s 268435456 "$work/heavy/data/e"; then
+    (cd "$work/heavy" && sha256sum data/e >manifest-sha256.txt && echo 'http://example.org/ 268435456 data/e' >fetch.txt)
+    expect 'a file that fits into no memory: check' 0 valid tight check heavy
+    expect 'a file that fits into no memory: make' 0 'made 1 files, 268435456 octets' tight make heavy/data heavier md5
+    expect 'a file that fits into no memory: begin' 0 new tight begin light t1 heavy
+    expect 'a file that fits into no memory: intake' 0 'taken data/e' tight intake light t1 heavy
+    rm "$work/light"
+    expect 'a file that fits into no memory: begin again' 0 new tight begin light t1 heavy
+    expect 'a file that fits into no memory: fetch' 0 'taken data/e' tight fetch light t1 heavy
+    rm -r "$work/light" "$work/heavier"
+else
+    lacking 'a file that fits into no memory (no sparse files)'
+fi
+rm -r "$work/heavy"
+# The same for files that are so short that several are held until their digests are taken.
+new_bag short
+rm "$work/short/data/e"
+for number in {1..1500}; do truncate -s 100000 "$work/short/data/$number"; done
+(cd "$work/short" && find data -type f | LC_ALL=C sort | xargs md5sum >manifest-md5.txt && rm manifest-sha256.txt)
+expect 'files that fit into no memory: check' 0 valid tight check short
+expect 'files that fit into no memory: make' 0 'made 1500 files, 150000000 octets' tight make short/data shorter sha1
+expect 'files that fit into no memory: begin' 0 new tight begin light t1 short
+expect 'files that fit into no memory: intake' 0 "$(cut -c 35- "$work/short/manifest-md5.txt" | sed 's/^/taken /')" \
+    tight intake light t1 short
+rm -r "$work/light" "$work/short" "$work/shorter"
+
 # Urls of any length.
 new_bag urls
 : >"$work/urls/fetch.txt"
-for length in 2048 2049 65536 1000000; do
+for length in 2048 2049 10000 65536 1000000; do
     echo "$e_sha256  data/$length" >>"$work/urls/manifest-sha256.txt"
     : >"$work/urls/data/$length"
     filled "$work/url" "$length" http: x ''
@@ -229,7 +262,7 @@ for length in 2048 2049 65536 1000000; do
 done
 expect 'urls: check' 0 valid bag check urls
 expect 'urls: begin' 0 new bag begin ledger urls urls
-expect 'urls: fetch' 0 $'taken data/2048\ntaken data/2049\ntaken data/65536\ntaken data/1000000' bag fetch ledger urls urls
+expect 'urls: fetch' 0 $'taken data/2048\ntaken data/2049\ntaken data/10000\ntaken data/65536\ntaken data/1000000' bag fetch ledger urls urls
 
 # Names of transfers, of which the longest has 64 octets.
 longest=$(printf 'n%.0s' {1..64})
@@ -319,6 +352,33 @@ expect '100,000 files: make' 0 'made 100000 files, 0 octets' bag make many/data 
 expect '100,000 files: check' 0 valid bag check made100k
 expect '100,000 files: begin' 0 new bag begin lmade made made100k
 rm -r "$work/many" "$work/made100k"
+
+# As many entries of fetch.txt as a transfer may have, of which one is supplied; and many tag files.
+new_bag entries
+seq -w 100000 | sed 's|^|d41d8cd98f00b204e9800998ecf8427e  data/|' >"$work/entries/manifest-md5.txt"
+seq -w 100000 | sed 's|^|http://example.org/ - data/|' >"$work/entries/fetch.txt"
+rm "$work/entries/manifest-sha256.txt" "$work/entries/data/e"
+: >"$work/entries/data/050000"
+seq -w 100000 | sed -e 's|.*|refused data/&: not supplied|' -e 's|refused data/050000: .*|taken data/050000|' >"$work/answers"
+# The list is too long for a word.
+fetch_of_entries() {
+    local status=0
+    bag fetch lentries entries entries >"$work/answered" || status=$?
+    cmp "$work/answers" "$work/answered"
+    return "$status"
+}
+expect '100,000 entries: begin' 0 new bag begin lentries entries entries
+expect '100,000 entries: fetch' 1 '' fetch_of_entries
+rm -r "$work/entries"
+new_bag notes
+(cd "$work/notes" && seq 10000 | xargs touch)
+expect '10,002 tag files: check' 0 valid bag check notes
+expect '10,002 tag files: begin' 0 new bag begin lnotes notes notes
+expect '10,002 tag files: begin again' 0 again bag begin lnotes notes notes
+expect '10,002 tag files: intake' 0 'taken data/e' bag intake lnotes notes notes
+expect '10,002 tag files: export' 0 'exported 10003 files' bag export lnotes notes noted
+expect '10,002 tag files: the bag' 0 '' diff -r "$work/notes" "$work/noted"
+rm -r "$work/notes" "$work/noted"
 
 # A new bag whose manifest has 16,777,216 octets: 4,162 lines of 4,031, with paths of 3,900, and one of 194.
 folders=$(printf "$letters/%.0s" {1..19})

@@ -217,6 +217,32 @@ def contents_of_a_gibibyte(receiver):
     yield one.deliver(b"t1", A[0], bytes(1073741825)), "refused: too large"
 
 
+def contents_past_16_and_64_mebioctets_are_taken(receiver):
+    for length in 16777217, 67108865:
+        content = bytes(length)
+        files = [TAGS[0], (b"manifest-md5.txt", hashlib.md5(content).hexdigest().encode() + b"  data/a\n")]
+        one, other = receiver(), receiver()
+        yield one.begin(b"t", files), "new"
+        yield one.deliver(b"t", b"data/a", content), "taken"
+        yield one.read(b"t", b"data/a", content), "repeated"
+        yield one.audit(b"t"), ["valid"]
+        other.begin(b"t", files)
+        yield other.bring(b"t", [(b"data/a", content)]), (["taken"], "done")
+
+
+def a_path_of_4097_octets_is_none(receiver):
+    one = opened(receiver)
+    longest = b"data/" + b"n" * 4091
+    for path, answer in [(longest, "refused: not listed"), (longest + b"n", "refused: path"), (b"n" * 1_000_000, "refused: path")]:
+        yield one.deliver(b"t1", path, b"abc"), answer
+        yield one.read(b"t1", path, b"abc"), answer
+        yield one.run(b"t1", [(path, b"abc"), A])[0][0], answer
+        yield one.bring(b"t1", [(path, b"abc"), A]), ([answer, "repeated"], "done")
+    yield begun(receiver, (b"n" * 4096, b"")), "new"
+    yield begun(receiver, (b"n" * 4097, b"")), "refused: tag path 2"
+    yield begun(receiver, (b"n" * 1_000_000, b"")), "refused: tag path 2"
+
+
 def each_length_and_each_digest_is_asked(receiver):
     by_md5, sha1 = (b"manifest-md5.txt", A_MD5 + b"  data/a\n"), b"manifest-sha1.txt"
     of_abc, of_nothing = b"a9993e364706816aba3e25717850c26c9cd0d89d", b"da39a3ee5e6b4b0d3255bfef95601890afd80709"
@@ -332,7 +358,8 @@ def many_files_come_rising_falling_and_damaged(receiver):
 
 CHECKS = (names_of_transfers, the_first_bad_tag_path_is_told, a_large_tag_file_is_told,
           what_is_outside_is_told_where_bagit_txt_reads, what_no_payload_file_can_mend_is_told, a_folder_of_a_path_clashes,
-          other_tag_files_differ, a_length_is_asked_before_a_digest, each_length_and_each_digest_is_asked,
+          other_tag_files_differ, a_length_is_asked_before_a_digest, contents_past_16_and_64_mebioctets_are_taken,
+          a_path_of_4097_octets_is_none, each_length_and_each_digest_is_asked,
           in_version_0_97_the_manifest_that_lists_a_file_is_asked, what_is_lost_repeated_or_damaged_changes_nothing,
           another_order_ends_with_the_same_report, a_ledger_that_is_opened_again_goes_on,
           a_reader_is_read_to_its_end_before_the_answer, a_run_goes_on_after_a_reader_that_failed,

@@ -29,8 +29,8 @@ module _ {K W : Type 0} (k : Ghosts K) (known : Option Listing) (contents : W �
   began shown uses name (Began given answer are begins used printed) = λ clean. (begins.begun.was_clean clean, λ state is. let it = begins.begun.leads clean state is in (it.0, it.1))
   began shown uses name (Unnamed not same used printed) = stayed same
   began shown uses name (Heavy named heavy same used printed) = stayed same
-  began shown uses name (NotRead same used printed) = stayed same
-  began shown uses name (ReadNoMemory same used printed) = stayed same
+  began shown uses name (NotRead named same used printed) = stayed same
+  began shown uses name (ReadNoMemory named same used printed) = stayed same
 
   in_folder : (folder : List ℕ) (does : FolderShown → FolderShown → Type 0) → ((tree later : FolderShown) → does tree later → GoesOn)
       → WithFolder contents known folder (after ≡ before) does old new result → GoesOn

@@ -71,7 +71,7 @@ pub record IsBeginning {K : Type 0} (holds may_leave : K → Ledger → Type 0) 
 
 -- What `begin` did with a tree and printed: the answer to its tag files; or that the name is invalid or a tag file is
 -- too large, as every answer to them would say; or that the tree failed or memory ran out. Only the first changes what
--- is held.
+-- is held. The name is judged before the tree is read.
 pub data PrintsBegin {W : Type 0} (contents : W → Option (List ℕ)) (shown : Shown)
     (uses : Type 0 → Type 0) (begins : Files → Result Begun BeginFault → Type 0)
     (untouched : Type 0) (name : List ℕ) (old new : Output W) (result : ℕ) : Type 0 where
@@ -85,9 +85,9 @@ pub data PrintsBegin {W : Type 0} (contents : W → Option (List ℕ)) (shown : 
   Heavy : IsTransferName name → HasHeavyTagFile shown → untouched → uses ⊥
       → Printed contents old new result (codes "refused: tag too large" ∷ []) REFUSED
       → PrintsBegin contents shown uses begins untouched name old new result
-  NotRead : untouched → uses (Unit {0})
+  NotRead : IsTransferName name → untouched → uses (Unit {0})
       → Printed contents old new result (stop_text stop.Files ∷ []) FAILED
       → PrintsBegin contents shown uses begins untouched name old new result
-  NoMemory : untouched → uses ⊥
+  NoMemory : IsTransferName name → untouched → uses ⊥
       → Printed contents old new result (stop_text stop.Memory ∷ []) FAILED
       → PrintsBegin contents shown uses begins untouched name old new result

@@ -16,10 +16,10 @@ use Rattle.bag_rules.specs.declared.plan.ItemSize.{ItemSize}
 use Rattle.bag_rules.specs.Plans.{sizes_of}
 use Rattle.bag_rules.specs.Transfers.{held_bag}
 use Rattle.bag_ledger.specs.Ledgers.{IsSound}
-use Rattle.bag_receiver.specs.Holdings.{HasItem, IsPlanFor}
+use Rattle.bag_receiver.specs.Holdings.{HasItem, IsPlanFor, SomeAreWanted, SomePass}
 use Rattle.bag_receiver.proofs.PlaceLemmas.{of_plan}
 use Rattle.bag_receiver.proofs.ReceivingLemmas.{named_there}
-use Rattle.bag_receiver.proofs.Words.{Alg, AreHeldFor, ArePlansIn, bytes_eq, CountsIf, Files, Has, IsPlanOf, IsTransferName, IsWanted, IsWantOf, items_of, KeepFault, LARGEST_ITEM, length-append, lookup, Memory, option_map, Passes, Plan, Store, StoreFault, Transfer, unwrap_or, Ledger, OtherDigest, OtherLength, Reads, WantFault}
+use Rattle.bag_receiver.proofs.Words.{Alg, AllByRecursion, AreHeldFor, ArePlansIn, bytes_eq, CountsIf, Files, Has, IsPlanOf, IsTransferName, IsWanted, IsWantOf, items_of, KeepFault, LARGEST_ITEM, length-append, lookup, Memory, option_map, Passes, Plan, Store, StoreFault, Transfer, unwrap_or, Ledger, OtherDigest, OtherLength, Reads, WantFault}
 
 -- WHAT WAS READ
 
@@ -96,7 +96,49 @@ module _ {K : Type 0} (holds may_leave : K → Ledger → Type 0) (clean : K →
     covers = hashed.covers;
   }
 
+-- the octets that were given so far, whatever they are, were hashed with the algorithms that list the path
+pub record HasTaken (want : Want) (read : ℕ) (multi : Multi) : Type 0 where
+  pub set : AlgSet
+  pub covers : (alg : Alg) → lists_by want.manifests.now want.path.now alg ≡ true → has set alg ≡ true
+  pub taken : List ℕ
+  pub count : length taken ≡ read
+  pub holds_them : Holds multi set taken
+
+pub taken_none : (want : Want) (set : AlgSet) (multi : Multi) → ((alg : Alg) → has set alg ≡ lists_by want.manifests.now want.path.now alg) → Holds multi set [] → HasTaken want 0 multi
+taken_none want set multi covers new = record { set = set; covers = λ alg lists. covers alg ∙ lists; taken = []; count = refl; holds_them = new }
+
+pub taken_more : (want : Want) (read n : ℕ) (buffer : List ℕ) (multi next : Multi) → n ≤ length buffer → HasTaken want read multi
+    → ((set : AlgSet) (taken : List ℕ) → Holds multi set taken → Holds next set (taken ++ take n buffer)) → HasTaken want (read + n) next
+taken_more want read n buffer multi next within so_far update = record {
+  set = so_far.set;
+  covers = so_far.covers;
+  taken = so_far.taken ++ take n buffer;
+  count = (let both = length-append so_far.taken (take n buffer) in let piece = length-take-le n buffer within in let before = so_far.count in omega (arith, both, piece, before));
+  holds_them = update so_far.set so_far.taken so_far.holds_them;
+}
+
+-- what is found wanted are these octets
+pub taken_wanted : (want : Want) (octets read : ℕ) (multi : Multi) (digests : Digests) (result : Result Unit WantFault) (told : Bool) → read ≡ octets → HasTaken want read multi
+    → ((set : AlgSet) (taken : List ℕ) → Holds multi set taken → AreDigests digests set taken)
+    → ((content : List ℕ) → AreSumsFor want content read digests → MatchResult result (λ done. IsWanted want content) (IsFirstMisfitOf want content))
+    → told ≡ is_ok result → IsTrue told → SomeAreWanted want octets
+taken_wanted want octets read multi digests result told all so_far finish test is told_is =
+    let sums : AreSumsFor want so_far.taken read digests = record {
+      set = so_far.set;
+      length_is = sym so_far.count;
+      digests_are = finish so_far.set so_far.taken so_far.holds_them;
+      covers = so_far.covers;
+    } in
+    (so_far.taken, sym all ∙ sym so_far.count, (told_wanted want so_far.taken result told is (test so_far.taken sums)).0 told_is)
+
 -- WHAT IS VALID
+
+pub some_pass : (tags : Files) (path : List ℕ) (n : ℕ) (want : Want) (result : Result Bool KeepFault) → IsWantOf tags path want → n ≤ LARGEST_ITEM
+    → IfOk result (λ told. IsTrue told → SomeAreWanted want n) → IfOk result (λ told. IsTrue told → SomePass tags path n)
+some_pass tags path n want (Ok told) is within some = λ yes.
+    let (octets, sized, wanted) = some yes in
+    (octets, sized, wanted_passes tags path octets want is (subst (λ count. count ≤ LARGEST_ITEM) sized within) wanted)
+some_pass tags path n want (Err fault) is within some = tt
 
 pub passes_by : (tags : Files) (path content : List ℕ) (want : Want) (told : Bool) → IsWantOf tags path want → length content ≤ LARGEST_ITEM → IsTrue told ↔ IsWanted want content → IsTrue told ↔ Passes tags path content
 passes_by tags path content want told is within judged = (
@@ -139,6 +181,10 @@ pub passes_told : (tags : Files) (path content : List ℕ) (want : Want) (result
     → IfOk result (λ told. IsTrue told ↔ IsWanted want content) → IfOk result (λ told. IsTrue told ↔ Passes tags path content)
 passes_told tags path content want (Ok told) is within judged = passes_by tags path content want told is within judged
 passes_told tags path content want (Err fault) is within judged = tt
+
+pub all_more : {X : Type 0} (P : X → Type 0) (xs : List X) (x : X) → AllByRecursion P xs → P x → AllByRecursion P (xs ++ x ∷ [])
+all_more P [] x all is = (is, tt)
+all_more P (y ∷ xs) x all is = (all.0, all_more P xs x all.1 is)
 
 pub none_left : {X : Type 0} (passing rest : List X) → length rest ≡ 0 → passing ++ rest ≡ passing
 none_left passing [] none = search rules

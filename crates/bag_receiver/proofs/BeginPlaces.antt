@@ -132,8 +132,8 @@ front_length files i below = length-map (take i files) shown_file ∙ length-tak
 -- the file is the first that can't be added
 pub refused_at : (files : List Handed) (i : ℕ) (file : Handed) (fault : BeginFault) (reason : TagSetFault) → i < length files → file ≡ get_or files i file → NoneMisplaced (given_in (take i files))
     → (reason ≢ tag.Memory → ¬ IsPlaced (light_tags (given_in (take i files))) (string_bytes file.0))
-    → (fault ≡ Keeper Memory) ⊎ ((reason ≢ tag.Memory) × (fault ≡ TagPath i)) → IsRefusal (given_in files) fault
-refused_at files i file fault reason below here none not_placed (inl memory) = inl memory
+    → ((reason ≡ tag.Memory) × (fault ≡ Keeper Memory)) ⊎ ((reason ≢ tag.Memory) × (fault ≡ TagPath i)) → IsRefusal (given_in files) fault
+refused_at files i file fault reason below here none not_placed (inl (out, memory)) = inl memory
 refused_at files i file fault reason below here none not_placed (inr (other, is)) =
     let front = given_in (take i files) in
     let rest = given_in (drop (suc i) files) in

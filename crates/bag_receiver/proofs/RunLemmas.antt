@@ -1,17 +1,14 @@
 -- Deliveries in sequence.
 use Rattle.std.proofs.Common.{◌≡◌, ◌+◌, ℕ, List, [], ◌∷◌, ◌++◌, Some, None, Vec, length, slice_get, refl, sym, ap, subst, ◌∙◌, arith}
 use Rattle.bag_receiver.specs.Runs.{store_failure, store_failures}
+use Rattle.bag_receiver.proofs.AuditLemmas.{all_more}
 use Rattle.bag_receiver.proofs.ReceivingLemmas.{receives}
-use Rattle.bag_receiver.proofs.Words.{AllByRecursion, Answer, BadPath, CountsEach, CountsIf, Delivery, delivery_of, DeliverySteps, Digest, Does, Files, Global, IsAnswer, Keeper, Ledger, LedgerState, Length, Memory, NotListed, NoTransfer, Reader, Receiver, Receives, Refused, Repeated, Rises, Runs, Store, StoreFault, String, string_bytes, Taken, TooLarge, Whole, with_answers}
+use Rattle.bag_receiver.proofs.Words.{Answer, BadPath, CountsEach, CountsIf, Delivery, delivery_of, DeliverySteps, Digest, Does, Files, Global, IsAnswer, Keeper, Ledger, LedgerState, Length, Memory, NotListed, NoTransfer, Reader, Receiver, Receives, Refused, Repeated, Rises, Runs, Store, StoreFault, String, string_bytes, Taken, TooLarge, Whole, with_answers}
 
 pub steps_join : (name : List ℕ) (deliveries others : List Delivery) (old middle new : LedgerState) → DeliverySteps name deliveries old middle → DeliverySteps name others middle new
     → DeliverySteps name (deliveries ++ others) old new
 steps_join name [] others old middle new e k = subst (λ (s : LedgerState). DeliverySteps name others s new) e k
 steps_join name (delivery ∷ deliveries) others old middle new h k = (h.0, h.1, steps_join name deliveries others h.0 middle new h.2 k)
-
-all_more : {A : Type 0} (P : A → Type 0) (xs : List A) (x : A) → AllByRecursion P xs → P x → AllByRecursion P (xs ++ x ∷ [])
-all_more P [] x all is = (is, tt)
-all_more P (y ∷ xs) x all is = (all.0, all_more P xs x all.1 is)
 
 -- COUNTS
 

@@ -1,5 +1,6 @@
 //! Audits: reports on the bag of a transfer after everything that is held of it was read again.
 ghost use Rattle.std.specs.Prelude.{◌≡◌, ◌↔◌, ◌<◌, ℕ, List, None, IfOk, IsErrOf, IsTrue, MatchResult, length, map};
+ghost use Rattle.std.specs.List.{AllByRecursion};
 ghost use Rattle.bag_digest.specs.Device.{CountsIf};
 ghost use Rattle.bag_rules.specs.Files.{Files};
 ghost use Rattle.bag_rules.specs.Plans.{IsPlanOf, sizes_of};
@@ -9,7 +10,7 @@ ghost use Rattle.bag_ledger.specs.Ledgers.{Ledger, items_of};
 ghost use Rattle.bag_ledger.specs.declared.fault.StoreFault.{StoreFault};
 ghost use Rattle.bag_ledger.specs.declared.fault.KeepFault.TheVariants.{Store};
 ghost use Rattle.bag_receiver.specs.Deliveries.{AreAccepted, Delivery, OneContent};
-ghost use Rattle.bag_receiver.specs.Holdings.{HasItem, IsPlanFor, ReadsKeeper};
+ghost use Rattle.bag_receiver.specs.Holdings.{HasItem, IsPlanFor, ReadsKeeper, SomeAreWanted, SomePass};
 ghost use Rattle.bag_receiver.specs.Names.{IsNamed, IsTransferName};
 ghost use Rattle.bag_receiver.specs.Receivers.{Does, IsInState};
 ghost use Rattle.bag_receiver.specs.ReceiversInside.{Same};
@@ -81,6 +82,9 @@ fn passing_sizes<K: Keeper>(
     ensures found { K.clean keeper.new → (ledger : Ledger) → K.holds keeper.old ledger
         → IsPlanFor ledger name.now plan.now
         → IfOk result (λ sizes. sizes.items ≡ sizes_of (items_of ledger name.now)) }
+    // Whatever the store gives, each of them was found valid: there are such octets.
+    ensures some { (tags : Files) → IsPlanOf tags plan.now → IfOk result (λ sizes.
+        AllByRecursion (λ size. SomePass tags size.path size.octets) sizes.items) }
     ensures keeper { ReadsKeeper K.holds K.may_leave K.clean K.failures keeper.old keeper.new
         (λ fault. IsErrOf result (Store fault)) }
 {
@@ -112,6 +116,8 @@ fn passes<K: Keeper>(
         → HasItem K.holds keeper.old name.now item.now.path content
         → item.now.octets ≡ length content
         → IfOk result (λ is. IsTrue is ↔ Passes tags item.now.path content) }
+    ensures some { (tags : Files) → IsPlanOf tags plan.now → IfOk result (λ is. IsTrue is
+        → SomePass tags item.now.path item.now.octets) }
     ensures room { length buffer.new ≡ length buffer.old }
     ensures keeper { ReadsKeeper K.holds K.may_leave K.clean K.failures keeper.old keeper.new
         (λ fault. IsErrOf result (Store fault)) }
@@ -138,6 +144,7 @@ fn is_wanted<K: Keeper>(
     ensures judged { K.clean keeper.new → (content : List ℕ)
         → HasItem K.holds keeper.old name.now want.now.path.now content → octets ≡ length content
         → IfOk result (λ is. IsTrue is ↔ IsWanted want.now content) }
+    ensures some { IfOk result (λ is. IsTrue is → SomeAreWanted want.now octets) }
     ensures room { length buffer.new ≡ length buffer.old }
     ensures keeper { ReadsKeeper K.holds K.may_leave K.clean K.failures keeper.old keeper.new
         (λ fault. IsErrOf result (Store fault)) }

@@ -192,7 +192,7 @@ fn placed(alloc: Global, files: &[(String, Vec<u8>)]) -> Result<TagSet, BeginFau
 
 /// Why the file at this index isn't a tag file.
 fn fault_at(i: usize, fault: TagSetFault) -> BeginFault
-    ensures { (result ≡ BeginFault.Keeper KeepFault.Memory)
+    ensures { ((fault ≡ TagSetFault.Memory) × (result ≡ BeginFault.Keeper KeepFault.Memory))
         ⊎ ((fault ≢ TagSetFault.Memory) × (result ≡ BeginFault.TagPath i)) }
 {
     match fault {

@@ -1,5 +1,5 @@
 //! Exports: write the bag of a transfer, as it is held, to a sink.
-ghost use Rattle.std.specs.Prelude.{◌≡◌, ◌<◌, ◌∷◌, ◌++◌, [], ℕ, List, IfErr, IsErr, IsErrOf, MatchResult, false, length};
+ghost use Rattle.std.specs.Prelude.{◌≡◌, ◌<◌, ◌∷◌, ◌++◌, [], ℕ, List, IfErr, IsErr, IsErrOf, MatchResult, OnOk, false, length};
 ghost use Rattle.bag_digest.specs.Device.{CountsIf};
 ghost use Rattle.bag_rules.specs.Files.{Files};
 ghost use Rattle.bag_rules.specs.Plans.{sizes_of};
@@ -254,6 +254,9 @@ fn write_content<K: Keeper, S: Sink>(
         → item.now.octets ≡ length content → MatchResult result
         (λ _. Writes content (S.stored sink.old) (S.stored sink.new))
         (λ _. WritesFront content (S.stored sink.old) (S.stored sink.new)) }
+    // Whatever the store gives, as many octets are written as it said.
+    ensures whole { OnOk result ((octets : List ℕ) × (item.now.octets ≡ length octets)
+        × Writes octets (S.stored sink.old) (S.stored sink.new)) }
     ensures keeper { ReadsKeeper K.holds K.may_leave K.clean K.failures keeper.old keeper.new
         (λ fault. IsErrOf result (NotKept (Store fault))) }
     ensures sink { UsesOpenSink S.is_open S.failures S.sure sink.old sink.new

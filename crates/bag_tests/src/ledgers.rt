@@ -44,6 +44,61 @@ fn no_ledger_is_made_over_another(rt: HostRuntime) -> Result<(), Fail> {
     Ok(())
 }
 
+/// A database in which another program has this table.
+fn with_table(alloc: Global, name: &str) -> Result<Connection<MemStore>, Fail> {
+    let mut connection = in_memory(alloc)?;
+    connection.execute(
+        format!(in alloc; "CREATE TABLE {name} (page)")?.as_str(),
+        &[],
+    )?;
+    connection.execute(
+        format!(in alloc; "INSERT INTO {name} VALUES ('first')")?.as_str(),
+        &[],
+    )?;
+    Ok(connection)
+}
+
+/// The rows of that table.
+fn rows_in(
+    alloc: Global,
+    connection: &mut Connection<MemStore>,
+    name: &str,
+) -> Result<usize, Fail> {
+    let text = format!(in alloc; "SELECT page FROM {name}")?;
+    Ok(connection.query_all(text.as_str(), &[])?.len())
+}
+
+#[test]
+fn no_table_of_another_program_is_taken_for_one_of_a_ledger(rt: HostRuntime) -> Result<(), Fail> {
+    let alloc = rt.alloc();
+    for name in ["meta", "transfer", "tag", "held", "piece"] {
+        match SqlKeeper::create(with_table(alloc, name)?) {
+            Ok(_) => assert!(rt; false),
+            Err(
+                NotCreated {
+                    fault,
+                    trouble: _,
+                    mut connection,
+                },
+            ) => {
+                assert_eq!(rt; fault, KeepFault::Store(StoreFault::Refused));
+                assert_eq!(rt; connection.schema().tables.len(), 1);
+                assert_eq!(rt; rows_in(alloc, &mut connection, name)?, 1);
+            }
+        }
+    }
+    Ok(())
+}
+
+#[test]
+fn a_table_of_another_program_stays(rt: HostRuntime) -> Result<(), Fail> {
+    let alloc = rt.alloc();
+    let mut ledger = made(with_table(alloc, "visits")?)?;
+    assert_eq!(rt; ledger.schema().tables.len(), 6);
+    assert_eq!(rt; rows_in(alloc, &mut ledger, "visits")?, 1);
+    Ok(())
+}
+
 #[test]
 fn in_a_transaction_the_store_is_blamed(rt: HostRuntime) -> Result<(), Fail> {
     let mut ledger = made(in_memory(rt.alloc())?)?;

@@ -1,10 +1,11 @@
 -- The payload as far as it was read and written.
-use Rattle.std.proofs.Common.{◌≡◌, ◌≤◌, ◌+◌, ◌∷◌, [], ◌++◌, ℕ, Bool, true, false, List, Option, Some, None, IfErr, IfOk, MatchResult, Result, Ok, Err, Vec, length, take, drop, slice_get, get_or, refl, sym, ap, ◌∙◌, subst, inl, inr, arith, append-nil}
+use Rattle.std.proofs.Common.{◌≡◌, ◌≤◌, ◌+◌, ◌∷◌, [], ◌++◌, ℕ, zero, suc, Bool, true, false, cond, map, List, Option, Some, None, IfErr, IfOk, MatchResult, Result, Ok, Err, Vec, length, take, drop, slice_get, get_or, refl, sym, ap, ◌∙◌, subst, inl, inr, arith, append-nil}
 use Rattle.std.proofs.lemmas.List.{take-append-drop, take_all}
+use Rattle.std.specs.List.{filter}
 use Rattle.std.specs.declared.alloc.Global.{Global}
 use Rattle.bag_digest.specs.declared.reading.Found.{Found}
 use Rattle.bag_rules.proofs.HasLemmas.{has_push}
-use Rattle.bag_rules.proofs.Words.{AreRising, Files, Has, is_payload, get_or_from_slice_get, option_map, paths_in, payload_of, Shown, slice_get-map}
+use Rattle.bag_rules.proofs.Words.{AreRising, cases_Bool, Files, Has, is_payload, get_or_from_slice_get, option_map, paths_in, payload_of, Shown, slice_get-map}
 use Rattle.bag_rules.specs.declared.limits.TheConstants.{LARGEST_FILE}
 use Rattle.bag_writer.specs.PayloadSteps.{IsCutShort, IsReadAs, IsTaken, unless_hole}
 use Rattle.bag_writer.specs.Sinks.{IsFree, Stored}
@@ -30,6 +31,21 @@ pub record HasWritten (spec : Spec) (shown : List ShownFile) (old new : Option S
 
 pub nothing_written : (spec : Spec) (s : Option Stored) (items : Items) → AreItemsSoFar spec.algs items [] → HasWritten spec [] s s items []
 nothing_written spec s items none = record { read = tt; items_are = none; short = λ h. h.1.1; whole = whole_none s }
+
+-- where no file is payload, none is at any place
+pub none_at : (files : List ShownFile) (n : ℕ) (shown : ShownFile) → slice_get files n ≡ Some shown → is_payload shown.0 ≡ true → filter is_payload (map (λ (s : ShownFile). s.0) files) ≡ [] → ⊥
+none_at [] n shown here is none = cc
+none_at (s ∷ files) zero shown here is none =
+    let rest = filter is_payload (map (λ (s : ShownFile). s.0) files) in
+    let same : s ≡ shown = cc in
+    let e : s.0 ∷ rest ≡ [] = subst (λ b. cond b (s.0 ∷ rest) rest ≡ []) (ap (λ (f : ShownFile). is_payload f.0) same ∙ is) none in
+    cc
+none_at (s ∷ files) (suc n) shown here is none =
+    let rest = filter is_payload (map (λ (s : ShownFile). s.0) files) in
+    elim (cases_Bool (is_payload s.0)) [
+      | inl told ↦ (let e : s.0 ∷ rest ≡ [] = subst (λ b. cond b (s.0 ∷ rest) rest ≡ []) told none in cc)
+      | inr told ↦ none_at files n shown here is (subst (λ b. cond b (s.0 ∷ rest) rest ≡ []) told none)
+    ]
 
 short_on : (files : Files) (file : File) → ¬ HasLongFile files LARGEST_FILE → length file.1 ≤ LARGEST_FILE → ¬ HasLongFile (files ++ file ∷ []) LARGEST_FILE
 short_on files file short within (path, (octets, has, long)) = elim ((has_push files file (path, octets)).0 has) [

@@ -7,7 +7,7 @@ ghost use Rattle.bag_rules.specs.declared.limits.TheConstants.{LARGEST_FILE};
 ghost use Rattle.bag_writer.specs.Sinks.{ClosesSink, IsFree, UsesClosedSink, UsesOpenSink};
 ghost use Rattle.bag_writer.specs.PayloadSteps.{HasFrontFrom, IsCutShort, IsReadAs, IsReadUntil, IsReadWhole, IsTaken, Writes, WritesFront, unless_hole};
 ghost use Rattle.bag_writer.specs.Steps.{AreHoleMarks, AreItemsOf, ArePart, AreWhole, HasNoFile, NamesLong, written_payload};
-ghost use Rattle.bag_writer.specs.Writing.{HasLongFile, IsMetLater, IsReadFrom};
+ghost use Rattle.bag_writer.specs.Writing.{HasLongFile, IsMetLater, IsReadFrom, payload_paths};
 ghost use Rattle.bag_writer.specs.declared.fault.Large.{Large};
 ghost use Rattle.bag_writer.specs.declared.fault.WriteFault.{WriteFault};
 ghost use Rattle.bag_writer.specs.declared.payload.CopyFault.{CopyFault};
@@ -61,6 +61,8 @@ pub(crate) fn write_payload<T: Tree, S: Sink>(
         (λ fault. NamesLong Large.File payload LARGEST_FILE fault
         × ArePart (written_payload spec.now payload) (S.stored sink.old) (S.stored sink.new)) }
     ensures err { IfErr result IsMetLater }
+    // Other files are not read.
+    ensures unread { payload_paths (T.shown tree.old) ≡ [] → tree.new ≡ tree.old }
     ensures tree { UsesTree T.shown T.failures T.sure tree.old tree.new
         (IsErrOf result WriteFault.Tree) }
     ensures sink { UsesClosedSink S.is_open S.failures S.sure sink.old sink.new

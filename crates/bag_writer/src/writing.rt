@@ -1,5 +1,5 @@
 //! Writes a bag from a payload.
-ghost use Rattle.std.specs.Prelude.{◌≡◌, IfErr, IsErrOf, MatchResult, false, length};
+ghost use Rattle.std.specs.Prelude.{◌≡◌, [], IfErr, IsErrOf, MatchResult, false, length};
 ghost use Rattle.bag_rules.specs.Files.{Files};
 ghost use Rattle.bag_rules.specs.Trees.{AreRising, UsesTree, paths_in};
 ghost use Rattle.bag_writer.specs.Sinks.{IsEmptySink, UsesClosedSink};
@@ -80,6 +80,8 @@ fn write_accepted<T: Tree, S: Sink>(
     ensures done { (payload : Files) × IsDone (T.shown tree.old) spec.now result
         (S.stored sink.old) (S.stored sink.new) payload }
     ensures err { IfErr result IsMetLater }
+    // Files that are no payload are not read.
+    ensures unread { payload_paths (T.shown tree.old) ≡ [] → tree.new ≡ tree.old }
     ensures tree { UsesTree T.shown T.failures T.sure tree.old tree.new
         (IsErrOf result WriteFault.Tree) }
     ensures sink { UsesClosedSink S.is_open S.failures S.sure sink.old sink.new

@@ -1,5 +1,5 @@
 use Rattle.std.proofs.Common.{◌≡◌, ◌-◌, ◌≤◌, length}
-use Rattle.bag_receiver.proofs.AuditLemmas.{HasHashed}
+use Rattle.bag_receiver.proofs.AuditLemmas.{HasHashed, HasTaken}
 use Rattle.bag_receiver.proofs.Words.{Reads}
 use Rattle.bag_receiver.proofs.audit.is_wanted.Given as goal
 
@@ -12,6 +12,7 @@ invariant-loop-read g l =
       reads : Reads keeper.holds keeper.may_leave keeper.clean l.fn.keeper l.keeper;
       stays : keeper.failures l.keeper ≡ keeper.failures l.fn.keeper;
       hashed : HasHashed keeper.holds keeper.may_leave keeper.clean l.fn.keeper l.keeper l.name l.want l.octets l.read l.multi;
+      taken : HasTaken l.want l.read l.multi;
     }
 
 abbrev pub decreases-loop-read : goal.decreases-loop-read

@@ -5,7 +5,7 @@ use Rattle.bag_rules.proofs.TreeUses.{uses_kept, uses_on}
 use Rattle.bag_rules.proofs.Words.{is_payload, paths_in, payload_of, Shown}
 use Rattle.bag_writer.specs.declared.fault.WriteFault.TheVariants.{Memory}
 use Rattle.bag_writer.proofs.FileSteps.{cut_after, within_of}
-use Rattle.bag_writer.proofs.PayloadSoFar.{all_finished, free_next, marked_at, one_more, passed, shown_at, stopped_in}
+use Rattle.bag_writer.proofs.PayloadSoFar.{all_finished, free_next, marked_at, none_at, one_more, passed, shown_at, stopped_in}
 use Rattle.bag_writer.proofs.SinkKept.{err_again, sink_kept}
 use Rattle.bag_writer.proofs.SinkUses.{sink_on, sink_so}
 use Rattle.bag_writer.proofs.payload.write_payload.Goals as goal
@@ -20,6 +20,7 @@ loop-i-preserved-then-not-is_payload g c =
     record {
       written = passed c.args.spec.now tree c.loop-i.i _ _ c.loop-i.items inv.written.0 inv.written.1 place.0 place.1.0 other;
       read = inv.read;
+      unread = inv.unread;
       closed = inv.closed;
       used = inv.used;
     }
@@ -78,6 +79,7 @@ loop-i-preserved g c =
     record {
       written = (inv.written.0 ++ taken.0 ∷ [], more);
       read = uses_kept (uses_on inv.read (λ no. no) c.in_ok-path.ensures.tree) (λ e. cc) (λ no. no);
+      unread = λ none. absurd (none_at tree.files c.loop-i.i place.0 place.1.0 is none);
       closed = λ h. c.in_ok-path.ensures.sink.closed (inv.closed h);
       used = sink_on inv.used (λ no. no) (sink_kept c.in_ok-path.ensures.sink.uses (λ e. cc)) (λ h. h);
     }
@@ -96,3 +98,21 @@ add-requires g c =
     let place = shown_at tree (g.T.Paths.shown c.loop-i.tree) inv.read.same c.loop-i.i c.path.result.now c.path.ensures in
     let taken = c.in_ok-path.ensures.taken place.0 (ap (λ (s : Shown). slice_get s.files c.loop-i.i) inv.read.same ∙ place.1.0) in
     within_of c.args.spec.now.algs _ c.in_ok-path.found taken.0.1 taken.2.found_is
+
+pub returns-in_err-path-clause-unread : goal.returns-in_err-path-clause-unread
+returns-in_err-path-clause-unread g c = λ none.
+    let inv = c.loop-i.invariant in
+    let tree = g.T.Paths.shown c.args.tree.now in
+    let place = shown_at tree (g.T.Paths.shown c.loop-i.tree) inv.read.same c.loop-i.i c.path.result.now c.path.ensures in
+    let told : c.is_payload.result ≡ true = search rules in
+    let is : is_payload place.0.0 ≡ true = ap is_payload place.1.1 ∙ sym c.is_payload.ensures ∙ told in
+    absurd (none_at tree.files c.loop-i.i place.0 place.1.0 is none)
+
+pub returns-in_err-items-clause-unread : goal.returns-in_err-items-clause-unread
+returns-in_err-items-clause-unread g c = λ none.
+    let inv = c.loop-i.invariant in
+    let tree = g.T.Paths.shown c.args.tree.now in
+    let place = shown_at tree (g.T.Paths.shown c.loop-i.tree) inv.read.same c.loop-i.i c.path.result.now c.path.ensures in
+    let told : c.is_payload.result ≡ true = search rules in
+    let is : is_payload place.0.0 ≡ true = ap is_payload place.1.1 ∙ sym c.is_payload.ensures ∙ told in
+    absurd (none_at tree.files c.loop-i.i place.0 place.1.0 is none)
