@@ -37,7 +37,7 @@ FIRST = SECOND[:3] + ITEM
 
 
 def tags_of(files):
-    lines = "".join(f"{hashlib.sha256(octets).hexdigest()}  {path}\n" for path, octets in files.items())
+    lines = "".join(f"{hashlib.sha256(octets).hexdigest()}  {path.replace('%', '%25')}\n" for path, octets in files.items())
     return {"bagit.txt": DECLARATION, "manifest-sha256.txt": lines.encode()}
 
 
