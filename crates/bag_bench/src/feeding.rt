@@ -194,7 +194,7 @@ fn cut<W: Write + Drop>(alloc: Global, fields: &[&str], out: &mut W) -> io::Resu
     let (head, cuttings) = fields.split_at(3);
     let tag_file = TagFile::of(alloc, head[0], head[1])?;
     let octets = octets_of(alloc, head[2])?;
-    let lines = Lines::new(&octets).count();
+    let lines = count_lines(&octets);
     let whole = tag_file.text_of(alloc, &tag_file.whole(alloc, &octets))?;
     writeln!(out, "{lines} {whole}")?;
     for cutting in cuttings {
@@ -204,11 +204,20 @@ fn cut<W: Write + Drop>(alloc: Global, fields: &[&str], out: &mut W) -> io::Resu
             writeln!(out, "cut at {cutting}: {fed}")?;
         }
         let counted = lines_of(pieces.as_slice());
-        if counted != lines as u64 {
+        if counted != lines {
             writeln!(out, "cut at {cutting}: {counted} lines")?;
         }
     }
     Ok(())
+}
+
+/// How many lines octets have, as they are read one after another.
+fn count_lines(octets: &[u8]) -> u64 {
+    let mut count = 0u64;
+    for _ in Lines::new(octets) {
+        count = count.saturating_add(1);
+    }
+    count
 }
 
 /// The octets cut at these places, which are joined by commas and rise.
