@@ -132,6 +132,15 @@ def number_of_tables(file):
         return None
 
 
+def is_first(file):
+    """Whether this is a database that names format 1."""
+    try:
+        with Database(file) as database:
+            return database.ask("SELECT k, v FROM meta") == [("bag-ledger", 1)]
+    except sqlite3.DatabaseError:
+        return False
+
+
 class Database:
     """A copy of a database, to be read in its place: reading a database that has a log changes both."""
 
