@@ -148,7 +148,7 @@ class Case:
         self.judge_made(names, lines == self.wanted.lines, failed)
         begins = self.words[0] == b"begin" and status == 0
         is_due = self.ledger or begins or self.is_unseen(names, failed, lines) or (
-            "ledger" in names and lines in (["bag: store"], ["bag: memory"]) and self.is_unopened(names))
+            "ledger" in names and lines in (["bag: store"], ["bag: memory"]) and (self.is_unopened(names) or self.is_left_by_failure()))
         wanted = {"ledger"} if is_due else set()
         if names - {"out", "ledger-wal" if wanted else "out"} != wanted and not failed.startswith("unlink"):
             raise Otherwise(f"{lines}: there are {names}")
@@ -159,10 +159,19 @@ class Case:
         """Whether a refused `begin` leaves a ledger without a transfer, since the failure kept it from seeing that there is none, or
         from removing it."""
         is_refused = self.words[0] == b"begin" and self.wanted.status != 0 and lines == self.wanted.lines
-        if not is_refused or failed == "nothing" or "ledger" not in names:
-            return False
+        return is_refused and failed != "nothing" and "ledger" in names and self.is_without_transfer()
+
+    def is_without_transfer(self):
+        """Whether the ledger is one without a transfer: it stays if the failure kept `begin` from seeing that there is none."""
         try:
             return not read_ledger("ledger").transfers
+        except reference.End:
+            return False
+
+    def is_left_by_failure(self):
+        """The same after a failure of the store, which may also have kept the transfer that was to be opened."""
+        try:
+            return self.is_without_transfer() or held(read_ledger("ledger")) == held(self.left)
         except reference.End:
             return False
 

@@ -23,6 +23,20 @@ fn made(connection: Connection<MemStore>) -> Result<Connection<MemStore>, KeepFa
     }
 }
 
+/// Why no ledger is made in this connection, and the connection, if none is.
+fn not_made(connection: Connection<MemStore>) -> Option<(KeepFault, Connection<MemStore>)> {
+    match SqlKeeper::create(connection) {
+        Ok(_) => None,
+        Err(
+            NotCreated {
+                fault,
+                trouble: _,
+                connection,
+            },
+        ) => Some((fault, connection)),
+    }
+}
+
 /// Why the ledger in this connection isn't adopted, if it isn't.
 fn not_adopted(connection: Connection<MemStore>) -> Option<AdoptFault> {
     match SqlKeeper::adopt(connection) {
@@ -72,20 +86,11 @@ fn rows_in(
 fn no_table_of_another_program_is_taken_for_one_of_a_ledger(rt: HostRuntime) -> Result<(), Fail> {
     let alloc = rt.alloc();
     for name in ["meta", "transfer", "tag", "held", "piece"] {
-        match SqlKeeper::create(with_table(alloc, name)?) {
-            Ok(_) => assert!(rt; false),
-            Err(
-                NotCreated {
-                    fault,
-                    trouble: _,
-                    mut connection,
-                },
-            ) => {
-                assert_eq!(rt; fault, KeepFault::Store(StoreFault::Refused));
-                assert_eq!(rt; connection.schema().tables.len(), 1);
-                assert_eq!(rt; rows_in(alloc, &mut connection, name)?, 1);
-            }
-        }
+        let made = not_made(with_table(alloc, name)?);
+        let (fault, mut connection) = made.ok_or("a ledger was made")?;
+        assert_eq!(rt; fault, KeepFault::Store(StoreFault::Refused));
+        assert_eq!(rt; connection.schema().tables.len(), 1);
+        assert_eq!(rt; rows_in(alloc, &mut connection, name)?, 1);
     }
     Ok(())
 }
