@@ -357,6 +357,25 @@ def expected(place, command, held):
     return (0, lines), held | set(SMALL)
 
 
+# What another program may add to a ledger.
+OTHERS = [
+    "CREATE TABLE other (id INTEGER PRIMARY KEY)",
+    "CREATE VIEW names AS SELECT name FROM transfer",
+    "CREATE INDEX by_path ON held (path)",
+]
+
+
+def beside_others(make):
+    """A transfer in a ledger that has what is no one's: all of it is held, and that stays."""
+    for text in OTHERS:
+        place = make(SMALL)
+        assert place.run(*place.words("begin")) == (0, ["new"])
+        place.sql(text)
+        assert place.run(*place.words("intake")) == (0, [f"taken {path}" for path in sorted(SMALL)]), text
+        assert place.run(*place.words("audit")) == (0, ["valid"]), text
+        judge(place, SMALL, sorted([*TABLES, text]))
+
+
 def each_after_each(make):
     """Every command after every other, with a ledger that is missing at first or that has the transfer. Returns the number of
     orders."""
@@ -380,12 +399,13 @@ def exported(place, folder, held):
     assert files == {**place.tags, **{path: place.contents[path] for path in held}} and (folder / "data").is_dir(), folder
 
 
-def judge(place, held):
-    """The tables have exactly the rows of one transfer with these payload files (section 18 of FORMAT.md)."""
+def judge(place, held, tables=None):
+    """The tables have exactly the rows of one transfer with these payload files (section 18 of FORMAT.md). There are no other tables than
+    these."""
     assert place.sql("PRAGMA integrity_check") == [("ok",)] and place.sql("PRAGMA foreign_key_check") == []
     assert place.sql("SELECT k, v FROM meta") == [("bag-ledger", 2)]
     texts = place.sql("SELECT sql FROM sqlite_schema WHERE sql IS NOT NULL")
-    assert sorted(" ".join(text.split()) for (text,) in texts) == TABLES, texts
+    assert sorted(" ".join(text.split()) for (text,) in texts) == (tables or TABLES), texts
     [(transfer, name)] = place.sql("SELECT id, name FROM transfer")
     assert name == "t1"
     assert sorted(place.sql("SELECT transfer, path, body FROM tag")) == sorted((transfer, *tag) for tag in place.tags.items())
@@ -509,6 +529,7 @@ def main(program):
         kinds = no_ledgers, damaged, changed, each_after_each, read_back, counted_rows, many_items, full_disks
         none, damages, changes, orders, files, rows, items, disks = (kind(make) for kind in kinds)
         no_second_ledger(make)
+        beside_others(make)
     print(
         f"{none} that are not ledgers, {damages} damaged, {changes} changed, {orders} orders, {files} files read by sqlite3,"
         f" {rows} deliveries whose rows were counted, {items} payload files in one ledger, {disks} full disks"

@@ -220,23 +220,43 @@ CHANGES = [
     (LOOSE + "INSERT INTO item SELECT * FROM item WHERE transfer = 2", "bag: store"),
     ("CREATE TABLE held (id INTEGER PRIMARY KEY)", "bag: store"),
     ("CREATE TABLE piece (id INTEGER PRIMARY KEY)", "bag: store"),
-    # A table that is no one's stays.
-    ("CREATE TABLE other (id INTEGER PRIMARY KEY)", "t1", "t2"),
+    # Tables of the names of format 2 are not taken for those of this ledger, even if they have its texts, and rows.
+    (
+        "; ".join(SECOND[3:]) + "; INSERT INTO held VALUES (1, 1, 'data/a.txt', 3); INSERT INTO piece VALUES (1, 0, x'000000')",
+        "bag: store",
+    ),
+    # What is no one's stays.
+    ("CREATE TABLE other (id INTEGER PRIMARY KEY); INSERT INTO other VALUES (7)", "t1", "t2"),
+    ("CREATE VIEW names AS SELECT name FROM transfer", "t1", "t2"),
+    ("CREATE INDEX by_path ON item (path)", "t1", "t2"),
+    ("ANALYZE", "t1", "t2"),
 ]
 
 
+def held(file, held_in):
+    """What each transfer holds, and the rows of a table that is no one's, if there is one."""
+    with contextlib.closing(sqlite3.connect(file)) as database:
+        ask = lambda text, *fields: database.execute(text, fields).fetchall()
+        others = ask("SELECT name FROM sqlite_schema WHERE name = 'other'") and ask("SELECT * FROM other")
+        return {name: held_in(ask, transfer) for transfer, name in ask("SELECT id, name FROM transfer")}, others
+
+
 def changed(program):
-    """Ledgers that another program changed. Those that are refused stay octet by octet. Returns how many there were."""
+    """Ledgers that another program changed. Those that are refused stay octet by octet, and the others hold what they held. Returns
+    how many there were."""
     for text, *lines in CHANGES:
         file = program.place() / "ledger"
         write_first(file, {"t1": {**THREE, "data/z": bytes(PIECE + 1)}, "t2": {"data/a.txt": b"abc"}})
         change(file, text)
         before = file.read_bytes()
         is_refused = lines[0].startswith("bag: ")
+        was = None if is_refused else held(file, held_in_first)
         found = program.run("list", file)
         assert found == (3 if is_refused else 0, lines), (text, found)
         if is_refused:
             assert before == file.read_bytes() and sorted(path.name for path in file.parent.iterdir()) == ["ledger"], text
+        else:
+            assert held(file, held_in_second) == was, text
     return len(CHANGES)
 
 

@@ -1,5 +1,5 @@
 #!/usr/bin/env bash
-# Which functions of the program remove, empty, rename, make or lock what is on disk, and who says what files hold: these, as
+# Which functions of the program remove, empty, write, rename, make or lock what is on disk, and who says what files hold: these, as
 # the sources have it, and no other. What each of them requires is proved; that there is no further one is in no contract.
 set -u
 cd "$(dirname -- "$0")/.." || exit 1
@@ -13,8 +13,8 @@ done | LC_ALL=C sort >"$work/sources"
 
 # Each call with the function that it stands in, and what is removed.
 xargs awk '
-    /^ *(pub |pub\(crate\) )?fn / { match($0, /fn [a-z_]+/); name = substr($0, RSTART + 3, RLENGTH - 3) }
-    match($0, /(remove_file|remove_dir|remove_dir_all|set_len|rename|hard_link|soft_link|create_new|create_dir|create_dir_all|copy|fs::write|fs::create|sqlite_std_file::open)\(|File::create|truncate\(|[ :](Unknown|Wary)\)/) {
+    /^ *(pub |pub\(crate\) )?fn / { match($0, /fn [a-z_]+/); name = substr($0, RSTART + 3, RLENGTH - 3); next }
+    match($0, /(remove_file|remove_dir|remove_dir_all|set_len|rename|hard_link|soft_link|create_new|create_dir|create_dir_all|copy|fs::write|fs::create|sqlite_std_file::open)\(|File::create|OpenOptions::new\(|set_permissions\(|write_all\(|write_at\(|write_all_at\(|\.write\(|\.append\(|truncate\(|[ :](Unknown|Wary)\)/) {
         call = substr($0, RSTART, RLENGTH)
         rest = substr($0, RSTART + RLENGTH)
         gsub(/[ :]*\(?$|^[ :]+|\)$/, "", call)
@@ -30,14 +30,24 @@ bag_cmd/abandoned.rt empty set_len
 bag_cmd/abandoned.rt remove_new_log remove_file self.rt, self.seen.log()
 bag_cmd/abandoned.rt remove_new_file remove_file self.rt, self.seen.name()
 bag_cmd/barred.rt open_locked sqlite_std_file::open
+bag_cmd/clearing.rt write .write
+bag_cmd/clearing.rt write_all write_all
 bag_cmd/locked_file.rt remove_copied_log remove_file self.rt, self.seen.log()
+bag_cmd/locked_file.rt open_apart OpenOptions::new
+bag_cmd/locked_file.rt open_apart .write
 bag_cmd/locked_file.rt open_apart create_new
 bag_cmd/main.rt main Unknown
+bag_cmd/watched.rt write .write
 bag_folder/destination.rt give_up remove_dir
 bag_folder/name.rt created File::create
 bag_folder/name.rt made_for create_dir_all
 bag_folder/sink.rt create create_dir
 bag_folder/sink.rt payload_dir create_dir_all
+bag_folder/sink.rt write write_all
+bag_receiver/export.rt write_file .write
+bag_receiver/export.rt write_content .write
+bag_writer/payload.rt write_piece .write
+bag_writer/tags/tag_file.rt write_through .write
 KNOWN
-expect 'what is removed, emptied and made' 0 '' diff "$work/known" "$work/calls"
+expect 'what is removed, emptied, written and made' 0 '' diff "$work/known" "$work/calls"
 finish
