@@ -90,7 +90,7 @@ ROWS = [
 
 def few_cuts():
     for name, text in [(SHA256, MANIFEST), (SHA256, OTHER_ENDS), (FETCH, ENTRIES)]:
-        yield cut_at(["9", "70", "30,31,75"], name, text)
+        yield cut_at(["9", "66", "30,31,67"], name, text)
 
 
 class Text(reference.Bag):
