@@ -1,7 +1,7 @@
 #!/usr/bin/env bash
-# The cost of the proofs: for each crate a row of the table in docs/PROOFS.md, in processor minutes. Everything is
-# proved from scratch on a copy of the files that git keeps, which takes about as long as ./test on one processor. The
-# last line is the total.
+# proofs.sh [CRATE..]: the cost of the proofs, as in the table of docs/PROOFS.md. For each crate, or for those that are named: the seconds
+# and the processor minutes of `rt check` with nothing kept, once the crates below it are proved, and the processor minutes of its
+# must-fail edits. All is done on a copy of the files that git keeps. For every crate it takes about as long as ./test.
 set -eu -o pipefail
 cd "$(dirname -- "$0")/.."
 work=$(mktemp -d)
@@ -14,23 +14,27 @@ run_in() {
     (cd "$1" && "${@:2}") >"$work/said" 2>&1 || { cat "$work/said" >&3 && false; }
 }
 
-# minutes FOLDER COMMAND..: the processor minutes that the command takes in this folder.
-minutes() {
-    local TIMEFORMAT='%U %S'
-    { time run_in "$@"; } 2>&1 | awk '{ printf "%.1f", ($1 + $2) / 60 }'
+# cost FOLDER COMMAND..: the seconds and the processor minutes that the command takes in this folder.
+cost() {
+    local TIMEFORMAT='%R %U %S'
+    { time run_in "$@"; } 2>&1 | awk '{ printf "%d %.1f", $1, ($2 + $3) / 60 }'
 }
 exec 3>&2
 
-printf '| %-12s | %6s | %6s | %6s |\n' Crate Proof Tests Edits
-mapfile -t crates < <(grep -o '^[a-z][a-z0-9_]*' crates.txt)
+# below CRATE: the crates below this one, from crates.txt.
+below() {
+    sed -n "s/^$1: *//p" crates.txt | tr ' ' '\n' | grep '^bag_' || true
+}
+
+[ $# -gt 0 ] || mapfile -t crates < <(grep -o '^bag_[a-z]*' crates.txt)
+[ $# -eq 0 ] || crates=("$@")
+printf '| %-14s | %7s | %7s | %7s |\n' Crate Seconds Minutes Edits
 for crate in "${crates[@]}"; do
-    verb=lib
-    [ ! -e "crates/$crate/src/main.rt" ] || verb=check
-    proof=$(minutes "crates/$crate" rt "$verb")
-    rm -rf "crates/$crate/out/incremental"
-    tests=$(minutes "crates/$crate" rt check --test)
+    for lower in $(below "$crate"); do
+        run_in "crates/$lower" rt check
+    done
+    read -r seconds minutes < <(cost "crates/$crate" rt check && echo)
     edits=0
-    [ ! -d "crates/$crate/must-fail" ] || edits=$(minutes . rt must-fail "$crate")
-    printf '| %-12s | %6s | %6s | %6s |\n' "\`$crate\`" "$proof" "$tests" "$edits"
+    [ ! -d "crates/$crate/must-fail" ] || read -r _ edits < <(cost . rt must-fail "$crate" && echo)
+    printf '| %-14s | %7s | %7s | %7s |\n' "\`$crate\`" "$seconds" "$minutes" "$edits"
 done
-times | awk 'NR == 2 { split($0, t, /[ms ]+/); printf "whole: %d minutes of a processor\n", t[1] + t[3] + (t[2] + t[4]) / 60 }'

@@ -233,6 +233,10 @@ TWO = {"t1": {"data/a.txt": b"abc", "data/e.txt": b"", "data/z": bytes(PIECE + 1
 # Pieces in a table of any types and without owners, which is as good until its rows are not.
 LOOSE = """CREATE TABLE loose (item, n, body, PRIMARY KEY (item, n)); INSERT INTO loose SELECT * FROM piece; DROP TABLE piece;
     ALTER TABLE loose RENAME TO piece; """
+LOOSE_HELD = """CREATE TABLE loose (id INTEGER PRIMARY KEY, transfer, path, size); INSERT INTO loose SELECT * FROM held; DROP TABLE held;
+    ALTER TABLE loose RENAME TO held; """
+LOOSE_TAGS = """CREATE TABLE loose (transfer, path, body); INSERT INTO loose SELECT * FROM tag; DROP TABLE tag;
+    ALTER TABLE loose RENAME TO tag; """
 OPENED = "t1", "t2"
 # A change to that ledger, and the lines of `list` afterwards.
 CHANGES = [
@@ -277,6 +281,15 @@ CHANGES = [
     (LOOSE + "UPDATE piece SET n = 'one' WHERE item = 3 AND n = 1", "bag: not a ledger"),
     (LOOSE + "INSERT INTO piece VALUES (99, 0, x'00')", "bag: not a ledger"),
     (LOOSE + "INSERT INTO piece SELECT item, 1.5, body FROM piece WHERE item = 3 AND n = 1", "bag: not a ledger"),
+    # An owner that is only equal to the number of a transfer or a payload file.
+    (LOOSE + "UPDATE piece SET item = '3' WHERE item = 3 AND n = 1", "bag: not a ledger"),
+    (LOOSE + "UPDATE piece SET item = 3.0 WHERE item = 3 AND n = 1", "bag: not a ledger"),
+    (LOOSE_HELD, *OPENED),
+    (LOOSE_HELD + "UPDATE held SET transfer = '1' WHERE id = 3", "bag: not a ledger"),
+    (LOOSE_HELD + "UPDATE held SET transfer = 1.0 WHERE id = 3", "bag: not a ledger"),
+    (LOOSE_TAGS, *OPENED),
+    (LOOSE_TAGS + "UPDATE tag SET transfer = '2' WHERE transfer = 2 AND path = 'bagit.txt'", "bag: not a ledger"),
+    (LOOSE_TAGS + "INSERT INTO tag VALUES ('2', 'more.txt', x'00')", "bag: not a ledger"),
     # No name is judged, and each stays on its line.
     ("UPDATE transfer SET name = 'a' || char(10) || 't0' || char(13) || '%' WHERE id = 1", "a%0At0%0D%25", "t2"),
 ]

@@ -182,6 +182,7 @@ def first_commands(program):
 
 # A table of any types, in which a row may have no owner and a path may be there twice.
 LOOSE = "CREATE TABLE loose (transfer, path, size, body); INSERT INTO loose SELECT * FROM item; DROP TABLE item; ALTER TABLE loose RENAME TO item; "
+LOOSE_TAGS = "CREATE TABLE loose (transfer, path, body); INSERT INTO loose SELECT * FROM tag; DROP TABLE tag; ALTER TABLE loose RENAME TO tag; "
 # A change to a ledger of format 1 with two transfers, and the lines of `list` afterwards.
 CHANGES = [
     ("", "t1", "t2"),
@@ -216,6 +217,11 @@ CHANGES = [
     (LOOSE + "UPDATE item SET size = 'three' WHERE path = 'data/z'", "bag: not a ledger"),
     (LOOSE + "UPDATE item SET path = x'00' WHERE path = 'data/z'", "bag: not a ledger"),
     (LOOSE + "INSERT INTO item VALUES (9, 'data/q', 0, x'')", "bag: not a ledger"),
+    # An owner that is only equal to the number of a transfer.
+    (LOOSE + "UPDATE item SET transfer = '1' WHERE path = 'data/z'", "bag: not a ledger"),
+    (LOOSE + "UPDATE item SET transfer = 1.0 WHERE path = 'data/z'", "bag: not a ledger"),
+    (LOOSE_TAGS, "t1", "t2"),
+    (LOOSE_TAGS + "UPDATE tag SET transfer = '2' WHERE transfer = 2 AND path = 'bagit.txt'", "bag: not a ledger"),
     # Every payload file is as it should be, and there is no room for them in format 2.
     (LOOSE + "INSERT INTO item SELECT * FROM item WHERE transfer = 2", "bag: store"),
     ("CREATE TABLE held (id INTEGER PRIMARY KEY)", "bag: store"),

@@ -3,8 +3,8 @@ ghost use Rattle.std.specs.Prelude.{◌≡◌, false, is_some, true};
 ghost use Rattle.bag_cmd.specs.LedgerFiles.{IsNewFile};
 
 use crate::found::{Found, Seen};
-use std::fs::{self, File};
-use std::io;
+use crate::handle::Handle;
+use std::fs;
 
 /// The file of a ledger and its log, which are locked, and in which no ledger is opened anymore.
 #[derive(Drop)]
@@ -13,17 +13,17 @@ pub struct Abandoned<'a> {
     // what was seen since both are locked
     seen: Seen,
     // the file apart from a connection
-    file: File,
+    handle: Handle,
     ghost locked: { is_some seen.before ≡ true },
 }
 
 impl<'a> Abandoned<'a> {
     /// No ledger is opened in this file.
-    pub fn new(rt: &'a HostRuntime, seen: Seen, file: File) -> Abandoned<'a>
+    pub fn new(rt: &'a HostRuntime, seen: Seen, handle: Handle) -> Abandoned<'a>
         requires { is_some seen.before ≡ true }
         ensures { result.seen ≡ seen }
     {
-        Abandoned { rt, seen, file }
+        Abandoned { rt, seen, handle }
     }
 
     /// Removes the log, unless anything was found in it. Returns what was seen.
@@ -43,20 +43,13 @@ impl<'a> Abandoned<'a> {
             return;
         }
         // Without the log, part of a first page would be taken for no database.
-        if self.seen.found() == Found::Empty && self.empty().is_err() {
+        if self.seen.found() == Found::Empty && self.handle.empty(&self.seen).is_err() {
             return;
         }
         self.remove_new_log();
         if self.seen.is_new() {
             self.remove_new_file();
         }
-    }
-
-    /// Empties the file, which was empty when it was locked.
-    fn empty(&self) -> io::Result<()>
-        requires { self.now.seen.found ≡ Found.Empty }
-    {
-        self.file.set_len(0)
     }
 
     /// Removes a log in which nothing was found when the file was locked.

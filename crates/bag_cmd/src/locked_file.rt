@@ -1,29 +1,26 @@
 //! The file of a ledger while it is locked and no ledger is open in it: what is made, emptied and removed.
-ghost use Rattle.std.specs.Prelude.{◌≡◌, ◌≢◌, ◌↔◌, IfOk, MatchResult, false, is_some, true};
+ghost use Rattle.std.specs.Prelude.{◌≡◌, ◌≢◌, IfOk, MatchResult, false, is_some, true};
 ghost use Rattle.bag_cmd.specs.LedgerFiles.{AreOpenOn, HasCopiedLog, IsAdoptedFrom, IsConnectedTo, IsMadeIn, IsNewFile, IsUnopened, IsUnused, WasSeenBefore};
 ghost use Rattle.bag_sqlite.specs.declared.adopting.AdoptFault.{AdoptFault};
 ghost use Rattle.bag_sqlite.specs.Tables.{no_schema};
 ghost use Rattle.sqlite.specs.Files.{file_state};
-ghost use Rattle.sqlite.specs.Held.{state};
 ghost use Rattle.sqlite_wal.specs.Files.{image_at};
 
 use crate::abandoned::Abandoned;
 use crate::barred::{Barred, open_locked};
 use crate::found::{Found, Seen};
+use crate::handle::Handle;
 use crate::ledger::Opened;
 use crate::ledger_file::{OpenedFile, UnopenedFile};
 use crate::meter::Meter;
 use crate::open_file::OpenFile;
 use crate::unopened::{LedgerCause, Left, Unopened};
 use bag_sqlite::{NotAdopted, NotCreated, SqlKeeper};
-use sqlite::{Alter, Connection, FileFrom, FileStore, Files, Leftover, Options, Start};
+use sqlite::{Connection, FileFrom, FileStore, Files, Leftover, Options, Start};
 use sqlite_disk::Disk;
-use std::fs::{self, File, OpenOptions};
+use std::fs;
 use std::hash::{BuildHasher, RandomState};
-use std::io;
 use std::marker::PhantomData;
-use std::os::fd::AsRawFd;
-use std::os::unix::fs::{MetadataExt, OpenOptionsExt};
 
 /// The file of a ledger and its log, which are locked. `S` says what they held when they were opened.
 ///
@@ -41,7 +38,7 @@ pub struct LockedFile<'a, S> {
     // what was seen since both are locked
     seen: Seen,
     // the file apart from the connection
-    file: File,
+    handle: Handle,
     start: PhantomData<S>,
     ghost locked: { is_some seen.before ≡ true },
 }
@@ -65,8 +62,8 @@ impl<'a, S: Start> LockedFile<'a, S> {
             (λ it. IsUnused ⟦<FileFrom<S> as Disk>⟧ (image_at S.Start) it) }
         ensures seen { IfOk result (λ it. WasSeenBefore seen it.0.seen) }
     {
-        let file = match open_apart(rt, &seen) {
-            Ok(file) => file,
+        let handle = match Handle::open(rt, &seen) {
+            Ok(handle) => handle,
             Err(error) => {
                 return Err(Unopened::barred(Barred::from(error), Left::Unused(start)));
             }
@@ -75,7 +72,7 @@ impl<'a, S: Start> LockedFile<'a, S> {
             Ok(files) => files,
             Err(it) => return Err(Unopened::barred(it.why(), Left::NotLocked(it))),
         };
-        match LockedFile::settle(rt, seen, file, &files) {
+        match LockedFile::settle(rt, seen, handle, &files) {
             Ok(it) => Ok((it, files)),
             Err(why) => Err(Unopened::barred(why, Left::Files(Leftover::Files(files)))),
         }
@@ -89,12 +86,12 @@ impl<'a, S: Start> LockedFile<'a, S> {
     fn settle(
         rt: &'a HostRuntime,
         seen: Seen,
-        file: File,
+        handle: Handle,
         locked: &Files<FileFrom<S>>,
     ) -> Result<LockedFile<'a, S>, Barred>
         ensures { IfOk result (λ it. WasSeenBefore seen it.seen) }
     {
-        if !is_named(rt, &file, seen.name())? {
+        if !handle.is_named(rt, seen.name())? {
             return Err(Barred::For(LedgerCause::Busy));
         }
         let seed = RandomState::new(rt)?.hash_one(&0u8);
@@ -103,7 +100,7 @@ impl<'a, S: Start> LockedFile<'a, S> {
             rt,
             seed,
             seen,
-            file,
+            handle,
             start: PhantomData,
         })
     }
@@ -200,7 +197,7 @@ impl<'a, S: Start> LockedFile<'a, S> {
     fn abandon(self) -> Abandoned<'a>
         ensures { result.seen ≡ self.entry.seen }
     {
-        Abandoned::new(self.rt, self.seen, self.file)
+        Abandoned::new(self.rt, self.seen, self.handle)
     }
 
     /// Removes the file and its log, which this run made.
@@ -216,34 +213,4 @@ impl<'a, S: Start> LockedFile<'a, S> {
     {
         let _ = fs::remove_file(self.rt, self.seen.log());
     }
-}
-
-/// Opens the file that was seen for reading and writing, or makes it if nothing was.
-fn open_apart(rt: &HostRuntime, seen: &Seen) -> io::Result<File> {
-    let mut options = OpenOptions::new();
-    options
-        .read(true)
-        .write(true)
-        .create_new(seen.found() == Found::Nothing)
-        .mode(0o644);
-    let file = options.open(rt, seen.name())?;
-    // What is written to a standard stream that was closed must not end up in the file.
-    if file.as_raw_fd() <= 2 {
-        return file.try_clone();
-    }
-    Ok(file)
-}
-
-/// Whether the file is the one with this name.
-fn is_named(rt: &HostRuntime, file: &File, name: &str) -> io::Result<bool> {
-    let (opened, named) = (file.metadata()?, fs::metadata(rt, name)?);
-    Ok(opened.dev() == named.dev() && opened.ino() == named.ino())
-}
-
-/// Whether a database has no tables, indexes or views.
-pub fn has_nothing<S: Alter>(connection: &Connection<S>) -> bool
-    ensures { (result ≡ true) ↔ ((state S.Store connection.now).now.schema ≡ no_schema) }
-{
-    let schema = connection.schema();
-    schema.tables.is_empty() && schema.indexes.is_empty() && schema.views.is_empty()
 }

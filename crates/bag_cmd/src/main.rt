@@ -39,6 +39,7 @@ mod commands;
 mod ended;
 mod excess;
 mod found;
+mod handle;
 mod laws;
 mod ledger;
 mod ledger_file;

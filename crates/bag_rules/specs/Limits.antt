@@ -21,7 +21,7 @@ Stopped stops Tree = Unit {0}
 Stopped stops Memory = Unit {0}
 Stopped stops fault = stops fault
 
--- a tag file that is read whole has at most 16,777,216 octets
+-- a tag file that is read for what it says has at most 16,777,216 octets
 abbrev pub IsLongTag : List ℕ → List ℕ → CheckFault → Type 0
 IsLongTag path octets fault = (LARGEST_TAG_FILE < length octets) × (fault ≡ TagTooLarge path)
 

@@ -78,9 +78,10 @@ transfer_proper : (t : NumberedTransfer) → passes stray_transfers [] (transfer
 unfolding binary unary
 transfer_proper t = rw (value_cmp-Text (codes "integer") (codes "integer"), value_cmp-Text (codes "text") (codes "text")) refl
 
-tag_proper : (row : Row) (path body : List ℕ) → column row 2 ≡ Text path → column row 3 ≡ Blob body → IsProper stray_tag_files row
+tag_proper : (row : Row) (transfer : ℤ) (path body : List ℕ) → column row 1 ≡ Int transfer → column row 2 ≡ Text path → column row 3 ≡ Blob body → IsProper stray_tag_files row
 unfolding binary unary
-tag_proper row path body text blob = rw (text, blob, value_cmp-Text (codes "text") (codes "text"), value_cmp-Text (codes "blob") (codes "blob")) refl
+tag_proper row transfer path body owner text blob =
+    rw (owner, text, blob, value_cmp-Text (codes "integer") (codes "integer"), value_cmp-Text (codes "text") (codes "text"), value_cmp-Text (codes "blob") (codes "blob")) refl
 
 item_proper : (item : NumberedItem) (t : NumberedTransfer) → IsProper stray_items (item_row item.number t.number item.path (size_of item))
 unfolding binary unary
@@ -90,9 +91,9 @@ whole_proper : (item : NumberedItem) (t : NumberedTransfer) → IsProper stray_w
 unfolding binary unary
 whole_proper item t = rw (value_cmp-Text (codes "integer") (codes "integer"), value_cmp-Text (codes "text") (codes "text")) refl
 
-piece_proper : (row : Row) (n : ℤ) → column row 2 ≡ Int n → IsProper stray_pieces row
+piece_proper : (row : Row) (item n : ℤ) → column row 1 ≡ Int item → column row 2 ≡ Int n → IsProper stray_pieces row
 unfolding binary unary
-piece_proper row n number = rw (number, value_cmp-Text (codes "integer") (codes "integer")) refl
+piece_proper row item n owner number = rw (owner, number, value_cmp-Text (codes "integer") (codes "integer")) refl
 
 module _ {l : Layout} (trees : Trees) (ledger : Ledger) (tables : HoldTransfers l trees ledger) where
   tag_owned : (row : Row) → Has (trees 4) row → IsOwned (trees 2) tag_owner stray_tag_files row
@@ -101,11 +102,12 @@ module _ {l : Layout} (trees : Trees) (ledger : Ledger) (tables : HoldTransfers 
       (has_moved (without_rowids (trees 4)) (flat_map tag_rows tables.transfers) (drop 1 row) (IsPermutation-sym _ _ tables.rows.tags) (has_map (drop 1) (trees 4) row has)) in
       let t = by_transfer.0 in
       let by_file = has_from_map (λ (file : List ℕ × List ℕ). Int t.number ∷ Text file.0 ∷ Blob file.1 ∷ []) t.tags (drop 1 row) by_transfer.2 in
+      let owner : column row 1 ≡ Int t.number = sym (later row 0) ∙ ap (λ r. column r 0) (sym by_file.2) in
       record {
-        proper = tag_proper row by_file.0.0 by_file.0.1 (sym (later row 1) ∙ ap (λ r. column r 1) (sym by_file.2)) (sym (later row 2) ∙ ap (λ r. column r 2) (sym by_file.2));
+        proper = tag_proper row t.number by_file.0.0 by_file.0.1 owner (sym (later row 1) ∙ ap (λ r. column r 1) (sym by_file.2)) (sym (later row 2) ∙ ap (λ r. column r 2) (sym by_file.2));
         by = transfer_row t;
         there = row_there trees ledger tables t by_transfer.1;
-        owns = owns_at 1 t.number row (transfer_row t) refl (sym (later row 0) ∙ ap (λ r. column r 0) (sym by_file.2));
+        owns = owns_at 1 t.number row (transfer_row t) refl owner;
       }
 
 module _ {o : Origin} (trees : Trees) (ledger : Ledger) (tables : HoldTransfers (Second o) trees ledger) where
@@ -130,12 +132,13 @@ module _ {o : Origin} (trees : Trees) (ledger : Ledger) (tables : HoldTransfers 
       let by_transfer = has_from_flat (λ (t : NumberedTransfer). t.items) tables.transfers item by_item.1 in
       let t = by_transfer.0 in
       let held = item_row item.number t.number item.path (size_of item) in
+      let owner : column row 1 ≡ Int item.number = sym (later row 0) ∙ ap (λ r. column r 0) (sym by_piece.2) in
       record {
-        proper = piece_proper row (pos by_piece.0.0) (sym (later row 1) ∙ ap (λ r. column r 1) (sym by_piece.2));
+        proper = piece_proper row item.number (pos by_piece.0.0) owner (sym (later row 1) ∙ ap (λ r. column r 1) (sym by_piece.2));
         by = held;
         there = has_moved (flat_map held_rows tables.transfers) (trees (held_tree o)) held tables.rows.items.held
             (has_flat held_rows tables.transfers t held by_transfer.1 (has_map (λ (i : NumberedItem). item_row i.number t.number i.path (size_of i)) t.items item by_transfer.2));
-        owns = owns_at 1 item.number row held refl (sym (later row 0) ∙ ap (λ r. column r 0) (sym by_piece.2));
+        owns = owns_at 1 item.number row held refl owner;
       }
 
 module _ (trees : Trees) (ledger : Ledger) (tables : HoldTransfers First trees ledger) where

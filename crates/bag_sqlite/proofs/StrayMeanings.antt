@@ -75,7 +75,8 @@ abbrev pub tag_owner : List Term
 tag_owner = equals (col 2 0) (col 1 1) ∷ []
 
 abbrev pub stray_tag_files : List Term
-stray_tag_files = either (either (is_other (col 1 2) (codes "text")) (is_other (col 1 3) (codes "blob"))) unowned ∷ []
+stray_tag_files =
+    either (either (either (is_other (col 1 1) (codes "integer")) (is_other (col 1 2) (codes "text"))) (is_other (col 1 3) (codes "blob"))) unowned ∷ []
 
 abbrev pub stray_tag_files_query : Query
 stray_tag_files_query = over_owned 4 2 tag_owner stray_tag_files
@@ -105,7 +106,7 @@ item_owner = equals (col 2 0) (col 1 2) ∷ []
 
 abbrev pub stray_items : List Term
 stray_items =
-    either (either (either (is_other (col 1 0) (codes "integer")) (is_other (col 1 3) (codes "text"))) (is_other (col 1 4) (codes "integer"))) unowned ∷ []
+    either (either (either (either (is_other (col 1 0) (codes "integer")) (is_other (col 1 2) (codes "integer"))) (is_other (col 1 3) (codes "text"))) (is_other (col 1 4) (codes "integer"))) unowned ∷ []
 
 abbrev pub stray_items_query : Origin → Query
 stray_items_query o = over_owned (held_tree o) 2 item_owner stray_items
@@ -131,7 +132,8 @@ abbrev pub whole_owner : List Term
 whole_owner = equals (col 2 0) (col 1 1) ∷ []
 
 abbrev pub stray_whole_items : List Term
-stray_whole_items = either (either (is_other (col 1 2) (codes "text")) (is_other (col 1 3) (codes "integer"))) unowned ∷ []
+stray_whole_items =
+    either (either (either (is_other (col 1 1) (codes "integer")) (is_other (col 1 2) (codes "text"))) (is_other (col 1 3) (codes "integer"))) unowned ∷ []
 
 abbrev pub stray_whole_items_query : Query
 stray_whole_items_query = over_owned 6 2 whole_owner stray_whole_items
@@ -154,7 +156,7 @@ abbrev pub piece_owner : List Term
 piece_owner = equals (col 2 0) (col 1 1) ∷ []
 
 abbrev pub stray_pieces : List Term
-stray_pieces = either (is_other (col 1 2) (codes "integer")) unowned ∷ []
+stray_pieces = either (either (is_other (col 1 1) (codes "integer")) (is_other (col 1 2) (codes "integer"))) unowned ∷ []
 
 abbrev pub stray_pieces_query : Origin → Query
 stray_pieces_query o = over_owned (piece_tree o) (held_tree o) piece_owner stray_pieces

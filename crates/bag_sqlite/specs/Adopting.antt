@@ -75,22 +75,24 @@ stray_transfers_text = codes "SELECT 1 FROM transfer WHERE typeof(id) <> 'intege
     ++ codes " OR typeof(name) <> 'text'"
 
 abbrev pub stray_tag_files_text : List ℕ
-stray_tag_files_text = codes "SELECT 1 FROM tag WHERE typeof(path) <> 'text'"
-    ++ codes " OR typeof(body) <> 'blob'"
+stray_tag_files_text = codes "SELECT 1 FROM tag WHERE typeof(transfer) <> 'integer'"
+    ++ codes " OR typeof(path) <> 'text' OR typeof(body) <> 'blob'"
     ++ codes " OR NOT EXISTS (SELECT 1 FROM transfer WHERE id = tag.transfer)"
 
 abbrev pub stray_whole_items_text : List ℕ
-stray_whole_items_text = codes "SELECT 1 FROM item WHERE typeof(path) <> 'text'"
-    ++ codes " OR typeof(size) <> 'integer'"
+stray_whole_items_text = codes "SELECT 1 FROM item WHERE typeof(transfer) <> 'integer'"
+    ++ codes " OR typeof(path) <> 'text' OR typeof(size) <> 'integer'"
     ++ codes " OR NOT EXISTS (SELECT 1 FROM transfer WHERE id = item.transfer)"
 
 abbrev pub stray_items_text : List ℕ
 stray_items_text = codes "SELECT 1 FROM held WHERE typeof(id) <> 'integer'"
-    ++ codes " OR typeof(path) <> 'text' OR typeof(size) <> 'integer'"
+    ++ codes " OR typeof(transfer) <> 'integer' OR typeof(path) <> 'text'"
+    ++ codes " OR typeof(size) <> 'integer'"
     ++ codes " OR NOT EXISTS (SELECT 1 FROM transfer WHERE id = held.transfer)"
 
 abbrev pub stray_pieces_text : List ℕ
-stray_pieces_text = codes "SELECT 1 FROM piece WHERE typeof(n) <> 'integer'"
+stray_pieces_text = codes "SELECT 1 FROM piece WHERE typeof(item) <> 'integer'"
+    ++ codes " OR typeof(n) <> 'integer'"
     ++ codes " OR NOT EXISTS (SELECT 1 FROM held WHERE id = piece.item)"
 
 abbrev pub stray_item_texts : Format → List (List ℕ)

@@ -54,6 +54,6 @@ pub record IsLeft (old new : State) : Type 0 where
   pub committed : IsTrue new.is_open → new.committed ≡ old.committed
   pub now : IsTrue new.is_open → old.in_transaction ≡ false → new.now ≡ old.committed
 
--- a database without tables has committed a ledger without transfers
+-- it had no tables, and has committed a ledger without transfers
 abbrev pub MakesLedger : State → Trees → Type 0
-MakesLedger s trees = s.now.schema ≡ no_schema → IsDatabaseOf (Second New) trees []
+MakesLedger s trees = (s.now.schema ≡ no_schema) × IsDatabaseOf (Second New) trees []

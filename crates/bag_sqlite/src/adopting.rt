@@ -247,7 +247,7 @@ fn test_rows<S: Alter>(connection: &mut Connection<S>, format: Format) -> Result
     )?;
     test_none(
         connection,
-        "SELECT 1 FROM tag WHERE typeof(path) <> 'text' OR typeof(body) <> 'blob' OR NOT EXISTS (SELECT 1 FROM transfer WHERE id = tag.transfer)",
+        "SELECT 1 FROM tag WHERE typeof(transfer) <> 'integer' OR typeof(path) <> 'text' OR typeof(body) <> 'blob' OR NOT EXISTS (SELECT 1 FROM transfer WHERE id = tag.transfer)",
     )?;
     test_items(connection, format)
 }
@@ -267,7 +267,7 @@ fn test_items<S: Alter>(connection: &mut Connection<S>, format: Format) -> Resul
     match format {
         Format::First => test_none(
             connection,
-            "SELECT 1 FROM item WHERE typeof(path) <> 'text' OR typeof(size) <> 'integer' OR NOT EXISTS (SELECT 1 FROM transfer WHERE id = item.transfer)",
+            "SELECT 1 FROM item WHERE typeof(transfer) <> 'integer' OR typeof(path) <> 'text' OR typeof(size) <> 'integer' OR NOT EXISTS (SELECT 1 FROM transfer WHERE id = item.transfer)",
         ),
         Format::Second => test_pieces(connection),
     }
@@ -287,11 +287,11 @@ fn test_pieces<S: Alter>(connection: &mut Connection<S>) -> Result<(), AdoptFaul
 {
     test_none(
         connection,
-        "SELECT 1 FROM held WHERE typeof(id) <> 'integer' OR typeof(path) <> 'text' OR typeof(size) <> 'integer' OR NOT EXISTS (SELECT 1 FROM transfer WHERE id = held.transfer)",
+        "SELECT 1 FROM held WHERE typeof(id) <> 'integer' OR typeof(transfer) <> 'integer' OR typeof(path) <> 'text' OR typeof(size) <> 'integer' OR NOT EXISTS (SELECT 1 FROM transfer WHERE id = held.transfer)",
     )?;
     test_none(
         connection,
-        "SELECT 1 FROM piece WHERE typeof(n) <> 'integer' OR NOT EXISTS (SELECT 1 FROM held WHERE id = piece.item)",
+        "SELECT 1 FROM piece WHERE typeof(item) <> 'integer' OR typeof(n) <> 'integer' OR NOT EXISTS (SELECT 1 FROM held WHERE id = piece.item)",
     )
 }
 

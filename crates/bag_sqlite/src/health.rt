@@ -1,5 +1,5 @@
 //! Whether a store has failed, why, and how many failures were reported.
-ghost use Rattle.std.specs.Prelude.{◌≡◌, ◌≢◌, ◌↔◌, Err, IfErr, IsErr, IsErrOf, IsTrue, MatchResult, Ok, OnOk, Some, false};
+ghost use Rattle.std.specs.Prelude.{◌≡◌, ◌≢◌, ◌↔◌, Err, IfErr, IsErr, IsErrOf, IsTrue, MatchResult, None, Ok, OnOk, Some, false};
 ghost use Rattle.bag_digest.specs.Device.{Rises};
 ghost use Rattle.bag_ledger.specs.Keeping.{UsesStore};
 ghost use Rattle.bag_ledger.specs.declared.fault.KeepFault.{KeepFault};
@@ -29,6 +29,7 @@ impl Health {
     pub(crate) fn new() -> Health
         ensures unspent { result.is_spent ≡ false }
         ensures unfailed { result.failures ≡ 0 }
+        ensures untroubled { result.trouble ≡ None }
     {
         Health {
             is_spent: false,
@@ -59,6 +60,7 @@ impl Health {
             × ((fault ≡ Memory) ↔ (error ≡ Error.SqliteFailure ErrorCode.OutOfMemory))) }
         ensures trouble { IfErr result (λ fault. fault ≢ Memory
             → (error : SqlError) × (stored ≡ Err error) × (self.new.trouble ≡ Some error)) }
+        ensures memory { IsErrOf result Memory → self.new ≡ self.old }
         ensures store { UsesStore (λ (health : Health). health.failures)
             (λ (health : Health). IsTrue health.is_spent) self.old self.new
             (λ fault. IsErrOf result (Store fault)) }
@@ -95,6 +97,7 @@ impl Health {
             (λ (health : Health). IsTrue health.is_spent) self.old self.new
             (λ fault. result ≡ Store fault) }
         ensures trouble { result ≢ Memory → self.new.trouble ≡ Some error.now }
+        ensures kept { result ≡ Memory → self.new ≡ self.old }
     {
         if matches!(error, Error::SqliteFailure(ErrorCode::OutOfMemory)) {
             return KeepFault::Memory;

@@ -1,12 +1,12 @@
 //! A keeper in a database.
-ghost use Rattle.std.specs.Prelude.{◌≡◌, ◌≢◌, [], IfErr, IfOk, IsErrOf, IsTrue, MatchResult, false, map, string_bytes};
+ghost use Rattle.std.specs.Prelude.{◌≡◌, ◌≢◌, ◌↔◌, [], IfErr, IfOk, IsErrOf, IsTrue, MatchResult, None, false, map, string_bytes};
 ghost use Rattle.std.specs.Map.{keys_of};
 ghost use Rattle.bag_ledger.specs.Keeping.{Reads, UsesStore};
 ghost use Rattle.bag_ledger.specs.Ledgers.{Ledger};
 ghost use Rattle.bag_sqlite.specs.Making.{IsLeft, MakesLedger};
 ghost use Rattle.bag_sqlite.specs.SqlKeepers.{HoldsLedger, KeepsAlone, MayLeaveLedger};
 ghost use Rattle.bag_sqlite.specs.Tables.{no_schema};
-ghost use Rattle.bag_ledger.specs.declared.fault.KeepFault.TheVariants.{Store};
+ghost use Rattle.bag_ledger.specs.declared.fault.KeepFault.TheVariants.{Memory, Store};
 ghost use Rattle.bag_ledger.specs.declared.fault.StoreFault.TheVariants.{Spent};
 ghost use Rattle.bag_sqlite.specs.declared.health.Health.{Health};
 ghost use Rattle.sqlite.specs.Held.{Held, state};
@@ -38,30 +38,31 @@ pub struct SqlKeeper<S: Alter> {
 /// Why no ledger was made, and the connection. Its database is unchanged.
 #[derive(Drop)]
 pub struct NotCreated<S: Alter> {
-    /// `Memory`, or `Store(Refused)`: a transaction was open, a table already has the name of one of the ledger's
-    /// tables, or the store failed.
+    /// `Memory`, or `Store(Refused)`: a transaction was open, the database has tables, indexes or views, or the store
+    /// failed.
     pub fault: KeepFault,
-    /// The error of the store, if it has failed.
+    /// The error of the store, unless memory ran out.
     pub trouble: Option<Error>,
     /// The connection that was passed in.
     pub connection: Connection<S>,
 }
 
 impl<S: Alter> SqlKeeper<S> {
-    /// Makes a ledger without transfers in a database without tables. The ledger is made completely or not at all, even
-    /// if a crash ends the call.
+    /// Makes a ledger without transfers in a database without tables, indexes and views. The ledger is made completely or
+    /// not at all, even if a crash ends the call.
     ///
-    /// If the database has other tables, the ledger's tables are created as well, and nothing is promised of the
-    /// keeper.
+    /// # Errors
+    ///
+    /// Those of [`NotCreated::fault`]. A database that has anything stays as it is.
     pub fn create(connection: Connection<S>) -> Result<SqlKeeper<S>, NotCreated<S>>
         ensures kept { IfOk result (λ keeper. HasCleanDisk (state S.Store keeper.connection)
-            → (state S.Store connection).now.schema ≡ no_schema
-            → KeepsAlone (state S.Store keeper.connection) []) }
-        ensures opened { IfOk result (λ keeper. HasCleanDisk (state S.Store keeper.connection)
-            → (state S.Store connection).now.schema ≡ no_schema
-            → IsTrue (state S.Store keeper.connection).is_open) }
+            → ((state S.Store connection).now.schema ≡ no_schema)
+            × IsTrue (state S.Store keeper.connection).is_open
+            × KeepsAlone (state S.Store keeper.connection) []) }
         ensures unfailed { MatchResult result (λ keeper. (keeper.health.is_spent ≡ false)
             × (keeper.health.failures ≡ 0)) (λ refused. refused.fault ≢ Store Spent) }
+        ensures told { IfErr result (λ refused. (refused.fault ≡ Memory)
+            ↔ (refused.trouble ≡ None)) }
         ensures handed_back { IfErr result (λ refused.
             HasCleanDisk (state S.Store refused.connection)
             → IsLeft (state S.Store connection) (state S.Store refused.connection)) }

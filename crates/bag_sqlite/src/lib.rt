@@ -22,4 +22,5 @@ mod watch;
 
 pub use adopting::{AdoptFault, NotAdopted};
 pub use keeper::{NotCreated, SqlKeeper};
+pub use making::has_nothing;
 pub use watch::Watch;

@@ -1,5 +1,5 @@
 //! Creates the tables of a new ledger.
-ghost use Rattle.std.specs.Prelude.{◌≡◌, [], IsTrue, OnErr, OnOk, false};
+ghost use Rattle.std.specs.Prelude.{◌≡◌, ◌↔◌, [], IsTrue, OnErr, OnOk, false, true};
 ghost use Rattle.bag_sqlite.specs.Making.{IsCreated, IsLeft, IsMade, IsMaking, Makes, MakesLedger, no_rows};
 ghost use Rattle.bag_sqlite.specs.Tables.{New, Origin, held_tree, no_schema, piece_tree, schema_before, schema_to_tag, second_schema};
 ghost use Rattle.bag_sqlite.specs.Transactions.{CommitsNothing};
@@ -13,11 +13,11 @@ ghost use Rattle.sqlite.specs.Tree.{Trees};
 
 use sqlite::{Alter, Connection, Error, ErrorCode, Transaction};
 
-/// Creates the tables of a ledger without transfers, in one transaction.
+/// Creates the tables of a ledger without transfers in a database without tables, in one transaction.
 pub(crate) fn make_ledger<S: Alter>(connection: &mut Connection<S>) -> Result<(), Error>
     ensures made { HasCleanDisk (state S.Store connection.new)
-        → OnOk result ((state S.Store connection.old).now.schema ≡ no_schema
-        → IsCreated (state S.Store connection.new)) }
+        → OnOk result (((state S.Store connection.old).now.schema ≡ no_schema)
+        × IsCreated (state S.Store connection.new)) }
     ensures idle { OnOk result ((state S.Store connection.new).in_transaction ≡ false) }
     ensures unchanged { HasCleanDisk (state S.Store connection.new)
         → OnErr result (IsLeft (state S.Store connection.old) (state S.Store connection.new)) }
@@ -27,11 +27,22 @@ pub(crate) fn make_ledger<S: Alter>(connection: &mut Connection<S>) -> Result<()
     if !connection.is_autocommit() {
         return Err(Error::SqliteFailure(ErrorCode::TransactionState));
     }
+    if !has_nothing(connection) {
+        return Err(Error::SqliteFailure(ErrorCode::NameTaken));
+    }
     let mut transaction = connection.transaction();
     make_transfer_tables(&mut transaction)?;
     make_item_tables(&mut transaction)?;
     write_format(&mut transaction)?;
     transaction.commit()
+}
+
+/// Whether a database has no tables, indexes or views.
+pub fn has_nothing<S: Alter>(connection: &Connection<S>) -> bool
+    ensures { (result ≡ true) ↔ ((state S.Store connection.now).now.schema ≡ no_schema) }
+{
+    let schema = connection.schema();
+    schema.tables.is_empty() && schema.indexes.is_empty() && schema.views.is_empty()
 }
 
 /// Creates the tables of formats, transfers and tag files.

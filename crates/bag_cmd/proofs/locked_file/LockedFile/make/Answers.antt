@@ -11,7 +11,7 @@ returns-in-Ok-clause-made g c = (
     opened = c.args.connection;
     connected = c.requires.connected;
     survives = c.in-Ok.ensures.survives;
-    makes = λ clean. record { none = c.requires.none; keeps = c.in-Ok.ensures.kept clean c.requires.none };
+    makes = λ clean. let kept = c.in-Ok.ensures.kept clean in record { none = kept.0; keeps = kept.2 };
   }),
 )
 
