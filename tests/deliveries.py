@@ -13,7 +13,7 @@ fields, each after one blank:
     read NAME PATH OCTETS                      one delivery by a reader
     break NAME PATH OCTETS                     one by a reader that fails after these octets
     run NAME PATH OCTETS PATH OCTETS ..        a run of deliveries; there may be none
-    bring NAME PATH OCTETS PATH OCTETS ..      a run from a courier
+    bring NAME PATH OCTETS PATH OCTETS ..      a run from a courier; here and below each PATH is one
     bring-first NAME PATH OCTETS ..            the same; the reader of the first one fails after its octets
     bring-end NAME PATH OCTETS ..              the same; the courier fails after the last one
     report NAME
@@ -44,6 +44,7 @@ import tempfile
 
 import random_bags
 from random_bags import sometimes
+from reference import is_path
 from reference_receiver import Receiver
 
 GOOD_NAMES = [b"t1", b"t10", b"t2", b"0", b"-", b"a-long-name", b"z" * 64]
@@ -190,12 +191,13 @@ def random_event(rng, offers):
     offer = offers[name]
     if sometimes(rng, 6):
         name = rng.choice(BAD_NAMES + GOOD_NAMES)
-    several = lambda word: with_files(word, name, [offer.delivery() for _ in range(rng.randrange(6))])
+    some = lambda: [offer.delivery() for _ in range(rng.randrange(6))]
+    brought = lambda word: with_files(word, name, [file for file in some() if is_path(file[0])])
     ways = [lambda: ("deliver", name, *offer.delivery())] * 9 + [lambda: ("read", name, *offer.delivery())] * 4 + [
         lambda: ("break", name, *offer.delivery()),
-        lambda: several("run"),
-        lambda: several("bring"),
-        lambda: several(rng.choice(["bring-first", "bring-end"])),
+        lambda: with_files("run", name, some()),
+        lambda: brought("bring"),
+        lambda: brought(rng.choice(["bring-first", "bring-end"])),
         lambda: ("reopen",),
         lambda: with_files("begin", name, offer.shuffled()),
         lambda: with_files("begin", name, rng.choice([Offer(rng), *offers.values()]).tags),

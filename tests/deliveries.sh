@@ -11,7 +11,7 @@ expect 'random lists of deliveries, over a map' 0 '10000 lists of 166738 events:
     env TMPDIR="$work" python3 -B tests/deliveries.py 10000 1 "$driver" deliveries map
 python3 -B tests/growing_files.py >"$work/growing"
 for keeper in map sqlite; do
-    expect "worked cases, over $keeper" 0 '165 worked answers: 0 otherwise' \
+    expect "worked cases, over $keeper" 0 '163 worked answers: 0 otherwise' \
         python3 -B tests/worked_answers.py "$driver" deliveries "$keeper"
     expect "256 growing files in one run, over $keeper" 0 "$(python3 -B tests/growing_files.py --answers)" \
         sh -c '"$1" deliveries "$2" <"$3"' sh "$driver" "$keeper" "$work/growing"

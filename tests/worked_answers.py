@@ -237,7 +237,7 @@ def a_path_of_4097_octets_is_none(receiver):
         yield one.deliver(b"t1", path, b"abc"), answer
         yield one.read(b"t1", path, b"abc"), answer
         yield one.run(b"t1", [(path, b"abc"), A])[0][0], answer
-        yield one.bring(b"t1", [(path, b"abc"), A]), ([answer, "repeated"], "done")
+    yield one.bring(b"t1", [(longest, b"abc"), A]), (["refused: not listed", "repeated"], "done")
     yield begun(receiver, (b"n" * 4096, b"")), "new"
     yield begun(receiver, (b"n" * 4097, b"")), "refused: tag path 2"
     yield begun(receiver, (b"n" * 1_000_000, b"")), "refused: tag path 2"

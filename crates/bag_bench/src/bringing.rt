@@ -2,6 +2,7 @@
 ghost use Rattle.std.specs.Prelude.{◌≤◌, length};
 
 use bag_digest::{Failed, Failures, Source};
+use bag_path::BagPath;
 use bag_receiver::Courier;
 use std::io::{self, ErrorKind, Read};
 
@@ -60,27 +61,25 @@ pub enum Breaks {
 #[derive(Drop)]
 pub struct Items {
     // the items to come, the last one first
-    left: Vec<(String, Vec<u8>)>,
+    left: Vec<(BagPath, Vec<u8>)>,
     breaks: Breaks,
-    path: String,
+    path: Option<BagPath>,
     octets: Vec<u8>,
     given: usize,
-    is_open: bool,
     failures: Failures,
     nexts: u64,
 }
 
 impl Items {
     /// `left` are the items, the last one first.
-    pub fn new(left: Vec<(String, Vec<u8>)>, breaks: Breaks) -> Items {
+    pub fn new(left: Vec<(BagPath, Vec<u8>)>, breaks: Breaks) -> Items {
         let alloc = *left.allocator();
         Items {
             left,
             breaks,
-            path: String::new(alloc),
+            path: None,
             octets: Vec::new(alloc),
             given: 0,
-            is_open: false,
             failures: Failures::none(),
             nexts: 0,
         }
@@ -88,7 +87,7 @@ impl Items {
 }
 
 impl Source for Items {
-    ghost use Rattle.std.specs.Prelude.{◌≡◌, None, refl, string_bytes};
+    ghost use Rattle.std.specs.Prelude.{◌≡◌, None, is_some, refl};
     ghost use Rattle.std.proofs.Common.{◌∙◌};
 
     ghost remaining = { λ _. None };
@@ -97,12 +96,12 @@ impl Source for Items {
 
     ghost ready = { λ _. ⊥ };
 
-    ghost is_open = { λ it. it.is_open };
+    ghost is_open = { λ it. is_some it.path };
 
-    ghost keeps = { λ a b. (string_bytes b.path ≡ string_bytes a.path) × (b.nexts ≡ a.nexts) };
+    ghost keeps = { λ a b. (b.path ≡ a.path) × (b.nexts ≡ a.nexts) };
 
     fn read(&mut self, buf: &mut [u8]) -> Result<usize, Failed> {
-        if !self.is_open {
+        if self.path.is_none() {
             return self.failures.counted(Err(Failed));
         }
         let n = given(&self.octets, &mut self.given, buf);
@@ -122,11 +121,11 @@ impl Source for Items {
 }
 
 impl Courier for Items {
-    ghost use Rattle.std.specs.Prelude.{None, refl, string_bytes};
+    ghost use Rattle.std.specs.Prelude.{None, refl};
 
     ghost coming = { λ _. None };
 
-    ghost text = { λ it. string_bytes it.path };
+    ghost path = { λ it. it.path };
 
     ghost nexts = { λ it. it.nexts };
 
@@ -135,8 +134,7 @@ impl Courier for Items {
     fn next(&mut self) -> Result<bool, Failed> {
         self.nexts = self.nexts.saturating_add(1);
         let Some((path, octets)) = self.left.pop() else {
-            self.path.clear();
-            self.is_open = false;
+            self.path = None;
             let answer = if self.breaks == Breaks::End {
                 Err(Failed)
             } else {
@@ -144,15 +142,17 @@ impl Courier for Items {
             };
             return self.failures.counted(answer);
         };
-        self.path = path;
+        self.path = Some(path);
         self.octets = octets;
         self.given = 0;
-        self.is_open = true;
         Ok(true)
     }
 
-    fn path(&self) -> &str {
-        self.path.as_str()
+    fn path(&self) -> &BagPath {
+        match &self.path {
+            Some(path) => path,
+            None => unreachable!(),
+        }
     }
 
     fn nexts(&self) -> u64 {

@@ -2,7 +2,7 @@
 use crate::bringing::{Breaks, Items, Reader};
 use crate::event::Event;
 use crate::keepers::Anew;
-use crate::lines::{Answers, bad_line};
+use crate::lines::{Answers, bad_line, path_of};
 use crate::text::{AnswerText, UnbegunText, end_text, keep_text, view_text};
 use bag_commands::{FaultLine, verdict_text};
 use bag_digest::Counted;
@@ -133,7 +133,7 @@ fn read<K: Keeper + Drop, W: Write + Drop>(
     write!(out, "{}", AnswerText(given))
 }
 
-/// A run from a courier.
+/// A run from a courier, which brings paths alone: another text is refused as a malformed line.
 fn bring<K: Keeper + Drop, W: Write + Drop>(
     alloc: Global,
     receiver: &mut Receiver<K>,
@@ -142,8 +142,9 @@ fn bring<K: Keeper + Drop, W: Write + Drop>(
     out: &mut W,
 ) -> io::Result<()> {
     let mut items = Vec::new(alloc);
-    for (path, content) in event.files.iter().rev() {
-        items.push((path.clone()?, Vec::from_slice(alloc, content.as_slice())?))?;
+    for (text, content) in event.files.iter().rev() {
+        let path = path_of(alloc, text.as_str())?;
+        items.push((path, Vec::from_slice(alloc, content.as_slice())?))?;
     }
     let mut courier = Items::new(items, breaks);
     let (run, _) = receiver.run_from(alloc, event.name.as_str(), &mut courier);

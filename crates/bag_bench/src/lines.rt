@@ -1,4 +1,5 @@
 //! The lines of standard input: their words, and the fields that are in hex.
+use bag_path::BagPath;
 use std::alloc::Global;
 use std::io::{self, BufRead, BufReader, ErrorKind, Write};
 
@@ -56,6 +57,14 @@ pub fn octets_of(alloc: Global, field: &str) -> io::Result<Vec<u8>> {
     }
     match hex::decode(alloc, field) {
         Ok(octets) => Ok(octets),
+        Err(_) => Err(bad_line()),
+    }
+}
+
+/// The path with this text.
+pub fn path_of(alloc: Global, text: &str) -> io::Result<BagPath> {
+    match BagPath::parse(alloc, text) {
+        Ok(path) => Ok(path),
         Err(_) => Err(bad_line()),
     }
 }

@@ -1,7 +1,7 @@
 //! Writes bags in memory for `tests/new_bags.py`, which describes the input and the output.
-use crate::lines::{Answers, bad_line, octets_of, text_of};
+use crate::lines::{Answers, bad_line, octets_of, path_of, text_of};
 use bag_digest::{Alg, AlgSet};
-use bag_path::{BagPath, Spelling};
+use bag_path::Spelling;
 use bag_rules::{MemTree, Paths};
 use bag_tags::{Element, Info, Oxum};
 use bag_writer::{Hole, MemSink, Spec, WriteFault, write_bag};
@@ -58,7 +58,7 @@ impl Order {
     }
 
     fn file(&mut self, alloc: Global, path: &str, content: &str) -> io::Result<()> {
-        let path = path_of(alloc, path)?;
+        let path = path_of(alloc, text_of(alloc, path)?.as_str())?;
         match self.tree.add(path, octets_of(alloc, content)?) {
             Ok(()) => Ok(()),
             Err(_) => Err(bad_line()),
@@ -78,7 +78,7 @@ impl Order {
     }
 
     fn hole(&mut self, alloc: Global, path: &str, url: &str) -> io::Result<()> {
-        let path = path_of(alloc, path)?;
+        let path = path_of(alloc, text_of(alloc, path)?.as_str())?;
         let url = text_of(alloc, url)?;
         self.spec.holes.push(Hole { path, url })?;
         Ok(())
@@ -110,14 +110,6 @@ fn print_tree<W: Write + Drop>(alloc: Global, tree: &MemTree, out: &mut W) -> io
         }
     }
     Ok(())
-}
-
-fn path_of(alloc: Global, field: &str) -> io::Result<BagPath> {
-    let text = text_of(alloc, field)?;
-    match BagPath::parse(alloc, text.as_str()) {
-        Ok(path) => Ok(path),
-        Err(_) => Err(bad_line()),
-    }
 }
 
 /// Why no bag was written, in the words of `docs/FORMAT.md`.

@@ -100,7 +100,7 @@ impl<T: Tree, R: Eprint> Tree for Watched<'_, T, R> {
 impl<C: Courier, R: Eprint> Courier for Watched<'_, C, R> {
     ghost coming = { C.coming };
 
-    ghost text = { C.text };
+    ghost path = { C.path };
 
     ghost nexts = { C.nexts };
 
@@ -114,7 +114,7 @@ impl<C: Courier, R: Eprint> Courier for Watched<'_, C, R> {
         answer
     }
 
-    fn path(&self) -> &str {
+    fn path(&self) -> &BagPath {
         self.inside.path()
     }
 

@@ -1,7 +1,7 @@
 -- Lines of answers, one at a time, and runs, one at a time.
 use Rattle.std.proofs.Common.{◌≡◌, ◌<◌, ◌+◌, ◌++◌, ◌∷◌, ◌∙◌, ℕ, List, [], Err, IfOk, Ok, OnErr, OnOk, Option, None, Result, Some, ap, false, is_ok, true, append_assoc, append-nil, codes, get_or, length, map, max, refl, subst, sym, take, arith}
 use Rattle.std.specs.List.{zip}
-use Rattle.std.proofs.lemmas.List.{length-map, length-take-le, map-append, map_more, take_more}
+use Rattle.std.proofs.lemmas.List.{length-take-le, map-append, take_more}
 use Rattle.bag_receiver.specs.declared.answer.Answer.{Answer}
 use Rattle.std.specs.Io.Buffered.{writer_contents}
 use Rattle.std.specs.Result.{result_and}
@@ -23,25 +23,21 @@ zip_push [] (b ∷ ys) x y same = absurd (omega (arith, same))
 zip_push (a ∷ xs) [] x y same = absurd (omega (arith, same))
 zip_push (a ∷ xs) (b ∷ ys) x y same = ap (λ rest. (a, b) ∷ rest) (zip_push xs ys x y (omega (arith, same)))
 
-answer_push : (texts : List (List ℕ)) (answers : List Answer) (text : List ℕ) (answer : Answer) → length texts ≡ length answers
-    → answer_lines (texts ++ text ∷ []) (answers ++ answer ∷ []) ≡ answer_lines texts answers ++ answer_text text answer ∷ []
-answer_push texts answers text answer same =
-    ap (map (λ (told : List ℕ × Answer). answer_text told.0 told.1)) (zip_push texts answers text answer same)
-    ∙ map-append (λ (told : List ℕ × Answer). answer_text told.0 told.1) (zip texts answers) ((text, answer) ∷ [])
-
-length-map_take : {A B : Type 0} (f : A → B) (xs : List A) (n : ℕ) → n < length xs → length (map f (take n xs)) ≡ n
-length-map_take f xs n inside = length-map (take n xs) f ∙ length-take-le n xs (omega (arith, inside))
+answer_push : (paths : List (List ℕ)) (answers : List Answer) (path : List ℕ) (answer : Answer) → length paths ≡ length answers
+    → answer_lines (paths ++ path ∷ []) (answers ++ answer ∷ []) ≡ answer_lines paths answers ++ answer_text path answer ∷ []
+answer_push paths answers path answer same =
+    ap (map (λ (told : List ℕ × Answer). answer_text told.0 told.1)) (zip_push paths answers path answer same)
+    ∙ map-append (λ (told : List ℕ × Answer). answer_text told.0 told.1) (zip paths answers) ((path, answer) ∷ [])
 
 -- and the line of the answer at the next index
-pub answers_more : {A : Type 0} (spell : A → List ℕ) (texts : List A) (answers : List Answer) (n : ℕ) (text : A) (fill : Answer) → n < length texts → length texts ≡ length answers
-    → text ≡ get_or texts n text
-    → answer_lines (map spell (take (n + 1) texts)) (take (n + 1) answers) ≡ answer_lines (map spell (take n texts)) (take n answers) ++ answer_text (spell text) (get_or answers n fill) ∷ []
-answers_more spell texts answers n text fill inside same text_is =
+pub answers_more : (paths : List (List ℕ)) (answers : List Answer) (n : ℕ) (path : List ℕ) (fill : Answer) → n < length paths → length paths ≡ length answers → path ≡ get_or paths n path
+    → answer_lines (take (n + 1) paths) (take (n + 1) answers) ≡ answer_lines (take n paths) (take n answers) ++ answer_text path (get_or answers n fill) ∷ []
+answers_more paths answers n path fill inside same path_is =
     let here : n < length answers = omega (arith, inside, same) in
-    let longer : map spell (take (n + 1) texts) ≡ map spell (take n texts) ++ spell text ∷ [] = map_more spell texts n text inside ∙ ap (λ t. map spell (take n texts) ++ spell t ∷ []) (sym text_is) in
+    let longer : take (n + 1) paths ≡ take n paths ++ path ∷ [] = take_more paths n path inside ∙ ap (λ p. take n paths ++ p ∷ []) (sym path_is) in
     let more : take (n + 1) answers ≡ take n answers ++ get_or answers n fill ∷ [] = take_more answers n fill here in
-    let lengths : length (map spell (take n texts)) ≡ length (take n answers) = length-map_take spell texts n inside ∙ sym (length-take-le n answers (omega (arith, here))) in
-    (λ t. answer_lines (longer t) (more t)) ∙ answer_push (map spell (take n texts)) (take n answers) (spell text) (get_or answers n fill) lengths
+    let lengths : length (take n paths) ≡ length (take n answers) = length-take-le n paths (omega (arith, inside)) ∙ sym (length-take-le n answers (omega (arith, here))) in
+    (λ t. answer_lines (longer t) (more t)) ∙ answer_push (take n paths) (take n answers) path (get_or answers n fill) lengths
 
 appends_on : (old now new : Option (List ℕ)) (first second : List ℕ) → Appends old now first → Appends now new second → Appends old new (first ++ second)
 appends_on None now new first second h k = tt

@@ -21,11 +21,11 @@ refusal_text (fault.Digest alg) = codes "digest " ++ name_of alg
 refusal_text (fault.Keeper keep.Memory) = codes "memory"
 refusal_text (fault.Keeper (keep.Store why)) = codes "store"
 
--- the line for what was delivered for this text, which is spelled as a path is in a manifest
+-- the line for what was delivered for this path, which is spelled as in a manifest
 abbrev pub answer_text : List ℕ → Answer → List ℕ
-answer_text text Taken = codes "taken " ++ written_spelling text
-answer_text text Repeated = codes "repeated " ++ written_spelling text
-answer_text text (Refused why) = codes "refused " ++ written_spelling text ++ codes ": "
+answer_text path Taken = codes "taken " ++ written_spelling path
+answer_text path Repeated = codes "repeated " ++ written_spelling path
+answer_text path (Refused why) = codes "refused " ++ written_spelling path ++ codes ": "
     ++ refusal_text why
 
 -- a refusal is no success; a read, the store or memory may also fail

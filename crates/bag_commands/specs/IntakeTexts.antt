@@ -10,9 +10,9 @@ use Rattle.bag_commands.specs.declared.stop.Stop.TheVariants as stop
 use Rattle.bag_commands.specs.AnswerTexts.{answer_status, answer_text}
 use Rattle.bag_commands.specs.StopTexts.{stop_text}
 
--- a run: the texts of the paths delivered for, the answers, and how it ended
+-- a run: the paths delivered for, the answers, and how it ended
 pub record Told : Type 0 where
-  pub texts : List (List ℕ)
+  pub paths : List (List ℕ)
   pub answers : List Answer
   pub ended : End
 
@@ -29,12 +29,12 @@ stop_lines (Some why) = stop_text why ∷ []
 
 -- a line for each delivery, in order
 abbrev pub answer_lines : List (List ℕ) → List Answer → List (List ℕ)
-answer_lines texts answers =
-    map (λ (told : List ℕ × Answer). answer_text told.0 told.1) (zip texts answers)
+answer_lines paths answers =
+    map (λ (told : List ℕ × Answer). answer_text told.0 told.1) (zip paths answers)
 
 -- followed by the reason why there were no more
 abbrev pub run_lines : Told → List (List ℕ)
-run_lines told = answer_lines told.texts told.answers ++ stop_lines (stop_of_end told.ended)
+run_lines told = answer_lines told.paths told.answers ++ stop_lines (stop_of_end told.ended)
 
 -- run by run
 abbrev pub intake_lines : List Told → List (List ℕ)

@@ -17,7 +17,7 @@ pub record IsRun {K C : Type 0} (holds may_leave : K → Ledger → Type 0) (cle
     (store_failures : K → ℕ) (coming : C → Option Files) (failures nexts : C → ℕ)
     (is_steady : C → Type 0) (name : List ℕ) (old new : Receiver K) (before after : C)
     (told : Told) : Type 0 where
-  pub runs : (deliveries : List Delivery) × AreTold deliveries told.texts told.answers
+  pub runs : (deliveries : List Delivery) × AreTold deliveries told.paths told.answers
       × AreBrought (coming before) deliveries told.ended
       × Runs holds may_leave clean store_failures old new name deliveries
   pub within : length told.answers ≤ MOST_DELIVERIES

@@ -4,4 +4,4 @@ use Rattle.bag_receiver.specs.declared.run.Run.{Run}
 use Rattle.bag_commands.specs.IntakeTexts.{Told}
 
 abbrev pub told_of : Run → List (List ℕ) → Told
-told_of run texts = record { texts = texts; answers = run.answers.items; ended = run.ended }
+told_of run paths = record { paths = paths; answers = run.answers.items; ended = run.ended }

@@ -2,17 +2,17 @@
 ghost use Rattle.std.specs.Prelude.{◌≡◌};
 ghost use Rattle.bag_commands.specs.AnswerTexts.{answer_status};
 
-use crate::spelling::TextSpelling;
 use crate::status::{DONE, FAILED, REFUSED};
 use bag_ledger::KeepFault;
+use bag_path::{BagPath, Spelling};
 use bag_receiver::{Answer, DeliverFault};
 use std::fmt::{Display, Formatter, Result, Write};
 
 /// The answer to a delivery, as a line.
 #[derive(Clone, Copy)]
 pub struct AnswerLine<'a> {
-    /// The path as delivered; it may be invalid.
-    pub text: &'a str,
+    /// The path that it was delivered for.
+    pub path: &'a BagPath,
     /// The answer.
     pub answer: Answer,
 }
@@ -21,10 +21,10 @@ impl Display for AnswerLine<'_> {
     ghost use Rattle.std.specs.Prelude.{Some};
     ghost use Rattle.bag_commands.specs.AnswerTexts.{answer_text};
 
-    ghost output = { λ line. Some (answer_text line.text.now line.answer) };
+    ghost output = { λ line. Some (answer_text line.path.now line.answer) };
 
     fn fmt<W: Write>(&self, f: &mut Formatter<W>) -> Result {
-        let path = TextSpelling(self.text);
+        let path = Spelling(self.path);
         match self.answer {
             Answer::Taken => write!(f, "taken {path}"),
             Answer::Repeated => write!(f, "repeated {path}"),

@@ -1,5 +1,5 @@
 //! `intake`: takes in the payload files that couriers deliver.
-ghost use Rattle.std.specs.Prelude.{◌≡◌, [], IfOk, IsOk, List, OnErr, OnOk, length, map, string_bytes};
+ghost use Rattle.std.specs.Prelude.{◌≡◌, [], IfOk, List, OnErr, OnOk, length};
 ghost use Rattle.std.specs.Io.Buffered.{writer_buffer};
 ghost use Rattle.bag_digest.specs.Device.{Rises};
 ghost use Rattle.bag_commands.specs.Intakes.{IsRun, TakesIn};
@@ -13,6 +13,7 @@ use crate::status::{DONE, FAILED};
 use crate::stop::Stop;
 use bag_digest::Failed;
 use bag_ledger::Keeper;
+use bag_path::BagPath;
 use bag_receiver::{Answer, Courier, End, Receiver, Run};
 use std::alloc::Global;
 use std::io::Write;
@@ -60,10 +61,10 @@ fn run_all<K: Keeper, C: Courier, W: Write + Drop>(
     let mut status = DONE;
     let mut written = Ok(());
     for courier in couriers.iter_mut() {
-        let (run, texts) = receiver.run_from(alloc, name, courier);
+        let (run, paths) = receiver.run_from(alloc, name, courier);
         status = status.max(run_status(&run));
         if written.is_ok() {
-            written = write_run(&run, texts.as_slice(), out);
+            written = write_run(&run, &paths, out);
         }
         if run.ended != End::Done {
             break;
@@ -72,19 +73,19 @@ fn run_all<K: Keeper, C: Courier, W: Write + Drop>(
     written.and(Ok(status))
 }
 
-/// Writes the lines of a run, given the texts of its paths, and flushes them.
+/// Writes the lines of a run, given its paths, and flushes them.
 fn write_run<W: Write + Drop>(
     run: &Run,
-    texts: &[String],
+    paths: &[BagPath],
     out: &mut Output<W>,
 ) -> Result<(), Failed>
-    requires { length texts.now ≡ length run.now.answers.items }
+    requires { length paths.now ≡ length run.now.answers.items }
     ensures ok { OnOk result (WroteLines W.contents out.old out.new
-        (run_lines (told_of run.now (map string_bytes texts.now)))) }
+        (run_lines (told_of run.now paths.now))) }
     ensures handed_on { OnOk result (writer_buffer out.new.writer ≡ []) }
     ensures failed { OnErr result (Rises out.old.failures out.new.failures) }
 {
-    write_answers(texts, run.answers.as_slice(), out)?;
+    write_answers(paths, run.answers.as_slice(), out)?;
     if let Some(stop) = stop_of_end(run.ended) {
         out.line(stop.text())?;
     }
@@ -93,19 +94,18 @@ fn write_run<W: Write + Drop>(
 
 /// Writes a line for each delivery.
 fn write_answers<W: Write + Drop>(
-    texts: &[String],
+    paths: &[BagPath],
     answers: &[Answer],
     out: &mut Output<W>,
 ) -> Result<(), Failed>
-    requires { length texts.now ≡ length answers.now }
+    requires { length paths.now ≡ length answers.now }
     ensures ok { OnOk result (WroteLines W.contents out.old out.new
-        (answer_lines (map string_bytes texts.now) answers.now)) }
+        (answer_lines paths.now answers.now)) }
     ensures failed { OnErr result (Rises out.old.failures out.new.failures) }
 {
-    for (n, text) in texts.iter().enumerate() {
-        let text = text.as_str();
+    for (n, path) in paths.iter().enumerate() {
         let answer = answers[n];
-        out.line(AnswerLine { text, answer })?;
+        out.line(AnswerLine { path, answer })?;
     }
     Ok(())
 }
@@ -124,7 +124,7 @@ fn stop_of_end(ended: End) -> Option<Stop>
 
 /// The status for a run: the maximum of those of its answers and its end.
 fn run_status(run: &Run) -> u8
-    ensures { (texts : _) → result ≡ run_status (told_of run.now texts) }
+    ensures { (paths : _) → result ≡ run_status (told_of run.now paths) }
 {
     let mut status = DONE;
     for answer in &run.answers {

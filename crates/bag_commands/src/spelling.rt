@@ -1,12 +1,12 @@
-//! Paths and names as they are printed.
+//! Names as they are printed.
 ghost use Rattle.std.specs.Prelude.{encode_utf8};
 ghost use Rattle.std.specs.Fmt.{WritesOnOk};
 ghost use Rattle.bag_path.specs.Spellings.{written_spelling};
 
 use std::fmt::{self, Display, Formatter, Write};
 
-/// A text that was delivered as a path, or that is a name in a ledger, written with the escapes of a path so that it
-/// stays on one line. It may be invalid as a path or a name.
+/// A text in a ledger, written with the escapes of a path so that it stays on one line. It may be invalid as a name or
+/// a path.
 #[derive(Clone, Copy)]
 pub struct TextSpelling<'a>(pub &'a str);
 

@@ -1,5 +1,5 @@
 -- The payload files that a courier of a tree delivers.
-use Rattle.std.proofs.Common.{◌≡◌, ◌<◌, ◌≤◌, ◌∷◌, ◌+◌, ◌∙◌, [], ℕ, Bool, List, None, Option, Some, arith, ap, cond, drop, false, length, map, refl, suc, sym, true, zero}
+use Rattle.std.proofs.Common.{◌≡◌, ◌<◌, ◌≤◌, ◌∷◌, ◌+◌, ◌∙◌, [], ℕ, Bool, List, None, Ok, Option, Result, Some, arith, ap, cond, drop, false, length, map, refl, suc, sym, true, zero}
 use Rattle.std.specs.Prelude.{IfNone, IfSome, filter, if◌then◌else◌, is_some, slice_get, unwrap_or}
 use Rattle.std.specs.List.{list_all}
 use Rattle.std.specs.Option.{option_and_then}
@@ -7,10 +7,10 @@ use Rattle.std.proofs.lemmas.Bool.{and_parts}
 use Rattle.std.proofs.lemmas.List.{drop_all}
 use Rattle.std.proofs.lemmas.Option.{slice_get_within}
 use Rattle.bag_path.specs.Paths.{is_payload}
-use Rattle.bag_receiver.specs.Couriers.{ComesNext}
+use Rattle.bag_receiver.specs.Couriers.{ComesNext, HasPath}
 use Rattle.bag_rules.specs.Files.{Files}
 use Rattle.bag_rules.specs.Trees.{Shown, octets_in, paths_in}
-use Rattle.bag_folder.specs.Bringing.{IsFoundAt, TreeFile, all_known, known_file, left_to_read, payload_from, place_after, text_at, to_come}
+use Rattle.bag_folder.specs.Bringing.{IsFoundAt, TreeFile, all_known, current_path, known_file, left_to_read, payload_from, place_after, to_come}
 
 pub rest_from : {X : Type 0} (xs : List X) (n : ℕ) (x : X) → slice_get xs n ≡ Some x → drop n xs ≡ x ∷ drop (n + 1) xs
 rest_from [] n x e = absurd (cc)
@@ -54,35 +54,51 @@ is_value : (octets : Option (List ℕ)) → is_some octets ≡ true → octets �
 is_value (Some octets) h = refl
 is_value None h = absurd (cc)
 
-came_if : (known : Bool) (files rest : List TreeFile) (file : TreeFile) (text : List ℕ) (octets : Option (List ℕ)) → files ≡ file ∷ rest → text ≡ file.0 → (known ≡ true → octets ≡ Some (unwrap_or file.1 []))
-    → ComesNext (if known then Some (map known_file files) else None) true text octets (if known then Some (map known_file rest) else None)
-came_if true files rest file text octets is named value =
-    (unwrap_or file.1 [], (map known_file rest, (ap (map known_file) is ∙ ap (λ (t : List ℕ). (t, unwrap_or file.1 []) ∷ map known_file rest) (sym named)), value refl, refl))
-came_if false files rest file text octets is named value = refl
+came_if : (known : Bool) (files rest : List TreeFile) (file : TreeFile) (path octets : Option (List ℕ)) → files ≡ file ∷ rest → path ≡ Some file.0 → (known ≡ true → octets ≡ Some (unwrap_or file.1 []))
+    → ComesNext (if known then Some (map known_file files) else None) true path octets (if known then Some (map known_file rest) else None)
+came_if true files rest file path octets is named value = (known_file file, (map known_file rest, ap (map known_file) is, named, value refl, refl))
+came_if false files rest file path octets is named value = refl
 
 -- a file was found
-pub came_next : (shown : Shown) (place i : ℕ) → IsFoundAt shown place i → ComesNext (to_come shown place) true (text_at shown (Some i)) (octets_in shown i) (to_come shown (i + 1))
+pub came_next : (shown : Shown) (place i : ℕ) → IsFoundAt shown place i → ComesNext (to_come shown place) true (current_path shown (Some i)) (octets_in shown i) (to_come shown (i + 1))
 came_next shown place i found =
-    came_if (all_known shown) (payload_from shown place) (payload_from shown (i + 1)) found.file (text_at shown (Some i)) (octets_in shown i) found.first
-    (ap (λ (path : Option (List ℕ)). unwrap_or path []) (path_at shown.files i found.file found.here))
+    came_if (all_known shown) (payload_from shown place) (payload_from shown (i + 1)) found.file (current_path shown (Some i)) (octets_in shown i) found.first
+    (path_at shown.files i found.file found.here)
     (λ all. ap (option_and_then (λ (file : TreeFile). file.1)) found.here ∙ is_value found.file.1 (known_at shown.files i found.file all found.here))
 
-none_if : (known : Bool) (files : List TreeFile) (content : Option (List ℕ)) → files ≡ [] → ComesNext (if known then Some (map known_file files) else None) false [] content (if known then Some (map known_file files) else None)
+none_if : (known : Bool) (files : List TreeFile) (content : Option (List ℕ)) → files ≡ [] → ComesNext (if known then Some (map known_file files) else None) false None content (if known then Some (map known_file files) else None)
 none_if true files content is = (ap (map known_file) is, ap (λ (fs : List TreeFile). Some (map known_file fs)) is)
 none_if false files content is = refl
 
 -- no file was left
-pub none_next : (shown : Shown) (place : ℕ) (content : Option (List ℕ)) → payload_from shown place ≡ [] → ComesNext (to_come shown place) false [] content (to_come shown place)
+pub none_next : (shown : Shown) (place : ℕ) (content : Option (List ℕ)) → payload_from shown place ≡ [] → ComesNext (to_come shown place) false None content (to_come shown place)
 none_next shown place content none = none_if (all_known shown) (payload_from shown place) content none
 
 pub is_within : (shown : Shown) (i : ℕ) (file : TreeFile) → slice_get shown.files i ≡ Some file → i < length (paths_in shown)
 is_within shown i file here = slice_get_within (paths_in shown) i file.0 (path_at shown.files i file here)
 
 comes_so : (shown : Shown) (place : ℕ) (found : Option ℕ) (in_tree : Option (List ℕ)) → IfSome found (IsFoundAt shown place) → IfNone found (payload_from shown place ≡ [])
-    → ComesNext (to_come shown place) (is_some found) (text_at shown found) (left_to_read shown in_tree found false) (to_come shown (place_after place found))
+    → ComesNext (to_come shown place) (is_some found) (current_path shown found) (left_to_read shown in_tree found false) (to_come shown (place_after place found))
 comes_so shown place None in_tree some none = none_next shown place None none
 comes_so shown place (Some i) in_tree some none = came_next shown place i some
 
-pub next_comes : (before after : Option Files) (shown : Shown) (place : ℕ) (found : Option ℕ) (more : Bool) (text : List ℕ) (content in_tree : Option (List ℕ)) → IfSome found (IsFoundAt shown place) → IfNone found (payload_from shown place ≡ [])
-    → before ≡ to_come shown place → more ≡ is_some found → text ≡ text_at shown found → content ≡ left_to_read shown in_tree found false → after ≡ to_come shown (place_after place found) → ComesNext before more text content after
-next_comes before after shown place found more text content in_tree some none is_before is_more is_text is_content is_after = rw (is_before, is_more, is_text, is_content, is_after) (comes_so shown place found in_tree some none)
+pub next_comes : (before after : Option Files) (shown : Shown) (place : ℕ) (found : Option ℕ) (more : Bool) (path content in_tree : Option (List ℕ)) → IfSome found (IsFoundAt shown place) → IfNone found (payload_from shown place ≡ [])
+    → before ≡ to_come shown place → more ≡ is_some found → path ≡ current_path shown found → content ≡ left_to_read shown in_tree found false → after ≡ to_come shown (place_after place found) → ComesNext before more path content after
+next_comes before after shown place found more path content in_tree some none is_before is_more is_path is_content is_after = rw (is_before, is_more, is_path, is_content, is_after) (comes_so shown place found in_tree some none)
+
+has_path_so : {E : Type 0} (shown : Shown) (place : ℕ) (found : Option ℕ) → IfSome found (IsFoundAt shown place) → HasPath {E = E} (Ok (is_some found)) (current_path shown found) (is_some found)
+has_path_so {E} shown place None some = record {
+  there = λ e. (let h : Ok {E = E} false ≡ Ok true = e in cc);
+  none = λ other. refl;
+  readable = λ e. (let h : false ≡ true = e in cc);
+}
+has_path_so shown place (Some i) some = record {
+  there = λ e. ap is_some (path_at shown.files i some.file some.here);
+  none = λ other. absurd (other refl);
+  readable = λ e. refl;
+}
+
+-- there is a path exactly if a file was found
+pub next_has_path : {E : Type 0} (more : Result Bool E) (path : Option (List ℕ)) (is_open : Bool) (shown : Shown) (place : ℕ) (found : Option ℕ) → IfSome found (IsFoundAt shown place)
+    → more ≡ Ok (is_some found) → path ≡ current_path shown found → is_open ≡ is_some found → HasPath more path is_open
+next_has_path more path is_open shown place found some more_is path_is open_is = rw (more_is, path_is, open_is) (has_path_so shown place found some)

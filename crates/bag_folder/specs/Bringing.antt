@@ -63,10 +63,10 @@ abbrev pub to_come : Shown → ℕ → Option Files
 to_come shown place =
     if all_known shown then Some (map known_file (payload_from shown place)) else None
 
--- the path of the current file
-abbrev pub text_at : Shown → Option ℕ → List ℕ
-text_at shown None = []
-text_at shown (Some i) = unwrap_or (slice_get (paths_in shown) i) []
+-- the path of the current file, if there is one
+abbrev pub current_path : Shown → Option ℕ → Option (List ℕ)
+current_path shown None = None
+current_path shown (Some i) = slice_get (paths_in shown) i
 
 -- what is left of the current file: all of it until it is started, and then what is left in the tree
 abbrev pub left_to_read : Shown → Option (List ℕ) → Option ℕ → Bool → Option (List ℕ)
@@ -118,11 +118,11 @@ same_on shown a b c p q = record {
 
 pub keeps_item : {T : Type 0} (shown : T → Shown) (old new : Bringing T) → SameItem shown old new
     → (to_come (shown new.tree) new.place ≡ to_come (shown old.tree) old.place)
-    × (text_at (shown new.tree) new.came ≡ text_at (shown old.tree) old.came)
+    × (current_path (shown new.tree) new.came ≡ current_path (shown old.tree) old.came)
     × (new.nexts ≡ old.nexts) × (Unit {0} → Unit {0})
 keeps_item shown old new same = (
   ap₂ to_come same.files same.place,
-  ap₂ text_at same.files same.came,
+  ap₂ current_path same.files same.came,
   same.nexts,
   λ steady. steady,
 )

@@ -1,9 +1,10 @@
 //! Delivers the payload files of a tree one after another.
 ghost use Rattle.std.specs.Io.KnownBytes.{ReadConsumes};
-ghost use Rattle.std.specs.Prelude.{◌≡◌, ◌≤◌, [], IfNone, IfSome, IfOk, IsErr, None, Ok, false, is_some, length};
+ghost use Rattle.std.specs.Prelude.{◌≡◌, ◌≤◌, [], IfNone, IfSome, IfOk, IsErr, None, Ok, Some, false, is_some, length, true};
 ghost use Rattle.bag_folder.specs.Bringing.{courier_of, IsFoundAt, IsReady, SameItem, left_of, payload_from};
 
 use bag_digest::{Failed, Failures, Source};
+use bag_path::BagPath;
 use bag_receiver::Courier;
 use bag_rules::Tree;
 use std::marker::Model;
@@ -113,12 +114,12 @@ impl<T: Tree> Source for TreeCourier<T> {
 }
 
 impl<T: Tree> Courier for TreeCourier<T> {
-    ghost use Rattle.bag_folder.specs.Bringing.{BringsNext, keeps_item, text_at, to_come};
-    ghost use Rattle.bag_receiver.specs.Couriers.{ComesNext};
+    ghost use Rattle.bag_folder.specs.Bringing.{BringsNext, current_path, keeps_item, to_come};
+    ghost use Rattle.bag_receiver.specs.Couriers.{ComesNext, HasPath};
 
     ghost coming = { λ courier. to_come (T.shown courier.tree) courier.place };
 
-    ghost text = { λ courier. text_at (T.shown courier.tree) courier.came };
+    ghost path = { λ courier. current_path (T.shown courier.tree) courier.came };
 
     ghost nexts = { λ courier. courier.nexts };
 
@@ -128,9 +129,11 @@ impl<T: Tree> Courier for TreeCourier<T> {
     fn next(&mut self) -> Result<bool, Failed>
         ensures came { IfOk result (λ more. ComesNext
             (to_come (T.shown self.old.tree) self.old.place) more
-            (text_at (T.shown self.new.tree) self.new.came)
+            (current_path (T.shown self.new.tree) self.new.came)
             (left_of T.shown T.remaining self.new)
             (to_come (T.shown self.new.tree) self.new.place)) }
+        ensures path { HasPath result (current_path (T.shown self.new.tree) self.new.came)
+            (is_some self.new.came) }
         ensures answered { result ≡ Ok (is_some self.new.came) }
         ensures exactly { BringsNext T.shown self.old self.new }
     {
@@ -143,10 +146,10 @@ impl<T: Tree> Courier for TreeCourier<T> {
         Ok(self.came.is_some())
     }
 
-    fn path(&self) -> &str {
+    fn path(&self) -> &BagPath {
         match self.came {
-            Some(i) => self.tree.path(i).as_str(),
-            None => "",
+            Some(i) => self.tree.path(i),
+            None => unreachable!(),
         }
     }
 

@@ -1,6 +1,5 @@
 -- Runs of deliveries from a courier.
 use Rattle.std.proofs.Common.{◌≡◌, ◌+◌, ℕ, List, [], ◌∷◌, ◌++◌, Option, Some, None, length, map, true, Ok, Err, Result, get_or, refl, sym, ap, subst, ◌∙◌, arith}
-use Rattle.std.proofs.lemmas.Option.{get_or_from_slice_get}
 use Rattle.std.proofs.Math.Seq.{get_or-append_seam}
 use Rattle.bag_digest.proofs.Progress.{all_known, more_known}
 use Rattle.bag_receiver.specs.declared.run.End.{End}
@@ -18,11 +17,12 @@ is_of octets old new TooLong known brought = more_known octets old new LARGEST_I
 is_of octets old new Unread known brought = tt
 
 are_more : (coming : Option Files) (deliveries : List Delivery) (delivery : Delivery) (left after : Option Files) (old new : Option (List ℕ)) → AreOf coming deliveries left
-    → ComesNext left true delivery.text old after → Brought old new delivery.content → AreOf coming (deliveries ++ delivery ∷ []) after
-are_more None deliveries delivery left after old new are comes brought = subst (λ (l : Option Files). ComesNext l true delivery.text old after) are comes
+    → ComesNext left true (Some delivery.text) old after → Brought old new delivery.content → AreOf coming (deliveries ++ delivery ∷ []) after
+are_more None deliveries delivery left after old new are comes brought = subst (λ (l : Option Files). ComesNext l true (Some delivery.text) old after) are comes
 are_more (Some items) [] delivery left after old new are comes brought =
-    let (octets, (rest, is, known, then)) = subst (λ (l : Option Files). ComesNext l true delivery.text old after) are comes in
-    subst (λ (i : Files). AreOf (Some i) (delivery ∷ []) after) (sym is) (refl, is_of octets old new delivery.content known brought, then)
+    let (item, (rest, is, path, known, then)) = subst (λ (l : Option Files). ComesNext l true (Some delivery.text) old after) are comes in
+    let same : delivery.text ≡ item.0 = cc path in
+    subst (λ (i : Files). AreOf (Some i) (delivery ∷ []) after) (sym is) (same, is_of item.1 old new delivery.content known brought, then)
 are_more (Some []) (one ∷ deliveries) delivery left after old new are comes brought = absurd are
 are_more (Some (item ∷ items)) (one ∷ deliveries) delivery left after old new are comes brought =
     (are.0, are.1, are_more (Some items) deliveries delivery left after old new are.2 comes brought)
@@ -38,13 +38,9 @@ same_number : (deliveries : List Delivery) (texts : List (List ℕ)) (answers : 
 same_number deliveries texts answers told = sym (ap length told.same_texts) ∙ length-map deliveries (λ (d : Delivery). d.text)
     ∙ sym (length-map deliveries (λ (d : Delivery). d.answer)) ∙ ap length told.same_answers
 
--- the text of the last path
-pub last_text : (paths : List (String Global)) (texts : List (List ℕ)) (text : List ℕ) (n : ℕ) (path : String Global) → map string_bytes paths ≡ texts ++ text ∷ [] → length texts ≡ n
-    → path ≡ get_or paths n path → string_bytes path ≡ text
-last_text paths texts text n path all number is =
-    let count : length paths ≡ n + 1 = sym (length-map paths string_bytes) ∙ ap length all ∙ length-append texts (text ∷ []) ∙ ap (λ m. m + 1) number in
-    let there = slice_get-map string_bytes paths n ∙ ap (option_map string_bytes) (slice_get_read paths (length paths) n path refl (omega (arith, count)) is) in
-    sym (get_or_from_slice_get (map string_bytes paths) n (string_bytes path) text there) ∙ (λ t. get_or (all t) (sym number t) text) ∙ get_or-append_seam texts text [] text
+-- the last path
+pub last_path : (paths before : List (List ℕ)) (last : List ℕ) (n : ℕ) (path : List ℕ) → paths ≡ before ++ last ∷ [] → length before ≡ n → path ≡ get_or paths n path → path ≡ last
+last_path paths before last n path all number is = is ∙ (λ t. get_or (all t) (sym number t) path) ∙ get_or-append_seam before last [] path
 
 -- COUNTS
 
@@ -127,7 +123,7 @@ module _ {K : Type 0} (holds may_leave : K → Ledger → Type 0) (clean : K →
       × Does holds may_leave clean old new (Receives name (delivery_of text content answer ∷ []))
 
   pub ran_from_more : (old middle new : Receiver K) (name : List ℕ) (coming left after : Option Files) (texts : List (List ℕ)) (answers : List Answer) (text : List ℕ) (answer : Answer)
-      (before rest : Option (List ℕ)) → RanFrom old middle name coming left texts answers → ComesNext left true text before after → CameFrom middle new name before rest text answer
+      (before rest : Option (List ℕ)) → RanFrom old middle name coming left texts answers → ComesNext left true (Some text) before after → CameFrom middle new name before rest text answer
       → CountsIf ((fault : StoreFault) × (answer ≡ Refused (Keeper (Store fault)))) (failures middle.keeper) (failures new.keeper)
       → RanFrom old new name coming after (texts ++ text ∷ []) (answers ++ answer ∷ [])
   ran_from_more old middle new name coming left after texts answers text answer before rest (deliveries, told, are, runs) comes (content, brought, is, does) counts =

@@ -122,13 +122,12 @@ accepted_counts (own.Refused fault) old new is same = absurd is
 
 module _ {K : Type 0} (holds may_leave : K → Ledger → Type 0) (clean : K → Type 0) (failures : K → ℕ) where
   -- one delivery ran
-  pub got : (old new : Receiver K) (name text path : List ℕ) (content : Content) (answer : Answer) → text ≡ path → IsAnswer name (delivery_of text content answer)
-      → Does holds may_leave clean old new (DeliveryStep name (delivery_of text content answer)) → CountsIf (IsStore answer) (failures old.keeper) (failures new.keeper)
+  pub got : (old new : Receiver K) (name path : List ℕ) (content : Content) (answer : Answer) → IsAnswer name (delivery_of path content answer)
+      → Does holds may_leave clean old new (DeliveryStep name (delivery_of path content answer)) → CountsIf (IsStore answer) (failures old.keeper) (failures new.keeper)
       → Runs holds may_leave clean failures old new name (delivery_by path (Delivered content answer))
-  got old new name text path content answer same is does counts =
-      subst (λ p. Runs holds may_leave clean failures old new name (delivery_of p content answer ∷ [])) same
-      (ran_more holds may_leave clean failures old old new name [] (delivery_of text content answer) (ran_nothing holds may_leave clean failures old name)
-      (does_receive holds may_leave clean old new name _ does) is counts)
+  got old new name path content answer is does counts =
+      ran_more holds may_leave clean failures old old new name [] (delivery_of path content answer) (ran_nothing holds may_leave clean failures old name)
+      (does_receive holds may_leave clean old new name _ does) is counts
 
 -- PATHS THAT ARE HELD
 

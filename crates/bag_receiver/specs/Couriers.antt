@@ -1,5 +1,5 @@
 -- Couriers, and runs of their deliveries.
-use Rattle.std.specs.Prelude.{◌≡◌, ◌≢◌, ◌<◌, ◌+◌, ◌∷◌, [], ℕ, Bool, true, false, List, Option, Some, None, length, map, min}
+use Rattle.std.specs.Prelude.{◌≡◌, ◌≢◌, ◌<◌, ◌+◌, ◌∷◌, [], ℕ, Bool, true, false, List, Option, Some, None, Result, Ok, is_some, length, map, min}
 use Rattle.bag_digest.specs.Device.{greatest_count}
 use Rattle.bag_rules.specs.declared.limits.TheConstants.{LARGEST_ITEM}
 use Rattle.bag_rules.specs.Files.{Files}
@@ -13,12 +13,21 @@ use Rattle.bag_receiver.specs.Deliveries.{Content, Delivery, TooLong, Unread, Wh
 
 -- WHAT IS STILL TO COME, if it is known
 
--- It said whether there is another item. If so, this is its text and its content.
-abbrev pub ComesNext : Option Files → Bool → List ℕ → Option (List ℕ) → Option Files → Type 0
-ComesNext None more text content after = after ≡ None
-ComesNext (Some items) true text content after = (octets : List ℕ) × ((rest : Files)
-    × (items ≡ (text, octets) ∷ rest) × (content ≡ Some octets) × (after ≡ Some rest))
-ComesNext (Some items) false text content after = (items ≡ []) × (after ≡ Some [])
+-- It said whether there is another item. If so, this is its path and its content.
+abbrev pub ComesNext : Option Files → Bool → Option (List ℕ) → Option (List ℕ) → Option Files
+    → Type 0
+ComesNext None more path content after = after ≡ None
+ComesNext (Some items) true path content after = (item : List ℕ × List ℕ) × ((rest : Files)
+    × (items ≡ item ∷ rest) × (path ≡ Some item.0) × (content ≡ Some item.1)
+    × (after ≡ Some rest))
+ComesNext (Some items) false path content after = (items ≡ []) × (after ≡ Some [])
+
+-- There is a path exactly if there is another item, and nothing else can be read.
+pub record HasPath {E : Type 0} (more : Result Bool E) (path : Option (List ℕ)) (is_open : Bool)
+    : Type 0 where
+  pub there : more ≡ Ok true → is_some path ≡ true
+  pub none : more ≢ Ok true → path ≡ None
+  pub readable : is_open ≡ true → more ≡ Ok true
 
 -- this is what a delivery of these octets brings
 abbrev pub IsOf : List ℕ → Content → Type 0

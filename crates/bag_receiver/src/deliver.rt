@@ -14,6 +14,7 @@ ghost use Rattle.bag_receiver.specs.Receivers.{Does, IsInState, plans_in};
 ghost use Rattle.bag_receiver.specs.ReceiversInside.{Finds, IsNoPlan, IsPlaceIn, IsPlanned, RefusesText, Same, answer_of};
 
 use crate::answer::{Answer, DeliverFault};
+use crate::given_path::GivenPath;
 use crate::receiver::{Plans, Receiver};
 use bag_digest::Source;
 use bag_ledger::{KeepFault, Keeper, test_content, test_reader};
@@ -67,25 +68,26 @@ impl<K: Keeper> Receiver<K> {
         Ok(Answer::Taken)
     }
 
-    /// Takes in a payload file as `deliver` does, with the content read from a reader.
+    /// Takes in a payload file as `deliver` does, with the content read from a reader. The path may also be given as a
+    /// [`BagPath`].
     ///
     /// The reader is used only if the transfer lists the path. It is read to its end, to the first octet beyond the
     /// limit, or until a read fails or the keeper has no answer. No read is retried.
-    pub fn deliver_from<S: Source>(
+    pub fn deliver_from<P: GivenPath, S: Source>(
         &mut self,
         alloc: Global,
         name: &str,
-        path: &str,
+        path: P,
         reader: &mut S,
     ) -> Answer
         ensures received { (content : Content)
             × Brought (S.remaining reader.old) (S.remaining reader.new) content
-            × IsAnswer name.now (delivery_of path.now content result)
+            × IsAnswer name.now (delivery_of (P.text path) content result)
             × Does K.holds K.may_leave K.clean self.old self.new
-            (Receives name.now (delivery_of path.now content result ∷ [])) }
+            (Receives name.now (delivery_of (P.text path) content result ∷ [])) }
         ensures unread { K.clean self.new.keeper → (now : LedgerState)
             → IsInState K.holds K.may_leave self.old now
-            → (reader.new ≡ reader.old) ⊎ IsListedIn now.held name.now path.now }
+            → (reader.new ≡ reader.old) ⊎ IsListedIn now.held name.now (P.text path) }
         ensures reader { UsesSource S.failures S.ready S.keeps reader.old reader.new
             (result ≡ Refused Reader) }
         ensures store { CountsIf ((fault : StoreFault)
@@ -98,21 +100,21 @@ impl<K: Keeper> Receiver<K> {
         }
     }
 
-    pub(crate) fn take_from<S: Source>(
+    pub(crate) fn take_from<P: GivenPath, S: Source>(
         &mut self,
         alloc: Global,
         name: &str,
-        path: &str,
+        path: P,
         reader: &mut S,
     ) -> Result<Answer, DeliverFault>
         ensures taken { (content : Content)
             × Brought (S.remaining reader.old) (S.remaining reader.new) content
-            × IsAnswer name.now (delivery_of path.now content (answer_of result))
+            × IsAnswer name.now (delivery_of (P.text path) content (answer_of result))
             × Does K.holds K.may_leave K.clean self.old self.new
-            (DeliveryStep name.now (delivery_of path.now content (answer_of result))) }
+            (DeliveryStep name.now (delivery_of (P.text path) content (answer_of result))) }
         ensures unread { K.clean self.new.keeper → (now : LedgerState)
             → IsInState K.holds K.may_leave self.old now
-            → (reader.new ≡ reader.old) ⊎ IsListedIn now.held name.now path.now }
+            → (reader.new ≡ reader.old) ⊎ IsListedIn now.held name.now (P.text path) }
         ensures accepted { IfOk result IsAcceptance }
         ensures reader { UsesSource S.failures S.ready S.keeps reader.old reader.new
             (IsErrOf result Reader) }
@@ -154,22 +156,22 @@ struct Place<'a> {
 }
 
 /// What the transfer wants at this path, and whether it holds it.
-fn place_of<'a, K: Keeper>(
+fn place_of<'a, K: Keeper, P: GivenPath>(
     keeper: &mut K,
     plans: &'a Plans,
     alloc: Global,
     name: &str,
-    path: &str,
+    path: P,
 ) -> Result<Place<'a>, DeliverFault>
     ensures looks { Does K.holds K.may_leave K.clean
         (record { keeper = keeper.old; plans = plans.now })
         (record { keeper = keeper.new; plans = plans.now }) Same }
     ensures finds { ((ledger : Ledger) → IsPlanned name.now ledger (plans_in plans.now) true)
         → Finds K.holds K.may_leave K.clean (record { keeper = keeper.old; plans = plans.now })
-        (record { keeper = keeper.new; plans = plans.now }) name.now path.now
-        (λ now. IsPlaceIn now.held name.now path.now) result }
-    ensures judged { MatchResult result (λ place. IsPath path.now)
-        (λ fault. (content : Content) → Judges (Refused fault) path.now content) }
+        (record { keeper = keeper.new; plans = plans.now }) name.now (P.text path)
+        (λ now. IsPlaceIn now.held name.now (P.text path)) result }
+    ensures judged { MatchResult result (λ place. IsPath (P.text path))
+        (λ fault. (content : Content) → Judges (Refused fault) (P.text path) content) }
     ensures store { CountsIf ((fault : StoreFault) × IsErrOf result (NotKept (Store fault)))
         (K.failures keeper.old) (K.failures keeper.new) }
 {
@@ -184,12 +186,12 @@ fn place_of<'a, K: Keeper>(
     Ok(Place { want, is_held })
 }
 
-/// The path with this text.
-fn parsed(alloc: Global, text: &str) -> Result<BagPath, DeliverFault>
-    ensures { MatchResult result (λ path. (path ≡ text.now) × IsPath text.now)
-        (RefusesText text.now) }
+/// The path that is given.
+fn parsed<P: GivenPath>(alloc: Global, path: P) -> Result<BagPath, DeliverFault>
+    ensures { MatchResult result (λ parsed. (parsed ≡ P.text path) × IsPath (P.text path))
+        (RefusesText (P.text path)) }
 {
-    match BagPath::parse(alloc, text) {
+    match path.into_path(alloc) {
         Ok(path) => Ok(path),
         Err(PathFault::Memory) => Err(DeliverFault::Keeper(KeepFault::Memory)),
         Err(fault) => Err(DeliverFault::BadPath(fault)),

@@ -135,8 +135,8 @@ impl<K: Keeper> Receiver<K> {
             (S.failures supplier.old) (S.failures supplier.new) }
         ensures asks { S.asks supplier.new ≡ one_more (S.asks supplier.old) }
     {
-        let path = request.path.as_str();
-        match supplier.ask(request.url.as_str(), path) {
+        let path = &request.path;
+        match supplier.ask(request.url.as_str(), path.as_str()) {
             Err(Failed) => FetchAnswer::SupplierFailed,
             Ok(false) => FetchAnswer::NotSupplied,
             Ok(true) => match self.take_from(alloc, name, path, supplier) {

@@ -20,7 +20,7 @@ pub enum End {
     TooMany,
     /// The courier failed to deliver the next item.
     Courier,
-    /// There was no memory for the answer to the next item or the text of its path. The item wasn't delivered.
+    /// There was no memory for the answer to the next item or for its path. The item wasn't delivered.
     Memory,
 }
 

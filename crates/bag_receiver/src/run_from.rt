@@ -1,5 +1,5 @@
 //! Runs of deliveries from a courier.
-ghost use Rattle.std.specs.Prelude.{◌≡◌, ◌≢◌, ◌≤◌, ◌++◌, ◌∷◌, [], Err, IfErr, List, OnErr, OnOk, length, map, string_bytes, true};
+ghost use Rattle.std.specs.Prelude.{◌≡◌, ◌≢◌, ◌≤◌, ◌++◌, ◌∷◌, [], Err, IfErr, List, OnErr, OnOk, is_some, length, true};
 ghost use Rattle.bag_digest.specs.Device.{CountsIf, one_more};
 ghost use Rattle.bag_receiver.specs.declared.answer.Answer.TheVariants.{Repeated};
 ghost use Rattle.bag_receiver.specs.Couriers.{AreBrought, AreTold, CallsNext, ComesNext, IsEndWith, courier_failures};
@@ -11,19 +11,19 @@ use crate::courier::Courier;
 use crate::receiver::Receiver;
 use crate::run::{End, MOST_DELIVERIES, Run};
 use bag_ledger::Keeper;
+use bag_path::BagPath;
 use std::alloc::{AllocError, Global};
 
 impl<K: Keeper> Receiver<K> {
-    /// Takes in what the courier delivers, one item after another. Returns the run and the text of each delivery's
-    /// path.
+    /// Takes in what the courier delivers, one item after another. Returns the run and the path of each delivery.
     pub fn run_from<C: Courier>(
         &mut self,
         alloc: Global,
         name: &str,
         courier: &mut C,
-    ) -> (Run, Vec<String>)
+    ) -> (Run, Vec<BagPath>)
         ensures runs { (deliveries : List Delivery)
-            × AreTold deliveries (map string_bytes result.1.items) result.0.answers.items
+            × AreTold deliveries result.1.items result.0.answers.items
             × AreBrought (C.coming courier.old) deliveries result.0.ended
             × Runs K.holds K.may_leave K.clean K.failures self.old self.new name.now deliveries }
         ensures within { length result.0.answers.items ≤ MOST_DELIVERIES }
@@ -42,20 +42,20 @@ impl<K: Keeper> Receiver<K> {
             if let Err(ended) = next_item(courier, n) {
                 return (Run { answers, ended }, paths);
             }
-            let Ok(()) = add_place(alloc, &mut paths, &mut answers, courier.path()) else {
+            let Ok(()) = add_place(&mut paths, &mut answers, courier.path()) else {
                 let ended = End::Memory;
                 return (Run { answers, ended }, paths);
             };
-            answers[n] = self.deliver_from(alloc, name, paths[n].as_str(), courier);
+            answers[n] = self.deliver_from(alloc, name, &paths[n], courier);
         }
     }
 }
 
 /// Goes on to the next item after `n` deliveries, or returns how the run ends.
 fn next_item<C: Courier>(courier: &mut C, n: usize) -> Result<(), End>
-    ensures came { OnOk result (ComesNext (C.coming courier.old) true (C.text courier.new)
+    ensures came { OnOk result ((n ≢ MOST_DELIVERIES) × (is_some (C.path courier.new) ≡ true)
+        × ComesNext (C.coming courier.old) true (C.path courier.new)
         (C.remaining courier.new) (C.coming courier.new)) }
-    ensures room { OnOk result (n ≢ MOST_DELIVERIES) }
     ensures ended { IfErr result (λ ended. IsEndWith ended n (C.coming courier.old)) }
     ensures failures { CountsIf (result ≡ Err End.Courier)
         (C.failures courier.old) (C.failures courier.new) }
@@ -70,20 +70,18 @@ fn next_item<C: Courier>(courier: &mut C, n: usize) -> Result<(), End>
     }
 }
 
-/// Makes room for the path with this text and for its answer.
+/// Makes room for this path and for its answer.
 fn add_place(
-    alloc: Global,
-    paths: &mut Vec<String>,
+    paths: &mut Vec<BagPath>,
     answers: &mut Vec<Answer>,
-    text: &str,
+    path: &BagPath,
 ) -> Result<(), AllocError>
-    ensures placed { OnOk result ((map string_bytes paths.new.items
-        ≡ map string_bytes paths.old.items ++ text.now ∷ [])
+    ensures placed { OnOk result ((paths.new.items ≡ paths.old.items ++ path.now ∷ [])
         × (answers.new.items ≡ answers.old.items ++ Repeated ∷ [])) }
     ensures unchanged { OnErr result ((paths.new.items ≡ paths.old.items)
         × (answers.new.items ≡ answers.old.items)) }
 {
-    let path = String::from_str(alloc, text)?;
+    let path = path.clone()?;
     if answers.push(Answer::Repeated).is_err() {
         return Err(AllocError);
     }

@@ -3,6 +3,7 @@ use crate::printing::{kept, printed};
 use bag_commands::intake_to;
 use bag_digest::{Failed, Failures, Source};
 use bag_ledger::MapKeeper;
+use bag_path::{BagPath, PathFault};
 use bag_receiver::{Answer, Courier, End, Receiver};
 use std::alloc::{AllocError, Global};
 use std::io::Read;
@@ -38,10 +39,10 @@ fn opened(alloc: Global) -> Result<Receiver<MapKeeper>, Fail> {
     Ok(receiver)
 }
 
-/// The text of a path, and the octets still to be read.
+/// A path, and the octets still to be read.
 #[derive(Drop)]
 struct Item {
-    path: String,
+    path: BagPath,
     content: Vec<u8>,
 }
 
@@ -51,29 +52,25 @@ struct Item {
 struct Items {
     left: Vec<Item>,
     ends_well: bool,
-    path: String,
-    content: Option<Vec<u8>>,
+    current: Option<Item>,
     failures: Failures,
     nexts: u64,
 }
 
 impl Items {
     /// Delivers these items, each with its content, in this order.
-    fn new(alloc: Global, items: &[(&str, &str)], ends_well: bool) -> Result<Items, AllocError> {
+    fn new(alloc: Global, items: &[(&str, &str)], ends_well: bool) -> Result<Items, PathFault> {
         let mut left = Vec::new(alloc);
         for (path, text) in items.iter().rev().copied() {
             let mut content = Vec::from_slice(alloc, text.as_bytes())?;
             content.reverse();
-            left.push(Item {
-                path: String::from_str(alloc, path)?,
-                content,
-            })?;
+            let path = BagPath::parse(alloc, path)?;
+            left.push(Item { path, content })?;
         }
         Ok(Items {
             left,
             ends_well,
-            path: String::new(alloc),
-            content: None,
+            current: None,
             failures: Failures::none(),
             nexts: 0,
         })
@@ -81,8 +78,7 @@ impl Items {
 }
 
 impl Source for Items {
-    ghost use Rattle.std.specs.Prelude.{◌≡◌, None, refl, string_bytes};
-    ghost use Rattle.std.specs.Option.{is_some};
+    ghost use Rattle.std.specs.Prelude.{◌≡◌, None, is_some, option_map, refl};
     ghost use Rattle.std.proofs.Common.{◌∙◌};
 
     ghost remaining = { λ _. None };
@@ -91,15 +87,16 @@ impl Source for Items {
 
     ghost ready = { λ _. ⊥ };
 
-    ghost is_open = { λ it. is_some it.content };
+    ghost is_open = { λ it. is_some it.current };
 
-    ghost keeps = { λ a b. (string_bytes b.path ≡ string_bytes a.path) × (b.nexts ≡ a.nexts) };
+    ghost keeps = { λ a b. (option_map (λ item. item.path) b.current
+        ≡ option_map (λ item. item.path) a.current) × (b.nexts ≡ a.nexts) };
 
     fn read(&mut self, buf: &mut [u8]) -> Result<usize, Failed> {
-        let Some(content) = &mut self.content else {
+        let Some(item) = &mut self.current else {
             return self.failures.counted(Err(Failed));
         };
-        let Some(octet) = content.pop() else {
+        let Some(octet) = item.content.pop() else {
             return Ok(0);
         };
         if octet == b'!' {
@@ -122,11 +119,11 @@ impl Source for Items {
 }
 
 impl Courier for Items {
-    ghost use Rattle.std.specs.Prelude.{None, refl, string_bytes};
+    ghost use Rattle.std.specs.Prelude.{None, option_map, refl};
 
     ghost coming = { λ _. None };
 
-    ghost text = { λ it. string_bytes it.path };
+    ghost path = { λ it. option_map (λ item. item.path) it.current };
 
     ghost nexts = { λ it. it.nexts };
 
@@ -135,8 +132,7 @@ impl Courier for Items {
     fn next(&mut self) -> Result<bool, Failed> {
         self.nexts = self.nexts.saturating_add(1);
         let Some(item) = self.left.pop() else {
-            self.path.clear();
-            self.content = None;
+            self.current = None;
             let answer = if self.ends_well {
                 Ok(false)
             } else {
@@ -144,13 +140,15 @@ impl Courier for Items {
             };
             return self.failures.counted(answer);
         };
-        self.path = item.path;
-        self.content = Some(item.content);
+        self.current = Some(item);
         Ok(true)
     }
 
-    fn path(&self) -> &str {
-        self.path.as_str()
+    fn path(&self) -> &BagPath {
+        match &self.current {
+            Some(item) => &item.path,
+            None => unreachable!(),
+        }
     }
 
     fn nexts(&self) -> u64 {
@@ -167,14 +165,13 @@ fn a_refusal_ends_nothing_and_a_courier_that_fails_is_the_last(
     let alloc = rt.alloc();
     let mut receiver = opened(alloc)?;
     let mut couriers = [
-        Items::new(alloc, &[("../q", ""), ("data/100%\n", "")], true)?,
+        Items::new(alloc, &[("data/100%\n", "")], true)?,
         Items::new(alloc, &[("data/a.txt", "abc"), ("data/e.txt", "!")], false)?,
         Items::new(alloc, &[("data/e.txt", "")], true)?,
     ];
     let mut out = kept(alloc)?;
     let status = intake_to(alloc, &mut receiver, "t1", &mut couriers, &mut out);
-    let expected = "refused ../q: path
-refused data/100%25%0A: not listed
+    let expected = "refused data/100%25%0A: not listed
 taken data/a.txt
 refused data/e.txt: reader
 bag: files
@@ -188,16 +185,15 @@ bag: files
 /// Delivers the items of a list, in order.
 #[derive(Drop)]
 struct Listed<'a> {
-    items: &'a [(String, Vec<u8>)],
-    path: &'a str,
+    items: &'a [(BagPath, Vec<u8>)],
+    path: Option<&'a BagPath>,
     content: &'a [u8],
-    is_open: bool,
     failures: Failures,
     nexts: u64,
 }
 
 impl Source for Listed<'_> {
-    ghost use Rattle.std.specs.Prelude.{◌≡◌, Some, refl};
+    ghost use Rattle.std.specs.Prelude.{◌≡◌, Some, is_some, refl};
     ghost use Rattle.std.proofs.Common.{◌∙◌};
 
     ghost remaining = { λ it. Some it.content.now };
@@ -206,12 +202,12 @@ impl Source for Listed<'_> {
 
     ghost ready = { λ _. ⊥ };
 
-    ghost is_open = { λ it. it.is_open };
+    ghost is_open = { λ it. is_some it.path };
 
     ghost keeps = { λ a b. (b.items ≡ a.items) × (b.path ≡ a.path) × (b.nexts ≡ a.nexts) };
 
     fn read(&mut self, buf: &mut [u8]) -> Result<usize, Failed> {
-        if !self.is_open {
+        if self.path.is_none() {
             return self.failures.counted(Err(Failed));
         }
         self.failures.counted(self.content.read(buf))
@@ -227,13 +223,12 @@ impl Source for Listed<'_> {
 }
 
 impl Courier for Listed<'_> {
-    ghost use Rattle.std.specs.Prelude.{Some};
+    ghost use Rattle.std.specs.Prelude.{Some, map, option_map};
     ghost use Rattle.std.proofs.Common.{ap};
-    ghost use Rattle.bag_receiver.specs.Beginning.{given_in};
 
-    ghost coming = { λ it. Some (given_in it.items.now) };
+    ghost coming = { λ it. Some (map (λ item. (item.0, item.1.items)) it.items.now) };
 
-    ghost text = { λ it. it.path.now };
+    ghost path = { λ it. option_map (λ path. path.now) it.path };
 
     ghost nexts = { λ it. it.nexts };
 
@@ -242,20 +237,21 @@ impl Courier for Listed<'_> {
     fn next(&mut self) -> Result<bool, Failed> {
         self.nexts = self.nexts.saturating_add(1);
         let Some((item, rest)) = self.items.split_first() else {
-            self.path = "";
+            self.path = None;
             self.content = &[];
-            self.is_open = false;
             return Ok(false);
         };
         self.items = rest;
-        self.path = item.0.as_str();
+        self.path = Some(&item.0);
         self.content = item.1.as_slice();
-        self.is_open = true;
         Ok(true)
     }
 
-    fn path(&self) -> &str {
-        self.path
+    fn path(&self) -> &BagPath {
+        match self.path {
+            Some(path) => path,
+            None => unreachable!(),
+        }
     }
 
     fn nexts(&self) -> u64 {
@@ -263,8 +259,8 @@ impl Courier for Listed<'_> {
     }
 
     ghost keeps_item = { λ old new kept. (
-      ap (λ items. Some (given_in items.now)) kept.0,
-      ap (λ path. path.now) kept.1,
+      ap (λ items. Some (map (λ item. (item.0, item.1.items)) items.now)) kept.0,
+      ap (option_map (λ path. path.now)) kept.1,
       kept.2,
       λ steady. steady,
     ) };
@@ -273,12 +269,14 @@ impl Courier for Listed<'_> {
 #[test]
 fn the_items_that_were_to_come_are_delivered_in_order(rt: HostRuntime) -> Result<(), Fail> {
     let alloc = rt.alloc();
-    let items = owned(alloc, &[("data/e.txt", ""), ("data/a.txt", "abc")])?;
+    let items = [
+        (BagPath::parse(alloc, "data/e.txt")?, Vec::new(alloc)),
+        (BagPath::parse(alloc, "data/a.txt")?, Vec::from_slice(alloc, b"abc")?),
+    ];
     let mut courier = Listed {
-        items: items.as_slice(),
-        path: "",
+        items: &items,
+        path: None,
         content: &[],
-        is_open: false,
         failures: Failures::none(),
         nexts: 0,
     };
