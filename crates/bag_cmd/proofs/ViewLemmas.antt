@@ -4,6 +4,7 @@ use Rattle.std.proofs.lemmas.Option.{same_Some}
 use Rattle.bag_ledger.specs.declared.keeper.Keeper.{Ghosts}
 use Rattle.bag_commands.specs.declared.output.Output.{Output}
 use Rattle.bag_commands.specs.declared.status.TheConstants.{VALID}
+use Rattle.bag_commands.specs.Viewing.{HoldsValidBag}
 use Rattle.bag_folder.specs.Directories.{Listing}
 use Rattle.bag_receiver.specs.declared.receiver.Receiver.{Receiver}
 use Rattle.bag_receiver.specs.Receivers.{IsInState}
@@ -12,7 +13,7 @@ use Rattle.bag_cmd.specs.declared.ended.Ended.{Ended}
 use Rattle.bag_cmd.specs.declared.ledger.Ledgers.{Ghosts as Ledgers}
 use Rattle.bag_cmd.specs.declared.request.Work.{Work}
 use Rattle.bag_cmd.specs.declared.request.Work.TheVariants.{Audit, Begin, Export, Fetch, Intake, List as ListNames, Report}
-use Rattle.bag_cmd.specs.Working.{DoesWork, HoldsValidBag, IsOpenFor, Views, viewed}
+use Rattle.bag_cmd.specs.Working.{DoesWork, IsOpenFor, Views, viewed}
 
 module _ {K W : Type 0} (k : Ghosts K) (known : Option Listing) (contents : W → Option (List ℕ)) (made now : Option (List ℕ)) (before after : Receiver K) (old new : Output W) (result : Ended) (valid : result.status ≡ VALID)
     (clean : k.clean after.keeper) (name : List ℕ) where

@@ -1,20 +1,18 @@
 -- Work on a ledger: how it is opened, and what is done with it.
 use Rattle.std.specs.Prelude.{◌≡◌, ◌↔◌, ◌∷◌, ◌++◌, [], ℕ, Bool, Contains, List, None, Option, Some, codes, false, is_some, map, string_bytes}
-use Rattle.bag_ledger.specs.Ledgers.{Ledger, Transfer}
+use Rattle.bag_ledger.specs.Ledgers.{Ledger}
 use Rattle.bag_ledger.specs.declared.keeper.Keeper.{Ghosts}
 use Rattle.bag_path.specs.Spellings.{written_spelling}
 use Rattle.bag_receiver.specs.declared.receiver.Receiver.{Receiver}
-use Rattle.bag_receiver.specs.Names.{IsNamed}
 use Rattle.bag_receiver.specs.Receivers.{Does, IsInState, IsKept}
 use Rattle.bag_receiver.specs.ReceiversInside.{Same}
 use Rattle.bag_receiver.specs.Receiving.{LedgerState}
-use Rattle.bag_rules.specs.Transfers.{held_bag}
+use Rattle.bag_receiver.specs.Reporting.{IsReporting}
 use Rattle.bag_rules.specs.Trees.{UsesTree}
-use Rattle.bag_rules.specs.Validity.{IsValid}
 use Rattle.bag_sqlite.specs.declared.adopting.AdoptFault.{AdoptFault}
 use Rattle.bag_sqlite.specs.declared.adopting.AdoptFault.TheVariants.{Damaged, Memory, NotALedger, Store}
 use Rattle.bag_commands.specs.declared.output.Output.{Output}
-use Rattle.bag_commands.specs.declared.status.TheConstants.{FAILED, VALID}
+use Rattle.bag_commands.specs.declared.status.TheConstants.{FAILED}
 use Rattle.bag_commands.specs.declared.stop.Stop.TheVariants as stop
 use Rattle.bag_commands.specs.Begins.{IsBeginning, PrintsBegin}
 use Rattle.bag_commands.specs.Exporting.{IsExporting}
@@ -27,7 +25,7 @@ use Rattle.bag_commands.specs.Listing.{IsListing}
 use Rattle.bag_commands.specs.ListTexts.{list_lines, list_status}
 use Rattle.bag_commands.specs.Printing.{Printed, PrintedBy, PrintedOne}
 use Rattle.bag_commands.specs.StopTexts.{stop_text}
-use Rattle.bag_commands.specs.Viewing.{IsReporting}
+use Rattle.bag_commands.specs.Viewing.{IsValidIfZero}
 use Rattle.bag_commands.specs.ViewTexts.{view_lines, view_status}
 use Rattle.bag_folder.specs.declared.fault.OpenFault.{OpenFault}
 use Rattle.bag_folder.specs.declared.place.Place.TheVariants.{Base}
@@ -132,16 +130,10 @@ pub record IsOver {K : Type 0} (k : Ghosts K) (kept : K) (receiver : Receiver K)
   pub in_state : (now : LedgerState) → IsKept k.holds k.may_leave kept now
       → IsInState k.holds k.may_leave receiver now
 
--- the transfer with this name has a valid bag
-abbrev pub HoldsValidBag : Ledger → List ℕ → Type 0
-HoldsValidBag ledger name = (transfer : Transfer) × IsNamed ledger name (Some transfer)
-    × IsValid (held_bag transfer.tags transfer.items)
-
 -- A report or an audit was printed. The status is 0 only if the transfer holds a valid bag.
 pub record Views {K W : Type 0} (k : Ghosts K) (contents : W → Option (List ℕ)) (name : List ℕ)
     (before after : Receiver K) (old new : Output W) (result : Ended) : Type 0 where
-  pub valid : result.status ≡ VALID → k.clean after.keeper → (now : LedgerState)
-      → IsInState k.holds k.may_leave before now → HoldsValidBag now.held name
+  pub valid : IsValidIfZero k.holds k.may_leave k.clean name before after result.status
   pub printed : PrintedBy contents view_lines view_status old new result.status
       (IsReporting k.holds k.may_leave k.clean k.failures name before after)
   pub untold : result.why ≡ None

@@ -1,42 +1,21 @@
--- The answer of a receiver that is asked for a report on a transfer, or for an audit of it.
-use Rattle.std.specs.Prelude.{◌≡◌, ℕ, List, None, IfOk, IsErrOf, MatchResult, Result, map}
-use Rattle.bag_digest.specs.Device.{CountsIf}
-use Rattle.bag_ledger.specs.Ledgers.{Ledger}
-use Rattle.bag_ledger.specs.declared.fault.KeepFault.TheVariants.{Store}
-use Rattle.bag_ledger.specs.declared.fault.StoreFault.{StoreFault}
+-- What the status of a report or of an audit says.
+use Rattle.std.specs.Prelude.{◌≡◌, ℕ, List, Some}
+use Rattle.bag_rules.specs.Transfers.{held_bag}
+use Rattle.bag_rules.specs.Validity.{IsValid}
+use Rattle.bag_ledger.specs.Ledgers.{Ledger, Transfer}
 use Rattle.bag_receiver.specs.declared.receiver.Receiver.{Receiver}
-use Rattle.bag_receiver.specs.declared.report.ViewFault.{ViewFault}
-use Rattle.bag_receiver.specs.declared.report.ViewFault.TheVariants.{NoTransfer, Keeper}
-use Rattle.bag_receiver.specs.Deliveries.{AreAccepted, Delivery, OneContent}
-use Rattle.bag_receiver.specs.Names.{IsNamed, IsTransferName}
-use Rattle.bag_receiver.specs.Receivers.{Does, IsInState}
-use Rattle.bag_receiver.specs.ReceiversInside.{Same}
-use Rattle.bag_receiver.specs.Receiving.{Happened, LedgerState}
-use Rattle.bag_receiver.specs.Reports.{IsReportOf, Reports}
-use Rattle.bag_receiver.specs.Stops.{Answered, Event, StopRun}
-use Rattle.bag_rules.specs.Files.{Files}
-use Rattle.bag_rules.specs.declared.report.Report.{Report}
+use Rattle.bag_receiver.specs.Names.{IsNamed}
+use Rattle.bag_receiver.specs.Receivers.{IsInState}
+use Rattle.bag_receiver.specs.Receiving.{LedgerState}
+use Rattle.bag_commands.specs.declared.status.TheConstants.{VALID}
 
--- If the keeper is clean, the answer is the report on the bag that the transfer with this name holds, or that there is
--- no such transfer. After any deliveries since it was opened, the bag consists of its tag files and each accepted file
--- once, or of what stops left of them. An invalid name names no transfer. The answer is a failure of the store exactly
--- if the keeper counted one. Nothing changes.
-pub record IsReporting {K : Type 0} (holds may_leave : K → Ledger → Type 0) (clean : K → Type 0)
-    (failures : K → ℕ) (name : List ℕ) (old new : Receiver K) (answer : Result Report ViewFault)
-    : Type 0 where
-  pub looks : Does holds may_leave clean old new Same
-  pub reported : clean new.keeper → (now : LedgerState) → IsInState holds may_leave old now
-      → MatchResult answer (Reports now.held name)
-      (λ fault. fault ≡ NoTransfer → IsNamed now.held name None)
-  pub judged : ¬ IsTransferName name → IsErrOf answer NoTransfer
-  pub headline : clean new.keeper → (now : LedgerState) → IsInState holds may_leave old now
-      → (tags : Files) (deliveries : List Delivery)
-      → Happened now name tags (map Answered deliveries) → OneContent tags deliveries
-      → IfOk answer (λ report. (held : Files) × AreAccepted deliveries held
-      × IsReportOf tags held report)
-  pub stopped : clean new.keeper → (now : LedgerState) → IsInState holds may_leave old now
-      → (tags : Files) (events : List Event) → Happened now name tags events
-      → IfOk answer (λ report. (held : Files) × StopRun tags events held
-      × IsReportOf tags held report)
-  pub store : CountsIf ((fault : StoreFault) × IsErrOf answer (Keeper (Store fault)))
-      (failures old.keeper) (failures new.keeper)
+-- the transfer with this name has a valid bag
+abbrev pub HoldsValidBag : Ledger → List ℕ → Type 0
+HoldsValidBag ledger name = (transfer : Transfer) × IsNamed ledger name (Some transfer)
+    × IsValid (held_bag transfer.tags transfer.items)
+
+-- If it is 0 and the keeper is clean, the transfer held a valid bag.
+abbrev pub IsValidIfZero : {K : Type 0} → (K → Ledger → Type 0) → (K → Ledger → Type 0)
+    → (K → Type 0) → List ℕ → Receiver K → Receiver K → ℕ → Type 0
+IsValidIfZero holds may_leave clean name old new status = status ≡ VALID → clean new.keeper
+    → (now : LedgerState) → IsInState holds may_leave old now → HoldsValidBag now.held name

@@ -1,18 +1,11 @@
 //! `audit`: reports what is wrong with the bag of a transfer after reading again everything that is held of it.
-ghost use Rattle.std.specs.Prelude.{◌≡◌, Some};
-ghost use Rattle.bag_ledger.specs.Ledgers.{Transfer};
-ghost use Rattle.bag_rules.specs.Transfers.{held_bag};
-ghost use Rattle.bag_rules.specs.Validity.{IsValid};
-ghost use Rattle.bag_receiver.specs.Names.{IsNamed};
-ghost use Rattle.bag_receiver.specs.Receivers.{IsInState};
-ghost use Rattle.bag_receiver.specs.Receiving.{LedgerState};
+ghost use Rattle.bag_receiver.specs.Reporting.{IsReporting};
 ghost use Rattle.bag_commands.specs.Printing.{PrintedBy};
-ghost use Rattle.bag_commands.specs.Viewing.{IsReporting};
+ghost use Rattle.bag_commands.specs.Viewing.{IsValidIfZero};
 ghost use Rattle.bag_commands.specs.ViewTexts.{view_lines, view_status};
 
 use crate::output::Output;
 use crate::report::print_view;
-use crate::status::VALID;
 use bag_ledger::Keeper;
 use bag_receiver::Receiver;
 use std::alloc::Global;
@@ -27,10 +20,8 @@ pub fn audit_to<K: Keeper, W: Write + Drop>(
     out: &mut Output<W>,
 ) -> u8
     // The status is 0 only if the transfer holds a valid bag.
-    ensures valid { result ≡ VALID → K.clean receiver.new.keeper → (now : LedgerState)
-        → IsInState K.holds K.may_leave receiver.old now
-        → (transfer : Transfer) × IsNamed now.held name.now (Some transfer)
-        × IsValid (held_bag transfer.tags transfer.items) }
+    ensures valid { IsValidIfZero K.holds K.may_leave K.clean name.now
+        receiver.old receiver.new result }
     ensures printed { PrintedBy W.contents view_lines view_status out.old out.new result
         (IsReporting K.holds K.may_leave K.clean K.failures name.now receiver.old receiver.new) }
 {

@@ -1,19 +1,14 @@
 //! `report`: reports what is wrong with the bag of a transfer as it is held.
-ghost use Rattle.std.specs.Prelude.{◌≡◌, ◌∷◌, [], OnErr, OnOk, Some};
+ghost use Rattle.std.specs.Prelude.{◌≡◌, [], OnErr, OnOk};
 ghost use Rattle.std.specs.Io.Buffered.{writer_buffer};
 ghost use Rattle.bag_digest.specs.Device.{Rises};
-ghost use Rattle.bag_ledger.specs.Ledgers.{Transfer};
-ghost use Rattle.bag_rules.specs.Transfers.{held_bag};
-ghost use Rattle.bag_rules.specs.Validity.{IsValid};
-ghost use Rattle.bag_receiver.specs.Names.{IsNamed};
-ghost use Rattle.bag_receiver.specs.Receivers.{IsInState};
-ghost use Rattle.bag_receiver.specs.Receiving.{LedgerState};
+ghost use Rattle.bag_receiver.specs.Reporting.{IsReporting};
 ghost use Rattle.bag_commands.specs.Printing.{Printed, PrintedBy, WroteLines};
-ghost use Rattle.bag_commands.specs.Viewing.{IsReporting};
+ghost use Rattle.bag_commands.specs.Viewing.{IsValidIfZero};
 ghost use Rattle.bag_commands.specs.ViewTexts.{view_fault_line, view_fault_status, view_lines, view_status};
 
 use crate::output::Output;
-use crate::status::{FAILED, REFUSED, VALID};
+use crate::status::{FAILED, REFUSED};
 use crate::stop::Stop;
 use crate::verdict::{report_status, write_report};
 use bag_digest::Failed;
@@ -31,10 +26,8 @@ pub fn report_to<K: Keeper, W: Write + Drop>(
     out: &mut Output<W>,
 ) -> u8
     // The status is 0 only if the transfer holds a valid bag.
-    ensures valid { result ≡ VALID → K.clean receiver.new.keeper → (now : LedgerState)
-        → IsInState K.holds K.may_leave receiver.old now
-        → (transfer : Transfer) × IsNamed now.held name.now (Some transfer)
-        × IsValid (held_bag transfer.tags transfer.items) }
+    ensures valid { IsValidIfZero K.holds K.may_leave K.clean name.now
+        receiver.old receiver.new result }
     ensures printed { PrintedBy W.contents view_lines view_status out.old out.new result
         (IsReporting K.holds K.may_leave K.clean K.failures name.now receiver.old receiver.new) }
 {

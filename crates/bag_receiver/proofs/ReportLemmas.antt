@@ -1,5 +1,5 @@
 -- The report on a transfer, by what happened to it.
-use Rattle.std.proofs.Common.{◌≡◌, ℕ, List, [], ◌∷◌, Option, Some, map, sym, ap, subst, ◌∙◌, inl, inr}
+use Rattle.std.proofs.Common.{◌≡◌, ℕ, List, [], ◌∷◌, Err, IfOk, IsErrOf, MatchResult, None, Ok, Option, Result, Some, map, sym, ap, subst, ◌∙◌, inl, inr}
 use Rattle.bag_rules.specs.declared.outcome.Outcome.TheVariants.{Judged}
 use Rattle.bag_rules.specs.declared.plan.ItemSize.{ItemSize}
 use Rattle.bag_rules.specs.declared.report.Report.{Report}
@@ -9,13 +9,16 @@ use Rattle.bag_rules.specs.Validity.{Means}
 use Rattle.bag_rules.proofs.HeldFaults.{may_be_mended}
 use Rattle.bag_rules.specs.Verdicts.{IsVerdict}
 use Rattle.bag_ledger.specs.Ledgers.{IsSound}
+use Rattle.bag_receiver.specs.declared.report.ViewFault.{ViewFault}
+use Rattle.bag_receiver.specs.declared.report.ViewFault.TheVariants.{Keeper, NoTransfer}
 use Rattle.bag_receiver.specs.Reports.{IsReportOf, Reports}
+use Rattle.bag_receiver.specs.Reporting.{IsReporting}
 use Rattle.bag_receiver.proofs.HeldLemmas.{held_accepted}
 use Rattle.bag_receiver.proofs.PlaceLemmas.{of_plan}
 use Rattle.bag_receiver.proofs.ReceivingLemmas.{named_there}
 use Rattle.bag_receiver.proofs.StepLemmas.{answered_held}
 use Rattle.std.specs.List.Sorted.{IsStrictlySortedBy}
-use Rattle.bag_receiver.proofs.Words.{AcceptsPassing, Answer, Answered, AnswerStep, AreAccepted, AreHeldFor, ArePlansIn, bytes_eq, Delivery, Event, Files, Happened, IsAcceptance, IsAccepted, IsPlanOf, IsTransferName, items_of, Ledger, LedgerState, lookup, nothing_held, OneContent, option_map, Passes, Plan, Refused, Repeated, Steps, StopRun, Taken, Transfer, transfer_of, TransferState, unwrap_or, Whole}
+use Rattle.bag_receiver.proofs.Words.{AcceptsPassing, Answer, Answered, AnswerStep, AreAccepted, AreHeldFor, ArePlansIn, bytes_eq, CountsIf, Delivery, Does, Event, Files, Happened, IsAcceptance, IsAccepted, IsInState, IsNamed, IsPlanOf, IsTransferName, items_of, Ledger, LedgerState, lookup, nothing_held, OneContent, option_map, Passes, Plan, Receiver, Refused, Repeated, Same, Steps, StopRun, Store, StoreFault, Taken, Transfer, transfer_of, TransferState, unwrap_or, Whole}
 
 -- THE REPORT OF A PLAN
 
@@ -52,7 +55,7 @@ report_shown now name tags items report (transfer, named, is) there =
     let same : transfer ≡ shown tags items = cc in
     subst (λ (t : Transfer). IsReportOf t.tags t.items report) same is
 
-pub stopped : (now : LedgerState) (name : List ℕ) (tags : Files) (events : List Event) (report : Report) → Reports now.held name report → Happened now name tags events
+stopped : (now : LedgerState) (name : List ℕ) (tags : Files) (events : List Event) (report : Report) → Reports now.held name report → Happened now name tags events
     → (held : Files) × StopRun tags events held × IsReportOf tags held report
 stopped now name tags events report reports (files, steps, present) = (files.held, (files.doubtful, steps), report_shown now name tags files.held report reports present.there)
 
@@ -74,7 +77,7 @@ accepted_passes tags (one ∷ deliveries) old new (middle, step, rest) path cont
 accepted_passes tags (one ∷ deliveries) old new (middle, step, rest) path content (delivery, inr has, accepted) =
     accepted_passes tags deliveries middle new rest path content (delivery, has, accepted)
 
-pub headline : (now : LedgerState) (name : List ℕ) (tags : Files) (deliveries : List Delivery) (report : Report) → Reports now.held name report → Happened now name tags (map Answered deliveries)
+headline : (now : LedgerState) (name : List ℕ) (tags : Files) (deliveries : List Delivery) (report : Report) → Reports now.held name report → Happened now name tags (map Answered deliveries)
     → OneContent tags deliveries → (held : Files) × AreAccepted deliveries held × IsReportOf tags held report
 unfolding IsStrictlySortedBy
 headline now name tags deliveries report reports (files, steps, present) one = (
@@ -82,3 +85,31 @@ headline now name tags deliveries report reports (files, steps, present) one = (
   held_accepted tags deliveries files.held one (accepted_passes tags deliveries nothing_held files steps) (answered_held tags deliveries nothing_held files tt steps),
   report_shown now name tags files.held report reports present.there,
 )
+
+-- WHAT IS ANSWERED
+
+headline_in : (now : LedgerState) (name : List ℕ) (tags : Files) (deliveries : List Delivery) (answer : Result Report ViewFault) (refused : ViewFault → Type 0)
+    → MatchResult answer (Reports now.held name) refused → Happened now name tags (map Answered deliveries) → OneContent tags deliveries
+    → IfOk answer (λ report. (held : Files) × AreAccepted deliveries held × IsReportOf tags held report)
+headline_in now name tags deliveries (Ok report) refused reports happened one = headline now name tags deliveries report reports happened one
+headline_in now name tags deliveries (Err fault) refused reports happened one = tt
+
+stopped_in : (now : LedgerState) (name : List ℕ) (tags : Files) (events : List Event) (answer : Result Report ViewFault) (refused : ViewFault → Type 0)
+    → MatchResult answer (Reports now.held name) refused → Happened now name tags events → IfOk answer (λ report. (held : Files) × StopRun tags events held × IsReportOf tags held report)
+stopped_in now name tags events (Ok report) refused reports happened = stopped now name tags events report reports happened
+stopped_in now name tags events (Err fault) refused reports happened = tt
+
+module _ {K : Type 0} (holds may_leave : K → Ledger → Type 0) (clean : K → Type 0) (failures : K → ℕ) (name : List ℕ) (old new : Receiver K) (answer : Result Report ViewFault) where
+  pub reporting : Does holds may_leave clean old new Same
+      → (clean new.keeper → (now : LedgerState) → IsInState holds may_leave old now → MatchResult answer (Reports now.held name) (λ fault. fault ≡ NoTransfer → IsNamed now.held name None))
+      → (¬ IsTransferName name → IsErrOf answer NoTransfer)
+      → CountsIf ((fault : StoreFault) × IsErrOf answer (Keeper (Store fault))) (failures old.keeper) (failures new.keeper)
+      → IsReporting holds may_leave clean failures name old new answer
+  reporting looks reported judged store = record {
+    looks = looks;
+    reported = reported;
+    judged = judged;
+    headline = λ c now in_state tags deliveries happened one. headline_in now name tags deliveries answer _ (reported c now in_state) happened one;
+    stopped = λ c now in_state tags events happened. stopped_in now name tags events answer _ (reported c now in_state) happened;
+    store = store;
+  }

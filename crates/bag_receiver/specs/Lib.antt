@@ -11,6 +11,7 @@ pub mod BeginningInside
 pub mod Runs
 pub mod Couriers
 pub mod Reports
+pub mod Reporting
 pub mod Holdings
 pub mod Arrivals
 pub mod Suppliers

@@ -1,26 +1,18 @@
 //! Audits: reports on the bag of a transfer after everything that is held of it was read again.
-ghost use Rattle.std.specs.Prelude.{◌≡◌, ◌↔◌, ◌<◌, ℕ, List, None, IfOk, IsErrOf, IsTrue, MatchResult, length, map};
+ghost use Rattle.std.specs.Prelude.{◌≡◌, ◌↔◌, ◌<◌, ℕ, List, IfOk, IsErrOf, IsTrue, length};
 ghost use Rattle.std.specs.List.{AllByRecursion};
-ghost use Rattle.bag_digest.specs.Device.{CountsIf};
 ghost use Rattle.bag_rules.specs.Files.{Files};
 ghost use Rattle.bag_rules.specs.Plans.{IsPlanOf, sizes_of};
 ghost use Rattle.bag_rules.specs.Transfers.{Passes};
 ghost use Rattle.bag_rules.specs.Wants.{IsWanted};
 ghost use Rattle.bag_ledger.specs.Ledgers.{Ledger, items_of};
-ghost use Rattle.bag_ledger.specs.declared.fault.StoreFault.{StoreFault};
 ghost use Rattle.bag_ledger.specs.declared.fault.KeepFault.TheVariants.{Store};
-ghost use Rattle.bag_receiver.specs.Deliveries.{AreAccepted, Delivery, OneContent};
 ghost use Rattle.bag_receiver.specs.Holdings.{HasItem, IsPlanFor, ReadsKeeper, SomeAreWanted, SomePass};
-ghost use Rattle.bag_receiver.specs.Names.{IsNamed, IsTransferName};
-ghost use Rattle.bag_receiver.specs.Receivers.{Does, IsInState};
-ghost use Rattle.bag_receiver.specs.ReceiversInside.{Same};
-ghost use Rattle.bag_receiver.specs.Receiving.{Happened, LedgerState};
-ghost use Rattle.bag_receiver.specs.Reports.{IsReportOf, Reports};
-ghost use Rattle.bag_receiver.specs.Stops.{Answered, Event, StopRun};
+ghost use Rattle.bag_receiver.specs.Reporting.{IsReporting};
 
 use crate::held::next_piece;
 use crate::receiver::Receiver;
-use crate::report::ViewFault;
+use crate::report::{Basis, ViewFault};
 use bag_digest::{Multi, piece_buffer};
 use bag_ledger::{KeepFault, Keeper};
 use bag_rules::limits::LARGEST_ITEM;
@@ -35,45 +27,15 @@ impl<K: Keeper> Receiver<K> {
     ///
     /// Those of [`report`](Receiver::report).
     pub fn audit(&mut self, alloc: Global, name: &str) -> Result<Report, ViewFault>
-        ensures looks { Does K.holds K.may_leave K.clean self.old self.new Same }
-        ensures reported { K.clean self.new.keeper → (now : LedgerState)
-            → IsInState K.holds K.may_leave self.old now
-            → MatchResult result (Reports now.held name.now)
-            (λ fault. fault ≡ ViewFault.NoTransfer → IsNamed now.held name.now None) }
-        // An invalid name names no transfer, whatever the store would answer.
-        ensures judged { ¬ IsTransferName name.now → IsErrOf result ViewFault.NoTransfer }
-        // After a transfer was opened, for any list of deliveries with losses, repeats and reordering, as for a report.
-        ensures headline { K.clean self.new.keeper → (now : LedgerState)
-            → IsInState K.holds K.may_leave self.old now
-            → (tags : Files) (deliveries : List Delivery)
-            → Happened now name.now tags (map Answered deliveries) → OneContent tags deliveries
-            → IfOk result (λ report. (held : Files) × AreAccepted deliveries held
-            × IsReportOf tags held report) }
-        // The same for everything that happened since then, including stops.
-        ensures stopped { K.clean self.new.keeper → (now : LedgerState)
-            → IsInState K.holds K.may_leave self.old now
-            → (tags : Files) (events : List Event)
-            → Happened now name.now tags events
-            → IfOk result (λ report. (held : Files) × StopRun tags events held
-            × IsReportOf tags held report) }
-        ensures store { CountsIf ((fault : StoreFault)
-            × IsErrOf result (ViewFault.Keeper (KeepFault.Store fault)))
-            (K.failures self.old.keeper) (K.failures self.new.keeper) }
+        ensures { IsReporting K.holds K.may_leave K.clean K.failures name.now
+            self.old self.new result }
     {
-        if !self.has_plan(alloc, name)? {
-            return Err(ViewFault::NoTransfer);
-        }
-        let Some(plan) = self.plans.get(name) else {
-            return Err(ViewFault::NoTransfer);
-        };
-        let sizes = passing_sizes(&mut self.keeper, alloc, name, plan)?;
-        let report = plan.report(alloc, sizes.as_slice())?;
-        Ok(report)
+        self.view(alloc, name, Basis::Octets)
     }
 }
 
 /// The payload files that the transfer holds and that are valid when they are read again, by path.
-fn passing_sizes<K: Keeper>(
+pub(crate) fn passing_sizes<K: Keeper>(
     keeper: &mut K,
     alloc: Global,
     name: &str,

@@ -1,19 +1,22 @@
 //! Reports: what is wrong with the bag of a transfer as it is held now.
-ghost use Rattle.std.specs.Prelude.{◌≡◌, List, None, IfOk, IsErrOf, MatchResult, map};
+ghost use Rattle.std.specs.Prelude.{◌≡◌, None, IfOk, IsErrOf, MatchResult};
 ghost use Rattle.bag_digest.specs.Device.{CountsIf};
-ghost use Rattle.bag_rules.specs.Files.{Files};
+ghost use Rattle.bag_rules.specs.Plans.{sizes_of};
+ghost use Rattle.bag_ledger.specs.Ledgers.{Ledger, items_of};
 ghost use Rattle.bag_ledger.specs.declared.fault.StoreFault.{StoreFault};
-ghost use Rattle.bag_receiver.specs.Deliveries.{AreAccepted, Delivery, OneContent};
+ghost use Rattle.bag_ledger.specs.declared.fault.KeepFault.TheVariants.{Store};
+ghost use Rattle.bag_receiver.specs.Holdings.{IsPlanFor, ReadsKeeper};
 ghost use Rattle.bag_receiver.specs.Names.{IsNamed, IsTransferName};
 ghost use Rattle.bag_receiver.specs.Receivers.{Does, IsInState};
 ghost use Rattle.bag_receiver.specs.ReceiversInside.{Same};
-ghost use Rattle.bag_receiver.specs.Receiving.{Happened, LedgerState};
-ghost use Rattle.bag_receiver.specs.Reports.{IsReportOf, Reports};
-ghost use Rattle.bag_receiver.specs.Stops.{Answered, Event, StopRun};
+ghost use Rattle.bag_receiver.specs.Receiving.{LedgerState};
+ghost use Rattle.bag_receiver.specs.Reports.{Reports};
+ghost use Rattle.bag_receiver.specs.Reporting.{IsReporting};
 
+use crate::audit::passing_sizes;
 use crate::receiver::Receiver;
 use bag_ledger::{KeepFault, Keeper};
-use bag_rules::Report;
+use bag_rules::{ItemSize, Plan, Report};
 use std::alloc::{AllocError, Global};
 use thiserror::Error;
 
@@ -51,6 +54,15 @@ impl From<AllocError> for ViewFault {
     }
 }
 
+/// What a report rests on.
+#[derive(Clone, Copy)]
+pub(crate) enum Basis {
+    /// The sizes of the payload files that are held.
+    Sizes,
+    /// Their octets, which are read again: a file counts as held only if it is valid.
+    Octets,
+}
+
 impl<K: Keeper> Receiver<K> {
     /// What is wrong with the bag of the transfer as it is held now: missing payload files and a wrong `Payload-Oxum`
     /// (RFC 8493 sections 3 and 2.2.2). What is held was checked when it was delivered, and isn't read again.
@@ -60,29 +72,25 @@ impl<K: Keeper> Receiver<K> {
     /// [`ViewFault::NoTransfer`] if no transfer has this name or the name is invalid; [`ViewFault::Keeper`] if the
     /// store failed or memory ran out.
     pub fn report(&mut self, alloc: Global, name: &str) -> Result<Report, ViewFault>
+        ensures { IsReporting K.holds K.may_leave K.clean K.failures name.now
+            self.old self.new result }
+    {
+        self.view(alloc, name, Basis::Sizes)
+    }
+
+    /// What is wrong with the bag of the transfer, on this basis.
+    pub(crate) fn view(
+        &mut self,
+        alloc: Global,
+        name: &str,
+        basis: Basis,
+    ) -> Result<Report, ViewFault>
         ensures looks { Does K.holds K.may_leave K.clean self.old self.new Same }
         ensures reported { K.clean self.new.keeper → (now : LedgerState)
             → IsInState K.holds K.may_leave self.old now
             → MatchResult result (Reports now.held name.now)
             (λ fault. fault ≡ ViewFault.NoTransfer → IsNamed now.held name.now None) }
-        // An invalid name names no transfer, whatever the store would answer.
         ensures judged { ¬ IsTransferName name.now → IsErrOf result ViewFault.NoTransfer }
-        // After a transfer was opened, for any list of deliveries with losses, repeats and reordering, the report is
-        // that of its tag files with each distinct accepted delivery once, provided that no two different contents
-        // offered for one path are valid.
-        ensures headline { K.clean self.new.keeper → (now : LedgerState)
-            → IsInState K.holds K.may_leave self.old now
-            → (tags : Files) (deliveries : List Delivery)
-            → Happened now name.now tags (map Answered deliveries) → OneContent tags deliveries
-            → IfOk result (λ report. (held : Files) × AreAccepted deliveries held
-            × IsReportOf tags held report) }
-        // The same for everything that happened since then, including stops.
-        ensures stopped { K.clean self.new.keeper → (now : LedgerState)
-            → IsInState K.holds K.may_leave self.old now
-            → (tags : Files) (events : List Event)
-            → Happened now name.now tags events
-            → IfOk result (λ report. (held : Files) × StopRun tags events held
-            × IsReportOf tags held report) }
         ensures store { CountsIf ((fault : StoreFault)
             × IsErrOf result (ViewFault.Keeper (KeepFault.Store fault)))
             (K.failures self.old.keeper) (K.failures self.new.keeper) }
@@ -93,8 +101,28 @@ impl<K: Keeper> Receiver<K> {
         let Some(plan) = self.plans.get(name) else {
             return Err(ViewFault::NoTransfer);
         };
-        let sizes = self.keeper.sizes(alloc, name)?;
+        let sizes = sizes_by(&mut self.keeper, alloc, name, plan, basis)?;
         let report = plan.report(alloc, sizes.as_slice())?;
         Ok(report)
+    }
+}
+
+/// The payload files that count as held, by path.
+fn sizes_by<K: Keeper>(
+    keeper: &mut K,
+    alloc: Global,
+    name: &str,
+    plan: &Plan,
+    basis: Basis,
+) -> Result<Vec<ItemSize>, KeepFault>
+    ensures found { K.clean keeper.new → (ledger : Ledger) → K.holds keeper.old ledger
+        → IsPlanFor ledger name.now plan.now
+        → IfOk result (λ sizes. sizes.items ≡ sizes_of (items_of ledger name.now)) }
+    ensures keeper { ReadsKeeper K.holds K.may_leave K.clean K.failures keeper.old keeper.new
+        (λ fault. IsErrOf result (Store fault)) }
+{
+    match basis {
+        Basis::Sizes => keeper.sizes(alloc, name),
+        Basis::Octets => passing_sizes(keeper, alloc, name, plan),
     }
 }

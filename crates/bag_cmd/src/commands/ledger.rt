@@ -1,7 +1,8 @@
 //! The commands on a ledger: opens it, does the work and closes it.
 ghost use Rattle.std.specs.Prelude.{◌≡◌, [], ℕ, IfErr, IfOk, List, MatchResult, Some, true};
-ghost use Rattle.bag_cmd.specs.Working.{DoesWork, HoldsValidBag, IsOpenFor, IsUnopenedFor, Works, WorksOn, viewed};
+ghost use Rattle.bag_cmd.specs.Working.{DoesWork, IsOpenFor, IsUnopenedFor, Works, WorksOn, viewed};
 ghost use Rattle.bag_commands.specs.declared.status.TheConstants.{VALID};
+ghost use Rattle.bag_commands.specs.Viewing.{HoldsValidBag};
 ghost use Rattle.bag_ledger.specs.Ledgers.{Ledger};
 ghost use Rattle.bag_receiver.specs.Receivers.{Does, IsInState};
 ghost use Rattle.bag_receiver.specs.ReceiversInside.{Same};
