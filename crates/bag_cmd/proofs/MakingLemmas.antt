@@ -1,11 +1,13 @@
 -- What is held of a ledger that was made, after the work for which it was made.
-use Rattle.std.proofs.Common.{◌≡◌, ◌∙◌, Bool, ℕ, List, Option, false, inl, inr, subst, sym, true}
+use Rattle.std.proofs.Common.{◌≡◌, ◌∙◌, Bool, ℕ, List, Option, Result, false, inl, inr, subst, sym, true}
 use Rattle.bag_ledger.specs.declared.keeper.Keeper.{Ghosts}
 use Rattle.bag_commands.specs.declared.output.Output.{Output}
-use Rattle.bag_commands.specs.Begins.{Began, Heavy, IsBeginning, NoMemory as ReadNoMemory, NotRead, PrintsBegin, Unnamed}
 use Rattle.bag_folder.specs.Directories.{Listing}
 use Rattle.bag_folder.specs.Folders.{FolderShown}
 use Rattle.bag_receiver.specs.declared.receiver.Receiver.{Receiver}
+use Rattle.bag_receiver.specs.declared.begin.BeginFault.{BeginFault}
+use Rattle.bag_receiver.specs.declared.begin.Begun.{Begun}
+use Rattle.bag_receiver.specs.BeginningFrom.{Answered, AnswersTree, IsBeginning, NotRead, Unnamed}
 use Rattle.bag_receiver.specs.Receivers.{IsInState}
 use Rattle.bag_receiver.specs.Receiving.{LedgerState}
 use Rattle.bag_rules.specs.Trees.{Shown}
@@ -24,13 +26,10 @@ module _ {K W : Type 0} (k : Ghosts K) (known : Option Listing) (contents : W �
   stayed : after ≡ before → GoesOn
   stayed same clean = (subst (λ (r : Receiver K). k.clean r.keeper) same clean, λ state is. (state, subst (λ r. IsInState k.holds k.may_leave r state) (sym same) is))
 
-  began : (shown : Shown) (uses : Type 0 → Type 0) (name : List ℕ)
-      → PrintsBegin contents shown uses (IsBeginning k.holds k.may_leave k.clean k.failures name before after) (after ≡ before) name old new result.status → GoesOn
-  began shown uses name (Began given answer are begins used printed) = λ clean. (begins.begun.was_clean clean, λ state is. let it = begins.begun.leads clean state is in (it.0, it.1))
-  began shown uses name (Unnamed not same used printed) = stayed same
-  began shown uses name (Heavy named heavy same used printed) = stayed same
-  began shown uses name (NotRead named same used printed) = stayed same
-  began shown uses name (ReadNoMemory named same used printed) = stayed same
+  began : (shown : Shown) (name : List ℕ) (answer : Result Begun BeginFault) → AnswersTree shown (IsBeginning k.holds k.may_leave k.clean k.failures name before after) (after ≡ before) name answer → GoesOn
+  began shown name answer (Answered given are begins) = λ clean. (begins.begun.was_clean clean, λ state is. let it = begins.begun.leads clean state is in (it.0, it.1))
+  began shown name answer (Unnamed not is same) = stayed same
+  began shown name answer (NotRead fault named is met same) = stayed same
 
   in_folder : (folder : List ℕ) (does : FolderShown → FolderShown → Type 0) → ((tree later : FolderShown) → does tree later → GoesOn)
       → WithFolder contents known folder (after ≡ before) does old new result → GoesOn
@@ -43,7 +42,7 @@ module _ {K W : Type 0} (k : Ghosts K) (known : Option Listing) (contents : W �
       → DoesWork k known contents work made now before after old new result → l.made ledger kept × GoesOn
   goes_on l ledger is_made kept (Begin name folder) is open_for does = elim open_for [
     | inl not ↦ absurd (let e : false ≡ true = sym not.0 ∙ is in cc)
-    | inr made ↦ (made.1, in_folder _ _ (λ tree later did. began _ _ _ did) does.1)
+    | inr made ↦ (made.1, in_folder _ _ (λ tree later did. began _ _ did.0 did.1.answers) does.1)
   ]
   goes_on l ledger is_made kept (Intake name folders) is open_for does = absurd (let e : false ≡ true = sym open_for.0 ∙ is in cc)
   goes_on l ledger is_made kept (Report name) is open_for does = absurd (let e : false ≡ true = sym open_for.0 ∙ is in cc)

@@ -4,17 +4,17 @@ use Rattle.bag_ledger.specs.Ledgers.{Ledger}
 use Rattle.bag_ledger.specs.declared.keeper.Keeper.{Ghosts}
 use Rattle.bag_path.specs.Spellings.{written_spelling}
 use Rattle.bag_receiver.specs.declared.receiver.Receiver.{Receiver}
+use Rattle.bag_receiver.specs.BeginningFrom.{BeginsFrom}
 use Rattle.bag_receiver.specs.Receivers.{Does, IsInState, IsKept}
 use Rattle.bag_receiver.specs.ReceiversInside.{Same}
 use Rattle.bag_receiver.specs.Receiving.{LedgerState}
 use Rattle.bag_receiver.specs.Reporting.{IsReporting}
-use Rattle.bag_rules.specs.Trees.{UsesTree}
 use Rattle.bag_sqlite.specs.declared.adopting.AdoptFault.{AdoptFault}
 use Rattle.bag_sqlite.specs.declared.adopting.AdoptFault.TheVariants.{Damaged, Memory, NotALedger, Store}
 use Rattle.bag_commands.specs.declared.output.Output.{Output}
 use Rattle.bag_commands.specs.declared.status.TheConstants.{FAILED}
 use Rattle.bag_commands.specs.declared.stop.Stop.TheVariants as stop
-use Rattle.bag_commands.specs.Begins.{IsBeginning, PrintsBegin}
+use Rattle.bag_commands.specs.BeginTexts.{begin_line, begin_status}
 use Rattle.bag_commands.specs.Exporting.{IsExporting}
 use Rattle.bag_commands.specs.ExportTexts.{export_status, export_text}
 use Rattle.bag_commands.specs.Fetching.{IsFetching}
@@ -171,10 +171,10 @@ module _ {K W : Type 0} (k : Ghosts K) (known : Option Listing)
       → Type 0
   BeginsWith name folder before after old new result =
       WithFolder contents known folder (after ≡ before) (λ tree later.
-      PrintsBegin contents tree.shown (UsesTree (λ (tree : FolderShown). tree.shown)
-      (λ (tree : FolderShown). tree.failures) (λ (tree : FolderShown). ⊥) tree later)
-      (IsBeginning k.holds k.may_leave k.clean k.failures name before after) (after ≡ before)
-      name old new result.status) old new result
+      PrintedOne contents begin_line begin_status old new result.status
+      (BeginsFrom k.holds k.may_leave k.clean k.failures (λ (tree : FolderShown). tree.shown)
+      (λ (tree : FolderShown). tree.failures) (λ (tree : FolderShown). ⊥) name before after
+      tree later)) old new result
 
   -- the payload files of these folders were taken in
   abbrev pub TakesInFrom : List ℕ → List (List ℕ) → Receiver K → Receiver K → Output W → Output W

@@ -1,5 +1,4 @@
 pub mod AlgNames
-pub mod BeginLemmas
 pub mod IntakeLemmas
 pub mod NameLemmas
 pub mod RunsTaken

@@ -8,6 +8,7 @@ use Rattle.bag_receiver.specs.declared.begin.Begun.TheVariants.{Again, New}
 use Rattle.bag_commands.specs.declared.status.TheConstants.{DONE, FAILED, OUTSIDE, REFUSED}
 use Rattle.bag_commands.specs.CheckTexts.{outside_text}
 use Rattle.bag_commands.specs.FaultTexts.{fault_text}
+use Rattle.bag_commands.specs.declared.stop.Stop.TheVariants as stop
 use Rattle.bag_commands.specs.StopTexts.{stop_of_keep, stop_text}
 
 -- why no transfer was opened
@@ -19,6 +20,7 @@ begin_fault_line (fault.Outside cause) = outside_text cause
 begin_fault_line (fault.Rules why) = codes "refused: " ++ fault_text why
 begin_fault_line (fault.Clash path) = codes "refused: clash " ++ written_spelling path
 begin_fault_line fault.Differs = codes "refused: differs"
+begin_fault_line fault.Tree = stop_text stop.Files
 begin_fault_line (fault.Keeper why) = stop_text (stop_of_keep why)
 
 abbrev pub begin_line : Result Begun BeginFault → List ℕ
@@ -28,6 +30,7 @@ begin_line (Err why) = begin_fault_line why
 
 abbrev pub begin_fault_status : BeginFault → ℕ
 begin_fault_status (fault.Outside cause) = OUTSIDE
+begin_fault_status fault.Tree = FAILED
 begin_fault_status (fault.Keeper why) = FAILED
 begin_fault_status why = REFUSED
 

@@ -1,6 +1,5 @@
 pub mod AnswerTexts
 pub mod BeginTexts
-pub mod Begins
 pub mod CheckTexts
 pub mod Checking
 pub mod ExportTexts

@@ -5,7 +5,7 @@ use Rattle.bag_ledger.specs.Keeping.{IsUnused, Leaves, Writes}
 use Rattle.bag_ledger.specs.Ledgers.{with_transfer}
 use Rattle.bag_receiver.specs.declared.begin.Begun.{Begun}
 use Rattle.bag_receiver.specs.declared.begin.Begun.TheVariants.{New, Again}
-use Rattle.bag_receiver.specs.declared.begin.BeginFault.TheVariants.{BadName, Outside, Rules, Clash, Differs, Keeper}
+use Rattle.bag_receiver.specs.declared.begin.BeginFault.TheVariants.{BadName, Outside, Rules, Clash, Differs, Tree, Keeper}
 use Rattle.bag_receiver.specs.Beginning.{IsAnswerTo, MayFail, Opened}
 use Rattle.bag_receiver.proofs.FileLemmas.{same_or_not}
 use Rattle.bag_receiver.proofs.ReceiverLemmas.{plans_grow}
@@ -84,6 +84,7 @@ begins (Err (TagTooLarge path)) name given old new step = same_begins (Err (TagT
 begins (Err (Outside cause)) name given old new step = same_begins (Err (Outside cause)) name given old new step (λ e. cc) step.2
 begins (Err (Rules fault)) name given old new step = same_begins (Err (Rules fault)) name given old new step (λ e. cc) step.2
 begins (Err (Clash path)) name given old new step = same_begins (Err (Clash path)) name given old new step (λ e. cc) step.2
+begins (Err Tree) name given old new step = absurd step.1
 begins (Err Differs) name given old new step = same_begins (Err Differs) name given old new step (λ e. cc) step.4
 begins (Err (Keeper fault)) name given old new step = elim step.1 [
   | inl same ↦ same_begins (Err (Keeper fault)) name given old new step (λ e. cc) same

@@ -7,6 +7,7 @@ pub mod Receiving
 pub mod Receivers
 pub mod ReceiversInside
 pub mod Beginning
+pub mod BeginningFrom
 pub mod BeginningInside
 pub mod Runs
 pub mod Couriers

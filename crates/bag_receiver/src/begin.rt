@@ -18,7 +18,7 @@ use bag_ledger::{KeepFault, Keeper};
 use bag_path::BagPath;
 use bag_rules::limits::LARGEST_TAG_FILE;
 use bag_rules::{Fault, OutsideCause, Plan, PlanFault, TagSet, TagSetFault};
-use std::alloc::Global;
+use std::alloc::{AllocError, Global};
 use thiserror::Error;
 
 /// How a transfer was begun.
@@ -31,7 +31,7 @@ pub enum Begun {
 }
 
 /// Why no transfer was opened. If several reasons apply, the first in this order is reported. `Keeper` may be reported
-/// in place of any that needs the store or memory.
+/// in place of any that needs the store or memory, and `Tree` only if the tag files are read from a tree.
 #[derive(Debug, Drop, Error)]
 pub enum BeginFault {
     /// The text isn't a valid name: 1 to 64 octets, each a lowercase ASCII letter, a digit or `-`.
@@ -59,9 +59,24 @@ pub enum BeginFault {
     /// The transfer was opened before with other tag files. It is unchanged.
     #[error("differs")]
     Differs,
+    /// The tree with the tag files failed, and counted the failure.
+    #[error("tree")]
+    Tree,
     /// The store of the transfers has no answer, or memory ran out.
     #[error("keeper")]
     Keeper(KeepFault),
+}
+
+impl From<AllocError> for BeginFault {
+    ghost use Rattle.std.specs.Prelude.{◌≡◌};
+    ghost use Rattle.bag_ledger.specs.declared.fault.KeepFault.TheVariants.{Memory};
+    ghost use Rattle.bag_receiver.specs.declared.begin.BeginFault.TheVariants.{Keeper};
+
+    ghost from_gives = { λ error fault. fault ≡ Keeper Memory };
+
+    fn from(_: AllocError) -> BeginFault {
+        BeginFault::Keeper(KeepFault::Memory)
+    }
 }
 
 impl From<KeepFault> for BeginFault {
@@ -258,7 +273,7 @@ impl<K: Keeper> Receiver<K> {
     }
 
     /// Opens a transfer with tag files that have this plan, unless its name is used.
-    fn open_as(
+    pub(crate) fn open_as(
         &mut self,
         alloc: Global,
         name: &str,

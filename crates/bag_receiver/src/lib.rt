@@ -18,6 +18,7 @@ mod answer;
 pub mod arrival;
 mod audit;
 mod begin;
+mod begin_from;
 mod courier;
 mod deliver;
 pub mod examples;
