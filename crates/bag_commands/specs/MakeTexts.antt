@@ -6,6 +6,8 @@ use Rattle.bag_writer.specs.declared.fault.Large.{Large}
 use Rattle.bag_writer.specs.declared.fault.WriteFault.{WriteFault}
 use Rattle.bag_writer.specs.declared.fault.WriteFault.TheVariants as fault
 use Rattle.bag_commands.specs.declared.status.TheConstants.{DONE, FAILED, REFUSED}
+use Rattle.bag_commands.specs.declared.stop.Stop.TheVariants as stop
+use Rattle.bag_commands.specs.StopTexts.{stop_text}
 
 -- why no bag, or only part of one, was made
 abbrev pub fault_line : WriteFault → List ℕ
@@ -13,10 +15,10 @@ fault_line fault.NoAlgorithm = codes "bag: no algorithm"
 fault_line fault.OxumGiven = codes "bag: oxum given"
 fault_line (fault.BadHole i) = codes "bag: bad hole"
 fault_line (fault.Clash path) = codes "bag: clash"
-fault_line fault.Tree = codes "bag: files"
-fault_line fault.Sink = codes "bag: files"
-fault_line (fault.TooLarge large) = codes "bag: too large"
-fault_line fault.Memory = codes "bag: memory"
+fault_line fault.Tree = stop_text stop.Files
+fault_line fault.Sink = stop_text stop.Files
+fault_line (fault.TooLarge large) = stop_text stop.TooLarge
+fault_line fault.Memory = stop_text stop.Memory
 
 -- its line: the number of payload files and of their octets, or the fault
 abbrev pub make_text : Result Oxum WriteFault → List ℕ

@@ -12,7 +12,7 @@ use std::alloc::Global;
 use std::io::Write;
 
 /// Reads and hashes again all payload files of a transfer, prints what is wrong with its bag and returns the status, as
-/// [`print_view`] does.
+/// [`report_to`](crate::report_to) does.
 pub fn audit_to<K: Keeper, W: Write + Drop>(
     alloc: Global,
     receiver: &mut Receiver<K>,

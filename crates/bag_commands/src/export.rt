@@ -14,8 +14,9 @@ use std::alloc::Global;
 use std::fmt::{self, Display, Formatter};
 use std::io::Write;
 
-/// Writes the bag of a transfer, as it is held, to a new sink, prints how many files it has, and returns the status, as
-/// [`print_export`] does.
+/// Writes the bag of a transfer, as it is held, to a new sink, prints how many files it has, and returns the status: 0
+/// if the bag was exported, 1 if there is no such transfer, and 3 if the sink, the store or memory failed or the result
+/// couldn't be written.
 ///
 /// After a fault of the sink, the store or memory, the sink holds part of the bag.
 pub fn export_to<K: Keeper, S: Sink, W: Write + Drop>(
@@ -33,9 +34,8 @@ pub fn export_to<K: Keeper, S: Sink, W: Write + Drop>(
     print_export(answer, out)
 }
 
-/// Prints the result of an export and returns the status: 0 if the bag was exported, 1 if there is no such transfer,
-/// and 3 if the sink, the store or memory failed or the result couldn't be written.
-pub fn print_export<W: Write + Drop>(answer: Result<u64, ExportFault>, out: &mut Output<W>) -> u8
+/// Prints the result of an export and returns the status.
+fn print_export<W: Write + Drop>(answer: Result<u64, ExportFault>, out: &mut Output<W>) -> u8
     ensures { Printed W.contents out.old out.new result
         (export_text answer ∷ []) (export_status answer) }
 {

@@ -20,7 +20,9 @@ use std::fmt::{self, Display, Formatter};
 use std::io::Write;
 
 /// Asks a supplier for what the `fetch.txt` of a transfer lists and isn't held, and takes in what it gives. Then prints
-/// a line for each entry that was asked for, and returns the status, as [`print_fetch`] does.
+/// a line for each entry that was asked for, or why none was, and returns the status: 0 if everything is held; 1 if
+/// something was refused or isn't supplied, or there is no such transfer; and 3 if a read, the supplier, the store or
+/// memory failed or a line couldn't be written.
 ///
 /// A refusal ends nothing. What was taken in is kept even if the output fails.
 pub fn fetch_to<K: Keeper, S: Supplier, W: Write + Drop>(
@@ -38,10 +40,8 @@ pub fn fetch_to<K: Keeper, S: Supplier, W: Write + Drop>(
     print_fetch(&answer, out)
 }
 
-/// Prints the outcome of each entry that was asked for, or why none was. Returns the status: 0 if everything is held; 1
-/// if something was refused or isn't supplied, or there is no such transfer; and 3 if a read, the supplier, the store
-/// or memory failed or a line couldn't be written.
-pub fn print_fetch<W: Write + Drop>(
+/// Prints the outcome of each entry that was asked for, or why none was, and returns the status.
+fn print_fetch<W: Write + Drop>(
     answer: &Result<Vec<FetchOutcome>, ViewFault>,
     out: &mut Output<W>,
 ) -> u8

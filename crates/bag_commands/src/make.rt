@@ -7,6 +7,7 @@ ghost use Rattle.bag_commands.specs.Printing.{Printed};
 
 use crate::output::Output;
 use crate::status::{DONE, FAILED, REFUSED, USAGE};
+use crate::stop::Stop;
 use bag_digest::{Alg, AlgSet};
 use bag_rules::Tree;
 use bag_tags::{Info, Oxum};
@@ -133,9 +134,9 @@ fn fault_line(fault: &WriteFault) -> &'static str
         WriteFault::OxumGiven => "bag: oxum given",
         WriteFault::BadHole(_) => "bag: bad hole",
         WriteFault::Clash(_) => "bag: clash",
-        WriteFault::Tree | WriteFault::Sink => "bag: files",
-        WriteFault::TooLarge(_) => "bag: too large",
-        WriteFault::Memory => "bag: memory",
+        WriteFault::Tree | WriteFault::Sink => Stop::Files.text(),
+        WriteFault::TooLarge(_) => Stop::TooLarge.text(),
+        WriteFault::Memory => Stop::Memory.text(),
     }
 }
 

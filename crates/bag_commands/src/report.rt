@@ -18,7 +18,9 @@ use bag_rules::Report;
 use std::alloc::Global;
 use std::io::Write;
 
-/// Prints the report on the bag of a transfer as it is held, and returns the status, as [`print_view`] does.
+/// Prints the report on the bag of a transfer as it is held: what is wrong with it, and the verdict; or why there is
+/// none. Returns the status: 0 for a valid bag; 1 for one that isn't, or if there is no such transfer; 3 if the store
+/// or memory failed or a line couldn't be written.
 pub fn report_to<K: Keeper, W: Write + Drop>(
     alloc: Global,
     receiver: &mut Receiver<K>,
@@ -35,10 +37,8 @@ pub fn report_to<K: Keeper, W: Write + Drop>(
     print_view(&answer, out)
 }
 
-/// Prints what is wrong with the bag of a transfer, and the verdict; or why there is no report. Returns the status: 0
-/// for a valid bag; 1 for one that isn't, or if there is no such transfer; 3 if the store or memory failed or a line
-/// couldn't be written.
-pub fn print_view<W: Write + Drop>(answer: &Result<Report, ViewFault>, out: &mut Output<W>) -> u8
+/// Prints a report, or why there is none, and returns the status.
+pub(crate) fn print_view<W: Write + Drop>(answer: &Result<Report, ViewFault>, out: &mut Output<W>) -> u8
     ensures { Printed W.contents out.old out.new result
         (view_lines answer.now) (view_status answer.now) }
 {

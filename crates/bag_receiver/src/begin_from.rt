@@ -21,8 +21,8 @@ impl<K: Keeper> Receiver<K> {
     ///
     /// # Errors
     ///
-    /// [`BeginFault::BadName`]; then, as the files are read by path, [`BeginFault::TagTooLarge`] for the first with more
-    /// than 16,777,216 octets, or [`BeginFault::Tree`] if the tree failed; and then those of `begin`.
+    /// [`BeginFault::BadName`]; then, as the files are read by path, [`BeginFault::TagTooLarge`] for the first with
+    /// more than 16,777,216 octets, or [`BeginFault::Tree`] if the tree failed; and then those of `begin`.
     pub fn begin_from<T: Tree>(
         &mut self,
         alloc: Global,
