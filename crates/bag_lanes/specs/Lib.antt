@@ -2,3 +2,4 @@ pub mod Standard
 pub mod Lanes
 pub mod Rounds
 pub mod Tasks
+pub mod Streams

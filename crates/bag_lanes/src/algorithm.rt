@@ -22,4 +22,8 @@ pub(crate) trait Algorithm<const WORDS: usize> {
     fn compress(state: &mut [u32x4; WORDS], blocks: &[[u8; 64]; 4])
         ensures { (i : ℕ) → i < 4 → lane i state.new
             ≡ function.compress (lane i state.old) (slice_index_or blocks.now i []) };
+
+    /// Takes one block into a hash value.
+    fn compress_alone(value: &mut [u32; WORDS], block: &[u8; 64])
+        ensures { value.new ≡ function.compress value.old block.now };
 }

@@ -79,7 +79,7 @@ pub(crate) fn refill<const WORDS: usize, A: Algorithm<WORDS>>(
         queue.tasks[i] = None;
         return;
     }
-    begin(state, &A::initial(), i);
+    set_lane(state, &A::initial(), i);
     queue.tasks[i] = Some(Task {
         message: queue.next,
         taken: 0,
@@ -163,13 +163,17 @@ fn sooner(first: Option<Busy>, other: Busy) -> Busy
     }
 }
 
-// Sets lane `i` to the initial hash value.
-fn begin<const WORDS: usize>(state: &mut [u32x4; WORDS], initial: &[u32; WORDS], i: usize)
+/// Sets lane `i` to this hash value.
+pub(crate) fn set_lane<const WORDS: usize>(
+    state: &mut [u32x4; WORDS],
+    value: &[u32; WORDS],
+    i: usize,
+)
     requires { i < 4 }
-    ensures own { lane i state.new ≡ initial.now }
+    ensures own { lane i state.new ≡ value.now }
     ensures others { (j : ℕ) → j ≢ i → lane j state.new ≡ lane j state.old }
 {
     'words: for k in 0..WORDS {
-        state[k] = with_lane(state[k], i, initial[k]);
+        state[k] = with_lane(state[k], i, value[k]);
     }
 }

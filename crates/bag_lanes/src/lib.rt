@@ -6,17 +6,26 @@
 //! SHA-256, however many of them are idle. So a list pays off where several messages are in it, of any lengths,
 //! and is done soonest if its longest ones come first. A single message, or one that is longer than all others
 //! together, takes less time by the crates `md5`, `sha1` and `sha2`.
+//!
+//! Messages that come in pieces are streams. [`Md5Lanes`], [`Sha1Lanes`] and [`Sha256Lanes`] hash four of them side by
+//! side, each in a lane of its own, which ends and begins a stream whatever the others are at.
 #![tactic(auto)]
 
 pub use digests::{md5_digests, sha1_digests, sha256_digests};
+pub use streams::{Md5Lanes, Sha1Lanes, Sha256Lanes};
 
 mod algorithm;
 mod digests;
 mod lanes;
+mod md5_alone;
 mod md5_rounds;
 mod octets;
 mod padding;
+mod pieces;
+mod sha1_alone;
 mod sha1_rounds;
+mod sha256_alone;
 mod sha256_rounds;
+mod streams;
 mod tasks;
 mod words;

@@ -21,17 +21,18 @@ pub(crate) fn padded_block(message: &[u8], j: usize, order: ByteOrder) -> [u8; 6
 {
     let start = j * 64;
     if start + 64 <= message.len() {
-        return block_at(message, start);
+        return block_at(message, j);
     }
     end_block(message, start, order)
 }
 
-// The 64 octets from `start` on.
+/// Block `j` of some octets.
 #[inline(always)]
-fn block_at(message: &[u8], start: usize) -> [u8; 64]
-    requires { start + 64 ≤ length message.now }
-    ensures { result ≡ take 64 (drop start message.now) }
+pub(crate) fn block_at(message: &[u8], j: usize) -> [u8; 64]
+    requires { j * 64 + 64 ≤ length message.now }
+    ensures { result ≡ block message.now j }
 {
+    let start = j * 64;
     let mut octets = [0; 64];
     octets.copy_from_slice(&message[start..start + 64]);
     octets
@@ -45,17 +46,17 @@ fn end_block(message: &[u8], start: usize, order: ByteOrder) -> [u8; 64]
     ensures { result ≡ take 64 (drop start (padded order message.now)) }
 {
     if message.len() < start {
-        return with_length([0; 64], message.len(), order);
+        return with_length([0; 64], message.len() as u64, order);
     }
     let octets = marked(&message[start..]);
     if message.len() < start + 56 {
-        return with_length(octets, message.len(), order);
+        return with_length(octets, message.len() as u64, order);
     }
     octets
 }
 
-// The last octets of a message, less than a block, and after them an octet 1000 0000 and zeros.
-fn marked(rest: &[u8]) -> [u8; 64]
+/// The last octets of a message, less than a block, and after them an octet 1000 0000 and zeros.
+pub(crate) fn marked(rest: &[u8]) -> [u8; 64]
     requires { length rest.now < 64 }
     ensures { result ≡ rest.now ++ 0x80 ∷ replicate (63 - length rest.now) 0 }
 {
@@ -65,12 +66,12 @@ fn marked(rest: &[u8]) -> [u8; 64]
     octets
 }
 
-// The block with the length of a message, in bits, in its last 8 octets.
-fn with_length(octets: [u8; 64], length: usize, order: ByteOrder) -> [u8; 64]
+/// The block with the length of a message, in bits, in its last 8 octets. The length is given in octets, modulo 2^64.
+pub(crate) fn with_length(octets: [u8; 64], length: u64, order: ByteOrder) -> [u8; 64]
     ensures { result ≡ take 56 octets ++ octets_of order w64 (length * 8 % 2 ^ 64) }
 {
     let mut octets = octets;
-    let bits = (length as u64).wrapping_mul(8);
+    let bits = length.wrapping_mul(8);
     put(&mut octets, 56, &order.octets_of_length(bits));
     octets
 }

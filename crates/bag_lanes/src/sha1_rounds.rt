@@ -7,6 +7,7 @@ ghost use Rattle.bag_lanes.specs.Standard.{sha1_function};
 
 use crate::algorithm::Algorithm;
 use crate::octets::ByteOrder;
+use crate::sha1_alone::compress_alone;
 use crate::words::{choose, majority, parity, plus, rotated_left, words_of, xor};
 use std::simd::prelude::*;
 
@@ -27,9 +28,9 @@ fn mixed(t: usize, x: u32x4, y: u32x4, z: u32x4) -> u32x4
     }
 }
 
-// `K` of round `t` (4.2.1).
+/// `K` of round `t` (4.2.1).
 #[inline(always)]
-fn constant(t: usize) -> u32
+pub(crate) fn constant(t: usize) -> u32
     ensures { result ≡ round_constant t }
 {
     if t < 20 {
@@ -152,5 +153,9 @@ impl Algorithm<5> for Sha1 {
             plus(state[3], v[3]),
             plus(state[4], v[4]),
         ];
+    }
+
+    fn compress_alone(value: &mut [u32; 5], block: &[u8; 64]) {
+        compress_alone(value, block);
     }
 }

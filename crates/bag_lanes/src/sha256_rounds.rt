@@ -7,11 +7,12 @@ ghost use Rattle.bag_lanes.specs.Standard.{sha256_function};
 
 use crate::algorithm::Algorithm;
 use crate::octets::ByteOrder;
+use crate::sha256_alone::compress_alone;
 use crate::words::{choose, majority, plus, rotated_right, shifted_right, words_of, xor};
 use std::simd::prelude::*;
 
-// The constants of the rounds (4.2.2).
-const K: [u32; 64] = [
+/// The constants of the rounds (4.2.2).
+pub(crate) const K: [u32; 64] = [
     0x428a_2f98,
     0x7137_4491,
     0xb5c0_fbcf,
@@ -222,5 +223,9 @@ impl Algorithm<8> for Sha256 {
             plus(state[6], v[6]),
             plus(state[7], v[7]),
         ];
+    }
+
+    fn compress_alone(value: &mut [u32; 8], block: &[u8; 64]) {
+        compress_alone(value, block);
     }
 }

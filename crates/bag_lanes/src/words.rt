@@ -155,3 +155,16 @@ pub(crate) fn words_of(blocks: &[[u8; 64]; 4], order: ByteOrder) -> [u32x4; 16]
     }
     words
 }
+
+/// The 16 words of a block.
+#[inline(always)]
+pub(crate) fn block_words(block: &[u8; 64], order: ByteOrder) -> [u32; 16]
+    ensures count { length result ≡ 16 }
+    ensures words { (k : ℕ) → k < 16 → slice_index result k ≡ word_at order block.now (4 * k) }
+{
+    let mut words = [0; 16];
+    'words: for k in 0..16 {
+        words[k] = word_at(block, 4 * k, order);
+    }
+    words
+}

@@ -24,12 +24,12 @@ returns-clause-at g c = λ held i l x is.
     rw (message_at_read messages next) (c.padded_count.ensures f.order) in
     elim (from_set c.args.queue.now.tasks c.args.i i (Some task) x is) [
       | inl same ↦
-          let own = ap (λ (j : ℕ). lane j c.begin.new.state) (sym same.0) ∙ c.begin.ensures.own ∙ c.initial.ensures in
-          let first = IsAt_first f messages (lane i c.begin.new.state) next c.padded_count.result (omega arith) count (omega arith) own in
+          let own = ap (λ (j : ℕ). lane j c.set_lane.new.state) (sym same.0) ∙ c.set_lane.ensures.own ∙ c.initial.ensures in
+          let first = IsAt_first f messages (lane i c.set_lane.new.state) next c.padded_count.result (omega arith) count (omega arith) own in
           let is_task : task ≡ x = (let e : Some task ≡ Some x = same.1 in cc) in
-          subst (λ (t : Task). IsAt f messages (lane i c.begin.new.state) t) is_task first
+          subst (λ (t : Task). IsAt f messages (lane i c.set_lane.new.state) t) is_task first
       | inr other ↦
-          let kept = c.begin.ensures.others i other.0 in
+          let kept = c.set_lane.ensures.others i other.0 in
           subst (λ (value : List ℕ). IsAt f messages value x) (sym kept) (held i l x other.1)
     ]
 
