@@ -37,7 +37,7 @@ loop-courier-preserved g c =
     let written : OnOk c.if-is_ok.written (WroteLines g.W.Write.contents c.args.out.now c.if-is_ok.out (intake_lines (told ++ one ∷ []))) × OnErr c.if-is_ok.written (Rises c.args.out.now.failures c.if-is_ok.out.failures) =
     elim c.if-is_ok.branch [
       | then-is_ok w ↦ rw (w.out-is, w.written-is) (wrote_on g.W.Write.contents c.args.out.now c.loop-courier.out w.write_run-written.new.out told one c.loop-courier.written w.write_run-written.result (search rules) c.loop-courier.invariant.4
-          (subst (λ paths. OnOk w.write_run-written.result (WroteLines g.W.Write.contents c.loop-courier.out w.write_run-written.new.out (run_lines (told_of c.run_from-run.result.0 paths)))) w.as_slice.ensures.value w.write_run-written.ensures.ok)
+          (subst (λ paths. OnOk w.write_run-written.result (WroteLines g.W.Write.contents c.loop-courier.out w.write_run-written.new.out (run_lines (told_of c.run_from-run.result.0 paths)))) w.deref.ensures.value w.write_run-written.ensures.ok)
           w.write_run-written.ensures.failed)
       | else-is_ok w ↦ rw (w.out-is, w.written-is) (wrote_no_more g.W.Write.contents c.args.out.now c.loop-courier.out (told ++ one ∷ []) c.loop-courier.written (search rules) c.loop-courier.invariant.5)
     ] in
@@ -77,7 +77,7 @@ returns g c =
           let status : last.status ≡ intake_status (told ++ one ∷ []) = w.status-is ∙ greater ∙ same ∙ sym (status_more told one) in
           let written : Written (told ++ one ∷ []) = elim w.if-is_ok.branch [
             | then-is_ok v ↦ rw (w.written-is, w.out-is, v.out-is, v.written-is) (wrote_on g.W.Write.contents c.args.out.now c.loop-courier.out v.write_run-written.new.out told one c.loop-courier.written v.write_run-written.result (search rules) c.loop-courier.invariant.4
-                (subst (λ paths. OnOk v.write_run-written.result (WroteLines g.W.Write.contents c.loop-courier.out v.write_run-written.new.out (run_lines (told_of w.run_from-run.result.0 paths)))) v.as_slice.ensures.value v.write_run-written.ensures.ok)
+                (subst (λ paths. OnOk v.write_run-written.result (WroteLines g.W.Write.contents c.loop-courier.out v.write_run-written.new.out (run_lines (told_of w.run_from-run.result.0 paths)))) v.deref.ensures.value v.write_run-written.ensures.ok)
                 v.write_run-written.ensures.failed)
             | else-is_ok v ↦ rw (w.written-is, w.out-is, v.out-is, v.written-is) (wrote_no_more g.W.Write.contents c.args.out.now c.loop-courier.out (told ++ one ∷ []) c.loop-courier.written (search rules) c.loop-courier.invariant.5)
           ] in
