@@ -1,5 +1,5 @@
 -- The payload files that a courier of a tree delivers.
-use Rattle.std.proofs.Common.{◌≡◌, ◌<◌, ◌≤◌, ◌∷◌, ◌+◌, ◌∙◌, [], ℕ, Bool, List, None, Ok, Option, Result, Some, arith, ap, cond, drop, false, length, map, refl, suc, sym, true, zero}
+use Rattle.std.proofs.Common.{◌≡◌, ◌<◌, ◌≤◌, ◌∷◌, ◌+◌, ◌∙◌, [], ℕ, Bool, Err, List, None, Ok, Option, Result, Some, arith, ap, cond, drop, false, length, map, refl, suc, sym, true, zero}
 use Rattle.std.specs.Prelude.{IfNone, IfSome, filter, if◌then◌else◌, is_some, slice_get, unwrap_or}
 use Rattle.std.specs.List.{list_all}
 use Rattle.std.specs.Option.{option_and_then}
@@ -86,12 +86,12 @@ pub next_comes : (before after : Option Files) (shown : Shown) (place : ℕ) (fo
     → before ≡ to_come shown place → more ≡ is_some found → path ≡ current_path shown found → content ≡ left_to_read shown in_tree found false → after ≡ to_come shown (place_after place found) → ComesNext before more path content after
 next_comes before after shown place found more path content in_tree some none is_before is_more is_path is_content is_after = rw (is_before, is_more, is_path, is_content, is_after) (comes_so shown place found in_tree some none)
 
+more_of : {E : Type 0} → Result Bool E → Bool
+more_of (Ok more) = more
+more_of (Err fault) = false
+
 has_path_so : {E : Type 0} (shown : Shown) (place : ℕ) (found : Option ℕ) → IfSome found (IsFoundAt shown place) → HasPath {E = E} (Ok (is_some found)) (current_path shown found) (is_some found)
-has_path_so {E} shown place None some = record {
-  there = λ e. (let h : Ok {E = E} false ≡ Ok true = e in cc);
-  none = λ other. refl;
-  readable = λ e. (let h : false ≡ true = e in cc);
-}
+has_path_so shown place None some = record { there = λ e. ap more_of e; none = λ other. refl; readable = λ e. ap Ok e }
 has_path_so shown place (Some i) some = record {
   there = λ e. ap is_some (path_at shown.files i some.file some.here);
   none = λ other. absurd (other refl);
