@@ -86,7 +86,7 @@ pub next_comes : (before after : Option Files) (shown : Shown) (place : ℕ) (fo
     → before ≡ to_come shown place → more ≡ is_some found → path ≡ current_path shown found → content ≡ left_to_read shown in_tree found false → after ≡ to_come shown (place_after place found) → ComesNext before more path content after
 next_comes before after shown place found more path content in_tree some none is_before is_more is_path is_content is_after = rw (is_before, is_more, is_path, is_content, is_after) (comes_so shown place found in_tree some none)
 
-more_of : {E : Type 0} → Result Bool E → Bool
+abbrev more_of : {E : Type 0} → Result Bool E → Bool
 more_of (Ok more) = more
 more_of (Err fault) = false
 
