@@ -65,7 +65,9 @@ impl Items {
             let mut content = Vec::from_slice(alloc, text.as_bytes())?;
             content.reverse();
             let path = BagPath::parse(alloc, path)?;
-            left.push(Item { path, content })?;
+            let Ok(()) = left.push(Item { path, content }) else {
+                return Err(PathFault::Memory);
+            };
         }
         Ok(Items {
             left,
