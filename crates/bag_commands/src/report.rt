@@ -38,7 +38,10 @@ pub fn report_to<K: Keeper, W: Write + Drop>(
 }
 
 /// Prints a report, or why there is none, and returns the status.
-pub(crate) fn print_view<W: Write + Drop>(answer: &Result<Report, ViewFault>, out: &mut Output<W>) -> u8
+pub(crate) fn print_view<W: Write + Drop>(
+    answer: &Result<Report, ViewFault>,
+    out: &mut Output<W>,
+) -> u8
     ensures { Printed W.contents out.old out.new result
         (view_lines answer.now) (view_status answer.now) }
 {

@@ -40,12 +40,7 @@ impl<K: Keeper> Receiver<K> {
     }
 
     /// Opens a transfer with these tag files.
-    fn begin_with(
-        &mut self,
-        alloc: Global,
-        name: &str,
-        tags: &TagSet,
-    ) -> Result<Begun, BeginFault>
+    fn begin_with(&mut self, alloc: Global, name: &str, tags: &TagSet) -> Result<Begun, BeginFault>
         requires named { IsTransferName name.now }
         requires tags { AreTagFiles tags.now }
         ensures { IsBeginning K.holds K.may_leave K.clean K.failures name.now self.old self.new
@@ -84,11 +79,7 @@ fn read_tag_files<T: Tree>(alloc: Global, tree: &mut T) -> Result<TagSet, BeginF
 }
 
 /// The same, through the caller's buffer.
-fn read_each<T: Tree>(
-    alloc: Global,
-    buffer: &mut [u8],
-    tree: &mut T,
-) -> Result<TagSet, BeginFault>
+fn read_each<T: Tree>(alloc: Global, buffer: &mut [u8], tree: &mut T) -> Result<TagSet, BeginFault>
     requires { 0 < length buffer.old }
     ensures read { MatchResult result
         (λ tags. AreTagFiles tags × AreTagFilesIn (T.shown tree.old) tags)

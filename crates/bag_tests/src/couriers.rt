@@ -273,7 +273,10 @@ fn the_items_that_were_to_come_are_delivered_in_order(rt: HostRuntime) -> Result
     let alloc = rt.alloc();
     let items = [
         (BagPath::parse(alloc, "data/e.txt")?, Vec::new(alloc)),
-        (BagPath::parse(alloc, "data/a.txt")?, Vec::from_slice(alloc, b"abc")?),
+        (
+            BagPath::parse(alloc, "data/a.txt")?,
+            Vec::from_slice(alloc, b"abc")?,
+        ),
     ];
     let mut courier = Listed {
         items: &items,

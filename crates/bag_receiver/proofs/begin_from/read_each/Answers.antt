@@ -37,8 +37,7 @@ loop-i-preserved g c =
     let one : List ℕ × List ℕ = (path, body) in
     let are : AreGiven (tag_files (take (i + 1) shown.files)) (tags ++ one ∷ []) = taken shown i path tags one at tag_file c.loop-i.invariant.3 refl known in
     let last : with_file tags path body ≡ tags ++ one ∷ [] = put_last shown i path body tags c.count-i-end.ensures.rising at c.loop-i.invariant.3 in
-    let added : c.add.new.self ≡ with_file tags path body = c.in-Ok.ensures.added in
-    (
+    let added : c.add.new.self ≡ with_file tags path body = c.in-Ok.ensures.added in (
       subst (λ n. 0 < n) (sym c.in_ok-body.ensures.kept) c.loop-i.invariant.0,
       uses_on c.loop-i.invariant.1 (λ never. never) (uses_kept c.in_ok-body.ensures.uses (λ e. cc) (λ never. never)),
       subst AreTagFiles c.tags-in-loop-i.view_is c.tags-in-loop-i.invariant,
