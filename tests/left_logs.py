@@ -189,6 +189,12 @@ def little_memory_loses_no_log(make):
     return len(limits)
 
 
+def each_log_has_its_own_salts(make):
+    """The salts in the header of a log, by which SQLite tells its pages from those of an older log, are drawn anew for each."""
+    salts = [log_of(killed(make).ledger).read_bytes()[16:24] for _ in range(2)]
+    assert salts[0] != salts[1], salts
+
+
 def a_log_is_named_after_its_file(make):
     """A ledger that is named by a link has its log next to its file, where it is found under each name. Returns how many names
     there were."""
@@ -235,6 +241,7 @@ def main(program):
         places = (pathlib.Path(work) / str(number) for number in range(10**6))
         make = lambda contents: Place(os.path.abspath(program), next(places), contents)
         each_folder_is_answered(make)
+        each_log_has_its_own_salts(make)
         used, refused, names = a_log_is_used(make), a_refused_ledger_keeps_its_log(make), a_log_is_named_after_its_file(make)
         little, full = little_memory_loses_no_log(make), a_log_that_cannot_be_copied_stays(make)
     print(f"{used} logs used, {refused} refused ledgers with a log, {names} names, {little} limits of memory, {full} of a file")

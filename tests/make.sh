@@ -104,7 +104,12 @@ for name in a 'a ' 'a!' a-1 a.b a0 ab; do
     mkdir -p "$work/alike/$name/$name"
     printf x | tee "$work/alike/$name/x" >"$work/alike/$name/$name/x"
 done
-expect 'names that begin alike' 0 'made 14 files, 14 octets' bag make "$work/alike" "$work/alike bag" sha256
+# The same where nothing below the shorter name comes before the file in it.
+for name in b b-1 b.b; do
+    mkdir "$work/alike/$name"
+    printf x >"$work/alike/$name/x"
+done
+expect 'names that begin alike' 0 'made 17 files, 17 octets' bag make "$work/alike" "$work/alike bag" sha256
 expect 'names that begin alike: it is valid' 0 valid valid_bag "$work/alike" "$work/alike bag"
 
 mkdir -p "$work/empty/none/at all"

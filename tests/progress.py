@@ -249,6 +249,24 @@ def one_file(place):
     both(place, [reading, Work("auditing", None, [len(content)], octets=len(content))], "audit", str(ledger), "t")
 
 
+def totals(place):
+    """How many octets of a ledger are expected: those of the file and of its log, in the largest unit that they fill. The file is no
+    database, so no more than that is shown of it."""
+    ledger, log = place.work / "text", place.work / "text-wal"
+    for octets, of_log, told in [((1 << 30) - 1, 0, ["1023.9 MiB"]), (1 << 30, 0, ["1.0 GiB"]), ((1 << 40) - 1, 0, ["1023.9 GiB"]),
+                                 (1 << 40, 0, ["1.0 TiB"]), (100 * MEBIBYTE, 924 * MEBIBYTE, ["100.0 MiB", "1.0 GiB"])]:
+        ledger.write_bytes(b"text\n" * 1_000)
+        os.truncate(ledger, octets)
+        if of_log:
+            log.touch()
+            os.truncate(log, of_log)
+        ended = place.watch("list", str(ledger))
+        assert ended.lines() == [f"bag: reading the ledger, 0 files, 0 KiB of {total}" for total in told], (octets, ended.said)
+        assert (ended.status, ended.printed) == (3, b"bag: not a ledger\n"), ended.printed
+        ledger.unlink()
+    log.unlink()
+
+
 def short_work(place):
     """Nothing is shown of work on few small files."""
     base, made, ledger = place.work / "few", place.work / "made of few", place.work / "small ledger"
@@ -269,6 +287,11 @@ def failures(place):
     ended = place.watch(*words, output="terminal", limit=MEBIBYTE)
     assert ended.lines() and ended.screen() == ["bag: files", too_large] and ended.status == 3, ended.screen()
     shutil.rmtree(made)
+    # Nothing is printed, and what is said stands in the place of the line.
+    empty = place.work / "empty"
+    empty.mkdir()
+    ended = place.watch("intake", str(place.work / "large ledger"), "t", str(empty), output="terminal")
+    assert ended.lines() and ended.screen() == [f"bag: {empty}: it has no payload file below data/"] and ended.status == 0, ended.said
     missing = place.work / "missing"
     ended = place.watch("check", str(missing))
     assert ended.said.decode() == f"bag: {missing}: No such file or directory (os error 2)\n" and ended.status == 3, ended.said
@@ -289,6 +312,7 @@ def main():
         place = Place(os.path.abspath(sys.argv[1]), work)
         many_files(place)
         one_file(place)
+        totals(place)
         short_work(place)
         failures(place)
         closed(place)
