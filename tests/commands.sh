@@ -526,6 +526,16 @@ not complete
 1
 exported 6 files
 0' on_disk
+    # on_small_disk: an empty file, on a disk that has no room for a ledger. It stays empty.
+    on_small_disk() {
+        unshare -m sh -c 'mount -t tmpfs -o size=16k bag "$1/disk" && cd "$1" && : >disk/ledger || exit
+            "$1/program" begin disk/ledger one tags 2>&1; echo "$?"
+            stat -c %s disk/ledger' sh "$work"
+    }
+    expect 'a full disk, and an empty file for a ledger' 0 'bag: store
+bag: disk/ledger: database or disk is full
+3
+0' on_small_disk
 else
     lacking 'a full disk (no permission to mount one)'
 fi
