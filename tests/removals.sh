@@ -14,7 +14,7 @@ done | LC_ALL=C sort >"$work/sources"
 # Each call with the function that it stands in, and what is removed.
 xargs awk '
     /^ *(pub |pub\(crate\) )?fn / { match($0, /fn [a-z_]+/); name = substr($0, RSTART + 3, RLENGTH - 3); next }
-    match($0, /(remove_file|remove_dir|remove_dir_all|set_len|rename|hard_link|soft_link|create_new|create_dir|create_dir_all|copy|fs::write|fs::create|sqlite_std_file::open)\(|File::create|OpenOptions::new\(|set_permissions\(|write_all\(|write_at\(|write_all_at\(|\.write\(|\.append\(|truncate\(|[ :](Unknown|Wary)\)/) {
+    match($0, /(remove_file|remove_dir|remove_dir_all|set_len|rename|hard_link|soft_link|create_new|create_dir|create_dir_all|copy|fs::write|fs::create|sqlite_std_file::open)\(|File::create(_new)?|OpenOptions::new\(|set_permissions\(|write_all\(|write_at\(|write_all_at\(|\.write\(|\.append\(|truncate\(|[ :](Unknown|Wary)\)/) {
         call = substr($0, RSTART, RLENGTH)
         rest = substr($0, RSTART + RLENGTH)
         gsub(/[ :]*\(?$|^[ :]+|\)$/, "", call)
@@ -39,7 +39,7 @@ bag_cmd/locked_file.rt remove_copied_log remove_file self.rt, self.seen.log()
 bag_cmd/main.rt main Unknown
 bag_cmd/watched.rt write .write
 bag_folder/destination.rt give_up remove_dir
-bag_folder/name.rt created File::create
+bag_folder/name.rt created File::create_new
 bag_folder/name.rt made_for create_dir_all
 bag_folder/sink.rt create create_dir
 bag_folder/sink.rt payload_dir create_dir_all
