@@ -35,7 +35,7 @@ impl Read for Reader {
 }
 
 /// Copies as many octets as there are from this place on, and as there is room for, and moves the place.
-fn given(octets: &[u8], place: &mut usize, buf: &mut [u8]) -> usize
+pub fn given(octets: &[u8], place: &mut usize, buf: &mut [u8]) -> usize
     ensures { result ≤ length buf.new }
 {
     let Some(left) = octets.get(*place..) else {

@@ -69,7 +69,7 @@ impl<K: Keeper + Drop> Answers for Receiver<K> {
 }
 
 /// Writes the answer to the event.
-fn answer<K: Keeper + Drop, W: Write + Drop>(
+pub fn answer<K: Keeper + Drop, W: Write + Drop>(
     alloc: Global,
     receiver: &mut Receiver<K>,
     event: &Event<'_>,
@@ -151,7 +151,8 @@ fn bring<K: Keeper + Drop, W: Write + Drop>(
     write_run(&run, out)
 }
 
-fn write_run<W: Write + Drop>(run: &Run, out: &mut W) -> io::Result<()> {
+/// Writes the answers of a run, and how it ended.
+pub fn write_run<W: Write + Drop>(run: &Run, out: &mut W) -> io::Result<()> {
     for given in run.answers.iter() {
         write!(out, "{} | ", AnswerText(*given))?;
     }

@@ -48,4 +48,17 @@ impl<'a> Event<'a> {
             _ => Err(bad_line()),
         }
     }
+
+    /// The path of its one file and the octets, which are a text.
+    ///
+    /// # Errors
+    ///
+    /// `InvalidData` if it has no such file, or several.
+    pub fn texts(&self) -> io::Result<(&str, &str)> {
+        let (path, octets) = self.file()?;
+        match str::from_utf8(octets) {
+            Ok(text) => Ok((path, text)),
+            Err(_) => Err(bad_line()),
+        }
+    }
 }

@@ -35,9 +35,9 @@ impl Answers for Feeds {
 
 /// A tag file, and the version by whose rules it is read.
 #[derive(Clone, Copy)]
-struct TagFile {
-    file: LineFile,
-    version: Version,
+pub struct TagFile {
+    pub file: LineFile,
+    pub version: Version,
 }
 
 impl TagFile {
@@ -63,7 +63,7 @@ impl TagFile {
     }
 
     /// A feed before its first piece.
-    fn feed(self, alloc: Global) -> TagFeed {
+    pub fn feed(self, alloc: Global) -> TagFeed {
         match self.file {
             LineFile::Info => TagFeed::info(alloc, self.version),
             LineFile::FetchList => TagFeed::fetch(alloc, self.version),
@@ -74,7 +74,7 @@ impl TagFile {
     }
 
     /// What the whole reader reads from these octets.
-    fn whole(self, alloc: Global, octets: &[u8]) -> Result<TagValue, TagFault> {
+    pub fn whole(self, alloc: Global, octets: &[u8]) -> Result<TagValue, TagFault> {
         Ok(match self.file {
             LineFile::Info => TagValue::Info(read_info(alloc, octets, self.version)?),
             LineFile::FetchList => TagValue::Fetch(read_fetch(alloc, octets, self.version)?),

@@ -37,6 +37,20 @@ pub fn answer_lines<A: Answers, R: Input + AllocGlobal, W: Write + Drop>(
     Ok(())
 }
 
+/// The lines of standard input.
+///
+/// # Errors
+///
+/// A read failed, or memory ran out.
+pub fn read_lines<R: Input + AllocGlobal>(rt: &R) -> io::Result<Vec<String>> {
+    let alloc = rt.alloc();
+    let mut lines = Vec::new(alloc);
+    for line in BufReader::new(alloc, rt.reader())?.lines(alloc) {
+        lines.push(line?)?;
+    }
+    Ok(lines)
+}
+
 /// The error for a malformed line.
 pub fn bad_line() -> io::Error {
     io::Error::from(ErrorKind::InvalidData)

@@ -25,6 +25,10 @@
 //! `bag_bench feeds` reads the tag files that standard input gives it in pieces, as described in `tests/feeds.py`. The
 //! status is 0 if each line was answered.
 //!
+//! `bag_bench refusals KEEPER MOST DEVICE NUMBER` answers the calls on standard input, as described in
+//! `tests/refusals.py`: at most MOST of them, with the keeper `map`, `sqlite`, `files` or `breaking`. The call with
+//! this number of all devices of a kind fails. The status is 0 if each line was answered.
+//!
 //! The status is 3 if memory ran out, a line is malformed, or a read or a write failed, and 64 for other words.
 #![tactic(auto)]
 
@@ -38,6 +42,7 @@ use deliveries::Lists;
 use feeding::Feeds;
 use lines::answer_lines;
 use receiving::receive;
+use refusals::answer_refused;
 use sqlite::MemStore;
 use std::alloc::{AllocError, Global};
 use std::env;
@@ -46,16 +51,27 @@ use std::process::ExitCode;
 use stopped::{Calls, stop};
 use writing::Order;
 
+mod breaker;
+mod breaking;
+mod breaking_keeper;
 mod bringing;
+mod commanding;
 mod deliveries;
+mod drafting;
 mod event;
 mod feeding;
 mod fused;
 mod keepers;
 mod lines;
+mod planning;
+mod reading;
 mod receiving;
+mod refusals;
+mod remade;
+mod shown;
 mod stopped;
 mod text;
+mod valuing;
 mod writing;
 
 /// The SHA-256 of the empty message.
@@ -108,6 +124,7 @@ fn work_into<W: Write + Drop>(rt: &HostRuntime, words: &[String], out: &mut W) -
         }
         2 if words[0].as_str() == "deliveries" => answer_over(rt, words[1].as_str(), out),
         2 => measure(alloc, words[0].as_str(), words[1].as_str()),
+        5 if words[0].as_str() == "refusals" => answer_refused(rt, words, out),
         6 if words[0].as_str() == "stop" => stop_at(rt, words, out),
         _ => Ok(64),
     }

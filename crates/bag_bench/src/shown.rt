@@ -1,0 +1,35 @@
+//! Shows files and octets without asking for memory.
+use bag_path::Spelling;
+use bag_rules::{MemTree, Paths};
+use std::io::{self, Write};
+
+/// Writes whether there is a payload directory, and each file.
+pub fn write_files<W: Write + Drop>(tree: &MemTree, out: &mut W) -> io::Result<()> {
+    if tree.has_payload_dir() {
+        write!(out, " | data/")?;
+    }
+    for i in 0..tree.count() {
+        let path = tree.path(i);
+        if let Some(octets) = tree.get(path) {
+            write!(out, " | {} ", Spelling(path))?;
+            write_octets(octets, out)?;
+        }
+    }
+    Ok(())
+}
+
+/// Writes octets in hex.
+pub fn write_octets<W: Write + Drop>(octets: &[u8], out: &mut W) -> io::Result<()> {
+    for octet in octets.iter().copied() {
+        write!(out, "{octet:02x}")?;
+    }
+    Ok(())
+}
+
+/// Writes octets in hex, or `-` if there are none.
+pub fn write_field<W: Write + Drop>(octets: &[u8], out: &mut W) -> io::Result<()> {
+    if octets.is_empty() {
+        return write!(out, "-");
+    }
+    write_octets(octets, out)
+}
