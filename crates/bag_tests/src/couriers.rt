@@ -52,7 +52,8 @@ struct Item {
 struct Items {
     left: Vec<Item>,
     ends_well: bool,
-    current: Option<Item>,
+    path: Option<BagPath>,
+    content: Vec<u8>,
     failures: Failures,
     nexts: u64,
 }
@@ -72,7 +73,8 @@ impl Items {
         Ok(Items {
             left,
             ends_well,
-            current: None,
+            path: None,
+            content: Vec::new(alloc),
             failures: Failures::none(),
             nexts: 0,
         })
@@ -80,7 +82,7 @@ impl Items {
 }
 
 impl Source for Items {
-    ghost use Rattle.std.specs.Prelude.{◌≡◌, None, is_some, option_map, refl};
+    ghost use Rattle.std.specs.Prelude.{◌≡◌, None, is_some, refl};
     ghost use Rattle.std.proofs.Common.{◌∙◌};
 
     ghost remaining = { λ _. None };
@@ -89,16 +91,15 @@ impl Source for Items {
 
     ghost ready = { λ _. ⊥ };
 
-    ghost is_open = { λ it. is_some it.current };
+    ghost is_open = { λ it. is_some it.path };
 
-    ghost keeps = { λ a b. (option_map (λ item. item.path) b.current
-        ≡ option_map (λ item. item.path) a.current) × (b.nexts ≡ a.nexts) };
+    ghost keeps = { λ a b. (b.path ≡ a.path) × (b.nexts ≡ a.nexts) };
 
     fn read(&mut self, buf: &mut [u8]) -> Result<usize, Failed> {
-        let Some(item) = &mut self.current else {
+        if self.path.is_none() {
             return self.failures.counted(Err(Failed));
-        };
-        let Some(octet) = item.content.pop() else {
+        }
+        let Some(octet) = self.content.pop() else {
             return Ok(0);
         };
         if octet == b'!' {
@@ -121,11 +122,11 @@ impl Source for Items {
 }
 
 impl Courier for Items {
-    ghost use Rattle.std.specs.Prelude.{None, option_map, refl};
+    ghost use Rattle.std.specs.Prelude.{None, refl};
 
     ghost coming = { λ _. None };
 
-    ghost path = { λ it. option_map (λ item. item.path) it.current };
+    ghost path = { λ it. it.path };
 
     ghost nexts = { λ it. it.nexts };
 
@@ -134,7 +135,7 @@ impl Courier for Items {
     fn next(&mut self) -> Result<bool, Failed> {
         self.nexts = self.nexts.saturating_add(1);
         let Some(item) = self.left.pop() else {
-            self.current = None;
+            self.path = None;
             let answer = if self.ends_well {
                 Ok(false)
             } else {
@@ -142,13 +143,14 @@ impl Courier for Items {
             };
             return self.failures.counted(answer);
         };
-        self.current = Some(item);
+        self.path = Some(item.path);
+        self.content = item.content;
         Ok(true)
     }
 
     fn path(&self) -> &BagPath {
-        match &self.current {
-            Some(item) => &item.path,
+        match &self.path {
+            Some(path) => path,
             None => unreachable!(),
         }
     }
