@@ -83,24 +83,15 @@ fn rows_in(
 }
 
 #[test]
-fn no_table_of_another_program_is_taken_for_one_of_a_ledger(rt: HostRuntime) -> Result<(), Fail> {
+fn no_ledger_is_made_beside_a_table_of_another_program(rt: HostRuntime) -> Result<(), Fail> {
     let alloc = rt.alloc();
-    for name in ["meta", "transfer", "tag", "held", "piece"] {
+    for name in ["meta", "transfer", "tag", "held", "piece", "visits"] {
         let made = not_made(with_table(alloc, name)?);
         let (fault, mut connection) = made.ok_or("a ledger was made")?;
         assert_eq!(rt; fault, KeepFault::Store(StoreFault::Refused));
         assert_eq!(rt; connection.schema().tables.len(), 1);
         assert_eq!(rt; rows_in(alloc, &mut connection, name)?, 1);
     }
-    Ok(())
-}
-
-#[test]
-fn a_table_of_another_program_stays(rt: HostRuntime) -> Result<(), Fail> {
-    let alloc = rt.alloc();
-    let mut ledger = made(with_table(alloc, "visits")?)?;
-    assert_eq!(rt; ledger.schema().tables.len(), 6);
-    assert_eq!(rt; rows_in(alloc, &mut ledger, "visits")?, 1);
     Ok(())
 }
 
