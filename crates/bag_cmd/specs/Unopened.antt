@@ -7,13 +7,13 @@ use Rattle.bag_sqlite.specs.declared.adopting.AdoptFault.{AdoptFault}
 use Rattle.bag_sqlite.specs.declared.adopting.AdoptFault.TheVariants.{Damaged, Memory, NotALedger, Store}
 use Rattle.sqlite.specs.declared.error.Error.{Error}
 use Rattle.sqlite.specs.declared.error.Error.TheVariants.{SqliteFailure}
-use Rattle.sqlite.specs.declared.error.ErrorCode.TheVariants.{CannotOpen, NotADatabase, OutOfMemory}
+use Rattle.sqlite.specs.declared.error.ErrorCode.TheVariants.{CannotOpen, DatabaseCorrupt, NotADatabase, OutOfMemory}
 use Rattle.bag_cmd.specs.declared.barred.Barred.{Barred}
 use Rattle.bag_cmd.specs.declared.barred.Barred.TheVariants as barred
 use Rattle.bag_cmd.specs.declared.found.Found.{Found}
 use Rattle.bag_cmd.specs.declared.found.Found.TheVariants as found
 use Rattle.bag_cmd.specs.declared.unopened.LedgerCause.{LedgerCause}
-use Rattle.bag_cmd.specs.declared.unopened.LedgerCause.TheVariants.{Database, Empty, Missing, NoDatabase, NoLedger, NotFile, Unreadable}
+use Rattle.bag_cmd.specs.declared.unopened.LedgerCause.TheVariants.{Database, Empty, Missing, NoDatabase, NoLedger, NotFile}
 use Rattle.bag_cmd.specs.declared.unopened.Unopened.{Unopened}
 
 -- what was seen in place of the file of a ledger
@@ -35,10 +35,9 @@ cause_of_fault (Damaged name path) = None
 cause_of_fault Memory = None
 cause_of_fault (Store error) = Some (Database error)
 
--- the store has failed, with this error if it told one
+-- the store has failed, with this error if it told one; otherwise it gave what no sound database gives
 abbrev pub cause_of_store : Option Error → LedgerCause
-cause_of_store None = Unreadable
-cause_of_store (Some error) = Database error
+cause_of_store trouble = Database (unwrap_or trouble (SqliteFailure DatabaseCorrupt))
 
 -- why no ledger was made; a store that failed and told no error is one that couldn't be opened
 abbrev pub fault_unmade : KeepFault → Option Error → AdoptFault

@@ -16,6 +16,9 @@ use std::io;
 /// The error of a store that told none: no database was opened.
 const UNTOLD: Error = Error::SqliteFailure(ErrorCode::CannotOpen);
 
+/// The error of a store that gave what no sound database gives, and told none.
+const DAMAGED: Error = Error::SqliteFailure(ErrorCode::DatabaseCorrupt);
+
 /// Why a ledger wasn't opened, and what is left of it.
 #[derive(Drop)]
 pub struct Unopened<L> {
@@ -66,19 +69,15 @@ pub enum LedgerCause {
     NoLedger,
     /// The database has failed with this error.
     Database(Error),
-    /// The database can't be read, or gave what no sound one gives.
-    Unreadable,
 }
 
 impl LedgerCause {
-    /// The store of an open ledger has failed, with this error if it told one.
+    /// The store of an open ledger has failed, with this error if it told one. Otherwise it gave what no sound database
+    /// gives.
     pub fn of_store(trouble: Option<Error>) -> LedgerCause
         ensures { result ≡ cause_of_store trouble }
     {
-        match trouble {
-            Some(error) => LedgerCause::Database(error),
-            None => LedgerCause::Unreadable,
-        }
+        LedgerCause::Database(trouble.unwrap_or(DAMAGED))
     }
 }
 
@@ -95,7 +94,6 @@ impl Display for LedgerCause {
             LedgerCause::NoDatabase => f.write_str("it is not a database"),
             LedgerCause::NoLedger => f.write_str("it is a database, but not a ledger"),
             LedgerCause::Database(error) => write!(f, "{error}"),
-            LedgerCause::Unreadable => f.write_str("it cannot be read, or is damaged"),
         }
     }
 }
