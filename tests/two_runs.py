@@ -372,6 +372,35 @@ def logs(tried):
             tried.stopped(kind, "begun", failing, [killed], by_name=True)
 
 
+def renamed(tried):
+    """Another ledger gets the name while a command opens the one that had it: nothing is told of either, and the new
+    one isn't touched."""
+    other = Place(tried, "begun")
+    taken = other.run(Command("intake", "t1", "b"))
+    shutil.move(other.ledger, tried.shared / "other")
+
+    def case(command, stop):
+        def work(place):
+            with Stopped(place, command, stop) as stopped:
+                put = place.folder / "put"
+                shutil.copy(tried.shared / "other", put)
+                os.replace(put, place.ledger)
+                answer = stopped.go_on()
+            if (answer.status, answer.lines) != STORE:
+                raise Otherwise(f"{answer} of a ledger that lost its name after {stop}")
+            if place.ledger.read_bytes() != (tried.shared / "other").read_bytes():
+                raise Otherwise(f"{command} changed the ledger that got the name after {stop}")
+            return [taken, answer]
+
+        return "begun", work
+
+    for command in (Command("report", "t1"), INTAKE, OTHER):
+        calls = tried.calls("begun", command, by_name=True)
+        first = next(number for number, call in enumerate(calls) if call[0] == "openat" and 'ledger"' in call[2])
+        log = next(number for number, call in enumerate(calls) if call[0] == "openat" and 'ledger-wal"' in call[2])
+        tried.each("another ledger gets the name", [case(command, call[:2]) for call in calls[first:log]])
+
+
 def pairs(tried):
     """Two commands that are started together."""
 
@@ -391,7 +420,7 @@ def main(program, tried_file="/dev/stdout"):
     memory = "/dev/shm" if os.access("/dev/shm", os.W_OK) else None
     with tempfile.TemporaryDirectory(dir=memory) as folder:
         tried = Tried(os.path.abspath(program), pathlib.Path(folder))
-        for work in (begins, logs, pairs):
+        for work in (begins, logs, renamed, pairs):
             work(tried)
     print(*tried.faults, sep="\n", end="\n" if tried.faults else "")
     counts = "".join(f"{number} {kind}\n" for kind, number in tried.counts.items())
