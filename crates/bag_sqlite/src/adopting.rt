@@ -1,5 +1,5 @@
 //! Opens a database as the ledger that it holds.
-ghost use Rattle.std.specs.Prelude.{◌≡◌, [], IfErr, IfOk, IsTrue, MatchResult, OnOk, false};
+ghost use Rattle.std.specs.Prelude.{◌≡◌, ◌↔◌, [], IfErr, IfOk, IsTrue, MatchResult, OnOk, false};
 ghost use Rattle.std.specs.List.{AllByRecursion};
 ghost use Rattle.bag_sqlite.specs.Adopted.{IsAdopted, IsNotAdopted};
 ghost use Rattle.bag_sqlite.specs.Adopting.{HasFormat, IsVerifiedAs, OnlyReads, Stands, Tells, stray_item_texts, stray_texts};
@@ -158,7 +158,9 @@ fn take_over<S: Alter, W: Watch>(
 
 /// The fault to report if the payload files can't be moved.
 fn moving_fault(error: Error) -> AdoptFault
-    ensures { IsNoAnswer result }
+    ensures told { IsNoAnswer result }
+    ensures memory { (result ≡ AdoptFault.Memory)
+        ↔ (error ≡ Error.SqliteFailure ErrorCode.OutOfMemory) }
 {
     match error {
         Error::SqliteFailure(ErrorCode::OutOfMemory) => AdoptFault::Memory,

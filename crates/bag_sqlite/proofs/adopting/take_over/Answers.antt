@@ -46,8 +46,8 @@ returns-in-Err-clause-adopted g c =
     let before = λ (clean : HasCleanDisk new). let early : HasCleanDisk mid = omega (arith, clean, c.migrate.ensures.survives.clean) in early in
     record {
       unchanged = λ clean. left_then old mid new it.idle.1 (it.left (before clean)) (c.in-Err.ensures.unchanged clean);
-      reason = λ clean. unanswered g.S.Store old c.moving_fault.result c.moving_fault.ensures;
-      own = λ clean ledger offers. c.moving_fault.ensures;
+      reason = λ clean. unanswered g.S.Store old c.moving_fault.result c.moving_fault.ensures.told;
+      own = λ clean ledger offers. c.moving_fault.ensures.told;
       survives = survives_moving g.S.Store old mid new it.idle.0 (λ early. (named early, it.left early)) it.survives c.migrate.ensures.survives;
     }
 
