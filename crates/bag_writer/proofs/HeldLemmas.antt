@@ -1,5 +1,5 @@
 -- Files that are held, and the items of files so far.
-use Rattle.std.proofs.Common.{◌≡◌, ◌∙◌, ◌++◌, ◌∷◌, ◌+◌, ◌≤◌, [], ℕ, List, Some, Vec, ap, append_assoc, arith, length, map, refl, slice_get, suc, subst, sym, take, zero}
+use Rattle.std.proofs.Common.{◌≡◌, ◌∙◌, ◌++◌, ◌∷◌, ◌+◌, ◌≤◌, [], ℕ, Err, IfOk, List, Ok, Result, Some, Vec, ap, append_assoc, arith, length, map, refl, slice_get, suc, subst, sym, take, zero}
 use Rattle.std.proofs.lemmas.List.{length-map, take_all}
 use Rattle.std.specs.declared.alloc.Global.{Global}
 use Rattle.std.specs.Option.{option_map}
@@ -63,3 +63,9 @@ pub adds_hashed : (set : AlgSet) (item : Item) (octets : List ℕ) (old new : It
 adds_hashed set item octets old new ready more is all pushed made files so_far =
     let after = files ++ (item.path, octets) ∷ [] in
     of_all set more after new old.set so_far.set_is (subst (λ items. AreItemsOf set items after) (sym pushed) (items_on set ready files item (item.path, octets) (all files so_far) is)) (made after)
+
+-- a file that comes after those before it does so too where the same files are held otherwise
+pub adds_after : {E : Type 0} (r : Result Items E) (set : AlgSet) (file : File) (old mid : Items) → ((files : Files) → AreItemsSoFar set old files → AreItemsSoFar set mid files)
+    → IfOk r (AddsFile set file mid) → IfOk r (AddsFile set file old)
+adds_after (Ok new) set file old mid same adds = λ files so_far. adds files (same files so_far)
+adds_after (Err fault) set file old mid same adds = tt

@@ -1,8 +1,9 @@
 //! The items of files that are read one after another. Short files are held, and their digests are taken side by side.
-ghost use Rattle.std.specs.Prelude.{◌≡◌, ◌++◌, ◌∷◌, [], ℕ, List, IfErr, IfOk, vec_len};
+ghost use Rattle.std.specs.Prelude.{◌≡◌, ◌<◌, ◌≤◌, ◌++◌, ◌∷◌, [], ℕ, List, IfErr, IfOk, vec_len};
 ghost use Rattle.bag_digest.specs.declared.algorithm.AlgSet.{AlgSet};
 ghost use Rattle.bag_rules.specs.Files.{Files};
 ghost use Rattle.bag_writer.specs.declared.fault.WriteFault.{WriteFault};
+ghost use Rattle.bag_writer.specs.declared.items.TheConstants.{MOST_HELD};
 
 use crate::fault::WriteFault;
 use crate::item::Item;
@@ -25,6 +26,7 @@ pub(crate) struct Items {
     /// The octets of each file that is held.
     messages: Vec<Vec<u8>>,
     ghost paired: { vec_len paths ≡ vec_len messages },
+    ghost few: { vec_len messages ≤ MOST_HELD },
 }
 
 impl Items {
@@ -41,8 +43,9 @@ impl Items {
 
     /// These items, with no file held.
     fn of(alloc: Global, set: AlgSet, ready: Vec<Item>) -> Items
-        ensures { (files : Files) → AreItemsOf set ready.items files
+        ensures all { (files : Files) → AreItemsOf set ready.items files
             → AreItemsSoFar set result files }
+        ensures empty { vec_len result.messages ≡ 0 }
     {
         Items {
             set,
@@ -94,23 +97,33 @@ impl Items {
         Ok(Items::of(alloc, set, ready))
     }
 
-    /// Adds a file with these octets, which is held. If as many are held then as may be, their digests are taken.
+    /// Adds a file with these octets, which is held.
     fn hold(self, alloc: Global, path: BagPath, octets: &[u8]) -> Result<Items, WriteFault>
         ensures held { (set : AlgSet) → IfOk result (AddsFile set (path, octets.now) self) }
         ensures err { IfErr result (λ fault. fault ≡ WriteFault.Memory) }
     {
-        let set = self.set;
-        let items = self.with_held(alloc, path, octets)?;
-        if items.messages.len() < MOST_HELD {
-            return Ok(items);
+        let items = self.with_room(alloc)?;
+        items.with_held(alloc, path, octets)
+    }
+
+    /// The same files. If as many were held as may be, none is any more: their digests are taken.
+    fn with_room(self, alloc: Global) -> Result<Items, WriteFault>
+        ensures same { (set : AlgSet) (files : Files) → AreItemsSoFar set self files
+            → IfOk result (λ items. AreItemsSoFar set items files) }
+        ensures room { IfOk result (λ items. vec_len items.messages < MOST_HELD) }
+        ensures err { IfErr result (λ fault. fault ≡ WriteFault.Memory) }
+    {
+        if self.messages.len() < MOST_HELD {
+            return Ok(self);
         }
-        Ok(Items::of(alloc, set, items.finish(alloc)?))
+        let set = self.set;
+        Ok(Items::of(alloc, set, self.finish(alloc)?))
     }
 
     /// Holds one more file, with these octets.
     fn with_held(self, alloc: Global, path: BagPath, octets: &[u8]) -> Result<Items, WriteFault>
+        requires room { vec_len self.messages < MOST_HELD }
         ensures held { (set : AlgSet) → IfOk result (AddsFile set (path, octets.now) self) }
-        ensures set { IfOk result (λ items. items.set ≡ self.set) }
         ensures err { IfErr result (λ fault. fault ≡ WriteFault.Memory) }
     {
         let Items {
