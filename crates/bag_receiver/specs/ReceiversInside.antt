@@ -11,7 +11,7 @@ use Rattle.bag_ledger.specs.Ledgers.{Ledger, Transfer, content_of}
 use Rattle.bag_receiver.specs.declared.answer.Answer.{Answer}
 use Rattle.bag_receiver.specs.declared.answer.Answer.TheVariants.{Refused}
 use Rattle.bag_receiver.specs.declared.answer.DeliverFault.{DeliverFault}
-use Rattle.bag_receiver.specs.declared.answer.DeliverFault.TheVariants.{NoTransfer, BadPath, Keeper}
+use Rattle.bag_receiver.specs.declared.answer.DeliverFault.TheVariants.{NoTransfer, BadPath, Keeper, NotListed}
 use Rattle.bag_receiver.specs.declared.deliver.Place.{Place}
 use Rattle.bag_receiver.specs.declared.receiver.Receiver.{Receiver}
 use Rattle.bag_receiver.specs.Deliveries.{Content, IsListedPath, delivery_of}
@@ -54,6 +54,12 @@ module _ {K : Type 0} (holds may_leave : K → Ledger → Type 0) (clean : K →
   Finds old new name text found result = clean new.keeper → (now : LedgerState)
       → IsInState holds may_leave old now
       → MatchResult result (found now) (RefusesAny name text now)
+
+-- the path or the lists are at fault, which no keeper has to be asked for
+abbrev pub IsOfLists : DeliverFault → Type 0
+IsOfLists (BadPath why) = Unit {0}
+IsOfLists NotListed = Unit {0}
+IsOfLists fault = ⊥
 
 -- there is no such transfer, or the keeper has no answer
 abbrev pub IsNoPlan : DeliverFault → Type 0

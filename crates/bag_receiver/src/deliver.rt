@@ -1,5 +1,5 @@
 //! Deliveries of payload files.
-ghost use Rattle.std.specs.Prelude.{◌≡◌, ◌⊎◌, ◌∷◌, [], List, ℕ, true, IfOk, IsErrOf, MatchResult};
+ghost use Rattle.std.specs.Prelude.{◌≡◌, ◌⊎◌, ◌∷◌, [], List, ℕ, true, IfErr, IfOk, IsErrOf, MatchResult};
 ghost use Rattle.bag_digest.specs.Device.{CountsIf, UsesSource};
 ghost use Rattle.bag_path.specs.Paths.{IsPath};
 ghost use Rattle.bag_ledger.specs.Ledgers.{Ledger};
@@ -11,7 +11,7 @@ ghost use Rattle.bag_receiver.specs.Deliveries.{Content, IsAcceptance, Whole, de
 ghost use Rattle.bag_receiver.specs.Names.{IsTransferName};
 ghost use Rattle.bag_receiver.specs.Receiving.{Brought, DeliveryStep, IsAnswer, IsListedIn, Judges, LedgerState, Receives};
 ghost use Rattle.bag_receiver.specs.Receivers.{Does, IsInState, plans_in};
-ghost use Rattle.bag_receiver.specs.ReceiversInside.{Finds, IsNoPlan, IsPlaceIn, IsPlanned, RefusesText, Same, answer_of};
+ghost use Rattle.bag_receiver.specs.ReceiversInside.{Finds, IsNoPlan, IsOfLists, IsPlaceIn, IsPlanned, RefusesText, Same, answer_of};
 
 use crate::answer::{Answer, DeliverFault};
 use crate::given_path::GivenPath;
@@ -172,6 +172,7 @@ fn place_of<'a, K: Keeper, P: GivenPath>(
         (λ now. IsPlaceIn now.held name.now (P.text path)) result }
     ensures judged { MatchResult result (λ place. IsPath (P.text path))
         (λ fault. (content : Content) → Judges (Refused fault) (P.text path) content) }
+    ensures unasked { IfErr result (λ fault. IsOfLists fault → keeper.new ≡ keeper.old) }
     ensures store { CountsIf ((fault : StoreFault) × IsErrOf result (NotKept (Store fault)))
         (K.failures keeper.old) (K.failures keeper.new) }
 {
