@@ -1,5 +1,8 @@
 -- Why a ledger wasn't opened: the cause that is told besides its fault.
-use Rattle.std.specs.Prelude.{◌≡◌, None, Option, Some, unwrap_or}
+use Rattle.std.specs.Prelude.{◌≡◌, ◌≢◌, ◌⊎◌, None, Option, Some, unwrap_or}
+use Rattle.std.specs.IoError.{error_kind}
+use Rattle.std.specs.declared.io.Error.{Error as SystemError}
+use Rattle.std.specs.declared.io.ErrorKind.TheVariants.{OutOfMemory as NoMemory, Unsupported}
 use Rattle.bag_ledger.specs.declared.fault.KeepFault.{KeepFault}
 use Rattle.bag_ledger.specs.declared.fault.KeepFault.TheVariants as keep
 use Rattle.bag_sqlite.specs.Refusing.{IsNoAnswer}
@@ -8,13 +11,29 @@ use Rattle.bag_sqlite.specs.declared.adopting.AdoptFault.TheVariants.{Damaged, M
 use Rattle.sqlite.specs.declared.error.Error.{Error}
 use Rattle.sqlite.specs.declared.error.Error.TheVariants.{SqliteFailure}
 use Rattle.sqlite.specs.declared.error.ErrorCode.TheVariants.{CannotOpen, DatabaseCorrupt, NotADatabase, OutOfMemory}
+use Rattle.sqlite_std_file.specs.declared.pair.OpenError.{OpenError}
+use Rattle.sqlite_std_file.specs.declared.pair.OpenError.TheVariants as opening
 use Rattle.bag_cmd.specs.declared.barred.Barred.{Barred}
 use Rattle.bag_cmd.specs.declared.barred.Barred.TheVariants as barred
 use Rattle.bag_cmd.specs.declared.found.Found.{Found}
 use Rattle.bag_cmd.specs.declared.found.Found.TheVariants as found
 use Rattle.bag_cmd.specs.declared.unopened.LedgerCause.{LedgerCause}
-use Rattle.bag_cmd.specs.declared.unopened.LedgerCause.TheVariants.{Database, Empty, Missing, NoDatabase, NoLedger, NotFile}
+use Rattle.bag_cmd.specs.declared.unopened.LedgerCause.TheVariants.{Busy, Database, Empty, Journal, Missing, NoDatabase, NoLedger, NotFile, NotPlain, System}
 use Rattle.bag_cmd.specs.declared.unopened.Unopened.{Unopened}
+
+-- the system's error: want of memory is told as such, and any other as it is
+abbrev pub TellsSystem : SystemError → Barred → Type 0
+TellsSystem error barred.Memory = error_kind error ≡ NoMemory
+TellsSystem error (barred.For cause) = (error_kind error ≢ NoMemory) × (cause ≡ System error)
+
+-- why the files of a ledger couldn't be opened and locked
+abbrev pub TellsOpening : OpenError → Barred → Type 0
+TellsOpening (opening.Io error) why =
+    ((error_kind error ≡ Unsupported) × (why ≡ barred.For NotPlain))
+    ⊎ ((error_kind error ≢ Unsupported) × TellsSystem error why)
+TellsOpening opening.OutOfMemory why = why ≡ barred.Memory
+TellsOpening opening.Busy why = why ≡ barred.For Busy
+TellsOpening opening.HotJournal why = why ≡ barred.For Journal
 
 -- what was seen in place of the file of a ledger
 abbrev pub cause_seen : Found → LedgerCause

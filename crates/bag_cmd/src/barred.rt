@@ -22,6 +22,10 @@ pub enum Barred {
 }
 
 impl From<io::Error> for Barred {
+    ghost use Rattle.bag_cmd.specs.Unopened.{TellsSystem};
+
+    ghost from_gives = { λ error why. TellsSystem error why };
+
     fn from(error: io::Error) -> Barred {
         match error.kind() {
             ErrorKind::OutOfMemory => Barred::Memory,
@@ -31,12 +35,21 @@ impl From<io::Error> for Barred {
 }
 
 impl From<AllocError> for Barred {
+    ghost use Rattle.std.specs.Prelude.{◌≡◌};
+    ghost use Rattle.bag_cmd.specs.declared.barred.Barred.TheVariants.{Memory};
+
+    ghost from_gives = { λ _ why. why ≡ Memory };
+
     fn from(_: AllocError) -> Barred {
         Barred::Memory
     }
 }
 
 impl From<OpenError> for Barred {
+    ghost use Rattle.bag_cmd.specs.Unopened.{TellsOpening};
+
+    ghost from_gives = { λ error why. TellsOpening error why };
+
     fn from(error: OpenError) -> Barred {
         match error {
             OpenError::Io(error) if error.kind() == ErrorKind::Unsupported => {
