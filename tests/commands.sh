@@ -542,6 +542,12 @@ fi
 expect 'an export that is cut short' 3 'bag: files' small_files "$work/program" export "$work/large ledger" one "$work/cut"
 expect 'an export that is cut short: what was written stays' 0 $'bagit.txt\nbag-info.txt\ndata/A' \
     env -C "$work/cut" sh -c 'find bagit.txt bag-info.txt data -type f'
+# After a failure of the store, what is not listed is told as that.
+cp -r "$work/large again" "$work/large and more"
+echo more >"$work/large and more/data/B"
+expect 'a ledger that cannot grow: begin' 0 new bag begin "$work/small ledger" one "$work/large again"
+expect 'a ledger that cannot grow, and a file that is not listed' 3 $'refused data/A: store\nrefused data/B: not listed' \
+    small_files "$work/program" intake "$work/small ledger" one "$work/large and more"
 for output in closed full; do
     heard=("$output" bag)
     ledger=$work/$output

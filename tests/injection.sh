@@ -191,6 +191,41 @@ if strace -o "$work/calls" true 2>"$work/no strace"; then
         expect "a read that fails, $number: what is held" 1 $'manifest-sha256.txt: missing: data/a.txt\nnot complete' \
             "$program" audit "$work/once/ledger" t1
     done
+    # The system finds no memory for a ledger that is opened: at each of the calls that open its file.
+    for number in 1 2 3; do
+        expect "no memory in the system for a ledger, $number" 3 'bag: memory' \
+            injects "inject=openat:error=ENOMEM:when=$number" -P "$work/once/ledger" "$program" list "$work/once/ledger"
+    done
+    # meanwhile CHANGE LEDGER: lists a ledger, and does this to it when it was opened for the first time.
+    meanwhile() {
+        local pid status=0
+        rm -f "$work/calls"
+        strace -f -o "$work/calls" -P "$2" -e trace=openat -e inject=openat:signal=SIGSTOP:when=1 "$program" list "$2" &
+        for _ in {1..3000}; do
+            pid=$(sed -n 's/^\([0-9]*\) *--- stopped by SIGSTOP ---$/\1/p' "$work/calls" 2>"$work/gone")
+            [ -z "$pid" ] || break
+            sleep 0.01
+        done
+        eval "$1"
+        kill -CONT "$pid"
+        wait $! || status=$?
+        return "$status"
+    }
+    cp "$work/once/ledger" "$work/once/emptied"
+    explain 'a ledger that is emptied while it is opened' 3 "bag: $work/once/emptied: it is empty" \
+        meanwhile ': >"$2"' "$work/once/emptied"
+    if unshare -m sh -c "mkdir '$work/disk' && mount -t tmpfs bag '$work/disk'" 2>"$work/no mount"; then
+        # on_two_disks: a ledger, over which another disk is mounted while it is opened. The ledger on that one has the same number.
+        on_two_disks() {
+            unshare -m bash -c 'disk() { mount -t tmpfs bag "$work/disk" && cp "$work/once/ledger" "$work/disk/ledger"; }
+                disk && meanwhile disk "$work/disk/ledger"'
+        }
+        export -f meanwhile
+        export work program
+        explain 'a ledger in whose place another one comes' 3 "bag: $work/disk/ledger: it is in use" on_two_disks
+    else
+        lacking 'a ledger in whose place another one comes (no permission to mount a disk)'
+    fi
     # A long ledger is not held in memory, but read again while it is verified.
     mkdir -p "$work/long/data"
     head -c 8M /dev/urandom >"$work/long/data/f"
