@@ -125,6 +125,27 @@ each_growth_of_fetch() {
     done
 }
 
+# each_growth_of_locked FOLDER: checks a bag with a file that may not be read, once for each allocation, which fails. Where the answer
+# is that files can't be used, the file is named, even if no memory is left by then.
+each_growth_of_locked() {
+    local asked number printed status words
+    asked=0
+    chmod 711 "$work"
+    mkdir -m 777 "$work/open"
+    cp "$program" "$work/open/program"
+    for ((number = 0; number <= asked; number++)); do
+        status=0
+        words=(LD_PRELOAD="$work/no_memory.so" REFUSE="$number" ASKED="$work/open/asked" REFUSED="$work/open/refused")
+        printed=$(nobody env "${words[@]}" "$work/open/program" check "$1" 2>"$work/told") || status=$?
+        [ "$number" -gt 0 ] || read -r asked <"$work/open/asked"
+        case "$status $printed: $(<"$work/told")" in
+        '3 bag: memory: ' | "3 bag: files: bag: $1/data/a.txt: Permission denied (os error 13)") ;;
+        *) echo "allocation $number of $asked: status $status: $printed: $(<"$work/told")" ;;
+        esac
+    done
+    [ "$asked" -gt 10 ] || echo "only $asked allocations were counted"
+}
+
 # files_of NUMBER: makes a bag with this many payload files, and a fetch.txt that lists them.
 files_of() {
     mkdir -p "$work/of $1/data"
@@ -260,6 +281,10 @@ if cc -shared -fPIC -O1 -o "$work/no_memory.so" tests/no_memory.c 2>"$work/no cc
     expect 'a long hole: begin' 0 new "$program" begin "$work/long ledger" t1 "$work/long hole"
     expect 'no memory for a fetch of a long path' 0 '' \
         more_refusals each_growth_of_fetch "$work/long ledger" "$long_path" "$work/long path"
+    cp -r examples/first-bag "$work/locked"
+    chmod -R a+rX "$work/locked" "$work/no_memory.so"
+    chmod 000 "$work/locked/data/a.txt"
+    expect 'no memory for a file that may not be read' 0 '' each_growth_of_locked "$work/locked"
     expect 'no memory for a new bag' 3 'bag: memory' each_growth_of_make "$work/long path" sha256 md5
     for words in check help 'help make' --version 'list one more' 'make a' 'intake --no'; do
         # shellcheck disable=SC2086
