@@ -4,7 +4,8 @@ use Rattle.std.specs.List.{list_any}
 use Rattle.std.specs.Option.{option_map, option_or}
 use Rattle.bag_folder.specs.declared.fault.OpenFault.{OpenFault}
 use Rattle.bag_folder.specs.declared.fault.OpenFault.TheVariants as open_fault
-use Rattle.bag_folder.specs.Folders.{FolderShown}
+use Rattle.bag_folder.specs.Folders.{FolderShown, path_below}
+use Rattle.bag_folder.specs.declared.place.Place.TheVariants.{Payload}
 use Rattle.bag_folder.specs.Unfits.{UnfitShown}
 use Rattle.bag_rules.specs.declared.limits.TheConstants.{MOST_FILES}
 use Rattle.bag_rules.specs.declared.outcome.Outcome.{Outcome}
@@ -86,6 +87,17 @@ why_unchecked tree (Err (check_fault.TagTooLarge path)) =
 why_unchecked tree (Err (check_fault.TooLarge path)) = why_exceeds tree.folder (limit.File path)
 why_unchecked tree (Err check_fault.TooMany) = why_too_many tree
 why_unchecked tree answer = None
+
+-- the path of the file that exceeds a limit, below the folder that is named
+abbrev pub told_path : Limit → Option (List ℕ)
+told_path (limit.TagFile path) = Some path
+told_path (limit.File path) = Some path
+told_path (limit.NewFile path) = Some (path_below Payload path)
+told_path limit.Files = None
+told_path limit.Lines = None
+told_path limit.NewPayload = None
+told_path (limit.NewTagFile path) = None
+told_path limit.Deliveries = None
 
 -- the limit that is exceeded by what is too large to be written
 abbrev pub limit_of : Large → Limit

@@ -1,5 +1,6 @@
 //! What exceeds a limit, or is empty.
 use crate::told_name::ToldName;
+use bag_folder::Place;
 use bag_path::BagPath;
 use std::fmt::{self, Display, Formatter};
 use std::marker::Model;
@@ -40,33 +41,41 @@ pub enum Limit {
     Deliveries,
 }
 
+impl Limit {
+    ghost use Rattle.std.specs.Option.{option_copied};
+    ghost use Rattle.std.specs.Prelude.{◌≡◌};
+    ghost use Rattle.bag_cmd.specs.Endings.{told_path};
+
+    /// The path of the file that exceeds it, below the folder that is named.
+    fn path(&self) -> Option<&str>
+        ensures { option_copied result ≡ told_path self.now }
+    {
+        match self {
+            Limit::TagFile(path) => Some(path.as_str()),
+            Limit::File(path) => Some(path.as_str()),
+            Limit::NewFile(path) => Some(Place::Payload.path_below(path.as_str())),
+            Limit::Files
+            | Limit::Lines
+            | Limit::NewPayload
+            | Limit::NewTagFile(_)
+            | Limit::Deliveries => None,
+        }
+    }
+}
+
 impl Display for Limit {
     fn fmt<W: fmt::Write>(&self, f: &mut Formatter<W>) -> fmt::Result {
+        if let Some(path) = self.path() {
+            write!(f, "/{}", ToldName(path))?;
+        }
         match self {
-            Limit::TagFile(path) => {
-                write!(
-                    f,
-                    "/{}: it has more than 16,777,216 octets",
-                    ToldName(path.as_str())
-                )
-            }
-            Limit::File(path) => {
-                write!(
-                    f,
-                    "/{}: it has more than 1,099,511,627,776 octets",
-                    ToldName(path.as_str())
-                )
+            Limit::TagFile(_) => f.write_str(": it has more than 16,777,216 octets"),
+            Limit::File(_) | Limit::NewFile(_) => {
+                f.write_str(": it has more than 1,099,511,627,776 octets")
             }
             Limit::Files => f.write_str(": it has more than 200,000 files"),
             Limit::Lines => f.write_str(": it has more than 100,000 lines"),
             Limit::NewPayload => f.write_str(": it has more than 100,000 files"),
-            Limit::NewFile(path) => {
-                write!(
-                    f,
-                    "/{}: it has more than 1,099,511,627,776 octets",
-                    ToldName(below_payload(path))
-                )
-            }
             Limit::NewTagFile(path) => {
                 write!(
                     f,
@@ -79,10 +88,4 @@ impl Display for Limit {
             }
         }
     }
-}
-
-/// The path of a payload file below the payload directory.
-fn below_payload(path: &BagPath) -> &str {
-    let path = path.as_str();
-    path.strip_prefix("data/").unwrap_or(path)
 }
