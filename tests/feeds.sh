@@ -6,5 +6,5 @@ cd "$(dirname -- "$0")/.." || exit 1
 . tests/common.bash
 
 build_driver
-expect 'tag files in pieces' 0 '19 worked texts, and 14069 others that were cut in 1203920 ways: all read alike' python3 -B tests/feeds.py 4000 1 "$driver"
+expect 'tag files in pieces' 0 '19 worked texts, and 14282 others that were cut in 1218132 ways: all read alike' python3 -B tests/feeds.py 4000 1 "$driver"
 finish

@@ -45,15 +45,15 @@ def rest(tags, items, transfer):
 
 def on_values(name, *steps):
     """Calls without a ledger, each with its answer, and then the same once more."""
-    return Calls(name, [event for event, _ in steps] * 2, 0, len(steps), [answer for _, answer in steps], ["map"], ("none", 0))
+    return Calls(name, [event for event, _ in steps] * 2, 0, len(steps), [answer for _, answer in steps] * 2, ["map"], ("none", 0))
 
 
 def openings():
-    """A ledger is made and opened again. If it was refused, it is opened by the call that follows."""
-    events = [("start",), ("reopen",), with_files("begin", b"t1", TAGS), with_files("deliver", b"t1", [A]), ("reopen",), ("reopen",)]
-    wanted = ["started", "opened", "new", "taken", "opened", "opened"]
-    for name, place in ("making a ledger", 0), ("opening an empty ledger", 1), ("opening a ledger", 4):
-        yield Calls(name, events + rest(TAGS, (A, E), b"t1"), place, place + 1, wanted, KEEPERS, ("none", 0))
+    """A ledger is made and opened again. If it was refused, it is opened by the call that follows. A map asks for no memory then."""
+    events = [("start",), ("reopen",), ("reopen",), with_files("begin", b"t1", TAGS), with_files("deliver", b"t1", [A]), ("reopen",), ("reopen",)]
+    wanted = ["started", "opened", "opened", "new", "taken", "opened", "opened"]
+    for name, place in ("making a ledger", 0), ("opening an empty ledger", 1), ("opening a ledger", 5):
+        yield Calls(name, events + rest(TAGS, (A, E), b"t1"), place, place + 1, wanted, ["sqlite"], ("none", 0))
     yield on_values("opening a database without tables", (("adopt",), "refused: not a ledger"))
 
 
@@ -139,7 +139,7 @@ def devices():
         (with_files("deliver", b"w", [A]), "taken"),
         (with_files("fetch", b"w", [E]), "1 data/e.txt taken | done"),
         (("report", b"w"), "valid"), (("audit", b"w"), "valid"),
-        (("export", b"w"), " | ".join(["exported 9", *shown(True, dict([*HOLED_TAGS, A, E]))]))], HOLED_TAGS, transfer=b"w")
+        (("export", b"w"), " | ".join(["exported 9", *shown(True, dict([*HOLED_TAGS, A, E]))]))], HOLED_TAGS, transfer=b"w", undisturbed=1)
     yield on_ledger("what a supplier lacks", [
         (with_files("begin", b"t1", [*TAGS, FETCH]), "new"),
         (with_files("fetch", b"t1", [(E[0], b"x")]), "1 data/a.txt not supplied | 2 data/e.txt refused: digest sha256 | done"),
@@ -170,7 +170,7 @@ def commands():
         (with_files("fetch-to", b"w", []), told(1, ["refused data/e.txt: not supplied"])),
         (with_files("fetch-to", b"w", [(E[0], b"x")]), told(1, ["refused data/e.txt: length"])),
         (with_files("fetch-to", b"w", [E]), told(0, ["taken data/e.txt"])), (with_files("fetch-to", b"w", [E]), told(0, []))],
-                    HOLED_TAGS, transfer=b"w")
+                    HOLED_TAGS, transfer=b"w", undisturbed=1)
 
 
 def tree_of(files):

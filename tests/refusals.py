@@ -27,6 +27,7 @@ Each part is `refused: memory` if memory ran out, and `refused: store`, `reader`
 """
 import bisect
 import collections
+import itertools
 import os
 import subprocess
 import sys
@@ -145,7 +146,9 @@ class Runs:
                 raise Otherwise(f"call {number}, in {some.events[marks[0]][0]}: {otherwise}") from None
         judge(some, answers, {})
         used = OF_KEEPERS if device == "keeper" else [word for word, devices in USES.items() if device in devices]
-        if any(event[0] in used for event in some.events) and not self.counts[device, some.name, keeper]:
+        # What is refused may be refused before a device is used.
+        going_on = [event[0] for event, wanted in itertools.zip_longest(some.events, some.wanted) if not (wanted or "").startswith("refused")]
+        if set(used) & set(going_on) and not self.counts[device, some.name, keeper]:
             raise Otherwise("no call failed")
 
     def read_words(self, program):
@@ -162,7 +165,9 @@ class Runs:
                 ran, is_refused = self.refusing([program, *words], number, cwd=folder)
                 told = ran.returncode, ran.stdout.decode(), ran.stderr.decode()
                 self.counts["words", " ".join(words), "program"] += is_refused
-                if told not in (whole, (3, "bag: memory\n", "")) or not is_refused:
+                # The line that names the ledger or the folder takes memory.
+                unexplained = [(*whole[:2], "")] if status == 3 else []
+                if told not in [whole, (3, "bag: memory\n", ""), *unexplained] or not is_refused:
                     self.faults.append(f"{words}: request {number} of {asked} for memory: {told}")
 
     def number_of(self, what):
