@@ -39,10 +39,9 @@ bag_cmd/locked_file.rt remove_copied_log remove_file self.rt, self.seen.log()
 bag_cmd/main.rt main Unknown
 bag_cmd/watched.rt write .write
 bag_folder/destination.rt give_up remove_dir
-bag_folder/name.rt created File::create_new
-bag_folder/name.rt made_for create_dir_all
-bag_folder/sink.rt create create_dir
-bag_folder/sink.rt payload_dir create_dir_all
+bag_folder/names.rt make_folder create_dir
+bag_folder/names.rt make_folders create_dir_all
+bag_folder/names.rt make_file File::create_new
 bag_folder/sink.rt write write_all
 bag_receiver/export.rt write_file .write
 bag_receiver/export.rt write_content .write
