@@ -1,6 +1,7 @@
-//! What is told of the last call that failed on a folder, where no command prints it.
+//! What is told of the last call that failed on a folder, where no command prints it, and what is answered of each kind of
+//! thing that stands in the way.
 use bag_digest::{Failed, Source};
-use bag_folder::{Disk, FolderSink, FolderSupplier, FolderTree, Unfit};
+use bag_folder::{Disk, Entry, EntryKind, FolderSink, FolderSupplier, FolderTree, MemNames, Unfit};
 use bag_path::BagPath;
 use bag_receiver::Supplier;
 use bag_rules::{Paths, Tree};
@@ -95,5 +96,68 @@ fn a_supplier_tells_what_stands_in_the_way(rt: HostRuntime) -> Result<(), Fail> 
     assert_eq!(rt; devices.ask("", "null"), Err(Failed));
     let expected = "/dev/null: it is a named pipe, a socket or a device";
     assert_eq!(rt; trouble(alloc, devices.trouble())?.as_str(), expected);
+    Ok(())
+}
+
+const KINDS: [EntryKind; 4] = [
+    EntryKind::File,
+    EntryKind::Directory,
+    EntryKind::Link,
+    EntryKind::Special,
+];
+
+/// Names in memory: `way` is a folder, and `name` something of this kind.
+fn names(alloc: Global, way: &str, name: &str, kind: EntryKind) -> Result<MemNames, AllocError> {
+    let mut entries = Vec::new(alloc);
+    let folder = Entry {
+        name: String::from_str(alloc, way)?,
+        kind: EntryKind::Directory,
+    };
+    entries.push(folder)?;
+    let name = String::from_str(alloc, name)?;
+    entries.push(Entry { name, kind })?;
+    Ok(MemNames::new(alloc, entries))
+}
+
+#[test]
+fn a_sink_makes_nothing_where_something_stands(rt: HostRuntime) -> Result<(), Fail> {
+    let alloc = rt.alloc();
+    let path = BagPath::parse(alloc, "data/k/x")?;
+    let other = BagPath::parse(alloc, "data/k/y")?;
+    for kind in KINDS {
+        let taken = names(alloc, "bag", "bag/new", kind)?;
+        assert!(rt; FolderSink::create(taken, alloc, "bag/new").is_err());
+        let below = names(alloc, "bag", "bag/new/data/k/x", kind)?;
+        let mut sink = FolderSink::create(below, alloc, "bag/new")?;
+        assert_eq!(rt; sink.file(&path), Err(Failed));
+        assert!(rt; sink.file(&other).is_ok());
+        let on_the_way = names(alloc, "bag", "bag/new/data/k", kind)?;
+        let mut sink = FolderSink::create(on_the_way, alloc, "bag/new")?;
+        let is_folder = matches!(kind, EntryKind::Directory);
+        assert_eq!(rt; sink.file(&path).is_ok(), is_folder);
+        let payload = names(alloc, "bag", "bag/new/data", kind)?;
+        let mut sink = FolderSink::create(payload, alloc, "bag/new")?;
+        assert_eq!(rt; sink.payload_dir().is_ok(), is_folder);
+    }
+    Ok(())
+}
+
+#[test]
+fn a_supplier_follows_no_link_and_opens_files_alone(rt: HostRuntime) -> Result<(), Fail> {
+    let alloc = rt.alloc();
+    let asked = [
+        (EntryKind::File, Ok(true), Ok(false)),
+        (EntryKind::Directory, Err(Failed), Ok(false)),
+        (EntryKind::Link, Err(Failed), Err(Failed)),
+        (EntryKind::Special, Err(Failed), Err(Failed)),
+    ];
+    for (kind, itself, below) in asked {
+        let mut supplier = FolderSupplier::open(names(alloc, "bag", "bag/k", kind)?, alloc, "bag")?;
+        assert_eq!(rt; supplier.ask("", "k"), itself);
+        assert_eq!(rt; supplier.ask("", "k/x"), below);
+        assert_eq!(rt; supplier.ask("", "x"), Ok(false));
+    }
+    let file = names(alloc, "bag", "bag/k", EntryKind::File)?;
+    assert!(rt; FolderSupplier::open(file, alloc, "bag/k").is_err());
     Ok(())
 }
