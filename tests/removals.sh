@@ -44,10 +44,9 @@ bag_folder/name.rt made_for create_dir_all
 bag_folder/sink.rt create create_dir
 bag_folder/sink.rt payload_dir create_dir_all
 bag_folder/sink.rt write write_all
-bag_receiver/export.rt write_file .write
 bag_receiver/export.rt write_content .write
 bag_writer/payload.rt write_piece .write
-bag_writer/tags/tag_file.rt write_through .write
+bag_writer/sink.rt add_file .write
 KNOWN
 expect 'what is removed, emptied, written and made' 0 '' diff "$work/known" "$work/calls"
 finish

@@ -25,7 +25,7 @@ use bag_digest::{Failed, piece_buffer};
 use bag_ledger::{KeepFault, Keeper};
 use bag_path::BagPath;
 use bag_rules::{ItemSize, TagSet};
-use bag_writer::Sink;
+use bag_writer::{Sink, add_file};
 use std::alloc::{AllocError, Global};
 use thiserror::Error;
 
@@ -162,23 +162,9 @@ fn write_tags<S: Sink>(tags: &TagSet, sink: &mut S) -> Result<(), Failed>
         result (IsErr result) }
 {
     for file in tags.files() {
-        write_file(file.path(), file.body(), sink)?;
+        add_file(file.path(), file.body(), sink)?;
     }
     Ok(())
-}
-
-/// Opens a file in the sink, writes its octets and ends it.
-fn write_file<S: Sink>(path: &BagPath, octets: &[u8], sink: &mut S) -> Result<(), Failed>
-    ensures written { MatchResult result
-        (λ _. AreWhole ((path.now, octets.now) ∷ []) (S.stored sink.old) (S.stored sink.new))
-        (λ _. ArePart ((path.now, octets.now) ∷ []) (S.stored sink.old) (S.stored sink.new)) }
-    ensures sink { ClosesSink S.is_open S.failures S.sure sink.old sink.new
-        ((S.is_open sink.old ≡ false) × IsFree (S.stored sink.old) path.now)
-        result (IsErr result) }
-{
-    sink.file(path)?;
-    sink.write(octets)?;
-    sink.end()
 }
 
 /// Reads these held payload files, and writes each one.

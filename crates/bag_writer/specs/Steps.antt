@@ -1,4 +1,4 @@
--- How a bag is written, one whole file after another. Only private functions cite these.
+-- How a bag is written, one whole file after another. Most of these are cited by private functions alone.
 use Rattle.std.specs.Prelude.{◌≡◌, ◌⊎◌, ◌∷◌, ◌≤◌, [], ℕ, Bool, true, List, Option, Some, None, Contains, length, map, not, slice_get, take}
 use Rattle.std.specs.List.{AllByRecursion, filter, fold, list_any}
 use Rattle.std.specs.Map.{keys_of}

@@ -3,7 +3,7 @@
 
 pub use fault::{Large, WriteFault};
 pub use memory::MemSink;
-pub use sink::Sink;
+pub use sink::{Sink, add_file};
 pub use spec::{Hole, Spec};
 pub use writing::{payload_count, write_bag};
 

@@ -1,7 +1,8 @@
 //! Sinks, to which bags are written.
-ghost use Rattle.std.specs.Prelude.{◌≡◌, ◌||◌, ℕ, Bool, List, Option, IsErr, OnErr, OnOk, false, is_ok, take, true};
+ghost use Rattle.std.specs.Prelude.{◌≡◌, ◌||◌, ◌∷◌, [], ℕ, Bool, List, Option, IsErr, MatchResult, OnErr, OnOk, false, is_ok, take, true};
 ghost use Rattle.std.specs.Option.{option_map};
-ghost use Rattle.bag_writer.specs.Sinks.{IsFree, StaysOrIsLost, Stored, UsesSink, with_begun, with_ended, with_octets, with_payload_dir};
+ghost use Rattle.bag_writer.specs.Sinks.{ClosesSink, IsFree, StaysOrIsLost, Stored, UsesSink, with_begun, with_ended, with_octets, with_payload_dir};
+ghost use Rattle.bag_writer.specs.Steps.{ArePart, AreWhole};
 
 use bag_digest::Failed;
 use bag_path::BagPath;
@@ -85,4 +86,22 @@ pub trait Sink {
     /// How often the sink has failed. The count stops at its maximum, 2^64 - 1.
     fn failures(&self) -> u64
         ensures { result ≡ failures self.now };
+}
+
+/// Adds a whole file to a sink: begins it, writes these octets and ends it.
+///
+/// # Errors
+///
+/// The sink failed. It may hold the front of the file then.
+pub fn add_file<S: Sink>(path: &BagPath, octets: &[u8], sink: &mut S) -> Result<(), Failed>
+    ensures added { MatchResult result
+        (λ _. AreWhole ((path.now, octets.now) ∷ []) (S.stored sink.old) (S.stored sink.new))
+        (λ _. ArePart ((path.now, octets.now) ∷ []) (S.stored sink.old) (S.stored sink.new)) }
+    ensures sink { ClosesSink S.is_open S.failures S.sure sink.old sink.new
+        ((S.is_open sink.old ≡ false) × IsFree (S.stored sink.old) path.now)
+        result (IsErr result) }
+{
+    sink.file(path)?;
+    sink.write(octets)?;
+    sink.end()
 }

@@ -1,17 +1,16 @@
 //! Writes one tag file: checks its size, writes it whole and lists it.
-ghost use Rattle.std.specs.Prelude.{◌≡◌, ◌∷◌, [], IfOk, IsErr, MatchResult, OnOk, false};
+ghost use Rattle.std.specs.Prelude.{◌≡◌, ◌∷◌, [], IfOk, OnOk};
 ghost use Rattle.std.specs.Result.{result_err};
 ghost use Rattle.bag_path.specs.Paths.{IsPath};
 ghost use Rattle.bag_digest.specs.declared.algorithm.AlgSet.{AlgSet};
 ghost use Rattle.bag_tags.specs.Names.{manifest_file};
-ghost use Rattle.bag_writer.specs.Sinks.{ClosesSink, IsFree};
-ghost use Rattle.bag_writer.specs.Steps.{ArePart, AreWhole, IsItemOf};
+ghost use Rattle.bag_writer.specs.Steps.{IsItemOf};
 ghost use Rattle.bag_writer.specs.TagWriting.{AddsItems, WritesFiles};
 
 use crate::fault::{Large, WriteFault};
 use crate::item::Item;
-use crate::sink::Sink;
-use bag_digest::{Alg, AlgSet, Failed, Multi};
+use crate::sink::{Sink, add_file};
+use bag_digest::{Alg, AlgSet, Multi};
 use bag_path::{BagPath, PathFault};
 use bag_rules::limits::LARGEST_TAG_FILE;
 use bag_tags::{Kind, ManifestName};
@@ -59,24 +58,10 @@ pub(crate) fn write_whole<S: Sink>(
     if octets.len() as u64 > LARGEST_TAG_FILE {
         return Err(WriteFault::TooLarge(Large::TagFile(path.clone()?)));
     }
-    match write_through(path, octets, sink) {
+    match add_file(path, octets, sink) {
         Ok(()) => Ok(()),
         Err(_) => Err(WriteFault::Sink),
     }
-}
-
-/// Begins a file, writes its octets and ends it.
-fn write_through<S: Sink>(path: &BagPath, octets: &[u8], sink: &mut S) -> Result<(), Failed>
-    ensures written { MatchResult result
-        (λ _. AreWhole ((path.now, octets.now) ∷ []) (S.stored sink.old) (S.stored sink.new))
-        (λ _. ArePart ((path.now, octets.now) ∷ []) (S.stored sink.old) (S.stored sink.new)) }
-    ensures sink { ClosesSink S.is_open S.failures S.sure sink.old sink.new
-        ((S.is_open sink.old ≡ false) × IsFree (S.stored sink.old) path.now)
-        result (IsErr result) }
-{
-    sink.file(path)?;
-    sink.write(octets)?;
-    sink.end()
 }
 
 /// A file of these octets, as manifests list it.
