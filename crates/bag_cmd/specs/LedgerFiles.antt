@@ -188,9 +188,9 @@ module _ {S D : Type 0} (g : Ghosts D) (image : Image) where
       × ((file_state opened).now.schema ≡ no_schema)
       × IsHandedBack image opened connection (MakesLedger (file_state opened))
 
-  -- Memory ran out, or the store failed; or something else was seen in place of a file; or the files
-  -- hold no database; or its database was refused. The last two are said of what was opened, if the
-  -- store returned what was written to it.
+  -- Memory ran out, or the store failed; or something else was seen in place of a file; or the
+  -- files hold no database; or its database was refused. The last two are said of what was opened,
+  -- if the store returned what was written to it.
   pub data IsUnopened (it : Unopened (Left S D g)) (is_none : Seen → Type 0)
       (may_refuse : Held (FileStore D g) → Type 0) : Type 0 where
     NoAnswer : HasNoAnswer it → IsAsItWas it.left → IsUnopened it is_none may_refuse

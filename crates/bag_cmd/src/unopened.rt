@@ -105,7 +105,8 @@ impl<S, D: Disk> Unopened<Left<S, D>> {
     pub fn saw(seen: Seen, left: Left<S, D>) -> Unopened<Left<S, D>>
         requires { seen.found ≢ Found.File }
         ensures left { (result.left ≡ left) × (result.seen ≡ Some seen) }
-        ensures fault { (result.fault ≡ NotALedger) × (result.cause ≡ Some (cause_seen seen.found)) }
+        ensures fault { (result.fault ≡ NotALedger)
+            × (result.cause ≡ Some (cause_seen seen.found)) }
     {
         let cause = match seen.found() {
             Found::Nothing => LedgerCause::Missing,

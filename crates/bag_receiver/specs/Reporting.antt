@@ -28,9 +28,9 @@ pub record IsReporting {K : Type 0} (holds may_leave : K → Ledger → Type 0) 
       (λ fault. fault ≡ NoTransfer → IsNamed now.held name None)
   -- An invalid name names no transfer, whatever the store would answer.
   pub judged : ¬ IsTransferName name → IsErrOf answer NoTransfer
-  -- After a transfer was opened, for any list of deliveries with losses, repeats and reordering, the report is that of
-  -- its tag files with each distinct accepted delivery once, provided that no two different contents offered for one
-  -- path are valid.
+  -- After a transfer was opened, for any list of deliveries with losses, repeats and reordering,
+  -- the report is that of its tag files with each distinct accepted delivery once, provided that
+  -- no two different contents offered for one path are valid.
   pub headline : clean new.keeper → (now : LedgerState) → IsInState holds may_leave old now
       → (tags : Files) (deliveries : List Delivery)
       → Happened now name tags (map Answered deliveries) → OneContent tags deliveries

@@ -12,8 +12,8 @@ use Rattle.bag_sqlite.specs.declared.adopting.AdoptFault.{AdoptFault}
 
 module _ {S : Type 0} (g : Ghosts S) (offered : Held S) where
   -- The database passed whole, and a keeper has it. It answers for the ledger that the connection
-  -- held, and keeps the one that it offered, which a crash leaves alone. A crash before may have left
-  -- the same ledger in format 1.
+  -- held, and keeps the one that it offered, which a crash leaves alone. A crash before may have
+  -- left the same ledger in format 1.
   pub record IsAdopted (now : Held S) : Type 0 where
     pub verified : HasCleanDisk (state g now) → IsVerified g (state g offered).committed
     pub holds : HasCleanDisk (state g now) → (ledger : Ledger)

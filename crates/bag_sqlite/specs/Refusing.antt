@@ -302,7 +302,7 @@ module _ {S : Type 0} (g : Ghosts S) (db : Database) (format : Format) where
   RefusesTransfers Memory = Unit {0}
   RefusesTransfers (Store error) = Unit {0}
 
-  -- why it isn't opened as a ledger of this format; if it is damaged, it has no row without an owner
+  -- why it isn't opened as a ledger of this format; if it is damaged, it has no row without owner
   abbrev pub RefusesAs : AdoptFault → Type 0
   RefusesAs NotALedger = IsNoLedger g db format
   RefusesAs (Damaged name path) = AllByRecursion (λ text. Tells g db text [] [])
