@@ -9,7 +9,7 @@ use Rattle.bag_cmd.specs.declared.request.Request.{Request}
 use Rattle.bag_cmd.specs.declared.request.Request.TheVariants.{Check, Ledger, Make}
 use Rattle.bag_cmd.specs.declared.request.Work.{Work}
 use Rattle.bag_cmd.specs.declared.request.Work.TheVariants.{Audit, Begin, Export, Fetch, Intake, List as Listing, Report}
-use Rattle.bag_cmd.specs.Requests.{NamesCommand, is_option, operands_of, request_name, work_name}
+use Rattle.bag_cmd.specs.Requests.{AsksFor, IsRequest, NamesCommand, is_option, operands_in, operands_of, request_name, work_name}
 use Rattle.bag_folder.proofs.CourierLemmas.{rest_from}
 
 next_taken : {X : Type 0} (xs : List X) (n : ℕ) (x : X) → slice_get xs n ≡ Some x → take (n + 1) xs ≡ take n xs ++ x ∷ []
@@ -98,6 +98,34 @@ no_words (x ∷ xs) none = absurd (omega (arith, none))
 pub none_named : {X : Type 0} (octets : X → List ℕ) (xs : List X) → map octets xs ≡ [] → length xs ≡ 0
 none_named octets [] none = refl
 none_named octets (x ∷ xs) none = absurd (cc)
+
+-- the command's name and the arguments after it
+module _ (words rest : List (List ℕ)) (command : List ℕ) (is : words ≡ command ∷ rest) where
+  pub asked : (operands : List (List ℕ)) (request : Request) → operands_of rest ≡ Some operands → IsRequest command operands request → AsksFor words request
+  asked operands request given it = (
+    (rest, is ∙ ap (λ (name : List ℕ). name ∷ rest) it.0, given ∙ ap Some it.1),
+    it.2,
+  )
+
+  -- these arguments have operands, but there is no such command
+  pub not_asked : (operands : List (List ℕ)) → operands_of rest ≡ Some operands → ((request : Request) → IsRequest command operands request → ⊥) → ¬ NamesCommand words
+  not_asked operands given none named =
+      let at = named.1.0 in
+      let both : command ∷ rest ≡ request_name named.0 ∷ at.0 = sym is ∙ at.1 in
+      let name : command ≡ request_name named.0 = cc both in
+      let others : rest ≡ at.0 = cc both in
+      let same : Some operands ≡ Some (operands_in named.0) = sym given ∙ ap operands_of others ∙ at.2 in
+      let operands_are : operands ≡ operands_in named.0 = cc same in
+      none named.0 (name, operands_are, named.1.1)
+
+  -- one of these arguments is an option
+  pub no_operands : operands_of rest ≡ None → ¬ NamesCommand words
+  no_operands given named =
+      let at = named.1.0 in
+      let both : command ∷ rest ≡ request_name named.0 ∷ at.0 = sym is ∙ at.1 in
+      let others : rest ≡ at.0 = cc both in
+      let same : None ≡ Some (operands_in named.0) = sym given ∙ ap operands_of others ∙ at.2 in
+      cc same
 
 no_work : (work : Work) → [] ≡ work_name work → ⊥
 no_work (Begin name folder) is = cc

@@ -8,7 +8,7 @@ use crate::commands::make::{Making, make_folder};
 use crate::ended::Ended;
 use crate::ledger::Ledgers;
 use crate::progress::Progress;
-use crate::request::Request;
+use crate::request::{Request, operands};
 use crate::usage::Usage;
 use bag_commands::status::{DONE, USAGE};
 use bag_commands::{Output, Stop, print_stop};
@@ -25,7 +25,7 @@ pub fn command<R: Files + Eprint, D: Directories, L: Ledgers, W: Write + Drop>(
     ledgers: L,
     made: &mut Destination<'_, R>,
     alloc: Global,
-    words: Vec<String>,
+    mut words: Vec<String>,
     out: &mut Output<W>,
 ) -> Ended
     ensures { RunsCommand L.Kept.Keeper L.Ledgers W.contents (D.listing disk.now)
@@ -40,7 +40,11 @@ pub fn command<R: Files + Eprint, D: Directories, L: Ledgers, W: Write + Drop>(
     let Ok(given) = words.clone() else {
         return Ended::plain(print_stop(Stop::Memory, out));
     };
-    match Request::parse(words) {
+    let name = words.remove(0);
+    let Some(operands) = operands(words) else {
+        return Ended::plain(refuse(rt, alloc, &given, out));
+    };
+    match Request::of(name.as_str(), operands.as_slice()) {
         Some(request) => run_request(rt, progress, disk, ledgers, made, alloc, &request, out),
         None => Ended::plain(refuse(rt, alloc, &given, out)),
     }
@@ -54,38 +58,28 @@ fn run_request<R: Files + Eprint, D: Directories, L: Ledgers, W: Write + Drop>(
     ledgers: L,
     made: &mut Destination<'_, R>,
     alloc: Global,
-    request: &Request,
+    request: &Request<'_>,
     out: &mut Output<W>,
 ) -> Ended
     ensures { Runs L.Kept.Keeper L.Ledgers W.contents (D.listing disk.now) request.now made.old
         made.new out.old out.new result }
 {
     match request {
-        Request::Check { folder } => check_folder(rt, progress, disk, alloc, folder.as_str(), out),
+        Request::Check { folder } => check_folder(rt, progress, disk, alloc, folder, out),
         Request::Make {
             source,
             destination,
             algorithms,
         } => {
             let making = Making {
-                source: source.as_str(),
-                destination: destination.as_str(),
+                source,
+                destination,
                 names: algorithms,
             };
             make_folder(rt, progress, disk, made, alloc, &making, out)
         }
         Request::Ledger { ledger, work } => {
-            work_on_ledger(
-                rt,
-                progress,
-                disk,
-                ledgers,
-                made,
-                alloc,
-                ledger.as_str(),
-                work,
-                out,
-            )
+            work_on_ledger(rt, progress, disk, ledgers, made, alloc, ledger, work, out)
         }
     }
 }

@@ -41,7 +41,7 @@ pub fn work_on_ledger<R: Files + Eprint, D: Directories, L: Ledgers, W: Write + 
     made: &mut Destination<'_, R>,
     alloc: Global,
     ledger: &str,
-    work: &Work,
+    work: &Work<'_>,
     out: &mut Output<W>,
 ) -> Ended
     ensures { WorksOn L.Kept.Keeper L.Ledgers (D.listing disk.now) W.contents ledger.now work.now
@@ -107,7 +107,7 @@ fn open_and_work<'a, R: Files + Eprint, D: Directories, L: Ledgers, W: Write + D
     made: &mut Destination<'_, R>,
     alloc: Global,
     ledger: &str,
-    work: &Work,
+    work: &Work<'_>,
     out: &mut Output<W>,
 ) -> Result<Worked<Watched<'a, L::Kept, R>, L::File>, Unopened<L::Left>>
     ensures works { IfOk result (λ done. Works L.Kept.Keeper L.Ledgers (D.listing disk.now)
@@ -141,7 +141,7 @@ fn open_and_work<'a, R: Files + Eprint, D: Directories, L: Ledgers, W: Write + D
 fn open<L: Ledgers>(
     ledgers: L,
     ledger: &str,
-    work: &Work,
+    work: &Work<'_>,
 ) -> Result<Opened<L::Kept, L::File>, Unopened<L::Left>>
     ensures { MatchResult result
         (λ it. IsOpenFor L.Ledgers ledger.now work.now it.is_made it.kept)
@@ -190,7 +190,7 @@ fn do_work<K: Keeper, R: Files + Eprint, D: Directories, W: Write + Drop>(
     made: &mut Destination<'_, R>,
     alloc: Global,
     receiver: &mut Receiver<K>,
-    work: &Work,
+    work: &Work<'_>,
     out: &mut Output<W>,
 ) -> Ended
     ensures { DoesWork K.Keeper (D.listing disk.now) W.contents work.now made.old made.new
@@ -198,51 +198,18 @@ fn do_work<K: Keeper, R: Files + Eprint, D: Directories, W: Write + Drop>(
 {
     match work {
         Work::Begin { name, folder } => {
-            begin_with_folder(
-                rt,
-                disk,
-                alloc,
-                receiver,
-                name.as_str(),
-                folder.as_str(),
-                out,
-            )
+            begin_with_folder(rt, disk, alloc, receiver, name, folder, out)
         }
         Work::Intake { name, folders } => {
-            intake_folders(
-                rt,
-                progress,
-                disk,
-                alloc,
-                receiver,
-                name.as_str(),
-                folders,
-                out,
-            )
+            intake_folders(rt, progress, disk, alloc, receiver, name, folders, out)
         }
-        Work::Report { name } => Ended::plain(report_to(alloc, receiver, name.as_str(), out)),
-        Work::Audit { name } => Ended::plain(audit_to(alloc, receiver, name.as_str(), out)),
+        Work::Report { name } => Ended::plain(report_to(alloc, receiver, name, out)),
+        Work::Audit { name } => Ended::plain(audit_to(alloc, receiver, name, out)),
         Work::Fetch { name, folder } => {
-            fetch_from_folder(
-                rt,
-                progress,
-                alloc,
-                receiver,
-                name.as_str(),
-                folder.as_str(),
-                out,
-            )
+            fetch_from_folder(rt, progress, alloc, receiver, name, folder, out)
         }
         Work::Export { name, folder } => {
-            export_into_folder(
-                progress,
-                made,
-                alloc,
-                receiver,
-                name.as_str(),
-                folder.as_str(),
-                out,
-            )
+            export_into_folder(progress, made, alloc, receiver, name, folder, out)
         }
         Work::List => Ended::plain(list_to(alloc, receiver, out)),
     }
