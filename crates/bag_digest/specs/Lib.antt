@@ -1,5 +1,6 @@
 pub mod Algorithm
 pub mod Hash
+pub mod Lanes
 pub mod Each
 pub mod Device
 pub mod Reading

@@ -7,6 +7,7 @@ pub use counted::Counted;
 pub use digest::Digest;
 pub use each::digest_each;
 pub use failures::Failures;
+pub use lanes::MultiLanes;
 pub use multi::{Digests, Multi};
 pub use reading::{
     Found, PIECE, ReadFault, SourceFault, buffer_of, digest_reader, digest_through, fill,
@@ -20,6 +21,7 @@ mod digest;
 mod each;
 pub mod examples;
 mod failures;
+mod lanes;
 pub mod laws;
 mod multi;
 mod reading;
