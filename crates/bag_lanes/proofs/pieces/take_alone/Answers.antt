@@ -1,7 +1,5 @@
-use Rattle.std.proofs.Common.{ℕ, ◌*◌, ◌≤◌, length, arith}
+use Rattle.std.proofs.Common.{◌*◌, ◌≤◌, length, arith}
 use Rattle.std.proofs.lemmas.List.{take_all}
-use Rattle.bag_lanes.specs.Lanes.{lane}
-use Rattle.bag_lanes.specs.Streams.{IsValueOf}
 use Rattle.bag_lanes.proofs.StreamLemmas.{value_of_begun, value_of_more}
 use Rattle.bag_lanes.proofs.pieces.take_alone.Goals as goal
 
