@@ -5,3 +5,4 @@ pub mod Sets
 pub mod Spelled
 pub mod Published
 pub mod WholeDigests
+mod StreamLemmas

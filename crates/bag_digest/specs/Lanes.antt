@@ -1,5 +1,5 @@
 -- What the hashers of four streams by several algorithms hold.
-use Rattle.std.specs.Prelude.{◌≡◌, ℕ, List, Bool, Option, None, is_some, slice_index_or}
+use Rattle.std.specs.Prelude.{◌≡◌, ℕ, List, None, is_some, slice_index_or}
 use Rattle.sha2.specs.Hashers.{Holds512}
 use Rattle.bag_lanes.specs.Streams.{HoldsMd5, HoldsSha1, HoldsSha256}
 use Rattle.bag_digest.specs.declared.algorithm.Alg.TheVariants.{Md5, Sha1, Sha256, Sha512}

@@ -5,3 +5,4 @@ pub mod Each
 pub mod Device
 pub mod Reading
 pub mod Spelling
+pub mod Streams

@@ -14,6 +14,7 @@ pub use reading::{
     piece_buffer, read_or_digest, read_piece, read_to_end_within,
 };
 pub use source::{Failed, Source};
+pub use streams::{FRONT, Stream, StreamFault, digest_streams};
 
 mod algorithm;
 mod counted;
@@ -26,3 +27,4 @@ pub mod laws;
 mod multi;
 mod reading;
 mod source;
+mod streams;

@@ -1,4 +1,4 @@
-use Rattle.std.proofs.Common.{◌≢◌, ℕ, List, Bool, None, ◌++◌, slice_index_or, arith}
+use Rattle.std.proofs.Common.{ℕ, List, Bool, None, ◌++◌, slice_index_or, arith}
 use Rattle.sha2.specs.Hashers.{Holds512}
 use Rattle.bag_digest.specs.Hash.{HoldsIf}
 use Rattle.bag_lanes.specs.Streams.{piece_at}

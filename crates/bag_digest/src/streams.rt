@@ -1,0 +1,246 @@
+//! The digests of several sources, which are read and hashed side by side.
+ghost use Rattle.std.specs.Prelude.{◌≡◌, ◌+◌, ◌-◌, ◌<◌, ◌≤◌, ◌++◌, ℕ, List, [], None, IfErr, MatchOption, MatchResult, OnOk, Some, length, min, slice_get};
+ghost use Rattle.bag_digest.specs.Device.{UsesSource};
+ghost use Rattle.bag_digest.specs.Hash.{AreDigests};
+ghost use Rattle.bag_digest.specs.Lanes.{HoldsAt};
+ghost use Rattle.bag_digest.specs.Streams.{AreDone, AreFresh, AreFreshIn, AreFull, AreHashed, AreUnder, HasStopped, HaveEnded, HaveEndedIn, HaveStoppedAt, HaveTaken, IsAt, IsFirstOpen, IsFirstStopped, IsUnder, OtherLanesStay, OthersStay};
+ghost use Rattle.bag_digest.specs.declared.algorithm.AlgSet.{AlgSet};
+ghost use Rattle.bag_digest.specs.declared.streams.Stream.{Stream};
+
+use crate::algorithm::AlgSet;
+use crate::lanes::MultiLanes;
+use crate::multi::Digests;
+use crate::reading::{PIECE, SourceFault, fill};
+use crate::source::Source;
+
+/// The number of octets in a piece of a stream.
+pub const FRONT: usize = 2 * PIECE;
+
+/// A source of which a first piece was read, to be hashed beside others.
+#[derive(Drop)]
+pub struct Stream<S> {
+    /// What gives the rest.
+    pub source: S,
+    /// The piece that was read last.
+    pub piece: Vec<u8>,
+    /// The number of all its octets, and their digests, once it was read to its end.
+    pub sums: Option<(u64, Digests)>,
+}
+
+/// Why streams weren't all read to their ends: the first of them that wasn't, by its place, and its fault.
+#[derive(Clone, Copy, Debug, PartialEq, Eq)]
+pub struct StreamFault {
+    /// The place of the stream.
+    pub place: usize,
+    /// Its fault.
+    pub fault: SourceFault,
+}
+
+/// Reads each stream to its end, four at a time, and takes their digests by each algorithm of the set, side by side.
+/// The limit counts all octets of a stream, those of its first piece too. Allocates no memory.
+///
+/// # Errors
+///
+/// The fault of the first stream, in their order, that has one. Those before it were read to their ends; those behind
+/// it may have been read too, and what they did is not told.
+pub fn digest_streams<S: Source>(
+    set: AlgSet,
+    limit: u64,
+    streams: &mut [Stream<S>],
+) -> Result<(), StreamFault>
+    requires limit { FRONT ≤ limit }
+    requires fresh { AreFresh streams.old }
+    ensures ended { OnOk result (HaveEnded S.remaining S.failures S.ready S.keeps set limit
+        streams.old streams.new) }
+    ensures stopped { IfErr result (IsFirstStopped S.remaining S.failures S.ready S.keeps set limit
+        0 streams.old streams.new) }
+{
+    let mut first = 0;
+    'fours: loop {
+        if first == streams.len() {
+            return Ok(());
+        }
+        let end = streams.len().min(first + 4);
+        digest_four(set, limit, streams, first, end)?;
+        first = end;
+    }
+}
+
+/// Does this for at most four streams: those from the place `first` to before the place `end`.
+fn digest_four<S: Source>(
+    set: AlgSet,
+    limit: u64,
+    streams: &mut [Stream<S>],
+    first: usize,
+    end: usize,
+) -> Result<(), StreamFault>
+    requires limit { FRONT ≤ limit }
+    requires four { (first ≤ end) × (end ≤ first + 4) × (end ≤ length streams.old) }
+    requires fresh { AreFreshIn first end streams.old }
+    ensures ended { OnOk result (HaveEndedIn S.remaining S.failures S.ready S.keeps set limit
+        first end streams.old streams.new) }
+    ensures stopped { IfErr result (IsFirstStopped S.remaining S.failures S.ready S.keeps set limit
+        first streams.old streams.new) }
+    ensures others { OthersStay first end streams.old streams.new }
+{
+    let mut multi = begun(set);
+    let mut hashed = 0u64;
+    let mut end = end;
+    let mut told = None;
+    'pieces: loop {
+        let Some(next) = unended(streams, first, end) else {
+            return match told {
+                None => Ok(()),
+                Some(fault) => Err(StreamFault { place: end, fault }),
+            };
+        };
+        take_pieces(&mut multi, streams, first, end, next);
+        hashed += FRONT as u64;
+        if let Err(stopped) = advance_each(&mut multi, streams, first, end, hashed, limit) {
+            told = Some(stopped.fault);
+            end = stopped.place;
+        }
+    }
+}
+
+/// Lanes of which each has begun a stream.
+fn begun(set: AlgSet) -> MultiLanes
+    ensures { (i : ℕ) → i < 4 → HoldsAt result set i [] }
+{
+    let mut multi = MultiLanes::new(set);
+    multi.begin(0);
+    multi.begin(1);
+    multi.begin(2);
+    multi.begin(3);
+    multi
+}
+
+/// The first stream that hasn't ended, from the place `first` to before the place `end`.
+fn unended<S>(streams: &[Stream<S>], first: usize, end: usize) -> Option<usize>
+    requires { end ≤ length streams.now }
+    ensures { MatchOption result (AreDone streams.now first end)
+        (IsFirstOpen streams.now first end) }
+{
+    for k in first..end {
+        if streams[k].sums.is_none() {
+            return Some(k);
+        }
+    }
+    None
+}
+
+/// Takes the piece of each stream that hasn't ended. The first of them is that at the place `next`.
+fn take_pieces<S>(
+    multi: &mut MultiLanes,
+    streams: &[Stream<S>],
+    first: usize,
+    end: usize,
+    next: usize,
+)
+    requires four { (end ≤ first + 4) × (end ≤ length streams.now) }
+    requires full { AreFull streams.now first end }
+    requires first { IsFirstOpen streams.now first end next }
+    ensures { HaveTaken streams.now first end multi.old multi.new }
+{
+    if unended(streams, next + 1, end).is_none() {
+        multi.take_alone(next - first, streams[next].piece.as_slice());
+    } else {
+        multi.take(&[
+            piece_of(streams, first, end),
+            piece_of(streams, first + 1, end),
+            piece_of(streams, first + 2, end),
+            piece_of(streams, first + 3, end),
+        ]);
+    }
+}
+
+/// The piece of the stream at the place `k`, or that of the last one if there are not so many.
+fn piece_of<S>(streams: &[Stream<S>], k: usize, end: usize) -> &[u8]
+    requires { (0 < end) × (end ≤ length streams.now) }
+    ensures { (stream : Stream S) → slice_get streams.now (min k (end - 1)) ≡ Some stream
+        → result.now ≡ stream.piece.items }
+{
+    streams[k.min(end - 1)].piece.as_slice()
+}
+
+/// Reads the next piece of each stream that hasn't ended, in their order.
+///
+/// # Errors
+///
+/// The first fault. The streams behind it have not been read on.
+fn advance_each<S: Source>(
+    multi: &mut MultiLanes,
+    streams: &mut [Stream<S>],
+    first: usize,
+    end: usize,
+    hashed: u64,
+    limit: u64,
+) -> Result<(), StreamFault>
+    requires four { (first ≤ end) × (end ≤ first + 4) × (end ≤ length streams.old) }
+    requires full { AreFull streams.old first end }
+    requires within { hashed ≤ limit }
+    ensures advanced { (set : AlgSet) (start : List (Stream S))
+        → AreHashed S.remaining S.failures S.ready S.keeps multi.old set limit hashed first first
+        end start streams.old
+        → MatchResult result
+        (λ done. AreUnder S.remaining S.failures S.ready S.keeps multi.new set limit hashed first
+        first end start streams.new)
+        (HaveStoppedAt S.remaining S.failures S.ready S.keeps multi.new set limit hashed first end
+        start streams.new) }
+    ensures others { OthersStay first end streams.old streams.new }
+{
+    for k in first..end {
+        if streams[k].sums.is_none() {
+            match advance(multi, k - first, &mut streams[k], hashed, limit) {
+                Ok(()) => {}
+                Err(fault) => return Err(StreamFault { place: k, fault }),
+            }
+        }
+    }
+    Ok(())
+}
+
+/// Reads the next piece of the stream in lane `i`, after as many octets as were hashed. If the source ends within it, the digests
+/// are taken.
+fn advance<S: Source>(
+    multi: &mut MultiLanes,
+    i: usize,
+    stream: &mut Stream<S>,
+    hashed: u64,
+    limit: u64,
+) -> Result<(), SourceFault>
+    requires lane { (i < 4) × (hashed ≤ limit) }
+    requires stream { (length stream.old.piece.items ≡ FRONT) × (stream.old.sums ≡ None) }
+    ensures full { length stream.new.piece.items ≡ FRONT }
+    ensures advanced { (set : AlgSet) (start : Stream S)
+        → IsUnder S.remaining S.failures S.ready S.keeps multi.old set i limit hashed [] start
+        stream.old
+        → MatchResult result
+        (λ done. IsUnder S.remaining S.failures S.ready S.keeps multi.new set i limit hashed
+        stream.new.piece.items start stream.new)
+        (λ fault. HasStopped S.remaining S.failures S.ready S.keeps limit fault start stream.new) }
+    ensures others { OtherLanesStay i multi.old multi.new }
+{
+    let n = fill(
+        stream.piece.as_mut_slice(),
+        &mut stream.source,
+        limit - hashed,
+    )?;
+    if n < stream.piece.len() {
+        let digests = end_lane(multi, i, &stream.piece[..n]);
+        stream.sums = Some((hashed + n as u64, digests));
+    }
+    Ok(())
+}
+
+/// The digests of lane `i`'s stream, which ends with these octets.
+fn end_lane(multi: &mut MultiLanes, i: usize, rest: &[u8]) -> Digests
+    requires { i < 4 }
+    ensures digests { (set : AlgSet) (octets : List ℕ) → HoldsAt multi.old set i octets
+        → AreDigests result set (octets ++ rest.now) }
+    ensures others { OtherLanesStay i multi.old multi.new }
+{
+    let whole = rest.len() - rest.len() % 64;
+    multi.take_alone(i, &rest[..whole]);
+    multi.finish(i, &rest[whole..])
+}
