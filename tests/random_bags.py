@@ -130,6 +130,13 @@ def content_at_edges(rng):
     return (octets * (length // len(octets) + 1))[:length]
 
 
+def content_of_pieces(rng):
+    """As many octets as some pieces of a check have, or nearly."""
+    octets = bytes(rng.randrange(256) for _ in range(7))
+    length = 131_072 * rng.choice([1, 1, 2, 2, 3, 4]) + rng.choice([-1, 0, 0, 0, 1, 63, 64, 65, 65_536])
+    return (octets * (length // len(octets) + 1))[:length]
+
+
 def manifest_line(rng, digest, path, version):
     digest = rng.choice([str.lower, str.lower, str.upper, str.capitalize])(digest).encode()
     before = rng.choice([b"  "] * 4 + [b" ", b"\t", b" \t  ", b" *", b"  ./", b"\t*./"])
@@ -150,6 +157,12 @@ class Bag:
             # More files than are hashed side by side, or about as many.
             for number in range(rng.choice([30, 31, 32, 33, 63, 64, 65, 100])):
                 self.files[b"data/many/%03d" % number] = contents(rng)
+        if contents is content_at_edges and sometimes(rng, 2):
+            # Files of several pieces, as many as are read side by side or more, and short ones among them.
+            for number in range(rng.choice([1, 2, 3, 4, 5, 7, 8, 9])):
+                self.files[b"data/large/%03d" % number] = content_of_pieces(rng)
+                if sometimes(rng, 20):
+                    self.files[b"data/large/%03d short" % number] = contents(rng)
         for name in rng.sample(TAG_NAMES, rng.choice([0, 0, 0, 1, 2])):
             self.files[name] = contents(rng)
         self.payload_manifests(rng.sample(ALGORITHMS, rng.choice([1, 1, 1, 2, 2, 3, 4])))
