@@ -10,10 +10,15 @@ build_first
 program=crates/bag_cmd/out/bag_cmd
 
 # big NAME: makes a bag with a sparse payload file that takes many seconds to read but no room on the disk, followed by
-# data/z.
+# files without octets, more than are read together, and data/z.
 big() {
+    local number
     cp -r examples/first-bag "$work/$1"
     truncate -s 64G "$work/$1/data/b.bin" && touch "$work/$1/data/z" || return
+    for number in {10..49}; do
+        : >"$work/$1/data/c$number"
+        echo "e3b0c44298fc1c149afbf4c8996fb92427ae41e4649b934ca495991b7852b855  data/c$number"
+    done >>"$work/$1/manifest-sha256.txt"
     printf '%064d  data/b.bin\n%064d  data/z\n' 0 0 >>"$work/$1/manifest-sha256.txt"
 }
 

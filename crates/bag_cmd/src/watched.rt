@@ -7,10 +7,10 @@ use bag_digest::{Failed, Source};
 use bag_ledger::{KeepFault, Keeper, PutFault};
 use bag_path::BagPath;
 use bag_receiver::{Courier, Supplier};
-use bag_rules::{ItemSize, Paths, TagSet, Tree, Want};
+use bag_rules::{ItemSize, OpenTree, Paths, TagSet, Tree, Want};
 use bag_sqlite::Watch;
 use bag_writer::Sink;
-use std::alloc::Global;
+use std::alloc::{AllocError, Global};
 use std::marker::Model;
 
 /// A tree, a courier, a supplier, a keeper or a sink, whose files and octets a meter counts.
@@ -95,6 +95,20 @@ impl<T: Tree, R: Eprint> Tree for Watched<'_, T, R> {
     }
 
     ghost reads_keep = { T.reads_keep };
+}
+
+impl<'a, T: OpenTree, R: Eprint> OpenTree for Watched<'a, T, R> {
+    type File = Watched<'a, T::File, R>;
+
+    fn open_file(&mut self, alloc: Global, i: usize) -> Result<Self::File, AllocError> {
+        self.meter.add_file();
+        let file = self.inside.open_file(alloc, i)?;
+        Ok(Watched::new(file, self.meter))
+    }
+
+    fn fail(&mut self, file: &Self::File) {
+        self.inside.fail(&file.inside);
+    }
 }
 
 impl<C: Courier, R: Eprint> Courier for Watched<'_, C, R> {

@@ -105,6 +105,16 @@ pub record StartsFile {E : Type 0} (old new : FolderShown) (i : ℕ) (result : R
       IsSomeAnd (slice_get (paths_in old.shown) i)
       (λ path. unfit.path ≡ name_below old.folder (path_below old.place path)))
 
+-- The failure of the open file at this index is counted, and told of its name.
+pub record TellsFile (old new : FolderShown) (i : ℕ) : Type 0 where
+  pub changes : new ≡ record old {
+    name = new.name;
+    failures = one_more old.failures;
+    trouble = new.trouble;
+  }
+  pub told : IfSome (slice_get (paths_in old.shown) i) (λ path.
+      IfSome new.trouble (λ unfit. unfit.path ≡ name_below old.folder (path_below old.place path)))
+
 -- the same files
 abbrev pub SameShown : FolderShown → FolderShown → Type 0
 SameShown old new = new.shown ≡ old.shown

@@ -1,15 +1,17 @@
 //! A folder on disk, as a tree of files.
-ghost use Rattle.std.specs.Prelude.{◌≡◌, ◌↔◌, ◌||◌, ℕ, List, Contains, [], None, string_bytes, ◌<◌, ◌≤◌, IfErr, IfOk, IsErr, MatchOption, OnOk, Some, is_ok, is_some, length};
+ghost use Rattle.std.specs.Prelude.{◌≡◌, ◌↔◌, ◌||◌, ℕ, List, Contains, [], None, string_bytes, ◌<◌, ◌≤◌, IfErr, IfOk, IsErr, MatchOption, OnOk, OnSome, Some, is_ok, is_some, length};
 ghost use Rattle.std.specs.List.{list_any};
 ghost use Rattle.bag_path.specs.Paths.{is_payload};
+ghost use Rattle.bag_digest.specs.Device.{Rises};
 ghost use Rattle.bag_rules.specs.Trees.{AreRising, octets_in, paths_in};
-ghost use Rattle.bag_folder.specs.Directories.{in_payload};
+ghost use Rattle.bag_folder.specs.Directories.{in_payload, name_below};
 ghost use Rattle.bag_folder.specs.Faults.{IfUnfit, no_name};
 ghost use Rattle.bag_folder.specs.Folders.{IsOpened, IsRefused};
 
 use crate::directory::Directories;
 use crate::fault::OpenFault;
-use crate::name::opened;
+use crate::file::FolderFile;
+use crate::name::{opened, spell};
 use crate::payload::InPayload;
 use crate::place::Place;
 use crate::troubles::Troubles;
@@ -17,8 +19,8 @@ use crate::unfit::{Cause, Unfit};
 use crate::walk::{Below, walk};
 use bag_digest::{Failed, Source};
 use bag_path::{BagPath, LONGEST_PATH};
-use bag_rules::{Paths, Tree};
-use std::alloc::Global;
+use bag_rules::{OpenTree, Paths, Tree};
+use std::alloc::{AllocError, Global};
 use std::io::Read;
 use std::marker::Model;
 use std::rt::Files;
@@ -309,6 +311,59 @@ impl<R: Files> Tree for FolderTree<R> {
     }
 
     ghost reads_keep = { keeps_tree };
+}
+
+impl<R: Files> OpenTree for FolderTree<R> {
+    ghost use Rattle.bag_rules.specs.Trees.{UsesTree};
+    ghost use Rattle.bag_folder.specs.Folders.{FolderShown, TellsFile};
+
+    type File = FolderFile<R>;
+
+    /// Opens a file. Allocates no memory. The folder is assumed to be unchanged since it was read, as at a start.
+    fn open_file(&mut self, _alloc: Global, i: usize) -> Result<FolderFile<R>, AllocError>
+        requires { i < length (paths_in self.old.shown) }
+        ensures octets { IfOk result (λ file. None ≡ octets_in self.old.shown i) }
+        ensures unfailed { IfOk result (λ file. file.failures ≡ 0) }
+        ensures ready { ⊥ → IfOk result (λ file. ⊥) }
+        ensures uses { UsesTree (λ (tree : FolderShown). tree.shown)
+            (λ (tree : FolderShown). tree.failures) (λ (tree : FolderShown). ⊥)
+            self.old self.new ⊥ }
+        ensures place { IfOk result (λ file. file.place ≡ i) }
+        ensures exactly { self.new ≡ record self.old { name = self.new.name } }
+    {
+        let path = self.paths[i].as_str();
+        let below = self.place.path_below(path);
+        let answer = opened(&self.rt, &mut self.name, self.folder.as_str(), below);
+        Ok(FolderFile::new(i, answer))
+    }
+
+    /// Counts the failure, and keeps its cause with the name of the file. Allocates no memory.
+    fn fail(&mut self, file: &FolderFile<R>)
+        requires { 1 ≤ file.now.failures }
+        ensures same { self.new.shown ≡ self.old.shown }
+        ensures counted { Rises self.old.failures self.new.failures }
+        ensures sure { ⊥ → ⊥ }
+        ensures exactly { TellsFile self.old self.new file.now.place }
+    {
+        let path = match self.paths.get(file.place) {
+            Some(path) => path.as_str(),
+            None => "",
+        };
+        let below = self.place.path_below(path);
+        let cause = named_cause(&mut self.name, self.folder.as_str(), below, file.cause);
+        let _: Result<(), Failed> = self.troubles.counted(self.name.as_str(), Err(cause));
+    }
+}
+
+/// The cause, if the name of the file with this path in the folder could be written for it. `name` is overwritten.
+fn named_cause(name: &mut String, folder: &str, path: &str, cause: Option<Cause>) -> Option<Cause>
+    ensures { OnSome result (string_bytes name.new ≡ name_below folder.now path.now) }
+{
+    name.clear();
+    match spell(name, folder, path) {
+        Ok(()) => cause,
+        Err(_) => None,
+    }
 }
 
 /// Whether some path is a payload path.

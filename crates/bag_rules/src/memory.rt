@@ -8,10 +8,11 @@ ghost use Rattle.bag_rules.specs.Trees.{AreRising, UsesTree, octets_in, paths_in
 ghost use Rattle.bag_rules.specs.MemoryInside.{moved_up};
 
 use crate::file::{File, body_of, search};
-use crate::tree::{Paths, Tree};
+use crate::open_memory::MemFile;
+use crate::tree::{OpenTree, Paths, Tree};
 use bag_digest::{Failed, Failures, Source};
 use bag_path::BagPath;
-use std::alloc::Global;
+use std::alloc::{AllocError, Global};
 use std::marker::Model;
 use thiserror::Error;
 
@@ -202,8 +203,21 @@ impl Tree for MemTree {
     ghost reads_keep = { keeps_tree };
 }
 
+impl OpenTree for MemTree {
+    type File = MemFile;
+
+    fn open_file(&mut self, _alloc: Global, i: usize) -> Result<MemFile, AllocError> {
+        let body = self.files[i].body.clone()?;
+        Ok(MemFile::new(body))
+    }
+
+    fn fail(&mut self, _file: &MemFile) {
+        let _: Result<(), Failed> = self.failures.counted(Err(Failed));
+    }
+}
+
 /// Copies octets from `at` on to the front of the buffer, as many as there are and as fit. Returns their number.
-fn copy_from(body: &[u8], at: usize, buf: &mut [u8]) -> usize
+pub(crate) fn copy_from(body: &[u8], at: usize, buf: &mut [u8]) -> usize
     ensures copied { drop at body.now ≡ take result buf.new ++ drop (at + result) body.now }
     ensures fits { result ≤ length buf.new }
     ensures inside { at + result ≤ max at (length body.now) }

@@ -1,10 +1,12 @@
 //! Trees of files: a bag's base directory as the check sees it.
-ghost use Rattle.std.specs.Prelude.{◌≡◌, ◌<◌, ℕ, List, Some, Contains, IfNone, IfSome, IsErr, IsTrue, OnOk, is_ok, length, slice_get, true};
+ghost use Rattle.std.specs.Prelude.{◌≡◌, ◌<◌, ◌≤◌, ℕ, List, Some, Contains, IfNone, IfOk, IfSome, IsErr, IsTrue, OnOk, is_ok, length, slice_get, true};
 ghost use Rattle.bag_path.specs.Paths.{is_payload};
+ghost use Rattle.bag_digest.specs.Device.{Rises};
 ghost use Rattle.bag_rules.specs.Trees.{AreRising, KeepsTree, Shown, UsesTree, octets_in, paths_in};
 
 use bag_digest::{Failed, Source};
 use bag_path::BagPath;
+use std::alloc::{AllocError, Global};
 use std::cmp::Ordering;
 
 /// The paths of the files below one base directory, in order.
@@ -52,6 +54,32 @@ pub trait Tree: Paths + Source {
         ensures open { Self.is_open self.new ≡ is_ok result };
 
     ghost reads_keep: { (a b : Self) → Self.keeps a b → KeepsTree Self.shown sure a b };
+}
+
+/// A tree of which several files can be open at a time, each as a value of its own.
+pub trait OpenTree: Tree {
+    /// An open file: a source with a count of failures of its own.
+    type File: Source + Drop;
+
+    /// Opens a file, at its beginning. A file that can't be opened is a value too, of which each read fails. The tree counts nothing.
+    ///
+    /// # Errors
+    ///
+    /// `AllocError` if memory runs out.
+    fn open_file(&mut self, alloc: Global, i: usize) -> Result<Self::File, AllocError>
+        requires { i < length (paths_in (Self.shown self.old)) }
+        ensures octets { IfOk result (λ file.
+            Self.File.remaining file ≡ octets_in (Self.shown self.old) i) }
+        ensures unfailed { IfOk result (λ file. Self.File.failures file ≡ 0) }
+        ensures ready { Self.sure self.old → IfOk result Self.File.ready }
+        ensures uses { UsesTree Self.shown Self.failures Self.sure self.old self.new ⊥ };
+
+    /// Counts the failure of an open file as one of the tree.
+    fn fail(&mut self, file: &Self::File)
+        requires { 1 ≤ Self.File.failures file.now }
+        ensures same { Self.shown self.new ≡ Self.shown self.old }
+        ensures counted { Rises (Self.failures self.old) (Self.failures self.new) }
+        ensures sure { Self.sure self.old → Self.sure self.new };
 }
 
 /// The place of the file with this path. This is a binary search, so it looks at no more than about as many paths

@@ -1,19 +1,20 @@
 use Rattle.std.proofs.Common.{◌≡◌, ◌<◌, ◌-◌, length}
-use Rattle.bag_rules.specs.BatchInside.{AreReadings, IsNext}
-use Rattle.bag_rules.proofs.Words.{Bag, IsBagOf, IsLongRead, NoneStopsBefore, paths_in, UsesTree}
+use Rattle.bag_rules.specs.BatchInside.{AreGathered, AreOpen, AreReady, IsNext}
+use Rattle.bag_rules.proofs.Words.{paths_in, UsesTree}
 use Rattle.bag_rules.proofs.batch.read_batch.Given as goal
 
 abbrev pub invariant-files : goal.invariant-files
 invariant-files g l =
     let shown = g.T.Paths.shown l.fn.tree in
-    let stops = IsLongRead l.fn.wants.manifests.now in
+    let file = g.T.File.Source in
     record {
-      first : l.batch.first ≡ l.fn.first;
-      next : IsNext l.batch l.place;
-      readings : AreReadings shown l.fn.wants l.batch;
+      first : l.gathered.batch.first ≡ l.fn.first;
+      next : IsNext l.gathered.batch l.place;
+      streams : AreOpen file.failures shown l.gathered;
+      ready : g.T.Tree.sure l.fn.tree → AreReady file.ready l.gathered;
+      gathered : AreGathered file.remaining shown l.fn.wants l.gathered;
       count : l.count ≡ length (paths_in shown);
       inside : l.place < length (paths_in shown);
-      none : (bag : Bag) → IsBagOf shown bag → NoneStopsBefore l.fn.first bag stops → NoneStopsBefore l.place bag stops;
       used : UsesTree g.T.Paths.shown g.T.Source.failures g.T.Tree.sure l.fn.tree l.tree ⊥;
       room : length l.buffer ≡ length l.fn.buffer;
     }
