@@ -1,11 +1,13 @@
 //! The keepers of ledgers in memory, which can be closed and opened again.
 use crate::breaker::Breaker;
 use crate::breaking_keeper::BreakingKeeper;
+use crate::fused::{Fused, FusedKeeper, close, open};
 use crate::lines::bad_line;
 use crate::opening::opened;
 use bag_ledger::{Keeper, MapKeeper};
 use bag_sqlite::{AdoptFault, SqlKeeper};
-use sqlite::{Connection, MemStore};
+use sqlite::{Connection, Files, MemStore};
+use sqlite_disk::{Disk, Fuse, Memory};
 use std::alloc::Global;
 use std::io;
 
@@ -123,5 +125,43 @@ impl<'a> Reopened<'a> for SqlKeeper<MemStore> {
 
     fn into_closed(self) -> Option<Connection<MemStore>> {
         Some(self.release())
+    }
+}
+
+impl<'a> Reopened<'a> for FusedKeeper {
+    type Closed = Fused;
+
+    fn nothing(alloc: Global) -> Fused {
+        files_of(Memory::new(alloc), Memory::new(alloc))
+    }
+
+    fn in_file(alloc: Global, database: &[u8]) -> io::Result<Fused> {
+        let mut copy = Memory::new(alloc);
+        copy.write_at(0, database)?;
+        copy.sync()?;
+        Ok(files_of(Memory::new(alloc), copy))
+    }
+
+    fn opened_from(
+        alloc: Global,
+        closed: Fused,
+        _breaker: &'a Breaker,
+        seed: u64,
+    ) -> Result<Self, (AdoptFault, Fused)> {
+        open(alloc, closed, seed)
+    }
+
+    /// If the log can't be copied into the database, it stays.
+    fn into_closed(self) -> Fused {
+        let (files, _) = close(self);
+        files
+    }
+}
+
+/// Files that never stop working.
+fn files_of(log: Memory, db: Memory) -> Fused {
+    Files {
+        log: Fuse::new(log, u64::MAX),
+        db: Fuse::new(db, u64::MAX),
     }
 }

@@ -19,7 +19,7 @@
 //! `bag_bench calls KEEPER` makes the calls on standard input, as described in `tests/deliveries.py`, `tests/new_bags.py` and
 //! `tests/refusals.py`, with the keeper `map` or `sqlite`, both in memory. The status is 0 if each line was answered.
 //!
-//! `bag_bench refusals KEEPER MOST DEVICE NUMBER` makes at most MOST of these calls, with the keeper `map`, `sqlite` or
+//! `bag_bench refusals KEEPER MOST DEVICE NUMBER` makes at most MOST of these calls, with the keeper `map`, `sqlite`, `files` or
 //! `breaking`, and lets one call of all devices of a kind fail, that with this number; `tests/refusals.py` describes it.
 //!
 //! `bag_bench feeds` reads the tag files that standard input gives it in pieces, as described in `tests/feeds.py`. The
