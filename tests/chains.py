@@ -42,13 +42,13 @@ class Bag:
 
     def __init__(self, driver, folder, order):
         self.order = order
-        printed, status, said = new_bags.written([("", order)], [driver, "write"])
+        printed, status, said = new_bags.written([("", order)], [driver, "calls", "map"])
         with printed:
             assert (status, said) == (0, b""), (status, said)
             assert new_bags.difference([("the bag", order)], printed) is None
             printed.seek(0)
-            lines = printed.read().split("\n")
-        files = dict(map(bytes.fromhex, text.split(" ")) for text in lines[2:-2])
+            parts = printed.read().split("\n")[-2].split(" | ")
+        files = dict(map(bytes.fromhex, text.split(" ")) for text in parts[2:])
         self.tags = {path: octets for path, octets in files.items() if not path.startswith(b"data/")}
         self.sent = {path: octets for path, octets in files.items() if path not in self.tags}
         self.holes = {path: order.payload[path] for path, _ in order.holes}
@@ -126,7 +126,7 @@ def in_memory(driver, events, tried):
     wanted = [answer(receiver, *one) for one in events]
     asked = "".join(f"{line(one)}\n" for one in [("start",), *events]).encode()
     for keeper in ("map", "sqlite"):
-        ran = subprocess.run([driver, "deliveries", keeper], input=asked, capture_output=True, timeout=600, check=False)
+        ran = subprocess.run([driver, "calls", keeper], input=asked, capture_output=True, timeout=600, check=False)
         assert ran.stdout.decode().split("\n") == ["started", *wanted, ""], (keeper, ran.stdout, wanted)
         assert not ran.stderr and ran.returncode == 0, (keeper, ran)
         tried["lists"] += 1

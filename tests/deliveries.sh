@@ -8,16 +8,16 @@ cd "$(dirname -- "$0")/.." || exit 1
 
 build_driver
 expect 'random lists of deliveries, over a map' 0 '10000 lists of 166738 events: all answered alike' \
-    env TMPDIR="$work" python3 -B tests/deliveries.py 10000 1 "$driver" deliveries map
+    env TMPDIR="$work" python3 -B tests/deliveries.py 10000 1 "$driver" calls map
 python3 -B tests/growing_files.py >"$work/growing"
 for keeper in map sqlite; do
     expect "worked cases, over $keeper" 0 '163 worked answers: 0 otherwise' \
-        python3 -B tests/worked_answers.py "$driver" deliveries "$keeper"
+        python3 -B tests/worked_answers.py "$driver" calls "$keeper"
     expect "256 growing files in one run, over $keeper" 0 "$(python3 -B tests/growing_files.py --answers)" \
-        sh -c '"$1" deliveries "$2" <"$3"' sh "$driver" "$keeper" "$work/growing"
+        sh -c '"$1" calls "$2" <"$3"' sh "$driver" "$keeper" "$work/growing"
 done
 expect 'random lists of deliveries, over a database' 0 '10000 lists of 166738 events: all answered alike' \
-    env TMPDIR="$work" python3 -B tests/deliveries.py 10000 1 "$driver" deliveries sqlite
+    env TMPDIR="$work" python3 -B tests/deliveries.py 10000 1 "$driver" calls sqlite
 expect 'random ledgers that are opened again' 0 '1000 ledgers with 2575 transfers, opened again 3065 times: all answered alike' \
-    env TMPDIR="$work" python3 -B tests/reopened.py 1000 1 "$driver" deliveries sqlite
+    env TMPDIR="$work" python3 -B tests/reopened.py 1000 1 "$driver" calls sqlite
 finish

@@ -2,13 +2,13 @@
 """feeds.py COUNT SEED DRIVER: worked texts of tag files in pieces; and the tag files of every example and of the first COUNT random
 bags of tests/random_bags.py, each cut at every place, or at 64 random ones if it is longer than 256 octets, and in several pieces. The
 driver reads each text whole and from its pieces, which have to agree, also with tests/reference.py. The same seed makes the same
-texts. The first that is read otherwise is printed. Without DRIVER it prints the worked texts as the driver reads them, but those that
-are cut at every place at a few.
+texts. The first that is read otherwise is printed.
 
 The driver reads lines of standard input, each a word with its fields after one blank each:
 
     lines PIECE ..                  prints the number of lines of the joined pieces
-    feed NAME VERSION PIECE ..      prints what a feed answers to each piece, `ok` or a fault, and what is read at the end, joined by ` | `
+    feed NAME VERSION PIECE ..      prints what a feed answers to each piece, `ok` or a fault, and what is read at the end, joined by ` | `;
+                                    the name and the version are in hex, and the version stands before each piece
     cut NAME VERSION TEXT PLACES .. prints the number of lines of a text and what the whole reader reads from it. Then, if a feed reads
                                     something else from the text that is cut at some PLACES, or other lines are counted, the places and
                                     that. A feed is fed on after a fault, and has to answer it each time
@@ -43,6 +43,10 @@ def line(word, *words_and_octets):
     return " ".join([word, *(part if isinstance(part, str) else field(part) for part in words_and_octets)])
 
 
+def fed(name, *pieces):
+    return " ".join(["feed", field(name.encode()), *(f"{field(b'1.0')} {field(piece)}" for piece in pieces)])
+
+
 def cut_at(places, name, text):
     return line("cut", name, "1.0", text, *places)
 
@@ -63,34 +67,29 @@ ROWS = [
     (line("lines", b"\n"), "1"),
     (line("lines", b"a\r", b"", b"\n", b"", b"\r\n"), "2"),
     # a mark that is cut in three, a cut value, a cut line ending, a continuation
-    (line("feed", INFO, "1.0", b"\xef", b"\xbb", b"\xbfNote: o", b"ne\r", b"\n two"),
+    (fed(INFO, b"\xef", b"\xbb", b"\xbfNote: o", b"ne\r", b"\n two"),
      "ok | ok | ok | ok | ok | elements 4e6f7465 6f6e650a74776f"),
     # a continuation of the element before the cut
-    (line("feed", INFO, "1.0", b"A: 1\nB: 2\n", b" 3\nC: 4"),
+    (fed(INFO, b"A: 1\nB: 2\n", b" 3\nC: 4"),
      "ok | ok | elements 41 31 42 320a33 43 34"),
-    (line("feed", INFO, "1.0", b"\xef\xbb", b"Note: x"), f"ok | ok | {INFO}:1: not UTF-8"),
+    (fed(INFO, b"\xef\xbb", b"Note: x"), f"ok | ok | {INFO}:1: not UTF-8"),
     # a character that is cut in two, and one that is not whole
-    (line("feed", INFO, "1.0", b"A: \xc3", b"\xa9"), "ok | ok | elements 41 c3a9"),
-    (line("feed", INFO, "1.0", b"A: \xc3", b"\n\xa9"), f"ok | {INFO}:1: not UTF-8 | {INFO}:1: not UTF-8"),
+    (fed(INFO, b"A: \xc3", b"\xa9"), "ok | ok | elements 41 c3a9"),
+    (fed(INFO, b"A: \xc3", b"\n\xa9"), f"ok | {INFO}:1: not UTF-8 | {INFO}:1: not UTF-8"),
     # a fault is answered when the octet after its line is there, and then each time
-    (line("feed", SHA256, "1.0", b"x\n", b"y", b""), " | ".join([f"{SHA256}:1: separator"] * 4)),
-    (line("feed", SHA256, "1.0", b"x", b""), f"ok | ok | {SHA256}:1: separator"),
-    (line("feed", SHA256, "1.0", MANIFEST, b"x\r", b"\n" + MANIFEST[:9]), " | ".join(["ok"] + [f"{SHA256}:3: separator"] * 3)),
+    (fed(SHA256, b"x\n", b"y", b""), " | ".join([f"{SHA256}:1: separator"] * 4)),
+    (fed(SHA256, b"x", b""), f"ok | ok | {SHA256}:1: separator"),
+    (fed(SHA256, MANIFEST, b"x\r", b"\n" + MANIFEST[:9]), " | ".join(["ok"] + [f"{SHA256}:3: separator"] * 3)),
     # the last line has no ending
-    (line("feed", SHA256, "1.0", MANIFEST[:-1]), f"ok | {pairs(A256, b'data/a.txt', E256, b'data/e.txt')}"),
-    (line("feed", SHA256, "1.0"), "pairs"),
-    (line("feed", SHA256, "1.0", MANIFEST, MANIFEST[:76]), f"ok | ok | {SHA256}:3: twice"),
+    (fed(SHA256, MANIFEST[:-1]), f"ok | {pairs(A256, b'data/a.txt', E256, b'data/e.txt')}"),
+    (fed(SHA256), "pairs"),
+    (fed(SHA256, MANIFEST, MANIFEST[:76]), f"ok | ok | {SHA256}:3: twice"),
     (cut_everywhere(SHA256, MANIFEST), f"2 {pairs(A256, b'data/a.txt', E256, b'data/e.txt')}"),
     (cut_everywhere(SHA256, OTHER_ENDS), f"3 {pairs(A256, b'data/a.txt', E256, b'data/e' + bytes([10]) + b'.txt')}"),
     (cut_everywhere(FETCH, ENTRIES),
      "2 entries " + " ".join(["1", field(b"http://example.org/a"), "3", field(b"data/a.txt"),
                               "2", field(b"http://example.org/e"), "-", field(b"data/e.txt")])),
 ]
-
-
-def few_cuts():
-    for name, text in [(SHA256, MANIFEST), (SHA256, OTHER_ENDS), (FETCH, ENTRIES)]:
-        yield cut_at(["9", "66", "30,31,67"], name, text)
 
 
 class Text(reference.Bag):
@@ -168,10 +167,7 @@ def first_other(driver, asked, wanted):
     return None if len(given) == len(wanted) else f"more is given: {given[len(wanted)]}"
 
 
-def main(count, seed, driver=None):
-    if driver is None:
-        print(*[asked for asked, _ in ROWS if not asked.startswith("cut")], *few_cuts(), sep="\n")
-        return 0
+def main(count, seed, driver):
     rng = random.Random(seed)
     asked, wanted = [row[0] for row in ROWS], [row[1] for row in ROWS]
     texts = [*examples(), *random_texts(count, seed)]

@@ -4,18 +4,17 @@ answers and each file with what is made here, using only section 17 of docs/FORM
 folder, where coreutils check each line of its manifests that they can spell, and the program and tests/reference.py judge it. The
 same seed makes the same bags. The first answer that differs is reported with its lines.
 
-The driver reads lines from standard input. Each is a word followed by its fields, each after one blank: the octets in lowercase hex,
-or `-` if there are none. Texts are UTF-8, and paths aren't spelled.
+The driver reads lines from standard input, and prints a line for each. Each is a word followed by its fields, each after one blank: the
+octets in lowercase hex, or `-` if there are none. Texts are UTF-8, and paths aren't spelled.
 
-    file PATH OCTETS      a file of the tree, once for each path
-    by ALG                an algorithm: `md5`, `sha1`, `sha256` or `sha512`, not in hex
-    element LABEL VALUE   an element of `bag-info.txt`, after those that were given, with LF between the lines of its value
-    hole PATH URL         a hole, after those that were given
-    write                 the bag is written, and the next line begins another
-
-For each `write` it prints `written: OCTETS.FILES`, or `refused: ` and `no algorithm`, `Oxum given`, `bad hole N` (its index,
-from 0), `clash PATH` (spelled) or `too large`; then `data` if there is a payload directory; a line for each file with its path and
-its octets; and an empty line.
+    clear                   `cleared`; there is no file, algorithm, element or hole
+    file - PATH OCTETS      `added`; a file of the tree, once for each path
+    by ALG                  `added`; an algorithm: `md5`, `sha1`, `sha256` or `sha512`
+    element - LABEL VALUE   `added`; an element of `bag-info.txt`, after those that were given, with LF between the lines of its value
+    hole - PATH URL         `added`; a hole, after those that were given
+    write                   the bag is written: `written OCTETS.FILES`, or `refused: ` and `no algorithm`, `Oxum given`, `bad hole N` (its
+                            index, from 0), `clash PATH` (spelled) or `too large`; then `data/` if there is a payload directory, and
+                            each file with its path and its octets in hex. These parts are joined by ` | `
 """
 import collections
 import hashlib
@@ -66,10 +65,11 @@ class Order:
         self.holes = [(path.encode(), url) for path, url in holes]
 
     def lines(self):
-        yield from (f"file {field(path)} {field(octets)}" for path, octets in self.files.items())
-        yield from (f"by {name}" for name in self.algorithms)
-        yield from (f"element {field(label.encode())} {field(value.encode())}" for label, value in self.elements)
-        yield from (f"hole {field(path)} {field(url.encode())}" for path, url in self.holes)
+        yield "clear"
+        yield from (f"file - {field(path)} {field(octets)}" for path, octets in self.files.items())
+        yield from (f"by {field(name.encode())}" for name in self.algorithms)
+        yield from (f"element - {field(label.encode())} {field(value.encode())}" for label, value in self.elements)
+        yield from (f"hole - {field(path)} {field(url.encode())}" for path, url in self.holes)
         yield "write"
 
     def refusal(self):
@@ -106,7 +106,7 @@ class Order:
             if len(octets) > LARGEST_TAG_FILE:
                 return "refused: too large", files
             files[name] = octets
-        return "written: " + self.oxum(), files
+        return "written " + self.oxum(), files
 
     def oxum(self):
         return f"{sum(map(len, self.payload.values()))}.{len(self.payload)}"
@@ -130,12 +130,14 @@ class Order:
 
     def printed(self):
         """The expected output of the driver, line by line."""
+        yield "cleared"
+        yield from ["added"] * (len(self.files) + len(self.algorithms) + len(self.elements) + len(self.holes))
+        yield " | ".join(self.parts())
+
+    def parts(self):
+        """The parts of the answer to `write`."""
         first, files = self.answer()
-        yield first
-        if files is not None:
-            yield "data"
-            yield from (f"{field(path, '')} {field(files[path], '')}" for path in sorted(files))
-        yield ""
+        return [first] if files is None else [first, "data/", *(f"{path.hex()} {files[path].hex()}" for path in sorted(files))]
 
 
 def field(octets, nothing="-"):

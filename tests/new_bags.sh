@@ -10,7 +10,7 @@ build_driver
 
 if [ "$(command -v md5sum sha1sum sha256sum sha512sum | wc -l)" -eq 4 ]; then
     # It prints what it tried, or the first bag that is written or judged differently.
-    expect 'new bags' 0 '' env TMPDIR="$work" sh -c 'python3 -B tests/new_bags.py 300 1 "$1" "$2" write >"$3"' \
+    expect 'new bags' 0 '' env TMPDIR="$work" sh -c 'python3 -B tests/new_bags.py 300 1 "$1" "$2" calls map >"$3"' \
         sh crates/bag_cmd/out/bag_cmd "$driver" "$work/tried"
     cat "$work/tried"
 else

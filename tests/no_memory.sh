@@ -1,12 +1,11 @@
 #!/usr/bin/env bash
 # Each allocation of memory fails in turn: the program reports that and nothing else, or gives the answer that it gives
-# with enough memory. The driver and the tests in Rattle are run in the same way. For a command on a ledger some
-# allocations fail, spread over all; with the option --all every one fails.
+# with enough memory. The tests in Rattle are run in the same way; the calls of the libraries are in refusals.sh. For a
+# command on a ledger some allocations fail, spread over all; with the option --all every one fails.
 set -u
 cd "$(dirname -- "$0")/.." || exit 1
 . tests/common.bash
 build_first
-build_driver
 program=crates/bag_cmd/out/bag_cmd
 # What was tried: runs of a test or of the program in which no allocation failed, and runs in which one did.
 runs=0
@@ -157,27 +156,6 @@ asks_in_line() {
     [ "$((least < less && 2 * (asked - less) < 5 * (less - least)))" -eq 1 ] || echo "$least, $less, $asked"
 }
 
-# each_growth_of_driver CAUSE FILE WORD..: has the driver read the file, once with no failing allocation, and then with
-# each (of more than `most`, a hundred of them). It prints the same, or a front of it with status 3; or the first line
-# that is another tells this cause.
-each_growth_of_driver() {
-    local number status step told
-    refusing 0 "$driver" "${@:3}" <"$2" >"$work/whole" || echo "with enough memory: status $?"
-    count_asked || echo "no allocations were counted"
-    step=$((asked > most ? asked / 100 : 1))
-    for number in $(seq 1 "$step" "$asked"); do
-        status=0
-        refusing "$number" "$driver" "${@:3}" <"$2" >"$work/part" || status=$?
-        count_refusal "$*" "$number"
-        if head -c "$(stat -c %s "$work/part")" "$work/whole" | cmp -s - "$work/part"; then
-            [ "$status" -eq 3 ] || cmp "$work/whole" "$work/part"
-        else
-            told=$(diff "$work/whole" "$work/part" | sed -n 's/^> //p' | head -n 1)
-            [[ $told =~ $1 ]] || echo "allocation $number of $asked: status $status: $told"
-        fi
-    done
-}
-
 # list_tests CRATE PROGRAM: keeps the names of the crate's tests. Their number agrees with the list and with the
 # sources.
 list_tests() {
@@ -295,19 +273,6 @@ if cc -shared -fPIC -O1 -o "$work/no_memory.so" tests/no_memory.c 2>"$work/no cc
     expect 'no memory for the commands' 0 '' env TMPDIR="$work" sh -c 'python3 -B tests/failing_commands.py "$@" >"$0"' \
         "$work/tried" "$program" "$allocations" allocations "$work/no_memory.so"
     cat "$work/tried"
-    python3 -B tests/small_lists.py deliveries >"$work/deliveries"
-    python3 -B tests/small_lists.py write >"$work/write"
-    python3 -B tests/feeds.py 0 1 >"$work/feeds"
-    for keeper in map sqlite; do
-        # The files of the database are in memory: if they can't grow, the store fails.
-        [ "$keeper" = map ] && causes=memory || causes='memory|store'
-        expect "no memory for deliveries, over $keeper" 0 '' \
-            more_refusals each_growth_of_driver "$causes" "$work/deliveries" deliveries "$keeper"
-    done
-    expect 'no memory for a bag that is written' 0 '' \
-        more_refusals each_growth_of_driver 'out of memory|the sink failed' "$work/write" write
-    expect 'no memory for tag files in pieces' 0 '' \
-        more_refusals each_growth_of_driver 'out of memory' "$work/feeds" feeds
     # Left out are tests that say whether an answer was right, and not what it was.
     left_out='^(couriers|keepers|ledgers|sinks)::'
     tests=$PWD/crates/bag_tests/out/bag_tests_tests

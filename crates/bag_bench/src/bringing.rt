@@ -1,36 +1,61 @@
 //! Readers and couriers of payload files, which may fail.
 ghost use Rattle.std.specs.Prelude.{◌≤◌, length};
 
+use crate::breaker::{Breaker, Device};
 use bag_digest::{Failed, Failures, Source};
 use bag_path::BagPath;
 use bag_receiver::Courier;
 use std::io::{self, ErrorKind, Read};
 
-/// Gives octets, and then the end or an error.
-#[derive(Drop)]
-pub struct Reader {
-    octets: Vec<u8>,
-    given: usize,
-    is_broken: bool,
+/// What fails while payload files come.
+#[derive(Clone, Copy)]
+pub enum Breaks<'a> {
+    /// The call that a breaker counts.
+    Counted(&'a Breaker),
+    /// The first file, after its octets.
+    First,
+    /// The step after the last file.
+    End,
 }
 
-impl Reader {
-    pub fn new(octets: Vec<u8>, is_broken: bool) -> Reader {
-        Reader {
-            octets,
-            given: 0,
-            is_broken,
+impl Breaks<'_> {
+    /// Whether the breaker lets this call of a device fail.
+    fn breaks(&self, device: Device) -> bool {
+        match self {
+            Breaks::Counted(breaker) => breaker.breaks(device),
+            Breaks::First | Breaks::End => false,
         }
+    }
+
+    fn is_first(&self) -> bool {
+        matches!(self, Breaks::First)
+    }
+
+    fn is_end(&self) -> bool {
+        matches!(self, Breaks::End)
     }
 }
 
-impl Read for Reader {
+/// Gives octets, and then the end or an error.
+#[derive(Drop)]
+pub struct Reader<'a> {
+    left: &'a [u8],
+    breaks: Breaks<'a>,
+}
+
+impl<'a> Reader<'a> {
+    pub fn new(left: &'a [u8], breaks: Breaks<'a>) -> Self {
+        Reader { left, breaks }
+    }
+}
+
+impl Read for Reader<'_> {
     fn read(&mut self, buf: &mut [u8]) -> io::Result<usize> {
-        let n = given(&self.octets, &mut self.given, buf);
-        if n == 0 && self.is_broken {
+        let is_end = self.left.is_empty() && self.breaks.is_first();
+        if is_end || self.breaks.breaks(Device::Reader) {
             return Err(io::Error::from(ErrorKind::BrokenPipe));
         }
-        Ok(n)
+        self.left.read(buf)
     }
 }
 
@@ -47,22 +72,12 @@ fn given(octets: &[u8], place: &mut usize, buf: &mut [u8]) -> usize
     n
 }
 
-/// What fails while items are brought.
-#[derive(Clone, Copy, PartialEq, Eq)]
-pub enum Breaks {
-    Nothing,
-    /// The first item, after its octets.
-    First,
-    /// The step after the last item.
-    End,
-}
-
-/// Brings items one after another.
+/// Brings items one after another. It takes no memory.
 #[derive(Drop)]
-pub struct Items {
+pub struct Items<'a> {
     // the items to come, the last one first
     left: Vec<(BagPath, Vec<u8>)>,
-    breaks: Breaks,
+    breaks: Breaks<'a>,
     path: Option<BagPath>,
     octets: Vec<u8>,
     given: usize,
@@ -70,9 +85,9 @@ pub struct Items {
     nexts: u64,
 }
 
-impl Items {
+impl<'a> Items<'a> {
     /// `left` are the items, the last one first.
-    pub fn new(left: Vec<(BagPath, Vec<u8>)>, breaks: Breaks) -> Items {
+    pub fn new(left: Vec<(BagPath, Vec<u8>)>, breaks: Breaks<'a>) -> Self {
         let alloc = *left.allocator();
         Items {
             left,
@@ -86,7 +101,7 @@ impl Items {
     }
 }
 
-impl Source for Items {
+impl Source for Items<'_> {
     ghost use Rattle.std.specs.Prelude.{◌≡◌, None, is_some, refl};
     ghost use Rattle.std.proofs.Common.{◌∙◌};
 
@@ -101,11 +116,11 @@ impl Source for Items {
     ghost keeps = { λ a b. (b.path ≡ a.path) × (b.nexts ≡ a.nexts) };
 
     fn read(&mut self, buf: &mut [u8]) -> Result<usize, Failed> {
-        if self.path.is_none() {
+        if self.path.is_none() || self.breaks.breaks(Device::Courier) {
             return self.failures.counted(Err(Failed));
         }
         let n = given(&self.octets, &mut self.given, buf);
-        if n == 0 && self.breaks == Breaks::First && self.nexts == 1 {
+        if n == 0 && self.breaks.is_first() && self.nexts == 1 {
             return self.failures.counted(Err(Failed));
         }
         Ok(n)
@@ -120,7 +135,7 @@ impl Source for Items {
     ghost keeps_on = { λ a b c p q. (q.0 ∙ p.0, q.1 ∙ p.1) };
 }
 
-impl Courier for Items {
+impl Courier for Items<'_> {
     ghost use Rattle.std.specs.Prelude.{None, refl};
 
     ghost coming = { λ _. None };
@@ -133,9 +148,12 @@ impl Courier for Items {
 
     fn next(&mut self) -> Result<bool, Failed> {
         self.nexts = self.nexts.saturating_add(1);
+        self.path = None;
+        if self.breaks.breaks(Device::Courier) {
+            return self.failures.counted(Err(Failed));
+        }
         let Some((path, octets)) = self.left.pop() else {
-            self.path = None;
-            let answer = if self.breaks == Breaks::End {
+            let answer = if self.breaks.is_end() {
                 Err(Failed)
             } else {
                 Ok(false)

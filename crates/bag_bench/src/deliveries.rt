@@ -1,61 +1,24 @@
-//! Answers lists of deliveries for `tests/deliveries.py`, which describes the input and the output.
+//! The calls of a receiver, for `tests/deliveries.py` and `tests/refusals.py`, which describe the input and the output.
+use crate::breaker::Breaker;
+use crate::breaking::{BreakingSink, Stock};
 use crate::bringing::{Breaks, Items, Reader};
-use crate::event::Event;
-use crate::keepers::Anew;
-use crate::lines::{Answers, bad_line, path_of};
-use crate::text::{AnswerText, UnbegunText, end_text, keep_text, view_text};
+use crate::event::{Event, File};
+use crate::lines::{Answers, bad_line};
+use crate::shown::write_files;
+use crate::text::{
+    AnswerText, FetchedText, UnbegunText, end_text, export_text, keep_text, view_text,
+};
 use bag_commands::{FaultLine, verdict_text};
 use bag_digest::Counted;
 use bag_ledger::Keeper;
-use bag_receiver::{Begun, Receiver, Run, ViewFault};
+use bag_path::{BagPath, Spelling};
+use bag_receiver::{Answer, Begun, Receiver, ViewFault};
 use bag_rules::Report;
+use bag_writer::MemSink;
 use std::alloc::Global;
 use std::io::{self, Write};
-use std::mem;
 
-/// Answers lists of deliveries. Each begins with an empty ledger, which may be opened again.
-#[derive(Drop)]
-pub struct Lists<K: Anew> {
-    receiver: Receiver<K>,
-}
-
-impl<K: Anew> Lists<K> {
-    /// A first list.
-    pub fn new(alloc: Global) -> io::Result<Lists<K>> {
-        let receiver = Receiver::new(alloc, K::anew(alloc)?);
-        Ok(Lists { receiver })
-    }
-
-    /// Opens the ledger again.
-    fn reopen(&mut self, alloc: Global) -> io::Result<()> {
-        let Lists { receiver } = mem::replace(self, Lists::new(alloc)?);
-        self.receiver = Receiver::new(alloc, receiver.into_keeper().again()?);
-        Ok(())
-    }
-}
-
-impl<K: Anew> Answers for Lists<K> {
-    fn answer<W: Write + Drop>(
-        &mut self,
-        alloc: Global,
-        words: &[&str],
-        out: &mut W,
-    ) -> io::Result<()> {
-        match words {
-            ["start"] => {
-                *self = Lists::new(alloc)?;
-                writeln!(out, "started")
-            }
-            ["reopen"] => {
-                self.reopen(alloc)?;
-                writeln!(out, "opened")
-            }
-            _ => self.receiver.answer(alloc, words, out),
-        }
-    }
-}
-
-/// Answers a list of deliveries, in a ledger that is not opened again.
+/// Answers calls in a ledger that is not opened again.
 impl<K: Keeper + Drop> Answers for Receiver<K> {
     fn answer<W: Write + Drop>(
         &mut self,
@@ -63,33 +26,37 @@ impl<K: Keeper + Drop> Answers for Receiver<K> {
         words: &[&str],
         out: &mut W,
     ) -> io::Result<()> {
-        answer(alloc, self, &Event::parse(alloc, words)?, out)?;
+        let breaker = Breaker::none();
+        answer(alloc, self, Event::parse(alloc, words)?, &breaker, out)?;
         writeln!(out)
     }
 }
 
-/// Writes the answer to the event.
-fn answer<K: Keeper + Drop, W: Write + Drop>(
+/// Makes the call, and writes its answer.
+pub fn answer<K: Keeper + Drop, W: Write + Drop>(
     alloc: Global,
     receiver: &mut Receiver<K>,
-    event: &Event<'_>,
+    event: Event<'_>,
+    breaker: &Breaker,
     out: &mut W,
 ) -> io::Result<()> {
     match event.word {
-        "begin" => begin(alloc, receiver, event, out),
-        "deliver" => deliver(alloc, receiver, event, out),
-        "read" => read(alloc, receiver, event, false, out),
-        "break" => read(alloc, receiver, event, true, out),
+        "begin" => begin(alloc, receiver, &event, out),
+        "deliver" => deliver(alloc, receiver, &event, out),
+        "read" => read(alloc, receiver, &event, Breaks::Counted(breaker), out),
+        "break" => read(alloc, receiver, &event, Breaks::First, out),
         "run" => {
             let run = receiver.run(alloc, event.name.as_str(), event.files.as_slice());
-            write_run(&run, out)
+            write_run(run.answers.as_slice(), end_text(run.ended), out)
         }
-        "bring" => bring(alloc, receiver, event, Breaks::Nothing, out),
+        "bring" => bring(alloc, receiver, event, Breaks::Counted(breaker), out),
         "bring-first" => bring(alloc, receiver, event, Breaks::First, out),
         "bring-end" => bring(alloc, receiver, event, Breaks::End, out),
         "report" => write_report(receiver.report(alloc, event.name.as_str()), out),
         "audit" => write_report(receiver.audit(alloc, event.name.as_str()), out),
         "names" => names(alloc, receiver, out),
+        "fetch" => fetch(alloc, receiver, &event, breaker, out),
+        "export" => export(alloc, receiver, event.name.as_str(), breaker, out),
         _ => Err(bad_line()),
     }
 }
@@ -123,12 +90,11 @@ fn read<K: Keeper + Drop, W: Write + Drop>(
     alloc: Global,
     receiver: &mut Receiver<K>,
     event: &Event<'_>,
-    is_broken: bool,
+    breaks: Breaks<'_>,
     out: &mut W,
 ) -> io::Result<()> {
     let (path, content) = event.file()?;
-    let octets = Vec::from_slice(alloc, content)?;
-    let mut reader = Counted::new(Reader::new(octets, is_broken));
+    let mut reader = Counted::new(Reader::new(content, breaks));
     let given = receiver.deliver_from(alloc, event.name.as_str(), path, &mut reader);
     write!(out, "{}", AnswerText(given))
 }
@@ -137,37 +103,57 @@ fn read<K: Keeper + Drop, W: Write + Drop>(
 fn bring<K: Keeper + Drop, W: Write + Drop>(
     alloc: Global,
     receiver: &mut Receiver<K>,
-    event: &Event<'_>,
-    breaks: Breaks,
+    event: Event<'_>,
+    breaks: Breaks<'_>,
     out: &mut W,
 ) -> io::Result<()> {
-    let mut items = Vec::new(alloc);
-    for (text, content) in event.files.iter().rev() {
-        let path = path_of(alloc, text.as_str())?;
-        items.push((path, Vec::from_slice(alloc, content.as_slice())?))?;
+    let Event {
+        word: _,
+        name,
+        files,
+        load,
+        room: _,
+    } = event;
+    let mut courier = Items::new(load, breaks);
+    let (run, paths) = receiver.run_from(alloc, name.as_str(), &mut courier);
+    write_run(run.answers.as_slice(), end_text(run.ended), out)?;
+    if !are_first(paths.as_slice(), files.as_slice()) {
+        write!(out, " | other paths")?;
     }
-    let mut courier = Items::new(items, breaks);
-    let (run, _) = receiver.run_from(alloc, event.name.as_str(), &mut courier);
-    write_run(&run, out)
+    Ok(())
 }
 
-fn write_run<W: Write + Drop>(run: &Run, out: &mut W) -> io::Result<()> {
-    for given in run.answers.iter() {
-        write!(out, "{} | ", AnswerText(*given))?;
-    }
-    write!(out, "{}", end_text(run.ended))
+/// Whether these are the paths of the first files.
+fn are_first(paths: &[BagPath], files: &[File]) -> bool {
+    paths.len() <= files.len()
+        && paths
+            .iter()
+            .zip(files)
+            .all(|(path, file)| path.as_str() == file.0.as_str())
 }
 
+/// Writes the answers of a run, and how it ended.
+fn write_run<W: Write + Drop>(answers: &[Answer], ended: &str, out: &mut W) -> io::Result<()> {
+    for given in answers.iter().copied() {
+        write!(out, "{} | ", AnswerText(given))?;
+    }
+    write!(out, "{ended}")
+}
+
+/// Writes a report, or why there is none.
 fn write_report<W: Write + Drop>(view: Result<Report, ViewFault>, out: &mut W) -> io::Result<()> {
     match view {
-        Ok(report) => {
-            for fault in report.faults() {
-                write!(out, "{} | ", FaultLine(fault))?;
-            }
-            write!(out, "{}", verdict_text(&report))
-        }
+        Ok(report) => write_faults(&report, out),
         Err(fault) => write!(out, "refused: {}", view_text(fault)),
     }
+}
+
+/// Writes the faults of a report, and its verdict.
+pub fn write_faults<W: Write + Drop>(report: &Report, out: &mut W) -> io::Result<()> {
+    for fault in report.faults() {
+        write!(out, "{} | ", FaultLine(fault))?;
+    }
+    write!(out, "{}", verdict_text(report))
 }
 
 fn names<K: Keeper + Drop, W: Write + Drop>(
@@ -186,4 +172,42 @@ fn names<K: Keeper + Drop, W: Write + Drop>(
         write!(out, "{name}")?;
     }
     Ok(())
+}
+
+/// A fetch from a supplier of these files.
+fn fetch<K: Keeper + Drop, W: Write + Drop>(
+    alloc: Global,
+    receiver: &mut Receiver<K>,
+    event: &Event<'_>,
+    breaker: &Breaker,
+    out: &mut W,
+) -> io::Result<()> {
+    let mut stock = Stock::new(event.files.as_slice(), breaker);
+    match receiver.fetch(alloc, event.name.as_str(), &mut stock) {
+        Ok(outcomes) => {
+            for outcome in outcomes.iter() {
+                let path = Spelling(&outcome.path);
+                let answer = FetchedText(outcome.answer);
+                write!(out, "{} {path} {answer} | ", outcome.line)?;
+            }
+            write!(out, "done")
+        }
+        Err(fault) => write!(out, "refused: {}", view_text(fault)),
+    }
+}
+
+/// An export to a sink in memory, and what that holds then.
+fn export<K: Keeper + Drop, W: Write + Drop>(
+    alloc: Global,
+    receiver: &mut Receiver<K>,
+    name: &str,
+    breaker: &Breaker,
+    out: &mut W,
+) -> io::Result<()> {
+    let mut sink = BreakingSink::new(MemSink::new(alloc), breaker);
+    match receiver.export(alloc, name, &mut sink) {
+        Ok(number) => write!(out, "exported {number}")?,
+        Err(fault) => write!(out, "refused: {}", export_text(fault))?,
+    }
+    write_files(&sink.into_inside().into_tree(), out)
 }

@@ -1,14 +1,11 @@
 //! Reads tag files that come in pieces, for `tests/feeds.py`, which describes the input and the output.
+use crate::event::Event;
 use crate::lines::{Answers, bad_line, octets_of};
-use bag_commands::FaultLine;
-use bag_path::{BagPath, LineCount, Lines, Version};
-use bag_rules::Fault;
-use bag_tags::{
-    Fetch, Info, LineFile, Manifest, TagFault, TagFeed, TagValue, read_fetch, read_info,
-    read_manifest,
-};
+use crate::reading::{TagFile, feed};
+use bag_path::{LineCount, Lines};
+use bag_tags::{TagFault, TagValue};
 use std::alloc::Global;
-use std::io::{self, ErrorKind, Write};
+use std::io::{self, Write};
 
 /// Answers each line for itself.
 #[derive(Clone, Copy)]
@@ -26,135 +23,14 @@ impl Answers for Feeds {
         };
         match *word {
             "lines" => count(alloc, fields, out),
-            "feed" => feed(alloc, fields, out),
+            "feed" => {
+                feed(alloc, &Event::parse(alloc, words)?, out)?;
+                writeln!(out)
+            }
             "cut" => cut(alloc, fields, out),
             _ => Err(bad_line()),
         }
     }
-}
-
-/// A tag file, and the version by whose rules it is read.
-#[derive(Clone, Copy)]
-struct TagFile {
-    file: LineFile,
-    version: Version,
-}
-
-impl TagFile {
-    /// What the name of a file and the number of a version ask for.
-    fn of(alloc: Global, name: &str, version: &str) -> io::Result<TagFile> {
-        let Ok(path) = BagPath::parse(alloc, name) else {
-            return Err(bad_line());
-        };
-        let Some(file) = LineFile::of(&path) else {
-            return Err(bad_line());
-        };
-        match version {
-            "1.0" => Ok(TagFile {
-                file,
-                version: Version::V1,
-            }),
-            "0.97" => Ok(TagFile {
-                file,
-                version: Version::V097,
-            }),
-            _ => Err(bad_line()),
-        }
-    }
-
-    /// A feed before its first piece.
-    fn feed(self, alloc: Global) -> TagFeed {
-        match self.file {
-            LineFile::Info => TagFeed::info(alloc, self.version),
-            LineFile::FetchList => TagFeed::fetch(alloc, self.version),
-            LineFile::Manifest(name) => {
-                TagFeed::manifest(alloc, name.alg, name.kind, self.version)
-            }
-        }
-    }
-
-    /// What the whole reader reads from these octets.
-    fn whole(self, alloc: Global, octets: &[u8]) -> Result<TagValue, TagFault> {
-        Ok(match self.file {
-            LineFile::Info => TagValue::Info(read_info(alloc, octets, self.version)?),
-            LineFile::FetchList => TagValue::Fetch(read_fetch(alloc, octets, self.version)?),
-            LineFile::Manifest(name) => TagValue::Manifest(read_manifest(
-                alloc,
-                octets,
-                name.alg,
-                name.kind,
-                self.version,
-            )?),
-        })
-    }
-
-    /// What was read, or the fault, as text. Want of memory is an error.
-    fn text_of(self, alloc: Global, read: &Result<TagValue, TagFault>) -> io::Result<String> {
-        match read {
-            Ok(TagValue::Manifest(manifest)) => pairs_of(alloc, manifest),
-            Ok(TagValue::Info(info)) => elements_of(alloc, info),
-            Ok(TagValue::Fetch(fetch)) => entries_of(alloc, fetch),
-            Err(fault) => self.fault_of(alloc, *fault),
-        }
-    }
-
-    /// The fault as the program prints it. Want of memory is an error.
-    fn fault_of(self, alloc: Global, fault: TagFault) -> io::Result<String> {
-        match fault {
-            TagFault::Memory => Err(io::Error::from(ErrorKind::OutOfMemory)),
-            TagFault::Line(fault) => {
-                let fault = Fault::BadLine {
-                    file: self.file,
-                    line: fault.line,
-                    cause: fault.cause,
-                };
-                Ok(format!(in alloc; "{}", FaultLine(&fault))?)
-            }
-        }
-    }
-}
-
-fn pairs_of(alloc: Global, manifest: &Manifest) -> io::Result<String> {
-    let mut text = String::from_str(alloc, "pairs")?;
-    for pair in manifest.pairs() {
-        let digest = pair.digest.to_hex(alloc)?;
-        let path = hex_of(alloc, pair.path.as_str())?;
-        text.push_str(format!(in alloc; " {digest} {path}")?.as_str())?;
-    }
-    Ok(text)
-}
-
-fn elements_of(alloc: Global, info: &Info) -> io::Result<String> {
-    let mut text = String::from_str(alloc, "elements")?;
-    for element in info.elements() {
-        let label = hex_of(alloc, element.label())?;
-        let value = hex_of(alloc, element.value())?;
-        text.push_str(format!(in alloc; " {label} {value}")?.as_str())?;
-    }
-    Ok(text)
-}
-
-fn entries_of(alloc: Global, fetch: &Fetch) -> io::Result<String> {
-    let mut text = String::from_str(alloc, "entries")?;
-    for line in fetch.entries() {
-        let url = hex_of(alloc, line.entry.url())?;
-        let path = hex_of(alloc, line.entry.path().as_str())?;
-        let number = line.line;
-        let entry = match line.entry.length() {
-            Some(length) => format!(in alloc; " {number} {url} {length} {path}")?,
-            None => format!(in alloc; " {number} {url} - {path}")?,
-        };
-        text.push_str(entry.as_str())?;
-    }
-    Ok(text)
-}
-
-/// The octets of a text in hex, or `-` if there are none.
-fn hex_of(alloc: Global, text: &str) -> io::Result<String> {
-    if text.is_empty() {
-        return Ok(String::from_str(alloc, "-")?);
-    }
-    Ok(hex::encode(alloc, text.as_bytes())?)
 }
 
 /// Prints the number of lines of the joined pieces.
@@ -166,25 +42,6 @@ fn count<W: Write + Drop>(alloc: Global, fields: &[&str], out: &mut W) -> io::Re
     writeln!(out, "{}", lines.finish())
 }
 
-/// Feeds pieces, and prints each answer.
-fn feed<W: Write + Drop>(alloc: Global, fields: &[&str], out: &mut W) -> io::Result<()> {
-    let Some((name, fields)) = fields.split_first() else {
-        return Err(bad_line());
-    };
-    let Some((version, pieces)) = fields.split_first() else {
-        return Err(bad_line());
-    };
-    let tag_file = TagFile::of(alloc, name, version)?;
-    let mut feed = tag_file.feed(alloc);
-    for piece in pieces {
-        match feed.feed(octets_of(alloc, piece)?.as_slice()) {
-            Ok(()) => write!(out, "ok | ")?,
-            Err(fault) => write!(out, "{} | ", tag_file.fault_of(alloc, fault)?)?,
-        }
-    }
-    writeln!(out, "{}", tag_file.text_of(alloc, &feed.finish())?)
-}
-
 /// Prints what the whole reader reads from octets, and the number of their lines; and then each cutting by which a feed
 /// reads something else, or other lines are counted.
 fn cut<W: Write + Drop>(alloc: Global, fields: &[&str], out: &mut W) -> io::Result<()> {
@@ -192,10 +49,10 @@ fn cut<W: Write + Drop>(alloc: Global, fields: &[&str], out: &mut W) -> io::Resu
         return Err(bad_line());
     }
     let (head, cuttings) = fields.split_at(3);
-    let tag_file = TagFile::of(alloc, head[0], head[1])?;
+    let tag_file = TagFile::of(head[0], head[1])?;
     let octets = octets_of(alloc, head[2])?;
     let lines = count_lines(&octets);
-    let whole = tag_file.text_of(alloc, &tag_file.whole(alloc, &octets))?;
+    let whole = text_of(alloc, tag_file, &tag_file.whole(alloc, &octets))?;
     writeln!(out, "{lines} {whole}")?;
     for cutting in cuttings {
         let pieces = pieces_of(alloc, &octets, cutting)?;
@@ -256,7 +113,21 @@ fn fed(alloc: Global, tag_file: TagFile, pieces: &[&[u8]]) -> io::Result<String>
     if met.is_some() && fault_in(&found) != met {
         return Ok(String::from_str(alloc, "a fault was forgotten at the end")?);
     }
-    tag_file.text_of(alloc, &found)
+    text_of(alloc, tag_file, &found)
+}
+
+/// What was read, or the fault, as text.
+fn text_of(
+    alloc: Global,
+    tag_file: TagFile,
+    read: &Result<TagValue, TagFault>,
+) -> io::Result<String> {
+    let mut text = Vec::new(alloc);
+    tag_file.write_read(read, &mut text)?;
+    match String::from_utf8(text) {
+        Ok(text) => Ok(text),
+        Err(_) => Err(bad_line()),
+    }
 }
 
 fn fault_in(found: &Result<TagValue, TagFault>) -> Option<TagFault> {

@@ -1,62 +1,167 @@
-//! The keepers with which deliveries are answered.
-use bag_ledger::{KeepFault, Keeper, MapKeeper};
-use bag_sqlite::{NotAdopted, NotCreated, SqlKeeper};
-use sqlite::{Connection, MemStore};
+//! The keepers of ledgers in memory, which can be closed and opened again.
+use crate::breaker::Breaker;
+use crate::breaking_keeper::BreakingKeeper;
+use crate::fused::{Fused, FusedKeeper, close, open};
+use crate::lines::bad_line;
+use crate::opening::opened;
+use bag_ledger::{Keeper, MapKeeper};
+use bag_sqlite::{AdoptFault, SqlKeeper};
+use sqlite::{Connection, Files, MemStore};
+use sqlite_disk::{Disk, Fuse, Memory};
 use std::alloc::Global;
-use std::io::{self, ErrorKind};
+use std::io;
 
-/// A keeper of an empty ledger in memory, which can be opened again.
-pub trait Anew: Keeper + Drop {
-    fn anew(alloc: Global) -> io::Result<Self>;
+/// A keeper of a ledger in memory, which can be closed and opened again.
+pub trait Reopened<'a>: Keeper + Drop {
+    /// What is left of a ledger that isn't open.
+    type Closed: Drop;
 
-    /// Gives up the ledger and opens it again.
-    fn again(self) -> io::Result<Self>;
+    /// Nothing, of which the first opening makes a ledger without transfers.
+    fn nothing(alloc: Global) -> Self::Closed;
+
+    /// The ledger in this file of a database.
+    ///
+    /// # Errors
+    ///
+    /// `InvalidData` if a ledger of this kind is in no file; or memory ran out.
+    fn in_file(alloc: Global, database: &[u8]) -> io::Result<Self::Closed>;
+
+    /// Opens the ledger. `seed` is another one each time.
+    ///
+    /// # Errors
+    ///
+    /// The fault, with the ledger.
+    fn opened_from(
+        alloc: Global,
+        closed: Self::Closed,
+        breaker: &'a Breaker,
+        seed: u64,
+    ) -> Result<Self, (AdoptFault, Self::Closed)>;
+
+    /// Closes the ledger.
+    fn into_closed(self) -> Self::Closed;
 }
 
-impl Anew for MapKeeper {
-    fn anew(alloc: Global) -> io::Result<MapKeeper> {
-        Ok(MapKeeper::new(alloc))
+impl<'a> Reopened<'a> for MapKeeper {
+    type Closed = MapKeeper;
+
+    fn nothing(alloc: Global) -> MapKeeper {
+        MapKeeper::new(alloc)
     }
 
-    fn again(self) -> io::Result<MapKeeper> {
-        Ok(self)
+    fn in_file(_alloc: Global, _database: &[u8]) -> io::Result<MapKeeper> {
+        Err(bad_line())
+    }
+
+    fn opened_from(
+        _alloc: Global,
+        closed: MapKeeper,
+        _breaker: &'a Breaker,
+        _seed: u64,
+    ) -> Result<Self, (AdoptFault, MapKeeper)> {
+        Ok(closed)
+    }
+
+    fn into_closed(self) -> MapKeeper {
+        self
     }
 }
 
-impl Anew for SqlKeeper<MemStore> {
-    fn anew(alloc: Global) -> io::Result<SqlKeeper<MemStore>> {
-        let connection = Connection::open_in_memory(alloc)?;
-        created(SqlKeeper::create(connection))
+impl<'a> Reopened<'a> for BreakingKeeper<'a> {
+    type Closed = MapKeeper;
+
+    fn nothing(alloc: Global) -> MapKeeper {
+        MapKeeper::new(alloc)
     }
 
-    fn again(self) -> io::Result<SqlKeeper<MemStore>> {
-        match SqlKeeper::adopt(self.release()) {
+    fn in_file(_alloc: Global, _database: &[u8]) -> io::Result<MapKeeper> {
+        Err(bad_line())
+    }
+
+    fn opened_from(
+        _alloc: Global,
+        closed: MapKeeper,
+        breaker: &'a Breaker,
+        _seed: u64,
+    ) -> Result<Self, (AdoptFault, MapKeeper)> {
+        Ok(BreakingKeeper::new(closed, breaker))
+    }
+
+    fn into_closed(self) -> MapKeeper {
+        self.into_inside()
+    }
+}
+
+impl<'a> Reopened<'a> for SqlKeeper<MemStore> {
+    /// None before there is a database.
+    type Closed = Option<Connection<MemStore>>;
+
+    fn nothing(_alloc: Global) -> Option<Connection<MemStore>> {
+        None
+    }
+
+    fn in_file(_alloc: Global, _database: &[u8]) -> io::Result<Option<Connection<MemStore>>> {
+        Err(bad_line())
+    }
+
+    fn opened_from(
+        alloc: Global,
+        closed: Option<Connection<MemStore>>,
+        _breaker: &'a Breaker,
+        _seed: u64,
+    ) -> Result<Self, (AdoptFault, Option<Connection<MemStore>>)> {
+        let connection = match closed {
+            Some(connection) => connection,
+            None => match Connection::open_in_memory(alloc) {
+                Ok(connection) => connection,
+                Err(error) => return Err((AdoptFault::from(error), None)),
+            },
+        };
+        match opened(connection) {
             Ok(keeper) => Ok(keeper),
-            Err(
-                NotAdopted {
-                    fault: _,
-                    connection: _,
-                },
-            ) => Err(io::Error::from(ErrorKind::Other)),
+            Err((fault, connection)) => Err((fault, Some(connection))),
         }
     }
+
+    fn into_closed(self) -> Option<Connection<MemStore>> {
+        Some(self.release())
+    }
 }
 
-/// The keeper of a ledger that was made; a fault is returned as an error.
-fn created(
-    made: Result<SqlKeeper<MemStore>, NotCreated<MemStore>>,
-) -> io::Result<SqlKeeper<MemStore>> {
-    match made {
-        Ok(keeper) => Ok(keeper),
-        Err(
-            NotCreated {
-                fault,
-                trouble: _,
-                connection: _,
-            },
-        ) => Err(io::Error::from(match fault {
-            KeepFault::Memory => ErrorKind::OutOfMemory,
-            KeepFault::Store(_) => ErrorKind::Other,
-        })),
+impl<'a> Reopened<'a> for FusedKeeper {
+    type Closed = Fused;
+
+    fn nothing(alloc: Global) -> Fused {
+        files_of(Memory::new(alloc), Memory::new(alloc))
+    }
+
+    fn in_file(alloc: Global, database: &[u8]) -> io::Result<Fused> {
+        let mut copy = Memory::new(alloc);
+        copy.write_at(0, database)?;
+        copy.sync()?;
+        Ok(files_of(Memory::new(alloc), copy))
+    }
+
+    fn opened_from(
+        alloc: Global,
+        closed: Fused,
+        _breaker: &'a Breaker,
+        seed: u64,
+    ) -> Result<Self, (AdoptFault, Fused)> {
+        open(alloc, closed, seed)
+    }
+
+    /// If the log can't be copied into the database, it stays.
+    fn into_closed(self) -> Fused {
+        let (files, _) = close(self);
+        files
+    }
+}
+
+/// Files that never stop working.
+fn files_of(log: Memory, db: Memory) -> Fused {
+    Files {
+        log: Fuse::new(log, u64::MAX),
+        db: Fuse::new(db, u64::MAX),
     }
 }

@@ -1,5 +1,5 @@
 //! The lines of standard input: their words, and the fields that are in hex.
-use bag_path::BagPath;
+use bag_path::{BagPath, PathFault};
 use std::alloc::Global;
 use std::io::{self, BufRead, BufReader, ErrorKind, Write};
 
@@ -37,6 +37,20 @@ pub fn answer_lines<A: Answers, R: Input + AllocGlobal, W: Write + Drop>(
     Ok(())
 }
 
+/// The lines of standard input.
+///
+/// # Errors
+///
+/// A read failed, or memory ran out.
+pub fn read_lines<R: Input + AllocGlobal>(rt: &R) -> io::Result<Vec<String>> {
+    let alloc = rt.alloc();
+    let mut lines = Vec::new(alloc);
+    for line in BufReader::new(alloc, rt.reader())?.lines(alloc) {
+        lines.push(line?)?;
+    }
+    Ok(lines)
+}
+
 /// The error for a malformed line.
 pub fn bad_line() -> io::Error {
     io::Error::from(ErrorKind::InvalidData)
@@ -61,10 +75,27 @@ pub fn octets_of(alloc: Global, field: &str) -> io::Result<Vec<u8>> {
     }
 }
 
-/// The path with this text.
-pub fn path_of(alloc: Global, text: &str) -> io::Result<BagPath> {
+/// The path with this text, or none if memory ran out.
+///
+/// # Errors
+///
+/// `InvalidData` if it is no path.
+pub fn parsed(alloc: Global, text: &str) -> io::Result<Option<BagPath>> {
     match BagPath::parse(alloc, text) {
-        Ok(path) => Ok(path),
+        Ok(path) => Ok(Some(path)),
+        Err(PathFault::Memory) => Ok(None),
         Err(_) => Err(bad_line()),
+    }
+}
+
+/// The path with this text.
+///
+/// # Errors
+///
+/// `InvalidData` if it is no path; or memory ran out.
+pub fn path_of(alloc: Global, text: &str) -> io::Result<BagPath> {
+    match parsed(alloc, text)? {
+        Some(path) => Ok(path),
+        None => Err(io::Error::from(ErrorKind::OutOfMemory)),
     }
 }

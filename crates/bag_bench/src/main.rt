@@ -16,11 +16,11 @@
 //!
 //! `bag_bench ALG PIECES` computes the digest of this many pieces of 65,536 octets.
 //!
-//! `bag_bench deliveries KEEPER` answers the lists of deliveries on standard input, as described in
-//! `tests/deliveries.py`, with the keeper `map` or `sqlite`, both in memory. The status is 0 if each line was answered.
+//! `bag_bench calls KEEPER` makes the calls on standard input, as described in `tests/deliveries.py`, `tests/new_bags.py` and
+//! `tests/refusals.py`, with the keeper `map` or `sqlite`, both in memory. The status is 0 if each line was answered.
 //!
-//! `bag_bench write` writes in memory the bags that standard input asks for, as described in `tests/new_bags.py`. The
-//! status is 0 if each line was read.
+//! `bag_bench refusals KEEPER MOST DEVICE NUMBER` makes at most MOST of these calls, with the keeper `map`, `sqlite`, `files` or
+//! `breaking`, and lets one call of all devices of a kind fail, that with this number; `tests/refusals.py` describes it.
 //!
 //! `bag_bench feeds` reads the tag files that standard input gives it in pieces, as described in `tests/feeds.py`. The
 //! status is 0 if each line was answered.
@@ -29,34 +29,42 @@
 #![tactic(auto)]
 
 use bag_digest::{Alg, AlgSet, Multi, piece_buffer};
-use bag_ledger::MapKeeper;
 use bag_path::Version;
 use bag_rules::{Plan, TagSet};
-use bag_sqlite::SqlKeeper;
 use bag_tags::{Kind, read_fetch, read_info, read_manifest, write_declaration};
-use deliveries::Lists;
 use feeding::Feeds;
 use lines::answer_lines;
 use receiving::receive;
-use sqlite::MemStore;
+use refusals::{answer_over, answer_refused};
 use std::alloc::{AllocError, Global};
 use std::env;
 use std::io::{self, BufWriter, Write};
 use std::process::ExitCode;
 use stopped::{Calls, stop};
-use writing::Order;
 
+mod breaker;
+mod breaking;
+mod breaking_keeper;
 mod bringing;
+mod commanding;
 mod deliveries;
+mod drafting;
 mod event;
 mod feeding;
 mod fused;
 mod keepers;
 mod lines;
+mod listing;
+mod opening;
+mod planning;
+mod reading;
 mod receiving;
+mod refusals;
+mod shown;
 mod stopped;
 mod text;
-mod writing;
+mod valuing;
+mod world;
 
 /// The SHA-256 of the empty message.
 const NOTHING: &str = "e3b0c44298fc1c149afbf4c8996fb92427ae41e4649b934ca495991b7852b855";
@@ -98,30 +106,16 @@ fn work(rt: &HostRuntime) -> io::Result<u8> {
 fn work_into<W: Write + Drop>(rt: &HostRuntime, words: &[String], out: &mut W) -> io::Result<u8> {
     let alloc = rt.alloc();
     match words.len() {
-        1 if words[0].as_str() == "write" => {
-            answer_lines(rt, &mut Order::new(alloc), out)?;
-            Ok(0)
-        }
         1 if words[0].as_str() == "feeds" => {
             answer_lines(rt, &mut Feeds, out)?;
             Ok(0)
         }
-        2 if words[0].as_str() == "deliveries" => answer_over(rt, words[1].as_str(), out),
+        2 if words[0].as_str() == "calls" => answer_over(rt, words[1].as_str(), out),
         2 => measure(alloc, words[0].as_str(), words[1].as_str()),
+        5 if words[0].as_str() == "refusals" => answer_refused(rt, words, out),
         6 if words[0].as_str() == "stop" => stop_at(rt, words, out),
         _ => Ok(64),
     }
-}
-
-/// Answers the lists of deliveries with the keeper of this name.
-fn answer_over<W: Write + Drop>(rt: &HostRuntime, keeper: &str, out: &mut W) -> io::Result<u8> {
-    let alloc = rt.alloc();
-    match keeper {
-        "map" => answer_lines(rt, &mut Lists::<MapKeeper>::new(alloc)?, out)?,
-        "sqlite" => answer_lines(rt, &mut Lists::<SqlKeeper<MemStore>>::new(alloc)?, out)?,
-        _ => return Ok(64),
-    }
-    Ok(0)
 }
 
 /// Does the work on standard input, and stops at a call of a file, as the six words say.

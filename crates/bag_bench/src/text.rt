@@ -2,7 +2,7 @@
 use bag_commands::{FaultLine, OutsideLine, RefusalText};
 use bag_ledger::KeepFault;
 use bag_path::Spelling;
-use bag_receiver::{Answer, BeginFault, End, ViewFault};
+use bag_receiver::{Answer, BeginFault, End, ExportFault, FetchAnswer, ViewFault};
 use std::fmt::{Display, Formatter, Result, Write};
 
 /// How a run ended.
@@ -60,5 +60,29 @@ impl Display for UnbegunText<'_> {
             BeginFault::Keeper(fault) => f.write_str(keep_text(*fault)),
             other => write!(f, "{other}"),
         }
+    }
+}
+
+/// The outcome of asking for an entry of `fetch.txt`.
+#[derive(Clone, Copy)]
+pub struct FetchedText(pub FetchAnswer);
+
+impl Display for FetchedText {
+    fn fmt<W: Write>(&self, f: &mut Formatter<W>) -> Result {
+        match self.0 {
+            FetchAnswer::Taken => f.write_str("taken"),
+            FetchAnswer::NotSupplied => f.write_str("not supplied"),
+            FetchAnswer::SupplierFailed => f.write_str("supplier"),
+            FetchAnswer::Refused(fault) => write!(f, "refused: {}", RefusalText(fault)),
+        }
+    }
+}
+
+/// Why no bag, or only part of one, was exported.
+pub fn export_text(fault: ExportFault) -> &'static str {
+    match fault {
+        ExportFault::NoTransfer => "no transfer",
+        ExportFault::Sink => "sink",
+        ExportFault::Keeper(fault) => keep_text(fault),
     }
 }

@@ -1,0 +1,73 @@
+//! Lets one call of a device fail.
+use std::cell::Cell;
+
+/// A kind of device.
+#[derive(Clone, Copy, PartialEq, Eq)]
+pub enum Device {
+    Tree,
+    Sink,
+    Reader,
+    Courier,
+    Supplier,
+    Keeper,
+    Writer,
+}
+
+impl Device {
+    /// The kind with this name.
+    pub fn of(name: &str) -> Option<Device> {
+        match name {
+            "tree" => Some(Device::Tree),
+            "sink" => Some(Device::Sink),
+            "reader" => Some(Device::Reader),
+            "courier" => Some(Device::Courier),
+            "supplier" => Some(Device::Supplier),
+            "keeper" => Some(Device::Keeper),
+            "writer" => Some(Device::Writer),
+            _ => None,
+        }
+    }
+}
+
+/// Counts the calls of all devices of one kind, and lets one of them fail.
+#[derive(Drop)]
+pub struct Breaker {
+    device: Option<Device>,
+    // how many calls there are up to the one that fails; 0 if none does
+    left: Cell<u64>,
+    has_broken: Cell<bool>,
+}
+
+impl Breaker {
+    /// Lets the call with this number fail, counted from 1; none if it is 0.
+    pub fn new(device: Option<Device>, number: u64) -> Breaker {
+        Breaker {
+            device,
+            left: Cell::new(number),
+            has_broken: Cell::new(false),
+        }
+    }
+
+    /// Lets none fail.
+    pub fn none() -> Breaker {
+        Breaker::new(None, 0)
+    }
+
+    /// Counts a call of a device of this kind. Returns whether it fails.
+    pub fn breaks(&self, device: Device) -> bool {
+        if self.device != Some(device) {
+            return false;
+        }
+        let left = self.left.get();
+        self.left.set(left.saturating_sub(1));
+        if left == 1 {
+            self.has_broken.set(true);
+        }
+        left == 1
+    }
+
+    /// Whether a call has failed since this was asked last.
+    pub fn has_broken(&self) -> bool {
+        self.has_broken.replace(false)
+    }
+}

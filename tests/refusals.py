@@ -1,0 +1,223 @@
+#!/usr/bin/env python3
+"""refusals.py DRIVER PROGRAM LIBRARY: lists of calls, each a case that docs/FORMAT.md decides (tests/refusal_lists.py), in which one request
+for memory is refused, the first, the second and so on, by a library that is loaded before the driver's own (tests/no_memory.c); and in which
+one call of a device fails, the first, the second and so on, of its trees, sinks, readers, couriers, suppliers, keepers and writers, by a
+count in the driver. Each call of the driver is a line, so that it is known which call met the refusal, and all answers are judged
+(tests/refused_calls.py). Each list goes on with calls that ask for what is held, before the ledger is opened again and after it. They are
+run over a map in memory, a database in memory, a database in two files in memory, and a map whose calls fail. Then the reading of command
+lines is refused memory in the same way. It prints how many runs there were, for each list by keeper, and each answer that no refusal explains.
+
+The driver reads calls from standard input, one per line, and prints a line for each, which ends in ` !` if a call of a device failed in it.
+A call is a word, then a name and pairs of a path and octets, each in hex, or `-` if it is empty. The parts of an answer are joined by ` | `.
+Each part is `refused: memory` if memory ran out, and `refused: store`, `reader` or the like if that failed.
+
+    start                    `started`; the ledger is made
+    reopen                   `opened`; the ledger is closed, if it is open, and opened, or made if it could not be made
+    load - - DATABASE        `opened`; the ledger in this file is opened
+    adopt                    a database without tables is opened as a ledger: `refused: not a ledger`
+    begin, deliver, read, run, bring, report, audit, names     as in tests/deliveries.py
+    fetch NAME FILES         for each line that is asked for its number, the path and the answer; then `done`. The supplier has these files
+    export NAME              `exported N`, then `data/` and each file with its octets, in hex
+    clear, file, by, element, hole, write     as in tests/new_bags.py
+    check, make, begin-to, intake-to, report-to, audit-to, fetch-to, export-to, list-to     the commands, on the tree of `file`, and `make` with
+                             its paths as names of algorithms: the status, and what is printed in hex; of `make` and `export-to` also the files
+    parse TEXT, unescape TEXT VERSION, escape PATH, hex ALG TEXT, digest LIMIT ALG OCTETS, declaration     texts and digests
+    manifest NAME, metadata, entries              each pair is added, and the text is written
+    whole NAME VERSION OCTETS, feed NAME VERSION PIECES      a tag file is read, whole or in pieces; printed as in tests/feeds.py
+    plan FILES               each tag file is added; then the paths of the plan, and the report if nothing is held
+"""
+import bisect
+import collections
+import os
+import subprocess
+import sys
+import tempfile
+
+from deliveries import line
+from refusal_lists import lists
+from refused_calls import Otherwise, World
+
+DEVICES = ["tree", "sink", "reader", "courier", "supplier", "writer"]
+NEVER = 10**6
+# More requests for memory may not be made by one list; a longer list is cut in two.
+MOST = 1000
+# What uses which devices.
+USES = {"read": ["reader"], "digest": ["reader"], "bring": ["courier"], "fetch": ["supplier"], "export": ["sink"], "write": ["tree", "sink"],
+        "check": ["tree", "writer"], "make": ["tree", "sink", "writer"], "begin-to": ["tree", "writer"], "intake-to": ["courier", "writer"],
+        "report-to": ["writer"], "audit-to": ["writer"], "fetch-to": ["supplier", "writer"], "export-to": ["sink", "writer"],
+        "list-to": ["writer"]}
+OF_KEEPERS = ["begin", "deliver", "read", "run", "bring", "report", "audit", "names", "fetch", "export"]
+# Words for the program in a folder without any file, with the status and the line; any line if it is None.
+WORDS = [([], 64, "bag: check, make, begin, intake, report, audit, fetch, export, list"), (["check", "d"], 3, "bag: files"),
+         (["intake", "l", "t1", "a", "b"], 3, "bag: not a ledger"), (["check"], 64, ""), (["check", "--help"], 0, None)]
+
+
+class Runs:
+    """Runs lists with refusals, and counts them."""
+
+    def __init__(self, driver, library, folder):
+        self.driver, self.library, self.folder = driver, library, folder
+        self.faults, self.counts, self.told = [], collections.Counter(), 0
+
+    def path(self, name):
+        return os.path.join(self.folder, name)
+
+    def refusing(self, words, refuse, **options):
+        """Runs the words and refuses one request for memory, none if it is 0. Returns how the run ended, and whether one was refused."""
+        variables = {"LD_PRELOAD": self.library, "REFUSE": str(refuse), "ASKED": self.path("asked"), "REFUSED": self.path("refused")}
+        ran = subprocess.run(words, env=variables, capture_output=True, timeout=60, check=False, **options)
+        is_refused = os.path.exists(self.path("refused"))
+        if is_refused:
+            os.unlink(self.path("refused"))
+        return ran, is_refused
+
+    def asked(self):
+        with open(self.path("asked"), encoding="ascii") as file:
+            return int(file.read())
+
+    def run(self, keeper, broken, refuse=0, most=NEVER):
+        """The answers of the driver, the places of those in which a call of a device failed, and whether a request was refused."""
+        with open(self.path("calls"), "rb") as calls:
+            ran, is_refused = self.refusing([self.driver, "refusals", keeper, str(most), *map(str, broken)], refuse, stdin=calls)
+        if ran.returncode or ran.stderr:
+            raise Otherwise(f"the driver ends with {ran.returncode} and says {ran.stderr} after {ran.stdout[-300:]}")
+        answers = ran.stdout.decode().split("\n")[:-1]
+        return answers, [place for place, text in enumerate(answers) if text.endswith(" !")], is_refused
+
+    def all_of(self, some):
+        with open(self.path("calls"), "w", encoding="ascii") as calls:
+            calls.writelines(line(event) + "\n" for event in some.events)
+        for keeper in some.keepers:
+            self.attempt(some, keeper, "undisturbed", self.undisturbed)
+            self.attempt(some, keeper, "memory", self.refuse_each)
+            for device in DEVICES if some.broken[1] == 0 else []:
+                self.attempt(some, keeper, device, self.fail_each)
+        if some.broken[1] == 0 and "sqlite" in some.keepers:
+            self.attempt(some, "breaking", "keeper", self.fail_each)
+
+    def attempt(self, some, keeper, what, work):
+        try:
+            work(some, keeper, what)
+        except Otherwise as otherwise:
+            self.faults.append(f"{some.name}, over {keeper}, {what}: {otherwise}")
+
+    def undisturbed(self, some, keeper, _):
+        answers, marks, _ = self.run(keeper, some.broken)
+        for event, answer, wanted in zip(some.events, answers, some.wanted):
+            if wanted is not None and answer != wanted:
+                raise Otherwise(f"{event[0]}: {answer!r} instead of {wanted!r}")
+        judge(some, answers, {place: [may_of(some.broken[0])] for place in marks})
+
+    def refuse_each(self, some, keeper, what):
+        """Refuses each request for memory of the calls of the range."""
+        bounds = []
+        for most in range(some.first, some.last + 1):
+            self.run(keeper, some.broken, most=most)
+            bounds.append(self.asked())
+        if bounds[-1] - bounds[0] > MOST:
+            raise Otherwise(f"{bounds[-1] - bounds[0]} requests for memory are more than {MOST}")
+        for number in range(bounds[0] + 1, bounds[-1] + 1):
+            place = some.first + bisect.bisect_left(bounds, number) - 1
+            word = some.events[place][0]
+            answers, marks, is_refused = self.run(keeper, some.broken, number)
+            if not is_refused:
+                raise Otherwise(f"request {number} for memory was never made")
+            self.counts[what, some.name, keeper] += 1
+            may = {mark: [may_of(some.broken[0])] for mark in marks}
+            may.setdefault(place, []).append(memory_of(keeper, word))
+            try:
+                self.told += judge(some, answers, may)
+            except Otherwise as otherwise:
+                raise Otherwise(f"request {number - bounds[0]} of {bounds[-1] - bounds[0]}, in {word}: {otherwise}") from None
+        if not self.counts[what, some.name, keeper]:
+            raise Otherwise("no request was refused")
+
+    def fail_each(self, some, keeper, device):
+        """Lets each call of a device fail."""
+        for number in range(1, NEVER):
+            answers, marks, _ = self.run(keeper, (device, number))
+            if not marks:
+                break
+            self.counts[device, some.name, keeper] += 1
+            try:
+                [met] = marks
+                judge(some, answers, {met: [may_of(device)]})
+            except Otherwise as otherwise:
+                raise Otherwise(f"call {number}, in {some.events[marks[0]][0]}: {otherwise}") from None
+        judge(some, answers, {})
+        used = OF_KEEPERS if device == "keeper" else [word for word, devices in USES.items() if device in devices]
+        if any(event[0] in used for event in some.events) and not self.counts[device, some.name, keeper]:
+            raise Otherwise("no call failed")
+
+    def read_words(self, program):
+        """The reading of a command line. Nothing but its answer may be printed, or that memory ran out."""
+        folder = self.path("empty")
+        os.mkdir(folder)
+        for words, status, text in WORDS:
+            ran, _ = self.refusing([program, *words], 0, cwd=folder)
+            whole = ran.returncode, ran.stdout.decode(), ran.stderr.decode()
+            if whole[0] != status or text is not None and whole[1] != (text and text + "\n") or status == 64 and words and not whole[2]:
+                self.faults.append(f"{words}: {whole}")
+            asked = self.asked()
+            for number in range(1, asked + 1):
+                ran, is_refused = self.refusing([program, *words], number, cwd=folder)
+                told = ran.returncode, ran.stdout.decode(), ran.stderr.decode()
+                self.counts["words", " ".join(words), "program"] += is_refused
+                if told not in (whole, (3, "bag: memory\n", "")) or not is_refused:
+                    self.faults.append(f"{words}: request {number} of {asked} for memory: {told}")
+
+    def number_of(self, what):
+        return sum(count for (which, _, _), count in self.counts.items() if which == what)
+
+
+def judge(some, answers, may):
+    """Judges the answers to a list. `may` has the words of each refusal that was met in a call, by its place. Returns whether a refusal was answered."""
+    if len(answers) != len(some.events):
+        raise Otherwise(f"{len(answers)} answers to {len(some.events)} calls")
+    worlds = [World()]
+    for place, (event, answer) in enumerate(zip(some.events, answers)):
+        if event[0] == "reopen":
+            worlds = [other for world in worlds for other in world.settled()]
+        agreeing, first = [], None
+        for world in worlds:
+            try:
+                world.judge(event, answer.removesuffix(" !"), may.get(place, []))
+                agreeing.append(world)
+            except Otherwise as otherwise:
+                first = first or otherwise
+        worlds = agreeing
+        if not worlds:
+            raise Otherwise(f"call {place}, {event[0]}: {first}")
+    return worlds[0].has_refused
+
+
+def may_of(device):
+    """The words for a failed call of this device."""
+    return {"reader": {"reader", "read"}, "courier": {"reader", "courier"}, "supplier": {"reader", "supplier"}, "sink": {"sink"},
+            "tree": {"tree", "files"}, "keeper": {"store"}, "writer": {"writer"}}[device]
+
+
+def memory_of(keeper, word):
+    """The words for a refused request. The files of a database, and those of a sink, are in memory: if they can't grow, these fail."""
+    return {"memory"} | ({"store"} if keeper in ("sqlite", "files") else set()) | ({"sink"} if "sink" in USES.get(word, []) else set())
+
+
+def main(driver, program, library):
+    with tempfile.TemporaryDirectory() as folder:
+        runs, names = Runs(os.path.abspath(driver), os.path.abspath(library), folder), []
+        for some in lists():
+            names.append(some.name)
+            runs.all_of(some)
+        runs.read_words(os.path.abspath(program))
+    for name in names:
+        print(f"{name}: " + ", ".join(f"{count} {what} over {keeper}" for (what, which, keeper), count in runs.counts.items() if which == name))
+    print(*runs.faults, sep="\n", end="\n" if runs.faults else "")
+    kinds = ["memory", "words", "keeper", *DEVICES]
+    failed = ", ".join(f"{runs.number_of(device)} of a {device}" for device in kinds[2:])
+    print(f"{len(names)} lists of calls: {runs.number_of('memory')} requests for memory refused, of which {runs.told} are told, and calls failed: {failed};"
+          f" {len(WORDS)} command lines: {runs.number_of('words')} requests refused")
+    return 1 if runs.faults or not all(map(runs.number_of, kinds)) else 0
+
+
+if __name__ == "__main__":
+    sys.exit(main(*sys.argv[1:]))
