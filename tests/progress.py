@@ -43,6 +43,11 @@ class Ended:
     def screen(self):
         return screen(self.said.decode())
 
+    def erases_lines(self):
+        """Whether a line is shown before each erasure, after the one before."""
+        is_shown = [text != "" for text in re.findall(r"\r([^\r\n\x1b]*)\x1b\[K", self.said.decode())]
+        return all(before or after for before, after in zip([False, *is_shown], is_shown))
+
 
 def screen(text):
     """The lines that a terminal shows in the end, without empty ones at the end."""
@@ -189,6 +194,7 @@ def both(place, works, *words, again=lambda: None, status=0):
     assert (stopped.status, stopped.printed) == (status, quiet.printed), (words, stopped.status)
     assert together.status == status and together.screen() == quiet.printed.decode().splitlines(), (words, together.screen())
     assert watched.screen() == [], watched.screen()
+    assert watched.erases_lines() and together.erases_lines(), (words, watched.said, together.said)
     told = [(name, list(lines)) for name, lines in itertools.groupby(watched.lines(), lambda line: LINE.fullmatch(line).group(1))]
     assert [name for name, _ in told] == [work.told for work in works], (words, watched.lines())
     for (_, lines), work in zip(told, works):
