@@ -1,7 +1,5 @@
 -- What a fault tells, and what a trouble tells.
-use Rattle.std.proofs.Common.{◌≡◌, ◌∙◌, ℕ, List, None, Option, Some, Result, Ok, Err, false, true, ap, length, subst, sym}
-use Rattle.std.proofs.Math.Nat.{le_refl}
-use Rattle.std.proofs.lemmas.List.{take_all}
+use Rattle.std.proofs.Common.{◌≡◌, ℕ, Bool, List, None, Option, Some, Result, Ok, Err, false, inl, true, refl, subst, sym}
 use Rattle.std.specs.Prelude.{IfErr, IfSome, IsErr, MatchResult, OnSome}
 use Rattle.bag_folder.specs.declared.fault.OpenFault.{OpenFault}
 use Rattle.bag_folder.specs.declared.fault.OpenFault.TheVariants.{Files, Memory}
@@ -10,7 +8,9 @@ use Rattle.bag_folder.specs.declared.unfit.Cause.{Cause}
 use Rattle.bag_folder.specs.Directories.{IsUnfit, Listing, name_below}
 use Rattle.bag_folder.specs.Faults.{IfUnfit, TellsBelow}
 use Rattle.bag_folder.specs.Folders.{IsRefused}
-use Rattle.bag_folder.specs.Supplying.{IsNameTo}
+use Rattle.bag_folder.specs.Names.{Standing}
+use Rattle.bag_folder.specs.Supplying.{IsBarred, IsNameTo, Says}
+use Rattle.bag_folder.proofs.NameLemmas.{if_known}
 use Rattle.bag_folder.specs.Unfits.{CountsTrouble, TellsLast, TroublesShown, UnfitShown}
 
 pub IfUnfit-weaker : (fault : OpenFault) (P Q : UnfitShown → Type 0) → ((unfit : UnfitShown) → P unfit → Q unfit) → IfUnfit fault P → IfUnfit fault Q
@@ -23,7 +23,7 @@ OnSome-weaker None P Q weaker here = tt
 
 -- the name of the whole path
 pub whole_name : (folder path name : List ℕ) → name ≡ name_below folder path → IsNameTo folder path name
-whole_name folder path name is = (length path, is ∙ ap (name_below folder) (sym (take_all (length path) path (le_refl (length path)))))
+whole_name folder path name is = (path, inl refl, is)
 
 -- what a walk refuses is told by its name on disk
 pub refused_on_disk : (known : Option Listing) (folder : List ℕ) (place : Place) (fault told : OpenFault)
@@ -54,3 +54,57 @@ told_by_name (Err cause) result name old new P same counts looked_up failed = go
   go None cause tells here = tt
   go (Some unfit) None tells here = absurd (none_is_not_some unfit.cause tells.1)
   go (Some unfit) (Some cause) tells here = subst P (sym tells.0) here
+
+-- What is told of a failed call has the name that was looked up, and the cause. If the call didn't fail, what holds of its value
+-- holds of the result.
+pub told_by_cause : {A E : Type 0} (answer : Result A (Option Cause)) (result : Result A E)
+    (name : List ℕ) (old new : TroublesShown) (P : A → Type 0) (Q : List ℕ → Cause → Type 0)
+    → MatchResult answer (λ value. result ≡ Ok value) (λ _. IsErr result)
+    → CountsTrouble answer name old new
+    → MatchResult answer P (λ cause. IfSome cause (Q name))
+    → MatchResult result P (λ _. IfSome new.last (λ unfit. Q unfit.path unfit.cause))
+told_by_cause {E = E} (Ok value) result name old new P Q same counts holds =
+    subst (λ (r : Result _ E). MatchResult r P
+    (λ _. IfSome new.last (λ unfit. Q unfit.path unfit.cause))) (sym same) holds
+told_by_cause (Err cause) (Ok value) name old new P Q failed counts holds =
+    absurd (false_is_not_true failed)
+told_by_cause (Err cause) (Err error) name old new P Q failed counts holds =
+    go new.last cause counts.1 holds where
+      same_cause : (a b : Cause) → Some a ≡ Some b → a ≡ b
+      same_cause a b h = cc
+
+      go : (last : Option UnfitShown) (cause : Option Cause) → TellsLast name cause last
+          → IfSome cause (Q name) → IfSome last (λ unfit. Q unfit.path unfit.cause)
+      go None cause tells here = tt
+      go (Some unfit) None tells here = absurd (none_is_not_some unfit.cause tells.1)
+      go (Some unfit) (Some cause) tells here =
+          subst (Q unfit.path) (same_cause cause unfit.cause tells.1)
+          (subst (λ (path : List ℕ). Q path cause) (sym tells.0) here)
+
+-- what a supplier answers, once a failure was counted
+pub answers_told : {E : Type 0} (known now : Option Standing) (folder below path name at : List ℕ)
+    (left to_read : Option (Option (List ℕ))) (answer : Result Bool (Option Cause))
+    (result : Result Bool E) (old new : TroublesShown)
+    → known ≡ now → folder ≡ below → name ≡ at → left ≡ to_read
+    → MatchResult answer (λ value. result ≡ Ok value) (λ _. IsErr result)
+    → CountsTrouble answer at old new
+    → IfSome known
+    (λ standing. MatchResult answer (Says standing folder path name left)
+    (λ cause. IfSome cause (IsBarred standing folder path name)))
+    → IfSome now
+    (λ standing. MatchResult result (Says standing below path at to_read)
+    (λ _. IfSome new.last (λ unfit. IsBarred standing below path unfit.path unfit.cause)))
+answers_told known now folder below path name at left to_read answer result old new same is named
+    reads matched counted answers =
+    subst (λ (o : Option Standing). IfSome o
+    (λ standing. MatchResult result (Says standing below path at to_read)
+    (λ _. IfSome new.last (λ unfit. IsBarred standing below path unfit.path unfit.cause)))) same
+    (if_known known _ _ answers
+    (λ standing here. told_by_cause answer result at old new
+    (Says standing below path at to_read) (IsBarred standing below path) matched counted
+    (subst (λ (f : List ℕ). MatchResult answer (Says standing f path at to_read)
+    (λ cause. IfSome cause (IsBarred standing f path at))) is
+    (subst (λ (n : List ℕ). MatchResult answer (Says standing folder path n to_read)
+    (λ cause. IfSome cause (IsBarred standing folder path n))) named
+    (subst (λ (r : Option (Option (List ℕ))). MatchResult answer (Says standing folder path name r)
+    (λ cause. IfSome cause (IsBarred standing folder path name))) reads here)))))

@@ -1,6 +1,7 @@
 -- What is visible of an open folder. The content of its files isn't known.
-use Rattle.std.specs.Prelude.{◌≡◌, ◌∷◌, ℕ, Bool, true, All, List, [], Option, Some, None, Result, IfSome, IsErr, IsSomeAnd, MatchResult, OnOk, codes, map, refl, slice_get}
+use Rattle.std.specs.Prelude.{◌≡◌, ◌∷◌, ℕ, Bool, true, All, List, [], Option, Some, None, Ok, Err, Result, IfSome, IsErr, IsSomeAnd, MatchResult, OnOk, codes, map, refl, slice_get}
 use Rattle.std.specs.Io.KnownBytes.{ReadConsumes}
+use Rattle.std.specs.declared.io.Error.{Error}
 use Rattle.std.proofs.Common.{◌∙◌}
 use Rattle.bag_path.specs.Paths.{is_payload}
 use Rattle.bag_digest.specs.Device.{one_more}
@@ -9,7 +10,8 @@ use Rattle.bag_tags.specs.Words.{without}
 use Rattle.bag_folder.specs.declared.place.Place.{Place}
 use Rattle.bag_folder.specs.declared.place.Place.TheVariants.{Base, Payload}
 use Rattle.bag_folder.specs.Directories.{IsBelow, IsUnfit, Listing, name_below}
-use Rattle.bag_folder.specs.Unfits.{IsToldAt, UnfitShown}
+use Rattle.bag_folder.specs.Names.{Standing, content}
+use Rattle.bag_folder.specs.Unfits.{IsCauseOf, IsToldAt, UnfitShown}
 
 -- what is shown of files with these paths and unknown octets
 abbrev pub shown_by : List (List ℕ) → Bool → Shown
@@ -30,8 +32,10 @@ told_name folder (octet ∷ path) = name_below folder (octet ∷ path)
 
 -- its files, and whether there is a payload directory; the name of the folder; where its files belong in a bag; the
 -- name of the last file looked up; what the open file will still give (if one is open, and if that is known); how many
--- times the folder has failed, and what couldn't be used the last time, if that is told
+-- times the folder has failed, and what couldn't be used the last time, if that is told; what stands under names, if that
+-- is known
 pub record FolderShown : Type 0 where
+  pub standing : Option Standing
   pub shown : Shown
   pub folder : List ℕ
   pub place : Place
@@ -104,6 +108,14 @@ pub record StartsFile {E : Type 0} (old new : FolderShown) (i : ℕ) (result : R
   pub told : IsErr result → IfSome new.trouble (λ unfit.
       IsSomeAnd (slice_get (paths_in old.shown) i)
       (λ path. unfit.path ≡ name_below old.folder (path_below old.place path)))
+
+-- the file that was opened is the one that the name leads to, and a failure is told with the cause of its error, if it is
+-- known what stands there
+abbrev pub OpensNamed : {A E : Type 0} → FolderShown → FolderShown → Result A E → Type 0
+OpensNamed old new result = IfSome old.standing (λ known. MatchResult result
+    (λ _. IsSomeAnd new.to_read (λ left. content known new.name ≡ Ok left))
+    (λ _. IfSome new.trouble (λ unfit. (error : Error)
+    × (content known unfit.path ≡ Err error) × IsCauseOf error unfit.cause)))
 
 -- the same files
 abbrev pub SameShown : FolderShown → FolderShown → Type 0

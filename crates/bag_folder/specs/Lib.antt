@@ -2,6 +2,8 @@ pub mod Bringing
 pub mod Directories
 pub mod Faults
 pub mod Folders
+pub mod MemNames
+pub mod Names
 pub mod SinkFolders
 pub mod Supplying
 pub mod Unfits

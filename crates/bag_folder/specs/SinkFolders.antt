@@ -2,12 +2,15 @@
 use Rattle.std.specs.Prelude.{◌≡◌, ℕ, List, Option, Some, None, Result, IsErr, MatchResult, OnOk}
 use Rattle.std.specs.Io.KnownBytes.{Appends}
 use Rattle.bag_folder.specs.Directories.{name_below}
+use Rattle.bag_folder.specs.Names.{Standing}
 use Rattle.bag_folder.specs.Unfits.{IsToldAt, UnfitShown}
 use Rattle.bag_digest.specs.Device.{one_more}
 
--- the name of the folder, and of what was made in it last; what the current file holds (if there is one, and if that is
--- known); how many times the folder has failed, and what couldn't be used the last time, if that is told
+-- what stands under names, if that is known; the name of the folder, and of what was made in it last; what the current
+-- file holds (if there is one, and if that is known); how many times the folder has failed, and what couldn't be used the
+-- last time, if that is told
 pub record SinkShown : Type 0 where
+  pub standing : Option Standing
   pub folder : List ℕ
   pub name : List ℕ
   pub written : Option (Option (List ℕ))
@@ -22,13 +25,18 @@ pub record IsCreated (folder : List ℕ) (sink : SinkShown) : Type 0 where
   pub no_trouble : sink.trouble ≡ None
 
 -- What is made at this path has its name below the folder. A failure is counted, and told of that name, and the folder
--- stays the same.
+-- keeps its name.
 pub record MakesBelow {E : Type 0} (old new : SinkShown) (path : List ℕ)
     (result : Result (Unit {0}) E) : Type 0 where
   pub named : OnOk result (new.name ≡ name_below old.folder path)
   pub changes : MatchResult result
-      (λ _. new ≡ record old { name = new.name; written = new.written })
       (λ _. new ≡ record old {
+        standing = new.standing;
+        name = new.name;
+        written = new.written;
+      })
+      (λ _. new ≡ record old {
+        standing = new.standing;
         name = new.name;
         failures = one_more old.failures;
         trouble = new.trouble;

@@ -1,16 +1,24 @@
--- What is visible of a folder as a supplier. The content of its files isn't known.
-use Rattle.std.specs.Prelude.{◌≡◌, ℕ, Bool, true, List, Option, None, Ok, Result, IfSome, IsErr, MatchResult, OnSome, is_some, refl, take}
+-- What is visible of a folder as a supplier, and what it answers. The content of its files isn't known.
+use Rattle.std.specs.Prelude.{◌≡◌, ◌≢◌, ⊤, ℕ, Bool, true, List, Option, None, Some, Ok, Err, Result, IfSome, IsErr, IsSomeAnd, MatchBool, MatchResult, OnSome, is_some, refl}
+use Rattle.std.specs.IoError.{error_kind}
+use Rattle.std.specs.declared.io.Error.{Error}
+use Rattle.std.specs.declared.io.ErrorKind.TheVariants.{IsADirectory, NotADirectory, NotFound}
 use Rattle.std.proofs.Common.{◌∙◌}
 use Rattle.bag_digest.specs.Device.{one_more}
 use Rattle.bag_receiver.specs.Suppliers.{Supply}
+use Rattle.bag_folder.specs.declared.directory.EntryKind.{EntryKind}
+use Rattle.bag_folder.specs.declared.directory.EntryKind.TheVariants.{File, Directory, Link, Special}
 use Rattle.bag_folder.specs.declared.unfit.Cause.{Cause}
+use Rattle.bag_folder.specs.declared.unfit.Cause.TheVariants as why
 use Rattle.bag_folder.specs.Directories.{name_below}
-use Rattle.bag_folder.specs.Unfits.{UnfitShown}
+use Rattle.bag_folder.specs.Names.{IsOnTheWay, LeadsTo, Standing, content, itself}
+use Rattle.bag_folder.specs.Unfits.{IsCauseOf, UnfitShown}
 
--- the name of the folder, and of the last file looked up; what the open file will still give (if one is open, and if
--- that is known); how many times the folder failed, and what couldn't be used the last time, if that is told; how many
--- times it was asked
+-- what stands under names, if that is known; the name of the folder, and of the last file looked up; what the open file
+-- will still give (if one is open, and if that is known); how many times the folder failed, and what couldn't be used the
+-- last time, if that is told; how many times it was asked
 pub record SupplierShown : Type 0 where
+  pub standing : Option Standing
   pub folder : List ℕ
   pub name : List ℕ
   pub to_read : Option (Option (List ℕ))
@@ -26,9 +34,86 @@ pub record IsReadyFolder (folder : List ℕ) (supplier : SupplierShown) : Type 0
   pub no_trouble : supplier.trouble ≡ None
   pub not_asked : supplier.asks ≡ 0
 
--- the name below the folder of this path, or of one that it begins with
+-- WHAT STANDS BELOW IT
+
+-- each directory on the way to this path, below the folder, is a folder itself
+abbrev pub IsReached : Standing → List ℕ → List ℕ → Type 0
+IsReached known folder path = (front : List ℕ) → LeadsTo front path
+    → itself known (name_below folder front) ≡ Ok Directory
+
+-- what is answered of one name, by what is found there: its kind, or nothing, or the cause why it can't be told
+abbrev pub Finds : Result EntryKind Error → Result (Option EntryKind) (Option Cause) → Type 0
+Finds found (Ok (Some kind)) = found ≡ Ok kind
+Finds found (Ok None) = (error : Error) × (found ≡ Err error) × (error_kind error ≡ NotFound)
+Finds found (Err None) = ⊤
+Finds found (Err (Some cause)) = (error : Error) × (found ≡ Err error)
+    × (error_kind error ≢ NotFound) × IsCauseOf error cause
+
+-- what has this path below the folder: it has this name, and folders alone lead to it
+pub record IsMet (known : Standing) (folder path name : List ℕ) (found : Result EntryKind Error)
+    : Type 0 where
+  pub named : name ≡ name_below folder path
+  pub reached : IsReached known folder path
+  pub is : itself known name ≡ found
+
+-- the same, of what has the path or is on the way to it
+abbrev pub IsMetOnTheWay : Standing → List ℕ → List ℕ → List ℕ → Result EntryKind Error → Type 0
+IsMetOnTheWay known folder path name found =
+    (front : List ℕ) × IsOnTheWay front path × IsMet known folder front name found
+
+-- nothing can have the path: on the way to it, or there, nothing is found, or a file is on the way
+pub data IsLacking (known : Standing) (folder path name : List ℕ) : Type 0 where
+  Absent : (error : Error) → error_kind error ≡ NotFound
+      → IsMetOnTheWay known folder path name (Err error) → IsLacking known folder path name
+  InFile : (front : List ℕ) → LeadsTo front path → IsMet known folder front name (Ok File)
+      → IsLacking known folder path name
+
+-- why a file isn't supplied, though it isn't lacking
+pub data IsBarred (known : Standing) (folder path name : List ℕ) (cause : Cause) : Type 0 where
+  Hidden : (error : Error) → error_kind error ≢ NotFound → IsCauseOf error cause
+      → IsMetOnTheWay known folder path name (Err error) → IsBarred known folder path name cause
+  IsLink : cause ≡ why.Link → IsMetOnTheWay known folder path name (Ok Link)
+      → IsBarred known folder path name cause
+  IsSpecial : cause ≡ why.Special → IsMetOnTheWay known folder path name (Ok Special)
+      → IsBarred known folder path name cause
+  IsDirectory : (error : Error) → error_kind error ≡ IsADirectory → cause ≡ why.System error
+      → IsMet known folder path name (Ok Directory) → IsBarred known folder path name cause
+  Shut : (error : Error) → content known name ≡ Err error → IsCauseOf error cause
+      → IsMet known folder path name (Ok File) → IsBarred known folder path name cause
+
+-- what has this path, if it is a file or a folder; or what is on the way to it and is neither
+abbrev pub Meets : Standing → List ℕ → List ℕ → List ℕ → Result (Option EntryKind) (Option Cause)
+    → Type 0
+Meets known folder path name (Ok None) = IsLacking known folder path name
+Meets known folder path name (Ok (Some File)) = IsMet known folder path name (Ok File)
+Meets known folder path name (Ok (Some Directory)) = IsMet known folder path name (Ok Directory)
+Meets known folder path name (Ok (Some Link)) = IsMetOnTheWay known folder path name (Ok Link)
+Meets known folder path name (Ok (Some Special)) =
+    IsMetOnTheWay known folder path name (Ok Special)
+Meets known folder path name (Err cause) = IfSome cause (IsBarred known folder path name)
+
+-- the file with this path was opened
+pub record IsGiven (known : Standing) (folder path name : List ℕ)
+    (to_read : Option (Option (List ℕ))) : Type 0 where
+  pub met : IsMet known folder path name (Ok File)
+  pub opened : IsSomeAnd to_read (λ left. content known name ≡ Ok left)
+
+-- it was said whether the folder has the file with this path, and that is so; the name was looked up last
+abbrev pub Says : Standing → List ℕ → List ℕ → List ℕ → Option (Option (List ℕ)) → Bool → Type 0
+Says known folder path name to_read has = MatchBool has
+    (IsGiven known folder path name to_read) (IsLacking known folder path name)
+
+-- this name doesn't lead to a folder
+abbrev pub IsNoFolder : Result EntryKind Error → Error → Type 0
+IsNoFolder found error = MatchResult found
+    (λ kind. (kind ≢ Directory) × (error_kind error ≡ NotADirectory)) (λ it. error ≡ it)
+
+-- WHAT IT ANSWERS
+
+-- the name below the folder of this path, or of a directory on the way to it
 abbrev pub IsNameTo : List ℕ → List ℕ → List ℕ → Type 0
-IsNameTo folder path name = (n : ℕ) × (name ≡ name_below folder (take n path))
+IsNameTo folder path name = (front : List ℕ) × IsOnTheWay front path
+    × (name ≡ name_below folder front)
 
 -- a call that looked up such names, and this one last
 abbrev pub LooksUp : {A : Type 0} → List ℕ → List ℕ → List ℕ → Result A (Option Cause) → Type 0
@@ -36,7 +121,8 @@ LooksUp folder path name result = MatchResult result (λ _. IsNameTo folder path
     (λ cause. OnSome cause (IsNameTo folder path name))
 
 -- The request is counted. Afterwards a file is open exactly if the folder has it, and it is the one with this path
--- below the folder. A failure is told of the file, or of a directory that it is to be in.
+-- below the folder. A failure is told of the file, or of a directory on the way to it. What is answered is right, if it is
+-- known what stands there.
 pub record AsksFolder {E : Type 0} (old new : SupplierShown) (path : List ℕ)
     (result : Result Bool E) : Type 0 where
   pub opened : is_some new.to_read ≡ true
@@ -51,6 +137,10 @@ pub record AsksFolder {E : Type 0} (old new : SupplierShown) (path : List ℕ)
   }
   pub told : IsErr result
       → IfSome new.trouble (λ unfit. IsNameTo old.folder path unfit.path)
+  pub answers : IfSome old.standing (λ known. MatchResult result
+      (Says known old.folder path new.name new.to_read)
+      (λ _. IfSome new.trouble (λ unfit.
+      IsBarred known old.folder path unfit.path unfit.cause)))
 
 -- asked the same number of times
 abbrev pub AsOftenAsked : SupplierShown → SupplierShown → Type 0

@@ -1,60 +1,68 @@
 //! A folder on disk that a bag is written to.
-ghost use Rattle.std.specs.Prelude.{◌≡◌, ◌||◌, IfErr, IfOk, IsErr, MatchOption, None, OnErr, OnOk, Some, [], codes, false, is_ok, is_some, true};
+ghost use Rattle.std.specs.Prelude.{◌≡◌, ◌||◌, IfErr, IfOk, IfSome, IsErr, IsSomeAnd, MatchOption, None, OnErr, OnOk, Some, [], codes, false, is_ok, is_some, true};
 ghost use Rattle.std.specs.Option.{option_map};
+ghost use Rattle.bag_folder.specs.Directories.{name_below};
 ghost use Rattle.bag_folder.specs.Faults.{IfUnfit, no_name};
+ghost use Rattle.bag_folder.specs.Names.{Changes, IsMade};
 ghost use Rattle.bag_folder.specs.SinkFolders.{IsCreated};
 
+use crate::directory::EntryKind;
 use crate::fault::OpenFault;
-use crate::name::{created, spell};
+use crate::name::{created, created_directory};
+use crate::names::Names;
 use crate::troubles::Troubles;
 use crate::unfit::{Cause, Unfit};
 use bag_digest::Failed;
 use bag_path::{BagPath, LONGEST_PATH};
 use bag_writer::Sink;
 use std::alloc::Global;
-use std::fs;
 use std::io::{self, Write};
 use std::marker::Model;
-use std::rt::Files;
 
 /// A folder that files are written to, each at its path. Nothing is claimed about its content.
 #[derive(Drop)]
-pub struct FolderSink<R: Files> {
+pub struct FolderSink<R: Names> {
     rt: R,
     folder: String,
     // the name of the last file or directory made; its capacity is enough for all names
     name: String,
     // the name of the directory that the last file was made in; its capacity is enough for all names
     made: String,
-    file: Option<R::File>,
+    file: Option<R::Writer>,
     troubles: Troubles,
 }
 
-impl<R: Files> Model for FolderSink<R> {
+impl<R: Names> Model for FolderSink<R> {
     ghost use Rattle.std.specs.Prelude.{option_map, string_bytes};
+    ghost use Rattle.bag_folder.specs.Names.{IsFolderIn};
     ghost use Rattle.bag_folder.specs.SinkFolders.{SinkShown};
 
     ghost Value = { SinkShown };
 
     ghost view = { λ sink. record {
+      standing = R.standing sink.rt;
       folder = string_bytes sink.folder;
       name = string_bytes sink.name;
-      written = option_map R.File.contents sink.file;
+      written = option_map R.Writer.contents sink.file;
       failures = sink.troubles.failures;
       trouble = sink.troubles.last;
     } };
+
+    ghost invariant = { λ sink. IsFolderIn (R.standing sink.rt) (string_bytes sink.made) };
 }
 
-impl<R: Files + Drop> FolderSink<R> {
+impl<R: Names + Drop> FolderSink<R> {
     /// Makes the folder. It must not exist yet, but its parent must.
     ///
     /// # Errors
     ///
     /// `Files` if the folder can't be made, for example because something with its name exists. `Memory` if memory runs
     /// out; no folder is made then.
-    pub fn create(rt: R, alloc: Global, folder: &str) -> Result<FolderSink<R>, OpenFault>
+    pub fn create(mut rt: R, alloc: Global, folder: &str) -> Result<FolderSink<R>, OpenFault>
         ensures no_name { folder.now ≡ [] → result ≡ Err no_name }
         ensures created { IfOk result (IsCreated folder.now) }
+        ensures made { IfOk result (λ sink.
+            Changes (IsMade EntryKind.Directory folder.now) (R.standing rt) sink.standing) }
         ensures refused { IfErr result (λ fault. IfUnfit fault (λ unfit.
             unfit.path ≡ folder.now)) }
     {
@@ -66,7 +74,7 @@ impl<R: Files + Drop> FolderSink<R> {
         let made = String::with_capacity(alloc, longest)?;
         let troubles = Troubles::none(alloc, longest)?;
         let kept = String::from_str(alloc, folder)?;
-        if let Err(error) = fs::create_dir(&rt, folder) {
+        if let Err(error) = rt.make_folder(folder) {
             return Err(OpenFault::system(kept, error));
         }
         Ok(FolderSink {
@@ -96,8 +104,9 @@ impl<R: Files + Drop> FolderSink<R> {
     }
 }
 
-impl<R: Files> Sink for FolderSink<R> {
+impl<R: Names> Sink for FolderSink<R> {
     ghost use Rattle.bag_writer.specs.Sinks.{IsFree, StaysOrIsLost, Stored, UsesSink};
+    ghost use Rattle.bag_folder.specs.Names.{HoldsNothing, MakesFile, MakesWay};
     ghost use Rattle.bag_folder.specs.SinkFolders.{EndsFile, MakesBelow, SinkShown, WritesFolder};
 
     ghost stored = { λ _. None };
@@ -113,12 +122,10 @@ impl<R: Files> Sink for FolderSink<R> {
         ensures uses { UsesSink (λ (sink : SinkShown). sink.failures) (λ (sink : SinkShown). ⊥)
             self.old self.new Unit (IsErr result) }
         ensures exactly { MakesBelow self.old self.new (codes "data") result }
+        ensures makes { Changes (MakesWay (name_below self.old.folder (codes "data")) result)
+            self.old.standing self.new.standing }
     {
-        self.name.clear();
-        let answer = match spell(&mut self.name, self.folder.as_str(), "data") {
-            Ok(()) => with_cause(fs::create_dir_all(&self.rt, self.name.as_str())),
-            Err(_) => Err(None),
-        };
+        let answer = created_directory(&mut self.rt, &mut self.name, self.folder.as_str(), "data");
         self.troubles.counted(self.name.as_str(), answer)
     }
 
@@ -131,11 +138,15 @@ impl<R: Files> Sink for FolderSink<R> {
             self.old self.new ((is_some self.old.written ≡ false) × IsFree None path.now)
             (IsErr result) }
         ensures exactly { MakesBelow self.old self.new path.now result }
+        ensures makes { Changes (MakesFile (name_below self.old.folder path.now) result)
+            self.old.standing self.new.standing }
+        ensures begins { OnOk result (IfSome self.new.standing
+            (λ _. IsSomeAnd self.new.written HoldsNothing)) }
     {
         let answer = match self.file {
             Some(_) => Err(None),
             None => match created(
-                &self.rt,
+                &mut self.rt,
                 &mut self.name,
                 &mut self.made,
                 self.folder.as_str(),

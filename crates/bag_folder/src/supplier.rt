@@ -1,53 +1,54 @@
 //! A folder on disk as a supplier of payload files.
-ghost use Rattle.std.specs.Prelude.{◌≡◌, ◌≤◌, [], Err, IfErr, IfOk, IsErr, MatchOption, MatchResult, None, Ok, OnSome, Some, is_some, length, string_bytes, true};
+ghost use Rattle.std.specs.Prelude.{◌≡◌, ◌≢◌, ◌≤◌, [], Err, IfErr, IfOk, IfSome, IsErr, MatchOption, MatchResult, None, Ok, OnSome, Some, is_some, length, string_bytes, take, true};
 ghost use Rattle.bag_folder.specs.Directories.{name_below};
 ghost use Rattle.bag_folder.specs.Faults.{IfUnfit, no_name};
-ghost use Rattle.bag_folder.specs.Supplying.{IsNameTo, IsReadyFolder, LooksUp};
-ghost use Rattle.bag_folder.specs.Unfits.{IsToldAt};
+ghost use Rattle.bag_folder.specs.Names.{LeadsTo, behind, itself};
+ghost use Rattle.bag_folder.specs.Supplying.{Finds, IsBarred, IsNameTo, IsNoFolder, IsReadyFolder, LooksUp, Meets, Says};
+ghost use Rattle.bag_folder.specs.Unfits.{IsCauseOf, IsToldAt};
 
 use crate::directory::EntryKind;
 use crate::fault::OpenFault;
 use crate::name::{opened, spell};
+use crate::names::Names;
 use crate::troubles::Troubles;
 use crate::unfit::{Cause, Unfit};
 use bag_digest::{Failed, Source};
 use bag_path::LONGEST_PATH;
 use bag_receiver::Supplier;
 use std::alloc::Global;
-use std::fs;
 use std::io::{self, ErrorKind, Read};
 use std::marker::Model;
-use std::rt::Files;
 
 /// Supplies the files below a folder by their paths, whatever their urls. Nothing is claimed about their content.
 #[derive(Drop)]
-pub struct FolderSupplier<R: Files> {
+pub struct FolderSupplier<R: Names> {
     rt: R,
     folder: String,
     // the name of the last file looked up; its capacity is enough for all names
     name: String,
-    file: Option<R::File>,
+    file: Option<R::Reader>,
     troubles: Troubles,
     asks: u64,
 }
 
-impl<R: Files> Model for FolderSupplier<R> {
+impl<R: Names> Model for FolderSupplier<R> {
     ghost use Rattle.std.specs.Prelude.{option_map, string_bytes};
     ghost use Rattle.bag_folder.specs.Supplying.{SupplierShown};
 
     ghost Value = { SupplierShown };
 
     ghost view = { λ supplier. record {
+      standing = R.standing supplier.rt;
       folder = string_bytes supplier.folder;
       name = string_bytes supplier.name;
-      to_read = option_map R.File.remaining supplier.file;
+      to_read = option_map R.Reader.remaining supplier.file;
       failures = supplier.troubles.failures;
       trouble = supplier.troubles.last;
       asks = supplier.asks;
     } };
 }
 
-impl<R: Files + Drop> FolderSupplier<R> {
+impl<R: Names + Drop> FolderSupplier<R> {
     /// A supplier of the files below this folder, which may be given as a symbolic link. Nothing below the folder is
     /// read.
     ///
@@ -57,8 +58,14 @@ impl<R: Files + Drop> FolderSupplier<R> {
     pub fn open(rt: R, alloc: Global, folder: &str) -> Result<FolderSupplier<R>, OpenFault>
         ensures no_name { folder.now ≡ [] → result ≡ Err no_name }
         ensures opened { IfOk result (IsReadyFolder folder.now) }
+        ensures stands { IfOk result (λ supplier. (supplier.standing ≡ R.standing rt)
+            × IfSome supplier.standing (λ known.
+            behind known folder.now ≡ Ok EntryKind.Directory)) }
         ensures refused { IfErr result (λ fault. IfUnfit fault (λ unfit.
             unfit.path ≡ folder.now)) }
+        ensures because { folder.now ≢ [] → IfSome (R.standing rt) (λ known.
+            IfErr result (λ fault. IfUnfit fault (λ unfit. (error : _)
+            × IsNoFolder (behind known folder.now) error × IsCauseOf error unfit.cause))) }
     {
         if folder.is_empty() {
             return Err(OpenFault::no_name(alloc));
@@ -100,6 +107,10 @@ impl<R: Files + Drop> FolderSupplier<R> {
             (IsNameTo self.old.folder path.now self.new.name)) }
         ensures same { self.new
             ≡ record self.old { name = self.new.name; to_read = self.new.to_read } }
+        ensures answers { IfSome self.old.standing (λ known. MatchResult result
+            (Says known self.old.folder path.now self.new.name self.new.to_read)
+            (λ cause. IfSome cause
+            (IsBarred known self.old.folder path.now self.new.name))) }
     {
         match standing_below(&self.rt, &mut self.name, self.folder.as_str(), path)? {
             None => Ok(false),
@@ -117,7 +128,7 @@ impl<R: Files + Drop> FolderSupplier<R> {
     }
 }
 
-impl<R: Files> Source for FolderSupplier<R> {
+impl<R: Names> Source for FolderSupplier<R> {
     ghost use Rattle.std.specs.Io.KnownBytes.{ReadConsumes};
     ghost use Rattle.bag_digest.specs.Device.{UsesSource};
     ghost use Rattle.bag_folder.specs.Folders.{ReadsOpen};
@@ -165,7 +176,7 @@ impl<R: Files> Source for FolderSupplier<R> {
     ghost keeps_on = { asked_on };
 }
 
-impl<R: Files + Drop> Supplier for FolderSupplier<R> {
+impl<R: Names + Drop> Supplier for FolderSupplier<R> {
     ghost use Rattle.std.specs.Prelude.{Ok, true};
     ghost use Rattle.bag_digest.specs.Device.{CountsFailure, one_more};
     ghost use Rattle.bag_receiver.specs.Suppliers.{IsSupplied};
@@ -204,11 +215,14 @@ impl<R: Files + Drop> Supplier for FolderSupplier<R> {
 }
 
 /// Fails if this name doesn't refer to a folder.
-fn standing_as_folder<R: Files>(rt: &R, folder: &str) -> io::Result<()> {
-    if fs::metadata(rt, folder)?.is_dir() {
-        Ok(())
-    } else {
-        Err(io::Error::from(ErrorKind::NotADirectory))
+fn standing_as_folder<R: Names>(rt: &R, folder: &str) -> io::Result<()>
+    ensures { IfSome (R.standing rt.now) (λ known. MatchResult result
+        (λ _. behind known folder.now ≡ Ok EntryKind.Directory)
+        (IsNoFolder (behind known folder.now))) }
+{
+    match rt.kind_behind(folder)? {
+        EntryKind::Directory => Ok(()),
+        _ => Err(io::Error::from(ErrorKind::NotADirectory)),
     }
 }
 
@@ -218,45 +232,61 @@ fn standing_as_folder<R: Files>(rt: &R, folder: &str) -> io::Result<()> {
 /// # Errors
 ///
 /// The cause why it isn't known what stands there; none if memory ran out.
-fn standing_below<R: Files>(
+fn standing_below<R: Names>(
     rt: &R,
     name: &mut String,
     folder: &str,
     path: &str,
 ) -> Result<Option<EntryKind>, Option<Cause>>
-    ensures { LooksUp folder.now path.now (string_bytes name.new) result }
+    ensures named { LooksUp folder.now path.now (string_bytes name.new) result }
+    ensures stands { IfSome (R.standing rt.now) (λ known.
+        Meets known folder.now path.now (string_bytes name.new) result) }
 {
     for end in 0..path.len() {
-        match path.split_at_checked(end) {
-            Some((front, rest)) if rest.starts_with('/') => {
-                match standing_at(rt, name, folder, front)? {
-                    Some(EntryKind::Directory) => {}
-                    Some(EntryKind::File) => return Ok(None),
-                    standing => return Ok(standing),
-                }
+        if let Some(front) = directory_to(path, end) {
+            match standing_at(rt, name, folder, front)? {
+                None => return Ok(None),
+                Some(EntryKind::File) => return Ok(None),
+                Some(EntryKind::Directory) => {}
+                Some(EntryKind::Link) => return Ok(Some(EntryKind::Link)),
+                Some(EntryKind::Special) => return Ok(Some(EntryKind::Special)),
             }
-            _ => {}
         }
     }
     standing_at(rt, name, folder, path)
 }
 
+/// The directory on the way to this path whose path has this length, if there is one.
+fn directory_to(path: &str, length: usize) -> Option<&str>
+    ensures { MatchOption result (¬ LeadsTo (take length path.now) path.now)
+        (λ front. (front.now ≡ take length path.now) × LeadsTo front.now path.now) }
+{
+    let (front, rest) = path.split_at_checked(length)?;
+    match rest.strip_prefix('/') {
+        Some(_) => Some(front),
+        None => None,
+    }
+}
+
 /// What stands at this path below the folder, if all its parents are directories.
-fn standing_at<R: Files>(
+fn standing_at<R: Names>(
     rt: &R,
     name: &mut String,
     folder: &str,
     path: &str,
 ) -> Result<Option<EntryKind>, Option<Cause>>
-    ensures { MatchResult result (λ _. string_bytes name.new ≡ name_below folder.now path.now)
+    ensures named { MatchResult result
+        (λ _. string_bytes name.new ≡ name_below folder.now path.now)
         (λ cause. OnSome cause (string_bytes name.new ≡ name_below folder.now path.now)) }
+    ensures stands { IfSome (R.standing rt.now) (λ known.
+        Finds (itself known (name_below folder.now path.now)) result) }
 {
     name.clear();
     if spell(name, folder, path).is_err() {
         return Err(None);
     }
-    match fs::symlink_metadata(rt, name.as_str()) {
-        Ok(about) => Ok(Some(EntryKind::of(about.file_type()))),
+    match rt.kind(name.as_str()) {
+        Ok(kind) => Ok(Some(kind)),
         Err(error) if error.kind() == ErrorKind::NotFound => Ok(None),
         Err(error) => Err(Some(Cause::of(error))),
     }

@@ -10,6 +10,7 @@ ghost use Rattle.bag_folder.specs.Folders.{IsOpened, IsRefused};
 use crate::directory::Directories;
 use crate::fault::OpenFault;
 use crate::name::opened;
+use crate::names::Names;
 use crate::payload::InPayload;
 use crate::place::Place;
 use crate::troubles::Troubles;
@@ -21,11 +22,10 @@ use bag_rules::{Paths, Tree};
 use std::alloc::Global;
 use std::io::Read;
 use std::marker::Model;
-use std::rt::Files;
 
 /// The files below a folder, by their paths in the folder. Nothing is claimed about their content.
 #[derive(Drop)]
-pub struct FolderTree<R: Files> {
+pub struct FolderTree<R: Names> {
     rt: R,
     folder: String,
     place: Place,
@@ -33,22 +33,23 @@ pub struct FolderTree<R: Files> {
     name: String,
     paths: Vec<BagPath>,
     has_dir: bool,
-    file: Option<R::File>,
+    file: Option<R::Reader>,
     troubles: Troubles,
 }
 
-impl<R: Files> Model for FolderTree<R> {
+impl<R: Names> Model for FolderTree<R> {
     ghost use Rattle.std.specs.Prelude.{option_map, string_bytes};
     ghost use Rattle.bag_folder.specs.Folders.{FolderShown, IsListing, shown_by};
 
     ghost Value = { FolderShown };
 
     ghost view = { λ tree. record {
+      standing = R.standing tree.rt;
       shown = shown_by tree.paths.items tree.has_dir;
       folder = string_bytes tree.folder;
       place = tree.place;
       name = string_bytes tree.name;
-      to_read = option_map R.File.remaining tree.file;
+      to_read = option_map R.Reader.remaining tree.file;
       failures = tree.troubles.failures;
       trouble = tree.troubles.last;
     } };
@@ -56,7 +57,7 @@ impl<R: Files> Model for FolderTree<R> {
     ghost invariant = { λ tree. IsListing tree.paths.items tree.has_dir };
 }
 
-impl<R: Files + Drop> FolderTree<R> {
+impl<R: Names + Drop> FolderTree<R> {
     /// Reads the whole folder, and lists every file in it or below it under its path in the folder.
     ///
     /// The name of the folder may end in a slash, and it may be a symbolic link to a folder; below it no symbolic link
@@ -78,6 +79,7 @@ impl<R: Files + Drop> FolderTree<R> {
     ) -> Result<FolderTree<R>, OpenFault>
         ensures no_name { folder.now ≡ [] → result ≡ Err no_name }
         ensures opened { IfOk result (IsOpened (D.listing disk.now) folder.now Place.Base) }
+        ensures stands { IfOk result (λ tree. tree.standing ≡ R.standing rt) }
         ensures refused { IfErr result (λ fault. IfUnfit fault
             (IsRefused (D.listing disk.now) folder.now Place.Base)) }
     {
@@ -101,6 +103,7 @@ impl<R: Files + Drop> FolderTree<R> {
         ensures no_name { folder.now ≡ [] → result ≡ Err no_name }
         ensures opened { IfOk result
             (IsOpened (in_payload (D.listing disk.now) folder.now) folder.now Place.Payload) }
+        ensures stands { IfOk result (λ tree. tree.standing ≡ R.standing rt) }
         ensures refused { IfErr result (λ fault. IfUnfit fault
             (IsRefused (in_payload (D.listing disk.now) folder.now) folder.now Place.Payload)) }
     {
@@ -155,6 +158,7 @@ impl<R: Files + Drop> FolderTree<R> {
     ) -> Result<FolderTree<R>, OpenFault>
         ensures no_name { folder.now ≡ [] → result ≡ Err no_name }
         ensures opened { IfOk result (IsOpened (D.listing disk.now) folder.now place) }
+        ensures stands { IfOk result (λ tree. tree.standing ≡ R.standing rt) }
         ensures refused { IfErr result (λ fault. IfUnfit fault
             (IsRefused (D.listing disk.now) folder.now place)) }
     {
@@ -174,7 +178,7 @@ impl<R: Files + Drop> FolderTree<R> {
 }
 
 /// The tree of what was found below this folder.
-fn tree_of<R: Files + Drop>(
+fn tree_of<R: Names + Drop>(
     rt: R,
     folder: String,
     place: Place,
@@ -187,6 +191,7 @@ fn tree_of<R: Files + Drop>(
     ensures payload { result.shown.has_payload_dir
         ≡ (below.has_dir || list_any is_payload below.paths.items) }
     ensures rest { result ≡ record {
+      standing = R.standing rt;
       shown = result.shown;
       folder = string_bytes folder;
       place = place;
@@ -219,7 +224,7 @@ fn in_order(mut paths: Vec<BagPath>) -> Vec<BagPath>
     paths
 }
 
-impl<R: Files> Source for FolderTree<R> {
+impl<R: Names> Source for FolderTree<R> {
     ghost use Rattle.std.specs.Io.KnownBytes.{ReadConsumes};
     ghost use Rattle.bag_digest.specs.Device.{UsesSource};
     ghost use Rattle.bag_folder.specs.Folders.{FolderShown, ReadsFolder, SameShown, same_itself, same_on};
@@ -261,7 +266,7 @@ impl<R: Files> Source for FolderTree<R> {
     ghost keeps_on = { same_on };
 }
 
-impl<R: Files> Paths for FolderTree<R> {
+impl<R: Names> Paths for FolderTree<R> {
     ghost shown = { λ tree. tree.shown };
 
     fn count(&self) -> usize {
@@ -277,9 +282,9 @@ impl<R: Files> Paths for FolderTree<R> {
     }
 }
 
-impl<R: Files> Tree for FolderTree<R> {
+impl<R: Names> Tree for FolderTree<R> {
     ghost use Rattle.bag_rules.specs.Trees.{UsesTree};
-    ghost use Rattle.bag_folder.specs.Folders.{FolderShown, StartsFile, keeps_tree};
+    ghost use Rattle.bag_folder.specs.Folders.{FolderShown, OpensNamed, StartsFile, keeps_tree};
 
     ghost sure = { λ _. ⊥ };
 
@@ -295,6 +300,7 @@ impl<R: Files> Tree for FolderTree<R> {
             self.old self.new (IsErr result) }
         ensures open { is_some self.new.to_read ≡ is_ok result }
         ensures exactly { StartsFile self.old self.new i result }
+        ensures opens { OpensNamed self.old self.new result }
     {
         self.file = None;
         let path = self.place.path_below(self.paths[i].as_str());

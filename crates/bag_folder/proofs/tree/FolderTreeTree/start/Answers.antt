@@ -48,6 +48,6 @@ returns-clause-exactly g c =
             changes = search rules;
             told = told_by_name c.match-opened.answer c.counted.result c.as_str-3.result.now c.match-opened.self-inside.troubles c.counted.new.self IsNamed c.counted.ensures.answer c.counted.ensures.counted
                 (subst (λ (a : Result (Unit {0}) (Option Cause)). IfErr a (λ cause. OnSome cause (IsNamed c.as_str-3.result.now))) (sym w.answer-is)
-                (OnSome-weaker w.in-Err.cause (string_bytes c.opened.new.name ≡ name_below c.as_str-2.result.now c.path_below-path.result.now) (IsNamed c.as_str-3.result.now) (λ opened. subst IsNamed (sym (named opened)) here) w.in-Err.ensures));
+                (OnSome-weaker w.in-Err.cause (string_bytes c.opened.new.name ≡ name_below c.as_str-2.result.now c.path_below-path.result.now) (IsNamed c.as_str-3.result.now) (λ opened. subst IsNamed (sym (named opened)) here) w.in-Err.ensures.named));
           }
     ]
