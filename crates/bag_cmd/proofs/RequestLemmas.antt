@@ -1,15 +1,14 @@
 -- The operands among the arguments, one argument at a time.
-use Rattle.std.proofs.Common.{◌≡◌, ◌∷◌, ◌++◌, ◌+◌, ◌<◌, ◌≤◌, ◌∙◌, [], ℕ, Bool, List, None, Option, Some, ap, append_assoc, arith, codes, drop, false, get_or, length, map, not, refl, remove, suc, sym, take, true, zero}
+use Rattle.std.proofs.Common.{◌≡◌, ◌≢◌, ◌∷◌, ◌++◌, ◌+◌, ◌<◌, ◌≤◌, ◌∙◌, [], ℕ, Bool, List, None, Option, Some, ap, append_assoc, arith, codes, drop, false, get_or, length, map, refl, remove, string_bytes, suc, sym, take, true, zero}
 use Rattle.std.specs.Prelude.{if◌then◌else◌, option_map, slice_get}
 use Rattle.std.specs.Str.{bytes_eq}
 use Rattle.std.proofs.lemmas.Option.{slice_get-map, slice_get_read}
 use Rattle.std.proofs.lemmas.List.{append-nil, drop_all, take_all}
-use Rattle.std.proofs.lemmas.Slice.Eq.{bytes_eq-Decides}
 use Rattle.bag_cmd.specs.declared.request.Request.{Request}
 use Rattle.bag_cmd.specs.declared.request.Request.TheVariants.{Check, Ledger, Make}
 use Rattle.bag_cmd.specs.declared.request.Work.{Work}
 use Rattle.bag_cmd.specs.declared.request.Work.TheVariants.{Audit, Begin, Export, Fetch, Intake, List as Listing, Report}
-use Rattle.bag_cmd.specs.Requests.{NamesCommand, is_option, operands_of, request_name, work_name}
+use Rattle.bag_cmd.specs.Requests.{AsksFor, IsRequest, IsWholeWork, NamesCommand, is_option, operands_in, operands_of, request_name, work_name, work_operands}
 use Rattle.bag_folder.proofs.CourierLemmas.{rest_from}
 
 next_taken : {X : Type 0} (xs : List X) (n : ℕ) (x : X) → slice_get xs n ≡ Some x → take (n + 1) xs ≡ take n xs ++ x ∷ []
@@ -84,13 +83,6 @@ pub first_taken : {X : Type 0} (xs rest : List X) (x : X) → 0 < length xs → 
 first_taken [] rest x some first others = absurd (omega arith)
 first_taken (y ∷ ys) rest x some first others = let head : y ≡ x = sym first in let tail : ys ≡ rest = sym others in cc (head, tail)
 
-holds : (b : Bool) → not b ≡ false → b ≡ true
-holds true h = refl
-holds false h = sym h
-
-pub is_text : (text other : List ℕ) (differs : Bool) → differs ≡ not (bytes_eq text other) → differs ≡ false → text ≡ other
-is_text text other differs is same = (bytes_eq-Decides text other).0 (holds (bytes_eq text other) (sym is ∙ same))
-
 pub no_words : {X : Type 0} (xs : List X) → length xs ≡ 0 → xs ≡ []
 no_words [] none = refl
 no_words (x ∷ xs) none = absurd (omega (arith, none))
@@ -98,6 +90,66 @@ no_words (x ∷ xs) none = absurd (omega (arith, none))
 pub none_named : {X : Type 0} (octets : X → List ℕ) (xs : List X) → map octets xs ≡ [] → length xs ≡ 0
 none_named octets [] none = refl
 none_named octets (x ∷ xs) none = absurd (cc)
+
+-- the command's name and the arguments after it
+module _ (words rest : List (List ℕ)) (command : List ℕ) (is : words ≡ command ∷ rest) where
+  pub asked : (operands : List (List ℕ)) (request : Request) → operands_of rest ≡ Some operands → IsRequest command operands request → AsksFor words request
+  asked operands request given it = (
+    (rest, is ∙ ap (λ (name : List ℕ). name ∷ rest) it.0, given ∙ ap Some it.1),
+    it.2,
+  )
+
+  -- these arguments have operands, but there is no such command
+  pub not_asked : (operands : List (List ℕ)) → operands_of rest ≡ Some operands → ((request : Request) → IsRequest command operands request → ⊥) → ¬ NamesCommand words
+  not_asked operands given none named =
+      let at = named.1.0 in
+      let both : command ∷ rest ≡ request_name named.0 ∷ at.0 = sym is ∙ at.1 in
+      let name : command ≡ request_name named.0 = cc both in
+      let others : rest ≡ at.0 = cc both in
+      let same : Some operands ≡ Some (operands_in named.0) = sym given ∙ ap operands_of others ∙ at.2 in
+      let operands_are : operands ≡ operands_in named.0 = cc same in
+      none named.0 (name, operands_are, named.1.1)
+
+  -- one of these arguments is an option
+  pub no_operands : operands_of rest ≡ None → ¬ NamesCommand words
+  no_operands given named =
+      let at = named.1.0 in
+      let both : command ∷ rest ≡ request_name named.0 ∷ at.0 = sym is ∙ at.1 in
+      let others : rest ≡ at.0 = cc both in
+      let same : None ≡ Some (operands_in named.0) = sym given ∙ ap operands_of others ∙ at.2 in
+      cc same
+
+-- no command has this name and this number of operands
+pub record Unlike (command : List ℕ) (count : ℕ) : Type 0 where
+  pub check : command ≡ codes "check" → count ≢ 1
+  pub make : command ≡ codes "make" → count < 3
+  pub begin : command ≡ codes "begin" → count ≢ 3
+  pub intake : command ≡ codes "intake" → count < 3
+  pub report : command ≡ codes "report" → count ≢ 2
+  pub audit : command ≡ codes "audit" → count ≢ 2
+  pub fetch : command ≡ codes "fetch" → count ≢ 3
+  pub export : command ≡ codes "export" → count ≢ 3
+  pub list : command ≡ codes "list" → count ≢ 1
+
+-- after a first and a second operand, these are not enough
+none_after : {X : Type 0} (octets : X → List ℕ) (xs : List X) (first second : List ℕ) (operands : List (List ℕ)) → operands ≡ first ∷ second ∷ map octets xs → length operands < 3 → xs ≡ []
+none_after octets [] first second operands are short = refl
+none_after octets (x ∷ xs) first second operands are short = absurd (omega (arith, short, ap length are))
+
+module _ (command : List ℕ) (operands : List (List ℕ)) (unlike : Unlike command (length operands)) where
+  no_work_like : (ledger : List ℕ) (work : Work) → command ≡ work_name work → operands ≡ ledger ∷ work_operands work → IsWholeWork work → ⊥
+  no_work_like ledger (Begin name folder) is are whole = unlike.begin is (ap length are)
+  no_work_like ledger (Intake name folders) is are whole = whole (none_after string_bytes folders.now ledger name.now operands are (unlike.intake is))
+  no_work_like ledger (Report name) is are whole = unlike.report is (ap length are)
+  no_work_like ledger (Audit name) is are whole = unlike.audit is (ap length are)
+  no_work_like ledger (Fetch name folder) is are whole = unlike.fetch is (ap length are)
+  no_work_like ledger (Export name folder) is are whole = unlike.export is (ap length are)
+  no_work_like ledger Listing is are whole = unlike.list is (ap length are)
+
+  pub none_like : (request : Request) → ¬ IsRequest command operands request
+  none_like (Check folder) it = unlike.check it.0 (ap length it.1)
+  none_like (Make source destination algorithms) it = it.2 (none_after string_bytes algorithms.now source.now destination.now operands it.1 (unlike.make it.0))
+  none_like (Ledger ledger work) it = no_work_like ledger.now work it.0 it.1 it.2
 
 no_work : (work : Work) → [] ≡ work_name work → ⊥
 no_work (Begin name folder) is = cc

@@ -64,15 +64,15 @@ module _ {L K F U C W : Type 0} (k : Ghosts K) (l : Ledgers L K F U C)
   abbrev pub Runs : Option Listing → Request → Option (List ℕ) → Option (List ℕ) → Output W
       → Output W → Ended → Type 0
   Runs known (Check folder) before after old new result =
-      (after ≡ before) × PrintsCheck contents known (string_bytes folder) old new result
+      (after ≡ before) × PrintsCheck contents known folder.now old new result
   Runs known (Make source destination algorithms) before after old new result =
       PrintsMake contents known (record {
-        source = string_bytes source;
-        destination = string_bytes destination;
-        names = map string_bytes algorithms.items;
+        source = source.now;
+        destination = destination.now;
+        names = map string_bytes algorithms.now;
       }) before after old new result
   Runs known (Ledger ledger work) before after old new result =
-      WorksOn k l known contents (string_bytes ledger) work before after old new result
+      WorksOn k l known contents ledger.now work before after old new result
 
   -- What a command line did: either it ran the command that its arguments ask for, or they are no
   -- known command, which was reported.

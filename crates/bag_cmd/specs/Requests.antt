@@ -38,17 +38,17 @@ work_name Listing = codes "list"
 
 -- its operands after the ledger
 abbrev pub work_operands : Work → List (List ℕ)
-work_operands (Begin name folder) = string_bytes name ∷ string_bytes folder ∷ []
-work_operands (Intake name folders) = string_bytes name ∷ map string_bytes folders.items
-work_operands (Report name) = string_bytes name ∷ []
-work_operands (Audit name) = string_bytes name ∷ []
-work_operands (Fetch name folder) = string_bytes name ∷ string_bytes folder ∷ []
-work_operands (Export name folder) = string_bytes name ∷ string_bytes folder ∷ []
+work_operands (Begin name folder) = name.now ∷ folder.now ∷ []
+work_operands (Intake name folders) = name.now ∷ map string_bytes folders.now
+work_operands (Report name) = name.now ∷ []
+work_operands (Audit name) = name.now ∷ []
+work_operands (Fetch name folder) = name.now ∷ folder.now ∷ []
+work_operands (Export name folder) = name.now ∷ folder.now ∷ []
 work_operands Listing = []
 
 -- at least one folder
 abbrev pub IsWholeWork : Work → Type 0
-IsWholeWork (Intake name folders) = folders.items ≢ []
+IsWholeWork (Intake name folders) = folders.now ≢ []
 IsWholeWork work = ⊤
 
 abbrev pub AsksForWork : List ℕ → List (List ℕ) → Work → Type 0
@@ -63,16 +63,21 @@ request_name (Make source destination algorithms) = codes "make"
 request_name (Ledger ledger work) = work_name work
 
 abbrev pub operands_in : Request → List (List ℕ)
-operands_in (Check folder) = string_bytes folder ∷ []
+operands_in (Check folder) = folder.now ∷ []
 operands_in (Make source destination algorithms) =
-    string_bytes source ∷ string_bytes destination ∷ map string_bytes algorithms.items
-operands_in (Ledger ledger work) = string_bytes ledger ∷ work_operands work
+    source.now ∷ destination.now ∷ map string_bytes algorithms.now
+operands_in (Ledger ledger work) = ledger.now ∷ work_operands work
 
 -- at least one algorithm
 abbrev pub IsWhole : Request → Type 0
 IsWhole (Check folder) = ⊤
-IsWhole (Make source destination algorithms) = algorithms.items ≢ []
+IsWhole (Make source destination algorithms) = algorithms.now ≢ []
 IsWhole (Ledger ledger work) = IsWholeWork work
+
+-- this is the request of a command with these operands
+abbrev pub IsRequest : List ℕ → List (List ℕ) → Request → Type 0
+IsRequest command operands request =
+    (command ≡ request_name request) × (operands ≡ operands_in request) × IsWhole request
 
 -- the arguments ask for this request
 abbrev pub AsksFor : List (List ℕ) → Request → Type 0

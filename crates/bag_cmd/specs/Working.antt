@@ -72,8 +72,8 @@ unopened_line (Store error) = stop_text stop.Store
 
 -- the transfer that is reported on
 abbrev pub viewed : Work → Option (List ℕ)
-viewed (Report name) = Some (string_bytes name)
-viewed (Audit name) = Some (string_bytes name)
+viewed (Report name) = Some name.now
+viewed (Audit name) = Some name.now
 viewed work = None
 
 -- FOLDERS
@@ -196,18 +196,18 @@ module _ {K W : Type 0} (k : Ghosts K) (known : Option Listing)
   abbrev pub DoesWork : Work → Option (List ℕ) → Option (List ℕ) → Receiver K → Receiver K
       → Output W → Output W → Ended → Type 0
   DoesWork (Begin name folder) made now before after old new result = (now ≡ made)
-      × BeginsWith (string_bytes name) (string_bytes folder) before after old new result
+      × BeginsWith name.now folder.now before after old new result
   DoesWork (Intake name folders) made now before after old new result = (now ≡ made)
-      × TakesInFrom (string_bytes name) (map string_bytes folders.items) before after old new result
+      × TakesInFrom name.now (map string_bytes folders.now) before after old new result
   DoesWork (Report name) made now before after old new result =
-      (now ≡ made) × Views k contents (string_bytes name) before after old new result
+      (now ≡ made) × Views k contents name.now before after old new result
   DoesWork (Audit name) made now before after old new result =
-      (now ≡ made) × Views k contents (string_bytes name) before after old new result
+      (now ≡ made) × Views k contents name.now before after old new result
   DoesWork (Fetch name folder) made now before after old new result = (now ≡ made)
-      × FetchesFrom k contents (string_bytes name) (string_bytes folder) before after old new
+      × FetchesFrom k contents name.now folder.now before after old new
       result
   DoesWork (Export name folder) made now before after old new result =
-      ExportsInto k contents (string_bytes name) (string_bytes folder) made now before after old new
+      ExportsInto k contents name.now folder.now made now before after old new
       result
   DoesWork ListNames made now before after old new result = (now ≡ made)
       × PrintedBy contents list_lines list_status old new result.status

@@ -7,28 +7,25 @@ use crate::commands::ledger::work_on_ledger;
 use crate::commands::make::{Making, make_folder};
 use crate::ended::Ended;
 use crate::ledger::Ledgers;
-use crate::progress::Progress;
-use crate::request::Request;
+use crate::request::{Request, operands};
+use crate::system::System;
 use crate::usage::Usage;
 use bag_commands::status::{DONE, USAGE};
 use bag_commands::{Output, Stop, print_stop};
 use bag_folder::{Destination, Directories};
-use std::alloc::{AllocError, Global};
+use std::alloc::AllocError;
 use std::io::Write;
 use std::rt::Files;
 
 /// Runs the command that these arguments ask for.
 pub fn command<R: Files + Eprint, D: Directories, L: Ledgers, W: Write + Drop>(
-    rt: &R,
-    progress: &Progress<'_, R>,
-    disk: &D,
+    system: &System<'_, R, D>,
     ledgers: L,
     made: &mut Destination<'_, R>,
-    alloc: Global,
-    words: Vec<String>,
+    mut words: Vec<String>,
     out: &mut Output<W>,
 ) -> Ended
-    ensures { RunsCommand L.Kept.Keeper L.Ledgers W.contents (D.listing disk.now)
+    ensures { RunsCommand L.Kept.Keeper L.Ledgers W.contents (D.listing system.now.disk.now)
         (map string_bytes words.items) made.old made.new out.old out.new result }
 {
     if words.is_empty() {
@@ -40,69 +37,59 @@ pub fn command<R: Files + Eprint, D: Directories, L: Ledgers, W: Write + Drop>(
     let Ok(given) = words.clone() else {
         return Ended::plain(print_stop(Stop::Memory, out));
     };
-    match Request::parse(words) {
-        Some(request) => run_request(rt, progress, disk, ledgers, made, alloc, &request, out),
-        None => Ended::plain(refuse(rt, alloc, &given, out)),
+    let name = words.remove(0);
+    let Some(operands) = operands(words) else {
+        return Ended::plain(refuse(system, &given, out));
+    };
+    match Request::of(name.as_str(), operands.as_slice()) {
+        Some(request) => run_request(system, ledgers, made, &request, out),
+        None => Ended::plain(refuse(system, &given, out)),
     }
 }
 
 /// Runs a command.
 fn run_request<R: Files + Eprint, D: Directories, L: Ledgers, W: Write + Drop>(
-    rt: &R,
-    progress: &Progress<'_, R>,
-    disk: &D,
+    system: &System<'_, R, D>,
     ledgers: L,
     made: &mut Destination<'_, R>,
-    alloc: Global,
-    request: &Request,
+    request: &Request<'_>,
     out: &mut Output<W>,
 ) -> Ended
-    ensures { Runs L.Kept.Keeper L.Ledgers W.contents (D.listing disk.now) request.now made.old
-        made.new out.old out.new result }
+    ensures { Runs L.Kept.Keeper L.Ledgers W.contents (D.listing system.now.disk.now) request.now
+        made.old made.new out.old out.new result }
 {
     match request {
-        Request::Check { folder } => check_folder(rt, progress, disk, alloc, folder.as_str(), out),
+        Request::Check { folder } => check_folder(system, folder, out),
         Request::Make {
             source,
             destination,
             algorithms,
         } => {
             let making = Making {
-                source: source.as_str(),
-                destination: destination.as_str(),
+                source,
+                destination,
                 names: algorithms,
             };
-            make_folder(rt, progress, disk, made, alloc, &making, out)
+            make_folder(system, made, &making, out)
         }
         Request::Ledger { ledger, work } => {
-            work_on_ledger(
-                rt,
-                progress,
-                disk,
-                ledgers,
-                made,
-                alloc,
-                ledger.as_str(),
-                work,
-                out,
-            )
+            work_on_ledger(system, ledgers, made, ledger, work, out)
         }
     }
 }
 
 /// Prints help if the arguments ask for it; otherwise says on standard error why they are no known command.
-fn refuse<R: Eprint, W: Write + Drop>(
-    rt: &R,
-    alloc: Global,
+fn refuse<R: Eprint, D, W: Write + Drop>(
+    system: &System<'_, R, D>,
     words: &[String],
     out: &mut Output<W>,
 ) -> u8
     ensures { Refuses W.contents out.old out.new result }
 {
-    match Usage::of(alloc, words) {
+    match Usage::of(system.alloc, words) {
         Ok(Usage::Help(text)) => out.print_line(text.as_str().trim_end(), DONE),
         Ok(Usage::Refused(text)) => {
-            let _ = eprintln!(rt; "{}", text.as_str().trim_end());
+            let _ = eprintln!(system.rt; "{}", text.as_str().trim_end());
             USAGE
         }
         Err(AllocError) => print_stop(Stop::Memory, out),

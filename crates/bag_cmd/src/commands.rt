@@ -20,7 +20,7 @@ pub mod ledger;
 pub mod make;
 
 /// Prints why a command stops if a folder can't be opened or made.
-fn stop_unopened<W: Write + Drop>(fault: OpenFault, out: &mut Output<W>) -> Ended
+fn stop_for_folder<W: Write + Drop>(fault: OpenFault, out: &mut Output<W>) -> Ended
     ensures printed { Printed W.contents out.old out.new result.status
         (stop_text (stop_of_open fault) ∷ []) FAILED }
     ensures why { result.why ≡ why_unopened fault }

@@ -6,7 +6,7 @@ ghost use Rattle.bag_sqlite.specs.Tables.{no_schema};
 ghost use Rattle.sqlite.specs.Files.{file_state};
 ghost use Rattle.sqlite_wal.specs.Files.{image_at};
 
-use crate::abandoned::Abandoned;
+use crate::abandoned_ledger::AbandonedLedger;
 use crate::barred::{Barred, open_locked};
 use crate::found::{Found, Seen};
 use crate::handle::Handle;
@@ -28,7 +28,7 @@ use std::marker::PhantomData;
 /// removed is changed by no other run, and no other program can open them. What has to be removed is removed while they
 /// are still open.
 ///
-/// What removes or empties anything is an [`Abandoned`], for which this is given up: so nothing is removed once a ledger
+/// What removes or empties anything is an [`AbandonedLedger`], for which this is given up: so nothing is removed once a ledger
 /// was opened, but for a log that was copied, and files that this run made for a ledger without transfers.
 #[derive(Drop)]
 pub struct LockedFile<'a, S> {
@@ -194,10 +194,10 @@ impl<'a, S: Start> LockedFile<'a, S> {
     }
 
     /// No ledger is opened in the file.
-    fn abandon(self) -> Abandoned<'a>
+    fn abandon(self) -> AbandonedLedger<'a>
         ensures { result.seen ≡ self.entry.seen }
     {
-        Abandoned::new(self.rt, self.seen, self.handle)
+        AbandonedLedger::new(self.rt, self.seen, self.handle)
     }
 
     /// Removes the file and its log, which this run made.

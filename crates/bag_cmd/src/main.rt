@@ -30,8 +30,9 @@ use std::io::{BufWriter, ErrorKind, IsTerminal, Printer, Write};
 use std::process::ExitCode;
 use std::rt::Files;
 use std::{env, io};
+use system::System;
 
-mod abandoned;
+mod abandoned_ledger;
 mod barred;
 mod clearing;
 mod command;
@@ -49,6 +50,7 @@ mod named;
 mod open_file;
 mod progress;
 mod request;
+mod system;
 mod told_name;
 mod unopened;
 mod usage;
@@ -104,17 +106,14 @@ fn run_words<R: Files + Env + Eprint + AllocGlobal, L: Ledgers, W: Write + Drop>
     match env::args(rt) {
         Ok(words) => match words.skip(1).collect(alloc) {
             Ok(words) => {
-                let mut made = Destination::new(rt);
-                let ended = command(
-                    rt,
-                    progress,
-                    &Disk(rt),
-                    ledgers,
-                    &mut made,
+                let system = System {
+                    rt: &*rt,
+                    disk: &Disk(rt),
+                    progress: &*progress,
                     alloc,
-                    words,
-                    out,
-                );
+                };
+                let mut made = Destination::new(rt);
+                let ended = command(&system, ledgers, &mut made, words, out);
                 progress.clear();
                 explain(rt, ended)
             }

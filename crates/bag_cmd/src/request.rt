@@ -1,176 +1,112 @@
 //! The request on the command line.
-ghost use Rattle.std.specs.Prelude.{◌≡◌, ◌≢◌, ◌<◌, ◌∷◌, [], IfNone, IfSome, None, Some, codes, if◌then◌else◌, length, map, nat_eq, option_map, string_bytes};
-ghost use Rattle.bag_cmd.specs.Requests.{AsksFor, AsksForWork, IsWhole, NamesCommand, is_option, operands_in, operands_of, request_name};
+ghost use Rattle.std.specs.Prelude.{◌≡◌, IfNone, IfSome, map, option_map, string_bytes};
+ghost use Rattle.bag_cmd.specs.Requests.{AsksForWork, IsRequest, is_option, operands_of};
+ghost use Rattle.bag_cmd.specs.declared.request.Request.{Request};
+ghost use Rattle.bag_cmd.specs.declared.request.Work.{Work};
 
 /// A command with its operands.
-#[derive(Debug, Drop, PartialEq, Eq)]
-pub enum Request {
+#[derive(Clone, Copy, Debug, PartialEq, Eq)]
+pub enum Request<'a> {
     /// `check DIR`
     Check {
         /// The name of the folder.
-        folder: String,
+        folder: &'a str,
     },
     /// `make SRC DST ALG..`
     Make {
         /// The name of the folder that contains the payload.
-        source: String,
+        source: &'a str,
         /// The name of the folder to make the bag in.
-        destination: String,
+        destination: &'a str,
         /// One or more names of algorithms, as given. A name may be unknown, or occur twice.
-        algorithms: Vec<String>,
+        algorithms: &'a [String],
     },
     /// A command on a ledger.
     Ledger {
         /// The name of the ledger's file.
-        ledger: String,
+        ledger: &'a str,
         /// What to do with it.
-        work: Work,
+        work: Work<'a>,
     },
 }
 
 /// What to do with a ledger. `name` is the name of a transfer, or a text that isn't valid as one.
-#[derive(Debug, Drop, PartialEq, Eq)]
-pub enum Work {
+#[derive(Clone, Copy, Debug, PartialEq, Eq)]
+pub enum Work<'a> {
     /// `begin LEDGER NAME DIR`: opens a transfer with the tag files in a folder.
-    Begin { name: String, folder: String },
+    Begin {
+        name: &'a str,
+        folder: &'a str,
+    },
     /// `intake LEDGER NAME DIR..`: takes in the payload files of one or more folders.
-    Intake { name: String, folders: Vec<String> },
+    Intake {
+        name: &'a str,
+        folders: &'a [String],
+    },
     /// `report LEDGER NAME`: judges the bag that is held.
-    Report { name: String },
+    Report {
+        name: &'a str,
+    },
     /// `audit LEDGER NAME`: does the same after reading again everything that is held.
-    Audit { name: String },
+    Audit {
+        name: &'a str,
+    },
     /// `fetch LEDGER NAME DIR`: looks in a folder for the files that `fetch.txt` lists and that aren't held.
-    Fetch { name: String, folder: String },
+    Fetch {
+        name: &'a str,
+        folder: &'a str,
+    },
     /// `export LEDGER NAME DIR`: writes the bag that is held to a new folder.
-    Export { name: String, folder: String },
+    Export {
+        name: &'a str,
+        folder: &'a str,
+    },
     /// `list LEDGER`: lists the names of the transfers.
     List,
 }
 
-impl Request {
-    /// Parses the arguments after the program's name. `None` if they aren't a known command with its operands.
-    pub fn parse(mut words: Vec<String>) -> Option<Request>
-        ensures none { IfNone result (¬ NamesCommand (map string_bytes words.items)) }
-        ensures request { IfSome result (AsksFor (map string_bytes words.items)) }
+impl<'a> Request<'a> {
+    /// The request of a command with these operands. `None` if there is no such command.
+    pub fn of(command: &str, operands: &'a [String]) -> Option<Request<'a>>
+        ensures none { IfNone result ((request : Request)
+            → ¬ IsRequest command.now (map string_bytes operands.now) request) }
+        ensures request { IfSome result
+            (IsRequest command.now (map string_bytes operands.now)) }
     {
-        if words.is_empty() {
-            return None;
-        }
-        let command = words.remove(0);
-        let mut operands = operands(words)?;
-        if operands.is_empty() {
-            return None;
-        }
-        let first = operands.remove(0);
-        match command.as_str() {
-            "check" if operands.is_empty() => Some(Request::Check { folder: first }),
-            "make" => make_request(first, operands),
-            command => {
-                let work = Work::parse(command, operands)?;
-                Some(Request::Ledger {
-                    ledger: first,
-                    work,
+        match (command, operands) {
+            ("check", [folder]) => Some(Request::Check { folder }),
+            ("make", [source, destination, algorithms @ ..]) if !algorithms.is_empty() => {
+                Some(Request::Make {
+                    source,
+                    destination,
+                    algorithms,
                 })
             }
+            ("begin", [ledger, name, folder]) => on(ledger, Work::Begin { name, folder }),
+            ("intake", [ledger, name, folders @ ..]) if !folders.is_empty() => {
+                on(ledger, Work::Intake { name, folders })
+            }
+            ("report", [ledger, name]) => on(ledger, Work::Report { name }),
+            ("audit", [ledger, name]) => on(ledger, Work::Audit { name }),
+            ("fetch", [ledger, name, folder]) => on(ledger, Work::Fetch { name, folder }),
+            ("export", [ledger, name, folder]) => on(ledger, Work::Export { name, folder }),
+            ("list", [ledger]) => on(ledger, Work::List),
+            _ => None,
         }
     }
 }
 
-/// The request of `make SRC DST ALG..`, from SRC and the operands after it.
-fn make_request(source: String, mut operands: Vec<String>) -> Option<Request>
-    ensures none { IfNone result (length operands.items < 2) }
-    ensures request { IfSome result (λ request. (request_name request ≡ codes "make")
-        × (operands_in request ≡ string_bytes source ∷ map string_bytes operands.items)
-        × IsWhole request) }
+/// The request to do this work with a ledger.
+fn on<'a>(ledger: &'a str, work: Work<'a>) -> Option<Request<'a>>
+    ensures { result ≡ Some (Request.Ledger ledger.entry work.entry) }
 {
-    if operands.len() < 2 {
-        return None;
-    }
-    let destination = operands.remove(0);
-    Some(Request::Make {
-        source,
-        destination,
-        algorithms: operands,
-    })
-}
-
-impl Work {
-    /// Parses a command and the operands after the ledger's name.
-    fn parse(command: &str, mut operands: Vec<String>) -> Option<Work>
-        ensures none { IfNone result ((work : Work)
-            → ¬ AsksForWork command.now (map string_bytes operands.items) work) }
-        ensures work { IfSome result (AsksForWork command.now (map string_bytes operands.items)) }
-    {
-        if operands.is_empty() {
-            return Work::of_ledger(command);
-        }
-        let name = operands.remove(0);
-        if command == "intake" {
-            return Work::intake(name, operands);
-        }
-        match operands.pop() {
-            None => Work::of_name(command, name),
-            Some(folder) if operands.is_empty() => Work::in_folder(command, name, folder),
-            Some(_) => None,
-        }
-    }
-
-    /// A command whose only operand is the ledger.
-    fn of_ledger(command: &str) -> Option<Work>
-        ensures none { IfNone result (command.now ≢ codes "list") }
-        ensures work { IfSome result (AsksForWork command.now []) }
-    {
-        match command {
-            "list" => Some(Work::List),
-            _ => None,
-        }
-    }
-
-    /// `intake` for this name; `None` if there are no folders.
-    fn intake(name: String, folders: Vec<String>) -> Option<Work>
-        ensures { result ≡ (if nat_eq (length folders.items) 0 then None
-            else Some (Work.Intake name folders)) }
-    {
-        if folders.is_empty() {
-            None
-        } else {
-            Some(Work::Intake { name, folders })
-        }
-    }
-
-    /// A command on a transfer without further operands.
-    fn of_name(command: &str, name: String) -> Option<Work>
-        ensures none { IfNone result (command.now ≢ codes "report"
-            × (command.now ≢ codes "audit")) }
-        ensures work { IfSome result (AsksForWork command.now (string_bytes name ∷ [])) }
-    {
-        match command {
-            "report" => Some(Work::Report { name }),
-            "audit" => Some(Work::Audit { name }),
-            _ => None,
-        }
-    }
-
-    /// A command on a transfer with a folder.
-    fn in_folder(command: &str, name: String, folder: String) -> Option<Work>
-        ensures none { IfNone result (command.now ≢ codes "begin"
-            × (command.now ≢ codes "fetch") × (command.now ≢ codes "export")) }
-        ensures work { IfSome result
-            (AsksForWork command.now (string_bytes name ∷ string_bytes folder ∷ [])) }
-    {
-        match command {
-            "begin" => Some(Work::Begin { name, folder }),
-            "fetch" => Some(Work::Fetch { name, folder }),
-            "export" => Some(Work::Export { name, folder }),
-            _ => None,
-        }
-    }
+    Some(Request::Ledger { ledger, work })
 }
 
 /// The operands among the arguments after a command's name, or `None` if one of them is an option.
 ///
 /// All arguments after the first `--` are operands.
-fn operands(mut words: Vec<String>) -> Option<Vec<String>>
+pub fn operands(mut words: Vec<String>) -> Option<Vec<String>>
     ensures { option_map (λ operands. map string_bytes operands.items) result
         ≡ operands_of (map string_bytes words.items) }
 {

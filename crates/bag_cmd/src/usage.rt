@@ -5,7 +5,7 @@ use clap::{Arg, Command};
 use std::alloc::{AllocError, Global};
 
 /// The version of the program.
-const VERSION: &str = "1.3.2";
+const VERSION: &str = "1.3.3";
 
 /// The answer to a command line that is no known command.
 #[derive(Debug, Drop)]

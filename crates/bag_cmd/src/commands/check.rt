@@ -3,45 +3,42 @@ ghost use Rattle.std.specs.Prelude.{◌≡◌};
 ghost use Rattle.bag_cmd.specs.Answers.{PrintsCheck};
 ghost use Rattle.bag_cmd.specs.Endings.{why_too_many, why_unchecked};
 
-use super::stop_unopened;
+use super::stop_for_folder;
 use crate::ended::{Ended, Why};
 use crate::excess::Limit;
 use crate::meter::{Activity, Meter};
-use crate::progress::Progress;
+use crate::system::System;
 use crate::watched::Watched;
 use bag_commands::{Output, print_outcome};
 use bag_folder::{Directories, FolderTree};
 use bag_rules::limits::MOST_FILES;
 use bag_rules::{CheckFault, Outcome, Paths, check};
-use std::alloc::Global;
 use std::io::Write;
 use std::rt::Files;
 
 /// Checks the bag in a folder and prints the result, as [`bag_commands::check_to`] does. If the folder can't be opened,
 /// prints that.
 pub fn check_folder<R: Files + Eprint, D: Directories, W: Write + Drop>(
-    rt: &R,
-    progress: &Progress<'_, R>,
-    disk: &D,
-    alloc: Global,
+    system: &System<'_, R, D>,
     folder: &str,
     out: &mut Output<W>,
 ) -> Ended
-    ensures { PrintsCheck W.contents (D.listing disk.now) folder.now out.old out.new result }
+    ensures { PrintsCheck W.contents (D.listing system.now.disk.now) folder.now out.old out.new
+        result }
 {
-    match FolderTree::open(rt, disk, alloc, folder) {
+    match FolderTree::open(system.rt, system.disk, system.alloc, folder) {
         Ok(tree) => {
-            let meter = Meter::new(progress, Activity::Checking);
+            let meter = Meter::new(system.progress, Activity::Checking);
             meter.expect_files(tree.count());
             let mut tree = Watched::new(tree, &meter);
-            let answer = check(alloc, &mut tree);
+            let answer = check(system.alloc, &mut tree);
             let status = print_outcome(&answer, out);
             Ended {
                 status,
                 why: why_unchecked(answer, tree.into_inside()),
             }
         }
-        Err(fault) => stop_unopened(fault, out),
+        Err(fault) => stop_for_folder(fault, out),
     }
 }
 

@@ -1,10 +1,10 @@
 //! `bag export LEDGER NAME DIR`: writes the bag that is held to a new folder.
 ghost use Rattle.bag_cmd.specs.Working.{ExportsInto};
 
-use super::stop_unopened;
+use super::stop_for_folder;
 use crate::ended::{Ended, Why};
 use crate::meter::{Activity, Meter};
-use crate::progress::Progress;
+use crate::system::System;
 use crate::watched::Watched;
 use bag_commands::status::DONE;
 use bag_commands::{Output, export_to};
@@ -12,7 +12,6 @@ use bag_folder::Destination;
 use bag_ledger::Keeper;
 use bag_receiver::Receiver;
 use bag_writer::Sink;
-use std::alloc::Global;
 use std::io::Write;
 use std::rt::Files;
 
@@ -20,10 +19,9 @@ use std::rt::Files;
 /// folder can't be made, prints that.
 ///
 /// If the status isn't 0, the folder is given up, that is, removed if it is empty.
-pub fn export_into_folder<K: Keeper, R: Files + Eprint, W: Write + Drop>(
-    progress: &Progress<'_, R>,
+pub fn export_into_folder<K: Keeper, R: Files + Eprint, D, W: Write + Drop>(
+    system: &System<'_, R, D>,
     made: &mut Destination<'_, R>,
-    alloc: Global,
     receiver: &mut Receiver<K>,
     name: &str,
     folder: &str,
@@ -32,9 +30,10 @@ pub fn export_into_folder<K: Keeper, R: Files + Eprint, W: Write + Drop>(
     ensures { ExportsInto K.Keeper W.contents name.now folder.now made.old made.new
         receiver.old receiver.new out.old out.new result }
 {
+    let alloc = system.alloc;
     match made.create(alloc, folder) {
         Ok(sink) => {
-            let meter = Meter::new(progress, Activity::Exporting);
+            let meter = Meter::new(system.progress, Activity::Exporting);
             let mut sink = Watched::new(sink, &meter);
             let status = export_to(alloc, receiver, name, &mut sink, out);
             let sink = sink.into_inside();
@@ -46,6 +45,6 @@ pub fn export_into_folder<K: Keeper, R: Files + Eprint, W: Write + Drop>(
                 why: Why::of_failures(sink.failures(), sink.into_trouble()),
             }
         }
-        Err(fault) => stop_unopened(fault, out),
+        Err(fault) => stop_for_folder(fault, out),
     }
 }

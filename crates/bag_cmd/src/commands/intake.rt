@@ -7,11 +7,11 @@ ghost use Rattle.std.specs.Option.{option_or};
 ghost use Rattle.bag_cmd.specs.Endings.{first_name, name_if, name_if_crowded, name_if_empty, why_undelivered};
 ghost use Rattle.bag_cmd.specs.Working.{AreOpened, SomeIsRefused, TakesInFrom};
 
-use super::stop_unopened;
+use super::stop_for_folder;
 use crate::ended::{Ended, Why};
 use crate::excess::{FolderName, Limit};
 use crate::meter::{Activity, Meter};
-use crate::progress::Progress;
+use crate::system::System;
 use crate::watched::Watched;
 use bag_commands::{Output, intake_to};
 use bag_folder::{Directories, FolderTree, OpenFault, TreeCourier};
@@ -26,25 +26,23 @@ use std::rt::Files;
 /// the folders can't be opened, takes in nothing and prints that. The first of them that has more payload files than a
 /// run delivers is told, or if there is none the first without any.
 pub fn intake_folders<K: Keeper, R: Files + Eprint, D: Directories, W: Write + Drop>(
-    rt: &R,
-    progress: &Progress<'_, R>,
-    disk: &D,
-    alloc: Global,
+    system: &System<'_, R, D>,
     receiver: &mut Receiver<K>,
     name: &str,
     folders: &[String],
     out: &mut Output<W>,
 ) -> Ended
-    ensures { TakesInFrom K.Keeper (D.listing disk.now) W.contents name.now
+    ensures { TakesInFrom K.Keeper (D.listing system.now.disk.now) W.contents name.now
         (map string_bytes folders.now) receiver.old receiver.new out.old out.new result }
 {
-    let meter = Meter::new(progress, Activity::TakingIn);
-    match open_all(rt, &meter, disk, alloc, folders) {
+    let alloc = system.alloc;
+    let meter = Meter::new(system.progress, Activity::TakingIn);
+    match open_all(system.rt, &meter, system.disk, alloc, folders) {
         Ok(mut opened) => Ended {
             status: intake_to(alloc, receiver, name, opened.couriers.as_mut_slice(), out),
             why: why_undelivered(opened.crowded, opened.empty),
         },
-        Err(fault) => stop_unopened(fault, out),
+        Err(fault) => stop_for_folder(fault, out),
     }
 }
 

@@ -15,8 +15,8 @@ use super::intake::intake_folders;
 use crate::ended::{Ended, Why};
 use crate::ledger::{Ledgers, Opened};
 use crate::meter::{Activity, Meter};
-use crate::progress::Progress;
 use crate::request::Work;
+use crate::system::System;
 use crate::unopened::Unopened;
 use crate::watched::Watched;
 use bag_commands::status::FAILED;
@@ -34,26 +34,21 @@ use std::rt::Files;
 ///
 /// `begin` makes the ledger if there is none. A ledger that it made is removed if no transfer was opened.
 pub fn work_on_ledger<R: Files + Eprint, D: Directories, L: Ledgers, W: Write + Drop>(
-    rt: &R,
-    progress: &Progress<'_, R>,
-    disk: &D,
+    system: &System<'_, R, D>,
     ledgers: L,
     made: &mut Destination<'_, R>,
-    alloc: Global,
     ledger: &str,
-    work: &Work,
+    work: &Work<'_>,
     out: &mut Output<W>,
 ) -> Ended
-    ensures { WorksOn L.Kept.Keeper L.Ledgers (D.listing disk.now) W.contents ledger.now work.now
-        made.old made.new out.old out.new result }
+    ensures { WorksOn L.Kept.Keeper L.Ledgers (D.listing system.now.disk.now) W.contents ledger.now
+        work.now made.old made.new out.old out.new result }
 {
-    let meter = Meter::new(progress, Activity::Auditing);
+    let meter = Meter::new(system.progress, Activity::Auditing);
     if !matches!(work, Work::Audit { .. }) {
         meter.stop();
     }
-    match open_and_work(
-        rt, progress, &meter, disk, ledgers, made, alloc, ledger, work, out,
-    ) {
+    match open_and_work(system, &meter, ledgers, made, ledger, work, out) {
         Ok(
             Worked {
                 mut receiver,
@@ -62,12 +57,12 @@ pub fn work_on_ledger<R: Files + Eprint, D: Directories, L: Ledgers, W: Write + 
                 ended,
             },
         ) => {
-            let is_vain = is_vain(alloc, is_made, &mut receiver);
+            let is_vain = is_vain(system.alloc, is_made, &mut receiver);
             let keeper = receiver.into_keeper().into_inside();
             let cause = L::trouble(&keeper);
             let closed = close::<L>(file, keeper, is_vain);
             drop(closed);
-            ended.or(Why::of_ledger(alloc, ledger, cause))
+            ended.or(Why::of_ledger(system.alloc, ledger, cause))
         }
         Err(
             Unopened {
@@ -80,7 +75,7 @@ pub fn work_on_ledger<R: Files + Eprint, D: Directories, L: Ledgers, W: Write + 
             drop(left);
             Ended {
                 status: out.print(UnopenedLine(&fault), FAILED),
-                why: Why::of_ledger(alloc, ledger, cause),
+                why: Why::of_ledger(system.alloc, ledger, cause),
             }
         }
     }
@@ -99,20 +94,17 @@ struct Worked<K, F> {
 /// Opens a ledger and does the work. The receiver is returned too, so that the ledger can be closed. The meter counts
 /// what is read of the ledger.
 fn open_and_work<'a, R: Files + Eprint, D: Directories, L: Ledgers, W: Write + Drop>(
-    rt: &R,
-    progress: &Progress<'_, R>,
+    system: &System<'_, R, D>,
     meter: &'a Meter<'a, R>,
-    disk: &D,
     ledgers: L,
     made: &mut Destination<'_, R>,
-    alloc: Global,
     ledger: &str,
-    work: &Work,
+    work: &Work<'_>,
     out: &mut Output<W>,
 ) -> Result<Worked<Watched<'a, L::Kept, R>, L::File>, Unopened<L::Left>>
-    ensures works { IfOk result (λ done. Works L.Kept.Keeper L.Ledgers (D.listing disk.now)
-        W.contents ledger.now work.now made.old made.new done.receiver out.old out.new
-        done.ended) }
+    ensures works { IfOk result (λ done. Works L.Kept.Keeper L.Ledgers
+        (D.listing system.now.disk.now) W.contents ledger.now work.now made.old made.new
+        done.receiver out.old out.new done.ended) }
     // If a report or an audit answers that a transfer is valid, the ledger that is stored holds a valid bag under this
     // name.
     ensures valid { IfOk result (λ done. done.ended.status ≡ VALID
@@ -127,8 +119,8 @@ fn open_and_work<'a, R: Files + Eprint, D: Directories, L: Ledgers, W: Write + D
         × (made.new ≡ made.old) × (out.new ≡ out.old)) }
 {
     let opened = open(ledgers, ledger, work)?;
-    let mut receiver = Receiver::new(alloc, Watched::new(opened.kept, meter));
-    let ended = do_work(rt, progress, disk, made, alloc, &mut receiver, work, out);
+    let mut receiver = Receiver::new(system.alloc, Watched::new(opened.kept, meter));
+    let ended = do_work(system, made, &mut receiver, work, out);
     Ok(Worked {
         receiver,
         file: opened.file,
@@ -141,7 +133,7 @@ fn open_and_work<'a, R: Files + Eprint, D: Directories, L: Ledgers, W: Write + D
 fn open<L: Ledgers>(
     ledgers: L,
     ledger: &str,
-    work: &Work,
+    work: &Work<'_>,
 ) -> Result<Opened<L::Kept, L::File>, Unopened<L::Left>>
     ensures { MatchResult result
         (λ it. IsOpenFor L.Ledgers ledger.now work.now it.is_made it.kept)
@@ -184,65 +176,24 @@ fn close<L: Ledgers>(file: L::File, keeper: L::Kept, is_vain: bool) -> L::Closed
 
 /// Does the work on an open ledger.
 fn do_work<K: Keeper, R: Files + Eprint, D: Directories, W: Write + Drop>(
-    rt: &R,
-    progress: &Progress<'_, R>,
-    disk: &D,
+    system: &System<'_, R, D>,
     made: &mut Destination<'_, R>,
-    alloc: Global,
     receiver: &mut Receiver<K>,
-    work: &Work,
+    work: &Work<'_>,
     out: &mut Output<W>,
 ) -> Ended
-    ensures { DoesWork K.Keeper (D.listing disk.now) W.contents work.now made.old made.new
-        receiver.old receiver.new out.old out.new result }
+    ensures { DoesWork K.Keeper (D.listing system.now.disk.now) W.contents work.now made.old
+        made.new receiver.old receiver.new out.old out.new result }
 {
+    let alloc = system.alloc;
     match work {
-        Work::Begin { name, folder } => {
-            begin_with_folder(
-                rt,
-                disk,
-                alloc,
-                receiver,
-                name.as_str(),
-                folder.as_str(),
-                out,
-            )
-        }
-        Work::Intake { name, folders } => {
-            intake_folders(
-                rt,
-                progress,
-                disk,
-                alloc,
-                receiver,
-                name.as_str(),
-                folders,
-                out,
-            )
-        }
-        Work::Report { name } => Ended::plain(report_to(alloc, receiver, name.as_str(), out)),
-        Work::Audit { name } => Ended::plain(audit_to(alloc, receiver, name.as_str(), out)),
-        Work::Fetch { name, folder } => {
-            fetch_from_folder(
-                rt,
-                progress,
-                alloc,
-                receiver,
-                name.as_str(),
-                folder.as_str(),
-                out,
-            )
-        }
+        Work::Begin { name, folder } => begin_with_folder(system, receiver, name, folder, out),
+        Work::Intake { name, folders } => intake_folders(system, receiver, name, folders, out),
+        Work::Report { name } => Ended::plain(report_to(alloc, receiver, name, out)),
+        Work::Audit { name } => Ended::plain(audit_to(alloc, receiver, name, out)),
+        Work::Fetch { name, folder } => fetch_from_folder(system, receiver, name, folder, out),
         Work::Export { name, folder } => {
-            export_into_folder(
-                progress,
-                made,
-                alloc,
-                receiver,
-                name.as_str(),
-                folder.as_str(),
-                out,
-            )
+            export_into_folder(system, made, receiver, name, folder, out)
         }
         Work::List => Ended::plain(list_to(alloc, receiver, out)),
     }

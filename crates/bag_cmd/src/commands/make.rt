@@ -3,11 +3,11 @@ ghost use Rattle.std.specs.Prelude.{◌≡◌, None};
 ghost use Rattle.bag_cmd.specs.Endings.{limit_of, why_unmade};
 ghost use Rattle.bag_cmd.specs.Making.{MakesFolder, MakesInto, PrintsMake, make_end, words_given};
 
-use super::stop_unopened;
+use super::stop_for_folder;
 use crate::ended::{Ended, Why};
 use crate::excess::Limit;
 use crate::meter::{Activity, Meter};
-use crate::progress::Progress;
+use crate::system::System;
 use crate::watched::Watched;
 use bag_commands::status::DONE;
 use bag_commands::{MakeEnd, Output, make_to};
@@ -36,26 +36,24 @@ pub struct Making<'a> {
 /// The source is opened first, then the destination is made, and then the names of the algorithms are checked. If the
 /// status isn't 0, the destination is given up, that is, removed if it is empty.
 pub fn make_folder<R: Files + Eprint, D: Directories, W: Write + Drop>(
-    rt: &R,
-    progress: &Progress<'_, R>,
-    disk: &D,
+    system: &System<'_, R, D>,
     made: &mut Destination<'_, R>,
-    alloc: Global,
     making: &Making<'_>,
     out: &mut Output<W>,
 ) -> Ended
-    ensures { PrintsMake W.contents (D.listing disk.now) (words_given making.now) made.old made.new
-        out.old out.new result }
+    ensures { PrintsMake W.contents (D.listing system.now.disk.now) (words_given making.now)
+        made.old made.new out.old out.new result }
 {
-    match FolderTree::open_payload(rt, disk, alloc, making.source) {
+    let alloc = system.alloc;
+    match FolderTree::open_payload(system.rt, system.disk, alloc, making.source) {
         Ok(tree) => {
-            let meter = Meter::new(progress, Activity::Copying);
+            let meter = Meter::new(system.progress, Activity::Copying);
             meter.expect_files(tree.count());
             let mut tree = Watched::new(tree, &meter);
             let Made { ended, large } = make_into(alloc, making, &mut tree, made, out);
             ended.or(why_unmade(tree.into_inside(), large))
         }
-        Err(fault) => stop_unopened(fault, out),
+        Err(fault) => stop_for_folder(fault, out),
     }
 }
 
@@ -93,7 +91,7 @@ fn make_into<T: Tree, R: Files, W: Write + Drop>(
             }
         }
         Err(fault) => Made {
-            ended: stop_unopened(fault, out),
+            ended: stop_for_folder(fault, out),
             large: None,
         },
     }

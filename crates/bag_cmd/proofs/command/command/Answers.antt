@@ -1,6 +1,7 @@
-use Rattle.std.proofs.Common.{◌≡◌, ◌≢◌, [], ap, length, map, refl, rules, string_bytes}
+use Rattle.std.proofs.Common.{◌≡◌, ◌≢◌, ◌<◌, ◌∷◌, ◌∙◌, [], None, Some, ap, length, map, refl, rules, string_bytes, sym}
 use Rattle.bag_cmd.specs.Answers.{Named, NoCommand, NoWords}
-use Rattle.bag_cmd.proofs.RequestLemmas.{no_words, none_named}
+use Rattle.bag_cmd.specs.Requests.{operands_of}
+use Rattle.bag_cmd.proofs.RequestLemmas.{asked, first_taken, no_operands, no_words, none_named, not_asked}
 use Rattle.bag_cmd.proofs.command.command.Goals as goal
 
 pub returns-then-is_empty : goal.returns-then-is_empty
@@ -8,11 +9,32 @@ returns-then-is_empty g c =
     let empty : length c.args.words.items ≡ 0 = search rules in
     rw c.plain.ensures (NoWords (ap (map string_bytes) (no_words c.args.words.items empty)) refl c.print_line.ensures refl)
 
-pub returns-in-Some : goal.returns-in-Some
-returns-in-Some g c = Named c.in-Some.request c.in-Some.ensures.request c.run_request.ensures
-
 pub returns-in-None : goal.returns-in-None
 returns-in-None g c =
-    let some : map string_bytes c.args.words.items ≢ [] =
-    λ none. let empty : length c.args.words.items ≡ 0 = none_named string_bytes c.args.words.items none in search rules in
-    rw c.plain-in-None.ensures (NoCommand some c.in-None.ensures.none refl c.refuse.ensures refl)
+    let words = c.args.words.items in
+    let rest = map string_bytes c.remove-name.new.self.items in
+    let some : 0 < length words = search rules in
+    let first = first_taken words c.remove-name.new.self.items c.remove-name.result some c.remove-name.ensures.value c.remove-name.ensures.items in
+    let is : map string_bytes words ≡ c.as_str.result.now ∷ rest = ap (map string_bytes) first ∙ ap (λ name. name ∷ rest) (sym c.as_str.ensures.value) in
+    let given : operands_of rest ≡ Some (map string_bytes c.as_slice.result.now) = sym c.in-Some.ensures ∙ ap (λ operands. Some (map string_bytes operands)) (sym c.as_slice.ensures.value) in
+    rw c.plain-in-None.ensures (NoCommand (λ none. absurd (cc (is, none))) (not_asked (map string_bytes words) rest c.as_str.result.now is _ given c.in-None.ensures.none) refl c.refuse-in-None.ensures refl)
+
+pub returns-in_default-operands : goal.returns-in_default-operands
+returns-in_default-operands g c =
+    let words = c.args.words.items in
+    let rest = map string_bytes c.remove-name.new.self.items in
+    let some : 0 < length words = search rules in
+    let first = first_taken words c.remove-name.new.self.items c.remove-name.result some c.remove-name.ensures.value c.remove-name.ensures.items in
+    let is : map string_bytes words ≡ string_bytes c.remove-name.result ∷ rest = ap (map string_bytes) first in
+    let none : operands_of rest ≡ None = sym (rw c.in_default-operands.is at c.operands.ensures) in
+    rw c.plain-in_default-operands.ensures (NoCommand (λ empty. absurd (cc (is, empty))) (no_operands (map string_bytes words) rest (string_bytes c.remove-name.result) is none) refl c.refuse.ensures refl)
+
+pub returns-in-Some-of : goal.returns-in-Some-of
+returns-in-Some-of g c =
+    let words = c.args.words.items in
+    let rest = map string_bytes c.remove-name.new.self.items in
+    let some : 0 < length words = search rules in
+    let first = first_taken words c.remove-name.new.self.items c.remove-name.result some c.remove-name.ensures.value c.remove-name.ensures.items in
+    let is : map string_bytes words ≡ c.as_str.result.now ∷ rest = ap (map string_bytes) first ∙ ap (λ name. name ∷ rest) (sym c.as_str.ensures.value) in
+    let given : operands_of rest ≡ Some (map string_bytes c.as_slice.result.now) = sym c.in-Some.ensures ∙ ap (λ operands. Some (map string_bytes operands)) (sym c.as_slice.ensures.value) in
+    Named c.in-Some-of.request (asked (map string_bytes words) rest c.as_str.result.now is _ c.in-Some-of.request given c.in-Some-of.ensures.request) c.run_request.ensures

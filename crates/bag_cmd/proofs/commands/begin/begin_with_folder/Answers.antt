@@ -9,6 +9,6 @@ returns-in-Ok g c = Opened c.in-Ok.tree c.begin_to.new.tree c.in-Ok.ensures.open
 
 pub returns-in-Err : goal.returns-in-Err
 returns-in-Err g c =
-    let stopped = c.stop_unopened.ensures in
-    not_opened g.W.Write.contents (g.D.Directories.listing c.args.disk.now) _ c.args.out.now c.stop_unopened.new.out c.stop_unopened.result c.args.folder.now _ c.in-Err.fault
+    let stopped = c.stop_for_folder.ensures in
+    not_opened g.W.Write.contents (g.D.Directories.listing c.args.system.now.disk.now) _ c.args.out.now c.stop_for_folder.new.out c.stop_for_folder.result c.args.folder.now _ c.in-Err.fault
     c.in-Err.ensures.refused refl stopped.printed stopped.why

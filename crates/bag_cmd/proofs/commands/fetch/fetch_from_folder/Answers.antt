@@ -7,5 +7,5 @@ returns-in-Ok g c = rw c.plain.ensures (Fetched c.new-supplier.result c.fetch_to
 
 pub returns-in-Err : goal.returns-in-Err
 returns-in-Err g c =
-    let stopped = c.stop_unopened.ensures in
+    let stopped = c.stop_for_folder.ensures in
     NoFolder c.in-Err.fault c.in-Err.ensures.refused refl stopped.printed stopped.why

@@ -13,6 +13,6 @@ returns-in-Ok g c =
 
 pub returns-in-Err : goal.returns-in-Err
 returns-in-Err g c =
-    let stopped = c.stop_unopened.ensures in
-    none_opened g.W.Write.contents (g.D.Directories.listing c.args.disk.now) _ c.args.out.now c.stop_unopened.new.out c.stop_unopened.result (map string_bytes c.args.folders.now) _ c.in-Err.fault
+    let stopped = c.stop_for_folder.ensures in
+    none_opened g.W.Write.contents (g.D.Directories.listing c.args.system.now.disk.now) _ c.args.out.now c.stop_for_folder.new.out c.stop_for_folder.result (map string_bytes c.args.folders.now) _ c.in-Err.fault
     c.in-Err.ensures.refused refl stopped.printed stopped.why

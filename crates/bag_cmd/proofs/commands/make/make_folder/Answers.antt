@@ -30,6 +30,6 @@ returns-in-Ok g c =
 
 pub returns-in-Err : goal.returns-in-Err
 returns-in-Err g c =
-    let stopped = c.stop_unopened.ensures in
-    not_opened g.W.Write.contents (g.D.Directories.listing c.args.disk.now) (words_given c.args.making.now) c.args.made.now c.args.out.now c.stop_unopened.new.out c.stop_unopened.result c.in-Err.fault
+    let stopped = c.stop_for_folder.ensures in
+    not_opened g.W.Write.contents (g.D.Directories.listing c.args.system.now.disk.now) (words_given c.args.making.now) c.args.made.now c.args.out.now c.stop_for_folder.new.out c.stop_for_folder.result c.in-Err.fault
     c.in-Err.ensures.refused stopped.printed stopped.why

@@ -17,5 +17,5 @@ returns-after-status-ne-DONE g c =
 
 pub returns-in-Err : goal.returns-in-Err
 returns-in-Err g c =
-    let stopped = c.stop_unopened.ensures in
+    let stopped = c.stop_for_folder.ensures in
     NotMade c.in-Err.fault c.in-Err.ensures.refused c.in-Err.ensures.made (refl, refl) stopped.printed stopped.why

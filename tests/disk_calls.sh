@@ -26,8 +26,8 @@ xargs awk '
     }' <"$work/sources" >"$work/calls"
 
 cat >"$work/known" <<'KNOWN'
-bag_cmd/abandoned.rt remove_new_log remove_file self.rt, self.seen.log()
-bag_cmd/abandoned.rt remove_new_file remove_file self.rt, self.seen.name()
+bag_cmd/abandoned_ledger.rt remove_new_log remove_file self.rt, self.seen.log()
+bag_cmd/abandoned_ledger.rt remove_new_file remove_file self.rt, self.seen.name()
 bag_cmd/barred.rt open_locked sqlite_std_file::open
 bag_cmd/clearing.rt write .write
 bag_cmd/clearing.rt write_all write_all
@@ -39,10 +39,9 @@ bag_cmd/locked_file.rt remove_copied_log remove_file self.rt, self.seen.log()
 bag_cmd/main.rt main Unknown
 bag_cmd/watched.rt write .write
 bag_folder/destination.rt give_up remove_dir
-bag_folder/name.rt created File::create_new
-bag_folder/name.rt made_for create_dir_all
-bag_folder/sink.rt create create_dir
-bag_folder/sink.rt payload_dir create_dir_all
+bag_folder/names.rt make_folder create_dir
+bag_folder/names.rt make_folders create_dir_all
+bag_folder/names.rt make_file File::create_new
 bag_folder/sink.rt write write_all
 bag_receiver/export.rt write_content .write
 bag_writer/payload.rt write_piece .write

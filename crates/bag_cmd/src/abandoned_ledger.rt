@@ -8,7 +8,7 @@ use std::fs;
 
 /// The file of a ledger and its log, which are locked, and in which no ledger is opened anymore.
 #[derive(Drop)]
-pub struct Abandoned<'a> {
+pub struct AbandonedLedger<'a> {
     rt: &'a HostRuntime,
     // what was seen since both are locked
     seen: Seen,
@@ -17,13 +17,13 @@ pub struct Abandoned<'a> {
     ghost locked: { is_some seen.before ≡ true },
 }
 
-impl<'a> Abandoned<'a> {
+impl<'a> AbandonedLedger<'a> {
     /// No ledger is opened in this file.
-    pub fn new(rt: &'a HostRuntime, seen: Seen, handle: Handle) -> Abandoned<'a>
+    pub fn new(rt: &'a HostRuntime, seen: Seen, handle: Handle) -> AbandonedLedger<'a>
         requires { is_some seen.before ≡ true }
         ensures { result.seen ≡ seen }
     {
-        Abandoned { rt, seen, handle }
+        AbandonedLedger { rt, seen, handle }
     }
 
     /// Removes the log, unless anything was found in it. Returns what was seen.
