@@ -206,11 +206,14 @@ DAMAGES = [
     ("INSERT INTO piece VALUES (99, 0, x'00')", "bag: not a ledger"),
     ("INSERT INTO tag VALUES (99, 'x', x'00')", "bag: not a ledger"),
 ]
+# One octet more than a tag file may have. The log of such a change is longer than that of a killed command.
+TOO_LARGE = ("UPDATE tag SET body = zeroblob(16777217) WHERE path = 'bagit.txt'", "bag: damaged t1 ")
 
 
 def damaged(make):
     """Every command reports ledgers that another program changed, and leaves them alone. Returns how many there were."""
-    for damage, line in DAMAGES:
+    damages = [*DAMAGES, TOO_LARGE]
+    for damage, line in damages:
         place = make(SMALL)
         place.run(*place.words("begin"))
         place.run(*place.words("intake"))
@@ -224,7 +227,7 @@ def damaged(make):
     vacuumed.run(*vacuumed.words("intake"))
     vacuumed.sql("VACUUM")
     assert vacuumed.run(*vacuumed.words("audit")) == (0, ["valid"])
-    return len(DAMAGES)
+    return len(damages)
 
 
 # Two transfers. `t1` lists `abc`, an empty content and 65,537 zeros, and holds all three, the zeros in two pieces; `t2` lists and holds
@@ -237,12 +240,20 @@ LOOSE_HELD = """CREATE TABLE loose (id INTEGER PRIMARY KEY, transfer, path, size
     ALTER TABLE loose RENAME TO held; """
 LOOSE_TAGS = """CREATE TABLE loose (transfer, path, body); INSERT INTO loose SELECT * FROM tag; DROP TABLE tag;
     ALTER TABLE loose RENAME TO tag; """
+# 2,000 transfers more, which hold nothing.
+MANY = """WITH RECURSIVE n(i) AS (SELECT 1 UNION ALL SELECT i + 1 FROM n WHERE i < 2000)
+    INSERT INTO transfer (name) SELECT printf('n%04d', i) FROM n;
+    INSERT INTO tag SELECT new.id, tag.path, tag.body FROM transfer AS new, tag, transfer AS old
+    WHERE new.name LIKE 'n%' AND old.name = 't2' AND tag.transfer = old.id"""
 OPENED = "t1", "t2"
 # A change to that ledger, and the lines of `list` afterwards.
 CHANGES = [
     ("", *OPENED),
     ("VACUUM", *OPENED),
     ("DELETE FROM held WHERE id = 2", *OPENED),
+    (MANY, *(f"n{number:04}" for number in range(1, 2_001)), *OPENED),
+    # A name that no command gives is spelled as a path is.
+    ("UPDATE transfer SET name = 't1' || char(9) || char(10) || '%' WHERE name = 't1'", "t1\t%0A%25", "t2"),
     ("DELETE FROM meta", "bag: not a ledger"),
     ("UPDATE meta SET v = 9", "bag: not a ledger"),
     ("UPDATE meta SET v = 3", "bag: not a ledger"),

@@ -60,6 +60,12 @@ refuse 'list with a name' "error: unexpected argument 't1' found" bag list "$led
 refuse 'an option' "error: unexpected argument '--force' found" bag begin --force "$ledger" t1 "$work/tags"
 expect 'nothing was made' 0 '' nothing "$ledger"
 
+# new_mode: begins a transfer in a new ledger where nothing is masked, and prints the mode of its file.
+new_mode() {
+    (umask 0 && bag begin "$work/mode" t1 "$work/tags" && stat -c %a "$work/mode")
+}
+expect 'a new ledger: its owner alone may write to it' 0 $'new\n644' new_mode
+
 # A transfer that arrives in one folder.
 expect 'begin' 0 new bag begin "$ledger" t1 "$work/tags"
 expect 'a transfer of which nothing came' 1 "$both_missing" bag report "$ledger" t1

@@ -260,7 +260,7 @@ def totals(place):
     database, so no more than that is shown of it."""
     ledger, log = place.work / "text", place.work / "text-wal"
     for octets, of_log, told in [((1 << 30) - 1, 0, ["1023.9 MiB"]), (1 << 30, 0, ["1.0 GiB"]), ((1 << 40) - 1, 0, ["1023.9 GiB"]),
-                                 (1 << 40, 0, ["1.0 TiB"]), (100 * MEBIBYTE, 924 * MEBIBYTE, ["100.0 MiB", "1.0 GiB"])]:
+                                 (1 << 40, 0, ["1.0 TiB"]), (3 << 39, 0, ["1.5 TiB"]), (100 * MEBIBYTE, 924 * MEBIBYTE, ["100.0 MiB", "1.0 GiB"])]:
         ledger.write_bytes(b"text\n" * 1_000)
         os.truncate(ledger, octets)
         if of_log:
@@ -282,6 +282,13 @@ def short_work(place):
                   ["export", ledger, "t", place.work / "exported"]):
         ended = place.watch(*map(str, words))
         assert ended.status == 0 and ended.said == b"", (words, ended.status, ended.said)
+    # Folders without a payload file are no files, however many there are.
+    folders = [place.work / f"folder {number}" for number in range(1_100)]
+    for folder in folders:
+        folder.mkdir()
+    ended = place.watch("intake", str(ledger), "t", *map(str, folders))
+    told = f"bag: {folders[0]}: it has no payload file below data/\n"
+    assert (ended.status, ended.said.decode()) == (0, told), (ended.status, ended.said)
 
 
 def failures(place):
