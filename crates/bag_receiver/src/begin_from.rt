@@ -92,8 +92,9 @@ fn read_each<T: Tree>(alloc: Global, buffer: &mut [u8], tree: &mut T) -> Result<
         if tree.path(i).is_payload() {
             continue;
         }
+        let path = tree.path(i).clone()?;
         let body = read_tag_file(alloc, buffer, tree, i)?;
-        let Ok(()) = tags.add(tree.path(i).as_str(), body) else {
+        let Ok(()) = tags.insert(path, body) else {
             return Err(BeginFault::Keeper(KeepFault::Memory));
         };
     }

@@ -67,7 +67,7 @@ impl TagSet {
         }
     }
 
-    /// Inserts a tag file at its place in the order of the paths.
+    /// Parses the path, and inserts a tag file with it.
     ///
     /// # Errors
     ///
@@ -81,15 +81,32 @@ impl TagSet {
             → ¬ RefusesFile self.old path.now body.items fault)
             (RefusesFile self.old path.now body.items) }
     {
-        let path = match BagPath::parse(*self.files.allocator(), path) {
-            Ok(path) => path,
-            Err(PathFault::Memory) => return Err(TagSetFault::Memory),
-            Err(fault) => return Err(TagSetFault::BadPath(fault)),
-        };
+        match BagPath::parse(*self.files.allocator(), path) {
+            Ok(path) => self.insert(path, body),
+            Err(PathFault::Memory) => Err(TagSetFault::Memory),
+            Err(fault) => Err(TagSetFault::BadPath(fault)),
+        }
+    }
+
+    /// Inserts a tag file at its place in the order of the paths.
+    ///
+    /// # Errors
+    ///
+    /// Those of [`TagSet::add`], but for `BadPath`. The set is then unchanged.
+    pub fn insert(&mut self, path: BagPath, body: Vec<u8>) -> Result<(), TagSetFault>
+        ensures added { OnOk result
+            (self.new ≡ insert_entry (slice_cmp nat_cmp) self.old path body.items) }
+        ensures unchanged { OnErr result (self.new ≡ self.old) }
+        ensures fault { MatchResult result
+            (λ _. (fault : TagSetFault) → fault ≢ TagSetFault.Memory
+            → ¬ RefusesFile self.old path body.items fault)
+            (RefusesFile self.old path body.items) }
+    {
+        let text = path.as_str();
         if path.is_payload() {
             return Err(TagSetFault::Payload);
         }
-        let Err(place) = search(&self.files, path.as_str()) else {
+        let Err(place) = search(&self.files, text) else {
             return Err(TagSetFault::Twice);
         };
         if body.len() as u64 > LARGEST_TAG_FILE {
