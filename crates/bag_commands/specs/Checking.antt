@@ -1,15 +1,12 @@
 -- The results of `check` that a tree allows, and how they are printed.
-use Rattle.std.specs.Prelude.{◌≡◌, ◌<◌, ◌≤◌, ℕ, List, [], ◌∷◌, Contains, IfOk, IsErrOf, MatchResult, Option, Result, length}
-use Rattle.bag_rules.specs.Bags.{Bag, IsBagOf, declaration_file}
+use Rattle.std.specs.Prelude.{ℕ, List, IfOk, IsErrOf, MatchResult, Option, Result}
+use Rattle.bag_rules.specs.Bags.{Bag, IsBagOf}
 use Rattle.bag_rules.specs.Limits.{Stopped, Stops}
 use Rattle.bag_rules.specs.Validity.{Means}
-use Rattle.bag_rules.specs.Verdicts.{IsVerdict}
+use Rattle.bag_rules.specs.Verdicts.{AnswersPaths, IsVerdict}
 use Rattle.bag_rules.specs.declared.outcome.Outcome.{Outcome}
 use Rattle.bag_rules.specs.declared.outcome.CheckFault.{CheckFault}
-use Rattle.bag_rules.specs.declared.outcome.CheckFault.TheVariants.{Tree, TooMany, Memory as CheckMemory}
-use Rattle.bag_rules.specs.declared.fault.Fault.TheVariants.{NoDeclaration}
-use Rattle.bag_rules.specs.declared.limits.TheConstants.{MOST_FILES}
-use Rattle.bag_rules.specs.declared.outcome.Outcome.TheVariants.{Judged}
+use Rattle.bag_rules.specs.declared.outcome.CheckFault.TheVariants.{Tree}
 use Rattle.bag_rules.specs.Trees.{Shown, UsesTree, paths_in}
 use Rattle.bag_commands.specs.declared.output.Output.{Output}
 use Rattle.bag_commands.specs.CheckTexts.{check_lines, check_status}
@@ -26,10 +23,7 @@ pub record IsAnswer {T : Type 0} (shown : T → Shown) (failures : T → ℕ) (s
   pub limits : (bag : Bag) → IsBagOf (shown old) bag → MatchResult answer
       (λ outcome. (fault : CheckFault) → ¬ Stops bag fault) (Stopped (Stops bag))
   pub tree : UsesTree shown failures sure old new (IsErrOf answer Tree)
-  pub too_many : MOST_FILES < length (paths_in (shown old)) → IsErrOf answer TooMany
-  pub undeclared : length (paths_in (shown old)) ≤ MOST_FILES
-      → ¬ Contains (paths_in (shown old)) declaration_file → MatchResult answer
-      (λ outcome. outcome ≡ Judged (NoDeclaration ∷ [])) (λ fault. fault ≡ CheckMemory)
+  pub unread : AnswersPaths (paths_in (shown old)) answer
 
 -- a result of this kind was printed, with its status
 abbrev pub PrintedOf : {W : Type 0} → (W → Option (List ℕ)) → Output W → Output W → ℕ

@@ -1,5 +1,5 @@
 -- The verdict on a bag: its faults in order, or why it can't be judged.
-use Rattle.std.specs.Prelude.{◌≡◌, ◌≢◌, ◌↔◌, ◌<◌, ℕ, false, List, IsSome, None, nat_le, string_bytes, if◌then◌else◌}
+use Rattle.std.specs.Prelude.{◌≡◌, ◌≢◌, ◌↔◌, ◌<◌, ◌≤◌, ◌∷◌, [], ℕ, Contains, false, IsErrOf, List, IsSome, MatchResult, None, Result, length, nat_le, string_bytes, if◌then◌else◌}
 use Rattle.std.specs.Ordering.{nat_cmp}
 use Rattle.std.specs.Cmp.Lexicographic.{slice_cmp}
 use Rattle.std.specs.declared.cmp.Ordering.TheVariants.{Greater}
@@ -7,11 +7,15 @@ use Rattle.bag_tags.specs.declared.declaration.Declaration.{Declaration}
 use Rattle.bag_tags.specs.Declarations.{version_of}
 use Rattle.bag_tags.specs.Names.{IsUnknownManifest}
 use Rattle.bag_rules.specs.declared.fault.Fault.{Fault}
+use Rattle.bag_rules.specs.declared.fault.Fault.TheVariants.{NoDeclaration}
+use Rattle.bag_rules.specs.declared.limits.TheConstants.{MOST_FILES}
+use Rattle.bag_rules.specs.declared.outcome.CheckFault.{CheckFault}
+use Rattle.bag_rules.specs.declared.outcome.CheckFault.TheVariants.{Memory, TooMany}
 use Rattle.bag_rules.specs.declared.outcome.Outcome.{Outcome}
 use Rattle.bag_rules.specs.declared.outcome.Outcome.TheVariants.{Judged, Outside}
 use Rattle.bag_rules.specs.declared.outcome.OutsideCause.{OutsideCause}
 use Rattle.bag_rules.specs.declared.outcome.OutsideCause.TheVariants.{Version, Encoding, Algorithm}
-use Rattle.bag_rules.specs.Bags.{Bag, IsThere, Declares, IsDeclared}
+use Rattle.bag_rules.specs.Bags.{Bag, IsThere, Declares, IsDeclared, declaration_file}
 use Rattle.bag_rules.specs.HasFault.{HasFault}
 use Rattle.bag_rules.specs.Faults.{Has, AreInOrder, last_of_declaration, last_of_form, number_of}
 
@@ -58,3 +62,9 @@ IsOutside bag (Algorithm name) = IsDeclared bag × IsFirstUnknown bag (string_by
 abbrev pub IsVerdict : Bag → Outcome → Type 0
 IsVerdict bag (Judged faults) = IsJudged bag faults
 IsVerdict bag (Outside cause) = IsOutside bag cause
+
+-- What is answered whatever octets the files have: that there are too many of them, or that there is no declaration.
+abbrev pub AnswersPaths : List (List ℕ) → Result Outcome CheckFault → Type 0
+AnswersPaths paths answer = (MOST_FILES < length paths → IsErrOf answer TooMany)
+    × (length paths ≤ MOST_FILES → ¬ Contains paths declaration_file → MatchResult answer
+    (λ outcome. outcome ≡ Judged (NoDeclaration ∷ [])) (λ fault. fault ≡ Memory))

@@ -1,17 +1,16 @@
 //! Checks the bag that a tree holds (RFC 8493 section 3).
-ghost use Rattle.std.specs.Prelude.{◌≡◌, ◌<◌, ◌≤◌, ◌∷◌, [], Contains, IfErr, IfOk, IsErrOf, MatchResult, length, true};
+ghost use Rattle.std.specs.Prelude.{◌≡◌, ◌<◌, ◌∷◌, [], Contains, IfErr, IfOk, IsErrOf, MatchResult, length, true};
 ghost use Rattle.bag_digest.specs.Algorithm.{has};
 ghost use Rattle.bag_digest.specs.declared.algorithm.Alg.{Alg};
 ghost use Rattle.bag_tags.specs.declared.listing.Kind.TheVariants.{Tag};
 ghost use Rattle.bag_tags.specs.Names.{manifest_file};
-ghost use Rattle.bag_rules.specs.Bags.{Bag, IsBagOf, declaration_file};
+ghost use Rattle.bag_rules.specs.Bags.{Bag, IsBagOf};
 ghost use Rattle.bag_rules.specs.KeptInside.{AreKept};
 ghost use Rattle.bag_rules.specs.Limits.{ProfileStops, Stopped, Stops};
 ghost use Rattle.bag_rules.specs.Profiles.{IsProfile};
 ghost use Rattle.bag_rules.specs.Trees.{AreRising, UsesTree, paths_in};
 ghost use Rattle.bag_rules.specs.Validity.{Means};
-ghost use Rattle.bag_rules.specs.Verdicts.{IsVerdict};
-ghost use Rattle.bag_rules.specs.declared.fault.Fault.TheVariants.{NoDeclaration};
+ghost use Rattle.bag_rules.specs.Verdicts.{AnswersPaths, IsVerdict};
 ghost use Rattle.bag_rules.specs.declared.outcome.CheckFault.{CheckFault};
 ghost use Rattle.bag_rules.specs.declared.outcome.Outcome.TheVariants.{Judged};
 ghost use Rattle.bag_rules.specs.declared.profile.Profile.TheVariants.{Known};
@@ -56,12 +55,7 @@ pub fn check<T: Tree>(alloc: Global, tree: &mut T) -> Result<Outcome, CheckFault
     ensures tree { UsesTree T.shown T.failures T.sure tree.old tree.new
         (IsErrOf result CheckFault.Tree) }
     // Two cases in which the octets need not be known: there are too many files, or there is no declaration.
-    ensures too_many { MOST_FILES < length (paths_in (T.shown tree.old))
-        → IsErrOf result CheckFault.TooMany }
-    ensures undeclared { length (paths_in (T.shown tree.old)) ≤ MOST_FILES
-        → ¬ Contains (paths_in (T.shown tree.old)) declaration_file → MatchResult result
-        (λ outcome. outcome ≡ Judged (NoDeclaration ∷ []))
-        (λ fault. fault ≡ CheckFault.Memory) }
+    ensures unread { AnswersPaths (paths_in (T.shown tree.old)) result }
 {
     if tree.count() > MOST_FILES {
         return Err(CheckFault::TooMany);

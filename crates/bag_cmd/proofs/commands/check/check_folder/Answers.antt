@@ -30,8 +30,7 @@ returns-in-Ok g c =
       meaning = checked.meaning;
       limits = checked.limits;
       tree = checked.tree;
-      too_many = checked.too_many;
-      undeclared = checked.undeclared;
+      unread = checked.unread;
     } in
     let why = c.why_unchecked.ensures ∙ ap (λ tree. why_unchecked tree c.check-answer.result) c.into_inside.ensures in
     Answered c.new-tree.result c.check-answer.new.tree (rw c.new-tree.ensures c.in-Ok.ensures.opened)
