@@ -1,5 +1,5 @@
 -- What is kept of the tag files that were read. Only private functions cite these.
-use Rattle.std.specs.Prelude.{◌≡◌, ◌≤◌, ℕ, true, List, Some, length, slice_get}
+use Rattle.std.specs.Prelude.{◌≡◌, ◌≤◌, ℕ, true, IsErrOf, List, OnOk, Result, Some, length, slice_get}
 use Rattle.bag_digest.specs.declared.algorithm.Alg.{Alg}
 use Rattle.bag_digest.specs.declared.algorithm.AlgSet.{AlgSet}
 use Rattle.bag_digest.specs.declared.multi.Digests.{Digests}
@@ -8,7 +8,9 @@ use Rattle.bag_digest.specs.Hash.{AreDigests}
 use Rattle.bag_rules.specs.declared.kept.Kept.{Kept}
 use Rattle.bag_rules.specs.declared.kept.KeptFile.{KeptFile}
 use Rattle.bag_rules.specs.declared.limits.TheConstants.{LARGEST_FILE, LARGEST_TAG_FILE}
-use Rattle.bag_rules.specs.Trees.{HasFileAt, Shown}
+use Rattle.bag_rules.specs.declared.outcome.CheckFault.{CheckFault}
+use Rattle.bag_rules.specs.declared.outcome.CheckFault.TheVariants.{Tree}
+use Rattle.bag_rules.specs.Trees.{HasFileAt, Shown, UsesTree}
 
 -- the length of these octets, and their digests by all algorithms of the set and possibly by others
 pub record HasSums (found : ℕ × Digests) (set : AlgSet) (octets : List ℕ) : Type 0 where
@@ -40,3 +42,10 @@ IsKeptOf shown set file = (path octets : List ℕ) → HasFileAt shown file.plac
 pub record AreKept (shown : Shown) (kept : Kept) : Type 0 where
   pub each : (i : ℕ) (file : KeptFile) → slice_get kept.files.items i ≡ Some file
       → IsKeptOf shown kept.set file
+
+-- What a call that reads text does to a tree; and if it succeeds, what is kept is still of the tree's files.
+pub record ReadsAndKeeps {T Value : Type 0} (shown : T → Shown) (failures : T → ℕ)
+    (sure : T → Type 0) (old new : T) (before after : Kept) (result : Result Value CheckFault)
+    : Type 0 where
+  pub tree : UsesTree shown failures sure old new (IsErrOf result Tree)
+  pub kept : AreKept (shown old) before → OnOk result (AreKept (shown old) after)

@@ -1,12 +1,12 @@
 //! Finds out whether a bag can be judged by more than its declaration (RFC 8493 section 2.1.1).
-ghost use Rattle.std.specs.Prelude.{◌≡◌, ◌<◌, Contains, IfErr, IfOk, IsErrOf, MatchOption, MatchResult, Ok, OnOk, Some, length, slice_get, string_bytes, true};
+ghost use Rattle.std.specs.Prelude.{◌≡◌, ◌<◌, Contains, IfErr, IfOk, MatchOption, MatchResult, Ok, Some, length, slice_get, string_bytes, true};
 ghost use Rattle.bag_tags.specs.Declarations.{version_of};
 ghost use Rattle.bag_rules.specs.Bags.{Bag, Holds, IsBagOf, declaration_file};
 ghost use Rattle.bag_rules.specs.JudgingInside.{IsFirstUnknownOf, MatchOutside, NoneUnknown};
-ghost use Rattle.bag_rules.specs.KeptInside.{AreKept};
+ghost use Rattle.bag_rules.specs.KeptInside.{ReadsAndKeeps};
 ghost use Rattle.bag_rules.specs.Limits.{DeclarationStops, FirstStops, NoneStops, Stopped};
 ghost use Rattle.bag_rules.specs.Profiles.{IsProfile};
-ghost use Rattle.bag_rules.specs.Trees.{AreRising, UsesTree, paths_in};
+ghost use Rattle.bag_rules.specs.Trees.{AreRising, paths_in};
 ghost use Rattle.bag_rules.specs.declared.fault.Fault.TheVariants.{NoDeclaration};
 ghost use Rattle.bag_rules.specs.declared.outcome.CheckFault.{CheckFault};
 ghost use Rattle.bag_rules.specs.declared.profile.Profile.TheVariants.{Broken};
@@ -43,13 +43,11 @@ pub(crate) fn read_profile<T: Tree>(
     ensures limits { (bag : Bag) → IsBagOf (T.shown tree.old) bag
         → MatchResult result (λ profile. NoneStops bag DeclarationStops)
         (Stopped (FirstStops bag DeclarationStops)) }
-    ensures tree { UsesTree T.shown T.failures T.sure tree.old tree.new
-        (IsErrOf result CheckFault.Tree) }
     // A case in which the octets need not be known: there is no declaration.
     ensures undeclared { ¬ Contains (paths_in (T.shown tree.old)) declaration_file
         → result ≡ Ok (Broken NoDeclaration) }
-    ensures kept { AreKept (T.shown tree.old) kept.old
-        → OnOk result (AreKept (T.shown tree.old) kept.new) }
+    ensures reads { ReadsAndKeeps T.shown T.failures T.sure tree.old tree.new kept.old kept.new
+        result }
 {
     match find(tree, "bagit.txt") {
         Some(i) => read_declared(alloc, buffer, tree, i, kept),
@@ -71,10 +69,8 @@ fn read_declared<T: Tree>(
     ensures limits { (bag : Bag) → IsBagOf (T.shown tree.old) bag
         → MatchResult result (λ profile. NoneStops bag DeclarationStops)
         (Stopped (FirstStops bag DeclarationStops)) }
-    ensures tree { UsesTree T.shown T.failures T.sure tree.old tree.new
-        (IsErrOf result CheckFault.Tree) }
-    ensures kept { AreKept (T.shown tree.old) kept.old
-        → OnOk result (AreKept (T.shown tree.old) kept.new) }
+    ensures reads { ReadsAndKeeps T.shown T.failures T.sure tree.old tree.new kept.old kept.new
+        result }
 {
     let text = read_tag_file(alloc, buffer, tree, i)?;
     kept.keep(i, &text)?;

@@ -5,7 +5,7 @@ ghost use Rattle.bag_rules.specs.Bags.{Bag, IsBagOf, version_of};
 ghost use Rattle.bag_rules.specs.Faults.{kind_of_lines};
 ghost use Rattle.bag_rules.specs.HasFault.{HasFaultOf};
 ghost use Rattle.bag_rules.specs.Limits.{IsLongTag, FirstStops, NoneStops, Stopped, TextStops};
-ghost use Rattle.bag_rules.specs.KeptInside.{AreKept};
+ghost use Rattle.bag_rules.specs.KeptInside.{ReadsAndKeeps};
 ghost use Rattle.bag_rules.specs.ReadingInside.{
   Adds,
   AreTextsOf,
@@ -89,10 +89,8 @@ pub(crate) fn read_texts<T: Tree>(
     ensures limits { (bag : Bag) → IsBagOf (T.shown tree.old) bag
         → MatchResult result (λ texts. NoneStops bag TextStops)
         (Stopped (FirstStops bag TextStops)) }
-    ensures tree { UsesTree T.shown T.failures T.sure tree.old tree.new
-        (IsErrOf result CheckFault.Tree) }
-    ensures kept { AreKept (T.shown tree.old) kept.old
-        → OnOk result (AreKept (T.shown tree.old) kept.new) }
+    ensures reads { ReadsAndKeeps T.shown T.failures T.sure tree.old tree.new kept.old kept.new
+        result }
 {
     let mut texts = Texts::none(alloc);
     for i in 0..tree.count() {
@@ -120,10 +118,8 @@ fn read_text<T: Tree>(
     ensures limits { (path octets : List ℕ) → HasFileAt (T.shown tree.old) i path octets
         → MatchResult result (λ done. (fault : CheckFault) → ¬ TextStops path octets fault)
         (Stopped (TextStops path octets)) }
-    ensures tree { UsesTree T.shown T.failures T.sure tree.old tree.new
-        (IsErrOf result CheckFault.Tree) }
-    ensures kept { AreKept (T.shown tree.old) kept.old
-        → OnOk result (AreKept (T.shown tree.old) kept.new) }
+    ensures reads { ReadsAndKeeps T.shown T.failures T.sure tree.old tree.new kept.old kept.new
+        result }
 {
     let Some(file) = LineFile::of(tree.path(i)) else {
         return Ok(());

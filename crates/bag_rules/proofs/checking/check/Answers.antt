@@ -10,14 +10,14 @@ pub returns-in-Known-clause-meaning : goal.returns-in-Known-clause-meaning
 returns-in-Known-clause-meaning g c = λ bag is.
     let profile = rw c.in-Known.is at (c.in_ok-version.ensures.profile bag is) in
     IfOk-weaker c.check_in_profile.result _ _ (λ outcome verdict. verdict_means bag outcome (rises bag is c.count.ensures.rising) verdict)
-    (c.check_in_profile.ensures.verdict bag (c.in_ok-version.ensures.tree.same ∙ is) profile)
+    (c.check_in_profile.ensures.verdict bag (c.in_ok-version.ensures.reads.tree.same ∙ is) profile)
 
 pub returns-in-Known-clause-limits : goal.returns-in-Known-clause-limits
 returns-in-Known-clause-limits g c = λ bag is.
     let profile = rw c.in-Known.is at (c.in_ok-version.ensures.profile bag is) in
     let few : length bag.files ≤ 200000 = omega (arith, c.if-count-gt-MOST_FILES.false, c.count.ensures.files, same_count bag is) in
     within_count bag c.check_in_profile.result few (profile_stopped bag c.check_in_profile.result (c.in_ok-version.ensures.limits bag is) profile.0
-    (c.check_in_profile.ensures.limits bag (c.in_ok-version.ensures.tree.same ∙ is) profile))
+    (c.check_in_profile.ensures.limits bag (c.in_ok-version.ensures.reads.tree.same ∙ is) profile))
 
 pub returns-in-Unknown-clause-meaning : goal.returns-in-Unknown-clause-meaning
 returns-in-Unknown-clause-meaning g c = λ bag is. tt

@@ -11,7 +11,7 @@ use Rattle.bag_rules.proofs.checking.check_in_profile.Goals.{then-is_empty+in_ok
 
 pub returns-in_err-add_file_faults-clause-limits : goal.returns-in_err-add_file_faults-clause-limits
 returns-in_err-add_file_faults-clause-limits g c = λ bag is profile.
-    let is_after = c.in_ok-texts.ensures.tree.same ∙ is in
+    let is_after = c.in_ok-texts.ensures.reads.tree.same ∙ is in
     let texts = c.in_ok-texts.ensures.read bag is profile.1 in
     let none = declared_none bag _ (rises bag is c.requires.ready.1) profile.0.declared.declares in
     let formed = form_found bag _ _ _ c.new-faults.ensures.items (c.in_ok-texts.ensures.faulty bag is profile.1) (c.in_ok-add_form_faults.ensures.added bag is_after texts) in
@@ -23,7 +23,7 @@ returns-in_err-add_file_faults-clause-limits g c = λ bag is profile.
 
 pub returns-clause-verdict : goal.returns-clause-verdict
 returns-clause-verdict g c = λ bag is profile.
-    let is_after = c.in_ok-texts.ensures.tree.same ∙ is in
+    let is_after = c.in_ok-texts.ensures.reads.tree.same ∙ is in
     let texts = c.in_ok-texts.ensures.read bag is profile.1 in
     let none = declared_none bag _ (rises bag is c.requires.ready.1) profile.0.declared.declares in
     let formed = form_found bag _ _ _ c.new-faults.ensures.items (c.in_ok-texts.ensures.faulty bag is profile.1) (c.in_ok-add_form_faults.ensures.added bag is_after texts) in
@@ -42,7 +42,7 @@ returns-clause-verdict g c = λ bag is profile.
 
 pub returns-clause-limits : goal.returns-clause-limits
 returns-clause-limits g c = λ bag is profile fault stops.
-    let is_after = c.in_ok-texts.ensures.tree.same ∙ is in
+    let is_after = c.in_ok-texts.ensures.reads.tree.same ∙ is in
     let texts = c.in_ok-texts.ensures.read bag is profile.1 in
     elim stops [
       | inl text ↦ limit.none_first bag _ fault (c.in_ok-texts.ensures.limits bag is) text
@@ -58,13 +58,13 @@ returns-clause-limits g c = λ bag is profile fault stops.
 pub returns-in_err-add_file_faults-clause-tree : goal.returns-in_err-add_file_faults-clause-tree
 returns-in_err-add_file_faults-clause-tree g c =
     let p = err_from_is_err_and c.from_residual-in_err-add_file_faults.result c.from_residual-in_err-add_file_faults.ensures.1 in
-    rw (p.1, p.2) (uses_error (uses_on c.in_ok-texts.ensures.tree (λ e. cc e) c.in_err-add_file_faults.ensures.tree))
+    rw (p.1, p.2) (uses_error (uses_on c.in_ok-texts.ensures.reads.tree (λ e. cc e) c.in_err-add_file_faults.ensures.tree))
 
 pub returns-clause-tree : goal.returns-clause-tree
 returns-clause-tree g c = elim c.if-is_empty.branch [
-  | then-is_empty+in_ok-add_file_faults w ↦ rw w.tree-is (uses_kept (uses_on c.in_ok-texts.ensures.tree (λ e. cc e) w.in_ok-add_file_faults.ensures.tree) (λ e. cc e) (λ e. cc e))
-  | else-is_empty w ↦ rw w.tree-is (uses_kept c.in_ok-texts.ensures.tree (λ e. cc e) (λ e. cc e))
+  | then-is_empty+in_ok-add_file_faults w ↦ rw w.tree-is (uses_kept (uses_on c.in_ok-texts.ensures.reads.tree (λ e. cc e) w.in_ok-add_file_faults.ensures.tree) (λ e. cc e) (λ e. cc e))
+  | else-is_empty w ↦ rw w.tree-is (uses_kept c.in_ok-texts.ensures.reads.tree (λ e. cc e) (λ e. cc e))
 ]
 
 pub add_file_faults-requires-clause-kept : goal.add_file_faults-requires-clause-kept
-add_file_faults-requires-clause-kept g c = subst (λ s. AreKept s c.read_texts.new.kept) (sym c.in_ok-texts.ensures.tree.same) (c.in_ok-texts.ensures.kept c.requires.kept)
+add_file_faults-requires-clause-kept g c = subst (λ s. AreKept s c.read_texts.new.kept) (sym c.in_ok-texts.ensures.reads.tree.same) (c.in_ok-texts.ensures.reads.kept c.requires.kept)

@@ -31,9 +31,9 @@ returns-clause-limits g c = λ bag is.
     let read = c.in_ok-text.ensures.known declaration_file file.0 (file_at bag is c.args.i declaration_file file.0 file.1) in
     done_or_memory c.profile_of.result (FirstStops bag DeclarationStops) c.profile_of.ensures.err (short_declaration bag file.0 (rises bag is c.requires.ready.1) (c.args.i, file.1) read.1)
 
-pub returns-clause-tree : goal.returns-clause-tree
-returns-clause-tree g c = uses_kept c.in_ok-text.ensures.tree (λ e. cc e) (not_tree c.profile_of.result c.profile_of.ensures.err)
-
-pub returns-clause-kept : goal.returns-clause-kept
-returns-clause-kept g c = λ are. on_ok_of c.profile_of.result _ (c.in_ok-keep.ensures.kept (g.T.Paths.shown c.args.tree.now) are (λ path octets at.
-    let known = c.in_ok-text.ensures.known path octets at in (c.deref.ensures.value ∙ known.0, known.1)))
+pub returns-clause-reads : goal.returns-clause-reads
+returns-clause-reads g c = record {
+  tree = uses_kept c.in_ok-text.ensures.tree (λ e. cc e) (not_tree c.profile_of.result c.profile_of.ensures.err);
+  kept = λ are. on_ok_of c.profile_of.result _ (c.in_ok-keep.ensures.kept (g.T.Paths.shown c.args.tree.now) are (λ path octets at.
+      let known = c.in_ok-text.ensures.known path octets at in (c.deref.ensures.value ∙ known.0, known.1)));
+}

@@ -14,5 +14,5 @@ returns-in-None-clause-profile g c = λ bag is. no_declaration bag (λ there. c.
 pub returns-in-None-clause-limits : goal.returns-in-None-clause-limits
 returns-in-None-clause-limits g c = λ bag is. none_declaration bag (λ there. c.in-None.ensures.absent (shows bag is declaration_file there))
 
-pub returns-in-None-clause-tree : goal.returns-in-None-clause-tree
-returns-in-None-clause-tree g c = uses_none (λ e. cc e)
+pub returns-in-None-clause-reads : goal.returns-in-None-clause-reads
+returns-in-None-clause-reads g c = record { tree = uses_none (λ e. cc e); kept = λ are. are }

@@ -6,6 +6,7 @@ use Rattle.bag_rules.proofs.LimitLemmas.{stopped_so}
 use Rattle.bag_rules.proofs.TextStops.{done_or_memory, long_stops, none_stops}
 use Rattle.bag_rules.proofs.KeptLemmas.{on_ok_both, on_ok_of}
 use Rattle.bag_rules.proofs.TreeLemmas.{named_here}
+use Rattle.bag_rules.proofs.TreeUses.{not_tree, uses_kept}
 use Rattle.bag_rules.proofs.tag_files.read_text.Goals as goal
 
 pub returns-in_err-total-clause-limits : goal.returns-in_err-total-clause-limits
@@ -53,8 +54,11 @@ returns-clause-limits g c = λ path octets at.
     done_or_memory c.add_text.result (TextStops path octets) c.add_text.ensures.err
     (none_stops file path octets named known.2 (λ counted many. (let k : true ≡ false = sym (is.too_many.1 (counted, many)) ∙ c.if-found.false in cc)))
 
-pub returns-clause-kept : goal.returns-clause-kept
-returns-clause-kept g c = λ are. on_ok_of c.add_text.result _ (c.in_ok-add.ensures.kept (g.T.Paths.shown c.args.tree.now) are (λ path octets at.
-    let known = c.in_ok-total.ensures.known c.args.version c.set.result path octets c.new-reader.ensures.taken at in
-    let is = c.finish-found.ensures c.args.version c.set.result octets known.1 known.0 in
-    (is.count, subst (λ s. AreDigests c.finish-found.result.digests s octets) c.set.ensures is.digests, known.2)))
+pub returns-clause-reads : goal.returns-clause-reads
+returns-clause-reads g c = record {
+  tree = uses_kept c.in_ok-total.ensures.tree (λ e. cc e) (not_tree c.add_text.result c.add_text.ensures.err);
+  kept = λ are. on_ok_of c.add_text.result _ (c.in_ok-add.ensures.kept (g.T.Paths.shown c.args.tree.now) are (λ path octets at.
+      let known = c.in_ok-total.ensures.known c.args.version c.set.result path octets c.new-reader.ensures.taken at in
+      let is = c.finish-found.ensures c.args.version c.set.result octets known.1 known.0 in
+      (is.count, subst (λ s. AreDigests c.finish-found.result.digests s octets) c.set.ensures is.digests, known.2)));
+}

@@ -54,8 +54,8 @@ loop-i-preserved g c =
           (before.limits bag is);
       kept = λ are.
           let here = subst (λ s. AreKept s c.loop-i.kept) (sym before.used.same) (before.kept are) in
-          subst (λ s. AreKept s c.read_text.new.kept) before.used.same (c.in_ok-read_text.ensures.kept here);
-      used = uses_kept (uses_on before.used (λ no. no) c.in_ok-read_text.ensures.tree) (λ e. cc e) (λ no. no);
+          subst (λ s. AreKept s c.read_text.new.kept) before.used.same (c.in_ok-read_text.ensures.reads.kept here);
+      used = uses_kept (uses_on before.used (λ no. no) c.in_ok-read_text.ensures.reads.tree) (λ e. cc e) (λ no. no);
       all = before.all;
       room = search rules;
     }
@@ -76,10 +76,13 @@ returns-clause-limits g c = λ bag is.
     let n : c.loop-i.i ≡ length bag.files = omega (arith, c.loop-i.invariant.all, same_count bag is) in
     subst (λ k. NoneStopsBefore k bag TextStops) n (c.loop-i.invariant.limits bag is)
 
-pub returns-in_err-read_text-clause-tree : goal.returns-in_err-read_text-clause-tree
-returns-in_err-read_text-clause-tree g c =
+pub returns-in_err-read_text-clause-reads : goal.returns-in_err-read_text-clause-reads
+returns-in_err-read_text-clause-reads g c =
     let p = err_from_is_err_and c.from_residual.result c.from_residual.ensures.1 in
-    rw (p.1, p.2) (uses_error (uses_on c.loop-i.invariant.used (λ no. no) c.in_err-read_text.ensures.tree))
+    rw (p.1, p.2) (record {
+      tree = uses_error (uses_on c.loop-i.invariant.used (λ no. no) c.in_err-read_text.ensures.reads.tree);
+      kept = λ are. tt;
+    })
 
-pub returns-clause-tree : goal.returns-clause-tree
-returns-clause-tree g c = uses_kept c.loop-i.invariant.used (λ no. no) (λ e. cc e)
+pub returns-clause-reads : goal.returns-clause-reads
+returns-clause-reads g c = record { tree = uses_kept c.loop-i.invariant.used (λ no. no) (λ e. cc e); kept = c.loop-i.invariant.kept }
