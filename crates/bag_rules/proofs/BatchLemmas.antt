@@ -1,5 +1,5 @@
 -- What is read of the files of a batch.
-use Rattle.std.proofs.Common.{◌≡◌, ◌∙◌, ◌+◌, ◌-◌, ◌≤◌, ◌<◌, ◌++◌, ◌∷◌, ◌||◌, [], ℕ, Bool, true, false, List, IfSome, OnOk, Option, Some, None, Result, Ok, Err, Vec, ap, arith, inl, get_or, length, refl, slice_get, subst, sym, take}
+use Rattle.std.proofs.Common.{◌≡◌, ◌∙◌, ◌+◌, ◌-◌, ◌≤◌, ◌<◌, ◌++◌, ◌∷◌, ◌||◌, [], ℕ, Bool, true, false, List, IfSome, OnOk, Option, Some, None, Result, Ok, Err, Vec, ap, arith, inl, get_or, length, length-append, refl, slice_get, subst, sym, take}
 use Rattle.std.specs.declared.alloc.Global.{Global}
 use Rattle.std.proofs.lemmas.Option.{slice_get_read}
 use Rattle.bag_digest.specs.declared.reading.Found.{Found}
@@ -67,6 +67,13 @@ adds_grows old new sums adds = record {
   messages = λ i message at. ap (λ (ms : Vec (Vec ℕ Global) Global). slice_get ms.items i) adds.messages ∙ at;
   set = λ alg h. ap (λ s. has s alg) adds.set ∙ h;
 }
+
+-- the place after it
+pub next_place : (old new : Batch) (reading : FileSums) (place : ℕ) → place ≡ old.first + length old.read.items → new.first ≡ old.first → new.read.items ≡ old.read.items ++ reading ∷ []
+    → place + 1 ≡ new.first + length new.read.items
+next_place old new reading place at first more =
+    let long : length new.read.items ≡ length old.read.items + 1 = ap length more ∙ length-append old.read.items (reading ∷ []) in
+    omega (arith, at, first, long)
 
 -- a file that isn't read
 pub readings_unread : (shown : Shown) (wants : Wants) (old new : Batch) → AreReadings shown wants old → AddsSums old new Unread

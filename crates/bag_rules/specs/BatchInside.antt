@@ -96,6 +96,11 @@ Covers batch place = (batch.first ≤ place) × (place < batch.first + length ba
 abbrev pub IsNext : Batch → ℕ → Type 0
 IsNext batch place = place ≡ batch.first + length batch.read.items
 
+-- What was read of the file at this place was added to a batch, and what it has of the files is still right.
+abbrev pub AddsNext : Shown → Wants → ℕ → Batch → Batch → Type 0
+AddsNext shown wants place old new = (new.first ≡ old.first) × IsNext new (place + 1)
+    × (AreReadings shown wants old → AreReadings shown wants new)
+
 -- one file more
 pub record AddsSums (old new : Batch) (sums : FileSums) : Type 0 where
   pub first : new.first ≡ old.first

@@ -2,7 +2,7 @@
 ghost use Rattle.std.specs.Prelude.{◌≡◌, ◌+◌, ◌<◌, ◌↔◌, ℕ, List, IfErr, IfOk, IsErrOf, IsTrue, MatchResult, OnOk, length};
 ghost use Rattle.bag_digest.specs.Hash.{AreDigestsOfEach};
 ghost use Rattle.bag_rules.specs.Bags.{Bag, IsBagOf};
-ghost use Rattle.bag_rules.specs.BatchInside.{AddsSums, AreAlgsOf, AreRead, AreReadings, CanRead, Covers, Holds, IsFoundOf, IsMessageFor, IsNext, IsSumsOf, IsWithin};
+ghost use Rattle.bag_rules.specs.BatchInside.{AddsNext, AddsSums, AreAlgsOf, AreRead, CanRead, Covers, Holds, IsFoundOf, IsMessageFor, IsNext, IsSumsOf, IsWithin};
 ghost use Rattle.bag_rules.specs.FilesInside.{IsLongRead};
 ghost use Rattle.bag_rules.specs.Limits.{FirstStops, IsLongFile, NoneStopsBefore, Stopped};
 ghost use Rattle.bag_rules.specs.Trees.{HasFileAt, Shown, UsesTree, paths_in};
@@ -191,10 +191,8 @@ fn read_next<T: Tree>(
 ) -> Result<(), CheckFault>
     requires can_read { CanRead (T.shown tree.old) place buffer.old kept.now }
     requires next { IsNext batch.old place }
-    ensures next { OnOk result
-        ((batch.new.first ≡ batch.old.first) × IsNext batch.new (place + 1)) }
-    ensures read { AreReadings (T.shown tree.old) wants.now batch.old
-        → OnOk result (AreReadings (T.shown tree.old) wants.now batch.new) }
+    ensures added { OnOk result
+        (AddsNext (T.shown tree.old) wants.now place batch.old batch.new) }
     ensures limits { (path octets : List ℕ) → HasFileAt (T.shown tree.old) place path octets
         → MatchResult result
         (λ done. (fault : CheckFault) → ¬ IsLongRead wants.now.manifests.now path octets fault)

@@ -27,12 +27,12 @@ returns-then-place-count-clause-read g c =
     let batch = c.read_next.new.batch in
     let after = c.in_ok-read_next.ensures in
     let readings : AreReadings (shown c.args.tree.now) c.args.wants.now batch =
-    subst (λ s. AreReadings s c.args.wants.now batch) before.used.same (after.read (subst (λ s. AreReadings s c.args.wants.now c.files.batch) (sym before.used.same) before.readings)) in (
+    subst (λ s. AreReadings s c.args.wants.now batch) before.used.same (after.added.2 (subst (λ s. AreReadings s c.args.wants.now c.files.batch) (sym before.used.same) before.readings)) in (
       record {
         readings = readings_same (shown c.args.tree.now) c.args.wants.now batch _ refl refl refl refl readings;
         digests = subst (λ ms. AreDigestsOfEach batch.set ms c.in_ok-batch.field-0.items) c.as_slice.ensures.value c.in_ok-batch.ensures;
       },
-      (omega (arith, after.next.0, before.first), omega (arith, after.next.0, after.next.1, before.first, before.next)),
+      (omega (arith, after.added.0, before.first), omega (arith, after.added.0, after.added.1, before.first, before.next)),
     )
 
 pub files-preserved : goal.files-preserved
@@ -40,9 +40,9 @@ files-preserved g c =
     let shown = g.T.Paths.shown in
     let before = c.files.invariant in
     let after = c.in_ok-read_next.ensures in record {
-      first = after.next.0 ∙ before.first;
-      next = after.next.1;
-      readings = subst (λ s. AreReadings s c.args.wants.now c.read_next.new.batch) before.used.same (after.read (subst (λ s. AreReadings s c.args.wants.now c.files.batch) (sym before.used.same) before.readings));
+      first = after.added.0 ∙ before.first;
+      next = after.added.1;
+      readings = subst (λ s. AreReadings s c.args.wants.now c.read_next.new.batch) before.used.same (after.added.2 (subst (λ s. AreReadings s c.args.wants.now c.files.batch) (sym before.used.same) before.readings));
       count = before.count;
       inside = omega (arith, before.inside, before.count, c.if-place-count.false);
       none = λ bag is none.
