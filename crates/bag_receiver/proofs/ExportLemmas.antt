@@ -16,7 +16,7 @@ use Rattle.bag_writer.specs.PayloadSteps.{Writes, WritesFront}
 use Rattle.bag_writer.specs.Sinks.{IsFree, Stored}
 use Rattle.bag_writer.specs.Steps.{ArePart, AreWhole}
 use Rattle.bag_writer.specs.TagWriting.{AreFree}
-use Rattle.bag_receiver.specs.ExportsInside.{HasItems}
+use Rattle.bag_receiver.specs.ExportsInside.{HasItems, WritesAsMany}
 use Rattle.bag_receiver.specs.Holdings.{HasItem}
 use Rattle.bag_receiver.proofs.AuditLemmas.{GavePiece, item_stays, take_next}
 use Rattle.bag_receiver.proofs.Words.{bytes_eq, Files, Ledger, length-append, length-map, lookup, option_map, Reads, slice_get-map}
@@ -30,17 +30,13 @@ front_longer octets more a b (n, written) =
     let all : octets ++ more ≡ front ++ (drop n octets ++ more) = ap (λ list. list ++ more) (sym (take-append-drop n octets)) ∙ append_assoc front (drop n octets) more in
     (length front, subst (λ list. Writes list a b) (sym (ap (take (length front)) all ∙ take-append_seam front (drop n octets ++ more))) written)
 
--- this many octets were written
-abbrev pub WroteSome : ℕ → Option Stored → Option Stored → Type 0
-WroteSome n before after = (octets : List ℕ) × (n ≡ length octets) × Writes octets before after
-
-pub wrote_more : (read n : ℕ) (buffer : List ℕ) (a b c : Option Stored) → n ≤ length buffer → WroteSome read a b → Writes (take n buffer) b c → WroteSome (read + n) a c
+pub wrote_more : (read n : ℕ) (buffer : List ℕ) (a b c : Option Stored) → n ≤ length buffer → WritesAsMany read a b → Writes (take n buffer) b c → WritesAsMany (read + n) a c
 wrote_more read n buffer a b c within (octets, count, written) more =
     let both = length-append octets (take n buffer) in
     let piece = length-take-le n buffer within in
     (octets ++ take n buffer, omega (arith, count, both, piece), writes_on octets (take n buffer) a b c written more)
 
-pub wrote_all : (n read : ℕ) (a b : Option Stored) → read ≡ n → WroteSome read a b → WroteSome n a b
+pub wrote_all : (n read : ℕ) (a b : Option Stored) → read ≡ n → WritesAsMany read a b → WritesAsMany n a b
 wrote_all n read a b all (octets, count, written) = (octets, sym all ∙ count, written)
 
 module _ {K : Type 0} (holds : K → Ledger → Type 0) (clean : K → Type 0) where

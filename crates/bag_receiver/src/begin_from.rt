@@ -1,5 +1,5 @@
 //! Opening a transfer with the tag files of a tree.
-ghost use Rattle.std.specs.Prelude.{◌≡◌, ◌<◌, IfErr, IfOk, IsErrOf, MatchResult, length};
+ghost use Rattle.std.specs.Prelude.{◌≡◌, ◌<◌, IsErrOf, MatchResult, length};
 ghost use Rattle.bag_rules.specs.Files.{AreTagFiles};
 ghost use Rattle.bag_rules.specs.Trees.{UsesTree, octets_in, paths_in};
 ghost use Rattle.bag_receiver.specs.BeginningFrom.{AreTagFilesIn, BeginsFrom, IsBeginning, IsKnownAs, IsMetReading};
@@ -110,8 +110,9 @@ fn read_tag_file<T: Tree>(
 ) -> Result<Vec<u8>, BeginFault>
     requires room { 0 < length buffer.old }
     requires inside { i < length (paths_in (T.shown tree.old)) }
-    ensures octets { IfOk result (λ body. IsKnownAs (octets_in (T.shown tree.old) i) body.items) }
-    ensures fault { IfErr result (IsMetAt (T.shown tree.old) i) }
+    ensures read { MatchResult result
+        (λ body. IsKnownAs (octets_in (T.shown tree.old) i) body.items)
+        (IsMetAt (T.shown tree.old) i) }
     ensures uses { UsesTree T.shown T.failures T.sure tree.old tree.new
         (IsErrOf result BeginFault.Tree) }
     ensures kept { length buffer.new ≡ length buffer.old }

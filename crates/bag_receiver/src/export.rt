@@ -1,5 +1,5 @@
 //! Exports: write the bag of a transfer, as it is held, to a sink.
-ghost use Rattle.std.specs.Prelude.{◌≡◌, ◌<◌, ◌∷◌, ◌++◌, [], ℕ, List, IfErr, IsErr, IsErrOf, MatchResult, OnOk, false, length};
+ghost use Rattle.std.specs.Prelude.{◌≡◌, ◌<◌, ◌∷◌, ◌++◌, [], ℕ, List, IfErr, IsErr, IsErrOf, MatchResult, false, length};
 ghost use Rattle.bag_digest.specs.Device.{CountsIf};
 ghost use Rattle.bag_rules.specs.Files.{Files};
 ghost use Rattle.bag_rules.specs.Plans.{sizes_of};
@@ -10,7 +10,7 @@ ghost use Rattle.bag_writer.specs.Steps.{ArePart, AreWhole};
 ghost use Rattle.bag_writer.specs.TagWriting.{AreFree};
 ghost use Rattle.bag_writer.specs.PayloadSteps.{Writes, WritesFront};
 ghost use Rattle.bag_receiver.specs.Exports.{Exports};
-ghost use Rattle.bag_receiver.specs.ExportsInside.{HasItems, IsMetWriting, IsPartOf, from_opened};
+ghost use Rattle.bag_receiver.specs.ExportsInside.{HasItems, IsMetWriting, IsPartOf, WritesAsMany, from_opened};
 ghost use Rattle.bag_receiver.specs.Holdings.{HasItem, ReadsKeeper};
 ghost use Rattle.bag_receiver.specs.Names.{IsTransferName};
 ghost use Rattle.bag_receiver.specs.Receivers.{Does, IsInState};
@@ -241,13 +241,12 @@ fn write_content<K: Keeper, S: Sink>(
         (λ _. Writes content (S.stored sink.old) (S.stored sink.new))
         (λ _. WritesFront content (S.stored sink.old) (S.stored sink.new)) }
     // Whatever the store gives, as many octets are written as it said.
-    ensures whole { OnOk result ((octets : List ℕ) × (item.now.octets ≡ length octets)
-        × Writes octets (S.stored sink.old) (S.stored sink.new)) }
+    ensures ended { MatchResult result
+        (λ _. WritesAsMany item.now.octets (S.stored sink.old) (S.stored sink.new)) IsMetWriting }
     ensures keeper { ReadsKeeper K.holds K.may_leave K.clean K.failures keeper.old keeper.new
         (λ fault. IsErrOf result (NotKept (Store fault))) }
     ensures sink { UsesOpenSink S.is_open S.failures S.sure sink.old sink.new
         (IsErrOf result SinkFailed) }
-    ensures err { IfErr result IsMetWriting }
 {
     let mut read = 0u64;
     while read < item.octets {

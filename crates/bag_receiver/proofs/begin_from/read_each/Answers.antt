@@ -33,7 +33,7 @@ loop-i-preserved g c =
     let at : slice_get (paths_in shown) i ≡ Some path = again ∙ ap Some (sym c.as_str.ensures.text) in
     let named : c.path.result.now ≡ path = (let e : Some c.path.result.now ≡ Some path = sym was ∙ at in cc) in
     let tag_file : is_payload path ≡ false = ap is_payload (sym named) ∙ sym c.is_payload.ensures ∙ c.if-is_payload.false in
-    let known : IsKnownAs (octets_in shown i) body = subst (λ (s : Shown). IsKnownAs (octets_in s i) body) before c.in_ok-body.ensures.octets in
+    let known : IsKnownAs (octets_in shown i) body = subst (λ (s : Shown). IsKnownAs (octets_in s i) body) before c.in_ok-body.ensures.read in
     let one : List ℕ × List ℕ = (path, body) in
     let are : AreGiven (tag_files (take (i + 1) shown.files)) (tags ++ one ∷ []) = taken shown i path tags one at tag_file c.loop-i.invariant.3 refl known in
     let last : with_file tags path body ≡ tags ++ one ∷ [] = put_last shown i path body tags c.count-i-end.ensures.rising at c.loop-i.invariant.3 in

@@ -43,7 +43,7 @@ loop-read-preserved g c =
       some = wrote_more c.loop-read.read c.in_ok-n.n c.next_piece.new.buffer _ _ _ c.in_ok-n.ensures.bound.1 inv.some c.in_ok-write.ensures.written;
     }
 
-pub returns-clause-whole : goal.returns-clause-whole
-returns-clause-whole g c =
+pub returns-clause-ended : goal.returns-clause-ended
+returns-clause-ended g c =
     let inv = c.loop-read.invariant in
     wrote_all c.args.item.now.octets c.loop-read.read _ _ (omega (arith, inv.within, c.loop-read-test.false)) inv.some

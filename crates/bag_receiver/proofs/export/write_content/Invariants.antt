@@ -1,6 +1,7 @@
 use Rattle.std.proofs.Common.{◌≡◌, ◌-◌, ◌≤◌}
 use Rattle.bag_writer.specs.Sinks.{UsesSink}
-use Rattle.bag_receiver.proofs.ExportLemmas.{HasWritten, WroteSome}
+use Rattle.bag_receiver.specs.ExportsInside.{WritesAsMany}
+use Rattle.bag_receiver.proofs.ExportLemmas.{HasWritten}
 use Rattle.bag_receiver.proofs.Words.{Reads}
 use Rattle.bag_receiver.proofs.export.write_content.Given as goal
 
@@ -15,7 +16,7 @@ invariant-loop-read g l =
       written : HasWritten keeper.holds keeper.clean l.fn.keeper l.keeper l.name l.item.path l.item.octets l.read (sink.stored l.fn.sink) (sink.stored l.sink);
       opened : sink.is_open l.sink ≡ sink.is_open l.fn.sink;
       used : UsesSink sink.failures sink.sure l.fn.sink l.sink (Unit {0}) ⊥;
-      some : WroteSome l.read (sink.stored l.fn.sink) (sink.stored l.sink);
+      some : WritesAsMany l.read (sink.stored l.fn.sink) (sink.stored l.sink);
     }
 
 abbrev pub decreases-loop-read : goal.decreases-loop-read
