@@ -8,7 +8,7 @@ use Rattle.bag_digest.specs.Hash.{AreDigests}
 use Rattle.bag_digest.specs.declared.algorithm.AlgSet.{AlgSet}
 use Rattle.bag_path.specs.Paths.{is_payload}
 use Rattle.bag_rules.specs.Bags.{paths_of}
-use Rattle.bag_rules.specs.Trees.{AreRising, Shown, paths_in}
+use Rattle.bag_rules.specs.Trees.{AreRising, Shown, UsesTree, paths_in}
 use Rattle.bag_rules.specs.declared.limits.TheConstants.{LARGEST_FILE, MOST_LINES}
 use Rattle.bag_rules.specs.Files.{Files}
 use Rattle.bag_writer.specs.Sinks.{Stored, with_begun, with_ended, with_octets, without_begun}
@@ -19,6 +19,12 @@ use Rattle.bag_writer.specs.declared.fault.WriteFault.TheVariants.{TooLarge}
 use Rattle.bag_writer.specs.declared.item.Item.{Item}
 use Rattle.bag_writer.specs.declared.spec.Hole.{Hole}
 use Rattle.bag_writer.specs.declared.spec.Spec.{Spec}
+
+-- What reading its payload does to a tree. One without payload files isn't touched.
+pub record ReadsPayload {T : Type 0} (shown : T → Shown) (failures : T → ℕ) (sure : T → Type 0)
+    (old new : T) (failed : Type 0) : Type 0 where
+  pub uses : UsesTree shown failures sure old new failed
+  pub unread : payload_paths (shown old) ≡ [] → new ≡ old
 
 -- WHAT IS WRITTEN
 

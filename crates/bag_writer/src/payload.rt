@@ -6,8 +6,8 @@ ghost use Rattle.bag_rules.specs.Trees.{UsesTree, paths_in};
 ghost use Rattle.bag_rules.specs.declared.limits.TheConstants.{LARGEST_FILE};
 ghost use Rattle.bag_writer.specs.Sinks.{ClosesSink, IsFree, UsesClosedSink, UsesOpenSink};
 ghost use Rattle.bag_writer.specs.PayloadSteps.{HasFrontFrom, IsCutShort, IsReadAs, IsReadUntil, IsReadWhole, IsTaken, Writes, WritesFront, unless_hole};
-ghost use Rattle.bag_writer.specs.Steps.{AreHoleMarks, AreItemsOf, ArePart, AreWhole, HasNoFile, NamesLong, written_payload};
-ghost use Rattle.bag_writer.specs.Writing.{HasLongFile, IsMetLater, IsReadFrom, payload_paths};
+ghost use Rattle.bag_writer.specs.Steps.{AreHoleMarks, AreItemsOf, ArePart, AreWhole, HasNoFile, NamesLong, ReadsPayload, written_payload};
+ghost use Rattle.bag_writer.specs.Writing.{HasLongFile, IsMetLater, IsReadFrom};
 ghost use Rattle.bag_writer.specs.declared.fault.Large.{Large};
 ghost use Rattle.bag_writer.specs.declared.fault.WriteFault.{WriteFault};
 ghost use Rattle.bag_writer.specs.declared.payload.CopyFault.{CopyFault};
@@ -51,8 +51,8 @@ pub(crate) fn write_payload<T: Tree, S: Sink>(
     marks: &[bool],
     sink: &mut S,
 ) -> Result<Vec<Item>, WriteFault>
-    requires room { 0 < length buffer.old }
-    requires marks { AreHoleMarks (paths_in (T.shown tree.old)) spec.now marks.now }
+    requires ready { (0 < length buffer.old)
+        × AreHoleMarks (paths_in (T.shown tree.old)) spec.now marks.now }
     // This was written of some payload, which is that of the tree's bag if that is known.
     ensures written { (payload : Files) × IsReadFrom (T.shown tree.old) payload
         × MatchResult result (λ items. AreItemsOf spec.now.algs items.items payload
@@ -61,9 +61,7 @@ pub(crate) fn write_payload<T: Tree, S: Sink>(
         (λ fault. NamesLong Large.File payload LARGEST_FILE fault
         × ArePart (written_payload spec.now payload) (S.stored sink.old) (S.stored sink.new)) }
     ensures err { IfErr result IsMetLater }
-    // Other files are not read.
-    ensures unread { payload_paths (T.shown tree.old) ≡ [] → tree.new ≡ tree.old }
-    ensures tree { UsesTree T.shown T.failures T.sure tree.old tree.new
+    ensures tree { ReadsPayload T.shown T.failures T.sure tree.old tree.new
         (IsErrOf result WriteFault.Tree) }
     ensures sink { UsesClosedSink S.is_open S.failures S.sure sink.old sink.new
         ((S.is_open sink.old ≡ false) × HasNoFile (S.stored sink.old))
@@ -93,8 +91,7 @@ fn write_file<T: Tree, S: Sink>(
     set: AlgSet,
     sink: &mut S,
 ) -> Result<(BagPath, Found), WriteFault>
-    requires room { 0 < length buffer.old }
-    requires inside { i < length (paths_in (T.shown tree.old)) }
+    requires ready { (0 < length buffer.old) × (i < length (paths_in (T.shown tree.old))) }
     ensures taken { (shown : List ℕ × Option (List ℕ))
         → slice_get (T.shown tree.old).files i ≡ Some shown
         → (file : List ℕ × List ℕ) × IsReadAs shown file × MatchResult result

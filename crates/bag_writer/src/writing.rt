@@ -3,7 +3,7 @@ ghost use Rattle.std.specs.Prelude.{◌≡◌, [], IfErr, IsErrOf, MatchResult, 
 ghost use Rattle.bag_rules.specs.Files.{Files};
 ghost use Rattle.bag_rules.specs.Trees.{AreRising, UsesTree, paths_in};
 ghost use Rattle.bag_writer.specs.Sinks.{IsEmptySink, UsesClosedSink};
-ghost use Rattle.bag_writer.specs.Steps.{IsAcceptedWith};
+ghost use Rattle.bag_writer.specs.Steps.{IsAcceptedWith, ReadsPayload};
 ghost use Rattle.bag_writer.specs.Writing.{IsAccepted, IsDone, IsMetLater, IsOfDevice, IsRefusedUnwritten, Refuses, payload_paths};
 ghost use Rattle.bag_writer.specs.declared.fault.WriteFault.{WriteFault};
 
@@ -80,9 +80,7 @@ fn write_accepted<T: Tree, S: Sink>(
     ensures done { (payload : Files) × IsDone (T.shown tree.old) spec.now result
         (S.stored sink.old) (S.stored sink.new) payload }
     ensures err { IfErr result IsMetLater }
-    // Files that are no payload are not read.
-    ensures unread { payload_paths (T.shown tree.old) ≡ [] → tree.new ≡ tree.old }
-    ensures tree { UsesTree T.shown T.failures T.sure tree.old tree.new
+    ensures tree { ReadsPayload T.shown T.failures T.sure tree.old tree.new
         (IsErrOf result WriteFault.Tree) }
     ensures sink { UsesClosedSink S.is_open S.failures S.sure sink.old sink.new
         ((S.is_open sink.old ≡ false) × IsEmptySink (S.stored sink.old))

@@ -33,7 +33,7 @@ returns-in_err-path-clause-written g c =
     let place = shown_at tree (g.T.Paths.shown c.loop-i.tree) inv.read.same c.loop-i.i c.path.result.now c.path.ensures in
     let told : c.is_payload.result ≡ true = search rules in
     let is : is_payload place.0.0 ≡ true = ap is_payload place.1.1 ∙ sym c.is_payload.ensures ∙ told in
-    let marked = marked_at c.args.spec.now tree c.args.marks.now c.loop-i.i place.0 c.requires.marks place.1.0 in
+    let marked = marked_at c.args.spec.now tree c.args.marks.now c.loop-i.i place.0 c.requires.ready.1 place.1.0 in
     let taken = c.in_err-path.ensures.taken place.0 (ap (λ (s : Shown). slice_get s.files c.loop-i.i) inv.read.same ∙ place.1.0) in
     rw (p.1, p.2) (stopped_in c.args.spec.now tree c.loop-i.i _ _ c.loop-i.items inv.written.0 inv.written.1 place.0 place.1.0 _ taken.0 is marked taken.1 _ c.in_err-path.field-0.0 taken.2)
 
@@ -61,7 +61,7 @@ returns-in_err-items-clause-written g c =
     let place = shown_at tree (g.T.Paths.shown c.loop-i.tree) inv.read.same c.loop-i.i c.path.result.now c.path.ensures in
     let told : c.is_payload.result ≡ true = search rules in
     let is : is_payload place.0.0 ≡ true = ap is_payload place.1.1 ∙ sym c.is_payload.ensures ∙ told in
-    let marked = marked_at c.args.spec.now tree c.args.marks.now c.loop-i.i place.0 c.requires.marks place.1.0 in
+    let marked = marked_at c.args.spec.now tree c.args.marks.now c.loop-i.i place.0 c.requires.ready.1 place.1.0 in
     let taken = c.in_ok-path.ensures.taken place.0 (ap (λ (s : Shown). slice_get s.files c.loop-i.i) inv.read.same ∙ place.1.0) in
     let refused : c.in_err-items.field-0.0 ≡ Memory = c.in_err-items.ensures.err in
     rw (p.1, p.2, refused) (stopped_in c.args.spec.now tree c.loop-i.i _ _ c.loop-i.items inv.written.0 inv.written.1 place.0 place.1.0 _ taken.0 is marked taken.1 _ Memory (cut_after _ _ _ _ _ _ _ Memory taken.2 (λ large e. cc)))
@@ -73,7 +73,7 @@ loop-i-preserved g c =
     let place = shown_at tree (g.T.Paths.shown c.loop-i.tree) inv.read.same c.loop-i.i c.path.result.now c.path.ensures in
     let told : c.is_payload.result ≡ true = search rules in
     let is : is_payload place.0.0 ≡ true = ap is_payload place.1.1 ∙ sym c.is_payload.ensures ∙ told in
-    let marked = marked_at c.args.spec.now tree c.args.marks.now c.loop-i.i place.0 c.requires.marks place.1.0 in
+    let marked = marked_at c.args.spec.now tree c.args.marks.now c.loop-i.i place.0 c.requires.ready.1 place.1.0 in
     let taken = c.in_ok-path.ensures.taken place.0 (ap (λ (s : Shown). slice_get s.files c.loop-i.i) inv.read.same ∙ place.1.0) in
     let more = one_more c.args.spec.now tree c.loop-i.i _ _ c.loop-i.items inv.written.0 inv.written.1 place.0 place.1.0 _ taken.0 is marked taken.1 _ _ c.in_ok-path.path c.in_ok-path.found c.in_ok-items.items taken.2 (c.in_ok-items.ensures.added c.args.spec.now.algs taken.0.1 taken.2.found_is) in
     record {
@@ -99,20 +99,20 @@ add-requires g c =
     let taken = c.in_ok-path.ensures.taken place.0 (ap (λ (s : Shown). slice_get s.files c.loop-i.i) inv.read.same ∙ place.1.0) in
     within_of c.args.spec.now.algs _ c.in_ok-path.found taken.0.1 taken.2.found_is
 
-pub returns-in_err-path-clause-unread : goal.returns-in_err-path-clause-unread
-returns-in_err-path-clause-unread g c = λ none.
+pub returns-in_err-path-clause-tree : goal.returns-in_err-path-clause-tree
+returns-in_err-path-clause-tree g c =
     let inv = c.loop-i.invariant in
     let tree = g.T.Paths.shown c.args.tree.now in
     let place = shown_at tree (g.T.Paths.shown c.loop-i.tree) inv.read.same c.loop-i.i c.path.result.now c.path.ensures in
     let told : c.is_payload.result ≡ true = search rules in
     let is : is_payload place.0.0 ≡ true = ap is_payload place.1.1 ∙ sym c.is_payload.ensures ∙ told in
-    absurd (none_at tree.files c.loop-i.i place.0 place.1.0 is none)
+    record { uses = search rules; unread = λ none. absurd (none_at tree.files c.loop-i.i place.0 place.1.0 is none) }
 
-pub returns-in_err-items-clause-unread : goal.returns-in_err-items-clause-unread
-returns-in_err-items-clause-unread g c = λ none.
+pub returns-in_err-items-clause-tree : goal.returns-in_err-items-clause-tree
+returns-in_err-items-clause-tree g c =
     let inv = c.loop-i.invariant in
     let tree = g.T.Paths.shown c.args.tree.now in
     let place = shown_at tree (g.T.Paths.shown c.loop-i.tree) inv.read.same c.loop-i.i c.path.result.now c.path.ensures in
     let told : c.is_payload.result ≡ true = search rules in
     let is : is_payload place.0.0 ≡ true = ap is_payload place.1.1 ∙ sym c.is_payload.ensures ∙ told in
-    absurd (none_at tree.files c.loop-i.i place.0 place.1.0 is none)
+    record { uses = search rules; unread = λ none. absurd (none_at tree.files c.loop-i.i place.0 place.1.0 is none) }
