@@ -60,6 +60,12 @@ pub record IsMigrated (ledger : Ledger) (s : State) : Type 0 where
   pub way : IsUnderWay Migrated s
   pub tables : AreTablesOf (Second Migrated) s.now.trees ledger
 
+-- it was open; and if it showed a ledger of format 1, it is open and shows the ledger in format 2
+pub record ShowsMoved (old new : State) : Type 0 where
+  pub was_open : IsTrue old.is_open
+  pub moved : (ledger : Ledger) → ShowsLedger First old ledger
+      → IsTrue new.is_open × ShowsLedger (Second Migrated) new ledger
+
 -- it was open, and has committed the ledger in format 2
 abbrev pub MovesLedger : State → Trees → Type 0
 MovesLedger s trees = IsTrue s.is_open × ((ledger : Ledger) → ShowsLedger First s ledger

@@ -5,11 +5,10 @@ ghost use Rattle.bag_ledger.specs.Ledgers.{Ledger};
 ghost use Rattle.bag_sqlite.specs.Contents.{HasContentMore, in_pieces};
 ghost use Rattle.bag_sqlite.specs.Databases.{AreCut, NamesFormat};
 ghost use Rattle.bag_sqlite.specs.Making.{IsLeft};
-ghost use Rattle.bag_sqlite.specs.Migrating.{Empties, HasBody, IsInBoth, IsMigrated, IsToMove, MovesLedger, SetsFormat};
+ghost use Rattle.bag_sqlite.specs.Migrating.{Empties, HasBody, IsInBoth, IsMigrated, IsToMove, MovesLedger, SetsFormat, ShowsMoved};
 ghost use Rattle.bag_sqlite.specs.Putting.{AddsPieces, IsUnderWay};
 ghost use Rattle.bag_sqlite.specs.Refusing.{IsBlob};
-ghost use Rattle.bag_sqlite.specs.SqlKeepers.{ShowsLedger};
-ghost use Rattle.bag_sqlite.specs.Tables.{First, Migrated, Origin, Second, item_tree};
+ghost use Rattle.bag_sqlite.specs.Tables.{Migrated, Origin, item_tree};
 ghost use Rattle.bag_sqlite.specs.Transactions.{CommitsNothing, CommitsNothingWithin};
 ghost use Rattle.sqlite.specs.Held.{state};
 ghost use Rattle.sqlite.specs.Order.{column};
@@ -27,12 +26,8 @@ use sqlite::{Alter, Connection, Error, ErrorCode, Row, Transaction, params};
 /// stays, and is empty.
 pub(crate) fn migrate<S: Alter>(connection: &mut Connection<S>) -> Result<(), Error>
     requires idle { connection.old.in_transaction ≡ false }
-    ensures moved { HasCleanDisk (state S.Store connection.new) → OnOk result ((ledger : Ledger)
-        → ShowsLedger First (state S.Store connection.old) ledger
-        → IsTrue (state S.Store connection.new).is_open
-        × ShowsLedger (Second Migrated) (state S.Store connection.new) ledger) }
-    ensures opened { HasCleanDisk (state S.Store connection.new)
-        → OnOk result (IsTrue (state S.Store connection.old).is_open) }
+    ensures moved { HasCleanDisk (state S.Store connection.new)
+        → OnOk result (ShowsMoved (state S.Store connection.old) (state S.Store connection.new)) }
     ensures idle { connection.new.in_transaction ≡ false }
     ensures unchanged { HasCleanDisk (state S.Store connection.new)
         → OnErr result (IsLeft (state S.Store connection.old) (state S.Store connection.new)) }

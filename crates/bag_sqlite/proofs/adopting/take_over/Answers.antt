@@ -32,7 +32,7 @@ returns-in-Ok-clause-adopted g c =
     record {
       verified = λ clean. (_, it.verified (before clean));
       holds = λ clean ledger holds. held_first g.S.Store old new ledger (it.opened (before clean)) (named (before clean)) holds;
-      keeps = λ clean ledger offers. kept_first g.S.Store old mid new idle ledger settled clean (it.left (before clean)) (c.in-Ok.ensures.opened clean) (named (before clean)) (c.in-Ok.ensures.moved clean) offers;
+      keeps = λ clean ledger offers. kept_first g.S.Store old mid new idle ledger settled clean (it.left (before clean)) (c.in-Ok.ensures.moved clean).was_open (named (before clean)) (c.in-Ok.ensures.moved clean).moved offers;
       survives = survives_moving g.S.Store old mid new idle (λ early. (named early, it.left early)) it.survives c.migrate.ensures.survives;
     }
 

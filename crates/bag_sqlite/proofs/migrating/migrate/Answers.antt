@@ -1,5 +1,6 @@
 use Rattle.std.proofs.Common.{◌≡◌, OnOk, IsTrue, refl, sym, subst, rules, arith}
 use Rattle.bag_sqlite.proofs.Words.{First, HasCleanDisk, IsDatabaseOf, IsMigrated, KeepsCommit, Ledger, Migrated, MovesLedger, Second, ShowsLedger, state, Survives, survives_begin, survives_then, Trees}
+use Rattle.bag_sqlite.specs.Migrating.{ShowsMoved}
 use Rattle.bag_sqlite.proofs.MakingLemmas.{kept_since}
 use Rattle.bag_sqlite.proofs.MigratingLemmas.{begin_migrating, migrated_database, migrated_shows, rows_before, to_move}
 use Rattle.bag_sqlite.proofs.SqlLemmas.{kept_then, on_ok}
@@ -48,8 +49,11 @@ returns-clause-moved g c clean =
     let same : end ≡ c.connection-2-1.given.0 = search rules in
     let late : HasCleanDisk (state g.S.Store end) = search rules in
     let third : HasCleanDisk mid = omega (arith, c.commit.ensures.survives.clean) in
-    subst (λ h. OnOk c.commit.result ((ledger : Ledger) → ShowsLedger First old ledger → IsTrue (state g.S.Store h).is_open × ShowsLedger (Second Migrated) (state g.S.Store h) ledger)) same
-    (on_ok c.commit.result (λ done ledger shows. migrated_shows mid (state g.S.Store end) ledger shows.database.sound (migrated g c third ledger shows) done.1) (c.commit.ensures.ok late))
+    subst (λ h. OnOk c.commit.result (ShowsMoved old (state g.S.Store h))) same
+    (on_ok c.commit.result (λ done. record {
+      was_open = open_at_end g c third;
+      moved = λ ledger shows. migrated_shows mid (state g.S.Store end) ledger shows.database.sound (migrated g c third ledger shows) done.1;
+    }) (c.commit.ensures.ok late))
 
 pub returns-clause-survives : goal.returns-clause-survives
 returns-clause-survives g c =
