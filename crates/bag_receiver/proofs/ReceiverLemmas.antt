@@ -9,7 +9,7 @@ use Rattle.bag_ledger.proofs.StoredLemmas.{by_name}
 use Rattle.bag_receiver.proofs.FileLemmas.{same_or_not}
 use Rattle.bag_receiver.proofs.ReceivingLemmas.{receives}
 use Rattle.bag_receiver.proofs.PlaceLemmas.{adds, awaits, content_read, known_refused, read_brought, read_judged, read_refused}
-use Rattle.bag_receiver.proofs.Words.{Adds, Answer, ArePlansIn, Brought, BTreeMap, bytes_eq, Content, deliver_fault, DeliverFault, Delivery, delivery_of, DeliveryStep, Does, entry_here, entry_others, Files, Given, given_by, Global, holding, insert_entry, insert_shown, is_eq-slice_cmp, is_some, IsInState, IsPath, IsPlaceIn, IsPlanOf, item_here, item_others, Judges, Keeper, known, LARGEST_ITEM, Ledger, LedgerState, lookup, nat_cmp, option_map, Place, Plan, plans_in, PutFault, Reads, Receiver, Receives, Refused, RefusesAny, RefusesGiven, Same, settled, slice_cmp, String, string_bytes, tags_of, Taken, Transfer, transfer_of, Whole, with_doubtful_ledger, with_item}
+use Rattle.bag_receiver.proofs.Words.{Adds, Answer, ArePlansIn, Brought, BTreeMap, bytes_eq, Content, deliver_fault, DeliverFault, Delivery, delivery_of, DeliveryStep, Does, entry_here, entry_others, Files, Given, given_by, Global, holding, insert_entry, insert_shown, is_eq-slice_cmp, is_some, IsInState, IsPath, IsPlaceIn, IsPlanned, IsPlanOf, item_here, item_others, Judges, Keeper, known, LARGEST_ITEM, Ledger, LedgerState, lookup, nat_cmp, option_map, Place, Plan, plans_in, PutFault, Reads, Receiver, Receives, Refused, RefusesAny, RefusesGiven, Same, settled, slice_cmp, String, string_bytes, tags_of, Taken, Transfer, transfer_of, Whole, with_doubtful_ledger, with_item}
 
 abbrev pub Plans : Type 0
 Plans = BTreeMap (String Global) Plan
@@ -24,6 +24,13 @@ pub plan_at : (name : List ℕ) (plans : Plans) → lookup (bytes_eq name) (plan
 plan_at name plans =
     lookup_shown string_bytes (λ (plan : Plan). plan) (is_at (by_name name)) name (λ k. is_eq-slice_cmp name (string_bytes k)) plans.entries
     ∙ same_option (get_by (by_name name) plans)
+
+-- a plan that is there is found
+pub found_there : (name : List ℕ) (ledger : Ledger) (plans : Plans) → IsPlanned name ledger (plans_in plans) true → get_by (by_name name) plans ≡ None → ⊥
+found_there name ledger plans planned none =
+    let plan = planned.1 in
+    let both : Some plan.0 ≡ None = sym plan.1 ∙ plan_at name plans ∙ none in
+    cc both
 
 pub plan_added : (old new : Plans) (key : String Global) (plan : Plan) (name : List ℕ) → new.entries ≡ insert_entry string_cmp old.entries key plan
     → string_bytes key ≡ name → plans_in new ≡ insert_entry (slice_cmp nat_cmp) (plans_in old) name plan

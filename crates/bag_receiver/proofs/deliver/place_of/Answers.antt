@@ -1,6 +1,6 @@
-use Rattle.std.proofs.Common.{◌≡◌, ◌∙◌, Some, None, sym, subst, rules}
+use Rattle.std.proofs.Common.{◌∙◌, sym, subst, rules}
 use Rattle.bag_receiver.proofs.PlaceLemmas.{held_by, not_listed, of_plan, place_found, text_refused}
-use Rattle.bag_receiver.proofs.ReceiverLemmas.{plan_at}
+use Rattle.bag_receiver.proofs.ReceiverLemmas.{found_there, plan_at}
 use Rattle.bag_receiver.proofs.Words.{err_from_is_err_and, IsExpected, IsWantOf}
 use Rattle.bag_receiver.proofs.deliver.place_of.Goals as goal
 
@@ -13,9 +13,7 @@ returns-in_err-path-clause-finds g c =
 
 pub returns-in_default-clause-finds : goal.returns-in_default-clause-finds
 returns-in_default-clause-finds g c = λ planned clean now in_state.
-    let plan = (planned now.held).1 in
-    let none : Some plan.0 ≡ None = sym plan.1 ∙ plan_at c.args.name.now c.args.plans.now ∙ sym c.get.ensures.value ∙ search rules in
-    cc
+    absurd (found_there c.args.name.now now.held c.args.plans.now (planned now.held) (sym c.get.ensures.value ∙ search rules))
 
 pub returns-in_default-want-clause-finds : goal.returns-in_default-want-clause-finds
 returns-in_default-want-clause-finds g c = λ planned clean now in_state.

@@ -1,4 +1,4 @@
-use Rattle.std.proofs.Common.{◌≡◌, ◌∙◌, true, List, Some, None, sym, subst, rules}
+use Rattle.std.proofs.Common.{◌≡◌, ◌∙◌, true, List, sym, subst, rules}
 use Rattle.bag_rules.specs.declared.plan.ItemSize.{ItemSize}
 use Rattle.bag_rules.specs.Plans.{item_paths}
 use Rattle.bag_receiver.specs.declared.report.ViewFault.TheVariants.{Keeper}
@@ -6,16 +6,15 @@ use Rattle.bag_receiver.specs.FetchingInside.{AreMarks}
 use Rattle.bag_receiver.proofs.CountLemmas.{counts_after, counts_as, no_fault}
 use Rattle.bag_receiver.proofs.FetchLemmas.{starts}
 use Rattle.bag_receiver.proofs.PlaceLemmas.{of_plan}
-use Rattle.bag_receiver.proofs.ReceiverLemmas.{does_after, does_read, plan_at, still}
+use Rattle.bag_receiver.proofs.ReceiverLemmas.{does_after, does_read, found_there, plan_at, still}
 use Rattle.bag_receiver.proofs.Words.{err_from_is_err_and, IsPlanned, plans_in, Same}
 use Rattle.bag_receiver.proofs.receiver.Receiver.requests.Goals as goal
 
 pub returns-in_default-clause-prepared : goal.returns-in_default-clause-prepared
 returns-in_default-clause-prepared g c = λ clean now in_state e.
     let is : c.in_ok-has_plan.field-0 ≡ true = search rules in
-    let plan = (subst (IsPlanned c.args.name.now now.held (plans_in c.has_plan.new.self.plans)) is (c.in_ok-has_plan.ensures.found clean now in_state)).1 in
-    let none : Some plan.0 ≡ None = sym plan.1 ∙ plan_at c.args.name.now c.has_plan.new.self.plans ∙ sym c.get.ensures.value ∙ search rules in
-    absurd cc
+    let planned = subst (IsPlanned c.args.name.now now.held (plans_in c.has_plan.new.self.plans)) is (c.in_ok-has_plan.ensures.found clean now in_state) in
+    absurd (found_there c.args.name.now now.held c.has_plan.new.self.plans planned (sym c.get.ensures.value ∙ search rules))
 
 pub returns-in_err-sizes-clause-store : goal.returns-in_err-sizes-clause-store
 returns-in_err-sizes-clause-store g c =

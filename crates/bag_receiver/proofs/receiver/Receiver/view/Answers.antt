@@ -1,8 +1,8 @@
-use Rattle.std.proofs.Common.{◌≡◌, ◌∙◌, true, Some, None, sym, subst, rules}
+use Rattle.std.proofs.Common.{◌≡◌, ◌∙◌, true, sym, subst, rules}
 use Rattle.bag_receiver.specs.declared.report.ViewFault.TheVariants.{Keeper}
 use Rattle.bag_receiver.proofs.AuditLemmas.{plan_for}
 use Rattle.bag_receiver.proofs.CountLemmas.{counts_after, counts_as, no_fault}
-use Rattle.bag_receiver.proofs.ReceiverLemmas.{does_after, does_read, plan_at, still}
+use Rattle.bag_receiver.proofs.ReceiverLemmas.{does_after, does_read, found_there, plan_at, still}
 use Rattle.bag_receiver.proofs.ReportLemmas.{told}
 use Rattle.bag_receiver.proofs.Words.{err_from_is_err_and, IsPlanned, plans_in, Same}
 use Rattle.bag_receiver.proofs.receiver.Receiver.view.Goals as goal
@@ -10,9 +10,8 @@ use Rattle.bag_receiver.proofs.receiver.Receiver.view.Goals as goal
 pub returns-in_default-clause-reported : goal.returns-in_default-clause-reported
 returns-in_default-clause-reported g c = λ clean now in_state e.
     let is : c.in_ok-has_plan.field-0 ≡ true = search rules in
-    let plan = (subst (IsPlanned c.args.name.now now.held (plans_in c.has_plan.new.self.plans)) is (c.in_ok-has_plan.ensures.found clean now in_state)).1 in
-    let none : Some plan.0 ≡ None = sym plan.1 ∙ plan_at c.args.name.now c.has_plan.new.self.plans ∙ sym c.get.ensures.value ∙ search rules in
-    absurd cc
+    let planned = subst (IsPlanned c.args.name.now now.held (plans_in c.has_plan.new.self.plans)) is (c.in_ok-has_plan.ensures.found clean now in_state) in
+    absurd (found_there c.args.name.now now.held c.has_plan.new.self.plans planned (sym c.get.ensures.value ∙ search rules))
 
 pub returns-in_err-sizes-clause-store : goal.returns-in_err-sizes-clause-store
 returns-in_err-sizes-clause-store g c =
