@@ -4,8 +4,8 @@ use Rattle.std.specs.Io.KnownBytes.{Consumes, IsAtEnd}
 use Rattle.bag_digest.specs.declared.algorithm.AlgSet.{AlgSet}
 use Rattle.bag_digest.specs.declared.multi.Digests.{Digests}
 use Rattle.bag_digest.specs.declared.multi.Multi.{Multi}
-use Rattle.bag_digest.specs.declared.reading.Found.{Found}
-use Rattle.bag_digest.specs.declared.reading.Found.TheVariants.{Whole, Hashed}
+use Rattle.bag_digest.specs.declared.reading.SourceRead.{SourceRead}
+use Rattle.bag_digest.specs.declared.reading.SourceRead.TheVariants.{Whole, Hashed}
 use Rattle.bag_digest.specs.declared.reading.SourceFault.{SourceFault}
 use Rattle.bag_digest.specs.declared.reading.SourceFault.TheVariants as source
 use Rattle.bag_digest.specs.declared.reading.ReadFault.{ReadFault}
@@ -49,7 +49,7 @@ HashesOn multi octets digests = (set : AlgSet) (before : List ℕ) → Holds mul
     → AreDigests digests set (before ++ octets)
 
 -- the source was read to its end: its octets are at the front of the buffer, or its digests were taken
-abbrev pub GaveFound : Option (List ℕ) → Option (List ℕ) → ℕ → AlgSet → List ℕ → Found → Type 0
+abbrev pub GaveFound : Option (List ℕ) → Option (List ℕ) → ℕ → AlgSet → List ℕ → SourceRead → Type 0
 GaveFound old new limit set buffer (Whole n) = (n ≤ length buffer)
     × GaveAll old new limit (take n buffer)
 GaveFound old new limit set buffer (Hashed n digests) = GaveDigests old new limit set (n, digests)

@@ -10,7 +10,7 @@ pub use failures::Failures;
 pub use lanes::MultiLanes;
 pub use multi::{Digests, Multi};
 pub use reading::{
-    Found, PIECE, ReadFault, SourceFault, buffer_of, digest_reader, digest_through, fill,
+    PIECE, ReadFault, SourceFault, SourceRead, buffer_of, digest_reader, digest_through, fill,
     piece_buffer, read_or_digest, read_piece, read_to_end_within,
 };
 pub use source::{Failed, Source};

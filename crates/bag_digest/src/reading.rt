@@ -138,7 +138,7 @@ fn digest_on<S: Source>(
 
 /// What was read of a source.
 #[derive(Clone, Copy, Debug, PartialEq, Eq)]
-pub enum Found {
+pub enum SourceRead {
     /// All of it: this many octets, which are at the front of the buffer. Their digests were not taken yet.
     Whole(usize),
     /// The source did not end within the buffer: its length in octets, and its digests.
@@ -158,7 +158,7 @@ pub fn read_or_digest<S: Source>(
     reader: &mut S,
     set: AlgSet,
     limit: u64,
-) -> Result<Found, SourceFault>
+) -> Result<SourceRead, SourceFault>
     requires { 0 < length buffer.old }
     ensures found { IfOk result
         (GaveFound (S.remaining reader.old) (S.remaining reader.new) limit set buffer.new) }
@@ -170,12 +170,12 @@ pub fn read_or_digest<S: Source>(
 {
     let n = fill(buffer, reader, limit)?;
     if n < buffer.len() {
-        return Ok(Found::Whole(n));
+        return Ok(SourceRead::Whole(n));
     }
     let mut multi = Multi::new(set);
     multi.update(buffer);
     let (more, digests) = digest_on(buffer, reader, multi, limit - n as u64)?;
-    Ok(Found::Hashed(n as u64 + more, digests))
+    Ok(SourceRead::Hashed(n as u64 + more, digests))
 }
 
 /// Reads a source to its end as [`digest_through`] does, through a buffer of [`PIECE`] octets that it allocates.

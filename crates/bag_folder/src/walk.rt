@@ -23,14 +23,14 @@ pub struct Below {
 
 /// What a walk has found, and the directories that it still has to read.
 #[derive(Drop)]
-struct Found {
+struct Gathered {
     paths: Vec<BagPath>,
     has_dir: bool,
     // their paths from the folder, each followed by a slash; empty for the folder itself
     left: Vec<String>,
 }
 
-impl Model for Found {
+impl Model for Gathered {
     ghost use Rattle.std.specs.Prelude.{map, string_bytes};
     ghost use Rattle.bag_folder.specs.Walks.{Walked};
 
@@ -43,7 +43,7 @@ impl Model for Found {
     } };
 }
 
-impl Found {
+impl Gathered {
     ghost use Rattle.bag_folder.specs.Directories.{Forbids};
     ghost use Rattle.bag_folder.specs.Walks.{FitsBag, with_path};
 
@@ -100,7 +100,7 @@ pub fn walk<D: Directories>(disk: &D, alloc: Global, folder: &str) -> Result<Bel
         (λ fault. IfUnfit fault (λ unfit.
         IsUnfit listing folder.now unfit.path unfit.cause)) }
 {
-    let mut found = Found {
+    let mut found = Gathered {
         paths: Vec::new(alloc),
         has_dir: false,
         left: Vec::new(alloc),
@@ -125,7 +125,7 @@ fn look_into<D: Directories>(
     alloc: Global,
     folder: &str,
     front: &str,
-    found: &mut Found,
+    found: &mut Gathered,
 ) -> Result<(), OpenFault>
     ensures { (listing : Listing) → D.listing disk.now ≡ Some listing → MatchResult result
         (λ _. LooksInto listing folder.now front.now found.old found.new)

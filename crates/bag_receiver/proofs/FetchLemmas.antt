@@ -12,7 +12,7 @@ use Rattle.bag_receiver.specs.declared.answer.Answer.TheVariants as own
 use Rattle.bag_receiver.specs.declared.fetch.FetchAnswer.{FetchAnswer}
 use Rattle.bag_receiver.specs.declared.fetch.FetchAnswer.TheVariants as fetch
 use Rattle.bag_receiver.specs.declared.fetch.FetchOutcome.{FetchOutcome}
-use Rattle.bag_receiver.specs.declared.fetch.Request.{Request}
+use Rattle.bag_receiver.specs.declared.fetch.FetchRequest.{FetchRequest}
 use Rattle.bag_receiver.specs.Runs.{store_failures}
 use Rattle.bag_receiver.specs.FetchingInside.{AreMarks, AreRequests, IsRequest, IsUnderWay}
 use Rattle.bag_receiver.specs.Suppliers.{AreReached, deliveries_by, delivery_by, Delivered, Failing, held_after, outcome_of, IsGotFrom, IsReply, IsSupplied, Reaches, Reply, Round, supplier_failure, supplier_failures, Supply, told, Without}
@@ -81,9 +81,9 @@ marks_of paths marks held other same are = record {
 
 -- REQUESTS
 
-pub requests_more : (paths : List (List ℕ)) (lines : List FetchLine) (requests : List Request) (line : FetchLine) (request : Request) → AreRequests paths lines requests → IsRequest paths line request
+pub requests_more : (paths : List (List ℕ)) (lines : List FetchLine) (requests : List FetchRequest) (line : FetchLine) (request : FetchRequest) → AreRequests paths lines requests → IsRequest paths line request
     → AreRequests paths (lines ++ line ∷ []) (requests ++ request ∷ [])
-requests_more paths [] requests line request are is = subst (λ (r : List Request). AreRequests paths (line ∷ []) (r ++ request ∷ [])) (sym are) (is, refl)
+requests_more paths [] requests line request are is = subst (λ (r : List FetchRequest). AreRequests paths (line ∷ []) (r ++ request ∷ [])) (sym are) (is, refl)
 requests_more paths (one ∷ lines) [] line request are is = absurd are
 requests_more paths (one ∷ lines) (first ∷ requests) line request are is = (are.0, requests_more paths lines requests line request are.1 is)
 
@@ -157,7 +157,7 @@ item_keys (item ∷ items) = ap (λ l. item.0 ∷ l) (item_keys items)
 
 -- BEFORE THE FIRST LINE
 
-pub starts : (ledger : Ledger) (name : List ℕ) (transfer : Transfer) (paths : List (List ℕ)) (marks : List Bool) (lines : List FetchLine) (requests : List Request) → IsNamed ledger name (Some transfer) → AreRising paths
+pub starts : (ledger : Ledger) (name : List ℕ) (transfer : Transfer) (paths : List (List ℕ)) (marks : List Bool) (lines : List FetchLine) (requests : List FetchRequest) → IsNamed ledger name (Some transfer) → AreRising paths
     → AreFetchLines transfer.tags lines → AreRequests paths lines requests → AreMarks paths marks (item_paths (sizes_of (items_of ledger name))) → IsUnderWay ledger name marks requests []
 starts ledger name transfer paths marks lines requests named rising are_lines are marked =
     let items : items_of ledger name ≡ transfer.items = ap (λ (t : Option Transfer). unwrap_or (option_map (λ (transfer : Transfer). transfer.items) t) []) (named_there ledger name transfer named) in
@@ -177,10 +177,10 @@ starts ledger name transfer paths marks lines requests named rising are_lines ar
 
 -- LINE BY LINE
 
-abbrev pub round_of : Request → Reply → Round
+abbrev pub round_of : FetchRequest → Reply → Round
 round_of request reply = record { line = request.line; url = string_bytes request.url; path = request.path; reply = reply }
 
-next_line : (paths : List (List ℕ)) (lines : List FetchLine) (request : Request) (left : List Request) → AreRequests paths lines (request ∷ left)
+next_line : (paths : List (List ℕ)) (lines : List FetchLine) (request : FetchRequest) (left : List FetchRequest) → AreRequests paths lines (request ∷ left)
     → (line : FetchLine) × (rest : List FetchLine) × (lines ≡ line ∷ rest) × IsRequest paths line request × AreRequests paths rest left
 next_line paths [] request left are = absurd (let e : request ∷ left ≡ [] = are in cc)
 next_line paths (line ∷ rest) request left are = (line, rest, refl, are.0, are.1)
@@ -192,7 +192,7 @@ marks_after paths marks new held place path fetch.NotSupplied rising here are ta
 marks_after paths marks new held place path fetch.SupplierFailed rising here are taken others = subst (λ (m : List Bool). AreMarks paths m held) (sym (others (λ e. (let h : fetch.SupplierFailed ≡ fetch.Taken = e in cc)))) are
 marks_after paths marks new held place path (fetch.Refused fault) rising here are taken others = subst (λ (m : List Bool). AreMarks paths m held) (sym (others (λ e. (let h : fetch.Refused fault ≡ fetch.Taken = e in cc)))) are
 
-module _ (ledger : Ledger) (name : List ℕ) (marks : List Bool) (request : Request) (all left : List Request) (rounds : List Round) (at : all ≡ request ∷ left) (way : IsUnderWay ledger name marks all rounds) where
+module _ (ledger : Ledger) (name : List ℕ) (marks : List Bool) (request : FetchRequest) (all left : List FetchRequest) (rounds : List Round) (at : all ≡ request ∷ left) (way : IsUnderWay ledger name marks all rounds) where
   here : (line : FetchLine) × (rest : List FetchLine) × (way.lines_left ≡ line ∷ rest) × IsRequest way.paths line request × AreRequests way.paths rest left
   here = next_line way.paths way.lines_left request left (subst (AreRequests way.paths way.lines_left) at way.requests)
 
@@ -245,7 +245,7 @@ no_lines paths [] are = refl
 no_lines paths (line ∷ lines) are = absurd are
 
 -- all lines are done
-pub all_reached : (ledger : Ledger) (name : List ℕ) (marks : List Bool) (left : List Request) (rounds : List Round) → left ≡ [] → IsUnderWay ledger name marks left rounds → AreReached ledger name rounds
+pub all_reached : (ledger : Ledger) (name : List ℕ) (marks : List Bool) (left : List FetchRequest) (rounds : List Round) → left ≡ [] → IsUnderWay ledger name marks left rounds → AreReached ledger name rounds
 all_reached ledger name marks left rounds none way =
     let done : way.lines_left ≡ [] = no_lines way.paths way.lines_left (subst (AreRequests way.paths way.lines_left) none way.requests) in
     (way.transfer, way.named, (way.lines, way.are_lines, subst (Reaches (keys_of way.transfer.items) way.lines) (append-nil rounds) (way.goes_on [] (subst (λ (l : List FetchLine). Reaches way.held l []) (sym done) refl))))
@@ -319,7 +319,7 @@ pub pushed_ok : {X T E : Type 0} (result : Result T E) (old new : List X) (x : X
 pushed_ok (Ok y) old new x ok is = is
 pushed_ok (Err y) old new x ok is = absurd (let e : false ≡ true = ok in cc)
 
-pub outcomes_more : (outcomes new : List FetchOutcome) (rounds : List Round) (request : Request) (reply : Reply) (answer : FetchAnswer) → outcomes ≡ map outcome_of rounds → answer ≡ told reply
+pub outcomes_more : (outcomes new : List FetchOutcome) (rounds : List Round) (request : FetchRequest) (reply : Reply) (answer : FetchAnswer) → outcomes ≡ map outcome_of rounds → answer ≡ told reply
     → new ≡ outcomes ++ record { line = request.line; path = request.path; answer = answer } ∷ [] → new ≡ map outcome_of (rounds ++ round_of request reply ∷ [])
 outcomes_more outcomes new rounds request reply answer all is pushed =
     let one : FetchOutcome = record { line = request.line; path = request.path; answer = answer } in

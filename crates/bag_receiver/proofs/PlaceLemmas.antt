@@ -8,7 +8,7 @@ use Rattle.bag_ledger.specs.Keeping.{Awaits}
 use Rattle.bag_ledger.specs.Ledgers.{content_of}
 use Rattle.bag_receiver.specs.ReceiversInside.{IsNoPlan, RefusesText}
 use Rattle.bag_receiver.proofs.ReceivingLemmas.{named_there}
-use Rattle.bag_receiver.proofs.Words.{Adds, Answer, ArePlansIn, BadPath, Brought, bytes_eq, bytes_eq-Decides, contains_from_has, Content, deliver_fault, DeliverFault, delivery_of, DeliveryStep, Digest, Files, given_by, Has, has_from_contains, is_some, IsDueThere, IsExpected, IsMisfitIn, IsNamed, IsPath, IsPlaceIn, IsPlanOf, IsTooLong, IsTransferName, IsWanted, IsWantOf, Judges, Keeper, keys_of, known, LARGEST_ITEM, Ledger, LedgerState, Length, lookup, NotListed, NoTransfer, option_map, OtherDigest, OtherLength, PassesIn, Place, Plan, PutFault, Reader, Refused, RefusesAny, RefusesGiven, Repeated, Taken, TooLarge, TooLong, Transfer, transfer_of, Unread, unwrap_or, WantFault, Whole, with_item}
+use Rattle.bag_receiver.proofs.Words.{Adds, Answer, ArePlansIn, BadPath, Brought, bytes_eq, bytes_eq-Decides, contains_from_has, Content, deliver_fault, DeliverFault, delivery_of, DeliveryStep, Digest, Files, given_by, Has, has_from_contains, is_some, IsDueThere, IsExpected, IsMisfitIn, IsNamed, IsPath, IsPlaceIn, IsPlanOf, IsTooLong, IsTransferName, IsWanted, IsWantOf, Judges, Keeper, keys_of, known, LARGEST_ITEM, Ledger, LedgerState, Length, lookup, NotListed, NoTransfer, option_map, OtherDigest, OtherLength, PassesIn, Plan, PutFault, Reader, Refused, RefusesAny, RefusesGiven, Repeated, Slot, Taken, TooLarge, TooLong, Transfer, transfer_of, Unread, unwrap_or, WantFault, Whole, with_item}
 
 -- A LOOK-UP AMONG FILES
 
@@ -112,7 +112,7 @@ known_judged want text octets (put.Keep fault) is gave = tt
 
 -- AT A LISTED PATH
 
-module _ (now : LedgerState) (name text : List ℕ) (place : Place) (at : IsPlaceIn now.held name text place) where
+module _ (now : LedgerState) (name text : List ℕ) (place : Slot) (at : IsPlaceIn now.held name text place) where
   abbrev tags : Files
   tags = at.transfer.tags
 

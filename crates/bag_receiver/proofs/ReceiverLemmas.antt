@@ -9,7 +9,7 @@ use Rattle.bag_ledger.proofs.StoredLemmas.{by_name}
 use Rattle.bag_receiver.proofs.FileLemmas.{same_or_not}
 use Rattle.bag_receiver.proofs.ReceivingLemmas.{receives}
 use Rattle.bag_receiver.proofs.PlaceLemmas.{adds, awaits, content_read, known_refused, read_brought, read_judged, read_refused}
-use Rattle.bag_receiver.proofs.Words.{Adds, Answer, ArePlansIn, Brought, BTreeMap, bytes_eq, Content, deliver_fault, DeliverFault, Delivery, delivery_of, DeliveryStep, Does, entry_here, entry_others, Files, Given, given_by, Global, holding, insert_entry, insert_shown, is_eq-slice_cmp, is_some, IsInState, IsPath, IsPlaceIn, IsPlanned, IsPlanOf, item_here, item_others, Judges, Keeper, known, LARGEST_ITEM, Ledger, LedgerState, lookup, nat_cmp, option_map, Place, Plan, plans_in, PutFault, Reads, Receiver, Receives, Refused, RefusesAny, RefusesGiven, Same, settled, slice_cmp, String, string_bytes, tags_of, Taken, Transfer, transfer_of, Whole, with_doubtful_ledger, with_item}
+use Rattle.bag_receiver.proofs.Words.{Adds, Answer, ArePlansIn, Brought, BTreeMap, bytes_eq, Content, deliver_fault, DeliverFault, Delivery, delivery_of, DeliveryStep, Does, entry_here, entry_others, Files, Given, given_by, Global, holding, insert_entry, insert_shown, is_eq-slice_cmp, is_some, IsInState, IsPath, IsPlaceIn, IsPlanned, IsPlanOf, item_here, item_others, Judges, Keeper, known, LARGEST_ITEM, Ledger, LedgerState, lookup, nat_cmp, option_map, Plan, plans_in, PutFault, Reads, Receiver, Receives, Refused, RefusesAny, RefusesGiven, Same, settled, slice_cmp, Slot, String, string_bytes, tags_of, Taken, Transfer, transfer_of, Whole, with_doubtful_ledger, with_item}
 
 abbrev pub Plans : Type 0
 Plans = BTreeMap (String Global) Plan
@@ -171,7 +171,7 @@ module _ {K : Type 0} (holds may_leave : K → Ledger → Type 0) (clean : K →
 
   -- PUTTING a file at a path that isn't held
 
-  module _ (old new : K) (plans : Plans) (given : Given) (name text : List ℕ) (place : Place) (free : place.is_held ≡ false) where
+  module _ (old new : K) (plans : Plans) (given : Given) (name text : List ℕ) (place : Slot) (free : place.is_held ≡ false) where
     abbrev After : (LedgerState → LedgerState → Type 0) → LedgerState → Type 0
     After step now = (after : LedgerState) × InState (over new plans) after × step now after
 
@@ -209,7 +209,7 @@ module _ {K : Type 0} (holds may_leave : K → Ledger → Type 0) (clean : K →
     }
 
   -- a content in memory is put or refused
-  module _ (old new : K) (plans : Plans) (name text octets : List ℕ) (place : Place) (free : place.is_held ≡ false) where
+  module _ (old new : K) (plans : Plans) (name text octets : List ℕ) (place : Slot) (free : place.is_held ≡ false) where
     abbrev AnswersTo : Answer → LedgerState → Type 0
     AnswersTo answer now = (after : LedgerState) × InState (over new plans) after × DeliveryStep name (delivery_of text (Whole octets) answer) now after
 
@@ -244,7 +244,7 @@ module _ {K : Type 0} (holds may_leave : K → Ledger → Type 0) (clean : K →
     known_refused_by (put.Digest alg) refused (inr (content, h)) c now in_state at = absurd h.keep
 
   -- a content from a reader is put or refused
-  module _ (old new : K) (plans : Plans) (before after : Option (List ℕ)) (name text : List ℕ) (place : Place) (free : place.is_held ≡ false) where
+  module _ (old new : K) (plans : Plans) (before after : Option (List ℕ)) (name text : List ℕ) (place : Slot) (free : place.is_held ≡ false) where
     abbrev AnswersRead : Content → Answer → LedgerState → Type 0
     AnswersRead content answer now = (after : LedgerState) × InState (over new plans) after × DeliveryStep name (delivery_of text content answer) now after
 

@@ -41,7 +41,7 @@ pub use Rattle.bag_receiver.specs.declared.answer.DeliverFault.{DeliverFault}
 pub use Rattle.bag_receiver.specs.declared.answer.DeliverFault.TheVariants.{BadPath, Digest, Keeper, Length, NotListed, NoTransfer, Reader, TooLarge}
 pub use Rattle.bag_receiver.specs.declared.begin.BeginFault.{BeginFault}
 pub use Rattle.bag_receiver.specs.declared.begin.BeginFault.TheVariants.{TagPath, TagTooLarge}
-pub use Rattle.bag_receiver.specs.declared.deliver.Place.{Place}
+pub use Rattle.bag_receiver.specs.declared.deliver.Slot.{Slot}
 pub use Rattle.bag_receiver.specs.declared.receiver.Receiver.{Receiver}
 pub use Rattle.bag_receiver.specs.declared.run.TheConstants.{MOST_DELIVERIES}
 pub use Rattle.bag_receiver.specs.Deliveries.{Accepts, AcceptsPassing, AreAccepted, Content, Delivery, delivery_of, HasOneContent, IsAcceptance, IsAccepted, IsDue, IsDueIn, IsFirstAccepted, IsFirstHeld, IsListedPath, IsMisfitIn, IsTooLong, OneContent, PassesIn, TooLong, Unread, Whole}

@@ -6,7 +6,7 @@ use Rattle.bag_rules.specs.Faults.{Has}
 use Rattle.bag_rules.specs.Plans.{AreFetchLines}
 use Rattle.bag_rules.specs.Trees.{AreRising}
 use Rattle.bag_ledger.specs.Ledgers.{Ledger, Transfer}
-use Rattle.bag_receiver.specs.declared.fetch.Request.{Request}
+use Rattle.bag_receiver.specs.declared.fetch.FetchRequest.{FetchRequest}
 use Rattle.bag_receiver.specs.Names.{IsNamed}
 use Rattle.bag_receiver.specs.Suppliers.{Reaches, Round}
 
@@ -18,13 +18,13 @@ pub record AreMarks (paths : List (List ℕ)) (marks : List Bool) (held : List (
       → (slice_get marks i ≡ Some true) ↔ Has held path
 
 -- the request is for this line, and gives the index of its path among the paths
-pub record IsRequest (paths : List (List ℕ)) (line : FetchLine) (request : Request) : Type 0 where
+pub record IsRequest (paths : List (List ℕ)) (line : FetchLine) (request : FetchRequest) : Type 0 where
   pub line_is : request.line ≡ line.line
   pub url_is : string_bytes request.url ≡ line.entry.url
   pub path_is : request.path ≡ line.entry.path
   pub place_is : slice_get paths request.place ≡ Some line.entry.path
 
-abbrev pub AreRequests : List (List ℕ) → List FetchLine → List Request → Type 0
+abbrev pub AreRequests : List (List ℕ) → List FetchLine → List FetchRequest → Type 0
 AreRequests paths [] requests = requests ≡ []
 AreRequests paths (line ∷ lines) [] = ⊥
 AreRequests paths (line ∷ lines) (request ∷ requests) = IsRequest paths line request
@@ -32,7 +32,7 @@ AreRequests paths (line ∷ lines) (request ∷ requests) = IsRequest paths line
 
 -- these rounds are done, and these requests are left
 pub record IsUnderWay (ledger : Ledger) (name : List ℕ) (marks : List Bool)
-    (left : List Request) (rounds : List Round) : Type 0 where
+    (left : List FetchRequest) (rounds : List Round) : Type 0 where
   pub transfer : Transfer
   pub named : IsNamed ledger name (Some transfer)
   pub paths : List (List ℕ)

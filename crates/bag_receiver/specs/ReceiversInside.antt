@@ -12,7 +12,7 @@ use Rattle.bag_receiver.specs.declared.answer.Answer.{Answer}
 use Rattle.bag_receiver.specs.declared.answer.Answer.TheVariants.{Refused}
 use Rattle.bag_receiver.specs.declared.answer.DeliverFault.{DeliverFault}
 use Rattle.bag_receiver.specs.declared.answer.DeliverFault.TheVariants.{NoTransfer, BadPath, Keeper, NotListed}
-use Rattle.bag_receiver.specs.declared.deliver.Place.{Place}
+use Rattle.bag_receiver.specs.declared.deliver.Slot.{Slot}
 use Rattle.bag_receiver.specs.declared.receiver.Receiver.{Receiver}
 use Rattle.bag_receiver.specs.Deliveries.{Content, IsListedPath, delivery_of}
 use Rattle.bag_receiver.specs.Names.{IsNamed, IsTransferName}
@@ -30,7 +30,7 @@ IsPlanned name ledger plans true = IsTransferName name
 IsPlanned name ledger plans false = IsNamed ledger name None
 
 -- the path is listed in the transfer with this name: this is what it wants there, and whether it holds it
-pub record IsPlaceIn (ledger : Ledger) (name text : List ℕ) (place : Place) : Type 0 where
+pub record IsPlaceIn (ledger : Ledger) (name text : List ℕ) (place : Slot) : Type 0 where
   pub transfer : Transfer
   pub named : IsNamed ledger name (Some transfer)
   pub listed : IsListedPath transfer.tags text

@@ -150,7 +150,7 @@ impl<K: Keeper> Receiver<K> {
 
 /// What is known of a path before its content is read.
 #[derive(Drop)]
-struct Place<'a> {
+struct Slot<'a> {
     want: Want<'a>,
     is_held: bool,
 }
@@ -162,7 +162,7 @@ fn place_of<'a, K: Keeper, P: GivenPath>(
     alloc: Global,
     name: &str,
     path: P,
-) -> Result<Place<'a>, DeliverFault>
+) -> Result<Slot<'a>, DeliverFault>
     ensures looks { Does K.holds K.may_leave K.clean
         (record { keeper = keeper.old; plans = plans.now })
         (record { keeper = keeper.new; plans = plans.now }) Same }
@@ -184,7 +184,7 @@ fn place_of<'a, K: Keeper, P: GivenPath>(
         return Err(DeliverFault::NotListed);
     };
     let is_held = keeper.size_of(alloc, name, &path)?.is_some();
-    Ok(Place { want, is_held })
+    Ok(Slot { want, is_held })
 }
 
 /// The path that is given.

@@ -54,7 +54,7 @@ pub struct FetchOutcome {
 
 /// A file to ask for, and the index of its path in the plan.
 #[derive(Drop)]
-struct Request {
+struct FetchRequest {
     line: u64,
     url: String,
     path: BagPath,
@@ -64,7 +64,7 @@ struct Request {
 /// The entries of `fetch.txt`, and which paths of the plan are held.
 #[derive(Drop)]
 struct Requests {
-    list: Vec<Request>,
+    list: Vec<FetchRequest>,
     held: Vec<bool>,
 }
 
@@ -111,7 +111,7 @@ impl<K: Keeper> Receiver<K> {
             }
             let answer = self.fetch_one(alloc, name, &request, supplier);
             mark_taken(&mut held, request.place, answer);
-            let Request { line, path, .. } = request;
+            let FetchRequest { line, path, .. } = request;
             // The capacity is enough.
             let _pushed = outcomes.push(FetchOutcome { line, path, answer });
         }
@@ -123,7 +123,7 @@ impl<K: Keeper> Receiver<K> {
         &mut self,
         alloc: Global,
         name: &str,
-        request: &Request,
+        request: &FetchRequest,
         supplier: &mut S,
     ) -> FetchAnswer
         ensures got { (reply : Reply) × (result ≡ told reply)
@@ -199,7 +199,11 @@ fn mark_path(marks: &mut Vec<bool>, paths: &[BagPath], path: &BagPath)
 }
 
 /// The entries of `fetch.txt`, each with the index of its path.
-fn requests_of(alloc: Global, plan: &Plan, paths: &[BagPath]) -> Result<Vec<Request>, AllocError>
+fn requests_of(
+    alloc: Global,
+    plan: &Plan,
+    paths: &[BagPath],
+) -> Result<Vec<FetchRequest>, AllocError>
     ensures { (tags : Files) → IsPlanOf tags plan.now → IfOk result (λ requests.
         (lines : List FetchLine) × AreFetchLines tags lines
         × AreRequests paths.now lines requests.items) }
@@ -211,7 +215,11 @@ fn requests_of(alloc: Global, plan: &Plan, paths: &[BagPath]) -> Result<Vec<Requ
     Ok(requests)
 }
 
-fn request_for(alloc: Global, paths: &[BagPath], line: &FetchLine) -> Result<Request, AllocError>
+fn request_for(
+    alloc: Global,
+    paths: &[BagPath],
+    line: &FetchLine,
+) -> Result<FetchRequest, AllocError>
     ensures { IfOk result (IsRequest paths.now line.now) }
 {
     let FetchLine { line, entry } = line;
@@ -219,7 +227,7 @@ fn request_for(alloc: Global, paths: &[BagPath], line: &FetchLine) -> Result<Req
     let Some(place) = place_in(paths, entry.path()) else {
         return Err(AllocError);
     };
-    Ok(Request {
+    Ok(FetchRequest {
         line: *line,
         url: String::from_str(alloc, entry.url())?,
         path: entry.path().clone()?,

@@ -2,8 +2,8 @@
 use Rattle.std.proofs.Common.{◌≡◌, ◌∙◌, ◌+◌, ◌-◌, ◌≤◌, ◌<◌, ◌++◌, ◌∷◌, ◌||◌, [], ℕ, Bool, true, false, List, IfSome, OnOk, Option, Some, None, Result, Ok, Err, Vec, ap, arith, inl, get_or, length, length-append, refl, slice_get, subst, sym, take}
 use Rattle.std.specs.declared.alloc.Global.{Global}
 use Rattle.std.proofs.lemmas.Option.{slice_get_read}
-use Rattle.bag_digest.specs.declared.reading.Found.{Found}
-use Rattle.bag_digest.specs.declared.reading.Found.TheVariants.{Whole, Hashed}
+use Rattle.bag_digest.specs.declared.reading.SourceRead.{SourceRead}
+use Rattle.bag_digest.specs.declared.reading.SourceRead.TheVariants.{Whole, Hashed}
 use Rattle.bag_digest.specs.Reading.{GaveFound}
 use Rattle.bag_digest.proofs.EachLemmas.{at_last}
 use Rattle.bag_digest.proofs.Progress.{all_known}
@@ -18,7 +18,7 @@ use Rattle.bag_rules.proofs.HasLemmas.{stands}
 use Rattle.bag_rules.proofs.Words.{Alg, AlgSet, AreDigests, Digests, CheckFault, has, HasFileAt, IsLongRead, is_payload, IsReadBy, same_Some, Shown, slice_get_within, Wants}
 
 -- what was found of a file whose octets are known
-pub found_of : (octets : List ℕ) (old new : Option (List ℕ)) (set : AlgSet) (buffer : List ℕ) (found : Found) → old ≡ Some octets → GaveFound old new LARGEST_FILE set buffer found → IsFoundOf set octets buffer found
+pub found_of : (octets : List ℕ) (old new : Option (List ℕ)) (set : AlgSet) (buffer : List ℕ) (found : SourceRead) → old ≡ Some octets → GaveFound old new LARGEST_FILE set buffer found → IsFoundOf set octets buffer found
 found_of octets old new set buffer (Whole n) known gave =
     let all = all_known octets (take n buffer) old new LARGEST_FILE known gave.1 in (all.0, all.1)
 found_of octets old new set buffer (Hashed n digests) known gave =
@@ -118,7 +118,7 @@ readings_held shown wants old new set held are holds found =
     })
 
 -- what the buffer holds of what was found
-pub within_of : (old new : Option (List ℕ)) (set : AlgSet) (buffer : List ℕ) (found : Found) → GaveFound old new LARGEST_FILE set buffer found → IsWithin buffer found
+pub within_of : (old new : Option (List ℕ)) (set : AlgSet) (buffer : List ℕ) (found : SourceRead) → GaveFound old new LARGEST_FILE set buffer found → IsWithin buffer found
 within_of old new set buffer (Whole n) gave = gave.0
 within_of old new set buffer (Hashed n digests) gave = tt
 

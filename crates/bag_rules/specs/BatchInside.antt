@@ -4,8 +4,8 @@ use Rattle.std.specs.declared.alloc.Global.{Global}
 use Rattle.bag_digest.specs.declared.algorithm.Alg.{Alg}
 use Rattle.bag_digest.specs.declared.algorithm.AlgSet.{AlgSet}
 use Rattle.bag_digest.specs.declared.multi.Digests.{Digests}
-use Rattle.bag_digest.specs.declared.reading.Found.{Found}
-use Rattle.bag_digest.specs.declared.reading.Found.TheVariants.{Whole, Hashed}
+use Rattle.bag_digest.specs.declared.reading.SourceRead.{SourceRead}
+use Rattle.bag_digest.specs.declared.reading.SourceRead.TheVariants.{Whole, Hashed}
 use Rattle.bag_digest.specs.Algorithm.{has}
 use Rattle.bag_digest.specs.Hash.{AreDigestsOfEach}
 use Rattle.bag_rules.specs.declared.batch.Batch.{Batch}
@@ -27,13 +27,13 @@ pub record CanRead (shown : Shown) (place : ℕ) (buffer : List ℕ) (kept : Kep
   pub are_kept : AreKept shown kept
 
 -- a file with these octets was found: they are at the front of the buffer, or these are its sums
-abbrev pub IsFoundOf : AlgSet → List ℕ → List ℕ → Found → Type 0
+abbrev pub IsFoundOf : AlgSet → List ℕ → List ℕ → SourceRead → Type 0
 IsFoundOf set octets buffer (Whole n) = (take n buffer ≡ octets)
     × (length octets ≤ LARGEST_FILE)
 IsFoundOf set octets buffer (Hashed n digests) = HasSumsWithin (n, digests) set octets
 
 -- what was found is within the buffer, if it is there
-abbrev pub IsWithin : List ℕ → Found → Type 0
+abbrev pub IsWithin : List ℕ → SourceRead → Type 0
 IsWithin buffer (Whole n) = n ≤ length buffer
 IsWithin buffer (Hashed n digests) = Unit {0}
 

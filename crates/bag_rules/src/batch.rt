@@ -14,7 +14,7 @@ use crate::limits::LARGEST_FILE;
 use crate::outcome::CheckFault;
 use crate::tree::{Paths, Tree};
 use crate::wants::Wants;
-use bag_digest::{AlgSet, Digests, Found, PIECE, SourceFault, digest_each, read_or_digest};
+use bag_digest::{AlgSet, Digests, PIECE, SourceFault, SourceRead, digest_each, read_or_digest};
 use std::alloc::Global;
 
 /// The length of the buffer of a check in octets. A file that ends within it is held until the digests of its batch are taken.
@@ -204,8 +204,8 @@ fn read_next<T: Tree>(
         return batch.add(FileSums::Unread);
     };
     match find_sums(buffer, tree, place, set, kept)? {
-        Found::Hashed(length, digests) => batch.add(FileSums::Taken(length, digests)),
-        Found::Whole(n) => batch.hold(alloc, set, &buffer[..n]),
+        SourceRead::Hashed(length, digests) => batch.add(FileSums::Taken(length, digests)),
+        SourceRead::Whole(n) => batch.hold(alloc, set, &buffer[..n]),
     }
 }
 
@@ -235,7 +235,7 @@ fn find_sums<T: Tree>(
     place: usize,
     set: AlgSet,
     kept: &Kept,
-) -> Result<Found, CheckFault>
+) -> Result<SourceRead, CheckFault>
     requires { CanRead (T.shown tree.old) place buffer.old kept.now }
     ensures known { (path octets : List ℕ) → HasFileAt (T.shown tree.old) place path octets
         → MatchResult result (IsFoundOf set octets buffer.new) (Stopped (IsLongFile path octets)) }
@@ -244,7 +244,7 @@ fn find_sums<T: Tree>(
         (IsErrOf result CheckFault.Tree) }
 {
     match kept.find(place, set) {
-        Some((length, digests)) => Ok(Found::Hashed(length, digests)),
+        Some((length, digests)) => Ok(SourceRead::Hashed(length, digests)),
         None => read_file(buffer, tree, place, set),
     }
 }
@@ -255,7 +255,7 @@ fn read_file<T: Tree>(
     tree: &mut T,
     place: usize,
     set: AlgSet,
-) -> Result<Found, CheckFault>
+) -> Result<SourceRead, CheckFault>
     requires room { 0 < length buffer.old }
     requires inside { place < length (paths_in (T.shown tree.old)) }
     ensures known { (path octets : List ℕ) → HasFileAt (T.shown tree.old) place path octets

@@ -1,6 +1,6 @@
 -- What a ledger holds for a path, according to the rows of its tables.
 use Rattle.std.proofs.Common.{◌+◌, ◌*◌, ◌≡◌, ◌≤◌, ◌/◌, ◌%◌, ℕ, ℤ, List, [], ◌∷◌, Option, Some, None, arith, length, map, pos, refl, slice_get, sym, ap, subst, ◌∙◌, MatchOption, unwrap_or}
-use Rattle.bag_sqlite.proofs.Words.{all_has, AreCut, Blob, bytes_eq, concat, content_of, div-add-mod, enumerate_from, flat_map, Has, has_from_map, has_map, HasItem, HasItemRow, HasPieceRow, HasTransferRow, held_rows, held_tree, HoldTransfers, Int, IsPermutation-sym, IsPieceAt, Item, item_row, items_in, Ledger, lookup, NumberedItem, NumberedTransfer, option_map, Origin, PIECE, piece_rows, piece_tree, Row, Second, size_of, Transfer, transfer_of, Trees, without_rowids}
+use Rattle.bag_sqlite.proofs.Words.{all_has, AreCut, Blob, bytes_eq, concat, content_of, div-add-mod, enumerate_from, flat_map, Has, has_from_map, has_map, HasItem, HasItemRow, HasPieceRow, HasTransferRow, held_rows, held_tree, HeldFile, HoldTransfers, Int, IsPermutation-sym, IsPieceAt, item_row, items_in, Ledger, lookup, NumberedItem, NumberedTransfer, option_map, Origin, PIECE, piece_rows, piece_tree, Row, Second, size_of, Transfer, transfer_of, Trees, without_rowids}
 use Rattle.bag_sqlite.proofs.CutLemmas.{is_numbered, length_concat, no_number, numbered_is, past_pieces, piece_in}
 use Rattle.bag_sqlite.proofs.OneLedger.{has_flat, has_from_flat, has_moved, items_rise, one_of, read, same_held_row, same_piece_row}
 use Rattle.bag_sqlite.proofs.TransferLemmas.{entry_found, found_entry, transfer_at}
@@ -31,7 +31,7 @@ module _ {o : Origin} (trees : Trees) (ledger : Ledger) (tables : HoldTransfers 
       go None here = here
       go (Some content) here = absurd (let it = row_there content here in none it.0 it.1 it.2)
 
-  pub item_told : (transfer : ℤ) → HasTransferRow trees name transfer → (it : Option Item)
+  pub item_told : (transfer : ℤ) → HasTransferRow trees name transfer → (it : Option HeldFile)
       → MatchOption it ((number : ℤ) (size : ℕ) → ¬ HasItemRow o trees number transfer path size) (λ item. HasItemRow o trees item.number transfer path item.size)
       → MatchOption it (content_of ledger name path ≡ None) (λ item. HasItem o trees name path item.number item.size)
   item_told transfer named None none = no_item transfer named none

@@ -1,6 +1,6 @@
 -- What the queries for one payload file show.
 use Rattle.std.proofs.Common.{◌≡◌, ◌&&◌, inl, ℕ, ℤ, List, [], ◌∷◌, Bool, true, false, Option, Some, None, drop, pos, refl, sym, ap, subst, ◌∙◌, slice_index_or, MatchOption, Vec}
-use Rattle.bag_sqlite.proofs.Words.{Blob, bytes_eq-Decides, column, Decides-int_eq, enumerate_from, flat_map, Global, Has, has_from_map, has_map, HasItemRow, HasPieceRow, held_rows, held_tree, HoldTransfers, Int, IsPermutation-sym, Item, item_row, items_in, Ledger, Null, NumberedItem, Origin, piece_rows, piece_tree, reads_as, Row, Second, second_schema, Shown, size_of, State, Text, Value, without_rowids}
+use Rattle.bag_sqlite.proofs.Words.{Blob, bytes_eq-Decides, column, Decides-int_eq, enumerate_from, flat_map, Global, Has, has_from_map, has_map, HasItemRow, HasPieceRow, held_rows, held_tree, HeldFile, HoldTransfers, Int, IsPermutation-sym, item_row, items_in, Ledger, Null, NumberedItem, Origin, piece_rows, piece_tree, reads_as, Row, Second, second_schema, Shown, size_of, State, Text, Value, without_rowids}
 use Rattle.bag_sqlite.proofs.ItemMeanings.{item_columns, item_command, item_is, item_plain, item_terms, item_text, item_unlisted, piece_columns, piece_command, piece_is, piece_plain, piece_terms, piece_text, piece_unlisted}
 use Rattle.bag_sqlite.proofs.LayoutLemmas.{held_seen, piece_seen}
 use Rattle.bag_sqlite.proofs.NamesLemmas.{drop_zero}
@@ -61,7 +61,7 @@ module _ {o : Origin} (s new : State) (rows : List Row) (ledger : Ledger) (has :
     first_item number size [] is first second = absurd (let e : Null ≡ Int number = first in cc)
     first_item number size (row ∷ more) is first second = item_found row number size (subst (λ r. Has r row) is (inl refl)) first second
 
-    pub item_shown : (it : Option Item) → MatchOption it (rows ≡ []) (λ item. (column (slice_index_or rows 0 []) 0 ≡ Int item.number) × (column (slice_index_or rows 0 []) 1 ≡ Int (pos item.size)))
+    pub item_shown : (it : Option HeldFile) → MatchOption it (rows ≡ []) (λ item. (column (slice_index_or rows 0 []) 0 ≡ Int item.number) × (column (slice_index_or rows 0 []) 1 ≡ Int (pos item.size)))
         → MatchOption it ((number : ℤ) (size : ℕ) → ¬ HasItemRow o s.now.trees number transfer path size) (λ item. HasItemRow o s.now.trees item.number transfer path item.size)
     item_shown None none = item_missing none
     item_shown (Some item) first = first_item item.number item.size rows refl first.0 first.1

@@ -19,7 +19,7 @@ use sqlite::{Alter, Connection, Error, Row, params};
 
 /// A payload file in a database: its number and its size in octets.
 #[derive(Clone, Copy)]
-pub(crate) struct Item {
+pub(crate) struct HeldFile {
     pub(crate) number: i64,
     pub(crate) size: u64,
 }
@@ -73,7 +73,7 @@ fn item_of<S: Alter>(
     connection: &mut Connection<S>,
     name: &str,
     path: &str,
-) -> Result<Option<Item>, Error>
+) -> Result<Option<HeldFile>, Error>
     requires { connection.old.in_transaction ≡ false }
     ensures item { HasCleanDisk (state S.Store connection.new) → (ledger : Ledger)
         → HoldsLedger (state S.Store connection.old) ledger → (origin : Origin)
@@ -96,7 +96,7 @@ fn item_in<S: Alter>(
     connection: &mut Connection<S>,
     transfer: i64,
     path: &str,
-) -> Result<Option<Item>, Error>
+) -> Result<Option<HeldFile>, Error>
     requires { connection.old.in_transaction ≡ false }
     ensures item { HasCleanDisk (state S.Store connection.new) → (ledger : Ledger)
         → (origin : Origin) → ShowsLedger (Second origin) (state S.Store connection.old) ledger
@@ -118,7 +118,7 @@ fn item_in<S: Alter>(
 }
 
 /// The payload file whose number and size are in the first two columns of the first row, if there is a row.
-fn first_item(rows: &[Row]) -> Result<Option<Item>, Error>
+fn first_item(rows: &[Row]) -> Result<Option<HeldFile>, Error>
     ensures { IfOk result (λ item. MatchOption item (rows.now ≡ [])
         (λ item. (column (slice_index_or rows.now 0 []) 0 ≡ Int item.number)
         × (column (slice_index_or rows.now 0 []) 1 ≡ Int (pos item.size)))) }
@@ -128,7 +128,7 @@ fn first_item(rows: &[Row]) -> Result<Option<Item>, Error>
     };
     let number = row.get(0)?;
     let size = row.get(1)?;
-    Ok(Some(Item { number, size }))
+    Ok(Some(HeldFile { number, size }))
 }
 
 /// The piece of the payload file with this number that contains this offset, if there is one.

@@ -1,6 +1,7 @@
 //! Laws on the definitions that the contracts of this crate cite. Each function's contract is one law, and its body is
 //! empty.
 ghost use Rattle.std.specs.Prelude.{◌≡◌, ◌↔◌, IsTrue};
+ghost use Rattle.bag_digest.specs.declared.reading.TheConstants.{PIECE};
 ghost use Rattle.bag_ledger.specs.Ledgers.{Ledger};
 ghost use Rattle.bag_sqlite.specs.Databases.{AreTablesOf, IsLedgerDatabase};
 ghost use Rattle.bag_sqlite.specs.Migrating.{MigratesLedger};
@@ -13,6 +14,12 @@ ghost use Rattle.sqlite.specs.Tree.{Trees};
 use crate::keeper::SqlKeeper;
 use bag_ledger::Keeper;
 use sqlite::{Alter, Connection};
+
+/// A piece of a payload file in a ledger has at most 65,536 octets, and all but the last have as many. A ledger that was
+/// written with pieces of another length is none, so what is read at a time can change only together with the format.
+pub fn pieces_have_65536_octets()
+    ensures { PIECE ≡ 65536 }
+{}
 
 /// The tables of a database hold at most one ledger, and so does a database, whichever of them it has.
 pub fn tables_hold_one_ledger()

@@ -2,7 +2,7 @@
 ghost use Rattle.std.specs.Prelude.{◌≡◌, IfOk, None, true, vec_len};
 
 use bag_digest::{
-    Alg, AlgSet, Counted, Digest, Failed, Found, ReadFault, Source, SourceFault, digest_reader,
+    Alg, AlgSet, Counted, Digest, Failed, SourceRead, ReadFault, Source, SourceFault, digest_reader,
     digest_through, read_or_digest, read_to_end_within,
 };
 use std::alloc::{AllocError, Global};
@@ -76,13 +76,13 @@ fn a_source_is_whole_in_the_buffer_or_hashed(rt: HostRuntime) {
     let mut buffer = [0; 4];
     let mut fits = Counted::new(b"abc".as_slice());
     let found = read_or_digest(&mut buffer, &mut fits, md5(), 4);
-    assert_eq!(rt; found, Ok(Found::Whole(3)));
+    assert_eq!(rt; found, Ok(SourceRead::Whole(3)));
     assert_eq!(rt; &buffer[..3], b"abc".as_slice());
     // RFC 1321, A.5.
     let of_abc = Digest::from_hex(Alg::Md5, b"900150983cd24fb0d6963f7d28e17f72");
     let mut fills = Counted::new(b"abc".as_slice());
     match read_or_digest(&mut buffer[..3], &mut fills, md5(), 4) {
-        Ok(Found::Hashed(3, digests)) => assert_eq!(rt; digests.get(Alg::Md5), of_abc),
+        Ok(SourceRead::Hashed(3, digests)) => assert_eq!(rt; digests.get(Alg::Md5), of_abc),
         _ => assert!(rt; false),
     }
     let mut past = Counted::new(b"abcd".as_slice());

@@ -7,8 +7,8 @@ use Rattle.bag_rules.proofs.Words.{octets_in, paths_in, same_Some, Shown, slice_
 use Rattle.bag_digest.specs.Reading.{GaveAll}
 use Rattle.bag_rules.specs.declared.limits.TheConstants.{LARGEST_FILE}
 use Rattle.bag_digest.specs.declared.algorithm.AlgSet.{AlgSet}
-use Rattle.bag_digest.specs.declared.reading.Found.{Found}
-use Rattle.bag_digest.specs.declared.reading.Found.TheVariants.{Whole, Hashed}
+use Rattle.bag_digest.specs.declared.reading.SourceRead.{SourceRead}
+use Rattle.bag_digest.specs.declared.reading.SourceRead.TheVariants.{Whole, Hashed}
 use Rattle.bag_writer.specs.PayloadSteps.{AreOctetsOf, HasFrontFrom, IsCutShort, IsFoundOf, IsReadAs, IsTaken, IsReadUntil, IsReadWhole, IsWithin, unless_hole, Writes, WritesFront}
 use Rattle.bag_writer.specs.Sinks.{StaysOrIsLost, Stored, with_begun}
 use Rattle.bag_writer.specs.Steps.{ArePart, AreWhole, HasFrontOf}
@@ -39,7 +39,7 @@ module _ (path octets : List ℕ) {old mid new : Option Stored} (begun : mid ≡
   not_ended {end} written lost = λ rest. begun_lost rest (all_begun written) lost
 
 -- what was read whole was read until the sink failed
-pub until_sink : {set : AlgSet} {source left : Option (List ℕ)} {buffer : List ℕ} {found : Found} {octets : List ℕ} → IsReadWhole set source left buffer found octets → IsReadUntil source left copy.Sink octets
+pub until_sink : {set : AlgSet} {source left : Option (List ℕ)} {buffer : List ℕ} {found : SourceRead} {octets : List ℕ} → IsReadWhole set source left buffer found octets → IsReadUntil source left copy.Sink octets
 until_sink whole = record { gave = whole.gave.gave; long = λ e. cc }
 
 consumes_none : (source : Option (List ℕ)) → Consumes source source []
@@ -51,7 +51,7 @@ pub none_until : (source : Option (List ℕ)) (fault : CopyFault) → ¬ (fault 
 none_until source fault other = record { gave = consumes_none source; long = λ e. absurd (other e) }
 
 -- a file that isn't a hole is processed if it is copied
-pub taken_as_file : (set : AlgSet) (source left : Option (List ℕ)) (path octets : List ℕ) (old new : Option Stored) (buffer : List ℕ) (is_hole : Bool) → is_hole ≡ false → (result : Result Found CopyFault)
+pub taken_as_file : (set : AlgSet) (source left : Option (List ℕ)) (path octets : List ℕ) (old new : Option Stored) (buffer : List ℕ) (is_hole : Bool) → is_hole ≡ false → (result : Result SourceRead CopyFault)
     → MatchResult result (λ found. IsReadWhole set source left buffer found octets × AreWhole ((path, octets) ∷ []) old new) (λ fault. IsReadUntil source left fault octets × HasFrontFrom path octets old new)
     → MatchResult result (λ found. IsReadWhole set source left buffer found octets × AreWhole (unless_hole is_hole (path, octets)) old new) (λ fault. IsReadUntil source left fault octets × ((rest : List ℕ) → ArePart (unless_hole is_hole (path, octets ++ rest)) old new))
 taken_as_file set source left path octets old new buffer is_hole e (Ok found) copied = rw e copied
@@ -95,7 +95,7 @@ module _ (is_hole : Bool) (set : AlgSet) (shown : List ℕ × Option (List ℕ))
       )
 
   -- a file that was read whole
-  pub taken_whole : (buffer : List ℕ) (found : Found) → IsReadWhole set source left buffer found octets → AreWhole (unless_hole is_hole (path, octets)) old new
+  pub taken_whole : (buffer : List ℕ) (found : SourceRead) → IsReadWhole set source left buffer found octets → AreWhole (unless_hole is_hole (path, octets)) old new
       → (file : List ℕ × List ℕ) × IsReadAs shown file × IsTaken set is_hole file old new buffer (path, found)
   taken_whole buffer found whole written = (
     (path, octets),
@@ -104,12 +104,12 @@ module _ (is_hole : Bool) (set : AlgSet) (shown : List ℕ × Option (List ℕ))
   )
 
 -- what was found of octets is within the buffer, if it is there
-pub within_of : (set : AlgSet) (buffer : List ℕ) (found : Found) (octets : List ℕ) → IsFoundOf set buffer found octets → IsWithin buffer found
+pub within_of : (set : AlgSet) (buffer : List ℕ) (found : SourceRead) (octets : List ℕ) → IsFoundOf set buffer found octets → IsWithin buffer found
 within_of set buffer (Whole n) octets is = is.0
 within_of set buffer (Hashed n digests) octets is = tt
 
 -- a file that was written, after which there was another fault than that it is too large
-pub cut_after : (set : AlgSet) (is_hole : Bool) (file : List ℕ × List ℕ) (old new : Option Stored) (buffer : List ℕ) (found : List ℕ × Found) (fault : WriteFault) → IsTaken set is_hole file old new buffer found → ((large : Large) → ¬ (fault ≡ TooLarge large)) → IsCutShort is_hole file old new fault
+pub cut_after : (set : AlgSet) (is_hole : Bool) (file : List ℕ × List ℕ) (old new : Option Stored) (buffer : List ℕ) (found : List ℕ × SourceRead) (fault : WriteFault) → IsTaken set is_hole file old new buffer found → ((large : Large) → ¬ (fault ≡ TooLarge large)) → IsCutShort is_hole file old new fault
 cut_after set is_hole file old new buffer found fault taken other = record {
   long = λ large e. absurd (other large e);
   written = subst (λ list. ArePart list old new) (append-nil (unless_hole is_hole file)) (part_whole (unless_hole is_hole file) [] old new taken.written);

@@ -13,7 +13,7 @@ use Rattle.bag_digest.specs.declared.reading.SourceFault.TheVariants as cause
 use Rattle.bag_digest.specs.declared.algorithm.AlgSet.{AlgSet}
 use Rattle.bag_digest.specs.declared.multi.Digests.{Digests}
 use Rattle.bag_digest.specs.declared.multi.Multi.{Multi}
-use Rattle.bag_digest.specs.declared.reading.Found.TheVariants.{Hashed}
+use Rattle.bag_digest.specs.declared.reading.SourceRead.TheVariants.{Hashed}
 use Rattle.bag_rules.specs.declared.limits.TheConstants.{LARGEST_FILE}
 use Rattle.bag_writer.specs.PayloadSteps.{IsReadUntil, IsReadWhole, Writes, WritesFront}
 use Rattle.bag_writer.specs.Sinks.{Begun, Stored, with_octets}

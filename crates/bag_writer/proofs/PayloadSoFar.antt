@@ -3,7 +3,7 @@ use Rattle.std.proofs.Common.{◌≡◌, ◌≤◌, ◌+◌, ◌∷◌, [], ◌+
 use Rattle.std.proofs.lemmas.List.{take-append-drop, take_all}
 use Rattle.std.specs.List.{filter}
 use Rattle.std.specs.declared.alloc.Global.{Global}
-use Rattle.bag_digest.specs.declared.reading.Found.{Found}
+use Rattle.bag_digest.specs.declared.reading.SourceRead.{SourceRead}
 use Rattle.bag_rules.proofs.HasLemmas.{has_push}
 use Rattle.bag_rules.proofs.Words.{AreRising, cases_Bool, Files, Has, is_payload, get_or_from_slice_get, option_map, paths_in, payload_of, Shown, slice_get-map}
 use Rattle.bag_rules.specs.declared.limits.TheConstants.{LARGEST_FILE}
@@ -105,7 +105,7 @@ module _ (spec : Spec) (tree : Shown) (n : ℕ) (old new : Option Stored) (items
       next_written rest = written_on spec files (file ∷ rest) ∙ ap (λ list. written_of spec files ++ list) (written_next spec file rest mark is_one is_marked)
 
       -- a payload file that was processed
-      pub one_more : (end : Option Stored) (buffer : List ℕ) (path : List ℕ) (found : Found) (more : Items) → IsTaken spec.algs mark file new end buffer (path, found) → AddsFile spec.algs (path, file.1) items more → HasWritten spec (take (n + 1) tree.files) old end more (files ++ file ∷ [])
+      pub one_more : (end : Option Stored) (buffer : List ℕ) (path : List ℕ) (found : SourceRead) (more : Items) → IsTaken spec.algs mark file new end buffer (path, found) → AddsFile spec.algs (path, file.1) items more → HasWritten spec (take (n + 1) tree.files) old end more (files ++ file ∷ [])
       one_more end buffer path found more taken adds = record {
         read = subst (λ list. AreReadAs list (files ++ file ∷ [])) (sym next) (read_on (take n tree.files) (shown ∷ []) files (file ∷ []) so_far.read (read_as, tt));
         items_are = subst (AreItemsSoFar spec.algs more) (ap (λ p. payload_of files ++ (p, file.1) ∷ []) taken.path_is ∙ sym (next_payload [])) (adds (payload_of files) so_far.items_are);

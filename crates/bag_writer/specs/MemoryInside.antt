@@ -4,10 +4,10 @@ use Rattle.std.specs.Option.{option_map}
 use Rattle.bag_rules.specs.Memory.{bag_in}
 use Rattle.bag_writer.specs.Memory.{MemStored, tree_of}
 use Rattle.bag_writer.specs.Sinks.{Begun}
-use Rattle.bag_writer.specs.declared.memory.OpenFile.{OpenFile}
+use Rattle.bag_writer.specs.declared.memory.BegunFile.{BegunFile}
 use Rattle.bag_writer.specs.declared.memory.MemSink.TheInside.{Inside}
 
-abbrev pub begun_by : OpenFile → Begun
+abbrev pub begun_by : BegunFile → Begun
 begun_by file = record { path = file.path; octets = file.octets.items }
 
 abbrev pub view_of : Inside → MemStored

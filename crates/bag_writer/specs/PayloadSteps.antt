@@ -4,8 +4,8 @@ use Rattle.std.specs.Io.KnownBytes.{Consumes}
 use Rattle.std.specs.Option.{option_map}
 use Rattle.bag_digest.specs.Reading.{GaveAll, IsCountAndDigests}
 use Rattle.bag_digest.specs.declared.algorithm.AlgSet.{AlgSet}
-use Rattle.bag_digest.specs.declared.reading.Found.{Found}
-use Rattle.bag_digest.specs.declared.reading.Found.TheVariants.{Whole, Hashed}
+use Rattle.bag_digest.specs.declared.reading.SourceRead.{SourceRead}
+use Rattle.bag_digest.specs.declared.reading.SourceRead.TheVariants.{Whole, Hashed}
 use Rattle.bag_rules.specs.Files.{Files}
 use Rattle.bag_rules.specs.declared.limits.TheConstants.{LARGEST_FILE}
 use Rattle.bag_writer.specs.Sinks.{Stored, with_octets}
@@ -20,18 +20,18 @@ use Rattle.bag_writer.specs.declared.payload.CopyFault.TheVariants as copy
 -- OCTETS FROM A SOURCE TO A SINK
 
 -- these octets were found: they are at the front of the buffer, or this is their number with their digests
-abbrev pub IsFoundOf : AlgSet → List ℕ → Found → List ℕ → Type 0
+abbrev pub IsFoundOf : AlgSet → List ℕ → SourceRead → List ℕ → Type 0
 IsFoundOf set buffer (Whole n) octets = (n ≤ length buffer) × (take n buffer ≡ octets)
 IsFoundOf set buffer (Hashed n digests) octets = IsCountAndDigests (n, digests) set octets
 
 -- what was found is within the buffer, if it is there
-abbrev pub IsWithin : List ℕ → Found → Type 0
+abbrev pub IsWithin : List ℕ → SourceRead → Type 0
 IsWithin buffer (Whole n) = n ≤ length buffer
 IsWithin buffer (Hashed n digests) = Unit {0}
 
 -- the source was read to its end, within the limit of a file, and these octets were found
 pub record IsReadWhole (set : AlgSet) (source left : Option (List ℕ)) (buffer : List ℕ)
-    (found : Found) (octets : List ℕ) : Type 0 where
+    (found : SourceRead) (octets : List ℕ) : Type 0 where
   pub gave : GaveAll source left LARGEST_FILE octets
   pub found_is : IsFoundOf set buffer found octets
 
@@ -71,7 +71,7 @@ IsReadAs shown file = (file.0 ≡ shown.0) × AreOctetsOf shown.1 file.1
 
 -- this path and these octets were found of the file, which isn't too large and was written unless it is a hole
 pub record IsTaken (set : AlgSet) (is_hole : Bool) (file : List ℕ × List ℕ)
-    (old new : Option Stored) (buffer : List ℕ) (found : List ℕ × Found) : Type 0 where
+    (old new : Option Stored) (buffer : List ℕ) (found : List ℕ × SourceRead) : Type 0 where
   pub path_is : found.0 ≡ file.0
   pub found_is : IsFoundOf set buffer found.1 file.1
   pub within : length file.1 ≤ LARGEST_FILE

@@ -7,7 +7,7 @@ ghost use Rattle.bag_writer.specs.declared.items.TheConstants.{MOST_HELD};
 
 use crate::fault::WriteFault;
 use crate::item::Item;
-use bag_digest::{AlgSet, Found, digest_each};
+use bag_digest::{AlgSet, SourceRead, digest_each};
 use bag_path::BagPath;
 use std::alloc::Global;
 
@@ -64,7 +64,7 @@ impl Items {
         self,
         alloc: Global,
         path: BagPath,
-        found: Found,
+        found: SourceRead,
         buffer: &[u8],
     ) -> Result<Items, WriteFault>
         requires { IsWithin buffer.now found }
@@ -73,8 +73,8 @@ impl Items {
         ensures err { IfErr result (λ fault. fault ≡ WriteFault.Memory) }
     {
         match found {
-            Found::Whole(n) => self.hold(alloc, path, &buffer[..n]),
-            Found::Hashed(octets, digests) => self.add_hashed(
+            SourceRead::Whole(n) => self.hold(alloc, path, &buffer[..n]),
+            SourceRead::Hashed(octets, digests) => self.add_hashed(
                 alloc,
                 Item {
                     path,

@@ -14,7 +14,7 @@ use std::marker::Model;
 
 /// A file that was begun: its path, and the octets that it has so far.
 #[derive(Drop)]
-struct OpenFile {
+struct BegunFile {
     path: BagPath,
     octets: Vec<u8>,
 }
@@ -24,7 +24,7 @@ struct OpenFile {
 pub struct MemSink {
     alloc: Global,
     ended: MemTree,
-    begun: Option<OpenFile>,
+    begun: Option<BegunFile>,
     failures: Failures,
 }
 
@@ -103,7 +103,7 @@ impl Sink for MemSink {
         }
         match path.clone() {
             Ok(path) => {
-                self.begun = Some(OpenFile {
+                self.begun = Some(BegunFile {
                     path,
                     octets: Vec::new(self.alloc),
                 });

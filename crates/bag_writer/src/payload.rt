@@ -17,7 +17,9 @@ use crate::item::Item;
 use crate::items::Items;
 use crate::sink::Sink;
 use crate::spec::Spec;
-use bag_digest::{AlgSet, Failed, Found, Multi, PIECE, Source, SourceFault, fill, read_or_digest};
+use bag_digest::{
+    AlgSet, Failed, Multi, PIECE, Source, SourceFault, SourceRead, fill, read_or_digest,
+};
 use bag_path::BagPath;
 use bag_rules::Tree;
 use bag_rules::limits::LARGEST_FILE;
@@ -90,7 +92,7 @@ fn write_file<T: Tree, S: Sink>(
     is_hole: bool,
     set: AlgSet,
     sink: &mut S,
-) -> Result<(BagPath, Found), WriteFault>
+) -> Result<(BagPath, SourceRead), WriteFault>
     requires ready { (0 < length buffer.old) × (i < length (paths_in (T.shown tree.old))) }
     ensures taken { (shown : List ℕ × Option (List ℕ))
         → slice_get (T.shown tree.old).files i ≡ Some shown
@@ -126,7 +128,7 @@ fn copy_unless_hole<R: Source, S: Sink>(
     is_hole: bool,
     set: AlgSet,
     sink: &mut S,
-) -> Result<Found, CopyFault>
+) -> Result<SourceRead, CopyFault>
     requires { 0 < length buffer.old }
     ensures taken { (octets : List ℕ) × MatchResult result
         (λ found. IsReadWhole set (R.remaining source.old) (R.remaining source.new)
@@ -150,7 +152,11 @@ fn copy_unless_hole<R: Source, S: Sink>(
 }
 
 /// Reads a source to its end. Returns what was found.
-fn read_hole<R: Source>(buffer: &mut [u8], source: &mut R, set: AlgSet) -> Result<Found, CopyFault>
+fn read_hole<R: Source>(
+    buffer: &mut [u8],
+    source: &mut R,
+    set: AlgSet,
+) -> Result<SourceRead, CopyFault>
     requires { 0 < length buffer.old }
     ensures read { (octets : List ℕ) × MatchResult result
         (λ found. IsReadWhole set (R.remaining source.old) (R.remaining source.new)
@@ -175,7 +181,7 @@ fn copy_file<R: Source, S: Sink>(
     path: &BagPath,
     set: AlgSet,
     sink: &mut S,
-) -> Result<Found, CopyFault>
+) -> Result<SourceRead, CopyFault>
     requires { 0 < length buffer.old }
     ensures copied { (octets : List ℕ) × MatchResult result
         (λ found. IsReadWhole set (R.remaining source.old) (R.remaining source.new)
@@ -210,7 +216,7 @@ fn copy_octets<R: Source, S: Sink>(
     source: &mut R,
     set: AlgSet,
     sink: &mut S,
-) -> Result<Found, CopyFault>
+) -> Result<SourceRead, CopyFault>
     requires { 0 < length buffer.old }
     ensures copied { (octets : List ℕ) × MatchResult result
         (λ found. IsReadWhole set (R.remaining source.old) (R.remaining source.new)
@@ -234,12 +240,12 @@ fn copy_octets<R: Source, S: Sink>(
         write_piece(&buffer[..n], sink)?;
         let is_last = n < buffer.len();
         if is_last && total == 0 {
-            return Ok(Found::Whole(n));
+            return Ok(SourceRead::Whole(n));
         }
         multi.update(&buffer[..n]);
         total += n as u64;
         if is_last {
-            return Ok(Found::Hashed(total, multi.finish()));
+            return Ok(SourceRead::Hashed(total, multi.finish()));
         }
     }
 }

@@ -1,5 +1,5 @@
 use Rattle.std.proofs.Common.{FitsSigned, rules, w64, ℕ, ℤ, MatchOption, None, Option, arith, subst, ◌≡◌}
-use Rattle.bag_sqlite.proofs.Words.{content_of, Database, HasCleanDisk, HasItem, HasItemRow, Item, state, to_z-of_z}
+use Rattle.bag_sqlite.proofs.Words.{content_of, Database, HasCleanDisk, HasItem, HasItemRow, HeldFile, state, to_z-of_z}
 use Rattle.bag_sqlite.proofs.AdoptingLemmas.{queries_then}
 use Rattle.bag_sqlite.proofs.ContentLemmas.{item_told}
 use Rattle.bag_sqlite.proofs.ReadingLemmas.{if_ok, same_shown, still_shows}
@@ -17,7 +17,7 @@ returns-clause-item g c clean ledger holds o shows =
     let early : HasCleanDisk mid = omega (arith, clean, c.item_in.ensures.queries.survives.clean) in
     let left = c.in_ok-transfer.ensures.queries.left early in
     let named = rw c.in-Some.is at (c.in_ok-transfer.ensures.number early ledger holds) in
-    let is = λ (item : Option Item). MatchOption item (content_of ledger name path ≡ None) (λ item. HasItem o old.now.trees name path item.number item.size) in
+    let is = λ (item : Option HeldFile). MatchOption item (content_of ledger name path ≡ None) (λ item. HasItem o old.now.trees name path item.number item.size) in
     if_open c.item_in.result is (c.item_in.ensures.opened clean) (λ is_open.
     let still = still_shows old mid ledger left c.requires is_open shows in
     if_ok c.item_in.result _ is (λ item told.
