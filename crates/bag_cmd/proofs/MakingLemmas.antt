@@ -11,7 +11,7 @@ use Rattle.bag_receiver.specs.BeginningFrom.{Answered, AnswersTree, IsBeginning,
 use Rattle.bag_receiver.specs.Receivers.{IsInState}
 use Rattle.bag_receiver.specs.Receiving.{LedgerState}
 use Rattle.bag_rules.specs.Trees.{Shown}
-use Rattle.bag_cmd.specs.declared.ended.Ended.{Ended}
+use Rattle.bag_cmd.specs.declared.explanation.Ended.{Ended}
 use Rattle.bag_cmd.specs.declared.ledger.Ledgers.{Ghosts as Ledgers}
 use Rattle.bag_cmd.specs.declared.request.Work.{Work}
 use Rattle.bag_cmd.specs.declared.request.Work.TheVariants.{Audit, Begin, Export, Fetch, Intake, List as ListNames, Report}

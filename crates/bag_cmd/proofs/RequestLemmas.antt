@@ -83,6 +83,10 @@ pub first_taken : {X : Type 0} (xs rest : List X) (x : X) → 0 < length xs → 
 first_taken [] rest x some first others = absurd (omega arith)
 first_taken (y ∷ ys) rest x some first others = let head : y ≡ x = sym first in let tail : ys ≡ rest = sym others in cc (head, tail)
 
+-- the same of the octets that they have
+pub first_named : {X : Type 0} (octets : X → List ℕ) (xs rest : List X) (x : X) → 0 < length xs → x ≡ get_or xs 0 x → rest ≡ remove xs 0 → map octets xs ≡ octets x ∷ map octets rest
+first_named octets xs rest x some first others = ap (map octets) (first_taken xs rest x some first others)
+
 pub no_words : {X : Type 0} (xs : List X) → length xs ≡ 0 → xs ≡ []
 no_words [] none = refl
 no_words (x ∷ xs) none = absurd (omega (arith, none))

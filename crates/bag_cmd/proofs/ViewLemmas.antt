@@ -9,7 +9,7 @@ use Rattle.bag_folder.specs.Directories.{Listing}
 use Rattle.bag_receiver.specs.declared.receiver.Receiver.{Receiver}
 use Rattle.bag_receiver.specs.Receivers.{IsInState}
 use Rattle.bag_receiver.specs.Receiving.{LedgerState}
-use Rattle.bag_cmd.specs.declared.ended.Ended.{Ended}
+use Rattle.bag_cmd.specs.declared.explanation.Ended.{Ended}
 use Rattle.bag_cmd.specs.declared.ledger.Ledgers.{Ghosts as Ledgers}
 use Rattle.bag_cmd.specs.declared.request.Work.{Work}
 use Rattle.bag_cmd.specs.declared.request.Work.TheVariants.{Audit, Begin, Export, Fetch, Intake, List as ListNames, Report}

@@ -13,9 +13,9 @@ use Rattle.bag_folder.specs.declared.place.Place.TheVariants.{Base}
 use Rattle.bag_folder.specs.Directories.{Listing}
 use Rattle.bag_folder.specs.Folders.{FolderShown, IsOpened, IsRefused}
 use Rattle.bag_folder.specs.Unfits.{UnfitShown}
-use Rattle.bag_cmd.specs.declared.ended.Ended.{Ended}
+use Rattle.bag_cmd.specs.declared.explanation.Ended.{Ended}
 use Rattle.bag_cmd.specs.declared.ledger.Ledgers.{Ghosts as Ledgers}
-use Rattle.bag_cmd.specs.declared.ended.Why.TheVariants.{Unfit}
+use Rattle.bag_cmd.specs.declared.explanation.Why.TheVariants.{Unfit}
 use Rattle.bag_cmd.specs.declared.request.Request.{Request}
 use Rattle.bag_cmd.specs.declared.request.Request.TheVariants.{Check, Ledger, Make}
 use Rattle.bag_cmd.specs.Endings.{why_unchecked}

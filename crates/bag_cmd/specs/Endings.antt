@@ -17,11 +17,11 @@ use Rattle.bag_receiver.specs.declared.run.TheConstants.{MOST_DELIVERIES}
 use Rattle.bag_writer.specs.Writing.{payload_paths}
 use Rattle.bag_writer.specs.declared.fault.Large.{Large}
 use Rattle.bag_writer.specs.declared.fault.Large.TheVariants as large
-use Rattle.bag_cmd.specs.declared.ended.Ended.{Ended}
-use Rattle.bag_cmd.specs.declared.excess.Limit.{Limit}
-use Rattle.bag_cmd.specs.declared.excess.Limit.TheVariants as limit
-use Rattle.bag_cmd.specs.declared.ended.Why.{Why}
-use Rattle.bag_cmd.specs.declared.ended.Why.TheVariants.{Empty, Exceeds, Ledger, Unfit}
+use Rattle.bag_cmd.specs.declared.explanation.Ended.{Ended}
+use Rattle.bag_cmd.specs.declared.limit.Limit.{Limit}
+use Rattle.bag_cmd.specs.declared.limit.Limit.TheVariants as limit
+use Rattle.bag_cmd.specs.declared.explanation.Why.{Why}
+use Rattle.bag_cmd.specs.declared.explanation.Why.TheVariants.{Empty, Exceeds, Ledger, Unfit}
 use Rattle.bag_cmd.specs.declared.unopened.LedgerCause.{LedgerCause}
 
 -- a command with this status, of which nothing is told

@@ -29,8 +29,8 @@ use Rattle.sqlite_wal.specs.Recovery.{Image}
 use Rattle.bag_cmd.specs.Unopened.{HasNoAnswer, cause_of_fault, cause_seen}
 use Rattle.bag_cmd.specs.declared.found.Found.TheVariants.{Empty, File, Nothing, Other}
 use Rattle.bag_cmd.specs.declared.found.Seen.{Seen}
-use Rattle.bag_cmd.specs.declared.open_file.Closed.{Closed}
-use Rattle.bag_cmd.specs.declared.open_file.Closed.TheVariants as closed
+use Rattle.bag_cmd.specs.declared.open_ledger.Closed.{Closed}
+use Rattle.bag_cmd.specs.declared.open_ledger.Closed.TheVariants as closed
 use Rattle.bag_cmd.specs.declared.unopened.Left.{Left}
 use Rattle.bag_cmd.specs.declared.unopened.Left.TheVariants as left
 use Rattle.bag_cmd.specs.declared.unopened.LedgerCause.TheVariants.{NoDatabase as IsNoDatabase}

@@ -10,8 +10,8 @@ use Rattle.bag_commands.specs.Printing.{Printed}
 use Rattle.bag_commands.specs.StopTexts.{stop_text}
 use Rattle.bag_cmd.specs.declared.commands.make.Made.{Made}
 use Rattle.bag_cmd.specs.declared.commands.make.Making.{Making}
-use Rattle.bag_cmd.specs.declared.ended.Ended.{Ended}
-use Rattle.bag_cmd.specs.declared.ended.Why.TheVariants.{Unfit}
+use Rattle.bag_cmd.specs.declared.explanation.Ended.{Ended}
+use Rattle.bag_cmd.specs.declared.explanation.Why.TheVariants.{Unfit}
 use Rattle.bag_folder.specs.declared.fault.OpenFault.{OpenFault}
 use Rattle.bag_folder.specs.declared.place.Place.TheVariants.{Payload}
 use Rattle.bag_folder.specs.Directories.{Listing, in_payload}

@@ -29,9 +29,9 @@ use Rattle.bag_commands.specs.Viewing.{IsValidIfZero}
 use Rattle.bag_commands.specs.ViewTexts.{view_lines, view_status}
 use Rattle.bag_folder.specs.declared.fault.OpenFault.{OpenFault}
 use Rattle.bag_folder.specs.declared.place.Place.TheVariants.{Base}
-use Rattle.bag_cmd.specs.declared.ended.Ended.{Ended}
-use Rattle.bag_cmd.specs.declared.ended.Why.{Why}
-use Rattle.bag_cmd.specs.declared.ended.Why.TheVariants.{Unfit}
+use Rattle.bag_cmd.specs.declared.explanation.Ended.{Ended}
+use Rattle.bag_cmd.specs.declared.explanation.Why.{Why}
+use Rattle.bag_cmd.specs.declared.explanation.Why.TheVariants.{Unfit}
 use Rattle.bag_cmd.specs.declared.request.Work.{Work}
 use Rattle.bag_cmd.specs.declared.request.Work.TheVariants.{Audit, Begin, Export, Fetch, Intake, List as ListNames, Report}
 use Rattle.bag_folder.specs.Bringing.{Bringing, courier_of, to_come}

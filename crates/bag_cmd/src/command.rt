@@ -5,7 +5,7 @@ ghost use Rattle.bag_cmd.specs.Answers.{Refuses, Runs, RunsCommand};
 use crate::commands::check::check_folder;
 use crate::commands::ledger::work_on_ledger;
 use crate::commands::make::{Making, make_folder};
-use crate::ended::Ended;
+use crate::explanation::Ended;
 use crate::ledger::Ledgers;
 use crate::request::{Request, operands};
 use crate::system::System;

@@ -6,7 +6,7 @@ ghost use Rattle.bag_commands.specs.StopTexts.{stop_text};
 ghost use Rattle.bag_cmd.specs.Endings.{why_unopened};
 ghost use Rattle.bag_cmd.specs.Stops.{stop_of_open};
 
-use crate::ended::{Ended, Why};
+use crate::explanation::{Ended, Why};
 use bag_commands::{Output, Stop, print_stop};
 use bag_folder::OpenFault;
 use std::io::Write;

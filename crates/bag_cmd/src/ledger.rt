@@ -8,7 +8,7 @@ ghost use Rattle.bag_cmd.specs.declared.unopened.Unopened.{Unopened};
 ghost use Rattle.sqlite_wal.specs.Files.{image_at};
 
 use crate::ledger_file::{LedgerFile, OpenedFile, UnopenedFile};
-use crate::open_file::{Closed, FileKeeper, OpenFile};
+use crate::open_ledger::{Closed, FileKeeper, OpenLedger};
 use crate::progress::Progress;
 use crate::unopened::{LedgerCause, Left, Unopened};
 use bag_ledger::Keeper;
@@ -164,7 +164,7 @@ impl<'a, S: Start> Ledgers for LedgerFiles<'a, S> {
 
     type Kept = FileKeeper<S>;
 
-    type File = OpenFile<'a, S>;
+    type File = OpenLedger<'a, S>;
 
     type Left = Left<S, FileFrom<S>>;
 
@@ -203,11 +203,11 @@ impl<'a, S: Start> Ledgers for LedgerFiles<'a, S> {
         }
     }
 
-    fn close(file: OpenFile<'a, S>, kept: FileKeeper<S>) -> Closed<FileFrom<S>> {
+    fn close(file: OpenLedger<'a, S>, kept: FileKeeper<S>) -> Closed<FileFrom<S>> {
         file.close(kept)
     }
 
-    fn give_up(file: OpenFile<'a, S>, kept: FileKeeper<S>) -> Closed<FileFrom<S>> {
+    fn give_up(file: OpenLedger<'a, S>, kept: FileKeeper<S>) -> Closed<FileFrom<S>> {
         file.give_up(kept)
     }
 

@@ -9,7 +9,7 @@ use crate::found::{Found, Seen, is_absence};
 use crate::ledger::Opened;
 use crate::locked_file::LockedFile;
 use crate::meter::{Activity, Meter};
-use crate::open_file::{FileKeeper, OpenFile};
+use crate::open_ledger::{FileKeeper, OpenLedger};
 use crate::progress::Progress;
 use crate::unopened::{Left, Unopened};
 use bag_sqlite::has_nothing;
@@ -18,7 +18,7 @@ use sqlite_disk::Disk;
 use std::fs;
 
 /// The ledger in a file. `S` says what the file held when it was opened.
-pub type OpenedFile<'a, S> = Opened<FileKeeper<S>, OpenFile<'a, S>>;
+pub type OpenedFile<'a, S> = Opened<FileKeeper<S>, OpenLedger<'a, S>>;
 
 /// Why the ledger in a file wasn't opened.
 pub type UnopenedFile<S> = Unopened<Left<S, FileFrom<S>>>;

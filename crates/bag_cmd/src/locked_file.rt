@@ -13,7 +13,7 @@ use crate::handle::Handle;
 use crate::ledger::Opened;
 use crate::ledger_file::{OpenedFile, UnopenedFile};
 use crate::meter::Meter;
-use crate::open_file::OpenFile;
+use crate::open_ledger::OpenLedger;
 use crate::unopened::{LedgerCause, Left, Unopened};
 use bag_sqlite::{NotAdopted, NotCreated, SqlKeeper};
 use sqlite::{Connection, FileFrom, FileStore, Files, Leftover, Options, Start};
@@ -158,7 +158,7 @@ impl<'a, S: Start> LockedFile<'a, S> {
         ensures file { IfOk result (λ it. it.file.locked ≡ self.entry) }
     {
         match SqlKeeper::adopt_watched(connection, meter) {
-            Ok(keeper) => Ok(Opened::found(keeper, OpenFile::new(self))),
+            Ok(keeper) => Ok(Opened::found(keeper, OpenLedger::new(self))),
             Err(NotAdopted { fault, connection }) => {
                 let _ = self.abandon().leave_log();
                 Err(Unopened::unadopted(fault, connection))
@@ -179,7 +179,7 @@ impl<'a, S: Start> LockedFile<'a, S> {
         ensures file { IfOk result (λ it. it.file.locked ≡ self.entry) }
     {
         match SqlKeeper::create(connection) {
-            Ok(keeper) => Ok(Opened::made(keeper, OpenFile::new(self))),
+            Ok(keeper) => Ok(Opened::made(keeper, OpenLedger::new(self))),
             Err(
                 NotCreated {
                     fault,

@@ -3,10 +3,10 @@ ghost use Rattle.std.specs.Prelude.{◌≡◌, []};
 ghost use Rattle.bag_ledger.specs.Keeping.{IsPieceAt};
 ghost use Rattle.bag_ledger.specs.Stored.{HoldsItself};
 
+use crate::content_checks::{test_content, test_octets};
 use crate::fault::{KeepFault, PutFault};
 use crate::keeper::Keeper;
 use crate::stored::{Transfers, add_item, add_transfer, body_of, names_in, sizes_in};
-use crate::testing::{test_content, test_octets};
 use bag_digest::{Source, piece_buffer, read_to_end_within};
 use bag_path::BagPath;
 use bag_rules::limits::LARGEST_ITEM;

@@ -2,7 +2,7 @@
 use Rattle.std.proofs.Common.{◌≡◌, ℕ, List, Option, None, length, refl, sym, ◌∙◌, inl, inr, arith}
 use Rattle.std.specs.List.{list_all}
 use Rattle.bag_receiver.specs.Names.{is_of_names}
-use Rattle.bag_receiver.specs.declared.name.TheConstants.{LONGEST_NAME}
+use Rattle.bag_receiver.specs.declared.transfer_name.TheConstants.{LONGEST_NAME}
 use Rattle.bag_receiver.proofs.Words.{Decided, decided_at_most, decided_true, IsNamed, IsTransferName, Ledger, Transfer, transfer_of}
 
 pub name_or_not : (text : List ℕ) → Decided (IsTransferName text)

@@ -3,7 +3,7 @@ use Rattle.std.specs.Prelude.{◌≡◌, ◌≤◌, ◌<◌, ◌||◌, ◌==◌,
 use Rattle.std.specs.Char.{is_ascii_lowercase, is_ascii_digit}
 use Rattle.std.specs.List.{list_all}
 use Rattle.bag_ledger.specs.Ledgers.{Ledger, Transfer, transfer_of}
-use Rattle.bag_receiver.specs.declared.name.TheConstants.{LONGEST_NAME}
+use Rattle.bag_receiver.specs.declared.transfer_name.TheConstants.{LONGEST_NAME}
 
 -- a lowercase letter, a digit or `-`
 abbrev pub is_of_names : ℕ → Bool

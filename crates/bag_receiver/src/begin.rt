@@ -12,8 +12,8 @@ ghost use Rattle.bag_receiver.specs.Names.{IsTransferName};
 ghost use Rattle.bag_receiver.specs.Receivers.{Does};
 ghost use Rattle.bag_receiver.specs.Stops.{with_file};
 
-use crate::name::is_name;
 use crate::receiver::{Receiver, keep_plan};
+use crate::transfer_name::is_name;
 use bag_ledger::{KeepFault, Keeper};
 use bag_path::BagPath;
 use bag_rules::limits::LARGEST_TAG_FILE;

@@ -7,8 +7,8 @@ ghost use Rattle.bag_receiver.specs.BeginningInside.{IsMetAt, IsRefusal, OpenWit
 ghost use Rattle.bag_receiver.specs.Names.{IsTransferName};
 
 use crate::begin::{BeginFault, Begun};
-use crate::name::is_name;
 use crate::receiver::Receiver;
+use crate::transfer_name::is_name;
 use bag_digest::{ReadFault, piece_buffer, read_to_end_within};
 use bag_ledger::{KeepFault, Keeper};
 use bag_rules::limits::LARGEST_TAG_FILE;

@@ -19,8 +19,8 @@ ghost use Rattle.bag_receiver.specs.Receiving.{LedgerState};
 ghost use Rattle.bag_receiver.specs.declared.export.ExportFault.TheVariants.{Keeper as NotKept, NoTransfer, Sink as SinkFailed};
 
 use crate::held::next_piece;
-use crate::name::is_name;
 use crate::receiver::Receiver;
+use crate::transfer_name::is_name;
 use bag_digest::{Failed, piece_buffer};
 use bag_ledger::{KeepFault, Keeper};
 use bag_path::BagPath;

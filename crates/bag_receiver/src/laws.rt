@@ -12,7 +12,7 @@ ghost use Rattle.bag_ledger.specs.declared.fault.KeepFault.{KeepFault};
 ghost use Rattle.bag_receiver.specs.declared.answer.Answer.{Answer};
 ghost use Rattle.bag_receiver.specs.declared.answer.Answer.TheVariants.{Refused, Taken};
 ghost use Rattle.bag_receiver.specs.declared.answer.DeliverFault.TheVariants.{Keeper};
-ghost use Rattle.bag_receiver.specs.declared.name.TheConstants.{LONGEST_NAME};
+ghost use Rattle.bag_receiver.specs.declared.transfer_name.TheConstants.{LONGEST_NAME};
 ghost use Rattle.bag_receiver.specs.declared.run.TheConstants.{MOST_DELIVERIES};
 ghost use Rattle.bag_receiver.specs.Deliveries.{Accepts, AcceptsPassing, AreAccepted, Content, Delivery, HasOneContent, IsAcceptance, IsAccepted, IsDue, IsFirstHeld, OneContent, PassesIn, Unread, Whole};
 ghost use Rattle.bag_receiver.specs.Names.{IsNamed};

@@ -12,7 +12,7 @@ ghost use Rattle.bag_receiver.specs.Receiving.{LedgerState};
 ghost use Rattle.bag_receiver.specs.Receivers.{Does, IsInState, IsKept, plans_in};
 ghost use Rattle.bag_receiver.specs.ReceiversInside.{IsPlanned, Same};
 
-use crate::name::is_name;
+use crate::transfer_name::is_name;
 use bag_ledger::{KeepFault, Keeper};
 use bag_rules::{Plan, PlanFault};
 use std::alloc::{AllocError, Global};

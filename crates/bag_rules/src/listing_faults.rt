@@ -9,10 +9,10 @@ ghost use Rattle.bag_rules.specs.ReadingInside.{Adds, AreTextsOf};
 ghost use Rattle.bag_rules.specs.Trees.{paths_in};
 
 use crate::fault::Fault;
-use crate::listed::unlisted_in;
 use crate::outcome::CheckFault;
 use crate::tag_files::Texts;
 use crate::tree::{Paths, find};
+use crate::unlisted::unlisted_in;
 use bag_digest::Alg;
 use bag_path::{BagPath, Version};
 use bag_tags::{Manifest, ManifestName, Pair};

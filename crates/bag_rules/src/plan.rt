@@ -5,12 +5,12 @@ ghost use Rattle.bag_rules.specs.Trees.{AreRising};
 
 use crate::clash::first_clash;
 use crate::fault::Fault;
-use crate::item_faults::add_item_faults;
-use crate::opening::{first_large, open_texts, open_version};
+use crate::opening_faults::{first_large, open_texts, open_version};
 use crate::outcome::OutsideCause;
 use crate::report::Report;
 use crate::tag_files::Texts;
 use crate::tag_set::TagSet;
+use crate::transfer_faults::add_item_faults;
 use crate::want::Want;
 use crate::wants::{Lengths, lengths_by_path, want_of};
 use bag_path::BagPath;

@@ -1,5 +1,5 @@
 //! What a file has to be, by what the tag files say about its path (RFC 8493 sections 2.1.3, 2.2.1 and 2.2.3).
-use crate::listed::first_of;
+use crate::unlisted::first_of;
 use bag_digest::{Alg, AlgSet, Digests};
 use bag_path::BagPath;
 use bag_tags::Manifest;

@@ -15,7 +15,7 @@ use crate::format::Format;
 use crate::health::Health;
 use crate::keeper::SqlKeeper;
 use crate::migrating::migrate;
-use crate::reading::query;
+use crate::queries::query;
 use crate::verifying::verify_transfers;
 use crate::watch::{Unwatched, Watch};
 use sqlite::types::ValueRef;

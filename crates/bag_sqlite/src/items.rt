@@ -12,7 +12,7 @@ ghost use Rattle.sqlite.specs.Order.{column};
 ghost use Rattle.sqlite.specs.State.{HasCleanDisk};
 ghost use Rattle.sqlite.specs.declared.types.Value.TheVariants.{Blob, Int};
 
-use crate::reading::query;
+use crate::queries::query;
 use crate::transfers::transfer_number;
 use bag_digest::PIECE;
 use sqlite::{Alter, Connection, Error, Row, params};

@@ -12,12 +12,12 @@ ghost use Rattle.bag_sqlite.specs.declared.health.Health.{Health};
 ghost use Rattle.sqlite.specs.Held.{Held, state};
 ghost use Rattle.sqlite.specs.State.{HasCleanDisk, Survives};
 
+use crate::beginning::begin_transfer;
 use crate::health::Health;
 use crate::making::make_ledger;
 use crate::octets::Octets;
-use crate::opening::begin_transfer;
 use crate::putting::put_content;
-use crate::{items, reading, transfers};
+use crate::{items, queries, transfers};
 use bag_digest::{Source, piece_buffer};
 use bag_ledger::{KeepFault, Keeper, PutFault};
 use bag_path::BagPath;
@@ -197,7 +197,7 @@ impl<S: Alter> Keeper for SqlKeeper<S> {
     fn names(&mut self, alloc: Global) -> Result<Vec<String>, KeepFault> {
         self.health.test()?;
         self.health
-            .answer(reading::names(alloc, &mut self.connection))
+            .answer(queries::names(alloc, &mut self.connection))
     }
 
     /// Counts as any other failure of the store.

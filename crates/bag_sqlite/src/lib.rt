@@ -3,6 +3,7 @@
 
 mod adopting;
 mod batch;
+mod beginning;
 mod content;
 mod format;
 mod health;
@@ -12,9 +13,8 @@ pub mod laws;
 mod making;
 mod migrating;
 mod octets;
-mod opening;
 mod putting;
-mod reading;
+mod queries;
 mod rows;
 mod transfers;
 mod verifying;

@@ -15,7 +15,7 @@ ghost use Rattle.sqlite.specs.Order.{column};
 ghost use Rattle.sqlite.specs.State.{HasCleanDisk};
 ghost use Rattle.sqlite.specs.declared.types.Value.TheVariants.{Int};
 
-use crate::reading::query;
+use crate::queries::query;
 use bag_path::{BagPath, PathFault};
 use bag_rules::{ItemSize, TagSet, TagSetFault};
 use sqlite::{Alter, Connection, Error, ErrorCode, Row, params};

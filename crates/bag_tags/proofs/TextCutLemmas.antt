@@ -9,8 +9,8 @@ use Rattle.std.proofs.lemmas.Bool.Decides.{nat_tests}
 use Rattle.std.proofs.lemmas.Str.{IsUtf8-take, IsUtf8-from_ascii, IsCharBoundary-before_ascii, IsCharBoundary-start, chars-append, scalars-chars, encodes-append, encodes-chars}
 use Rattle.bag_tags.specs.Words.{is_blank, IsBlank, is_blank_line, begins_blank, without}
 use Rattle.bag_tags.specs.WordsReading.{until, stops, is_not_blank}
-use Rattle.bag_tags.specs.declared.words.Stop.{Stop}
-use Rattle.bag_tags.specs.declared.words.Stop.TheVariants.{Blank, NoBlank}
+use Rattle.bag_tags.specs.declared.splitting.Stop.{Stop}
+use Rattle.bag_tags.specs.declared.splitting.Stop.TheVariants.{Blank, NoBlank}
 use Rattle.bag_tags.proofs.WordsLemmas.{each, until_whole, until_front, begins_with, unblank_rest}
 use Rattle.std.proofs.lemmas.Slice.Eq.{bytes_eq-Decides}
 use Rattle.std.proofs.Math.Utf8.{scalars, encodes}

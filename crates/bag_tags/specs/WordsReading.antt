@@ -1,8 +1,8 @@
 -- How a line is cut: the list up to the first element that passes a test, and what follows.
 use Rattle.std.specs.Prelude.{◌==◌, ℕ, Bool, not, List, [], ◌∷◌, if◌then◌else◌}
 use Rattle.bag_tags.specs.Octets.{colon, dot}
-use Rattle.bag_tags.specs.declared.words.Stop.{Stop}
-use Rattle.bag_tags.specs.declared.words.Stop.TheVariants.{Blank, NoBlank, Dot, Colon}
+use Rattle.bag_tags.specs.declared.splitting.Stop.{Stop}
+use Rattle.bag_tags.specs.declared.splitting.Stop.TheVariants.{Blank, NoBlank, Dot, Colon}
 use Rattle.bag_tags.specs.Words.{is_blank}
 
 unfoldable pub until : (ℕ → Bool) → List ℕ → List ℕ × List ℕ

@@ -7,7 +7,7 @@ ghost use Rattle.bag_tags.specs.Declarations.{IsDeclaration, IsDeclarationFault,
 ghost use Rattle.bag_tags.specs.declared.declaration.DeclFault.{DeclFault};
 
 use crate::number::read_number;
-use crate::words::{MARK, Stop, split_at_first};
+use crate::splitting::{MARK, Stop, split_at_first};
 use bag_path::{Lines, Version};
 use std::alloc::{AllocError, Global};
 use thiserror::Error;

@@ -3,7 +3,7 @@ ghost use Rattle.std.specs.Prelude.{◌≡◌, ◌↔◌, ◌<◌, IsTrue, drop,
 ghost use Rattle.std.specs.List.{AllByRecursion};
 ghost use Rattle.bag_tags.specs.FetchEntries.{IsUrl, IsScheme, IsSchemeOctet, IsUrlOctet};
 
-use crate::words::{Stop, split_at_first};
+use crate::splitting::{Stop, split_at_first};
 use bag_path::BagPath;
 use std::alloc::{AllocError, Global};
 use std::marker::Model;

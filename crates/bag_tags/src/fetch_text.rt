@@ -14,7 +14,7 @@ use crate::fetch::{Fetch, FetchEntry, FetchEntryFault, FetchLine, is_url};
 use crate::number::read_number;
 use crate::path_text::read_path;
 use crate::reading::{TagLines, read_onto};
-use crate::words::{Stop, split_text};
+use crate::splitting::{Stop, split_text};
 use bag_path::{Version, escape};
 use std::alloc::{AllocError, Global};
 

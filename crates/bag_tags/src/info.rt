@@ -4,7 +4,7 @@ ghost use Rattle.std.specs.List.{AllByRecursion};
 ghost use Rattle.bag_tags.specs.Infos.{IsFit, IsLabel, IsLabelOctet, IsValue};
 ghost use Rattle.bag_tags.specs.InfoReading.{stops_value};
 
-use crate::words::{MARK, is_blank};
+use crate::splitting::{MARK, is_blank};
 use std::alloc::{AllocError, Global};
 use std::marker::Model;
 use thiserror::Error;

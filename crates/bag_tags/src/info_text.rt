@@ -13,7 +13,7 @@ ghost use Rattle.bag_tags.specs.InfoText.{Continues, GivesElement, GivesNoElemen
 use crate::fault::{LineCause, TagCause, TagFault};
 use crate::info::{Element, ElementFault, Info};
 use crate::reading::{TagLines, read_onto};
-use crate::words::{Stop, begins_blank, is_blank, split_text};
+use crate::splitting::{Stop, begins_blank, is_blank, split_text};
 use bag_path::Version;
 use std::alloc::{AllocError, Global};
 

@@ -35,4 +35,4 @@ mod oxum;
 mod path_text;
 mod pieces;
 mod reading;
-mod words;
+mod splitting;

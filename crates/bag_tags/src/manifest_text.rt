@@ -10,7 +10,7 @@ use crate::listing::{Kind, Pair, PushFault};
 use crate::manifest::Manifest;
 use crate::path_text::read_path;
 use crate::reading::{TagLines, read_onto};
-use crate::words::{Stop, split_text};
+use crate::splitting::{Stop, split_text};
 use bag_digest::{Alg, Digest};
 use bag_path::Version;
 use std::alloc::Global;

@@ -9,7 +9,7 @@ ghost use Rattle.bag_tags.specs.ManifestWriting.{needs_dot, written_path, writte
 
 use crate::listing::Pair;
 use crate::manifest::Manifest;
-use crate::words::is_blank;
+use crate::splitting::is_blank;
 use bag_path::{BagPath, escape};
 use std::alloc::{AllocError, Global};
 

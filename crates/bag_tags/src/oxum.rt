@@ -4,7 +4,7 @@ ghost use Rattle.bag_tags.specs.Oxums.{OxumText, written_oxum};
 ghost use Rattle.bag_tags.specs.declared.oxum.Oxum.{Oxum};
 
 use crate::number::read_number;
-use crate::words::{Stop, is_blank_line, split_at_first};
+use crate::splitting::{Stop, is_blank_line, split_at_first};
 use std::alloc::{AllocError, Global};
 
 /// The size of a payload: how many octets it has, in how many files (streams).

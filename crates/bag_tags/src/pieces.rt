@@ -9,7 +9,7 @@ ghost use Rattle.bag_tags.specs.TagLines.{Faults, IsTextOf, LeadsOn, RefusedAt, 
 use crate::fault::TagFault;
 use crate::last_line::LastLine;
 use crate::reading::{TagLines, read_numbered};
-use crate::words::{MARK, without};
+use crate::splitting::{MARK, without};
 use bag_path::{Ending, Lines, Version};
 
 /// Reads the lines that end in the next piece, and keeps the octets of the last one. After an `Err` the value is not

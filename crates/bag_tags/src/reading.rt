@@ -22,7 +22,7 @@ ghost use Rattle.bag_tags.specs.Words.{is_blank_line};
 use crate::fault::{LineCause, LineFault, TagCause, TagFault};
 use crate::last_line::LastLine;
 use crate::pieces::{read_end, read_ended};
-use crate::words::is_blank_line;
+use crate::splitting::is_blank_line;
 use bag_path::Version;
 use std::alloc::Global;
 use std::str;

@@ -4,8 +4,8 @@ use Rattle.std.specs.Option.{option_map}
 use Rattle.bag_rules.specs.Memory.{bag_in}
 use Rattle.bag_writer.specs.Memory.{MemStored, tree_of}
 use Rattle.bag_writer.specs.Sinks.{Begun}
-use Rattle.bag_writer.specs.declared.memory.BegunFile.{BegunFile}
-use Rattle.bag_writer.specs.declared.memory.MemSink.TheInside.{Inside}
+use Rattle.bag_writer.specs.declared.mem_sink.BegunFile.{BegunFile}
+use Rattle.bag_writer.specs.declared.mem_sink.MemSink.TheInside.{Inside}
 
 abbrev pub begun_by : BegunFile → Begun
 begun_by file = record { path = file.path; octets = file.octets.items }

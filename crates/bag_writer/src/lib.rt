@@ -2,7 +2,7 @@
 #![tactic(auto)]
 
 pub use fault::{Large, WriteFault};
-pub use memory::MemSink;
+pub use mem_sink::MemSink;
 pub use sink::{Sink, add_file};
 pub use spec::{Hole, Spec};
 pub use writing::{payload_count, write_bag};
@@ -15,7 +15,7 @@ mod item;
 mod items;
 pub mod laws;
 mod measuring;
-mod memory;
+mod mem_sink;
 mod payload;
 mod sink;
 mod spec;

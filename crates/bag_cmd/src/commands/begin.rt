@@ -2,7 +2,7 @@
 ghost use Rattle.bag_cmd.specs.Working.{BeginsWith};
 
 use super::stop_for_folder;
-use crate::ended::{Ended, Why};
+use crate::explanation::{Ended, Why};
 use crate::system::System;
 use bag_commands::{Output, begin_to};
 use bag_digest::Source;

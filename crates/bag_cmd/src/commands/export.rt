@@ -2,7 +2,7 @@
 ghost use Rattle.bag_cmd.specs.Working.{ExportsInto};
 
 use super::stop_for_folder;
-use crate::ended::{Ended, Why};
+use crate::explanation::{Ended, Why};
 use crate::meter::{Activity, Meter};
 use crate::system::System;
 use crate::watched::Watched;

@@ -2,7 +2,7 @@
 ghost use Rattle.bag_cmd.specs.Working.{FetchesFrom};
 
 use super::stop_for_folder;
-use crate::ended::Ended;
+use crate::explanation::Ended;
 use crate::meter::{Activity, Meter};
 use crate::system::System;
 use crate::watched::Watched;

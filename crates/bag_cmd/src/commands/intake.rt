@@ -8,8 +8,8 @@ ghost use Rattle.bag_cmd.specs.Endings.{first_name, name_if, name_if_crowded, na
 ghost use Rattle.bag_cmd.specs.Working.{AreOpened, SomeIsRefused, TakesInFrom};
 
 use super::stop_for_folder;
-use crate::ended::{Ended, Why};
-use crate::excess::{FolderName, Limit};
+use crate::explanation::{Ended, Why};
+use crate::limit::{FolderName, Limit};
 use crate::meter::{Activity, Meter};
 use crate::system::System;
 use crate::watched::Watched;

@@ -12,7 +12,7 @@ use super::begin::begin_with_folder;
 use super::export::export_into_folder;
 use super::fetch::fetch_from_folder;
 use super::intake::intake_folders;
-use crate::ended::{Ended, Why};
+use crate::explanation::{Ended, Why};
 use crate::ledger::{Ledgers, Opened};
 use crate::meter::{Activity, Meter};
 use crate::request::Work;

@@ -4,8 +4,8 @@ ghost use Rattle.bag_cmd.specs.Endings.{limit_of, why_unmade};
 ghost use Rattle.bag_cmd.specs.Making.{MakesFolder, MakesInto, PrintsMake, make_end, words_given};
 
 use super::stop_for_folder;
-use crate::ended::{Ended, Why};
-use crate::excess::Limit;
+use crate::explanation::{Ended, Why};
+use crate::limit::Limit;
 use crate::meter::{Activity, Meter};
 use crate::system::System;
 use crate::watched::Watched;

@@ -1,7 +1,7 @@
 use Rattle.std.proofs.Common.{◌≡◌, ◌≢◌, ◌<◌, ◌∷◌, ◌∙◌, [], None, Some, ap, length, map, refl, rules, string_bytes, sym}
 use Rattle.bag_cmd.specs.Answers.{Named, NoCommand, NoWords}
 use Rattle.bag_cmd.specs.Requests.{operands_of}
-use Rattle.bag_cmd.proofs.RequestLemmas.{asked, first_taken, no_operands, no_words, none_named, not_asked}
+use Rattle.bag_cmd.proofs.RequestLemmas.{asked, first_named, no_operands, no_words, none_named, not_asked}
 use Rattle.bag_cmd.proofs.command.command.Goals as goal
 
 pub returns-then-is_empty : goal.returns-then-is_empty
@@ -14,8 +14,7 @@ returns-in-None g c =
     let words = c.args.words.items in
     let rest = map string_bytes c.remove-name.new.self.items in
     let some : 0 < length words = search rules in
-    let first = first_taken words c.remove-name.new.self.items c.remove-name.result some c.remove-name.ensures.value c.remove-name.ensures.items in
-    let is : map string_bytes words ≡ c.as_str.result.now ∷ rest = ap (map string_bytes) first ∙ ap (λ name. name ∷ rest) (sym c.as_str.ensures.value) in
+    let is : map string_bytes words ≡ c.as_str.result.now ∷ rest = first_named string_bytes words c.remove-name.new.self.items c.remove-name.result some c.remove-name.ensures.value c.remove-name.ensures.items ∙ ap (λ name. name ∷ rest) (sym c.as_str.ensures.value) in
     let given : operands_of rest ≡ Some (map string_bytes c.as_slice.result.now) = sym c.in-Some.ensures ∙ ap (λ operands. Some (map string_bytes operands)) (sym c.as_slice.ensures.value) in
     rw c.plain-in-None.ensures (NoCommand (λ none. absurd (cc (is, none))) (not_asked (map string_bytes words) rest c.as_str.result.now is _ given c.in-None.ensures.none) refl c.refuse-in-None.ensures refl)
 
@@ -24,8 +23,7 @@ returns-in_default-operands g c =
     let words = c.args.words.items in
     let rest = map string_bytes c.remove-name.new.self.items in
     let some : 0 < length words = search rules in
-    let first = first_taken words c.remove-name.new.self.items c.remove-name.result some c.remove-name.ensures.value c.remove-name.ensures.items in
-    let is : map string_bytes words ≡ string_bytes c.remove-name.result ∷ rest = ap (map string_bytes) first in
+    let is : map string_bytes words ≡ string_bytes c.remove-name.result ∷ rest = first_named string_bytes words c.remove-name.new.self.items c.remove-name.result some c.remove-name.ensures.value c.remove-name.ensures.items in
     let none : operands_of rest ≡ None = sym (rw c.in_default-operands.is at c.operands.ensures) in
     rw c.plain-in_default-operands.ensures (NoCommand (λ empty. absurd (cc (is, empty))) (no_operands (map string_bytes words) rest (string_bytes c.remove-name.result) is none) refl c.refuse.ensures refl)
 
@@ -34,7 +32,6 @@ returns-in-Some-of g c =
     let words = c.args.words.items in
     let rest = map string_bytes c.remove-name.new.self.items in
     let some : 0 < length words = search rules in
-    let first = first_taken words c.remove-name.new.self.items c.remove-name.result some c.remove-name.ensures.value c.remove-name.ensures.items in
-    let is : map string_bytes words ≡ c.as_str.result.now ∷ rest = ap (map string_bytes) first ∙ ap (λ name. name ∷ rest) (sym c.as_str.ensures.value) in
+    let is : map string_bytes words ≡ c.as_str.result.now ∷ rest = first_named string_bytes words c.remove-name.new.self.items c.remove-name.result some c.remove-name.ensures.value c.remove-name.ensures.items ∙ ap (λ name. name ∷ rest) (sym c.as_str.ensures.value) in
     let given : operands_of rest ≡ Some (map string_bytes c.as_slice.result.now) = sym c.in-Some.ensures ∙ ap (λ operands. Some (map string_bytes operands)) (sym c.as_slice.ensures.value) in
     Named c.in-Some-of.request (asked (map string_bytes words) rest c.as_str.result.now is _ c.in-Some-of.request given c.in-Some-of.ensures.request) c.run_request.ensures

@@ -3,7 +3,7 @@ use Rattle.bag_folder.specs.declared.fault.OpenFault.{OpenFault}
 use Rattle.bag_folder.specs.declared.fault.OpenFault.TheVariants as open_fault
 use Rattle.bag_commands.specs.declared.output.Output.{Output}
 use Rattle.bag_commands.specs.declared.status.TheConstants.{FAILED}
-use Rattle.bag_cmd.specs.declared.ended.Ended.{Ended}
+use Rattle.bag_cmd.specs.declared.explanation.Ended.{Ended}
 use Rattle.bag_cmd.specs.Answers.{Answered, IsFolderAnswer, NoMemory, PrintsCheck, Refused}
 use Rattle.bag_cmd.specs.Endings.{why_unchecked, why_unopened}
 use Rattle.bag_folder.specs.declared.place.Place.TheVariants.{Base}
