@@ -1,5 +1,5 @@
 -- What a transaction that stores a payload file did.
-use Rattle.std.specs.Prelude.{◌≡◌, ℕ, ℤ, List, Option, Ok, Err, Result}
+use Rattle.std.specs.Prelude.{◌≡◌, ◌≢◌, ℕ, ℤ, List, Option, Some, Ok, Err, Result}
 use Rattle.std.specs.List.{concat}
 use Rattle.bag_digest.specs.Reading.{GaveAll, read_fault}
 use Rattle.bag_digest.specs.declared.multi.Digests.{Digests}
@@ -11,6 +11,9 @@ use Rattle.bag_rules.specs.Wants.{AreSumsFor}
 use Rattle.bag_rules.specs.declared.limits.TheConstants.{LARGEST_ITEM}
 use Rattle.bag_rules.specs.declared.want.Want.{Want}
 use Rattle.sqlite.specs.Tree.{Trees}
+use Rattle.sqlite.specs.declared.error.Error.{Error}
+use Rattle.sqlite.specs.declared.error.Error.TheVariants.{SqliteFailure}
+use Rattle.sqlite.specs.declared.error.ErrorCode.TheVariants.{OutOfMemory}
 use Rattle.bag_sqlite.specs.Databases.{AreCut, NumberedItem}
 use Rattle.bag_sqlite.specs.Putting.{HasOneItemMore}
 use Rattle.bag_sqlite.specs.Tables.{Origin}
@@ -46,3 +49,11 @@ put_fault_of told (Store error) = Keep told
 abbrev pub answer_of : KeepFault → Result Unit NotPut → Result Unit PutFault
 answer_of told (Ok done) = Ok done
 answer_of told (Err refusal) = Err (put_fault_of told refusal)
+
+-- The error that a keeper remembers of its store, before and after this came of a payload file: that of the store, if it
+-- had one and memory was not wanting.
+abbrev pub IsRemembered : Option Error → Option Error → NotPut → Type 0
+IsRemembered old new (Source fault) = new ≡ old
+IsRemembered old new (Misfit fault) = new ≡ old
+IsRemembered old new (Store error) = (error ≡ SqliteFailure OutOfMemory → new ≡ old)
+    × (error ≢ SqliteFailure OutOfMemory → new ≡ Some error)

@@ -1,5 +1,5 @@
 //! Opens a database as the ledger that it holds.
-ghost use Rattle.std.specs.Prelude.{◌≡◌, ◌↔◌, [], IfErr, IfOk, IsTrue, MatchResult, OnOk, false};
+ghost use Rattle.std.specs.Prelude.{◌≡◌, ◌≢◌, ◌↔◌, [], IfErr, IfOk, IsTrue, MatchResult, OnOk, false};
 ghost use Rattle.std.specs.List.{AllByRecursion};
 ghost use Rattle.bag_sqlite.specs.Adopted.{IsAdopted, IsNotAdopted};
 ghost use Rattle.bag_sqlite.specs.Adopting.{HasFormat, IsVerifiedAs, OnlyReads, Stands, Tells, stray_item_texts, stray_texts};
@@ -161,6 +161,7 @@ fn moving_fault(error: Error) -> AdoptFault
     ensures told { IsNoAnswer result }
     ensures memory { (result ≡ AdoptFault.Memory)
         ↔ (error ≡ Error.SqliteFailure ErrorCode.OutOfMemory) }
+    ensures store { result ≢ AdoptFault.Memory → result ≡ AdoptFault.Store error }
 {
     match error {
         Error::SqliteFailure(ErrorCode::OutOfMemory) => AdoptFault::Memory,

@@ -6,7 +6,7 @@ ghost use Rattle.bag_ledger.specs.declared.fault.KeepFault.{KeepFault};
 ghost use Rattle.bag_ledger.specs.declared.fault.KeepFault.TheVariants.{Memory, Store};
 ghost use Rattle.bag_ledger.specs.declared.fault.PutFault.TheVariants.{Keep};
 ghost use Rattle.bag_ledger.specs.declared.fault.StoreFault.TheVariants.{Spent};
-ghost use Rattle.bag_sqlite.specs.Contents.{answer_of, put_fault_of};
+ghost use Rattle.bag_sqlite.specs.Contents.{IsRemembered, answer_of, put_fault_of};
 ghost use Rattle.bag_sqlite.specs.declared.health.Health.{Health};
 ghost use Rattle.sqlite.specs.declared.error.Error.{Error as SqlError};
 
@@ -77,6 +77,8 @@ impl Health {
         ensures told { (fault : KeepFault) × (result ≡ answer_of fault put) }
         ensures memory { IsErrOf result (Keep Memory)
             ↔ IsErrOf put (NotPut.Store (Error.SqliteFailure ErrorCode.OutOfMemory)) }
+        ensures trouble { MatchResult put (λ done. self.new.trouble ≡ self.old.trouble)
+            (IsRemembered self.old.trouble self.new.trouble) }
         ensures store { UsesStore (λ (health : Health). health.failures)
             (λ (health : Health). IsTrue health.is_spent) self.old self.new
             (λ fault. IsErrOf result (Keep (Store fault))) }
@@ -128,6 +130,7 @@ impl Health {
         ensures told { (fault : KeepFault) × (result ≡ put_fault_of fault refusal.now) }
         ensures memory { (result ≡ Keep Memory)
             ↔ (refusal.now ≡ NotPut.Store (Error.SqliteFailure ErrorCode.OutOfMemory)) }
+        ensures trouble { IsRemembered self.old.trouble self.new.trouble refusal.now }
         ensures store { UsesStore (λ (health : Health). health.failures)
             (λ (health : Health). IsTrue health.is_spent) self.old self.new
             (λ fault. result ≡ Keep (Store fault)) }
