@@ -1,5 +1,5 @@
 -- What can't be used on disk, and why.
-use Rattle.std.specs.Prelude.{◌≡◌, ◌≢◌, ◌↔◌, ℕ, IfSome, List, MatchResult, None, Option, Result, Some}
+use Rattle.std.specs.Prelude.{◌≡◌, ◌≢◌, ◌↔◌, ℕ, Err, IfSome, List, MatchResult, None, Ok, Option, Result, Some}
 use Rattle.std.specs.IoError.{error_kind, raw_os_error}
 use Rattle.std.specs.declared.io.Error.{Error}
 use Rattle.std.specs.declared.io.ErrorKind.TheVariants.{InvalidFilename}
@@ -17,6 +17,11 @@ pub record IsCauseOf (error : Error) (cause : Cause) : Type 0 where
   pub not_utf8 : (cause ≡ NotUtf8)
       ↔ ((error_kind error ≡ InvalidFilename) × (raw_os_error error ≡ None))
   pub system : cause ≢ NotUtf8 → cause ≡ System error
+
+-- the result of a call of the operating system, with the cause of its error
+abbrev pub HasCause : {A : Type 0} → Result A Error → Result A (Option Cause) → Type 0
+HasCause answer result = MatchResult answer (λ value. result ≡ Ok value)
+    (λ error. (cause : Cause) × IsCauseOf error cause × (result ≡ Err (Some cause)))
 
 -- how many times a folder has failed, and what couldn't be used the last time, if that is told
 pub record TroublesShown : Type 0 where

@@ -11,12 +11,12 @@ use crate::fault::OpenFault;
 use crate::name::{created, created_directory};
 use crate::names::Names;
 use crate::troubles::Troubles;
-use crate::unfit::{Cause, Unfit};
+use crate::unfit::{Unfit, with_cause};
 use bag_digest::Failed;
 use bag_path::{BagPath, LONGEST_PATH};
 use bag_writer::Sink;
 use std::alloc::Global;
-use std::io::{self, Write};
+use std::io::Write;
 use std::marker::Model;
 
 /// A folder that files are written to, each at its path. Nothing is claimed about its content.
@@ -194,15 +194,5 @@ impl<R: Names> Sink for FolderSink<R> {
 
     fn failures(&self) -> u64 {
         self.troubles.failures()
-    }
-}
-
-/// The result of a call of the operating system, with the cause of its error.
-fn with_cause(answer: io::Result<()>) -> Result<(), Option<Cause>>
-    ensures { is_ok result ≡ is_ok answer }
-{
-    match answer {
-        Ok(()) => Ok(()),
-        Err(error) => Err(Some(Cause::of(error))),
     }
 }

@@ -11,7 +11,7 @@ use crate::fault::OpenFault;
 use crate::name::{opened, spell};
 use crate::names::Names;
 use crate::troubles::Troubles;
-use crate::unfit::{Cause, Unfit};
+use crate::unfit::{Cause, Unfit, with_cause};
 use bag_digest::{Failed, Source};
 use bag_path::LONGEST_PATH;
 use bag_receiver::Supplier;
@@ -158,10 +158,7 @@ impl<R: Names> Source for FolderSupplier<R> {
         } × (IsErr result → IsToldAt self.old.name self.new.trouble) }
     {
         let answer = match &mut self.file {
-            Some(file) => match file.read(buf) {
-                Ok(n) => Ok(n),
-                Err(error) => Err(Some(Cause::of(error))),
-            },
+            Some(file) => with_cause(file.read(buf)),
             None => Err(None),
         };
         self.troubles.counted(self.name.as_str(), answer)

@@ -14,7 +14,7 @@ use crate::names::Names;
 use crate::payload::InPayload;
 use crate::place::Place;
 use crate::troubles::Troubles;
-use crate::unfit::{Cause, Unfit};
+use crate::unfit::{Unfit, with_cause};
 use crate::walk::{Below, walk};
 use bag_digest::{Failed, Source};
 use bag_path::{BagPath, LONGEST_PATH};
@@ -248,10 +248,7 @@ impl<R: Names> Source for FolderTree<R> {
         ensures exactly { ReadsFolder self.old self.new result buf.new }
     {
         let answer = match &mut self.file {
-            Some(file) => match file.read(buf) {
-                Ok(n) => Ok(n),
-                Err(error) => Err(Some(Cause::of(error))),
-            },
+            Some(file) => with_cause(file.read(buf)),
             None => Err(None),
         };
         self.troubles.counted(self.name.as_str(), answer)

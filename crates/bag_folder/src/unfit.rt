@@ -1,6 +1,6 @@
 //! What can't be used on disk, and why.
 ghost use Rattle.std.specs.Prelude.{◌≡◌};
-ghost use Rattle.bag_folder.specs.Unfits.{IsCauseOf};
+ghost use Rattle.bag_folder.specs.Unfits.{HasCause, IsCauseOf};
 
 use bag_path::PathFault;
 use std::io::{self, ErrorKind};
@@ -42,6 +42,16 @@ impl Cause {
             },
             _ => Cause::System(error),
         }
+    }
+}
+
+/// The result of a call of the operating system, with the cause of its error.
+pub(crate) fn with_cause<A>(answer: io::Result<A>) -> Result<A, Option<Cause>>
+    ensures { HasCause answer result }
+{
+    match answer {
+        Ok(value) => Ok(value),
+        Err(error) => Err(Some(Cause::of(error))),
     }
 }
 
