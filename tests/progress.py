@@ -18,6 +18,8 @@ import sys
 import tempfile
 import tty
 
+from first_format import write_first
+
 DECLARATION = b"BagIt-Version: 1.0\nTag-File-Character-Encoding: UTF-8\n"
 MEBIBYTE = 1 << 20
 UNITS = {"KiB": 1 << 10, "MiB": 1 << 20, "GiB": 1 << 30}
@@ -240,6 +242,14 @@ def many_files(place):
     both(place, [reading, Work("auditing", None, lengths, octets=sum(lengths))], "audit", str(ledger), "t")
     both(place, [reading, Work("exporting", None, [*tag_files, *lengths])], "export", str(ledger), "t", str(made), again=remove)
     remove()
+    # A ledger of format 1, which each command moves.
+    files = {path: (base / path).read_bytes() for path in paths}
+
+    def older():
+        ledger.unlink()
+        write_first(ledger, {"t": files})
+    older()
+    both(place, [Work("reading the ledger,", None, lengths, octets=ledger.stat().st_size)], "list", str(ledger), again=older)
 
 
 def one_file(place):

@@ -225,6 +225,8 @@ def writing():
         [told(0, ["made 2 files, 3 octets"]), *made.parts()[1:]])),
                     (with_files("make", b"", [(b"sha224", b"")]), told(64, ["unknown algorithm sha224"])))
     clash = tree_of({b"data/a": b"", b"data/a/b": b""})
+    yield on_values("no bag can be made", *clash, (with_files("make", b"", [(b"sha256", b"")]), told(1, ["bag: clash"])),
+                    (("make",), told(1, ["bag: no algorithm"])))
     yield on_values("bags that are refused", *clash, (("write",), "refused: no algorithm"), (("by", b"sha256"), "added"),
                     (("write",), "refused: clash data/a"), (with_files("hole", b"", [(b"data/q", b"http://example.org/q")]), "added"),
                     (("write",), "refused: bad hole 0"))
@@ -291,3 +293,21 @@ def pieces():
 def lists():
     for some in (openings, transfers, devices, commands, checks, writing, values, pieces):
         yield from some()
+
+
+def stores():
+    """A map that once gives something else than it holds: no octets of a payload file (`piece`), or tag files of which no plan can be made
+    (`tags`). That answer ends in a mark. No other may differ."""
+    begun = [(("start",), "started"), BEGUN, (with_files("run", b"t1", [A, E]), "taken | taken | done")]
+    reopened = (("reopen",), "opened")
+    exported = " | ".join(["exported 4", *shown(True, F)])
+    in_part = " | ".join(["refused: store", *shown(True, dict(TAGS))])
+    for name, device, number, *steps in [
+            ("a payload file without its octets: export", "piece", 1, (("export", b"t1"), in_part + " !"),
+             (("export", b"t1"), "refused: store"), reopened, (("export", b"t1"), exported)),
+            ("a payload file without its octets: audit", "piece", 1, (("audit", b"t1"), f"{MISSING_A} | not complete !"),
+             (("audit", b"t1"), "valid")),
+            ("tag files without a plan", "tags", 2, reopened, (("report", b"t1"), "refused: store !"), (("report", b"t1"), "refused: store"),
+             reopened, (("report", b"t1"), "valid"))]:
+        events, wanted = zip(*begun, *steps)
+        yield Calls(name, events, 0, 0, wanted, ["breaking"], (device, number))

@@ -4,8 +4,9 @@ for memory is refused, the first, the second and so on, by a library that is loa
 one call of a device fails, the first, the second and so on, of its trees, sinks, readers, couriers, suppliers, keepers and writers, by a
 count in the driver. Each call of the driver is a line, so that it is known which call met the refusal, and all answers are judged
 (tests/refused_calls.py). Each list goes on with calls that ask for what is held, before the ledger is opened again and after it. They are
-run over a map in memory, a database in memory, and a map whose calls fail. Then the reading of command
-lines is refused memory in the same way. It prints how many runs there were, for each list by keeper, and each answer that no refusal explains.
+run over a map in memory, a database in memory, and a map whose calls fail. In some lists a map once gives something else than it holds;
+their answers are compared, and not judged. Then the reading of command lines is refused memory in the same way. It prints how many runs
+there were, for each list by keeper, and each answer that no refusal explains.
 
 The driver reads calls from standard input, one per line, and prints a line for each, which ends in ` !` if a call of a device failed in it.
 A call is a word, then a name and pairs of a path and octets, each in hex, or `-` if it is empty. The parts of an answer are joined by ` | `.
@@ -34,7 +35,7 @@ import sys
 import tempfile
 
 from deliveries import line
-from refusal_lists import lists
+from refusal_lists import lists, stores
 from refused_calls import Otherwise, World
 
 DEVICES = ["tree", "sink", "reader", "courier", "supplier", "writer"]
@@ -146,10 +147,19 @@ class Runs:
                 raise Otherwise(f"call {number}, in {some.events[marks[0]][0]}: {otherwise}") from None
         judge(some, answers, {})
         used = OF_KEEPERS if device == "keeper" else [word for word, devices in USES.items() if device in devices]
-        # What is refused may be refused before a device is used.
-        going_on = [event[0] for event, wanted in itertools.zip_longest(some.events, some.wanted) if not (wanted or "").startswith("refused")]
+        # What is refused may be refused before a device is used, but for that to which the refusal is written.
+        going_on = [event[0] for event, wanted in itertools.zip_longest(some.events, some.wanted)
+                    if device == "writer" or not is_refusal(wanted or "")]
         if set(used) & set(going_on) and not self.counts[device, some.name, keeper]:
             raise Otherwise("no call failed")
+
+    def given(self, some, keeper, what):
+        """A store gives something else than it holds, once."""
+        answers, marks, _ = self.run(keeper, some.broken)
+        self.counts[what, some.name, keeper] += len(marks)
+        for event, answer, wanted in itertools.zip_longest(some.events, answers, some.wanted):
+            if answer != wanted:
+                raise Otherwise(f"{event[0]}: {answer!r} instead of {wanted!r}")
 
     def read_words(self, program):
         """The reading of a command line. Nothing but its answer may be printed, or that memory ran out."""
@@ -195,6 +205,12 @@ def judge(some, answers, may):
     return worlds[0].has_refused
 
 
+def is_refusal(answer):
+    """Whether an answer is nothing but a refusal, also one that is printed."""
+    status, _, octets = answer.partition(" ")
+    return status == "refused:" or octets.startswith((b"bag: ".hex(), b"unknown algorithm ".hex()))
+
+
 def may_of(device):
     """The words for a failed call of this device."""
     return {"reader": {"reader", "read"}, "courier": {"reader", "courier"}, "supplier": {"reader", "supplier"}, "sink": {"sink"},
@@ -212,13 +228,17 @@ def main(driver, program, library):
         for some in lists():
             names.append(some.name)
             runs.all_of(some)
+        for some in stores():
+            names.append(some.name)
+            runs.attempt(some, "breaking", "store", runs.given)
         runs.read_words(os.path.abspath(program))
     for name in names:
         print(f"{name}: " + ", ".join(f"{count} {what} over {keeper}" for (what, which, keeper), count in runs.counts.items() if which == name))
     print(*runs.faults, sep="\n", end="\n" if runs.faults else "")
-    kinds = ["memory", "words", "keeper", *DEVICES]
-    failed = ", ".join(f"{runs.number_of(device)} of a {device}" for device in kinds[2:])
+    kinds = ["memory", "words", "store", "keeper", *DEVICES]
+    failed = ", ".join(f"{runs.number_of(device)} of a {device}" for device in kinds[3:])
     print(f"{len(names)} lists of calls: {runs.number_of('memory')} requests for memory refused, of which {runs.told} are told, and calls failed: {failed};"
+          f" {runs.number_of('store')} calls of a store gave something else;"
           f" {len(WORDS)} command lines: {runs.number_of('words')} requests refused")
     return 1 if runs.faults or not all(map(runs.number_of, kinds)) else 0
 

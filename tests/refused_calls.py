@@ -8,6 +8,7 @@ tests/refusals.py describes the calls and their answers.
 """
 import copy
 import hashlib
+import re
 
 import feeds
 import new_bags
@@ -375,6 +376,10 @@ class World:
             self.judge_told(answer, told(64, ["unknown algorithm " + unknown[0]]))
             return
         order = self.order(names)
+        refusal = order.refusal()
+        if refusal:
+            self.judge_told(answer, told(1, ["bag: " + re.sub("^clash .*", "clash", refusal, flags=re.DOTALL)]))
+            return
         octets, number = order.oxum().split(".")
         self.judge_told(answer, " | ".join([told(0, [f"made {number} files, {octets} octets"]), *order.parts()[1:]]))
 

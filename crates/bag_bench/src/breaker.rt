@@ -10,6 +10,10 @@ pub enum Device {
     Courier,
     Supplier,
     Keeper,
+    /// A keeper that gives tag files of which no plan can be made, where it would give those that it holds.
+    Tags,
+    /// A keeper that gives no octets of a payload file, where it would give a piece.
+    Piece,
     Writer,
 }
 
@@ -23,6 +27,8 @@ impl Device {
             "courier" => Some(Device::Courier),
             "supplier" => Some(Device::Supplier),
             "keeper" => Some(Device::Keeper),
+            "tags" => Some(Device::Tags),
+            "piece" => Some(Device::Piece),
             "writer" => Some(Device::Writer),
             _ => None,
         }

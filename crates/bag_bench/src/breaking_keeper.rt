@@ -1,4 +1,4 @@
-//! A keeper in memory of which one call fails.
+//! A keeper in memory of which one call fails, or gives something else than it holds.
 use crate::breaker::{Breaker, Device};
 use bag_digest::Source;
 use bag_ledger::{KeepFault, Keeper, MapKeeper, PutFault, StoreFault};
@@ -49,7 +49,8 @@ impl<'a> Store<'a> {
     }
 }
 
-/// A keeper in memory whose store fails. Nothing is claimed about what it holds.
+/// A keeper in memory whose store fails, or once gives something else than it holds: no tag files of which a plan can be
+/// made, or no octets of a payload file. Nothing is claimed about what it holds.
 #[derive(Drop)]
 pub struct BreakingKeeper<'a> {
     inside: MapKeeper,
@@ -95,6 +96,7 @@ impl Keeper for BreakingKeeper<'_> {
 
     fn tags(&mut self, alloc: Global, name: &str) -> Result<Option<TagSet>, KeepFault> {
         match self.store.take() {
+            Ok(()) if self.store.breaker.breaks(Device::Tags) => Ok(Some(TagSet::new(alloc))),
             Ok(()) => self.inside.tags(alloc, name),
             Err(fault) => Err(KeepFault::Store(fault)),
         }
@@ -154,6 +156,7 @@ impl Keeper for BreakingKeeper<'_> {
         buf: &mut [u8],
     ) -> Result<usize, KeepFault> {
         match self.store.take() {
+            Ok(()) if self.store.breaker.breaks(Device::Piece) => Ok(0),
             Ok(()) => self.inside.read_piece(alloc, name, path, offset, buf),
             Err(fault) => Err(KeepFault::Store(fault)),
         }
