@@ -1,5 +1,5 @@
 -- How a command has ended, and what is told of it besides its lines.
-use Rattle.std.specs.Prelude.{◌≡◌, ℕ, Bool, List, [], ◌∷◌, None, Option, Result, Some, Err, if◌then◌else◌, length, nat_eq, nat_lt, not}
+use Rattle.std.specs.Prelude.{◌≡◌, ℕ, Bool, List, [], ◌∷◌, None, Option, Result, Some, Err, if◌then◌else◌, codes, length, nat_eq, nat_lt, not}
 use Rattle.std.specs.List.{list_any}
 use Rattle.std.specs.Option.{option_map, option_or}
 use Rattle.bag_folder.specs.declared.fault.OpenFault.{OpenFault}
@@ -98,6 +98,17 @@ told_path limit.Lines = None
 told_path limit.NewPayload = None
 told_path (limit.NewTagFile path) = None
 told_path limit.Deliveries = None
+
+-- what is said of the thing that exceeds a limit
+abbrev pub limit_text : Limit → List ℕ
+limit_text (limit.TagFile path) = codes "it has more than 16,777,216 octets"
+limit_text (limit.File path) = codes "it has more than 1,099,511,627,776 octets"
+limit_text (limit.NewFile path) = codes "it has more than 1,099,511,627,776 octets"
+limit_text limit.Files = codes "it has more than 200,000 files"
+limit_text limit.Lines = codes "it has more than 100,000 lines"
+limit_text limit.NewPayload = codes "it has more than 100,000 files"
+limit_text (limit.NewTagFile path) = codes "would have more than 16,777,216 octets"
+limit_text limit.Deliveries = codes "it has more than 1,000,000 payload files below data/"
 
 -- the limit that is exceeded by what is too large to be written
 abbrev pub limit_of : Large → Limit

@@ -44,7 +44,7 @@ pub enum Limit {
 impl Limit {
     ghost use Rattle.std.specs.Option.{option_copied};
     ghost use Rattle.std.specs.Prelude.{◌≡◌};
-    ghost use Rattle.bag_cmd.specs.Endings.{told_path};
+    ghost use Rattle.bag_cmd.specs.Endings.{limit_text, told_path};
 
     /// The path of the file that exceeds it, below the folder that is named.
     fn path(&self) -> Option<&str>
@@ -61,6 +61,21 @@ impl Limit {
             | Limit::Deliveries => None,
         }
     }
+
+    /// What is said of the thing that exceeds it.
+    fn text(&self) -> &'static str
+        ensures { result.now ≡ limit_text self.now }
+    {
+        match self {
+            Limit::TagFile(_) => "it has more than 16,777,216 octets",
+            Limit::File(_) | Limit::NewFile(_) => "it has more than 1,099,511,627,776 octets",
+            Limit::Files => "it has more than 200,000 files",
+            Limit::Lines => "it has more than 100,000 lines",
+            Limit::NewPayload => "it has more than 100,000 files",
+            Limit::NewTagFile(_) => "would have more than 16,777,216 octets",
+            Limit::Deliveries => "it has more than 1,000,000 payload files below data/",
+        }
+    }
 }
 
 impl Display for Limit {
@@ -68,24 +83,10 @@ impl Display for Limit {
         if let Some(path) = self.path() {
             write!(f, "/{}", ToldName(path))?;
         }
-        match self {
-            Limit::TagFile(_) => f.write_str(": it has more than 16,777,216 octets"),
-            Limit::File(_) | Limit::NewFile(_) => {
-                f.write_str(": it has more than 1,099,511,627,776 octets")
-            }
-            Limit::Files => f.write_str(": it has more than 200,000 files"),
-            Limit::Lines => f.write_str(": it has more than 100,000 lines"),
-            Limit::NewPayload => f.write_str(": it has more than 100,000 files"),
-            Limit::NewTagFile(path) => {
-                write!(
-                    f,
-                    ": {} would have more than 16,777,216 octets",
-                    ToldName(path.as_str())
-                )
-            }
-            Limit::Deliveries => {
-                f.write_str(": it has more than 1,000,000 payload files below data/")
-            }
+        f.write_str(": ")?;
+        if let Limit::NewTagFile(path) = self {
+            write!(f, "{} ", ToldName(path.as_str()))?;
         }
+        f.write_str(self.text())
     }
 }
