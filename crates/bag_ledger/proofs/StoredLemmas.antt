@@ -127,6 +127,10 @@ items_in : (found : Option Stored) → unwrap_or (option_map (λ (transfer : Tra
 items_in None = refl
 items_in (Some stored) = refl
 
+pub transfer_there : (name : List ℕ) (transfers : Transfers) (stored : Stored) → Some stored ≡ get_by (by_name name) transfers
+    → transfer_of (ledger_in transfers) name ≡ Some (transfer_in stored)
+transfer_there name transfers stored there = transfer_at name transfers ∙ ap (option_map transfer_in) (sym there)
+
 pub tags_at : (name : List ℕ) (transfers : Transfers) (found : Option Stored) → found ≡ get_by (by_name name) transfers → tags_of (ledger_in transfers) name ≡ option_map (λ (stored : Stored). stored.tags) found
 tags_at name transfers found there = ap (option_map (λ (transfer : Transfer). transfer.tags)) (transfer_at name transfers ∙ ap (option_map transfer_in) (sym there)) ∙ tags_in found
 

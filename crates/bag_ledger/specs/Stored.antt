@@ -23,3 +23,11 @@ ledger_in transfers =
 -- a keeper in memory answers for the ledger that it is, and that ledger is sound
 abbrev pub HoldsItself : Ledger → Ledger → Type 0
 HoldsItself keeper ledger = (ledger ≡ keeper) × IsSound ledger
+
+-- a crash leaves what it holds
+abbrev pub IsLeft : Ledger → Ledger → Type 0
+IsLeft keeper ledger = ledger ≡ keeper
+
+-- it has returned what was put in it
+abbrev pub IsClean : Ledger → Type 0
+IsClean keeper = Unit {0}

@@ -1,7 +1,12 @@
 //! A keeper in memory.
-ghost use Rattle.std.specs.Prelude.{◌≡◌, []};
-ghost use Rattle.bag_ledger.specs.Keeping.{IsPieceAt};
-ghost use Rattle.bag_ledger.specs.Stored.{HoldsItself};
+ghost use Rattle.std.specs.Prelude.{◌≡◌, ◌≤◌, [], IfOk, IsErrOf, IsOk, None, length};
+ghost use Rattle.std.specs.Option.{option_map, unwrap_or};
+ghost use Rattle.bag_ledger.specs.Keeping.{IsGiven, IsPieceAt, Puts, Reads, UsesStore, known};
+ghost use Rattle.bag_ledger.specs.Ledgers.{Ledger, content_of, items_of, transfer_of};
+ghost use Rattle.bag_ledger.specs.Stored.{HoldsItself, IsClean, IsLeft};
+ghost use Rattle.bag_ledger.specs.declared.fault.KeepFault.TheVariants.{Memory, Store};
+ghost use Rattle.bag_ledger.specs.declared.fault.PutFault.TheVariants.{Keep};
+ghost use Rattle.bag_rules.specs.Plans.{sizes_of};
 
 use crate::content_checks::{test_content, test_octets};
 use crate::fault::{KeepFault, PutFault};
@@ -47,9 +52,9 @@ impl MapKeeper {
 impl Keeper for MapKeeper {
     ghost holds = { HoldsItself };
 
-    ghost may_leave = { λ keeper ledger. ledger ≡ keeper };
+    ghost may_leave = { IsLeft };
 
-    ghost clean = { λ keeper. Unit {0} };
+    ghost clean = { IsClean };
 
     ghost spent = { λ keeper. ⊥ };
 
@@ -70,19 +75,35 @@ impl Keeper for MapKeeper {
         Ok(Some(tags))
     }
 
+    /// Always has an answer.
     fn size_of(
         &mut self,
         _alloc: Global,
         name: &str,
         path: &BagPath,
-    ) -> Result<Option<u64>, KeepFault> {
+    ) -> Result<Option<u64>, KeepFault>
+        ensures size { IsClean self.new → (ledger : Ledger) → HoldsItself self.old ledger
+            → IfOk result (λ size. size ≡ option_map length (content_of ledger name.now path.now)) }
+        ensures reads { Reads HoldsItself IsLeft IsClean self.old self.new }
+        ensures store { UsesStore (λ _. 0) (λ _. ⊥) self.old self.new
+            (λ fault. IsErrOf result (Store fault)) }
+        ensures always { IsOk result }
+    {
         match body_of(&self.transfers, name, path) {
             Some(body) => Ok(Some(body.len() as u64)),
             None => Ok(None),
         }
     }
 
-    fn sizes(&mut self, alloc: Global, name: &str) -> Result<Vec<ItemSize>, KeepFault> {
+    /// Asks for no memory if no transfer has this name.
+    fn sizes(&mut self, alloc: Global, name: &str) -> Result<Vec<ItemSize>, KeepFault>
+        ensures sizes { IsClean self.new → (ledger : Ledger) → HoldsItself self.old ledger
+            → IfOk result (λ sizes. sizes.items ≡ sizes_of (items_of ledger name.now)) }
+        ensures reads { Reads HoldsItself IsLeft IsClean self.old self.new }
+        ensures store { UsesStore (λ _. 0) (λ _. ⊥) self.old self.new
+            (λ fault. IsErrOf result (Store fault)) }
+        ensures none { transfer_of self.old name.now ≡ None → IsOk result }
+    {
         let Some(stored) = self.transfers.get(name) else {
             return Ok(Vec::new(alloc));
         };
@@ -90,13 +111,21 @@ impl Keeper for MapKeeper {
         Ok(sizes)
     }
 
+    /// Asks for memory only if the content is to be stored.
     fn put(
         &mut self,
         alloc: Global,
         name: &str,
         want: &Want<'_>,
         content: &[u8],
-    ) -> Result<(), PutFault> {
+    ) -> Result<(), PutFault>
+        ensures put { Puts HoldsItself IsLeft IsClean self.old self.new (known content.now)
+            name.now want.now result }
+        ensures store { UsesStore (λ _. 0) (λ _. ⊥) self.old self.new
+            (λ fault. IsErrOf result (Keep (Store fault))) }
+        ensures memory { IsErrOf result (Keep Memory)
+            → IsGiven (known content.now) want.now content.now }
+    {
         test_content(want, content)?;
         let path = want.path().clone()?;
         let copy = Vec::from_slice(alloc, content)?;
@@ -119,6 +148,7 @@ impl Keeper for MapKeeper {
         Ok(())
     }
 
+    /// Always has an answer.
     fn read_piece(
         &mut self,
         _alloc: Global,
@@ -126,7 +156,16 @@ impl Keeper for MapKeeper {
         path: &BagPath,
         offset: u64,
         buf: &mut [u8],
-    ) -> Result<usize, KeepFault> {
+    ) -> Result<usize, KeepFault>
+        ensures piece { IsClean self.new → (ledger : Ledger) → HoldsItself self.old ledger
+            → IfOk result (λ n. IsPieceAt (unwrap_or (content_of ledger name.now path.now) [])
+            offset n buf.new) }
+        ensures bound { IfOk result (λ n. n ≤ length buf.new) }
+        ensures reads { Reads HoldsItself IsLeft IsClean self.old self.new }
+        ensures store { UsesStore (λ _. 0) (λ _. ⊥) self.old self.new
+            (λ fault. IsErrOf result (Store fault)) }
+        ensures always { IsOk result }
+    {
         match body_of(&self.transfers, name, path) {
             Some(body) => Ok(copy_from(body, offset, buf)),
             None => Ok(0),

@@ -1,13 +1,22 @@
-use Rattle.std.proofs.Common.{◌∙◌, Some, None, sym, ap}
+use Rattle.std.proofs.Common.{◌≡◌, ◌∙◌, [], Option, Some, None, sym, ap, rules}
 use Rattle.bag_rules.specs.Plans.{sizes_of}
-use Rattle.bag_ledger.specs.Ledgers.{items_of}
-use Rattle.bag_ledger.proofs.StoredLemmas.{items_at}
+use Rattle.bag_ledger.specs.Ledgers.{Transfer, items_of, transfer_of}
+use Rattle.bag_ledger.proofs.StoredLemmas.{items_at, transfer_there}
 use Rattle.bag_ledger.proofs.map_keeper.MapKeeperKeeper.sizes.Goals as goal
 
 pub returns-in_default-clause-sizes : goal.returns-in_default-clause-sizes
 returns-in_default-clause-sizes c = λ clean ledger holds.
-    c.new.ensures.items ∙ sym (ap sizes_of (ap (λ l. items_of l c.args.name.now) (holds.0 ∙ sym c.self.view_is) ∙ items_at c.args.name.now c.self.inside.transfers None c.in_default.ensures.value))
+    let nothing : sizes_of (items_of ledger c.args.name.now) ≡ [] = ap sizes_of (ap (λ l. items_of l c.args.name.now) (holds.0 ∙ sym c.self.view_is) ∙ items_at c.args.name.now c.self.inside.transfers None c.in_default.ensures.value) in
+    search (rules, nothing)
 
 pub returns-clause-sizes : goal.returns-clause-sizes
 returns-clause-sizes c = λ clean ledger holds.
     c.in_ok-sizes.ensures ∙ sym (ap sizes_of (ap (λ l. items_of l c.args.name.now) (holds.0 ∙ sym c.self.view_is) ∙ items_at c.args.name.now c.self.inside.transfers (Some c.in-Some.stored.now) c.in-Some.ensures.value))
+
+none_is_not_some : (found : Option Transfer) (transfer : Transfer) → found ≡ Some transfer → found ≡ None → ⊥
+none_is_not_some found transfer is absent = cc
+
+pub returns-in_err-sizes-clause-none : goal.returns-in_err-sizes-clause-none
+returns-in_err-sizes-clause-none c = λ absent.
+    absurd (none_is_not_some _ _ (transfer_there c.args.name.now c.self.inside.transfers c.in-Some.stored.now c.in-Some.ensures.value)
+    (ap (λ l. transfer_of l c.args.name.now) c.self.view_is ∙ absent))
