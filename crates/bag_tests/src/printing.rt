@@ -1,9 +1,10 @@
 //! What is printed of results that no run of the program has, and what a failed write gives.
 use bag_commands::{Output, print_beginning, print_making, print_outcome};
+use bag_ledger::{KeepFault, StoreFault};
 use bag_path::BagPath;
 use bag_receiver::BeginFault;
 use bag_rules::{CheckFault, Fault, Outcome, OutsideCause};
-use bag_writer::WriteFault;
+use bag_writer::{Large, WriteFault};
 use std::alloc::Global;
 use std::io::{self, BufWriter, Write};
 use std::test::Fail;
@@ -58,19 +59,78 @@ fn the_greatest_number_of_a_line_is_printed_whole(rt: HostRuntime) -> Result<(),
 }
 
 #[test]
-fn a_file_past_the_limit_is_told_by_one_line(rt: HostRuntime) -> Result<(), Fail> {
-    let answer = Err(CheckFault::TooLarge(BagPath::parse(rt.alloc(), "data/a.txt")?));
-    let mut out = kept(rt.alloc())?;
-    let answered = print_outcome(&answer, &mut out);
-    assert_eq!(rt; (answered, printed(&out)), (3, Some("bag: too large\n")));
+fn each_fault_that_ends_a_check_is_told(rt: HostRuntime) -> Result<(), Fail> {
+    let alloc = rt.alloc();
+    let large = BagPath::parse(alloc, "data/a.txt")?;
+    let tag = BagPath::parse(alloc, "bag-info.txt")?;
+    for (fault, line) in [
+        (CheckFault::Tree, "bag: files\n"),
+        (CheckFault::TagTooLarge(tag), "bag: tag too large\n"),
+        (CheckFault::TooMany, "bag: too many\n"),
+        (CheckFault::TooLarge(large), "bag: too large\n"),
+        (CheckFault::Memory, "bag: memory\n"),
+    ] {
+        let mut out = kept(alloc)?;
+        let answered = print_outcome(&Err(fault), &mut out);
+        assert_eq!(rt; (answered, printed(&out)), (3, Some(line)));
+    }
     Ok(())
 }
 
 #[test]
-fn a_bag_without_an_algorithm_is_told(rt: HostRuntime) -> Result<(), Fail> {
-    let mut out = kept(rt.alloc())?;
-    let answered = print_making(&Err(WriteFault::NoAlgorithm), &mut out);
-    assert_eq!(rt; (answered, printed(&out)), (1, Some("bag: no algorithm\n")));
+fn each_fault_of_a_new_bag_is_told(rt: HostRuntime) -> Result<(), Fail> {
+    let alloc = rt.alloc();
+    let folder = BagPath::parse(alloc, "data/a")?;
+    for (fault, status, line) in [
+        (WriteFault::NoAlgorithm, 1, "bag: no algorithm\n"),
+        (WriteFault::OxumGiven, 1, "bag: oxum given\n"),
+        (WriteFault::BadHole(0), 1, "bag: bad hole\n"),
+        (WriteFault::Clash(folder), 1, "bag: clash\n"),
+        (WriteFault::TooLarge(Large::Payload), 1, "bag: too large\n"),
+        (WriteFault::Tree, 3, "bag: files\n"),
+        (WriteFault::Sink, 3, "bag: files\n"),
+        (WriteFault::Memory, 3, "bag: memory\n"),
+    ] {
+        let mut out = kept(alloc)?;
+        let answered = print_making(&Err(fault), &mut out);
+        assert_eq!(rt; (answered, printed(&out)), (status, Some(line)));
+    }
+    Ok(())
+}
+
+#[test]
+fn each_fault_of_a_beginning_is_told(rt: HostRuntime) -> Result<(), Fail> {
+    let alloc = rt.alloc();
+    let folder = BagPath::parse(alloc, "data/100%")?;
+    let tag = BagPath::parse(alloc, "bag-info.txt")?;
+    for (fault, status, line) in [
+        (BeginFault::BadName, 1, "refused: name\n"),
+        (BeginFault::TagPath(0), 1, "refused: tag path\n"),
+        (BeginFault::TagTooLarge(tag), 1, "refused: tag too large\n"),
+        (
+            BeginFault::Outside(OutsideCause::Encoding),
+            2,
+            "outside: encoding\n",
+        ),
+        (
+            BeginFault::Rules(Fault::NoDeclaration),
+            1,
+            "refused: no bagit.txt\n",
+        ),
+        (BeginFault::Clash(folder), 1, "refused: clash data/100%25\n"),
+        (BeginFault::Differs, 1, "refused: differs\n"),
+        (BeginFault::Tree, 3, "bag: files\n"),
+        (BeginFault::Keeper(KeepFault::Memory), 3, "bag: memory\n"),
+        (
+            BeginFault::Keeper(KeepFault::Store(StoreFault::Spent)),
+            3,
+            "bag: store\n",
+        ),
+    ] {
+        let mut out = kept(alloc)?;
+        let answered = print_beginning(&Err(fault), &mut out);
+        assert_eq!(rt; (answered, printed(&out)), (status, Some(line)));
+    }
     Ok(())
 }
 
