@@ -2,8 +2,8 @@
 ghost use Rattle.std.specs.Prelude.{◌≡◌, IfOk, None, true, vec_len};
 
 use bag_digest::{
-    Alg, AlgSet, Counted, Digest, Failed, SourceRead, ReadFault, Source, SourceFault, digest_reader,
-    digest_through, read_or_digest, read_to_end_within,
+    Alg, AlgSet, Counted, Digest, Failed, ReadFault, Source, SourceFault, SourceRead,
+    digest_reader, digest_through, read_or_digest, read_to_end_within,
 };
 use std::alloc::{AllocError, Global};
 use std::io::{self, Read};
