@@ -85,9 +85,13 @@ class Runs:
         answers = ran.stdout.decode().split("\n")[:-1]
         return answers, [place for place, text in enumerate(answers) if text.endswith(" !")], is_refused
 
-    def all_of(self, some):
+    def write(self, some):
+        """Writes the calls of a list where the driver is given them."""
         with open(self.path("calls"), "w", encoding="ascii") as calls:
             calls.writelines(line(event) + "\n" for event in some.events)
+
+    def all_of(self, some):
+        self.write(some)
         for keeper in some.keepers:
             self.attempt(some, keeper, "undisturbed", self.undisturbed)
             self.attempt(some, keeper, "memory", self.refuse_each)
@@ -230,6 +234,7 @@ def main(driver, program, library):
             runs.all_of(some)
         for some in stores():
             names.append(some.name)
+            runs.write(some)
             runs.attempt(some, "breaking", "store", runs.given)
         runs.read_words(os.path.abspath(program))
     for name in names:
