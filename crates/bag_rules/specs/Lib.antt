@@ -1,4 +1,5 @@
 pub mod Trees
+pub mod OpenTrees
 pub mod Memory
 pub mod MemoryInside
 pub mod Faults
