@@ -1,6 +1,6 @@
 //! Counts of failures.
-ghost use Rattle.std.specs.Prelude.{◌≡◌, ◌+◌, ◌-◌, IsErr, MatchResult, Ok};
-ghost use Rattle.bag_digest.specs.Device.{CountsFailure, greatest_count};
+ghost use Rattle.std.specs.Prelude.{◌≡◌, ◌-◌, IsErr, MatchResult, Ok};
+ghost use Rattle.bag_digest.specs.Device.{CountsFailure, IsRaised, greatest_count};
 
 use crate::source::Failed;
 use std::alloc::AllocError;
@@ -59,7 +59,7 @@ impl Failures {
     ///
     /// `AllocError`, as if memory had run out, if the count is at its maximum. It is then unchanged.
     pub fn raise(&mut self) -> Result<(), AllocError>
-        ensures counted { MatchResult result (λ done. self.new ≡ self.old + 1)
+        ensures counted { MatchResult result (λ done. IsRaised self.old self.new)
             (λ error. self.new ≡ self.old) }
         ensures full { IsErr result → self.old ≡ greatest_count }
     {

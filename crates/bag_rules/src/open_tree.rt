@@ -1,5 +1,6 @@
 //! Trees of which several files can be open at a time.
-ghost use Rattle.std.specs.Prelude.{◌≡◌, ◌+◌, ◌-◌, ◌<◌, ℕ, IfOk, MatchResult, length};
+ghost use Rattle.std.specs.Prelude.{◌≡◌, ◌-◌, ◌<◌, ℕ, IfOk, MatchResult, length};
+ghost use Rattle.bag_digest.specs.Device.{IsRaised};
 ghost use Rattle.bag_rules.specs.OpenTrees.{IsBehind, IsOpened, LeavesRest};
 ghost use Rattle.bag_rules.specs.Trees.{paths_in};
 
@@ -49,7 +50,7 @@ pub trait OpenTree: Tree {
         ensures opened { IfOk result (IsOpened Self.File.place Self.File.remaining
             Self.File.failures Self.File.ready (Self.shown self.old) (Self.sure self.old) i) }
         ensures counted { MatchResult result
-            (λ file. Self.failures self.new ≡ Self.failures self.old + 1)
+            (λ file. IsRaised (Self.failures self.old) (Self.failures self.new))
             (λ error. Self.failures self.new ≡ Self.failures self.old) }
         ensures rest { LeavesRest Self.keeps Self.remaining Self.is_open Self.ready
             self.old self.new };
