@@ -11,7 +11,7 @@ pub record IsOpened {F : Type 0} (place : F → ℕ) (remaining : F → Option (
   pub placed : place file ≡ i
   pub unread : remaining file ≡ octets_in shown i
   pub unfailed : failures file ≡ 0
-  pub ready : sure → ready file
+  pub is_ready : sure → ready file
 
 -- the file at this place has more octets than a check takes, if they are known
 abbrev pub IsTooLarge : Shown → ℕ → Type 0
