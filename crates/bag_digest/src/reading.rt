@@ -109,7 +109,7 @@ pub fn digest_through<S: Source>(
 
 /// Reads a source to its end, and answers how many octets it gave. Its digests are those of what the hashers had taken before,
 /// followed by these octets.
-fn digest_on<S: Source>(
+pub(crate) fn digest_on<S: Source>(
     buffer: &mut [u8],
     reader: &mut S,
     multi: Multi,

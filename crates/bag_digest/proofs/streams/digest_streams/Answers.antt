@@ -20,7 +20,7 @@ fours-preserved g c =
     let s = g.S.Source in
     let before = c.fours.invariant in
     let after = c.in_ok-digest_four.ensures in
-    let low : c.fours.first ≤ c.min-end.result = search rules in
+    let low : c.fours.first ≤ c.next_end-end.result = omega (arith, c.next_end-end.ensures.0) in
     record {
       inside = search rules;
       count = search rules;
