@@ -28,6 +28,7 @@ pub mod TextsMore
 pub mod FileFaultLemmas
 pub mod FileReadLemmas
 pub mod BatchLemmas
+mod ReturningLemmas
 pub mod KeptLemmas
 pub mod WantLemmas
 pub mod FileKindLemmas

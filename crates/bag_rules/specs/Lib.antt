@@ -18,6 +18,7 @@ pub mod FormInside
 pub mod Wants
 pub mod WantsInside
 pub mod FilesInside
+pub mod Returning
 pub mod BatchInside
 pub mod JudgingInside
 pub mod Files

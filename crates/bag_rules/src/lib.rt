@@ -36,6 +36,7 @@ mod oxum_faults;
 mod plan;
 mod profile;
 mod report;
+mod returning;
 mod tag_files;
 mod tag_set;
 mod text_reader;
