@@ -14,12 +14,16 @@ use crate::stop::Stop;
 use crate::text::OutsideLine;
 use crate::verdict::{report_status, write_report};
 use bag_digest::Failed;
-use bag_rules::{CheckFault, Outcome, Tree, check};
+use bag_rules::{CheckFault, OpenTree, Outcome, check};
 use std::alloc::Global;
 use std::io::Write;
 
 /// Checks the bag in a tree, prints the result and returns the status, as [`print_outcome`] does.
-pub fn check_to<T: Tree, W: Write + Drop>(alloc: Global, tree: &mut T, out: &mut Output<W>) -> u8
+pub fn check_to<T: OpenTree, W: Write + Drop>(
+    alloc: Global,
+    tree: &mut T,
+    out: &mut Output<W>,
+) -> u8
     // The status is 0 only for a valid bag.
     ensures valid { result ≡ VALID
         → (bag : Bag) → IsBagOf (T.shown tree.old) bag → IsValid bag }

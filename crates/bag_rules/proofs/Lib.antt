@@ -29,6 +29,8 @@ pub mod FileFaultLemmas
 pub mod FileReadLemmas
 pub mod BatchLemmas
 mod ReturningLemmas
+mod GatheringLemmas
+mod EndedLemmas
 pub mod KeptLemmas
 pub mod WantLemmas
 pub mod FileKindLemmas

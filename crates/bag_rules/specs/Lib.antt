@@ -20,6 +20,7 @@ pub mod WantsInside
 pub mod FilesInside
 pub mod Returning
 pub mod BatchInside
+pub mod Gathering
 pub mod JudgingInside
 pub mod Files
 pub mod TagSets

@@ -16,10 +16,11 @@ ghost use Rattle.bag_rules.specs.Wants.{lists_by};
 ghost use Rattle.bag_rules.specs.WantsInside.{GivesPayload};
 ghost use Rattle.bag_rules.specs.declared.outcome.CheckFault.{CheckFault};
 
-use crate::batch::{Batch, batch_at};
+use crate::batch::{BUFFER, Batch, batch_at};
 use crate::fault::Fault;
 use crate::kept::Kept;
 use crate::listing_faults::{add_fetch_unlisted, add_missing};
+use crate::open_tree::OpenTree;
 use crate::outcome::CheckFault;
 use crate::oxum_faults::{PayloadSize, add_wrong_oxum};
 use crate::tag_files::Texts;
@@ -33,7 +34,7 @@ use bag_tags::Manifest;
 use std::alloc::Global;
 
 /// Adds what is wrong with the files of a bag whose form is right. Each file is read once.
-pub(crate) fn add_file_faults<T: Tree>(
+pub(crate) fn add_file_faults<T: OpenTree>(
     alloc: Global,
     buffer: &mut [u8],
     tree: &mut T,
@@ -42,7 +43,7 @@ pub(crate) fn add_file_faults<T: Tree>(
     kept: &Kept,
     faults: &mut Vec<Fault>,
 ) -> Result<(), CheckFault>
-    requires room { 0 < length buffer.old }
+    requires room { length buffer.old ≡ BUFFER }
     requires kept { AreKept (T.shown tree.old) kept.now }
     ensures added { (bag : Bag) → IsBagOf (T.shown tree.old) bag → version_of bag ≡ version
         → AreTextsOf (length bag.files) bag texts.now
@@ -63,7 +64,7 @@ pub(crate) fn add_file_faults<T: Tree>(
 
 /// Reads the payload files and the listed files by path, and adds what is wrong with each. Returns the size of the
 /// payload.
-fn read_files<T: Tree>(
+fn read_files<T: OpenTree>(
     alloc: Global,
     buffer: &mut [u8],
     tree: &mut T,
@@ -71,7 +72,7 @@ fn read_files<T: Tree>(
     kept: &Kept,
     faults: &mut Vec<Fault>,
 ) -> Result<PayloadSize, CheckFault>
-    requires room { 0 < length buffer.old }
+    requires room { length buffer.old ≡ BUFFER }
     requires ready { AreKept (T.shown tree.old) kept.now × GivesPayload wants.now }
     ensures read { (bag : Bag) → IsBagOf (T.shown tree.old) bag
         → IfOk result (λ size. IsSizeOf bag.files size

@@ -23,6 +23,7 @@ mod fault;
 mod file;
 mod file_faults;
 mod form_faults;
+mod gathering;
 mod kept;
 pub mod laws;
 pub mod limits;
