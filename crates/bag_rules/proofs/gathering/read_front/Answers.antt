@@ -1,11 +1,17 @@
-use Rattle.std.proofs.Common.{◌≡◌, ◌≢◌, ◌∙◌, ap, arith, refl, rules, subst, sym}
+use Rattle.bag_digest.specs.declared.reading.SourceFault.{SourceFault}
+use Rattle.std.specs.Prelude.{IsErrOf}
+use Rattle.std.proofs.Common.{Err, Some, ◌≡◌, ◌≢◌, ◌∙◌, ap, arith, refl, rules, subst, sym}
 use Rattle.std.proofs.lemmas.Result.{err_from_is_err_and}
 use Rattle.bag_digest.specs.declared.reading.SourceFault.TheVariants as source
 use Rattle.bag_digest.proofs.Progress.{more_known}
 use Rattle.bag_rules.proofs.GatheringLemmas.{front_is}
 use Rattle.bag_rules.proofs.KeptLemmas.{gave_more}
 use Rattle.bag_rules.proofs.ReturningLemmas.{leaves_more, leaves_same}
+use Rattle.bag_rules.proofs.Words.{octets_in}
 use Rattle.bag_rules.proofs.gathering.read_front.Goals as goal
+
+same_fault : {A : Type 0} {x y : SourceFault} → IsErrOf {T = A} (Err x) y → x ≡ y
+same_fault e = cc
 
 pub returns-in-Ok-clause-front : goal.returns-in-Ok-clause-front
 returns-in-Ok-clause-front g c =
@@ -30,13 +36,13 @@ returns-in-Err-clause-stopped g c =
       placed,
       record {
         inside = omega (arith, placed, c.requires.room.1);
-        failed = λ e. omega (arith, uses.counted.rises (cc), opened.unfailed);
-        unfailed = λ e. uses.counted.stays (λ r. (cc)) ∙ opened.unfailed;
+        failed = λ e. omega (arith, uses.counted.rises (ap Err e), opened.unfailed);
+        unfailed = λ e. uses.counted.stays (λ r. (let k : source.Read ≡ source.TooLarge = sym (same_fault r) ∙ e in cc)) ∙ opened.unfailed;
         large = λ e octets is.
-            let known = opened.unread ∙ subst (λ n. _ ≡ _) placed is in
+            let known = opened.unread ∙ subst (λ n. octets_in (g.T.Paths.shown c.args.tree.now) n ≡ Some octets) placed is in
             more_known octets _ _ 1099511627776 known (gave_more _ _ 1099511627776 c.in-Err.fault e c.in-Err.ensures.stopped);
       },
-      λ sure e. (uses.stays_ready (opened.is_ready sure)).1 (cc),
+      λ sure e. (uses.stays_ready (opened.is_ready sure)).1 (ap Err e),
     )
 
 pub returns-in-Err-clause-tree : goal.returns-in-Err-clause-tree
