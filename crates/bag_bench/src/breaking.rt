@@ -1,27 +1,29 @@
-//! Trees, sinks, suppliers and writers of which one call fails.
+//! Trees, open files, sinks, suppliers and writers of which one call fails.
 ghost use Rattle.std.specs.Prelude.{◌≡◌, None};
+ghost use Rattle.bag_rules.specs.OpenTrees.{LeavesRest};
 
 use crate::breaker::{Breaker, Device};
 use crate::event::File;
 use bag_digest::{Failed, Failures, Source};
 use bag_path::BagPath;
 use bag_receiver::Supplier;
-use bag_rules::{Paths, Tree};
+use bag_rules::{OpenFile, OpenTree, Paths, Tree};
 use bag_writer::Sink;
+use std::alloc::{AllocError, Global};
 use std::io::{self, ErrorKind, Read, Write};
 
-/// A tree of which one call fails.
+/// A tree or an open file of which one call fails.
 #[derive(Drop)]
-pub struct BreakingTree<'a, T> {
+pub struct Breaking<'a, T> {
     inside: T,
     breaker: &'a Breaker,
     is_open: bool,
     failures: Failures,
 }
 
-impl<'a, T> BreakingTree<'a, T> {
+impl<'a, T> Breaking<'a, T> {
     pub fn new(inside: T, breaker: &'a Breaker) -> Self {
-        BreakingTree {
+        Breaking {
             inside,
             breaker,
             is_open: false,
@@ -34,7 +36,7 @@ impl<'a, T> BreakingTree<'a, T> {
     }
 }
 
-impl<T: Source> Source for BreakingTree<'_, T> {
+impl<T: Source> Source for Breaking<'_, T> {
     ghost remaining = { λ tree. T.remaining tree.inside };
 
     ghost failures = { λ tree. tree.failures };
@@ -61,7 +63,7 @@ impl<T: Source> Source for BreakingTree<'_, T> {
     ghost keeps_on = { λ a b c p q. T.keeps_on a.inside b.inside c.inside p q };
 }
 
-impl<P: Paths> Paths for BreakingTree<'_, P> {
+impl<P: Paths> Paths for Breaking<'_, P> {
     ghost shown = { λ tree. P.shown tree.inside };
 
     fn count(&self) -> usize {
@@ -77,7 +79,7 @@ impl<P: Paths> Paths for BreakingTree<'_, P> {
     }
 }
 
-impl<T: Tree> Tree for BreakingTree<'_, T> {
+impl<T: Tree> Tree for Breaking<'_, T> {
     ghost sure = { λ _. ⊥ };
 
     fn start(&mut self, i: usize) -> Result<(), Failed> {
@@ -94,6 +96,62 @@ impl<T: Tree> Tree for BreakingTree<'_, T> {
       same = (T.reads_keep a.inside b.inside kept).same;
       stays_sure = λ never. never;
     } };
+}
+
+impl<F: OpenFile> OpenFile for Breaking<'_, F> {
+    ghost place = { λ file. F.place file.inside };
+
+    fn place(&self) -> usize {
+        self.inside.place()
+    }
+
+    ghost reads_keep_place = { λ a b kept. F.reads_keep_place a.inside b.inside kept };
+}
+
+/// A file whose opening fails is one that isn't open. It has failed only once it was read.
+impl<'a, T: OpenTree> OpenTree for Breaking<'a, T> {
+    type File = Breaking<'a, T::File>;
+
+    fn open_file(&mut self, alloc: Global, i: usize) -> Result<Self::File, AllocError> {
+        self.failures.raise()?;
+        match self.inside.open_file(alloc, i) {
+            Ok(inside) => Ok(Breaking {
+                inside,
+                breaker: self.breaker,
+                is_open: !self.breaker.breaks(Device::Tree),
+                failures: Failures::none(),
+            }),
+            Err(error) => {
+                self.failures.lower();
+                Err(error)
+            }
+        }
+    }
+
+    fn close(&mut self, file: Self::File) {
+        take_back(&mut self.inside, file.inside);
+        self.failures.lower();
+    }
+
+    fn fail(&mut self, file: Self::File) {
+        take_back(&mut self.inside, file.inside);
+    }
+
+    fn give_up(&mut self, file: Self::File, _first: &Self::File) {
+        take_back(&mut self.inside, file.inside);
+        self.failures.lower();
+    }
+}
+
+/// Has the tree take back a file, by whether it has failed.
+fn take_back<T: OpenTree>(tree: &mut T, file: T::File)
+    ensures { LeavesRest T.keeps T.remaining T.is_open T.ready tree.old tree.new }
+{
+    if file.failures() == 0 {
+        tree.close(file);
+    } else {
+        tree.fail(file);
+    }
 }
 
 /// A sink of which one call fails.

@@ -1,4 +1,4 @@
-//! Counts what is read of a tree, a courier, a supplier or a keeper, or written to a sink.
+//! Counts what is read of a tree, an open file, a courier, a supplier or a keeper, or written to a sink.
 ghost use Rattle.std.specs.Prelude.{◌≡◌, ◌<◌, length};
 ghost use Rattle.bag_rules.specs.Trees.{paths_in};
 
@@ -7,13 +7,13 @@ use bag_digest::{Failed, Source};
 use bag_ledger::{KeepFault, Keeper, PutFault};
 use bag_path::BagPath;
 use bag_receiver::{Courier, Supplier};
-use bag_rules::{ItemSize, Paths, TagSet, Tree, Want};
+use bag_rules::{ItemSize, OpenFile, OpenTree, Paths, TagSet, Tree, Want};
 use bag_sqlite::Watch;
 use bag_writer::Sink;
-use std::alloc::Global;
+use std::alloc::{AllocError, Global};
 use std::marker::Model;
 
-/// A tree, a courier, a supplier, a keeper or a sink, whose files and octets a meter counts.
+/// A tree, an open file, a courier, a supplier, a keeper or a sink, whose files and octets a meter counts.
 #[derive(Drop)]
 pub struct Watched<'a, T, R> {
     inside: T,
@@ -95,6 +95,39 @@ impl<T: Tree, R: Eprint> Tree for Watched<'_, T, R> {
     }
 
     ghost reads_keep = { T.reads_keep };
+}
+
+impl<F: OpenFile, R: Eprint> OpenFile for Watched<'_, F, R> {
+    ghost place = { F.place };
+
+    fn place(&self) -> usize {
+        self.inside.place()
+    }
+
+    ghost reads_keep_place = { F.reads_keep_place };
+}
+
+/// Counts each file that is given out, and the octets that are read of it.
+impl<'a, T: OpenTree, R: Eprint> OpenTree for Watched<'a, T, R> {
+    type File = Watched<'a, T::File, R>;
+
+    fn open_file(&mut self, alloc: Global, i: usize) -> Result<Self::File, AllocError> {
+        let file = self.inside.open_file(alloc, i)?;
+        self.meter.add_file();
+        Ok(Watched::new(file, self.meter))
+    }
+
+    fn close(&mut self, file: Self::File) {
+        self.inside.close(file.into_inside());
+    }
+
+    fn fail(&mut self, file: Self::File) {
+        self.inside.fail(file.into_inside());
+    }
+
+    fn give_up(&mut self, file: Self::File, first: &Self::File) {
+        self.inside.give_up(file.into_inside(), &first.inside);
+    }
 }
 
 impl<C: Courier, R: Eprint> Courier for Watched<'_, C, R> {
