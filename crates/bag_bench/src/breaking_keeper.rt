@@ -33,6 +33,20 @@ impl<'a> Store<'a> {
         Err(self.refuse())
     }
 
+    /// Counts a read of a piece, which succeeds or fails.
+    fn take_piece(&mut self) -> Result<(), StoreFault>
+        ensures { MatchResult result
+            (λ done. (self.old.is_spent ≡ false) × (self.new.is_spent ≡ false)
+            × (self.new.failures ≡ self.old.failures))
+            (λ fault. IsTrue self.new.is_spent × Rises self.old.failures self.new.failures
+            × ((fault ≡ Spent) ↔ IsTrue self.old.is_spent)) }
+    {
+        if self.breaker.breaks(Device::Reading) {
+            return Err(self.refuse());
+        }
+        self.take()
+    }
+
     /// The answer to a call that fails.
     fn refuse(&mut self) -> StoreFault
         ensures { IsTrue self.new.is_spent × Rises self.old.failures self.new.failures
@@ -155,7 +169,7 @@ impl Keeper for BreakingKeeper<'_> {
         offset: u64,
         buf: &mut [u8],
     ) -> Result<usize, KeepFault> {
-        match self.store.take() {
+        match self.store.take_piece() {
             Ok(()) if self.store.breaker.breaks(Device::Piece) => Ok(0),
             Ok(()) => self.inside.read_piece(alloc, name, path, offset, buf),
             Err(fault) => Err(KeepFault::Store(fault)),

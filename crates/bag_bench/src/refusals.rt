@@ -1,6 +1,7 @@
 //! Calls that are refused memory, or in which a call of a device fails, for `tests/refusals.py`, which describes the input
 //! and the output.
 use crate::breaker::{Breaker, Device};
+use crate::breaking_file::{BreakingFile, Medium};
 use crate::breaking_keeper::BreakingKeeper;
 use crate::event::Event;
 use crate::keepers::Reopened;
@@ -8,7 +9,8 @@ use crate::lines::{answer_lines, read_lines};
 use crate::world::World;
 use bag_ledger::MapKeeper;
 use bag_sqlite::SqlKeeper;
-use sqlite::MemStore;
+use sqlite::{FileStore, MemStore};
+use sqlite_disk::Memory;
 use std::alloc::Global;
 use std::io::{self, Write};
 
@@ -48,6 +50,9 @@ pub fn answer_refused<W: Write + Drop>(
     match keeper.as_str() {
         "map" => answer_all::<MapKeeper, W>(alloc, &breaker, events, most, out)?,
         "sqlite" => answer_all::<SqlKeeper<MemStore>, W>(alloc, &breaker, events, most, out)?,
+        "files" => answer_in_files::<BreakingFile<'_, Memory>, W>(
+            alloc, &breaker, events, most, out,
+        )?,
         "breaking" => answer_all::<BreakingKeeper<'_>, W>(alloc, &breaker, events, most, out)?,
         _ => return Ok(64),
     }
@@ -62,6 +67,18 @@ fn events_of<'a>(alloc: Global, lines: &'a [String]) -> io::Result<Vec<Event<'a>
         events.push(Event::parse(alloc, words.as_slice())?)?;
     }
     Ok(events)
+}
+
+/// Makes the first of these calls over a ledger in files of this type. It is generic, so that a call of it is proved
+/// without a look at what a file is.
+fn answer_in_files<'a, D: Medium<'a>, W: Write + Drop>(
+    alloc: Global,
+    breaker: &'a Breaker,
+    events: Vec<Event<'_>>,
+    most: usize,
+    out: &mut W,
+) -> io::Result<()> {
+    answer_all::<SqlKeeper<FileStore<D>>, W>(alloc, breaker, events, most, out)
 }
 
 /// Makes the first of these calls over a keeper of this type, and writes each answer in a line, which ends in ` !` if a
