@@ -18,7 +18,8 @@ expect() {
         passed=$((passed + 1))
     else
         failed=$((failed + 1))
-        echo "FAILED: $name: status $status instead of $wanted"
+        echo "FAILED: $name: status $status instead of $wanted; the end of what it said on standard error:"
+        tail -n 20 "$work/said"
     fi
 }
 
