@@ -2,7 +2,7 @@
 # Which program stands for the sources: one that was built here, the released one, or a new build. The scripts source
 # this file, after they set `top` to the folder that it is in.
 
-built=$top/crates/bag_cmd/out/bag_cmd
+built=$top/crates/bag_program/out/bag_program
 release=$top/release/RELEASE
 unpacked=$top/release/out/bag
 
@@ -36,7 +36,7 @@ join_folders() {
 
 # program_crates: the crates that the program stands on, lowest first, and its own. None of them is a crate of tests.
 program_crates() {
-    sed -n 's/^\([a-z][a-z0-9_]*\):.*/\1/p' "$top/crates.txt" | sed -e '/_tests$/d' -e '/^bag_cmd$/q'
+    sed -n 's/^\([a-z][a-z0-9_]*\):.*/\1/p' "$top/crates.txt" | sed -e '/_tests$/d' -e '/^bag_program$/q'
 }
 
 # sources_digest: one digest over the names and contents of all that the program is built from: it is the SHA-256 of the

@@ -19,8 +19,8 @@ import tempfile
 import time
 
 TOP = pathlib.Path(__file__).resolve().parent.parent
-PROGRAM = TOP / "crates/bag_cmd/out/bag_cmd"
-DIGESTS = TOP / "crates/bag_bench/out/bag_bench"
+PROGRAM = TOP / "crates/bag_program/out/bag_program"
+DIGESTS = TOP / "crates/bag_driver/out/bag_driver"
 DECLARATION = b"BagIt-Version: 1.0\nTag-File-Character-Encoding: UTF-8\n"
 PIECE = 65_536
 MEBIBYTE = 1 << 20
@@ -101,6 +101,11 @@ def rows():
         yield f"large {algorithm}", [1 << 30], 1, [algorithm]
     yield "1 to 20 MiB", [size * MEBIBYTE for size in range(1, 21)] * 10, 1, ["sha256"]
     for algorithm in ("md5", "sha1", "sha256"):
+        yield f"5 MiB {algorithm}", [5 * MEBIBYTE] * 60, 1, [algorithm]
+        yield f"100 MiB {algorithm}", [100 * MEBIBYTE] * 8, 1, [algorithm]
+        yield f"256 MiB {algorithm}", [256 * MEBIBYTE] * 4, 1, [algorithm]
+    yield "1 and 1,000", [256 * MEBIBYTE] + [2048] * 1_000, 10, ["sha256"]
+    for algorithm in ("md5", "sha1", "sha256"):
         yield f"64 KiB {algorithm}", [PIECE] * 20_000, 200, [algorithm]
         yield f"2 KiB {algorithm}", [2048] * 20_000, 200, [algorithm]
     yield "empty sha256", [0] * 100_000, 200, ["sha256"]
@@ -111,7 +116,7 @@ def rows():
 def main(rounds="3", wanted=""):
     subprocess.run([TOP / "build"], check=True)
     # The first use of the driver may build it.
-    subprocess.run(["rt", "run"], cwd=TOP / "crates/bag_bench", stdin=subprocess.DEVNULL, stdout=subprocess.DEVNULL)
+    subprocess.run(["rt", "run"], cwd=TOP / "crates/bag_driver", stdin=subprocess.DEVNULL, stdout=subprocess.DEVNULL)
     print(f"{'bag':<14} {'bag check':>9} {'coreutils':>9} {'digests':>8} {'/coreutils':>10} {'/digests':>8} {'peak MiB':>8} {'octets/file':>10}")
     with tempfile.TemporaryDirectory() as folder:
         for name, sizes, folders, algorithms in rows():

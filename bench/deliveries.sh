@@ -4,7 +4,7 @@
 # (`copies`). The time for making the files and their manifest is subtracted from each. The last column is the greatest
 # resident set above that of `copies`, in octets per file.
 set -eu
-cd "$(dirname -- "$0")/../crates/bag_bench"
+cd "$(dirname -- "$0")/../crates/bag_driver"
 
 # Without arguments the program ends with status 64.
 rt run </dev/null >&2 || true
@@ -12,7 +12,7 @@ rt run </dev/null >&2 || true
 # taken WORK FILES: the least user time of five runs in milliseconds, and the greatest resident set in KiB
 taken() {
     for _ in 1 2 3 4 5; do
-        /usr/bin/time --format '%U %M' ./out/bag_bench "$1" "$2" 2>&1
+        /usr/bin/time --format '%U %M' ./out/bag_driver "$1" "$2" 2>&1
     done | awk '{ t = 1000 * $1; if (NR == 1 || t < least) least = t; if ($2 > most) most = $2 } END { print least, most }'
 }
 

@@ -50,7 +50,7 @@ def row(number, length, work, rounds):
 def main(rounds=3):
     subprocess.run([TOP / "build"], check=True)
     # Without arguments the driver ends with status 64.
-    subprocess.run(["rt", "run"], cwd=TOP / "crates/bag_bench", stdin=subprocess.DEVNULL, stdout=sys.stderr)
+    subprocess.run(["rt", "run"], cwd=TOP / "crates/bag_driver", stdin=subprocess.DEVNULL, stdout=sys.stderr)
     print(f"{'payload files':<19} {'moving':>7} {'opening':>8} {'copy':>7} {'ratio':>6} {'peak MiB':>9} {'larger':>6}")
     with tempfile.TemporaryDirectory() as folder:
         for number, length in LEDGERS:

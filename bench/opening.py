@@ -51,7 +51,7 @@ def row(number, length, work, rounds):
 def main(rounds=3):
     subprocess.run([TOP / "build"], check=True)
     # Without arguments the driver ends with status 64.
-    subprocess.run(["rt", "run"], cwd=TOP / "crates/bag_bench", stdin=subprocess.DEVNULL, stdout=sys.stderr)
+    subprocess.run(["rt", "run"], cwd=TOP / "crates/bag_driver", stdin=subprocess.DEVNULL, stdout=sys.stderr)
     print(f"{'payload files':<18} {'opening':>7} {'digests':>8} {'ratio':>6} {'peak MiB':>9}")
     with tempfile.TemporaryDirectory() as folder:
         for number, length in LEDGERS:

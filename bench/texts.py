@@ -15,7 +15,7 @@ import tempfile
 import time
 
 TOP = pathlib.Path(__file__).resolve().parent.parent
-PROGRAM = TOP / "crates/bag_cmd/out/bag_cmd"
+PROGRAM = TOP / "crates/bag_program/out/bag_program"
 DECLARATION = b"BagIt-Version: 1.0\nTag-File-Character-Encoding: UTF-8\n"
 LARGEST = 1 << 24
 

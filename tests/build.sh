@@ -8,9 +8,9 @@ cd "$(dirname -- "$0")/.." || exit 1
 # A repository of two crates, and two that aren't part of the program. The stand-in for rt makes a program that
 # prints its arguments, one per line.
 repository="$work/a repository"
-crate=$repository/crates/bag_cmd
+crate=$repository/crates/bag_program
 mkdir -p "$crate/src" "$crate/specs" "$crate/proofs" "$repository/crates/low/src" "$work/kit"
-printf '# Each crate.\nlow: std\nlow_tests: low\nbag_cmd: low\nother: low\n' >"$repository/crates.txt"
+printf '# Each crate.\nlow: std\nlow_tests: low\nbag_program: low\nother: low\n' >"$repository/crates.txt"
 touch "$crate/src/main.rt" "$crate/src/old.rt" "$crate/specs/Lib.antt" "$crate/proofs/Lib.antt"
 cp bag build program.sh "$repository"
 ln -s "$repository/bag" "$work/link"
@@ -31,15 +31,15 @@ if [ "$1" = lib ]; then
     echo "${PWD##*/} was proved" >out/incremental/made
     exit 0
 fi
-cat >out/bag_cmd.new <<'PROGRAM'
+cat >out/bag_program.new <<'PROGRAM'
 #!/bin/sh
 [ "$#" -gt 0 ] || { echo "no words"; exit 64; }
 printf '<%s>\n' "$@"
 exit 7
 PROGRAM
-chmod +x out/bag_cmd.new
-mv out/bag_cmd.new out/bag_cmd
-exec out/bag_cmd
+chmod +x out/bag_program.new
+mv out/bag_program.new out/bag_program
+exec out/bag_program
 KIT
 chmod +x "$work/kit/rt"
 mkdir "$work/tools"
@@ -72,9 +72,9 @@ without_kit() {
 }
 
 expect 'the first run builds' 7 $'<word>\nbuilds: 1' builds "$repository/bag" word
-expect 'each crate is built once, from below' 0 $'rt lib in low\nrt run in bag_cmd' cat "$repository/builds"
-expect 'a build prints one line per crate' 0 $'bag: proving low\nbag: proving bag_cmd' cat "$work/build"
-expect 'the output of rt is kept' 0 $'what rt says of low\nwhat rt says of bag_cmd' grep '^what' "$crate/out/build.log"
+expect 'each crate is built once, from below' 0 $'rt lib in low\nrt run in bag_program' cat "$repository/builds"
+expect 'a build prints one line per crate' 0 $'bag: proving low\nbag: proving bag_program' cat "$work/build"
+expect 'the output of rt is kept' 0 $'what rt says of low\nwhat rt says of bag_program' grep '^what' "$crate/out/build.log"
 expect 'the next run builds nothing' 7 $'<word>\nbuilds: 0' builds "$repository/bag" word
 expect 'the next run says nothing of its own' 7 '<word>' "$repository/bag" word
 expect 'arguments are passed on as they are' 7 $'<two  words>\n<>\n<-x>\n<*>' "$repository/bag" 'two  words' '' -x '*'
@@ -88,14 +88,14 @@ expect 'an edited list of crates' 7 $'<word>\nbuilds: 1' builds_after touch "$re
 expect 'a source that was removed' 7 $'<word>\nbuilds: 1' builds_after rm "$crate/src/old.rt"
 expect 'a file that no build reads' 7 $'<word>\nbuilds: 0' builds_after touch "$crate/stdout"
 expect 'a built program needs no kit' 7 '<word>' without_kit "$repository/bag" word
-rm "$crate/out/bag_cmd"
+rm "$crate/out/bag_program"
 expect 'no kit' 69 'builds: 0' builds without_kit "$repository/bag" word
 expect 'no kit: one line says what is missing' 0 1 grep -c 'rt.*is not on PATH' "$work/build"
 expect 'no kit: no other line' 0 1 grep -c '' "$work/build"
 expect 'a build alone' 0 'builds: 1' builds "$repository/build"
 expect 'a build alone, of nothing new' 0 'builds: 0' builds without_kit "$repository/build"
 expect 'a program that was built alone' 7 '<word>' without_kit "$repository/bag" word
-rm "$crate/out/bag_cmd"
+rm "$crate/out/bag_program"
 expect 'a build alone without the kit' 69 'builds: 0' builds without_kit "$repository/build"
 
 # fails_in CRATE: a build that fails in this crate.
@@ -106,10 +106,10 @@ fails_in() {
     rm "$repository/broken-$1"
     return "$status"
 }
-expect 'a build that fails in the program' 70 'builds: 1' fails_in bag_cmd
+expect 'a build that fails in the program' 70 'builds: 1' fails_in bag_program
 kept="bag: the program was not built; see the output of rt in $crate/out/build.log"
 expect 'a build that fails says where to look' 0 "$kept" tail -n 1 "$work/build"
-expect 'the output of rt is there' 0 $'what rt says of low\nwhat rt says of bag_cmd' grep '^what' "$crate/out/build.log"
+expect 'the output of rt is there' 0 $'what rt says of low\nwhat rt says of bag_program' grep '^what' "$crate/out/build.log"
 expect 'a build that fails in a crate below' 70 'builds: 0' fails_in low
 expect 'it says where to look' 0 "$kept" tail -n 1 "$work/build"
 expect 'the output of rt, and nothing of the build before' 0 'what rt says of low' grep '^what' "$crate/out/build.log"
@@ -123,14 +123,14 @@ on_terminal() {
 if [ "$(script -qec true "$work/typescript" 2>&1)" = '' ]; then
     far='bag: proving low
 bag: proving low: 3 of 40 functions
-bag: proving bag_cmd
-bag: proving bag_cmd: 3 of 40 functions'
-    rm -f "$crate/out/bag_cmd"
+bag: proving bag_program
+bag: proving bag_program: 3 of 40 functions'
+    rm -f "$crate/out/bag_program"
     expect 'a build on a terminal' 7 "$far"$'\n<word>' on_terminal "$repository/bag" word
     expect 'one line is written over' 0 1 grep -c 'proving' "$work/typescript"
     expect 'a run on a terminal that builds nothing' 7 '<word>' on_terminal "$repository/bag" word
     touch "$repository/broken-low"
-    rm "$crate/out/bag_cmd"
+    rm "$crate/out/bag_program"
     expect 'a build on a terminal that fails' 70 "$(head -n 2 <<<"$far")"$'\n'"$kept" on_terminal "$repository/bag" word
     rm "$repository/broken-low"
 else
@@ -139,7 +139,7 @@ fi
 expect 'the build after it' 7 $'<word>\nbuilds: 1' builds "$repository/bag" word
 
 # Two crates that don't stand on each other: one of them is proved in a copy, if there is room.
-printf '%s\n' 'low: std' 'left: low' 'low_tests: low' 'right: low std' 'bag_cmd: left right' 'other: low' >"$repository/crates.txt"
+printf '%s\n' 'low: std' 'left: low' 'low_tests: low' 'right: low std' 'bag_program: left right' 'other: low' >"$repository/crates.txt"
 mkdir -p "$repository/crates/"{left,right}/src
 for name in low left right; do
     echo "the source of $name" >"$repository/crates/$name/src/lib.rt"
@@ -158,9 +158,9 @@ builds_all() {
     (cd "$repository/crates" && LC_ALL=C ls -d ./*/out/*)
     return "$status"
 }
-files='./bag_cmd/out/bag_cmd
-./bag_cmd/out/build.lock
-./bag_cmd/out/build.log
+files='./bag_program/out/bag_program
+./bag_program/out/build.lock
+./bag_program/out/build.log
 ./left/out/incremental
 ./left/out/rlib
 ./low/out/incremental
@@ -170,7 +170,7 @@ files='./bag_cmd/out/bag_cmd
 built='rt lib in left
 rt lib in low
 rt lib in right
-rt run in bag_cmd
+rt run in bag_program
 the source of left
 the source of low
 the source of right'

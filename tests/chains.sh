@@ -11,7 +11,7 @@ build_driver
 if [ "$(command -v md5sum sha1sum sha256sum sha512sum | wc -l)" -eq 4 ]; then
     # It prints what it tried.
     expect 'chains' 0 '' env TMPDIR="$work" \
-        python3 -B tests/chains.py crates/bag_cmd/out/bag_cmd "$driver" "$work/tried"
+        python3 -B tests/chains.py crates/bag_program/out/bag_program "$driver" "$work/tried"
     cat "$work/tried"
 else
     lacking 'chains of commands (the digest programs of coreutils are not installed)'

@@ -341,7 +341,36 @@ def changed(make):
     for damage, line in damages:
         place.ledger.write_bytes(whole)
         assert place.changed(damage) == (3, [line]), (damage, line)
-    return len(CHANGES) + len(damages)
+    return len(CHANGES) + len(damages) + damaged_in_turns(make)
+
+
+def damaged_in_turns(make):
+    """A ledger of payload files of several pieces, which are read in turns, beside short ones. Returns how often it was damaged."""
+    lengths = [number % 5 * 65_536 + number * 13 % 3 for number in range(24)]
+    place = make({f"data/{number:02}.txt": bytes([number + 1]) * length for number, length in enumerate(lengths)})
+    assert place.run(*place.words("begin")) == (0, ["new"])
+    assert place.run(*place.words("intake")) == (0, [f"taken {path}" for path in sorted(place.contents)])
+    judge(place, place.contents)
+    long = [path for path in sorted(place.contents) if len(place.contents[path]) > 65_536]
+    whole = place.ledger.read_bytes()
+    for number, damage in enumerate(DAMAGES_IN_TURNS * 5):
+        first, second = sorted((number * 7 % len(long), number * 11 % len(long)))
+        items = [f"(SELECT id FROM held WHERE path = '{long[n]}')" for n in (first, second)]
+        place.ledger.write_bytes(whole)
+        found = place.changed("; ".join(damage.format(item) for item in dict.fromkeys(items)))
+        assert found == (3, [f"bag: damaged t1 {long[first]}"]), (damage, items, found)
+    return 5 * len(DAMAGES_IN_TURNS)
+
+
+DAMAGES_IN_TURNS = [
+    "UPDATE piece SET body = zeroblob(65536) WHERE item = {} AND n = 0",
+    "UPDATE piece SET body = zeroblob(length(body)) WHERE item = {0} AND n = (SELECT max(n) FROM piece WHERE item = {0})",
+    "DELETE FROM piece WHERE item = {} AND n = 1",
+    "DELETE FROM piece WHERE item = {0} AND n = (SELECT max(n) FROM piece WHERE item = {0})",
+    "INSERT INTO piece SELECT item, n + 1, x'00' FROM piece WHERE item = {} ORDER BY n DESC LIMIT 1",
+    "UPDATE piece SET body = substr(body, 2) WHERE item = {} AND n = 0",
+    "UPDATE held SET size = size - 1 WHERE id = {}",
+]
 
 
 def damages_among(paths):

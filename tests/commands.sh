@@ -465,7 +465,7 @@ rm "$work/limit" "$work/at/data/A"
 
 # Files that may not be read or written.
 chmod 711 "$work"
-cp crates/bag_cmd/out/bag_cmd "$work/program"
+cp crates/bag_program/out/bag_program "$work/program"
 chmod a+rx "$work/program"
 mkdir "$work/open" "$work/locked"
 chmod 777 "$work/open"

@@ -110,10 +110,10 @@ build_first() {
 
 # build_driver: builds the driver if necessary, and sets `driver` to its name. Without arguments it ends with status 64.
 build_driver() {
-    driver=crates/bag_bench/out/bag_bench
+    driver=crates/bag_driver/out/bag_driver
     if [ ! -x "$driver" ] || [ -n "$(find crates.txt crates/*/{src,specs,proofs} -newer "$driver" -print -quit)" ]; then
         local status=0
-        (cd crates/bag_bench && rt run </dev/null >"$work/printed" 2>&1) || status=$?
+        (cd crates/bag_driver && rt run </dev/null >"$work/printed" 2>&1) || status=$?
         [ "$status" -eq 64 ] || { cat "$work/printed" && echo "FAILED: the driver was not built" && exit 1; }
     fi
 }

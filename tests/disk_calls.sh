@@ -6,8 +6,8 @@ cd "$(dirname -- "$0")/.." || exit 1
 . tests/common.bash
 
 # The crates that the program is made of, but for their tests.
-crates=$(sed -n 's/^bag_cmd: //p' crates.txt | tr ' ' '\n' | grep '^bag_')
-for crate in bag_cmd $crates; do
+crates=$(sed -n 's/^bag_program: //p' crates.txt | tr ' ' '\n' | grep '^bag_')
+for crate in bag_program $crates; do
     find "crates/$crate/src" -name '*.rt' ! -name 'tests.rt' ! -path '*/tests/*'
 done | LC_ALL=C sort >"$work/sources"
 
@@ -26,23 +26,23 @@ xargs awk '
     }' <"$work/sources" >"$work/calls"
 
 cat >"$work/known" <<'KNOWN'
-bag_cmd/abandoned_ledger.rt remove_new_log remove_file self.rt, self.seen.log()
-bag_cmd/abandoned_ledger.rt remove_new_file remove_file self.rt, self.seen.name()
-bag_cmd/barred.rt open_locked sqlite_std_file::open
-bag_cmd/clearing.rt write .write
-bag_cmd/clearing.rt write_all write_all
-bag_cmd/handle.rt open OpenOptions::new
-bag_cmd/handle.rt open .write
-bag_cmd/handle.rt open create_new
-bag_cmd/handle.rt empty set_len
-bag_cmd/locked_file.rt remove_copied_log remove_file self.rt, self.seen.log()
-bag_cmd/main.rt main Unknown
-bag_cmd/watched.rt write .write
 bag_folder/destination.rt give_up remove_dir
 bag_folder/names.rt make_folder create_dir
 bag_folder/names.rt make_folders create_dir_all
 bag_folder/names.rt make_file File::create_new
 bag_folder/sink.rt write write_all
+bag_program/abandoned_ledger.rt remove_new_log remove_file self.rt, self.seen.log()
+bag_program/abandoned_ledger.rt remove_new_file remove_file self.rt, self.seen.name()
+bag_program/barred.rt open_locked sqlite_std_file::open
+bag_program/clearing.rt write .write
+bag_program/clearing.rt write_all write_all
+bag_program/handle.rt open OpenOptions::new
+bag_program/handle.rt open .write
+bag_program/handle.rt open create_new
+bag_program/handle.rt empty set_len
+bag_program/locked_file.rt remove_copied_log remove_file self.rt, self.seen.log()
+bag_program/main.rt main Unknown
+bag_program/watched.rt write .write
 bag_receiver/export.rt write_content .write
 bag_writer/payload.rt write_piece .write
 bag_writer/sink.rt add_file .write

@@ -7,7 +7,7 @@ cd "$(dirname -- "$0")/.." || exit 1
 
 build_first
 chmod 711 "$work"
-cp crates/bag_cmd/out/bag_cmd "$work/program"
+cp crates/bag_program/out/bag_program "$work/program"
 chmod a+rx "$work/program"
 
 # bag ARGUMENT..: runs the program, which must not wait for anything.
@@ -223,6 +223,10 @@ if strace -o "$work/calls" true 2>"$work/no strace"; then
     opening 'opened once: fetch' 0 "$(cut -c 35- "$made/manifest-md5.txt" | sed 's/^/taken /')" \
         fetch "$work/seventy-ledger" t2 "$made"
     opened_once 'fetch, which reads what it asks for alone' "$made" -path './data/*'
+    # A second tag manifest, which does not list all that the first lists.
+    (cd "$made" && md5sum manifest-*.txt >tagmanifest-md5.txt)
+    opening 'opened once: check by two tag manifests' 0 valid check "$made"
+    opened_once 'check by two tag manifests' "$made" ! -name note
     mkdir "$work/odd hole"
     cp examples/first-bag/bagit.txt "$work/odd hole"
     echo "$a_sha256  data/odd" >"$work/odd hole/manifest-sha256.txt"

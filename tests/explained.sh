@@ -125,7 +125,7 @@ explain 'a name with control characters' 3 "bag: $work/escaped/data/a%25b%0A%09%
 
 # What may not be read or written.
 chmod 711 "$work"
-cp crates/bag_cmd/out/bag_cmd "$work/program"
+cp crates/bag_program/out/bag_program "$work/program"
 new locked
 mkdir -m 777 "$work/open"
 chmod -R a+rX "$work/program" "$work/locked"
@@ -202,6 +202,16 @@ if unshare -m sh -c "mkdir '$work/disk' && mount -t tmpfs -o size=100k bag '$wor
             sh 100k "$work" "$@"
     }
     explain 'a ledger on a full disk' 3 "bag: $work/disk/ledger: database or disk is full" on_full_disk intake "$work/disk/ledger" t1 "$work/bag"
+    # The second file is not stored either, since the store failed before. What is told is still why that was.
+    later_on_disk() {
+        unshare -m sh -c 'mount -t tmpfs -o size=300k bag "$1/disk" && cd "$1" && "$1/program" begin disk/ledger t1 bag || exit
+            "$1/program" intake disk/ledger t1 bag bag 2>&1; echo "$?"' sh "$work"
+    }
+    expect 'a full disk, and a file after that' 0 'new
+refused data/A: store
+refused data/A: store
+bag: disk/ledger: database or disk is full
+3' later_on_disk
 else
     lacking 'a full disk (no permission to mount one)'
 fi

@@ -7,14 +7,20 @@ cd "$(dirname -- "$0")/.." || exit 1
 . tests/common.bash
 
 build_first
-program=crates/bag_cmd/out/bag_cmd
+program=crates/bag_program/out/bag_program
 
 # big NAME: makes a bag with a sparse payload file that takes many seconds to read but no room on the disk, followed by
-# data/z.
+# data/z. Between them are as many files as are opened side by side, so that data/z is opened when the large one was read.
 big() {
+    local between
     cp -r examples/first-bag "$work/$1"
     truncate -s 64G "$work/$1/data/b.bin" && touch "$work/$1/data/z" || return
     printf '%064d  data/b.bin\n%064d  data/z\n' 0 0 >>"$work/$1/manifest-sha256.txt"
+    for between in {10..41}; do
+        touch "$work/$1/data/m$between"
+        printf '%s  data/m%s\n' e3b0c44298fc1c149afbf4c8996fb92427ae41e4649b934ca495991b7852b855 "$between" \
+            >>"$work/$1/manifest-sha256.txt"
+    done
 }
 
 # while_reading FOLDER COMMAND: starts a check, and stops it as soon as data/b.bin is open. Truncates that file, runs
@@ -191,16 +197,45 @@ if strace -o "$work/calls" true 2>"$work/no strace"; then
         expect "a read that fails, $number: what is held" 1 $'manifest-sha256.txt: missing: data/a.txt\nnot complete' \
             "$program" audit "$work/once/ledger" t1
     done
+    # Of two files that fail the first by path is told, though its third read comes after the other could not be opened.
+    mkdir "$work/two"
+    head -c 1000000 /dev/zero >"$work/two/a"
+    echo b >"$work/two/b"
+    expect 'two files that fail: a bag' 0 'made 2 files, 1000002 octets' "$program" make "$work/two" "$work/both" md5
+    two_fail() {
+        injects 'inject=read:error=EIO:when=3' -e 'inject=openat:error=EACCES:when=2' -P "$work/both/data/a" -P "$work/both/data/b" \
+            "$program" check "$work/both"
+    }
+    explain 'two files that fail' 3 "bag: $work/both/data/a: Input/output error (os error 5)" two_fail
+    expect 'two files that fail: they are sound' 0 valid "$program" check "$work/both"
     # The system finds no memory for a ledger that is opened: at each of the calls that open its file.
     for number in 1 2 3; do
         expect "no memory in the system for a ledger, $number" 3 'bag: memory' \
             injects "inject=openat:error=ENOMEM:when=$number" -P "$work/once/ledger" "$program" list "$work/once/ledger"
     done
-    # meanwhile CHANGE LEDGER: lists a ledger, and does this to it when it was opened for the first time.
+    # A new ledger, of which each write in turn and all after it fail until it is made: nothing is left of it. In a file that was empty
+    # and cannot be emptied again its log stays too, without which part of a first page would be no database: so a ledger is made next.
+    is_gone() {
+        nothing "$1" && nothing "$1-wal"
+    }
+    strace -o "$work/calls" -e trace=pwrite64,openat "$program" begin "$work/once/made" t1 "$work/once" >"$work/printed_by_calls"
+    writes=$(sed '/once\/"/q' "$work/calls" | grep -c '^pwrite64(')
+    expect 'writes to a new ledger' 0 '' [ "$writes" -gt 5 ]
+    for number in $(seq "$writes"); do
+        expect "a new ledger that cannot be written, $number of $writes" 3 'bag: store' \
+            injects "inject=pwrite64:error=ENOSPC:when=$number+" "$program" begin "$work/once/new" t1 "$work/once"
+        expect "a new ledger that cannot be written, $number of $writes: nothing is left" 0 '' is_gone "$work/once/new"
+        : >"$work/once/empty"
+        expect "an empty file that cannot be emptied again, $number of $writes" 3 'bag: store' \
+            injects "inject=pwrite64:error=EIO:when=$number+" -e inject=ftruncate:error=EIO "$program" begin "$work/once/empty" t1 "$work/once"
+        expect "an empty file that cannot be emptied again, $number of $writes: once more" 0 new "$program" begin "$work/once/empty" t1 "$work/once"
+        rm -f "$work/once/new" "$work/once/new-wal" "$work/once/empty"
+    done
+    # meanwhile CHANGE LEDGER WORD..: runs this command on a ledger, and does this to it when it was opened for the first time.
     meanwhile() {
         local pid status=0
         rm -f "$work/calls"
-        strace -f -o "$work/calls" -P "$2" -e trace=openat -e inject=openat:signal=SIGSTOP:when=1 "$program" list "$2" &
+        strace -f -o "$work/calls" -P "$2" -e trace=openat -e inject=openat:signal=SIGSTOP:when=1 "$program" "${@:3}" &
         for _ in {1..3000}; do
             pid=$(sed -n 's/^\([0-9]*\) *--- stopped by SIGSTOP ---$/\1/p' "$work/calls" 2>"$work/gone")
             [ -z "$pid" ] || break
@@ -213,12 +248,15 @@ if strace -o "$work/calls" true 2>"$work/no strace"; then
     }
     cp "$work/once/ledger" "$work/once/emptied"
     explain 'a ledger that is emptied while it is opened' 3 "bag: $work/once/emptied: it is empty" \
-        meanwhile ': >"$2"' "$work/once/emptied"
+        meanwhile ': >"$2"' "$work/once/emptied" list "$work/once/emptied"
+    explain 'a ledger that is removed when it was made' 3 "bag: $work/once/new: it is in use" \
+        meanwhile 'rm "$2"' "$work/once/new" begin "$work/once/new" t1 "$work/once"
+    expect 'a ledger that is removed when it was made: nothing is written' 0 '' test ! -s "$work/once/new" -a ! -s "$work/once/new-wal"
     if unshare -m sh -c "mkdir '$work/disk' && mount -t tmpfs bag '$work/disk'" 2>"$work/no mount"; then
         # on_two_disks: a ledger, over which another disk is mounted while it is opened. The ledger on that one has the same number.
         on_two_disks() {
             unshare -m bash -c 'disk() { mount -t tmpfs bag "$work/disk" && cp "$work/once/ledger" "$work/disk/ledger"; }
-                disk && meanwhile disk "$work/disk/ledger"'
+                disk && meanwhile disk "$work/disk/ledger" list "$work/disk/ledger"'
         }
         export -f meanwhile
         export work program

@@ -5,6 +5,6 @@ cd "$(dirname -- "$0")/.." || exit 1
 . tests/common.bash
 
 build_first
-expect 'kills' 0 '' env TMPDIR="$work" python3 -B tests/kills.py crates/bag_cmd/out/bag_cmd "${KILLS-150}" '' "$work/kills"
+expect 'kills' 0 '' env TMPDIR="$work" python3 -B tests/kills.py crates/bag_program/out/bag_program "${KILLS-150}" '' "$work/kills"
 cat "$work/kills"
 finish

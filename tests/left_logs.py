@@ -130,6 +130,11 @@ def a_refused_ledger_keeps_its_log(make):
         place = damaged_in_the_log(killed(make), damage)
         place.refuses(line)
         assert log_of(place.ledger).stat().st_size > 0
+    # All of a ledger is in its log, and its file is empty. Only a command that makes a ledger there touches the log.
+    emptied = killed(make)
+    in_the_log(emptied, emptied.ledger, "PRAGMA journal_mode = WAL; VACUUM")
+    emptied.ledger.write_bytes(b"")
+    emptied.refuses("bag: not a ledger", but=["begin"])
     # The store marks the end of a log that another program wrote, so it isn't compared octet by octet.
     other = make(SMALL)
     in_the_log(other, other.ledger, "PRAGMA journal_mode = WAL; CREATE TABLE meta (k TEXT, v TEXT); INSERT INTO meta VALUES ('k', 'v')")
@@ -137,7 +142,7 @@ def a_refused_ledger_keeps_its_log(make):
         assert other.run(*other.words(command)) == (3, ["bag: not a ledger"]), command
         assert log_of(other.ledger).stat().st_size > 0, command
     assert other.sql("SELECT * FROM meta") == [("k", "v")]
-    return len(DAMAGES) + 2
+    return len(DAMAGES) + 3
 
 
 def damaged_in_the_log(place, damage):

@@ -203,7 +203,7 @@ stays 'a link that leads nowhere' "$work/dangling"
 stays 'the payload itself' "$work/letters"
 
 chmod 711 "$work"
-cp crates/bag_cmd/out/bag_cmd "$work/program"
+cp crates/bag_program/out/bag_program "$work/program"
 mkdir "$work/open" "$work/locked"
 chmod 777 "$work/open"
 chmod 555 "$work/locked"

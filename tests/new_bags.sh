@@ -11,7 +11,7 @@ build_driver
 if [ "$(command -v md5sum sha1sum sha256sum sha512sum | wc -l)" -eq 4 ]; then
     # It prints what it tried, or the first bag that is written or judged differently.
     expect 'new bags' 0 '' env TMPDIR="$work" sh -c 'python3 -B tests/new_bags.py 300 1 "$1" "$2" calls map >"$3"' \
-        sh crates/bag_cmd/out/bag_cmd "$driver" "$work/tried"
+        sh crates/bag_program/out/bag_program "$driver" "$work/tried"
     cat "$work/tried"
 else
     lacking 'bags that are written (the digest programs of coreutils are not installed)'

@@ -6,7 +6,7 @@ set -u
 cd "$(dirname -- "$0")/.." || exit 1
 . tests/common.bash
 build_first
-program=crates/bag_cmd/out/bag_cmd
+program=crates/bag_program/out/bag_program
 # What was tried: runs of a test or of the program in which no allocation failed, and runs in which one did.
 runs=0
 refusals=0

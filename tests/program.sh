@@ -55,12 +55,28 @@ refuse 'a command with two folders' "error: unexpected argument 'two' found" bag
 refuse 'an option that is not there' "error: unexpected argument '-x' found" bag check -x examples/first-bag
 refuse 'an argument that is not UTF-8' 'error: an argument is not UTF-8' bag check $'\377'
 expect 'help' 0 "$help" bag --help
-expect 'the version' 0 'bag 1.3.3' bag --version
-expect 'the version, by its letter' 0 'bag 1.3.3' bag -V check examples/first-bag
+expect 'the version' 0 'bag 1.4.0' bag --version
+expect 'the version, by its letter' 0 'bag 1.4.0' bag -V check examples/first-bag
 expect 'help, whatever else is there' 0 "$help" bag --help examples/first-bag
 expect 'help by its command' 0 "$help" bag help
 expect 'help of a command' 0 "$help_of_check" bag check --help
 expect 'help of a command, by its letter' 0 "$help_of_check" bag check examples/first-bag -h
+
+# The operands of each command, as at the head of the manual page.
+operands() {
+    for command in check make begin intake report audit fetch export list; do
+        bag "$command" --help | sed -n 's/^Usage: //p'
+    done
+}
+expect 'the operands of each command' 0 'bag check <DIR>
+bag make <SRC> <DST> <ALG>...
+bag begin <LEDGER> <NAME> <DIR>
+bag intake <LEDGER> <NAME> <DIR>...
+bag report <LEDGER> <NAME>
+bag audit <LEDGER> <NAME>
+bag fetch <LEDGER> <NAME> <DIR>
+bag export <LEDGER> <NAME> <DIR>
+bag list <LEDGER>' operands
 
 expect 'a folder after the mark' 0 valid bag check -- examples/first-bag
 expect 'a folder before the mark' 0 valid bag check examples/first-bag --
@@ -127,7 +143,7 @@ name=$(printf 'k%.0s' {1..200})
 expect 'a path of more than 4,096 octets' 3 'bag: files' bag check "$work/deep"
 
 chmod 711 "$work"
-cp crates/bag_cmd/out/bag_cmd "$work/program"
+cp crates/bag_program/out/bag_program "$work/program"
 new locked
 chmod -R a+rX "$work/program" "$work/locked"
 expect 'the same, unlocked' 0 valid nobody "$work/program" check "$work/locked"

@@ -112,6 +112,21 @@ class Place:
             printed.seek(0)
             return Ended(status, printed.read(), said)
 
+    def first_line(self, *words):
+        """The first line of progress of the command, which is killed then."""
+        self.count += 1
+        ours, theirs = pty.openpty()
+        tty.setraw(theirs)
+        child = subprocess.Popen([self.program, *words], stdin=subprocess.DEVNULL, stdout=subprocess.DEVNULL, stderr=theirs)
+        os.close(theirs)
+        said = b""
+        while b"\x1b[K" not in said and (piece := read(ours)):
+            said += piece
+        child.kill()
+        child.wait(timeout=300)
+        os.close(ours)
+        return Ended(child.returncode, b"", said).lines()[0]
+
 
 def limited(limit):
     """Limits the files of this process."""
@@ -252,6 +267,16 @@ def many_files(place):
     both(place, [Work("reading the ledger,", None, lengths, octets=ledger.stat().st_size)], "list", str(ledger), again=older)
 
 
+def millions(place):
+    """Numbers from a million on have all their digits: so many payload files are those of one folder that is given many times."""
+    base, ledger = place.work / "many", place.work / "ledger of many"
+    assert place.run("begin", str(ledger), "t", str(base)).printed == b"new\n"
+    for files in (999_000, 1_005_000, 1_050_000):
+        line = place.first_line("intake", str(ledger), "u", *[str(base)] * (files // FILES))
+        assert line.startswith("bag: taking in 1,024 of {:,} files, ".format(files)), line
+    ledger.unlink()
+
+
 def one_file(place):
     """One large file, and a ledger that has it."""
     base, ledger = place.work / "one", place.work / "large ledger"
@@ -270,7 +295,8 @@ def totals(place):
     database, so no more than that is shown of it."""
     ledger, log = place.work / "text", place.work / "text-wal"
     for octets, of_log, told in [((1 << 30) - 1, 0, ["1023.9 MiB"]), (1 << 30, 0, ["1.0 GiB"]), ((1 << 40) - 1, 0, ["1023.9 GiB"]),
-                                 (1 << 40, 0, ["1.0 TiB"]), (3 << 39, 0, ["1.5 TiB"]), (100 * MEBIBYTE, 924 * MEBIBYTE, ["100.0 MiB", "1.0 GiB"])]:
+                                 (1 << 40, 0, ["1.0 TiB"]), (3 << 39, 0, ["1.5 TiB"]), (100 * MEBIBYTE, 924 * MEBIBYTE, ["100.0 MiB", "1.0 GiB"]),
+                                 (40 * MEBIBYTE, 30 * MEBIBYTE, ["70.0 MiB"])]:
         ledger.write_bytes(b"text\n" * 1_000)
         os.truncate(ledger, octets)
         if of_log:
@@ -334,6 +360,7 @@ def main():
     with tempfile.TemporaryDirectory() as work:
         place = Place(os.path.abspath(sys.argv[1]), work)
         many_files(place)
+        millions(place)
         one_file(place)
         totals(place)
         short_work(place)

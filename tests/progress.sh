@@ -5,5 +5,5 @@ cd "$(dirname -- "$0")/.." || exit 1
 . tests/common.bash
 
 build_first
-expect 'progress' 0 '89 commands' env TMPDIR="$work" python3 -B tests/progress.py crates/bag_cmd/out/bag_cmd
+expect 'progress' 0 '94 commands' env TMPDIR="$work" python3 -B tests/progress.py crates/bag_program/out/bag_program
 finish

@@ -10,6 +10,6 @@ runs=200
 [ "${1-}" != --all ] || runs=2000
 # It prints how many there were, or the first command that is answered differently, with those before it.
 expect 'random commands' 0 '' env TMPDIR="$work" sh -c 'python3 -B tests/random_commands.py "$1" "$2" 1 >"$3"' \
-    sh crates/bag_cmd/out/bag_cmd "$runs" "$work/tried"
+    sh crates/bag_program/out/bag_program "$runs" "$work/tried"
 cat "$work/tried"
 finish

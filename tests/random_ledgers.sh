@@ -9,6 +9,6 @@ build_first
 build_driver
 # It prints the seed and what it tried.
 expect 'random ledgers' 0 '' env TMPDIR="$work" python3 -B tests/random_ledgers.py \
-    crates/bag_cmd/out/bag_cmd "$driver" "${LEDGER_SECONDS-60}" "${LEDGER_SEED-}" "$work/tried"
+    crates/bag_program/out/bag_program "$driver" "${LEDGER_SECONDS-60}" "${LEDGER_SEED-}" "$work/tried"
 cat "$work/tried"
 finish

@@ -10,7 +10,7 @@ build_driver
 if cc -shared -fPIC -O1 -o "$work/no_memory.so" tests/no_memory.c 2>"$work/no cc"; then
     # It prints what it tried, or each list that is answered otherwise.
     expect 'each request for memory refused, and each call of a device' 0 '' \
-        env TMPDIR="$work" sh -c 'python3 -B tests/refusals.py "$1" "$2" "$3" >"$4"' sh "$driver" crates/bag_cmd/out/bag_cmd "$work/no_memory.so" "$work/tried"
+        env TMPDIR="$work" sh -c 'python3 -B tests/refusals.py "$1" "$2" "$3" >"$4"' sh "$driver" crates/bag_program/out/bag_program "$work/no_memory.so" "$work/tried"
     cat "$work/tried"
 else
     lacking 'refused requests for memory (no C compiler is installed)'

@@ -11,15 +11,15 @@ top=$PWD
 # and letters beyond ASCII are after both.
 repository="$work/a repository"
 mkdir -p "$repository"/{release,docs} "$repository/crates/low"/{src,specs,proofs,must-fail} \
-    "$repository"/crates/{bag_cmd,low_tests,other}/src
+    "$repository"/crates/{bag_program,low_tests,other}/src
 cd "$repository" || exit 1
 cp "$top"/{bag,build,install,program.sh} .
 cp "$top/release/make" release/make
-printf '# Each crate.\nlow: std\nlow_tests: low\nbag_cmd: low\nother: low\n' >crates.txt
+printf '# Each crate.\nlow: std\nlow_tests: low\nbag_program: low\nother: low\n' >crates.txt
 for name in Z a 'a b' é; do
     printf '%s first' "$name" >"crates/low/src/$name.rt"
 done
-touch crates/low/src/none.rt crates/low/{specs,proofs}/Lib.antt crates/{bag_cmd,low_tests,other}/src/main.rt
+touch crates/low/src/none.rt crates/low/{specs,proofs}/Lib.antt crates/{bag_program,low_tests,other}/src/main.rt
 echo 'the manual page' >docs/bag.1
 
 # stand_in WORD: a program that prints its arguments, one per line after the word.
@@ -42,8 +42,8 @@ case \$1 in
 version) echo 'stand-in kit 1' ;;
 run)
     mkdir -p out
-    cp '$work/built' out/bag_cmd
-    exec out/bag_cmd
+    cp '$work/built' out/bag_program
+    exec out/bag_program
     ;;
 esac
 KIT
@@ -106,7 +106,7 @@ RELEASE
 }
 no_kit='bag: the program has to be built, but rt, the command of the Rattle kit, is not on PATH'
 differ='bag: the sources are not those of release 9.8.7'
-builds=$'bag: proving low\nbag: proving bag_cmd'
+builds=$'bag: proving low\nbag: proving bag_program'
 
 expect 'no release: the digest' 0 "$(definition)" digest
 expect 'no release, and no kit' 69 "$no_kit" without_kit ./bag word
@@ -119,7 +119,7 @@ expect 'from another directory' 7 'released <word>' with_few "$(command -v env)"
 ln -s "$repository/bag" "$work/link"
 expect 'through a link' 7 'released <word>' with_few "$work/link" word
 expect 'with the kit' 7 'released <word>' with_kit ./bag word
-expect 'nothing was built' 0 '' nothing crates/bag_cmd/out
+expect 'nothing was built' 0 '' nothing crates/bag_program/out
 mkdir "$work/bin"
 expect 'installed' 0 '' without_kit ./install "$work/bin"
 expect 'what is installed' 0 '' cmp "$work/released" "$work/bin/bin/bag"
@@ -148,15 +148,15 @@ noticed 'an octet more' "printf 'a first.' >$src/a.rt" "printf 'a first' >$src/a
 noticed 'an octet that is moved to the next file' "printf 'a firs' >$src/a.rt; printf 't' >$src/none.rt" \
     "printf 'a first' >$src/a.rt; : >$src/none.rt"
 noticed 'a file that is added' ": >crates/low/specs/New.antt" "rm crates/low/specs/New.antt"
-noticed 'a hidden file that is added' ": >crates/bag_cmd/src/.new" "rm crates/bag_cmd/src/.new"
+noticed 'a hidden file that is added' ": >crates/bag_program/src/.new" "rm crates/bag_program/src/.new"
 noticed 'a file that is removed' "mv $src/none.rt '$work/kept'" "mv '$work/kept' $src/none.rt"
 noticed 'a file that is renamed' "mv $src/a.rt $src/b.rt" "mv $src/b.rt $src/a.rt"
 noticed 'two files that are exchanged' "mv $src/a.rt '$work/kept'; mv $src/Z.rt $src/a.rt; mv '$work/kept' $src/Z.rt" \
     "mv $src/a.rt '$work/kept'; mv $src/Z.rt $src/a.rt; mv '$work/kept' $src/Z.rt"
-noticed 'a file that is in another crate' "mv $src/none.rt crates/bag_cmd/src" "mv crates/bag_cmd/src/none.rt $src"
+noticed 'a file that is in another crate' "mv $src/none.rt crates/bag_program/src" "mv crates/bag_program/src/none.rt $src"
 noticed 'a folder that is removed' "mv crates/low/proofs '$work/proofs'" "mv '$work/proofs' crates/low/proofs"
-noticed 'a folder that is added' "mkdir crates/bag_cmd/specs; : >crates/bag_cmd/specs/Lib.antt" \
-    "rm -r crates/bag_cmd/specs"
+noticed 'a folder that is added' "mkdir crates/bag_program/specs; : >crates/bag_program/specs/Lib.antt" \
+    "rm -r crates/bag_program/specs"
 noticed 'the list of crates' "cp crates.txt '$work/kept'; echo '# More.' >>crates.txt" "cp '$work/kept' crates.txt"
 
 : >crates/low/must-fail/wrong.edit
@@ -204,19 +204,19 @@ expect 'a build of released sources' 0 "$builds" with_kit ./build
 expect 'it is run' 7 'built <word>' with_few ./bag word
 expect 'it is installed' 0 '' without_kit ./install "$work/bin"
 expect 'what is installed is the build' 0 '' cmp "$work/built" "$work/bin/bin/bag"
-mv crates/bag_cmd/out "$work/out"
+mv crates/bag_program/out "$work/out"
 rm -rf release/out
 expect 'the build removed' 7 'released <word>' without_kit ./bag word
-mv "$work/out" crates/bag_cmd/out
+mv "$work/out" crates/bag_program/out
 expect 'a build of what is built' 0 '' without_kit ./build
 expect 'it is run from then on' 7 'built <word>' with_few ./bag word
-rm -r crates/bag_cmd/out
+rm -r crates/bag_program/out
 expect 'unpacked again' 7 'released <word>' without_kit ./bag word
-mkdir crates/bag_cmd/out
+mkdir crates/bag_program/out
 sleep 0.05
-cp "$work/built" crates/bag_cmd/out/bag_cmd
+cp "$work/built" crates/bag_program/out/bag_program
 expect 'a build by the kit alone' 7 'built <word>' with_few ./bag word
-rm -r crates/bag_cmd/out
+rm -r crates/bag_program/out
 
 # An edit while the program is unpacked, when the digest was taken.
 mkdir "$work/slow"
@@ -255,7 +255,7 @@ refused() {
     expect "$1" 69 "$2"$'\n'"$no_kit" without_kit ./bag word
     expect "$1: with the kit" 7 "$2"$'\n'"$builds"$'\nbuilt <word>' with_kit ./bag word
     expect "$1: nothing is left" 0 '' left
-    rm -rf release/out crates/bag_cmd/out
+    rm -rf release/out crates/bag_program/out
     released "$work/released"
 }
 left() {
@@ -342,8 +342,8 @@ PROGRAM
         git add . && git commit -qm 'A stand-in'
     } >"$work/said" 2>&1 || { cat "$work/said" && exit 1; }
     proved() {
-        mkdir -p crates/bag_cmd/out
-        cp "$work/proved" crates/bag_cmd/out/bag_cmd
+        mkdir -p crates/bag_program/out
+        cp "$work/proved" crates/bag_program/out/bag_program
     }
     usage='usage: release/make VERSION (three numbers joined by dots)'
     expect 'no version' 64 "$usage" make_release
@@ -383,7 +383,7 @@ PROGRAM
     expect 'a manual page of another version' 1 'release: docs/bag.1 does not name 9.8.7 at its head' make_release 9.8.7
     git checkout -q docs/bag.1
     expect 'nothing was written' 0 make ls release
-    stand_in script >crates/bag_cmd/out/bag_cmd
+    stand_in script >crates/bag_program/out/bag_program
     expect 'a program that needs no C library' 1 'release: objdump finds no version of the C library in the program' \
         make_release 9.8.7
     proved
@@ -402,7 +402,7 @@ sources: $(definition)" grep '^[a-z]*: ' release/RELEASE
     expect 'the program in it' 0 '' cmp "$work/proved" "$work/unpacked"
     expect 'it prints what it says' 0 "$(<release/RELEASE)" head -n "$(wc -l <release/RELEASE)" "$work/made"
     sleep 1
-    touch crates/bag_cmd/out/bag_cmd
+    touch crates/bag_program/out/bag_program
     expect 'made once more' 0 "$(<"$work/made")" make_release 9.8.7
     expect 'made once more: the text' 0 '' cmp "$work/RELEASE" release/RELEASE
     expect 'made once more: the program' 0 '' cmp "$work/bag.gz" release/bag.gz
@@ -420,19 +420,19 @@ sources: $(definition)" grep '^[a-z]*: ' release/RELEASE
     clone=$work/second
     expect 'nothing built to compare' 0 'not compared: no program was built from these sources' \
         with_kit compared "$clone"
-    mkdir -p "$clone/crates/bag_cmd/out"
-    cp "$work/proved" "$clone/crates/bag_cmd/out/bag_cmd"
+    mkdir -p "$clone/crates/bag_program/out"
+    cp "$work/proved" "$clone/crates/bag_program/out/bag_program"
     expect 'the same program' 0 'compared: the program that was built is that of release 9.8.7' \
         with_kit compared "$clone"
-    printf x >>"$clone/crates/bag_cmd/out/bag_cmd"
+    printf x >>"$clone/crates/bag_program/out/bag_program"
     expect 'another program' 1 'compared: the program that was built is not that of release 9.8.7' \
         with_kit compared "$clone"
     sed -i 's/kit 1/kit 2/' "$work/kit/rt"
     expect 'another kit' 0 "not compared: the kit is 'stand-in kit 2', and that of release 9.8.7 was 'stand-in kit 1'" \
         with_kit compared "$clone"
-    echo more >>"$clone/crates/bag_cmd/src/main.rt"
+    echo more >>"$clone/crates/bag_program/src/main.rt"
     sleep 0.05
-    touch "$clone/crates/bag_cmd/out/bag_cmd"
+    touch "$clone/crates/bag_program/out/bag_program"
     expect 'other sources' 0 'not compared: the sources are not those of release 9.8.7' with_kit compared "$clone"
     rm "$clone/release/RELEASE"
     expect 'no release to compare' 0 'not compared: there is no release' with_kit compared "$clone"

@@ -7,7 +7,7 @@ cd "$(dirname -- "$0")/.." || exit 1
 . tests/common.bash
 
 build_first
-program=$PWD/crates/bag_cmd/out/bag_cmd
+program=$PWD/crates/bag_program/out/bag_program
 
 # bag ARGUMENT..: runs the program in the folder `work`, so that names can be short.
 bag() {

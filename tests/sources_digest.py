@@ -14,7 +14,7 @@ def main(folder):
     lines = (top / "crates.txt").read_text(encoding="utf-8").splitlines()
     crates = [line.split(":")[0] for line in lines if line and not line.startswith("#")]
     names = [b"crates.txt"]
-    for crate in crates[: crates.index("bag_cmd") + 1]:
+    for crate in crates[: crates.index("bag_program") + 1]:
         for part in ("src", "specs", "proofs"):
             if not crate.endswith("_tests"):
                 below = (top / "crates" / crate / part).rglob("*")

@@ -133,6 +133,6 @@ manifest-sha256.txt: digest: data/a.txt
 manifest-sha512.txt: digest: data/a.txt
 complete, not valid" ./bag check "$work/whole"
 
-expect 'random bags' 0 '4000 bags: all judged alike' python3 -B tests/random_bags.py crates/bag_cmd/out/bag_cmd 1 4000
+expect 'random bags' 0 '4000 bags: all judged alike' python3 -B tests/random_bags.py crates/bag_program/out/bag_program 1 4000
 expect 'the second receiver, on worked cases' 0 '165 worked answers: 0 otherwise' python3 -B tests/worked_answers.py
 finish

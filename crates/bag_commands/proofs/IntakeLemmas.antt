@@ -10,11 +10,11 @@ use Rattle.bag_path.specs.Lines.{written_lines}
 use Rattle.bag_path.specs.Octets.{lf}
 use Rattle.std.proofs.lemmas.Grind.{flat_map-append, fold-append}
 use Rattle.bag_commands.specs.declared.output.Output.{Output}
-use Rattle.bag_commands.specs.Printing.{WroteLines}
+use Rattle.bag_commands.specs.Outputs.{WroteLines}
 use Rattle.bag_commands.specs.AnswerTexts.{answer_text}
 use Rattle.bag_commands.specs.IntakeTexts.{Told, answer_lines, greatest, intake_lines, intake_status, run_lines, run_status}
 use Rattle.bag_commands.specs.declared.status.TheConstants.{DONE}
-use Rattle.bag_digest.specs.Device.{Rises}
+use Rattle.bag_digest.specs.Failures.{Rises}
 use Rattle.bag_digest.specs.declared.source.Failed.{Failed}
 
 zip_push : {A B : Type 0} (xs : List A) (ys : List B) (x : A) (y : B) → length xs ≡ length ys → zip (xs ++ x ∷ []) (ys ++ y ∷ []) ≡ zip xs ys ++ (x, y) ∷ []

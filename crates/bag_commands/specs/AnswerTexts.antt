@@ -1,7 +1,7 @@
 -- Answers to deliveries as printed, and the status for each.
 use Rattle.std.specs.Prelude.{ℕ, List, ◌++◌, codes}
 use Rattle.bag_digest.specs.Algorithm.{name_of}
-use Rattle.bag_ledger.specs.declared.fault.KeepFault.TheVariants as keep
+use Rattle.bag_ledger.specs.declared.keeper_faults.KeepFault.TheVariants as keep
 use Rattle.bag_path.specs.Spellings.{written_spelling}
 use Rattle.bag_receiver.specs.declared.answer.Answer.{Answer}
 use Rattle.bag_receiver.specs.declared.answer.Answer.TheVariants.{Taken, Repeated, Refused}

@@ -8,8 +8,8 @@ use Rattle.bag_receiver.specs.declared.begin.Begun.TheVariants.{Again, New}
 use Rattle.bag_commands.specs.declared.status.TheConstants.{DONE, FAILED, OUTSIDE, REFUSED}
 use Rattle.bag_commands.specs.CheckTexts.{outside_text}
 use Rattle.bag_commands.specs.FaultTexts.{fault_text}
-use Rattle.bag_commands.specs.declared.stop.Stop.TheVariants as stop
-use Rattle.bag_commands.specs.StopTexts.{stop_of_keep, stop_text}
+use Rattle.bag_commands.specs.declared.no_result.NoResult.TheVariants as no_result
+use Rattle.bag_commands.specs.NoResultTexts.{no_result_of_keep, no_result_text}
 
 -- why no transfer was opened
 abbrev pub begin_fault_line : BeginFault → List ℕ
@@ -20,8 +20,8 @@ begin_fault_line (fault.Outside cause) = outside_text cause
 begin_fault_line (fault.Rules why) = codes "refused: " ++ fault_text why
 begin_fault_line (fault.Clash path) = codes "refused: clash " ++ written_spelling path
 begin_fault_line fault.Differs = codes "refused: differs"
-begin_fault_line fault.Tree = stop_text stop.Files
-begin_fault_line (fault.Keeper why) = stop_text (stop_of_keep why)
+begin_fault_line fault.Tree = no_result_text no_result.Files
+begin_fault_line (fault.Keeper why) = no_result_text (no_result_of_keep why)
 
 abbrev pub begin_line : Result Begun BeginFault → List ℕ
 begin_line (Ok New) = codes "new"

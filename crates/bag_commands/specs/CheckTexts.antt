@@ -6,7 +6,7 @@ use Rattle.bag_rules.specs.declared.outcome.OutsideCause.{OutsideCause}
 use Rattle.bag_rules.specs.declared.outcome.OutsideCause.TheVariants.{Version, Encoding, Algorithm}
 use Rattle.bag_rules.specs.declared.outcome.CheckFault.{CheckFault}
 use Rattle.bag_commands.specs.declared.status.TheConstants.{OUTSIDE, FAILED}
-use Rattle.bag_commands.specs.StopTexts.{stop_text, stop_of_check}
+use Rattle.bag_commands.specs.NoResultTexts.{no_result_text, no_result_of_check}
 use Rattle.bag_commands.specs.VerdictTexts.{report_lines, report_status}
 
 -- why a bag can't be judged
@@ -19,7 +19,7 @@ outside_text (Algorithm name) = codes "outside: algorithm " ++ string_bytes name
 abbrev pub check_lines : Result Outcome CheckFault → List (List ℕ)
 check_lines (Ok (Judged faults)) = report_lines faults
 check_lines (Ok (Outside why)) = outside_text why ∷ []
-check_lines (Err fault) = stop_text (stop_of_check fault) ∷ []
+check_lines (Err fault) = no_result_text (no_result_of_check fault) ∷ []
 
 abbrev pub check_status : Result Outcome CheckFault → ℕ
 check_status (Ok (Judged faults)) = report_status faults

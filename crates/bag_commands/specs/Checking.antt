@@ -10,7 +10,7 @@ use Rattle.bag_rules.specs.declared.outcome.CheckFault.TheVariants.{Tree}
 use Rattle.bag_rules.specs.Trees.{Shown, UsesTree, paths_in}
 use Rattle.bag_commands.specs.declared.output.Output.{Output}
 use Rattle.bag_commands.specs.CheckTexts.{check_lines, check_status}
-use Rattle.bag_commands.specs.Printing.{Printed}
+use Rattle.bag_commands.specs.Outputs.{Printed}
 
 -- A result of `check` for a tree. If the tree's octets are known, it is the verdict on its bag, in which no faults mean
 -- a valid bag and only wrong digests a complete one, or the first limit that is exceeded. If there are too many files

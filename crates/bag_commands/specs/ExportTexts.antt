@@ -4,14 +4,14 @@ use Rattle.std.specs.Fmt.{decimal}
 use Rattle.bag_receiver.specs.declared.export.ExportFault.{ExportFault}
 use Rattle.bag_receiver.specs.declared.export.ExportFault.TheVariants as fault
 use Rattle.bag_commands.specs.declared.status.TheConstants.{DONE, FAILED, REFUSED}
-use Rattle.bag_commands.specs.declared.stop.Stop.TheVariants as stop
-use Rattle.bag_commands.specs.StopTexts.{stop_of_keep, stop_text}
+use Rattle.bag_commands.specs.declared.no_result.NoResult.TheVariants as no_result
+use Rattle.bag_commands.specs.NoResultTexts.{no_result_of_keep, no_result_text}
 
 -- why no bag, or only part of one, was exported
 abbrev pub export_fault_line : ExportFault → List ℕ
 export_fault_line fault.NoTransfer = codes "bag: no transfer"
-export_fault_line fault.Sink = stop_text stop.Files
-export_fault_line (fault.Keeper why) = stop_text (stop_of_keep why)
+export_fault_line fault.Sink = no_result_text no_result.Files
+export_fault_line (fault.Keeper why) = no_result_text (no_result_of_keep why)
 
 -- its line: the number of all files of the bag, or the fault
 abbrev pub export_text : Result ℕ ExportFault → List ℕ

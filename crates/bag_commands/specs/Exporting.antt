@@ -1,9 +1,9 @@
 -- The answer of a receiver that exports a transfer to a sink, and what the sink holds afterwards.
 use Rattle.std.specs.Prelude.{◌≡◌, ℕ, Bool, List, Option, IsErrOf, Result, false}
-use Rattle.bag_digest.specs.Device.{CountsIf}
+use Rattle.bag_digest.specs.Failures.{CountsIf}
 use Rattle.bag_ledger.specs.Ledgers.{Ledger}
-use Rattle.bag_ledger.specs.declared.fault.KeepFault.TheVariants.{Store}
-use Rattle.bag_ledger.specs.declared.fault.StoreFault.{StoreFault}
+use Rattle.bag_ledger.specs.declared.keeper_faults.KeepFault.TheVariants.{Store}
+use Rattle.bag_ledger.specs.declared.keeper_faults.StoreFault.{StoreFault}
 use Rattle.bag_receiver.specs.declared.export.ExportFault.{ExportFault}
 use Rattle.bag_receiver.specs.declared.export.ExportFault.TheVariants.{Keeper, NoTransfer, Sink}
 use Rattle.bag_receiver.specs.declared.receiver.Receiver.{Receiver}

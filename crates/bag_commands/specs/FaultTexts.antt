@@ -5,8 +5,8 @@ use Rattle.bag_path.specs.Spellings.{written_spelling}
 use Rattle.bag_tags.specs.declared.listing.Kind.TheVariants.{Payload, Tag}
 use Rattle.bag_tags.specs.declared.declaration.DeclFault.{DeclFault}
 use Rattle.bag_tags.specs.declared.declaration.DeclFault.TheVariants as declaration
-use Rattle.bag_tags.specs.declared.fault.LineCause.{LineCause}
-use Rattle.bag_tags.specs.declared.fault.LineCause.TheVariants as cause
+use Rattle.bag_tags.specs.declared.tag_fault.LineCause.{LineCause}
+use Rattle.bag_tags.specs.declared.tag_fault.LineCause.TheVariants as cause
 use Rattle.bag_tags.specs.Names.{file_of, manifest_file, text_file}
 use Rattle.bag_rules.specs.declared.fault.Fault.{Fault}
 use Rattle.bag_rules.specs.declared.fault.Fault.TheVariants as fault

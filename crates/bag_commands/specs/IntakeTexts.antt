@@ -5,10 +5,10 @@ use Rattle.bag_receiver.specs.declared.answer.Answer.{Answer}
 use Rattle.bag_receiver.specs.declared.run.End.{End}
 use Rattle.bag_receiver.specs.declared.run.End.TheVariants as end
 use Rattle.bag_commands.specs.declared.status.TheConstants.{DONE, FAILED}
-use Rattle.bag_commands.specs.declared.stop.Stop.{Stop}
-use Rattle.bag_commands.specs.declared.stop.Stop.TheVariants as stop
+use Rattle.bag_commands.specs.declared.no_result.NoResult.{NoResult}
+use Rattle.bag_commands.specs.declared.no_result.NoResult.TheVariants as no_result
 use Rattle.bag_commands.specs.AnswerTexts.{answer_status, answer_text}
-use Rattle.bag_commands.specs.StopTexts.{stop_text}
+use Rattle.bag_commands.specs.NoResultTexts.{no_result_text}
 
 -- a run: the paths delivered for, the answers, and how it ended
 pub record Told : Type 0 where
@@ -17,15 +17,15 @@ pub record Told : Type 0 where
   pub ended : End
 
 -- why a run ended before everything was delivered
-abbrev pub stop_of_end : End → Option Stop
-stop_of_end end.Done = None
-stop_of_end end.TooMany = Some stop.TooMany
-stop_of_end end.Courier = Some stop.Files
-stop_of_end end.Memory = Some stop.Memory
+abbrev pub no_result_of_end : End → Option NoResult
+no_result_of_end end.Done = None
+no_result_of_end end.TooMany = Some no_result.TooMany
+no_result_of_end end.Courier = Some no_result.Files
+no_result_of_end end.Memory = Some no_result.Memory
 
-abbrev pub stop_lines : Option Stop → List (List ℕ)
-stop_lines None = []
-stop_lines (Some why) = stop_text why ∷ []
+abbrev pub no_result_lines : Option NoResult → List (List ℕ)
+no_result_lines None = []
+no_result_lines (Some why) = no_result_text why ∷ []
 
 -- a line for each delivery, in order
 abbrev pub answer_lines : List (List ℕ) → List Answer → List (List ℕ)
@@ -34,7 +34,8 @@ answer_lines paths answers =
 
 -- followed by the reason why there were no more
 abbrev pub run_lines : Told → List (List ℕ)
-run_lines told = answer_lines told.paths told.answers ++ stop_lines (stop_of_end told.ended)
+run_lines told =
+    answer_lines told.paths told.answers ++ no_result_lines (no_result_of_end told.ended)
 
 -- run by run
 abbrev pub intake_lines : List Told → List (List ℕ)

@@ -14,8 +14,8 @@ pub mod ListTexts
 pub mod Listing
 pub mod MakeTexts
 pub mod Making
-pub mod Printing
-pub mod StopTexts
+pub mod NoResultTexts
+pub mod Outputs
 pub mod VerdictTexts
 pub mod ViewTexts
 pub mod Viewing

@@ -4,11 +4,11 @@ use Rattle.std.specs.Map.{keys_of}
 use Rattle.std.specs.declared.alloc.Global.{Global}
 use Rattle.std.specs.declared.string.String.{String}
 use Rattle.std.specs.declared.vec.Vec.{Vec}
-use Rattle.bag_digest.specs.Device.{CountsIf}
+use Rattle.bag_digest.specs.Failures.{CountsIf}
 use Rattle.bag_ledger.specs.Ledgers.{Ledger}
-use Rattle.bag_ledger.specs.declared.fault.KeepFault.{KeepFault}
-use Rattle.bag_ledger.specs.declared.fault.KeepFault.TheVariants.{Store}
-use Rattle.bag_ledger.specs.declared.fault.StoreFault.{StoreFault}
+use Rattle.bag_ledger.specs.declared.keeper_faults.KeepFault.{KeepFault}
+use Rattle.bag_ledger.specs.declared.keeper_faults.KeepFault.TheVariants.{Store}
+use Rattle.bag_ledger.specs.declared.keeper_faults.StoreFault.{StoreFault}
 use Rattle.bag_receiver.specs.declared.receiver.Receiver.{Receiver}
 use Rattle.bag_receiver.specs.Receivers.{Does, IsInState}
 use Rattle.bag_receiver.specs.ReceiversInside.{Same}

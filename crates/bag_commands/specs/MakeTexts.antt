@@ -2,12 +2,12 @@
 use Rattle.std.specs.Prelude.{ℕ, List, ◌++◌, None, Option, Result, Ok, Err, Some, codes}
 use Rattle.std.specs.Fmt.{decimal}
 use Rattle.bag_tags.specs.declared.oxum.Oxum.{Oxum}
-use Rattle.bag_writer.specs.declared.fault.Large.{Large}
-use Rattle.bag_writer.specs.declared.fault.WriteFault.{WriteFault}
-use Rattle.bag_writer.specs.declared.fault.WriteFault.TheVariants as fault
+use Rattle.bag_writer.specs.declared.write_fault.Large.{Large}
+use Rattle.bag_writer.specs.declared.write_fault.WriteFault.{WriteFault}
+use Rattle.bag_writer.specs.declared.write_fault.WriteFault.TheVariants as fault
 use Rattle.bag_commands.specs.declared.status.TheConstants.{DONE, FAILED, REFUSED}
-use Rattle.bag_commands.specs.declared.stop.Stop.TheVariants as stop
-use Rattle.bag_commands.specs.StopTexts.{stop_text}
+use Rattle.bag_commands.specs.declared.no_result.NoResult.TheVariants as no_result
+use Rattle.bag_commands.specs.NoResultTexts.{no_result_text}
 
 -- why no bag, or only part of one, was made
 abbrev pub fault_line : WriteFault → List ℕ
@@ -15,10 +15,10 @@ fault_line fault.NoAlgorithm = codes "bag: no algorithm"
 fault_line fault.OxumGiven = codes "bag: oxum given"
 fault_line (fault.BadHole i) = codes "bag: bad hole"
 fault_line (fault.Clash path) = codes "bag: clash"
-fault_line fault.Tree = stop_text stop.Files
-fault_line fault.Sink = stop_text stop.Files
-fault_line (fault.TooLarge large) = stop_text stop.TooLarge
-fault_line fault.Memory = stop_text stop.Memory
+fault_line fault.Tree = no_result_text no_result.Files
+fault_line fault.Sink = no_result_text no_result.Files
+fault_line (fault.TooLarge large) = no_result_text no_result.TooLarge
+fault_line fault.Memory = no_result_text no_result.Memory
 
 -- its line: the number of payload files and of their octets, or the fault
 abbrev pub make_text : Result Oxum WriteFault → List ℕ

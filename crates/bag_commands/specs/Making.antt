@@ -8,14 +8,14 @@ use Rattle.bag_rules.specs.Trees.{Shown, UsesTree}
 use Rattle.bag_tags.specs.declared.oxum.Oxum.{Oxum}
 use Rattle.bag_writer.specs.Sinks.{IsEmptySink, Stored, UsesSink}
 use Rattle.bag_writer.specs.Writing.{IsAccepted, IsDone, IsOfDevice, IsRefusedUnwritten, Refuses, payload_paths}
-use Rattle.bag_writer.specs.declared.fault.WriteFault.{WriteFault}
-use Rattle.bag_writer.specs.declared.fault.WriteFault.TheVariants.{Tree, Sink}
+use Rattle.bag_writer.specs.declared.write_fault.WriteFault.{WriteFault}
+use Rattle.bag_writer.specs.declared.write_fault.WriteFault.TheVariants.{Tree, Sink}
 use Rattle.bag_writer.specs.declared.spec.Spec.{Spec}
 use Rattle.bag_commands.specs.declared.output.Output.{Output}
 use Rattle.bag_commands.specs.declared.status.TheConstants.{USAGE}
 use Rattle.bag_commands.specs.declared.make.MakeEnd.{MakeEnd}
 use Rattle.bag_commands.specs.MakeTexts.{large_in, make_status, make_text}
-use Rattle.bag_commands.specs.Printing.{Printed}
+use Rattle.bag_commands.specs.Outputs.{Printed}
 
 -- THE NAMES OF ALGORITHMS
 

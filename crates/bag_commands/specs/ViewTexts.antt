@@ -4,13 +4,13 @@ use Rattle.bag_receiver.specs.declared.report.ViewFault.{ViewFault}
 use Rattle.bag_receiver.specs.declared.report.ViewFault.TheVariants.{NoTransfer, Keeper}
 use Rattle.bag_rules.specs.declared.report.Report.{Report}
 use Rattle.bag_commands.specs.declared.status.TheConstants.{FAILED, REFUSED}
-use Rattle.bag_commands.specs.StopTexts.{stop_of_keep, stop_text}
+use Rattle.bag_commands.specs.NoResultTexts.{no_result_of_keep, no_result_text}
 use Rattle.bag_commands.specs.VerdictTexts.{report_lines, report_status}
 
 -- why there is no report
 abbrev pub view_fault_line : ViewFault → List ℕ
 view_fault_line NoTransfer = codes "bag: no transfer"
-view_fault_line (Keeper why) = stop_text (stop_of_keep why)
+view_fault_line (Keeper why) = no_result_text (no_result_of_keep why)
 
 abbrev pub view_fault_status : ViewFault → ℕ
 view_fault_status NoTransfer = REFUSED

@@ -2,11 +2,11 @@
 ghost use Rattle.std.specs.Prelude.{◌≡◌, ◌∷◌, []};
 ghost use Rattle.bag_receiver.specs.BeginningFrom.{BeginsFrom};
 ghost use Rattle.bag_commands.specs.BeginTexts.{begin_line, begin_status};
-ghost use Rattle.bag_commands.specs.Printing.{Printed, PrintedOne};
+ghost use Rattle.bag_commands.specs.Outputs.{Printed, PrintedOne};
 
+use crate::no_result::NoResult;
 use crate::output::Output;
 use crate::status::{DONE, FAILED, OUTSIDE, REFUSED};
-use crate::stop::Stop;
 use crate::text::{FaultLine, OutsideLine};
 use bag_ledger::Keeper;
 use bag_path::Spelling;
@@ -78,8 +78,8 @@ impl Display for BeginLine<'_> {
             Err(BeginFault::Rules(fault)) => write!(f, "refused: {}", FaultLine(fault)),
             Err(BeginFault::Clash(path)) => write!(f, "refused: clash {}", Spelling(path)),
             Err(BeginFault::Differs) => f.write_str("refused: differs"),
-            Err(BeginFault::Tree) => f.write_str(Stop::Files.text()),
-            Err(BeginFault::Keeper(why)) => f.write_str(Stop::from(*why).text()),
+            Err(BeginFault::Tree) => f.write_str(NoResult::Files.text()),
+            Err(BeginFault::Keeper(why)) => f.write_str(NoResult::from(*why).text()),
         }
     }
 }

@@ -1,25 +1,29 @@
 //! `check`: judges the bag in a tree.
 ghost use Rattle.std.specs.Prelude.{◌≡◌, ◌≤◌, [], OnErr, OnOk};
 ghost use Rattle.std.specs.Io.Buffered.{writer_buffer};
-ghost use Rattle.bag_digest.specs.Device.{Rises};
+ghost use Rattle.bag_digest.specs.Failures.{Rises};
 ghost use Rattle.bag_rules.specs.Bags.{Bag, IsBagOf};
 ghost use Rattle.bag_rules.specs.Validity.{IsValid};
-ghost use Rattle.bag_commands.specs.Printing.{Printed, WroteLines};
+ghost use Rattle.bag_commands.specs.Outputs.{Printed, WroteLines};
 ghost use Rattle.bag_commands.specs.Checking.{IsAnswer, PrintedOf};
 ghost use Rattle.bag_commands.specs.CheckTexts.{check_lines, check_status};
 
+use crate::no_result::NoResult;
 use crate::output::Output;
 use crate::status::{FAILED, OUTSIDE, VALID};
-use crate::stop::Stop;
 use crate::text::OutsideLine;
 use crate::verdict::{report_status, write_report};
 use bag_digest::Failed;
-use bag_rules::{CheckFault, Outcome, Tree, check};
+use bag_rules::{CheckFault, OpenTree, Outcome, check};
 use std::alloc::Global;
 use std::io::Write;
 
 /// Checks the bag in a tree, prints the result and returns the status, as [`print_outcome`] does.
-pub fn check_to<T: Tree, W: Write + Drop>(alloc: Global, tree: &mut T, out: &mut Output<W>) -> u8
+pub fn check_to<T: OpenTree, W: Write + Drop>(
+    alloc: Global,
+    tree: &mut T,
+    out: &mut Output<W>,
+) -> u8
     // The status is 0 only for a valid bag.
     ensures valid { result ≡ VALID
         → (bag : Bag) → IsBagOf (T.shown tree.old) bag → IsValid bag }
@@ -57,7 +61,7 @@ fn write_outcome<W: Write + Drop>(
     match outcome {
         Ok(Outcome::Judged(report)) => write_report(report, out)?,
         Ok(Outcome::Outside(cause)) => out.line(OutsideLine(cause))?,
-        Err(fault) => out.line(Stop::from(fault).text())?,
+        Err(fault) => out.line(NoResult::from(fault).text())?,
     }
     out.flush()
 }

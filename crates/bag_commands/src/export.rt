@@ -2,11 +2,11 @@
 ghost use Rattle.std.specs.Prelude.{◌≡◌, ◌∷◌, []};
 ghost use Rattle.bag_commands.specs.Exporting.{IsExporting};
 ghost use Rattle.bag_commands.specs.ExportTexts.{export_fault_line, export_status, export_text};
-ghost use Rattle.bag_commands.specs.Printing.{Printed, PrintedOne};
+ghost use Rattle.bag_commands.specs.Outputs.{Printed, PrintedOne};
 
+use crate::no_result::NoResult;
 use crate::output::Output;
 use crate::status::{DONE, FAILED, REFUSED};
-use crate::stop::Stop;
 use bag_ledger::Keeper;
 use bag_receiver::{ExportFault, Receiver};
 use bag_writer::Sink;
@@ -48,8 +48,8 @@ fn fault_line(fault: ExportFault) -> &'static str
 {
     match fault {
         ExportFault::NoTransfer => "bag: no transfer",
-        ExportFault::Sink => Stop::Files.text(),
-        ExportFault::Keeper(why) => Stop::from(why).text(),
+        ExportFault::Sink => NoResult::Files.text(),
+        ExportFault::Keeper(why) => NoResult::from(why).text(),
     }
 }
 

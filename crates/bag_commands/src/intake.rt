@@ -1,16 +1,16 @@
 //! `intake`: takes in the payload files that couriers deliver.
 ghost use Rattle.std.specs.Prelude.{◌≡◌, [], IfOk, List, OnErr, OnOk, length};
 ghost use Rattle.std.specs.Io.Buffered.{writer_buffer};
-ghost use Rattle.bag_digest.specs.Device.{Rises};
+ghost use Rattle.bag_digest.specs.Failures.{Rises};
 ghost use Rattle.bag_commands.specs.Intakes.{IsRun, TakesIn};
 ghost use Rattle.bag_commands.specs.IntakesInside.{told_of};
-ghost use Rattle.bag_commands.specs.IntakeTexts.{Told, answer_lines, end_status, intake_lines, intake_status, run_lines, run_status, stop_of_end};
-ghost use Rattle.bag_commands.specs.Printing.{Printed, WroteLines};
+ghost use Rattle.bag_commands.specs.IntakeTexts.{Told, answer_lines, end_status, intake_lines, intake_status, run_lines, run_status, no_result_of_end};
+ghost use Rattle.bag_commands.specs.Outputs.{Printed, WroteLines};
 
 use crate::answer::{AnswerLine, answer_status};
+use crate::no_result::NoResult;
 use crate::output::Output;
 use crate::status::{DONE, FAILED};
-use crate::stop::Stop;
 use bag_digest::Failed;
 use bag_ledger::Keeper;
 use bag_path::BagPath;
@@ -86,8 +86,8 @@ fn write_run<W: Write + Drop>(
     ensures failed { OnErr result (Rises out.old.failures out.new.failures) }
 {
     write_answers(paths, run.answers.as_slice(), out)?;
-    if let Some(stop) = stop_of_end(run.ended) {
-        out.line(stop.text())?;
+    if let Some(no_result) = no_result_of_end(run.ended) {
+        out.line(no_result.text())?;
     }
     out.flush()
 }
@@ -111,14 +111,14 @@ fn write_answers<W: Write + Drop>(
 }
 
 /// The reason why a run ended before everything was delivered, if it did.
-fn stop_of_end(ended: End) -> Option<Stop>
-    ensures { result ≡ stop_of_end ended }
+fn no_result_of_end(ended: End) -> Option<NoResult>
+    ensures { result ≡ no_result_of_end ended }
 {
     match ended {
         End::Done => None,
-        End::TooMany => Some(Stop::TooMany),
-        End::Courier => Some(Stop::Files),
-        End::Memory => Some(Stop::Memory),
+        End::TooMany => Some(NoResult::TooMany),
+        End::Courier => Some(NoResult::Files),
+        End::Memory => Some(NoResult::Memory),
     }
 }
 

@@ -1,15 +1,15 @@
 //! `list`: prints the names of the transfers in the ledger.
 ghost use Rattle.std.specs.Prelude.{◌≡◌, [], OnErr, OnOk, map};
 ghost use Rattle.std.specs.Io.Buffered.{writer_buffer};
-ghost use Rattle.bag_digest.specs.Device.{Rises};
+ghost use Rattle.bag_digest.specs.Failures.{Rises};
 ghost use Rattle.bag_commands.specs.ListTexts.{list_lines, list_status, name_text};
 ghost use Rattle.bag_commands.specs.Listing.{IsListing};
-ghost use Rattle.bag_commands.specs.Printing.{PrintedBy, WroteLines};
+ghost use Rattle.bag_commands.specs.Outputs.{PrintedBy, WroteLines};
 
+use crate::no_result::NoResult;
 use crate::output::Output;
 use crate::spelling::TextSpelling;
 use crate::status::{DONE, FAILED};
-use crate::stop::Stop;
 use bag_digest::Failed;
 use bag_ledger::{KeepFault, Keeper};
 use bag_receiver::Receiver;
@@ -45,7 +45,7 @@ fn write_names<W: Write + Drop>(
 {
     match names {
         Ok(names) => write_each(names.as_slice(), out)?,
-        Err(fault) => out.line(Stop::from(*fault).text())?,
+        Err(fault) => out.line(NoResult::from(*fault).text())?,
     }
     out.flush()
 }

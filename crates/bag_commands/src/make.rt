@@ -3,11 +3,11 @@ ghost use Rattle.std.specs.Prelude.{◌≡◌, ◌∷◌, [], IfErr, IfOk, false
 ghost use Rattle.bag_writer.specs.declared.spec.Spec.{Spec};
 ghost use Rattle.bag_commands.specs.MakeTexts.{fault_line, large_in, make_status, make_text};
 ghost use Rattle.bag_commands.specs.Making.{IsFirstUnknown, IsPlain, IsWriting, MakesOf, NamesSet};
-ghost use Rattle.bag_commands.specs.Printing.{Printed};
+ghost use Rattle.bag_commands.specs.Outputs.{Printed};
 
+use crate::no_result::NoResult;
 use crate::output::Output;
 use crate::status::{DONE, FAILED, REFUSED, USAGE};
-use crate::stop::Stop;
 use bag_digest::{Alg, AlgSet};
 use bag_rules::Tree;
 use bag_tags::{Info, Oxum};
@@ -134,9 +134,9 @@ fn fault_line(fault: &WriteFault) -> &'static str
         WriteFault::OxumGiven => "bag: oxum given",
         WriteFault::BadHole(_) => "bag: bad hole",
         WriteFault::Clash(_) => "bag: clash",
-        WriteFault::Tree | WriteFault::Sink => Stop::Files.text(),
-        WriteFault::TooLarge(_) => Stop::TooLarge.text(),
-        WriteFault::Memory => Stop::Memory.text(),
+        WriteFault::Tree | WriteFault::Sink => NoResult::Files.text(),
+        WriteFault::TooLarge(_) => NoResult::TooLarge.text(),
+        WriteFault::Memory => NoResult::Memory.text(),
     }
 }
 

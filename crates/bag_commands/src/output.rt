@@ -2,8 +2,8 @@
 ghost use Rattle.std.specs.Prelude.{◌≡◌, ◌++◌, ◌∷◌, [], IfSome, OnOk, codes};
 ghost use Rattle.std.specs.Io.Buffered.{writer_buffer, writer_contents, writer_inner};
 ghost use Rattle.std.specs.Io.KnownBytes.{Appends, Keeps};
-ghost use Rattle.bag_digest.specs.Device.{CountsFailure};
-ghost use Rattle.bag_commands.specs.Printing.{Printed};
+ghost use Rattle.bag_digest.specs.Failures.{CountsFailure};
+ghost use Rattle.bag_commands.specs.Outputs.{Printed};
 
 use crate::status::FAILED;
 use bag_digest::{Failed, Failures};

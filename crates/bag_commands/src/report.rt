@@ -1,15 +1,15 @@
 //! `report`: reports what is wrong with the bag of a transfer as it is held.
 ghost use Rattle.std.specs.Prelude.{◌≡◌, [], OnErr, OnOk};
 ghost use Rattle.std.specs.Io.Buffered.{writer_buffer};
-ghost use Rattle.bag_digest.specs.Device.{Rises};
+ghost use Rattle.bag_digest.specs.Failures.{Rises};
 ghost use Rattle.bag_receiver.specs.Reporting.{IsReporting};
-ghost use Rattle.bag_commands.specs.Printing.{Printed, PrintedBy, WroteLines};
+ghost use Rattle.bag_commands.specs.Outputs.{Printed, PrintedBy, WroteLines};
 ghost use Rattle.bag_commands.specs.Viewing.{IsValidIfZero};
 ghost use Rattle.bag_commands.specs.ViewTexts.{view_fault_line, view_fault_status, view_lines, view_status};
 
+use crate::no_result::NoResult;
 use crate::output::Output;
 use crate::status::{FAILED, REFUSED};
-use crate::stop::Stop;
 use crate::verdict::{report_status, write_report};
 use bag_digest::Failed;
 use bag_ledger::Keeper;
@@ -73,7 +73,7 @@ pub fn fault_line(fault: ViewFault) -> &'static str
 {
     match fault {
         ViewFault::NoTransfer => "bag: no transfer",
-        ViewFault::Keeper(why) => Stop::from(why).text(),
+        ViewFault::Keeper(why) => NoResult::from(why).text(),
     }
 }
 

@@ -1,7 +1,7 @@
 //! The printed form of a report: a line for each fault, and the verdict.
 ghost use Rattle.std.specs.Prelude.{◌≡◌, OnErr, OnOk};
-ghost use Rattle.bag_digest.specs.Device.{Rises};
-ghost use Rattle.bag_commands.specs.Printing.{WroteLines};
+ghost use Rattle.bag_digest.specs.Failures.{Rises};
+ghost use Rattle.bag_commands.specs.Outputs.{WroteLines};
 ghost use Rattle.bag_commands.specs.VerdictTexts.{report_lines, report_status, verdict_text};
 
 use crate::output::Output;

@@ -15,11 +15,11 @@ use Rattle.bag_digest.specs.declared.reading.SourceFault.TheVariants.{Read}
 use Rattle.bag_digest.specs.declared.streams.Stream.{Stream}
 use Rattle.bag_digest.specs.declared.streams.StreamFault.{StreamFault}
 use Rattle.bag_digest.specs.declared.streams.TheConstants.{FRONT}
-use Rattle.bag_digest.specs.Device.{UsesSource}
+use Rattle.bag_digest.specs.Failures.{UsesSource}
 use Rattle.bag_digest.specs.Hash.{AreDigests}
 use Rattle.bag_digest.specs.Lanes.{HoldsAt}
 use Rattle.bag_digest.specs.Reading.{GaveBefore, GavePiece, read_fault}
-use Rattle.bag_digest.specs.Streams.{AreDone, AreFresh, AreFreshIn, AreFull, AreHashed, AreUnder, HasEnded, HasStopped, HaveEndedIn, HaveTaken, IsAt, IsFirstOpen, IsFirstStopped, IsFresh, IsGoing, IsUnder, OtherLanesStay, OthersStay}
+use Rattle.bag_digest.specs.Streams.{AreDone, AreFresh, AreFreshIn, AreFull, AreHashed, AreUnder, HasEnded, HasStopped, HaveEndedIn, HaveKeptIn, HaveTaken, IsAt, IsFirstOpen, IsFirstStopped, IsFresh, IsGoing, IsUnder, OtherLanesStay, OthersStay}
 use Rattle.bag_digest.proofs.Progress.{HasGiven, given_before, uses_as, uses_none, uses_on}
 use Rattle.bag_digest.proofs.Filling.{filled_whole, given_more}
 
@@ -338,6 +338,10 @@ module _ {S : Type 0} (remaining : S → Option (List ℕ)) (failures : S → �
     new_at = is.new_at;
     stopped = is.stopped;
     before = ended_more told.place last others is.before;
+    behind = λ k a b past to at now.
+        let from : first ≤ k = omega (arith, past, is.low) in
+        let there = later k from ∙ at in
+        is.behind k a b past (slice_get_within streams k a there) there now;
   }
 
 pub fresh_later : {S : Type 0} (first end : ℕ) (start streams : List (Stream S)) → ((k : ℕ) → first ≤ k → slice_get streams k ≡ slice_get start k) → AreFresh start → AreFreshIn first end streams
@@ -356,6 +360,36 @@ pub told_stays : {S : Type 0} (remaining : S → Option (List ℕ)) (failures : 
     → OthersStay first place mid new → IsTold remaining failures ready keeps limit place end old mid told → IsTold remaining failures ready keeps limit place end old new told
 told_stays remaining failures ready keeps limit first place end old mid new None others is = is
 told_stays remaining failures ready keeps limit first place end old mid new (Some fault) others is = (is.0, λ was now at there. is.1 was now at (sym (others place (inr (omega arith))) ∙ there))
+
+-- THOSE THAT WERE GIVEN UP
+
+module _ {S : Type 0} (keeps : S → S → Type 0) (itself : (a : S) → keeps a a) where
+  -- a stream that stays keeps what reads leave
+  pub kept_same : (old new : List (Stream S)) (k : ℕ) (a b : Stream S) → slice_get new k ≡ slice_get old k → slice_get old k ≡ Some a → slice_get new k ≡ Some b → keeps a.source b.source
+  kept_same old new k a b same at now =
+      let is : a ≡ b = same_Some a b (sym at ∙ sym same ∙ now) in
+      subst (λ (s : Stream S). keeps a.source s.source) is (itself a.source)
+
+  -- those behind a place were given up, or were no part of the four
+  pub kept_behind : (first place end : ℕ) (old new : List (Stream S)) → first ≤ place + 1 → HaveKeptIn keeps place end old new → OthersStay first end old new → HaveKeptIn keeps (place + 1) (length old) old new
+  kept_behind first place end old new low given_up others k a b past to at now = elim (cases_lt k end) [
+    | inl below ↦ given_up k a b (omega (arith, past)) below at now
+    | inr above ↦ kept_same old new k a b (others k (inr above)) at now
+  ]
+
+-- the stream that stopped, and those behind it, are given up too
+pub kept_more : {S : Type 0} (remaining : S → Option (List ℕ)) (failures : S → ℕ) (ready : S → Type 0) (keeps : S → S → Type 0) (limit first : ℕ) (told : StreamFault) (place end : ℕ) (old mid new : List (Stream S))
+    → ((was is : Stream S) → slice_get old told.place ≡ Some was → slice_get new told.place ≡ Some is → HasStopped remaining failures ready keeps limit told.fault was is)
+    → HaveKeptIn keeps (told.place + 1) place old new → OthersStay first place mid new → HaveKeptIn keeps place end old mid → HaveKeptIn keeps told.place end old new
+kept_more remaining failures ready keeps limit first told place end old mid new stopped behind others given_up k a b from to at now = elim (cases_lt k place) [
+  | inl below ↦ elim (cases_lt told.place k) [
+    | inl past ↦ behind k a b (omega (arith, past)) below at now
+    | inr above ↦
+        let e : k ≡ told.place = omega (arith, from, above) in
+        (stopped a b (ap (slice_get old) (sym e) ∙ at) (ap (slice_get new) (sym e) ∙ now)).uses.kept
+  ]
+  | inr above ↦ given_up k a b above to at (sym (others k (inr above)) ∙ now)
+]
 
 -- THE PIECES OF FOUR
 

@@ -9,7 +9,7 @@ use Rattle.bag_digest.specs.declared.reading.SourceFault.TheVariants.{Read}
 use Rattle.bag_digest.specs.declared.streams.Stream.{Stream}
 use Rattle.bag_digest.specs.declared.streams.StreamFault.{StreamFault}
 use Rattle.bag_digest.specs.declared.streams.TheConstants.{FRONT}
-use Rattle.bag_digest.specs.Device.{UsesSource}
+use Rattle.bag_digest.specs.Failures.{UsesSource}
 use Rattle.bag_digest.specs.Lanes.{HoldsAt}
 use Rattle.bag_digest.specs.Reading.{GaveAll, GaveBefore, IsCountAndDigests, read_fault}
 
@@ -25,6 +25,13 @@ AreFreshIn {S} first end streams = (k : ℕ) (stream : Stream S) → first ≤ k
 
 abbrev pub AreFresh : {S : Type 0} → List (Stream S) → Type 0
 AreFresh streams = AreFreshIn 0 (length streams) streams
+
+-- at least one and at most four of them
+pub record AreFreshFew {S : Type 0} (first end : ℕ) (streams : List (Stream S)) : Type 0 where
+  pub some : first < end
+  pub few : end ≤ first + 4
+  pub inside : end ≤ length streams
+  pub fresh : AreFreshIn first end streams
 
 -- It has ended: after its first piece its source gave these octets, within the limit, and has none left. Its sums are
 -- the number of all its octets, with their digests.
@@ -58,7 +65,14 @@ pub record HasStopped {S : Type 0} (remaining : S → Option (List ℕ)) (failur
       (read_fault fault)
   pub uses : UsesSource failures ready keeps old.source new.source (fault ≡ Read)
 
--- This is the first of the streams from the place `first` on that stopped: those before it have ended.
+-- the source of each stream from the place `first` to before the place `end` keeps what reads leave
+abbrev pub HaveKeptIn : {S : Type 0} → (S → S → Type 0) → ℕ → ℕ → List (Stream S) → List (Stream S)
+    → Type 0
+HaveKeptIn {S} keeps first end old new = (k : ℕ) (a b : Stream S) → first ≤ k → k < end
+    → slice_get old k ≡ Some a → slice_get new k ≡ Some b → keeps a.source b.source
+
+-- This is the first of the streams from the place `first` on that stopped: those before it have ended. Those behind it
+-- were given up, however far they were read, and whether or not they have failed.
 pub record IsFirstStopped {S : Type 0} (remaining : S → Option (List ℕ)) (failures : S → ℕ)
     (ready : S → Type 0) (keeps : S → S → Type 0) (set : AlgSet) (limit first : ℕ)
     (old new : List (Stream S)) (told : StreamFault) : Type 0 where
@@ -69,6 +83,7 @@ pub record IsFirstStopped {S : Type 0} (remaining : S → Option (List ℕ)) (fa
   pub new_at : slice_get new told.place ≡ Some is
   pub stopped : HasStopped remaining failures ready keeps limit told.fault was is
   pub before : HaveEndedIn remaining failures ready keeps set limit first told.place old new
+  pub behind : HaveKeptIn keeps (told.place + 1) (length old) old new
 
 -- INSIDE
 
@@ -119,7 +134,8 @@ AreHashed {S} remaining failures ready keeps multi set limit hashed base first e
     → slice_get old k ≡ Some a → slice_get new k ≡ Some b
     → IsUnder remaining failures ready keeps multi set (k - base) limit hashed [] a b
 
--- each was read on; or those before the place of a fault, where one has stopped
+-- each was read on; or those before the place of a fault, where one has stopped, and those behind it have kept what
+-- reads leave
 pub record HaveStoppedAt {S : Type 0} (remaining : S → Option (List ℕ)) (failures : S → ℕ)
     (ready : S → Type 0) (keeps : S → S → Type 0) (multi : MultiLanes) (set : AlgSet)
     (limit hashed first end : ℕ) (old new : List (Stream S)) (told : StreamFault) : Type 0 where
@@ -130,6 +146,7 @@ pub record HaveStoppedAt {S : Type 0} (remaining : S → Option (List ℕ)) (fai
   pub stopped : (was is : Stream S) → slice_get old told.place ≡ Some was
       → slice_get new told.place ≡ Some is
       → HasStopped remaining failures ready keeps limit told.fault was is
+  pub behind : HaveKeptIn keeps (told.place + 1) end old new
 
 -- the stream at a place has not ended; each of some has
 abbrev pub IsUnended : {S : Type 0} → List (Stream S) → ℕ → Type 0

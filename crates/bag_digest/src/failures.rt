@@ -1,8 +1,9 @@
 //! Counts of failures.
-ghost use Rattle.std.specs.Prelude.{◌≡◌, IsErr, MatchResult, Ok};
-ghost use Rattle.bag_digest.specs.Device.{CountsFailure};
+ghost use Rattle.std.specs.Prelude.{◌≡◌, ◌-◌, IsErr, MatchResult, Ok};
+ghost use Rattle.bag_digest.specs.Failures.{CountsFailure, IsRaised, greatest_count};
 
 use crate::source::Failed;
+use std::alloc::AllocError;
 use std::marker::Model;
 
 /// How often a device has failed. The count stops at its maximum, 2^64 - 1.
@@ -50,5 +51,29 @@ impl Failures {
                 Err(Failed)
             }
         }
+    }
+
+    /// Counts one more, which [`Failures::lower`] can take back.
+    ///
+    /// # Errors
+    ///
+    /// `AllocError`, as if memory had run out, if the count is at its maximum. It is then unchanged.
+    pub fn raise(&mut self) -> Result<(), AllocError>
+        ensures counted { MatchResult result (λ done. IsRaised self.old self.new)
+            (λ error. self.new ≡ self.old) }
+        ensures full { IsErr result → self.old ≡ greatest_count }
+    {
+        if self.count == u64::MAX {
+            return Err(AllocError);
+        }
+        self.count += 1;
+        Ok(())
+    }
+
+    /// Counts one less. A count of 0 stays.
+    pub fn lower(&mut self)
+        ensures { self.new ≡ self.old - 1 }
+    {
+        self.count = self.count.saturating_sub(1);
     }
 }

@@ -1,7 +1,7 @@
 //! Reads sources to their end, for the digests of what they give or for all of it.
 ghost use Rattle.std.specs.Prelude.{◌≡◌, ◌+◌, ◌<◌, ℕ, List, length, min, vec_len, IfErr, IfOk, IsErrOf};
 ghost use Rattle.std.specs.Io.KnownBytes.{IsAtEnd};
-ghost use Rattle.bag_digest.specs.Device.{UsesSource};
+ghost use Rattle.bag_digest.specs.Failures.{UsesSource};
 ghost use Rattle.bag_digest.specs.Reading.{GaveAll, GaveBefore, GaveDigests, GaveFound, GavePiece, HashesOn, read_fault};
 ghost use Rattle.bag_digest.specs.declared.reading.ReadFault.TheVariants.{Memory};
 
@@ -109,7 +109,7 @@ pub fn digest_through<S: Source>(
 
 /// Reads a source to its end, and answers how many octets it gave. Its digests are those of what the hashers had taken before,
 /// followed by these octets.
-fn digest_on<S: Source>(
+pub(crate) fn digest_on<S: Source>(
     buffer: &mut [u8],
     reader: &mut S,
     multi: Multi,

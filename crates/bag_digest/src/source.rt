@@ -1,7 +1,7 @@
 //! Sources of octets, which are read piece by piece.
 ghost use Rattle.std.specs.Prelude.{◌≡◌, ◌≤◌, ℕ, Bool, false, List, Option, length, IfOk, IsErr};
 ghost use Rattle.std.specs.Io.KnownBytes.{ReadConsumes};
-ghost use Rattle.bag_digest.specs.Device.{UsesSource};
+ghost use Rattle.bag_digest.specs.Failures.{UsesSource};
 
 use thiserror::Error;
 

@@ -1,16 +1,16 @@
 //! The digests of several sources, which are read and hashed side by side.
 ghost use Rattle.std.specs.Prelude.{◌≡◌, ◌+◌, ◌-◌, ◌<◌, ◌≤◌, ◌++◌, ℕ, List, [], None, IfErr, MatchOption, MatchResult, OnOk, Some, length, min, slice_get};
-ghost use Rattle.bag_digest.specs.Device.{UsesSource};
+ghost use Rattle.bag_digest.specs.Failures.{UsesSource};
 ghost use Rattle.bag_digest.specs.Hash.{AreDigests};
 ghost use Rattle.bag_digest.specs.Lanes.{HoldsAt};
-ghost use Rattle.bag_digest.specs.Streams.{AreDone, AreFresh, AreFreshIn, AreFull, AreHashed, AreUnder, HasStopped, HaveEnded, HaveEndedIn, HaveStoppedAt, HaveTaken, IsAt, IsFirstOpen, IsFirstStopped, IsUnder, OtherLanesStay, OthersStay};
+ghost use Rattle.bag_digest.specs.Streams.{AreDone, AreFresh, AreFreshFew, AreFull, AreHashed, AreUnder, HasEnded, HasStopped, HaveEnded, HaveEndedIn, HaveStoppedAt, HaveTaken, IsAt, IsFirstOpen, IsFirstStopped, IsFresh, IsUnder, OtherLanesStay, OthersStay};
 ghost use Rattle.bag_digest.specs.declared.algorithm.AlgSet.{AlgSet};
 ghost use Rattle.bag_digest.specs.declared.streams.Stream.{Stream};
 
-use crate::algorithm::AlgSet;
+use crate::algorithm::{Alg, AlgSet};
 use crate::lanes::MultiLanes;
-use crate::multi::Digests;
-use crate::reading::{PIECE, SourceFault, fill};
+use crate::multi::{Digests, Multi};
+use crate::reading::{PIECE, SourceFault, digest_on, fill};
 use crate::source::Source;
 
 /// The number of octets in a piece of a stream.
@@ -36,13 +36,15 @@ pub struct StreamFault {
     pub fault: SourceFault,
 }
 
-/// Reads each stream to its end, four at a time, and takes their digests by each algorithm of the set, side by side.
-/// The limit counts all octets of a stream, those of its first piece too. Allocates no memory.
+/// Reads each stream to its end, four at a time, and takes their digests by each algorithm of the set, side by side. One
+/// that is left alone, or was so from the start, is read alone, and so is each if there is a digest by SHA-512. The limit
+/// counts all octets of a stream, those of its first piece too. Allocates no memory. Each source stays in its stream.
 ///
 /// # Errors
 ///
-/// The fault of the first stream, in their order, that has one. Those before it were read to their ends; those behind
-/// it may have been read too, and what they did is not told.
+/// The fault of the first stream, in their order, that has one: it failed once, or is too large and has not failed. Those
+/// before it were read to their ends, and have not failed. Those behind it are given up: they may have been read too, and
+/// may have failed, and what they did is not told.
 pub fn digest_streams<S: Source>(
     set: AlgSet,
     limit: u64,
@@ -60,13 +62,28 @@ pub fn digest_streams<S: Source>(
         if first == streams.len() {
             return Ok(());
         }
-        let end = streams.len().min(first + 4);
+        let end = next_end(set, first, streams.len());
         digest_four(set, limit, streams, first, end)?;
         first = end;
     }
 }
 
-/// Does this for at most four streams: those from the place `first` to before the place `end`.
+/// Where the streams end that are hashed next: after four of them, or after one if there is a digest by SHA-512, which is not taken
+/// side by side.
+fn next_end(set: AlgSet, first: usize, count: usize) -> usize
+    requires { first < count }
+    ensures { (first < result) × (result ≤ first + 4) × (result ≤ count) }
+{
+    if set.has(Alg::Sha512) {
+        first + 1
+    } else if count - first > 4 {
+        first + 4
+    } else {
+        count
+    }
+}
+
+/// Does this for at most four streams: those from the place `first` to before the place `end`. One alone has no lanes.
 fn digest_four<S: Source>(
     set: AlgSet,
     limit: u64,
@@ -75,8 +92,60 @@ fn digest_four<S: Source>(
     end: usize,
 ) -> Result<(), StreamFault>
     requires limit { FRONT ≤ limit }
-    requires four { (first ≤ end) × (end ≤ first + 4) × (end ≤ length streams.old) }
-    requires fresh { AreFreshIn first end streams.old }
+    requires fresh { AreFreshFew first end streams.old }
+    ensures ended { OnOk result (HaveEndedIn S.remaining S.failures S.ready S.keeps set limit
+        first end streams.old streams.new) }
+    ensures stopped { IfErr result (IsFirstStopped S.remaining S.failures S.ready S.keeps set limit
+        first streams.old streams.new) }
+    ensures others { OthersStay first end streams.old streams.new }
+{
+    if end - first > 1 {
+        return digest_beside(set, limit, streams, first, end);
+    }
+    match digest_alone(set, limit, &mut streams[first]) {
+        Ok(()) => Ok(()),
+        Err(fault) => Err(StreamFault {
+            place: first,
+            fault,
+        }),
+    }
+}
+
+/// Reads a stream to its end, with no other beside it, and takes its digests.
+fn digest_alone<S: Source>(
+    set: AlgSet,
+    limit: u64,
+    stream: &mut Stream<S>,
+) -> Result<(), SourceFault>
+    requires limit { FRONT ≤ limit }
+    requires fresh { IsFresh stream.old }
+    ensures ended { OnOk result (HasEnded S.remaining set limit stream.old stream.new
+        × UsesSource S.failures S.ready S.keeps stream.old.source stream.new.source ⊥) }
+    ensures stopped { IfErr result (λ fault. HasStopped S.remaining S.failures S.ready S.keeps
+        limit fault stream.old stream.new) }
+{
+    let mut multi = Multi::new(set);
+    multi.update(stream.piece.as_slice());
+    let (more, digests) = digest_on(
+        stream.piece.as_mut_slice(),
+        &mut stream.source,
+        multi,
+        limit - FRONT as u64,
+    )?;
+    stream.sums = Some((FRONT as u64 + more, digests));
+    Ok(())
+}
+
+/// Does this in lanes, side by side.
+fn digest_beside<S: Source>(
+    set: AlgSet,
+    limit: u64,
+    streams: &mut [Stream<S>],
+    first: usize,
+    end: usize,
+) -> Result<(), StreamFault>
+    requires limit { FRONT ≤ limit }
+    requires fresh { AreFreshFew first end streams.old }
     ensures ended { OnOk result (HaveEndedIn S.remaining S.failures S.ready S.keeps set limit
         first end streams.old streams.new) }
     ensures stopped { IfErr result (IsFirstStopped S.remaining S.failures S.ready S.keeps set limit

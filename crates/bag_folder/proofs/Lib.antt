@@ -3,6 +3,7 @@ pub mod FaultLemmas
 pub mod Listings
 pub mod MemNameLemmas
 pub mod NameLemmas
+pub mod OpenFileLemmas
 pub mod PayloadFolders
 pub mod WalkLemmas
 pub mod WayLemmas

@@ -1,9 +1,9 @@
 -- Paths that were sorted, whether one is a payload path, and what is below a folder with them.
-use Rattle.std.proofs.Common.{◌≡◌, ◌↔◌, ℕ, List, [], ◌∷◌, Bool, true, false, ◌||◌, All, Contains, sym, subst, ◌∙◌, inl, inr, None, ap, refl, zero, suc}
-use Rattle.std.specs.Prelude.{nat_eq}
+use Rattle.std.proofs.Common.{◌≡◌, ◌↔◌, ℕ, List, [], ◌∷◌, Bool, true, false, ◌||◌, All, Contains, sym, subst, ◌∙◌, inl, inr, None, Option, Some, ap, refl, zero, suc}
+use Rattle.std.specs.Prelude.{IsSomeAnd, nat_eq}
 use Rattle.std.specs.Ordering.{nat_cmp}
 use Rattle.std.specs.Cmp.Lexicographic.{slice_cmp, pointwise}
-use Rattle.std.specs.List.{list_any}
+use Rattle.std.specs.List.{list_any, slice_get}
 use Rattle.std.specs.List.Retain.{IsFiltered, DiffersFromLast}
 use Rattle.std.specs.List.Sorted.{IsSorted, IsPermutation}
 use Rattle.std.proofs.lemmas.Bool.{or_cases, or_left, or_right}
@@ -85,3 +85,11 @@ octets_shown (path ∷ paths) has_dir (suc i) = octets_shown paths has_dir i
 -- the paths that a folder shows are the ones that it holds
 pub paths_seen : (tree : FolderShown) (paths : List (List ℕ)) (has_dir : Bool) → shown_by paths has_dir ≡ tree.shown → paths_in tree.shown ≡ paths
 paths_seen tree paths has_dir is = ap paths_in (sym is) ∙ paths_shown paths has_dir
+
+-- what holds of the path that was read holds of the one at that place
+pub found_at : (paths shown : List (List ℕ)) (i : ℕ) (path : List ℕ) → shown ≡ paths
+    → slice_get paths i ≡ Some path → (P : List ℕ → Type 0) → P path
+    → IsSomeAnd (slice_get shown i) P
+found_at paths shown i path seen at P here =
+    subst (λ (found : Option (List ℕ)). IsSomeAnd found P)
+    (sym (ap (λ (xs : List (List ℕ)). slice_get xs i) seen ∙ at)) here

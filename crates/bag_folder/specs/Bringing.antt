@@ -3,7 +3,7 @@ use Rattle.std.specs.Prelude.{◌≡◌, ◌+◌, ◌-◌, ◌<◌, ◌^◌, ◌
 use Rattle.std.specs.List.{list_all}
 use Rattle.std.proofs.Common.{◌∙◌, ap₂}
 use Rattle.bag_path.specs.Paths.{is_payload}
-use Rattle.bag_digest.specs.Device.{one_more}
+use Rattle.bag_digest.specs.Failures.{one_more}
 use Rattle.bag_rules.specs.Files.{Files}
 use Rattle.bag_rules.specs.Trees.{Shown, octets_in, paths_in}
 

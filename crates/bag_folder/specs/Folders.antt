@@ -4,7 +4,7 @@ use Rattle.std.specs.Io.KnownBytes.{ReadConsumes}
 use Rattle.std.specs.declared.io.Error.{Error}
 use Rattle.std.proofs.Common.{◌∙◌}
 use Rattle.bag_path.specs.Paths.{is_payload}
-use Rattle.bag_digest.specs.Device.{one_more}
+use Rattle.bag_digest.specs.Failures.{one_more}
 use Rattle.bag_rules.specs.Trees.{AreRising, KeepsTree, Shown, paths_in}
 use Rattle.bag_tags.specs.Words.{without}
 use Rattle.bag_folder.specs.declared.place.Place.{Place}

@@ -4,6 +4,7 @@ pub mod Faults
 pub mod Folders
 pub mod MemNames
 pub mod Names
+pub mod OpenFiles
 pub mod SinkFolders
 pub mod Supplying
 pub mod Unfits

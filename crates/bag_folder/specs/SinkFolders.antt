@@ -4,7 +4,7 @@ use Rattle.std.specs.Io.KnownBytes.{Appends}
 use Rattle.bag_folder.specs.Directories.{name_below}
 use Rattle.bag_folder.specs.Names.{Standing}
 use Rattle.bag_folder.specs.Unfits.{IsToldAt, UnfitShown}
-use Rattle.bag_digest.specs.Device.{one_more}
+use Rattle.bag_digest.specs.Failures.{one_more}
 
 -- what stands under names, if that is known; the name of the folder, and of what was made in it last; what the current
 -- file holds (if there is one, and if that is known); how many times the folder has failed, and what couldn't be used the

@@ -4,7 +4,7 @@ use Rattle.std.specs.IoError.{error_kind}
 use Rattle.std.specs.declared.io.Error.{Error}
 use Rattle.std.specs.declared.io.ErrorKind.TheVariants.{IsADirectory, NotADirectory, NotFound}
 use Rattle.std.proofs.Common.{◌∙◌}
-use Rattle.bag_digest.specs.Device.{one_more}
+use Rattle.bag_digest.specs.Failures.{one_more}
 use Rattle.bag_receiver.specs.Suppliers.{Supply}
 use Rattle.bag_folder.specs.declared.directory.EntryKind.{EntryKind}
 use Rattle.bag_folder.specs.declared.directory.EntryKind.TheVariants.{File, Directory, Link, Special}

@@ -3,7 +3,7 @@ use Rattle.std.specs.Prelude.{◌≡◌, ◌≢◌, ◌↔◌, ℕ, Err, IfSome,
 use Rattle.std.specs.IoError.{error_kind, raw_os_error}
 use Rattle.std.specs.declared.io.Error.{Error}
 use Rattle.std.specs.declared.io.ErrorKind.TheVariants.{InvalidFilename}
-use Rattle.bag_digest.specs.Device.{one_more}
+use Rattle.bag_digest.specs.Failures.{one_more}
 use Rattle.bag_folder.specs.declared.unfit.Cause.{Cause}
 use Rattle.bag_folder.specs.declared.unfit.Cause.TheVariants.{NotUtf8, System}
 

@@ -3,7 +3,7 @@ ghost use Rattle.std.specs.Prelude.{◌≡◌, IfErr, IfOk, MatchResult, None, S
 ghost use Rattle.bag_folder.specs.Faults.{IfUnfit};
 ghost use Rattle.bag_folder.specs.SinkFolders.{IsCreated};
 
-use crate::fault::OpenFault;
+use crate::open_fault::OpenFault;
 use crate::sink::FolderSink;
 use std::alloc::Global;
 use std::fs;

@@ -7,9 +7,9 @@ ghost use Rattle.bag_folder.specs.Names.{Changes, IsMade};
 ghost use Rattle.bag_folder.specs.SinkFolders.{IsCreated};
 
 use crate::directory::EntryKind;
-use crate::fault::OpenFault;
 use crate::name::{created, created_directory};
 use crate::names::Names;
+use crate::open_fault::OpenFault;
 use crate::troubles::Troubles;
 use crate::unfit::{Unfit, with_cause};
 use bag_digest::Failed;

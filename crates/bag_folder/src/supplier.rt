@@ -7,9 +7,9 @@ ghost use Rattle.bag_folder.specs.Supplying.{Finds, IsBarred, IsNameTo, IsNoFold
 ghost use Rattle.bag_folder.specs.Unfits.{IsCauseOf, IsToldAt};
 
 use crate::directory::EntryKind;
-use crate::fault::OpenFault;
 use crate::name::{opened, spell};
 use crate::names::Names;
+use crate::open_fault::OpenFault;
 use crate::troubles::Troubles;
 use crate::unfit::{Cause, Unfit, with_cause};
 use bag_digest::{Failed, Source};
@@ -130,7 +130,7 @@ impl<R: Names + Drop> FolderSupplier<R> {
 
 impl<R: Names> Source for FolderSupplier<R> {
     ghost use Rattle.std.specs.Io.KnownBytes.{ReadConsumes};
-    ghost use Rattle.bag_digest.specs.Device.{UsesSource};
+    ghost use Rattle.bag_digest.specs.Failures.{UsesSource};
     ghost use Rattle.bag_folder.specs.Folders.{ReadsOpen};
     ghost use Rattle.bag_folder.specs.Supplying.{AsOftenAsked, SupplierShown, asked_itself, asked_on};
 
@@ -175,7 +175,7 @@ impl<R: Names> Source for FolderSupplier<R> {
 
 impl<R: Names + Drop> Supplier for FolderSupplier<R> {
     ghost use Rattle.std.specs.Prelude.{Ok, true};
-    ghost use Rattle.bag_digest.specs.Device.{CountsFailure, one_more};
+    ghost use Rattle.bag_digest.specs.Failures.{CountsFailure, one_more};
     ghost use Rattle.bag_receiver.specs.Suppliers.{IsSupplied};
     ghost use Rattle.bag_folder.specs.Supplying.{AsksFolder, keeps_nothing, unknown};
 

@@ -1,16 +1,18 @@
 //! A folder on disk, as a tree of files.
-ghost use Rattle.std.specs.Prelude.{◌≡◌, ◌↔◌, ◌||◌, ℕ, List, Contains, [], None, string_bytes, ◌<◌, ◌≤◌, IfErr, IfOk, IsErr, MatchOption, OnOk, Some, is_ok, is_some, length};
+ghost use Rattle.std.specs.Prelude.{◌≡◌, ◌-◌, ◌↔◌, ◌||◌, ℕ, List, Contains, [], None, string_bytes, ◌<◌, ◌≤◌, IfErr, IfOk, IsErr, MatchOption, OnOk, Some, is_ok, is_some, length};
 ghost use Rattle.std.specs.List.{list_any};
 ghost use Rattle.bag_path.specs.Paths.{is_payload};
 ghost use Rattle.bag_rules.specs.Trees.{AreRising, octets_in, paths_in};
 ghost use Rattle.bag_folder.specs.Directories.{in_payload};
 ghost use Rattle.bag_folder.specs.Faults.{IfUnfit, no_name};
 ghost use Rattle.bag_folder.specs.Folders.{IsOpened, IsRefused};
+ghost use Rattle.bag_folder.specs.OpenFiles.{OpensFile};
 
 use crate::directory::Directories;
-use crate::fault::OpenFault;
 use crate::name::opened;
 use crate::names::Names;
+use crate::open_fault::OpenFault;
+use crate::open_file::FolderFile;
 use crate::payload::InPayload;
 use crate::place::Place;
 use crate::troubles::Troubles;
@@ -18,8 +20,8 @@ use crate::unfit::{Unfit, with_cause};
 use crate::walk::{Below, walk};
 use bag_digest::{Failed, Source};
 use bag_path::{BagPath, LONGEST_PATH};
-use bag_rules::{Paths, Tree};
-use std::alloc::Global;
+use bag_rules::{OpenTree, Paths, Tree};
+use std::alloc::{AllocError, Global};
 use std::io::Read;
 use std::marker::Model;
 
@@ -226,7 +228,7 @@ fn in_order(mut paths: Vec<BagPath>) -> Vec<BagPath>
 
 impl<R: Names> Source for FolderTree<R> {
     ghost use Rattle.std.specs.Io.KnownBytes.{ReadConsumes};
-    ghost use Rattle.bag_digest.specs.Device.{UsesSource};
+    ghost use Rattle.bag_digest.specs.Failures.{UsesSource};
     ghost use Rattle.bag_folder.specs.Folders.{FolderShown, ReadsFolder, SameShown, same_itself, same_on};
 
     ghost remaining = { λ _. None };
@@ -312,6 +314,71 @@ impl<R: Names> Tree for FolderTree<R> {
     }
 
     ghost reads_keep = { keeps_tree };
+}
+
+impl<R: Names> OpenTree for FolderTree<R> {
+    ghost use Rattle.std.specs.Prelude.{MatchResult};
+    ghost use Rattle.bag_digest.specs.Failures.{IsRaised};
+    ghost use Rattle.bag_folder.specs.OpenFiles.{IsGivenOut, LeavesFolder, trouble_of};
+
+    type File = FolderFile<R>;
+
+    /// Opens this file as a value.
+    ///
+    /// As with [`FolderTree::start`], the folder is assumed to be unchanged since it was read: opening a named pipe that has
+    /// replaced a file since then would block.
+    ///
+    /// # Errors
+    ///
+    /// `AllocError` if memory for its name runs out, or if the count of failures is at its maximum.
+    fn open_file(&mut self, alloc: Global, i: usize) -> Result<FolderFile<R>, AllocError>
+        requires { i < length (paths_in self.old.shown) }
+        ensures opened { IfOk result (IsGivenOut self.old.shown i) }
+        ensures counted { MatchResult result
+            (λ file. IsRaised self.old.failures self.new.failures)
+            (λ error. self.new.failures ≡ self.old.failures) }
+        ensures rest { LeavesFolder self.old self.new }
+        ensures exactly { IfOk result (OpensFile self.old i) }
+        ensures same { self.new ≡ record self.old { failures = self.new.failures } }
+    {
+        let file = self.file_at(alloc, i)?;
+        self.troubles.raise()?;
+        Ok(file)
+    }
+
+    /// Closes the file.
+    fn close(&mut self, _file: FolderFile<R>)
+        ensures { self.new ≡ record self.old { failures = self.old.failures - 1 } }
+    {
+        self.troubles.lower();
+    }
+
+    /// Closes the file, and keeps its name and why it failed the last time as what couldn't be used. Allocates no memory.
+    fn fail(&mut self, file: FolderFile<R>)
+        ensures { self.new ≡ record self.old { trouble = trouble_of file } }
+    {
+        self.troubles.tell(file.into_trouble());
+    }
+
+    /// Closes the file, and tells nothing of it.
+    fn give_up(&mut self, _file: FolderFile<R>, _first: &FolderFile<R>)
+        ensures { self.new ≡ record self.old { failures = self.old.failures - 1 } }
+    {
+        self.troubles.lower();
+    }
+}
+
+impl<R: Names> FolderTree<R> {
+    /// Opens the file at this place as a value. Its name has as much room as all names need.
+    fn file_at(&self, alloc: Global, i: usize) -> Result<FolderFile<R>, AllocError>
+        requires { i < length (paths_in self.now.shown) }
+        ensures { IfOk result (OpensFile self.now i) }
+    {
+        let name = String::with_capacity(alloc, self.name.capacity())?;
+        let path = self.paths[i].as_str();
+        let below = self.place.path_below(path);
+        FolderFile::open(&self.rt, name, self.folder.as_str(), below, i)
+    }
 }
 
 /// Whether some path is a payload path.

@@ -1,5 +1,6 @@
 //! Counts the failures of a folder, and keeps what couldn't be used the last time.
-ghost use Rattle.std.specs.Prelude.{◌≡◌, IfOk, IsErr, IsTrue, MatchOption, MatchResult, None, Some};
+ghost use Rattle.std.specs.Prelude.{◌≡◌, ◌-◌, IfOk, IsErr, IsTrue, MatchOption, MatchResult, None, Some};
+ghost use Rattle.bag_digest.specs.Failures.{IsRaised};
 ghost use Rattle.bag_folder.specs.Unfits.{CountsTrouble};
 
 use crate::unfit::{Cause, Unfit};
@@ -63,6 +64,40 @@ impl Troubles {
                 };
                 self.failures.counted(Err(Failed))
             }
+        }
+    }
+
+    /// Counts one failure more, which [`Troubles::lower`] can take back.
+    ///
+    /// # Errors
+    ///
+    /// `AllocError`, as if memory had run out, if the count is at its maximum. It is then unchanged.
+    pub fn raise(&mut self) -> Result<(), AllocError>
+        ensures counted { MatchResult result
+            (λ _. IsRaised self.old.failures self.new.failures)
+            (λ _. self.new.failures ≡ self.old.failures) }
+        ensures told { self.new.last ≡ self.old.last }
+    {
+        self.failures.raise()
+    }
+
+    /// Counts one failure less. A count of 0 stays.
+    pub fn lower(&mut self)
+        ensures { self.new ≡ record self.old { failures = self.old.failures - 1 } }
+    {
+        self.failures.lower();
+    }
+
+    /// Keeps what couldn't be used at a failure that is counted already. Allocates no memory.
+    pub fn tell(&mut self, last: Option<Unfit>)
+        ensures { self.new ≡ record self.old { last = last } }
+    {
+        match last {
+            Some(last) => {
+                self.last = last;
+                self.is_told = true;
+            }
+            None => self.is_told = false,
         }
     }
 

@@ -5,8 +5,8 @@ ghost use Rattle.bag_folder.specs.Faults.{IfUnfit};
 ghost use Rattle.bag_folder.specs.Walks.{LooksInto, RefusesFront, Walked};
 
 use crate::directory::{Directories, EntryKind};
-use crate::fault::OpenFault;
 use crate::name::spell;
+use crate::open_fault::OpenFault;
 use crate::unfit::{Cause, Unfit};
 use bag_path::BagPath;
 use std::alloc::Global;

@@ -1,15 +1,15 @@
 -- What a call does to a keeper.
 use Rattle.std.specs.Prelude.{◌≡◌, ◌⊎◌, ◌↔◌, ◌<◌, ◌≤◌, ℕ, List, Option, Some, None, Result, MatchResult, drop, length, take}
-use Rattle.bag_digest.specs.Device.{CountsIf}
+use Rattle.bag_digest.specs.Failures.{CountsIf}
 use Rattle.bag_digest.specs.Reading.{GaveAll, GaveMoreThan, GaveWithin}
 use Rattle.bag_rules.specs.declared.limits.TheConstants.{LARGEST_ITEM}
 use Rattle.bag_rules.specs.declared.want.Want.{Want}
 use Rattle.bag_rules.specs.declared.want.WantFault.TheVariants.{Length as OtherLength, Digest as OtherDigest}
 use Rattle.bag_rules.specs.Wants.{IsWanted, IsFirstMisfitOf}
-use Rattle.bag_ledger.specs.declared.fault.PutFault.{PutFault}
-use Rattle.bag_ledger.specs.declared.fault.PutFault.TheVariants.{Reader, TooLarge, Length, Digest, Keep}
-use Rattle.bag_ledger.specs.declared.fault.StoreFault.{StoreFault}
-use Rattle.bag_ledger.specs.declared.fault.StoreFault.TheVariants.{Spent}
+use Rattle.bag_ledger.specs.declared.keeper_faults.PutFault.{PutFault}
+use Rattle.bag_ledger.specs.declared.keeper_faults.PutFault.TheVariants.{Reader, TooLarge, Length, Digest, Keep}
+use Rattle.bag_ledger.specs.declared.keeper_faults.StoreFault.{StoreFault}
+use Rattle.bag_ledger.specs.declared.keeper_faults.StoreFault.TheVariants.{Spent}
 use Rattle.bag_rules.specs.Plans.{IsWantOf}
 use Rattle.bag_ledger.specs.Ledgers.{Ledger, Transfer, content_of, transfer_of, with_item}
 

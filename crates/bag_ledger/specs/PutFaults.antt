@@ -3,9 +3,9 @@ use Rattle.bag_digest.specs.declared.reading.ReadFault.{ReadFault}
 use Rattle.bag_digest.specs.declared.reading.ReadFault.TheVariants as read
 use Rattle.bag_rules.specs.declared.want.WantFault.{WantFault}
 use Rattle.bag_rules.specs.declared.want.WantFault.TheVariants as want
-use Rattle.bag_ledger.specs.declared.fault.KeepFault.TheVariants as keep
-use Rattle.bag_ledger.specs.declared.fault.PutFault.{PutFault}
-use Rattle.bag_ledger.specs.declared.fault.PutFault.TheVariants.{Reader, TooLarge, Length, Digest, Keep}
+use Rattle.bag_ledger.specs.declared.keeper_faults.KeepFault.TheVariants as keep
+use Rattle.bag_ledger.specs.declared.keeper_faults.PutFault.{PutFault}
+use Rattle.bag_ledger.specs.declared.keeper_faults.PutFault.TheVariants.{Reader, TooLarge, Length, Digest, Keep}
 
 abbrev pub put_fault : ReadFault → PutFault
 put_fault read.Read = Reader

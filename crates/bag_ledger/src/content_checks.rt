@@ -1,14 +1,14 @@
 //! Checks of whether a content would be stored, without storing it.
 ghost use Rattle.std.specs.Prelude.{◌≡◌, IsErrOf, MatchResult};
-ghost use Rattle.bag_digest.specs.Device.{UsesSource};
+ghost use Rattle.bag_digest.specs.Failures.{UsesSource};
 ghost use Rattle.bag_ledger.specs.Keeping.{Tests, given_by, known};
-ghost use Rattle.bag_ledger.specs.declared.fault.KeepFault.{KeepFault};
-ghost use Rattle.bag_ledger.specs.declared.fault.KeepFault.TheVariants.{Memory, Store};
-ghost use Rattle.bag_ledger.specs.declared.fault.PutFault.TheVariants.{Keep, Reader};
-ghost use Rattle.bag_ledger.specs.declared.fault.StoreFault.{StoreFault};
+ghost use Rattle.bag_ledger.specs.declared.keeper_faults.KeepFault.{KeepFault};
+ghost use Rattle.bag_ledger.specs.declared.keeper_faults.KeepFault.TheVariants.{Memory, Store};
+ghost use Rattle.bag_ledger.specs.declared.keeper_faults.PutFault.TheVariants.{Keep, Reader};
+ghost use Rattle.bag_ledger.specs.declared.keeper_faults.StoreFault.{StoreFault};
 ghost use Rattle.bag_rules.specs.Wants.{IsFirstMisfitOf, IsWanted};
 
-use crate::fault::PutFault;
+use crate::keeper_faults::PutFault;
 use bag_digest::{Multi, Source, digest_reader};
 use bag_rules::limits::LARGEST_ITEM;
 use bag_rules::{Want, WantFault};

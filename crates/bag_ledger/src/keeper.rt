@@ -2,16 +2,16 @@
 ghost use Rattle.std.specs.Prelude.{◌≡◌, ◌⊎◌, ◌≤◌, ℕ, List, [], IfOk, IsErrOf, MatchResult, length, map, string_bytes};
 ghost use Rattle.std.specs.Map.{keys_of};
 ghost use Rattle.std.specs.Option.{option_map, unwrap_or};
-ghost use Rattle.bag_digest.specs.Device.{UsesSource};
+ghost use Rattle.bag_digest.specs.Failures.{UsesSource};
 ghost use Rattle.bag_ledger.specs.Keeping.{IsPieceAt, IsUnused, Leaves, Puts, Reads, UsesStore, Writes, given_by, known};
 ghost use Rattle.bag_ledger.specs.Ledgers.{IsSound, Ledger, content_of, items_of, tags_of, with_transfer};
-ghost use Rattle.bag_ledger.specs.declared.fault.KeepFault.TheVariants.{Store};
-ghost use Rattle.bag_ledger.specs.declared.fault.PutFault.TheVariants.{Keep, Reader};
-ghost use Rattle.bag_ledger.specs.declared.fault.StoreFault.{StoreFault};
+ghost use Rattle.bag_ledger.specs.declared.keeper_faults.KeepFault.TheVariants.{Store};
+ghost use Rattle.bag_ledger.specs.declared.keeper_faults.PutFault.TheVariants.{Keep, Reader};
+ghost use Rattle.bag_ledger.specs.declared.keeper_faults.StoreFault.{StoreFault};
 ghost use Rattle.bag_rules.specs.Opening.{Opens};
 ghost use Rattle.bag_rules.specs.Plans.{sizes_of};
 
-use crate::fault::{KeepFault, PutFault};
+use crate::keeper_faults::{KeepFault, PutFault};
 use bag_digest::Source;
 use bag_path::BagPath;
 use bag_rules::{ItemSize, TagSet, Want};

@@ -2,13 +2,13 @@
 #![tactic(auto)]
 
 pub use content_checks::{test_content, test_reader};
-pub use fault::{KeepFault, PutFault, StoreFault};
 pub use keeper::Keeper;
+pub use keeper_faults::{KeepFault, PutFault, StoreFault};
 pub use map_keeper::MapKeeper;
 
 mod content_checks;
-mod fault;
 mod keeper;
+mod keeper_faults;
 pub mod laws;
 mod map_keeper;
 mod stored;

@@ -4,13 +4,13 @@ ghost use Rattle.std.specs.Option.{option_map, unwrap_or};
 ghost use Rattle.bag_ledger.specs.Keeping.{IsGiven, IsPieceAt, Puts, Reads, UsesStore, known};
 ghost use Rattle.bag_ledger.specs.Ledgers.{Ledger, content_of, items_of, transfer_of};
 ghost use Rattle.bag_ledger.specs.Stored.{HoldsItself, IsClean, IsLeft};
-ghost use Rattle.bag_ledger.specs.declared.fault.KeepFault.TheVariants.{Memory, Store};
-ghost use Rattle.bag_ledger.specs.declared.fault.PutFault.TheVariants.{Keep};
+ghost use Rattle.bag_ledger.specs.declared.keeper_faults.KeepFault.TheVariants.{Memory, Store};
+ghost use Rattle.bag_ledger.specs.declared.keeper_faults.PutFault.TheVariants.{Keep};
 ghost use Rattle.bag_rules.specs.Plans.{sizes_of};
 
 use crate::content_checks::{test_content, test_octets};
-use crate::fault::{KeepFault, PutFault};
 use crate::keeper::Keeper;
+use crate::keeper_faults::{KeepFault, PutFault};
 use crate::stored::{Transfers, add_item, add_transfer, body_of, names_in, sizes_in};
 use bag_digest::{Source, piece_buffer, read_to_end_within};
 use bag_path::BagPath;

@@ -1,10 +1,10 @@
 //! Transfers in a map in memory.
-ghost use Rattle.std.specs.Prelude.{◌≡◌, IfOk, IsUtf8, OnErr, OnOk, map, string_bytes};
+ghost use Rattle.std.specs.Prelude.{◌≡◌, IfOk, IsOk, IsUtf8, None, OnErr, OnOk, map, string_bytes};
 ghost use Rattle.std.specs.Map.{keys_of, lookup};
 ghost use Rattle.std.specs.Option.{option_copied};
 ghost use Rattle.std.specs.Str.{bytes_eq};
 ghost use Rattle.bag_rules.specs.Plans.{sizes_of};
-ghost use Rattle.bag_ledger.specs.Ledgers.{content_of, with_item, with_transfer};
+ghost use Rattle.bag_ledger.specs.Ledgers.{content_of, transfer_of, with_item, with_transfer};
 ghost use Rattle.bag_ledger.specs.Stored.{files_in, ledger_in};
 
 use bag_path::BagPath;
@@ -56,6 +56,7 @@ pub(crate) fn add_item(
     ensures added { OnOk result (ledger_in transfers.new
         ≡ with_item (ledger_in transfers.old) name.now path body.items) }
     ensures unchanged { OnErr result (ledger_in transfers.new ≡ ledger_in transfers.old) }
+    ensures none { transfer_of (ledger_in transfers.old) name.now ≡ None → IsOk result }
 {
     let Some(stored) = transfers.get_mut(name) else {
         return Ok(());

@@ -1,7 +1,7 @@
 -- How failures of the store are counted over several calls.
 use Rattle.std.proofs.Common.{◌≡◌, ◌≢◌, ℕ, Ok, Err, IsErrOf, refl, ap, subst}
-use Rattle.bag_digest.specs.Device.{UsesSource}
-use Rattle.bag_ledger.specs.declared.fault.PutFault.TheVariants as put
+use Rattle.bag_digest.specs.Failures.{UsesSource}
+use Rattle.bag_ledger.specs.declared.keeper_faults.PutFault.TheVariants as put
 use Rattle.bag_receiver.proofs.Words.{CountsIf, deliver_fault, DeliverFault, Keeper, KeepFault, PutFault, Reader, Refused, Store, StoreFault}
 
 -- after a call that didn't fail

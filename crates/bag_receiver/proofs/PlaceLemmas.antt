@@ -3,7 +3,7 @@ use Rattle.std.proofs.Common.{◌≡◌, ◌≢◌, ◌≤◌, ℕ, Bool, true, 
 use Rattle.bag_rules.specs.declared.want.Want.{Want}
 use Rattle.bag_rules.specs.Wants.{IsFirstMisfitOf}
 use Rattle.bag_rules.proofs.PassingLemmas.{misfit_so, wanted_passes}
-use Rattle.bag_ledger.specs.declared.fault.PutFault.TheVariants as put
+use Rattle.bag_ledger.specs.declared.keeper_faults.PutFault.TheVariants as put
 use Rattle.bag_ledger.specs.Keeping.{Awaits}
 use Rattle.bag_ledger.specs.Ledgers.{content_of}
 use Rattle.bag_receiver.specs.ReceiversInside.{IsNoPlan, RefusesText}

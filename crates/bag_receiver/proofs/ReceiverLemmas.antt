@@ -2,7 +2,7 @@
 use Rattle.std.proofs.Common.{◌≡◌, ◌⊎◌, ◌≤◌, ℕ, true, false, List, [], ◌∷◌, Option, Some, None, map, length, refl, sym, ap, subst, ◌∙◌, inl, inr}
 use Rattle.std.specs.BTreeMap.{get_by, is_at}
 use Rattle.std.specs.String.{string_cmp}
-use Rattle.bag_ledger.specs.declared.fault.PutFault.TheVariants as put
+use Rattle.bag_ledger.specs.declared.keeper_faults.PutFault.TheVariants as put
 use Rattle.bag_ledger.specs.Keeping.{HasPut, MayPut}
 use Rattle.bag_ledger.proofs.EntryLemmas.{lookup_shown}
 use Rattle.bag_ledger.proofs.StoredLemmas.{by_name}

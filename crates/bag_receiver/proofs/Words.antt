@@ -6,7 +6,7 @@ pub use Rattle.bag_digest.specs.Algorithm.{place_of}
 pub use Rattle.bag_digest.specs.declared.algorithm.Alg.{Alg}
 pub use Rattle.bag_digest.specs.declared.algorithm.Alg.TheVariants.{Md5, Sha1, Sha256, Sha512}
 pub use Rattle.bag_digest.specs.declared.digest.Digest.{Digest as DigestOf}
-pub use Rattle.bag_digest.specs.Device.{CountsIf, one_more, Rises}
+pub use Rattle.bag_digest.specs.Failures.{CountsIf, one_more, Rises}
 pub use Rattle.bag_rules.proofs.HasLemmas.{contains_from_has, has_from_contains}
 pub use Rattle.bag_rules.proofs.SameListLemmas.{asymmetric, same_list, sorted_by_key}
 pub use Rattle.bag_rules.proofs.TwoListed.{a_passes, abd_is_misfit, expected, not_expected, path_a, two}
@@ -26,10 +26,10 @@ pub use Rattle.bag_rules.specs.Trees.{AreRising}
 pub use Rattle.bag_rules.specs.Wants.{IsWanted}
 pub use Rattle.bag_ledger.proofs.EntryLemmas.{insert_shown}
 pub use Rattle.bag_ledger.proofs.LedgerLemmas.{entry_here, entry_others, item_here, item_others}
-pub use Rattle.bag_ledger.specs.declared.fault.KeepFault.{KeepFault}
-pub use Rattle.bag_ledger.specs.declared.fault.KeepFault.TheVariants.{Memory, Store}
-pub use Rattle.bag_ledger.specs.declared.fault.PutFault.{PutFault}
-pub use Rattle.bag_ledger.specs.declared.fault.StoreFault.{StoreFault}
+pub use Rattle.bag_ledger.specs.declared.keeper_faults.KeepFault.{KeepFault}
+pub use Rattle.bag_ledger.specs.declared.keeper_faults.KeepFault.TheVariants.{Memory, Store}
+pub use Rattle.bag_ledger.specs.declared.keeper_faults.PutFault.{PutFault}
+pub use Rattle.bag_ledger.specs.declared.keeper_faults.StoreFault.{StoreFault}
 pub use Rattle.bag_ledger.specs.Keeping.{Given, given_by, known, Reads, RefusesGiven}
 pub use Rattle.bag_ledger.specs.Ledgers.{begun, holding, items_of, Ledger, tags_of, Transfer, transfer_of, with_item}
 pub use Rattle.bag_receiver.specs.Beginning.{AreTaken, Begins, BeginStep, given_in, IsHeavyAt, IsLargeAt, NoneMisplaced, RefusesFiles}

@@ -10,8 +10,8 @@ use Rattle.bag_rules.specs.Faults.{Has}
 use Rattle.bag_rules.specs.Files.{Files, IsTagPath}
 use Rattle.bag_rules.specs.Opening.{HasManyLinesAt, IsFirstPath, Opens, Refuses}
 use Rattle.bag_rules.specs.Transfers.{with_files}
-use Rattle.bag_ledger.specs.declared.fault.KeepFault.{KeepFault}
-use Rattle.bag_ledger.specs.declared.fault.KeepFault.TheVariants.{Memory, Store}
+use Rattle.bag_ledger.specs.declared.keeper_faults.KeepFault.{KeepFault}
+use Rattle.bag_ledger.specs.declared.keeper_faults.KeepFault.TheVariants.{Memory, Store}
 use Rattle.bag_ledger.specs.Keeping.{IsUnused}
 use Rattle.bag_ledger.specs.Ledgers.{Ledger, begun, tags_of, transfer_of, with_transfer}
 use Rattle.bag_receiver.specs.declared.begin.Begun.{Begun}

@@ -1,14 +1,14 @@
 -- How a transfer is opened with the tag files of a tree.
 use Rattle.std.specs.Prelude.{◌≡◌, ◌<◌, ◌∷◌, [], ℕ, List, Option, Some, None, Err, Result, IsErrOf, false, length, not, slice_get}
 use Rattle.std.specs.List.{filter}
-use Rattle.bag_digest.specs.Device.{CountsIf}
+use Rattle.bag_digest.specs.Failures.{CountsIf}
 use Rattle.bag_path.specs.Paths.{is_payload}
 use Rattle.bag_rules.specs.declared.limits.TheConstants.{LARGEST_TAG_FILE}
 use Rattle.bag_rules.specs.Files.{Files}
 use Rattle.bag_rules.specs.Trees.{Shown, UsesTree, octets_in, paths_in}
 use Rattle.bag_ledger.specs.Ledgers.{Ledger}
-use Rattle.bag_ledger.specs.declared.fault.KeepFault.TheVariants.{Memory, Store}
-use Rattle.bag_ledger.specs.declared.fault.StoreFault.{StoreFault}
+use Rattle.bag_ledger.specs.declared.keeper_faults.KeepFault.TheVariants.{Memory, Store}
+use Rattle.bag_ledger.specs.declared.keeper_faults.StoreFault.{StoreFault}
 use Rattle.bag_receiver.specs.declared.begin.BeginFault.{BeginFault}
 use Rattle.bag_receiver.specs.declared.begin.BeginFault.TheVariants.{BadName, Keeper, TagTooLarge, Tree}
 use Rattle.bag_receiver.specs.declared.begin.Begun.{Begun}

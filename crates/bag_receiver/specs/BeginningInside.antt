@@ -9,7 +9,7 @@ use Rattle.bag_rules.specs.Files.{Files, IsTagPath}
 use Rattle.bag_rules.specs.Plans.{IsPlanOf}
 use Rattle.bag_rules.specs.Transfers.{with_files}
 use Rattle.bag_rules.specs.Trees.{Shown, octets_in, paths_in}
-use Rattle.bag_ledger.specs.declared.fault.KeepFault.TheVariants.{Memory}
+use Rattle.bag_ledger.specs.declared.keeper_faults.KeepFault.TheVariants.{Memory}
 use Rattle.bag_receiver.specs.declared.begin.BeginFault.{BeginFault}
 use Rattle.bag_receiver.specs.declared.begin.BeginFault.TheVariants.{TagTooLarge, Outside, Rules, Clash, Tree, Keeper}
 use Rattle.bag_receiver.specs.Beginning.{AreTaken, RefusesFiles}

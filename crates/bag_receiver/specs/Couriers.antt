@@ -1,6 +1,6 @@
 -- Couriers, and runs of their deliveries.
 use Rattle.std.specs.Prelude.{◌≡◌, ◌≢◌, ◌<◌, ◌+◌, ◌∷◌, [], ℕ, Bool, true, false, List, Option, Some, None, Result, Ok, is_some, length, map, min}
-use Rattle.bag_digest.specs.Device.{greatest_count}
+use Rattle.bag_digest.specs.Failures.{greatest_count}
 use Rattle.bag_rules.specs.declared.limits.TheConstants.{LARGEST_ITEM}
 use Rattle.bag_rules.specs.Files.{Files}
 use Rattle.bag_receiver.specs.declared.answer.Answer.{Answer}

@@ -18,7 +18,8 @@ pub record AreMarks (paths : List (List ℕ)) (marks : List Bool) (held : List (
       → (slice_get marks i ≡ Some true) ↔ Has held path
 
 -- the request is for this line, and gives the index of its path among the paths
-pub record IsRequest (paths : List (List ℕ)) (line : FetchLine) (request : FetchRequest) : Type 0 where
+pub record IsRequest (paths : List (List ℕ)) (line : FetchLine) (request : FetchRequest)
+    : Type 0 where
   pub line_is : request.line ≡ line.line
   pub url_is : string_bytes request.url ≡ line.entry.url
   pub path_is : request.path ≡ line.entry.path

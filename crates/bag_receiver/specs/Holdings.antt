@@ -1,6 +1,6 @@
 -- Held payload files, as the receiver reads them again.
 use Rattle.std.specs.Prelude.{◌≡◌, ℕ, List, Some, length}
-use Rattle.bag_digest.specs.Device.{CountsIf}
+use Rattle.bag_digest.specs.Failures.{CountsIf}
 use Rattle.bag_rules.specs.declared.plan.Plan.{Plan}
 use Rattle.bag_rules.specs.declared.want.Want.{Want}
 use Rattle.bag_rules.specs.Files.{Files}
@@ -9,7 +9,7 @@ use Rattle.bag_rules.specs.Transfers.{AreHeldFor, Passes}
 use Rattle.bag_rules.specs.Wants.{IsWanted}
 use Rattle.bag_ledger.specs.Keeping.{Reads}
 use Rattle.bag_ledger.specs.Ledgers.{Ledger, content_of, items_of}
-use Rattle.bag_ledger.specs.declared.fault.StoreFault.{StoreFault}
+use Rattle.bag_ledger.specs.declared.keeper_faults.StoreFault.{StoreFault}
 
 -- the keeper holds this content for the path in the transfer with this name
 abbrev pub HasItem : {K : Type 0} → (K → Ledger → Type 0) → K → List ℕ → List ℕ → List ℕ → Type 0

@@ -1,6 +1,6 @@
 -- The faults of `put`, as faults of a delivery.
-use Rattle.bag_ledger.specs.declared.fault.PutFault.{PutFault}
-use Rattle.bag_ledger.specs.declared.fault.PutFault.TheVariants as put
+use Rattle.bag_ledger.specs.declared.keeper_faults.PutFault.{PutFault}
+use Rattle.bag_ledger.specs.declared.keeper_faults.PutFault.TheVariants as put
 use Rattle.bag_receiver.specs.declared.answer.DeliverFault.{DeliverFault}
 use Rattle.bag_receiver.specs.declared.answer.DeliverFault.TheVariants.{Reader, TooLarge, Length, Digest, Keeper}
 

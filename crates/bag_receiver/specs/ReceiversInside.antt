@@ -6,7 +6,7 @@ use Rattle.std.specs.Str.{bytes_eq}
 use Rattle.bag_path.specs.Paths.{path_fault}
 use Rattle.bag_rules.specs.declared.plan.Plan.{Plan}
 use Rattle.bag_rules.specs.Plans.{IsWantOf}
-use Rattle.bag_ledger.specs.declared.fault.KeepFault.TheVariants.{Memory}
+use Rattle.bag_ledger.specs.declared.keeper_faults.KeepFault.TheVariants.{Memory}
 use Rattle.bag_ledger.specs.Ledgers.{Ledger, Transfer, content_of}
 use Rattle.bag_receiver.specs.declared.answer.Answer.{Answer}
 use Rattle.bag_receiver.specs.declared.answer.Answer.TheVariants.{Refused}

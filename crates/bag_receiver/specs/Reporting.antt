@@ -1,11 +1,11 @@
 -- What is answered when a report on a transfer is asked for, or an audit of it.
 use Rattle.std.specs.Prelude.{◌≡◌, ℕ, List, None, IfOk, IsErrOf, MatchResult, Result, map}
-use Rattle.bag_digest.specs.Device.{CountsIf}
+use Rattle.bag_digest.specs.Failures.{CountsIf}
 use Rattle.bag_rules.specs.Files.{Files}
 use Rattle.bag_rules.specs.declared.report.Report.{Report}
 use Rattle.bag_ledger.specs.Ledgers.{Ledger}
-use Rattle.bag_ledger.specs.declared.fault.KeepFault.TheVariants.{Store}
-use Rattle.bag_ledger.specs.declared.fault.StoreFault.{StoreFault}
+use Rattle.bag_ledger.specs.declared.keeper_faults.KeepFault.TheVariants.{Store}
+use Rattle.bag_ledger.specs.declared.keeper_faults.StoreFault.{StoreFault}
 use Rattle.bag_receiver.specs.declared.receiver.Receiver.{Receiver}
 use Rattle.bag_receiver.specs.declared.report.ViewFault.{ViewFault}
 use Rattle.bag_receiver.specs.declared.report.ViewFault.TheVariants.{NoTransfer, Keeper}

@@ -1,10 +1,10 @@
 -- Runs of deliveries, and of deliveries from couriers.
 use Rattle.std.specs.Prelude.{◌≡◌, ◌≢◌, ◌<◌, ◌+◌, ◌∷◌, [], ℕ, List}
 use Rattle.std.specs.List.{AllByRecursion}
-use Rattle.bag_digest.specs.Device.{RisesBy}
+use Rattle.bag_digest.specs.Failures.{RisesBy}
 use Rattle.bag_rules.specs.Files.{Files}
 use Rattle.bag_ledger.specs.Ledgers.{Ledger}
-use Rattle.bag_ledger.specs.declared.fault.KeepFault.TheVariants.{Store}
+use Rattle.bag_ledger.specs.declared.keeper_faults.KeepFault.TheVariants.{Store}
 use Rattle.bag_receiver.specs.declared.answer.Answer.{Answer}
 use Rattle.bag_receiver.specs.declared.answer.Answer.TheVariants.{Refused}
 use Rattle.bag_receiver.specs.declared.answer.DeliverFault.TheVariants.{Keeper}

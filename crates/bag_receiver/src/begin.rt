@@ -1,11 +1,11 @@
 //! Opening a transfer.
 ghost use Rattle.std.specs.Prelude.{◌≡◌, ◌≢◌, ◌⊎◌, ◌↔◌, ◌<◌, List, ℕ, IfErr, IfOk, IsErrOf, IsTrue, MatchOption, MatchResult, OnOk, length, string_bytes};
-ghost use Rattle.bag_digest.specs.Device.{CountsIf};
+ghost use Rattle.bag_digest.specs.Failures.{CountsIf};
 ghost use Rattle.bag_rules.specs.declared.limits.TheConstants.{LARGEST_TAG_FILE};
 ghost use Rattle.bag_rules.specs.Files.{Files};
 ghost use Rattle.bag_rules.specs.Opening.{IsFirstPath, Refuses};
 ghost use Rattle.bag_rules.specs.Plans.{IsPlanOf};
-ghost use Rattle.bag_ledger.specs.declared.fault.StoreFault.{StoreFault};
+ghost use Rattle.bag_ledger.specs.declared.keeper_faults.StoreFault.{StoreFault};
 ghost use Rattle.bag_receiver.specs.Beginning.{AreTaken, BeginStep, Begins, IsAnswerTo, IsHeavyAt, NoneMisplaced, given_in};
 ghost use Rattle.bag_receiver.specs.BeginningInside.{IsPlaced, IsRefusal, emptied, light_tags};
 ghost use Rattle.bag_receiver.specs.Names.{IsTransferName};
@@ -69,7 +69,7 @@ pub enum BeginFault {
 
 impl From<AllocError> for BeginFault {
     ghost use Rattle.std.specs.Prelude.{◌≡◌};
-    ghost use Rattle.bag_ledger.specs.declared.fault.KeepFault.TheVariants.{Memory};
+    ghost use Rattle.bag_ledger.specs.declared.keeper_faults.KeepFault.TheVariants.{Memory};
     ghost use Rattle.bag_receiver.specs.declared.begin.BeginFault.TheVariants.{Keeper};
 
     ghost from_gives = { λ error fault. fault ≡ Keeper Memory };

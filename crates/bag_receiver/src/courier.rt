@@ -1,6 +1,6 @@
 //! Couriers, which deliver the payload files of a transfer.
 ghost use Rattle.std.specs.Prelude.{◌≡◌, ℕ, List, Option, Some, true, IfOk, IsOk, is_some};
-ghost use Rattle.bag_digest.specs.Device.{CountsFailure, one_more};
+ghost use Rattle.bag_digest.specs.Failures.{CountsFailure, one_more};
 ghost use Rattle.bag_rules.specs.Files.{Files};
 ghost use Rattle.bag_receiver.specs.Couriers.{ComesNext, HasPath};
 

@@ -1,10 +1,10 @@
 //! Deliveries of payload files.
 ghost use Rattle.std.specs.Prelude.{◌≡◌, ◌⊎◌, ◌∷◌, [], List, ℕ, true, IfErr, IfOk, IsErrOf, MatchResult};
-ghost use Rattle.bag_digest.specs.Device.{CountsIf, UsesSource};
+ghost use Rattle.bag_digest.specs.Failures.{CountsIf, UsesSource};
 ghost use Rattle.bag_path.specs.Paths.{IsPath};
 ghost use Rattle.bag_ledger.specs.Ledgers.{Ledger};
-ghost use Rattle.bag_ledger.specs.declared.fault.StoreFault.{StoreFault};
-ghost use Rattle.bag_ledger.specs.declared.fault.KeepFault.TheVariants.{Store};
+ghost use Rattle.bag_ledger.specs.declared.keeper_faults.StoreFault.{StoreFault};
+ghost use Rattle.bag_ledger.specs.declared.keeper_faults.KeepFault.TheVariants.{Store};
 ghost use Rattle.bag_receiver.specs.declared.answer.Answer.TheVariants.{Refused};
 ghost use Rattle.bag_receiver.specs.declared.answer.DeliverFault.TheVariants.{Keeper as NotKept, NoTransfer, Reader};
 ghost use Rattle.bag_receiver.specs.Deliveries.{Content, IsAcceptance, Whole, delivery_of};

@@ -5,7 +5,7 @@ ghost use Rattle.bag_digest.specs.declared.algorithm.Alg.TheVariants.{Sha256};
 ghost use Rattle.bag_rules.specs.declared.limits.TheConstants.{LARGEST_ITEM};
 ghost use Rattle.bag_rules.specs.ExampleBags.{file_a, file_e, tags_of_two, tags_with_fetch};
 ghost use Rattle.bag_rules.specs.Files.{Files};
-ghost use Rattle.bag_ledger.specs.declared.fault.KeepFault.TheVariants.{Memory};
+ghost use Rattle.bag_ledger.specs.declared.keeper_faults.KeepFault.TheVariants.{Memory};
 ghost use Rattle.bag_ledger.specs.Ledgers.{begun, holding};
 ghost use Rattle.bag_receiver.specs.declared.answer.Answer.{Answer};
 ghost use Rattle.bag_receiver.specs.declared.answer.Answer.TheVariants.{Taken, Repeated, Refused};

@@ -1,10 +1,10 @@
 //! Exports: write the bag of a transfer, as it is held, to a sink.
 ghost use Rattle.std.specs.Prelude.{◌≡◌, ◌<◌, ◌∷◌, ◌++◌, [], ℕ, List, IfErr, IsErr, IsErrOf, MatchResult, false, length};
-ghost use Rattle.bag_digest.specs.Device.{CountsIf};
+ghost use Rattle.bag_digest.specs.Failures.{CountsIf};
 ghost use Rattle.bag_rules.specs.Files.{Files};
 ghost use Rattle.bag_rules.specs.Plans.{sizes_of};
-ghost use Rattle.bag_ledger.specs.declared.fault.StoreFault.{StoreFault};
-ghost use Rattle.bag_ledger.specs.declared.fault.KeepFault.TheVariants.{Store};
+ghost use Rattle.bag_ledger.specs.declared.keeper_faults.StoreFault.{StoreFault};
+ghost use Rattle.bag_ledger.specs.declared.keeper_faults.KeepFault.TheVariants.{Store};
 ghost use Rattle.bag_writer.specs.Sinks.{ClosesSink, IsEmptySink, IsFree, UsesClosedSink, UsesOpenSink};
 ghost use Rattle.bag_writer.specs.Steps.{ArePart, AreWhole};
 ghost use Rattle.bag_writer.specs.TagWriting.{AreFree};
@@ -56,7 +56,7 @@ impl From<KeepFault> for ExportFault {
 
 impl From<AllocError> for ExportFault {
     ghost use Rattle.std.specs.Prelude.{◌≡◌};
-    ghost use Rattle.bag_ledger.specs.declared.fault.KeepFault.TheVariants.{Memory};
+    ghost use Rattle.bag_ledger.specs.declared.keeper_faults.KeepFault.TheVariants.{Memory};
     ghost use Rattle.bag_receiver.specs.declared.export.ExportFault.TheVariants.{Keeper};
 
     ghost from_gives = { λ error fault. fault ≡ Keeper Memory };

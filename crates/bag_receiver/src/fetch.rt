@@ -1,14 +1,14 @@
 //! Fetching: asks a supplier for what the `fetch.txt` of a transfer lists and isn't held.
 ghost use Rattle.std.specs.Prelude.{◌≡◌, ◌≢◌, ◌↔◌, ◌∷◌, [], ℕ, List, Some, None, IfErr, IfOk, IfNone, IfSome, IsErrOf, IsTrue, MatchResult, OnErr, length, map, slice_get, slice_set, string_bytes, true};
 ghost use Rattle.std.specs.List.{AllByRecursion};
-ghost use Rattle.bag_digest.specs.Device.{CountsIf, RisesBy, one_more};
+ghost use Rattle.bag_digest.specs.Failures.{CountsIf, RisesBy, one_more};
 ghost use Rattle.bag_tags.specs.declared.fetch.FetchLine.{FetchLine};
 ghost use Rattle.bag_rules.specs.Faults.{Has};
 ghost use Rattle.bag_rules.specs.Files.{Files};
 ghost use Rattle.bag_rules.specs.Plans.{AreFetchLines, IsPlanOf, item_paths};
 ghost use Rattle.bag_rules.specs.Trees.{AreRising};
-ghost use Rattle.bag_ledger.specs.declared.fault.KeepFault.TheVariants.{Memory};
-ghost use Rattle.bag_ledger.specs.declared.fault.StoreFault.{StoreFault};
+ghost use Rattle.bag_ledger.specs.declared.keeper_faults.KeepFault.TheVariants.{Memory};
+ghost use Rattle.bag_ledger.specs.declared.keeper_faults.StoreFault.{StoreFault};
 ghost use Rattle.bag_receiver.specs.FetchingInside.{AreMarks, AreRequests, IsRequest, IsUnderWay};
 ghost use Rattle.bag_receiver.specs.Names.{IsNamed, IsTransferName};
 ghost use Rattle.bag_receiver.specs.Receivers.{Does, IsInState};

@@ -1,6 +1,6 @@
 //! Reads held payload files again, piece by piece.
 ghost use Rattle.std.specs.Prelude.{◌≡◌, ◌<◌, ◌≤◌, ◌+◌, ℕ, List, IfOk, IsErrOf, drop, length, min, take};
-ghost use Rattle.bag_ledger.specs.declared.fault.KeepFault.TheVariants.{Store};
+ghost use Rattle.bag_ledger.specs.declared.keeper_faults.KeepFault.TheVariants.{Store};
 ghost use Rattle.bag_receiver.specs.Holdings.{HasItem, ReadsKeeper};
 
 use bag_ledger::{KeepFault, Keeper};

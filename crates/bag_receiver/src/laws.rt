@@ -8,7 +8,7 @@ ghost use Rattle.bag_rules.specs.Files.{Files};
 ghost use Rattle.bag_rules.specs.Transfers.{AreHeldFor, Passes};
 ghost use Rattle.bag_rules.specs.Trees.{AreRising};
 ghost use Rattle.bag_ledger.specs.Ledgers.{Ledger, Transfer, holding};
-ghost use Rattle.bag_ledger.specs.declared.fault.KeepFault.{KeepFault};
+ghost use Rattle.bag_ledger.specs.declared.keeper_faults.KeepFault.{KeepFault};
 ghost use Rattle.bag_receiver.specs.declared.answer.Answer.{Answer};
 ghost use Rattle.bag_receiver.specs.declared.answer.Answer.TheVariants.{Refused, Taken};
 ghost use Rattle.bag_receiver.specs.declared.answer.DeliverFault.TheVariants.{Keeper};

@@ -1,10 +1,10 @@
 //! Reports: what is wrong with the bag of a transfer as it is held now.
 ghost use Rattle.std.specs.Prelude.{◌≡◌, None, IfOk, IsErrOf, MatchResult};
-ghost use Rattle.bag_digest.specs.Device.{CountsIf};
+ghost use Rattle.bag_digest.specs.Failures.{CountsIf};
 ghost use Rattle.bag_rules.specs.Plans.{sizes_of};
 ghost use Rattle.bag_ledger.specs.Ledgers.{Ledger, items_of};
-ghost use Rattle.bag_ledger.specs.declared.fault.StoreFault.{StoreFault};
-ghost use Rattle.bag_ledger.specs.declared.fault.KeepFault.TheVariants.{Store};
+ghost use Rattle.bag_ledger.specs.declared.keeper_faults.StoreFault.{StoreFault};
+ghost use Rattle.bag_ledger.specs.declared.keeper_faults.KeepFault.TheVariants.{Store};
 ghost use Rattle.bag_receiver.specs.Holdings.{IsPlanFor, ReadsKeeper};
 ghost use Rattle.bag_receiver.specs.Names.{IsNamed, IsTransferName};
 ghost use Rattle.bag_receiver.specs.Receivers.{Does, IsInState};
@@ -44,7 +44,7 @@ impl From<KeepFault> for ViewFault {
 
 impl From<AllocError> for ViewFault {
     ghost use Rattle.std.specs.Prelude.{◌≡◌};
-    ghost use Rattle.bag_ledger.specs.declared.fault.KeepFault.TheVariants.{Memory};
+    ghost use Rattle.bag_ledger.specs.declared.keeper_faults.KeepFault.TheVariants.{Memory};
     ghost use Rattle.bag_receiver.specs.declared.report.ViewFault.TheVariants.{Keeper};
 
     ghost from_gives = { λ error fault. fault ≡ Keeper Memory };

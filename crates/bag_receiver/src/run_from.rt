@@ -1,6 +1,6 @@
 //! Runs of deliveries from a courier.
 ghost use Rattle.std.specs.Prelude.{◌≡◌, ◌≢◌, ◌≤◌, ◌++◌, ◌∷◌, [], Err, IfErr, List, OnErr, OnOk, is_some, length, true};
-ghost use Rattle.bag_digest.specs.Device.{CountsIf, one_more};
+ghost use Rattle.bag_digest.specs.Failures.{CountsIf, one_more};
 ghost use Rattle.bag_receiver.specs.declared.answer.Answer.TheVariants.{Repeated};
 ghost use Rattle.bag_receiver.specs.Couriers.{AreBrought, AreTold, CallsNext, ComesNext, IsEndWith, courier_failures};
 ghost use Rattle.bag_receiver.specs.Deliveries.{Delivery};

@@ -1,6 +1,6 @@
 //! Suppliers of the payload files to be fetched.
 ghost use Rattle.std.specs.Prelude.{◌≡◌, ◌+◌, ℕ, Option, true, Ok, IfOk};
-ghost use Rattle.bag_digest.specs.Device.{CountsFailure, one_more};
+ghost use Rattle.bag_digest.specs.Failures.{CountsFailure, one_more};
 ghost use Rattle.bag_receiver.specs.Suppliers.{IsSupplied, Supply};
 
 use bag_digest::{Failed, Source};

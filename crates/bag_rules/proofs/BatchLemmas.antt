@@ -1,36 +1,17 @@
 -- What is read of the files of a batch.
-use Rattle.std.proofs.Common.{◌≡◌, ◌∙◌, ◌+◌, ◌-◌, ◌≤◌, ◌<◌, ◌++◌, ◌∷◌, ◌||◌, [], ℕ, Bool, true, false, List, IfSome, OnOk, Option, Some, None, Result, Ok, Err, Vec, ap, arith, inl, get_or, length, length-append, refl, slice_get, subst, sym, take}
+use Rattle.std.proofs.Common.{◌≡◌, ◌∙◌, ◌+◌, ◌-◌, ◌≤◌, ◌<◌, ◌++◌, ◌∷◌, ◌||◌, [], ℕ, Bool, true, false, List, IfSome, OnOk, Option, Some, None, Result, Ok, Err, Vec, ap, arith, inl, get_or, length, refl, slice_get, subst, sym}
 use Rattle.std.specs.declared.alloc.Global.{Global}
 use Rattle.std.proofs.lemmas.Option.{slice_get_read}
-use Rattle.bag_digest.specs.declared.reading.SourceRead.{SourceRead}
-use Rattle.bag_digest.specs.declared.reading.SourceRead.TheVariants.{Whole, Hashed}
-use Rattle.bag_digest.specs.Reading.{GaveFound}
 use Rattle.bag_digest.proofs.EachLemmas.{at_last}
-use Rattle.bag_digest.proofs.Progress.{all_known}
 use Rattle.bag_rules.specs.declared.batch.Batch.{Batch}
 use Rattle.bag_rules.specs.declared.batch.FileSums.{FileSums}
-use Rattle.bag_rules.specs.declared.batch.FileSums.TheVariants.{Unread, Taken, Waiting}
+use Rattle.bag_rules.specs.declared.batch.FileSums.TheVariants.{Streamed, Taken, Unread, Waiting}
 use Rattle.bag_rules.specs.declared.limits.TheConstants.{LARGEST_FILE}
 use Rattle.bag_digest.specs.Hash.{AreDigestsOfEach}
-use Rattle.bag_rules.specs.BatchInside.{AddsSums, AreAlgsOf, AreRead, AreReadings, AreSumsFor, Covers, CoversListed, Holds, IsFoundOf, IsMessageFor, IsReadingOf, IsWithin}
+use Rattle.bag_rules.specs.BatchInside.{AddsSums, AreAlgsOf, AreRead, AreReadings, AreSumsFor, Covers, CoversListed, HasSumsAt, Holds, IsMessageFor, IsReadingOf, StreamFact}
 use Rattle.bag_rules.proofs.FileReadLemmas.{push_at, push_before}
 use Rattle.bag_rules.proofs.HasLemmas.{stands}
-use Rattle.bag_rules.proofs.Words.{Alg, AlgSet, AreDigests, Digests, CheckFault, has, HasFileAt, IsLongRead, is_payload, IsReadBy, same_Some, Shown, slice_get_within, Wants}
-
--- what was found of a file whose octets are known
-pub found_of : (octets : List ℕ) (old new : Option (List ℕ)) (set : AlgSet) (buffer : List ℕ) (found : SourceRead) → old ≡ Some octets → GaveFound old new LARGEST_FILE set buffer found → IsFoundOf set octets buffer found
-found_of octets old new set buffer (Whole n) known gave =
-    let all = all_known octets (take n buffer) old new LARGEST_FILE known gave.1 in (all.0, all.1)
-found_of octets old new set buffer (Hashed n digests) known gave =
-    let all = all_known octets gave.0 old new LARGEST_FILE known gave.1 in record {
-      sums = record {
-        taken = set;
-        count = gave.2.0 ∙ ap length all.0;
-        digests = subst (λ o. AreDigests digests set o) all.0 gave.2.1;
-        covers = λ alg h. h;
-      };
-      within = all.1;
-    }
+use Rattle.bag_rules.proofs.Words.{Alg, AlgSet, AreDigests, Digests, CheckFault, has, HasFileAt, IsLongRead, is_payload, IsReadBy, same_Some, Shown, slice_get_within, Requirements}
 
 -- the messages and the set of a batch grow
 pub record Grows (old new : Batch) : Type 0 where
@@ -38,10 +19,11 @@ pub record Grows (old new : Batch) : Type 0 where
   pub messages : (i : ℕ) (message : Vec ℕ Global) → slice_get old.messages.items i ≡ Some message → slice_get new.messages.items i ≡ Some message
   pub set : (alg : Alg) → has old.set alg ≡ true → has new.set alg ≡ true
 
-still : (old new : Batch) (wants : Wants) (path octets : List ℕ) (reading : FileSums) → Grows old new → IsReadingOf old wants path octets reading → IsReadingOf new wants path octets reading
-still old new wants path octets Unread grows is = is
-still old new wants path octets (Taken n digests) grows is = is
-still old new wants path octets (Waiting place) grows is = record {
+still : (old new : Batch) (P Q : StreamFact) (wants : Requirements) (path octets : List ℕ) (reading : FileSums) → Grows old new → ((k : ℕ) (path octets : List ℕ) → P k path octets → Q k path octets)
+    → IsReadingOf old P wants path octets reading → IsReadingOf new Q wants path octets reading
+still old new P Q wants path octets Unread grows so is = is
+still old new P Q wants path octets (Taken n digests) grows so is = is
+still old new P Q wants path octets (Waiting place) grows so is = record {
   read = is.read;
   message = is.message;
   there = grows.messages place is.message is.there;
@@ -49,87 +31,63 @@ still old new wants path octets (Waiting place) grows is = record {
   within = is.within;
   covers = λ alg listed. grows.set alg (is.covers alg listed);
 }
+still old new P Q wants path octets (Streamed place) grows so is = so place path octets is
 
 -- one more file
-pub readings_more : (shown : Shown) (wants : Wants) (old new : Batch) (reading : FileSums) → AreReadings shown wants old → Grows old new → new.read.items ≡ old.read.items ++ reading ∷ []
-    → ((path octets : List ℕ) → HasFileAt shown (old.first + length old.read.items) path octets → IsReadingOf new wants path octets reading)
-    → AreReadings shown wants new
-readings_more shown wants old new reading are grows more here i other there path octets file =
+pub readings_more : (shown : Shown) (wants : Requirements) (old new : Batch) (P Q : StreamFact) (reading : FileSums) → AreReadings shown wants old P → Grows old new
+    → ((k : ℕ) (path octets : List ℕ) → P k path octets → Q k path octets) → new.read.items ≡ old.read.items ++ reading ∷ []
+    → ((path octets : List ℕ) → HasFileAt shown (old.first + length old.read.items) path octets → IsReadingOf new Q wants path octets reading)
+    → AreReadings shown wants new Q
+readings_more shown wants old new P Q reading are grows so more here i other there path octets file =
     at_last old.read.items reading
-    (λ n (r : FileSums). (path octets : List ℕ) → HasFileAt shown (old.first + n) path octets → IsReadingOf new wants path octets r)
-    (λ n r at p o f. still old new wants p o r grows (are n r at p o f))
+    (λ n (r : FileSums). (path octets : List ℕ) → HasFileAt shown (old.first + n) path octets → IsReadingOf new Q wants path octets r)
+    (λ n r at p o f. still old new P Q wants p o r grows so (are n r at p o f))
     here i other (subst (λ rs. slice_get rs i ≡ Some other) more there)
     path octets (subst (λ k. HasFileAt shown (k + i) path octets) grows.first file)
 
-adds_grows : (old new : Batch) (sums : FileSums) → AddsSums old new sums → Grows old new
+pub adds_grows : (old new : Batch) (sums : FileSums) → AddsSums old new sums → Grows old new
 adds_grows old new sums adds = record {
   first = adds.first;
   messages = λ i message at. ap (λ (ms : Vec (Vec ℕ Global) Global). slice_get ms.items i) adds.messages ∙ at;
   set = λ alg h. ap (λ s. has s alg) adds.set ∙ h;
 }
 
--- the place after it
-pub next_place : (old new : Batch) (reading : FileSums) (place : ℕ) → place ≡ old.first + length old.read.items → new.first ≡ old.first → new.read.items ≡ old.read.items ++ reading ∷ []
-    → place + 1 ≡ new.first + length new.read.items
-next_place old new reading place at first more =
-    let long : length new.read.items ≡ length old.read.items + 1 = ap length more ∙ length-append old.read.items (reading ∷ []) in
-    omega (arith, at, first, long)
-
--- a file that isn't read
-pub readings_unread : (shown : Shown) (wants : Wants) (old new : Batch) → AreReadings shown wants old → AddsSums old new Unread
-    → ((path octets : List ℕ) → HasFileAt shown (old.first + length old.read.items) path octets → ¬ IsReadBy wants.manifests.now path)
-    → AreReadings shown wants new
-readings_unread shown wants old new are adds unread = readings_more shown wants old new Unread are (adds_grows old new Unread adds) adds.read unread
-
--- a file that was hashed
-pub readings_taken : (shown : Shown) (wants : Wants) (old new : Batch) (n : ℕ) (digests : Digests) → AreReadings shown wants old → AddsSums old new (Taken n digests)
-    → ((path octets : List ℕ) → HasFileAt shown (old.first + length old.read.items) path octets → AreSumsFor wants path octets (n, digests))
-    → AreReadings shown wants new
-readings_taken shown wants old new n digests are adds taken = readings_more shown wants old new (Taken n digests) are (adds_grows old new (Taken n digests) adds) adds.read taken
-
-or_left : (a b : Bool) → a ≡ true → (a || b) ≡ true
+pub or_left : (a b : Bool) → a ≡ true → (a || b) ≡ true
 or_left true b h = refl
 or_left false b h = cc
 
-or_right : (a b : Bool) → b ≡ true → (a || b) ≡ true
+pub or_right : (a b : Bool) → b ≡ true → (a || b) ≡ true
 or_right true b h = refl
 or_right false b h = h
 
 -- a file whose octets are held
-pub readings_held : (shown : Shown) (wants : Wants) (old new : Batch) (set : AlgSet) (held : List ℕ) → AreReadings shown wants old → Holds old new set held
-    → ((path octets : List ℕ) → HasFileAt shown (old.first + length old.read.items) path octets
-    → IsReadBy wants.manifests.now path × CoversListed wants path set × (held ≡ octets) × (length octets ≤ LARGEST_FILE))
-    → AreReadings shown wants new
-readings_held shown wants old new set held are holds found =
-    readings_more shown wants old new (Waiting (length old.messages.items)) are
-    record {
-      first = holds.first;
-      messages = λ i message at. ap (λ ms. slice_get ms i) holds.messages ∙ push_before old.messages.items holds.message i (slice_get_within old.messages.items i message at) ∙ at;
-      set = λ alg h. holds.set alg ∙ or_left (has old.set alg) (has set alg) h;
-    }
-    holds.read
-    (λ path octets file. let is = found path octets file in record {
-      read = is.0;
-      message = holds.message;
-      there = ap (λ ms. slice_get ms (length old.messages.items)) holds.messages ∙ push_at old.messages.items holds.message;
-      octets_are = holds.octets_are ∙ is.2;
-      within = is.3;
-      covers = λ alg listed. holds.set alg ∙ or_right (has old.set alg) (has set alg) (is.1 alg listed);
-    })
+pub holds_grows : (old new : Batch) (set : AlgSet) (held : List ℕ) → Holds old new set held → Grows old new
+holds_grows old new set held holds = record {
+  first = holds.first;
+  messages = λ i message at. ap (λ ms. slice_get ms i) holds.messages ∙ push_before old.messages.items holds.message i (slice_get_within old.messages.items i message at) ∙ at;
+  set = λ alg h. holds.set alg ∙ or_left (has old.set alg) (has set alg) h;
+}
 
--- what the buffer holds of what was found
-pub within_of : (old new : Option (List ℕ)) (set : AlgSet) (buffer : List ℕ) (found : SourceRead) → GaveFound old new LARGEST_FILE set buffer found → IsWithin buffer found
-within_of old new set buffer (Whole n) gave = gave.0
-within_of old new set buffer (Hashed n digests) gave = tt
+pub held_is : (old new : Batch) (wants : Requirements) (path octets : List ℕ) (set : AlgSet) (held : List ℕ) → Holds old new set held
+    → IsReadBy wants.manifests.now path → CoversListed wants path set → held ≡ octets → length octets ≤ LARGEST_FILE
+    → IsMessageFor new wants path octets (length old.messages.items)
+held_is old new wants path octets set held holds read covers same within = record {
+  read = read;
+  message = holds.message;
+  there = ap (λ ms. slice_get ms (length old.messages.items)) holds.messages ∙ push_at old.messages.items holds.message;
+  octets_are = holds.octets_are ∙ same;
+  within = within;
+  covers = λ alg listed. holds.set alg ∙ or_right (has old.set alg) (has set alg) (covers alg listed);
+}
 
 -- what was read of a file of the batch
-pub reading_at : (shown : Shown) (wants : Wants) (batch : Batch) (place : ℕ) (path octets : List ℕ) (reading : FileSums) → AreRead shown wants batch → Covers batch place → HasFileAt shown place path octets
-    → slice_get batch.read.items (place - batch.first) ≡ Some reading → IsReadingOf batch wants path octets reading
+pub reading_at : (shown : Shown) (wants : Requirements) (batch : Batch) (place : ℕ) (path octets : List ℕ) (reading : FileSums) → AreRead shown wants batch → Covers batch place → HasFileAt shown place path octets
+    → slice_get batch.read.items (place - batch.first) ≡ Some reading → IsReadingOf batch (HasSumsAt wants batch) wants path octets reading
 reading_at shown wants batch place path octets reading are covers file there =
     are.readings (place - batch.first) reading there path octets (subst (λ k. HasFileAt shown k path octets) (omega (arith, covers.0)) file)
 
 -- the length and the digests of a message
-pub message_sums : (batch : Batch) (wants : Wants) (path octets : List ℕ) (place : ℕ) (message : Vec ℕ Global) (digests : Digests) → AreDigestsOfEach batch.set batch.messages.items batch.digests.items
+pub message_sums : (batch : Batch) (wants : Requirements) (path octets : List ℕ) (place : ℕ) (message : Vec ℕ Global) (digests : Digests) → AreDigestsOfEach batch.set batch.messages.items batch.digests.items
     → IsMessageFor batch wants path octets place → slice_get batch.messages.items place ≡ Some message → slice_get batch.digests.items place ≡ Some digests
     → AreSumsFor wants path octets (length message.items, digests)
 message_sums batch wants path octets place message digests each is there at =
@@ -158,35 +116,38 @@ on_ok_so (Ok a) h so = so h
 on_ok_so (Err e) h so = h
 
 -- a file that isn't read
-pub none_of : (wants : Wants) (path : List ℕ) (set : Option AlgSet) → ((some : AlgSet) → ¬ (set ≡ Some some)) → AreAlgsOf wants path set → ¬ IsReadBy wants.manifests.now path
+pub none_of : (wants : Requirements) (path : List ℕ) (set : Option AlgSet) → ((some : AlgSet) → ¬ (set ≡ Some some)) → AreAlgsOf wants path set → ¬ IsReadBy wants.manifests.now path
 none_of wants path None not is = is
 none_of wants path (Some set) not is = absurd (not set refl)
 
 -- the same files and messages, whatever digests were taken
-pub readings_same : (shown : Shown) (wants : Wants) (old new : Batch) → new.first ≡ old.first → new.read ≡ old.read → new.messages ≡ old.messages → new.set ≡ old.set → AreReadings shown wants old → AreReadings shown wants new
-readings_same shown wants old new first read messages set are i reading there path octets file =
-    still old new wants path octets reading
+pub readings_same : (shown : Shown) (wants : Requirements) (old new : Batch) (P Q : StreamFact) → new.first ≡ old.first → new.read ≡ old.read → new.messages ≡ old.messages → new.set ≡ old.set
+    → ((k : ℕ) (path octets : List ℕ) → P k path octets → Q k path octets) → AreReadings shown wants old P → AreReadings shown wants new Q
+readings_same shown wants old new P Q first read messages set so are i reading there path octets file =
+    still old new P Q wants path octets reading
     record {
       first = first;
       messages = λ k message at. ap (λ (ms : Vec (Vec ℕ Global) Global). slice_get ms.items k) messages ∙ at;
       set = λ alg h. ap (λ s. has s alg) set ∙ h;
     }
+    so
     (are i reading (ap (λ (rs : Vec FileSums Global). slice_get rs.items i) (sym read) ∙ there) path octets (subst (λ k. HasFileAt shown (k + i) path octets) first file))
 
 -- a file that isn't read is no payload file
-pub unread_tag : (wants : Wants) (path : List ℕ) → ¬ IsReadBy wants.manifests.now path → is_payload path ≡ false
+pub unread_tag : (wants : Requirements) (path : List ℕ) → ¬ IsReadBy wants.manifests.now path → is_payload path ≡ false
 unread_tag wants path unread = tag_of (is_payload path) (λ payload. unread (inl payload)) where
   tag_of : (b : Bool) → ¬ (b ≡ true) → b ≡ false
   tag_of true not = absurd (not refl)
   tag_of false not = refl
 
-within_read : (batch : Batch) (wants : Wants) (path octets : List ℕ) (reading : FileSums) (fault : CheckFault) → IsReadingOf batch wants path octets reading → ¬ IsLongRead wants.manifests.now path octets fault
+within_read : (batch : Batch) (wants : Requirements) (path octets : List ℕ) (reading : FileSums) (fault : CheckFault) → IsReadingOf batch (HasSumsAt wants batch) wants path octets reading → ¬ IsLongRead wants.manifests.now path octets fault
 within_read batch wants path octets Unread fault is long = is long.0
 within_read batch wants path octets (Taken n digests) fault is long = let most = is.sums.within in let past = long.1.0 in omega (arith, most, past)
 within_read batch wants path octets (Waiting place) fault is long = let most = is.within in let past = long.1.0 in omega (arith, most, past)
+within_read batch wants path octets (Streamed place) fault is long = let most = is.2.sums.within in let past = long.1.0 in omega (arith, most, past)
 
 -- no file of the batch is too long
-pub batch_within : (shown : Shown) (wants : Wants) (batch : Batch) (place : ℕ) (path octets : List ℕ) (fault : CheckFault) → AreRead shown wants batch → Covers batch place → HasFileAt shown place path octets
+pub batch_within : (shown : Shown) (wants : Requirements) (batch : Batch) (place : ℕ) (path octets : List ℕ) (fault : CheckFault) → AreRead shown wants batch → Covers batch place → HasFileAt shown place path octets
     → ¬ IsLongRead wants.manifests.now path octets fault
 batch_within shown wants batch place path octets fault are covers file =
     let found = stands batch.read.items (place - batch.first) (omega (arith, covers.0, covers.1)) in

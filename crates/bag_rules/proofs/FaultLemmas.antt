@@ -6,8 +6,8 @@ use Rattle.bag_digest.specs.contracts.algorithm.Alg as algorithm
 use Rattle.bag_tags.specs.contracts.listing.Kind as listing
 use Rattle.bag_tags.specs.contracts.declaration.DeclFault as declarations
 use Rattle.bag_path.specs.contracts.path.PathFault as path_faults
-use Rattle.bag_tags.specs.declared.fault.LineCause.TheVariants as cause_of
-use Rattle.bag_tags.specs.contracts.fault.LineCausePartialEq.TheImpl as cause
+use Rattle.bag_tags.specs.declared.tag_fault.LineCause.TheVariants as cause_of
+use Rattle.bag_tags.specs.contracts.tag_fault.LineCausePartialEq.TheImpl as cause
 use Rattle.bag_tags.specs.contracts.name.ManifestNamePartialEq.TheImpl as name
 use Rattle.bag_tags.specs.contracts.name.LineFilePartialEq.TheImpl as file
 use Rattle.bag_rules.specs.contracts.fault.FaultPartialEq.TheImpl as impl

@@ -1,12 +1,12 @@
 -- The entries of `fetch.txt` against the manifests and the files.
 use Rattle.std.proofs.Common.{◌≡◌, true, false, List, [], ◌∷◌, Some, None, length, refl, sym, ◌∙◌, subst, inl, inr}
 use Rattle.bag_rules.specs.Bags.{version_of}
-use Rattle.bag_rules.proofs.Words.{Adds, AreLinesOf, AreTextsOf, Bag, Fault, FetchLine, FetchNotListed, Has, HasEntry, HasFaultOf, IsEntryUnlisted, OfSome, same_Some, Texts}
+use Rattle.bag_rules.proofs.Words.{Adds, AreLinesOf, AreTextsOf, Bag, Fault, FetchLine, FetchNotListed, Has, HasEntry, HasFaultOf, IsEntryUnlisted, OfSome, same_Some, TagTexts}
 use Rattle.bag_rules.proofs.AddsLemmas.{adds_so}
 use Rattle.bag_rules.proofs.FrontLemmas.{fetch_listed}
 use Rattle.bag_rules.proofs.UnlistedLemmas.{same_told}
 
-module _ (bag : Bag) (texts : Texts) (are : AreTextsOf (length bag.files) bag texts) (lines : List FetchLine) (lines_are : AreLinesOf texts lines) where
+module _ (bag : Bag) (texts : TagTexts) (are : AreTextsOf (length bag.files) bag texts) (lines : List FetchLine) (lines_are : AreLinesOf texts lines) where
   -- the lines that were read are the bag's entries
   pub entry_there : (line : FetchLine) → Has lines line → HasEntry bag line
   entry_there line has = elim lines_are [

@@ -1,7 +1,7 @@
 -- The faults of the files, in terms of what was read, are those that the bag has.
 use Rattle.std.proofs.Common.{◌≡◌, ℕ, true, false, List, [], ◌∷◌, length, refl, sym, ap, inl, inr, subst}
 use Rattle.bag_rules.specs.Bags.{version_of}
-use Rattle.bag_rules.proofs.Words.{Alg, AreLinesOf, AreTextsOf, AreWantsOf, Bag, CheckFault, Fault, FetchLength, FetchLine, FileStops, FirstStops, GivenLength, Has, HasFaultOf, IsBagOf, IsChecked, IsFileFault, IsLongRead, IsMissing, IsReadBy, IsUnlistedIn, Listing, Lists, ManifestName, Missing, name_in, NoneStops, NoneStopsBefore, Pair, paths_in, Shown, Stopped, Texts, Unlisted, Wants, WrongDigest}
+use Rattle.bag_rules.proofs.Words.{Alg, AreLinesOf, AreTextsOf, AreRequirementsOf, Bag, CheckFault, Fault, FetchLength, FetchLine, FileStops, FirstStops, GivenLength, Has, HasFaultOf, IsBagOf, IsChecked, IsFileFault, IsLongRead, IsMissing, IsReadBy, IsUnlistedIn, Listing, Lists, ManifestName, Missing, name_in, NoneStops, NoneStopsBefore, Pair, paths_in, Shown, Stopped, TagTexts, Unlisted, Requirements, WrongDigest}
 use Rattle.bag_rules.proofs.FetchLemmas.{entry_here, entry_there}
 use Rattle.bag_rules.proofs.FrontLemmas.{manifest_listed}
 use Rattle.bag_rules.proofs.LimitLemmas.{stopped_so}
@@ -11,7 +11,7 @@ use Rattle.bag_rules.proofs.UnlistedLemmas.{same_told}
 abbrev pub listing_by : ManifestName → List Pair → Listing
 listing_by name pairs = record { alg = name.alg; kind = name.kind; pairs = pairs }
 
-module _ (bag : Bag) (texts : Texts) (are : AreTextsOf (length bag.files) bag texts) where
+module _ (bag : Bag) (texts : TagTexts) (are : AreTextsOf (length bag.files) bag texts) where
   -- what was read is what the bag's manifests list
   pub lists_of_has : (listing : Listing) → Has texts.manifests.items listing → Lists bag (name_in listing) listing.pairs
   lists_of_has listing has = (manifest_listed bag texts are listing).0 has
@@ -46,7 +46,7 @@ module _ (bag : Bag) (texts : Texts) (are : AreTextsOf (length bag.files) bag te
 
   -- FAULTS OF THE FILES THAT ARE THERE
 
-  module _ (lines : List FetchLine) (lines_are : AreLinesOf texts lines) (wants : Wants) (wants_are : AreWantsOf (version_of bag) texts.manifests.items lines wants) where
+  module _ (lines : List FetchLine) (lines_are : AreLinesOf texts lines) (wants : Requirements) (wants_are : AreRequirementsOf (version_of bag) texts.manifests.items lines wants) where
     read_in : (listing : Listing) → Has wants.manifests.now listing → Has texts.manifests.items listing
     read_in listing = subst (λ ls. Has ls listing) wants_are.manifests
 

@@ -1,6 +1,6 @@
 -- What a file or an element adds to the faults of the form.
 use Rattle.std.proofs.Common.{◌≡◌, ◌≢◌, ◌↔◌, ◌≤◌, ℕ, true, false, List, [], ◌∷◌, ◌++◌, Option, Some, None, Contains, is_some, length, refl, sym, ap, ◌∙◌, inl, inr, subst}
-use Rattle.bag_rules.proofs.Words.{Adds, Alg, AreTextsOf, Bag, Digest, Fault, filter, Has, HasFaultOf, is_oxum, IsBadOxum, IsOxumFault, IsThere, IsUnlistedBy, IsUnlistedManifest, listed_digest, Listing, Lists, lists_path, manifest_file, manifest_name, ManifestNotListed, MetadataElement, NoManifest, NoPayloadDir, OxumForm, OxumTwice, Payload, same_Some, SaysOxum, Tag, Texts}
+use Rattle.bag_rules.proofs.Words.{Adds, Alg, AreTextsOf, Bag, Digest, Fault, filter, Has, HasFaultOf, is_oxum, IsBadOxum, IsOxumFault, IsThere, IsUnlistedBy, IsUnlistedManifest, listed_digest, Listing, Lists, lists_path, manifest_file, manifest_name, ManifestNotListed, MetadataElement, NoManifest, NoPayloadDir, OxumForm, OxumTwice, Payload, same_Some, SaysOxum, Tag, TagTexts}
 use Rattle.bag_rules.proofs.AddsLemmas.{adds_so, adds_none, adds_one, adds_on, adds_same}
 use Rattle.bag_rules.specs.FilesInside.{OfSome}
 use Rattle.bag_rules.proofs.FrontLemmas.{info_said, manifest_listed}
@@ -56,7 +56,7 @@ module _ (bag : Bag) where
   pub manifest_away : (old new : List Fault) → ((alg : Alg) → ¬ IsThere bag (manifest_file Payload alg)) → new ≡ old ++ NoManifest ∷ [] → Adds old new (HasFaultOf bag (4 ∷ []))
   manifest_away old new away more = adds_one old new NoManifest (HasFaultOf bag (4 ∷ [])) more (away, refl) (λ f h. (manifest_kind f h).0)
 
-module _ (bag : Bag) (texts : Texts) (are : AreTextsOf (length bag.files) bag texts) where
+module _ (bag : Bag) (texts : TagTexts) (are : AreTextsOf (length bag.files) bag texts) where
   -- payload manifests that a tag manifest doesn't list
   unlisted_there : (paths : List (List ℕ)) → ((path : List ℕ) → Contains paths path → IsThere bag path) → (f : Fault) → IsUnlistedManifest paths texts.manifests.items f → HasFaultOf bag (6 ∷ []) f
   unlisted_there paths there f (path, has, (alg, (listing, named, held, tag, unlisted, is))) =

@@ -1,13 +1,13 @@
 -- A bag by all of its files.
 use Rattle.std.proofs.Common.{◌≡◌, ◌↔◌, List, Some, length, sym, ap, subst}
-use Rattle.bag_rules.proofs.Words.{AreTextsOf, Bag, FetchLine, front, Has, Listing, Lists, ListsFetch, MetadataElement, name_in, SaysInfo, take-length, Texts}
+use Rattle.bag_rules.proofs.Words.{AreTextsOf, Bag, FetchLine, front, Has, Listing, Lists, ListsFetch, MetadataElement, name_in, SaysInfo, take-length, TagTexts}
 use Rattle.bag_rules.specs.Bags.{ListsBy, ListsFetchBy, SaysInfoBy, version_of}
 
 -- the front of as many files as there are is the bag
 pub whole_front : (bag : Bag) → front (length bag.files) bag ≡ bag
 whole_front bag = ap (λ files. (let b : Bag = record bag { files = files } in b)) (take-length bag.files)
 
-module _ (bag : Bag) (texts : Texts) (are : AreTextsOf (length bag.files) bag texts) where
+module _ (bag : Bag) (texts : TagTexts) (are : AreTextsOf (length bag.files) bag texts) where
   pub info_said : (elements : List MetadataElement) → (texts.info ≡ Some elements) ↔ SaysInfo bag elements
   info_said elements = (
     λ e. subst (λ b. SaysInfoBy (version_of bag) b elements) (whole_front bag) ((are.info elements).0 e),

@@ -21,13 +21,17 @@ pub mod LimitLemmas
 pub mod DeclaredLemmas
 pub mod LineFaults
 pub mod TextsRead
-pub mod TextReaderLemmas
+pub mod TagFileReaderLemmas
 pub mod TextStops
 pub mod FirstFiles
 pub mod TextsMore
 pub mod FileFaultLemmas
 pub mod FileReadLemmas
 pub mod BatchLemmas
+mod ReturningLemmas
+mod GatheringLemmas
+mod AddingLemmas
+mod EndedLemmas
 pub mod KeptLemmas
 pub mod WantLemmas
 pub mod FileKindLemmas

@@ -1,7 +1,7 @@
 -- What the reading of one tag file's text adds to the faults.
 use Rattle.std.proofs.Common.{◌≡◌, ◌↔◌, ℕ, List, Option, Some, None, Result, IfErr, IfOk, refl, sym, ap, ◌∙◌, subst}
 use Rattle.bag_path.specs.declared.version.Version.{Version}
-use Rattle.bag_tags.specs.declared.feed.TagValue.{TagValue}
+use Rattle.bag_tags.specs.declared.tag_feed.TagValue.{TagValue}
 use Rattle.bag_tags.specs.Feeds.{IsFaultOf, IsTextFor}
 use Rattle.bag_tags.specs.TagLines.{Faults}
 use Rattle.bag_tags.proofs.ExactTexts as exact

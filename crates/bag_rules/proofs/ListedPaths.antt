@@ -2,7 +2,7 @@
 use Rattle.std.proofs.Common.{◌≡◌, ◌≢◌, ◌⊎◌, ◌↔◌, ℕ, true, List, [], ◌∷◌, ◌++◌, map, length, refl, sym, inl, inr, subst}
 use Rattle.bag_rules.specs.OpeningInside.{IsListedIn}
 use Rattle.bag_rules.specs.Transfers.{IsExpected, tag_bag}
-use Rattle.bag_rules.proofs.Words.{AreTextsOf, Files, Has, Listing, Lists, lists_path, manifest_name, Pair, Payload, Texts}
+use Rattle.bag_rules.proofs.Words.{AreTextsOf, Files, Has, Listing, Lists, lists_path, manifest_name, Pair, Payload, TagTexts}
 use Rattle.bag_rules.proofs.FileKindLemmas.{has_of_lists, lists_of_has}
 use Rattle.bag_rules.proofs.HasLemmas.{has_from_map, has_map, has_push}
 use Rattle.bag_rules.proofs.MissingLemmas.{pair_listed, pair_of}
@@ -49,7 +49,7 @@ module _ (listings : List Listing) (new : Listing) (old : List (List ℕ)) (befo
   listed_same other path = (kept path, λ l. elim (kept_or_new path l) [ inl earlier ↦ earlier | inr this ↦ absurd (other this.0) ])
 
 -- in terms of what was read, and in the bag
-pub expected_as : (tags : Files) (texts : Texts) → AreTextsOf (length tags) (tag_bag tags) texts → (path : List ℕ) → IsListedIn texts.manifests.items path ↔ IsExpected tags path
+pub expected_as : (tags : Files) (texts : TagTexts) → AreTextsOf (length tags) (tag_bag tags) texts → (path : List ℕ) → IsListedIn texts.manifests.items path ↔ IsExpected tags path
 expected_as tags texts are path = (
   λ l. (l.0.alg, (l.0.pairs, subst (λ k. Lists (tag_bag tags) (manifest_name k l.0.alg) l.0.pairs) l.2 (lists_of_has (tag_bag tags) texts are l.0 l.1), l.3)),
   λ e. (record { alg = e.0; kind = Payload; pairs = e.1.0 }, has_of_lists (tag_bag tags) texts are (manifest_name Payload e.0) e.1.0 e.1.1, refl, e.1.2),

@@ -33,6 +33,10 @@ started_there tree inside i view below =
     let body = stands bodies i (omega (arith, below, ap length (shown_is tree inside view), length_shown files, length_bodies files)) in
     ap is_some (not_dropped (slice_get bodies i) ∙ body.1)
 
+-- the octets of a file are known
+pub known_body : (tree : MemFiles) (inside : Inside) (i : ℕ) (body : List ℕ) → view_of inside ≡ tree → slice_get (values_of (files_of inside.files.items)) i ≡ Some body → octets_in (mem_shown tree) i ≡ Some body
+known_body tree inside i body view here = known_at tree.files i ∙ sym (ap (λ t. mem_octets t i) view) ∙ here
+
 -- what is left of the file that is being read after another one was inserted at a place
 module _ (files : List File) (place : ℕ) (file : File) (upto : place ≤ length files) where
   body_moved : (r : Reading) → r.place < length files → slice_get (values_of (files_of (insert files place file))) (moved_up place r).place ≡ slice_get (values_of (files_of files)) r.place

@@ -5,7 +5,7 @@ use Rattle.bag_rules.specs.Bags.{version_of}
 use Rattle.bag_rules.specs.Opening.{HasOpeningFault}
 use Rattle.bag_rules.specs.OpeningInside.{AreReadBy, HasOpeningFaultOf, IsTagMissing, IsWrongFile}
 use Rattle.bag_rules.specs.Transfers.{AreExpected, tag_bag}
-use Rattle.bag_rules.proofs.Words.{Adds, AreTextsOf, BadDeclaration, BadLine, Fault, FetchLength, FetchNotListed, Files, Has, HasFaultOf, is_payload, IsFileUnlisted, IsUnlistedIn, Kind, kinds_of_files, kinds_of_form, list_any, ManifestNotListed, Missing, NoDeclaration, NoManifest, NoneBelow, NoPayloadDir, number_of, OfSome, OxumForm, OxumTwice, OxumWrong, paths_in, Payload, shown_of, Tag, Texts, Unlisted, WrongDigest}
+use Rattle.bag_rules.proofs.Words.{Adds, AreTextsOf, BadDeclaration, BadLine, Fault, FetchLength, FetchNotListed, Files, Has, HasFaultOf, is_payload, IsFileUnlisted, IsUnlistedIn, Kind, kinds_of_files, kinds_of_form, list_any, ManifestNotListed, Missing, NoDeclaration, NoManifest, NoneBelow, NoPayloadDir, number_of, OfSome, OxumForm, OxumTwice, OxumWrong, paths_in, Payload, shown_of, Tag, TagTexts, Unlisted, WrongDigest}
 use Rattle.bag_rules.proofs.AddsLemmas.{adds_kinds_by, adds_so}
 use Rattle.bag_rules.proofs.FileKindLemmas.{has_of_lists, listing_by, lists_of_has, missing_broken}
 use Rattle.bag_rules.proofs.HasLemmas.{contains_from_has, has_at, has_from_contains, place_of_has}
@@ -48,7 +48,7 @@ tag_or : (kind : Kind) → kind ≢ Payload → kind ≡ Tag
 tag_or Payload other = absurd (other refl)
 tag_or Tag other = refl
 
-module _ (tags : Files) (texts : Texts) (are : AreTextsOf (length tags) (tag_bag tags) texts) where
+module _ (tags : Files) (texts : TagTexts) (are : AreTextsOf (length tags) (tag_bag tags) texts) where
   missing_there : (f : Fault) → OfSome texts.manifests.items (IsTagMissing (paths_in (shown_of (tag_bag tags)))) f → HasOpeningFaultOf tags (9 ∷ []) f
   missing_there f (listing, has, (tag, missing)) =
       let broken = missing_broken (tag_bag tags) texts are refl f (listing, has, missing) in

@@ -1,7 +1,7 @@
 -- The size of the payload, and what `Payload-Oxum` says about it.
 use Rattle.std.proofs.Common.{◌≡◌, ◌↔◌, ◌+◌, ℕ, true, false, not, List, [], ◌∷◌, ◌++◌, Option, Some, None, IsTrue, nat_eq, length, take, get_or, slice_get, cond, refl, sym, ap, ◌∙◌, inl, inr, subst, arith}
 use Rattle.std.specs.Bool.{then_some}
-use Rattle.bag_rules.proofs.Words.{Adds, append-nil, AreTextsOf, Bag, cases_Bool, Decides-eqb, Fault, filter_more, get_or_from_slice_get, Has, HasFault, HasFaultOf, is_oxum, is_payload, IsOtherOxum, IsSizeOf, length_push, MetadataElement, Oxum, OxumText, OxumWrong, payload_length, payload_of, PayloadSize, same_Some, slice_get_within, Texts}
+use Rattle.bag_rules.proofs.Words.{Adds, append-nil, AreTextsOf, Bag, cases_Bool, Decides-eqb, Fault, filter_more, get_or_from_slice_get, Has, HasFault, HasFaultOf, is_oxum, is_payload, IsOtherOxum, IsSizeOf, length_push, MetadataElement, Oxum, OxumText, OxumWrong, payload_length, payload_of, PayloadSize, same_Some, slice_get_within, TagTexts}
 use Rattle.bag_rules.specs.Bags.{octet_count}
 use Rattle.bag_rules.proofs.AddsLemmas.{adds_none, adds_one}
 use Rattle.bag_rules.proofs.FormLemmas.{no_oxum, oxum_in, oxum_of}
@@ -82,7 +82,7 @@ module _ (element : MetadataElement) (size : PayloadSize) (text : List ℕ) (o :
         ],
   )
 
-module _ (bag : Bag) (texts : Texts) (are : AreTextsOf (length bag.files) bag texts) where
+module _ (bag : Bag) (texts : TagTexts) (are : AreTextsOf (length bag.files) bag texts) where
   wrong_kind : (f : Fault) → HasFaultOf bag (13 ∷ []) f → (OxumWrong ≡ f) × HasFault bag OxumWrong
   wrong_kind OxumWrong h = (refl, h.0)
   wrong_kind _ h = absurd (let k : false ≡ true = h.1 in cc)

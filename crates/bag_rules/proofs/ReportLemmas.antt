@@ -8,7 +8,7 @@ use Rattle.bag_rules.specs.Opening.{Opens}
 use Rattle.bag_rules.specs.Plans.{item_paths, sizes_of}
 use Rattle.bag_rules.specs.Transfers.{AreHeldFor, held_bag, tag_bag}
 use Rattle.bag_rules.specs.declared.plan.ItemSize.{ItemSize}
-use Rattle.bag_rules.proofs.Words.{AreTagFiles, AreTextsOf, Bag, cases_Bool, Fault, Files, HasFaultOf, is_payload, IsInProfile, IsSizeOf, IsThere, IsUnknownManifest, keys_of, kinds_of_files, length-map, Listing, manifest_name, Missing, name_in, NoneBelow, OfSome, OxumWrong, PayloadSize, Payload, Texts}
+use Rattle.bag_rules.proofs.Words.{AreTagFiles, AreTextsOf, Bag, cases_Bool, Fault, Files, HasFaultOf, is_payload, IsInProfile, IsSizeOf, IsThere, IsUnknownManifest, keys_of, kinds_of_files, length-map, Listing, manifest_name, Missing, name_in, NoneBelow, OfSome, OxumWrong, PayloadSize, Payload, TagTexts}
 use Rattle.bag_rules.proofs.FrontLemmas.{fetch_listed, info_said, manifest_listed, whole_front}
 use Rattle.bag_rules.proofs.HasLemmas.{contains_from_has, has_from_contains, has_from_map, has_map}
 use Rattle.bag_rules.proofs.HeldBags.{holds_item, holds_tag, item_held, payload_files, payload_octets}
@@ -78,7 +78,7 @@ module _ (tags items : Files) (are : AreTagFiles tags) (held : AreHeldFor tags i
 
   -- WHAT WAS READ
 
-  module _ (texts : Texts) (texts_are : AreTextsOf (length tags) (tag_bag tags) texts) where
+  module _ (texts : TagTexts) (texts_are : AreTextsOf (length tags) (tag_bag tags) texts) where
     pub texts_held : AreTextsOf (length (held_bag tags items).files) (held_bag tags items) texts
     texts_held =
         let bag = held_bag tags items in

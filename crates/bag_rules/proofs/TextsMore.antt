@@ -1,7 +1,7 @@
 -- What the tag files say, with one more file.
 use Rattle.std.proofs.Common.{◌≡◌, ◌≢◌, ◌⊎◌, ◌↔◌, ◌+◌, ℕ, true, false, List, [], ◌∷◌, Some, length, slice_get, refl, sym, ap, ◌∙◌, inl, inr, subst}
 use Rattle.bag_path.specs.declared.version.Version.{Version}
-use Rattle.bag_rules.proofs.Words.{Adds, AreTextsOf, BadLine, Bag, Fault, FetchLine, FetchList, FetchText, front, GivesListing, Has, HasBadLine, HasFaultOf, Holds, Info, InfoText, IsBadLineOf, IsFirstBadLine, LineFile, Listing, Manifest, ManifestName, ManifestText, MetadataElement, name_in, one_file, ReadsOn, ReadsText, text_file, text_or_not, Texts}
+use Rattle.bag_rules.proofs.Words.{Adds, AreTextsOf, BadLine, Bag, Fault, FetchLine, FetchList, FetchText, front, GivesListing, Has, HasBadLine, HasFaultOf, Holds, Info, InfoText, IsBadLineOf, IsFirstBadLine, LineFile, Listing, Manifest, ManifestName, ManifestText, MetadataElement, name_in, one_file, ReadsOn, ReadsText, text_file, text_or_not, TagTexts}
 use Rattle.bag_rules.specs.Bags.{ListsBy, ListsFetchBy, SaysInfoBy, version_of}
 use Rattle.bag_rules.proofs.AddsLemmas.{adds_on}
 use Rattle.bag_rules.proofs.FrontLemmas.{whole_front}
@@ -57,7 +57,7 @@ module _ (bag : Bag) (n : ℕ) (path octets : List ℕ) (there : slice_get bag.f
       (λ f r. bad_of (n + 1) f r.file (says_more bag n path octets there once r.file (λ o. IsFirstBadLine (version_of bag) r.file o f) (r.octets, r.there, r.bad)))
       (λ f r. bad_of (n + 1) f r.0 (says_here bag n path octets there once r.0 (λ o. IsFirstBadLine (version_of bag) r.0 o f) r.1 r.2))
 
-  module _ (old new : Texts) (are : AreTextsOf n bag old) where
+  module _ (old new : TagTexts) (are : AreTextsOf n bag old) where
     info_kept : path ≢ text_file Info → new.info ≡ old.info → (elements : List MetadataElement) → (new.info ≡ Some elements) ↔ SaysInfoBy (version_of bag) (front (n + 1) bag) elements
     info_kept other same elements = both_ways
         (value_stays bag n path octets there once Info (InfoSays (version_of bag)) old.info new.info other same (λ e. both_ways (are.info e) (info_as (version_of bag) (front n bag) e)) elements)

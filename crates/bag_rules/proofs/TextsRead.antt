@@ -1,11 +1,11 @@
 -- What reading the text of a tag file does to the texts.
 use Rattle.std.proofs.Common.{◌≡◌, ◌⊎◌, ◌↔◌, ℕ, List, Option, Some, None, Result, sym, ap, ◌∙◌, inl, inr, subst}
 use Rattle.bag_path.specs.declared.version.Version.{Version}
-use Rattle.bag_tags.specs.declared.feed.TagValue.{TagValue}
-use Rattle.bag_tags.specs.declared.feed.TagValue.TheVariants as value
+use Rattle.bag_tags.specs.declared.tag_feed.TagValue.{TagValue}
+use Rattle.bag_tags.specs.declared.tag_feed.TagValue.TheVariants as value
 use Rattle.bag_tags.specs.Feeds.{IsTextFor}
 use Rattle.bag_rules.specs.ReadingInside.{fetch_in, info_in, IsReadOf, listings_now, manifest_in, PutsValue}
-use Rattle.bag_rules.proofs.Words.{Fault, FetchLine, FetchList, FetchText, GivesListing, Has, Info, InfoText, LineFile, Listing, Manifest, ManifestName, ManifestText, MetadataElement, name_in, ReadsText, TagFault, Texts, ValueOf}
+use Rattle.bag_rules.proofs.Words.{Fault, FetchLine, FetchList, FetchText, GivesListing, Has, Info, InfoText, LineFile, Listing, Manifest, ManifestName, ManifestText, MetadataElement, name_in, ReadsText, TagFault, TagTexts, ValueOf}
 use Rattle.bag_rules.proofs.HasLemmas.{has_push}
 use Rattle.bag_rules.proofs.LineFaults.{value_tells}
 
@@ -54,7 +54,7 @@ listings_told (Some listing) says told listings x =
     )
 listings_told None says told listings x = (λ h. inl h, λ h. elim h [ inl k ↦ k | inr g ↦ absurd (let e = (told x).1 g in cc) ])
 
-pub text_read : (version : Version) (file : LineFile) (octets : List ℕ) (read : Result TagValue TagFault) (before after : List Fault) (v : Option TagValue) (old new : Texts) → IsReadOf version file octets read → ValueOf read file before after v → PutsValue file v old new → ReadsText version file octets old new
+pub text_read : (version : Version) (file : LineFile) (octets : List ℕ) (read : Result TagValue TagFault) (before after : List Fault) (v : Option TagValue) (old new : TagTexts) → IsReadOf version file octets read → ValueOf read file before after v → PutsValue file v old new → ReadsText version file octets old new
 text_read version Info octets read before after v old new reads of puts = (
   λ elements. subst (λ i. (i ≡ Some elements) ↔ InfoText version octets elements) (sym puts.0) (through (info_some v elements) (value_tells version Info octets read reads before after v of (value.Info elements))),
   puts.1,

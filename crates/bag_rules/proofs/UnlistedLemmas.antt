@@ -9,7 +9,7 @@ use Rattle.bag_digest.specs.declared.algorithm.TheConstants.Alg.{ALL}
 use Rattle.bag_rules.specs.Bags.{version_of}
 use Rattle.bag_rules.specs.FilesInside.{HasPayloadListing, IsUnlistedIn}
 use Rattle.bag_rules.specs.Listed.{IsUnlisted}
-use Rattle.bag_rules.proofs.Words.{Adds, Alg, AlgSet, AreTextsOf, Bag, cases_Bool, cases_lt, false≢true, Fault, Greater, has, Listing, Lists, lists_path, manifest_file, manifest_name, Md5, nat_cmp, OfSome, Pair, Payload, Sha1, Sha256, Sha512, slice_cmp, Texts, V1, V097}
+use Rattle.bag_rules.proofs.Words.{Adds, Alg, AlgSet, AreTextsOf, Bag, cases_Bool, cases_lt, false≢true, Fault, Greater, has, Listing, Lists, lists_path, manifest_file, manifest_name, Md5, nat_cmp, OfSome, Pair, Payload, Sha1, Sha256, Sha512, slice_cmp, TagTexts, V1, V097}
 use Rattle.bag_rules.proofs.AddsLemmas.{adds_one, adds_same, adds_so}
 use Rattle.bag_rules.proofs.EachLemmas.{each_all, each_at, stands_at}
 use Rattle.bag_rules.proofs.AlgLemmas.{each_alg, in_all}
@@ -40,7 +40,7 @@ place_by_name a b upto = elim (cases_lt (place_of b) (place_of a)) [
 
 -- WHAT THE BAG'S MANIFESTS LIST
 
-module _ (bag : Bag) (texts : Texts) (are : AreTextsOf (length bag.files) bag texts) where
+module _ (bag : Bag) (texts : TagTexts) (are : AreTextsOf (length bag.files) bag texts) where
   listing_said : (path : List ℕ) (lists : Bool) (alg : Alg) → HasPayloadListing texts.manifests.items path lists alg ↔ ((pairs : List Pair) × Lists bag (manifest_name Payload alg) pairs × (lists_path pairs path ≡ lists))
   listing_said path lists alg = (
     λ h.

@@ -1,7 +1,7 @@
 -- The words of the specifications and the lemmas of std and of the crates below that the proofs cite.
 pub use Rattle.bag_digest.proofs.Published.{digest_of_abc, digits_of_abc, other_digest_of_abd, sha256_of_abc}
 pub use Rattle.bag_digest.specs.Algorithm.{has, is_alg}
-pub use Rattle.bag_digest.specs.Device.{CountsIf, UsesSource}
+pub use Rattle.bag_digest.specs.Failures.{CountsIf, UsesSource}
 pub use Rattle.bag_digest.specs.Hash.{alg_of, AreDigests, digest_in, hash}
 pub use Rattle.bag_digest.specs.Spelling.{SpellsDigest}
 pub use Rattle.bag_digest.specs.declared.algorithm.Alg.{Alg}
@@ -31,10 +31,10 @@ pub use Rattle.bag_rules.specs.Trees.{AreRising, HasFileAt, KeepsTree, octets_in
 pub use Rattle.bag_rules.specs.Validity.{Conforms, IsComplete, IsValid, Means}
 pub use Rattle.bag_rules.specs.Verdicts.{IsFirstUnknown, IsInProfile, IsJudged, IsOutside, IsVerdict, NoneBelow, tier_of}
 pub use Rattle.bag_rules.specs.Wants.{Fits, FitsDigests, FitsLength, FitsListing, FitsListings, HasSuch, lists_by}
-pub use Rattle.bag_rules.specs.WantsInside.{AddsLength, AreGivenIn, AreByPath, AreWantsOf, given_at, GivesLength, GivesPayload, IsWantBy, items_of, Lengths}
+pub use Rattle.bag_rules.specs.WantsInside.{AddsLength, AreGivenIn, AreByPath, AreRequirementsOf, given_at, GivesLength, GivesPayload, IsWantBy, items_of, Lengths}
 pub use Rattle.bag_rules.specs.declared.want.GivenLength.{GivenLength}
 pub use Rattle.bag_rules.specs.declared.want.Want.{Want}
-pub use Rattle.bag_rules.specs.declared.wants.Wants.{Wants}
+pub use Rattle.bag_rules.specs.declared.requirements.Requirements.{Requirements}
 pub use Rattle.bag_rules.specs.declared.oxum_faults.PayloadSize.{PayloadSize}
 pub use Rattle.bag_rules.specs.declared.fault.Fault.{Fault}
 pub use Rattle.bag_rules.specs.declared.fault.Fault.TheVariants.{BadDeclaration, BadLine, FetchLength, FetchNotListed, ManifestNotListed, Missing, NoDeclaration, NoManifest, NoPayloadDir, OxumForm, OxumTwice, OxumWrong, Unlisted, WrongDigest}
@@ -48,7 +48,7 @@ pub use Rattle.bag_rules.specs.declared.outcome.Outcome.TheVariants.{Judged, Out
 pub use Rattle.bag_rules.specs.declared.outcome.OutsideCause.{OutsideCause}
 pub use Rattle.bag_rules.specs.declared.outcome.OutsideCause.TheVariants.{Algorithm, Encoding}
 pub use Rattle.bag_rules.specs.declared.profile.Profile.TheVariants.{Broken, Known, Unknown}
-pub use Rattle.bag_rules.specs.declared.tag_files.Texts.{Texts}
+pub use Rattle.bag_rules.specs.declared.tag_texts.TagTexts.{TagTexts}
 pub use Rattle.bag_tags.proofs.DecisionLemmas.{Decided, decided_as, decided_at_most, decided_by, decided_either, decided_equal, decided_true}
 pub use Rattle.bag_tags.proofs.DeclarationLemmas.{excludes, one_declaration, one_fault, written_declares}
 pub use Rattle.bag_tags.proofs.EarlierDeclaration.{utf8_declares}
@@ -71,10 +71,10 @@ pub use Rattle.bag_tags.specs.Names.{file_of, IsUnknownManifest, manifest_file, 
 pub use Rattle.bag_tags.specs.Oxums.{OxumText}
 pub use Rattle.bag_tags.specs.declared.declaration.DeclFault.{DeclFault}
 pub use Rattle.bag_tags.specs.declared.declaration.Declaration.{Declaration}
-pub use Rattle.bag_tags.specs.declared.fault.LineCause.{LineCause}
-pub use Rattle.bag_tags.specs.declared.fault.LineFault.{LineFault}
-pub use Rattle.bag_tags.specs.declared.fault.TagFault.{TagFault}
-pub use Rattle.bag_tags.specs.declared.fault.TagFault.TheVariants.{Line}
+pub use Rattle.bag_tags.specs.declared.tag_fault.LineCause.{LineCause}
+pub use Rattle.bag_tags.specs.declared.tag_fault.LineFault.{LineFault}
+pub use Rattle.bag_tags.specs.declared.tag_fault.TagFault.{TagFault}
+pub use Rattle.bag_tags.specs.declared.tag_fault.TagFault.TheVariants.{Line}
 pub use Rattle.bag_tags.specs.declared.fetch.FetchLine.{FetchLine}
 pub use Rattle.bag_tags.specs.declared.listing.Kind.{Kind}
 pub use Rattle.bag_tags.specs.declared.listing.Kind.TheVariants.{Payload, Tag}

@@ -24,7 +24,7 @@ use Rattle.bag_rules.specs.ReadingInside.{name_in}
 use Rattle.bag_rules.specs.Wants.{HasSuch}
 use Rattle.bag_rules.specs.WantsInside.{given_at}
 use Rattle.bag_rules.specs.declared.want.GivenLength.{GivenLength}
-use Rattle.bag_rules.specs.declared.wants.Wants.{Wants}
+use Rattle.bag_rules.specs.declared.requirements.Requirements.{Requirements}
 use Rattle.bag_rules.specs.declared.oxum_faults.PayloadSize.{PayloadSize}
 
 -- LISTED FILES
@@ -110,12 +110,12 @@ IsFaultBy version listings lengths path octets fault =
     ⊎ (OfSome lengths (IsOtherLength path (length octets)) fault
     ⊎ OfSome listings (IsWrongIn path octets) fault)
 
-abbrev pub IsFaultIn : Wants → List ℕ → List ℕ → Fault → Type 0
+abbrev pub IsFaultIn : Requirements → List ℕ → List ℕ → Fault → Type 0
 IsFaultIn wants path octets fault =
     IsFaultBy wants.version wants.manifests.now (given_at wants.lengths path) path octets fault
 
 -- the faults of the files of a bag
-abbrev pub IsFileFault : Bag → Wants → Fault → Type 0
+abbrev pub IsFileFault : Bag → Requirements → Fault → Type 0
 IsFileFault bag wants fault = (i : ℕ) ×
     ((path : List ℕ) × ((octets : List ℕ) × (slice_get bag.files i ≡ Some (path, octets))
     × IsFaultIn wants path octets fault))

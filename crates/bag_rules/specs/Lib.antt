@@ -1,4 +1,5 @@
 pub mod Trees
+pub mod OpenTrees
 pub mod Memory
 pub mod MemoryInside
 pub mod Faults
@@ -12,12 +13,14 @@ pub mod Validity
 pub mod Limits
 pub mod ReadingInside
 pub mod KeptInside
-pub mod TextReaders
+pub mod TagFileReaders
 pub mod FormInside
 pub mod Wants
 pub mod WantsInside
 pub mod FilesInside
+pub mod Returning
 pub mod BatchInside
+pub mod Gathering
 pub mod JudgingInside
 pub mod Files
 pub mod TagSets

@@ -2,12 +2,12 @@
 -- definition of a plan cite these.
 use Rattle.std.specs.Prelude.{◌≡◌, ◌≢◌, ◌⊎◌, ◌↔◌, ◌++◌, ℕ, List, [], ◌∷◌, Option, Some, None, Result, Ok, Err, IfErr, IfOk, take}
 use Rattle.bag_path.specs.declared.version.Version.{Version}
-use Rattle.bag_tags.specs.declared.fault.LineCause.{LineCause}
-use Rattle.bag_tags.specs.declared.fault.LineFault.{LineFault}
-use Rattle.bag_tags.specs.declared.fault.TagFault.{TagFault}
-use Rattle.bag_tags.specs.declared.fault.TagFault.TheVariants.{Line}
-use Rattle.bag_tags.specs.declared.feed.TagValue.{TagValue}
-use Rattle.bag_tags.specs.declared.feed.TagValue.TheVariants as value
+use Rattle.bag_tags.specs.declared.tag_fault.LineCause.{LineCause}
+use Rattle.bag_tags.specs.declared.tag_fault.LineFault.{LineFault}
+use Rattle.bag_tags.specs.declared.tag_fault.TagFault.{TagFault}
+use Rattle.bag_tags.specs.declared.tag_fault.TagFault.TheVariants.{Line}
+use Rattle.bag_tags.specs.declared.tag_feed.TagValue.{TagValue}
+use Rattle.bag_tags.specs.declared.tag_feed.TagValue.TheVariants as value
 use Rattle.bag_tags.specs.declared.fetch.FetchLine.{FetchLine}
 use Rattle.bag_tags.specs.Feeds.{IsFaultOf, IsTextFor}
 use Rattle.bag_tags.specs.FetchText.{FetchText}
@@ -21,7 +21,7 @@ use Rattle.bag_rules.specs.declared.fault.Fault.TheVariants.{BadLine}
 use Rattle.bag_tags.specs.declared.name.LineFile.{LineFile}
 use Rattle.bag_tags.specs.declared.name.LineFile.TheVariants.{Info, FetchList, Manifest}
 use Rattle.bag_tags.specs.declared.name.ManifestName.{ManifestName}
-use Rattle.bag_rules.specs.declared.tag_files.Texts.{Texts}
+use Rattle.bag_rules.specs.declared.tag_texts.TagTexts.{TagTexts}
 use Rattle.bag_rules.specs.Bags.{Bag, Holds, ListsBy, SaysInfoBy, ListsFetchBy, version_of}
 use Rattle.bag_tags.specs.Names.{manifest_name, text_file}
 use Rattle.bag_rules.specs.HasFault.{IsFaultyText, line_fault}
@@ -39,7 +39,7 @@ abbrev pub front : ℕ → Bag → Bag
 front n bag = record bag { files = take n bag.files }
 
 -- these are what the tag files say among the first n files, by the version of the bag
-pub record AreTextsOf (n : ℕ) (bag : Bag) (texts : Texts) : Type 0 where
+pub record AreTextsOf (n : ℕ) (bag : Bag) (texts : TagTexts) : Type 0 where
   pub info : (elements : List MetadataElement) → (texts.info ≡ Some elements)
       ↔ SaysInfoBy (version_of bag) (front n bag) elements
   pub fetch : (lines : List FetchLine) → (texts.fetch ≡ Some lines)
@@ -48,7 +48,7 @@ pub record AreTextsOf (n : ℕ) (bag : Bag) (texts : Texts) : Type 0 where
       ↔ ListsBy (version_of bag) (front n bag) (name_in listing) listing.pairs
 
 -- these are the lines of `fetch.txt`, or there are none
-abbrev pub AreLinesOf : Texts → List FetchLine → Type 0
+abbrev pub AreLinesOf : TagTexts → List FetchLine → Type 0
 AreLinesOf texts lines = (texts.fetch ≡ Some lines) ⊎ ((texts.fetch ≡ None) × (lines ≡ []))
 
 -- the text of this manifest gives this listing
@@ -57,7 +57,7 @@ GivesListing version name octets listing = (name_in listing ≡ name)
     × ManifestText version listing.alg listing.kind octets listing.pairs
 
 -- the text of a tag file replaces the value that was there, or adds a listing if it is a manifest
-abbrev pub ReadsText : Version → LineFile → List ℕ → Texts → Texts → Type 0
+abbrev pub ReadsText : Version → LineFile → List ℕ → TagTexts → TagTexts → Type 0
 ReadsText version Info octets old new = ((elements : List MetadataElement)
     → (new.info ≡ Some elements) ↔ InfoText version octets elements)
     × (new.fetch ≡ old.fetch) × (new.manifests.items ≡ old.manifests.items)
@@ -70,7 +70,7 @@ ReadsText version (Manifest name) octets old new =
     × (new.info ≡ old.info) × (new.fetch ≡ old.fetch)
 
 -- a file is read if it is such a tag file; otherwise nothing changes
-pub record ReadsOn (version : Version) (path octets : List ℕ) (old new : Texts) : Type 0 where
+pub record ReadsOn (version : Version) (path octets : List ℕ) (old new : TagTexts) : Type 0 where
   pub reads : (file : LineFile) → path ≡ text_file file → ReadsText version file octets old new
   pub leaves : ((file : LineFile) → path ≢ text_file file) → (new.info ≡ old.info)
       × (new.fetch ≡ old.fetch) × (new.manifests.items ≡ old.manifests.items)
@@ -124,7 +124,7 @@ listings_now (Some listing) listings = listings ++ listing ∷ []
 listings_now None listings = listings
 
 -- a value is put in the place of the one that was there, or is one more if the file is a manifest
-abbrev pub PutsValue : LineFile → Option TagValue → Texts → Texts → Type 0
+abbrev pub PutsValue : LineFile → Option TagValue → TagTexts → TagTexts → Type 0
 PutsValue Info v old new = (new.info ≡ info_in v) × (new.fetch ≡ old.fetch)
     × (new.manifests.items ≡ old.manifests.items)
 PutsValue FetchList v old new = (new.fetch ≡ fetch_in v) × (new.info ≡ old.info)

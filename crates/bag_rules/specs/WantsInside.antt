@@ -10,7 +10,7 @@ use Rattle.bag_tags.specs.Listings.{Listing}
 use Rattle.bag_tags.specs.declared.fetch.FetchLine.{FetchLine}
 use Rattle.bag_rules.specs.declared.want.GivenLength.{GivenLength}
 use Rattle.bag_rules.specs.declared.want.Want.{Want}
-use Rattle.bag_rules.specs.declared.wants.Wants.{Wants}
+use Rattle.bag_rules.specs.declared.requirements.Requirements.{Requirements}
 use Rattle.bag_rules.specs.Faults.{Has}
 
 abbrev pub Lengths : Type 0
@@ -44,14 +44,14 @@ pub record AreByPath (lines : List FetchLine) (lengths : Lengths) : Type 0 where
   pub given : (path : List ℕ) → AreGivenIn lines path (given_at lengths path)
   pub payload : (path : List ℕ) → is_payload path ≡ false → given_at lengths path ≡ []
 
-pub record AreWantsOf (version : Version) (listings : List Listing) (lines : List FetchLine)
-    (wants : Wants) : Type 0 where
+pub record AreRequirementsOf (version : Version) (listings : List Listing) (lines : List FetchLine)
+    (wants : Requirements) : Type 0 where
   pub version_is : wants.version ≡ version
   pub manifests : wants.manifests.now ≡ listings
   pub lengths : AreByPath lines wants.lengths
 
 -- lengths are given only for payload files
-abbrev pub GivesPayload : Wants → Type 0
+abbrev pub GivesPayload : Requirements → Type 0
 GivesPayload wants = (path : List ℕ) → is_payload path ≡ false → given_at wants.lengths path ≡ []
 
 -- the want of a path is what these manifests and lengths say about it

@@ -1,26 +1,30 @@
 //! Files that are read one after another, so that their digests can be taken side by side.
-ghost use Rattle.std.specs.Prelude.{◌≡◌, ◌+◌, ◌<◌, ◌↔◌, ℕ, List, IfErr, IfOk, IsErrOf, IsTrue, MatchResult, OnOk, length};
+ghost use Rattle.std.specs.Prelude.{◌≡◌, ◌<◌, ◌↔◌, ℕ, List, [], IfErr, IfOk, IsErrOf, IsTrue, OnOk, length};
 ghost use Rattle.bag_digest.specs.Hash.{AreDigestsOfEach};
 ghost use Rattle.bag_rules.specs.Bags.{Bag, IsBagOf};
-ghost use Rattle.bag_rules.specs.BatchInside.{AddsNext, AddsSums, AreAlgsOf, AreRead, CanRead, Covers, Holds, IsFoundOf, IsMessageFor, IsNext, IsSumsOf, IsWithin};
+ghost use Rattle.bag_rules.specs.BatchInside.{AddsSums, AreAlgsOf, AreRead, CanRead, Covers, HasSumsAt, Holds, IsComplete, IsFindingOf, IsMessageFor, IsSumsOf};
 ghost use Rattle.bag_rules.specs.FilesInside.{IsLongRead};
-ghost use Rattle.bag_rules.specs.Limits.{FirstStops, IsLongFile, NoneStopsBefore, Stopped};
+ghost use Rattle.bag_rules.specs.KeptInside.{AreKept};
+ghost use Rattle.bag_rules.specs.Limits.{FirstStops, NoneStopsBefore, Stopped};
 ghost use Rattle.bag_rules.specs.Trees.{HasFileAt, Shown, UsesTree, paths_in};
 ghost use Rattle.bag_rules.specs.declared.outcome.CheckFault.{CheckFault};
-ghost use Rattle.bag_rules.specs.declared.wants.Wants.{Wants};
+ghost use Rattle.bag_rules.specs.declared.requirements.Requirements.{Requirements};
 
+use crate::gathering::{FrontFault, Gathered, finish, read_next, stop};
 use crate::kept::Kept;
-use crate::limits::LARGEST_FILE;
+use crate::open_tree::OpenTree;
 use crate::outcome::CheckFault;
-use crate::tree::{Paths, Tree};
-use crate::wants::Wants;
-use bag_digest::{AlgSet, Digests, PIECE, SourceFault, SourceRead, digest_each, read_or_digest};
-use std::alloc::Global;
+use crate::requirements::Requirements;
+use crate::returning::close_all;
+use crate::tree::Paths;
+use bag_digest::{AlgSet, Digests, FRONT, digest_each};
+use std::alloc::{AllocError, Global};
 
-/// The length of the buffer of a check in octets. A file that ends within it is held until the digests of its batch are taken.
-pub(crate) const BUFFER: usize = 2 * PIECE;
+/// The length of the buffer of a check in octets. A file that ends within it is held until the digests of its batch are taken. So is
+/// the front of a longer one, and the file stays open.
+pub(crate) const BUFFER: usize = FRONT;
 
-/// How many files a batch has at most. So no more than 4 MiB are held.
+/// How many files a batch has at most. So no more than 4 MiB are held, and no more files are open.
 const MOST_READ: usize = 32;
 
 /// What was read of files that follow one another by path.
@@ -31,24 +35,36 @@ pub(crate) struct Batch {
     messages: Vec<Vec<u8>>,
     set: AlgSet,
     digests: Vec<Digests>,
+    sums: Vec<(u64, Digests)>,
 }
 
 /// What was read of one file.
 #[derive(Drop)]
-enum FileSums {
+pub(crate) enum FileSums {
     /// Nothing, since it is neither a payload file nor listed.
     Unread,
     /// Its length in octets and its digests.
     Taken(u64, Digests),
     /// All its octets, which are the message at this place. Their digests are taken with those of the other messages.
     Waiting(usize),
+    /// Its front. The rest is read, and its digests taken, with those of the other streams: it is the stream at this place.
+    Streamed(usize),
+}
+
+/// What is found of a file before it is opened.
+#[derive(Drop)]
+pub(crate) enum Finding {
+    /// All that is needed.
+    Known(FileSums),
+    /// That its digests by these algorithms are needed.
+    ToRead(AlgSet),
 }
 
 impl Batch {
     /// No file yet. The first one will be that at this place.
     pub(crate) fn new(alloc: Global, first: usize) -> Batch
-        ensures first { (result.first ≡ first) × IsNext result first }
-        ensures read { (shown : Shown) (wants : Wants) → AreRead shown wants result }
+        ensures first { (result.first ≡ first) × (result.read.items ≡ []) }
+        ensures read { (shown : Shown) (wants : Requirements) → AreRead shown wants result }
     {
         Batch {
             first,
@@ -56,7 +72,15 @@ impl Batch {
             messages: Vec::new(alloc),
             set: AlgSet::empty(),
             digests: Vec::new(alloc),
+            sums: Vec::new(alloc),
         }
+    }
+
+    /// How many files it has.
+    pub(crate) fn count(&self) -> usize
+        ensures { result ≡ length self.now.read.items }
+    {
+        self.read.len()
     }
 
     /// Whether the file at this place is among those of the batch.
@@ -69,7 +93,7 @@ impl Batch {
     /// The length in octets and the digests of the file at this place, or nothing if it is neither a payload file nor listed.
     pub(crate) fn sums(&self, place: usize) -> Option<(u64, Digests)>
         requires { Covers self.now place }
-        ensures { (shown : Shown) (wants : Wants) (path octets : List ℕ)
+        ensures { (shown : Shown) (wants : Requirements) (path octets : List ℕ)
             → AreRead shown wants self.now → HasFileAt shown place path octets
             → IsSumsOf wants path octets result }
     {
@@ -77,12 +101,13 @@ impl Batch {
             FileSums::Unread => None,
             FileSums::Taken(length, digests) => Some((*length, *digests)),
             FileSums::Waiting(place) => self.sums_of_message(*place),
+            FileSums::Streamed(place) => self.sums_of_stream(*place),
         }
     }
 
     /// The length and the digests of the message at this place.
     fn sums_of_message(&self, place: usize) -> Option<(u64, Digests)>
-        ensures { (wants : Wants) (path octets : List ℕ)
+        ensures { (wants : Requirements) (path octets : List ℕ)
             → AreDigestsOfEach self.now.set self.now.messages.items self.now.digests.items
             → IsMessageFor self.now wants path octets place → IsSumsOf wants path octets result }
     {
@@ -91,19 +116,31 @@ impl Batch {
         Some((message.len() as u64, *digests))
     }
 
+    /// The length and the digests of the stream at this place.
+    fn sums_of_stream(&self, place: usize) -> Option<(u64, Digests)>
+        ensures { (wants : Requirements) (path octets : List ℕ)
+            → HasSumsAt wants self.now place path octets → IsSumsOf wants path octets result }
+    {
+        let sums = self.sums.get(place)?;
+        Some(*sums)
+    }
+
     /// Adds the next file.
-    fn add(&mut self, sums: FileSums) -> Result<(), CheckFault>
+    pub(crate) fn add(&mut self, sums: FileSums) -> Result<(), AllocError>
         ensures added { OnOk result (AddsSums self.old self.new sums) }
-        ensures err { IfErr result (λ fault. fault ≡ CheckFault.Memory) }
     {
         self.read.push(sums)?;
         Ok(())
     }
 
     /// Adds the next file, of which these are all octets. Its digests are wanted by the algorithms of the set.
-    fn hold(&mut self, alloc: Global, set: AlgSet, octets: &[u8]) -> Result<(), CheckFault>
+    pub(crate) fn hold(
+        &mut self,
+        alloc: Global,
+        set: AlgSet,
+        octets: &[u8],
+    ) -> Result<(), AllocError>
         ensures held { OnOk result (Holds self.old self.new set octets.now) }
-        ensures err { IfErr result (λ fault. fault ≡ CheckFault.Memory) }
     {
         let mut message = Vec::new(alloc);
         message.extend_from_slice(octets)?;
@@ -112,6 +149,20 @@ impl Batch {
         self.set = self.set.union(set);
         self.add(FileSums::Waiting(place))
     }
+
+    /// The same files, with the digests of the messages and with these sums of the streams.
+    pub(crate) fn complete(
+        self,
+        alloc: Global,
+        sums: Vec<(u64, Digests)>,
+    ) -> Result<Batch, AllocError>
+        ensures { IfOk result (λ batch. IsComplete self batch sums.items) }
+    {
+        let mut batch = self;
+        batch.digests = digest_each(alloc, batch.set, batch.messages.as_slice())?;
+        batch.sums = sums;
+        Ok(batch)
+    }
 }
 
 /// The batch with the file at this place: the last one, or else a new one that begins with this file.
@@ -119,12 +170,12 @@ impl Batch {
 /// # Errors
 ///
 /// Those of [`read_batch`].
-pub(crate) fn batch_at<T: Tree>(
+pub(crate) fn batch_at<T: OpenTree>(
     alloc: Global,
     buffer: &mut [u8],
     tree: &mut T,
     place: usize,
-    wants: &Wants<'_>,
+    wants: &Requirements<'_>,
     kept: &Kept,
     last: Batch,
 ) -> Result<Batch, CheckFault>
@@ -144,17 +195,19 @@ pub(crate) fn batch_at<T: Tree>(
     read_batch(alloc, buffer, tree, place, wants, kept)
 }
 
-/// Reads files from this place on, by path, each that is a payload file or is listed once.
+/// Reads files from this place on, by path, each that is a payload file or is listed once: first the front of each, and then
+/// the rest of the long ones, side by side.
 ///
 /// # Errors
 ///
-/// `TooLarge` for the first file that is longer than 2^40 octets; `Tree` if the tree failed; `Memory`.
-fn read_batch<T: Tree>(
+/// `TooLarge` for the first file that is longer than 2^40 octets; `Tree` if the tree failed; `Memory`. What comes first by
+/// path is told.
+fn read_batch<T: OpenTree>(
     alloc: Global,
     buffer: &mut [u8],
     tree: &mut T,
     first: usize,
-    wants: &Wants<'_>,
+    wants: &Requirements<'_>,
     kept: &Kept,
 ) -> Result<Batch, CheckFault>
     requires { CanRead (T.shown tree.old) first buffer.old kept.now }
@@ -166,46 +219,45 @@ fn read_batch<T: Tree>(
     ensures tree { UsesTree T.shown T.failures T.sure tree.old tree.new
         (IsErrOf result CheckFault.Tree) }
 {
-    let mut batch = Batch::new(alloc, first);
+    let mut gathered = Gathered::new(alloc, first);
     let count = tree.count();
     let mut place = first;
     'files: loop {
-        read_next(alloc, buffer, tree, place, wants, kept, &mut batch)?;
+        match read_next(alloc, buffer, tree, place, wants, kept, &mut gathered) {
+            Ok(()) => {}
+            Err(FrontFault::Memory) => {
+                close_all(tree, gathered.into_streams());
+                return Err(CheckFault::Memory);
+            }
+            Err(FrontFault::Stopped(fault, file)) => {
+                return Err(stop(tree, gathered, fault, file));
+            }
+        }
         place += 1;
-        if place == count || batch.read.len() == MOST_READ {
-            batch.digests = digest_each(alloc, batch.set, batch.messages.as_slice())?;
-            return Ok(batch);
+        if place == count || gathered.count() == MOST_READ {
+            return finish(alloc, tree, gathered);
         }
     }
 }
 
-/// Reads the file at this place, if it is a payload file or is listed, and adds what was read of it.
-fn read_next<T: Tree>(
-    alloc: Global,
-    buffer: &mut [u8],
-    tree: &mut T,
+/// What is found of the file at this place before it is opened: whether it is read, and its sums if they were kept.
+pub(crate) fn look_up<T: Paths>(
+    tree: &T,
     place: usize,
-    wants: &Wants<'_>,
+    wants: &Requirements<'_>,
     kept: &Kept,
-    batch: &mut Batch,
-) -> Result<(), CheckFault>
-    requires can_read { CanRead (T.shown tree.old) place buffer.old kept.now }
-    requires next { IsNext batch.old place }
-    ensures added { OnOk result
-        (AddsNext (T.shown tree.old) wants.now place batch.old batch.new) }
-    ensures limits { (path octets : List ℕ) → HasFileAt (T.shown tree.old) place path octets
-        → MatchResult result
-        (λ done. (fault : CheckFault) → ¬ IsLongRead wants.now.manifests.now path octets fault)
-        (Stopped (IsLongRead wants.now.manifests.now path octets)) }
-    ensures tree { UsesTree T.shown T.failures T.sure tree.old tree.new
-        (IsErrOf result CheckFault.Tree) }
+) -> Result<Finding, AllocError>
+    requires inside { place < length (paths_in (T.shown tree.now)) }
+    requires kept { AreKept (T.shown tree.now) kept.now }
+    ensures { (path octets : List ℕ) → HasFileAt (T.shown tree.now) place path octets
+        → IfOk result (IsFindingOf wants.now path octets) }
 {
     let Some(set) = algs_at(tree, place, wants)? else {
-        return batch.add(FileSums::Unread);
+        return Ok(Finding::Known(FileSums::Unread));
     };
-    match find_sums(buffer, tree, place, set, kept)? {
-        SourceRead::Hashed(length, digests) => batch.add(FileSums::Taken(length, digests)),
-        SourceRead::Whole(n) => batch.hold(alloc, set, &buffer[..n]),
+    match kept.find(place, set) {
+        Some((length, digests)) => Ok(Finding::Known(FileSums::Taken(length, digests))),
+        None => Ok(Finding::ToRead(set)),
     }
 }
 
@@ -213,12 +265,11 @@ fn read_next<T: Tree>(
 fn algs_at<T: Paths>(
     tree: &T,
     place: usize,
-    wants: &Wants<'_>,
-) -> Result<Option<AlgSet>, CheckFault>
+    wants: &Requirements<'_>,
+) -> Result<Option<AlgSet>, AllocError>
     requires { place < length (paths_in (T.shown tree.now)) }
     ensures known { (path octets : List ℕ) → HasFileAt (T.shown tree.now) place path octets
         → IfOk result (AreAlgsOf wants.now path) }
-    ensures err { IfErr result (λ fault. fault ≡ CheckFault.Memory) }
 {
     let path = tree.path(place).clone()?;
     let set = wants.of(&path).algs();
@@ -226,48 +277,4 @@ fn algs_at<T: Paths>(
         return Ok(None);
     }
     Ok(Some(set))
-}
-
-/// The length and the digests of a file by the algorithms of the set: those that were kept, or else what is read now.
-fn find_sums<T: Tree>(
-    buffer: &mut [u8],
-    tree: &mut T,
-    place: usize,
-    set: AlgSet,
-    kept: &Kept,
-) -> Result<SourceRead, CheckFault>
-    requires { CanRead (T.shown tree.old) place buffer.old kept.now }
-    ensures known { (path octets : List ℕ) → HasFileAt (T.shown tree.old) place path octets
-        → MatchResult result (IsFoundOf set octets buffer.new) (Stopped (IsLongFile path octets)) }
-    ensures within { IfOk result (IsWithin buffer.new) }
-    ensures tree { UsesTree T.shown T.failures T.sure tree.old tree.new
-        (IsErrOf result CheckFault.Tree) }
-{
-    match kept.find(place, set) {
-        Some((length, digests)) => Ok(SourceRead::Hashed(length, digests)),
-        None => read_file(buffer, tree, place, set),
-    }
-}
-
-/// Reads a file: its octets are then at the front of the buffer, or else its digests by the algorithms of the set were taken.
-fn read_file<T: Tree>(
-    buffer: &mut [u8],
-    tree: &mut T,
-    place: usize,
-    set: AlgSet,
-) -> Result<SourceRead, CheckFault>
-    requires room { 0 < length buffer.old }
-    requires inside { place < length (paths_in (T.shown tree.old)) }
-    ensures known { (path octets : List ℕ) → HasFileAt (T.shown tree.old) place path octets
-        → MatchResult result (IsFoundOf set octets buffer.new) (Stopped (IsLongFile path octets)) }
-    ensures within { IfOk result (IsWithin buffer.new) }
-    ensures tree { UsesTree T.shown T.failures T.sure tree.old tree.new
-        (IsErrOf result CheckFault.Tree) }
-{
-    tree.start(place)?;
-    match read_or_digest(buffer, tree, set, LARGEST_FILE) {
-        Ok(found) => Ok(found),
-        Err(SourceFault::Read) => Err(CheckFault::Tree),
-        Err(SourceFault::TooLarge) => Err(CheckFault::TooLarge(tree.path(place).clone()?)),
-    }
 }

@@ -21,11 +21,12 @@ use crate::file_faults::add_file_faults;
 use crate::form_faults::add_form_faults;
 use crate::kept::Kept;
 use crate::limits::MOST_FILES;
+use crate::open_tree::OpenTree;
 use crate::outcome::{CheckFault, Outcome};
 use crate::profile::{Profile, read_profile};
 use crate::report::Report;
-use crate::tag_files::read_texts;
-use crate::tree::{Paths, Tree};
+use crate::tag_texts::read_texts;
+use crate::tree::Paths;
 use bag_digest::{AlgSet, buffer_of};
 use bag_path::Version;
 use bag_tags::TagName;
@@ -44,7 +45,7 @@ use std::alloc::Global;
 /// `TagTooLarge`: `bagit.txt`, or a tag file that is read line by line, has more than 16,777,216 octets. `TooLarge`: a
 /// payload file or a listed file has more than 2^40 octets. `Tree`: a call of the tree failed, and the tree has counted
 /// it. `Memory`: memory ran out.
-pub fn check<T: Tree>(alloc: Global, tree: &mut T) -> Result<Outcome, CheckFault>
+pub fn check<T: OpenTree>(alloc: Global, tree: &mut T) -> Result<Outcome, CheckFault>
     // What is returned for a bag is the verdict on it.
     ensures verdict { (bag : Bag) → IsBagOf (T.shown tree.old) bag → IfOk result (IsVerdict bag) }
     // A report without faults means a valid bag, and one with no faults but wrong digests a complete bag.
@@ -82,14 +83,14 @@ fn judged_by_one(alloc: Global, fault: Fault) -> Result<Outcome, CheckFault>
 }
 
 /// Checks the form of a bag in the profile and then, if the form is right, its files.
-fn check_in_profile<T: Tree>(
+fn check_in_profile<T: OpenTree>(
     alloc: Global,
     buffer: &mut [u8],
     tree: &mut T,
     version: Version,
     kept: &mut Kept,
 ) -> Result<Outcome, CheckFault>
-    requires ready { (0 < length buffer.old) × AreRising (paths_in (T.shown tree.old)) }
+    requires ready { (length buffer.old ≡ BUFFER) × AreRising (paths_in (T.shown tree.old)) }
     requires kept { AreKept (T.shown tree.old) kept.old }
     ensures verdict { (bag : Bag) → IsBagOf (T.shown tree.old) bag → IsProfile bag (Known version)
         → IfOk result (IsVerdict bag) }

@@ -16,33 +16,34 @@ ghost use Rattle.bag_rules.specs.Wants.{lists_by};
 ghost use Rattle.bag_rules.specs.WantsInside.{GivesPayload};
 ghost use Rattle.bag_rules.specs.declared.outcome.CheckFault.{CheckFault};
 
-use crate::batch::{Batch, batch_at};
+use crate::batch::{BUFFER, Batch, batch_at};
 use crate::fault::Fault;
 use crate::kept::Kept;
 use crate::listing_faults::{add_fetch_unlisted, add_missing};
+use crate::open_tree::OpenTree;
 use crate::outcome::CheckFault;
 use crate::oxum_faults::{PayloadSize, add_wrong_oxum};
-use crate::tag_files::Texts;
+use crate::requirements::Requirements;
+use crate::tag_texts::TagTexts;
 use crate::tree::Tree;
 use crate::unlisted::unlisted_in;
 use crate::want::Want;
-use crate::wants::Wants;
 use bag_digest::{Alg, Digests};
 use bag_path::{BagPath, Version};
 use bag_tags::Manifest;
-use std::alloc::Global;
+use std::alloc::{AllocError, Global};
 
 /// Adds what is wrong with the files of a bag whose form is right. Each file is read once.
-pub(crate) fn add_file_faults<T: Tree>(
+pub(crate) fn add_file_faults<T: OpenTree>(
     alloc: Global,
     buffer: &mut [u8],
     tree: &mut T,
     version: Version,
-    texts: &Texts,
+    texts: &TagTexts,
     kept: &Kept,
     faults: &mut Vec<Fault>,
 ) -> Result<(), CheckFault>
-    requires room { 0 < length buffer.old }
+    requires room { length buffer.old ≡ BUFFER }
     requires kept { AreKept (T.shown tree.old) kept.now }
     ensures added { (bag : Bag) → IsBagOf (T.shown tree.old) bag → version_of bag ≡ version
         → AreTextsOf (length bag.files) bag texts.now
@@ -56,22 +57,23 @@ pub(crate) fn add_file_faults<T: Tree>(
 {
     add_missing(tree, &texts.manifests, faults)?;
     add_fetch_unlisted(version, texts, faults)?;
-    let wants = Wants::new(alloc, version, &texts.manifests, texts.fetch_lines())?;
+    let wants = Requirements::new(alloc, version, &texts.manifests, texts.fetch_lines())?;
     let size = read_files(alloc, buffer, tree, &wants, kept, faults)?;
-    add_wrong_oxum(texts, size, faults)
+    add_wrong_oxum(texts, size, faults)?;
+    Ok(())
 }
 
 /// Reads the payload files and the listed files by path, and adds what is wrong with each. Returns the size of the
 /// payload.
-fn read_files<T: Tree>(
+fn read_files<T: OpenTree>(
     alloc: Global,
     buffer: &mut [u8],
     tree: &mut T,
-    wants: &Wants<'_>,
+    wants: &Requirements<'_>,
     kept: &Kept,
     faults: &mut Vec<Fault>,
 ) -> Result<PayloadSize, CheckFault>
-    requires room { 0 < length buffer.old }
+    requires room { length buffer.old ≡ BUFFER }
     requires ready { AreKept (T.shown tree.old) kept.now × GivesPayload wants.now }
     ensures read { (bag : Bag) → IsBagOf (T.shown tree.old) bag
         → IfOk result (λ size. IsSizeOf bag.files size
@@ -102,17 +104,16 @@ fn read_files<T: Tree>(
 fn add_faults_at<T: Tree>(
     tree: &T,
     i: usize,
-    wants: &Wants<'_>,
+    wants: &Requirements<'_>,
     batch: &Batch,
     faults: &mut Vec<Fault>,
-) -> Result<Option<u64>, CheckFault>
+) -> Result<Option<u64>, AllocError>
     requires inside { i < length (paths_in (T.shown tree.now)) }
     requires ready { Covers batch.now i × GivesPayload wants.now }
-    ensures added { AreRead (T.shown tree.now) wants.now batch.now → (path octets : List ℕ)
+    ensures { AreRead (T.shown tree.now) wants.now batch.now → (path octets : List ℕ)
         → HasFileAt (T.shown tree.now) i path octets
         → IfOk result (λ n. (n ≡ payload_length path octets)
         × Adds faults.old.items faults.new.items (IsFaultIn wants.now path octets)) }
-    ensures err { IfErr result (λ fault. fault ≡ CheckFault.Memory) }
 {
     let path = tree.path(i).clone()?;
     match batch.sums(i) {
@@ -130,14 +131,13 @@ fn add_faults_of(
     want: &Want<'_>,
     sums: &(u64, Digests),
     faults: &mut Vec<Fault>,
-) -> Result<(), CheckFault>
-    ensures added { (set : AlgSet) (octets : List ℕ) → HasSums sums.now set octets
+) -> Result<(), AllocError>
+    ensures { (set : AlgSet) (octets : List ℕ) → HasSums sums.now set octets
         → ((alg : Alg) → lists_by want.now.manifests.now want.now.path.now alg ≡ true
         → has set alg ≡ true)
         → OnOk result (Adds faults.old.items faults.new.items
         (IsFaultBy version want.now.manifests.now want.now.lengths.now
         want.now.path.now octets)) }
-    ensures err { IfErr result (λ fault. fault ≡ CheckFault.Memory) }
 {
     add_unlisted(version, want.manifests, want.path, faults)?;
     let (length, digests) = sums;
@@ -154,10 +154,9 @@ pub(crate) fn add_unlisted(
     manifests: &[Manifest],
     path: &BagPath,
     faults: &mut Vec<Fault>,
-) -> Result<(), CheckFault>
-    ensures added { OnOk result (Adds faults.old.items faults.new.items
+) -> Result<(), AllocError>
+    ensures { OnOk result (Adds faults.old.items faults.new.items
         (IsFileUnlisted version manifests.now path.now)) }
-    ensures err { IfErr result (λ fault. fault ≡ CheckFault.Memory) }
 {
     if !path.is_payload() {
         return Ok(());
@@ -173,10 +172,9 @@ pub(crate) fn add_unlisted(
 }
 
 /// Adds a fault for each line of `fetch.txt` that gives the file another length.
-fn add_other_lengths(want: &Want<'_>, found: u64, faults: &mut Vec<Fault>) -> Result<(), CheckFault>
-    ensures added { OnOk result (Adds faults.old.items faults.new.items
+fn add_other_lengths(want: &Want<'_>, found: u64, faults: &mut Vec<Fault>) -> Result<(), AllocError>
+    ensures { OnOk result (Adds faults.old.items faults.new.items
         (OfSome want.now.lengths.now (IsOtherLength want.now.path.now found))) }
-    ensures err { IfErr result (λ fault. fault ≡ CheckFault.Memory) }
 {
     for given in want.lengths {
         if given.length != found {
@@ -193,10 +191,9 @@ pub(crate) fn add_other_digests(
     want: &Want<'_>,
     digests: &Digests,
     faults: &mut Vec<Fault>,
-) -> Result<(), CheckFault>
-    ensures added { OnOk result (Adds faults.old.items faults.new.items
+) -> Result<(), AllocError>
+    ensures { OnOk result (Adds faults.old.items faults.new.items
         (OfSome want.now.manifests.now (IsOtherDigest want.now.path.now digests.now))) }
-    ensures err { IfErr result (λ fault. fault ≡ CheckFault.Memory) }
 {
     for manifest in want.manifests {
         if let Some(digest) = manifest.get(want.path) {

@@ -11,22 +11,21 @@ ghost use Rattle.bag_rules.specs.ReadingInside.{Adds, AreTextsOf};
 ghost use Rattle.bag_rules.specs.Trees.{paths_in};
 
 use crate::fault::Fault;
-use crate::outcome::CheckFault;
-use crate::tag_files::Texts;
+use crate::tag_texts::TagTexts;
 use crate::tree::Paths;
 use bag_path::BagPath;
 use bag_tags::{Element, Kind, Manifest, Oxum, TagName};
+use std::alloc::AllocError;
 
 /// Adds what is wrong with the form of a bag whose tag files were read, except for their lines.
 pub(crate) fn add_form_faults<T: Paths>(
     tree: &T,
-    texts: &Texts,
+    texts: &TagTexts,
     faults: &mut Vec<Fault>,
-) -> Result<(), CheckFault>
-    ensures added { (bag : Bag) → IsBagOf (T.shown tree.now) bag
+) -> Result<(), AllocError>
+    ensures { (bag : Bag) → IsBagOf (T.shown tree.now) bag
         → AreTextsOf (length bag.files) bag texts.now
         → OnOk result (Adds faults.old.items faults.new.items (HasFaultOf bag kinds_beside_lines)) }
-    ensures err { IfErr result (λ fault. fault ≡ CheckFault.Memory) }
 {
     if !tree.has_payload_dir() {
         faults.push(Fault::NoPayloadDir)?;
@@ -56,10 +55,9 @@ fn add_unlisted_manifests<T: Paths>(
     tree: &T,
     manifests: &[Manifest],
     faults: &mut Vec<Fault>,
-) -> Result<(), CheckFault>
-    ensures added { OnOk result (Adds faults.old.items faults.new.items
+) -> Result<(), AllocError>
+    ensures { OnOk result (Adds faults.old.items faults.new.items
         (IsUnlistedManifest (paths_in (T.shown tree.now)) manifests.now)) }
-    ensures err { IfErr result (λ fault. fault ≡ CheckFault.Memory) }
 {
     for i in 0..tree.count() {
         add_unlisted_by(tree.path(i), manifests, faults)?;
@@ -72,10 +70,9 @@ fn add_unlisted_by(
     path: &BagPath,
     manifests: &[Manifest],
     faults: &mut Vec<Fault>,
-) -> Result<(), CheckFault>
-    ensures added { OnOk result (Adds faults.old.items faults.new.items
+) -> Result<(), AllocError>
+    ensures { OnOk result (Adds faults.old.items faults.new.items
         (IsUnlistedBy manifests.now path.now)) }
-    ensures err { IfErr result (λ fault. fault ≡ CheckFault.Memory) }
 {
     let TagName::PayloadManifest(alg) = TagName::of(path) else {
         return Ok(());
@@ -93,10 +90,9 @@ fn add_unlisted_by(
 }
 
 /// Adds what is wrong with the form of `Payload-Oxum`.
-fn add_oxum_faults(texts: &Texts, faults: &mut Vec<Fault>) -> Result<(), CheckFault>
-    ensures added { (bag : Bag) → AreTextsOf (length bag.files) bag texts.now
+fn add_oxum_faults(texts: &TagTexts, faults: &mut Vec<Fault>) -> Result<(), AllocError>
+    ensures { (bag : Bag) → AreTextsOf (length bag.files) bag texts.now
         → OnOk result (Adds faults.old.items faults.new.items (HasFaultOf bag kinds_of_oxum_form)) }
-    ensures err { IfErr result (λ fault. fault ≡ CheckFault.Memory) }
 {
     match &texts.info {
         Some(info) => add_element_faults(info.elements(), faults),
@@ -105,10 +101,9 @@ fn add_oxum_faults(texts: &Texts, faults: &mut Vec<Fault>) -> Result<(), CheckFa
 }
 
 /// Adds what is wrong with the form of `Payload-Oxum` among these elements.
-fn add_element_faults(elements: &[Element], faults: &mut Vec<Fault>) -> Result<(), CheckFault>
-    ensures added { OnOk result (Adds faults.old.items faults.new.items
+fn add_element_faults(elements: &[Element], faults: &mut Vec<Fault>) -> Result<(), AllocError>
+    ensures { OnOk result (Adds faults.old.items faults.new.items
         (IsOxumFault elements.now)) }
-    ensures err { IfErr result (λ fault. fault ≡ CheckFault.Memory) }
 {
     if elements.iter().any(is_bad_oxum) {
         faults.push(Fault::OxumForm)?;

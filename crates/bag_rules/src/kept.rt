@@ -4,11 +4,9 @@ ghost use Rattle.bag_digest.specs.Algorithm.{has};
 ghost use Rattle.bag_digest.specs.declared.algorithm.Alg.{Alg};
 ghost use Rattle.bag_rules.specs.KeptInside.{AreKept, HasSumsWithin, IsKeptOf, IsTextAt, kept_file};
 ghost use Rattle.bag_rules.specs.Trees.{HasFileAt, Shown};
-ghost use Rattle.bag_rules.specs.declared.outcome.CheckFault.{CheckFault};
 
-use crate::outcome::CheckFault;
 use bag_digest::{Alg, AlgSet, Digests, Multi};
-use std::alloc::Global;
+use std::alloc::{AllocError, Global};
 
 /// The lengths and digests of the tag files that were read as text, by their places. There are at most eleven such
 /// files. They are not read again, so what is verified is what was read as text.
@@ -38,10 +36,9 @@ impl Kept {
     }
 
     /// Keeps the length and the digests of the text at this place.
-    pub(crate) fn keep(&mut self, place: usize, text: &[u8]) -> Result<(), CheckFault>
-        ensures kept { (shown : Shown) → AreKept shown self.old → IsTextAt shown place text.now
+    pub(crate) fn keep(&mut self, place: usize, text: &[u8]) -> Result<(), AllocError>
+        ensures { (shown : Shown) → AreKept shown self.old → IsTextAt shown place text.now
             → OnOk result (AreKept shown self.new) }
-        ensures err { IfErr result (λ fault. fault ≡ CheckFault.Memory) }
     {
         let mut multi = Multi::new(self.set);
         multi.update(text);
@@ -54,11 +51,10 @@ impl Kept {
         place: usize,
         length: u64,
         digests: Digests,
-    ) -> Result<(), CheckFault>
-        ensures kept { (shown : Shown) → AreKept shown self.old
+    ) -> Result<(), AllocError>
+        ensures { (shown : Shown) → AreKept shown self.old
             → IsKeptOf shown self.old.set (kept_file place length digests)
             → OnOk result (AreKept shown self.new) }
-        ensures err { IfErr result (λ fault. fault ≡ CheckFault.Memory) }
     {
         let file = KeptFile {
             place,

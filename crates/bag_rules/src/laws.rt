@@ -1,11 +1,12 @@
 //! Laws about the definitions that the contracts of this crate cite. The contract of each function states one law, and
 //! its body is empty.
-ghost use Rattle.std.specs.Prelude.{◌≡◌, ◌≢◌, ◌≤◌, ◌↔◌, ◌^◌, ℕ, List, [], length, true};
+ghost use Rattle.std.specs.Prelude.{◌≡◌, ◌≢◌, ◌≤◌, ◌*◌, ◌↔◌, ◌^◌, ℕ, List, [], length, true};
 ghost use Rattle.std.specs.Ordering.{nat_cmp};
 ghost use Rattle.std.specs.Cmp.Lexicographic.{slice_cmp};
 ghost use Rattle.std.specs.declared.cmp.Ordering.TheVariants.{Less, Greater};
 ghost use Rattle.bag_path.specs.Paths.{IsPath, is_payload};
 ghost use Rattle.bag_rules.specs.contracts.fault.FaultOrd.TheImpl as order;
+ghost use Rattle.bag_rules.specs.declared.batch.TheConstants.{BUFFER, MOST_READ};
 ghost use Rattle.bag_rules.specs.declared.fault.Fault.{Fault};
 ghost use Rattle.bag_rules.specs.declared.limits.TheConstants.{LARGEST_FILE, LARGEST_ITEM, LARGEST_TAG_FILE, MOST_FILES, MOST_LINES};
 ghost use Rattle.bag_rules.specs.declared.outcome.CheckFault.{CheckFault};
@@ -27,6 +28,12 @@ ghost use Rattle.bag_rules.specs.Trees.{AreRising};
 ghost use Rattle.bag_rules.specs.Validity.{IsComplete, IsValid};
 ghost use Rattle.bag_rules.specs.Verdicts.{IsJudged, IsVerdict};
 ghost use Rattle.bag_rules.specs.Wants.{IsFirstMisfitOf, IsWanted};
+
+/// A check holds at most 4 MiB of the files that it has begun, and has at most 32 of them open.
+pub fn a_check_holds_at_most_4_mebibytes_and_32_files()
+    ensures octets { MOST_READ * BUFFER ≤ 4 * 1048576 }
+    ensures files { MOST_READ ≤ 32 }
+{}
 
 /// A bag that is judged is valid exactly if it has no faults.
 pub fn a_judged_bag_is_valid_exactly_if_it_has_no_fault()

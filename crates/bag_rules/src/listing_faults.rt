@@ -9,23 +9,22 @@ ghost use Rattle.bag_rules.specs.ReadingInside.{Adds, AreTextsOf};
 ghost use Rattle.bag_rules.specs.Trees.{paths_in};
 
 use crate::fault::Fault;
-use crate::outcome::CheckFault;
-use crate::tag_files::Texts;
+use crate::tag_texts::TagTexts;
 use crate::tree::{Paths, find};
 use crate::unlisted::unlisted_in;
 use bag_digest::Alg;
 use bag_path::{BagPath, Version};
 use bag_tags::{Manifest, ManifestName, Pair};
+use std::alloc::AllocError;
 
 /// Adds a fault for each file that a manifest lists and that is not there.
 pub(crate) fn add_missing<T: Paths>(
     tree: &T,
     manifests: &[Manifest],
     faults: &mut Vec<Fault>,
-) -> Result<(), CheckFault>
-    ensures added { OnOk result (Adds faults.old.items faults.new.items
+) -> Result<(), AllocError>
+    ensures { OnOk result (Adds faults.old.items faults.new.items
         (IsMissing (paths_in (T.shown tree.now)) manifests.now)) }
-    ensures err { IfErr result (λ fault. fault ≡ CheckFault.Memory) }
 {
     for manifest in manifests {
         add_missing_by(tree, manifest, faults)?;
@@ -38,10 +37,9 @@ pub(crate) fn add_missing_by<T: Paths>(
     tree: &T,
     manifest: &Manifest,
     faults: &mut Vec<Fault>,
-) -> Result<(), CheckFault>
-    ensures added { OnOk result (Adds faults.old.items faults.new.items
+) -> Result<(), AllocError>
+    ensures { OnOk result (Adds faults.old.items faults.new.items
         (IsMissingBy (paths_in (T.shown tree.now)) manifest.now)) }
-    ensures err { IfErr result (λ fault. fault ≡ CheckFault.Memory) }
 {
     let name = ManifestName {
         kind: manifest.kind(),
@@ -59,10 +57,9 @@ fn add_missing_pair<T: Paths>(
     manifest: ManifestName,
     pair: &Pair,
     faults: &mut Vec<Fault>,
-) -> Result<(), CheckFault>
-    ensures added { OnOk result (Adds faults.old.items faults.new.items
+) -> Result<(), AllocError>
+    ensures { OnOk result (Adds faults.old.items faults.new.items
         (IsPairMissing (paths_in (T.shown tree.now)) manifest pair.now.path)) }
-    ensures err { IfErr result (λ fault. fault ≡ CheckFault.Memory) }
 {
     match find(tree, pair.path.as_str()) {
         Some(_) => Ok(()),
@@ -77,14 +74,13 @@ fn add_missing_pair<T: Paths>(
 /// Adds a fault for each entry of `fetch.txt` that isn't listed as required.
 pub(crate) fn add_fetch_unlisted(
     version: Version,
-    texts: &Texts,
+    texts: &TagTexts,
     faults: &mut Vec<Fault>,
-) -> Result<(), CheckFault>
-    ensures added { (bag : Bag) → version_of bag ≡ version
+) -> Result<(), AllocError>
+    ensures { (bag : Bag) → version_of bag ≡ version
         → AreTextsOf (length bag.files) bag texts.now
         → OnOk result (Adds faults.old.items faults.new.items
         (HasFaultOf bag kind_of_unlisted_entries)) }
-    ensures err { IfErr result (λ fault. fault ≡ CheckFault.Memory) }
 {
     for line in texts.fetch_lines() {
         add_entry_unlisted(version, &texts.manifests, line.entry.path(), faults)?;
@@ -98,10 +94,9 @@ fn add_entry_unlisted(
     manifests: &[Manifest],
     path: &BagPath,
     faults: &mut Vec<Fault>,
-) -> Result<(), CheckFault>
-    ensures added { OnOk result (Adds faults.old.items faults.new.items
+) -> Result<(), AllocError>
+    ensures { OnOk result (Adds faults.old.items faults.new.items
         (IsEntryUnlisted version manifests.now path.now)) }
-    ensures err { IfErr result (λ fault. fault ≡ CheckFault.Memory) }
 {
     let unlisted = unlisted_in(version, manifests, path);
     for manifest in Alg::ALL {

@@ -2,16 +2,18 @@
 ghost use Rattle.std.specs.Prelude.{◌≡◌, ◌+◌, ◌-◌, ◌^◌, ◌<◌, ◌≤◌, ◌++◌, ◌↔◌, [], Contains, IfErr, IfOk, IsErr, IsOk, OnErr, OnOk, drop, is_some, length, max, slice_get, take, true};
 ghost use Rattle.std.specs.Io.KnownBytes.{ReadConsumes};
 ghost use Rattle.std.specs.Option.{ForSome, option_copied, option_map};
-ghost use Rattle.bag_digest.specs.Device.{UsesSource, greatest_count};
+ghost use Rattle.bag_digest.specs.Failures.{UsesSource, greatest_count};
 ghost use Rattle.bag_rules.specs.Memory.{MemFiles};
 ghost use Rattle.bag_rules.specs.Trees.{AreRising, UsesTree, octets_in, paths_in};
 ghost use Rattle.bag_rules.specs.MemoryInside.{moved_up};
 
 use crate::file::{File, body_of, search};
+use crate::open_memory::MemFile;
+use crate::open_tree::OpenTree;
 use crate::tree::{Paths, Tree};
 use bag_digest::{Failed, Failures, Source};
 use bag_path::BagPath;
-use std::alloc::Global;
+use std::alloc::{AllocError, Global};
 use std::marker::Model;
 use thiserror::Error;
 
@@ -202,8 +204,31 @@ impl Tree for MemTree {
     ghost reads_keep = { keeps_tree };
 }
 
+impl OpenTree for MemTree {
+    type File = MemFile;
+
+    /// Copies a file. What is added to the tree later isn't in the copy, and doesn't change its place.
+    fn open_file(&mut self, alloc: Global, i: usize) -> Result<MemFile, AllocError> {
+        let mut body = Vec::new(alloc);
+        body.extend_from_slice(self.files[i].body.as_slice())?;
+        self.failures.raise()?;
+        Ok(MemFile::new(i, body))
+    }
+
+    fn close(&mut self, _file: MemFile) {
+        self.failures.lower();
+    }
+
+    /// Does nothing, since no file fails.
+    fn fail(&mut self, _file: MemFile) {}
+
+    fn give_up(&mut self, _file: MemFile, _first: &MemFile) {
+        self.failures.lower();
+    }
+}
+
 /// Copies octets from `at` on to the front of the buffer, as many as there are and as fit. Returns their number.
-fn copy_from(body: &[u8], at: usize, buf: &mut [u8]) -> usize
+pub(crate) fn copy_from(body: &[u8], at: usize, buf: &mut [u8]) -> usize
     ensures copied { drop at body.now ≡ take result buf.new ++ drop (at + result) body.now }
     ensures fits { result ≤ length buf.new }
     ensures inside { at + result ≤ max at (length body.now) }

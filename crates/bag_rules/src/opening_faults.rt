@@ -20,12 +20,11 @@ use crate::file::File;
 use crate::file_faults::{add_other_digests, add_unlisted};
 use crate::form_faults::add_form_faults;
 use crate::listing_faults::{add_fetch_unlisted, add_missing_by};
-use crate::outcome::CheckFault;
 use crate::plan::PlanFault;
 use crate::profile::{Profile, profile_of};
-use crate::tag_files::{Texts, read_lines};
+use crate::tag_file_reader::has_too_many_lines;
 use crate::tag_set::TagSet;
-use crate::text_reader::has_too_many_lines;
+use crate::tag_texts::{TagTexts, read_lines};
 use crate::tree::{Paths, find};
 use crate::want::Want;
 use bag_digest::Multi;
@@ -61,16 +60,15 @@ pub(crate) fn open_version(alloc: Global, tags: &TagSet) -> Result<Version, Plan
     ensures known { IfOk result (λ version. AreReadBy version tags.now) }
     ensures refused { FewLines tags.now → IfErr result (Refuses tags.now) }
 {
-    match profile_of_tags(alloc, tags) {
-        Ok(Profile::Known(version)) => Ok(version),
-        Ok(Profile::Unknown(cause)) => Err(PlanFault::Outside(cause)),
-        Ok(Profile::Broken(fault)) => Err(PlanFault::Rules(fault)),
-        Err(_) => Err(PlanFault::Memory),
+    match profile_of_tags(alloc, tags)? {
+        Profile::Known(version) => Ok(version),
+        Profile::Unknown(cause) => Err(PlanFault::Outside(cause)),
+        Profile::Broken(fault) => Err(PlanFault::Rules(fault)),
     }
 }
 
 /// What the declaration and the names of the manifests say.
-fn profile_of_tags(alloc: Global, tags: &TagSet) -> Result<Profile, CheckFault>
+fn profile_of_tags(alloc: Global, tags: &TagSet) -> Result<Profile, AllocError>
     ensures profile { IfOk result (IsProfile (tag_bag tags.now)) }
     ensures tags { AreTagFiles tags.now }
 {
@@ -86,7 +84,7 @@ pub(crate) fn open_texts(
     alloc: Global,
     tags: &TagSet,
     version: Version,
-) -> Result<(Texts, Vec<BagPath>), PlanFault>
+) -> Result<(TagTexts, Vec<BagPath>), PlanFault>
     requires { AreReadBy version tags.now }
     ensures read { IfOk result (λ opened.
         AreTextsOf (length tags.now) (tag_bag tags.now) opened.0
@@ -94,9 +92,7 @@ pub(crate) fn open_texts(
     ensures refused { FewLines tags.now → IfErr result (Refuses tags.now) }
 {
     let mut faults = Vec::new(alloc);
-    let Ok(opened) = find_faults(alloc, tags, version, &mut faults) else {
-        return Err(PlanFault::Memory);
-    };
+    let opened = find_faults(alloc, tags, version, &mut faults)?;
     match first_of(faults) {
         Some(fault) => Err(PlanFault::Rules(fault)),
         None => Ok(opened),
@@ -109,7 +105,7 @@ fn find_faults(
     tags: &TagSet,
     version: Version,
     faults: &mut Vec<Fault>,
-) -> Result<(Texts, Vec<BagPath>), CheckFault>
+) -> Result<(TagTexts, Vec<BagPath>), AllocError>
     requires known { AreReadBy version tags.now }
     requires none { faults.old.items ≡ [] }
     ensures read { IfOk result (λ opened. AreTextsOf (length tags.now) (tag_bag tags.now) opened.0
@@ -137,13 +133,13 @@ fn read_tags(
     tags: &TagSet,
     version: Version,
     faults: &mut Vec<Fault>,
-) -> Result<Texts, CheckFault>
+) -> Result<TagTexts, AllocError>
     ensures read { version_of (tag_bag tags.now) ≡ version
         → IfOk result (AreTextsOf (length tags.now) (tag_bag tags.now)) }
     ensures faulty { version_of (tag_bag tags.now) ≡ version → OnOk result
         (Adds faults.old.items faults.new.items (HasFaultOf (tag_bag tags.now) kind_of_lines)) }
 {
-    let mut texts = Texts::none(alloc);
+    let mut texts = TagTexts::none(alloc);
     for file in tags.files() {
         read_tag(alloc, file, version, &mut texts, faults)?;
     }
@@ -155,9 +151,9 @@ fn read_tag(
     alloc: Global,
     file: &File,
     version: Version,
-    texts: &mut Texts,
+    texts: &mut TagTexts,
     faults: &mut Vec<Fault>,
-) -> Result<(), CheckFault>
+) -> Result<(), AllocError>
     ensures { OnOk result (ReadsOn version file.now.path file.now.body.items texts.old texts.new
         × Adds faults.old.items faults.new.items
         (IsBadLineOf version file.now.path file.now.body.items)) }
@@ -209,10 +205,10 @@ fn add_paths(pairs: &[Pair], paths: &mut Vec<BagPath>) -> Result<(), AllocError>
 fn add_opening_faults(
     tags: &TagSet,
     version: Version,
-    texts: &Texts,
+    texts: &TagTexts,
     expected: &[BagPath],
     faults: &mut Vec<Fault>,
-) -> Result<(), CheckFault>
+) -> Result<(), AllocError>
     requires known { AreReadBy version tags.now }
     requires texts { AreTextsOf (length tags.now) (tag_bag tags.now) texts.now }
     requires expected { AreExpected tags.now expected.now }
@@ -230,7 +226,7 @@ fn add_missing_tags<T: Paths>(
     tags: &T,
     manifests: &[Manifest],
     faults: &mut Vec<Fault>,
-) -> Result<(), CheckFault>
+) -> Result<(), AllocError>
     ensures { OnOk result (Adds faults.old.items faults.new.items
         (OfSome manifests.now (IsTagMissing (paths_in (T.shown tags.now))))) }
 {
@@ -248,7 +244,7 @@ fn add_unlisted_paths(
     manifests: &[Manifest],
     paths: &[BagPath],
     faults: &mut Vec<Fault>,
-) -> Result<(), CheckFault>
+) -> Result<(), AllocError>
     ensures { OnOk result (Adds faults.old.items faults.new.items
         (OfSome paths.now (IsFileUnlisted version manifests.now))) }
 {
@@ -263,7 +259,7 @@ fn add_wrong_tags(
     tags: &TagSet,
     manifests: &[Manifest],
     faults: &mut Vec<Fault>,
-) -> Result<(), CheckFault>
+) -> Result<(), AllocError>
     ensures { OnOk result (Adds faults.old.items faults.new.items
         (OfSome tags.now (IsWrongFile manifests.now))) }
 {
@@ -278,7 +274,7 @@ fn add_wrong_file(
     file: &File,
     manifests: &[Manifest],
     faults: &mut Vec<Fault>,
-) -> Result<(), CheckFault>
+) -> Result<(), AllocError>
     ensures { OnOk result (Adds faults.old.items faults.new.items
         (OfSome manifests.now (IsWrongIn file.now.path file.now.body.items))) }
 {

@@ -7,9 +7,9 @@ ghost use Rattle.bag_rules.specs.HasFault.{HasFaultOf};
 ghost use Rattle.bag_rules.specs.ReadingInside.{Adds, AreTextsOf};
 
 use crate::fault::Fault;
-use crate::outcome::CheckFault;
-use crate::tag_files::Texts;
+use crate::tag_texts::TagTexts;
 use bag_tags::{Element, Oxum};
+use std::alloc::AllocError;
 
 /// How large the payload is.
 #[derive(Clone, Copy, Drop)]
@@ -22,14 +22,13 @@ pub(crate) struct PayloadSize {
 
 /// Adds a fault if `Payload-Oxum` gives another size.
 pub(crate) fn add_wrong_oxum(
-    texts: &Texts,
+    texts: &TagTexts,
     size: PayloadSize,
     faults: &mut Vec<Fault>,
-) -> Result<(), CheckFault>
-    ensures added { (bag : Bag) → AreTextsOf (length bag.files) bag texts.now
+) -> Result<(), AllocError>
+    ensures { (bag : Bag) → AreTextsOf (length bag.files) bag texts.now
         → IsSizeOf bag.files size
         → OnOk result (Adds faults.old.items faults.new.items (HasFaultOf bag kind_of_oxum)) }
-    ensures err { IfErr result (λ fault. fault ≡ CheckFault.Memory) }
 {
     let Some(info) = &texts.info else {
         return Ok(());

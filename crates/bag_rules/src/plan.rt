@@ -8,11 +8,11 @@ use crate::fault::Fault;
 use crate::opening_faults::{first_large, open_texts, open_version};
 use crate::outcome::OutsideCause;
 use crate::report::Report;
-use crate::tag_files::Texts;
+use crate::requirements::{Lengths, lengths_by_path, want_of};
 use crate::tag_set::TagSet;
+use crate::tag_texts::TagTexts;
 use crate::transfer_faults::add_item_faults;
 use crate::want::Want;
-use crate::wants::{Lengths, lengths_by_path, want_of};
 use bag_path::BagPath;
 use bag_tags::FetchLine;
 use std::alloc::{AllocError, Global};
@@ -63,7 +63,7 @@ pub struct ItemSize {
 /// What the tag files of a transfer say about its payload: which files are expected, and what each has to be.
 #[derive(Drop)]
 pub struct Plan {
-    texts: Texts,
+    texts: TagTexts,
     lengths: Lengths,
     paths: Vec<BagPath>,
 }
@@ -143,10 +143,8 @@ impl Plan {
             → IfOk result (λ report. Means (held_bag tags items) (Judged report)) }
     {
         let mut faults = Vec::new(alloc);
-        match add_item_faults(&self.texts, sizes, &mut faults) {
-            Ok(()) => Ok(Report::new(faults)),
-            Err(_) => Err(AllocError),
-        }
+        add_item_faults(&self.texts, sizes, &mut faults)?;
+        Ok(Report::new(faults))
     }
 }
 

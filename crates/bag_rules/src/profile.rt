@@ -8,17 +8,16 @@ ghost use Rattle.bag_rules.specs.Limits.{DeclarationStops, FirstStops, NoneStops
 ghost use Rattle.bag_rules.specs.Profiles.{IsProfile};
 ghost use Rattle.bag_rules.specs.Trees.{AreRising, paths_in};
 ghost use Rattle.bag_rules.specs.declared.fault.Fault.TheVariants.{NoDeclaration};
-ghost use Rattle.bag_rules.specs.declared.outcome.CheckFault.{CheckFault};
 ghost use Rattle.bag_rules.specs.declared.profile.Profile.TheVariants.{Broken};
 
 use crate::fault::Fault;
 use crate::kept::Kept;
 use crate::outcome::{CheckFault, OutsideCause};
-use crate::tag_files::read_tag_file;
+use crate::tag_texts::read_tag_file;
 use crate::tree::{Paths, Tree, find};
 use bag_path::Version;
 use bag_tags::{Declaration, read_declaration, unknown_algorithm};
-use std::alloc::Global;
+use std::alloc::{AllocError, Global};
 
 /// What the declaration and the names of the manifests say about a bag.
 #[derive(Debug, Drop)]
@@ -74,7 +73,7 @@ fn read_declared<T: Tree>(
 {
     let text = read_tag_file(alloc, buffer, tree, i)?;
     kept.keep(i, &text)?;
-    profile_of(alloc, tree, &text)
+    Ok(profile_of(alloc, tree, &text)?)
 }
 
 /// What the declaration with this text and the names of the manifests say.
@@ -82,11 +81,10 @@ pub(crate) fn profile_of<T: Paths>(
     alloc: Global,
     tree: &T,
     text: &[u8],
-) -> Result<Profile, CheckFault>
+) -> Result<Profile, AllocError>
     requires { AreRising (paths_in (T.shown tree.now)) }
-    ensures profile { (bag : Bag) → IsBagOf (T.shown tree.now) bag
+    ensures { (bag : Bag) → IsBagOf (T.shown tree.now) bag
         → Holds bag declaration_file text.now → IfOk result (IsProfile bag) }
-    ensures err { IfErr result (λ fault. fault ≡ CheckFault.Memory) }
 {
     let declaration = match read_declaration(text) {
         Ok(declaration) => declaration,
@@ -118,11 +116,10 @@ fn known_version(declaration: Declaration) -> Result<Version, OutsideCause>
 }
 
 /// The algorithm of the first manifest by file name whose algorithm isn't known.
-fn first_unknown<T: Paths>(alloc: Global, tree: &T) -> Result<Option<String>, CheckFault>
-    ensures ok { IfOk result (λ found. MatchOption found
+fn first_unknown<T: Paths>(alloc: Global, tree: &T) -> Result<Option<String>, AllocError>
+    ensures { IfOk result (λ found. MatchOption found
         (NoneUnknown (paths_in (T.shown tree.now)) (length (paths_in (T.shown tree.now))))
         (λ name. IsFirstUnknownOf (paths_in (T.shown tree.now)) (string_bytes name))) }
-    ensures err { IfErr result (λ fault. fault ≡ CheckFault.Memory) }
 {
     for i in 0..tree.count() {
         if let Some(name) = unknown_algorithm(tree.path(i)) {

@@ -13,20 +13,20 @@ ghost use Rattle.bag_rules.specs.Trees.{AreRising};
 ghost use Rattle.bag_rules.specs.declared.plan.ItemSize.{ItemSize};
 
 use crate::fault::Fault;
-use crate::outcome::CheckFault;
 use crate::oxum_faults::{PayloadSize, add_wrong_oxum};
 use crate::plan::ItemSize;
-use crate::tag_files::Texts;
+use crate::tag_texts::TagTexts;
 use bag_path::BagPath;
 use bag_tags::{Kind, Manifest, ManifestName, Pair};
+use std::alloc::AllocError;
 
 /// Adds the faults of the bag of a transfer that could be opened and holds payload files of these sizes, by path. These
 /// can only be files that are missing and a wrong size of the payload.
 pub(crate) fn add_item_faults(
-    texts: &Texts,
+    texts: &TagTexts,
     sizes: &[ItemSize],
     faults: &mut Vec<Fault>,
-) -> Result<(), CheckFault>
+) -> Result<(), AllocError>
     ensures { (tags items : Files) → AreTagFiles tags → Opens tags
         → AreTextsOf (length tags) (tag_bag tags) texts.now → AreHeldFor tags items
         → sizes.now ≡ sizes_of items → OnOk result (Adds faults.old.items faults.new.items
@@ -41,7 +41,7 @@ fn add_missing_items(
     manifests: &[Manifest],
     sizes: &[ItemSize],
     faults: &mut Vec<Fault>,
-) -> Result<(), CheckFault>
+) -> Result<(), AllocError>
     ensures { AreRising (item_paths sizes.now) → OnOk result (Adds faults.old.items faults.new.items
         (OfSome manifests.now (IsPayloadMissing (item_paths sizes.now)))) }
 {
@@ -58,7 +58,7 @@ fn add_missing_by(
     manifest: &Manifest,
     sizes: &[ItemSize],
     faults: &mut Vec<Fault>,
-) -> Result<(), CheckFault>
+) -> Result<(), AllocError>
     ensures { AreRising (item_paths sizes.now) → OnOk result (Adds faults.old.items faults.new.items
         (IsMissingBy (item_paths sizes.now) manifest.now)) }
 {
@@ -75,7 +75,7 @@ fn add_missing_pair(
     pair: &Pair,
     sizes: &[ItemSize],
     faults: &mut Vec<Fault>,
-) -> Result<(), CheckFault>
+) -> Result<(), AllocError>
     ensures { AreRising (item_paths sizes.now) → OnOk result (Adds faults.old.items faults.new.items
         (IsPairMissing (item_paths sizes.now) manifest pair.now.path)) }
 {

@@ -2,8 +2,8 @@
 use Rattle.std.proofs.Common.{◌≡◌, ◌≤◌, ℕ, List, MatchResult, Option, Some, Result, Ok, Err, ap, inl, inr, length, refl}
 use Rattle.bag_sqlite.proofs.Words.{all_known, Digest, GaveAll, Given, given_by, known, LARGEST_ITEM, Ledger, Length, more_known, PutFault, Puts, Reader, RefusesGiven, TooLarge, Want}
 use Rattle.bag_digest.specs.declared.reading.SourceFault.TheVariants as source
-use Rattle.bag_ledger.specs.declared.fault.KeepFault.{KeepFault}
-use Rattle.bag_ledger.specs.declared.fault.PutFault.TheVariants.{Keep}
+use Rattle.bag_ledger.specs.declared.keeper_faults.KeepFault.{KeepFault}
+use Rattle.bag_ledger.specs.declared.keeper_faults.PutFault.TheVariants.{Keep}
 use Rattle.bag_rules.specs.declared.want.WantFault.TheVariants as other
 use Rattle.bag_sqlite.specs.Contents.{answer_of}
 use Rattle.bag_sqlite.specs.declared.putting.NotPut.{NotPut}

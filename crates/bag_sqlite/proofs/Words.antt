@@ -2,7 +2,7 @@
 pub use Rattle.bag_digest.proofs.Filling.{given_more}
 pub use Rattle.bag_digest.proofs.Progress.{all_known, given_before, given_piece, HasGiven, more_known, uses_as, uses_on}
 pub use Rattle.bag_digest.specs.Algorithm.{has}
-pub use Rattle.bag_digest.specs.Device.{UsesSource}
+pub use Rattle.bag_digest.specs.Failures.{UsesSource}
 pub use Rattle.bag_digest.specs.Hash.{AreDigests, AreDigestsOfEach, Holds}
 pub use Rattle.bag_digest.specs.Reading.{GaveAll, GaveBefore, GavePiece, read_fault}
 pub use Rattle.bag_digest.specs.declared.algorithm.Alg.{Alg}
@@ -18,11 +18,11 @@ pub use Rattle.bag_ledger.proofs.TestingLemmas.{read_tested}
 pub use Rattle.bag_ledger.specs.Keeping.{Awaits, Given, given_by, IsPieceAt, IsUnused, known, Leaves, Puts, RefusesGiven, UsesStore}
 pub use Rattle.bag_ledger.specs.Ledgers.{begun, content_of, holding, IsSound, items_of, Ledger, tags_of, Transfer, transfer_of, with_item, with_transfer}
 pub use Rattle.bag_ledger.specs.PutFaults.{put_fault}
-pub use Rattle.bag_ledger.specs.declared.fault.KeepFault.TheVariants.{Memory}
-pub use Rattle.bag_ledger.specs.declared.fault.PutFault.{PutFault}
-pub use Rattle.bag_ledger.specs.declared.fault.PutFault.TheVariants.{Digest, Length, Reader, TooLarge}
-pub use Rattle.bag_ledger.specs.declared.fault.StoreFault.{StoreFault}
-pub use Rattle.bag_ledger.specs.declared.fault.StoreFault.TheVariants.{Spent}
+pub use Rattle.bag_ledger.specs.declared.keeper_faults.KeepFault.TheVariants.{Memory}
+pub use Rattle.bag_ledger.specs.declared.keeper_faults.PutFault.{PutFault}
+pub use Rattle.bag_ledger.specs.declared.keeper_faults.PutFault.TheVariants.{Digest, Length, Reader, TooLarge}
+pub use Rattle.bag_ledger.specs.declared.keeper_faults.StoreFault.{StoreFault}
+pub use Rattle.bag_ledger.specs.declared.keeper_faults.StoreFault.TheVariants.{Spent}
 pub use Rattle.bag_rules.proofs.HasLemmas.{contains_from_has, has_from_contains, has_from_map, has_map, place_of_has}
 pub use Rattle.bag_rules.proofs.PassingLemmas.{passes_wanted, wanted_passes}
 pub use Rattle.bag_rules.proofs.SameListLemmas.{all_has, asymmetric, same_list, sorted_by_key}

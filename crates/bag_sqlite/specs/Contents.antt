@@ -4,9 +4,9 @@ use Rattle.std.specs.List.{concat}
 use Rattle.bag_digest.specs.Reading.{GaveAll, read_fault}
 use Rattle.bag_digest.specs.declared.multi.Digests.{Digests}
 use Rattle.bag_ledger.specs.PutFaults.{misfit_fault, put_fault}
-use Rattle.bag_ledger.specs.declared.fault.KeepFault.{KeepFault}
-use Rattle.bag_ledger.specs.declared.fault.PutFault.{PutFault}
-use Rattle.bag_ledger.specs.declared.fault.PutFault.TheVariants.{Keep}
+use Rattle.bag_ledger.specs.declared.keeper_faults.KeepFault.{KeepFault}
+use Rattle.bag_ledger.specs.declared.keeper_faults.PutFault.{PutFault}
+use Rattle.bag_ledger.specs.declared.keeper_faults.PutFault.TheVariants.{Keep}
 use Rattle.bag_rules.specs.Wants.{AreSumsFor}
 use Rattle.bag_rules.specs.declared.limits.TheConstants.{LARGEST_ITEM}
 use Rattle.bag_rules.specs.declared.want.Want.{Want}

@@ -1,11 +1,11 @@
 //! Whether a store has failed, why, and how many failures were reported.
 ghost use Rattle.std.specs.Prelude.{◌≡◌, ◌≢◌, ◌↔◌, Err, IfErr, IsErr, IsErrOf, IsTrue, MatchResult, None, Ok, OnOk, Some, false};
-ghost use Rattle.bag_digest.specs.Device.{Rises};
+ghost use Rattle.bag_digest.specs.Failures.{Rises};
 ghost use Rattle.bag_ledger.specs.Keeping.{UsesStore};
-ghost use Rattle.bag_ledger.specs.declared.fault.KeepFault.{KeepFault};
-ghost use Rattle.bag_ledger.specs.declared.fault.KeepFault.TheVariants.{Memory, Store};
-ghost use Rattle.bag_ledger.specs.declared.fault.PutFault.TheVariants.{Keep};
-ghost use Rattle.bag_ledger.specs.declared.fault.StoreFault.TheVariants.{Spent};
+ghost use Rattle.bag_ledger.specs.declared.keeper_faults.KeepFault.{KeepFault};
+ghost use Rattle.bag_ledger.specs.declared.keeper_faults.KeepFault.TheVariants.{Memory, Store};
+ghost use Rattle.bag_ledger.specs.declared.keeper_faults.PutFault.TheVariants.{Keep};
+ghost use Rattle.bag_ledger.specs.declared.keeper_faults.StoreFault.TheVariants.{Spent};
 ghost use Rattle.bag_sqlite.specs.Contents.{IsRemembered, answer_of, put_fault_of};
 ghost use Rattle.bag_sqlite.specs.declared.health.Health.{Health};
 ghost use Rattle.sqlite.specs.declared.error.Error.{Error as SqlError};
@@ -45,6 +45,7 @@ impl Health {
             (λ (health : Health). IsTrue health.is_spent) self.old self.new
             (λ fault. IsErrOf result (Store fault)) }
         ensures spent { IsErr result → IsErrOf result (Store Spent) }
+        ensures trouble { self.new.trouble ≡ self.old.trouble }
     {
         if !self.is_spent {
             return Ok(());
@@ -111,8 +112,9 @@ impl Health {
 
     /// Counts a failure of the store, and returns it.
     pub(crate) fn fail(&mut self) -> StoreFault
-        ensures { IsTrue self.new.is_spent × Rises self.old.failures self.new.failures
+        ensures failed { IsTrue self.new.is_spent × Rises self.old.failures self.new.failures
             × ((result ≡ Spent) ↔ IsTrue self.old.is_spent) }
+        ensures trouble { self.new.trouble ≡ self.old.trouble }
     {
         let fault = if self.is_spent {
             StoreFault::Spent

@@ -1,8 +1,9 @@
 //! Laws on the definitions that the contracts of this crate cite. Each function's contract is one law, and its body is
 //! empty.
-ghost use Rattle.std.specs.Prelude.{◌≡◌, ◌↔◌, IsTrue};
+ghost use Rattle.std.specs.Prelude.{◌≡◌, ◌≤◌, ◌*◌, ◌↔◌, IsTrue};
 ghost use Rattle.bag_digest.specs.declared.reading.TheConstants.{PIECE};
 ghost use Rattle.bag_ledger.specs.Ledgers.{Ledger};
+ghost use Rattle.bag_sqlite.specs.declared.batch.TheConstants.{MOST_FILES};
 ghost use Rattle.bag_sqlite.specs.Databases.{AreTablesOf, IsLedgerDatabase};
 ghost use Rattle.bag_sqlite.specs.Migrating.{MigratesLedger};
 ghost use Rattle.bag_sqlite.specs.SqlKeepers.{HoldsLedger, MayLeaveLedger, Offers};
@@ -19,6 +20,12 @@ use sqlite::{Alter, Connection};
 /// written with pieces of another length is none, so what is read at a time can change only together with the format.
 pub fn pieces_have_65536_octets()
     ensures { PIECE ≡ 65536 }
+{}
+
+/// The payload files that were read and not tested yet, while a ledger is opened, have at most 4 MiB, however many there
+/// are.
+pub fn a_batch_has_at_most_4_mebibytes()
+    ensures { MOST_FILES * PIECE ≤ 4 * 1048576 }
 {}
 
 /// The tables of a database hold at most one ledger, and so does a database, whichever of them it has.

@@ -1,9 +1,9 @@
 //! Stores a payload file: its content is read, hashed and written piece by piece.
 ghost use Rattle.std.specs.Prelude.{◌≡◌, List, [], ℕ, false, length, IsErrOf, IsTrue, MatchResult, OnOk};
-ghost use Rattle.bag_digest.specs.Device.{UsesSource};
+ghost use Rattle.bag_digest.specs.Failures.{UsesSource};
 ghost use Rattle.bag_digest.specs.declared.reading.TheConstants.{PIECE};
 ghost use Rattle.bag_ledger.specs.Keeping.{IsGiven, Puts, RefusesGiven, given_by};
-ghost use Rattle.bag_ledger.specs.declared.fault.KeepFault.{KeepFault};
+ghost use Rattle.bag_ledger.specs.declared.keeper_faults.KeepFault.{KeepFault};
 ghost use Rattle.bag_sqlite.specs.Contents.{HasContentMore, HasRead, answer_of, in_pieces, put_fault_of};
 ghost use Rattle.bag_sqlite.specs.Putting.{AddsPieces, IsUnderWay};
 ghost use Rattle.bag_sqlite.specs.SqlKeepers.{HoldsLedger, MayLeaveLedger};

@@ -1,6 +1,6 @@
 -- A line is refused for at most one cause. The facts that it needs are in an order, each with its cause if it fails.
 use Rattle.std.proofs.Common.{◌≡◌, ◌⊎◌, Option, Some, None, sym, ◌∙◌, inl, inr}
-use Rattle.bag_tags.specs.declared.fault.LineCause.{LineCause}
+use Rattle.bag_tags.specs.declared.tag_fault.LineCause.{LineCause}
 
 -- what becomes of a line: it leads on, or is refused for a cause
 abbrev pub Fate : Type 0

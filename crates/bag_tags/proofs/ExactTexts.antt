@@ -2,7 +2,7 @@
 use Rattle.std.proofs.Common.{◌≡◌, ◌⊎◌, ℕ, List, ap}
 use Rattle.bag_path.specs.declared.version.Version.{Version}
 use Rattle.bag_digest.specs.declared.algorithm.Alg.{Alg}
-use Rattle.bag_tags.specs.declared.fault.LineFault.{LineFault}
+use Rattle.bag_tags.specs.declared.tag_fault.LineFault.{LineFault}
 use Rattle.bag_tags.specs.declared.fetch.FetchLine.{FetchLine}
 use Rattle.bag_tags.specs.declared.listing.Kind.{Kind}
 use Rattle.bag_tags.specs.declared.listing.Pair.{Pair}

@@ -11,7 +11,7 @@ use Rattle.bag_path.proofs.LinesLemmas.{one_list}
 use Rattle.bag_path.proofs.SpellsLemmas.{spells_if_read}
 use Rattle.bag_digest.specs.declared.digest.Digest.{Digest}
 use Rattle.bag_digest.specs.Spelling.{SpellsDigest}
-use Rattle.bag_tags.specs.declared.fault.LineCause.{LineCause}
+use Rattle.bag_tags.specs.declared.tag_fault.LineCause.{LineCause}
 use Rattle.bag_tags.specs.declared.fetch.FetchLine.{FetchLine}
 use Rattle.bag_tags.specs.FetchEntries.{fetch_item, IsUrl}
 use Rattle.bag_tags.specs.Fetches.{fetch_line}

@@ -1,13 +1,13 @@
 -- A feed stands where its octets have led it.
 use Rattle.std.proofs.Common.{◌≡◌, ◌++◌, ℕ, List, [], Some, None, Result, OnOk, IfErr, refl, sym, ap, ◌∙◌, subst, append_assoc, append-nil}
 use Rattle.bag_path.specs.declared.version.Version.{Version}
-use Rattle.bag_tags.specs.declared.fault.LineCause.{LineCause}
-use Rattle.bag_tags.specs.declared.fault.LineFault.{LineFault}
-use Rattle.bag_tags.specs.declared.fault.TagFault.{TagFault}
-use Rattle.bag_tags.specs.declared.fault.TagFault.TheVariants.{Line, Memory}
-use Rattle.bag_tags.specs.declared.feed.TagFeed.{TagFeed}
-use Rattle.bag_tags.specs.declared.feed.TagValue.{TagValue}
-use Rattle.bag_tags.specs.declared.feed.TagValue.TheVariants as value
+use Rattle.bag_tags.specs.declared.tag_fault.LineCause.{LineCause}
+use Rattle.bag_tags.specs.declared.tag_fault.LineFault.{LineFault}
+use Rattle.bag_tags.specs.declared.tag_fault.TagFault.{TagFault}
+use Rattle.bag_tags.specs.declared.tag_fault.TagFault.TheVariants.{Line, Memory}
+use Rattle.bag_tags.specs.declared.tag_feed.TagFeed.{TagFeed}
+use Rattle.bag_tags.specs.declared.tag_feed.TagValue.{TagValue}
+use Rattle.bag_tags.specs.declared.tag_feed.TagValue.TheVariants as value
 use Rattle.bag_tags.specs.declared.fetch.FetchLine.{FetchLine}
 use Rattle.bag_tags.specs.declared.last_line.LastLine.{LastLine}
 use Rattle.bag_tags.specs.declared.name.LineFile.{LineFile}

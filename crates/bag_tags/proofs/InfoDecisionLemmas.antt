@@ -3,8 +3,8 @@ use Rattle.std.proofs.Common.{◌≡◌, ◌≢◌, ◌-◌, ◌⊎◌, ◌++◌
 use Rattle.std.specs.List.{starts_with}
 use Rattle.std.proofs.lemmas.Bool.{cases_Bool}
 use Rattle.bag_path.specs.declared.version.Version.{Version}
-use Rattle.bag_tags.specs.declared.fault.LineCause.{LineCause}
-use Rattle.bag_tags.specs.declared.fault.LineCause.TheVariants.{NoSeparator, BadLabel, NothingToContinue}
+use Rattle.bag_tags.specs.declared.tag_fault.LineCause.{LineCause}
+use Rattle.bag_tags.specs.declared.tag_fault.LineCause.TheVariants.{NoSeparator, BadLabel, NothingToContinue}
 use Rattle.bag_tags.specs.TagLines.{mark, AreExact}
 use Rattle.bag_tags.specs.Words.{is_blank, IsNotBlank, begins_blank}
 use Rattle.bag_tags.specs.WordsReading.{until, is_not_blank}

@@ -11,8 +11,8 @@ use Rattle.bag_digest.specs.declared.algorithm.Alg.TheVariants.{Md5, Sha1, Sha25
 use Rattle.bag_digest.specs.declared.digest.Digest.{Digest}
 use Rattle.bag_digest.specs.Algorithm.{size_of}
 use Rattle.bag_digest.specs.Spelling.{SpellsDigest}
-use Rattle.bag_tags.specs.declared.fault.LineCause.{LineCause}
-use Rattle.bag_tags.specs.declared.fault.LineCause.TheVariants.{NoSeparator, BadDigest, BadPath, WrongPlace, Twice}
+use Rattle.bag_tags.specs.declared.tag_fault.LineCause.{LineCause}
+use Rattle.bag_tags.specs.declared.tag_fault.LineCause.TheVariants.{NoSeparator, BadDigest, BadPath, WrongPlace, Twice}
 use Rattle.bag_tags.specs.declared.listing.Kind.{Kind}
 use Rattle.bag_tags.specs.declared.listing.Kind.TheVariants.{Payload, Tag}
 use Rattle.bag_tags.specs.Names.{NamesTagManifest}

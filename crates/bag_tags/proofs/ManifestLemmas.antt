@@ -10,8 +10,8 @@ use Rattle.bag_tags.specs.Words.{is_blank, IsNotBlank, IsCut}
 use Rattle.bag_tags.specs.WordsReading.{until, is_not_blank}
 use Rattle.bag_tags.specs.Listings.{Listing, pair, with_pair}
 use Rattle.bag_tags.specs.Manifests.{plain_path, HasChecksum, Gives, AddsPair, PathCause, GivesNothing}
-use Rattle.bag_tags.specs.declared.fault.TagCause.{TagCause}
-use Rattle.bag_tags.specs.declared.fault.TagCause.TheVariants as tag
+use Rattle.bag_tags.specs.declared.tag_fault.TagCause.{TagCause}
+use Rattle.bag_tags.specs.declared.tag_fault.TagCause.TheVariants as tag
 use Rattle.bag_tags.specs.TagLines.{Causes}
 use Rattle.bag_path.proofs.SpellsLemmas.{one_path}
 use Rattle.bag_digest.proofs.Spelled.{one_digest_spelled}

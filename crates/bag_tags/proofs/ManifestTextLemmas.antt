@@ -2,7 +2,7 @@
 use Rattle.std.proofs.Common.{◌≡◌, ◌⊎◌, ℕ, List, [], ◌∷◌, ap, ◌∙◌, subst, inl, inr}
 use Rattle.bag_path.specs.declared.version.Version.{Version}
 use Rattle.bag_digest.specs.declared.algorithm.Alg.{Alg}
-use Rattle.bag_tags.specs.declared.fault.LineFault.{LineFault}
+use Rattle.bag_tags.specs.declared.tag_fault.LineFault.{LineFault}
 use Rattle.bag_tags.specs.declared.listing.Kind.{Kind}
 use Rattle.bag_tags.specs.declared.listing.Pair.{Pair}
 use Rattle.bag_tags.specs.TagLines.{TagLine, LeadsOn, Lead, IsTextOf, tag_lines}

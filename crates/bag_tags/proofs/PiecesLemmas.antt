@@ -8,10 +8,10 @@ use Rattle.bag_path.specs.declared.lines.Ending.{Ending}
 use Rattle.bag_path.specs.declared.lines.Ending.TheVariants.{Lf, Cr, CrLf, Nothing}
 use Rattle.bag_path.specs.Lines.{Text, AreLines, MayStand, IsPlain, ending_octets, is_lone_lf, lines_of, octets_of_lines}
 use Rattle.bag_path.proofs.LinesLemmas.{are_lines, begins, first_step, joined_lines, last_step, one_list}
-use Rattle.bag_tags.specs.declared.fault.LineCause.{LineCause}
-use Rattle.bag_tags.specs.declared.fault.LineFault.{LineFault}
-use Rattle.bag_tags.specs.declared.fault.TagFault.{TagFault}
-use Rattle.bag_tags.specs.declared.fault.TagFault.TheVariants as tag
+use Rattle.bag_tags.specs.declared.tag_fault.LineCause.{LineCause}
+use Rattle.bag_tags.specs.declared.tag_fault.LineFault.{LineFault}
+use Rattle.bag_tags.specs.declared.tag_fault.TagFault.{TagFault}
+use Rattle.bag_tags.specs.declared.tag_fault.TagFault.TheVariants as tag
 use Rattle.bag_tags.specs.declared.last_line.LastLine.{LastLine}
 use Rattle.bag_tags.specs.Pieces.{texts_of, tag_text, numbered, is_cr, after_ending, unmarked, going_on, last_line, Awaits, IsBegun, IsLonger, IsNext}
 use Rattle.bag_tags.specs.TagLines.{mark, TagLine, tag_line, tag_lines, LeadsOn, Lead, IsTextOf, StopsAt, IsFirstFault, AreExact, Faults, RefusedAt}

@@ -4,11 +4,11 @@ use Rattle.std.specs.Result.{IsErrOf}
 use Rattle.std.proofs.lemmas.Bool.{cases_Bool}
 use Rattle.bag_path.specs.Lines.{Text, HasLines, lines_of}
 use Rattle.bag_path.proofs.LinesLemmas.{one_list}
-use Rattle.bag_tags.specs.declared.fault.LineCause.{LineCause}
-use Rattle.bag_tags.specs.declared.fault.LineCause.TheVariants.{NotUtf8}
-use Rattle.bag_tags.specs.declared.fault.LineFault.{LineFault}
-use Rattle.bag_tags.specs.declared.fault.TagFault.{TagFault}
-use Rattle.bag_tags.specs.declared.fault.TagFault.TheVariants as tag
+use Rattle.bag_tags.specs.declared.tag_fault.LineCause.{LineCause}
+use Rattle.bag_tags.specs.declared.tag_fault.LineCause.TheVariants.{NotUtf8}
+use Rattle.bag_tags.specs.declared.tag_fault.LineFault.{LineFault}
+use Rattle.bag_tags.specs.declared.tag_fault.TagFault.{TagFault}
+use Rattle.bag_tags.specs.declared.tag_fault.TagFault.TheVariants as tag
 use Rattle.bag_tags.specs.Words.{is_blank_line, without}
 use Rattle.bag_tags.specs.TagLines.{mark, TagLine, tag_lines, LeadsOn, IsRefused, Lead, IsTextOf, StopsAt, IsFirstFault, AreExact, Faults}
 use Rattle.bag_tags.proofs.DecisionLemmas.{decided_utf8}

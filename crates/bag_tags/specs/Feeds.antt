@@ -2,12 +2,12 @@
 use Rattle.std.specs.Prelude.{◌≡◌, ◌≤◌, ◌++◌, ℕ, List, [], Option, Some, None, length}
 use Rattle.bag_path.specs.declared.version.Version.{Version}
 use Rattle.bag_path.specs.Lines.{lines_of}
-use Rattle.bag_tags.specs.declared.fault.LineFault.{LineFault}
-use Rattle.bag_tags.specs.declared.fault.TagFault.{TagFault}
-use Rattle.bag_tags.specs.declared.fault.TagFault.TheVariants.{Line, Memory}
-use Rattle.bag_tags.specs.declared.feed.TagFeed.{TagFeed}
-use Rattle.bag_tags.specs.declared.feed.TagValue.{TagValue}
-use Rattle.bag_tags.specs.declared.feed.TagValue.TheVariants as value
+use Rattle.bag_tags.specs.declared.tag_fault.LineFault.{LineFault}
+use Rattle.bag_tags.specs.declared.tag_fault.TagFault.{TagFault}
+use Rattle.bag_tags.specs.declared.tag_fault.TagFault.TheVariants.{Line, Memory}
+use Rattle.bag_tags.specs.declared.tag_feed.TagFeed.{TagFeed}
+use Rattle.bag_tags.specs.declared.tag_feed.TagValue.{TagValue}
+use Rattle.bag_tags.specs.declared.tag_feed.TagValue.TheVariants as value
 use Rattle.bag_tags.specs.declared.last_line.LastLine.{LastLine}
 use Rattle.bag_tags.specs.declared.name.LineFile.{LineFile}
 use Rattle.bag_tags.specs.declared.name.LineFile.TheVariants.{Info, FetchList, Manifest}

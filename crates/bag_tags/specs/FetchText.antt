@@ -5,9 +5,9 @@ use Rattle.bag_path.specs.declared.path.PathFault.{PathFault}
 use Rattle.bag_path.specs.declared.version.Version.{Version}
 use Rattle.bag_path.specs.Paths.{IsPath, is_payload}
 use Rattle.bag_path.specs.Spellings.{Spells}
-use Rattle.bag_tags.specs.declared.fault.LineCause.{LineCause}
-use Rattle.bag_tags.specs.declared.fault.LineCause.TheVariants.{NoSeparator, BadUrl, BadLength, BadPath, WrongPlace}
-use Rattle.bag_tags.specs.declared.fault.LineFault.{LineFault}
+use Rattle.bag_tags.specs.declared.tag_fault.LineCause.{LineCause}
+use Rattle.bag_tags.specs.declared.tag_fault.LineCause.TheVariants.{NoSeparator, BadUrl, BadLength, BadPath, WrongPlace}
+use Rattle.bag_tags.specs.declared.tag_fault.LineFault.{LineFault}
 use Rattle.bag_tags.specs.Numerals.{IsNumeral}
 use Rattle.bag_tags.specs.Words.{IsNotBlank, IsCut}
 use Rattle.bag_tags.specs.TagLines.{IsTextOf, IsFirstFault}

@@ -4,9 +4,9 @@ use Rattle.bag_tags.specs.Octets.{colon}
 use Rattle.std.specs.List.{AllByRecursion}
 use Rattle.bag_path.specs.declared.version.Version.{Version}
 use Rattle.bag_path.specs.declared.version.Version.TheVariants.{V1, V097}
-use Rattle.bag_tags.specs.declared.fault.LineCause.{LineCause}
-use Rattle.bag_tags.specs.declared.fault.LineCause.TheVariants.{NoSeparator, BadLabel, NothingToContinue}
-use Rattle.bag_tags.specs.declared.fault.LineFault.{LineFault}
+use Rattle.bag_tags.specs.declared.tag_fault.LineCause.{LineCause}
+use Rattle.bag_tags.specs.declared.tag_fault.LineCause.TheVariants.{NoSeparator, BadLabel, NothingToContinue}
+use Rattle.bag_tags.specs.declared.tag_fault.LineFault.{LineFault}
 use Rattle.bag_tags.specs.Words.{IsBlank, IsNotBlank, begins_blank, ends_blank}
 use Rattle.bag_tags.specs.TagLines.{IsTextOf, IsFirstFault}
 use Rattle.bag_tags.specs.Infos.{MetadataElement, element_with_line, IsFit, IsNotColon}

@@ -9,9 +9,9 @@ use Rattle.bag_path.specs.Spellings.{Spells, RefusesSpelling}
 use Rattle.bag_digest.specs.declared.algorithm.Alg.{Alg}
 use Rattle.bag_digest.specs.declared.digest.Digest.{Digest}
 use Rattle.bag_digest.specs.Spelling.{SpellsDigest}
-use Rattle.bag_tags.specs.declared.fault.LineCause.{LineCause}
-use Rattle.bag_tags.specs.declared.fault.LineCause.TheVariants.{NoSeparator, BadDigest, BadPath, WrongPlace, Twice}
-use Rattle.bag_tags.specs.declared.fault.LineFault.{LineFault}
+use Rattle.bag_tags.specs.declared.tag_fault.LineCause.{LineCause}
+use Rattle.bag_tags.specs.declared.tag_fault.LineCause.TheVariants.{NoSeparator, BadDigest, BadPath, WrongPlace, Twice}
+use Rattle.bag_tags.specs.declared.tag_fault.LineFault.{LineFault}
 use Rattle.bag_tags.specs.declared.listing.Kind.{Kind}
 use Rattle.bag_tags.specs.declared.listing.Pair.{Pair}
 use Rattle.bag_tags.specs.Words.{IsNotBlank, IsCut, without}

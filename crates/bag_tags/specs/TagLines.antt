@@ -4,13 +4,13 @@ use Rattle.std.specs.Prelude.{◌≡◌, ◌⊎◌, ℕ, true, false, List, [], 
 use Rattle.std.specs.List.{enumerate_from}
 use Rattle.std.specs.Str.{IsUtf8}
 use Rattle.bag_path.specs.Lines.{Text, HasLines}
-use Rattle.bag_tags.specs.declared.fault.LineCause.{LineCause}
-use Rattle.bag_tags.specs.declared.fault.LineCause.TheVariants.{NotUtf8}
-use Rattle.bag_tags.specs.declared.fault.LineFault.{LineFault}
-use Rattle.bag_tags.specs.declared.fault.TagCause.{TagCause}
-use Rattle.bag_tags.specs.declared.fault.TagCause.TheVariants as cause
-use Rattle.bag_tags.specs.declared.fault.TagFault.{TagFault}
-use Rattle.bag_tags.specs.declared.fault.TagFault.TheVariants as fault
+use Rattle.bag_tags.specs.declared.tag_fault.LineCause.{LineCause}
+use Rattle.bag_tags.specs.declared.tag_fault.LineCause.TheVariants.{NotUtf8}
+use Rattle.bag_tags.specs.declared.tag_fault.LineFault.{LineFault}
+use Rattle.bag_tags.specs.declared.tag_fault.TagCause.{TagCause}
+use Rattle.bag_tags.specs.declared.tag_fault.TagCause.TheVariants as cause
+use Rattle.bag_tags.specs.declared.tag_fault.TagFault.{TagFault}
+use Rattle.bag_tags.specs.declared.tag_fault.TagFault.TheVariants as fault
 use Rattle.bag_tags.specs.Words.{is_blank_line, without}
 
 -- the byte order mark of UTF-8

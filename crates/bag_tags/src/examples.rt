@@ -5,7 +5,7 @@ ghost use Rattle.bag_digest.specs.declared.digest.Digest.TheVariants as digest;
 ghost use Rattle.bag_path.specs.declared.path.PathFault.TheVariants as path;
 ghost use Rattle.bag_path.specs.declared.version.Version.TheVariants.{V1, V097};
 ghost use Rattle.bag_tags.specs.declared.declaration.DeclFault.TheVariants as declaration;
-ghost use Rattle.bag_tags.specs.declared.fault.LineCause.TheVariants as cause;
+ghost use Rattle.bag_tags.specs.declared.tag_fault.LineCause.TheVariants as cause;
 ghost use Rattle.bag_tags.specs.declared.listing.Kind.TheVariants.{Payload, Tag};
 ghost use Rattle.bag_tags.specs.declared.name.TagName.TheVariants as name;
 ghost use Rattle.bag_tags.specs.Declarations.{IsDeclaration, IsDeclarationFault, current, version_of};

@@ -2,19 +2,19 @@
 ghost use Rattle.std.specs.Prelude.{◌≡◌, ◌<◌, ◌^◌, ◌++◌, ℕ, List, Option, IfErr, IfOk, IsErrOf, OnOk, IfSome, IfNone, MatchResult, true};
 ghost use Rattle.bag_path.specs.Paths.{is_payload};
 ghost use Rattle.bag_path.specs.declared.version.Version.TheVariants.{V1};
-ghost use Rattle.bag_tags.specs.declared.fault.LineFault.{LineFault};
+ghost use Rattle.bag_tags.specs.declared.tag_fault.LineFault.{LineFault};
 ghost use Rattle.bag_tags.specs.declared.fetch.FetchLine.{FetchLine};
 ghost use Rattle.bag_tags.specs.TagLines.{Causes};
 ghost use Rattle.bag_tags.specs.FetchEntries.{IsEntry, written_entry, written_length};
 ghost use Rattle.bag_tags.specs.Fetches.{numbered_from, written_fetch};
 ghost use Rattle.bag_tags.specs.FetchText.{AddsEntry, FetchText, FetchFault, AreWords, IsLength, LacksWord, GivesEntry, GivesNoEntry};
 
-use crate::fault::{LineCause, TagCause, TagFault};
 use crate::fetch::{Fetch, FetchEntry, FetchEntryFault, FetchLine, is_url};
 use crate::number::read_number;
 use crate::path_text::read_path;
-use crate::reading::{TagLines, read_onto};
 use crate::splitting::{Stop, split_text};
+use crate::tag_fault::{LineCause, TagCause, TagFault};
+use crate::tag_lines::{TagLines, read_onto};
 use bag_path::{Version, escape};
 use std::alloc::{AllocError, Global};
 

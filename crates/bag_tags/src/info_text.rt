@@ -4,16 +4,16 @@ ghost use Rattle.std.specs.List.{AllByRecursion};
 ghost use Rattle.bag_path.specs.Lines.{IsPlain};
 ghost use Rattle.bag_path.specs.declared.version.Version.{Version};
 ghost use Rattle.bag_path.specs.declared.version.Version.TheVariants.{V1, V097};
-ghost use Rattle.bag_tags.specs.declared.fault.LineFault.{LineFault};
+ghost use Rattle.bag_tags.specs.declared.tag_fault.LineFault.{LineFault};
 ghost use Rattle.bag_tags.specs.TagLines.{Causes};
 ghost use Rattle.bag_tags.specs.Words.{begins_blank, is_blank_line};
 ghost use Rattle.bag_tags.specs.Infos.{MetadataElement, IsElement, written_element, written_info, written_octet, written_value};
 ghost use Rattle.bag_tags.specs.InfoText.{Continues, GivesElement, GivesNoElement, HasFirstLine, HasLabel, HasParts, InfoText, InfoFault, LacksSeparator};
 
-use crate::fault::{LineCause, TagCause, TagFault};
 use crate::info::{Element, ElementFault, Info};
-use crate::reading::{TagLines, read_onto};
 use crate::splitting::{Stop, begins_blank, is_blank, split_text};
+use crate::tag_fault::{LineCause, TagCause, TagFault};
+use crate::tag_lines::{TagLines, read_onto};
 use bag_path::Version;
 use std::alloc::{AllocError, Global};
 

@@ -3,7 +3,7 @@ ghost use Rattle.std.specs.List.{AllByRecursion};
 ghost use Rattle.std.proofs.Props.{props};
 ghost use Rattle.bag_path.specs.Lines.{IsPlain};
 
-use crate::fault::TagFault;
+use crate::tag_fault::TagFault;
 use std::alloc::Global;
 
 /// The line in which the octets so far end. It may go on in the next piece.
@@ -23,7 +23,7 @@ impl LastLine {
     ghost use Rattle.std.specs.List.{AllByRecursion};
     ghost use Rattle.bag_path.specs.Lines.{IsPlain};
     ghost use Rattle.bag_path.specs.Octets.{lf};
-    ghost use Rattle.bag_tags.specs.declared.fault.TagFault.{TagFault};
+    ghost use Rattle.bag_tags.specs.declared.tag_fault.TagFault.{TagFault};
     ghost use Rattle.bag_tags.specs.Pieces.{IsBegun, IsLonger, IsNext};
 
     /// The first line, without an octet.

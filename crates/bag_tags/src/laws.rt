@@ -7,7 +7,7 @@ ghost use Rattle.std.specs.Cmp.Lexicographic.{slice_cmp};
 ghost use Rattle.bag_digest.specs.declared.algorithm.Alg.{Alg};
 ghost use Rattle.bag_path.specs.declared.version.Version.{Version};
 ghost use Rattle.bag_path.specs.declared.version.Version.TheVariants.{V1};
-ghost use Rattle.bag_tags.specs.declared.fault.LineFault.{LineFault};
+ghost use Rattle.bag_tags.specs.declared.tag_fault.LineFault.{LineFault};
 ghost use Rattle.bag_tags.specs.declared.listing.Kind.{Kind};
 ghost use Rattle.bag_tags.specs.declared.listing.Pair.{Pair};
 ghost use Rattle.bag_tags.specs.declared.name.LineFile.{LineFile};

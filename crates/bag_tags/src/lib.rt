@@ -2,8 +2,6 @@
 #![tactic(auto)]
 
 pub use declaration::{DeclFault, Declaration, read_declaration, write_declaration};
-pub use fault::{LineCause, LineFault, TagFault};
-pub use feed::{TagFeed, TagValue};
 pub use fetch::{Fetch, FetchEntry, FetchEntryFault, FetchLine, is_url};
 pub use fetch_text::{read_fetch, write_fetch};
 pub use info::{Element, ElementFault, Info};
@@ -14,11 +12,11 @@ pub use manifest_text::read_manifest;
 pub use manifest_writing::write_manifest;
 pub use name::{LineFile, ManifestName, TagName, unknown_algorithm};
 pub use oxum::Oxum;
+pub use tag_fault::{LineCause, LineFault, TagFault};
+pub use tag_feed::{TagFeed, TagValue};
 
 mod declaration;
 pub mod examples;
-mod fault;
-mod feed;
 mod fetch;
 mod fetch_text;
 mod info;
@@ -34,5 +32,7 @@ mod number;
 mod oxum;
 mod path_text;
 mod pieces;
-mod reading;
 mod splitting;
+mod tag_fault;
+mod tag_feed;
+mod tag_lines;

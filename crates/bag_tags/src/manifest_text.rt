@@ -1,16 +1,16 @@
 //! The text of a manifest (RFC 8493 section 2.1.3).
 ghost use Rattle.std.specs.Prelude.{◌≡◌, List, IfErr, IfOk, IsErrOf, MatchResult};
-ghost use Rattle.bag_tags.specs.declared.fault.LineFault.{LineFault};
+ghost use Rattle.bag_tags.specs.declared.tag_fault.LineFault.{LineFault};
 ghost use Rattle.bag_tags.specs.declared.listing.Pair.{Pair};
 ghost use Rattle.bag_tags.specs.TagLines.{Causes};
 ghost use Rattle.bag_tags.specs.Manifests.{plain_path, Gives, GivesNothing, ManifestText, ManifestFault};
 
-use crate::fault::{LineCause, TagCause, TagFault};
 use crate::listing::{Kind, Pair, PushFault};
 use crate::manifest::Manifest;
 use crate::path_text::read_path;
-use crate::reading::{TagLines, read_onto};
 use crate::splitting::{Stop, split_text};
+use crate::tag_fault::{LineCause, TagCause, TagFault};
+use crate::tag_lines::{TagLines, read_onto};
 use bag_digest::{Alg, Digest};
 use bag_path::Version;
 use std::alloc::Global;

@@ -5,7 +5,7 @@ ghost use Rattle.bag_path.specs.Spellings.{Spells};
 ghost use Rattle.bag_tags.specs.Manifests.{PathCause};
 ghost use Rattle.bag_tags.specs.TagLines.{Causes};
 
-use crate::fault::{LineCause, TagCause};
+use crate::tag_fault::{LineCause, TagCause};
 use bag_path::{BagPath, PathFault, Version, unescape};
 use std::alloc::Global;
 

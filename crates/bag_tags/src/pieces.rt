@@ -6,10 +6,10 @@ ghost use Rattle.bag_path.specs.declared.lines.Ending.{Ending};
 ghost use Rattle.bag_tags.specs.Pieces.{Awaits, is_cr, last_line, unmarked};
 ghost use Rattle.bag_tags.specs.TagLines.{Faults, IsTextOf, LeadsOn, RefusedAt, StopsAt};
 
-use crate::fault::TagFault;
 use crate::last_line::LastLine;
-use crate::reading::{TagLines, read_numbered};
 use crate::splitting::{MARK, without};
+use crate::tag_fault::TagFault;
+use crate::tag_lines::{TagLines, read_numbered};
 use bag_path::{Ending, Lines, Version};
 
 /// Reads the lines that end in the next piece, and keeps the octets of the last one. After an `Err` the value is not

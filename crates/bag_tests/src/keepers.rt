@@ -31,8 +31,8 @@ struct Fuse {
 
 impl Fuse {
     ghost use Rattle.std.specs.Prelude.{◌≡◌, ◌↔◌, IsTrue, MatchResult, false};
-    ghost use Rattle.bag_digest.specs.Device.{Rises};
-    ghost use Rattle.bag_ledger.specs.declared.fault.StoreFault.TheVariants.{Spent};
+    ghost use Rattle.bag_digest.specs.Failures.{Rises};
+    ghost use Rattle.bag_ledger.specs.declared.keeper_faults.StoreFault.TheVariants.{Spent};
 
     /// Counts one call, which the store accepts or refuses.
     fn take(&mut self) -> Result<(), StoreFault>

@@ -14,6 +14,8 @@ mod paths;
 #[cfg(test)]
 mod printing;
 #[cfg(test)]
+mod puts;
+#[cfg(test)]
 mod sinks;
 #[cfg(test)]
 mod sources;

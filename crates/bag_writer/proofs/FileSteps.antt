@@ -12,10 +12,10 @@ use Rattle.bag_digest.specs.declared.reading.SourceRead.TheVariants.{Whole, Hash
 use Rattle.bag_writer.specs.PayloadSteps.{AreOctetsOf, HasFrontFrom, IsCutShort, IsFoundOf, IsReadAs, IsTaken, IsReadUntil, IsReadWhole, IsWithin, unless_hole, Writes, WritesFront}
 use Rattle.bag_writer.specs.Sinks.{StaysOrIsLost, Stored, with_begun}
 use Rattle.bag_writer.specs.Steps.{ArePart, AreWhole, HasFrontOf}
-use Rattle.bag_writer.specs.declared.fault.Large.{Large}
-use Rattle.bag_writer.specs.declared.fault.Large.TheVariants.{File}
-use Rattle.bag_writer.specs.declared.fault.WriteFault.{WriteFault}
-use Rattle.bag_writer.specs.declared.fault.WriteFault.TheVariants.{TooLarge}
+use Rattle.bag_writer.specs.declared.write_fault.Large.{Large}
+use Rattle.bag_writer.specs.declared.write_fault.Large.TheVariants.{File}
+use Rattle.bag_writer.specs.declared.write_fault.WriteFault.{WriteFault}
+use Rattle.bag_writer.specs.declared.write_fault.WriteFault.TheVariants.{TooLarge}
 use Rattle.bag_writer.specs.declared.payload.CopyFault.{CopyFault}
 use Rattle.bag_writer.specs.declared.payload.CopyFault.TheVariants as copy
 use Rattle.bag_writer.proofs.StepLemmas.{begun_empty, begun_front, begun_lost, begun_more, front_part, HasBegun, part_none, part_whole}

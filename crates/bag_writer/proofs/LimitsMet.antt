@@ -13,7 +13,7 @@ use Rattle.bag_writer.proofs.SaidElements.{few_files, short}
 use Rattle.bag_writer.specs.FilledBags.{IsFilled, IsPayloadFor}
 use Rattle.bag_writer.specs.WrittenBags.{algs_in, listed_tags, manifest_of, tag_files}
 use Rattle.bag_writer.specs.declared.spec.Spec.{Spec}
-use Rattle.bag_writer.specs.declared.fault.Large.TheVariants as large
+use Rattle.bag_writer.specs.declared.write_fault.Large.TheVariants as large
 
 abbrev File : Type 0
 File = List ℕ × List ℕ

@@ -31,7 +31,7 @@ use Rattle.bag_writer.specs.FilledBags.{IsPayloadFor}
 use Rattle.bag_writer.specs.WrittenBags.{algs_in, fetch_files, listed_tags, manifest_of, pairs_by, tag_files}
 use Rattle.bag_writer.specs.declared.spec.Hole.{Hole}
 use Rattle.bag_writer.specs.declared.spec.Spec.{Spec}
-use Rattle.bag_writer.specs.declared.fault.Large.TheVariants as large
+use Rattle.bag_writer.specs.declared.write_fault.Large.TheVariants as large
 
 abbrev File : Type 0
 File = List ℕ × List ℕ

@@ -6,8 +6,8 @@ use Rattle.bag_rules.specs.Faults.{Has}
 use Rattle.bag_tags.specs.Infos.{MetadataElement, is_oxum}
 use Rattle.bag_writer.specs.Accepting.{RefusesHoles}
 use Rattle.bag_writer.specs.Writing.{GivesOxum, HasAlgorithm, IsMetBefore, Refuses}
-use Rattle.bag_writer.specs.declared.fault.WriteFault.{WriteFault}
-use Rattle.bag_writer.specs.declared.fault.WriteFault.TheVariants.{BadHole, Clash, Memory, NoAlgorithm, OxumGiven, Sink, TooLarge, Tree}
+use Rattle.bag_writer.specs.declared.write_fault.WriteFault.{WriteFault}
+use Rattle.bag_writer.specs.declared.write_fault.WriteFault.TheVariants.{BadHole, Clash, Memory, NoAlgorithm, OxumGiven, Sink, TooLarge, Tree}
 use Rattle.bag_writer.specs.declared.spec.Spec.{Spec}
 
 pub some_oxum : (elements : List MetadataElement) → list_any is_oxum elements ≡ true → (element : MetadataElement) × Has elements element × (is_oxum element ≡ true)

@@ -1,7 +1,7 @@
 -- Calls of a sink that didn't fail, and errors that are passed on.
 use Rattle.std.proofs.Common.{◌≡◌, ℕ, Err, IsErrOf, ap}
 use Rattle.bag_writer.specs.Sinks.{UsesSink}
-use Rattle.bag_writer.specs.declared.fault.WriteFault.{WriteFault}
+use Rattle.bag_writer.specs.declared.write_fault.WriteFault.{WriteFault}
 
 pub err_again : {X Y : Type 0} {y z : WriteFault} → IsErrOf {T = X} (Err y) z → IsErrOf {T = Y} (Err y) z
 err_again {X} {Y} {y} {z} e = let k : y ≡ z = cc in ap Err k

@@ -2,18 +2,18 @@
 use Rattle.std.proofs.Common.{◌≡◌, ◌∙◌, ◌<◌, ◌++◌, ◌∷◌, [], ℕ, Bool, List, OnOk, Option, Result, Some, None, append-nil, append_assoc, drop, length, take, refl, sym, subst, inl, inr}
 use Rattle.std.proofs.lemmas.List.{take-append-drop}
 use Rattle.std.specs.Option.{option_map}
-use Rattle.bag_digest.specs.Device.{Rises}
+use Rattle.bag_digest.specs.Failures.{Rises}
 use Rattle.bag_rules.specs.declared.limits.TheConstants.{LARGEST_TAG_FILE}
 use Rattle.bag_rules.proofs.Words.{AlgSet, Files, Has}
 use Rattle.bag_writer.specs.Sinks.{StaysOrIsLost, Stored, with_begun, with_ended, with_octets}
 use Rattle.bag_writer.specs.Steps.{AreItemsOf, ArePart, AreWhole, HasFrontOf, NamesLong, with_whole, with_wholes}
 use Rattle.bag_writer.specs.TagWriting.{AddsItems, AreFree, WritesAll, WritesFiles}
 use Rattle.bag_writer.specs.Writing.{HasLongFile}
-use Rattle.bag_writer.specs.declared.fault.Large.{Large}
-use Rattle.bag_writer.specs.declared.fault.Large.TheVariants.{TagFile}
-use Rattle.bag_writer.specs.declared.fault.WriteFault.{WriteFault}
+use Rattle.bag_writer.specs.declared.write_fault.Large.{Large}
+use Rattle.bag_writer.specs.declared.write_fault.Large.TheVariants.{TagFile}
+use Rattle.bag_writer.specs.declared.write_fault.WriteFault.{WriteFault}
 use Rattle.bag_writer.specs.declared.item.Item.{Item}
-use Rattle.bag_writer.specs.declared.fault.WriteFault.TheVariants.{Memory, Sink, TooLarge, Tree}
+use Rattle.bag_writer.specs.declared.write_fault.WriteFault.TheVariants.{Memory, Sink, TooLarge, Tree}
 use Rattle.bag_writer.proofs.StepLemmas.{begun_empty, begun_ended, begun_front, begun_lost, begun_more, front_part, part_after, part_more, part_none, part_whole, whole_none, whole_on}
 
 abbrev File : Type 0

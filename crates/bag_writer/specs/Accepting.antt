@@ -3,8 +3,8 @@ use Rattle.std.specs.Prelude.{◌≡◌, ◌⊎◌, ◌++◌, ◌∷◌, [], ℕ
 use Rattle.bag_tags.specs.FetchEntries.{IsUrl}
 use Rattle.bag_writer.specs.Steps.{is_hole}
 use Rattle.bag_writer.specs.Writing.{IsFirstBadHole}
-use Rattle.bag_writer.specs.declared.fault.WriteFault.{WriteFault}
-use Rattle.bag_writer.specs.declared.fault.WriteFault.TheVariants.{BadHole, Memory}
+use Rattle.bag_writer.specs.declared.write_fault.WriteFault.{WriteFault}
+use Rattle.bag_writer.specs.declared.write_fault.WriteFault.TheVariants.{BadHole, Memory}
 use Rattle.bag_writer.specs.declared.spec.Hole.{Hole}
 
 -- a hole that may follow these: it is a payload file, has a URL and is none of them

@@ -1,6 +1,6 @@
 -- A sink in memory, in terms of what it holds.
 use Rattle.std.specs.Prelude.{ℕ, Bool, Option, Some, None, is_some}
-use Rattle.bag_digest.specs.Device.{one_more}
+use Rattle.bag_digest.specs.Failures.{one_more}
 use Rattle.bag_rules.specs.Bags.{Bag}
 use Rattle.bag_rules.specs.Memory.{MemFiles}
 use Rattle.bag_writer.specs.Sinks.{Stored, nothing_stored}

@@ -10,10 +10,10 @@ use Rattle.bag_rules.specs.Files.{Files}
 use Rattle.bag_rules.specs.declared.limits.TheConstants.{LARGEST_FILE}
 use Rattle.bag_writer.specs.Sinks.{Stored, with_octets}
 use Rattle.bag_writer.specs.Steps.{ArePart, AreWhole, HasFrontOf}
-use Rattle.bag_writer.specs.declared.fault.Large.{Large}
-use Rattle.bag_writer.specs.declared.fault.Large.TheVariants.{File}
-use Rattle.bag_writer.specs.declared.fault.WriteFault.{WriteFault}
-use Rattle.bag_writer.specs.declared.fault.WriteFault.TheVariants.{TooLarge}
+use Rattle.bag_writer.specs.declared.write_fault.Large.{Large}
+use Rattle.bag_writer.specs.declared.write_fault.Large.TheVariants.{File}
+use Rattle.bag_writer.specs.declared.write_fault.WriteFault.{WriteFault}
+use Rattle.bag_writer.specs.declared.write_fault.WriteFault.TheVariants.{TooLarge}
 use Rattle.bag_writer.specs.declared.payload.CopyFault.{CopyFault}
 use Rattle.bag_writer.specs.declared.payload.CopyFault.TheVariants as copy
 

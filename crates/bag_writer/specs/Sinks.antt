@@ -4,7 +4,7 @@ use Rattle.std.specs.Option.{option_map}
 use Rattle.std.specs.Ordering.{nat_cmp}
 use Rattle.std.specs.Cmp.Lexicographic.{slice_cmp}
 use Rattle.std.specs.BTreeMap.{insert_entry}
-use Rattle.bag_digest.specs.Device.{CountsIf}
+use Rattle.bag_digest.specs.Failures.{CountsIf}
 use Rattle.bag_path.specs.Paths.{is_payload}
 use Rattle.bag_rules.specs.Bags.{Bag, paths_of}
 

@@ -8,8 +8,8 @@ ghost use Rattle.bag_writer.specs.Steps.{AreHoleMarks};
 ghost use Rattle.bag_writer.specs.Writing.{IsAccepted, IsBadHole, IsMetBefore, Refuses, payload_paths};
 ghost use Rattle.bag_writer.specs.declared.spec.Hole.{Hole};
 
-use crate::fault::WriteFault;
 use crate::spec::{Hole, Spec};
+use crate::write_fault::WriteFault;
 use bag_path::BagPath;
 use bag_rules::{Paths, find, first_folder};
 use bag_tags::is_url;

@@ -2,11 +2,11 @@
 ghost use Rattle.std.specs.Prelude.{◌≡◌, ◌<◌, ◌≤◌, ◌++◌, ◌∷◌, [], ℕ, List, IfErr, IfOk, vec_len};
 ghost use Rattle.bag_digest.specs.declared.algorithm.AlgSet.{AlgSet};
 ghost use Rattle.bag_rules.specs.Files.{Files};
-ghost use Rattle.bag_writer.specs.declared.fault.WriteFault.{WriteFault};
+ghost use Rattle.bag_writer.specs.declared.write_fault.WriteFault.{WriteFault};
 ghost use Rattle.bag_writer.specs.declared.items.TheConstants.{MOST_HELD};
 
-use crate::fault::WriteFault;
 use crate::item::Item;
+use crate::write_fault::WriteFault;
 use bag_digest::{AlgSet, SourceRead, digest_each};
 use bag_path::BagPath;
 use std::alloc::Global;

@@ -1,15 +1,14 @@
 //! The writer of bags: makes a bag of version 1.0 from a payload and a specification (RFC 8493 section 2).
 #![tactic(auto)]
 
-pub use fault::{Large, WriteFault};
 pub use mem_sink::MemSink;
 pub use sink::{Sink, add_file};
 pub use spec::{Hole, Spec};
+pub use write_fault::{Large, WriteFault};
 pub use writing::{payload_count, write_bag};
 
 mod accepting;
 pub mod examples;
-mod fault;
 pub mod fitting;
 mod item;
 mod items;
@@ -20,4 +19,5 @@ mod payload;
 mod sink;
 mod spec;
 mod tags;
+mod write_fault;
 mod writing;

@@ -9,10 +9,10 @@ ghost use Rattle.bag_writer.specs.TagWriting.{IsManifestLong};
 ghost use Rattle.bag_writer.specs.WrittenBags.{fetch_files};
 ghost use Rattle.bag_writer.specs.Writing.{HasLongFile, IsLarge, IsTooLarge, empty_files, payload_paths};
 
-use crate::fault::Large;
 use crate::spec::{Hole, Spec};
 use crate::tags::tag_file::{manifest_path, tag_path};
 use crate::tags::texts::info_text;
+use crate::write_fault::Large;
 use bag_digest::{Alg, AlgSet};
 use bag_path::BagPath;
 use bag_rules::Paths;

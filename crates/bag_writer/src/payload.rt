@@ -1,6 +1,6 @@
 //! Writes the payload. Each file is read once, for the sink and for its digests.
 ghost use Rattle.std.specs.Prelude.{◌≡◌, ◌⊎◌, ◌++◌, ◌∷◌, ◌<◌, [], ℕ, List, Option, Some, IfErr, IsErrOf, MatchResult, false, length, slice_get};
-ghost use Rattle.bag_digest.specs.Device.{UsesSource};
+ghost use Rattle.bag_digest.specs.Failures.{UsesSource};
 ghost use Rattle.bag_rules.specs.Files.{Files};
 ghost use Rattle.bag_rules.specs.Trees.{UsesTree, paths_in};
 ghost use Rattle.bag_rules.specs.declared.limits.TheConstants.{LARGEST_FILE};
@@ -8,15 +8,15 @@ ghost use Rattle.bag_writer.specs.Sinks.{ClosesSink, IsFree, UsesClosedSink, Use
 ghost use Rattle.bag_writer.specs.PayloadSteps.{HasFrontFrom, IsCutShort, IsReadAs, IsReadUntil, IsReadWhole, IsTaken, Writes, WritesFront, unless_hole};
 ghost use Rattle.bag_writer.specs.Steps.{AreHoleMarks, AreItemsOf, ArePart, AreWhole, HasNoFile, NamesLong, ReadsPayload, written_payload};
 ghost use Rattle.bag_writer.specs.Writing.{HasLongFile, IsMetLater, IsReadFrom};
-ghost use Rattle.bag_writer.specs.declared.fault.Large.{Large};
-ghost use Rattle.bag_writer.specs.declared.fault.WriteFault.{WriteFault};
+ghost use Rattle.bag_writer.specs.declared.write_fault.Large.{Large};
+ghost use Rattle.bag_writer.specs.declared.write_fault.WriteFault.{WriteFault};
 ghost use Rattle.bag_writer.specs.declared.payload.CopyFault.{CopyFault};
 
-use crate::fault::{Large, WriteFault};
 use crate::item::Item;
 use crate::items::Items;
 use crate::sink::Sink;
 use crate::spec::Spec;
+use crate::write_fault::{Large, WriteFault};
 use bag_digest::{
     AlgSet, Failed, Multi, PIECE, Source, SourceFault, SourceRead, fill, read_or_digest,
 };
@@ -84,7 +84,7 @@ pub(crate) fn write_payload<T: Tree, S: Sink>(
 ///
 /// # Errors
 ///
-/// Those of [`write_payload`].
+/// Those of [`write_payload`]. If memory runs out, neither the tree nor the sink was used.
 fn write_file<T: Tree, S: Sink>(
     buffer: &mut [u8],
     tree: &mut T,
@@ -99,7 +99,8 @@ fn write_file<T: Tree, S: Sink>(
         → (file : List ℕ × List ℕ) × IsReadAs shown file × MatchResult result
         (IsTaken set is_hole file (S.stored sink.old) (S.stored sink.new) buffer.new)
         (IsCutShort is_hole file (S.stored sink.old) (S.stored sink.new)) }
-    ensures err { IfErr result IsMetLater }
+    ensures err { IfErr result (λ fault. IsMetLater fault × (fault ≡ WriteFault.Memory
+        → (tree.new ≡ tree.old) × (sink.new ≡ sink.old))) }
     ensures tree { UsesTree T.shown T.failures T.sure tree.old tree.new
         (IsErrOf result WriteFault.Tree) }
     ensures sink { UsesClosedSink S.is_open S.failures S.sure sink.old sink.new

@@ -11,13 +11,13 @@ ghost use Rattle.bag_writer.specs.Steps.{AreItemsOf, ArePart, AreWhole, HasPaylo
 ghost use Rattle.bag_writer.specs.TagWriting.{AddsItems, CanBeFetched, CanBeListed, WritesFiles};
 ghost use Rattle.bag_writer.specs.WrittenBags.{algs_in, bagit_file, fetch_files, info_file, listed_tags, manifest_of, tag_files};
 ghost use Rattle.bag_writer.specs.Writing.{HasLongFile, IsMetLater, oxum_of};
-ghost use Rattle.bag_writer.specs.declared.fault.Large.{Large};
-ghost use Rattle.bag_writer.specs.declared.fault.WriteFault.{WriteFault};
+ghost use Rattle.bag_writer.specs.declared.write_fault.Large.{Large};
+ghost use Rattle.bag_writer.specs.declared.write_fault.WriteFault.{WriteFault};
 
-use crate::fault::WriteFault;
 use crate::item::Item;
 use crate::sink::Sink;
 use crate::spec::Spec;
+use crate::write_fault::WriteFault;
 use bag_digest::{Alg, AlgSet};
 use bag_tags::{Kind, Oxum, write_declaration};
 use std::alloc::Global;

@@ -5,15 +5,15 @@ ghost use Rattle.bag_rules.specs.Trees.{AreRising, UsesTree, paths_in};
 ghost use Rattle.bag_writer.specs.Sinks.{IsEmptySink, UsesClosedSink};
 ghost use Rattle.bag_writer.specs.Steps.{IsAcceptedWith, ReadsPayload};
 ghost use Rattle.bag_writer.specs.Writing.{IsAccepted, IsDone, IsMetLater, IsOfDevice, IsRefusedUnwritten, Refuses, payload_paths};
-ghost use Rattle.bag_writer.specs.declared.fault.WriteFault.{WriteFault};
+ghost use Rattle.bag_writer.specs.declared.write_fault.WriteFault.{WriteFault};
 
 use crate::accepting::accepted_holes;
-use crate::fault::WriteFault;
 use crate::measuring::large_if_empty;
 use crate::payload::{BUFFER, write_payload};
 use crate::sink::Sink;
 use crate::spec::Spec;
 use crate::tags::write_tag_files;
+use crate::write_fault::WriteFault;
 use bag_digest::buffer_of;
 use bag_rules::{Paths, Tree};
 use bag_tags::Oxum;

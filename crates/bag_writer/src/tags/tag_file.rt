@@ -7,9 +7,9 @@ ghost use Rattle.bag_tags.specs.Names.{manifest_file};
 ghost use Rattle.bag_writer.specs.Steps.{IsItemOf};
 ghost use Rattle.bag_writer.specs.TagWriting.{AddsItems, WritesFiles};
 
-use crate::fault::{Large, WriteFault};
 use crate::item::Item;
 use crate::sink::{Sink, add_file};
+use crate::write_fault::{Large, WriteFault};
 use bag_digest::{Alg, AlgSet, Multi};
 use bag_path::{BagPath, PathFault};
 use bag_rules::limits::LARGEST_TAG_FILE;

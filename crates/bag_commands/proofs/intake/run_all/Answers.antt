@@ -1,10 +1,10 @@
 use Rattle.std.proofs.Common.{◌≡◌, ◌≢◌, ◌∙◌, ◌++◌, ◌∷◌, [], get_or, max, refl, rules, subst, sym, List, OnErr, OnOk}
-use Rattle.bag_digest.specs.Device.{Rises}
+use Rattle.bag_digest.specs.Failures.{Rises}
 use Rattle.bag_receiver.specs.declared.run.End.TheVariants.{Done}
 use Rattle.bag_commands.specs.Intakes.{IsRun, TakesIn}
 use Rattle.bag_commands.specs.IntakesInside.{told_of}
 use Rattle.bag_commands.specs.IntakeTexts.{Told, intake_lines, intake_status, run_lines, run_status}
-use Rattle.bag_commands.specs.Printing.{WroteLines}
+use Rattle.bag_commands.specs.Outputs.{WroteLines}
 use Rattle.bag_commands.proofs.IntakeLemmas.{answered, status_more, wrote_no_more, wrote_on}
 use Rattle.bag_commands.proofs.RunsTaken.{ends_there, goes_on, left_on, stops_here}
 use Rattle.bag_commands.proofs.intake.run_all.Goals.{else-loop-courier-test, then-loop-courier-test+then-ne, then-is_ok, else-is_ok}

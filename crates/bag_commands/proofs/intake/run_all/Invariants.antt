@@ -1,8 +1,8 @@
 use Rattle.std.proofs.Common.{◌≡◌, List, OnErr, OnOk, drop, take}
-use Rattle.bag_digest.specs.Device.{Rises}
+use Rattle.bag_digest.specs.Failures.{Rises}
 use Rattle.bag_commands.specs.Intakes.{IsRun}
 use Rattle.bag_commands.specs.IntakeTexts.{Told, intake_lines, intake_status}
-use Rattle.bag_commands.specs.Printing.{WroteLines}
+use Rattle.bag_commands.specs.Outputs.{WroteLines}
 use Rattle.bag_commands.proofs.RunsTaken.{Ran}
 use Rattle.bag_commands.proofs.intake.run_all.Given as goal
 

@@ -1,6 +1,6 @@
 use Rattle.std.proofs.Common.{take}
 use Rattle.bag_commands.specs.IntakeTexts.{answer_lines}
-use Rattle.bag_commands.specs.Printing.{WroteLines}
+use Rattle.bag_commands.specs.Outputs.{WroteLines}
 use Rattle.bag_commands.proofs.intake.write_answers.Given as goal
 
 abbrev pub invariant-loop-n : goal.invariant-loop-n

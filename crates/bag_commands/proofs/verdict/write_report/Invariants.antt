@@ -1,5 +1,5 @@
 use Rattle.std.proofs.Common.{map, take}
-use Rattle.bag_commands.specs.Printing.{WroteLines}
+use Rattle.bag_commands.specs.Outputs.{WroteLines}
 use Rattle.bag_commands.specs.FaultTexts.{fault_text}
 use Rattle.bag_commands.proofs.verdict.write_report.Given as goal
 

@@ -1,5 +1,5 @@
 use Rattle.std.proofs.Common.{◌+◌, ◌-◌, ℕ, List, ◌++◌}
-use Rattle.bag_digest.specs.Device.{UsesSource}
+use Rattle.bag_digest.specs.Failures.{UsesSource}
 use Rattle.bag_digest.specs.declared.algorithm.AlgSet.{AlgSet}
 use Rattle.bag_digest.specs.Hash.{Holds}
 use Rattle.bag_digest.proofs.Progress.{HasGiven}

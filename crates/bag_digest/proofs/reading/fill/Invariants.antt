@@ -1,5 +1,5 @@
 use Rattle.std.proofs.Common.{◌≡◌, ◌-◌, length, take}
-use Rattle.bag_digest.specs.Device.{UsesSource}
+use Rattle.bag_digest.specs.Failures.{UsesSource}
 use Rattle.bag_digest.proofs.Progress.{HasGiven}
 use Rattle.bag_digest.proofs.reading.fill.Given as goal
 

@@ -1,5 +1,5 @@
 use Rattle.std.proofs.Common.{◌+◌, ◌-◌}
-use Rattle.bag_digest.specs.Device.{UsesSource}
+use Rattle.bag_digest.specs.Failures.{UsesSource}
 use Rattle.bag_digest.proofs.Progress.{HasGiven}
 use Rattle.bag_digest.proofs.reading.read_to_end_within.Given as goal
 

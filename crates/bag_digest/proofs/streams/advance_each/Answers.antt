@@ -20,6 +20,8 @@ returns-in-Err-clause-advanced g c = λ set start hashed.
       stopped = λ was is at now.
           let own : c.advance.new.stream ≡ is = same_Some _ is (sym (set_here xs k c.advance.new.stream inside) ∙ now) in
           rw (← own) (c.in-Err.ensures.advanced set was (before.1 k was _ (omega arith) c.loop-k-test.true at (there ∙ ap Some c.index-streams-k-then-is_none.is)));
+      behind = λ j a b past to at now.
+          (before.1 j a b (omega (arith, past)) to at (sym (set_there xs k j c.advance.new.stream (λ e. omega (arith, e, past))) ∙ now)).uses.kept;
     }
 
 pub returns-in-Err-clause-others : goal.returns-in-Err-clause-others

@@ -1,4 +1,4 @@
-use Rattle.std.proofs.Common.{◌≡◌, ◌≤◌, ◌∙◌, arith, inr, rules, length}
+use Rattle.std.proofs.Common.{◌≡◌, ◌≤◌, ◌∙◌, arith, inr, rules, length, sym}
 use Rattle.std.proofs.lemmas.Result.{err_from_is_err_and}
 use Rattle.bag_digest.proofs.StreamLemmas.{ended_more, first_more}
 use Rattle.bag_digest.proofs.streams.digest_streams.Goals as goal
@@ -20,10 +20,20 @@ fours-preserved g c =
     let s = g.S.Source in
     let before = c.fours.invariant in
     let after = c.in_ok-digest_four.ensures in
-    let low : c.fours.first ≤ c.min-end.result = search rules in
+    let low : c.fours.first ≤ c.next_end-end.result = omega (arith, c.next_end-end.ensures.0) in
     record {
       inside = search rules;
       count = search rules;
       ended = ended_more s.remaining s.failures s.ready s.keeps c.args.set c.args.limit c.fours.first c.args.streams.now c.fours.streams c.digest_four.new.streams before.later before.ended _ _ after.others after.ended;
       later = λ k from. after.others k (inr from) ∙ before.later k (omega (arith, from, low));
+    }
+
+pub digest_four-requires-clause-fresh : goal.digest_four-requires-clause-fresh
+digest_four-requires-clause-fresh g c =
+    let before = c.fours.invariant in
+    record {
+      some = c.next_end-end.ensures.0;
+      few = c.next_end-end.ensures.1;
+      inside = c.next_end-end.ensures.2;
+      fresh = λ k stream from to at. c.requires.fresh k stream (omega arith) (omega (arith, to, c.next_end-end.ensures.2, before.count)) (sym (before.later k from) ∙ at);
     }

@@ -1,5 +1,5 @@
 use Rattle.std.proofs.Common.{◌∙◌, arith}
-use Rattle.bag_ledger.specs.declared.fault.KeepFault.TheVariants.{Store}
+use Rattle.bag_ledger.specs.declared.keeper_faults.KeepFault.TheVariants.{Store}
 use Rattle.bag_receiver.proofs.AuditLemmas.{all_hashed, hashed_more, none_is_read, reads_on, taken_more, taken_wanted, told_wanted}
 use Rattle.bag_receiver.proofs.CountLemmas.{no_fault}
 use Rattle.bag_receiver.proofs.audit.is_wanted.Goals as goal

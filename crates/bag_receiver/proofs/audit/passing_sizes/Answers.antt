@@ -1,5 +1,5 @@
 use Rattle.std.proofs.Common.{rules, ◌≡◌, ◌∙◌, ◌++◌, ◌∷◌, [], true, false, length, refl, sym, ap, arith}
-use Rattle.bag_ledger.specs.declared.fault.KeepFault.TheVariants.{Store}
+use Rattle.bag_ledger.specs.declared.keeper_faults.KeepFault.TheVariants.{Store}
 use Rattle.bag_rules.specs.declared.plan.ItemSize.{ItemSize}
 use Rattle.bag_receiver.specs.Holdings.{SomePass}
 use Rattle.bag_receiver.proofs.AuditLemmas.{all_more, counts_none, counts_since, kept_one, no_store, none_left, reads_nothing, reads_on, room_after, still_passes}

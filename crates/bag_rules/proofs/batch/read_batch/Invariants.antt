@@ -1,20 +1,23 @@
 use Rattle.std.proofs.Common.{◌≡◌, ◌<◌, ◌-◌, length}
-use Rattle.bag_rules.specs.BatchInside.{AreReadings, IsNext}
-use Rattle.bag_rules.proofs.Words.{Bag, IsBagOf, IsLongRead, NoneStopsBefore, paths_in, UsesTree}
+use Rattle.bag_rules.specs.BatchInside.{next_of}
+use Rattle.bag_rules.specs.Gathering.{AreGathered, AreOpen, AreReady}
+use Rattle.bag_rules.specs.Returning.{LeavesOut}
+use Rattle.bag_rules.proofs.Words.{paths_in}
 use Rattle.bag_rules.proofs.batch.read_batch.Given as goal
 
 abbrev pub invariant-files : goal.invariant-files
 invariant-files g l =
     let shown = g.T.Paths.shown l.fn.tree in
-    let stops = IsLongRead l.fn.wants.manifests.now in
+    let file = g.T.File in
     record {
-      first : l.batch.first ≡ l.fn.first;
-      next : IsNext l.batch l.place;
-      readings : AreReadings shown l.fn.wants l.batch;
+      first : l.gathered.batch.first ≡ l.fn.first;
+      next : l.place ≡ next_of l.gathered.batch;
+      are_open : AreOpen file.OpenFile.place file.Source.remaining file.Source.failures shown l.gathered;
+      ready : g.T.Tree.sure l.fn.tree → AreReady file.Source.ready l.gathered.streams.items;
+      gathered : AreGathered file.OpenFile.place file.Source.remaining shown l.fn.wants l.gathered;
       count : l.count ≡ length (paths_in shown);
       inside : l.place < length (paths_in shown);
-      none : (bag : Bag) → IsBagOf shown bag → NoneStopsBefore l.fn.first bag stops → NoneStopsBefore l.place bag stops;
-      used : UsesTree g.T.Paths.shown g.T.Source.failures g.T.Tree.sure l.fn.tree l.tree ⊥;
+      out : LeavesOut g.T.Paths.shown g.T.Source.failures g.T.Tree.sure 0 (length l.gathered.streams.items) l.fn.tree l.tree;
       room : length l.buffer ≡ length l.fn.buffer;
     }
 

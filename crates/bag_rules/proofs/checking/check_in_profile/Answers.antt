@@ -14,7 +14,7 @@ returns-in_err-add_file_faults-clause-limits g c = λ bag is profile.
     let is_after = c.in_ok-texts.ensures.reads.tree.same ∙ is in
     let texts = c.in_ok-texts.ensures.read bag is profile.1 in
     let none = declared_none bag _ (rises bag is c.requires.ready.1) profile.0.declared.declares in
-    let formed = form_found bag _ _ _ c.new-faults.ensures.items (c.in_ok-texts.ensures.faulty bag is profile.1) (c.in_ok-add_form_faults.ensures.added bag is_after texts) in
+    let formed = form_found bag _ _ _ c.new-faults.ensures.items (c.in_ok-texts.ensures.faulty bag is profile.1) (c.in_ok-add_form_faults.ensures bag is_after texts) in
     let empty : (length c.add_form_faults.new.faults.items == 0) ≡ true = search rules in
     let p = err_from_is_err_and c.from_residual-in_err-add_file_faults.result c.from_residual-in_err-add_file_faults.ensures.1 in
     rw p.1 (rw p.2 (stopped_so (FirstStops bag (FileStops bag)) (ProfileStops bag) c.in_err-add_file_faults.field-0.0
@@ -26,7 +26,7 @@ returns-clause-verdict g c = λ bag is profile.
     let is_after = c.in_ok-texts.ensures.reads.tree.same ∙ is in
     let texts = c.in_ok-texts.ensures.read bag is profile.1 in
     let none = declared_none bag _ (rises bag is c.requires.ready.1) profile.0.declared.declares in
-    let formed = form_found bag _ _ _ c.new-faults.ensures.items (c.in_ok-texts.ensures.faulty bag is profile.1) (c.in_ok-add_form_faults.ensures.added bag is_after texts) in
+    let formed = form_found bag _ _ _ c.new-faults.ensures.items (c.in_ok-texts.ensures.faulty bag is profile.1) (c.in_ok-add_form_faults.ensures bag is_after texts) in
     elim c.if-is_empty.branch [
       | then-is_empty+in_ok-add_file_faults w ↦
           let empty : (length c.add_form_faults.new.faults.items == 0) ≡ true = search rules in
@@ -50,7 +50,7 @@ returns-clause-limits g c = λ bag is profile fault stops.
         | then-is_empty+in_ok-add_file_faults w ↦ limit.none_first bag _ fault (w.in_ok-add_file_faults.ensures.limits bag is_after texts) file.2
         | else-is_empty w ↦
             let none = declared_none bag _ (rises bag is c.requires.ready.1) profile.0.declared.declares in
-            let formed = form_found bag _ _ _ c.new-faults.ensures.items (c.in_ok-texts.ensures.faulty bag is profile.1) (c.in_ok-add_form_faults.ensures.added bag is_after texts) in
+            let formed = form_found bag _ _ _ c.new-faults.ensures.items (c.in_ok-texts.ensures.faulty bag is profile.1) (c.in_ok-add_form_faults.ensures bag is_after texts) in
             form_some bag c.add_form_faults.new.faults.items formed (search rules) file.1
       ]
     ]

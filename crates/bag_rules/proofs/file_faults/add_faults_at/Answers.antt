@@ -8,8 +8,8 @@ use Rattle.bag_rules.proofs.TreeLemmas.{named_here}
 use Rattle.bag_rules.proofs.Words.{Adds, given_at, is_payload, IsFaultIn, lists_by, payload_length}
 use Rattle.bag_rules.proofs.file_faults.add_faults_at.Goals as goal
 
-pub returns-in-None-clause-added : goal.returns-in-None-clause-added
-returns-in-None-clause-added g c = λ are path octets at.
+pub returns-in-None : goal.returns-in-None
+returns-in-None g c = λ are path octets at.
     let wants = c.args.wants.now in
     let unread = subst (IsSumsOf wants path octets) c.in-None.is (c.sums.ensures (g.T.Paths.shown c.args.tree.now) wants path octets are at) in
     let other : is_payload path ≡ false = unread_tag wants path unread in (
@@ -17,14 +17,14 @@ returns-in-None-clause-added g c = λ are path octets at.
       adds_none c.args.faults.now.items (IsFaultIn wants path octets) (no_faults_by wants.version wants.manifests.now (given_at wants.lengths path) path octets unread (c.requires.ready.1 path other)),
     )
 
-pub returns-clause-added : goal.returns-clause-added
-returns-clause-added g c = λ are path octets at.
+pub returns : goal.returns
+returns g c = λ are path octets at.
     let wants = c.args.wants.now in
     let own = c.in_ok-path.path in
     let here : own ≡ path = (let k : own ≡ c.path.result.now = search rules in k ∙ sym (named_here at c.path.ensures)) in
     let found = subst (IsSumsOf wants path octets) c.in-Some.is (c.sums.ensures (g.T.Paths.shown c.args.tree.now) wants path octets are at) in
     let sums = found.sums.sums in
-    let added = c.in_ok-add_faults_of-in-Some.ensures.added found.set octets sums
+    let added = c.in_ok-add_faults_of-in-Some.ensures found.set octets sums
     (λ alg listed. found.covers alg (subst (λ p. lists_by wants.manifests.now p alg ≡ true) (c.of.ensures.path_is ∙ here) (subst (λ ms. lists_by ms c.of.result.path.now alg ≡ true) c.of.ensures.manifests listed))) in (
       c.then_some.ensures ∙ ap (λ b. then_some b c.in-Some.sums.0) c.is_payload.ensures ∙ ap (then_some (is_payload own)) sums.count ∙ ap (λ p. payload_length p octets) here,
       subst (λ p. Adds c.args.faults.now.items c.add_faults_of.new.faults.items (IsFaultIn wants p octets)) here

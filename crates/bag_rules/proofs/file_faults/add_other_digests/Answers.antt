@@ -27,7 +27,7 @@ loop-manifest-preserved c =
           (let k : None ≡ Some digest = sym none ∙ c.get.ensures.listed ∙ some in cc)))
     ])
 
-pub returns-clause-added : goal.returns-clause-added
-returns-clause-added c =
+pub returns : goal.returns
+returns c =
     let n : c.loop-manifest.manifest-index ≡ length c.args.want.now.manifests.now = omega arith in
     each_all c.args.want.now.manifests.now c.loop-manifest.manifest-index (IsOtherDigest c.args.want.now.path.now c.args.digests.now) _ _ n c.loop-manifest.invariant

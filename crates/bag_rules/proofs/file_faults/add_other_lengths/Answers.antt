@@ -20,7 +20,7 @@ loop-given-preserved c =
       | else-given-found w ↦ rw w.faults-is (adds_none c.loop-given.faults.items _ (λ f h. h.0 w.if-given-found.false))
     ])
 
-pub returns-clause-added : goal.returns-clause-added
-returns-clause-added c =
+pub returns : goal.returns
+returns c =
     let n : c.loop-given.given-index ≡ length c.args.want.now.lengths.now = omega arith in
     each_all c.args.want.now.lengths.now c.loop-given.given-index (IsOtherLength c.args.want.now.path.now c.args.found) _ _ n c.loop-given.invariant

@@ -5,8 +5,8 @@ use Rattle.bag_rules.proofs.UnlistedLemmas.{told_all, told_none, told_one}
 use Rattle.bag_rules.proofs.file_faults.add_unlisted.Goals as goal
 use Rattle.bag_rules.proofs.file_faults.add_unlisted.Goals.{then-has+in_ok-path+in_ok-push, else-has}
 
-pub returns-then-not-is_payload-clause-added : goal.returns-then-not-is_payload-clause-added
-returns-then-not-is_payload-clause-added c =
+pub returns-then-not-is_payload : goal.returns-then-not-is_payload
+returns-then-not-is_payload c =
     let other : is_payload c.args.path.now ≡ false = search rules in
     adds_none c.args.faults.now.items _ (λ f h. false≢true (sym other ∙ h.0))
 
@@ -22,8 +22,8 @@ loop-manifest-preserved c =
       | else-has w ↦ rw w.faults-is (told_none set (λ a. Unlisted a path) c.loop-manifest.manifest-index _ _ _ _ c.loop-manifest-test.true c.loop-manifest.invariant (sym c.has.ensures ∙ w.if-has.false) refl)
     ]
 
-pub returns-clause-added : goal.returns-clause-added
-returns-clause-added c =
+pub returns : goal.returns
+returns c =
     let path = c.args.path.now in
     let payload : is_payload path ≡ true = search rules in
     adds_so _ _ _ _ (λ f h. (payload, h)) (λ f h. h.1)

@@ -46,11 +46,11 @@ loop-i-preserved g c =
       size = λ bag is.
           let f = stands bag.files c.loop-i.i (subst (λ n. c.loop-i.i < n) (same_count bag is) inside) in
           let at = file_at bag (same ∙ is) c.loop-i.i f.0.0 f.0.1 f.1 in
-          size_by bag.files c.loop-i.i f.0.0 f.0.1 f.1 c.loop-i.size (before.size bag is) c.in_ok-length.field-0 c.match-branch-3.size (c.in_ok-length.ensures.added read f.0.0 f.0.1 at).0 grows stays;
+          size_by bag.files c.loop-i.i f.0.0 f.0.1 f.1 c.loop-i.size (before.size bag is) c.in_ok-length.field-0 c.match-branch-3.size (c.in_ok-length.ensures read f.0.0 f.0.1 at).0 grows stays;
       added = λ bag is.
           let f = stands bag.files c.loop-i.i (subst (λ n. c.loop-i.i < n) (same_count bag is) inside) in
           let at = file_at bag (same ∙ is) c.loop-i.i f.0.0 f.0.1 f.1 in
-          file_faults_more bag wants c.loop-i.i f.0.0 f.0.1 _ _ _ f.1 (before.added bag is) (c.in_ok-length.ensures.added read f.0.0 f.0.1 at).1;
+          file_faults_more bag wants c.loop-i.i f.0.0 f.0.1 _ _ _ f.1 (before.added bag is) (c.in_ok-length.ensures read f.0.0 f.0.1 at).1;
       none = λ bag is.
           let f = stands bag.files c.loop-i.i (subst (λ n. c.loop-i.i < n) (same_count bag is) inside) in
           let at = file_at bag (same ∙ is) c.loop-i.i f.0.0 f.0.1 f.1 in
@@ -73,7 +73,7 @@ returns-in_err-batch-clause-limits g c = λ bag is.
 pub returns-in_err-length-clause-limits : goal.returns-in_err-length-clause-limits
 returns-in_err-length-clause-limits g c = λ bag is.
     let p = err_from_is_err_and c.from_residual-in_err-length.result c.from_residual-in_err-length.ensures.1 in
-    rw p.1 (stopped_memory (FirstStops bag (IsLongRead c.args.wants.now.manifests.now)) p.0 (p.2 ∙ c.in_err-length.ensures.err))
+    rw p.1 (stopped_memory (FirstStops bag (IsLongRead c.args.wants.now.manifests.now)) p.0 p.2)
 
 pub returns-clause-read : goal.returns-clause-read
 returns-clause-read g c = λ bag is.

@@ -6,8 +6,8 @@ use Rattle.bag_rules.proofs.TreeLemmas.{is_there, shows}
 use Rattle.bag_rules.proofs.form_faults.add_form_faults.Goals as goal
 use Rattle.bag_rules.proofs.form_faults.add_form_faults.Goals.{then-not-has_payload_dir+in_ok-push, else-not-has_payload_dir, then-not-has_payload_manifest+in_ok-push-2, else-not-has_payload_manifest}
 
-pub returns-clause-added : goal.returns-clause-added
-returns-clause-added g c = λ bag is are. on_ok_weaker c.add_oxum_faults.result (λ added.
+pub returns : goal.returns
+returns g c = λ bag is are. on_ok_weaker c.add_oxum_faults.result (λ added.
     let paths = paths_in (g.T.Paths.shown c.args.tree.now) in
     let old = c.args.faults.now.items in
     let first = c.if-not-has_payload_dir.faults.items in
@@ -29,8 +29,8 @@ returns-clause-added g c = λ bag is are. on_ok_weaker c.add_oxum_faults.result 
           manifest_there bag first second some.0 (is_there bag is (manifest_file Payload some.0) some.1) cc
     ] in
     let unlisted : Adds second third (HasFaultOf bag (6 ∷ [])) = all_unlisted bag c.args.texts.now are paths second third (λ path. (is_there bag is path, shows bag is path))
-    (subst (λ (ls : List Listing). Adds second third (IsUnlistedManifest paths ls)) c.deref.ensures.value c.in_ok-add_unlisted_manifests.ensures.added) in
+    (subst (λ (ls : List Listing). Adds second third (IsUnlistedManifest paths ls)) c.deref.ensures.value c.in_ok-add_unlisted_manifests.ensures) in
     adds_kinds bag (3 ∷ 4 ∷ 6 ∷ []) (7 ∷ 8 ∷ []) old third _
     (adds_kinds bag (3 ∷ 4 ∷ []) (6 ∷ []) old second third (adds_kinds bag (3 ∷ []) (4 ∷ []) old first second dir manifest) unlisted)
     added)
-    (c.add_oxum_faults.ensures.added bag are)
+    (c.add_oxum_faults.ensures bag are)

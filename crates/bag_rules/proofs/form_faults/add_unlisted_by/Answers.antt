@@ -5,8 +5,8 @@ use Rattle.bag_rules.proofs.FormLemmas.{IsNotListedIn, no_tag_manifest, listed_i
 use Rattle.bag_rules.proofs.form_faults.add_unlisted_by.Goals as goal
 use Rattle.bag_rules.proofs.form_faults.add_unlisted_by.Goals.{then-eq+then-is_none+in_ok-push, else-eq, else-eq-via-then-eq+else-is_none, else-eq-via-else-eq}
 
-pub returns-in_default-clause-added : goal.returns-in_default-clause-added
-returns-in_default-clause-added c = unlisted_by_none c.args.path.now c.args.manifests.now c.args.faults.now.items
+pub returns-in_default : goal.returns-in_default
+returns-in_default c = unlisted_by_none c.args.path.now c.args.manifests.now c.args.faults.now.items
     (λ alg is. c.in_default.not-PayloadManifest alg (c.of.ensures.only (PayloadManifest alg) is))
 
 pub loop-manifest-preserved : goal.loop-manifest-preserved
@@ -29,8 +29,8 @@ loop-manifest-preserved c =
     ] in
     each_more c.args.manifests.now c.loop-manifest.manifest-index listing (IsNotListedIn path alg) _ _ _ c.loop-manifest-test.true c.manifest-item.is c.loop-manifest.invariant step
 
-pub returns-clause-added : goal.returns-clause-added
-returns-clause-added c =
+pub returns : goal.returns
+returns c =
     let path = c.args.path.now in
     let alg = c.in-PayloadManifest.alg in
     let all : c.loop-manifest.manifest-index ≡ length c.args.manifests.now = omega arith in

@@ -16,7 +16,7 @@ loop-manifest-preserved c =
       | else-has w ↦ rw w.faults-is (told_none set (λ a. FetchNotListed a path) c.loop-manifest.manifest-index _ _ _ _ c.loop-manifest-test.true c.loop-manifest.invariant (sym c.has.ensures ∙ w.if-has.false) refl)
     ]
 
-pub returns-clause-added : goal.returns-clause-added
-returns-clause-added c =
+pub returns : goal.returns
+returns c =
     let path = c.args.path.now in
     told_all c.unlisted_in-unlisted.result (λ a. FetchNotListed a path) (λ alg. IsUnlistedIn c.args.version c.args.manifests.now alg path) c.loop-manifest.manifest-index _ _ (omega arith) c.unlisted_in-unlisted.ensures c.loop-manifest.invariant

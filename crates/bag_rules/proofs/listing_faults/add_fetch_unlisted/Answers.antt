@@ -11,10 +11,10 @@ loop-line-preserved c =
     each_more c.fetch_lines-line-items.result.now c.loop-line.line-index line (λ (l : FetchLine). IsEntryUnlisted c.args.version c.args.texts.now.manifests.items l.entry.path) _ _ _
     c.loop-line-test.true c.line-item.is c.loop-line.invariant
     (subst (λ p. Adds c.loop-line.faults.items c.add_entry_unlisted.new.faults.items (IsEntryUnlisted c.args.version c.args.texts.now.manifests.items p)) c.path.ensures.path
-    (subst (λ (ls : List Listing). Adds c.loop-line.faults.items c.add_entry_unlisted.new.faults.items (IsEntryUnlisted c.args.version ls c.path.result.now)) c.deref.ensures.value c.in_ok-add_entry_unlisted.ensures.added))
+    (subst (λ (ls : List Listing). Adds c.loop-line.faults.items c.add_entry_unlisted.new.faults.items (IsEntryUnlisted c.args.version ls c.path.result.now)) c.deref.ensures.value c.in_ok-add_entry_unlisted.ensures))
 
-pub returns-clause-added : goal.returns-clause-added
-returns-clause-added c = λ bag version_is are.
+pub returns : goal.returns
+returns c = λ bag version_is are.
     let lines = c.fetch_lines-line-items.result.now in
     let all : c.loop-line.line-index ≡ length lines = omega arith in
     let added = each_all lines c.loop-line.line-index (λ (l : FetchLine). IsEntryUnlisted c.args.version c.args.texts.now.manifests.items l.entry.path) _ _ all c.loop-line.invariant in

@@ -7,10 +7,10 @@ use Rattle.bag_rules.proofs.listing_faults.add_missing_by.Goals as goal
 pub loop-pair-preserved : goal.loop-pair-preserved
 loop-pair-preserved g c =
     each_more c.pairs-pair-items.result.now c.loop-pair.pair-index c.pair-item.result (λ (pair : Pair). IsPairMissing (paths_in (g.T.Paths.shown c.args.tree.now)) (manifest_name c.kind.result c.alg.result) pair.path) _ _ _
-    c.loop-pair-test.true c.pair-item.is c.loop-pair.invariant c.in_ok-add_missing_pair.ensures.added
+    c.loop-pair-test.true c.pair-item.is c.loop-pair.invariant c.in_ok-add_missing_pair.ensures
 
-pub returns-clause-added : goal.returns-clause-added
-returns-clause-added g c =
+pub returns : goal.returns
+returns g c =
     let of = λ (pair : Pair). IsPairMissing (paths_in (g.T.Paths.shown c.args.tree.now)) (manifest_name c.kind.result c.alg.result) pair.path in
     let all : c.loop-pair.pair-index ≡ length c.pairs-pair-items.result.now = omega arith in
     missing_by (paths_in (g.T.Paths.shown c.args.tree.now)) c.args.manifest.now c.pairs-pair-items.result.now (manifest_name c.kind.result c.alg.result) _ _ c.pairs-pair-items.ensures.pairs

@@ -16,7 +16,7 @@ loop-manifest-preserved g c =
     (elim c.if-eq.branch [
       | then-eq+in_ok-add_missing_by w ↦
           let tag : listing.kind ≡ Tag = search rules in
-          rw w.faults-is (adds_so old w.add_missing_by.new.faults.items (IsMissingBy paths listing) (IsTagMissing paths listing) (λ f h. (tag, h)) (λ f h. h.1) w.in_ok-add_missing_by.ensures.added)
+          rw w.faults-is (adds_so old w.add_missing_by.new.faults.items (IsMissingBy paths listing) (IsTagMissing paths listing) (λ f h. (tag, h)) (λ f h. h.1) w.in_ok-add_missing_by.ensures)
       | else-eq w ↦
           let other : listing.kind ≢ Tag = search rules in
           rw w.faults-is (adds_none old (IsTagMissing paths listing) (λ f h. other h.0))

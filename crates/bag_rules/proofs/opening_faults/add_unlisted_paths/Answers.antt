@@ -6,7 +6,7 @@ use Rattle.bag_rules.proofs.opening_faults.add_unlisted_paths.Goals as goal
 pub loop-path-preserved : goal.loop-path-preserved
 loop-path-preserved c =
     each_more c.args.paths.now c.loop-path.path-index c.path-item.result (IsFileUnlisted c.args.version c.args.manifests.now) _ _ _
-    c.loop-path-test.true c.path-item.is c.loop-path.invariant c.in_ok-add_unlisted.ensures.added
+    c.loop-path-test.true c.path-item.is c.loop-path.invariant c.in_ok-add_unlisted.ensures
 
 pub returns : goal.returns
 returns c =

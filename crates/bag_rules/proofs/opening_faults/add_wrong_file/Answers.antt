@@ -20,4 +20,4 @@ returns c =
     (λ f h. (h.0, h.1, (h.2.0, h.2.1, (λ e. h.2.2 (own h.0 h.1 (some_listed h.0.pairs path h.2.0 h.2.1) ∙ ap Some e)), h.2.3)))
     (λ f h. (h.0, h.1, (h.2.0, h.2.1, (λ e. h.2.2 (same_Some _ _ (sym (own h.0 h.1 (some_listed h.0.pairs path h.2.0 h.2.1)) ∙ e))), h.2.3)))
     (rw (← own_path) added))
-    c.add_other_digests.ensures.added
+    c.add_other_digests.ensures

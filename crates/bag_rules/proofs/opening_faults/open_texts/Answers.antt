@@ -8,11 +8,11 @@ use Rattle.bag_rules.proofs.opening_faults.open_texts.Goals as goal
 pub returns-in-Some-clause-refused : goal.returns-in-Some-clause-refused
 returns-in-Some-clause-refused c = λ few.
     let tags = c.args.tags.now in
-    (few, not_outside tags c.requires.tag_files c.requires.in_profile, first_as order.ghosts.cmp (Has c.find_faults.new.faults.items) (HasOpeningFault tags) c.in-Some.fault c.in-Ok.ensures.found c.in-Some.ensures)
+    (few, not_outside tags c.requires.tag_files c.requires.in_profile, first_as order.ghosts.cmp (Has c.find_faults.new.faults.items) (HasOpeningFault tags) c.in-Some.fault c.in_ok-opened.ensures.found c.in-Some.ensures)
 
 pub returns-in-None-clause-read : goal.returns-in-None-clause-read
 returns-in-None-clause-read c = (
-  c.in-Ok.ensures.read.0,
-  c.in-Ok.ensures.read.1,
-  λ fault has. subst (λ (fs : List Fault). Has fs fault) c.in-None.ensures ((c.in-Ok.ensures.found fault).1 has),
+  c.in_ok-opened.ensures.read.0,
+  c.in_ok-opened.ensures.read.1,
+  λ fault has. subst (λ (fs : List Fault). Has fs fault) c.in-None.ensures ((c.in_ok-opened.ensures.found fault).1 has),
 )

@@ -9,8 +9,8 @@ loop-i-init g c = record {
   all = c.count-i-end.ensures.files;
 }
 
-pub returns-in-Some-clause-ok : goal.returns-in-Some-clause-ok
-returns-in-Some-clause-ok g c = record {
+pub returns-in-Some : goal.returns-in-Some
+returns-in-Some g c = record {
   place = c.loop-i.i;
   path = c.path.result.now;
   there = c.path.ensures;
@@ -30,5 +30,5 @@ loop-i-preserved g c = record {
   all = c.loop-i.invariant.all;
 }
 
-pub returns-clause-ok : goal.returns-clause-ok
-returns-clause-ok g c = λ i path word below there unknown. c.loop-i.invariant.none i path word (omega (arith, below, c.loop-i.invariant.all, c.loop-i-test.false)) there unknown
+pub returns : goal.returns
+returns g c = λ i path word below there unknown. c.loop-i.invariant.none i path word (omega (arith, below, c.loop-i.invariant.all, c.loop-i-test.false)) there unknown

@@ -1,11 +1,9 @@
 use Rattle.std.proofs.Common.{◌∙◌, subst, sym}
 use Rattle.bag_rules.proofs.Words.{declaration_file, DeclarationStops, err_from_is_err_and, FirstStops, Holds, IsLongTag, slice_get_within}
 use Rattle.bag_rules.proofs.DeclaredLemmas.{first_declaration, short_declaration}
-use Rattle.bag_rules.proofs.KeptLemmas.{on_ok_of}
 use Rattle.bag_rules.proofs.LimitLemmas.{stopped_so}
-use Rattle.bag_rules.proofs.TextStops.{done_or_memory}
 use Rattle.bag_rules.proofs.TreeLemmas.{file_at, rises, there_at}
-use Rattle.bag_rules.proofs.TreeUses.{not_tree, uses_kept}
+use Rattle.bag_rules.proofs.TreeUses.{uses_kept}
 use Rattle.bag_rules.proofs.profile.read_declared.Goals as goal
 
 pub read_tag_file-requires-clause-inside : goal.read_tag_file-requires-clause-inside
@@ -23,17 +21,17 @@ pub returns-clause-profile : goal.returns-clause-profile
 returns-clause-profile g c = λ bag is.
     let file = there_at bag is c.args.i declaration_file c.requires.there in
     let read = c.in_ok-text.ensures.known declaration_file file.0 (file_at bag is c.args.i declaration_file file.0 file.1) in
-    c.profile_of.ensures.profile bag (c.in_ok-text.ensures.tree.same ∙ is) (subst (Holds bag declaration_file) (sym (c.deref-2.ensures.value ∙ read.0)) (c.args.i, file.1))
+    c.in_ok-profile_of.ensures bag (c.in_ok-text.ensures.tree.same ∙ is) (subst (Holds bag declaration_file) (sym (c.deref-2.ensures.value ∙ read.0)) (c.args.i, file.1))
 
 pub returns-clause-limits : goal.returns-clause-limits
 returns-clause-limits g c = λ bag is.
     let file = there_at bag is c.args.i declaration_file c.requires.there in
     let read = c.in_ok-text.ensures.known declaration_file file.0 (file_at bag is c.args.i declaration_file file.0 file.1) in
-    done_or_memory c.profile_of.result (FirstStops bag DeclarationStops) c.profile_of.ensures.err (short_declaration bag file.0 (rises bag is c.requires.ready.1) (c.args.i, file.1) read.1)
+    short_declaration bag file.0 (rises bag is c.requires.ready.1) (c.args.i, file.1) read.1
 
 pub returns-clause-reads : goal.returns-clause-reads
 returns-clause-reads g c = record {
-  tree = uses_kept c.in_ok-text.ensures.tree (λ e. cc e) (not_tree c.profile_of.result c.profile_of.ensures.err);
-  kept = λ are. on_ok_of c.profile_of.result _ (c.in_ok-keep.ensures.kept (g.T.Paths.shown c.args.tree.now) are (λ path octets at.
+  tree = uses_kept c.in_ok-text.ensures.tree (λ e. cc e) (λ e. cc e);
+  kept = λ are. (c.in_ok-keep.ensures (g.T.Paths.shown c.args.tree.now) are (λ path octets at.
       let known = c.in_ok-text.ensures.known path octets at in (c.deref.ensures.value ∙ known.0, known.1)));
 }

@@ -19,4 +19,4 @@ returns c = λ tags items are opens texts_are held sizes_are.
     (subst (λ (ls : List Listing). Adds old mid (OfSome ls (IsPayloadMissing (item_paths sizes)))) c.deref.ensures.value (c.in_ok-add_missing_items.ensures (subst AreRising (sym keys) held.rising))) in
     on_ok_weaker c.add_wrong_oxum.result (λ oxum.
     adds_on _ _ _ _ _ _ (missing_or_oxum tags items are held opens texts texts_are) (missing_broken tags items are held opens texts texts_are) (oxum_broken tags items are held opens texts texts_are) missing oxum)
-    (c.add_wrong_oxum.ensures.added (held_bag tags items) (texts_held tags items are held opens texts texts_are) (size_is tags items are held opens sizes c.payload_size.result sizes_are c.payload_size.ensures.octets c.payload_size.ensures.streams))
+    (c.add_wrong_oxum.ensures (held_bag tags items) (texts_held tags items are held opens texts texts_are) (size_is tags items are held opens sizes c.payload_size.result sizes_are c.payload_size.ensures.octets c.payload_size.ensures.streams))

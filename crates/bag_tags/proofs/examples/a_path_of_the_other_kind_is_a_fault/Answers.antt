@@ -8,7 +8,7 @@ use Rattle.bag_path.proofs.AsciiLemmas.{is_ascii_text, ascii_path}
 use Rattle.bag_digest.specs.declared.algorithm.Alg.TheVariants.{Md5}
 use Rattle.bag_digest.specs.declared.digest.Digest.{Digest}
 use Rattle.bag_digest.specs.declared.digest.Digest.TheVariants as digest
-use Rattle.bag_tags.specs.declared.fault.LineCause.TheVariants.{WrongPlace}
+use Rattle.bag_tags.specs.declared.tag_fault.LineCause.TheVariants.{WrongPlace}
 use Rattle.bag_tags.specs.declared.listing.Kind.{Kind}
 use Rattle.bag_tags.specs.declared.listing.Kind.TheVariants.{Payload, Tag}
 use Rattle.bag_tags.specs.Listings.{nothing_listed, IsInPlace}

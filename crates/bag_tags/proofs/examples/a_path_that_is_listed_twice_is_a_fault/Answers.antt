@@ -8,7 +8,7 @@ use Rattle.bag_path.proofs.AsciiLemmas.{ascii_path}
 use Rattle.bag_digest.specs.declared.algorithm.Alg.TheVariants.{Md5}
 use Rattle.bag_digest.specs.declared.digest.Digest.{Digest}
 use Rattle.bag_digest.specs.declared.digest.Digest.TheVariants as digest
-use Rattle.bag_tags.specs.declared.fault.LineCause.TheVariants.{Twice}
+use Rattle.bag_tags.specs.declared.tag_fault.LineCause.TheVariants.{Twice}
 use Rattle.bag_tags.specs.declared.listing.Kind.TheVariants.{Payload}
 use Rattle.bag_tags.specs.Listings.{Listing, nothing_listed, pair, with_pair}
 use Rattle.bag_tags.specs.Manifests.{AddsPair, RefusesLine}

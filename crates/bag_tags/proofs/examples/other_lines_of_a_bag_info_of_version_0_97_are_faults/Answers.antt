@@ -1,7 +1,7 @@
 use Rattle.std.proofs.Common.{codes, [], refl}
 use Rattle.bag_path.specs.Lines.{lines_of}
 use Rattle.bag_path.specs.declared.version.Version.TheVariants.{V097}
-use Rattle.bag_tags.specs.declared.fault.LineCause.TheVariants.{NoSeparator, BadLabel}
+use Rattle.bag_tags.specs.declared.tag_fault.LineCause.TheVariants.{NoSeparator, BadLabel}
 use Rattle.bag_tags.specs.Infos.{IsFit}
 use Rattle.bag_tags.specs.InfoText.{AddsInfo, RefusesInfo}
 use Rattle.bag_tags.specs.WordsReading.{until}

@@ -4,7 +4,7 @@ use Rattle.bag_path.specs.Paths.{path_fault, is_payload}
 use Rattle.bag_path.specs.SpellingReading.{octets_spelled_after}
 use Rattle.bag_path.specs.declared.version.Version.TheVariants.{V1}
 use Rattle.bag_path.proofs.AsciiLemmas.{ascii_path}
-use Rattle.bag_tags.specs.declared.fault.LineCause.TheVariants.{NoSeparator, BadUrl, BadLength, WrongPlace}
+use Rattle.bag_tags.specs.declared.tag_fault.LineCause.TheVariants.{NoSeparator, BadUrl, BadLength, WrongPlace}
 use Rattle.bag_tags.specs.FetchEntries.{IsUrl, fetch_item}
 use Rattle.bag_tags.specs.FetchText.{IsLength, AddsEntry, RefusesFetchLine}
 use Rattle.bag_tags.specs.WordsReading.{until}

@@ -10,7 +10,7 @@ use Rattle.bag_digest.specs.declared.algorithm.Alg.TheVariants.{Md5, Sha256}
 use Rattle.bag_digest.specs.declared.digest.Digest.{Digest}
 use Rattle.bag_digest.specs.declared.digest.Digest.TheVariants as digest
 use Rattle.bag_digest.specs.Spelling.{SpellsDigest}
-use Rattle.bag_tags.specs.declared.fault.LineCause.TheVariants.{NoSeparator, BadDigest, BadPath}
+use Rattle.bag_tags.specs.declared.tag_fault.LineCause.TheVariants.{NoSeparator, BadDigest, BadPath}
 use Rattle.bag_tags.specs.declared.listing.Kind.TheVariants.{Payload}
 use Rattle.bag_tags.specs.Listings.{Listing, nothing_listed}
 use Rattle.bag_tags.specs.Manifests.{AddsPair, RefusesLine, ManifestFault}

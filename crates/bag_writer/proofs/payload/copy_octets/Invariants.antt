@@ -1,5 +1,5 @@
 use Rattle.std.proofs.Common.{◌≡◌, ◌+◌, ◌-◌, ℕ, List}
-use Rattle.bag_digest.specs.Device.{UsesSource}
+use Rattle.bag_digest.specs.Failures.{UsesSource}
 use Rattle.bag_rules.specs.declared.limits.TheConstants.{LARGEST_FILE}
 use Rattle.bag_writer.proofs.OctetSteps.{HasCopied}
 use Rattle.bag_writer.specs.Sinks.{UsesSink}

@@ -1,7 +1,7 @@
 use Rattle.std.proofs.Common.{◌≡◌, ◌∙◌, ap, Err, refl, rules, sym, Some}
 use Rattle.std.proofs.lemmas.Result.{err_from_is_err_and}
-use Rattle.bag_writer.specs.declared.fault.Large.TheVariants.{File}
-use Rattle.bag_writer.specs.declared.fault.WriteFault.TheVariants.{Memory, Sink, TooLarge, Tree}
+use Rattle.bag_writer.specs.declared.write_fault.Large.TheVariants.{File}
+use Rattle.bag_writer.specs.declared.write_fault.WriteFault.TheVariants.{Memory, Sink, TooLarge, Tree}
 use Rattle.bag_writer.specs.declared.payload.CopyFault.TheVariants as copy
 use Rattle.bag_writer.proofs.FileSteps.{cut_short, cut_unread, named_here, octets_here, taken_whole}
 use Rattle.bag_writer.proofs.SinkUses.{sink_if, sink_so}

@@ -3,7 +3,7 @@ use Rattle.std.proofs.lemmas.List.{length-map}
 use Rattle.std.proofs.lemmas.Result.{err_from_is_err_and}
 use Rattle.bag_rules.proofs.TreeUses.{uses_kept, uses_on}
 use Rattle.bag_rules.proofs.Words.{is_payload, paths_in, payload_of, Shown}
-use Rattle.bag_writer.specs.declared.fault.WriteFault.TheVariants.{Memory}
+use Rattle.bag_writer.specs.declared.write_fault.WriteFault.TheVariants.{Memory}
 use Rattle.bag_writer.proofs.FileSteps.{cut_after, within_of}
 use Rattle.bag_writer.proofs.PayloadSoFar.{all_finished, free_next, marked_at, none_at, one_more, passed, shown_at, stopped_in}
 use Rattle.bag_writer.proofs.SinkKept.{err_again, sink_kept}

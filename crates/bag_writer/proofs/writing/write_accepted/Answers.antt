@@ -1,7 +1,7 @@
 use Rattle.std.proofs.Common.{◌∙◌}
 use Rattle.std.proofs.lemmas.Result.{err_from_is_err_and}
 use Rattle.bag_rules.proofs.Words.{false≢true}
-use Rattle.bag_writer.specs.declared.fault.WriteFault.TheVariants.{Memory, Sink}
+use Rattle.bag_writer.specs.declared.write_fault.WriteFault.TheVariants.{Memory, Sink}
 use Rattle.bag_writer.proofs.DoneLemmas.{payload_failed, tags_done, unwritten_done, writable, written_alone}
 use Rattle.bag_writer.proofs.SinkUses.{no_file_yet, ok_is_no_error, sink_if, sink_on}
 use Rattle.bag_writer.proofs.writing.write_accepted.Goals as goal

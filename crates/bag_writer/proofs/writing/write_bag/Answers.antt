@@ -1,7 +1,7 @@
 use Rattle.std.proofs.Common.{◌≡◌, subst}
 use Rattle.std.proofs.lemmas.Result.{err_from_is_err_and}
 use Rattle.bag_writer.specs.Writing.{IsLarge, IsMetBefore, empty_files, payload_paths}
-use Rattle.bag_writer.specs.declared.fault.WriteFault.TheVariants.{Memory, TooLarge}
+use Rattle.bag_writer.specs.declared.write_fault.WriteFault.TheVariants.{Memory, TooLarge}
 use Rattle.bag_writer.proofs.DoneLemmas.{unwritten_done}
 use Rattle.bag_writer.proofs.writing.write_bag.Goals as goal
 

@@ -7,12 +7,9 @@ use Rattle.std.specs.List.{slice_get}
 use Rattle.bag_folder.specs.Folders.{FolderShown, path_below}
 use Rattle.bag_folder.specs.declared.unfit.Cause.{Cause}
 use Rattle.bag_folder.proofs.FaultLemmas.{OnSome-weaker, told_by_name}
-use Rattle.bag_folder.proofs.Listings.{paths_seen}
+use Rattle.bag_folder.proofs.Listings.{found_at, paths_seen}
 use Rattle.bag_folder.proofs.tree.FolderTreeTree.start.Goals as goal
 use Rattle.bag_folder.proofs.tree.FolderTreeTree.start.Goals.{in-Ok, in-Err}
-
-found_at : (paths shown : List (List ℕ)) (i : ℕ) (path : List ℕ) → shown ≡ paths → slice_get paths i ≡ Some path → (P : List ℕ → Type 0) → P path → IsSomeAnd (slice_get shown i) P
-found_at paths shown i path seen at P here = subst (λ (found : Option (List ℕ)). IsSomeAnd found P) (sym (ap (λ (xs : List (List ℕ)). slice_get xs i) seen ∙ at)) here
 
 on_ok : {A E : Type 0} (result : Result A E) (P : Type 0) → P → OnOk result P
 on_ok (Ok value) P here = here

@@ -1,7 +1,7 @@
 use Rattle.std.proofs.Common.{◌≡◌, ◌+◌, ◌≤◌, List, length, map, vec_len}
 use Rattle.std.specs.Vec.{vec_capacity}
 use Rattle.bag_receiver.specs.FetchingInside.{IsUnderWay}
-use Rattle.bag_digest.specs.Device.{RisesBy}
+use Rattle.bag_digest.specs.Failures.{RisesBy}
 use Rattle.bag_receiver.specs.Suppliers.{deliveries_by, IsGotFrom, outcome_of, Round, supplier_failures}
 use Rattle.bag_receiver.proofs.Words.{AllByRecursion, CountsEach, IsInState, LedgerState, Runs}
 use Rattle.bag_receiver.proofs.receiver.Receiver.fetch.Given as goal

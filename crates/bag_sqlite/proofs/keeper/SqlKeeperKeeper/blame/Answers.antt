@@ -1,9 +1,9 @@
 use Rattle.std.proofs.Common.{◌≡◌, ◌↔◌, IsTrue, ap, refl}
-use Rattle.bag_ledger.specs.declared.fault.KeepFault.TheVariants.{Store}
-use Rattle.bag_ledger.specs.declared.fault.StoreFault.{StoreFault}
-use Rattle.bag_ledger.specs.declared.fault.StoreFault.TheVariants.{Spent}
+use Rattle.bag_ledger.specs.declared.keeper_faults.KeepFault.TheVariants.{Store}
+use Rattle.bag_ledger.specs.declared.keeper_faults.StoreFault.{StoreFault}
+use Rattle.bag_ledger.specs.declared.keeper_faults.StoreFault.TheVariants.{Spent}
 use Rattle.bag_ledger.specs.Keeping.{UsesStore}
-use Rattle.bag_digest.specs.Device.{Rises}
+use Rattle.bag_digest.specs.Failures.{Rises}
 use Rattle.bag_sqlite.proofs.Words.{Health}
 use Rattle.bag_sqlite.proofs.SqlLemmas.{uses_as}
 use Rattle.bag_sqlite.proofs.keeper.SqlKeeperKeeper.blame.Goals as goal
@@ -23,4 +23,4 @@ fails old new fault it = record {
 pub returns-clause-store : goal.returns-clause-store
 returns-clause-store g c =
     uses_as (λ keeper. keeper.health) (λ (health : Health). health.failures) (λ health. IsTrue health.is_spent) c.args.self.now _ _ _ (λ fault e. ap Store e) (λ fault e. same _ _ e)
-    (fails c.args.self.now.health _ _ c.fail.ensures)
+    (fails c.args.self.now.health _ _ c.fail.ensures.failed)

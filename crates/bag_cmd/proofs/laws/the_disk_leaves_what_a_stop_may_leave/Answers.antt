@@ -1,5 +1,0 @@
-use Rattle.bag_cmd.proofs.FileLemmas.{stop_of}
-use Rattle.bag_cmd.proofs.laws.the_disk_leaves_what_a_stop_may_leave.Goals as goal
-
-pub returns : goal.returns
-returns g c ledger image holds = stop_of c.args.stopped.now.connection ledger holds image

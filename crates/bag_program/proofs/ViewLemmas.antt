@@ -1,0 +1,39 @@
+-- A report or an audit that answers that a transfer is valid.
+use Rattle.std.proofs.Common.{◌≡◌, Bool, ℕ, List, Option, Some, subst}
+use Rattle.std.proofs.lemmas.Option.{same_Some}
+use Rattle.bag_ledger.specs.declared.keeper.Keeper.{Ghosts}
+use Rattle.bag_commands.specs.declared.output.Output.{Output}
+use Rattle.bag_commands.specs.declared.status.TheConstants.{VALID}
+use Rattle.bag_commands.specs.Viewing.{HoldsValidBag}
+use Rattle.bag_folder.specs.Directories.{Listing}
+use Rattle.bag_receiver.specs.declared.receiver.Receiver.{Receiver}
+use Rattle.bag_receiver.specs.Receivers.{IsInState}
+use Rattle.bag_receiver.specs.Receiving.{LedgerState}
+use Rattle.bag_program.specs.declared.explanation.Ended.{Ended}
+use Rattle.bag_program.specs.declared.ledger.Ledgers.{Ghosts as Ledgers}
+use Rattle.bag_program.specs.declared.request.Work.{Work}
+use Rattle.bag_program.specs.declared.request.Work.TheVariants.{Audit, Begin, Export, Fetch, Intake, List as ListNames, Report}
+use Rattle.bag_program.specs.Working.{DoesWork, IsOpenFor, Views, viewed}
+
+module _ {K W : Type 0} (k : Ghosts K) (known : Option Listing) (contents : W → Option (List ℕ)) (made now : Option (List ℕ)) (before after : Receiver K) (old new : Output W) (result : Ended) (valid : result.status ≡ VALID)
+    (clean : k.clean after.keeper) (name : List ℕ) where
+  -- the keeper was clean before, and whatever the receiver held, it held a valid bag
+  abbrev Valid : Type 0
+  Valid = k.clean before.keeper × ((state : LedgerState) → IsInState k.holds k.may_leave before state → HoldsValidBag state.held name)
+
+  by_view : (given : List ℕ) → ◌≡◌ {A = Option (List ℕ)} (Some given) (Some name) → Views k contents given before after old new result → Valid
+  by_view given is views = (views.printed.1.looks.was_clean clean, λ state in_state. subst (HoldsValidBag state.held) (same_Some given name is) (views.valid valid clean state in_state))
+
+  pub valid_by : (work : Work) → viewed work ≡ Some name → DoesWork k known contents work made now before after old new result → Valid
+  valid_by (Report given) is does = by_view _ is does.1
+  valid_by (Audit given) is does = by_view _ is does.1
+  valid_by (Begin given folder) is does = absurd (cc)
+  valid_by (Intake given folders) is does = absurd (cc)
+  valid_by (Fetch given folder) is does = absurd (cc)
+  valid_by (Export given folder) is does = absurd (cc)
+  valid_by ListNames is does = absurd (cc)
+
+-- the ledger was opened, and not made
+pub opened_by : {L K F U C : Type 0} (l : Ledgers L K F U C) (ledger name : List ℕ) (is_made : Bool) (kept : K) (work : Work) → viewed work ≡ Some name → IsOpenFor l ledger work is_made kept → l.opened ledger kept
+opened_by l ledger name is_made kept (Begin given folder) is open_for = absurd (cc)
+opened_by l ledger name is_made kept work is open_for = open_for.1

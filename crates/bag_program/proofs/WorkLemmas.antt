@@ -1,0 +1,108 @@
+-- What happens to folders that aren't opened, and to one that was made for a bag.
+use Rattle.std.proofs.Common.{◌≡◌, ◌≢◌, ◌∙◌, ◌∷◌, ◌++◌, ◌+◌, ◌<◌, ℕ, Bool, Contains, List, [], None, Option, Some, ap, arith, get_or, length, map, nat_lt, not, refl, subst, suc, sym, take, zero}
+use Rattle.std.proofs.lemmas.List.{map-append}
+use Rattle.std.proofs.lemmas.List.Elements.{Contains-get_or}
+use Rattle.std.proofs.lemmas.Option.{get_or_from_slice_get, slice_get_within}
+use Rattle.std.proofs.lemmas.Grind.{common_steps}
+use Rattle.std.specs.List.{list_any}
+use Rattle.std.specs.Option.{option_or}
+use Rattle.bag_path.specs.Paths.{is_payload}
+use Rattle.bag_receiver.specs.declared.run.TheConstants.{MOST_DELIVERIES}
+use Rattle.bag_rules.specs.Trees.{paths_in}
+use Rattle.bag_writer.specs.Writing.{payload_paths}
+use Rattle.bag_commands.specs.declared.output.Output.{Output}
+use Rattle.bag_commands.specs.declared.status.TheConstants.{DONE, FAILED}
+use Rattle.bag_commands.specs.Intakes.{TakesIn}
+use Rattle.bag_commands.specs.IntakeTexts.{Told}
+use Rattle.bag_commands.specs.Outputs.{Printed}
+use Rattle.bag_commands.specs.NoResultTexts.{no_result_text}
+use Rattle.bag_folder.specs.declared.open_fault.OpenFault.{OpenFault}
+use Rattle.bag_folder.specs.declared.open_fault.OpenFault.TheVariants as open_fault
+use Rattle.bag_folder.specs.declared.place.Place.TheVariants.{Base}
+use Rattle.bag_folder.specs.Bringing.{Bringing, courier_of}
+use Rattle.bag_folder.specs.Directories.{Listing}
+use Rattle.bag_folder.specs.Faults.{IfUnfit}
+use Rattle.bag_folder.specs.Folders.{FolderShown, IsOpened, IsRefused}
+use Rattle.bag_program.specs.declared.explanation.Ended.{Ended}
+use Rattle.bag_program.specs.Endings.{first_name, name_if, name_if_crowded, name_if_empty, why_unopened}
+use Rattle.bag_program.specs.NoResults.{no_result_of_open}
+use Rattle.bag_program.specs.Making.{kept_folder}
+use Rattle.bag_program.specs.Working.{AreOpened, NoMemory, OneRefused, OutOfMemory, Refused, SomeIsRefused, WithFolder, WithFolders}
+use Rattle.bag_program.proofs.RequestLemmas.{word_at}
+
+module _ {W : Type 0} (contents : W → Option (List ℕ)) (known : Option Listing) (untouched : Type 0) (old new : Output W) (result : Ended) where
+  pub not_opened : (folder : List ℕ) (does : FolderShown → FolderShown → Type 0) (fault : OpenFault) → IfUnfit fault (IsRefused known folder Base) → untouched
+      → Printed contents old new result.status (no_result_text (no_result_of_open fault) ∷ []) FAILED → result.why ≡ why_unopened fault → WithFolder contents known folder untouched does old new result
+  not_opened folder does (open_fault.Files unfit) refused same printed why = Refused unfit refused same printed why
+  not_opened folder does open_fault.Memory refused same printed why = NoMemory same printed why
+
+  pub none_opened : (folders : List (List ℕ)) (does : List FolderShown → Type 0) (fault : OpenFault) → IfUnfit fault (SomeIsRefused known folders) → untouched
+      → Printed contents old new result.status (no_result_text (no_result_of_open fault) ∷ []) FAILED → result.why ≡ why_unopened fault → WithFolders contents known folders untouched does old new result
+  none_opened folders does (open_fault.Files unfit) refused same printed why = OneRefused unfit refused same printed why
+  none_opened folders does open_fault.Memory refused same printed why = OutOfMemory same printed why
+
+-- a folder that can't be used is one of several
+pub one_refused : (known : Option Listing) (folders : List (List ℕ)) (folder : List ℕ) → Contains folders folder → (fault : OpenFault) → IfUnfit fault (IsRefused known folder Base)
+    → IfUnfit fault (SomeIsRefused known folders)
+one_refused known folders folder there (open_fault.Files unfit) refused = (folder, there, refused)
+one_refused known folders folder there open_fault.Memory refused = refused
+
+pub given_up : (folder : List ℕ) (status : ℕ) (now given : Option (List ℕ)) → now ≡ given → given ≡ None → status ≢ DONE → now ≡ kept_folder folder status
+given_up folder status now given is none other = let left : None ≡ kept_folder folder status = grind (arith, common_steps) in is ∙ none ∙ left
+
+pub kept : (folder : List ℕ) (status : ℕ) (now made : Option (List ℕ)) → now ≡ made → made ≡ Some folder → status ≡ DONE → now ≡ kept_folder folder status
+kept folder status now made is some done = let left : Some folder ≡ kept_folder folder status = grind (arith, common_steps) in is ∙ some ∙ left
+
+-- FOLDERS OPENED IN SEQUENCE
+
+module _ {X : Type 0} (octets : X → List ℕ) (known : Option Listing) where
+  pub opened_more : (folders : List X) (i : ℕ) (folder : X) (text : List ℕ) (trees : List FolderShown) (tree : FolderShown) → i < length folders → folder ≡ get_or folders i folder → text ≡ octets folder
+      → AreOpened known (map octets (take i folders)) trees → IsOpened known text Base tree → AreOpened known (map octets (take (i + 1) folders)) (trees ++ tree ∷ [])
+  opened_more [] i folder text trees tree inside item is opened this = absurd (omega (arith, inside))
+  opened_more (f ∷ fs) zero folder text [] tree inside item is opened this =
+      let same : text ≡ octets f = is ∙ ap octets item in
+      (subst (λ (t : List ℕ). IsOpened known t Base tree) same this, tt)
+  opened_more (f ∷ fs) zero folder text (t ∷ ts) tree inside item is opened this = absurd opened
+  opened_more (f ∷ fs) (suc i) folder text [] tree inside item is opened this = absurd opened
+  opened_more (f ∷ fs) (suc i) folder text (t ∷ ts) tree inside item is opened this =
+      let s : suc i + 1 ≡ suc (i + 1) = omega arith in
+      rw s (opened.0, opened_more fs i folder text ts tree (omega (arith, inside)) item is opened.1 this)
+
+  pub contained : (folders : List X) (i : ℕ) (folder : X) (text : List ℕ) → i < length folders → folder ≡ get_or folders i folder → text ≡ octets folder → Contains (map octets folders) text
+  contained folders i folder text inside item is =
+      let at = word_at octets folders folders i (length folders) folder text refl refl inside item is in
+      let texts = map octets folders in
+      subst (Contains texts) (get_or_from_slice_get texts i text text at) (Contains-get_or texts i text (slice_get_within texts i text at))
+
+pub couriers_more : (couriers : List (Bringing FolderShown)) (trees : List FolderShown) (tree : FolderShown) → couriers ≡ map courier_of trees → couriers ++ courier_of tree ∷ [] ≡ map courier_of (trees ++ tree ∷ [])
+couriers_more couriers trees tree is = ap (λ (cs : List (Bringing FolderShown)). cs ++ courier_of tree ∷ []) is ∙ sym (map-append courier_of trees (tree ∷ []))
+
+-- the first name of several folders, once there is one more
+first_none : (name : Option (List ℕ)) → option_or name None ≡ name
+first_none None = refl
+first_none (Some name) = refl
+
+first_of_three : (a b c : Option (List ℕ)) → option_or a (option_or b c) ≡ option_or (option_or a b) c
+first_of_three None b c = refl
+first_of_three (Some name) b c = refl
+
+module _ (named : FolderShown → Option (List ℕ)) where
+  name_more : (trees : List FolderShown) (tree : FolderShown) → first_name named (trees ++ tree ∷ []) ≡ option_or (first_name named trees) (named tree)
+  name_more [] tree = first_none (named tree)
+  name_more (t ∷ ts) tree = ap (option_or (named t)) (name_more ts tree) ∙ first_of_three (named t) (first_name named ts) (named tree)
+
+  -- the name that was told already, or that of the next folder
+  first_so : (was : Option (List ℕ)) (trees : List FolderShown) (tree : FolderShown) → was ≡ first_name named trees → option_or was (named tree) ≡ first_name named (trees ++ tree ∷ [])
+  first_so was trees tree is = ap (λ first. option_or first (named tree)) is ∙ sym (name_more trees tree)
+
+module _ (was : Option (List ℕ)) (trees : List FolderShown) (tree : FolderShown) (name : List ℕ) (is : name ≡ tree.folder) where
+  pub crowded_so : (count : ℕ) → count ≡ length (payload_paths tree.shown) → was ≡ first_name name_if_crowded trees
+      → option_or was (name_if (nat_lt MOST_DELIVERIES count) name) ≡ first_name name_if_crowded (trees ++ tree ∷ [])
+  crowded_so count counted before = rw (counted, is) (first_so name_if_crowded was trees tree before)
+
+  pub empty_so : (has_payload : Bool) → has_payload ≡ list_any is_payload (paths_in tree.shown) → was ≡ first_name name_if_empty trees
+      → option_or was (name_if (not has_payload) name) ≡ first_name name_if_empty (trees ++ tree ∷ [])
+  empty_so has_payload known before = rw (known, is) (first_so name_if_empty was trees tree before)
+
+pub taken_from : {R C : Type 0} (runs : R → R → C → C → Told → Type 0) (before now laters : List C) (told : List Told) (old new : R) → before ≡ now → TakesIn runs before laters told old new → TakesIn runs now laters told old new
+taken_from runs before now laters told old new is takes = subst (λ couriers. TakesIn runs couriers laters told old new) is takes

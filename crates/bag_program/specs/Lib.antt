@@ -1,0 +1,9 @@
+pub mod Answers
+pub mod Endings
+pub mod LedgerFiles
+pub mod Making
+pub mod Named
+pub mod Requests
+pub mod NoResults
+pub mod Unopened
+pub mod Working

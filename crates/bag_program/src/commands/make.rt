@@ -1,0 +1,119 @@
+//! `bag make SRC DST ALG..`: writes a bag of the files in a folder.
+ghost use Rattle.std.specs.Prelude.{◌≡◌, None};
+ghost use Rattle.bag_program.specs.Endings.{limit_of, why_unmade};
+ghost use Rattle.bag_program.specs.Making.{MakesFolder, MakesInto, PrintsMake, make_end, words_given};
+
+use super::no_result_for_folder;
+use crate::explanation::{Ended, Why};
+use crate::limit::Limit;
+use crate::meter::{Activity, Meter};
+use crate::system::System;
+use crate::watched::Watched;
+use bag_commands::status::DONE;
+use bag_commands::{MakeEnd, Output, make_to};
+use bag_digest::Source;
+use bag_folder::{Destination, Directories, FolderTree};
+use bag_rules::{Paths, Tree};
+use bag_writer::{Large, Sink};
+use std::alloc::Global;
+use std::io::Write;
+use std::rt::Files;
+
+/// The operands of `make`.
+#[derive(Clone, Copy)]
+pub struct Making<'a> {
+    /// The name of the folder that contains the payload.
+    pub source: &'a str,
+    /// The name of the folder to make for the bag. It must not exist yet.
+    pub destination: &'a str,
+    /// The names of algorithms.
+    pub names: &'a [String],
+}
+
+/// Writes a bag of the files in a folder to a new folder and prints the result, as [`make_to`] does. If the source can't
+/// be opened or the destination can't be made, prints that.
+///
+/// The source is opened first, then the destination is made, and then the names of the algorithms are checked. If the
+/// status isn't 0, the destination is given up, that is, removed if it is empty.
+pub fn make_folder<R: Files + Eprint, D: Directories, W: Write + Drop>(
+    system: &System<'_, R, D>,
+    made: &mut Destination<'_, R>,
+    making: &Making<'_>,
+    out: &mut Output<W>,
+) -> Ended
+    ensures { PrintsMake W.contents (D.listing system.now.disk.now) (words_given making.now)
+        made.old made.new out.old out.new result }
+{
+    let alloc = system.alloc;
+    match FolderTree::open_payload(system.rt, system.disk, alloc, making.source) {
+        Ok(tree) => {
+            let meter = Meter::new(system.progress, Activity::Copying);
+            meter.expect_files(tree.count());
+            let mut tree = Watched::new(tree, &meter);
+            let Made { ended, large } = make_into(alloc, making, &mut tree, made, out);
+            ended.or(why_unmade(tree.into_inside(), large))
+        }
+        Err(fault) => no_result_for_folder(fault, out),
+    }
+}
+
+/// How `make` ended, given what is told of the folder for the bag.
+#[derive(Debug, Drop)]
+struct Made {
+    ended: Ended,
+    // what is too large, if something is
+    large: Option<Large>,
+}
+
+/// Makes the folder for the bag, and in it the bag of a tree's files.
+fn make_into<T: Tree, R: Files, W: Write + Drop>(
+    alloc: Global,
+    making: &Making<'_>,
+    tree: &mut T,
+    made: &mut Destination<'_, R>,
+    out: &mut Output<W>,
+) -> Made
+    ensures { MakesInto W.contents (MakesFolder W.contents T.shown T.failures T.sure
+        tree.old tree.new (words_given making.now).names out.old out.new (make_end result))
+        ((tree.new ≡ tree.old) × (result.large ≡ None)) making.now.destination.now
+        made.old made.new out.old out.new result.ended }
+{
+    match made.create(alloc, making.destination) {
+        Ok(mut sink) => {
+            let MakeEnd { status, large } = make_to(alloc, making.names, tree, &mut sink, out);
+            if status != DONE {
+                made.give_up();
+            }
+            let why = Why::of_failures(sink.failures(), sink.into_trouble());
+            Made {
+                ended: Ended { status, why },
+                large,
+            }
+        }
+        Err(fault) => Made {
+            ended: no_result_for_folder(fault, out),
+            large: None,
+        },
+    }
+}
+
+/// What is told of the payload: what is too large, or what couldn't be used.
+fn why_unmade<R: Files + Drop>(tree: FolderTree<R>, large: Option<Large>) -> Option<Why>
+    ensures { result ≡ why_unmade tree large }
+{
+    match large {
+        Some(large) => Why::of_excess(tree.into_folder(), limit_of(large)),
+        None => Why::of_failures(tree.failures(), tree.into_trouble()),
+    }
+}
+
+/// The limit that is exceeded.
+fn limit_of(large: Large) -> Limit
+    ensures { result ≡ limit_of large }
+{
+    match large {
+        Large::Payload => Limit::NewPayload,
+        Large::File(path) => Limit::NewFile(path),
+        Large::TagFile(path) => Limit::NewTagFile(path),
+    }
+}

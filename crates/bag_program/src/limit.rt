@@ -1,0 +1,92 @@
+//! What exceeds a limit, or is empty.
+use crate::told_name::ToldName;
+use bag_folder::Place;
+use bag_path::BagPath;
+use std::fmt::{self, Display, Formatter};
+use std::marker::Model;
+
+/// The name of a folder.
+#[derive(Debug, Drop)]
+pub struct FolderName {
+    pub text: String,
+}
+
+impl Model for FolderName {
+    ghost use Rattle.std.specs.Prelude.{ℕ, List, string_bytes};
+
+    ghost Value = { List ℕ };
+
+    ghost view = { λ name. string_bytes name.text };
+}
+
+/// A limit that a folder or a file exceeds. The name that is told with it is that of this, or for a limit with a path that
+/// of the folder which the path begins in.
+#[derive(Debug, Drop)]
+pub enum Limit {
+    /// The size of the tag file with this path.
+    TagFile(BagPath),
+    /// The size of the file with this path.
+    File(BagPath),
+    /// The number of files in a folder.
+    Files,
+    /// The number of lines in a tag file.
+    Lines,
+    /// The number of files in a folder of which a bag is made.
+    NewPayload,
+    /// The size of the payload file with this path, in such a folder.
+    NewFile(BagPath),
+    /// The size that the tag file with this path would have in the bag of such a folder.
+    NewTagFile(BagPath),
+    /// The number of payload files that are delivered from a folder.
+    Deliveries,
+}
+
+impl Limit {
+    ghost use Rattle.std.specs.Option.{option_copied};
+    ghost use Rattle.std.specs.Prelude.{◌≡◌};
+    ghost use Rattle.bag_program.specs.Endings.{limit_text, told_path};
+
+    /// The path of the file that exceeds it, below the folder that is named.
+    fn path(&self) -> Option<&str>
+        ensures { option_copied result ≡ told_path self.now }
+    {
+        match self {
+            Limit::TagFile(path) => Some(path.as_str()),
+            Limit::File(path) => Some(path.as_str()),
+            Limit::NewFile(path) => Some(Place::Payload.path_below(path.as_str())),
+            Limit::Files
+            | Limit::Lines
+            | Limit::NewPayload
+            | Limit::NewTagFile(_)
+            | Limit::Deliveries => None,
+        }
+    }
+
+    /// What is said of the thing that exceeds it.
+    fn text(&self) -> &'static str
+        ensures { result.now ≡ limit_text self.now }
+    {
+        match self {
+            Limit::TagFile(_) => "it has more than 16,777,216 octets",
+            Limit::File(_) | Limit::NewFile(_) => "it has more than 1,099,511,627,776 octets",
+            Limit::Files => "it has more than 200,000 files",
+            Limit::Lines => "it has more than 100,000 lines",
+            Limit::NewPayload => "it has more than 100,000 files",
+            Limit::NewTagFile(_) => "would have more than 16,777,216 octets",
+            Limit::Deliveries => "it has more than 1,000,000 payload files below data/",
+        }
+    }
+}
+
+impl Display for Limit {
+    fn fmt<W: fmt::Write>(&self, f: &mut Formatter<W>) -> fmt::Result {
+        if let Some(path) = self.path() {
+            write!(f, "/{}", ToldName(path))?;
+        }
+        f.write_str(": ")?;
+        if let Limit::NewTagFile(path) = self {
+            write!(f, "{} ", ToldName(path.as_str()))?;
+        }
+        f.write_str(self.text())
+    }
+}
