@@ -30,7 +30,7 @@ pub(crate) const BUFFER: usize = 2 * PIECE;
 
 /// Why a file wasn't copied to its end.
 #[derive(Clone, Copy, Debug)]
-enum CopyFault {
+pub(crate) enum CopyFault {
     /// A read failed.
     Tree,
     /// A write failed.
