@@ -39,3 +39,5 @@ pub mod FittingLemmas
 pub mod LimitsMet
 pub mod MeasuredTags
 pub mod EmptyBags
+pub mod CopyLemmas
+pub mod CopyPieces

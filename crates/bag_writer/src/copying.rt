@@ -1,5 +1,5 @@
 //! Reads several files, writes each to its copy and takes their digests, side by side.
-ghost use Rattle.std.specs.Prelude.{◌≡◌, ◌<◌, ◌≤◌, ◌++◌, ℕ, List, [], Err, IfOk, IsOk, None, MatchOption, MatchResult, Some, length, slice_get};
+ghost use Rattle.std.specs.Prelude.{◌≡◌, ◌+◌, ◌<◌, ◌≤◌, ◌++◌, ℕ, List, [], Err, IfOk, IsOk, None, MatchOption, MatchResult, Some, length, slice_get};
 ghost use Rattle.bag_digest.specs.Hash.{AreDigests};
 ghost use Rattle.bag_digest.specs.Lanes.{HoldsAt};
 ghost use Rattle.bag_digest.specs.Streams.{OtherLanesStay};

@@ -1,0 +1,32 @@
+use Rattle.std.proofs.Common.{◌≡◌, arith}
+use Rattle.bag_digest.specs.declared.reading.SourceFault.TheVariants as cause
+use Rattle.bag_writer.specs.Copying.{sides}
+use Rattle.bag_writer.proofs.CopyPieces.{none_copied, piece_copied, read_fails, read_is_too_long, risen, write_fails}
+use Rattle.bag_writer.proofs.copying.copy_piece.Goals as goal
+
+pub returns-in-Err-Read-clause-copied : goal.returns-in-Err-Read-clause-copied
+returns-in-Err-Read-clause-copied g c = λ work octets copied count.
+    let s = sides g.F.OpenFile.place g.F.Source.remaining g.F.Source.failures g.F.Source.ready g.G.SinkFile.place g.G.SinkFile.holds g.G.SinkFile.failures g.G.SinkFile.sure in
+    let e : c.in-Err-Read.field-0 ≡ cause.Read = cc in
+    read_fails s g.F.Source.keeps g.met.F.OpenFile.reads_keep_place work octets c.args.copied count copied c.in-Err-Read.field-0 e c.in-Err-Read.ensures.stopped c.in-Err-Read.ensures.uses
+
+pub returns-in-Err-TooLarge-clause-copied : goal.returns-in-Err-TooLarge-clause-copied
+returns-in-Err-TooLarge-clause-copied g c = λ work octets copied count.
+    let s = sides g.F.OpenFile.place g.F.Source.remaining g.F.Source.failures g.F.Source.ready g.G.SinkFile.place g.G.SinkFile.holds g.G.SinkFile.failures g.G.SinkFile.sure in
+    let e : c.in-Err-TooLarge.field-0 ≡ cause.TooLarge = cc in
+    read_is_too_long s g.F.Source.keeps g.met.F.OpenFile.reads_keep_place work octets c.args.copied count copied c.in-Err-TooLarge.field-0 e c.in-Err-TooLarge.ensures.stopped c.in-Err-TooLarge.ensures.uses
+
+pub returns-then-n-eq0-clause-copied : goal.returns-then-n-eq0-clause-copied
+returns-then-n-eq0-clause-copied g c = λ work octets copied count.
+    let s = sides g.F.OpenFile.place g.F.Source.remaining g.F.Source.failures g.F.Source.ready g.G.SinkFile.place g.G.SinkFile.holds g.G.SinkFile.failures g.G.SinkFile.sure in
+    ?
+
+pub returns-in-Ok-write-clause-copied : goal.returns-in-Ok-write-clause-copied
+returns-in-Ok-write-clause-copied g c = λ work octets copied count.
+    let s = sides g.F.OpenFile.place g.F.Source.remaining g.F.Source.failures g.F.Source.ready g.G.SinkFile.place g.G.SinkFile.holds g.G.SinkFile.failures g.G.SinkFile.sure in
+    ?
+
+pub returns-in-Err-clause-copied : goal.returns-in-Err-clause-copied
+returns-in-Err-clause-copied g c = λ work octets copied count.
+    let s = sides g.F.OpenFile.place g.F.Source.remaining g.F.Source.failures g.F.Source.ready g.G.SinkFile.place g.G.SinkFile.holds g.G.SinkFile.failures g.G.SinkFile.sure in
+    ?
