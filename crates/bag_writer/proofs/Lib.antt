@@ -41,3 +41,4 @@ pub mod MeasuredTags
 pub mod EmptyBags
 pub mod CopyLemmas
 pub mod CopyPieces
+pub mod FilesOut

@@ -10,6 +10,7 @@ pub use write_fault::{Large, WriteFault};
 pub use writing::{payload_count, write_bag};
 
 mod accepting;
+mod beside;
 mod copying;
 pub mod examples;
 pub mod fitting;

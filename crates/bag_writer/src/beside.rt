@@ -1,0 +1,332 @@
+//! Writes the payload, several files side by side.
+ghost use Rattle.std.specs.Prelude.{◌≡◌, ◌≤◌, [], IfErr, IsErrOf, MatchResult, false, length};
+ghost use Rattle.bag_rules.specs.Files.{Files};
+ghost use Rattle.bag_rules.specs.Trees.{paths_in};
+ghost use Rattle.bag_rules.specs.declared.limits.TheConstants.{LARGEST_FILE};
+ghost use Rattle.bag_writer.specs.Sinks.{UsesClosedSink};
+ghost use Rattle.bag_writer.specs.Steps.{AreHoleMarks, AreItemsOf, ArePart, AreWhole, HasNoFile, NamesLong, ReadsPayload, written_payload};
+ghost use Rattle.bag_writer.specs.Writing.{HasLongFile, IsMetLater, IsReadFrom};
+ghost use Rattle.bag_writer.specs.declared.payload.TheConstants.{BUFFER};
+ghost use Rattle.bag_writer.specs.declared.write_fault.Large.{Large};
+ghost use Rattle.bag_writer.specs.declared.write_fault.WriteFault.{WriteFault};
+
+use crate::copying::{CopyStop, Copying, copy_each, copy_piece};
+use crate::item::Item;
+use crate::items::Items;
+use crate::open_sink::{CopiedTree, OpenSink, SinkFile};
+use crate::payload::{BUFFER, CopyFault, write_in_turn};
+use crate::returning::{close_all, give_up, stopped_at, told};
+use crate::spec::Spec;
+use crate::write_fault::WriteFault;
+use bag_digest::{Alg, AlgSet, Source, SourceRead};
+use bag_rules::{OpenFile, OpenTree, Paths};
+use std::alloc::{AllocError, Global};
+
+/// How many files are out at most. Of each no more than a piece is held, so that is 4 MiB at most.
+const MOST_COPIED: usize = 32;
+
+/// Why a file wasn't begun.
+#[derive(Drop)]
+pub(crate) enum BeginFault<C> {
+    /// Memory ran out. The file isn't out.
+    Memory,
+    /// The file and its copy, which are out, and why they have stopped.
+    Stopped(CopyFault, C),
+}
+
+impl<C> From<AllocError> for BeginFault<C> {
+    ghost use Rattle.std.specs.Prelude.{◌≡◌};
+    ghost use Rattle.bag_writer.specs.declared.beside.BeginFault.TheVariants.{Memory};
+
+    ghost from_gives = { λ _ fault. fault ≡ Memory };
+
+    fn from(_: AllocError) -> BeginFault<C> {
+        BeginFault::Memory
+    }
+}
+
+/// Reads the payload files by path, writes each that isn't a hole, and returns what manifests need to know about each. Several are
+/// read and written side by side, unless there is a hole, or a digest by SHA-512, which is not taken side by side.
+///
+/// # Errors
+///
+/// `Tree`, `Sink` or `Memory` if the tree or the sink failed or memory ran out; `TooLarge` if a file has more than 2^40
+/// octets.
+pub(crate) fn write_payload<T: CopiedTree, S: OpenSink>(
+    alloc: Global,
+    buffer: &mut [u8],
+    tree: &mut T,
+    spec: &Spec,
+    marks: &[bool],
+    sink: &mut S,
+) -> Result<Vec<Item>, WriteFault>
+    requires ready { (length buffer.old ≡ BUFFER)
+        × AreHoleMarks (paths_in (T.shown tree.old)) spec.now marks.now }
+    // This was written of some payload, which is that of the tree's bag if that is known.
+    ensures written { (payload : Files) × IsReadFrom (T.shown tree.old) payload
+        × MatchResult result (λ items. AreItemsOf spec.now.algs items.items payload
+        × (¬ HasLongFile payload LARGEST_FILE)
+        × AreWhole (written_payload spec.now payload) (S.stored sink.old) (S.stored sink.new))
+        (λ fault. NamesLong Large.File payload LARGEST_FILE fault
+        × ArePart (written_payload spec.now payload) (S.stored sink.old) (S.stored sink.new)) }
+    ensures err { IfErr result IsMetLater }
+    ensures tree { ReadsPayload T.shown T.failures T.sure tree.old tree.new
+        (IsErrOf result WriteFault.Tree) }
+    ensures sink { UsesClosedSink S.is_open S.failures S.sure sink.old sink.new
+        ((S.is_open sink.old ≡ false) × HasNoFile (S.stored sink.old))
+        result (IsErrOf result WriteFault.Sink) }
+{
+    if spec.algs.has(Alg::Sha512) || !spec.holes.is_empty() {
+        write_in_turn(alloc, buffer, tree, spec, marks, sink)
+    } else {
+        write_beside(alloc, buffer, tree, spec, sink)
+    }
+}
+
+/// Reads the payload files by path, writes each, and returns what manifests need to know about each. None of them is a hole.
+///
+/// # Errors
+///
+/// Those of [`write_payload`].
+fn write_beside<T: CopiedTree, S: OpenSink>(
+    alloc: Global,
+    buffer: &mut [u8],
+    tree: &mut T,
+    spec: &Spec,
+    sink: &mut S,
+) -> Result<Vec<Item>, WriteFault>
+    requires ready { (length buffer.old ≡ BUFFER) × (spec.now.holes.items ≡ []) }
+    ensures written { (payload : Files) × IsReadFrom (T.shown tree.old) payload
+        × MatchResult result (λ items. AreItemsOf spec.now.algs items.items payload
+        × (¬ HasLongFile payload LARGEST_FILE)
+        × AreWhole payload (S.stored sink.old) (S.stored sink.new))
+        (λ fault. NamesLong Large.File payload LARGEST_FILE fault
+        × ArePart payload (S.stored sink.old) (S.stored sink.new)) }
+    ensures err { IfErr result IsMetLater }
+    ensures tree { ReadsPayload T.shown T.failures T.sure tree.old tree.new
+        (IsErrOf result WriteFault.Tree) }
+    ensures sink { UsesClosedSink S.is_open S.failures S.sure sink.old sink.new
+        ((S.is_open sink.old ≡ false) × HasNoFile (S.stored sink.old))
+        result (IsErrOf result WriteFault.Sink) }
+{
+    let set = spec.algs;
+    let mut items = Items::none(alloc, set);
+    let mut copies = Vec::new(alloc);
+    for i in 0..tree.count() {
+        if !tree.path(i).is_payload() {
+            continue;
+        }
+        match begin_next(alloc, buffer, tree, sink, i, &mut copies) {
+            Ok(()) => {}
+            Err(BeginFault::Memory) => {
+                close_all(tree, sink, copies);
+                return Err(WriteFault::Memory);
+            }
+            Err(BeginFault::Stopped(fault, copy)) => {
+                return Err(stop(tree, sink, set, copies, fault, copy));
+            }
+        }
+        if copies.len() == MOST_COPIED {
+            items = finish(alloc, tree, sink, set, items, copies)?;
+            copies = Vec::new(alloc);
+        }
+    }
+    let items = finish(alloc, tree, sink, set, items, copies)?;
+    items.finish(alloc)
+}
+
+/// Begins to copy the file at this place: opens it, begins its copy, and copies its front.
+fn begin_next<T: CopiedTree, S: OpenSink>(
+    alloc: Global,
+    buffer: &mut [u8],
+    tree: &mut T,
+    sink: &mut S,
+    i: usize,
+    copies: &mut Vec<Copying<T::File, S::File>>,
+) -> Result<(), BeginFault<Copying<T::File, S::File>>> {
+    let mut copy = open_next(alloc, tree, sink, i)?;
+    match copy_front(buffer, &mut copy) {
+        Ok(n) => match hold(alloc, copies, copy, &buffer[..n]) {
+            Ok(()) => Ok(()),
+            Err(copy) => {
+                tree.close(copy.source);
+                sink.close(copy.target);
+                Err(BeginFault::Memory)
+            }
+        },
+        Err(fault) => Err(BeginFault::Stopped(fault, copy)),
+    }
+}
+
+/// Opens the file at this place and begins its copy. Nothing was copied yet.
+fn open_next<T: CopiedTree, S: OpenSink>(
+    alloc: Global,
+    tree: &mut T,
+    sink: &mut S,
+    i: usize,
+) -> Result<Copying<T::File, S::File>, AllocError> {
+    let source = tree.open_file(alloc, i)?;
+    match sink.begin_file(alloc, i, tree.path(i)) {
+        Ok(target) => Ok(Copying {
+            source,
+            target,
+            piece: Vec::new(alloc),
+            found: None,
+        }),
+        Err(error) => {
+            tree.close(source);
+            Err(error)
+        }
+    }
+}
+
+/// Copies the first octets of a file, and answers how many: less than the buffer has room for if the file ends with them. That it
+/// can't be opened is told before that its copy can't be begun.
+fn copy_front<F: OpenFile, G: SinkFile>(
+    buffer: &mut [u8],
+    copy: &mut Copying<F, G>,
+) -> Result<usize, CopyFault> {
+    let Ok(_) = copy.source.read(&mut buffer[..0]) else {
+        return Err(CopyFault::Tree);
+    };
+    if copy.target.failures() > 0 {
+        return Err(CopyFault::Sink);
+    }
+    copy_piece(buffer, &mut copy.source, &mut copy.target, 0)
+}
+
+/// Adds a file of which this front was copied, to those that are copied.
+///
+/// # Errors
+///
+/// The file, if memory runs out.
+fn hold<F, G>(
+    alloc: Global,
+    copies: &mut Vec<Copying<F, G>>,
+    copy: Copying<F, G>,
+    front: &[u8],
+) -> Result<(), Copying<F, G>> {
+    let mut copy = copy;
+    let mut piece = Vec::new(alloc);
+    let Ok(()) = piece.extend_from_slice(front) else {
+        return Err(copy);
+    };
+    copy.piece = piece;
+    if front.len() < BUFFER {
+        copy.found = Some(SourceRead::Whole(front.len()));
+    }
+    match copies.push(copy) {
+        Ok(()) => Ok(()),
+        Err(refused) => Err(refused.value),
+    }
+}
+
+/// Copies files to their ends, side by side, ends their copies, and takes all back. Returns the items of these files too, after
+/// those of the files before them.
+///
+/// # Errors
+///
+/// What stops the first of them, by path, that is stopped; and `Memory`.
+fn finish<T: CopiedTree, S: OpenSink>(
+    alloc: Global,
+    tree: &mut T,
+    sink: &mut S,
+    set: AlgSet,
+    items: Items,
+    copies: Vec<Copying<T::File, S::File>>,
+) -> Result<Items, WriteFault> {
+    let mut copies = copies;
+    match complete(set, sink, copies.as_mut_slice()) {
+        Ok(()) => {
+            let items = add_items(alloc, tree, items, copies.as_slice());
+            close_all(tree, sink, copies);
+            items
+        }
+        Err(stop) => Err(stopped_at(tree, sink, copies, stop)),
+    }
+}
+
+/// Copies files to their ends and ends their copies, since what stops one of them comes before what stops the next file, and takes all
+/// back. Answers what is told.
+fn stop<T: CopiedTree, S: OpenSink>(
+    tree: &mut T,
+    sink: &mut S,
+    set: AlgSet,
+    copies: Vec<Copying<T::File, S::File>>,
+    fault: CopyFault,
+    copy: Copying<T::File, S::File>,
+) -> WriteFault {
+    let mut copies = copies;
+    match complete(set, sink, copies.as_mut_slice()) {
+        Ok(()) => {
+            close_all(tree, sink, copies);
+            told(tree, sink, fault, copy)
+        }
+        Err(stop) => {
+            give_up(tree, sink, copy, &copies[stop.place], stop.fault);
+            stopped_at(tree, sink, copies, stop)
+        }
+    }
+}
+
+/// Copies files to their ends, side by side, and ends the copy of each, in their order.
+///
+/// # Errors
+///
+/// The first file that stopped, or whose copy can't be ended. The copies of those before it were ended, and no others.
+fn complete<F: OpenFile, S: OpenSink>(
+    set: AlgSet,
+    sink: &mut S,
+    copies: &mut [Copying<F, S::File>],
+) -> Result<(), CopyStop> {
+    match copy_each(set, copies) {
+        Ok(()) => {
+            let count = copies.len();
+            end_each(sink, copies, count)
+        }
+        Err(stop) => {
+            end_each(sink, copies, stop.place)?;
+            Err(stop)
+        }
+    }
+}
+
+/// Ends the copies of the files before the place `end`, in their order.
+///
+/// # Errors
+///
+/// The first that can't be ended. Those behind it aren't ended.
+fn end_each<F, S: OpenSink>(
+    sink: &mut S,
+    copies: &mut [Copying<F, S::File>],
+    end: usize,
+) -> Result<(), CopyStop>
+    requires { end ≤ length copies.old }
+{
+    for k in 0..end {
+        let Ok(()) = sink.end_file(&mut copies[k].target) else {
+            return Err(CopyStop {
+                place: k,
+                fault: CopyFault::Sink,
+            });
+        };
+    }
+    Ok(())
+}
+
+/// Adds the items of these files, which were copied to their ends.
+fn add_items<T: Paths, F: OpenFile, G>(
+    alloc: Global,
+    tree: &T,
+    items: Items,
+    copies: &[Copying<F, G>],
+) -> Result<Items, WriteFault> {
+    let mut items = items;
+    for copy in copies {
+        if let Some(found) = copy.found {
+            let path = tree.path(copy.source.place()).clone()?;
+            items = items.add(alloc, path, found, copy.piece.as_slice())?;
+        }
+    }
+    Ok(items)
+}
