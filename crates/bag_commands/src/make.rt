@@ -9,7 +9,6 @@ use crate::no_result::NoResult;
 use crate::output::Output;
 use crate::status::{DONE, FAILED, REFUSED, USAGE};
 use bag_digest::{Alg, AlgSet};
-use bag_rules::Tree;
 use bag_tags::{Info, Oxum};
 use bag_writer::{CopiedTree, Large, OpenSink, Spec, WriteFault, write_bag};
 use std::alloc::Global;

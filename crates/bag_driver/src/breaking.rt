@@ -1,6 +1,7 @@
 //! Trees, open files, sinks, suppliers and writers of which one call fails.
 ghost use Rattle.std.specs.Prelude.{◌≡◌, None};
 ghost use Rattle.bag_rules.specs.OpenTrees.{LeavesRest};
+ghost use Rattle.bag_writer.specs.OpenSinks.{LeavesSink};
 
 use crate::breaker::{Breaker, Device};
 use crate::event::File;

@@ -53,8 +53,8 @@ module _ {F G : Type 0} (s : Sides F G) (work : Work) {octets : List ℕ} {a b :
   -- copying stopped after these octets
   pub stopped_on : (fault : CopyFault) (more : List ℕ) → Consumes (s.remaining a) (s.remaining b) more → (fault ≡ TooLarge → LARGEST_FILE < length (octets ++ more))
       → (fault ≡ Tree → (0 < s.failures b) × (s.ready a → ⊥)) → (fault ≢ Tree → s.failures b ≡ s.failures a)
-      → (fault ≡ Sink → (0 < s.copy_failures u) × (s.copy_sure t → ⊥)) → (fault ≢ Sink → s.copy_failures u ≡ s.copy_failures t) → IsStopped s work b u fault
-  stopped_on fault more gave long failed unfailed copy_failed copy_unfailed = record {
+      → (fault ≡ Sink → (0 < s.copy_failures u) × (s.copy_sure t → ⊥)) → IsStopped s work b u fault
+  stopped_on fault more gave long failed unfailed copy_failed = record {
     path = copied.path;
     named = named_on;
     beside = beside_on;
@@ -63,7 +63,6 @@ module _ {F G : Type 0} (s : Sides F G) (work : Work) {octets : List ℕ} {a b :
     failed = λ e. ((failed e).0, λ h. (failed e).1 (copied.ready h));
     unfailed = λ not. unfailed not ∙ copied.unfailed;
     copy_failed = λ e. ((copy_failed e).0, λ h. (copy_failed e).1 (copied.sure h));
-    copy_unfailed = λ not. copy_unfailed not ∙ copied.copy_unfailed;
   }
 
 module _ {F G : Type 0} (s : Sides F G) (keeps : F → F → Type 0) (law : (a b : F) → keeps a b → s.place b ≡ s.place a) (work : Work) (octets : List ℕ) (n : ℕ) (count : n ≡ length octets) {a b : F} {t : G} (copied : IsCopiedTo s work octets a t) where
@@ -78,14 +77,14 @@ module _ {F G : Type 0} (s : Sides F G) (keeps : F → F → Type 0) (law : (a b
         risen (s.failures a) (s.failures b) _ uses.counted is,
         λ h. (uses.stays_ready h).1 is,
       ))
-      (λ not. absurd (not refl)) (λ no. cc) (λ _. refl)
+      (λ not. absurd (not refl)) (λ no. cc)
 
   pub read_is_too_long : {A : Type 0} (fault : SourceFault) → fault ≡ cause.TooLarge → GaveBefore (s.remaining a) (s.remaining b) (LARGEST_FILE - n) (read_fault fault)
       → UsesSource s.failures s.ready keeps a b (IsErrOf {T = A} (Err fault) cause.Read) → IsStopped s work b t TooLarge
   read_is_too_long {A} fault e gave uses =
       let more = subst (λ f. GaveBefore (s.remaining a) (s.remaining b) (LARGEST_FILE - n) (read_fault f)) e gave in
       stopped_on s work copied (law a b uses.kept) refl TooLarge more.0 more.1 (λ _. omega (arith, count, copied.within, more.2, length-append octets more.0))
-      (λ no. cc) (λ _. uses.counted.stays (λ f. (let k = err_same {A} f in let l = sym e ∙ k in cc))) (λ no. cc) (λ _. refl)
+      (λ no. cc) (λ _. uses.counted.stays (λ f. (let k = err_same {A} f in let l = sym e ∙ k in cc))) (λ no. cc)
 
 module _ {F G : Type 0} (s : Sides F G) (keeps : F → F → Type 0) (law : (a b : F) → keeps a b → s.place b ≡ s.place a) (work : Work) (octets buffer : List ℕ) (done n : ℕ) (count : done ≡ length octets) {a b : F} {t : G} (copied : IsCopiedTo s work octets a t)
     (piece : GavePiece (s.remaining a) (s.remaining b) (LARGEST_FILE - done) n buffer) (uses : UsesSource s.failures s.ready keeps a b (IsErrOf (Ok n) cause.Read)) where
@@ -117,4 +116,4 @@ module _ {F G : Type 0} (s : Sides F G) (keeps : F → F → Type 0) (law : (a b
   -- it couldn't be written
   pub write_fails : {u : G} → s.copy_place u ≡ s.copy_place t → 0 < s.copy_failures u → (s.copy_sure t → ⊥) → IsStopped s work b u Sink
   write_fails {u} beside failed sure =
-      stopped_on s work copied (law a b uses.kept) beside Sink (take n buffer) piece.gave (λ no. cc) (λ no. cc) (λ _. unfailed) (λ _. (failed, sure)) (λ not. absurd (not refl))
+      stopped_on s work copied (law a b uses.kept) beside Sink (take n buffer) piece.gave (λ no. cc) (λ no. cc) (λ _. unfailed) (λ _. (failed, sure))

@@ -42,3 +42,4 @@ pub mod EmptyBags
 pub mod CopyLemmas
 pub mod CopyPieces
 pub mod FilesOut
+pub mod CopyGroups

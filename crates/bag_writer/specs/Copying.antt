@@ -68,7 +68,7 @@ pub record CopiesPiece {F G : Type 0} (s : Sides F G) (work : Work) (octets buff
   pub copied : IsCopiedTo s work (octets ++ take n buffer) source target
   pub end : n < length buffer → IsAtEnd (s.remaining source)
 
--- Copying stopped with this fault: the file has failed or is too large, or the copy has failed. Nothing else has failed.
+-- Copying stopped with this fault: the file has failed or is too large, or it hasn't failed and the copy has.
 pub record IsStopped {F G : Type 0} (s : Sides F G) (work : Work) (source : F) (target : G)
     (fault : CopyFault) : Type 0 where
   pub path : List ℕ
@@ -79,7 +79,6 @@ pub record IsStopped {F G : Type 0} (s : Sides F G) (work : Work) (source : F) (
   pub failed : fault ≡ Tree → (0 < s.failures source) × (work.tree_sure ≢ true)
   pub unfailed : fault ≢ Tree → s.failures source ≡ 0
   pub copy_failed : fault ≡ Sink → (0 < s.copy_failures target) × (work.sink_sure ≢ true)
-  pub copy_unfailed : fault ≢ Sink → s.copy_failures target ≡ 0
 
 -- the file was copied to its end, and this was found of it
 pub record HasEnded {F G : Type 0} (s : Sides F G) (work : Work) (set : AlgSet)
@@ -136,6 +135,19 @@ pub record KeepPlaces {F G : Type 0} (place : F → ℕ) (copy_place : G → ℕ
 abbrev pub OthersStay : {F G : Type 0} → ℕ → ℕ → List (Copying F G) → List (Copying F G) → Type 0
 OthersStay first end old new = (k : ℕ) → (k < first) ⊎ (end ≤ k)
     → slice_get new k ≡ slice_get old k
+
+-- the same, and each file has the place that it had
+pub record KeepsRest {F G : Type 0} (place : F → ℕ) (copy_place : G → ℕ) (first end : ℕ)
+    (old new : List (Copying F G)) : Type 0 where
+  pub others : OthersStay first end old new
+  pub places : KeepPlaces place copy_place old new
+
+-- at most four of the files, of which those that go on have full pieces
+pub record AreFew {F G : Type 0} (first end : ℕ) (copies : List (Copying F G)) : Type 0 where
+  pub low : first ≤ end
+  pub few : end ≤ first + 4
+  pub inside : end ≤ length copies
+  pub full : AreFull first end copies
 
 -- IN LANES
 

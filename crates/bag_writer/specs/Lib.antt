@@ -13,3 +13,4 @@ pub mod ExampleBags
 pub mod OpenSinks
 pub mod Copying
 pub mod Returned
+pub mod Pending

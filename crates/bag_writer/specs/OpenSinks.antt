@@ -1,5 +1,5 @@
 -- What a sink gives out, and what giving a file out and taking it back does to it.
-use Rattle.std.specs.Prelude.{◌≡◌, ◌⊎◌, ◌<◌, [], ℕ, Bool, false, List, Option}
+use Rattle.std.specs.Prelude.{◌≡◌, ◌⊎◌, ◌<◌, ◌≤◌, [], ℕ, Bool, false, List, Option}
 use Rattle.bag_rules.specs.OpenTrees.{IsTooLarge}
 use Rattle.bag_rules.specs.Trees.{Shown}
 use Rattle.bag_writer.specs.Sinks.{IsFree, Stored}
@@ -36,8 +36,8 @@ pub record IsAfter {G : Type 0} (place : G → ℕ) (failures : G → ℕ) (firs
   pub later : place first < i
   pub failed : 0 < failures first
 
--- a place is behind that of an open file of a tree that has failed or is too large
+-- a place is that of an open file of a tree that has failed or is too large, or is behind it
 pub record IsStoppedBefore {F : Type 0} (place : F → ℕ) (failures : F → ℕ) (shown : Shown)
     (first : F) (i : ℕ) : Type 0 where
-  pub later : place first < i
+  pub later : place first ≤ i
   pub stopped : (0 < failures first) ⊎ IsTooLarge shown (place first)

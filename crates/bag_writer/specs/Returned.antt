@@ -42,7 +42,7 @@ AreUnfailed {F} {G} failures copy_failures copies = (k : ℕ) (each : Copying F 
     → slice_get copies k ≡ Some each
     → (failures each.source ≡ 0) × (copy_failures each.target ≡ 0)
 
--- A file has stopped with this fault: it has failed or is too large, or its copy has failed. Nothing else has failed.
+-- A file has stopped with this fault: it has failed or is too large, or it hasn't failed and its copy has.
 pub record IsStoppedAt {F G : Type 0} (place : F → ℕ) (failures : F → ℕ) (copy_place : G → ℕ)
     (copy_failures : G → ℕ) (shown : Shown) (fault : CopyFault) (each : Copying F G)
     : Type 0 where
@@ -52,7 +52,6 @@ pub record IsStoppedAt {F G : Type 0} (place : F → ℕ) (failures : F → ℕ)
   pub unfailed : fault ≢ copy.Tree → failures each.source ≡ 0
   pub large : fault ≡ copy.TooLarge → IsTooLarge shown (place each.source)
   pub copy_failed : fault ≡ copy.Sink → 0 < copy_failures each.target
-  pub copy_unfailed : fault ≢ copy.Sink → copy_failures each.target ≡ 0
 
 -- a file comes behind one that has stopped
 pub record IsBehindStopped {F G : Type 0} (place : F → ℕ) (failures : F → ℕ) (copy_place : G → ℕ)

@@ -1,8 +1,12 @@
 //! Writes the payload, several files side by side.
-ghost use Rattle.std.specs.Prelude.{◌≡◌, ◌≤◌, [], IfErr, IsErrOf, MatchResult, false, length};
+ghost use Rattle.std.specs.Prelude.{◌≡◌, ◌+◌, ◌<◌, ◌≤◌, [], ℕ, Bool, None, IfErr, IfOk, IsErrOf, MatchResult, false, length, take, true};
 ghost use Rattle.bag_rules.specs.Files.{Files};
+ghost use Rattle.bag_rules.specs.Returning.{LeavesOut};
 ghost use Rattle.bag_rules.specs.Trees.{paths_in};
 ghost use Rattle.bag_rules.specs.declared.limits.TheConstants.{LARGEST_FILE};
+ghost use Rattle.bag_writer.specs.Copying.{CopiesPiece, IsStopped, Work, sides};
+ghost use Rattle.bag_writer.specs.Pending.{AddsCopy, AreUnfailedTo, CanBegin, CanCopy, EndsEach, HoldEach, IsBeginFault, IsHeld, copies_with, work_of};
+ghost use Rattle.bag_writer.specs.Returned.{LeavesCopies};
 ghost use Rattle.bag_writer.specs.Sinks.{UsesClosedSink};
 ghost use Rattle.bag_writer.specs.Steps.{AreHoleMarks, AreItemsOf, ArePart, AreWhole, HasNoFile, NamesLong, ReadsPayload, written_payload};
 ghost use Rattle.bag_writer.specs.Writing.{HasLongFile, IsMetLater, IsReadFrom};
@@ -143,7 +147,28 @@ fn begin_next<T: CopiedTree, S: OpenSink>(
     sink: &mut S,
     i: usize,
     copies: &mut Vec<Copying<T::File, S::File>>,
-) -> Result<(), BeginFault<Copying<T::File, S::File>>> {
+) -> Result<(), BeginFault<Copying<T::File, S::File>>>
+    requires { (length buffer.old ≡ BUFFER) × (i < length (paths_in (T.shown tree.old))) }
+    ensures begun { (tree_sure sink_sure : Bool) → (tree_sure ≡ true → T.sure tree.old)
+        → (sink_sure ≡ true → CanBegin (S.sure sink.old) (S.is_open sink.old) (S.stored sink.old)
+        (T.shown tree.old) i)
+        → MatchResult result
+        (λ done. AddsCopy (sides T.File.place T.File.remaining T.File.failures T.File.ready
+        S.File.place S.File.holds S.File.failures S.File.sure)
+        (work_of (T.shown tree.old) tree_sure sink_sure) i copies.old.items copies.new.items)
+        (λ fault. (copies.new.items ≡ copies.old.items)
+        × IsBeginFault (sides T.File.place T.File.remaining T.File.failures T.File.ready
+        S.File.place S.File.holds S.File.failures S.File.sure)
+        (work_of (T.shown tree.old) tree_sure sink_sure) i fault) }
+    ensures tree { (n : ℕ) → MatchResult result
+        (λ done. LeavesOut T.shown T.failures T.sure n (n + 1) tree.old tree.new)
+        (λ fault. LeavesOut T.shown T.failures T.sure n (n + copies_with fault)
+        tree.old tree.new) }
+    ensures sink { (n : ℕ) → MatchResult result
+        (λ done. LeavesCopies S.stored S.is_open S.failures S.sure n (n + 1) sink.old sink.new)
+        (λ fault. LeavesCopies S.stored S.is_open S.failures S.sure n (n + copies_with fault)
+        sink.old sink.new) }
+{
     let mut copy = open_next(alloc, tree, sink, i)?;
     match copy_front(buffer, &mut copy) {
         Ok(n) => match hold(alloc, copies, copy, &buffer[..n]) {
@@ -164,7 +189,22 @@ fn open_next<T: CopiedTree, S: OpenSink>(
     tree: &mut T,
     sink: &mut S,
     i: usize,
-) -> Result<Copying<T::File, S::File>, AllocError> {
+) -> Result<Copying<T::File, S::File>, AllocError>
+    requires { i < length (paths_in (T.shown tree.old)) }
+    ensures opened { IfOk result (λ copy. (copy.found ≡ None)
+        × ((tree_sure sink_sure : Bool) → (tree_sure ≡ true → T.sure tree.old)
+        → (sink_sure ≡ true → CanBegin (S.sure sink.old) (S.is_open sink.old) (S.stored sink.old)
+        (T.shown tree.old) i)
+        → CanCopy (sides T.File.place T.File.remaining T.File.failures T.File.ready
+        S.File.place S.File.holds S.File.failures S.File.sure)
+        (work_of (T.shown tree.old) tree_sure sink_sure) i copy)) }
+    ensures tree { (n : ℕ) → MatchResult result
+        (λ copy. LeavesOut T.shown T.failures T.sure n (n + 1) tree.old tree.new)
+        (λ error. LeavesOut T.shown T.failures T.sure n n tree.old tree.new) }
+    ensures sink { (n : ℕ) → MatchResult result
+        (λ copy. LeavesCopies S.stored S.is_open S.failures S.sure n (n + 1) sink.old sink.new)
+        (λ error. LeavesCopies S.stored S.is_open S.failures S.sure n n sink.old sink.new) }
+{
     let source = tree.open_file(alloc, i)?;
     match sink.begin_file(alloc, i, tree.path(i)) {
         Ok(target) => Ok(Copying {
@@ -185,7 +225,20 @@ fn open_next<T: CopiedTree, S: OpenSink>(
 fn copy_front<F: OpenFile, G: SinkFile>(
     buffer: &mut [u8],
     copy: &mut Copying<F, G>,
-) -> Result<usize, CopyFault> {
+) -> Result<usize, CopyFault>
+    requires { 0 < length buffer.old }
+    ensures copied { (work : Work) (i : ℕ) → CanCopy (sides F.place F.remaining F.failures F.ready
+        G.place G.holds G.failures G.sure) work i copy.old
+        → MatchResult result
+        (CopiesPiece (sides F.place F.remaining F.failures F.ready
+        G.place G.holds G.failures G.sure) work [] buffer.new copy.new.source copy.new.target)
+        (IsStopped (sides F.place F.remaining F.failures F.ready
+        G.place G.holds G.failures G.sure) work copy.new.source copy.new.target) }
+    ensures bound { IfOk result (λ n. n ≤ length buffer.new) }
+    ensures rest { (length buffer.new ≡ length buffer.old)
+        × (F.place copy.new.source ≡ F.place copy.old.source)
+        × (copy.new.found ≡ copy.old.found) }
+{
     let Ok(_) = copy.source.read(&mut buffer[..0]) else {
         return Err(CopyFault::Tree);
     };
@@ -205,7 +258,12 @@ fn hold<F, G>(
     copies: &mut Vec<Copying<F, G>>,
     copy: Copying<F, G>,
     front: &[u8],
-) -> Result<(), Copying<F, G>> {
+) -> Result<(), Copying<F, G>>
+    ensures { MatchResult result
+        (λ done. IsHeld copies.old.items copies.new.items copy front.now)
+        (λ back. (copies.new.items ≡ copies.old.items) × (back.source ≡ copy.source)
+        × (back.target ≡ copy.target)) }
+{
     let mut copy = copy;
     let mut piece = Vec::new(alloc);
     let Ok(()) = piece.extend_from_slice(front) else {
@@ -301,7 +359,14 @@ fn end_each<F, S: OpenSink>(
     copies: &mut [Copying<F, S::File>],
     end: usize,
 ) -> Result<(), CopyStop>
-    requires { end ≤ length copies.old }
+    requires { (end ≤ length copies.old) × AreUnfailedTo S.File.failures end copies.old }
+    ensures ended { (files : Files) → HoldEach S.File.holds end copies.old files
+        → MatchResult result
+        (λ done. AreWhole (take end files) (S.stored sink.old) (S.stored sink.new))
+        (λ stop. AreWhole (take stop.place files) (S.stored sink.old) (S.stored sink.new)) }
+    ensures copies { EndsEach S.File.place S.File.failures end copies.old copies.new result }
+    ensures sink { (S.failures sink.new ≡ S.failures sink.old)
+        × (S.is_open sink.new ≡ S.is_open sink.old) × (S.sure sink.old → S.sure sink.new) }
 {
     for k in 0..end {
         let Ok(()) = sink.end_file(&mut copies[k].target) else {

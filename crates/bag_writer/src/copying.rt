@@ -1,12 +1,12 @@
 //! Reads several files, writes each to its copy and takes their digests, side by side.
-ghost use Rattle.std.specs.Prelude.{◌≡◌, ◌+◌, ◌<◌, ◌≤◌, ◌++◌, ℕ, List, [], Err, IfOk, IsOk, None, MatchOption, MatchResult, Some, length, slice_get};
+ghost use Rattle.std.specs.Prelude.{◌≡◌, ◌+◌, ◌<◌, ◌≤◌, ◌++◌, ℕ, List, [], Err, IfErr, IfOk, IsOk, None, MatchOption, MatchResult, Some, length, slice_get};
 ghost use Rattle.bag_digest.specs.Hash.{AreDigests};
 ghost use Rattle.bag_digest.specs.Lanes.{HoldsAt};
 ghost use Rattle.bag_digest.specs.Streams.{OtherLanesStay};
 ghost use Rattle.bag_digest.specs.declared.algorithm.AlgSet.{AlgSet};
 ghost use Rattle.bag_digest.specs.declared.streams.TheConstants.{FRONT};
 ghost use Rattle.bag_rules.specs.declared.limits.TheConstants.{LARGEST_FILE};
-ghost use Rattle.bag_writer.specs.Copying.{AreDone, AreEnded, AreFresh, AreFull, AreHashed, AreUnder, CopiesPiece, HasEnded, HaveStoppedAt, HaveTaken, IsCopiedTo, IsFirstOpen, IsFirstStopped, IsFresh, IsStopped, IsUnder, KeepPlaces, OthersStay, Work, sides};
+ghost use Rattle.bag_writer.specs.Copying.{AreDone, AreEnded, AreFew, AreFresh, AreFull, AreHashed, AreUnder, CopiesPiece, HasEnded, HaveStoppedAt, HaveTaken, IsCopiedTo, IsFirstOpen, IsFirstStopped, IsStopped, IsUnder, KeepPlaces, KeepsRest, Work, sides};
 ghost use Rattle.bag_writer.specs.declared.copying.Copying.{Copying};
 
 use crate::open_sink::SinkFile;
@@ -85,16 +85,14 @@ fn next_open<F, G>(copies: &[Copying<F, G>], first: usize, end: usize) -> Option
     None
 }
 
-/// Does this for at most four files: those from the place `first`, which hasn't ended, to before the place `end`. One alone has
-/// no lanes.
+/// Does this for at most four files: those from the place `first` to before the place `end`. One alone has no lanes.
 fn copy_few<F: OpenFile, G: SinkFile>(
     set: AlgSet,
     copies: &mut [Copying<F, G>],
     first: usize,
     end: usize,
 ) -> Result<(), CopyStop>
-    requires few { (first < end) × (end ≤ first + 4) × (end ≤ length copies.old) }
-    requires full { AreFull first end copies.old }
+    requires { AreFew first end copies.old }
     ensures copied { (work : Work) → AreFresh (sides F.place F.remaining F.failures F.ready
         G.place G.holds G.failures G.sure) work set first end copies.old
         → MatchResult result
@@ -102,8 +100,7 @@ fn copy_few<F: OpenFile, G: SinkFile>(
         G.place G.holds G.failures G.sure) work set first end copies.new)
         (IsFirstStopped (sides F.place F.remaining F.failures F.ready
         G.place G.holds G.failures G.sure) work set first end copies.new) }
-    ensures others { OthersStay first end copies.old copies.new }
-    ensures places { KeepPlaces F.place G.place copies.old copies.new }
+    ensures rest { KeepsRest F.place G.place first end copies.old copies.new }
 {
     let Some(next) = next_open(copies, first, end) else {
         return Ok(());
@@ -160,8 +157,7 @@ fn copy_beside<F: OpenFile, G: SinkFile>(
     first: usize,
     end: usize,
 ) -> Result<(), CopyStop>
-    requires few { (first < end) × (end ≤ first + 4) × (end ≤ length copies.old) }
-    requires full { AreFull first end copies.old }
+    requires { AreFew first end copies.old }
     ensures copied { (work : Work) → AreFresh (sides F.place F.remaining F.failures F.ready
         G.place G.holds G.failures G.sure) work set first end copies.old
         → MatchResult result
@@ -169,8 +165,7 @@ fn copy_beside<F: OpenFile, G: SinkFile>(
         G.place G.holds G.failures G.sure) work set first end copies.new)
         (IsFirstStopped (sides F.place F.remaining F.failures F.ready
         G.place G.holds G.failures G.sure) work set first end copies.new) }
-    ensures others { OthersStay first end copies.old copies.new }
-    ensures places { KeepPlaces F.place G.place copies.old copies.new }
+    ensures rest { KeepsRest F.place G.place first end copies.old copies.new }
 {
     let mut multi = begun(set);
     let mut hashed = 0u64;
@@ -221,8 +216,7 @@ fn take_pieces<F, G>(
     end: usize,
     next: usize,
 )
-    requires four { (end ≤ first + 4) × (end ≤ length copies.now) }
-    requires full { AreFull first end copies.now }
+    requires few { AreFew first end copies.now }
     requires first { IsFirstOpen copies.now first end next }
     ensures { HaveTaken copies.now first end multi.old multi.new }
 {
@@ -261,8 +255,7 @@ fn advance_each<F: OpenFile, G: SinkFile>(
     end: usize,
     hashed: u64,
 ) -> Result<(), CopyStop>
-    requires four { (first ≤ end) × (end ≤ first + 4) × (end ≤ length copies.old) }
-    requires full { AreFull first end copies.old }
+    requires few { AreFew first end copies.old }
     requires within { hashed ≤ LARGEST_FILE }
     ensures advanced { (work : Work) (set : AlgSet)
         → AreHashed (sides F.place F.remaining F.failures F.ready
@@ -272,9 +265,9 @@ fn advance_each<F: OpenFile, G: SinkFile>(
         G.place G.holds G.failures G.sure) work multi.new set hashed first first end copies.new)
         (HaveStoppedAt (sides F.place F.remaining F.failures F.ready
         G.place G.holds G.failures G.sure) work multi.new set hashed first end copies.new) }
-    ensures full { AreFull first end copies.new }
-    ensures others { OthersStay first end copies.old copies.new }
-    ensures places { KeepPlaces F.place G.place copies.old copies.new }
+    ensures inside { AreFull first end copies.new
+        × IfErr result (λ stop. (first ≤ stop.place) × (stop.place < end)) }
+    ensures rest { KeepsRest F.place G.place first end copies.old copies.new }
 {
     for k in first..end {
         if copies[k].found.is_none() {

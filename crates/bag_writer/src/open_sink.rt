@@ -122,8 +122,8 @@ pub trait OpenSink: Sink {
         ensures counted { Self.failures self.new ≡ Self.failures self.old - 1 }
         ensures rest { LeavesSink Self.stored Self.is_open Self.sure self.old self.new };
 
-    /// Takes back a file, whether or not it has failed, behind the place of an open file of this tree that has failed or
-    /// is too large.
+    /// Takes back a file, whether or not it has failed, at the place of an open file of this tree that has failed or is too
+    /// large, or behind it.
     fn give_up_unread<T: OpenTree>(&mut self, file: Self::File, tree: &T, first: &T::File)
         requires { IsStoppedBefore T.File.place T.File.failures (T.shown tree.now) first.now
             (Self.File.place file) }

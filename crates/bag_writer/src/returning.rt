@@ -126,8 +126,8 @@ pub(crate) fn told<T: CopiedTree, S: OpenSink>(
 {
     match fault {
         CopyFault::Tree => {
+            sink.give_up_unread(copy.target, tree, &copy.source);
             tree.fail(copy.source);
-            sink.close(copy.target);
             WriteFault::Tree
         }
         CopyFault::Sink => {
@@ -137,8 +137,8 @@ pub(crate) fn told<T: CopiedTree, S: OpenSink>(
         }
         CopyFault::TooLarge => {
             let path: Result<BagPath, AllocError> = tree.path(copy.source.place()).clone();
+            sink.give_up_unread(copy.target, tree, &copy.source);
             tree.close(copy.source);
-            sink.close(copy.target);
             match path {
                 Ok(path) => WriteFault::TooLarge(Large::File(path)),
                 Err(_) => WriteFault::Memory,

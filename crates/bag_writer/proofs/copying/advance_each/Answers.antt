@@ -11,7 +11,7 @@ returns-in-Err-clause-advanced g c = λ work set hashed.
     let k = c.loop-k.k in
     let xs = c.loop-k.copies in
     let low = c.loop-k.auto.k in
-    let inside : k < length xs = omega (arith, c.loop-k-test.true, c.requires.four.2, c.loop-k.invariant.count) in
+    let inside : k < length xs = omega (arith, c.loop-k-test.true, c.requires.few.inside, c.loop-k.invariant.count) in
     let before = c.loop-k.invariant.advanced work set hashed in
     let there = slice_get_read xs (length xs) k c.index-copies-k-then-is_none.result refl inside c.index-copies-k-then-is_none.is in
     record {
@@ -23,32 +23,42 @@ returns-in-Err-clause-advanced g c = λ work set hashed.
           rw (← own) (c.in-Err.ensures.advanced work set (before.1 k _ (omega arith) c.loop-k-test.true (there ∙ ap Some c.index-copies-k-then-is_none.is)));
     }
 
-pub returns-in-Err-clause-others : goal.returns-in-Err-clause-others
-returns-in-Err-clause-others g c = λ k out.
-    set_there c.loop-k.copies c.loop-k.k k c.advance.new.copy (λ e. elim out [ inl low ↦ omega (arith, e, low, c.loop-k.auto.k) | inr high ↦ omega (arith, e, high, c.loop-k-test.true) ])
-    ∙ c.loop-k.invariant.others k (elim out [ inl low ↦ inl low | inr high ↦ inr (omega (arith, high, c.loop-k-test.true)) ])
-
-pub returns-in-Err-clause-full : goal.returns-in-Err-clause-full
-returns-in-Err-clause-full g c =
+pub returns-in-Err-clause-rest : goal.returns-in-Err-clause-rest
+returns-in-Err-clause-rest g c =
     let xs = c.loop-k.copies in
     let k = c.loop-k.k in
-    let inside : k < length xs = omega (arith, c.loop-k-test.true, c.requires.four.2, c.loop-k.invariant.count) in
-    full_set c.args.first c.args.end k xs _ c.advance.new.copy (set_here xs k c.advance.new.copy inside) (λ j apart. set_there xs k j c.advance.new.copy apart) (λ none. c.in-Err.ensures.full) c.loop-k.invariant.full
-
-pub returns-in-Err-clause-places : goal.returns-in-Err-clause-places
-returns-in-Err-clause-places g c =
-    let xs = c.loop-k.copies in
-    let k = c.loop-k.k in
-    let inside : k < length xs = omega (arith, c.loop-k-test.true, c.requires.four.2, c.loop-k.invariant.count) in
+    let inside : k < length xs = omega (arith, c.loop-k-test.true, c.requires.few.inside, c.loop-k.invariant.count) in
     let there = slice_get_read xs (length xs) k c.index-copies-k-then-is_none.result refl inside c.index-copies-k-then-is_none.is in
-    places_on g.F.OpenFile.place g.G.SinkFile.place _ xs _ c.loop-k.invariant.places
-    (places_set g.F.OpenFile.place g.G.SinkFile.place xs _ k _ c.advance.new.copy (search rules) (there ∙ ap Some c.index-copies-k-then-is_none.is) (set_here xs k c.advance.new.copy inside) (λ j apart. set_there xs k j c.advance.new.copy apart) c.in-Err.ensures.places.0 c.in-Err.ensures.places.1)
+    record {
+      others = λ j out.
+          set_there xs k j c.advance.new.copy (λ e. elim out [ inl low ↦ omega (arith, e, low, c.loop-k.auto.k) | inr high ↦ omega (arith, e, high, c.loop-k-test.true) ])
+          ∙ c.loop-k.invariant.others j (elim out [ inl low ↦ inl low | inr high ↦ inr (omega (arith, high, c.loop-k-test.true)) ]);
+      places = places_on g.F.OpenFile.place g.G.SinkFile.place _ xs _ c.loop-k.invariant.places
+          (places_set g.F.OpenFile.place g.G.SinkFile.place xs _ k _ c.advance.new.copy (search rules) (there ∙ ap Some c.index-copies-k-then-is_none.is) (set_here xs k c.advance.new.copy inside) (λ j apart. set_there xs k j c.advance.new.copy apart) c.in-Err.ensures.places.0 c.in-Err.ensures.places.1);
+    }
+
+pub returns-in-Err-clause-inside : goal.returns-in-Err-clause-inside
+returns-in-Err-clause-inside g c =
+    let xs = c.loop-k.copies in
+    let k = c.loop-k.k in
+    let inside : k < length xs = omega (arith, c.loop-k-test.true, c.requires.few.inside, c.loop-k.invariant.count) in (
+      full_set c.args.first c.args.end k xs _ c.advance.new.copy (set_here xs k c.advance.new.copy inside) (λ j apart. set_there xs k j c.advance.new.copy apart) (λ none. c.in-Err.ensures.full) c.loop-k.invariant.full,
+      (c.loop-k.auto.k, c.loop-k-test.true),
+    )
+
+pub returns-clause-rest : goal.returns-clause-rest
+returns-clause-rest g c =
+    let end : c.loop-k.k ≡ c.args.end = omega (arith, c.loop-k-test.false, c.requires.few.low) in
+    record {
+      others = λ j out. c.loop-k.invariant.others j (elim out [ inl low ↦ inl low | inr high ↦ inr (omega (arith, high, end)) ]);
+      places = c.loop-k.invariant.places;
+    }
 
 pub loop-k-init : goal.loop-k-init
 loop-k-init g c = record {
   count = refl;
   advanced = λ work set hashed. ((λ k copy from to. absurd (omega (arith, from, to))), hashed);
-  full = c.requires.full;
+  full = c.requires.few.full;
   others = λ k out. refl;
   places = places_same g.F.OpenFile.place g.G.SinkFile.place _;
 }
@@ -59,7 +69,7 @@ loop-k-preserved g c =
     let k = c.loop-k.k in
     let xs = c.loop-k.copies in
     let low = c.loop-k.auto.k in
-    let inside : k < length xs = omega (arith, c.loop-k-test.true, c.requires.four.2, c.loop-k.invariant.count) in
+    let inside : k < length xs = omega (arith, c.loop-k-test.true, c.requires.few.inside, c.loop-k.invariant.count) in
     let there = slice_get_read xs (length xs) k c.index-copies-k.result refl inside c.index-copies-k.is in
     elim c.if-is_none.branch [
       | then-is_none+in-Ok w ↦ rw (w.copies-is, w.multi-is)
@@ -104,5 +114,5 @@ loop-k-preserved g c =
 pub returns-clause-advanced : goal.returns-clause-advanced
 returns-clause-advanced g c = λ work set hashed.
     let before = c.loop-k.invariant.advanced work set hashed in
-    let end : c.loop-k.k ≡ c.args.end = omega (arith, c.loop-k-test.false, c.requires.four.0) in
+    let end : c.loop-k.k ≡ c.args.end = omega (arith, c.loop-k-test.false, c.requires.few.low) in
     λ k copy from to now. before.0 k copy from (omega (arith, to, end)) now

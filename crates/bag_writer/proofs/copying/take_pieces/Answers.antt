@@ -11,10 +11,10 @@ pub take-requires : goal.take-requires
 take-requires g c =
     let first = c.args.first in
     let pieces = c.piece_of.result ∷ c.piece_of-2.result ∷ c.piece_of-3.result ∷ c.piece_of-4.result ∷ [] in
-    let zero_full : length (piece_at pieces 0) ≡ FRONT = ap length (message_at_read pieces 0) ∙ c.piece_of.ensures.full first (omega arith) c.requires.first c.requires.full in
-    let one_full : length (piece_at pieces 1) ≡ FRONT = ap length (message_at_read pieces 1) ∙ c.piece_of-2.ensures.full first (omega arith) c.requires.first c.requires.full in
-    let two_full : length (piece_at pieces 2) ≡ FRONT = ap length (message_at_read pieces 2) ∙ c.piece_of-3.ensures.full first (omega arith) c.requires.first c.requires.full in
-    let three_full : length (piece_at pieces 3) ≡ FRONT = ap length (message_at_read pieces 3) ∙ c.piece_of-4.ensures.full first (omega arith) c.requires.first c.requires.full in
+    let zero_full : length (piece_at pieces 0) ≡ FRONT = ap length (message_at_read pieces 0) ∙ c.piece_of.ensures.full first (omega arith) c.requires.first c.requires.few.full in
+    let one_full : length (piece_at pieces 1) ≡ FRONT = ap length (message_at_read pieces 1) ∙ c.piece_of-2.ensures.full first (omega arith) c.requires.first c.requires.few.full in
+    let two_full : length (piece_at pieces 2) ≡ FRONT = ap length (message_at_read pieces 2) ∙ c.piece_of-3.ensures.full first (omega arith) c.requires.first c.requires.few.full in
+    let three_full : length (piece_at pieces 3) ≡ FRONT = ap length (message_at_read pieces 3) ∙ c.piece_of-4.ensures.full first (omega arith) c.requires.first c.requires.few.full in
     let blocks : FRONT % 64 ≡ 0 = refl in
     record {
       whole = ap (λ n. n % 64) zero_full ∙ blocks;
@@ -33,5 +33,5 @@ returns g c = λ k copy from to at none set octets holds.
     (λ each below there open_here. message_at_read pieces 1 ∙ c.piece_of-2.ensures.own below each there open_here)
     (λ each below there open_here. message_at_read pieces 2 ∙ c.piece_of-3.ensures.own below each there open_here)
     (λ each below there open_here. message_at_read pieces 3 ∙ c.piece_of-4.ensures.own below each there open_here)
-    (k - first) (omega (arith, from, to, c.requires.four.0)) copy (omega (arith, from, to)) (let e : first + (k - first) ≡ k = omega (arith, from) in ap (slice_get xs) e ∙ at) none in
-    subst (λ piece. HoldsAt c.take.new.self set (k - first) (octets ++ piece)) is (c.take.ensures.taken (k - first) (omega (arith, from, to, c.requires.four.0)) set octets holds)
+    (k - first) (omega (arith, from, to, c.requires.few.few)) copy (omega (arith, from, to)) (let e : first + (k - first) ≡ k = omega (arith, from) in ap (slice_get xs) e ∙ at) none in
+    subst (λ piece. HoldsAt c.take.new.self set (k - first) (octets ++ piece)) is (c.take.ensures.taken (k - first) (omega (arith, from, to, c.requires.few.few)) set octets holds)
