@@ -43,3 +43,5 @@ pub mod CopyLemmas
 pub mod CopyPieces
 pub mod FilesOut
 pub mod CopyGroups
+pub mod Stopping
+pub mod Beginning

@@ -7,7 +7,7 @@ use Rattle.bag_rules.specs.Trees.{Shown, octets_in, paths_in}
 use Rattle.bag_writer.specs.Copying.{IsFresh, IsStopped, Sides, Work}
 use Rattle.bag_writer.specs.Sinks.{IsFree, Stored}
 use Rattle.bag_writer.specs.declared.beside.BeginFault.{BeginFault}
-use Rattle.bag_writer.specs.declared.beside.BeginFault.TheVariants.{Memory, Stopped}
+use Rattle.bag_writer.specs.declared.beside.BeginFault.TheVariants.{Memory, Stopped, Unopened}
 use Rattle.bag_writer.specs.declared.copying.Copying.{Copying}
 use Rattle.bag_writer.specs.declared.copying.CopyStop.{CopyStop}
 use Rattle.bag_writer.specs.declared.payload.CopyFault.TheVariants.{Sink}
@@ -62,13 +62,30 @@ pub record AddsCopy {F G : Type 0} (s : Sides F G) (work : Work) (i : ℕ)
   pub fresh : (set : AlgSet) → IsFresh s work set last
   pub full : last.found ≡ None → length last.piece.items ≡ BUFFER
 
--- how many files come with a fault; what it says of the file at this place
-abbrev pub copies_with : {F G : Type 0} → BeginFault (Copying F G) → ℕ
+-- how many files come with a fault, and how many copies; what it says of the file at this place
+abbrev pub files_with : {F G : Type 0} → BeginFault F G → ℕ
+files_with Memory = 0
+files_with (Unopened file) = 1
+files_with (Stopped fault each) = 1
+
+abbrev pub copies_with : {F G : Type 0} → BeginFault F G → ℕ
 copies_with Memory = 0
+copies_with (Unopened file) = 0
 copies_with (Stopped fault each) = 1
 
-abbrev pub IsBeginFault : {F G : Type 0} → Sides F G → Work → ℕ → BeginFault (Copying F G) → Type 0
+-- the file at this place couldn't be opened
+abbrev pub IsUnopened : {F : Type 0} → (F → ℕ) → (F → ℕ) → ℕ → F → Type 0
+IsUnopened place failures i file = (place file ≡ i) × (0 < failures file)
+
+abbrev pub IsOpenFault : {F G : Type 0} → (F → ℕ) → (F → ℕ) → Type 0 → ℕ → BeginFault F G → Type 0
+IsOpenFault place failures sure i Memory = Unit {0}
+IsOpenFault place failures sure i (Unopened file) = IsUnopened place failures i file × ¬ sure
+IsOpenFault place failures sure i (Stopped fault each) = ⊥
+
+abbrev pub IsBeginFault : {F G : Type 0} → Sides F G → Work → ℕ → BeginFault F G → Type 0
 IsBeginFault s work i Memory = Unit {0}
+IsBeginFault s work i (Unopened file) = IsUnopened s.place s.failures i file
+    × (work.tree_sure ≢ true)
 IsBeginFault s work i (Stopped fault each) = (s.place each.source ≡ i)
     × IsStopped s work each.source each.target fault
 

@@ -53,14 +53,6 @@ pub record IsStoppedAt {F G : Type 0} (place : F → ℕ) (failures : F → ℕ)
   pub large : fault ≡ copy.TooLarge → IsTooLarge shown (place each.source)
   pub copy_failed : fault ≡ copy.Sink → 0 < copy_failures each.target
 
--- a file comes behind one that has stopped
-pub record IsBehindStopped {F G : Type 0} (place : F → ℕ) (failures : F → ℕ) (copy_place : G → ℕ)
-    (copy_failures : G → ℕ) (shown : Shown) (fault : CopyFault) (first each : Copying F G)
-    : Type 0 where
-  pub stopped : IsStoppedAt place failures copy_place copy_failures shown fault first
-  pub beside : copy_place each.target ≡ place each.source
-  pub later : place first.source < place each.source
-
 -- files are in the order of their places, and each copy has the place of its file
 pub record AreByPlace {F G : Type 0} (place : F → ℕ) (copy_place : G → ℕ)
     (copies : List (Copying F G)) : Type 0 where

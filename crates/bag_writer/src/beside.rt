@@ -1,11 +1,13 @@
 //! Writes the payload, several files side by side.
-ghost use Rattle.std.specs.Prelude.{◌≡◌, ◌+◌, ◌<◌, ◌≤◌, [], ℕ, Bool, None, IfErr, IfOk, IsErrOf, MatchResult, false, length, take, true};
+ghost use Rattle.std.specs.Prelude.{◌≡◌, ◌+◌, ◌<◌, ◌≤◌, [], ℕ, Bool, List, None, IfErr, IfOk, IsErrOf, MatchResult, Some, false, length, slice_get, take, true};
 ghost use Rattle.bag_rules.specs.Files.{Files};
 ghost use Rattle.bag_rules.specs.Returning.{LeavesOut};
 ghost use Rattle.bag_rules.specs.Trees.{paths_in};
 ghost use Rattle.bag_rules.specs.declared.limits.TheConstants.{LARGEST_FILE};
 ghost use Rattle.bag_writer.specs.Copying.{CopiesPiece, IsStopped, Work, sides};
-ghost use Rattle.bag_writer.specs.Pending.{AddsCopy, AreUnfailedTo, CanBegin, CanCopy, EndsEach, HoldEach, IsBeginFault, IsHeld, copies_with, work_of};
+ghost use Rattle.bag_rules.specs.OpenTrees.{IsOpened};
+ghost use Rattle.bag_writer.specs.OpenSinks.{IsBegun};
+ghost use Rattle.bag_writer.specs.Pending.{AddsCopy, AreUnfailedTo, CanBegin, CanCopy, EndsEach, HoldEach, IsBeginFault, IsHeld, IsOpenFault, copies_with, files_with, work_of};
 ghost use Rattle.bag_writer.specs.Returned.{LeavesCopies};
 ghost use Rattle.bag_writer.specs.Sinks.{UsesClosedSink};
 ghost use Rattle.bag_writer.specs.Steps.{AreHoleMarks, AreItemsOf, ArePart, AreWhole, HasNoFile, NamesLong, ReadsPayload, written_payload};
@@ -19,10 +21,10 @@ use crate::item::Item;
 use crate::items::Items;
 use crate::open_sink::{CopiedTree, OpenSink, SinkFile};
 use crate::payload::{BUFFER, CopyFault, write_in_turn};
-use crate::returning::{close_all, give_up, stopped_at, told};
+use crate::returning::{close_all, give_up, give_up_file, stopped_at, told};
 use crate::spec::Spec;
 use crate::write_fault::WriteFault;
-use bag_digest::{Alg, AlgSet, Source, SourceRead};
+use bag_digest::{Alg, AlgSet, Failed, Source, SourceRead};
 use bag_rules::{OpenFile, OpenTree, Paths};
 use std::alloc::{AllocError, Global};
 
@@ -31,20 +33,22 @@ const MOST_COPIED: usize = 32;
 
 /// Why a file wasn't begun.
 #[derive(Drop)]
-pub(crate) enum BeginFault<C> {
+pub(crate) enum BeginFault<F, G> {
     /// Memory ran out. The file isn't out.
     Memory,
+    /// The file, which is out, can't be opened. No copy was begun.
+    Unopened(F),
     /// The file and its copy, which are out, and why they have stopped.
-    Stopped(CopyFault, C),
+    Stopped(CopyFault, Copying<F, G>),
 }
 
-impl<C> From<AllocError> for BeginFault<C> {
+impl<F, G> From<AllocError> for BeginFault<F, G> {
     ghost use Rattle.std.specs.Prelude.{◌≡◌};
     ghost use Rattle.bag_writer.specs.declared.beside.BeginFault.TheVariants.{Memory};
 
     ghost from_gives = { λ _ fault. fault ≡ Memory };
 
-    fn from(_: AllocError) -> BeginFault<C> {
+    fn from(_: AllocError) -> BeginFault<F, G> {
         BeginFault::Memory
     }
 }
@@ -126,6 +130,9 @@ fn write_beside<T: CopiedTree, S: OpenSink>(
                 close_all(tree, sink, copies);
                 return Err(WriteFault::Memory);
             }
+            Err(BeginFault::Unopened(file)) => {
+                return Err(stop_unopened(tree, sink, set, copies, file));
+            }
             Err(BeginFault::Stopped(fault, copy)) => {
                 return Err(stop(tree, sink, set, copies, fault, copy));
             }
@@ -147,7 +154,7 @@ fn begin_next<T: CopiedTree, S: OpenSink>(
     sink: &mut S,
     i: usize,
     copies: &mut Vec<Copying<T::File, S::File>>,
-) -> Result<(), BeginFault<Copying<T::File, S::File>>>
+) -> Result<(), BeginFault<T::File, S::File>>
     requires { (length buffer.old ≡ BUFFER) × (i < length (paths_in (T.shown tree.old))) }
     ensures begun { (tree_sure sink_sure : Bool) → (tree_sure ≡ true → T.sure tree.old)
         → (sink_sure ≡ true → CanBegin (S.sure sink.old) (S.is_open sink.old) (S.stored sink.old)
@@ -162,14 +169,15 @@ fn begin_next<T: CopiedTree, S: OpenSink>(
         (work_of (T.shown tree.old) tree_sure sink_sure) i fault) }
     ensures tree { (n : ℕ) → MatchResult result
         (λ done. LeavesOut T.shown T.failures T.sure n (n + 1) tree.old tree.new)
-        (λ fault. LeavesOut T.shown T.failures T.sure n (n + copies_with fault)
+        (λ fault. LeavesOut T.shown T.failures T.sure n (n + files_with fault)
         tree.old tree.new) }
     ensures sink { (n : ℕ) → MatchResult result
         (λ done. LeavesCopies S.stored S.is_open S.failures S.sure n (n + 1) sink.old sink.new)
         (λ fault. LeavesCopies S.stored S.is_open S.failures S.sure n (n + copies_with fault)
         sink.old sink.new) }
 {
-    let mut copy = open_next(alloc, tree, sink, i)?;
+    let source = open_next(alloc, buffer, tree, i)?;
+    let mut copy = begin_copy(alloc, tree, sink, i, source)?;
     match copy_front(buffer, &mut copy) {
         Ok(n) => match hold(alloc, copies, copy, &buffer[..n]) {
             Ok(()) => Ok(()),
@@ -183,29 +191,52 @@ fn begin_next<T: CopiedTree, S: OpenSink>(
     }
 }
 
-/// Opens the file at this place and begins its copy. Nothing was copied yet.
-fn open_next<T: CopiedTree, S: OpenSink>(
+/// Opens the file at this place. That it can't be opened is seen by a read of no octets, before its copy is begun.
+fn open_next<T: OpenTree, G>(
+    alloc: Global,
+    buffer: &mut [u8],
+    tree: &mut T,
+    i: usize,
+) -> Result<T::File, BeginFault<T::File, G>>
+    requires { i < length (paths_in (T.shown tree.old)) }
+    ensures opened { MatchResult result
+        (IsOpened T.File.place T.File.remaining T.File.failures T.File.ready (T.shown tree.old)
+        (T.sure tree.old) i)
+        (IsOpenFault T.File.place T.File.failures (T.sure tree.old) i) }
+    ensures tree { (n : ℕ) → MatchResult result
+        (λ file. LeavesOut T.shown T.failures T.sure n (n + 1) tree.old tree.new)
+        (λ fault. LeavesOut T.shown T.failures T.sure n (n + files_with fault)
+        tree.old tree.new) }
+    ensures room { length buffer.new ≡ length buffer.old }
+{
+    let mut source = tree.open_file(alloc, i)?;
+    match source.read(&mut buffer[..0]) {
+        Ok(_) => Ok(source),
+        Err(Failed) => Err(BeginFault::Unopened(source)),
+    }
+}
+
+/// Begins the copy of the file at this place, which was opened. Nothing was copied yet.
+fn begin_copy<T: CopiedTree, S: OpenSink>(
     alloc: Global,
     tree: &mut T,
     sink: &mut S,
     i: usize,
+    source: T::File,
 ) -> Result<Copying<T::File, S::File>, AllocError>
-    requires { i < length (paths_in (T.shown tree.old)) }
-    ensures opened { IfOk result (λ copy. (copy.found ≡ None)
-        × ((tree_sure sink_sure : Bool) → (tree_sure ≡ true → T.sure tree.old)
-        → (sink_sure ≡ true → CanBegin (S.sure sink.old) (S.is_open sink.old) (S.stored sink.old)
-        (T.shown tree.old) i)
-        → CanCopy (sides T.File.place T.File.remaining T.File.failures T.File.ready
-        S.File.place S.File.holds S.File.failures S.File.sure)
-        (work_of (T.shown tree.old) tree_sure sink_sure) i copy)) }
+    requires inside { i < length (paths_in (T.shown tree.old)) }
+    requires opened { (T.File.place source ≡ i) × (T.File.failures source ≡ 0) }
+    ensures begun { IfOk result (λ copy. (copy.source ≡ source) × (copy.found ≡ None)
+        × ((path : List ℕ) → slice_get (paths_in (T.shown tree.old)) i ≡ Some path
+        → IsBegun S.File.place S.File.holds S.File.failures S.File.sure (S.sure sink.old)
+        (S.is_open sink.old) (S.stored sink.old) i path copy.target)) }
     ensures tree { (n : ℕ) → MatchResult result
-        (λ copy. LeavesOut T.shown T.failures T.sure n (n + 1) tree.old tree.new)
-        (λ error. LeavesOut T.shown T.failures T.sure n n tree.old tree.new) }
+        (λ copy. tree.new ≡ tree.old)
+        (λ error. LeavesOut T.shown T.failures T.sure (n + 1) n tree.old tree.new) }
     ensures sink { (n : ℕ) → MatchResult result
         (λ copy. LeavesCopies S.stored S.is_open S.failures S.sure n (n + 1) sink.old sink.new)
         (λ error. LeavesCopies S.stored S.is_open S.failures S.sure n n sink.old sink.new) }
 {
-    let source = tree.open_file(alloc, i)?;
     match sink.begin_file(alloc, i, tree.path(i)) {
         Ok(target) => Ok(Copying {
             source,
@@ -220,8 +251,8 @@ fn open_next<T: CopiedTree, S: OpenSink>(
     }
 }
 
-/// Copies the first octets of a file, and answers how many: less than the buffer has room for if the file ends with them. That it
-/// can't be opened is told before that its copy can't be begun.
+/// Copies the first octets of a file, and answers how many: less than the buffer has room for if the file ends with them. That its
+/// copy couldn't be begun is told before anything is read.
 fn copy_front<F: OpenFile, G: SinkFile>(
     buffer: &mut [u8],
     copy: &mut Copying<F, G>,
@@ -239,9 +270,6 @@ fn copy_front<F: OpenFile, G: SinkFile>(
         × (F.place copy.new.source ≡ F.place copy.old.source)
         × (copy.new.found ≡ copy.old.found) }
 {
-    let Ok(_) = copy.source.read(&mut buffer[..0]) else {
-        return Err(CopyFault::Tree);
-    };
     if copy.target.failures() > 0 {
         return Err(CopyFault::Sink);
     }
@@ -322,6 +350,28 @@ fn stop<T: CopiedTree, S: OpenSink>(
         }
         Err(stop) => {
             give_up(tree, sink, copy, &copies[stop.place], stop.fault);
+            stopped_at(tree, sink, copies, stop)
+        }
+    }
+}
+
+/// Does this where the next file can't be opened.
+fn stop_unopened<T: CopiedTree, S: OpenSink>(
+    tree: &mut T,
+    sink: &mut S,
+    set: AlgSet,
+    copies: Vec<Copying<T::File, S::File>>,
+    file: T::File,
+) -> WriteFault {
+    let mut copies = copies;
+    match complete(set, sink, copies.as_mut_slice()) {
+        Ok(()) => {
+            close_all(tree, sink, copies);
+            tree.fail(file);
+            WriteFault::Tree
+        }
+        Err(stop) => {
+            give_up_file(tree, file, &copies[stop.place], stop.fault);
             stopped_at(tree, sink, copies, stop)
         }
     }

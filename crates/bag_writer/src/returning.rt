@@ -2,13 +2,13 @@
 ghost use Rattle.std.specs.Prelude.{◌≡◌, ◌+◌, ◌<◌, ℕ, Some, length, slice_get, take};
 ghost use Rattle.bag_rules.specs.Returning.{LeavesOut, TakesAllBack};
 ghost use Rattle.bag_writer.specs.Copying.{Work, sides};
-ghost use Rattle.bag_writer.specs.Returned.{AreUnfailed, HasStoppedFirst, IsBehindStopped, IsStoppedAt, IsToldOf, LeavesCopies, TakesCopiesBack};
+ghost use Rattle.bag_writer.specs.Returned.{AreUnfailed, HasStoppedFirst, IsStoppedAt, IsToldOf, LeavesCopies, TakesCopiesBack};
 ghost use Rattle.bag_writer.specs.declared.copying.Copying.{Copying};
 ghost use Rattle.bag_writer.specs.declared.payload.CopyFault.{CopyFault};
 ghost use Rattle.bag_writer.specs.declared.write_fault.WriteFault.{WriteFault};
 
 use crate::copying::{CopyStop, Copying};
-use crate::open_sink::{CopiedTree, OpenSink};
+use crate::open_sink::{CopiedTree, OpenSink, SinkFile};
 use crate::payload::CopyFault;
 use crate::write_fault::{Large, WriteFault};
 use bag_path::BagPath;
@@ -90,21 +90,38 @@ pub(crate) fn give_up<T: CopiedTree, S: OpenSink>(
     first: &Copying<T::File, S::File>,
     fault: CopyFault,
 )
-    requires { IsBehindStopped T.File.place T.File.failures S.File.place S.File.failures
-        (T.shown tree.old) fault first.now copy }
+    requires stopped { IsStoppedAt T.File.place T.File.failures S.File.place S.File.failures
+        (T.shown tree.old) fault first.now }
+    requires later { (S.File.place copy.target ≡ T.File.place copy.source)
+        × (T.File.place first.now.source < T.File.place copy.source) }
     ensures tree { (n : ℕ) → LeavesOut T.shown T.failures T.sure (n + 1) n tree.old tree.new }
     ensures sink { (n : ℕ) → LeavesCopies S.stored S.is_open S.failures S.sure (n + 1) n
         sink.old sink.new }
 {
     match fault {
-        CopyFault::Sink => {
-            tree.give_up_unwritten(copy.source, &first.target);
-            sink.give_up(copy.target, &first.target);
-        }
+        CopyFault::Sink => sink.give_up(copy.target, &first.target),
         CopyFault::Tree | CopyFault::TooLarge => {
             sink.give_up_unread(copy.target, tree, &first.source);
-            tree.give_up(copy.source, &first.source);
         }
+    }
+    give_up_file(tree, copy.source, first, fault);
+}
+
+/// Takes back a file, of which there is no copy, behind the first that stopped, with this fault.
+pub(crate) fn give_up_file<T: CopiedTree, G: SinkFile>(
+    tree: &mut T,
+    file: T::File,
+    first: &Copying<T::File, G>,
+    fault: CopyFault,
+)
+    requires stopped { IsStoppedAt T.File.place T.File.failures G.place G.failures
+        (T.shown tree.old) fault first.now }
+    requires later { T.File.place first.now.source < T.File.place file }
+    ensures { (n : ℕ) → LeavesOut T.shown T.failures T.sure (n + 1) n tree.old tree.new }
+{
+    match fault {
+        CopyFault::Sink => tree.give_up_unwritten(file, &first.target),
+        CopyFault::Tree | CopyFault::TooLarge => tree.give_up(file, &first.source),
     }
 }
 

@@ -3,7 +3,7 @@ use Rattle.std.proofs.lemmas.List.{take-take, take_all}
 use Rattle.std.proofs.lemmas.Option.{slice_get_read}
 use Rattle.bag_rules.specs.Returning.{LeavesOut}
 use Rattle.bag_rules.proofs.FirstFiles.{in_front}
-use Rattle.bag_writer.specs.Returned.{IsBehindStopped, LeavesCopies}
+use Rattle.bag_writer.specs.Returned.{IsStoppedAt, LeavesCopies}
 use Rattle.bag_writer.proofs.FilesOut.{last_at, last_count, rest_at, sink_after, sink_same, tree_on, tree_same}
 use Rattle.bag_writer.proofs.returning.give_up_behind.Goals as goal
 
@@ -16,8 +16,8 @@ files-init g c = record {
   copies_out = sink_same (length c.args.copies.now.items);
 }
 
-pub give_up-requires : goal.give_up-requires
-give_up-requires g c =
+pub give_up-requires-clause-stopped : goal.give_up-requires-clause-stopped
+give_up-requires-clause-stopped g c =
     let inv = c.files.invariant in
     let all = c.args.copies.now.items in
     let xs = c.files.copies.items in
@@ -30,12 +30,23 @@ give_up-requires g c =
     let first_at : slice_get ys place ≡ Some first = slice_get_read ys (length ys) place first refl inside c.index.ensures in
     let first_there = (in_front all (length xs) place first (subst (λ ls. slice_get ls place ≡ Some first) inv.left (rest_at xs ys c.pop.result c.pop.ensures.items last c.in-Some.is place first first_at))).1 in
     let last_there = (in_front all (length xs) (length ys) last (subst (λ ls. slice_get ls (length ys) ≡ Some last) inv.left (last_at xs ys c.pop.result c.pop.ensures.items last c.in-Some.is))).1 in
-    subst (λ s. IsBehindStopped g.T.File.OpenFile.place g.T.File.Source.failures g.S.File.SinkFile.place g.S.File.SinkFile.failures s c.args.stop.fault first last) (sym inv.out.kept.same)
-    (record {
-      stopped = c.requires.here first first_there;
-      beside = c.requires.by_place.beside (length ys) last last_there;
-      later = c.requires.by_place.rising place (length ys) first last inside first_there last_there;
-    })
+    subst (λ s. IsStoppedAt g.T.File.OpenFile.place g.T.File.Source.failures g.S.File.SinkFile.place g.S.File.SinkFile.failures s c.args.stop.fault first) (sym inv.out.kept.same) (c.requires.here first first_there)
+
+pub give_up-requires-clause-later : goal.give_up-requires-clause-later
+give_up-requires-clause-later g c =
+    let inv = c.files.invariant in
+    let all = c.args.copies.now.items in
+    let xs = c.files.copies.items in
+    let ys = c.pop.new.self.items in
+    let place = c.args.stop.place in
+    let last = c.in-Some.copy in
+    let first = c.index.result.now in
+    let count = last_count xs ys c.pop.result c.pop.ensures.items last c.in-Some.is in
+    let inside : place < length ys = omega (arith, c.files-test.true, c.len.ensures, c.files.copies.ok.0, count) in
+    let first_at : slice_get ys place ≡ Some first = slice_get_read ys (length ys) place first refl inside c.index.ensures in
+    let first_there = (in_front all (length xs) place first (subst (λ ls. slice_get ls place ≡ Some first) inv.left (rest_at xs ys c.pop.result c.pop.ensures.items last c.in-Some.is place first first_at))).1 in
+    let last_there = (in_front all (length xs) (length ys) last (subst (λ ls. slice_get ls (length ys) ≡ Some last) inv.left (last_at xs ys c.pop.result c.pop.ensures.items last c.in-Some.is))).1 in
+    (c.requires.by_place.beside (length ys) last last_there, c.requires.by_place.rising place (length ys) first last inside first_there last_there)
 
 pub files-preserved-in-Some : goal.files-preserved-in-Some
 files-preserved-in-Some g c =
