@@ -45,3 +45,4 @@ pub mod FilesOut
 pub mod CopyGroups
 pub mod Stopping
 pub mod Beginning
+pub mod ReadFiles
