@@ -211,15 +211,11 @@ impl<R: Names> OpenSink for FolderSink<R> {
     ) -> Result<FolderSinkFile<R>, AllocError> {
         let mut name = String::with_capacity(alloc, self.name.capacity())?;
         self.troubles.raise()?;
+        let below = path.as_str();
+        let folder = self.folder.as_str();
         let begun = match self.file {
             Some(_) => Err(None),
-            None => created(
-                &mut self.rt,
-                &mut name,
-                &mut self.made,
-                self.folder.as_str(),
-                path.as_str(),
-            ),
+            None => created(&mut self.rt, &mut name, &mut self.made, folder, below),
         };
         Ok(FolderSinkFile::new(place, name, begun))
     }

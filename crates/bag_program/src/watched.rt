@@ -326,7 +326,7 @@ impl<G: SinkFile, R: Eprint> SinkFile for Watched<'_, G, R> {
 
     fn write(&mut self, octets: &[u8]) -> Result<(), Failed> {
         self.meter.add_octets(octets.len() as u64);
-        self.inside.write(octets)
+        G::write(&mut self.inside, octets)
     }
 
     fn failures(&self) -> u64 {

@@ -168,7 +168,7 @@ impl OpenSink for MemSink {
         path: &BagPath,
     ) -> Result<MemSinkFile, AllocError> {
         self.failures.raise()?;
-        if self.begun.is_some() || self.ended.get(path).is_some() {
+        if self.ended.get(path).is_some() || self.begun.is_some() {
             return Ok(MemSinkFile::new(place, Err(Failed)));
         }
         let begun = match path.clone() {
