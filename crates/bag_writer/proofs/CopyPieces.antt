@@ -77,14 +77,14 @@ module _ {F G : Type 0} (s : Sides F G) (keeps : F → F → Type 0) (law : (a b
         risen (s.failures a) (s.failures b) _ uses.counted is,
         λ h. (uses.stays_ready h).1 is,
       ))
-      (λ not. absurd (not refl)) (λ no. cc)
+      (λ not. absurd (not refl)) (λ no. absurd (let k : Tree ≡ Sink = no in cc))
 
   pub read_is_too_long : {A : Type 0} (fault : SourceFault) → fault ≡ cause.TooLarge → GaveBefore (s.remaining a) (s.remaining b) (LARGEST_FILE - n) (read_fault fault)
       → UsesSource s.failures s.ready keeps a b (IsErrOf {T = A} (Err fault) cause.Read) → IsStopped s work b t TooLarge
   read_is_too_long {A} fault e gave uses =
       let more = subst (λ f. GaveBefore (s.remaining a) (s.remaining b) (LARGEST_FILE - n) (read_fault f)) e gave in
       stopped_on s work copied (law a b uses.kept) refl TooLarge more.0 more.1 (λ _. omega (arith, count, copied.within, more.2, length-append octets more.0))
-      (λ no. cc) (λ _. uses.counted.stays (λ f. (let k = err_same {A} f in let l = sym e ∙ k in cc))) (λ no. cc)
+      (λ no. absurd (let k : TooLarge ≡ Tree = no in cc)) (λ _. uses.counted.stays (λ f. (let k : cause.TooLarge ≡ cause.Read = sym e ∙ err_same {A} f in cc))) (λ no. absurd (let k : TooLarge ≡ Sink = no in cc))
 
 module _ {F G : Type 0} (s : Sides F G) (keeps : F → F → Type 0) (law : (a b : F) → keeps a b → s.place b ≡ s.place a) (work : Work) (octets buffer : List ℕ) (done n : ℕ) (count : done ≡ length octets) {a b : F} {t : G} (copied : IsCopiedTo s work octets a t)
     (piece : GavePiece (s.remaining a) (s.remaining b) (LARGEST_FILE - done) n buffer) (uses : UsesSource s.failures s.ready keeps a b (IsErrOf (Ok n) cause.Read)) where
@@ -116,4 +116,4 @@ module _ {F G : Type 0} (s : Sides F G) (keeps : F → F → Type 0) (law : (a b
   -- it couldn't be written
   pub write_fails : {u : G} → s.copy_place u ≡ s.copy_place t → 0 < s.copy_failures u → (s.copy_sure t → ⊥) → IsStopped s work b u Sink
   write_fails {u} beside failed sure =
-      stopped_on s work copied (law a b uses.kept) beside Sink (take n buffer) piece.gave (λ no. cc) (λ no. cc) (λ _. unfailed) (λ _. (failed, sure))
+      stopped_on s work copied (law a b uses.kept) beside Sink (take n buffer) piece.gave (λ no. cc) (λ no. absurd (let k : Sink ≡ Tree = no in cc)) (λ _. unfailed) (λ _. (failed, sure))

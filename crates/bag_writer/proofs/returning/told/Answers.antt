@@ -30,4 +30,4 @@ pub returns-in-Sink-clause-tree : goal.returns-in-Sink-clause-tree
 returns-in-Sink-clause-tree g c = tree_none 1 (tree_less 0 (g.met.T.Tree.reads_keep _ _ c.close.ensures.rest.kept) c.close.ensures.counted) (λ e. let k : Sink ≡ Tree = e in cc)
 
 pub returns-in-Sink-clause-sink : goal.returns-in-Sink-clause-sink
-returns-in-Sink-clause-sink g c = sink_failed c.fail-2.ensures.rest (c.fail-2.ensures.counted (c.requires.copy_failed c.in-Sink.is)) refl
+returns-in-Sink-clause-sink g c = sink_failed c.fail-in-Sink.ensures.rest (c.fail-in-Sink.ensures.counted (c.requires.copy_failed c.in-Sink.is)) refl
