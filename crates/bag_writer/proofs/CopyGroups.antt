@@ -79,7 +79,7 @@ module _ {F G : Type 0} (s : Sides F G) (work : Work) (set : AlgSet) where
   pub all_told : {U : Type 0} (first place end : ℕ) (xs : List (Copying F G)) (told : Option CopyFault) (result : Result U CopyStop) → MatchOption told (IsOk result) (λ fault. result ≡ Err (record { place = place; fault = fault }))
       → first ≤ place → IsTold s work place end xs told → AreEnded s work set first place xs → MatchResult result (λ done. AreEnded s work set first end xs) (IsFirstStopped s work set first end xs)
   all_told first place end xs None (Ok done) is low told ended = subst (λ n. AreEnded s work set first n xs) told ended
-  all_told first place end xs None (Err stop) is low told ended = absurd is
+  all_told first place end xs None (Err stop) is low told ended = absurd (let e : false ≡ true = is in cc)
   all_told first place end xs (Some fault) result is low told ended = rw is (record { low = low; high = told.0; before = ended; here = told.1 })
 
 pub full_stay : {F G : Type 0} (first end low high : ℕ) (xs ys : List (Copying F G)) → first ≤ low → high ≤ end → ((k : ℕ) → low ≤ k → k < high → slice_get ys k ≡ slice_get xs k) → AreFull first end xs → AreFull low high ys

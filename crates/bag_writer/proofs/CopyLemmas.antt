@@ -70,8 +70,8 @@ module _ {F G : Type 0} (s : Sides F G) (work : Work) where
   ended_by multi set i hashed left copy (Some found) going not = going
 
   -- a file that has ended, and one that hasn't
-  pub ended_of : {multi : MultiLanes} {set : AlgSet} {i hashed : ℕ} {left : List ℕ} (copy : Copying F G) → IsUnder s work multi set i hashed left copy → copy.found ≢ None → HasEnded s work set copy
-  ended_of {multi} {set} {i} {hashed} {left} copy under not = ended_by multi set i hashed left copy copy.found under not
+  pub ended_of : (multi : MultiLanes) (set : AlgSet) (i hashed : ℕ) (left : List ℕ) (copy : Copying F G) → IsUnder s work multi set i hashed left copy → copy.found ≢ None → HasEnded s work set copy
+  ended_of multi set i hashed left copy under not = ended_by multi set i hashed left copy copy.found under not
 
   pub going_of : {multi : MultiLanes} {set : AlgSet} {i hashed : ℕ} {left : List ℕ} (copy : Copying F G) → IsUnder s work multi set i hashed left copy → copy.found ≡ None → IsGoing s work multi set i hashed left copy
   going_of {multi} {set} {i} {hashed} {left} copy under none = subst (IsUnderBy s work multi set i hashed left copy) none under
@@ -79,27 +79,27 @@ module _ {F G : Type 0} (s : Sides F G) (work : Work) where
   under_by_none : {multi : MultiLanes} {set : AlgSet} {i hashed : ℕ} {left : List ℕ} (copy : Copying F G) → copy.found ≡ None → IsGoing s work multi set i hashed left copy → IsUnder s work multi set i hashed left copy
   under_by_none {multi} {set} {i} {hashed} {left} copy none going = subst (IsUnderBy s work multi set i hashed left copy) (sym none) going
 
-  under_by_some : {multi : MultiLanes} {set : AlgSet} {i hashed : ℕ} {left : List ℕ} (copy : Copying F G) (found : SourceRead) → copy.found ≡ Some found → HasEnded s work set copy → IsUnder s work multi set i hashed left copy
-  under_by_some {multi} {set} {i} {hashed} {left} copy found some ended = subst (IsUnderBy s work multi set i hashed left copy) (sym some) ended
+  under_by_some : (multi : MultiLanes) (set : AlgSet) (i hashed : ℕ) (left : List ℕ) (copy : Copying F G) (found : SourceRead) → copy.found ≡ Some found → HasEnded s work set copy → IsUnder s work multi set i hashed left copy
+  under_by_some multi set i hashed left copy found some ended = subst (IsUnderBy s work multi set i hashed left copy) (sym some) ended
 
   -- one that has ended stays so, whatever its lane takes
-  pub under_ended : {multi : MultiLanes} (other : MultiLanes) {set : AlgSet} {i hashed : ℕ} (later : ℕ) {left : List ℕ} (rest : List ℕ) (copy : Copying F G) → copy.found ≢ None
+  pub under_ended : (multi other : MultiLanes) (set : AlgSet) (i hashed later : ℕ) (left rest : List ℕ) (copy : Copying F G) → copy.found ≢ None
       → IsUnder s work multi set i hashed left copy → IsUnder s work other set i later rest copy
-  under_ended {multi} other {set} {i} {hashed} later {left} rest copy not under =
+  under_ended multi other set i hashed later left rest copy not under =
       under_so multi other set i hashed later left rest copy copy.found (λ none going. absurd (not none)) under
 
   -- another lane has moved on
-  pub under_stays : {multi : MultiLanes} (other : MultiLanes) {set : AlgSet} {i hashed : ℕ} {left : List ℕ} (copy : Copying F G) → ((octets : List ℕ) → HoldsAt multi set i octets → HoldsAt other set i octets)
+  pub under_stays : {multi : MultiLanes} (other : MultiLanes) {set : AlgSet} {i : ℕ} (hashed : ℕ) (left : List ℕ) (copy : Copying F G) → ((octets : List ℕ) → HoldsAt multi set i octets → HoldsAt other set i octets)
       → IsUnder s work multi set i hashed left copy → IsUnder s work other set i hashed left copy
-  under_stays {multi} other {set} {i} {hashed} {left} copy stays under =
+  under_stays {multi} other {set} {i} hashed left copy stays under =
       under_so multi other set i hashed hashed left left copy copy.found
       (λ none going. record { taken = going.taken; count = going.count; holds = stays going.taken going.holds; copied = going.copied }) under
 
   -- the lane has taken the piece
-  pub under_taken : {multi : MultiLanes} (other : MultiLanes) {set : AlgSet} {i hashed : ℕ} (copy : Copying F G) → (copy.found ≡ None → length copy.piece.items ≡ FRONT)
+  pub under_taken : {multi : MultiLanes} (other : MultiLanes) {set : AlgSet} {i : ℕ} (hashed : ℕ) (copy : Copying F G) → (copy.found ≡ None → length copy.piece.items ≡ FRONT)
       → (copy.found ≡ None → (octets : List ℕ) → HoldsAt multi set i octets → HoldsAt other set i (octets ++ copy.piece.items))
       → IsUnder s work multi set i hashed copy.piece.items copy → IsUnder s work other set i (hashed + FRONT) [] copy
-  under_taken {multi} other {set} {i} {hashed} copy full takes under =
+  under_taken {multi} other {set} {i} hashed copy full takes under =
       let piece = copy.piece.items in
       under_so multi other set i hashed (hashed + FRONT) piece [] copy copy.found
       (λ none going. record {
@@ -135,7 +135,7 @@ module _ {F G : Type 0} (s : Sides F G) (work : Work) where
       }
 
   -- the next piece was copied
-  module _ {multi : MultiLanes} {set : AlgSet} {i hashed : ℕ} (old new : Copying F G) (buffer : List ℕ) (n : ℕ) (filled : new.piece.items ≡ buffer)
+  module _ (multi : MultiLanes) (set : AlgSet) (i hashed : ℕ) (old new : Copying F G) (buffer : List ℕ) (n : ℕ) (filled : new.piece.items ≡ buffer)
       (under : IsUnder s work multi set i hashed [] old) (none : old.found ≡ None) (copies : (octets : List ℕ) → IsCopiedTo s work octets old.source old.target → hashed ≡ length octets → CopiesPiece s work octets buffer new.source new.target n) where
     going : IsGoing s work multi set i hashed [] old
     going = going_of old under none
@@ -146,7 +146,7 @@ module _ {F G : Type 0} (s : Sides F G) (work : Work) where
     pub advance_ended : (other : MultiLanes) (digests : Digests) → n < length buffer → new.found ≡ Some (Hashed (hashed + n) digests) → ((octets : List ℕ) → HoldsAt multi set i octets → AreDigests digests set (octets ++ take n buffer))
         → IsUnder s work other set i hashed new.piece.items new
     advance_ended other digests short is are =
-        under_by_some new (Hashed (hashed + n) digests) is
+        under_by_some other set i hashed new.piece.items new (Hashed (hashed + n) digests) is
         (ended_on set going.taken hashed n digests new going.count piece (omega (arith, short, ap length filled)) is
         (subst (λ xs. AreDigests digests set (going.taken ++ take n xs)) (sym filled) (are going.taken going.holds)))
 
@@ -170,10 +170,10 @@ module _ {F G : Type 0} (s : Sides F G) (work : Work) where
   pub hashed_each : (multi other : MultiLanes) (set : AlgSet) (hashed first end : ℕ) (copies : List (Copying F G)) → AreFull first end copies → AreUnder s work multi set hashed first first end copies → HaveTaken copies first end multi other
       → AreHashed s work other set (hashed + FRONT) first first end copies
   hashed_each multi other set hashed first end copies full under taken k copy from to at =
-      under_taken s work other copy (full k copy from to at) (λ none octets holds. taken k copy from to at none set octets holds) (under k copy from to at)
+      under_taken s work other hashed copy (full k copy from to at) (λ none octets holds. taken k copy from to at none set octets holds) (under k copy from to at)
 
   pub ended_each : (multi : MultiLanes) (set : AlgSet) (hashed first end : ℕ) (copies : List (Copying F G)) → AreUnder s work multi set hashed first first end copies → AreDone copies first end → AreEnded s work set first end copies
-  ended_each multi set hashed first end copies under done k copy from to at = ended_of s work copy (under k copy from to at) (done k copy from to at)
+  ended_each multi set hashed first end copies under done k copy from to at = ended_of s work multi set (k - first) hashed copy.piece.items copy (under k copy from to at) (done k copy from to at)
 
   -- no file goes on beyond the limit
   pub done_past : (multi : MultiLanes) (set : AlgSet) (hashed first end : ℕ) (copies : List (Copying F G)) → LARGEST_FILE < hashed + FRONT → AreFull first end copies → AreUnder s work multi set hashed first first end copies → AreDone copies first end
@@ -185,11 +185,11 @@ module _ {F G : Type 0} (s : Sides F G) (work : Work) where
   module _ (multi other : MultiLanes) (set : AlgSet) (hashed first k : ℕ) (xs ys : List (Copying F G)) (low : first ≤ k) (others : (j : ℕ) → j ≢ k → slice_get ys j ≡ slice_get xs j) (lanes : OtherLanesStay (k - first) multi other) where
     pub under_before : AreUnder s work multi set hashed first first k xs → AreUnder s work other set hashed first first k ys
     under_before under j copy from to now =
-        under_stays s work other copy (λ octets. lanes (j - first) (λ e. omega (arith, e, from, to, low)) set octets) (under j copy from to (sym (others j (λ e. omega (arith, e, to))) ∙ now))
+        under_stays s work other hashed copy.piece.items copy (λ octets. lanes (j - first) (λ e. omega (arith, e, from, to, low)) set octets) (under j copy from to (sym (others j (λ e. omega (arith, e, to))) ∙ now))
 
     pub hashed_after : (end : ℕ) → AreHashed s work multi set hashed first k end xs → AreHashed s work other set hashed first (k + 1) end ys
     hashed_after end hashed_are j copy from to now =
-        under_stays s work other copy (λ octets. lanes (j - first) (λ e. omega (arith, e, from, low)) set octets) (hashed_are j copy (omega (arith, from)) to (sym (others j (λ e. omega (arith, e, from))) ∙ now))
+        under_stays s work other hashed [] copy (λ octets. lanes (j - first) (λ e. omega (arith, e, from, low)) set octets) (hashed_are j copy (omega (arith, from)) to (sym (others j (λ e. omega (arith, e, from))) ∙ now))
 
   -- one more is known
   pub under_next : (multi : MultiLanes) (set : AlgSet) (hashed first k : ℕ) (ys : List (Copying F G)) → AreUnder s work multi set hashed first first k ys

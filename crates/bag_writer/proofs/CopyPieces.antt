@@ -84,7 +84,7 @@ module _ {F G : Type 0} (s : Sides F G) (keeps : F → F → Type 0) (law : (a b
   read_is_too_long {A} fault e gave uses =
       let more = subst (λ f. GaveBefore (s.remaining a) (s.remaining b) (LARGEST_FILE - n) (read_fault f)) e gave in
       stopped_on s work copied (law a b uses.kept) refl TooLarge more.0 more.1 (λ _. omega (arith, count, copied.within, more.2, length-append octets more.0))
-      (λ no. absurd (let k : TooLarge ≡ Tree = no in cc)) (λ _. uses.counted.stays (λ f. (let k : cause.TooLarge ≡ cause.Read = sym e ∙ err_same {A} f in cc))) (λ no. absurd (let k : TooLarge ≡ Sink = no in cc))
+      (λ no. absurd (let k : TooLarge ≡ Tree = no in cc)) (λ _. uses.counted.stays (λ f. (let k : cause.TooLarge ≡ cause.Read = sym e ∙ err_same {A = A} f in cc))) (λ no. absurd (let k : TooLarge ≡ Sink = no in cc))
 
 module _ {F G : Type 0} (s : Sides F G) (keeps : F → F → Type 0) (law : (a b : F) → keeps a b → s.place b ≡ s.place a) (work : Work) (octets buffer : List ℕ) (done n : ℕ) (count : done ≡ length octets) {a b : F} {t : G} (copied : IsCopiedTo s work octets a t)
     (piece : GavePiece (s.remaining a) (s.remaining b) (LARGEST_FILE - done) n buffer) (uses : UsesSource s.failures s.ready keeps a b (IsErrOf (Ok n) cause.Read)) where

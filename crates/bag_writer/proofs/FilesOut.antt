@@ -33,10 +33,11 @@ count_none base a not out = record { rises = λ f. absurd (not f); stays = λ no
 
 -- OF A TREE
 
-module _ {T : Type 0} {shown : T → Shown} {failures : T → ℕ} {sure : T → Type 0} where
+module _ {T : Type 0} {shown : T → Shown} {sure : T → Type 0} where
   pub keeps_same : {a : T} → KeepsTree shown sure a a
   keeps_same = record { same = refl; stays_sure = λ s. s }
 
+module _ {T : Type 0} {shown : T → Shown} {failures : T → ℕ} {sure : T → Type 0} where
   pub tree_same : (n : ℕ) {a : T} → LeavesOut shown failures sure n n a a
   tree_same n = record { kept = keeps_same; counted = λ base out. out }
 

@@ -19,7 +19,7 @@ returns-then-n-len-clause-advanced g c = λ work set under.
     let old = c.args.copy.now in
     let same : length c.copy_piece.new.buffer ≡ length old.piece.items = search rules in
     let filled = refilled old.piece.len old.piece.items c.copy_piece.new.buffer old.piece.ok.0 same in
-    advance_ended s work old _ c.copy_piece.new.buffer c.in_ok-n.n filled under c.requires.full.1 (c.in_ok-n.ensures.copied work) c.end_lane-digests.new.multi c.end_lane-digests.result
+    advance_ended s work c.args.multi.now set c.args.i c.args.hashed old _ c.copy_piece.new.buffer c.in_ok-n.n filled under c.requires.full.1 (c.in_ok-n.ensures.copied work) c.end_lane-digests.new.multi c.end_lane-digests.result
     (omega (arith, c.if-n-len.true, same)) refl
     (λ octets holds. subst (λ xs. AreDigests c.end_lane-digests.result set (octets ++ take c.in_ok-n.n xs)) (c.deref.ensures.value ∙ filled) (c.end_lane-digests.ensures.digests set octets holds))
 
@@ -28,5 +28,5 @@ returns-else-n-len-clause-advanced g c = λ work set under.
     let s = sides g.F.OpenFile.place g.F.Source.remaining g.F.Source.failures g.F.Source.ready g.G.SinkFile.place g.G.SinkFile.holds g.G.SinkFile.failures g.G.SinkFile.sure in
     let old = c.args.copy.now in
     let same : length c.copy_piece.new.buffer ≡ length old.piece.items = search rules in
-    advance_going s work old _ c.copy_piece.new.buffer c.in_ok-n.n (refilled old.piece.len old.piece.items c.copy_piece.new.buffer old.piece.ok.0 same) under c.requires.full.1 (c.in_ok-n.ensures.copied work)
+    advance_going s work c.args.multi.now set c.args.i c.args.hashed old _ c.copy_piece.new.buffer c.in_ok-n.n (refilled old.piece.len old.piece.items c.copy_piece.new.buffer old.piece.ok.0 same) under c.requires.full.1 (c.in_ok-n.ensures.copied work)
     (omega (arith, c.if-n-len.false, same)) c.requires.full.1

@@ -1,4 +1,4 @@
-use Rattle.std.proofs.Common.{◌≡◌, ◌≢◌, ◌∙◌, ◌<◌, None, Some, ap, arith, inl, inr, length, refl, rules, slice_get, sym}
+use Rattle.std.proofs.Common.{◌≡◌, ◌≢◌, ◌∙◌, ◌-◌, ◌<◌, [], None, Some, ap, arith, inl, inr, length, refl, rules, slice_get, sym}
 use Rattle.std.proofs.lemmas.Option.{same_Some, slice_get_read}
 use Rattle.bag_writer.specs.Copying.{sides}
 use Rattle.bag_writer.proofs.CopyLemmas.{full_set, hashed_after, places_on, places_set, places_same, set_here, set_there, under_before, under_ended, under_next}
@@ -102,7 +102,7 @@ loop-k-preserved g c =
                   under_next s work c.loop-k.multi set c.args.hashed c.args.first k xs before.0
                       (λ copy now.
                       let own : c.index-copies-k.result ≡ copy = same_Some _ copy (sym there ∙ now) in
-                      rw (← own) (under_ended s work c.loop-k.multi c.args.hashed _ c.index-copies-k.result ended (before.1 k c.index-copies-k.result (omega arith) c.loop-k-test.true there))),
+                      rw (← own) (under_ended s work c.loop-k.multi c.loop-k.multi set (k - c.args.first) c.args.hashed c.args.hashed [] c.index-copies-k.result.piece.items c.index-copies-k.result ended (before.1 k c.index-copies-k.result (omega arith) c.loop-k-test.true there))),
                   λ j copy from to now. before.1 j copy (omega (arith, from)) to now,
                 );
             full = c.loop-k.invariant.full;

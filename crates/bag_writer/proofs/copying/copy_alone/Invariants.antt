@@ -13,7 +13,7 @@ invariant-pieces g l =
       goes_on : l.copy.found ≡ None;
       within : l.total ≤ LARGEST_FILE;
       copied : (work : Work) → IsCopiedTo s work l.fn.copy.piece.items l.fn.copy.source l.fn.copy.target
-          → (octets : List ℕ) × IsCopiedTo s work octets l.copy.source l.copy.target × (l.total ≡ length octets) × Holds l.multi l.set octets;
+          → (octets : List ℕ) × IsCopiedTo s work octets l.copy.source l.copy.target × (l.total ≡ length octets) × Holds l.multi l.fn.set octets;
       same : g.F.OpenFile.place l.copy.source ≡ g.F.OpenFile.place l.fn.copy.source;
       beside : g.G.SinkFile.place l.copy.target ≡ g.G.SinkFile.place l.fn.copy.target;
     }

@@ -79,5 +79,5 @@ returns-clause-copied g c = λ work fresh.
     let inv = c.pieces.invariant in
     let past : LARGEST_FILE < c.pieces.hashed + FRONT = omega (arith, c.pieces-test.false) in
     let done = done_past s work c.pieces.multi c.args.set c.pieces.hashed c.args.first c.pieces.end c.pieces.copies past inv.full (inv.under work fresh).0 in
-    all_told s work c.args.set c.args.first c.pieces.end c.args.end c.pieces.copies c.pieces.told c.told_at.result c.told_at.ensures inv.low (inv.under work fresh).1
+    all_told s work c.args.set c.args.first c.pieces.end c.args.end c.pieces.copies c.pieces.told c.told_at-2.result c.told_at-2.ensures inv.low (inv.under work fresh).1
     (ended_each s work c.pieces.multi c.args.set c.pieces.hashed c.args.first c.pieces.end c.pieces.copies (inv.under work fresh).0 done)

@@ -1,4 +1,4 @@
-use Rattle.std.proofs.Common.{◌≡◌, ◌≤◌, ◌-◌, length}
+use Rattle.std.proofs.Common.{◌≡◌, ◌≤◌, ◌+◌, ◌-◌, length}
 use Rattle.bag_rules.specs.declared.limits.TheConstants.{LARGEST_FILE}
 use Rattle.bag_digest.specs.declared.streams.TheConstants.{FRONT}
 use Rattle.bag_writer.specs.Copying.{AreFresh, AreFull, AreUnder, KeepPlaces, OthersStay, Work, sides}

@@ -9,7 +9,7 @@ pub fours-init : goal.fours-init
 fours-init g c = record {
   inside = omega arith;
   count = refl;
-  full = c.requires;
+  full = c.requires.full;
   copied = λ work fresh. ((λ k copy from to. absurd (omega (arith, from, to))), fresh);
   places = places_same g.F.OpenFile.place g.G.SinkFile.place _;
 }
@@ -73,3 +73,6 @@ fours-preserved g c =
           );
       places = places_on g.F.OpenFile.place g.G.SinkFile.place _ _ _ inv.places after.rest.places;
     }
+
+pub returns-in_err-copy_few-clause-places : goal.returns-in_err-copy_few-clause-places
+returns-in_err-copy_few-clause-places g c = places_on g.F.OpenFile.place g.G.SinkFile.place _ _ _ c.fours.invariant.places c.in_err-copy_few.ensures.rest.places
