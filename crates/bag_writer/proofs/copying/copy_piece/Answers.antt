@@ -1,4 +1,4 @@
-use Rattle.std.proofs.Common.{◌≡◌, arith, rules, subst}
+use Rattle.std.proofs.Common.{◌≡◌, arith, false, refl, rules, subst, true}
 use Rattle.bag_digest.specs.declared.reading.SourceFault.TheVariants as cause
 use Rattle.bag_writer.specs.Copying.{CopiesPiece, sides}
 use Rattle.bag_writer.proofs.CopyPieces.{none_copied, piece_copied, read_fails, read_is_too_long, risen, write_fails}
@@ -28,11 +28,11 @@ returns-in-Ok-write-clause-copied g c = λ work octets copied count.
     let s = sides g.F.OpenFile.place g.F.Source.remaining g.F.Source.failures g.F.Source.ready g.G.SinkFile.place g.G.SinkFile.holds g.G.SinkFile.failures g.G.SinkFile.sure in
     let wrote = c.in-Ok-write.ensures in
     piece_copied s g.F.Source.keeps g.met.F.OpenFile.reads_keep_place work octets c.fill.new.buffer c.args.copied c.in-Ok.n count copied c.in-Ok.ensures.piece c.in-Ok.ensures.uses c.in-Ok.ensures.short
-    wrote.written wrote.place (wrote.counted.stays (λ no. no)) (λ h. (wrote.sure h).0)
+    wrote.written wrote.place (wrote.counted.stays (λ no. (let e : false ≡ true = no in cc))) (λ h. (wrote.sure h).0)
 
 pub returns-in-Err-clause-copied : goal.returns-in-Err-clause-copied
 returns-in-Err-clause-copied g c = λ work octets copied count.
     let s = sides g.F.OpenFile.place g.F.Source.remaining g.F.Source.failures g.F.Source.ready g.G.SinkFile.place g.G.SinkFile.holds g.G.SinkFile.failures g.G.SinkFile.sure in
     let wrote = c.in-Err.ensures in
     write_fails s g.F.Source.keeps g.met.F.OpenFile.reads_keep_place work octets c.fill.new.buffer c.args.copied c.in-Ok.n count copied c.in-Ok.ensures.piece c.in-Ok.ensures.uses
-    wrote.place (risen (g.G.SinkFile.failures c.args.target.now) (g.G.SinkFile.failures c.write.new.self) _ wrote.counted tt) (λ h. (wrote.sure h).1 tt)
+    wrote.place (risen (g.G.SinkFile.failures c.args.target.now) (g.G.SinkFile.failures c.write.new.self) _ wrote.counted refl) (λ h. (wrote.sure h).1 refl)

@@ -21,14 +21,14 @@ files-preserved g c =
       copies_out = λ n.
           let e : n + length xs ≡ n + length ys + 1 = omega (arith, count) in
           sink_after (n + length c.args.copies.items) (n + length xs) (n + length ys) (inv.copies_out n)
-          (subst (λ m. LeavesCopies g.S.Sink.stored g.S.Sink.is_open g.S.Sink.failures g.S.Sink.sure m (n + length ys) c.files.sink c.close-2.new.self) (sym e) (sink_less (n + length ys) c.close-2.ensures.rest c.close-2.ensures.counted));
+          (subst (λ m. LeavesCopies g.S.Sink.stored g.S.Sink.is_open g.S.Sink.failures g.S.Sink.sure m (n + length ys) c.files.sink c.close-in-Some.new.self) (sym e) (sink_less (n + length ys) c.close-in-Some.ensures.rest c.close-in-Some.ensures.counted));
     }
 
 pub close-requires : goal.close-requires
 close-requires g c = (c.files.invariant.unfailed _ c.in-Some.copy (last_at c.files.copies.items c.pop.new.self.items c.pop.result c.pop.ensures.items c.in-Some.copy c.in-Some.is)).0
 
-pub close-2-requires : goal.close-2-requires
-close-2-requires g c = (c.files.invariant.unfailed _ c.in-Some.copy (last_at c.files.copies.items c.pop.new.self.items c.pop.result c.pop.ensures.items c.in-Some.copy c.in-Some.is)).1
+pub close-requires-in-Some : goal.close-requires-in-Some
+close-requires-in-Some g c = (c.files.invariant.unfailed _ c.in-Some.copy (last_at c.files.copies.items c.pop.new.self.items c.pop.result c.pop.ensures.items c.in-Some.copy c.in-Some.is)).1
 
 pub returns-clause-tree : goal.returns-clause-tree
 returns-clause-tree g c = λ n.
