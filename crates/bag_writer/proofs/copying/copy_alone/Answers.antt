@@ -44,7 +44,7 @@ pieces-preserved g c =
             so_far.0 ++ take n buffer,
             (c.in_ok-n.ensures.copied work so_far.0 so_far.1 so_far.2).copied,
             omega (arith, so_far.2, length-append so_far.0 (take n buffer), length-take-le n buffer c.in_ok-n.ensures.bound.0),
-            subst (λ xs. Holds c.update-2.new.self c.args.set (so_far.0 ++ take n xs)) (c.deref.ensures.value ∙ filled) (c.update-2.ensures c.args.set so_far.0 so_far.3),
+            subst (λ xs. Holds c.update-in-pieces.new.self c.args.set (so_far.0 ++ take n xs)) (c.deref.ensures.value ∙ filled) (c.update-in-pieces.ensures c.args.set so_far.0 so_far.3),
           );
       same = c.in_ok-n.ensures.places.0 ∙ inv.same;
       beside = c.in_ok-n.ensures.places.1 ∙ inv.beside;
@@ -62,4 +62,4 @@ returns-then-n-len-clause-copied g c = λ work copied.
     ended_on s work c.args.set so_far.0 c.pieces.total n c.finish.result _ so_far.2
     (subst (λ xs. CopiesPiece s work so_far.0 xs c.copy_piece.new.source c.copy_piece.new.target n) (sym filled) (c.in_ok-n.ensures.copied work so_far.0 so_far.1 so_far.2))
     (omega (arith, c.if-n-len.true, same, ap length filled)) refl
-    (c.finish.ensures c.args.set _ (subst (λ xs. Holds c.update-2.new.self c.args.set (so_far.0 ++ take n xs)) c.deref.ensures.value (c.update-2.ensures c.args.set so_far.0 so_far.3)))
+    (c.finish.ensures c.args.set _ (subst (λ xs. Holds c.update-in-pieces.new.self c.args.set (so_far.0 ++ take n xs)) c.deref.ensures.value (c.update-in-pieces.ensures c.args.set so_far.0 so_far.3)))
