@@ -67,6 +67,10 @@ explain 'begin: no folder for a ledger' 3 "bag: $work/none/ledger: $missing" bag
 explain 'list: no folder for a ledger' 3 "bag: $work/none/ledger: it does not exist" bag list "$work/none/ledger"
 explain 'a name of a ledger that is too long' 3 "bag: $long: $too_long" bag begin "$long" t1 examples/first-bag
 ln "$work/ledger" "$work/second name"
+# Its log has a name that is too long, though its own is not.
+name_252=$work/$(printf 'k%.0s' {1..252})
+explain 'a name of a ledger that is too long with its log' 3 "bag: $name_252: $too_long" bag begin "$name_252" t1 examples/first-bag
+expect 'a name of a ledger that is too long with its log: nothing is made' 0 '' nothing "$name_252"
 explain 'a ledger with two names' 3 "bag: $work/ledger: it has several names, or is not a plain file" bag list "$work/ledger"
 rm "$work/second name"
 printf 'a journal' >"$work/ledger-journal"
@@ -93,6 +97,9 @@ explain 'intake: the payload in place of the bag' 0 "bag: examples/first-bag/dat
     bag intake "$work/ledger" t1 examples/first-bag/data
 explain 'intake: an empty folder after another' 0 "bag: $work/there: $nothing_below" \
     bag intake "$work/ledger" t1 examples/first-bag "$work/there" examples/first-bag/data
+mkdir "$work/there"$'\t\033'
+explain 'intake: an empty folder whose name has control characters' 0 "bag: $work/there%09%1B: $nothing_below" \
+    bag intake "$work/ledger" t1 "$work/there"$'\t\033'
 explain 'intake: an empty folder, and a refusal' 1 "bag: $work/there: $nothing_below" bag intake "$work/ledger" t2 "$work/there" examples/first-bag
 
 # What is below a folder.
@@ -196,12 +203,32 @@ if unshare -m sh -c "mkdir '$work/disk' && mount -t tmpfs -o size=100k bag '$wor
         unshare -m sh -c 'mount -t tmpfs -o size=100k bag "$1/disk" && "$1/program" make "$1/payload" "$1/disk/bag" md5' sh "$work"
     }
     explain 'a full disk' 3 "bag: $work/disk/bag/data/A: $no_room" on_disk
+    # On a disk that has room for its own folder and that of the bag, and for nothing more.
+    on_two_folders() {
+        unshare -m sh -c 'mount -t tmpfs -o nr_inodes=2 bag "$1/disk" && "$1/program" make "$1/payload" "$1/disk/bag" md5' sh "$work"
+    }
+    explain 'a disk without room for data/' 3 "bag: $work/disk/bag/data: $no_room" on_two_folders
     # on_full_disk COMMAND..: on a disk that a ledger of one transfer finds no room on, or its payload.
     on_full_disk() {
         unshare -m sh -c 'mount -t tmpfs -o size="$1" bag "$2/disk" && shift && work=$1 && shift && "$work/program" begin "$work/disk/ledger" t1 "$work/bag" >/dev/null && exec "$work/program" "$@"' \
             sh 100k "$work" "$@"
     }
     explain 'a ledger on a full disk' 3 "bag: $work/disk/ledger: database or disk is full" on_full_disk intake "$work/disk/ledger" t1 "$work/bag"
+    # A transfer that can't be committed, and a ledger of format 1 that can't be moved.
+    cp -r examples/first-bag "$work/noted"
+    yes 'Contact-Name: Ada' | head -n 2000 >"$work/noted/bag-info.txt"
+    next_on_disk() {
+        unshare -m sh -c 'mount -t tmpfs -o size=300k bag "$1/disk" && "$1/program" begin "$1/disk/ledger" t1 "$1/bag" \
+            && exec "$1/program" begin "$1/disk/ledger" t2 "$1/noted"' sh "$work"
+    }
+    explain 'another transfer on a full disk' 3 "bag: $work/disk/ledger: database or disk is full" next_on_disk
+    PYTHONPATH=tests python3 -B -c 'import sys; from first_format import write_first; write_first(sys.argv[1], {"t1": {"data/b": bytes(60_000)}})' \
+        "$work/first"
+    first_on_disk() {
+        unshare -m sh -c 'mount -t tmpfs -o size=100k bag "$1/disk" && cp "$1/first" "$1/disk/ledger" && exec "$1/program" list "$1/disk/ledger"' \
+            sh "$work"
+    }
+    explain 'a ledger of format 1 on a full disk' 3 "bag: $work/disk/ledger: database or disk is full" first_on_disk
     # The second file is not stored either, since the store failed before. What is told is still why that was.
     later_on_disk() {
         unshare -m sh -c 'mount -t tmpfs -o size=300k bag "$1/disk" && cd "$1" && "$1/program" begin disk/ledger t1 bag || exit

@@ -175,6 +175,13 @@ if strace -o "$work/calls" true 2>"$work/no strace"; then
     expect 'files that break off' 0 '' each_call read error=EIO 3 'bag: files' 'Input/output error (os error 5)'
     expect 'reads that are interrupted' 0 '' each_call read error=EINTR 3 'bag: files' 'Interrupted system call (os error 4)'
     expect 'files whose closing fails: they were read' 0 '' each_call close error=EIO 0 valid
+    # What is printed is gathered, and written when there is much of it, or at the end.
+    expect 'one write for a short output' 0 1 calls write "$program" check examples/several-faults
+    # The folder of a file is made once: a hundred files in one folder need as many calls for folders as one.
+    mkdir -p "$work/one/k" "$work/hundred/k"
+    touch "$work/one/k/1" "$work/hundred/k/"{1..100}
+    expect 'a folder of many files is made once' 0 "$(calls mkdir "$program" make "$work/one" "$work/made of one" md5)" \
+        calls mkdir "$program" make "$work/hundred" "$work/made of a hundred" md5
     # fails_once FILE NUMBER ARGUMENT..: this read of the file fails, and another try of it would not. A read that failed is
     # never made again.
     fails_once() {
@@ -213,6 +220,8 @@ if strace -o "$work/calls" true 2>"$work/no strace"; then
         expect "no memory in the system for a ledger, $number" 3 'bag: memory' \
             injects "inject=openat:error=ENOMEM:when=$number" -P "$work/once/ledger" "$program" list "$work/once/ledger"
     done
+    explain 'a ledger that cannot be looked at' 3 "bag: $work/once/ledger: Input/output error (os error 5)" \
+        injects inject=statx:error=EIO -P "$work/once/ledger" "$program" list "$work/once/ledger"
     # A new ledger, of which each write in turn and all after it fail until it is made: nothing is left of it. In a file that was empty
     # and cannot be emptied again its log stays too, without which part of a first page would be no database: so a ledger is made next.
     is_gone() {
@@ -249,6 +258,9 @@ if strace -o "$work/calls" true 2>"$work/no strace"; then
     cp "$work/once/ledger" "$work/once/emptied"
     explain 'a ledger that is emptied while it is opened' 3 "bag: $work/once/emptied: it is empty" \
         meanwhile ': >"$2"' "$work/once/emptied" list "$work/once/emptied"
+    explain 'a new ledger that another program writes to while it is opened' 3 "bag: $work/once/octet: it is not a file that can be a database" \
+        meanwhile 'printf x >"$2"' "$work/once/octet" begin "$work/once/octet" t1 "$work/once"
+    expect 'a new ledger that another program writes to while it is opened: its octet stays' 0 '' cmp "$work/once/octet" <(printf x)
     explain 'a ledger that is removed when it was made' 3 "bag: $work/once/new: it is in use" \
         meanwhile 'rm "$2"' "$work/once/new" begin "$work/once/new" t1 "$work/once"
     expect 'a ledger that is removed when it was made: nothing is written' 0 '' test ! -s "$work/once/new" -a ! -s "$work/once/new-wal"

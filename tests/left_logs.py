@@ -135,6 +135,11 @@ def a_refused_ledger_keeps_its_log(make):
     in_the_log(emptied, emptied.ledger, "PRAGMA journal_mode = WAL; VACUUM")
     emptied.ledger.write_bytes(b"")
     emptied.refuses("bag: not a ledger", but=["begin"])
+    # If an octet is left of the file, it is opened with its log.
+    cut = killed(make)
+    in_the_log(cut, cut.ledger, "PRAGMA journal_mode = WAL; VACUUM")
+    cut.ledger.write_bytes(b"S")
+    assert cut.run(*cut.words("audit")) == (0, ["valid"])
     # The store marks the end of a log that another program wrote, so it isn't compared octet by octet.
     other = make(SMALL)
     in_the_log(other, other.ledger, "PRAGMA journal_mode = WAL; CREATE TABLE meta (k TEXT, v TEXT); INSERT INTO meta VALUES ('k', 'v')")

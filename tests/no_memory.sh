@@ -284,8 +284,22 @@ if cc -shared -fPIC -O1 -o "$work/no_memory.so" tests/no_memory.c 2>"$work/no cc
         count_asked && [ $((asked - report)) -ge 20 ]
     }
     expect 'an audit reads what is held again, and a report does not' 0 $'valid\nvalid' audit_asks_more
+    # asks_once_for_a_piece: an audit asks for memory as often for a piece of 65,536 octets as for a file of one line, or nearly.
+    asks_once_for_a_piece() {
+        local name more=() number
+        for name in t1 t2; do
+            refusing 0 "$program" report "$work/ledger" "$name" >"$work/printed_by_asked"
+            count_asked && number=$asked
+            refusing 0 "$program" audit "$work/ledger" "$name" >"$work/printed_by_asked"
+            count_asked && more+=($((asked - number)))
+        done
+        [ $((more[0])) -le $((2 * 20 * more[1])) ] || echo "${more[*]}"
+    }
+    expect 'a file of one line: begin' 0 new "$program" begin "$work/ledger" t2 examples/first-bag
+    expect 'a file of one line: intake' 0 $'taken data/a.txt\ntaken data/e.txt' "$program" intake "$work/ledger" t2 examples/first-bag
+    expect 'a piece of a file is asked for once' 0 '' asks_once_for_a_piece
     # What was read, and what is held, is not gone through once more for each file.
-    for number in 100 200 400; do files_of "$number"; done
+    for number in 1 8 64 100 200 400; do files_of "$number"; done
     for command in check make begin intake report audit export; do
         expect "allocations for more files: $command" 0 '' asks_in_line "$command"
     done
@@ -293,6 +307,20 @@ if cc -shared -fPIC -O1 -o "$work/no_memory.so" tests/no_memory.c 2>"$work/no cc
         expect "allocations for $number files: another transfer" 0 new "$program" begin "$work/of $number.ledger" t2 "$work/of $number"
     done
     expect 'allocations for more files: fetch' 0 '' asks_in_line fetch
+    # Of short files some are gathered until their digests are taken, and each once.
+    for number in 1 8 64; do
+        expect "a transfer of $number files" 0 new "$program" begin "$work/of $number.ledger" t1 "$work/of $number"
+        "$program" intake "$work/of $number.ledger" t1 "$work/of $number" >"$work/printed_by_asked"
+    done
+    # gathers_once: for each of 56 files more, memory is asked for about as often as for each of seven.
+    gathers_once() {
+        local least less
+        asked_by report 1 && least=$asked
+        asked_by report 8 && less=$asked
+        asked_by report 64
+        [ $((7 * (asked - less))) -le $((2 * 56 * (less - least))) ] || echo "$least, $less, $asked"
+    }
+    expect 'allocations for short files that are gathered: report' 0 '' gathers_once
     allocations=60
     [ "${1-}" != --all ] || allocations=0
     expect 'no memory for the commands' 0 '' env TMPDIR="$work" sh -c 'python3 -B tests/failing_commands.py "$@" >"$0"' \

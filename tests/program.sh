@@ -77,6 +77,19 @@ bag audit <LEDGER> <NAME>
 bag fetch <LEDGER> <NAME> <DIR>
 bag export <LEDGER> <NAME> <DIR>
 bag list <LEDGER>' operands
+# What the folders are for: the files of a bag, each at its path in it, but of begin only its tag files; or a new one.
+folders() {
+    for command in check make begin intake fetch export; do
+        bag "$command" --help | sed -n "s/^  <\(SRC\|DST\|DIR\)>[. ]*/$command: /p"
+    done
+}
+expect 'the folders of each command' 0 'check: The folder
+make: The folder with the files
+make: The folder for the bag, which must not exist yet
+begin: The folder with the tag files
+intake: The folders with the files, each at its path in the bag
+fetch: The folder with the files, each at its path in the bag
+export: The folder for the bag, which must not exist yet' folders
 
 expect 'a folder after the mark' 0 valid bag check -- examples/first-bag
 expect 'a folder before the mark' 0 valid bag check examples/first-bag --

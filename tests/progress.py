@@ -265,6 +265,10 @@ def many_files(place):
         write_first(ledger, {"t": files})
     older()
     both(place, [Work("reading the ledger,", None, lengths, octets=ledger.stat().st_size)], "list", str(ledger), again=older)
+    # The same with files that are long enough to be seen in what is told.
+    files = {f"data/{number:03}": bytes(MEBIBYTE) for number in range(150)}
+    older()
+    both(place, [Work("reading the ledger,", None, [MEBIBYTE] * 150, octets=ledger.stat().st_size)], "list", str(ledger), again=older)
 
 
 def millions(place):
@@ -295,7 +299,8 @@ def totals(place):
     database, so no more than that is shown of it."""
     ledger, log = place.work / "text", place.work / "text-wal"
     for octets, of_log, told in [((1 << 30) - 1, 0, ["1023.9 MiB"]), (1 << 30, 0, ["1.0 GiB"]), ((1 << 40) - 1, 0, ["1023.9 GiB"]),
-                                 (1 << 40, 0, ["1.0 TiB"]), (3 << 39, 0, ["1.5 TiB"]), (100 * MEBIBYTE, 924 * MEBIBYTE, ["100.0 MiB", "1.0 GiB"]),
+                                 (1 << 40, 0, ["1.0 TiB"]), (3 << 39, 0, ["1.5 TiB"]), (3 << 29, 0, ["1.5 GiB"]), (64 * MEBIBYTE, 0, ["64.0 MiB"]),
+                                 (64 * MEBIBYTE - 1, 0, []), (100 * MEBIBYTE, 924 * MEBIBYTE, ["100.0 MiB", "1.0 GiB"]),
                                  (40 * MEBIBYTE, 30 * MEBIBYTE, ["70.0 MiB"])]:
         ledger.write_bytes(b"text\n" * 1_000)
         os.truncate(ledger, octets)

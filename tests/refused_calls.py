@@ -384,9 +384,14 @@ class World:
         self.judge_told(answer, " | ".join([told(0, [f"made {number} files, {octets} octets"]), *order.parts()[1:]]))
 
     def judge_told(self, answer, due):
-        """A command on the tree: what is due, or the one line of a refusal. If that could not be written, the work was done all the same."""
+        """A command on the tree: what is due, or the one line of a refusal. If that could not be written, the work was done all the same, and
+        nothing was printed after a write that failed."""
         first, *found = answer.split(" | ")
-        if answer == due or self.may_be("writer") and first.startswith("3 ") and found == due.split(" | ")[1:]:
+        whole, *made = due.split(" | ")
+        if answer == due:
+            return
+        printed, all_of_it = (text.partition(" ")[2] for text in (first, whole))
+        if self.may_be("writer") and first.startswith("3 ") and found == made and all_of_it.startswith(printed):
             return
         lines = {told(3, ["bag: " + {"tree": "files", "sink": "files"}.get(word, word)]): word for words in self.may for word in words}
         self.refused("refused: " + lines[first] if first in lines else answer, due)

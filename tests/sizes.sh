@@ -250,6 +250,29 @@ expect 'files that fit into no memory: begin' 0 new tight begin light t1 short
 expect 'files that fit into no memory: intake' 0 "$(cut -c 35- "$work/short/manifest-md5.txt" | sed 's/^/taken /')" \
     tight intake light t1 short
 rm -r "$work/light" "$work/short" "$work/shorter"
+# Files that are read side by side: no more of them are open, and no more of them is held, than of 32.
+new_bag side
+rm "$work/side/data/e"
+for number in {1..300}; do truncate -s 400000 "$work/side/data/$number"; done
+(cd "$work/side" && find data -type f | LC_ALL=C sort | xargs md5sum >manifest-md5.txt && rm manifest-sha256.txt)
+few_handles() (
+    ulimit -n 48
+    tight "$@"
+)
+expect 'files that are read side by side, with few handles: check' 0 valid few_handles check side
+expect 'files that are read side by side, with few handles: make' 0 'made 300 files, 120000000 octets' few_handles make side/data copied md5
+rm -r "$work/side" "$work/copied"
+# Files of which as many as are held of short ones would need all memory.
+mkdir "$work/two"
+for number in {1..100}; do truncate -s 2000000 "$work/two/$number"; done
+expect 'files of two megabytes that fit into no memory: make' 0 'made 100 files, 200000000 octets' tight make two twice sha1
+expect 'files of two megabytes that fit into no memory: check' 0 valid tight check twice
+rm -r "$work/two" "$work/twice"
+# Lines past the limit aren't kept.
+new_bag lined
+seq -f 'd41d8cd98f00b204e9800998ecf8427e  data/%07.0f' 349525 >"$work/lined/manifest-md5.txt"
+expect 'lines past the limit that fit into no memory: check' 3 'bag: too many' tight check lined
+rm -r "$work/lined"
 
 # Urls of any length.
 new_bag urls
