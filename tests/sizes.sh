@@ -269,10 +269,10 @@ expect 'files of two megabytes that fit into no memory: make' 0 'made 100 files,
 expect 'files of two megabytes that fit into no memory: check' 0 valid tight check twice
 rm -r "$work/two" "$work/twice"
 # Lines past the limit aren't kept.
-new_bag lined
-seq -f 'd41d8cd98f00b204e9800998ecf8427e  data/%07.0f' 349525 >"$work/lined/manifest-md5.txt"
-expect 'lines past the limit that fit into no memory: check' 3 'bag: too many' tight check lined
-rm -r "$work/lined"
+new_bag unkept
+seq -f 'd41d8cd98f00b204e9800998ecf8427e  data/%07.0f' 349525 >"$work/unkept/manifest-md5.txt"
+expect 'lines past the limit that fit into no memory: check' 3 'bag: too many' tight check unkept
+rm -r "$work/unkept"
 
 # Urls of any length.
 new_bag urls
