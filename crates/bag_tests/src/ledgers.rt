@@ -24,17 +24,8 @@ fn made(connection: Connection<MemStore>) -> Result<Connection<MemStore>, KeepFa
 }
 
 /// Why no ledger is made in this connection, and the connection, if none is.
-fn not_made(connection: Connection<MemStore>) -> Option<(KeepFault, Connection<MemStore>)> {
-    match SqlKeeper::create(connection) {
-        Ok(_) => None,
-        Err(
-            NotCreated {
-                fault,
-                trouble: _,
-                connection,
-            },
-        ) => Some((fault, connection)),
-    }
+fn not_made(connection: Connection<MemStore>) -> Option<NotCreated<MemStore>> {
+    SqlKeeper::create(connection).err()
 }
 
 /// Why the ledger in this connection isn't adopted, if it isn't.
@@ -86,9 +77,13 @@ fn rows_in(
 fn no_ledger_is_made_beside_a_table_of_another_program(rt: HostRuntime) -> Result<(), Fail> {
     let alloc = rt.alloc();
     for name in ["meta", "transfer", "tag", "held", "piece", "visits"] {
-        let made = not_made(with_table(alloc, name)?);
-        let (fault, mut connection) = made.ok_or("a ledger was made")?;
+        let NotCreated {
+            fault,
+            trouble,
+            mut connection,
+        } = not_made(with_table(alloc, name)?).ok_or("a ledger was made")?;
         assert_eq!(rt; fault, KeepFault::Store(StoreFault::Refused));
+        assert!(rt; matches!(trouble, Some(Error::SqliteFailure(ErrorCode::NameTaken))));
         assert_eq!(rt; connection.schema().tables.len(), 1);
         assert_eq!(rt; rows_in(alloc, &mut connection, name)?, 1);
     }
@@ -104,6 +99,16 @@ fn in_a_transaction_the_store_is_blamed(rt: HostRuntime) -> Result<(), Fail> {
         matches!(
             fault,
             Some(AdoptFault::Store(Error::SqliteFailure(ErrorCode::TransactionState)))
+        )
+    );
+    let mut nothing = in_memory(rt.alloc())?;
+    nothing.execute_batch("BEGIN")?;
+    let NotCreated { fault, trouble, .. } = not_made(nothing).ok_or("a ledger was made")?;
+    assert_eq!(rt; fault, KeepFault::Store(StoreFault::Refused));
+    assert!(rt;
+        matches!(
+            trouble,
+            Some(Error::SqliteFailure(ErrorCode::TransactionState))
         )
     );
     Ok(())
