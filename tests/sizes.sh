@@ -350,6 +350,18 @@ new_bag folders
 expect '70,000 folders: check' 0 valid bag check folders
 expect '70,000 folders: begin' 0 new bag begin ledger folders folders
 rm -r "$work/folders"
+# More folders than `check` takes files: there is no such limit. They are made in memory, which is faster than on a disk.
+if unshare -m sh -c "mkdir '$work/disk' && mount -t tmpfs bag '$work/disk'" 2>"$work/no mount"; then
+    # in_folders ARGUMENT..: runs the program where `disk` is a bag with 200,001 folders besides its own.
+    in_folders() {
+        unshare -m sh -c 'mount -t tmpfs bag "$1/disk" && cp -r "$1/small/." "$1/disk" && (cd "$1/disk" && seq 200001 | xargs mkdir) || exit
+            cd "$1" && shift && exec timeout 120 "$@"' sh "$work" "$program" "$@"
+    }
+    expect '200,001 folders: check' 0 valid in_folders check disk
+    expect '200,001 folders: begin' 0 new in_folders begin lfolders folders disk
+else
+    lacking '200,001 folders (no permission to mount a file system in memory)'
+fi
 
 # More files than `check` takes: there is no such limit for a transfer. And more than can be in a new bag.
 new_bag many
