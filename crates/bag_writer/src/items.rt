@@ -1,17 +1,21 @@
 //! The items of files that are read one after another. Short files are held, and their digests are taken side by side.
-ghost use Rattle.std.specs.Prelude.{◌≡◌, ◌<◌, ◌≤◌, ◌++◌, ◌∷◌, [], ℕ, List, IfErr, IfOk, vec_len};
+ghost use Rattle.std.specs.Prelude.{◌≡◌, ◌<◌, ◌≤◌, ◌++◌, ◌∷◌, [], ℕ, All, List, IfErr, IfOk, length, vec_len};
 ghost use Rattle.bag_digest.specs.declared.algorithm.AlgSet.{AlgSet};
 ghost use Rattle.bag_rules.specs.Files.{Files};
 ghost use Rattle.bag_writer.specs.declared.write_fault.WriteFault.{WriteFault};
-ghost use Rattle.bag_writer.specs.declared.items.TheConstants.{MOST_HELD};
+ghost use Rattle.bag_writer.specs.declared.items.TheConstants.{BUFFER, MOST_HELD};
 
 use crate::item::Item;
 use crate::write_fault::WriteFault;
-use bag_digest::{AlgSet, SourceRead, digest_each};
+use bag_digest::{AlgSet, PIECE, SourceRead, digest_each};
 use bag_path::BagPath;
 use std::alloc::Global;
 
-/// How many files are held at most. Each is shorter than the buffer of 128 KiB, so no more than 4 MiB are held.
+/// The length in octets of the buffer that files are read through. One that ends within it is held until its digests are
+/// taken.
+pub(crate) const BUFFER: usize = 2 * PIECE;
+
+/// How many files are held at most. None is longer than the buffer, so no more than 4 MiB are held.
 const MOST_HELD: usize = 32;
 
 /// The items of files, in order. The last files may be held: their digests have not been taken yet.
@@ -27,6 +31,7 @@ pub(crate) struct Items {
     messages: Vec<Vec<u8>>,
     ghost paired: { vec_len paths ≡ vec_len messages },
     ghost few: { vec_len messages ≤ MOST_HELD },
+    ghost small: { All (λ message. length message.items ≤ BUFFER) messages.items },
 }
 
 impl Items {
@@ -67,7 +72,8 @@ impl Items {
         found: SourceRead,
         buffer: &[u8],
     ) -> Result<Items, WriteFault>
-        requires { IsWithin buffer.now found }
+        requires room { length buffer.now ≡ BUFFER }
+        requires within { IsWithin buffer.now found }
         ensures added { (set : AlgSet) (octets : List ℕ) → IsFoundOf set buffer.now found octets
             → IfOk result (AddsFile set (path, octets) self) }
         ensures err { IfErr result (λ fault. fault ≡ WriteFault.Memory) }
@@ -99,6 +105,7 @@ impl Items {
 
     /// Adds a file with these octets, which is held.
     fn hold(self, alloc: Global, path: BagPath, octets: &[u8]) -> Result<Items, WriteFault>
+        requires { length octets.now ≤ BUFFER }
         ensures held { (set : AlgSet) → IfOk result (AddsFile set (path, octets.now) self) }
         ensures err { IfErr result (λ fault. fault ≡ WriteFault.Memory) }
     {
@@ -123,6 +130,7 @@ impl Items {
     /// Holds one more file, with these octets.
     fn with_held(self, alloc: Global, path: BagPath, octets: &[u8]) -> Result<Items, WriteFault>
         requires room { vec_len self.messages < MOST_HELD }
+        requires small { length octets.now ≤ BUFFER }
         ensures held { (set : AlgSet) → IfOk result (AddsFile set (path, octets.now) self) }
         ensures err { IfErr result (λ fault. fault ≡ WriteFault.Memory) }
     {

@@ -1,6 +1,6 @@
 //! Laws about the definitions that the contracts of this crate cite. The contract of each function states one law, and
 //! its body is empty.
-ghost use Rattle.std.specs.Prelude.{◌≡◌, ◌≤◌, [], ℕ, List, length, not};
+ghost use Rattle.std.specs.Prelude.{◌≡◌, ◌*◌, ◌≤◌, [], ℕ, List, length, not};
 ghost use Rattle.std.specs.List.{filter};
 ghost use Rattle.std.specs.Map.{keys_of};
 ghost use Rattle.bag_digest.specs.declared.algorithm.Alg.{Alg};
@@ -18,7 +18,13 @@ ghost use Rattle.bag_tags.specs.declared.listing.Kind.TheVariants.{Payload};
 ghost use Rattle.bag_writer.specs.FilledBags.{IsFilled, IsPayloadFor};
 ghost use Rattle.bag_writer.specs.WrittenBags.{IsWritten, manifest_of, tag_files};
 ghost use Rattle.bag_writer.specs.Writing.{empty_files};
+ghost use Rattle.bag_writer.specs.declared.items.TheConstants.{BUFFER, MOST_HELD};
 ghost use Rattle.bag_writer.specs.declared.spec.Spec.{Spec};
+
+/// The payload files that are held until their digests are taken have at most 4 MiB, however many there are.
+pub fn a_new_bag_holds_at_most_4_mebibytes()
+    ensures { MOST_HELD * BUFFER ≤ 4 * 1048576 }
+{}
 
 /// A written bag whose holes are filled is valid.
 pub fn a_written_bag_with_its_holes_filled_is_valid()

@@ -10,6 +10,7 @@ ghost use Rattle.bag_writer.specs.Steps.{AreHoleMarks, AreItemsOf, ArePart, AreW
 ghost use Rattle.bag_writer.specs.Writing.{HasLongFile, IsMetLater, IsReadFrom};
 ghost use Rattle.bag_writer.specs.declared.write_fault.Large.{Large};
 ghost use Rattle.bag_writer.specs.declared.write_fault.WriteFault.{WriteFault};
+ghost use Rattle.bag_writer.specs.declared.items.TheConstants.{BUFFER};
 ghost use Rattle.bag_writer.specs.declared.payload.CopyFault.{CopyFault};
 
 use crate::item::Item;
@@ -17,16 +18,11 @@ use crate::items::Items;
 use crate::sink::Sink;
 use crate::spec::Spec;
 use crate::write_fault::{Large, WriteFault};
-use bag_digest::{
-    AlgSet, Failed, Multi, PIECE, Source, SourceFault, SourceRead, fill, read_or_digest,
-};
+use bag_digest::{AlgSet, Failed, Multi, Source, SourceFault, SourceRead, fill, read_or_digest};
 use bag_path::BagPath;
 use bag_rules::Tree;
 use bag_rules::limits::LARGEST_FILE;
 use std::alloc::Global;
-
-/// The length of the buffer in octets. A file that ends within it is held until its digests are taken.
-pub(crate) const BUFFER: usize = 2 * PIECE;
 
 /// Why a file wasn't copied to its end.
 #[derive(Clone, Copy, Debug)]
@@ -53,7 +49,7 @@ pub(crate) fn write_payload<T: Tree, S: Sink>(
     marks: &[bool],
     sink: &mut S,
 ) -> Result<Vec<Item>, WriteFault>
-    requires ready { (0 < length buffer.old)
+    requires ready { (length buffer.old ≡ BUFFER)
         × AreHoleMarks (paths_in (T.shown tree.old)) spec.now marks.now }
     // This was written of some payload, which is that of the tree's bag if that is known.
     ensures written { (payload : Files) × IsReadFrom (T.shown tree.old) payload

@@ -8,8 +8,9 @@ ghost use Rattle.bag_writer.specs.Writing.{IsAccepted, IsDone, IsMetLater, IsOfD
 ghost use Rattle.bag_writer.specs.declared.write_fault.WriteFault.{WriteFault};
 
 use crate::accepting::accepted_holes;
+use crate::items::BUFFER;
 use crate::measuring::large_if_empty;
-use crate::payload::{BUFFER, write_payload};
+use crate::payload::write_payload;
 use crate::sink::Sink;
 use crate::spec::Spec;
 use crate::tags::write_tag_files;

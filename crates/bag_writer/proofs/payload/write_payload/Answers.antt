@@ -91,8 +91,8 @@ returns-clause-written g c =
     let end : length tree.files ≤ c.loop-i.i = omega (arith, c.count-i-end.ensures.files, c.loop-i-test.false, length-map tree.files (λ (s : List ℕ × Option (List ℕ)). s.0)) in
     all_finished c.args.spec.now tree c.loop-i.i _ _ c.loop-i.items inv.written.0 inv.written.1 end c.finish.result (c.finish.ensures.all c.args.spec.now.algs (payload_of inv.written.0) inv.written.1.items_are) c.finish.ensures.err
 
-pub add-requires : goal.add-requires
-add-requires g c =
+pub add-requires-clause-within : goal.add-requires-clause-within
+add-requires-clause-within g c =
     let inv = c.loop-i.invariant in
     let tree = g.T.Paths.shown c.args.tree.now in
     let place = shown_at tree (g.T.Paths.shown c.loop-i.tree) inv.read.same c.loop-i.i c.path.result.now c.path.ensures in
