@@ -1,5 +1,5 @@
 -- How the tables of a ledger are created.
-use Rattle.std.specs.Prelude.{◌≡◌, ℕ, List, [], Ok, IsTrue, false}
+use Rattle.std.specs.Prelude.{◌≡◌, ◌≢◌, ℕ, List, [], Ok, IsTrue, false}
 use Rattle.std.specs.List.{AllByRecursion}
 use Rattle.sqlite.specs.Change.{created}
 use Rattle.sqlite.specs.Command.TheVariants.{CreateTable}
@@ -10,6 +10,9 @@ use Rattle.sqlite.specs.Schema.{Schema}
 use Rattle.sqlite.specs.State.{State}
 use Rattle.sqlite.specs.Table.{Table}
 use Rattle.sqlite.specs.Tree.{Trees}
+use Rattle.sqlite.specs.declared.error.Error.{Error}
+use Rattle.sqlite.specs.declared.error.Error.TheVariants.{SqliteFailure}
+use Rattle.sqlite.specs.declared.error.ErrorCode.TheVariants.{NameTaken, TransactionState}
 use Rattle.sqlite.proofs.Callers.{IsPlain, command_of, statement_of}
 use Rattle.bag_sqlite.specs.Databases.{IsDatabaseOf}
 use Rattle.bag_sqlite.specs.Tables.{New, Second, no_schema, second_schema}
@@ -46,6 +49,13 @@ pub record IsCreated (s : State) : Type 0 where
   pub schema_is : s.now.schema ≡ second_schema New
   pub database : IsDatabaseOf (Second New) s.now.trees []
   pub committed : s.committed ≡ s.now
+
+-- what is answered where no ledger can be made: while a transaction is open, and in a database with tables, indexes or
+-- views
+pub record RefusesToMake (s : State) (answers : Error → Type 0) : Type 0 where
+  pub busy : IsTrue s.in_transaction → answers (SqliteFailure TransactionState)
+  pub taken : s.in_transaction ≡ false → s.now.schema ≢ no_schema
+      → answers (SqliteFailure NameTaken)
 
 -- Nothing was committed. As long as the connection is open, it shows what was committed.
 pub record IsLeft (old new : State) : Type 0 where

@@ -1,13 +1,13 @@
 //! A keeper in a database.
-ghost use Rattle.std.specs.Prelude.{◌≡◌, ◌≢◌, ◌↔◌, [], IfErr, IfOk, IsErrOf, IsTrue, MatchResult, None, false, map, string_bytes};
+ghost use Rattle.std.specs.Prelude.{◌≡◌, ◌≢◌, ◌↔◌, [], IfErr, IfOk, IsErrAnd, IsErrOf, IsTrue, MatchResult, None, Some, false, map, string_bytes};
 ghost use Rattle.std.specs.Map.{keys_of};
 ghost use Rattle.bag_ledger.specs.Keeping.{Reads, UsesStore};
 ghost use Rattle.bag_ledger.specs.Ledgers.{Ledger};
-ghost use Rattle.bag_sqlite.specs.Making.{IsLeft, MakesLedger};
+ghost use Rattle.bag_sqlite.specs.Making.{IsLeft, MakesLedger, RefusesToMake};
 ghost use Rattle.bag_sqlite.specs.SqlKeepers.{HoldsLedger, KeepsAlone, MayLeaveLedger};
 ghost use Rattle.bag_sqlite.specs.Tables.{no_schema};
 ghost use Rattle.bag_ledger.specs.declared.keeper_faults.KeepFault.TheVariants.{Memory, Store};
-ghost use Rattle.bag_ledger.specs.declared.keeper_faults.StoreFault.TheVariants.{Spent};
+ghost use Rattle.bag_ledger.specs.declared.keeper_faults.StoreFault.TheVariants.{Refused, Spent};
 ghost use Rattle.bag_sqlite.specs.declared.health.Health.{Health};
 ghost use Rattle.sqlite.specs.Held.{Held, state};
 ghost use Rattle.sqlite.specs.State.{HasCleanDisk, Survives};
@@ -41,7 +41,8 @@ pub struct NotCreated<S: Alter> {
     /// `Memory`, or `Store(Refused)`: a transaction was open, the database has tables, indexes or views, or the store
     /// failed.
     pub fault: KeepFault,
-    /// The error of the store, unless memory ran out.
+    /// The error of the store, unless memory ran out: `TransactionState` if a transaction was open, `NameTaken` if the
+    /// database has tables, indexes or views.
     pub trouble: Option<Error>,
     /// The connection that was passed in.
     pub connection: Connection<S>,
@@ -63,6 +64,9 @@ impl<S: Alter> SqlKeeper<S> {
             × (keeper.health.failures ≡ 0)) (λ refused. refused.fault ≢ Store Spent) }
         ensures told { IfErr result (λ refused. (refused.fault ≡ Memory)
             ↔ (refused.trouble ≡ None)) }
+        ensures refused { RefusesToMake (state S.Store connection)
+            (λ error. IsErrAnd result (λ refused. (refused.fault ≡ Store Refused)
+            × (refused.trouble ≡ Some error))) }
         ensures handed_back { IfErr result (λ refused.
             HasCleanDisk (state S.Store refused.connection)
             → IsLeft (state S.Store connection) (state S.Store refused.connection)) }

@@ -1,6 +1,6 @@
 //! Creates the tables of a new ledger.
-ghost use Rattle.std.specs.Prelude.{◌≡◌, ◌↔◌, [], IsTrue, OnErr, OnOk, false, true};
-ghost use Rattle.bag_sqlite.specs.Making.{IsCreated, IsLeft, IsMade, IsMaking, Makes, MakesLedger, no_rows};
+ghost use Rattle.std.specs.Prelude.{◌≡◌, ◌↔◌, [], IsErrOf, IsTrue, OnErr, OnOk, false, true};
+ghost use Rattle.bag_sqlite.specs.Making.{IsCreated, IsLeft, IsMade, IsMaking, Makes, MakesLedger, RefusesToMake, no_rows};
 ghost use Rattle.bag_sqlite.specs.Tables.{New, Origin, held_tree, no_schema, piece_tree, schema_before, schema_to_tag, second_schema};
 ghost use Rattle.bag_sqlite.specs.Transactions.{CommitsNothing};
 ghost use Rattle.sqlite.specs.Change.{created, next_tree};
@@ -19,6 +19,7 @@ pub(crate) fn make_ledger<S: Alter>(connection: &mut Connection<S>) -> Result<()
         → OnOk result (((state S.Store connection.old).now.schema ≡ no_schema)
         × IsCreated (state S.Store connection.new)) }
     ensures idle { OnOk result ((state S.Store connection.new).in_transaction ≡ false) }
+    ensures refused { RefusesToMake (state S.Store connection.old) (IsErrOf result) }
     ensures unchanged { HasCleanDisk (state S.Store connection.new)
         → OnErr result (IsLeft (state S.Store connection.old) (state S.Store connection.new)) }
     ensures survives { Survives (state S.Store connection.old) (state S.Store connection.new)
