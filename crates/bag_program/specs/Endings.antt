@@ -99,6 +99,17 @@ told_path limit.NewPayload = None
 told_path (limit.NewTagFile path) = None
 told_path limit.Deliveries = None
 
+-- the path of the tag file that would exceed it, in the bag that isn't made
+abbrev pub unmade_path : Limit → Option (List ℕ)
+unmade_path (limit.NewTagFile path) = Some path
+unmade_path (limit.TagFile path) = None
+unmade_path (limit.File path) = None
+unmade_path limit.Files = None
+unmade_path limit.Lines = None
+unmade_path limit.NewPayload = None
+unmade_path (limit.NewFile path) = None
+unmade_path limit.Deliveries = None
+
 -- what is said of the thing that exceeds a limit
 abbrev pub limit_text : Limit → List ℕ
 limit_text (limit.TagFile path) = codes "it has more than 16,777,216 octets"

@@ -104,13 +104,26 @@ impl Why {
 impl Display for Why {
     fn fmt<W: fmt::Write>(&self, f: &mut Formatter<W>) -> fmt::Result {
         match self {
-            Why::Unfit(unfit) => write!(f, "{}: {}", ToldName(unfit.path.as_str()), unfit.cause),
-            Why::Exceeds(Named { name, what }) => write!(f, "{}{what}", ToldName(name.as_str())),
+            Why::Unfit(unfit) => write!(
+                f,
+                "{}: {}",
+                ToldName::of(unfit.path.as_str()),
+                unfit.cause
+            ),
+            Why::Exceeds(Named { name, what }) => write!(
+                f,
+                "{}{what}",
+                ToldName::of(name.as_str())
+            ),
             Why::Empty(folder) => {
-                let folder = ToldName(folder.text.as_str());
+                let folder = ToldName::of(folder.text.as_str());
                 write!(f, "{folder}: it has no payload file below data/")
             }
-            Why::Ledger(Named { name, what }) => write!(f, "{}: {what}", ToldName(name.as_str())),
+            Why::Ledger(Named { name, what }) => write!(
+                f,
+                "{}: {what}",
+                ToldName::of(name.as_str())
+            ),
         }
     }
 }

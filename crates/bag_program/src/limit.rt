@@ -42,22 +42,36 @@ pub enum Limit {
 }
 
 impl Limit {
-    ghost use Rattle.std.specs.Option.{option_copied};
     ghost use Rattle.std.specs.Prelude.{◌≡◌};
-    ghost use Rattle.bag_program.specs.Endings.{limit_text, told_path};
+    ghost use Rattle.bag_program.specs.Endings.{limit_text, told_path, unmade_path};
 
     /// The path of the file that exceeds it, below the folder that is named.
-    fn path(&self) -> Option<&str>
-        ensures { option_copied result ≡ told_path self.now }
+    fn path(&self) -> Option<ToldName<'_>>
+        ensures { result ≡ told_path self.now }
     {
         match self {
-            Limit::TagFile(path) => Some(path.as_str()),
-            Limit::File(path) => Some(path.as_str()),
-            Limit::NewFile(path) => Some(Place::Payload.path_below(path.as_str())),
+            Limit::TagFile(path) | Limit::File(path) => Some(ToldName::of(path.as_str())),
+            Limit::NewFile(path) => Some(ToldName::of(Place::Payload.path_below(path.as_str()))),
             Limit::Files
             | Limit::Lines
             | Limit::NewPayload
             | Limit::NewTagFile(_)
+            | Limit::Deliveries => None,
+        }
+    }
+
+    /// The path of the tag file that would exceed it, in the bag that isn't made.
+    fn unmade_path(&self) -> Option<ToldName<'_>>
+        ensures { result ≡ unmade_path self.now }
+    {
+        match self {
+            Limit::NewTagFile(path) => Some(ToldName::of(path.as_str())),
+            Limit::TagFile(_)
+            | Limit::File(_)
+            | Limit::Files
+            | Limit::Lines
+            | Limit::NewPayload
+            | Limit::NewFile(_)
             | Limit::Deliveries => None,
         }
     }
@@ -81,11 +95,11 @@ impl Limit {
 impl Display for Limit {
     fn fmt<W: fmt::Write>(&self, f: &mut Formatter<W>) -> fmt::Result {
         if let Some(path) = self.path() {
-            write!(f, "/{}", ToldName(path))?;
+            write!(f, "/{path}")?;
         }
         f.write_str(": ")?;
-        if let Limit::NewTagFile(path) = self {
-            write!(f, "{} ", ToldName(path.as_str()))?;
+        if let Some(path) = self.unmade_path() {
+            write!(f, "{path} ")?;
         }
         f.write_str(self.text())
     }

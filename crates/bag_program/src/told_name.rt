@@ -1,14 +1,36 @@
 //! Names on standard error.
 use std::fmt::{self, Display, Formatter, Write};
+use std::marker::Model;
 
 /// A name as it is told: on one line, with the escapes of a path, and all control characters escaped like this, since a
 /// terminal would obey them.
-#[derive(Clone, Copy)]
-pub struct ToldName<'a>(pub &'a str);
+#[derive(Drop)]
+pub struct ToldName<'a> {
+    text: &'a str,
+}
+
+impl<'a> Model for ToldName<'a> {
+    ghost use Rattle.std.specs.Prelude.{ℕ, List};
+
+    ghost Value = { List ℕ };
+
+    ghost view = { λ name. name.text.now };
+}
+
+impl<'a> ToldName<'a> {
+    ghost use Rattle.std.specs.Prelude.{◌≡◌};
+
+    /// This name, to be told.
+    pub fn of(text: &'a str) -> ToldName<'a>
+        ensures { result ≡ text.now }
+    {
+        ToldName { text }
+    }
+}
 
 impl Display for ToldName<'_> {
     fn fmt<W: Write>(&self, f: &mut Formatter<W>) -> fmt::Result {
-        for c in self.0.chars() {
+        for c in self.text.chars() {
             if c == '%' || c.is_control() {
                 write_escaped(f, c)?;
             } else {
