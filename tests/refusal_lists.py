@@ -2,18 +2,22 @@
 it is made, with the answers that docs/FORMAT.md requires if nothing is refused."""
 import collections
 import hashlib
+import pathlib
+import tempfile
 
 import feeds
 import new_bags
 import reference
 from deliveries import with_files
+from first_format import change, write_first
 from refused_calls import octets_answer, shown, told
 from small_bags import A_MD5, A_SHA256, BOTH_BY_MD5, DECLARATION, E_MD5, E_SHA256, MANIFEST, MARK, OF_0_97
 
 # A list: its name; the calls; the range of those in which each request for memory is refused; the answers to the first calls, any if it is
-# None; the keepers with which it is run; and the call of a device that fails in each run, 0 for none.
-Calls = collections.namedtuple("Calls", ["name", "events", "first", "last", "wanted", "keepers", "broken"])
-KEEPERS = ["map", "sqlite"]
+# None; the keepers with which it is run; the call of a device that fails in each run, 0 for none; and whether it is short, so that over files
+# each call of a file fails.
+Calls = collections.namedtuple("Calls", ["name", "events", "first", "last", "wanted", "keepers", "broken", "is_short"], defaults=[False])
+KEEPERS = ["map", "sqlite", "files"]
 TAGS = [(b"bagit.txt", DECLARATION), (b"manifest-sha256.txt", MANIFEST)]
 A, E = (b"data/a.txt", b"abc"), (b"data/e.txt", b"")
 F = dict([*TAGS, A, E])
@@ -39,8 +43,8 @@ def on_ledger(name, steps, tags=TAGS, items=(A, E), transfer=b"t1", keepers=KEEP
 
 def rest(tags, items, transfer):
     held = with_files("run", transfer, items)
-    return [("report", transfer), held, ("export", transfer), with_files("begin", transfer, tags), ("reopen",), ("report", transfer),
-            ("audit", transfer), with_files("begin", transfer, tags), held, ("names",), ("export", transfer), ("report", transfer)]
+    return [("report", transfer), held, ("export", transfer), with_files("begin", transfer, tags), ("left",), ("reopen",), ("report", transfer),
+            ("audit", transfer), with_files("begin", transfer, tags), held, ("names",), ("export", transfer), ("report", transfer), ("left",)]
 
 
 def on_values(name, *steps):
@@ -48,12 +52,36 @@ def on_values(name, *steps):
     return Calls(name, [event for event, _ in steps] * 2, 0, len(steps), [answer for _, answer in steps] * 2, ["map"], ("none", 0))
 
 
+def first_format(texts):
+    """The file of a ledger of format 1, with two transfers, which is changed so."""
+    with tempfile.TemporaryDirectory() as folder:
+        file = pathlib.Path(folder) / "ledger"
+        write_first(file, {"t1": {"data/a.txt": b"abc", "data/e.txt": b""}, "t5": {"data/b": bytes(65_537)}})
+        change(file, texts)
+        return file.read_bytes()
+
+
 def openings():
-    """A ledger is made and opened again. If it was refused, it is opened by the call that follows. A map asks for no memory then."""
-    events = [("start",), ("reopen",), ("reopen",), with_files("begin", b"t1", TAGS), with_files("deliver", b"t1", [A]), ("reopen",), ("reopen",)]
+    """A ledger is made and opened again. If it was refused, it is opened by the call that follows. A map asks for no memory then. In files
+    a ledger of format 1 is moved, and what is no ledger stays as it is."""
+    begun = [with_files("begin", b"t1", TAGS), with_files("deliver", b"t1", [A])]
+    events = [("start",), ("reopen",), ("reopen",), *begun, ("reopen",), ("reopen",)]
     wanted = ["started", "opened", "opened", "new", "taken", "opened", "opened"]
-    for name, place in ("making a ledger", 0), ("opening an empty ledger", 1), ("opening a ledger", 5):
+    left = [("left",), ("reopen",), ("reopen",), ("names",), ("audit", b"t1"), ("left",)]
+    for name, place, short in [
+            ("making a ledger", 0, [("start",)]), ("opening an empty ledger", 1, [("start",), ("reopen",)]),
+            ("opening a ledger", 5, [("start",), *begun, ("reopen",)])]:
         yield Calls(name, events + rest(TAGS, (A, E), b"t1"), place, place + 1, wanted, ["sqlite"], ("none", 0))
+        yield Calls(name, short + left, len(short) - 1, len(short), [], ["files"], ("none", 0), True)
+    for name, due, texts in [
+            ("taking over a ledger of format 1", b"opened", ""), ("a ledger of another format", b"refused: not a ledger", "UPDATE meta SET v = 3"),
+            ("a ledger of format 1 with a damaged payload file", b"refused: damaged", "UPDATE item SET body = x'616264' WHERE path = 'data/a.txt'"),
+            ("a database of another program", b"refused: not a ledger", "DROP TABLE meta; DROP TABLE item")]:
+        loaded = with_files("load", due, [(b"-", first_format(texts))])
+        asked = [("left",), ("reopen",), ("reopen",), ("left",)]
+        if due == b"opened":
+            asked = [*left, ("reopen",), with_files("deliver", b"t1", [A]), ("report", b"t5"), ("left",)]
+        yield Calls(name, [loaded, *asked], 0, 1, [due.decode()], ["files"], ("none", 0), due == b"opened")
     yield on_values("opening a database without tables", (("adopt",), "refused: not a ledger"))
 
 
@@ -67,6 +95,9 @@ def transfers():
         *half, (("report", b"t1"), f"{MISSING_E} | not complete"), (("audit", b"t1"), f"{MISSING_E} | not complete"), (("names",), "t1"),
         (("export", b"t1"), " | ".join(["exported 3", *shown(True, dict([*TAGS, A]))])), (("audit", b"t2"), "refused: no transfer"),
         (("export", b"t2"), "refused: no transfer")])
+    yield on_ledger("an export and a report", [
+        *half, (("export", b"t1"), " | ".join(["exported 3", *shown(True, dict([*TAGS, A]))])), (("report", b"t1"), f"{MISSING_E} | not complete"),
+        (("export", b"t1"), " | ".join(["exported 3", *shown(True, dict([*TAGS, A]))])), (("audit", b"t1"), f"{MISSING_E} | not complete")])
     yield on_ledger("losses, repeats and damage", [
         BEGUN,
         (("report", b"t1"), f"{MISSING_A} | {MISSING_E} | not complete"),
@@ -186,6 +217,9 @@ def checks():
     no = "not complete"
     listed = lambda more: {**F, TAGS[1][0]: MANIFEST + more}
     yield checked("valid", (F, 0, ["valid"]), ({**F, TAGS[1][0]: OTHER_SPELLING}, 0, ["valid"]))
+    alone = dict([TAGS[0], (TAGS[1][0], E_SHA256 + b"  data/e.txt\n")])
+    # Its payload file comes first, so that it is the one for which the list of files grows.
+    yield checked("one payload file", (dict([E, *alone.items()]), 0, ["valid"]), (alone, 1, ["no data directory", no]))
     yield checked("bagit.txt", ({path: F[path] for path in F if path != b"bagit.txt"}, 1, ["no bagit.txt", no]),
                   ({**F, b"bagit.txt": MARK + DECLARATION}, 1, ["bagit.txt: byte order mark", no]),
                   ({**F, b"bagit.txt": b"BagIt-Version: 1.0"}, 1, ["bagit.txt: line count", no]),

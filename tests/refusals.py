@@ -1,12 +1,15 @@
 #!/usr/bin/env python3
-"""refusals.py DRIVER PROGRAM LIBRARY: lists of calls, each a case that docs/FORMAT.md decides (tests/refusal_lists.py), in which one request
+"""refusals.py [--all] DRIVER PROGRAM LIBRARY: lists of calls, each a case that docs/FORMAT.md decides (tests/refusal_lists.py), in which one request
 for memory is refused, the first, the second and so on, by a library that is loaded before the driver's own (tests/no_memory.c); and in which
 one call of a device fails, the first, the second and so on, of its trees, sinks, readers, couriers, suppliers, keepers and writers, by a
 count in the driver. Each call of the driver is a line, so that it is known which call met the refusal, and all answers are judged
 (tests/refused_calls.py). Each list goes on with calls that ask for what is held, before the ledger is opened again and after it. They are
-run over a map in memory, a database in memory, and a map whose calls fail. In some lists a map once gives something else than it holds;
-their answers are compared, and not judged. Then the reading of command lines is refused memory in the same way. It prints how many runs
-there were, for each list by keeper, and each answer that no refusal explains.
+run over a map in memory, over a database in memory and over one in two files in memory, and over a map whose calls fail. A call of a file
+fails alone, or it and all that follow until the ledger is opened again, which leaves what was written or only what a sync had reached; and
+sqlite3 reads what is left. Of a list over files that isn't short one of STRIDE calls of the log fails, and one of both files if all fail that
+follow; these begin elsewhere in each list. With --all each call fails. In some lists a map once gives something else than it holds; their
+answers are compared, and not judged. Then the reading of command lines is refused memory in the same way. It prints how many runs there were,
+for each list by keeper, and each answer that no refusal explains.
 
 The driver reads calls from standard input, one per line, and prints a line for each, which ends in ` !` if a call of a device failed in it.
 A call is a word, then a name and pairs of a path and octets, each in hex, or `-` if it is empty. The parts of an answer are joined by ` | `.
@@ -14,6 +17,8 @@ Each part is `refused: memory` if memory ran out, and `refused: store`, `reader`
 
     start                    `started`; the ledger is made
     reopen                   `opened`; the ledger is closed, if it is open, and opened, or made if it could not be made
+    load DUE FILE            the database in this file is opened as a ledger: `opened`, or `refused: ..`, as DUE says
+    left                     `left`, and what the two files of the ledger hold, in hex, once it was left as a program does that stops
     adopt                    a database without tables is opened as a ledger: `refused: not a ledger`
     begin, deliver, read, run, bring, report, audit, names     as in tests/deliveries.py
     fetch NAME FILES         for each line that is asked for its number, the path and the answer; then `done`. The supplier has these files
@@ -39,15 +44,23 @@ from refusal_lists import lists, stores
 from refused_calls import Otherwise, World
 
 DEVICES = ["tree", "sink", "reader", "courier", "supplier", "writer"]
+# The devices of a keeper that fails, and of files: one call of either, or from one call on all of both, which are left as they were
+# written, or as they were when a sync had ended.
+KEEPER, FILES = ["keeper", "reading"], ["log", "database", "stop", "cut"]
 NEVER = 10**6
 # More requests for memory may not be made by one list; a longer list is cut in two.
 MOST = 1000
+# How far apart the calls are that fail of the log, or of both files, in a list over files that isn't short.
+STRIDE = 23
 # What uses which devices.
 USES = {"read": ["reader"], "digest": ["reader"], "bring": ["courier"], "fetch": ["supplier"], "export": ["sink"], "write": ["tree", "sink"],
         "check": ["tree", "writer"], "make": ["tree", "sink", "writer"], "begin-to": ["tree", "writer"], "intake-to": ["courier", "writer"],
         "report-to": ["writer"], "audit-to": ["writer"], "fetch-to": ["supplier", "writer"], "export-to": ["sink", "writer"],
         "list-to": ["writer"]}
 OF_KEEPERS = ["begin", "deliver", "read", "run", "bring", "report", "audit", "names", "fetch", "export"]
+# What reads the pieces of payload files.
+OF_PIECES = ["audit", "export", "audit-to", "export-to"]
+OF_COMMANDS = [word for word in USES if word.endswith("-to")]
 # Words for the program in a folder without any file, with the status and the line; any line if it is None.
 WORDS = [([], 64, "bag: check, make, begin, intake, report, audit, fetch, export, list"), (["check", "d"], 3, "bag: files"),
          (["intake", "l", "t1", "a", "b"], 3, "bag: not a ledger"), (["check"], 64, ""), (["check", "--help"], 0, None)]
@@ -56,8 +69,10 @@ WORDS = [([], 64, "bag: check, make, begin, intake, report, audit, fetch, export
 class Runs:
     """Runs lists with refusals, and counts them."""
 
-    def __init__(self, driver, library, folder):
-        self.driver, self.library, self.folder = driver, library, folder
+    def __init__(self, driver, library, folder, is_all):
+        self.driver, self.library, self.folder, self.is_all = driver, library, folder, is_all
+        # The calls that were refused memory, by keeper, and the number of the list.
+        self.words, self.turn = collections.Counter(), 0
         self.faults, self.counts, self.told = [], collections.Counter(), 0
 
     def path(self, name):
@@ -76,14 +91,29 @@ class Runs:
         with open(self.path("asked"), encoding="ascii") as file:
             return int(file.read())
 
-    def run(self, keeper, broken, refuse=0, most=NEVER):
-        """The answers of the driver, the places of those in which a call of a device failed, and whether a request was refused."""
+    def run(self, keeper, broken, most=NEVER):
+        """The answers of the driver, and the places of those in which a call of a device failed."""
+        return self.answers(keeper, broken, most, {"ASKED": self.path("asked")}, subprocess.PIPE)
+
+    def run_each(self, keeper, broken, first, last):
+        """For each of these requests for memory its number and, if it is refused, the same as above. A request that no run reaches is told."""
+        with tempfile.TemporaryDirectory(dir=self.folder) as folder:
+            with open(self.path("printed"), "w+b") as printed:
+                self.answers(keeper, broken, NEVER, {"EACH": str(first), "LAST": str(last), "TRIED": f"{folder}/number"}, printed)
+            for number in range(first, last + 1):
+                tried = f"{folder}/number.{number}"
+                if not os.path.exists(tried):
+                    raise Otherwise(f"request {number} for memory was never made")
+                with open(tried, "rb") as file:
+                    yield number, *marked(file.read())
+
+    def answers(self, keeper, broken, most, variables, out):
         with open(self.path("calls"), "rb") as calls:
-            ran, is_refused = self.refusing([self.driver, "refusals", keeper, str(most), *map(str, broken)], refuse, stdin=calls)
+            ran = subprocess.run([self.driver, "refusals", keeper, str(most), *map(str, broken)], stdin=calls, stdout=out, stderr=subprocess.PIPE,
+                                 env={"LD_PRELOAD": self.library, **variables}, timeout=600, check=False)
         if ran.returncode or ran.stderr:
-            raise Otherwise(f"the driver ends with {ran.returncode} and says {ran.stderr} after {ran.stdout[-300:]}")
-        answers = ran.stdout.decode().split("\n")[:-1]
-        return answers, [place for place, text in enumerate(answers) if text.endswith(" !")], is_refused
+            raise Otherwise(f"the driver ends with {ran.returncode} and says {ran.stderr[-300:]} after {(ran.stdout or b'')[-300:]}")
+        return marked(ran.stdout or b"")
 
     def write(self, some):
         """Writes the calls of a list where the driver is given them."""
@@ -95,10 +125,10 @@ class Runs:
         for keeper in some.keepers:
             self.attempt(some, keeper, "undisturbed", self.undisturbed)
             self.attempt(some, keeper, "memory", self.refuse_each)
-            for device in DEVICES if some.broken[1] == 0 else []:
+            for device in [*DEVICES, *FILES * (keeper == "files")] if some.broken[1] == 0 else []:
                 self.attempt(some, keeper, device, self.fail_each)
-        if some.broken[1] == 0 and "sqlite" in some.keepers:
-            self.attempt(some, "breaking", "keeper", self.fail_each)
+        for device in KEEPER if some.broken[1] == 0 and "map" in some.keepers and ("reopen",) in some.events else []:
+            self.attempt(some, "breaking", device, self.fail_each)
 
     def attempt(self, some, keeper, what, work):
         try:
@@ -107,7 +137,7 @@ class Runs:
             self.faults.append(f"{some.name}, over {keeper}, {what}: {otherwise}")
 
     def undisturbed(self, some, keeper, _):
-        answers, marks, _ = self.run(keeper, some.broken)
+        answers, marks = self.run(keeper, some.broken)
         for event, answer, wanted in zip(some.events, answers, some.wanted):
             if wanted is not None and answer != wanted:
                 raise Otherwise(f"{event[0]}: {answer!r} instead of {wanted!r}")
@@ -121,13 +151,11 @@ class Runs:
             bounds.append(self.asked())
         if bounds[-1] - bounds[0] > MOST:
             raise Otherwise(f"{bounds[-1] - bounds[0]} requests for memory are more than {MOST}")
-        for number in range(bounds[0] + 1, bounds[-1] + 1):
+        for number, answers, marks in self.run_each(keeper, some.broken, bounds[0] + 1, bounds[-1]):
             place = some.first + bisect.bisect_left(bounds, number) - 1
             word = some.events[place][0]
-            answers, marks, is_refused = self.run(keeper, some.broken, number)
-            if not is_refused:
-                raise Otherwise(f"request {number} for memory was never made")
             self.counts[what, some.name, keeper] += 1
+            self.words[word, keeper] += 1
             may = {mark: [may_of(some.broken[0])] for mark in marks}
             may.setdefault(place, []).append(memory_of(keeper, word))
             try:
@@ -139,18 +167,21 @@ class Runs:
 
     def fail_each(self, some, keeper, device):
         """Lets each call of a device fail."""
-        for number in range(1, NEVER):
-            answers, marks, _ = self.run(keeper, (device, number))
+        step = STRIDE if device in FILES and device != "database" and not some.is_short and not self.is_all else 1
+        for number in range(1 + self.turn % step, NEVER, step):
+            answers, marks = self.run(keeper, (device, number))
             if not marks:
                 break
             self.counts[device, some.name, keeper] += 1
             try:
                 [met] = marks
+                if device == "reading" and some.events[met][0] not in OF_PIECES:
+                    raise Otherwise("a piece is read")
                 judge(some, answers, {met: [may_of(device)]})
             except Otherwise as otherwise:
                 raise Otherwise(f"call {number}, in {some.events[marks[0]][0]}: {otherwise}") from None
         judge(some, answers, {})
-        used = OF_KEEPERS if device == "keeper" else [word for word, devices in USES.items() if device in devices]
+        used = OF_KEEPERS if device in [*KEEPER, *FILES] else [word for word, devices in USES.items() if device in devices]
         # What is refused may be refused before a device is used, but for that to which the refusal is written.
         going_on = [event[0] for event, wanted in itertools.zip_longest(some.events, some.wanted)
                     if device == "writer" or not is_refusal(wanted or "")]
@@ -159,7 +190,7 @@ class Runs:
 
     def given(self, some, keeper, what):
         """A store gives something else than it holds, once."""
-        answers, marks, _ = self.run(keeper, some.broken)
+        answers, marks = self.run(keeper, some.broken)
         self.counts[what, some.name, keeper] += len(marks)
         for event, answer, wanted in itertools.zip_longest(some.events, answers, some.wanted):
             if answer != wanted:
@@ -184,8 +215,20 @@ class Runs:
                 if told not in [whole, (3, "bag: memory\n", ""), *unexplained] or not is_refused:
                     self.faults.append(f"{words}: request {number} of {asked} for memory: {told}")
 
+    def unrefused(self):
+        """The words of calls on ledgers that no run refused memory, by keeper."""
+        opened = [(word, keeper) for word in ("start", "reopen") for keeper in ("sqlite", "files")] + [("load", "files")]
+        return [f"{word} is refused nothing over {keeper}" for word, keeper in [*opened, *itertools.product(
+            [*OF_KEEPERS, *OF_COMMANDS], ("map", "sqlite", "files"))] if not self.words[word, keeper]]
+
     def number_of(self, what):
         return sum(count for (which, _, _), count in self.counts.items() if which == what)
+
+
+def marked(printed):
+    """The answers that the driver printed, and the places of those in which a call of a device failed."""
+    answers = printed.decode().split("\n")[:-1]
+    return answers, [place for place, text in enumerate(answers) if text.endswith(" !")]
 
 
 def judge(some, answers, may):
@@ -194,7 +237,7 @@ def judge(some, answers, may):
         raise Otherwise(f"{len(answers)} answers to {len(some.events)} calls")
     worlds = [World()]
     for place, (event, answer) in enumerate(zip(some.events, answers)):
-        if event[0] == "reopen":
+        if event[0] in ("reopen", "left"):
             worlds = [other for world in worlds for other in world.settled()]
         agreeing, first = [], None
         for world in worlds:
@@ -218,29 +261,32 @@ def is_refusal(answer):
 def may_of(device):
     """The words for a failed call of this device."""
     return {"reader": {"reader", "read"}, "courier": {"reader", "courier"}, "supplier": {"reader", "supplier"}, "sink": {"sink"},
-            "tree": {"tree", "files"}, "keeper": {"store"}, "writer": {"writer"}}[device]
+            "tree": {"tree", "files"}, "writer": {"writer"}, **dict.fromkeys([*KEEPER, *FILES], {"store"})}[device]
 
 
 def memory_of(keeper, word):
     """The words for a refused request. The files of a database, and those of a sink, are in memory: if they can't grow, these fail."""
-    return {"memory"} | ({"store"} if keeper == "sqlite" else set()) | ({"sink"} if "sink" in USES.get(word, []) else set())
+    return {"memory"} | ({"store"} if keeper in ("sqlite", "files") else set()) | ({"sink"} if "sink" in USES.get(word, []) else set())
 
 
-def main(driver, program, library):
+def main(driver, program, library, is_all=False):
     with tempfile.TemporaryDirectory() as folder:
-        runs, names = Runs(os.path.abspath(driver), os.path.abspath(library), folder), []
+        runs, names = Runs(os.path.abspath(driver), os.path.abspath(library), folder, is_all), []
         for some in lists():
             names.append(some.name)
+            runs.turn += 1
             runs.all_of(some)
         for some in stores():
             names.append(some.name)
             runs.write(some)
             runs.attempt(some, "breaking", "store", runs.given)
         runs.read_words(os.path.abspath(program))
+    runs.faults += runs.unrefused()
+    names = list(dict.fromkeys(names))
     for name in names:
         print(f"{name}: " + ", ".join(f"{count} {what} over {keeper}" for (what, which, keeper), count in runs.counts.items() if which == name))
     print(*runs.faults, sep="\n", end="\n" if runs.faults else "")
-    kinds = ["memory", "words", "store", "keeper", *DEVICES]
+    kinds = ["memory", "words", "store", *KEEPER, *FILES, *DEVICES]
     failed = ", ".join(f"{runs.number_of(device)} of a {device}" for device in kinds[3:])
     print(f"{len(names)} lists of calls: {runs.number_of('memory')} requests for memory refused, of which {runs.told} are told, and calls failed: {failed};"
           f" {runs.number_of('store')} calls of a store gave something else;"
@@ -249,4 +295,5 @@ def main(driver, program, library):
 
 
 if __name__ == "__main__":
-    sys.exit(main(*sys.argv[1:]))
+    words = sys.argv[1:]
+    sys.exit(main(*words[1:], is_all=True) if words[0] == "--all" else main(*words))

@@ -6,9 +6,14 @@ in which the store failed was done, or not.
 
 tests/refusals.py describes the calls and their answers.
 """
+import contextlib
 import copy
+import functools
 import hashlib
+import pathlib
 import re
+import sqlite3
+import tempfile
 
 import feeds
 import new_bags
@@ -16,6 +21,7 @@ import reference
 import reference_receiver
 from reference_receiver import Refused, printed
 from small_bags import DECLARATION
+from stops import known, ledger_of, rows
 
 ALGORITHMS = list(map(bytes.decode, reference.ALGORITHMS))
 NO_MEMORY = "refused: memory"
@@ -28,6 +34,28 @@ class Otherwise(Exception):
 def shown(has_directory, files):
     """The payload directory and the files as parts of an answer."""
     return ["data/"] * has_directory + [f"{path.hex()} {files[path].hex()}" for path in sorted(files)]
+
+
+@functools.lru_cache(maxsize=4)
+def held_in(log, database):
+    """The number of the format and the ledger that sqlite3 finds in these two files, which are given in hex; 0 and None if there are no tables."""
+    octets = unhexed(database)
+    # The first page of a new database is written with another first octet, which sqlite3 doesn't accept, and that octet comes last.
+    if octets[:16] == b"\0QLite format 3\0" and len(octets) <= 4_096:
+        return 0, None
+    with tempfile.TemporaryDirectory() as folder:
+        file = pathlib.Path(folder) / "ledger"
+        file.write_bytes(octets)
+        file.with_name("ledger-wal").write_bytes(unhexed(log))
+        with contextlib.closing(sqlite3.connect(file)) as opened:
+            opened.execute("PRAGMA synchronous = OFF")
+            ask = lambda text, *fields: opened.execute(text, fields).fetchall()
+            ledger = rows(ask)
+            return (0 if ledger is None else ask("SELECT v FROM meta")[0][0]), ledger
+
+
+def unhexed(field):
+    return bytes.fromhex(field.removeprefix("-"))
 
 
 class Tree(reference_receiver.HeldBag):
@@ -45,6 +73,8 @@ class World:
         self.receiver, self.is_spent, self.may = reference_receiver.Receiver(), False, []
         # The call in which the store failed, and whether a refusal was answered.
         self.doubt, self.has_refused = None, False
+        # The format of the ledger, if it is in files, of which there is none before it is made; or a database that is no ledger.
+        self.formats, self.alien, self.due = {0}, None, "opened"
         self.clear()
 
     def clear(self):
@@ -91,16 +121,44 @@ class World:
     # OPENING
 
     def judge_start(self, _, __, answer):
-        self.receiver, self.doubt = reference_receiver.Receiver(), None
+        self.receiver, self.doubt, self.formats = reference_receiver.Receiver(), None, {0}
         self.opened(answer, "started")
 
+    def judge_load(self, due, files, answer):
+        """The database of a file, with what is due if it is opened."""
+        [(_, octets)] = files
+        self.due = due.decode()
+        if self.due == "opened":
+            number, ledger = held_in("", octets.hex())
+            self.receiver, self.doubt, self.formats = known(ledger), None, {number}
+        else:
+            self.alien = octets
+        self.opened(answer, self.due)
+
     def judge_reopen(self, _, __, answer):
-        self.opened(answer, "opened")
+        self.opened(answer, self.due)
 
     def opened(self, answer, due):
+        """A ledger that is opened is of format 2. If it was refused, it may be."""
         self.is_spent = False
         self.same(answer, due)
         self.is_spent = False
+        self.formats = {2} if answer == due else self.formats | {2}
+
+    def judge_left(self, _, __, answer):
+        """What sqlite3 finds in the files of the ledger, if it is in files, once it was left as a program does that stops."""
+        self.is_spent = False
+        word, *files = answer.split(" ")
+        if word != "left" or files and self.alien is not None and unhexed(files[1]) != self.alien:
+            raise Otherwise(f"{answer[:300]!r}: what is no ledger was written")
+        if not files or self.alien is not None:
+            return
+        try:
+            number, ledger = held_in(*files)
+        except (AssertionError, sqlite3.Error, ValueError) as fault:
+            raise Otherwise(f"sqlite3 finds {fault!r} in what is left") from fault
+        if number not in self.formats or (ledger or {}) != ledger_of(self.receiver):
+            raise Otherwise(f"what is left has format {number} and {ledger!r:.300}")
 
     def judge_adopt(self, _, __, answer):
         self.same(answer, "refused: not a ledger")

@@ -14,6 +14,16 @@ pub enum Device {
     Tags,
     /// A keeper that gives no octets of a payload file, where it would give a piece.
     Piece,
+    /// The reads of pieces of a keeper.
+    Reading,
+    /// The log of a ledger in files.
+    Log,
+    /// The database of a ledger in files.
+    Database,
+    /// Both files: from the call that fails on each call does, until the ledger is opened again.
+    Stop,
+    /// The same, and only what a sync had reached is left of the files.
+    Cut,
     Writer,
 }
 
@@ -29,6 +39,11 @@ impl Device {
             "keeper" => Some(Device::Keeper),
             "tags" => Some(Device::Tags),
             "piece" => Some(Device::Piece),
+            "reading" => Some(Device::Reading),
+            "log" => Some(Device::Log),
+            "database" => Some(Device::Database),
+            "stop" => Some(Device::Stop),
+            "cut" => Some(Device::Cut),
             "writer" => Some(Device::Writer),
             _ => None,
         }
@@ -42,6 +57,8 @@ pub struct Breaker {
     // how many calls there are up to the one that fails; 0 if none does
     left: Cell<u64>,
     has_broken: Cell<bool>,
+    // whether each call of a file fails
+    is_stopped: Cell<bool>,
 }
 
 impl Breaker {
@@ -51,6 +68,7 @@ impl Breaker {
             device,
             left: Cell::new(number),
             has_broken: Cell::new(false),
+            is_stopped: Cell::new(false),
         }
     }
 
@@ -70,6 +88,21 @@ impl Breaker {
             self.has_broken.set(true);
         }
         left == 1
+    }
+
+    /// Counts a call of this file of a ledger. Returns whether it fails.
+    pub fn breaks_file(&self, file: Device) -> bool {
+        if self.is_stopped.get() {
+            return true;
+        }
+        let stops = self.breaks(Device::Stop) || self.breaks(Device::Cut);
+        self.is_stopped.set(stops);
+        stops || self.breaks(file)
+    }
+
+    /// Lets the files work again. Returns whether they have lost what no sync had reached.
+    pub fn restart(&self) -> bool {
+        self.is_stopped.replace(false) && self.device == Some(Device::Cut)
     }
 
     /// Whether a call has failed since this was asked last.

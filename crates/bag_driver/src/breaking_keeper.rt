@@ -8,19 +8,28 @@ use std::alloc::Global;
 
 /// A store that fails at one of the calls that a breaker counts, and from then on.
 #[derive(Drop)]
-struct Store<'a> {
+pub struct Failing<'a> {
     breaker: &'a Breaker,
-    is_spent: bool,
-    failures: u64,
+    pub is_spent: bool,
+    pub failures: u64,
 }
 
-impl<'a> Store<'a> {
+impl<'a> Failing<'a> {
     ghost use Rattle.std.specs.Prelude.{◌≡◌, ◌↔◌, IsTrue, MatchResult, false};
     ghost use Rattle.bag_digest.specs.Failures.{Rises};
     ghost use Rattle.bag_ledger.specs.declared.keeper_faults.StoreFault.TheVariants.{Spent};
 
+    /// A store that has not failed.
+    pub fn new(breaker: &'a Breaker) -> Failing<'a> {
+        Failing {
+            breaker,
+            is_spent: false,
+            failures: 0,
+        }
+    }
+
     /// Counts a call, which succeeds or fails.
-    fn take(&mut self) -> Result<(), StoreFault>
+    pub fn take(&mut self) -> Result<(), StoreFault>
         ensures { MatchResult result
             (λ done. (self.old.is_spent ≡ false) × (self.new.is_spent ≡ false)
             × (self.new.failures ≡ self.old.failures))
@@ -33,8 +42,22 @@ impl<'a> Store<'a> {
         Err(self.refuse())
     }
 
+    /// Counts a read of a piece, which succeeds or fails.
+    fn take_piece(&mut self) -> Result<(), StoreFault>
+        ensures { MatchResult result
+            (λ done. (self.old.is_spent ≡ false) × (self.new.is_spent ≡ false)
+            × (self.new.failures ≡ self.old.failures))
+            (λ fault. IsTrue self.new.is_spent × Rises self.old.failures self.new.failures
+            × ((fault ≡ Spent) ↔ IsTrue self.old.is_spent)) }
+    {
+        if self.breaker.breaks(Device::Reading) {
+            return Err(self.refuse());
+        }
+        self.take()
+    }
+
     /// The answer to a call that fails.
-    fn refuse(&mut self) -> StoreFault
+    pub fn refuse(&mut self) -> StoreFault
         ensures { IsTrue self.new.is_spent × Rises self.old.failures self.new.failures
             × ((result ≡ Spent) ↔ IsTrue self.old.is_spent) }
     {
@@ -54,18 +77,14 @@ impl<'a> Store<'a> {
 #[derive(Drop)]
 pub struct BreakingKeeper<'a> {
     inside: MapKeeper,
-    store: Store<'a>,
+    store: Failing<'a>,
 }
 
 impl<'a> BreakingKeeper<'a> {
     pub fn new(inside: MapKeeper, breaker: &'a Breaker) -> BreakingKeeper<'a> {
         BreakingKeeper {
             inside,
-            store: Store {
-                breaker,
-                is_spent: false,
-                failures: 0,
-            },
+            store: Failing::new(breaker),
         }
     }
 
@@ -155,7 +174,7 @@ impl Keeper for BreakingKeeper<'_> {
         offset: u64,
         buf: &mut [u8],
     ) -> Result<usize, KeepFault> {
-        match self.store.take() {
+        match self.store.take_piece() {
             Ok(()) if self.store.breaker.breaks(Device::Piece) => Ok(0),
             Ok(()) => self.inside.read_piece(alloc, name, path, offset, buf),
             Err(fault) => Err(KeepFault::Store(fault)),

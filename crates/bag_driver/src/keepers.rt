@@ -1,13 +1,16 @@
 //! The keepers of ledgers in memory, which can be closed and opened again.
-use crate::breaker::Breaker;
+use crate::breaker::{Breaker, Device};
+use crate::breaking_file::MemoryFile;
 use crate::breaking_keeper::BreakingKeeper;
+use crate::file_keeper::FileKeeper;
 use crate::lines::bad_line;
-use crate::opening::opened;
+use crate::opening::{abandoned_in, closed_in, opened, opened_in};
+use crate::shown::write_field;
 use bag_ledger::{Keeper, MapKeeper};
 use bag_sqlite::{AdoptFault, SqlKeeper};
-use sqlite::{Connection, MemStore};
+use sqlite::{Connection, Files, MemStore};
 use std::alloc::Global;
-use std::io;
+use std::io::{self, Write};
 
 /// A keeper of a ledger in memory, which can be closed and opened again.
 pub trait Reopened<'a>: Keeper + Drop {
@@ -15,14 +18,14 @@ pub trait Reopened<'a>: Keeper + Drop {
     type Closed: Drop;
 
     /// Nothing, of which the first opening makes a ledger without transfers.
-    fn nothing(alloc: Global) -> Self::Closed;
+    fn nothing(alloc: Global, breaker: &'a Breaker) -> Self::Closed;
 
     /// The ledger in this file of a database.
     ///
     /// # Errors
     ///
     /// `InvalidData` if a ledger of this kind is in no file; or memory ran out.
-    fn in_file(alloc: Global, database: &[u8]) -> io::Result<Self::Closed>;
+    fn in_file(alloc: Global, breaker: &'a Breaker, database: &[u8]) -> io::Result<Self::Closed>;
 
     /// Opens the ledger. `seed` is another one each time.
     ///
@@ -38,16 +41,22 @@ pub trait Reopened<'a>: Keeper + Drop {
 
     /// Closes the ledger.
     fn into_closed(self) -> Self::Closed;
+
+    /// Leaves the ledger as a program does that stops.
+    fn into_left(self, breaker: &'a Breaker) -> Self::Closed;
+
+    /// Writes what the files of a ledger hold, if it is in files.
+    fn write_left<W: Write + Drop>(closed: &Self::Closed, out: &mut W) -> io::Result<()>;
 }
 
 impl<'a> Reopened<'a> for MapKeeper {
     type Closed = MapKeeper;
 
-    fn nothing(alloc: Global) -> MapKeeper {
+    fn nothing(alloc: Global, _breaker: &'a Breaker) -> MapKeeper {
         MapKeeper::new(alloc)
     }
 
-    fn in_file(_alloc: Global, _database: &[u8]) -> io::Result<MapKeeper> {
+    fn in_file(_alloc: Global, _breaker: &'a Breaker, _database: &[u8]) -> io::Result<MapKeeper> {
         Err(bad_line())
     }
 
@@ -63,16 +72,24 @@ impl<'a> Reopened<'a> for MapKeeper {
     fn into_closed(self) -> MapKeeper {
         self
     }
+
+    fn into_left(self, _breaker: &'a Breaker) -> MapKeeper {
+        self
+    }
+
+    fn write_left<W: Write + Drop>(_closed: &MapKeeper, _out: &mut W) -> io::Result<()> {
+        Ok(())
+    }
 }
 
 impl<'a> Reopened<'a> for BreakingKeeper<'a> {
     type Closed = MapKeeper;
 
-    fn nothing(alloc: Global) -> MapKeeper {
+    fn nothing(alloc: Global, _breaker: &'a Breaker) -> MapKeeper {
         MapKeeper::new(alloc)
     }
 
-    fn in_file(_alloc: Global, _database: &[u8]) -> io::Result<MapKeeper> {
+    fn in_file(_alloc: Global, _breaker: &'a Breaker, _database: &[u8]) -> io::Result<MapKeeper> {
         Err(bad_line())
     }
 
@@ -88,17 +105,29 @@ impl<'a> Reopened<'a> for BreakingKeeper<'a> {
     fn into_closed(self) -> MapKeeper {
         self.into_inside()
     }
+
+    fn into_left(self, _breaker: &'a Breaker) -> MapKeeper {
+        self.into_inside()
+    }
+
+    fn write_left<W: Write + Drop>(_closed: &MapKeeper, _out: &mut W) -> io::Result<()> {
+        Ok(())
+    }
 }
 
 impl<'a> Reopened<'a> for SqlKeeper<MemStore> {
     /// None before there is a database.
     type Closed = Option<Connection<MemStore>>;
 
-    fn nothing(_alloc: Global) -> Option<Connection<MemStore>> {
+    fn nothing(_alloc: Global, _breaker: &'a Breaker) -> Option<Connection<MemStore>> {
         None
     }
 
-    fn in_file(_alloc: Global, _database: &[u8]) -> io::Result<Option<Connection<MemStore>>> {
+    fn in_file(
+        _alloc: Global,
+        _breaker: &'a Breaker,
+        _database: &[u8],
+    ) -> io::Result<Option<Connection<MemStore>>> {
         Err(bad_line())
     }
 
@@ -123,5 +152,75 @@ impl<'a> Reopened<'a> for SqlKeeper<MemStore> {
 
     fn into_closed(self) -> Option<Connection<MemStore>> {
         Some(self.release())
+    }
+
+    fn into_left(self, _breaker: &'a Breaker) -> Option<Connection<MemStore>> {
+        Some(self.release())
+    }
+
+    fn write_left<W: Write + Drop>(
+        _closed: &Option<Connection<MemStore>>,
+        _out: &mut W,
+    ) -> io::Result<()> {
+        Ok(())
+    }
+}
+
+impl<'a> Reopened<'a> for FileKeeper<'a> {
+    type Closed = Files<MemoryFile<'a>>;
+
+    fn nothing(alloc: Global, breaker: &'a Breaker) -> Files<MemoryFile<'a>> {
+        Files {
+            log: MemoryFile::empty(alloc, breaker, Device::Log),
+            db: MemoryFile::empty(alloc, breaker, Device::Database),
+        }
+    }
+
+    fn in_file(
+        alloc: Global,
+        breaker: &'a Breaker,
+        database: &[u8],
+    ) -> io::Result<Files<MemoryFile<'a>>> {
+        Ok(Files {
+            log: MemoryFile::empty(alloc, breaker, Device::Log),
+            db: MemoryFile::holding(alloc, breaker, Device::Database, database)?,
+        })
+    }
+
+    fn opened_from(
+        alloc: Global,
+        closed: Files<MemoryFile<'a>>,
+        breaker: &'a Breaker,
+        seed: u64,
+    ) -> Result<Self, (AdoptFault, Files<MemoryFile<'a>>)> {
+        let keeper = opened_in(alloc, restarted(closed, breaker), seed)?;
+        Ok(FileKeeper::new(keeper, breaker))
+    }
+
+    /// If the log can't be copied into the database, it stays.
+    fn into_closed(self) -> Files<MemoryFile<'a>> {
+        let (files, _) = closed_in(self.into_inside());
+        files
+    }
+
+    fn into_left(self, breaker: &'a Breaker) -> Files<MemoryFile<'a>> {
+        restarted(abandoned_in(self.into_inside()), breaker)
+    }
+
+    fn write_left<W: Write + Drop>(closed: &Files<MemoryFile<'a>>, out: &mut W) -> io::Result<()> {
+        write!(out, " ")?;
+        write_field(closed.log.octets(), out)?;
+        write!(out, " ")?;
+        write_field(closed.db.octets(), out)
+    }
+}
+
+/// The files after a stop.
+fn restarted<'a>(files: Files<MemoryFile<'a>>, breaker: &'a Breaker) -> Files<MemoryFile<'a>> {
+    let is_cut = breaker.restart();
+    let Files { log, db } = files;
+    Files {
+        log: log.restarted(is_cut),
+        db: db.restarted(is_cut),
     }
 }

@@ -19,8 +19,8 @@
 //! `bag_driver calls KEEPER` makes the calls on standard input, as described in `tests/deliveries.py`, `tests/new_bags.py` and
 //! `tests/refusals.py`, with the keeper `map` or `sqlite`, both in memory. The status is 0 if each line was answered.
 //!
-//! `bag_driver refusals KEEPER MOST DEVICE NUMBER` makes at most MOST of these calls, with the keeper `map`, `sqlite` or
-//! `breaking`, and lets one call of all devices of a kind fail, that with this number; `tests/refusals.py` describes it.
+//! `bag_driver refusals KEEPER MOST DEVICE NUMBER` makes at most MOST of these calls, with the keeper `map`, `sqlite`,
+//! `files` or `breaking`, and lets one call of all devices of a kind fail, that with this number; `tests/refusals.py` describes it.
 //!
 //! `bag_driver feeds` reads the tag files that standard input gives it in pieces, as described in `tests/feeds.py`. The
 //! status is 0 if each line was answered.
@@ -44,6 +44,7 @@ use stopped::{Calls, stop};
 
 mod breaker;
 mod breaking;
+mod breaking_file;
 mod breaking_keeper;
 mod bringing;
 mod commanding;
@@ -51,7 +52,7 @@ mod deliveries;
 mod drafting;
 mod event;
 mod feeding;
-mod fused;
+mod file_keeper;
 mod keepers;
 mod lines;
 mod listing;

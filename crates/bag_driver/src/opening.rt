@@ -1,6 +1,8 @@
 //! Opens databases as ledgers.
 use bag_sqlite::{AdoptFault, NotAdopted, NotCreated, SqlKeeper};
-use sqlite::{Alter, Connection};
+use sqlite::{Alter, Connection, FileStore, Files, Options};
+use sqlite_disk::Disk;
+use std::alloc::Global;
 
 /// Opens the ledger in this database. If it has no tables, makes a ledger without transfers.
 ///
@@ -47,6 +49,42 @@ pub fn adopted<S: Alter + Drop>(
         Ok(keeper) => Ok(keeper),
         Err(NotAdopted { fault, connection }) => Err((fault, connection)),
     }
+}
+
+/// Opens the ledger in these files. If they have no tables, makes a ledger without transfers. `seed` is for the log,
+/// and each opening of the same files needs another one.
+///
+/// # Errors
+///
+/// The fault, with the files.
+pub fn opened_in<D: Disk + Drop>(
+    alloc: Global,
+    files: Files<D>,
+    seed: u64,
+) -> Result<SqlKeeper<FileStore<D>>, (AdoptFault, Files<D>)> {
+    if !files.may_be_used() {
+        return Err((AdoptFault::NotALedger, files));
+    }
+    match Connection::open_files(alloc, files, Options::new(seed)) {
+        Ok(connection) => match opened(connection) {
+            Ok(keeper) => Ok(keeper),
+            Err((fault, connection)) => Err((fault, connection.into_store().close())),
+        },
+        Err((error, left)) => Err((AdoptFault::from(error), left.into_files())),
+    }
+}
+
+/// Closes the ledger, which copies its log into the database. Returns the files, and whether that succeeded.
+pub fn closed_in<D: Disk + Drop>(keeper: SqlKeeper<FileStore<D>>) -> (Files<D>, bool) {
+    match keeper.release().close_files() {
+        Ok(files) => (files, true),
+        Err((_, store)) => (store.close(), false),
+    }
+}
+
+/// Gives the ledger up, and copies nothing. Returns the files.
+pub fn abandoned_in<D: Disk + Drop>(keeper: SqlKeeper<FileStore<D>>) -> Files<D> {
+    keeper.release().into_store().close()
 }
 
 /// Why a database wasn't opened as a ledger.

@@ -3,6 +3,7 @@
 use crate::breaker::{Breaker, Device};
 use crate::breaking_keeper::BreakingKeeper;
 use crate::event::Event;
+use crate::file_keeper::FileKeeper;
 use crate::keepers::Reopened;
 use crate::lines::{answer_lines, read_lines};
 use crate::world::World;
@@ -48,6 +49,7 @@ pub fn answer_refused<W: Write + Drop>(
     match keeper.as_str() {
         "map" => answer_all::<MapKeeper, W>(alloc, &breaker, events, most, out)?,
         "sqlite" => answer_all::<SqlKeeper<MemStore>, W>(alloc, &breaker, events, most, out)?,
+        "files" => answer_all::<FileKeeper<'_>, W>(alloc, &breaker, events, most, out)?,
         "breaking" => answer_all::<BreakingKeeper<'_>, W>(alloc, &breaker, events, most, out)?,
         _ => return Ok(64),
     }

@@ -1,13 +1,19 @@
 //! Work on a ledger that stops at a call of one of its two files, for `tests/stops.py`.
-use crate::fused::{Fused, FusedKeeper, close, open};
 use crate::lines::answer_lines;
+use crate::opening::{closed_in, opened_in};
 use bag_ledger::Keeper;
 use bag_receiver::Receiver;
 use bag_sqlite::SqlKeeper;
-use sqlite::{Alter, Files};
+use sqlite::{Alter, FileStore, Files};
 use sqlite_disk::{Crash, Disk, Fuse, Memory};
 use std::fs;
 use std::io::{self, ErrorKind, Write};
+
+/// The files of a database, which stop working after some calls.
+type Fused = Files<Fuse<Memory>>;
+
+/// The keeper of a ledger in such files.
+type FusedKeeper = SqlKeeper<FileStore<Fuse<Memory>>>;
 
 /// How many calls the log and the database accept before they fail.
 #[derive(Clone, Copy)]
@@ -62,7 +68,7 @@ fn work<W: Write + Drop>(
     seed: u64,
     out: &mut W,
 ) -> io::Result<Fused> {
-    match open(rt.alloc(), files, seed) {
+    match opened_in(rt.alloc(), files, seed) {
         Ok(keeper) => work_in(rt, keeper, out),
         Err((fault, left)) => {
             writeln!(out, "{fault}")?;
@@ -78,7 +84,7 @@ fn work_in<W: Write + Drop>(
     out: &mut W,
 ) -> io::Result<Fused> {
     let (keeper, answered) = answer_in(rt, keeper, out);
-    let (left, is_closed) = close(keeper);
+    let (left, is_closed) = closed_in(keeper);
     answered?;
     writeln!(out, "{}", if is_closed { "closed" } else { "not closed" })?;
     Ok(left)

@@ -43,7 +43,7 @@ impl<'a, K: Reopened<'a>> World<'a, K> {
     pub fn store(&mut self, alloc: Global, event: &Event<'_>) -> io::Result<()> {
         if event.word == "load" {
             let (_, database) = event.file()?;
-            self.stored = Some(K::in_file(alloc, database)?);
+            self.stored = Some(K::in_file(alloc, self.breaker, database)?);
         }
         Ok(())
     }
@@ -58,7 +58,7 @@ impl<'a, K: Reopened<'a>> World<'a, K> {
         match event.word {
             "start" => {
                 self.receiver = None;
-                self.closed = Some(K::nothing(alloc));
+                self.closed = Some(K::nothing(alloc, self.breaker));
                 self.open(alloc, "started", out)
             }
             "load" => {
@@ -67,6 +67,7 @@ impl<'a, K: Reopened<'a>> World<'a, K> {
                 self.open(alloc, "opened", out)
             }
             "reopen" => self.open(alloc, "opened", out),
+            "left" => self.leave(out),
             "adopt" => adopt_nothing(alloc, out),
             word if Draft::has_word(word) => self.draft.answer(alloc, event, self.breaker, out),
             word if is_on_ledger(word) => self.call_on_ledger(alloc, event, out),
@@ -95,14 +96,30 @@ impl<'a, K: Reopened<'a>> World<'a, K> {
         }
     }
 
+    /// Leaves the ledger if it is open, as a program does that stops, and shows what its files hold.
+    fn leave<W: Write + Drop>(&mut self, out: &mut W) -> io::Result<()> {
+        if let Some(receiver) = self.receiver.take() {
+            self.closed = Some(receiver.into_keeper().into_left(self.breaker));
+        }
+        write!(out, "left")?;
+        match &self.closed {
+            Some(closed) => K::write_left(closed, out),
+            None => Err(bad_line()),
+        }
+    }
+
+    /// A ledger that isn't open is opened first.
     fn call_on_ledger<W: Write + Drop>(
         &mut self,
         alloc: Global,
         event: Event<'_>,
         out: &mut W,
     ) -> io::Result<()> {
+        if self.receiver.is_none() {
+            self.open(alloc, "", out)?;
+        }
         let Some(receiver) = &mut self.receiver else {
-            return Err(bad_line());
+            return Ok(());
         };
         if event.word.ends_with("-to") {
             command_on(alloc, receiver, &mut self.draft, event, self.breaker, out)
