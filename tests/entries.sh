@@ -375,7 +375,7 @@ as=(nobody "$work/program")
 expect 'as nobody: a transfer' 0 new "${as[@]}" begin "$open/ledger" t1 "$work/tags"
 locked
 expect 'as nobody: nothing is locked' 1 $'manifest-sha256.txt: unlisted: data/k/f\nnot complete' "${as[@]}" check "$place"
-for name in . data data/k tags tags/k 111=. 111=data/k 111=tags; do
+for name in . data data/k tags tags/k 111=. 111=data/k 111=tags 444=tags; do
     locked "$name"
     keeps "check with a locked folder $name" 3 'bag: files' "${as[@]}" check "$place"
     keeps "make with a locked folder $name" 3 'bag: files' "${as[@]}" make "$place" "$open/new" md5

@@ -58,6 +58,10 @@ mkfifo "$work/pipe"
 explain 'a fifo for a ledger' 3 "bag: $work/pipe: it is not a file that can be a database" bag list "$work/pipe"
 printf S >"$work/octet"
 explain 'one octet for a ledger' 3 "bag: $work/octet: it is not a file that can be a database" bag list "$work/octet"
+for length in 2 99; do
+    head -c "$length" /dev/zero >"$work/short"
+    explain "$length octets for a ledger" 3 "bag: $work/short: it is not a database" bag list "$work/short"
+done
 seq 9999 >"$work/text"
 explain 'a text for a ledger' 3 "bag: $work/text: it is not a database" bag list "$work/text"
 explain 'begin: a text for a ledger' 3 "bag: $work/text: it is not a database" bag begin "$work/text" t1 examples/first-bag
@@ -162,6 +166,9 @@ explain 'make: a folder that may not be written' 3 "bag: $work/there/made: $deni
 new large
 head -c 16777217 /dev/zero | tr '\0' A >"$work/large/bagit.txt"
 explain 'a tag file past the limit' 3 "bag: $work/large/bagit.txt: it has more than 16,777,216 octets" bag check "$work/large"
+mv "$work/large" "$work/large%"$'\n'
+explain 'a tag file past the limit, in a folder with control characters' 3 "bag: $work/large%25%0A/bagit.txt: it has more than 16,777,216 octets" \
+    bag check "$work/large%"$'\n'
 cp -r examples/empty-payload "$work/lines"
 mkdir -p "$work/lines/data"
 yes '' | head -n 100001 >"$work/lines/manifest-sha256.txt"
@@ -169,6 +176,12 @@ explain 'lines past the limit' 3 "bag: $work/lines/manifest-sha256.txt: it has m
 mkdir "$work/files"
 (cd "$work/files" && seq 200001 | xargs touch)
 explain 'files past the limit' 3 "bag: $work/files: it has more than 200,000 files" bag check "$work/files"
+
+# The root of the system, in which something is no part of a bag; which of these is told first depends on the system.
+below_root() {
+    timeout 120 "$program" check / 2>&1 >/dev/null | sed 's|^bag: //[^/:][^:]*: .*|something below it|'
+}
+expect 'the root of the system' 0 'something below it' below_root
 
 # Limits of make, and of intake.
 explain 'make: files past the limit' 1 "bag: $work/files: it has more than 100,000 files" bag make "$work/files" "$work/made" md5

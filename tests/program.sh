@@ -90,6 +90,14 @@ begin: The folder with the tag files
 intake: The folders with the files, each at its path in the bag
 fetch: The folder with the files, each at its path in the bag
 export: The folder for the bag, which must not exist yet' folders
+# What LEDGER and NAME are, which each command on ledgers says alike.
+ledgers_and_names() {
+    for command in begin intake report audit fetch export list; do
+        bag "$command" --help | sed -n 's/^  <\(LEDGER\|NAME\)> */\1: /p'
+    done | sort | uniq -c | sed 's/^ *//'
+}
+expect 'the ledger and the name of each command' 0 '7 LEDGER: The file of the ledger
+6 NAME: The name of the transfer: 1 to 64 characters of a to z, 0 to 9 and -' ledgers_and_names
 
 expect 'a folder after the mark' 0 valid bag check -- examples/first-bag
 expect 'a folder before the mark' 0 valid bag check examples/first-bag --

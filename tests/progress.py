@@ -245,6 +245,12 @@ def many_files(place):
     both(place, [Work("fetching", None, lengths)], "fetch", str(ledger), "t", str(base), again=fetch)
     anew()
     both(place, [Work("taking in", FILES, lengths)], "intake", str(ledger), "t", str(base), again=anew)
+    # The same with files of one octet, whose paths have more: these are not read.
+    wide = place.work / "wide"
+    bag(wide, {f"data/{'w' * 200}{number:04}": b"w" for number in range(FILES)})
+    again = lambda: anew(wide)
+    again()
+    both(place, [Work("taking in", FILES, [1] * FILES)], "intake", str(ledger), "t", str(wide), again=again)
     # The same from two folders.
     anew()
     halves = [place.work / "half 1", place.work / "half 2"]

@@ -18,7 +18,7 @@ Each part is `refused: memory` if memory ran out, and `refused: store`, `reader`
     start                    `started`; the ledger is made
     reopen                   `opened`; the ledger is closed, if it is open, and opened, or made if it could not be made
     load DUE FILE            the database in this file is opened as a ledger: `opened`, or `refused: ..`, as DUE says
-    left                     `left`, and what the two files of the ledger hold, in hex, once it was left as a program does that stops
+    left                     `left`, and what the two files of the ledger hold, in hex, with `(N)` for N zeros, once it was left as a program does that stops
     adopt                    a database without tables is opened as a ledger: `refused: not a ledger`
     begin, deliver, read, run, bring, report, audit, names     as in tests/deliveries.py
     fetch NAME FILES         for each line that is asked for its number, the path and the answer; then `done`. The supplier has these files
@@ -48,7 +48,7 @@ DEVICES = ["tree", "sink", "reader", "courier", "supplier", "writer"]
 # written, or as they were when a sync had ended.
 KEEPER, FILES = ["keeper", "reading"], ["log", "database", "stop", "cut"]
 NEVER = 10**6
-# More requests for memory may not be made by one list; a longer list is cut in two.
+# More requests for memory may not be made by a list; a longer one is cut in two, down to a single call.
 MOST = 1000
 # How far apart the calls are that fail of the log, or of both files, in a list over files that isn't short.
 STRIDE = 23
@@ -60,6 +60,8 @@ USES = {"read": ["reader"], "digest": ["reader"], "bring": ["courier"], "fetch":
 OF_KEEPERS = ["begin", "deliver", "read", "run", "bring", "report", "audit", "names", "fetch", "export"]
 # What reads the pieces of payload files.
 OF_PIECES = ["audit", "export", "audit-to", "export-to"]
+# What leaves the ledger as it is.
+READING = ["report", "audit", "names", "export", "report-to", "audit-to", "list-to", "export-to"]
 OF_COMMANDS = [word for word in USES if word.endswith("-to")]
 # Words for the program in a folder without any file, with the status and the line; any line if it is None.
 WORDS = [([], 64, "bag: check, make, begin, intake, report, audit, fetch, export, list"), (["check", "d"], 3, "bag: files"),
@@ -127,8 +129,10 @@ class Runs:
             self.attempt(some, keeper, "memory", self.refuse_each)
             for device in [*DEVICES, *FILES * (keeper == "files")] if some.broken[1] == 0 else []:
                 self.attempt(some, keeper, device, self.fail_each)
-        for device in KEEPER if some.broken[1] == 0 and "map" in some.keepers and ("reopen",) in some.events else []:
-            self.attempt(some, "breaking", device, self.fail_each)
+        if some.broken[1] == 0 and "map" in some.keepers and ("reopen",) in some.events:
+            self.attempt(some, "breaking", "memory", self.refuse_each)
+            for device in KEEPER:
+                self.attempt(some, "breaking", device, self.fail_each)
 
     def attempt(self, some, keeper, what, work):
         try:
@@ -149,7 +153,7 @@ class Runs:
         for most in range(some.first, some.last + 1):
             self.run(keeper, some.broken, most=most)
             bounds.append(self.asked())
-        if bounds[-1] - bounds[0] > MOST:
+        if bounds[-1] - bounds[0] > MOST and len(bounds) > 2:
             raise Otherwise(f"{bounds[-1] - bounds[0]} requests for memory are more than {MOST}")
         for number, answers, marks in self.run_each(keeper, some.broken, bounds[0] + 1, bounds[-1]):
             place = some.first + bisect.bisect_left(bounds, number) - 1
@@ -167,6 +171,7 @@ class Runs:
 
     def fail_each(self, some, keeper, device):
         """Lets each call of a device fail."""
+        whole, _ = self.run(keeper, some.broken)
         step = STRIDE if device in FILES and device != "database" and not some.is_short and not self.is_all else 1
         for number in range(1 + self.turn % step, NEVER, step):
             answers, marks = self.run(keeper, (device, number))
@@ -177,6 +182,8 @@ class Runs:
                 [met] = marks
                 if device == "reading" and some.events[met][0] not in OF_PIECES:
                     raise Otherwise("a piece is read")
+                if device == "writer" and not octets_in(whole[met]).startswith(octets_in(answers[met])):
+                    raise Otherwise(f"{answers[met]!r} has what was not due, or was printed after the write that failed")
                 judge(some, answers, {met: [may_of(device)]})
             except Otherwise as otherwise:
                 raise Otherwise(f"call {number}, in {some.events[marks[0]][0]}: {otherwise}") from None
@@ -231,6 +238,11 @@ def marked(printed):
     return answers, [place for place, text in enumerate(answers) if text.endswith(" !")]
 
 
+def octets_in(answer):
+    """What a command printed, in hex."""
+    return answer.removesuffix(" !").partition(" | ")[0].partition(" ")[2]
+
+
 def judge(some, answers, may):
     """Judges the answers to a list. `may` has the words of each refusal that was met in a call, by its place. Returns whether a refusal was answered."""
     if len(answers) != len(some.events):
@@ -266,7 +278,8 @@ def may_of(device):
 
 def memory_of(keeper, word):
     """The words for a refused request. The files of a database, and those of a sink, are in memory: if they can't grow, these fail."""
-    return {"memory"} | ({"store"} if keeper in ("sqlite", "files") else set()) | ({"sink"} if "sink" in USES.get(word, []) else set())
+    grows = keeper in ("sqlite", "files") and word not in READING
+    return {"memory"} | ({"store"} if grows else set()) | ({"sink"} if "sink" in USES.get(word, []) else set())
 
 
 def main(driver, program, library, is_all=False):

@@ -38,7 +38,7 @@ def shown(has_directory, files):
 
 @functools.lru_cache(maxsize=4)
 def held_in(log, database):
-    """The number of the format and the ledger that sqlite3 finds in these two files, which are given in hex; 0 and None if there are no tables."""
+    """The number of the format and the ledger that sqlite3 finds in these two files, which are given as `unhexed` takes them; 0 and None if there are no tables."""
     octets = unhexed(database)
     # The first page of a new database is written with another first octet, which sqlite3 doesn't accept, and that octet comes last.
     if octets[:16] == b"\0QLite format 3\0" and len(octets) <= 4_096:
@@ -55,7 +55,8 @@ def held_in(log, database):
 
 
 def unhexed(field):
-    return bytes.fromhex(field.removeprefix("-"))
+    """The octets of a field in hex, in which zeros that follow each other are a number in parentheses; `-` if there are none."""
+    return bytes.fromhex(re.sub(r"\((\d+)\)", lambda zeros: "00" * int(zeros[1]), field.removeprefix("-")))
 
 
 class Tree(reference_receiver.HeldBag):

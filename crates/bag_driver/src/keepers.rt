@@ -5,12 +5,15 @@ use crate::breaking_keeper::BreakingKeeper;
 use crate::file_keeper::FileKeeper;
 use crate::lines::bad_line;
 use crate::opening::{abandoned_in, closed_in, opened, opened_in};
-use crate::shown::write_field;
+use crate::shown::write_sparse;
 use bag_ledger::{Keeper, MapKeeper};
 use bag_sqlite::{AdoptFault, SqlKeeper};
-use sqlite::{Connection, Files, MemStore};
+use sqlite::{Connection, Files, MemStore, Options};
 use std::alloc::Global;
 use std::io::{self, Write};
+
+/// How many pages of its files a ledger keeps at hand. Each is a request for memory, so there are few.
+const CACHE_PAGES: usize = 16;
 
 /// A keeper of a ledger in memory, which can be closed and opened again.
 pub trait Reopened<'a>: Keeper + Drop {
@@ -193,7 +196,9 @@ impl<'a> Reopened<'a> for FileKeeper<'a> {
         breaker: &'a Breaker,
         seed: u64,
     ) -> Result<Self, (AdoptFault, Files<MemoryFile<'a>>)> {
-        let keeper = opened_in(alloc, restarted(closed, breaker), seed)?;
+        let mut options = Options::new(seed);
+        options.cache_pages = CACHE_PAGES;
+        let keeper = opened_in(alloc, restarted(closed, breaker), options)?;
         Ok(FileKeeper::new(keeper, breaker))
     }
 
@@ -209,9 +214,9 @@ impl<'a> Reopened<'a> for FileKeeper<'a> {
 
     fn write_left<W: Write + Drop>(closed: &Files<MemoryFile<'a>>, out: &mut W) -> io::Result<()> {
         write!(out, " ")?;
-        write_field(closed.log.octets(), out)?;
+        write_sparse(closed.log.octets(), out)?;
         write!(out, " ")?;
-        write_field(closed.db.octets(), out)
+        write_sparse(closed.db.octets(), out)
     }
 }
 

@@ -51,8 +51,8 @@ pub fn adopted<S: Alter + Drop>(
     }
 }
 
-/// Opens the ledger in these files. If they have no tables, makes a ledger without transfers. `seed` is for the log,
-/// and each opening of the same files needs another one.
+/// Opens the ledger in these files. If they have no tables, makes a ledger without transfers. Each opening of the same
+/// files needs options with another seed.
 ///
 /// # Errors
 ///
@@ -60,12 +60,12 @@ pub fn adopted<S: Alter + Drop>(
 pub fn opened_in<D: Disk + Drop>(
     alloc: Global,
     files: Files<D>,
-    seed: u64,
+    options: Options,
 ) -> Result<SqlKeeper<FileStore<D>>, (AdoptFault, Files<D>)> {
     if !files.may_be_used() {
         return Err((AdoptFault::NotALedger, files));
     }
-    match Connection::open_files(alloc, files, Options::new(seed)) {
+    match Connection::open_files(alloc, files, options) {
         Ok(connection) => match opened(connection) {
             Ok(keeper) => Ok(keeper),
             Err((fault, connection)) => Err((fault, connection.into_store().close())),

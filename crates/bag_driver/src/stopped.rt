@@ -4,7 +4,7 @@ use crate::opening::{closed_in, opened_in};
 use bag_ledger::Keeper;
 use bag_receiver::Receiver;
 use bag_sqlite::SqlKeeper;
-use sqlite::{Alter, FileStore, Files};
+use sqlite::{Alter, FileStore, Files, Options};
 use sqlite_disk::{Crash, Disk, Fuse, Memory};
 use std::fs;
 use std::io::{self, ErrorKind, Write};
@@ -68,7 +68,7 @@ fn work<W: Write + Drop>(
     seed: u64,
     out: &mut W,
 ) -> io::Result<Fused> {
-    match opened_in(rt.alloc(), files, seed) {
+    match opened_in(rt.alloc(), files, Options::new(seed)) {
         Ok(keeper) => work_in(rt, keeper, out),
         Err((fault, left)) => {
             writeln!(out, "{fault}")?;
