@@ -179,7 +179,7 @@ explain 'files past the limit' 3 "bag: $work/files: it has more than 200,000 fil
 
 # The root of the system, in which something is no part of a bag; which of these is told first depends on the system.
 below_root() {
-    timeout 120 "$program" check / 2>&1 >/dev/null | sed 's|^bag: //[^/:][^:]*: .*|something below it|'
+    timeout 120 "$work/program" check / 2>&1 >/dev/null | sed 's|^bag: //[^/:][^:]*: .*|something below it|'
 }
 expect 'the root of the system' 0 'something below it' below_root
 
