@@ -39,3 +39,10 @@ pub mod FittingLemmas
 pub mod LimitsMet
 pub mod MeasuredTags
 pub mod EmptyBags
+pub mod CopyLemmas
+pub mod CopyPieces
+pub mod FilesOut
+pub mod CopyGroups
+pub mod Stopping
+pub mod Beginning
+pub mod ReadFiles
