@@ -46,3 +46,6 @@ pub mod CopyGroups
 pub mod Stopping
 pub mod Beginning
 pub mod ReadFiles
+pub mod Pairs
+pub mod Ending
+pub mod Completing

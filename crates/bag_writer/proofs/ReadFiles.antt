@@ -13,7 +13,7 @@ use Rattle.bag_writer.proofs.PayloadLists.{AreReadAs, File, ShownFile, next_take
 -- files that are no payload
 pub past_others : (tree : Shown) (files : Files) (a d : ℕ) → a + d ≤ length tree.files → ((j : ℕ) (s : ShownFile) → a ≤ j → j < a + d → slice_get tree.files j ≡ Some s → is_payload s.0 ≡ false) → AreReadAs (take a tree.files) files
     → (all : Files) × AreReadAs (take (a + d) tree.files) all × (payload_of all ≡ payload_of files)
-past_others tree files a zero inside other read = (files, (subst (λ n. AreReadAs (take n tree.files) files) (let e : a ≡ a + 0 = omega arith in e) read, refl))
+past_others tree files a zero inside other read = (files, subst (λ n. AreReadAs (take n tree.files) files) (let e : a ≡ a + 0 = omega arith in e) read, refl)
 past_others tree files a (suc d) inside other read =
     let before = past_others tree files a d (omega (arith, inside)) (λ j s from to at. other j s from (omega (arith, to)) at) read in
     let here = stands tree.files (a + d) (omega (arith, inside)) in
@@ -22,10 +22,8 @@ past_others tree files a (suc d) inside other read =
     let next = next_taken tree.files (a + d) here.0 here.1 in
     let count : a + d + 1 ≡ a + suc d = omega arith in (
       before.0 ++ file ∷ [],
-      (
-        subst (λ n. AreReadAs (take n tree.files) (before.0 ++ file ∷ [])) count (subst (λ list. AreReadAs list (before.0 ++ file ∷ [])) (sym next) (read_on (take (a + d) tree.files) (here.0 ∷ []) before.0 (file ∷ []) before.1 ((refl, (octets_unread here.0.1).1), tt))),
-        payload_on before.0 (file ∷ []) ∙ ap (λ list. payload_of before.0 ++ list) (payload_passed file [] not) ∙ append-nil (payload_of before.0) ∙ before.2,
-      ),
+      subst (λ n. AreReadAs (take n tree.files) (before.0 ++ file ∷ [])) count (subst (λ list. AreReadAs list (before.0 ++ file ∷ [])) (sym next) (read_on (take (a + d) tree.files) (here.0 ∷ []) before.0 (file ∷ []) before.1 ((refl, (octets_unread here.0.1).1), tt))),
+      payload_on before.0 (file ∷ []) ∙ ap (λ list. payload_of before.0 ++ list) (payload_passed file [] not) ∙ append-nil (payload_of before.0) ∙ before.2,
     )
 
 -- This was read of the payload file at a place.
@@ -74,20 +72,20 @@ none_before at tree n i x xs rising all j s from to there = elim (cases_Bool (is
   | inl is ↦
       let high = rising.1 in
       let one = all j s from (omega (arith, to, high)) there is in
-      let low = rising_low at (at x) i (x ∷ xs) (omega arith, rising.1, rising.2) one.0 one.1 one.2.0 in
-      let same = one.2.1 in
+      let low = rising_low at (at x) i (x ∷ xs) (omega arith, rising.1, rising.2) one.0 one.1 one.2 in
+      let same = one.3 in
       absurd (omega (arith, low, same, to))
   | inr not ↦ not
 ]
 
 found_behind : {X : Type 0} (at : X → ℕ) (j : ℕ) (x : X) (xs : List X) → at x < j → (k : ℕ) (y : X) → slice_get (x ∷ xs) k ≡ Some y → at y ≡ j → (l : ℕ) × (z : X) × (slice_get xs l ≡ Some z) × (at z ≡ j)
 found_behind at j x xs past zero y here same = absurd (let e : x ≡ y = cc in omega (arith, ap at e, same, past))
-found_behind at j x xs past (suc k) y here same = (k, (y, (here, same)))
+found_behind at j x xs past (suc k) y here same = (k, y, here, same)
 
 all_behind : {X : Type 0} (at : X → ℕ) (tree : Shown) (n i : ℕ) (x : X) (xs : List X) → n ≤ at x → AreAllBetween at tree n i (x ∷ xs) → AreAllBetween at tree (at x + 1) i xs
 all_behind at tree n i x xs low all j s from to there is =
     let one = all j s (omega (arith, low, from)) to there is in
-    found_behind at j x xs (omega (arith, from)) one.0 one.1 one.2.0 one.2.1
+    found_behind at j x xs (omega (arith, from)) one.0 one.1 one.2 one.3
 
 -- all of them were read, in the order of their places
 pub all_read : {X : Type 0} (at : X → ℕ) (tree : Shown) (n i : ℕ) (xs : List X) (more files : Files) → i ≤ length tree.files → AreRisingBetween at n i xs → AreAllBetween at tree n i xs → AreReadEach at tree xs more → AreReadAs (take n tree.files) files
@@ -96,10 +94,10 @@ all_read at tree n i [] [] files inside rising all each read =
     let e : n + (i - n) ≡ i = omega (arith, rising) in
     let past = past_others tree files n (i - n) (omega (arith, inside, rising))
     (λ j s from to there. elim (cases_Bool (is_payload s.0)) [
-      | inl is ↦ absurd (let one = all j s from (omega (arith, to, rising)) there is in let none : None ≡ Some one.1 = one.2.0 in cc)
+      | inl is ↦ absurd (let one = all j s from (omega (arith, to, rising)) there is in let none : None ≡ Some one.1 = one.2 in cc)
       | inr not ↦ not
     ]) read in
-    (past.0, (subst (λ k. AreReadAs (take k tree.files) past.0) e past.1, past.2 ∙ sym (append-nil (payload_of files))))
+    (past.0, subst (λ k. AreReadAs (take k tree.files) past.0) e past.1, past.2 ∙ sym (append-nil (payload_of files)))
 all_read at tree n i (x ∷ xs) (file ∷ more) files inside rising all each read =
     let low = rising.0 in
     let high = rising.1 in
@@ -107,7 +105,7 @@ all_read at tree n i (x ∷ xs) (file ∷ more) files inside rising all each rea
     let past = past_others tree files n (at x - n) (omega (arith, inside, low, high)) (λ j s from to there. none_before at tree n i x xs rising all j s from (omega (arith, to, low)) there) read in
     let one = one_read tree past.0 (at x) file each.0 (subst (λ k. AreReadAs (take k tree.files) past.0) e past.1) in
     let rest = all_read at tree (at x + 1) i xs more (past.0 ++ file ∷ []) inside rising.2 (all_behind at tree n i x xs low all) each.1 one.0 in
-    (rest.0, (rest.1, rest.2 ∙ ap (λ list. list ++ more) (one.1 ∙ ap (λ list. list ++ file ∷ []) past.2) ∙ append_assoc (payload_of files) (file ∷ []) more))
+    (rest.0, rest.1, rest.2 ∙ ap (λ list. list ++ more) (one.1 ∙ ap (λ list. list ++ file ∷ []) past.2) ∙ append_assoc (payload_of files) (file ∷ []) more)
 all_read at tree n i [] (file ∷ more) files inside rising all each read = absurd each
 all_read at tree n i (x ∷ xs) [] files inside rising all each read = absurd each
 

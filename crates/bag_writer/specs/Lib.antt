@@ -14,3 +14,4 @@ pub mod OpenSinks
 pub mod Copying
 pub mod Returned
 pub mod Pending
+pub mod Finishing

@@ -99,7 +99,7 @@ AreUnfailedTo {F} {G} copy_failures end copies = (k : ℕ) (each : Copying F G) 
 -- the copies before this place hold these files
 pub record HoldEach {F G : Type 0} (holds : G → List ℕ → List ℕ → Type 0) (end : ℕ)
     (copies : List (Copying F G)) (files : Files) : Type 0 where
-  pub enough : end ≤ length files
+  pub count : length files ≡ end
   pub each : (k : ℕ) (each : Copying F G) (file : List ℕ × List ℕ) → k < end
       → slice_get copies k ≡ Some each → slice_get files k ≡ Some file
       → holds each.target file.0 file.1
@@ -111,6 +111,7 @@ pub record EndsEach {F G : Type 0} (copy_place : G → ℕ) (copy_failures : G �
   pub read : (k : ℕ) (a b : Copying F G) → slice_get old k ≡ Some a → slice_get new k ≡ Some b
       → (b.source ≡ a.source) × (b.piece ≡ a.piece) × (b.found ≡ a.found)
       × (copy_place b.target ≡ copy_place a.target)
+  pub later : (k : ℕ) → end ≤ k → slice_get new k ≡ slice_get old k
   pub ended : MatchResult result (λ done. AreUnfailedTo copy_failures end new)
       (λ stop. (stop.place < end) × (stop.fault ≡ Sink) × AreUnfailedTo copy_failures stop.place new
       × ((each : Copying F G) → slice_get new stop.place ≡ Some each

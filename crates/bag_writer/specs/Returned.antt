@@ -5,6 +5,7 @@ use Rattle.bag_rules.specs.OpenTrees.{IsTooLarge}
 use Rattle.bag_rules.specs.Returning.{AreOut}
 use Rattle.bag_rules.specs.Trees.{Shown, paths_in}
 use Rattle.bag_writer.specs.Sinks.{Stored}
+use Rattle.bag_writer.specs.Writing.{IsMetLater}
 use Rattle.bag_writer.specs.declared.copying.Copying.{Copying}
 use Rattle.bag_writer.specs.declared.copying.CopyStop.{CopyStop}
 use Rattle.bag_writer.specs.declared.payload.CopyFault.{CopyFault}
@@ -76,6 +77,7 @@ pub record HasStoppedFirst {F G : Type 0} (place : F → ℕ) (failures : F → 
 -- and if something is too large, it is this file.
 pub record IsToldOf (shown : Shown) (place : ℕ) (fault : CopyFault) (told : WriteFault)
     : Type 0 where
+  pub met : IsMetLater told
   pub tree : (told ≡ Tree) ↔ (fault ≡ copy.Tree)
   pub sink : (told ≡ Sink) ↔ (fault ≡ copy.Sink)
   pub long : (large : Large) → told ≡ TooLarge large → (fault ≡ copy.TooLarge)

@@ -1,10 +1,12 @@
 //! Writes the payload, several files side by side.
-ghost use Rattle.std.specs.Prelude.{◌≡◌, ◌+◌, ◌<◌, ◌≤◌, [], ℕ, Bool, List, None, IfErr, IfOk, IsErrOf, MatchResult, Some, false, length, slice_get, take, true};
+ghost use Rattle.std.specs.Prelude.{◌≡◌, ◌≢◌, ◌+◌, ◌<◌, ◌≤◌, ◌++◌, ◌∷◌, [], ℕ, Bool, List, None, IfErr, IfOk, IsErr, IsErrOf, MatchResult, Some, false, length, slice_get, take, true};
 ghost use Rattle.bag_rules.specs.Files.{Files};
-ghost use Rattle.bag_rules.specs.Returning.{LeavesOut};
+ghost use Rattle.bag_digest.specs.declared.algorithm.AlgSet.{AlgSet};
+ghost use Rattle.bag_rules.specs.Returning.{LeavesOut, TakesAllBack};
 ghost use Rattle.bag_rules.specs.Trees.{paths_in};
 ghost use Rattle.bag_rules.specs.declared.limits.TheConstants.{LARGEST_FILE};
-ghost use Rattle.bag_writer.specs.Copying.{CopiesPiece, IsStopped, Work, sides};
+ghost use Rattle.bag_writer.specs.Copying.{AreFresh, AreFull, CopiesPiece, IsStopped, KeepPlaces, Work, sides};
+ghost use Rattle.bag_writer.specs.Finishing.{AddsFiles, AreBefore, AreCompleted, AreFinished, AreTakenOf, AreUnderWay, CanEnd, CanEndEach, EndsCopies, HasStoppedIn, IsCutAt, places_of};
 ghost use Rattle.bag_rules.specs.OpenTrees.{IsOpened};
 ghost use Rattle.bag_writer.specs.OpenSinks.{IsBegun};
 ghost use Rattle.bag_writer.specs.Pending.{AddsCopy, AreUnfailedTo, CanBegin, CanCopy, EndsEach, HoldEach, IsBeginFault, IsHeld, IsOpenFault, copies_with, files_with, work_of};
@@ -12,6 +14,7 @@ ghost use Rattle.bag_writer.specs.Returned.{LeavesCopies};
 ghost use Rattle.bag_writer.specs.Sinks.{UsesClosedSink};
 ghost use Rattle.bag_writer.specs.Steps.{AreHoleMarks, AreItemsOf, ArePart, AreWhole, HasNoFile, NamesLong, ReadsPayload, written_payload};
 ghost use Rattle.bag_writer.specs.Writing.{HasLongFile, IsMetLater, IsReadFrom};
+ghost use Rattle.bag_writer.specs.declared.payload.CopyFault.{CopyFault};
 ghost use Rattle.bag_writer.specs.declared.payload.TheConstants.{BUFFER};
 ghost use Rattle.bag_writer.specs.declared.write_fault.Large.{Large};
 ghost use Rattle.bag_writer.specs.declared.write_fault.WriteFault.{WriteFault};
@@ -107,9 +110,9 @@ fn write_beside<T: CopiedTree, S: OpenSink>(
     ensures written { (payload : Files) × IsReadFrom (T.shown tree.old) payload
         × MatchResult result (λ items. AreItemsOf spec.now.algs items.items payload
         × (¬ HasLongFile payload LARGEST_FILE)
-        × AreWhole payload (S.stored sink.old) (S.stored sink.new))
+        × AreWhole (written_payload spec.now payload) (S.stored sink.old) (S.stored sink.new))
         (λ fault. NamesLong Large.File payload LARGEST_FILE fault
-        × ArePart payload (S.stored sink.old) (S.stored sink.new)) }
+        × ArePart (written_payload spec.now payload) (S.stored sink.old) (S.stored sink.new)) }
     ensures err { IfErr result IsMetLater }
     ensures tree { ReadsPayload T.shown T.failures T.sure tree.old tree.new
         (IsErrOf result WriteFault.Tree) }
@@ -141,6 +144,9 @@ fn write_beside<T: CopiedTree, S: OpenSink>(
             items = finish(alloc, tree, sink, set, items, copies)?;
             copies = Vec::new(alloc);
         }
+    }
+    if copies.is_empty() {
+        return items.finish(alloc);
     }
     let items = finish(alloc, tree, sink, set, items, copies)?;
     items.finish(alloc)
@@ -320,7 +326,27 @@ fn finish<T: CopiedTree, S: OpenSink>(
     set: AlgSet,
     items: Items,
     copies: Vec<Copying<T::File, S::File>>,
-) -> Result<Items, WriteFault> {
+) -> Result<Items, WriteFault>
+    requires { AreUnderWay (sides T.File.place T.File.remaining T.File.failures T.File.ready
+        S.File.place S.File.holds S.File.failures S.File.sure)
+        (T.shown tree.old) set copies.items }
+    ensures written { MatchResult result
+        (λ more. AreFinished set (T.shown tree.old) (places_of T.File.place copies.items) items
+        more (S.stored sink.old) (S.stored sink.new))
+        (λ fault. IsMetLater fault × IsCutAt (T.shown tree.old)
+        (places_of T.File.place copies.items) (S.stored sink.old) (S.stored sink.new) fault) }
+    ensures calm { (tree_sure sink_sure : Bool) → AreFresh (sides T.File.place T.File.remaining T.File.failures T.File.ready
+        S.File.place S.File.holds S.File.failures S.File.sure)
+        (work_of (T.shown tree.old) tree_sure sink_sure) set 0 (length copies.items) copies.items
+        → (tree_sure ≡ true → ¬ IsErrOf result WriteFault.Tree)
+        × (sink_sure ≡ true → CanEnd (S.sure sink.old) (S.is_open sink.old) (S.stored sink.old)
+        (T.shown tree.old) (places_of T.File.place copies.items)
+        → ¬ IsErrOf result WriteFault.Sink) }
+    ensures tree { TakesAllBack T.shown T.failures T.sure (length copies.items)
+        (IsErrOf result WriteFault.Tree) tree.old tree.new }
+    ensures sink { EndsCopies S.is_open S.failures S.sure (length copies.items)
+        (IsErrOf result WriteFault.Sink) sink.old sink.new }
+{
     let mut copies = copies;
     match complete(set, sink, copies.as_mut_slice()) {
         Ok(()) => {
@@ -341,7 +367,31 @@ fn stop<T: CopiedTree, S: OpenSink>(
     copies: Vec<Copying<T::File, S::File>>,
     fault: CopyFault,
     copy: Copying<T::File, S::File>,
-) -> WriteFault {
+) -> WriteFault
+    requires begun { AreUnderWay (sides T.File.place T.File.remaining T.File.failures T.File.ready
+        S.File.place S.File.holds S.File.failures S.File.sure)
+        (T.shown tree.old) set copies.items }
+    requires stopped { AreBefore T.File.place copies.items (T.File.place copy.source)
+        × IsStopped (sides T.File.place T.File.remaining T.File.failures T.File.ready
+        S.File.place S.File.holds S.File.failures S.File.sure)
+        (work_of (T.shown tree.old) false false) copy.source copy.target fault }
+    ensures written { IsMetLater result × IsCutAt (T.shown tree.old)
+        (places_of T.File.place copies.items ++ T.File.place copy.source ∷ [])
+        (S.stored sink.old) (S.stored sink.new) result }
+    ensures calm { (tree_sure sink_sure : Bool) → AreFresh (sides T.File.place T.File.remaining T.File.failures T.File.ready
+        S.File.place S.File.holds S.File.failures S.File.sure)
+        (work_of (T.shown tree.old) tree_sure sink_sure) set 0 (length copies.items) copies.items
+        → IsStopped (sides T.File.place T.File.remaining T.File.failures T.File.ready
+        S.File.place S.File.holds S.File.failures S.File.sure)
+        (work_of (T.shown tree.old) tree_sure sink_sure) copy.source copy.target fault
+        → (tree_sure ≡ true → result ≢ WriteFault.Tree)
+        × (sink_sure ≡ true → CanEnd (S.sure sink.old) (S.is_open sink.old) (S.stored sink.old)
+        (T.shown tree.old) (places_of T.File.place copies.items) → result ≢ WriteFault.Sink) }
+    ensures tree { TakesAllBack T.shown T.failures T.sure (length copies.items + 1)
+        (result ≡ WriteFault.Tree) tree.old tree.new }
+    ensures sink { EndsCopies S.is_open S.failures S.sure (length copies.items + 1)
+        (result ≡ WriteFault.Sink) sink.old sink.new }
+{
     let mut copies = copies;
     match complete(set, sink, copies.as_mut_slice()) {
         Ok(()) => {
@@ -362,7 +412,24 @@ fn stop_unopened<T: CopiedTree, S: OpenSink>(
     set: AlgSet,
     copies: Vec<Copying<T::File, S::File>>,
     file: T::File,
-) -> WriteFault {
+) -> WriteFault
+    requires begun { AreUnderWay (sides T.File.place T.File.remaining T.File.failures T.File.ready
+        S.File.place S.File.holds S.File.failures S.File.sure)
+        (T.shown tree.old) set copies.items }
+    requires failed { AreBefore T.File.place copies.items (T.File.place file)
+        × (0 < T.File.failures file) }
+    ensures written { IsMetLater result × IsCutAt (T.shown tree.old)
+        (places_of T.File.place copies.items) (S.stored sink.old) (S.stored sink.new) result }
+    ensures calm { (tree_sure sink_sure : Bool) → AreFresh (sides T.File.place T.File.remaining T.File.failures T.File.ready
+        S.File.place S.File.holds S.File.failures S.File.sure)
+        (work_of (T.shown tree.old) tree_sure sink_sure) set 0 (length copies.items) copies.items
+        → sink_sure ≡ true → CanEnd (S.sure sink.old) (S.is_open sink.old) (S.stored sink.old)
+        (T.shown tree.old) (places_of T.File.place copies.items) → result ≢ WriteFault.Sink }
+    ensures tree { TakesAllBack T.shown T.failures T.sure (length copies.items + 1)
+        (result ≡ WriteFault.Tree) tree.old tree.new }
+    ensures sink { EndsCopies S.is_open S.failures S.sure (length copies.items)
+        (result ≡ WriteFault.Sink) sink.old sink.new }
+{
     let mut copies = copies;
     match complete(set, sink, copies.as_mut_slice()) {
         Ok(()) => {
@@ -386,7 +453,31 @@ fn complete<F: OpenFile, S: OpenSink>(
     set: AlgSet,
     sink: &mut S,
     copies: &mut [Copying<F, S::File>],
-) -> Result<(), CopyStop> {
+) -> Result<(), CopyStop>
+    requires { AreFull 0 (length copies.old) copies.old
+        × (work : Work) × AreFresh (sides F.place F.remaining F.failures F.ready
+        S.File.place S.File.holds S.File.failures S.File.sure)
+        work set 0 (length copies.old) copies.old }
+    ensures written { (work : Work) → AreFresh (sides F.place F.remaining F.failures F.ready
+        S.File.place S.File.holds S.File.failures S.File.sure)
+        work set 0 (length copies.old) copies.old → MatchResult result
+        (λ done. AreCompleted (sides F.place F.remaining F.failures F.ready
+        S.File.place S.File.holds S.File.failures S.File.sure)
+        work.shown set copies.new (S.stored sink.old) (S.stored sink.new))
+        (HasStoppedIn (sides F.place F.remaining F.failures F.ready
+        S.File.place S.File.holds S.File.failures S.File.sure)
+        work.shown copies.new (S.stored sink.old) (S.stored sink.new)) }
+    ensures calm { (work : Work) → AreFresh (sides F.place F.remaining F.failures F.ready
+        S.File.place S.File.holds S.File.failures S.File.sure)
+        work set 0 (length copies.old) copies.old → IfErr result (λ stop.
+        (work.tree_sure ≡ true → stop.fault ≢ CopyFault.Tree)
+        × (work.sink_sure ≡ true → CanEnd (S.sure sink.old) (S.is_open sink.old)
+        (S.stored sink.old) work.shown (places_of F.place copies.old)
+        → stop.fault ≢ CopyFault.Sink)) }
+    ensures places { KeepPlaces F.place S.File.place copies.old copies.new }
+    ensures sink { (S.failures sink.new ≡ S.failures sink.old)
+        × (S.is_open sink.new ≡ S.is_open sink.old) × (S.sure sink.old → S.sure sink.new) }
+{
     match copy_each(set, copies) {
         Ok(()) => {
             let count = copies.len();
@@ -412,8 +503,11 @@ fn end_each<F, S: OpenSink>(
     requires { (end ≤ length copies.old) × AreUnfailedTo S.File.failures end copies.old }
     ensures ended { (files : Files) → HoldEach S.File.holds end copies.old files
         → MatchResult result
-        (λ done. AreWhole (take end files) (S.stored sink.old) (S.stored sink.new))
+        (λ done. AreWhole files (S.stored sink.old) (S.stored sink.new))
         (λ stop. AreWhole (take stop.place files) (S.stored sink.old) (S.stored sink.new)) }
+    ensures calm { (files : Files) → HoldEach S.File.holds end copies.old files
+        → CanEndEach S.File.sure end copies.old files (S.sure sink.old) (S.is_open sink.old)
+        (S.stored sink.old) → ¬ IsErr result }
     ensures copies { EndsEach S.File.place S.File.failures end copies.old copies.new result }
     ensures sink { (S.failures sink.new ≡ S.failures sink.old)
         × (S.is_open sink.new ≡ S.is_open sink.old) × (S.sure sink.old → S.sure sink.new) }
@@ -435,7 +529,14 @@ fn add_items<T: Paths, F: OpenFile, G>(
     tree: &T,
     items: Items,
     copies: &[Copying<F, G>],
-) -> Result<Items, WriteFault> {
+) -> Result<Items, WriteFault>
+    requires { (set : AlgSet) × (files : Files)
+        × AreTakenOf F.place (T.shown tree.now) set copies.now files }
+    ensures added { (set : AlgSet) (files : Files)
+        → AreTakenOf F.place (T.shown tree.now) set copies.now files
+        → IfOk result (AddsFiles set files items) }
+    ensures err { IfErr result (λ fault. fault ≡ WriteFault.Memory) }
+{
     let mut items = items;
     for copy in copies {
         if let Some(found) = copy.found {

@@ -171,14 +171,14 @@ impl OpenSink for MemSink {
         if self.ended.get(path).is_some() || self.begun.is_some() {
             return Ok(MemSinkFile::new(place, Err(Failed)));
         }
-        let begun = match path.clone() {
-            Ok(path) => Ok(BegunFile {
-                path,
-                octets: Vec::new(self.alloc),
-            }),
-            Err(_) => Err(Failed),
+        let Ok(path) = path.clone() else {
+            return Ok(MemSinkFile::new(place, Err(Failed)));
         };
-        Ok(MemSinkFile::new(place, begun))
+        let begun = BegunFile {
+            path,
+            octets: Vec::new(self.alloc),
+        };
+        Ok(MemSinkFile::new(place, Ok(begun)))
     }
 
     /// Ends a file. It fails if a file is begun by [`Sink::file`], if one with the same path was ended since this one was

@@ -71,10 +71,11 @@ impl SinkFile for MemSinkFile {
 
     /// Writes either all of the octets or none.
     fn write(&mut self, octets: &[u8]) -> Result<(), Failed> {
-        let Some(begun) = &mut self.begun else {
+        let Some(mut begun) = self.begun.take() else {
             return self.failures.counted(Err(Failed));
         };
         let grown = begun.octets.extend_from_slice(octets);
+        self.begun = Some(begun);
         self.failures.counted(grown)
     }
 

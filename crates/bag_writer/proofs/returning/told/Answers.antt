@@ -8,6 +8,7 @@ use Rattle.bag_writer.proofs.returning.told.Goals as goal
 
 pub returns-in-Tree-clause-told : goal.returns-in-Tree-clause-told
 returns-in-Tree-clause-told g c = record {
+  met = tt;
   tree = (λ e. c.in-Tree.is, λ e. refl);
   sink = (λ e. (let k : Tree ≡ Sink = e in cc), λ e. (let k : copy.Tree ≡ copy.Sink = sym c.in-Tree.is ∙ e in cc));
   long = λ large e. (let k : Tree ≡ TooLarge large = e in cc);
@@ -21,6 +22,7 @@ returns-in-Tree-clause-sink g c = sink_none_back 1 (sink_less 0 c.give_up_unread
 
 pub returns-in-Sink-clause-told : goal.returns-in-Sink-clause-told
 returns-in-Sink-clause-told g c = record {
+  met = tt;
   tree = (λ e. (let k : Sink ≡ Tree = e in cc), λ e. (let k : copy.Sink ≡ copy.Tree = sym c.in-Sink.is ∙ e in cc));
   sink = (λ e. c.in-Sink.is, λ e. refl);
   long = λ large e. (let k : Sink ≡ TooLarge large = e in cc);
