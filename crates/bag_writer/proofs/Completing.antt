@@ -1,6 +1,6 @@
 -- Several files that were copied to their ends, or until one stopped.
-use Rattle.std.proofs.Common.{◌≡◌, ◌≢◌, ◌∙◌, ◌+◌, ◌<◌, ◌≤◌, ◌++◌, ◌∷◌, [], ℕ, Bool, true, List, Option, Some, None, ap, arith, drop, inl, inr, length, length-append, refl, slice_get, subst, sym, take}
-use Rattle.std.specs.Prelude.{IsSomeAnd, map}
+use Rattle.std.proofs.Common.{◌≡◌, ◌≢◌, ◌∙◌, ◌+◌, ◌<◌, ◌≤◌, ◌++◌, ◌∷◌, [], ℕ, suc, Bool, true, List, Option, Some, None, Result, Ok, Err, MatchResult, IfErr, ap, arith, drop, inl, inr, length, length-append, refl, slice_get, subst, sym, take}
+use Rattle.std.specs.Prelude.{IsErr, IsSomeAnd, map}
 use Rattle.std.specs.Io.KnownBytes.{Consumes}
 use Rattle.std.specs.List.{AllZip}
 use Rattle.std.specs.Option.{option_map}
@@ -10,9 +10,9 @@ use Rattle.bag_digest.specs.declared.algorithm.AlgSet.{AlgSet}
 use Rattle.bag_rules.specs.Faults.{Has}
 use Rattle.bag_rules.specs.declared.limits.TheConstants.{LARGEST_FILE}
 use Rattle.bag_rules.proofs.Words.{Files, octets_in, paths_in, Shown, slice_get-map}
-use Rattle.bag_writer.specs.Copying.{AreEnded, HasEnded, IsFirstStopped, IsStopped, Sides, Work}
-use Rattle.bag_writer.specs.Finishing.{AreCompleted, AreFilesAt, CanEnd, HasStoppedIn, IsCutBy, IsFileAt, IsTakenOf, places_of}
-use Rattle.bag_writer.specs.Pending.{AreUnfailedTo, HoldEach}
+use Rattle.bag_writer.specs.Copying.{AreEnded, HasEnded, IsFirstStopped, IsStopped, KeepPlaces, Sides, Work}
+use Rattle.bag_writer.specs.Finishing.{AreCompleted, AreFilesAt, CanEnd, CanEndEach, HasStoppedIn, IsCutBy, IsFileAt, IsTakenOf, places_of}
+use Rattle.bag_writer.specs.Pending.{AreUnfailedTo, EndsEach, HoldEach}
 use Rattle.bag_writer.specs.PayloadSteps.{AreOctetsOf, IsFoundOf}
 use Rattle.bag_writer.specs.Returned.{AreUnfailed}
 use Rattle.bag_writer.specs.Sinks.{Stored}
@@ -21,8 +21,8 @@ use Rattle.bag_writer.specs.declared.copying.Copying.{Copying}
 use Rattle.bag_writer.specs.declared.copying.CopyStop.{CopyStop}
 use Rattle.bag_writer.specs.declared.payload.CopyFault.{CopyFault}
 use Rattle.bag_writer.specs.declared.payload.CopyFault.TheVariants.{Sink, TooLarge, Tree}
-use Rattle.bag_writer.proofs.CopyLemmas.{stands}
-use Rattle.bag_writer.proofs.Ending.{StaysRead}
+use Rattle.bag_writer.proofs.CopyLemmas.{places_on, stands}
+use Rattle.bag_writer.proofs.Ending.{StaysRead, read_same}
 use Rattle.bag_writer.proofs.FileSteps.{all_octets, some_octets}
 use Rattle.bag_writer.proofs.Pairs.{pairs, zip_each, zip_long, zip_moved, zip_on}
 use Rattle.bag_writer.proofs.PayloadLists.{File, next_taken}
@@ -37,9 +37,20 @@ has_last (f ∷ files) file = inr (has_last files file)
 pub part_of_whole : (files : Files) (old new : Option Stored) → AreWhole files old new → (rest : Files) → ArePart (files ++ rest) old new
 part_of_whole files old new whole rest = part_whole files rest old new whole
 
+-- files that have the same places
+pub same_places : {F G : Type 0} (place : F → ℕ) (xs ys : List (Copying F G)) → length ys ≡ length xs → ((k : ℕ) (a b : Copying F G) → slice_get xs k ≡ Some a → slice_get ys k ≡ Some b → place b.source ≡ place a.source)
+    → places_of place ys ≡ places_of place xs
+same_places place [] [] count same = refl
+same_places place [] (y ∷ ys) count same = absurd (omega (arith, count))
+same_places place (x ∷ xs) [] count same = absurd (omega (arith, count))
+same_places place (x ∷ xs) (y ∷ ys) count same = λ t. same 0 x y refl refl t ∷ same_places place xs ys (omega (arith, count)) (λ k a b at now. same (suc k) a b at now) t
+
 module _ {F G : Type 0} (s : Sides F G) (work : Work) (set : AlgSet) where
+  abbrev Ends : List (Copying F G) → List (Copying F G) → ℕ → Result (Unit {0}) CopyStop → Type 0
+  Ends ys zs n r = EndsEach s.copy_place s.copy_failures n ys zs r
+
   -- the file that a copy holds, with what was found of it
-  record pub IsEndedAs (each : Copying F G) (file : File) : Type 0 where
+  pub record IsEndedAs (each : Copying F G) (file : File) : Type 0 where
     pub taken : IsTakenOf s.place work.shown set each file
     pub held : s.holds each.target file.0 file.1
     pub unfailed : s.failures each.source ≡ 0
@@ -187,3 +198,65 @@ module _ {F G : Type 0} (s : Sides F G) (work : Work) (set : AlgSet) where
               },
             );
       }
+
+  -- the copies of all that were copied are ended, or of those before the one that stopped
+  pub all_completed : (ys zs : List (Copying F G)) (old new : Option Stored) (r : Result (Unit {0}) CopyStop) → AreEnded s work set 0 (length ys) ys → Ends ys zs (length ys) r
+      → ((files : Files) → HoldEach s.holds (length ys) ys files → MatchResult r (λ done. AreWhole files old new) (λ stop. AreWhole (take stop.place files) old new))
+      → MatchResult r (λ done. AreCompleted s work.shown set zs old new) (HasStoppedIn s work.shown zs old new)
+  all_completed ys zs old new (Ok done) ended ends whole =
+      let files = ended_files ys (length ys) (omega arith) ended in
+      completed ys zs ends.count ends.read files.0 ended files.1 old new ends.ended (whole files.0 (hold_each ys (length ys) files.0 (omega arith) files.1))
+  all_completed ys zs old new (Err stop) ended ends whole =
+      let files = ended_files ys (length ys) (omega arith) ended in
+      not_ended ys zs ends.count ends.read (length ys) ended files.0 (omega arith) files.1 old new stop ends.ended.0 ends.ended.1 ends.ended.2 ends.ended.3 (whole files.0 (hold_each ys (length ys) files.0 (omega arith) files.1))
+
+  pub first_completed : (ys zs : List (Copying F G)) (old new : Option Stored) (stop : CopyStop) (r : Result (Unit {0}) CopyStop) → IsFirstStopped s work set 0 (length ys) ys stop → Ends ys zs stop.place r
+      → ((files : Files) → HoldEach s.holds stop.place ys files → MatchResult r (λ done. AreWhole files old new) (λ other. AreWhole (take other.place files) old new))
+      → MatchResult r (λ done. HasStoppedIn s work.shown zs old new stop) (HasStoppedIn s work.shown zs old new)
+  first_completed ys zs old new stop (Ok done) first ends whole =
+      let inside : stop.place ≤ length ys = (let high = first.high in omega (arith, high)) in
+      let files = ended_files ys stop.place inside first.before in
+      stopped_in ys zs ends.count ends.read stop first files.0 files.1 old new ends.later ends.ended (whole files.0 (hold_each ys stop.place files.0 inside files.1))
+  first_completed ys zs old new stop (Err other) first ends whole =
+      let inside : stop.place ≤ length ys = (let high = first.high in omega (arith, high)) in
+      let files = ended_files ys stop.place inside first.before in
+      not_ended ys zs ends.count ends.read stop.place first.before files.0 inside files.1 old new other ends.ended.0 ends.ended.1 ends.ended.2 ends.ended.3 (whole files.0 (hold_each ys stop.place files.0 inside files.1))
+
+  -- WHAT DOESN'T FAIL
+
+  pub can_each : (sure : Type 0) (is_open : Bool) (known : Option Stored) (xs ys : List (Copying F G)) (n : ℕ) → n ≤ length ys → KeepPlaces s.place s.copy_place xs ys → AreEnded s work set 0 n ys → work.sink_sure ≡ true
+      → CanEnd sure is_open known work.shown (places_of s.place xs) → (files : Files) × HoldEach s.holds n ys files × CanEndEach s.copy_sure n ys files sure is_open known
+  can_each sure is_open known xs ys n inside keep ended calm can =
+      let files = ended_files ys n inside ended in
+      let long = zip_long IsEndedAs ys n files.0 inside files.1 in
+      let same = same_places s.place xs ys keep.count (λ k a b at now. (keep.each k a b at now).0) in (
+        files.0,
+        hold_each ys n files.0 inside files.1,
+        record {
+          sure_each = λ k each below at. (let file = stands files.0 k (omega (arith, below, long)) in (zip_each IsEndedAs ys n files.0 files.1 k each file.0 at file.1).sure calm);
+          is_sure = can.is_sure;
+          closed = can.closed;
+          free = can.free n files.0 (subst (λ places. AreFilesAt work.shown (take n places) files.0) same (files_each ys ys refl (read_same s.copy_place ys) n files.0 inside files.1));
+        },
+      )
+
+  -- what is told of a copy that couldn't be ended
+  pub ends_calm : {P : Type 0} (ys zs : List (Copying F G)) (n : ℕ) (r : Result (Unit {0}) CopyStop) → Ends ys zs n r → (work.sink_sure ≡ true → P → ¬ IsErr r)
+      → IfErr r (λ stop. (work.tree_sure ≡ true → stop.fault ≢ Tree) × (work.sink_sure ≡ true → P → stop.fault ≢ Sink))
+  ends_calm {P} ys zs n (Ok done) ends calm = tt
+  ends_calm {P} ys zs n (Err stop) ends calm = (
+    λ sure e. (let k : Sink ≡ Tree = sym ends.ended.1 ∙ e in cc),
+    λ sure can e. calm sure can refl,
+  )
+
+  pub stop_calm : (ys : List (Copying F G)) (stop : CopyStop) → IsFirstStopped s work set 0 (length ys) ys stop → (work.tree_sure ≡ true → stop.fault ≢ Tree) × (work.sink_sure ≡ true → stop.fault ≢ Sink)
+  stop_calm ys stop first =
+      let each = stands ys stop.place first.high in
+      let is = first.here each.0 each.1 in
+      (λ sure e. (is.failed e).1 sure, λ sure e. (is.copy_failed e).1 sure)
+
+  pub keep_ended : (xs ys zs : List (Copying F G)) (n : ℕ) (r : Result (Unit {0}) CopyStop) → KeepPlaces s.place s.copy_place xs ys → Ends ys zs n r → KeepPlaces s.place s.copy_place xs zs
+  keep_ended xs ys zs n r keep ends = places_on s.place s.copy_place xs ys zs keep (record {
+    count = ends.count;
+    each = λ k a b at now. (let same = ends.read k a b at now in (ap s.place same.0, same.3));
+  })
