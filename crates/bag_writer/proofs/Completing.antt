@@ -29,7 +29,7 @@ use Rattle.bag_writer.proofs.PayloadLists.{File, next_taken}
 use Rattle.bag_writer.proofs.StepLemmas.{part_whole}
 use Rattle.bag_writer.proofs.Stopping.{stopped_here}
 
-has_last : (files : Files) (file : File) → Has (files ++ file ∷ []) file
+pub has_last : (files : Files) (file : File) → Has (files ++ file ∷ []) file
 has_last [] file = inl refl
 has_last (f ∷ files) file = inr (has_last files file)
 

@@ -49,3 +49,6 @@ pub mod ReadFiles
 pub mod Pairs
 pub mod Ending
 pub mod Completing
+pub mod Places
+pub mod Cutting
+pub mod Batches

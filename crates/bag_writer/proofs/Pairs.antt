@@ -45,3 +45,16 @@ module _ {X Y : Type 0} (P : X → Y → Type 0) where
     moves 0 x z (omega arith) refl refl y zip.0,
     zip_moved Q xs zs n ys (omega (arith, same)) (λ k a b below at there. moves (suc k) a b (omega (arith, below)) at there) zip.1,
   )
+
+  -- the other of a pair
+  pub zip_at : (xs : List X) (ys : List Y) → AllZip P xs ys → (k : ℕ) (x : X) → slice_get xs k ≡ Some x → (y : Y) × (slice_get ys k ≡ Some y) × P x y
+  zip_at [] ys zip k x at = absurd (let e : None ≡ Some x = at in cc)
+  zip_at (w ∷ xs) [] zip k x at = absurd zip
+  zip_at (w ∷ xs) (z ∷ ys) zip zero x at = (z, refl, (let e : w ≡ x = cc in subst (λ u. P u z) e zip.0))
+  zip_at (w ∷ xs) (z ∷ ys) zip (suc k) x at = zip_at xs ys zip.1 k x at
+
+  pub zip_count : (xs : List X) (ys : List Y) → AllZip P xs ys → length ys ≡ length xs
+  zip_count [] [] zip = refl
+  zip_count [] (y ∷ ys) zip = absurd zip
+  zip_count (x ∷ xs) [] zip = absurd zip
+  zip_count (x ∷ xs) (y ∷ ys) zip = omega (arith, zip_count xs ys zip.1)

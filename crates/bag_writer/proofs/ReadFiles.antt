@@ -62,11 +62,11 @@ rising_low at n i (y ∷ xs) rising (suc k) x here =
     let first = rising.0 in
     omega (arith, low, first)
 
-rising_ends : {X : Type 0} (at : X → ℕ) (n i : ℕ) (xs : List X) → AreRisingBetween at n i xs → n ≤ i
+pub rising_ends : {X : Type 0} (at : X → ℕ) (n i : ℕ) (xs : List X) → AreRisingBetween at n i xs → n ≤ i
 rising_ends at n i [] rising = rising
 rising_ends at n i (x ∷ xs) rising = (let a = rising.0 in let b = rising.1 in omega (arith, a, b))
 
-none_before : {X : Type 0} (at : X → ℕ) (tree : Shown) (n i : ℕ) (x : X) (xs : List X) → AreRisingBetween at n i (x ∷ xs) → AreAllBetween at tree n i (x ∷ xs)
+pub none_before : {X : Type 0} (at : X → ℕ) (tree : Shown) (n i : ℕ) (x : X) (xs : List X) → AreRisingBetween at n i (x ∷ xs) → AreAllBetween at tree n i (x ∷ xs)
     → (j : ℕ) (s : ShownFile) → n ≤ j → j < at x → slice_get tree.files j ≡ Some s → is_payload s.0 ≡ false
 none_before at tree n i x xs rising all j s from to there = elim (cases_Bool (is_payload s.0)) [
   | inl is ↦
@@ -82,7 +82,7 @@ found_behind : {X : Type 0} (at : X → ℕ) (j : ℕ) (x : X) (xs : List X) →
 found_behind at j x xs past zero y here same = absurd (let e : x ≡ y = cc in omega (arith, ap at e, same, past))
 found_behind at j x xs past (suc k) y here same = (k, y, here, same)
 
-all_behind : {X : Type 0} (at : X → ℕ) (tree : Shown) (n i : ℕ) (x : X) (xs : List X) → n ≤ at x → AreAllBetween at tree n i (x ∷ xs) → AreAllBetween at tree (at x + 1) i xs
+pub all_behind : {X : Type 0} (at : X → ℕ) (tree : Shown) (n i : ℕ) (x : X) (xs : List X) → n ≤ at x → AreAllBetween at tree n i (x ∷ xs) → AreAllBetween at tree (at x + 1) i xs
 all_behind at tree n i x xs low all j s from to there is =
     let one = all j s (omega (arith, low, from)) to there is in
     found_behind at j x xs (omega (arith, from)) one.0 one.1 one.2 one.3

@@ -1,5 +1,6 @@
 -- Files that are begun, and wait until those before them have ended. Private functions alone cite these.
 use Rattle.std.specs.Prelude.{◌≡◌, ◌≢◌, ◌+◌, ◌<◌, ◌≤◌, ◌++◌, ◌∷◌, [], ℕ, Bool, true, false, List, Option, Some, None, Result, IsErr, MatchResult, Vec, length, slice_get}
+use Rattle.std.specs.Io.KnownBytes.{Consumes}
 use Rattle.bag_digest.specs.declared.algorithm.AlgSet.{AlgSet}
 use Rattle.bag_digest.specs.declared.reading.SourceRead.TheVariants.{Whole}
 use Rattle.bag_rules.specs.Files.{Files}
@@ -27,6 +28,15 @@ pub record CanBegin (sure : Type 0) (is_open : Bool) (known : Option Stored) (sh
   pub closed : is_open ≡ false
   pub free : (path : List ℕ) → slice_get (paths_in shown) i ≡ Some path → IsFree known path
 
+-- A file was opened at this place, and a read of no octets didn't fail.
+pub record IsReadable {F : Type 0} (place : F → ℕ) (remaining : F → Option (List ℕ))
+    (failures : F → ℕ) (ready : F → Type 0) (shown : Shown) (sure : Type 0) (i : ℕ) (file : F)
+    : Type 0 where
+  pub placed : place file ≡ i
+  pub unread : Consumes (octets_in shown i) (remaining file) []
+  pub unfailed : failures file ≡ 0
+  pub is_ready : sure → ready file
+
 -- A file was opened, and a copy of it begun. Nothing was read, and nothing written. If the copy couldn't be begun, it has
 -- failed.
 pub record CanCopy {F G : Type 0} (s : Sides F G) (work : Work) (i : ℕ) (each : Copying F G)
@@ -35,7 +45,7 @@ pub record CanCopy {F G : Type 0} (s : Sides F G) (work : Work) (i : ℕ) (each 
   pub path : List ℕ
   pub named : slice_get (paths_in work.shown) (s.place each.source) ≡ Some path
   pub beside : s.copy_place each.target ≡ s.place each.source
-  pub unread : s.remaining each.source ≡ octets_in work.shown (s.place each.source)
+  pub unread : Consumes (octets_in work.shown (s.place each.source)) (s.remaining each.source) []
   pub unfailed : s.failures each.source ≡ 0
   pub ready : work.tree_sure ≡ true → s.ready each.source
   pub empty : s.copy_failures each.target ≡ 0 → s.holds each.target path []
@@ -51,7 +61,7 @@ pub record IsHeld {F G : Type 0} (old new : List (Copying F G)) (each : Copying 
   pub target_is : last.target ≡ each.target
   pub piece_is : last.piece.items ≡ front
   pub whole : length front < BUFFER → last.found ≡ Some (Whole (length front))
-  pub more : BUFFER ≤ length front → last.found ≡ each.found
+  pub more : BUFFER ≤ length front → last.found ≡ None
 
 -- one file more, that at this place, of which a first piece was copied, or all
 pub record AddsCopy {F G : Type 0} (s : Sides F G) (work : Work) (i : ℕ)

@@ -2,14 +2,15 @@
 ghost use Rattle.std.specs.Prelude.{◌≡◌, ◌≢◌, ◌+◌, ◌<◌, ◌≤◌, ◌++◌, ◌∷◌, [], ℕ, Bool, List, None, IfErr, IfOk, IsErr, IsErrOf, MatchResult, Some, false, length, slice_get, take, true};
 ghost use Rattle.bag_rules.specs.Files.{Files};
 ghost use Rattle.bag_digest.specs.declared.algorithm.AlgSet.{AlgSet};
+ghost use Rattle.bag_digest.specs.declared.reading.SourceRead.{SourceRead};
 ghost use Rattle.bag_rules.specs.Returning.{LeavesOut, TakesAllBack};
 ghost use Rattle.bag_rules.specs.Trees.{paths_in};
 ghost use Rattle.bag_rules.specs.declared.limits.TheConstants.{LARGEST_FILE};
 ghost use Rattle.bag_writer.specs.Copying.{AreFresh, AreFull, CopiesPiece, IsStopped, KeepPlaces, Work, sides};
-ghost use Rattle.bag_writer.specs.Finishing.{AddsFiles, AreBefore, AreCompleted, AreFinished, AreTakenOf, AreUnderWay, CanEnd, CanEndEach, EndsCopies, HasStoppedIn, IsCutAt, places_of};
-ghost use Rattle.bag_rules.specs.OpenTrees.{IsOpened};
+ghost use Rattle.bag_writer.specs.Finishing.{AddsFiles, AreBefore, AreCompleted, AreFinished, AreTakenOf, AreUnderWay, CanEnd, CanEndEach, EndsCopies, HasStoppedIn, IsCutAt, IsTakenOf, places_of};
+ghost use Rattle.bag_writer.specs.HeldFiles.{AddsFile};
 ghost use Rattle.bag_writer.specs.OpenSinks.{IsBegun};
-ghost use Rattle.bag_writer.specs.Pending.{AddsCopy, AreUnfailedTo, CanBegin, CanCopy, EndsEach, HoldEach, IsBeginFault, IsHeld, IsOpenFault, copies_with, files_with, work_of};
+ghost use Rattle.bag_writer.specs.Pending.{AddsCopy, AreUnfailedTo, CanBegin, CanCopy, EndsEach, HoldEach, IsBeginFault, IsHeld, IsOpenFault, IsReadable, copies_with, files_with, work_of};
 ghost use Rattle.bag_writer.specs.Returned.{LeavesCopies};
 ghost use Rattle.bag_writer.specs.Sinks.{UsesClosedSink};
 ghost use Rattle.bag_writer.specs.Steps.{AreHoleMarks, AreItemsOf, ArePart, AreWhole, HasNoFile, NamesLong, ReadsPayload, written_payload};
@@ -63,6 +64,7 @@ impl<F, G> From<AllocError> for BeginFault<F, G> {
 ///
 /// `Tree`, `Sink` or `Memory` if the tree or the sink failed or memory ran out; `TooLarge` if a file has more than 2^40
 /// octets.
+#[tactic(none)]
 pub(crate) fn write_payload<T: CopiedTree, S: OpenSink>(
     alloc: Global,
     buffer: &mut [u8],
@@ -99,6 +101,7 @@ pub(crate) fn write_payload<T: CopiedTree, S: OpenSink>(
 /// # Errors
 ///
 /// Those of [`write_payload`].
+#[tactic(none)]
 fn write_beside<T: CopiedTree, S: OpenSink>(
     alloc: Global,
     buffer: &mut [u8],
@@ -206,7 +209,7 @@ fn open_next<T: OpenTree, G>(
 ) -> Result<T::File, BeginFault<T::File, G>>
     requires { i < length (paths_in (T.shown tree.old)) }
     ensures opened { MatchResult result
-        (IsOpened T.File.place T.File.remaining T.File.failures T.File.ready (T.shown tree.old)
+        (IsReadable T.File.place T.File.remaining T.File.failures T.File.ready (T.shown tree.old)
         (T.sure tree.old) i)
         (IsOpenFault T.File.place T.File.failures (T.sure tree.old) i) }
     ensures tree { (n : ℕ) → MatchResult result
@@ -304,13 +307,22 @@ fn hold<F, G>(
         return Err(copy);
     };
     copy.piece = piece;
-    if front.len() < BUFFER {
-        copy.found = Some(SourceRead::Whole(front.len()));
-    }
+    copy.found = found_in(front);
     match copies.push(copy) {
         Ok(()) => Ok(()),
         Err(refused) => Err(refused.value),
     }
+}
+
+/// What is found of a file by this front of it: all of it, if that is shorter than the buffer.
+fn found_in(front: &[u8]) -> Option<SourceRead>
+    ensures whole { length front.now < BUFFER → result ≡ Some (SourceRead.Whole (length front.now)) }
+    ensures more { BUFFER ≤ length front.now → result ≡ None }
+{
+    if front.len() < BUFFER {
+        return Some(SourceRead::Whole(front.len()));
+    }
+    None
 }
 
 /// Copies files to their ends, side by side, ends their copies, and takes all back. Returns the items of these files too, after
@@ -319,6 +331,7 @@ fn hold<F, G>(
 /// # Errors
 ///
 /// What stops the first of them, by path, that is stopped; and `Memory`.
+#[tactic(none)]
 fn finish<T: CopiedTree, S: OpenSink>(
     alloc: Global,
     tree: &mut T,
@@ -539,10 +552,28 @@ fn add_items<T: Paths, F: OpenFile, G>(
 {
     let mut items = items;
     for copy in copies {
-        if let Some(found) = copy.found {
-            let path = tree.path(copy.source.place()).clone()?;
-            items = items.add(alloc, path, found, copy.piece.as_slice())?;
-        }
+        items = add_item(alloc, tree, items, copy)?;
     }
     Ok(items)
+}
+
+/// Adds the item of this file, which was copied to its end.
+fn add_item<T: Paths, F: OpenFile, G>(
+    alloc: Global,
+    tree: &T,
+    items: Items,
+    copy: &Copying<F, G>,
+) -> Result<Items, WriteFault>
+    requires { (set : AlgSet) × (file : List ℕ × List ℕ)
+        × IsTakenOf F.place (T.shown tree.now) set copy.now file }
+    ensures added { (set : AlgSet) (file : List ℕ × List ℕ)
+        → IsTakenOf F.place (T.shown tree.now) set copy.now file
+        → IfOk result (AddsFile set file items) }
+    ensures err { IfErr result (λ fault. fault ≡ WriteFault.Memory) }
+{
+    let Some(found) = copy.found else {
+        return Err(WriteFault::Memory);
+    };
+    let path = tree.path(copy.source.place()).clone()?;
+    items.add(alloc, path, found, copy.piece.as_slice())
 }
