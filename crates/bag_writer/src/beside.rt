@@ -143,10 +143,11 @@ fn write_beside<T: CopiedTree, S: OpenSink>(
                 return Err(stop(tree, sink, set, copies, fault, copy));
             }
         }
-        if copies.len() == MOST_COPIED {
-            items = finish(alloc, tree, sink, set, items, copies)?;
-            copies = Vec::new(alloc);
+        if copies.len() < MOST_COPIED {
+            continue;
         }
+        items = finish(alloc, tree, sink, set, items, copies)?;
+        copies = Vec::new(alloc);
     }
     if copies.is_empty() {
         return items.finish(alloc);
