@@ -14,7 +14,7 @@ use Rattle.bag_writer.specs.Copying.{AreFresh, AreFull, IsFresh, IsFreshBy, Side
 use Rattle.bag_writer.specs.Finishing.{AreBefore, AreFilesAt, AreFinished, AreUnderWay, CanEnd, EndsCopies, IsCutAt, places_of}
 use Rattle.bag_writer.specs.HeldFiles.{AreItemsSoFar}
 use Rattle.bag_writer.specs.Pending.{AddsCopy, CanBegin, work_of}
-use Rattle.bag_writer.specs.Returned.{AreByPlace, LeavesCopies}
+use Rattle.bag_writer.specs.Returned.{AreByPlace, AreUnfailed, LeavesCopies}
 use Rattle.bag_writer.specs.Sinks.{Stored, UsesSink}
 use Rattle.bag_writer.specs.Steps.{ArePart, HasNoFile, NamesLong, written_payload}
 use Rattle.bag_writer.specs.Writing.{IsReadFrom}
@@ -115,6 +115,14 @@ module _ {S : Type 0} {stored : S → Option Stored} {is_open : S → Bool} {fai
     counted = λ base out. (let same = (q.counted base (p.counted base out)).stays not in omega (arith, same), λ some. absurd (omega (arith, some)));
   }
 
+  -- the same for another result
+  pub ends_so : {F G : Type 0} (n : ℕ) {a b : S} → EndsCopies is_open failures sure n F a b → (F → G) → (G → F) → EndsCopies is_open failures sure n G a b
+  ends_so n p there back = record {
+    as_open = p.as_open;
+    stays_sure = p.stays_sure;
+    counted = λ base out. let c = p.counted base out in record { rises = λ g. c.rises (back g); stays = λ not. c.stays (λ f. not (there f)) };
+  }
+
   pub copies_ends : {F : Type 0} (n : ℕ) {a b : S} → LeavesCopies stored is_open failures sure n 0 a b → ¬ F → EndsCopies is_open failures sure n F a b
   copies_ends n {a} {b} left not = record {
     as_open = left.as_open;
@@ -183,6 +191,14 @@ module _ {F G : Type 0} (s : Sides F G) (spec : Spec) (shown : Shown) (sure calm
       full = hand.full;
       fresh = hand.fresh false false (λ e. (let k : false ≡ true = e in cc)) (λ e. (let k : false ≡ true = e in cc));
     }
+
+    unfailed_by : (each : Copying F G) (found : Option SourceRead) → IsFreshBy s (work_of shown false false) spec.algs each found → (s.failures each.source ≡ 0) × (s.copy_failures each.target ≡ 0)
+    unfailed_by each None fresh = (fresh.unfailed, fresh.copy_unfailed)
+    unfailed_by each (Some found) fresh = (fresh.copied.unfailed, fresh.copied.copy_unfailed)
+
+    -- none of them has failed
+    pub hand_unfailed : AreUnfailed s.failures s.copy_failures copies
+    hand_unfailed k each at = unfailed_by each each.found (hand_under_way.fresh k each (omega arith) (slice_get_within copies k each at) at)
 
     pub hand_before : AreBefore s.place copies i
     hand_before = before_all s shown hand.n i copies hand.between

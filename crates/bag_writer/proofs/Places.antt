@@ -148,9 +148,9 @@ read_each tree (p ∷ places) (file ∷ files) payload are =
     let shown = shown_at tree tree refl p file.0 are.0.named in (
       record {
         shown = shown.0;
-        there = shown.1;
-        read_as = (sym shown.2, subst (λ o. AreOctetsOf o file.1) (octets_here tree p shown.0 shown.1) are.0.known);
-        payload = payload zero p shown.0 refl shown.1;
+        there = shown.1.0;
+        read_as = (sym shown.1.1, subst (λ o. AreOctetsOf o file.1) (octets_here tree p shown.0 shown.1.0) are.0.known);
+        payload = payload zero p shown.0 refl shown.1.0;
       },
       read_each tree places files (λ k j s at there. payload (suc k) j s at there) are.1,
     )

@@ -332,7 +332,6 @@ fn found_in(front: &[u8]) -> Option<SourceRead>
 /// # Errors
 ///
 /// What stops the first of them, by path, that is stopped; and `Memory`.
-#[tactic(none)]
 fn finish<T: CopiedTree, S: OpenSink>(
     alloc: Global,
     tree: &mut T,

@@ -71,8 +71,8 @@ close_all-requires g c = λ k each at.
     let done = c.in-Ok.ensures.written (work_of shown false false) plain in
     done.unfailed k each (subst (λ ls. slice_get ls k ≡ Some each) all at)
 
-pub add_items-requires : goal.add_items-requires
-add_items-requires g c =
+pub add_items-items-requires : goal.add_items-items-requires
+add_items-items-requires g c =
     let s = sides g.T.File.OpenFile.place g.T.File.Source.remaining g.T.File.Source.failures g.T.File.Source.ready g.S.File.SinkFile.place g.S.File.SinkFile.holds g.S.File.SinkFile.failures g.S.File.SinkFile.sure in
     let shown = g.T.Paths.shown c.args.tree.now in
     let xs = c.args.copies.items in
