@@ -28,7 +28,7 @@ use Rattle.bag_writer.specs.declared.write_fault.WriteFault.TheVariants.{Memory,
 use Rattle.bag_writer.proofs.PayloadLists.{ShownFile}
 use Rattle.bag_writer.proofs.PayloadSoFar.{HasWritten, nothing_written}
 use Rattle.bag_writer.proofs.Places.{IsBetween, between_next, between_none, between_passed, can_end, free_here, group_cut, group_written, rising_below}
-use Rattle.bag_writer.proofs.StepLemmas.{part_none, whole_none}
+use Rattle.bag_writer.proofs.StepLemmas.{whole_none}
 
 -- an element of a list with one more: it is one of the others, or the last
 module _ {X : Type 0} (xs : List X) (last : X) where
@@ -81,6 +81,15 @@ module _ {F G : Type 0} (s : Sides F G) where
           k b (subst (λ list. slice_get list k ≡ Some b) adds.all then) below;
     }
 
+  -- none of those under way has failed
+  module _ (work : Work) (set : AlgSet) where
+    unfailed_by : (each : Copying F G) (found : Option SourceRead) → IsFreshBy s work set each found → (s.failures each.source ≡ 0) × (s.copy_failures each.target ≡ 0)
+    unfailed_by each None fresh = (fresh.unfailed, fresh.copy_unfailed)
+    unfailed_by each (Some found) fresh = (fresh.copied.unfailed, fresh.copied.copy_unfailed)
+
+    pub fresh_unfailed : (copies : List (Copying F G)) → AreFresh s work set 0 (length copies) copies → AreUnfailed s.failures s.copy_failures copies
+    fresh_unfailed copies fresh k each at = unfailed_by each each.found (fresh k each (omega arith) (slice_get_within copies k each at) at)
+
 -- THE COUNT OF A SINK
 
 -- Files were ended, given out or taken back: so many are out, and none was at first.
@@ -89,16 +98,9 @@ pub record HasOut {S : Type 0} (is_open : S → Bool) (failures : S → ℕ) (su
   pub stays_sure : sure old → sure new
   pub counted : (base : ℕ) → AreOut base 0 (failures old) → AreOut base after (failures new)
 
-module _ {S : Type 0} {stored : S → Option Stored} {is_open : S → Bool} {failures : S → ℕ} {sure : S → Type 0} where
+module _ {S : Type 0} {is_open : S → Bool} {failures : S → ℕ} {sure : S → Type 0} where
   pub none_out : {a : S} → HasOut is_open failures sure 0 a a
   none_out = record { as_open = refl; stays_sure = λ s. s; counted = λ base out. out }
-
-  pub out_on : (m n : ℕ) {a b c : S} → HasOut is_open failures sure m a b → LeavesCopies stored is_open failures sure m n b c → HasOut is_open failures sure n a c
-  out_on m n p q = record {
-    as_open = q.as_open ∙ p.as_open;
-    stays_sure = λ s. q.stays_sure (p.stays_sure s);
-    counted = λ base out. q.counted base (p.counted base out);
-  }
 
   -- all that were out were taken back
   pub sink_used : {In F : Type 0} (n : ℕ) {a b c : S} → HasOut is_open failures sure n a b → EndsCopies is_open failures sure n F b c → (sure a → In → ¬ F) → UsesSink failures sure a c In F
@@ -121,6 +123,14 @@ module _ {S : Type 0} {stored : S → Option Stored} {is_open : S → Bool} {fai
     as_open = p.as_open;
     stays_sure = p.stays_sure;
     counted = λ base out. let c = p.counted base out in record { rises = λ g. c.rises (back g); stays = λ not. c.stays (λ f. not (there f)) };
+  }
+
+module _ {S : Type 0} {stored : S → Option Stored} {is_open : S → Bool} {failures : S → ℕ} {sure : S → Type 0} where
+  pub out_on : (m n : ℕ) {a b c : S} → HasOut is_open failures sure m a b → LeavesCopies stored is_open failures sure m n b c → HasOut is_open failures sure n a c
+  out_on m n p q = record {
+    as_open = q.as_open ∙ p.as_open;
+    stays_sure = λ s. q.stays_sure (p.stays_sure s);
+    counted = λ base out. q.counted base (p.counted base out);
   }
 
   pub copies_ends : {F : Type 0} (n : ℕ) {a b : S} → LeavesCopies stored is_open failures sure n 0 a b → ¬ F → EndsCopies is_open failures sure n F a b
@@ -166,7 +176,7 @@ module _ {F G : Type 0} (s : Sides F G) (spec : Spec) (shown : Shown) (sure calm
     rising = λ j k a b below at there. absurd (let e : None ≡ Some a = at in cc);
   }
 
-  none_full : AreFull 0 0 ([] {A = Copying F G})
+  none_full : AreFull {F = F} {G = G} 0 0 []
   none_full k each from to at = absurd (omega (arith, to))
 
   none_fresh : (work : Work) → AreFresh s work spec.algs 0 0 []
@@ -191,14 +201,6 @@ module _ {F G : Type 0} (s : Sides F G) (spec : Spec) (shown : Shown) (sure calm
       full = hand.full;
       fresh = hand.fresh false false (λ e. (let k : false ≡ true = e in cc)) (λ e. (let k : false ≡ true = e in cc));
     }
-
-    unfailed_by : (each : Copying F G) (found : Option SourceRead) → IsFreshBy s (work_of shown false false) spec.algs each found → (s.failures each.source ≡ 0) × (s.copy_failures each.target ≡ 0)
-    unfailed_by each None fresh = (fresh.unfailed, fresh.copy_unfailed)
-    unfailed_by each (Some found) fresh = (fresh.copied.unfailed, fresh.copied.copy_unfailed)
-
-    -- none of them has failed
-    pub hand_unfailed : AreUnfailed s.failures s.copy_failures copies
-    hand_unfailed k each at = unfailed_by each each.found (hand_under_way.fresh k each (omega arith) (slice_get_within copies k each at) at)
 
     pub hand_before : AreBefore s.place copies i
     hand_before = before_all s shown hand.n i copies hand.between
@@ -241,10 +243,6 @@ module _ {F G : Type 0} (s : Sides F G) (spec : Spec) (shown : Shown) (sure calm
     pub hand_cut : spec.holes.items ≡ [] → (end : Option Stored) (fault : WriteFault) → IsCutAt shown (places_of s.place copies) new end fault
         → (payload : Files) × IsReadFrom shown payload × (NamesLong large.File payload LARGEST_FILE fault × ArePart (written_payload spec payload) old end)
     hand_cut none end fault cut = group_cut spec none shown hand.n i old new items hand.files hand.so_far (places_of s.place copies) hand.between hand.low end fault cut
-
-    -- memory ran out
-    pub cut_none : IsCutAt shown (places_of s.place copies) new new Memory
-    cut_none = record { count = 0; files = []; are = tt; part = part_none [] new; long = λ what e. absurd (let k : Memory ≡ TooLarge what = e in cc) }
 
     -- they were written whole
     pub hand_finished : spec.holes.items ≡ [] → (end : Option Stored) (more : Items) → AreFinished spec.algs shown (places_of s.place copies) items more new end → InHand s spec shown sure calm old end i more []

@@ -22,11 +22,12 @@ use Rattle.bag_writer.specs.declared.payload.CopyFault.{CopyFault}
 use Rattle.bag_writer.specs.declared.payload.CopyFault.TheVariants as copy
 use Rattle.bag_writer.specs.declared.write_fault.Large.{Large}
 use Rattle.bag_writer.specs.declared.write_fault.WriteFault.{WriteFault}
-use Rattle.bag_writer.specs.declared.write_fault.WriteFault.TheVariants.{TooLarge}
+use Rattle.bag_writer.specs.declared.write_fault.WriteFault.TheVariants.{Memory, TooLarge}
 use Rattle.bag_writer.proofs.CopyLemmas.{stands}
 use Rattle.bag_writer.proofs.Completing.{has_last, part_of_whole, same_places}
 use Rattle.bag_writer.proofs.Pairs.{zip_on}
 use Rattle.bag_writer.proofs.PayloadLists.{File}
+use Rattle.bag_writer.proofs.StepLemmas.{part_none}
 
 -- the elements of a vector, after its slice was written
 pub put_back : {X : Type 0} (n : ℕ) (xs ws : List X) → n ≡ length xs → length ws ≡ length xs → take n (ws ++ drop (length ws) xs) ≡ ws
@@ -106,6 +107,10 @@ module _ (shown : Shown) (places : List ℕ) (old new : Option Stored) where
       long = cut.long;
     }
   ]
+
+  -- memory ran out
+  pub cut_none : IsCutAt shown places old old Memory
+  cut_none = record { count = 0; files = []; are = tt; part = part_none [] old; long = λ what e. absurd (let k : Memory ≡ TooLarge what = e in cc) }
 
   -- all were written whole
   module _ (files : Files) (are : AreFilesAt shown places files) (whole : AreWhole files old new) where

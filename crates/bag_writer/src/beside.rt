@@ -132,16 +132,7 @@ fn write_beside<T: CopiedTree, S: OpenSink>(
         }
         match begin_next(alloc, buffer, tree, sink, i, &mut copies) {
             Ok(()) => {}
-            Err(BeginFault::Memory) => {
-                close_all(tree, sink, copies);
-                return Err(WriteFault::Memory);
-            }
-            Err(BeginFault::Unopened(file)) => {
-                return Err(stop_unopened(tree, sink, set, copies, file));
-            }
-            Err(BeginFault::Stopped(fault, copy)) => {
-                return Err(stop(tree, sink, set, copies, fault, copy));
-            }
+            Err(fault) => return Err(stop_begun(tree, sink, set, copies, fault)),
         }
         if copies.len() < MOST_COPIED {
             continue;
@@ -368,6 +359,50 @@ fn finish<T: CopiedTree, S: OpenSink>(
             items
         }
         Err(stop) => Err(stopped_at(tree, sink, copies, stop)),
+    }
+}
+
+/// Takes all back where the next file wasn't begun, and answers what is told.
+fn stop_begun<T: CopiedTree, S: OpenSink>(
+    tree: &mut T,
+    sink: &mut S,
+    set: AlgSet,
+    copies: Vec<Copying<T::File, S::File>>,
+    fault: BeginFault<T::File, S::File>,
+) -> WriteFault
+    requires begun { AreUnderWay (sides T.File.place T.File.remaining T.File.failures T.File.ready
+        S.File.place S.File.holds S.File.failures S.File.sure)
+        (T.shown tree.old) set copies.items }
+    requires fault { (i : ℕ) × AreBefore T.File.place copies.items i
+        × IsBeginFault (sides T.File.place T.File.remaining T.File.failures T.File.ready
+        S.File.place S.File.holds S.File.failures S.File.sure)
+        (work_of (T.shown tree.old) false false) i fault }
+    ensures written { (i : ℕ) → IsBeginFault (sides T.File.place T.File.remaining T.File.failures T.File.ready
+        S.File.place S.File.holds S.File.failures S.File.sure)
+        (work_of (T.shown tree.old) false false) i fault → IsMetLater result
+        × IsCutAt (T.shown tree.old) (places_of T.File.place copies.items ++ i ∷ [])
+        (S.stored sink.old) (S.stored sink.new) result }
+    ensures calm { (i : ℕ) (tree_sure sink_sure : Bool) → AreFresh (sides T.File.place T.File.remaining T.File.failures T.File.ready
+        S.File.place S.File.holds S.File.failures S.File.sure)
+        (work_of (T.shown tree.old) tree_sure sink_sure) set 0 (length copies.items) copies.items
+        → IsBeginFault (sides T.File.place T.File.remaining T.File.failures T.File.ready
+        S.File.place S.File.holds S.File.failures S.File.sure)
+        (work_of (T.shown tree.old) tree_sure sink_sure) i fault
+        → (tree_sure ≡ true → result ≢ WriteFault.Tree)
+        × (sink_sure ≡ true → CanEnd (S.sure sink.old) (S.is_open sink.old) (S.stored sink.old)
+        (T.shown tree.old) (places_of T.File.place copies.items) → result ≢ WriteFault.Sink) }
+    ensures tree { TakesAllBack T.shown T.failures T.sure (length copies.items + files_with fault)
+        (result ≡ WriteFault.Tree) tree.old tree.new }
+    ensures sink { EndsCopies S.is_open S.failures S.sure (length copies.items + copies_with fault)
+        (result ≡ WriteFault.Sink) sink.old sink.new }
+{
+    match fault {
+        BeginFault::Memory => {
+            close_all(tree, sink, copies);
+            WriteFault::Memory
+        }
+        BeginFault::Unopened(file) => stop_unopened(tree, sink, set, copies, file),
+        BeginFault::Stopped(fault, copy) => stop(tree, sink, set, copies, fault, copy),
     }
 }
 
