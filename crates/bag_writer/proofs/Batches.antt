@@ -17,7 +17,7 @@ use Rattle.bag_writer.specs.Pending.{AddsCopy, CanBegin, work_of}
 use Rattle.bag_writer.specs.Returned.{AreByPlace, AreUnfailed, LeavesCopies}
 use Rattle.bag_writer.specs.Sinks.{Stored, UsesSink}
 use Rattle.bag_writer.specs.Steps.{ArePart, HasNoFile, NamesLong, written_payload}
-use Rattle.bag_writer.specs.Writing.{IsReadFrom}
+use Rattle.bag_writer.specs.Writing.{IsReadFrom, payload_paths}
 use Rattle.bag_writer.specs.declared.copying.Copying.{Copying}
 use Rattle.bag_writer.specs.declared.items.Items.{Items}
 use Rattle.bag_writer.specs.declared.payload.TheConstants.{BUFFER}
@@ -26,7 +26,8 @@ use Rattle.bag_writer.specs.declared.write_fault.Large.TheVariants as large
 use Rattle.bag_writer.specs.declared.write_fault.WriteFault.{WriteFault}
 use Rattle.bag_writer.specs.declared.write_fault.WriteFault.TheVariants.{Memory, TooLarge}
 use Rattle.bag_writer.proofs.PayloadLists.{ShownFile}
-use Rattle.bag_writer.proofs.PayloadSoFar.{HasWritten, nothing_written}
+use Rattle.bag_writer.proofs.PayloadSoFar.{HasWritten, none_at, nothing_written}
+use Rattle.bag_writer.proofs.CopyLemmas.{stands}
 use Rattle.bag_writer.proofs.Places.{IsBetween, between_next, between_none, between_passed, can_end, free_here, group_cut, group_written, rising_below}
 use Rattle.bag_writer.proofs.StepLemmas.{whole_none}
 
@@ -238,6 +239,17 @@ module _ {F G : Type 0} (s : Sides F G) (spec : Spec) (shown : Shown) (sure calm
           → (payload : Files) × IsReadFrom shown payload × (NamesLong large.File payload LARGEST_FILE fault × ArePart (written_payload spec payload) old end)
       hand_cut_next none is end fault cut =
           group_cut spec none shown hand.n (i + 1) old new items hand.files hand.so_far (places_of s.place copies ++ i ∷ []) (between_next shown hand.n i (places_of s.place copies) hand.between file here is) (let below = hand.low in omega (arith, below)) end fault cut
+
+    -- one of them is payload
+    pub hand_some : 0 < length copies → payload_paths shown ≡ [] → ⊥
+    hand_some some none =
+        let first = stands copies 0 some in
+        let place = s.place first.0.source in
+        let at : slice_get (places_of s.place copies) 0 ≡ Some place = slice_get-map (λ (c : Copying F G). s.place c.source) copies 0 ∙ ap (option_map (λ (c : Copying F G). s.place c.source)) first.1 in
+        let below = hand_before 0 first.0 first.1 in
+        let inside = hand.between.inside in
+        let there = stands shown.files place (omega (arith, below, inside)) in
+        none_at shown.files place there.0 there.1 (hand.between.payload 0 place there.0 at there.1) none
 
     -- one of them has stopped
     pub hand_cut : spec.holes.items ≡ [] → (end : Option Stored) (fault : WriteFault) → IsCutAt shown (places_of s.place copies) new end fault

@@ -64,7 +64,6 @@ impl<F, G> From<AllocError> for BeginFault<F, G> {
 ///
 /// `Tree`, `Sink` or `Memory` if the tree or the sink failed or memory ran out; `TooLarge` if a file has more than 2^40
 /// octets.
-#[tactic(none)]
 pub(crate) fn write_payload<T: CopiedTree, S: OpenSink>(
     alloc: Global,
     buffer: &mut [u8],
@@ -101,7 +100,6 @@ pub(crate) fn write_payload<T: CopiedTree, S: OpenSink>(
 /// # Errors
 ///
 /// Those of [`write_payload`].
-#[tactic(none)]
 fn write_beside<T: CopiedTree, S: OpenSink>(
     alloc: Global,
     buffer: &mut [u8],

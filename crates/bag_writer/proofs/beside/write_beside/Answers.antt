@@ -1,4 +1,6 @@
 use Rattle.std.proofs.Common.{◌≡◌, ◌≢◌, ◌∙◌, ◌+◌, ◌<◌, ◌≤◌, ◌++◌, ◌∷◌, [], ℕ, Bool, Err, IsErrOf, List, Ok, Option, Some, Vec, ap, arith, false, length, refl, rules, slice_get, subst, sym, true}
+use Rattle.std.specs.Prelude.{IfErr, OnOk, Result}
+use Rattle.std.proofs.lemmas.Bool.{eqb-false, eqb-true}
 use Rattle.std.proofs.lemmas.List.{length-map}
 use Rattle.std.proofs.lemmas.Result.{err_from_is_err_and}
 use Rattle.bag_rules.specs.Returning.{LeavesOut, TakesAllBack}
@@ -13,14 +15,15 @@ use Rattle.bag_writer.specs.declared.spec.Spec.{Spec}
 use Rattle.bag_writer.specs.declared.write_fault.Large.TheVariants as large
 use Rattle.bag_rules.specs.Files.{Files}
 use Rattle.bag_rules.specs.declared.limits.TheConstants.{LARGEST_FILE}
-use Rattle.bag_writer.specs.Writing.{IsReadFrom}
+use Rattle.bag_writer.specs.Writing.{IsMetLater, IsReadFrom, payload_paths}
 use Rattle.bag_writer.specs.declared.write_fault.WriteFault.{WriteFault}
 use Rattle.bag_writer.specs.declared.write_fault.WriteFault.TheVariants.{Memory, Sink, TooLarge, Tree}
-use Rattle.bag_writer.proofs.Batches.{HasOut, InHand, adds_count, copies_ends, ends_so, hand_before, hand_can_begin, hand_can_end, hand_cut, hand_cut_next, hand_finished, hand_first, hand_next, hand_passed, hand_settled, hand_under_way, none_left, none_more, none_out, out_on, sink_used, tree_used}
+use Rattle.bag_writer.proofs.Batches.{HasOut, InHand, adds_count, copies_ends, ends_so, hand_before, hand_can_begin, hand_can_end, hand_cut, hand_cut_next, hand_finished, hand_first, hand_next, hand_passed, hand_settled, hand_some, hand_under_way, none_left, none_more, none_out, out_on, sink_used, tree_used}
 use Rattle.bag_writer.proofs.Cutting.{copies_all, files_all, files_back_so}
-use Rattle.bag_writer.proofs.FilesOut.{sink_after, tree_back, tree_none, tree_on, tree_same}
+use Rattle.bag_writer.proofs.FilesOut.{sink_same, tree_back, tree_none, tree_on, tree_same}
 use Rattle.bag_writer.proofs.PayloadSoFar.{all_finished, none_at, shown_at}
 use Rattle.bag_writer.proofs.SinkKept.{err_again}
+use Rattle.bag_writer.proofs.SinkUses.{ok_is_no_error}
 use Rattle.bag_writer.proofs.beside.write_beside.Goals as goal
 
 -- what is written of some payload, if there is this fault
@@ -29,6 +32,26 @@ Written spec shown old new fault = (payload : Files) × IsReadFrom shown payload
 
 not_ever : {A : Type 0} → (false ≡ true) → A
 not_ever e = let k : false ≡ true = e in cc
+
+nothing : {X : Type 0} (xs : List X) → length xs ≡ 0 → xs ≡ []
+nothing [] none = refl
+nothing (x ∷ xs) none = absurd (omega (arith, none))
+
+met_memory : {X : Type 0} (r : Result X WriteFault) → IfErr r (λ fault. fault ≡ Memory) → IfErr r IsMetLater
+met_memory (Ok x) refused = tt
+met_memory (Err fault) refused = subst IsMetLater (sym refused) tt
+
+not_tree : {X : Type 0} (r : Result X WriteFault) → IfErr r (λ fault. fault ≡ Memory) → ¬ IsErrOf r Tree
+not_tree (Ok x) refused e = cc
+not_tree (Err fault) refused e = let k : fault ≡ Tree = cc in let m : Memory ≡ Tree = sym refused ∙ k in cc
+
+not_sink : {X : Type 0} (r : Result X WriteFault) → IfErr r (λ fault. fault ≡ Memory) → ¬ IsErrOf r Sink
+not_sink (Ok x) refused e = cc
+not_sink (Err fault) refused e = let k : fault ≡ Sink = cc in let m : Memory ≡ Sink = sym refused ∙ k in cc
+
+on_ok : {X P : Type 0} (r : Result X WriteFault) → P → OnOk r P
+on_ok (Ok x) is = is
+on_ok (Err fault) is = tt
 
 same_told : {A : Type 0} {x y : WriteFault} → IsErrOf {T = A} (Err x) y → x ≡ y
 same_told e = cc
@@ -276,8 +299,8 @@ returns-in-Err-clause-sink g c =
       closed = λ h. tt;
     }
 
-pub loop-i-preserved-then-LEN : goal.loop-i-preserved-then-LEN
-loop-i-preserved-then-LEN g c =
+pub loop-i-preserved-then-len-lt-MOST_COPIED : goal.loop-i-preserved-then-len-lt-MOST_COPIED
+loop-i-preserved-then-len-lt-MOST_COPIED g c =
     let s = sides g.T.File.OpenFile.place g.T.File.Source.remaining g.T.File.Source.failures g.T.File.Source.ready g.S.File.SinkFile.place g.S.File.SinkFile.holds g.S.File.SinkFile.failures g.S.File.SinkFile.sure in
     let shown = g.T.Paths.shown c.args.tree.now in
     let spec = c.args.spec.now in
@@ -495,5 +518,247 @@ loop-i-preserved g c =
       out = subst (λ n. LeavesOut g.T.Paths.shown g.T.Source.failures g.T.Tree.sure 0 n c.args.tree.now c.finish.new.tree) count (none_left (length ys) out done.ensures.tree (λ f. cc f));
       copies_out = subst (λ n. HasOut g.S.Sink.is_open g.S.Sink.failures g.S.Sink.sure n c.args.sink.now c.finish.new.sink) count (none_more (length ys) sent done.ensures.sink (λ f. cc f));
       unread = λ none. absurd (none_at shown.files i place.0 place.1.0 is none);
+    }
+
+pub path-requires : goal.path-requires
+path-requires g c =
+    subst (λ (sh : Shown). c.loop-i.i < length (paths_in sh)) (sym c.loop-i.invariant.out.kept.same) (omega (arith, c.count-i-end.ensures.files, c.loop-i-test.true))
+
+pub returns-then-is_empty-clause-written : goal.returns-then-is_empty-clause-written
+returns-then-is_empty-clause-written g c =
+    let s = sides g.T.File.OpenFile.place g.T.File.Source.remaining g.T.File.Source.failures g.T.File.Source.ready g.S.File.SinkFile.place g.S.File.SinkFile.holds g.S.File.SinkFile.failures g.S.File.SinkFile.sure in
+    let shown = g.T.Paths.shown c.args.tree.now in
+    let spec = c.args.spec.now in
+    let inv = c.loop-i.invariant in
+    let old = g.S.Sink.stored c.args.sink.now in
+    let mid = g.S.Sink.stored c.loop-i.sink in
+    let i = c.loop-i.i in
+    let xs = c.loop-i.copies.items in
+    let items = c.loop-i.items in
+    let sure = g.T.Tree.sure c.args.tree.now in
+    let calm : Type 0 = g.S.Sink.sure c.args.sink.now × (g.S.Sink.is_open c.args.sink.now ≡ false) × HasNoFile old in
+    let e = inv.out.kept.same in
+    let last : length shown.files ≤ i = omega (arith, c.count-i-end.ensures.files, c.loop-i-test.false, length-map shown.files (λ (f : List ℕ × Option (List ℕ)). f.0)) in
+    let zero : c.loop-i.copies.len ≡ 0 = eqb-true c.loop-i.copies.len 0 (sym c.is_empty.ensures ∙ c.if-is_empty.true) in
+    let many : length xs ≡ 0 = omega (arith, zero, c.loop-i.copies.ok.0) in
+    let none = sym many in
+    let result = c.finish-then-is_empty.result in
+    let refused = c.finish-then-is_empty.ensures.err in
+    let all = hand_settled s spec shown sure calm old mid i items xs inv.hand c.requires.ready.1 (nothing xs many) in
+    all_finished spec shown i old mid items all.0 all.1 last result (c.finish-then-is_empty.ensures.all spec.algs (payload_of all.0) all.1.items_are) refused
+
+pub returns-then-is_empty-clause-err : goal.returns-then-is_empty-clause-err
+returns-then-is_empty-clause-err g c = met_memory c.finish-then-is_empty.result c.finish-then-is_empty.ensures.err
+
+pub returns-then-is_empty-clause-tree : goal.returns-then-is_empty-clause-tree
+returns-then-is_empty-clause-tree g c =
+    let s = sides g.T.File.OpenFile.place g.T.File.Source.remaining g.T.File.Source.failures g.T.File.Source.ready g.S.File.SinkFile.place g.S.File.SinkFile.holds g.S.File.SinkFile.failures g.S.File.SinkFile.sure in
+    let shown = g.T.Paths.shown c.args.tree.now in
+    let spec = c.args.spec.now in
+    let inv = c.loop-i.invariant in
+    let old = g.S.Sink.stored c.args.sink.now in
+    let mid = g.S.Sink.stored c.loop-i.sink in
+    let i = c.loop-i.i in
+    let xs = c.loop-i.copies.items in
+    let items = c.loop-i.items in
+    let sure = g.T.Tree.sure c.args.tree.now in
+    let calm : Type 0 = g.S.Sink.sure c.args.sink.now × (g.S.Sink.is_open c.args.sink.now ≡ false) × HasNoFile old in
+    let e = inv.out.kept.same in
+    let zero : c.loop-i.copies.len ≡ 0 = eqb-true c.loop-i.copies.len 0 (sym c.is_empty.ensures ∙ c.if-is_empty.true) in
+    let many : length xs ≡ 0 = omega (arith, zero, c.loop-i.copies.ok.0) in
+    let none = sym many in
+    let result = c.finish-then-is_empty.result in
+    let refused = c.finish-then-is_empty.ensures.err in
+    record {
+      uses = tree_used (length xs) inv.out (tree_none (length xs) (subst (λ n. LeavesOut g.T.Paths.shown g.T.Source.failures g.T.Tree.sure n 0 c.loop-i.tree c.loop-i.tree) none (tree_same 0)) (not_tree result refused)) (λ su f. not_tree result refused f);
+      unread = inv.unread;
+    }
+
+pub returns-then-is_empty-clause-sink : goal.returns-then-is_empty-clause-sink
+returns-then-is_empty-clause-sink g c =
+    let s = sides g.T.File.OpenFile.place g.T.File.Source.remaining g.T.File.Source.failures g.T.File.Source.ready g.S.File.SinkFile.place g.S.File.SinkFile.holds g.S.File.SinkFile.failures g.S.File.SinkFile.sure in
+    let shown = g.T.Paths.shown c.args.tree.now in
+    let spec = c.args.spec.now in
+    let inv = c.loop-i.invariant in
+    let old = g.S.Sink.stored c.args.sink.now in
+    let mid = g.S.Sink.stored c.loop-i.sink in
+    let i = c.loop-i.i in
+    let xs = c.loop-i.copies.items in
+    let items = c.loop-i.items in
+    let sure = g.T.Tree.sure c.args.tree.now in
+    let calm : Type 0 = g.S.Sink.sure c.args.sink.now × (g.S.Sink.is_open c.args.sink.now ≡ false) × HasNoFile old in
+    let e = inv.out.kept.same in
+    let zero : c.loop-i.copies.len ≡ 0 = eqb-true c.loop-i.copies.len 0 (sym c.is_empty.ensures ∙ c.if-is_empty.true) in
+    let many : length xs ≡ 0 = omega (arith, zero, c.loop-i.copies.ok.0) in
+    let none = sym many in
+    let result = c.finish-then-is_empty.result in
+    let refused = c.finish-then-is_empty.ensures.err in
+    record {
+      uses = sink_used (length xs) inv.copies_out (copies_ends (length xs) (subst (λ n. LeavesCopies g.S.Sink.stored g.S.Sink.is_open g.S.Sink.failures g.S.Sink.sure n 0 c.loop-i.sink c.loop-i.sink) none (sink_same 0)) (not_sink result refused)) (λ su order f. not_sink result refused f);
+      closed = λ h. on_ok result (inv.copies_out.as_open ∙ h);
+    }
+
+pub finish-requires-2 : goal.finish-requires-2
+finish-requires-2 g c =
+    let s = sides g.T.File.OpenFile.place g.T.File.Source.remaining g.T.File.Source.failures g.T.File.Source.ready g.S.File.SinkFile.place g.S.File.SinkFile.holds g.S.File.SinkFile.failures g.S.File.SinkFile.sure in
+    let shown = g.T.Paths.shown c.args.tree.now in
+    let spec = c.args.spec.now in
+    let inv = c.loop-i.invariant in
+    let old = g.S.Sink.stored c.args.sink.now in
+    let mid = g.S.Sink.stored c.loop-i.sink in
+    let i = c.loop-i.i in
+    let xs = c.loop-i.copies.items in
+    let items = c.loop-i.items in
+    let sure = g.T.Tree.sure c.args.tree.now in
+    let calm : Type 0 = g.S.Sink.sure c.args.sink.now × (g.S.Sink.is_open c.args.sink.now ≡ false) × HasNoFile old in
+    let e = inv.out.kept.same in
+    subst (λ sh. AreUnderWay s sh spec.algs xs) (sym e) (hand_under_way s spec shown sure calm old mid i items xs inv.hand)
+
+pub returns-in_err-items-2-clause-written : goal.returns-in_err-items-2-clause-written
+returns-in_err-items-2-clause-written g c =
+    let s = sides g.T.File.OpenFile.place g.T.File.Source.remaining g.T.File.Source.failures g.T.File.Source.ready g.S.File.SinkFile.place g.S.File.SinkFile.holds g.S.File.SinkFile.failures g.S.File.SinkFile.sure in
+    let shown = g.T.Paths.shown c.args.tree.now in
+    let spec = c.args.spec.now in
+    let inv = c.loop-i.invariant in
+    let old = g.S.Sink.stored c.args.sink.now in
+    let mid = g.S.Sink.stored c.loop-i.sink in
+    let i = c.loop-i.i in
+    let xs = c.loop-i.copies.items in
+    let items = c.loop-i.items in
+    let sure = g.T.Tree.sure c.args.tree.now in
+    let calm : Type 0 = g.S.Sink.sure c.args.sink.now × (g.S.Sink.is_open c.args.sink.now ≡ false) × HasNoFile old in
+    let e = inv.out.kept.same in
+    let p = err_from_is_err_and c.from_residual-in_err-items-2.result c.from_residual-in_err-items-2.ensures.1 in
+    let bad = c.in_err-items-2 in
+    let end = g.S.Sink.stored c.finish-2.new.sink in
+    rw (p.1, p.2) (hand_cut s spec shown sure calm old mid i items xs inv.hand c.requires.ready.1 end bad.field-0.0 (subst (λ sh. IsCutAt sh (places_of s.place xs) mid end bad.field-0.0) e bad.ensures.written.1))
+
+pub returns-in_err-items-2-clause-err : goal.returns-in_err-items-2-clause-err
+returns-in_err-items-2-clause-err g c =
+    let p = err_from_is_err_and c.from_residual-in_err-items-2.result c.from_residual-in_err-items-2.ensures.1 in
+    let bad = c.in_err-items-2 in
+    let end = g.S.Sink.stored c.finish-2.new.sink in
+    rw (p.1, p.2) bad.ensures.written.0
+
+pub returns-in_err-items-2-clause-tree : goal.returns-in_err-items-2-clause-tree
+returns-in_err-items-2-clause-tree g c =
+    let s = sides g.T.File.OpenFile.place g.T.File.Source.remaining g.T.File.Source.failures g.T.File.Source.ready g.S.File.SinkFile.place g.S.File.SinkFile.holds g.S.File.SinkFile.failures g.S.File.SinkFile.sure in
+    let shown = g.T.Paths.shown c.args.tree.now in
+    let spec = c.args.spec.now in
+    let inv = c.loop-i.invariant in
+    let old = g.S.Sink.stored c.args.sink.now in
+    let mid = g.S.Sink.stored c.loop-i.sink in
+    let i = c.loop-i.i in
+    let xs = c.loop-i.copies.items in
+    let items = c.loop-i.items in
+    let sure = g.T.Tree.sure c.args.tree.now in
+    let calm : Type 0 = g.S.Sink.sure c.args.sink.now × (g.S.Sink.is_open c.args.sink.now ≡ false) × HasNoFile old in
+    let e = inv.out.kept.same in
+    let p = err_from_is_err_and c.from_residual-in_err-items-2.result c.from_residual-in_err-items-2.ensures.1 in
+    let bad = c.in_err-items-2 in
+    let end = g.S.Sink.stored c.finish-2.new.sink in
+    let some : 0 < length xs = (let not : c.loop-i.copies.len ≡ 0 → ⊥ = eqb-false c.loop-i.copies.len 0 (sym c.is_empty.ensures ∙ c.if-is_empty.false) in omega (arith, not, c.loop-i.copies.ok.0)) in
+    let unread = λ (none : payload_paths shown ≡ []). hand_some s spec shown sure calm old mid i items xs inv.hand some none in
+    rw (p.1, p.2) (record {
+      uses = tree_used (length xs) inv.out (files_back_so (length xs) bad.ensures.tree (λ f. err_again f) (λ f. err_again f)) (λ su f. (bad.ensures.calm true false (subst (λ sh. AreFresh s (work_of sh true false) spec.algs 0 (length xs) xs) (sym e) (inv.hand.fresh true false (λ t. su) (λ t. not_ever t)))).0 refl (err_again f));
+      unread = λ none. absurd (unread none);
+    })
+
+pub returns-in_err-items-2-clause-sink : goal.returns-in_err-items-2-clause-sink
+returns-in_err-items-2-clause-sink g c =
+    let s = sides g.T.File.OpenFile.place g.T.File.Source.remaining g.T.File.Source.failures g.T.File.Source.ready g.S.File.SinkFile.place g.S.File.SinkFile.holds g.S.File.SinkFile.failures g.S.File.SinkFile.sure in
+    let shown = g.T.Paths.shown c.args.tree.now in
+    let spec = c.args.spec.now in
+    let inv = c.loop-i.invariant in
+    let old = g.S.Sink.stored c.args.sink.now in
+    let mid = g.S.Sink.stored c.loop-i.sink in
+    let i = c.loop-i.i in
+    let xs = c.loop-i.copies.items in
+    let items = c.loop-i.items in
+    let sure = g.T.Tree.sure c.args.tree.now in
+    let calm : Type 0 = g.S.Sink.sure c.args.sink.now × (g.S.Sink.is_open c.args.sink.now ≡ false) × HasNoFile old in
+    let e = inv.out.kept.same in
+    let p = err_from_is_err_and c.from_residual-in_err-items-2.result c.from_residual-in_err-items-2.ensures.1 in
+    let bad = c.in_err-items-2 in
+    let end = g.S.Sink.stored c.finish-2.new.sink in
+    rw (p.1, p.2) (record {
+      uses = sink_used (length xs) inv.copies_out (ends_so (length xs) bad.ensures.sink (λ f. err_again f) (λ f. err_again f)) (λ su order f. (bad.ensures.calm false true (subst (λ sh. AreFresh s (work_of sh false true) spec.algs 0 (length xs) xs) (sym e) (inv.hand.fresh false true (λ t. not_ever t) (λ t. (su, order.0, order.1))))).1 refl
+          (subst (λ sh. CanEnd (g.S.Sink.sure c.loop-i.sink) (g.S.Sink.is_open c.loop-i.sink) mid sh (places_of s.place xs)) (sym e)
+          (hand_can_end s spec shown sure calm old mid i items xs inv.hand c.requires.ready.1 c.count-i-end.ensures.rising order.1 (g.S.Sink.sure c.loop-i.sink) (g.S.Sink.is_open c.loop-i.sink) (inv.copies_out.stays_sure su) (inv.copies_out.as_open ∙ order.0))) (err_again f));
+      closed = λ h. tt;
+    })
+
+pub returns-clause-written : goal.returns-clause-written
+returns-clause-written g c =
+    let s = sides g.T.File.OpenFile.place g.T.File.Source.remaining g.T.File.Source.failures g.T.File.Source.ready g.S.File.SinkFile.place g.S.File.SinkFile.holds g.S.File.SinkFile.failures g.S.File.SinkFile.sure in
+    let shown = g.T.Paths.shown c.args.tree.now in
+    let spec = c.args.spec.now in
+    let inv = c.loop-i.invariant in
+    let old = g.S.Sink.stored c.args.sink.now in
+    let mid = g.S.Sink.stored c.loop-i.sink in
+    let i = c.loop-i.i in
+    let xs = c.loop-i.copies.items in
+    let items = c.loop-i.items in
+    let sure = g.T.Tree.sure c.args.tree.now in
+    let calm : Type 0 = g.S.Sink.sure c.args.sink.now × (g.S.Sink.is_open c.args.sink.now ≡ false) × HasNoFile old in
+    let e = inv.out.kept.same in
+    let last : length shown.files ≤ i = omega (arith, c.count-i-end.ensures.files, c.loop-i-test.false, length-map shown.files (λ (f : List ℕ × Option (List ℕ)). f.0)) in
+    let done = c.in_ok-items-2 in
+    let end = g.S.Sink.stored c.finish-2.new.sink in
+    let result = c.finish-3.result in
+    let refused = c.finish-3.ensures.err in
+    let finished = hand_finished s spec shown sure calm old mid i items xs inv.hand c.requires.ready.1 end done.items (subst (λ sh. AreFinished spec.algs sh (places_of s.place xs) items done.items mid end) e done.ensures.written) in
+    let all = hand_settled s spec shown sure calm old end i done.items [] finished c.requires.ready.1 refl in
+    all_finished spec shown i old end done.items all.0 all.1 last result (c.finish-3.ensures.all spec.algs (payload_of all.0) all.1.items_are) refused
+
+pub returns-clause-err : goal.returns-clause-err
+returns-clause-err g c = met_memory c.finish-3.result c.finish-3.ensures.err
+
+pub returns-clause-tree : goal.returns-clause-tree
+returns-clause-tree g c =
+    let s = sides g.T.File.OpenFile.place g.T.File.Source.remaining g.T.File.Source.failures g.T.File.Source.ready g.S.File.SinkFile.place g.S.File.SinkFile.holds g.S.File.SinkFile.failures g.S.File.SinkFile.sure in
+    let shown = g.T.Paths.shown c.args.tree.now in
+    let spec = c.args.spec.now in
+    let inv = c.loop-i.invariant in
+    let old = g.S.Sink.stored c.args.sink.now in
+    let mid = g.S.Sink.stored c.loop-i.sink in
+    let i = c.loop-i.i in
+    let xs = c.loop-i.copies.items in
+    let items = c.loop-i.items in
+    let sure = g.T.Tree.sure c.args.tree.now in
+    let calm : Type 0 = g.S.Sink.sure c.args.sink.now × (g.S.Sink.is_open c.args.sink.now ≡ false) × HasNoFile old in
+    let e = inv.out.kept.same in
+    let done = c.in_ok-items-2 in
+    let end = g.S.Sink.stored c.finish-2.new.sink in
+    let result = c.finish-3.result in
+    let refused = c.finish-3.ensures.err in
+    let some : 0 < length xs = (let not : c.loop-i.copies.len ≡ 0 → ⊥ = eqb-false c.loop-i.copies.len 0 (sym c.is_empty.ensures ∙ c.if-is_empty.false) in omega (arith, not, c.loop-i.copies.ok.0)) in
+    let unread = λ (none : payload_paths shown ≡ []). hand_some s spec shown sure calm old mid i items xs inv.hand some none in
+    record {
+      uses = tree_used (length xs) inv.out (files_back_so (length xs) done.ensures.tree (λ f. absurd (ok_is_no_error done.items f)) (λ f. absurd (not_tree result refused f))) (λ su f. not_tree result refused f);
+      unread = λ none. absurd (unread none);
+    }
+
+pub returns-clause-sink : goal.returns-clause-sink
+returns-clause-sink g c =
+    let s = sides g.T.File.OpenFile.place g.T.File.Source.remaining g.T.File.Source.failures g.T.File.Source.ready g.S.File.SinkFile.place g.S.File.SinkFile.holds g.S.File.SinkFile.failures g.S.File.SinkFile.sure in
+    let shown = g.T.Paths.shown c.args.tree.now in
+    let spec = c.args.spec.now in
+    let inv = c.loop-i.invariant in
+    let old = g.S.Sink.stored c.args.sink.now in
+    let mid = g.S.Sink.stored c.loop-i.sink in
+    let i = c.loop-i.i in
+    let xs = c.loop-i.copies.items in
+    let items = c.loop-i.items in
+    let sure = g.T.Tree.sure c.args.tree.now in
+    let calm : Type 0 = g.S.Sink.sure c.args.sink.now × (g.S.Sink.is_open c.args.sink.now ≡ false) × HasNoFile old in
+    let e = inv.out.kept.same in
+    let done = c.in_ok-items-2 in
+    let end = g.S.Sink.stored c.finish-2.new.sink in
+    let result = c.finish-3.result in
+    let refused = c.finish-3.ensures.err in
+    record {
+      uses = sink_used (length xs) inv.copies_out (ends_so (length xs) done.ensures.sink (λ f. absurd (ok_is_no_error done.items f)) (λ f. absurd (not_sink result refused f))) (λ su order f. not_sink result refused f);
+      closed = λ h. on_ok result (done.ensures.sink.as_open ∙ inv.copies_out.as_open ∙ h);
     }
 
