@@ -211,12 +211,12 @@ impl<R: Names> OpenSink for FolderSink<R> {
     ) -> Result<FolderSinkFile<R>, AllocError> {
         let mut name = String::with_capacity(alloc, self.name.capacity())?;
         self.troubles.raise()?;
+        if self.file.is_some() {
+            return Ok(FolderSinkFile::new(place, name, Err(None)));
+        }
         let below = path.as_str();
         let folder = self.folder.as_str();
-        let begun = match self.file {
-            Some(_) => Err(None),
-            None => created(&mut self.rt, &mut name, &mut self.made, folder, below),
-        };
+        let begun = created(&mut self.rt, &mut name, &mut self.made, folder, below);
         Ok(FolderSinkFile::new(place, name, begun))
     }
 

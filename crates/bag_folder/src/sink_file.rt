@@ -1,4 +1,7 @@
 //! Files that were begun in a folder that a bag is written to.
+ghost use Rattle.std.specs.Prelude.{◌≡◌, IsErr, IsOk, MatchResult};
+ghost use Rattle.bag_digest.specs.Failures.{CountsIf};
+
 use crate::names::Names;
 use crate::unfit::{Cause, Unfit, with_cause};
 use bag_digest::{Failed, Failures};
@@ -22,7 +25,10 @@ impl<R: Names> FolderSinkFile<R> {
         place: usize,
         name: String,
         begun: Result<R::Writer, Option<Cause>>,
-    ) -> FolderSinkFile<R> {
+    ) -> FolderSinkFile<R>
+        ensures placed { result.place ≡ place }
+        ensures failures { MatchResult begun (λ _. result.failures ≡ 0) (λ _. result.failures ≡ 1) }
+    {
         let mut file = FolderSinkFile {
             place,
             name,
@@ -35,7 +41,10 @@ impl<R: Names> FolderSinkFile<R> {
     }
 
     /// Closes the file without waiting until its content is on the disk.
-    pub(crate) fn end(&mut self) -> Result<(), Failed> {
+    pub(crate) fn end(&mut self) -> Result<(), Failed>
+        ensures counted { CountsIf (IsErr result) self.old.failures self.new.failures }
+        ensures place { self.new.place ≡ self.old.place }
+    {
         let answer = match self.begun.take() {
             Some(mut file) => with_cause(file.flush()),
             None => Err(None),
@@ -44,7 +53,10 @@ impl<R: Names> FolderSinkFile<R> {
     }
 
     /// Counts that it can't be ended.
-    pub(crate) fn refuse(&mut self) -> Result<(), Failed> {
+    pub(crate) fn refuse(&mut self) -> Result<(), Failed>
+        ensures counted { CountsIf (IsErr result) self.old.failures self.new.failures }
+        ensures place { self.new.place ≡ self.old.place }
+    {
         self.counted(Err(None))
     }
 
@@ -60,7 +72,12 @@ impl<R: Names> FolderSinkFile<R> {
         }
     }
 
-    fn counted<A>(&mut self, answer: Result<A, Option<Cause>>) -> Result<A, Failed> {
+    /// Counts the result of a call on it if it is an error, and keeps the cause.
+    fn counted<A>(&mut self, answer: Result<A, Option<Cause>>) -> Result<A, Failed>
+        ensures answer { MatchResult answer (λ _. IsOk result) (λ _. IsErr result) }
+        ensures counted { CountsIf (IsErr result) self.old.failures self.new.failures }
+        ensures place { self.new.place ≡ self.old.place }
+    {
         match answer {
             Ok(value) => Ok(value),
             Err(cause) => {
