@@ -40,9 +40,9 @@ returns-in_default-clause-copies g c =
         refl,
         unfailed_before g.S.File.SinkFile.failures k xs _ (λ j apart. set_there xs k j new apart) inv.unfailed,
         λ each at. (
-          let own : new ≡ each = same_Some new each (sym (set_here xs k new inside) ∙ at) in
-          let rose = c.in_default.ensures.counted.rises refl in
-          omega (arith, rose, ap (λ (e : Copying _ _). g.S.File.SinkFile.failures e.target) own)),
+            let own : new ≡ each = same_Some new each (sym (set_here xs k new inside) ∙ at) in
+            let rose = c.in_default.ensures.counted.rises refl in
+            omega (arith, rose, ap (λ (e : Copying _ _). g.S.File.SinkFile.failures e.target) own)),
       );
     }
 

@@ -170,8 +170,7 @@ returns-in-Err-clause-written g c =
     let stop = c.in-Err.stop in
     let tells = λ (each : _) (at : slice_get zs stop.place ≡ Some each). subst (λ sh. IsToldOf sh (s.place each.source) stop.fault c.stopped_at.result) refl (c.stopped_at.ensures.told each (subst (λ ls. slice_get ls stop.place ≡ Some each) (sym all) at)) in
     let one = stands zs stop.place is.inside in
-    let told = tells one.0 one.1 in
-    (
+    let told = tells one.0 one.1 in (
       told.met,
       subst (λ new. IsCutAt shown (places_of s.place xs) (g.S.Sink.stored c.args.sink.now) new c.stopped_at.result) (sym c.stopped_at.ensures.sink.held)
           (stopped_told s shown xs zs keep _ _ stop c.stopped_at.result is tells),

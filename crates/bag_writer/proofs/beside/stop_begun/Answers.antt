@@ -127,4 +127,3 @@ returns-in-Stopped-clause-sink g c =
     let shown = g.T.Paths.shown c.args.tree.now in
     let xs = c.args.copies.items in
     subst (λ f. EndsCopies g.S.Sink.is_open g.S.Sink.failures g.S.Sink.sure (length xs + copies_with f) (c.stop.result ≡ Sink) c.args.sink.now c.stop.new.sink) (sym c.in-Stopped.is) c.stop.ensures.sink
-

@@ -295,7 +295,7 @@ returns-in-Err-clause-sink g c =
       uses = sink_used many (out_on (length xs) many inv.copies_out left) (ends_so many c.stop_begun.ensures.sink (λ f. ap Err f) (λ f. same_told f))
           (λ su order f. (c.stop_begun.ensures.calm i false true (subst (λ sh. AreFresh s (work_of sh false true) spec.algs 0 (length ys) ys) (sym moved) (subst (λ ls. AreFresh s (work_of shown false true) spec.algs 0 (length ls) ls) (sym same) (inv.hand.fresh false true (λ t. not_ever t) (λ t. (su, order.0, order.1))))) (subst (λ sh. IsBeginFault s (work_of sh false true) i bad.fault) (sym moved) (told_of false true (λ t. not_ever t) (λ t. (su, order.0, order.1))).1)).1 refl
           (subst (λ sh. CanEnd (g.S.Sink.sure c.begin_next.new.sink) (g.S.Sink.is_open c.begin_next.new.sink) now sh (places_of s.place ys)) (sym moved) (subst (λ ls. CanEnd (g.S.Sink.sure c.begin_next.new.sink) (g.S.Sink.is_open c.begin_next.new.sink) now shown (places_of s.place ls)) (sym same)
-        (hand_can_end s spec shown sure calm old now i items xs hand c.requires.ready.1 c.count-i-end.ensures.rising order.1 (g.S.Sink.sure c.begin_next.new.sink) (g.S.Sink.is_open c.begin_next.new.sink) ((bad.ensures.sink 0).stays_sure (inv.copies_out.stays_sure su)) ((bad.ensures.sink 0).as_open ∙ inv.copies_out.as_open ∙ order.0)))) (same_told f));
+          (hand_can_end s spec shown sure calm old now i items xs hand c.requires.ready.1 c.count-i-end.ensures.rising order.1 (g.S.Sink.sure c.begin_next.new.sink) (g.S.Sink.is_open c.begin_next.new.sink) ((bad.ensures.sink 0).stays_sure (inv.copies_out.stays_sure su)) ((bad.ensures.sink 0).as_open ∙ inv.copies_out.as_open ∙ order.0)))) (same_told f));
       closed = λ h. tt;
     }
 
@@ -761,4 +761,3 @@ returns-clause-sink g c =
       uses = sink_used (length xs) inv.copies_out (ends_so (length xs) done.ensures.sink (λ f. absurd (ok_is_no_error done.items f)) (λ f. absurd (not_sink result refused f))) (λ su order f. not_sink result refused f);
       closed = λ h. on_ok result (done.ensures.sink.as_open ∙ inv.copies_out.as_open ∙ h);
     }
-
