@@ -9,9 +9,8 @@ use crate::no_result::NoResult;
 use crate::output::Output;
 use crate::status::{DONE, FAILED, REFUSED, USAGE};
 use bag_digest::{Alg, AlgSet};
-use bag_rules::Tree;
 use bag_tags::{Info, Oxum};
-use bag_writer::{Large, Sink, Spec, WriteFault, write_bag};
+use bag_writer::{CopiedTree, Large, OpenSink, Spec, WriteFault, write_bag};
 use std::alloc::Global;
 use std::fmt::{self, Display, Formatter};
 use std::io::Write;
@@ -29,7 +28,7 @@ pub struct MakeEnd {
 /// result and returns the status, as [`print_making`] does. An algorithm that is named twice counts once.
 ///
 /// If a name is unknown, prints the first such name and returns [`USAGE`]. Neither the tree nor the sink is used then.
-pub fn make_to<T: Tree, S: Sink, W: Write + Drop>(
+pub fn make_to<T: CopiedTree, S: OpenSink, W: Write + Drop>(
     alloc: Global,
     names: &[String],
     tree: &mut T,
@@ -68,7 +67,7 @@ fn large_in(answer: Result<Oxum, WriteFault>) -> Option<Large>
 
 /// Writes a bag of a tree's payload files, with manifests by these algorithms and without `bag-info.txt` elements or
 /// holes.
-fn write_plain<T: Tree, S: Sink>(
+fn write_plain<T: CopiedTree, S: OpenSink>(
     alloc: Global,
     algs: AlgSet,
     tree: &mut T,

@@ -10,12 +10,14 @@ use crate::directory::EntryKind;
 use crate::name::{created, created_directory};
 use crate::names::Names;
 use crate::open_fault::OpenFault;
+use crate::sink_file::FolderSinkFile;
 use crate::troubles::Troubles;
 use crate::unfit::{Unfit, with_cause};
 use bag_digest::Failed;
 use bag_path::{BagPath, LONGEST_PATH};
-use bag_writer::Sink;
-use std::alloc::Global;
+use bag_rules::OpenTree;
+use bag_writer::{OpenSink, Sink};
+use std::alloc::{AllocError, Global};
 use std::io::Write;
 use std::marker::Model;
 
@@ -194,5 +196,60 @@ impl<R: Names> Sink for FolderSink<R> {
 
     fn failures(&self) -> u64 {
         self.troubles.failures()
+    }
+}
+
+impl<R: Names> OpenSink for FolderSink<R> {
+    type File = FolderSinkFile<R>;
+
+    /// Creates the file, which must not exist yet, and its parent directories. Memory is needed for its name alone.
+    fn begin_file(
+        &mut self,
+        alloc: Global,
+        place: usize,
+        path: &BagPath,
+    ) -> Result<FolderSinkFile<R>, AllocError> {
+        let mut name = String::with_capacity(alloc, self.name.capacity())?;
+        self.troubles.raise()?;
+        if self.file.is_some() {
+            return Ok(FolderSinkFile::new(place, name, Err(None)));
+        }
+        let below = path.as_str();
+        let folder = self.folder.as_str();
+        let begun = created(&mut self.rt, &mut name, &mut self.made, folder, below);
+        Ok(FolderSinkFile::new(place, name, begun))
+    }
+
+    /// Closes the file on the disk, without waiting until its content is there.
+    fn end_file(&mut self, file: &mut FolderSinkFile<R>) -> Result<(), Failed> {
+        match self.file {
+            Some(_) => file.refuse(),
+            None => file.end(),
+        }
+    }
+
+    /// Closes the file. One that wasn't ended stays in the folder as far as it was written.
+    fn close(&mut self, _file: FolderSinkFile<R>) {
+        self.troubles.lower();
+    }
+
+    /// Closes the file, and keeps its name and why it failed the last time as what couldn't be used. Allocates no memory.
+    fn fail(&mut self, file: FolderSinkFile<R>) {
+        self.troubles.tell(file.into_trouble());
+    }
+
+    /// Closes the file, and tells nothing of it. It stays in the folder as far as it was written.
+    fn give_up(&mut self, _file: FolderSinkFile<R>, _first: &FolderSinkFile<R>) {
+        self.troubles.lower();
+    }
+
+    /// Does the same.
+    fn give_up_unread<T: OpenTree>(
+        &mut self,
+        _file: FolderSinkFile<R>,
+        _tree: &T,
+        _first: &T::File,
+    ) {
+        self.troubles.lower();
     }
 }

@@ -21,6 +21,7 @@ use crate::walk::{Below, walk};
 use bag_digest::{Failed, Source};
 use bag_path::{BagPath, LONGEST_PATH};
 use bag_rules::{OpenTree, Paths, Tree};
+use bag_writer::{CopiedTree, SinkFile};
 use std::alloc::{AllocError, Global};
 use std::io::Read;
 use std::marker::Model;
@@ -362,6 +363,15 @@ impl<R: Names> OpenTree for FolderTree<R> {
 
     /// Closes the file, and tells nothing of it.
     fn give_up(&mut self, _file: FolderFile<R>, _first: &FolderFile<R>)
+        ensures { self.new ≡ record self.old { failures = self.old.failures - 1 } }
+    {
+        self.troubles.lower();
+    }
+}
+
+impl<R: Names> CopiedTree for FolderTree<R> {
+    /// Closes the file, and tells nothing of it.
+    fn give_up_unwritten<C: SinkFile>(&mut self, _file: FolderFile<R>, _first: &C)
         ensures { self.new ≡ record self.old { failures = self.old.failures - 1 } }
     {
         self.troubles.lower();

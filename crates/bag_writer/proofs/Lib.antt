@@ -39,3 +39,16 @@ pub mod FittingLemmas
 pub mod LimitsMet
 pub mod MeasuredTags
 pub mod EmptyBags
+pub mod CopyLemmas
+pub mod CopyPieces
+pub mod FilesOut
+pub mod CopyGroups
+pub mod Stopping
+pub mod Beginning
+pub mod ReadFiles
+pub mod Pairs
+pub mod Ending
+pub mod Completing
+pub mod Places
+pub mod Cutting
+pub mod Batches

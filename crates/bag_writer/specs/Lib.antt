@@ -10,3 +10,8 @@ pub mod TagWriting
 pub mod Accepting
 pub mod FilledBags
 pub mod ExampleBags
+pub mod OpenSinks
+pub mod Copying
+pub mod Returned
+pub mod Pending
+pub mod Finishing

@@ -72,7 +72,7 @@ impl Items {
         found: SourceRead,
         buffer: &[u8],
     ) -> Result<Items, WriteFault>
-        requires room { length buffer.now ≡ BUFFER }
+        requires room { length buffer.now ≤ BUFFER }
         requires within { IsWithin buffer.now found }
         ensures added { (set : AlgSet) (octets : List ℕ) → IsFoundOf set buffer.now found octets
             → IfOk result (AddsFile set (path, octets) self) }

@@ -2,12 +2,16 @@
 #![tactic(auto)]
 
 pub use mem_sink::MemSink;
+pub use mem_sink_file::MemSinkFile;
+pub use open_sink::{CopiedTree, OpenSink, SinkFile};
 pub use sink::{Sink, add_file};
 pub use spec::{Hole, Spec};
 pub use write_fault::{Large, WriteFault};
 pub use writing::{payload_count, write_bag};
 
 mod accepting;
+mod beside;
+mod copying;
 pub mod examples;
 pub mod fitting;
 mod item;
@@ -15,7 +19,10 @@ mod items;
 pub mod laws;
 mod measuring;
 mod mem_sink;
+mod mem_sink_file;
+mod open_sink;
 mod payload;
+mod returning;
 mod sink;
 mod spec;
 mod tags;

@@ -5,19 +5,14 @@ ghost use Rattle.bag_rules.specs.Memory.{MemFiles};
 ghost use Rattle.bag_writer.specs.Memory.{IsNeverSure, MemStored, has_begun, known, nothing_held, tree_of, with_failure};
 ghost use Rattle.bag_writer.specs.Sinks.{IsFree, StaysOrIsLost, UsesSink, with_begun, with_ended, with_octets, with_payload_dir, without_begun};
 
+use crate::mem_sink_file::{BegunFile, MemSinkFile};
+use crate::open_sink::OpenSink;
 use crate::sink::Sink;
 use bag_digest::{Failed, Failures};
 use bag_path::BagPath;
-use bag_rules::MemTree;
-use std::alloc::Global;
+use bag_rules::{AddFault, MemTree, OpenTree};
+use std::alloc::{AllocError, Global};
 use std::marker::Model;
-
-/// A file that was begun: its path, and the octets that it has so far.
-#[derive(Drop)]
-struct BegunFile {
-    path: BagPath,
-    octets: Vec<u8>,
-}
 
 /// A sink that holds the files of a bag in memory. It fails if a call is out of order or memory runs out.
 #[derive(Drop)]
@@ -158,5 +153,56 @@ impl Sink for MemSink {
 
     fn failures(&self) -> u64 {
         self.failures.count()
+    }
+}
+
+impl OpenSink for MemSink {
+    type File = MemSinkFile;
+
+    /// Begins a file. It fails if a file is begun by [`Sink::file`], one with this path was ended, or memory runs out for
+    /// the path.
+    fn begin_file(
+        &mut self,
+        _alloc: Global,
+        place: usize,
+        path: &BagPath,
+    ) -> Result<MemSinkFile, AllocError> {
+        self.failures.raise()?;
+        if self.ended.get(path).is_some() || self.begun.is_some() {
+            return Ok(MemSinkFile::new(place, Err(Failed)));
+        }
+        let Ok(path) = path.clone() else {
+            return Ok(MemSinkFile::new(place, Err(Failed)));
+        };
+        let begun = BegunFile {
+            path,
+            octets: Vec::new(self.alloc),
+        };
+        Ok(MemSinkFile::new(place, Ok(begun)))
+    }
+
+    /// Ends a file. It fails if a file is begun by [`Sink::file`], if one with the same path was ended since this one was
+    /// begun, or if memory runs out. The file is then lost.
+    fn end_file(&mut self, file: &mut MemSinkFile) -> Result<(), Failed> {
+        let added = match file.take() {
+            Some(begun) if self.begun.is_none() => self.ended.add(begun.path, begun.octets),
+            _ => Err(AddFault::Twice),
+        };
+        file.counted(added)
+    }
+
+    fn close(&mut self, _file: MemSinkFile) {
+        self.failures.lower();
+    }
+
+    /// Does nothing, since what failed isn't kept.
+    fn fail(&mut self, _file: MemSinkFile) {}
+
+    fn give_up(&mut self, _file: MemSinkFile, _first: &MemSinkFile) {
+        self.failures.lower();
+    }
+
+    fn give_up_unread<T: OpenTree>(&mut self, _file: MemSinkFile, _tree: &T, _first: &T::File) {
+        self.failures.lower();
     }
 }

@@ -26,7 +26,7 @@ use std::alloc::Global;
 
 /// Why a file wasn't copied to its end.
 #[derive(Clone, Copy, Debug)]
-enum CopyFault {
+pub(crate) enum CopyFault {
     /// A read failed.
     Tree,
     /// A write failed.
@@ -35,13 +35,13 @@ enum CopyFault {
     TooLarge,
 }
 
-/// Reads the payload files by path, writes each that isn't a hole, and returns what manifests need to know about each.
+/// Reads the payload files by path, one after another, writes each that isn't a hole, and returns what manifests need to know about each.
 ///
 /// # Errors
 ///
 /// `Tree`, `Sink` or `Memory` if the tree or the sink failed or memory ran out; `TooLarge` if a file has more than 2^40
 /// octets.
-pub(crate) fn write_payload<T: Tree, S: Sink>(
+pub(crate) fn write_in_turn<T: Tree, S: Sink>(
     alloc: Global,
     buffer: &mut [u8],
     tree: &mut T,
@@ -80,7 +80,7 @@ pub(crate) fn write_payload<T: Tree, S: Sink>(
 ///
 /// # Errors
 ///
-/// Those of [`write_payload`]. If memory runs out, neither the tree nor the sink was used.
+/// Those of [`write_in_turn`]. If memory runs out, neither the tree nor the sink was used.
 fn write_file<T: Tree, S: Sink>(
     buffer: &mut [u8],
     tree: &mut T,

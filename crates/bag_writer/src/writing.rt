@@ -8,15 +8,15 @@ ghost use Rattle.bag_writer.specs.Writing.{IsAccepted, IsDone, IsMetLater, IsOfD
 ghost use Rattle.bag_writer.specs.declared.write_fault.WriteFault.{WriteFault};
 
 use crate::accepting::accepted_holes;
+use crate::beside::write_payload;
 use crate::items::BUFFER;
 use crate::measuring::large_if_empty;
-use crate::payload::write_payload;
-use crate::sink::Sink;
+use crate::open_sink::{CopiedTree, OpenSink};
 use crate::spec::Spec;
 use crate::tags::write_tag_files;
 use crate::write_fault::WriteFault;
 use bag_digest::buffer_of;
-use bag_rules::{Paths, Tree};
+use bag_rules::Paths;
 use bag_tags::Oxum;
 use std::alloc::Global;
 
@@ -27,7 +27,8 @@ use std::alloc::Global;
 /// `bag-info.txt` with the given elements and then the `Payload-Oxum` of the whole payload, including holes;
 /// `bagit.txt`; if there are holes, `fetch.txt` with the length of each; for each algorithm `manifest-ALG.txt`, by
 /// path, for the whole payload; for each algorithm `tagmanifest-ALG.txt`, by path, for all tag files except tag
-/// manifests. Other files of the tree are ignored. Each payload file is read once.
+/// manifests. Other files of the tree are ignored. Each payload file is read once. Without holes, and without SHA-512, several
+/// payload files are read and written side by side, up to 32 at a time; each belongs to the bag once those before it do.
 ///
 /// The sink should be new. If it already holds a file or the payload directory, nothing is claimed about what it holds
 /// afterwards.
@@ -40,7 +41,7 @@ use std::alloc::Global;
 /// tree or the sink failed, and it has counted the failure; `TooLarge` for a payload file of more than 2^40 octets, or
 /// for a `bag-info.txt` or a `fetch.txt` that only the numbers of octets in it make too long. The sink then holds part
 /// of the bag. `Memory` may be returned in place of any other.
-pub fn write_bag<T: Tree, S: Sink>(
+pub fn write_bag<T: CopiedTree, S: OpenSink>(
     alloc: Global,
     tree: &mut T,
     spec: &Spec,
@@ -70,7 +71,7 @@ pub fn write_bag<T: Tree, S: Sink>(
 }
 
 /// Writes a bag that was accepted.
-fn write_accepted<T: Tree, S: Sink>(
+fn write_accepted<T: CopiedTree, S: OpenSink>(
     alloc: Global,
     tree: &mut T,
     spec: &Spec,

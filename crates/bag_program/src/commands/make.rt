@@ -13,8 +13,8 @@ use bag_commands::status::DONE;
 use bag_commands::{MakeEnd, Output, make_to};
 use bag_digest::Source;
 use bag_folder::{Destination, Directories, FolderTree};
-use bag_rules::{Paths, Tree};
-use bag_writer::{Large, Sink};
+use bag_rules::Paths;
+use bag_writer::{CopiedTree, Large, Sink};
 use std::alloc::Global;
 use std::io::Write;
 use std::rt::Files;
@@ -66,7 +66,7 @@ struct Made {
 }
 
 /// Makes the folder for the bag, and in it the bag of a tree's files.
-fn make_into<T: Tree, R: Files, W: Write + Drop>(
+fn make_into<T: CopiedTree, R: Files, W: Write + Drop>(
     alloc: Global,
     making: &Making<'_>,
     tree: &mut T,

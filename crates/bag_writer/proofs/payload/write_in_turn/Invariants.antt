@@ -4,7 +4,7 @@ use Rattle.bag_rules.specs.Trees.{UsesTree}
 use Rattle.bag_writer.specs.Sinks.{UsesSink}
 use Rattle.bag_writer.specs.Writing.{payload_paths}
 use Rattle.bag_writer.proofs.PayloadSoFar.{HasWritten}
-use Rattle.bag_writer.proofs.payload.write_payload.Given as goal
+use Rattle.bag_writer.proofs.payload.write_in_turn.Given as goal
 
 abbrev pub invariant-loop-i : goal.invariant-loop-i
 invariant-loop-i g l =

@@ -8,7 +8,7 @@ use Rattle.bag_writer.proofs.FileSteps.{cut_after, within_of}
 use Rattle.bag_writer.proofs.PayloadSoFar.{all_finished, free_next, marked_at, none_at, one_more, passed, shown_at, stopped_in}
 use Rattle.bag_writer.proofs.SinkKept.{err_again, sink_kept}
 use Rattle.bag_writer.proofs.SinkUses.{sink_on, sink_so}
-use Rattle.bag_writer.proofs.payload.write_payload.Goals as goal
+use Rattle.bag_writer.proofs.payload.write_in_turn.Goals as goal
 
 pub loop-i-preserved-then-not-is_payload : goal.loop-i-preserved-then-not-is_payload
 loop-i-preserved-then-not-is_payload g c =
