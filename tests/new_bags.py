@@ -34,6 +34,8 @@ MOST_FILES, LARGEST_TAG_FILE = 100000, 16777216
 LONGEST_IN_FOLDER = 3900
 # On both sides of the length up to which the digests of files are taken together, and of half of it.
 EDGES = [0, 1, 65535, 65536, 65537, 131071, 131072, 131073, 200000]
+# The length of the pieces in which longer files are read, written and hashed side by side.
+PIECE = 131072
 # Around the edges of the blocks that are hashed.
 BLOCKS = [0, 1, 55, 56, 63, 64, 65, 119, 120, 127, 128, 129, 1000]
 # The answers and the judges, each of which must occur at least once.
@@ -173,6 +175,16 @@ def random_order(rng):
     return Order(files, rng.sample(ALGORITHMS, rng.choice([1] * 10 + [2, 3, 4] * 3 + [0])), elements, holes)
 
 
+def several_long_files(rng):
+    """Files with as many octets as some pieces, or nearly, among short ones, and nothing for which each is written by itself."""
+    count = rng.choice([2, 3, 4, 5, 7, 8, 9])
+    lengths = [PIECE * rng.choice([1, 1, 1, 2, 3, 4]) + rng.choice([-1, 0, 0, 1, 63, 64, 65, 65536]) for _ in range(count)]
+    lengths += [rng.choice(BLOCKS) for _ in range(rng.choice([0, 0, 1, 3, 30]))]
+    rng.shuffle(lengths)
+    files = {f"data/{place:02}": rng.randbytes(length) for place, length in enumerate(lengths)}
+    return Order(files, rng.sample(ALGORITHMS[:3], rng.choice([1, 1, 2, 3])), [element(rng) for _ in range(rng.randrange(2))])
+
+
 def content(rng):
     return rng.randbytes(rng.choice([0, 1, 3, 55, 64, 119, 200] * 5 + [65535, 65536, 65537, 131072]))
 
@@ -194,6 +206,11 @@ def chosen_orders():
     edges = {f"data/{place:02}.{length}": bytes(range(place, 256)) * 1200 for place in (3, 64) for length in EDGES}
     mixed = {path: octets[:int(path.partition(".")[2] or len(octets))] for path, octets in {**short, **edges}.items()}
     yield "short files among long ones", Order(mixed, ALGORITHMS)
+    yield "short files among long ones, side by side", Order(mixed, ALGORITHMS[:3])
+    for number in (2, 3, 4, 5, 7, 8, 32, 33):
+        files = {f"data/{place:02}": bytes(range(place, 256)) * 3000 for place in range(number)}
+        files = {path: octets[:PIECE * (1 + place % 3) + place % 5 - 2] for place, (path, octets) in enumerate(files.items())}
+        yield f"{number} files around the edges of pieces", Order(files, ALGORITHMS[:3])
     yield "holes among them", Order(mixed, ALGORITHMS, holes=[(path, "x:y") for path in list(mixed)[::3]])
     for number in (31, 32, 33, 64, 65):
         yield f"{number} short files", Order(dict(list(short.items())[:number]))
@@ -414,7 +431,9 @@ def difference(orders, printed):
 
 def main(count, seed, program, *driver):
     orders = list(chosen_orders())
-    orders += [(f"bag {number} of seed {seed}", random_order(random.Random(f"{seed} {number}"))) for number in range(int(count))]
+    for number in range(int(count)):
+        made = several_long_files if number % 10 == 0 else random_order
+        orders.append((f"bag {number} of seed {seed}", made(random.Random(f"{seed} {number}"))))
     printed, status, said = written(orders, driver)
     with printed:
         found = difference(orders, printed)

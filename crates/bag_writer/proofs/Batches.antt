@@ -1,5 +1,5 @@
 -- Files that are begun, one after another, until they are ended together.
-use Rattle.std.proofs.Common.{◌≡◌, ◌∙◌, ◌+◌, ◌<◌, ◌≤◌, ◌++◌, ◌∷◌, [], ℕ, suc, zero, Bool, false, true, List, Option, Some, None, ap, append-nil, arith, inl, inr, length, length-append, refl, slice_get, subst, sym, take}
+use Rattle.std.proofs.Common.{◌≡◌, ◌∙◌, ◌+◌, ◌<◌, ◌≤◌, ◌++◌, ◌∷◌, [], ℕ, Bool, false, true, List, Option, Some, None, ap, append-nil, arith, inl, inr, length, length-append, refl, slice_get, subst, sym, take}
 use Rattle.std.proofs.lemmas.Bool.{cases_lt}
 use Rattle.std.proofs.lemmas.Option.{same_Some, slice_get_within}
 use Rattle.std.specs.Option.{option_map}
@@ -20,11 +20,9 @@ use Rattle.bag_writer.specs.Steps.{ArePart, HasNoFile, NamesLong, written_payloa
 use Rattle.bag_writer.specs.Writing.{IsReadFrom, payload_paths}
 use Rattle.bag_writer.specs.declared.copying.Copying.{Copying}
 use Rattle.bag_writer.specs.declared.items.Items.{Items}
-use Rattle.bag_writer.specs.declared.items.TheConstants.{BUFFER}
 use Rattle.bag_writer.specs.declared.spec.Spec.{Spec}
 use Rattle.bag_writer.specs.declared.write_fault.Large.TheVariants as large
 use Rattle.bag_writer.specs.declared.write_fault.WriteFault.{WriteFault}
-use Rattle.bag_writer.specs.declared.write_fault.WriteFault.TheVariants.{Memory, TooLarge}
 use Rattle.bag_writer.proofs.PayloadLists.{ShownFile}
 use Rattle.bag_writer.proofs.PayloadSoFar.{HasWritten, none_at, nothing_written}
 use Rattle.bag_writer.proofs.CopyLemmas.{stands}

@@ -1,12 +1,11 @@
 -- A file that was opened, and whose copy was begun.
-use Rattle.std.proofs.Common.{◌≡◌, ◌≢◌, ◌∙◌, ◌<◌, ◌≤◌, ◌++◌, [], ◌∷◌, ℕ, zero, suc, Bool, true, List, Option, Some, None, ap, arith, length, refl, slice_get, inl, inr, subst, sym, take}
+use Rattle.std.proofs.Common.{◌≡◌, ◌∙◌, ◌<◌, [], ◌∷◌, ℕ, zero, suc, Bool, true, List, Option, Some, None, ap, arith, length, refl, slice_get, inl, inr, subst, sym, take}
 use Rattle.std.specs.Prelude.{IsSomeAnd}
 use Rattle.std.specs.Io.KnownBytes.{Consumes, IsAtEnd}
 use Rattle.std.proofs.lemmas.Bool.{cases_lt}
 use Rattle.std.proofs.lemmas.List.{length-take-le, take_all}
 use Rattle.bag_digest.specs.declared.reading.SourceRead.{SourceRead}
 use Rattle.bag_digest.specs.declared.reading.SourceRead.TheVariants.{Whole}
-use Rattle.bag_rules.specs.declared.limits.TheConstants.{LARGEST_FILE}
 use Rattle.bag_rules.proofs.Words.{Shown, octets_in, paths_in}
 use Rattle.bag_writer.specs.Copying.{CopiesPiece, IsCopiedTo, IsFreshBy, IsStopped, Sides, Work}
 use Rattle.bag_writer.specs.OpenSinks.{IsBegun}

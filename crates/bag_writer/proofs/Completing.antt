@@ -1,20 +1,18 @@
 -- Several files that were copied to their ends, or until one stopped.
-use Rattle.std.proofs.Common.{◌≡◌, ◌≢◌, ◌∙◌, ◌+◌, ◌<◌, ◌≤◌, ◌++◌, ◌∷◌, [], ℕ, suc, Bool, true, List, Option, Some, None, Result, Ok, Err, MatchResult, IfErr, ap, arith, drop, inl, inr, length, length-append, refl, slice_get, subst, sym, take}
-use Rattle.std.specs.Prelude.{IsErr, IsSomeAnd, map}
-use Rattle.std.specs.Io.KnownBytes.{Consumes}
+use Rattle.std.proofs.Common.{◌≡◌, ◌≢◌, ◌∙◌, ◌+◌, ◌<◌, ◌≤◌, ◌++◌, ◌∷◌, [], ℕ, suc, Bool, true, List, Option, Some, Result, Ok, Err, MatchResult, IfErr, ap, arith, drop, inl, inr, length, length-append, refl, slice_get, subst, sym, take}
+use Rattle.std.specs.Prelude.{IsErr, IsSomeAnd}
 use Rattle.std.specs.List.{AllZip}
 use Rattle.std.specs.Option.{option_map}
-use Rattle.std.proofs.lemmas.List.{length-map, take-append-drop, take-map, take_all}
-use Rattle.std.proofs.lemmas.Option.{same_Some, slice_get_within}
+use Rattle.std.proofs.lemmas.List.{take-append-drop, take-map, take_all}
+use Rattle.std.proofs.lemmas.Option.{slice_get_within}
 use Rattle.bag_digest.specs.declared.algorithm.AlgSet.{AlgSet}
 use Rattle.bag_rules.specs.Faults.{Has}
 use Rattle.bag_rules.specs.declared.limits.TheConstants.{LARGEST_FILE}
-use Rattle.bag_rules.proofs.Words.{Files, octets_in, paths_in, Shown, slice_get-map}
+use Rattle.bag_rules.proofs.Words.{Files, octets_in, paths_in, slice_get-map}
 use Rattle.bag_writer.specs.Copying.{AreEnded, HasEnded, IsFirstStopped, IsStopped, KeepPlaces, Sides, Work}
-use Rattle.bag_writer.specs.Finishing.{AreCompleted, AreFilesAt, CanEnd, CanEndEach, HasStoppedIn, IsCutBy, IsFileAt, IsTakenOf, places_of}
+use Rattle.bag_writer.specs.Finishing.{AreCompleted, AreFilesAt, CanEnd, CanEndEach, HasStoppedIn, IsFileAt, IsTakenOf, places_of}
 use Rattle.bag_writer.specs.Pending.{AreUnfailedTo, EndsEach, HoldEach}
-use Rattle.bag_writer.specs.PayloadSteps.{AreOctetsOf, IsFoundOf}
-use Rattle.bag_writer.specs.Returned.{AreUnfailed}
+use Rattle.bag_writer.specs.PayloadSteps.{IsFoundOf}
 use Rattle.bag_writer.specs.Sinks.{Stored}
 use Rattle.bag_writer.specs.Steps.{ArePart, AreWhole}
 use Rattle.bag_writer.specs.declared.copying.Copying.{Copying}

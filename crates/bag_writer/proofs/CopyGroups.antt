@@ -1,11 +1,11 @@
 -- Files that are copied, four after four.
-use Rattle.std.proofs.Common.{◌≡◌, ◌≢◌, ◌∙◌, ◌+◌, ◌≤◌, ◌<◌, ◌⊎◌, ℕ, Bool, List, Option, Some, None, Result, Ok, Err, MatchResult, ap, arith, false, true, inl, inr, length, refl, slice_get, subst, sym}
+use Rattle.std.proofs.Common.{◌≡◌, ◌≢◌, ◌∙◌, ◌+◌, ◌≤◌, ◌<◌, ℕ, List, Option, Some, None, Result, Ok, Err, MatchResult, ap, arith, false, true, inl, inr, refl, slice_get, subst, sym}
 use Rattle.std.specs.Prelude.{IsOk, MatchOption, is_some}
 use Rattle.std.proofs.lemmas.Bool.{cases_lt}
-use Rattle.std.proofs.lemmas.Option.{same_Some, slice_get_within}
+use Rattle.std.proofs.lemmas.Option.{same_Some}
 use Rattle.bag_digest.specs.declared.algorithm.AlgSet.{AlgSet}
 use Rattle.bag_digest.specs.declared.reading.SourceRead.{SourceRead}
-use Rattle.bag_writer.specs.Copying.{AreDone, AreEnded, AreFresh, AreFull, HasEnded, IsCopiedTo, IsFirstOpen, IsFirstStopped, IsFresh, IsFreshBy, IsStopped, OthersStay, Sides, Work}
+use Rattle.bag_writer.specs.Copying.{AreDone, AreEnded, AreFresh, AreFull, HasEnded, IsCopiedTo, IsFirstOpen, IsFirstStopped, IsFresh, IsFreshBy, IsStopped, Sides, Work}
 use Rattle.bag_writer.specs.declared.copying.Copying.{Copying}
 use Rattle.bag_writer.specs.declared.copying.CopyStop.{CopyStop}
 use Rattle.bag_writer.specs.declared.payload.CopyFault.{CopyFault}

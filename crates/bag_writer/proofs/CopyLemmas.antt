@@ -1,6 +1,6 @@
 -- Files that are copied, from one piece to the next.
-use Rattle.std.proofs.Common.{zero, suc, ◌∷◌, ◌≡◌, ◌≢◌, ◌∙◌, ◌+◌, ◌-◌, ◌≤◌, ◌<◌, ◌++◌, ℕ, List, [], Option, Some, None, Ok, Err, ap, append-nil, append_assoc, arith, drop, inl, inr, length, length-append, refl, set, slice_get, subst, sym, take, true, false}
-use Rattle.std.specs.Prelude.{IsErrOf, IsSomeAnd, MatchOption, is_none}
+use Rattle.std.proofs.Common.{zero, suc, ◌∷◌, ◌≡◌, ◌≢◌, ◌∙◌, ◌+◌, ◌-◌, ◌≤◌, ◌<◌, ◌++◌, ℕ, List, [], Option, Some, None, ap, append-nil, arith, drop, inl, inr, length, length-append, refl, set, slice_get, subst, sym, take}
+use Rattle.std.specs.Prelude.{IsSomeAnd, MatchOption}
 use Rattle.std.proofs.lemmas.Bool.{cases_lt}
 use Rattle.std.proofs.lemmas.List.{length-take-le, take_all}
 use Rattle.std.proofs.Math.ListN.{drop_of_length-le}
@@ -15,7 +15,7 @@ use Rattle.bag_digest.specs.declared.reading.SourceRead.TheVariants.{Hashed}
 use Rattle.bag_digest.specs.Hash.{AreDigests}
 use Rattle.bag_digest.specs.declared.streams.TheConstants.{FRONT}
 use Rattle.bag_rules.specs.declared.limits.TheConstants.{LARGEST_FILE}
-use Rattle.bag_writer.specs.Copying.{AreDone, AreEnded, CopiesPiece, AreFresh, AreFull, AreHashed, AreUnder, HasEnded, HaveTaken, IsCopiedTo, IsFirstOpen, IsFresh, IsFreshBy, IsGoing, IsStopped, IsUnder, IsUnderBy, KeepPlaces, OthersStay, Sides, Work}
+use Rattle.bag_writer.specs.Copying.{AreDone, AreEnded, CopiesPiece, AreFresh, AreFull, AreHashed, AreUnder, HasEnded, HaveTaken, IsCopiedTo, IsFresh, IsFreshBy, IsGoing, IsStopped, IsUnder, IsUnderBy, KeepPlaces, OthersStay, Sides, Work}
 use Rattle.bag_writer.specs.PayloadSteps.{IsFoundOf}
 use Rattle.bag_writer.specs.declared.copying.Copying.{Copying}
 use Rattle.bag_writer.specs.declared.payload.CopyFault.{CopyFault}

@@ -1,10 +1,10 @@
 -- One more piece of a file that is copied.
-use Rattle.std.proofs.Common.{◌≡◌, ◌≢◌, ◌∙◌, ◌+◌, ◌-◌, ◌≤◌, ◌<◌, ◌++◌, ℕ, List, [], Option, Some, None, Ok, Err, ap, append-nil, arith, length, length-append, refl, slice_get, subst, sym, take, true}
+use Rattle.std.proofs.Common.{◌≡◌, ◌≢◌, ◌∙◌, ◌-◌, ◌≤◌, ◌<◌, ◌++◌, ℕ, List, Some, Ok, Err, ap, append-nil, arith, length, length-append, refl, slice_get, subst, sym, take}
 use Rattle.std.specs.Prelude.{IsErrOf}
 use Rattle.std.specs.Io.KnownBytes.{Consumes, IsAtEnd}
 use Rattle.std.proofs.KnownBytes.{Consumes-trans}
 use Rattle.std.proofs.lemmas.List.{length-take-le}
-use Rattle.bag_digest.specs.Failures.{CountsIf, UsesSource, greatest_count}
+use Rattle.bag_digest.specs.Failures.{CountsIf, UsesSource}
 use Rattle.bag_digest.specs.Reading.{GaveBefore, GavePiece, read_fault}
 use Rattle.bag_digest.specs.declared.reading.SourceFault.{SourceFault}
 use Rattle.bag_digest.specs.declared.reading.SourceFault.TheVariants as cause

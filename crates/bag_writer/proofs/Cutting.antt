@@ -1,20 +1,18 @@
 -- Several files that were taken back, and what is told and there afterwards.
-use Rattle.std.proofs.Common.{◌≡◌, ◌≢◌, ◌∙◌, ◌+◌, ◌<◌, ◌≤◌, ◌++◌, ◌∷◌, [], ℕ, Bool, List, Option, Some, None, Result, Ok, Err, IsErrOf, ap, append-nil, arith, drop, inl, inr, length, length-append, refl, slice_get, subst, sym, take}
-use Rattle.std.specs.List.{AllZip}
+use Rattle.std.proofs.Common.{◌≡◌, ◌∙◌, ◌+◌, ◌<◌, ◌++◌, ◌∷◌, [], ℕ, Bool, List, Option, Some, ap, append-nil, arith, drop, inl, inr, length, length-append, slice_get, subst, sym, take}
 use Rattle.std.proofs.lemmas.Bool.{cases_lt}
 use Rattle.std.proofs.lemmas.List.{take-append-le, take_all}
 use Rattle.std.proofs.lemmas.Option.{slice_get_within}
 use Rattle.bag_digest.specs.declared.algorithm.AlgSet.{AlgSet}
-use Rattle.bag_rules.specs.Faults.{Has}
 use Rattle.bag_rules.specs.Returning.{AreOut, LeavesOut, TakesAllBack}
 use Rattle.bag_rules.specs.declared.limits.TheConstants.{LARGEST_FILE}
-use Rattle.bag_rules.proofs.Words.{Files, paths_in, Shown}
+use Rattle.bag_rules.proofs.Words.{Files, Shown}
 use Rattle.bag_writer.specs.Copying.{KeepPlaces}
-use Rattle.bag_writer.specs.Finishing.{AreBefore, AreFilesAt, AreTakenOf, EndsCopies, HasStoppedIn, IsCutAt, IsCutBy, IsFileAt, IsTakenOf, places_of}
+use Rattle.bag_writer.specs.Finishing.{AreBefore, AreFilesAt, AreTakenOf, EndsCopies, HasStoppedIn, IsCutAt, IsCutBy, IsFileAt, places_of}
 use Rattle.bag_writer.specs.Copying.{Sides}
 use Rattle.bag_writer.specs.Returned.{AreByPlace, HasStoppedFirst, IsToldOf, LeavesCopies, TakesCopiesBack}
 use Rattle.bag_writer.specs.Sinks.{Stored}
-use Rattle.bag_writer.specs.Steps.{ArePart, AreWhole, NamesLong}
+use Rattle.bag_writer.specs.Steps.{ArePart, AreWhole}
 use Rattle.bag_writer.specs.Writing.{HasLongFile}
 use Rattle.bag_writer.specs.declared.copying.Copying.{Copying}
 use Rattle.bag_writer.specs.declared.copying.CopyStop.{CopyStop}

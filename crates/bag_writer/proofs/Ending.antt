@@ -1,16 +1,16 @@
 -- Copies that are ended, one after another.
-use Rattle.std.proofs.Common.{◌≡◌, ◌≢◌, ◌∙◌, ◌+◌, ◌<◌, ◌≤◌, ◌++◌, ◌∷◌, [], ℕ, List, Option, Some, None, ap, arith, drop, inl, inr, length, refl, slice_get, subst, sym, take}
+use Rattle.std.proofs.Common.{◌≡◌, ◌≢◌, ◌∙◌, ◌+◌, ◌<◌, ◌∷◌, [], ℕ, List, Option, Some, ap, arith, drop, inl, inr, slice_get, subst, sym, take}
 use Rattle.std.proofs.lemmas.Bool.{cases_lt}
 use Rattle.std.proofs.lemmas.Option.{same_Some}
 use Rattle.bag_rules.specs.Files.{Files}
 use Rattle.bag_writer.specs.Pending.{AreUnfailedTo, HoldEach}
 use Rattle.bag_writer.specs.Sinks.{IsFree, Stored}
-use Rattle.bag_writer.specs.Steps.{AreWhole, with_whole}
+use Rattle.bag_writer.specs.Steps.{AreWhole}
 use Rattle.bag_writer.specs.TagWriting.{AreFree}
 use Rattle.bag_writer.specs.declared.copying.Copying.{Copying}
 use Rattle.bag_writer.proofs.CopyLemmas.{stands}
 use Rattle.bag_writer.proofs.PayloadLists.{File, next_taken, rest_from}
-use Rattle.bag_writer.proofs.StepLemmas.{whole_none, whole_on}
+use Rattle.bag_writer.proofs.StepLemmas.{whole_on}
 
 -- FREE PATHS
 

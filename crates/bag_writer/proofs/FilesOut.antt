@@ -1,5 +1,5 @@
 -- Files of a tree and of a sink that are out, and the counts that they have raised.
-use Rattle.std.proofs.Common.{◌≡◌, ◌≢◌, ◌∙◌, ◌+◌, ◌-◌, ◌<◌, ◌≤◌, ◌++◌, ◌∷◌, [], ℕ, Bool, List, Option, Some, ap, arith, inl, inr, length, length-append, refl, slice_get, subst, sym, take}
+use Rattle.std.proofs.Common.{◌≡◌, ◌∙◌, ◌+◌, ◌-◌, ◌<◌, ◌++◌, ◌∷◌, [], ℕ, Bool, List, Option, Some, ap, arith, length, length-append, refl, slice_get, subst, sym, take}
 use Rattle.std.specs.Prelude.{option_to_list}
 use Rattle.std.proofs.lemmas.List.{length-take-le}
 use Rattle.bag_digest.specs.Failures.{CountsIf, IsRaised}
@@ -7,7 +7,7 @@ use Rattle.bag_rules.specs.Returning.{AreOut, LeavesOut, TakesAllBack}
 use Rattle.bag_rules.proofs.FileReadLemmas.{push_at, push_before}
 use Rattle.bag_rules.proofs.FirstFiles.{in_front}
 use Rattle.bag_rules.proofs.Words.{KeepsTree, Shown, slice_get_within}
-use Rattle.bag_writer.specs.OpenSinks.{IsAfter, IsStoppedBefore, LeavesSink}
+use Rattle.bag_writer.specs.OpenSinks.{LeavesSink}
 use Rattle.bag_writer.specs.Returned.{LeavesCopies, TakesCopiesBack}
 use Rattle.bag_writer.specs.Sinks.{Stored}
 

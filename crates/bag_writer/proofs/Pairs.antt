@@ -1,5 +1,5 @@
 -- Lists whose elements go in pairs, place by place.
-use Rattle.std.proofs.Common.{◌≡◌, ◌<◌, ◌≤◌, ◌++◌, ◌∷◌, [], ℕ, zero, suc, List, Some, None, ap, arith, length, refl, slice_get, subst, sym, take}
+use Rattle.std.proofs.Common.{◌≡◌, ◌<◌, ◌≤◌, ◌++◌, ◌∷◌, [], ℕ, zero, suc, List, Some, None, arith, length, refl, slice_get, subst, take}
 use Rattle.std.specs.List.{AllZip}
 
 module _ {X Y : Type 0} (P : X → Y → Type 0) where

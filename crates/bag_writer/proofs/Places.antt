@@ -1,5 +1,5 @@
 -- Payload files of a tree that are copied side by side, by their places: all those from one place to another.
-use Rattle.std.proofs.Common.{◌≡◌, ◌∙◌, ◌+◌, ◌-◌, ◌<◌, ◌≤◌, ◌⊎◌, ◌++◌, ◌∷◌, [], ℕ, zero, suc, Bool, false, true, List, Option, Some, None, Contains, ap, append-nil, append_assoc, arith, drop, inl, inr, length, length-append, refl, slice_get, subst, sym, take}
+use Rattle.std.proofs.Common.{◌≡◌, ◌∙◌, ◌+◌, ◌-◌, ◌<◌, ◌≤◌, ◌⊎◌, ◌++◌, ◌∷◌, [], ℕ, zero, suc, Bool, false, true, List, Option, Some, None, Contains, ap, append_assoc, arith, drop, inl, inr, length, length-append, refl, slice_get, subst, sym, take}
 use Rattle.std.proofs.lemmas.Bool.{cases_lt}
 use Rattle.std.proofs.lemmas.List.{take-append-drop, take-take}
 use Rattle.std.proofs.lemmas.List.Elements.{Contains-append_left}
@@ -7,9 +7,9 @@ use Rattle.std.proofs.lemmas.Option.{same_Some, slice_get_within}
 use Rattle.std.specs.Map.{keys_of}
 use Rattle.std.specs.Option.{option_map}
 use Rattle.bag_rules.proofs.FileReadLemmas.{push_at, push_before}
-use Rattle.bag_rules.proofs.Words.{AreRising, cases_Bool, Files, Has, is_payload, paths_in, payload_of, Shown}
+use Rattle.bag_rules.proofs.Words.{AreRising, Files, Has, is_payload, paths_in, payload_of, Shown}
 use Rattle.bag_rules.specs.declared.limits.TheConstants.{LARGEST_FILE}
-use Rattle.bag_writer.specs.Finishing.{AreFilesAt, AreFinished, CanEnd, IsCutAt, IsFileAt}
+use Rattle.bag_writer.specs.Finishing.{AreFilesAt, AreFinished, CanEnd, IsCutAt}
 use Rattle.bag_writer.specs.HeldFiles.{AreItemsSoFar}
 use Rattle.bag_writer.specs.PayloadSteps.{AreOctetsOf}
 use Rattle.bag_writer.specs.Sinks.{IsFree, Stored}
@@ -23,7 +23,7 @@ use Rattle.bag_writer.specs.declared.write_fault.WriteFault.{WriteFault}
 use Rattle.bag_writer.proofs.FileSteps.{octets_here}
 use Rattle.bag_writer.proofs.PayloadLists.{absent_written, AreReadAs, File, payload_on, payload_read, read_on, ShownFile, unread, unread_is, written_of, written_on}
 use Rattle.bag_writer.proofs.PayloadSoFar.{HasWritten, shown_at}
-use Rattle.bag_writer.proofs.ReadFiles.{AreAllBetween, AreReadEach, AreRisingBetween, IsReadAt, all_behind, all_read, no_holes, none_before, one_read, past_others, rising_ends}
+use Rattle.bag_writer.proofs.ReadFiles.{AreAllBetween, AreReadEach, AreRisingBetween, all_behind, all_read, no_holes, none_before, one_read, past_others}
 use Rattle.bag_writer.proofs.StepLemmas.{free_at_first, free_still, part_after, part_more, whole_on}
 
 abbrev own : ℕ → ℕ

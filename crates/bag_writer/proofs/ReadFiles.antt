@@ -1,7 +1,5 @@
 -- Files of a tree that were read side by side, as the next ones after those that were read before.
-use Rattle.std.proofs.Common.{◌≡◌, ◌∙◌, ◌+◌, ◌-◌, ◌<◌, ◌≤◌, ◌++◌, ◌∷◌, [], ℕ, zero, suc, Bool, false, true, List, Option, Some, None, ap, append-nil, append_assoc, arith, inl, inr, length, refl, slice_get, subst, sym, take}
-use Rattle.std.proofs.lemmas.Bool.{cases_lt}
-use Rattle.std.specs.List.{filter}
+use Rattle.std.proofs.Common.{◌≡◌, ◌∙◌, ◌+◌, ◌-◌, ◌<◌, ◌≤◌, ◌++◌, ◌∷◌, [], ℕ, zero, suc, false, true, List, Some, None, ap, append-nil, append_assoc, arith, inl, inr, length, refl, slice_get, subst, sym, take}
 use Rattle.bag_rules.proofs.Words.{cases_Bool, Files, is_payload, payload_of, Shown}
 use Rattle.bag_writer.specs.PayloadSteps.{IsReadAs}
 use Rattle.bag_writer.specs.Steps.{is_hole, written_payload}

@@ -1,8 +1,7 @@
 -- A file that stopped while it was copied, as it is taken back.
-use Rattle.std.proofs.Common.{◌≡◌, ◌≢◌, ◌∙◌, ◌⊎◌, ◌<◌, ◌≤◌, ◌++◌, ℕ, List, Option, Some, None, ap, arith, inl, inr, length, length-append, refl, slice_get, subst, sym}
+use Rattle.std.proofs.Common.{◌≡◌, ◌≢◌, ◌⊎◌, ◌<◌, ◌≤◌, ◌++◌, ℕ, List, Option, Some, None, ap, arith, inl, inr, length, length-append, refl, subst}
 use Rattle.std.specs.Io.KnownBytes.{Consumes}
 use Rattle.bag_rules.specs.OpenTrees.{IsTooLarge}
-use Rattle.bag_rules.specs.declared.limits.TheConstants.{LARGEST_FILE}
 use Rattle.bag_rules.proofs.Words.{Shown, octets_in, paths_in, slice_get_within}
 use Rattle.bag_writer.specs.Copying.{IsStopped, Sides, Work}
 use Rattle.bag_writer.specs.Returned.{IsStoppedAt}

@@ -1,5 +1,5 @@
 -- Files that are begun, and wait until those before them have ended. Private functions alone cite these.
-use Rattle.std.specs.Prelude.{◌≡◌, ◌≢◌, ◌+◌, ◌<◌, ◌≤◌, ◌++◌, ◌∷◌, [], ℕ, Bool, true, false, List, Option, Some, None, Result, IsErr, MatchResult, Vec, length, slice_get}
+use Rattle.std.specs.Prelude.{◌≡◌, ◌≢◌, ◌<◌, ◌≤◌, ◌++◌, ◌∷◌, [], ℕ, Bool, true, false, List, Option, Some, None, Result, MatchResult, length, slice_get}
 use Rattle.std.specs.Io.KnownBytes.{Consumes}
 use Rattle.bag_digest.specs.declared.algorithm.AlgSet.{AlgSet}
 use Rattle.bag_digest.specs.declared.reading.SourceRead.TheVariants.{Whole}

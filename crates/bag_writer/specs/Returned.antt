@@ -1,5 +1,5 @@
 -- Files and copies that are out, and taking them back. Private functions alone cite these.
-use Rattle.std.specs.Prelude.{◌≡◌, ◌≢◌, ◌↔◌, ◌+◌, ◌<◌, ℕ, Bool, List, Option, Some, length, slice_get}
+use Rattle.std.specs.Prelude.{◌≡◌, ◌≢◌, ◌↔◌, ◌<◌, ℕ, Bool, List, Option, Some, length, slice_get}
 use Rattle.bag_digest.specs.Failures.{CountsIf}
 use Rattle.bag_rules.specs.OpenTrees.{IsTooLarge}
 use Rattle.bag_rules.specs.Returning.{AreOut}

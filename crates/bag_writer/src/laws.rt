@@ -18,12 +18,16 @@ ghost use Rattle.bag_tags.specs.declared.listing.Kind.TheVariants.{Payload};
 ghost use Rattle.bag_writer.specs.FilledBags.{IsFilled, IsPayloadFor};
 ghost use Rattle.bag_writer.specs.WrittenBags.{IsWritten, manifest_of, tag_files};
 ghost use Rattle.bag_writer.specs.Writing.{empty_files};
+ghost use Rattle.bag_writer.specs.declared.beside.TheConstants.{MOST_COPIED};
 ghost use Rattle.bag_writer.specs.declared.items.TheConstants.{BUFFER, MOST_HELD};
 ghost use Rattle.bag_writer.specs.declared.spec.Spec.{Spec};
 
-/// The payload files that are held until their digests are taken have at most 4 MiB, however many there are.
-pub fn a_new_bag_holds_at_most_4_mebibytes()
-    ensures { MOST_HELD * BUFFER ≤ 4 * 1048576 }
+/// The payload files that are held until their digests are taken have at most 4 MiB, however many there are; and so have the
+/// pieces of those that are copied side by side, of which at most 32 are open.
+pub fn a_new_bag_holds_at_most_twice_4_mebibytes()
+    ensures held { MOST_HELD * BUFFER ≤ 4 * 1048576 }
+    ensures pieces { MOST_COPIED * BUFFER ≤ 4 * 1048576 }
+    ensures files { MOST_COPIED ≤ 32 }
 {}
 
 /// A written bag whose holes are filled is valid.

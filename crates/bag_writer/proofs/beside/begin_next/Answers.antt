@@ -1,9 +1,9 @@
-use Rattle.std.proofs.Common.{◌≡◌, ◌∙◌, ◌+◌, ◌<◌, Bool, false, true, Some, ap, arith, length, refl, rules, slice_get, subst, sym, take}
+use Rattle.std.proofs.Common.{◌≡◌, ◌∙◌, ◌+◌, ◌<◌, Bool, false, true, ap, arith, length, refl, slice_get, subst, sym}
 use Rattle.std.proofs.lemmas.List.{length-take-le}
 use Rattle.std.proofs.lemmas.Result.{err_from_is_err_and}
 use Rattle.bag_rules.specs.Returning.{LeavesOut}
 use Rattle.bag_rules.proofs.Words.{paths_in, Shown}
-use Rattle.bag_writer.specs.Copying.{sides, IsStopped}
+use Rattle.bag_writer.specs.Copying.{sides}
 use Rattle.bag_writer.specs.Pending.{CanBegin, IsReadable, work_of}
 use Rattle.bag_writer.specs.Returned.{LeavesCopies}
 use Rattle.bag_writer.proofs.Beginning.{adds_copy, begin_fault, can_copy, no_copy}

@@ -1,4 +1,4 @@
-use Rattle.std.proofs.Common.{◌≡◌, ◌∙◌, Err, Ok, arith, length, refl, sym}
+use Rattle.std.proofs.Common.{Err, Ok, arith, length}
 use Rattle.std.proofs.lemmas.Result.{err_from_is_err_and}
 use Rattle.bag_writer.specs.Copying.{sides}
 use Rattle.bag_writer.proofs.Completing.{all_completed, can_each, ends_calm, first_completed, keep_ended, stop_calm}

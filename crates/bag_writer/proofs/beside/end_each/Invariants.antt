@@ -1,4 +1,4 @@
-use Rattle.std.proofs.Common.{◌≡◌, ◌≤◌, ℕ, List, Some, drop, length, slice_get, take}
+use Rattle.std.proofs.Common.{◌≡◌, ◌≤◌, ℕ, Some, drop, length, slice_get, take}
 use Rattle.bag_rules.specs.Files.{Files}
 use Rattle.bag_writer.specs.Finishing.{CanEndEach}
 use Rattle.bag_writer.specs.Pending.{AreUnfailedTo, HoldEach}

@@ -1,19 +1,16 @@
-use Rattle.std.proofs.Common.{ℕ, List, Option, ◌≡◌, ◌∙◌, ◌+◌, ◌<◌, ◌++◌, ◌∷◌, [], Bool, Err, IsErrOf, Ok, Some, ap, arith, false, length, refl, rules, slice_get, subst, sym, take, true}
-use Rattle.std.proofs.lemmas.Option.{slice_get_read}
-use Rattle.std.proofs.lemmas.Result.{err_from_is_err_and}
+use Rattle.std.proofs.Common.{ℕ, List, Option, ◌≡◌, ◌∙◌, Err, IsErrOf, Ok, Some, ap, false, length, refl, slice_get, subst, sym}
 use Rattle.bag_rules.specs.Returning.{TakesAllBack}
 use Rattle.bag_rules.proofs.Words.{Shown}
 use Rattle.bag_writer.specs.Copying.{AreFresh, AreFull, KeepPlaces, Work, sides}
 use Rattle.bag_writer.specs.Finishing.{AreFilesAt, AreTakenOf, CanEnd, IsCutAt, places_of}
 use Rattle.bag_writer.specs.Pending.{work_of}
-use Rattle.bag_writer.specs.Returned.{HasStoppedFirst, IsStoppedAt, IsToldOf, TakesCopiesBack}
+use Rattle.bag_writer.specs.Returned.{HasStoppedFirst, IsToldOf, TakesCopiesBack}
 use Rattle.bag_writer.specs.Steps.{AreWhole}
 use Rattle.bag_writer.specs.declared.write_fault.WriteFault.TheVariants.{Memory, Sink, TooLarge, Tree}
-use Rattle.bag_writer.proofs.Completing.{stopped_file, zip_places}
+use Rattle.bag_writer.proofs.Completing.{zip_places}
 use Rattle.bag_writer.proofs.CopyLemmas.{stands}
-use Rattle.bag_writer.proofs.Cutting.{before_kept, copies_all, copies_back_so, copies_more, cut_more, cut_next, cut_whole, ends_back, files_all, files_back_so, files_more, places_same_of, put_back, short_taken, stopped_first, stopped_told}
-use Rattle.bag_writer.proofs.FilesOut.{sink_back, sink_none_back, tree_back, tree_none}
-use Rattle.bag_writer.proofs.Stopping.{stopped_here}
+use Rattle.bag_writer.proofs.Cutting.{copies_all, copies_back_so, cut_whole, ends_back, files_all, files_back_so, places_same_of, put_back, short_taken, stopped_first, stopped_told}
+use Rattle.bag_writer.proofs.FilesOut.{sink_none_back, tree_none}
 use Rattle.std.specs.Prelude.{IfErr, IfOk, MatchResult, Result}
 use Rattle.bag_digest.specs.declared.algorithm.AlgSet.{AlgSet}
 use Rattle.bag_rules.specs.Files.{Files}
@@ -22,7 +19,6 @@ use Rattle.bag_writer.specs.Finishing.{AddsFiles, AreFinished}
 use Rattle.bag_writer.specs.Sinks.{Stored}
 use Rattle.bag_writer.specs.Writing.{HasLongFile, IsMetLater}
 use Rattle.bag_writer.specs.declared.items.Items.{Items}
-use Rattle.bag_writer.specs.declared.write_fault.Large.{Large}
 use Rattle.bag_writer.specs.declared.write_fault.WriteFault.{WriteFault}
 use Rattle.bag_writer.proofs.beside.finish.Goals as goal
 

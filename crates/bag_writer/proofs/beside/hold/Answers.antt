@@ -1,4 +1,4 @@
-use Rattle.std.proofs.Common.{◌≡◌, ◌∙◌, ap, length, refl, rules, sym}
+use Rattle.std.proofs.Common.{refl, rules}
 use Rattle.bag_writer.proofs.beside.hold.Goals as goal
 
 pub returns-in-Ok-push : goal.returns-in-Ok-push

@@ -1,4 +1,4 @@
-use Rattle.std.proofs.Common.{◌≡◌, ◌∙◌, [], arith, length, subst, take}
+use Rattle.std.proofs.Common.{◌∙◌, [], arith, subst}
 use Rattle.std.specs.Io.KnownBytes.{Consumes}
 use Rattle.bag_writer.proofs.Beginning.{take_none}
 use Rattle.bag_writer.proofs.beside.open_next.Goals as goal

@@ -1,12 +1,8 @@
-use Rattle.std.proofs.Common.{◌≡◌, ◌≢◌, ◌∙◌, ◌+◌, ◌<◌, ◌++◌, ◌∷◌, [], ℕ, List, None, Option, Some, arith, false, length, refl, rules, slice_get, subst, sym, true}
-use Rattle.std.proofs.lemmas.Option.{slice_get_within}
-use Rattle.bag_digest.specs.declared.algorithm.AlgSet.{AlgSet}
-use Rattle.bag_digest.specs.declared.reading.SourceRead.{SourceRead}
+use Rattle.std.proofs.Common.{◌≡◌, ◌+◌, ◌++◌, ◌∷◌, [], arith, false, length, subst, sym}
 use Rattle.bag_rules.specs.Returning.{TakesAllBack}
-use Rattle.bag_writer.specs.Copying.{AreFresh, IsFreshBy, Sides, Work, sides}
+use Rattle.bag_writer.specs.Copying.{sides}
 use Rattle.bag_writer.specs.Finishing.{AreBefore, EndsCopies, IsCutAt, places_of}
 use Rattle.bag_writer.specs.Pending.{IsBeginFault, copies_with, files_with, work_of}
-use Rattle.bag_writer.specs.declared.copying.Copying.{Copying}
 use Rattle.bag_writer.specs.declared.write_fault.WriteFault.TheVariants.{Memory, Sink, Tree}
 use Rattle.bag_writer.proofs.Batches.{copies_ends, fresh_unfailed}
 use Rattle.bag_writer.proofs.Cutting.{copies_all, cut_more, cut_none, files_all}

@@ -1,19 +1,15 @@
-use Rattle.std.proofs.Common.{◌≡◌, ◌∙◌, ◌+◌, ◌<◌, ◌++◌, ◌∷◌, [], Bool, Err, IsErrOf, Ok, Some, ap, arith, false, length, refl, rules, slice_get, subst, sym, take, true}
+use Rattle.std.proofs.Common.{◌≡◌, ◌∙◌, ◌<◌, Some, ap, arith, false, length, refl, slice_get, subst, sym, take}
 use Rattle.std.proofs.lemmas.Option.{slice_get_read}
-use Rattle.std.proofs.lemmas.Result.{err_from_is_err_and}
 use Rattle.bag_rules.specs.Returning.{TakesAllBack}
-use Rattle.bag_rules.proofs.Words.{Shown}
 use Rattle.bag_writer.specs.Copying.{AreFresh, AreFull, KeepPlaces, Work, sides}
-use Rattle.bag_writer.specs.Finishing.{AreFilesAt, AreTakenOf, CanEnd, IsCutAt, places_of}
+use Rattle.bag_writer.specs.Finishing.{AreFilesAt, CanEnd, IsCutAt, places_of}
 use Rattle.bag_writer.specs.Pending.{work_of}
-use Rattle.bag_writer.specs.Returned.{HasStoppedFirst, IsStoppedAt, IsToldOf, TakesCopiesBack}
-use Rattle.bag_writer.specs.Steps.{AreWhole}
-use Rattle.bag_writer.specs.declared.write_fault.WriteFault.TheVariants.{Memory, Sink, TooLarge, Tree}
-use Rattle.bag_writer.proofs.Completing.{stopped_file, zip_places}
+use Rattle.bag_writer.specs.Returned.{HasStoppedFirst, IsToldOf, TakesCopiesBack}
+use Rattle.bag_writer.specs.declared.write_fault.WriteFault.TheVariants.{Sink, TooLarge, Tree}
+use Rattle.bag_writer.proofs.Completing.{zip_places}
 use Rattle.bag_writer.proofs.CopyLemmas.{stands}
-use Rattle.bag_writer.proofs.Cutting.{before_kept, copies_all, copies_back_so, copies_more, cut_more, cut_next, cut_whole, ends_back, files_all, files_back_so, files_more, places_same_of, put_back, short_taken, stopped_first, stopped_told}
-use Rattle.bag_writer.proofs.FilesOut.{sink_back, sink_none_back, tree_back, tree_failed, tree_none}
-use Rattle.bag_writer.proofs.Stopping.{stopped_here}
+use Rattle.bag_writer.proofs.Cutting.{before_kept, copies_all, cut_whole, ends_back, files_more, places_same_of, put_back, stopped_first, stopped_told}
+use Rattle.bag_writer.proofs.FilesOut.{sink_none_back, tree_back, tree_failed}
 use Rattle.bag_writer.proofs.beside.stop_unopened.Goals as goal
 
 pub complete-requires : goal.complete-requires

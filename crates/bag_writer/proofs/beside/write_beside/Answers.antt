@@ -1,14 +1,14 @@
-use Rattle.std.proofs.Common.{◌≡◌, ◌≢◌, ◌∙◌, ◌+◌, ◌<◌, ◌≤◌, ◌++◌, ◌∷◌, [], ℕ, Bool, Err, IsErrOf, List, Ok, Option, Some, Vec, ap, arith, false, length, refl, rules, slice_get, subst, sym, true}
+use Rattle.std.proofs.Common.{◌≡◌, ◌∙◌, ◌+◌, ◌<◌, ◌≤◌, ◌++◌, ◌∷◌, [], ℕ, Bool, Err, IsErrOf, List, Ok, Option, ap, arith, false, length, refl, rules, subst, sym, true}
 use Rattle.std.specs.Prelude.{IfErr, OnOk, Result}
 use Rattle.std.proofs.lemmas.Bool.{eqb-false, eqb-true}
 use Rattle.std.proofs.lemmas.List.{length-map}
 use Rattle.std.proofs.lemmas.Result.{err_from_is_err_and}
 use Rattle.bag_rules.specs.Returning.{LeavesOut, TakesAllBack}
 use Rattle.bag_rules.proofs.Words.{is_payload, paths_in, payload_of, Shown}
-use Rattle.bag_writer.specs.Copying.{AreFresh, IsStopped, sides}
-use Rattle.bag_writer.specs.Finishing.{AreBefore, AreFinished, AreUnderWay, CanEnd, EndsCopies, IsCutAt, places_of}
+use Rattle.bag_writer.specs.Copying.{AreFresh, sides}
+use Rattle.bag_writer.specs.Finishing.{AreBefore, AreFinished, AreUnderWay, CanEnd, IsCutAt, places_of}
 use Rattle.bag_writer.specs.Pending.{AddsCopy, CanBegin, IsBeginFault, copies_with, files_with, work_of}
-use Rattle.bag_writer.specs.Returned.{AreUnfailed, LeavesCopies}
+use Rattle.bag_writer.specs.Returned.{LeavesCopies}
 use Rattle.bag_writer.specs.Sinks.{Stored}
 use Rattle.bag_writer.specs.Steps.{ArePart, HasNoFile, NamesLong, written_payload}
 use Rattle.bag_writer.specs.declared.spec.Spec.{Spec}
@@ -17,9 +17,9 @@ use Rattle.bag_rules.specs.Files.{Files}
 use Rattle.bag_rules.specs.declared.limits.TheConstants.{LARGEST_FILE}
 use Rattle.bag_writer.specs.Writing.{IsMetLater, IsReadFrom, payload_paths}
 use Rattle.bag_writer.specs.declared.write_fault.WriteFault.{WriteFault}
-use Rattle.bag_writer.specs.declared.write_fault.WriteFault.TheVariants.{Memory, Sink, TooLarge, Tree}
+use Rattle.bag_writer.specs.declared.write_fault.WriteFault.TheVariants.{Memory, Sink, Tree}
 use Rattle.bag_writer.proofs.Batches.{HasOut, InHand, adds_count, copies_ends, ends_so, hand_before, hand_can_begin, hand_can_end, hand_cut, hand_cut_next, hand_finished, hand_first, hand_next, hand_passed, hand_settled, hand_some, hand_under_way, none_left, none_more, none_out, out_on, sink_used, tree_used}
-use Rattle.bag_writer.proofs.Cutting.{copies_all, files_all, files_back_so}
+use Rattle.bag_writer.proofs.Cutting.{files_back_so}
 use Rattle.bag_writer.proofs.FilesOut.{sink_same, tree_back, tree_none, tree_on, tree_same}
 use Rattle.bag_writer.proofs.PayloadSoFar.{all_finished, none_at, shown_at}
 use Rattle.bag_writer.proofs.SinkKept.{err_again}

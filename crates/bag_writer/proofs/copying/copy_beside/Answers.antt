@@ -1,4 +1,4 @@
-use Rattle.std.proofs.Common.{◌≡◌, ◌∙◌, ◌<◌, ◌+◌, arith, inl, inr, refl, rules}
+use Rattle.std.proofs.Common.{◌∙◌, ◌<◌, ◌+◌, arith, inl, inr, refl}
 use Rattle.bag_digest.specs.declared.streams.TheConstants.{FRONT}
 use Rattle.bag_rules.specs.declared.limits.TheConstants.{LARGEST_FILE}
 use Rattle.bag_writer.specs.Copying.{AreDone, sides}

@@ -1,7 +1,7 @@
-use Rattle.std.proofs.Common.{◌≡◌, ◌≤◌, ◌∙◌, ◌<◌, ◌+◌, arith, inl, inr, length, refl, rules, sym}
+use Rattle.std.proofs.Common.{◌∙◌, arith, inl, inr, length, refl, sym}
 use Rattle.std.proofs.lemmas.Result.{err_from_is_err_and}
 use Rattle.bag_writer.specs.Copying.{AreDone, sides}
-use Rattle.bag_writer.proofs.CopyGroups.{ended_join, ended_stay, fresh_done, fresh_stay, full_stay, stopped_behind}
+use Rattle.bag_writer.proofs.CopyGroups.{ended_join, ended_stay, fresh_done, full_stay, stopped_behind}
 use Rattle.bag_writer.proofs.CopyLemmas.{by_no_other, places_on, places_same}
 use Rattle.bag_writer.proofs.copying.copy_each.Goals as goal
 

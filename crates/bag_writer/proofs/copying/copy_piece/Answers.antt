@@ -1,4 +1,4 @@
-use Rattle.std.proofs.Common.{◌≡◌, arith, false, refl, rules, subst, true}
+use Rattle.std.proofs.Common.{◌≡◌, false, refl, rules, subst, true}
 use Rattle.bag_digest.specs.declared.reading.SourceFault.TheVariants as cause
 use Rattle.bag_writer.specs.Copying.{CopiesPiece, sides}
 use Rattle.bag_writer.proofs.CopyPieces.{none_copied, piece_copied, read_fails, read_is_too_long, risen, write_fails}

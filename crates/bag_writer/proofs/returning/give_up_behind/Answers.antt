@@ -1,4 +1,4 @@
-use Rattle.std.proofs.Common.{◌≡◌, ◌<◌, ◌+◌, ◌-◌, ◌∙◌, Some, ap, arith, length, refl, slice_get, subst, sym, take}
+use Rattle.std.proofs.Common.{◌≡◌, ◌<◌, ◌-◌, ◌∙◌, Some, ap, arith, length, refl, slice_get, subst, sym, take}
 use Rattle.std.proofs.lemmas.List.{take-take, take_all}
 use Rattle.std.proofs.lemmas.Option.{slice_get_read}
 use Rattle.bag_rules.specs.Returning.{LeavesOut}

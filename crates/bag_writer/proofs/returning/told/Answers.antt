@@ -1,8 +1,6 @@
-use Rattle.std.proofs.Common.{◌≡◌, ◌≤◌, ◌∙◌, ap, arith, inl, inr, refl, rules, slice_get, sym}
-use Rattle.bag_rules.proofs.Words.{paths_in, same_Some}
+use Rattle.std.proofs.Common.{◌≡◌, ◌∙◌, refl, sym}
 use Rattle.bag_writer.specs.declared.payload.CopyFault.TheVariants as copy
-use Rattle.bag_writer.specs.declared.write_fault.Large.TheVariants.{File}
-use Rattle.bag_writer.specs.declared.write_fault.WriteFault.TheVariants.{Memory, Sink, TooLarge, Tree}
+use Rattle.bag_writer.specs.declared.write_fault.WriteFault.TheVariants.{Sink, TooLarge, Tree}
 use Rattle.bag_writer.proofs.FilesOut.{sink_failed, sink_less, sink_none_back, tree_failed, tree_less, tree_none}
 use Rattle.bag_writer.proofs.returning.told.Goals as goal
 
