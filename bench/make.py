@@ -5,7 +5,9 @@ coreutils, and its peak memory.
 Each row is a payload. The two take turns, by default for three rounds, and the least time of each counts. Neither waits until the data
 is on the disk. Memory is the greatest resident set.
 
-    bench/make.py [ROUNDS]
+With NAME only the rows are printed whose name contains it.
+
+    bench/make.py [ROUNDS [NAME]]
 """
 
 import pathlib
@@ -14,7 +16,18 @@ import subprocess
 import sys
 import tempfile
 
-from check import PIECE, PROGRAM, TOP, payload, run
+from check import MEBIBYTE, PIECE, PROGRAM, TOP, payload, run
+
+ALGORITHMS = ["md5"], ["sha1"], ["sha256"], ["md5", "sha256"]
+PAYLOADS = (
+    ("large", [1024 * MEBIBYTE], 1),
+    ("256 MiB", [256 * MEBIBYTE] * 4, 1),
+    ("100 MiB", [100 * MEBIBYTE] * 8, 1),
+    ("5 MiB", [5 * MEBIBYTE] * 60, 1),
+    ("1 and 1,000", [256 * MEBIBYTE] + [2048] * 1000, 1),
+    ("64 KiB", [PIECE] * 20_000, 200),
+    ("2 KiB", [2048] * 20_000, 200),
+)
 
 
 def row(name, sizes, folders, algorithms, rounds, work):
@@ -42,13 +55,16 @@ def row(name, sizes, folders, algorithms, rounds, work):
 
 def main():
     rounds = int(sys.argv[1]) if len(sys.argv) > 1 else 3
+    chosen = sys.argv[2] if len(sys.argv) > 2 else ""
     subprocess.run([TOP / "build"], check=True)
     print(f"{'payload':<20} {'bag make':>9} {'cp and sum':>10} {'ratio':>6} {'peak MiB':>8}")
     with tempfile.TemporaryDirectory() as folder:
         work = pathlib.Path(folder)
-        for name, sizes, folders in (("large", [1 << 30], 1), ("64 KiB", [PIECE] * 20_000, 200), ("2 KiB", [2048] * 20_000, 200)):
-            for algorithms in (["sha256"], ["md5", "sha256"]):
-                row(f"{name} {' '.join(algorithms)}", sizes, folders, algorithms, rounds, work)
+        for payload_name, sizes, folders in PAYLOADS:
+            for algorithms in ALGORITHMS:
+                name = f"{payload_name} {' '.join(algorithms)}"
+                if chosen in name:
+                    row(name, sizes, folders, algorithms, rounds, work)
 
 
 if __name__ == "__main__":

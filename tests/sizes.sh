@@ -250,17 +250,17 @@ expect 'files that fit into no memory: begin' 0 new tight begin light t1 short
 expect 'files that fit into no memory: intake' 0 "$(cut -c 35- "$work/short/manifest-md5.txt" | sed 's/^/taken /')" \
     tight intake light t1 short
 rm -r "$work/light" "$work/short" "$work/shorter"
-# Files that are read side by side: no more of them are open, and no more of them is held, than of 32.
+# Files that are read side by side, and those that they are copied to: no more of them are open, and no more of them is held, than of 32.
 new_bag side
 rm "$work/side/data/e"
 for number in {1..300}; do truncate -s 400000 "$work/side/data/$number"; done
 (cd "$work/side" && find data -type f | LC_ALL=C sort | xargs md5sum >manifest-md5.txt && rm manifest-sha256.txt)
 few_handles() (
-    ulimit -n 48
-    tight "$@"
+    ulimit -n "$1"
+    tight "${@:2}"
 )
-expect 'files that are read side by side, with few handles: check' 0 valid few_handles check side
-expect 'files that are read side by side, with few handles: make' 0 'made 300 files, 120000000 octets' few_handles make side/data copied md5
+expect 'files that are read side by side, with few handles: check' 0 valid few_handles 48 check side
+expect 'files that are read side by side, with few handles: make' 0 'made 300 files, 120000000 octets' few_handles 80 make side/data copied md5
 rm -r "$work/side" "$work/copied"
 # Files of which as many as are held of short ones would need all memory.
 mkdir "$work/two"
