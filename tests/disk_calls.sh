@@ -14,7 +14,7 @@ done | LC_ALL=C sort >"$work/sources"
 # Each call with the function that it stands in, and what is removed.
 xargs awk '
     /^ *(pub |pub\(crate\) )?fn / { match($0, /fn [a-z_]+/); name = substr($0, RSTART + 3, RLENGTH - 3); next }
-    match($0, /(remove_file|remove_dir|remove_dir_all|set_len|rename|hard_link|soft_link|create_new|create_dir|create_dir_all|copy|fs::write|fs::create|sqlite_std_file::open)\(|File::create(_new)?|OpenOptions::new\(|set_permissions\(|write_all\(|write_at\(|write_all_at\(|\.write\(|\.append\(|truncate\(|[ :](Unknown|Wary)\)/) {
+    match($0, /(remove_file|remove_dir|remove_dir_all|set_len|rename|hard_link|soft_link|create_new|create_dir|create_dir_all|::copy|::write|fs::create|sqlite_std_file::open)\(|File::create(_new)?|OpenOptions::new\(|set_permissions\(|write_all\(|write_at\(|write_all_at\(|\.write\(|\.append\(|truncate\(|[ :](Unknown|Wary)\)/) {
         call = substr($0, RSTART, RLENGTH)
         rest = substr($0, RSTART + RLENGTH)
         gsub(/[ :]*\(?$|^[ :]+|\)$/, "", call)
@@ -31,6 +31,7 @@ bag_folder/names.rt make_folder create_dir
 bag_folder/names.rt make_folders create_dir_all
 bag_folder/names.rt make_file File::create_new
 bag_folder/sink.rt write write_all
+bag_folder/sink_file.rt write write_all
 bag_program/abandoned_ledger.rt remove_new_log remove_file self.rt, self.seen.log()
 bag_program/abandoned_ledger.rt remove_new_file remove_file self.rt, self.seen.name()
 bag_program/barred.rt open_locked sqlite_std_file::open
@@ -43,7 +44,9 @@ bag_program/handle.rt empty set_len
 bag_program/locked_file.rt remove_copied_log remove_file self.rt, self.seen.log()
 bag_program/main.rt main Unknown
 bag_program/watched.rt write .write
+bag_program/watched.rt write write
 bag_receiver/export.rt write_content .write
+bag_writer/copying.rt copy_piece .write
 bag_writer/payload.rt write_piece .write
 bag_writer/sink.rt add_file .write
 KNOWN

@@ -187,7 +187,7 @@ expect 'fetch from a link to a folder with all kinds of things: it is held' 0 va
 opening() {
     local name=$1 status=$2 lines=$3
     shift 3
-    expect "$name" "$status" "$lines" strace -f -o "$work/calls" -e 'trace=/^open' "$work/program" "$@"
+    expect "$name" "$status" "$lines" strace -f -o "$work/calls" -e 'trace=/^(open|close)' "$work/program" "$@"
 }
 # unopened NAME STATUS LINES COMMAND..: the same, and it opens nothing that is named `odd`.
 unopened() {
@@ -200,6 +200,16 @@ opened_once() {
     grep -vF O_DIRECTORY "$work/calls" | sed -n "s|.*openat(AT_FDCWD, \"$2/\([^\"]*\)\".*|\1|p" | LC_ALL=C sort >"$work/opened"
     expect "$1: each file is opened once" 0 '' diff "$work/wanted opened" "$work/opened"
 }
+# most_open FOLDER: how many files of the folder were open at a time, at most.
+most_open() {
+    awk -v opens="openat(AT_FDCWD, \"$1/" '
+        index($0, opens) && !/O_DIRECTORY/ && $NF ~ /^[0-9]+$/ { open[$NF] = 1; if (++count > most) most = count }
+        match($0, /close\([0-9]+\)/) && (substr($0, RSTART + 6, RLENGTH - 7) in open) {
+            delete open[substr($0, RSTART + 6, RLENGTH - 7)]
+            count--
+        }
+        END { print most + 0 }' "$work/calls"
+}
 if strace -o "$work/calls" true 2>"$work/no strace"; then
     opening 'what is opened' 0 valid check "$whole"
     expect 'what is opened: it is seen' 0 '' grep -qF "$whole/data/a.txt" "$work/calls"
@@ -210,19 +220,27 @@ if strace -o "$work/calls" true 2>"$work/no strace"; then
     head -c 200000 /dev/zero | tee "$many/long" "$many/x" >"$many/k/long"
     opening 'opened once: make' 0 'made 73 files, 600210 octets' make "$many" "$made" md5 sha256
     opened_once 'make' "$many"
+    for folder in "$many" "$made"; do
+        expect 'make: files that are open at a time' 0 32 most_open "$folder"
+    done
+    opening 'one at a time: make by SHA-512' 0 'made 73 files, 600210 octets' make "$many" "$work/seventy by sha512" sha512
+    expect 'make by SHA-512: files that are open at a time' 0 1 most_open "$many"
     (cd "$made" && sed 's|^[^ ]*  |http://example.org/ - |' manifest-md5.txt >fetch.txt && echo note >note && rm tagmanifest-md5.txt)
     (cd "$made" && sha256sum bag-info.txt bagit.txt fetch.txt manifest-*.txt >tagmanifest-sha256.txt)
     opening 'opened once: check' 0 valid check "$made"
     opened_once 'check, which reads no file that is not listed' "$made" ! -name note
     opening 'opened once: begin' 0 new begin "$work/seventy-ledger" t1 "$made"
     opened_once 'begin, which reads no payload' "$made" ! -path './data/*'
+    expect 'begin: files that are open at a time' 0 1 most_open "$made"
     opening 'opened once: intake' 0 "$(cut -c 35- "$made/manifest-md5.txt" | sed 's/^/taken /')" \
         intake "$work/seventy-ledger" t1 "$made"
     opened_once 'intake, which reads the payload alone' "$made" -path './data/*'
+    expect 'intake: files that are open at a time' 0 1 most_open "$made"
     expect 'opened once: another transfer' 0 new bag begin "$work/seventy-ledger" t2 "$made"
     opening 'opened once: fetch' 0 "$(cut -c 35- "$made/manifest-md5.txt" | sed 's/^/taken /')" \
         fetch "$work/seventy-ledger" t2 "$made"
     opened_once 'fetch, which reads what it asks for alone' "$made" -path './data/*'
+    expect 'fetch: files that are open at a time' 0 1 most_open "$made"
     # A second tag manifest, which does not list all that the first lists.
     (cd "$made" && md5sum manifest-*.txt >tagmanifest-md5.txt)
     opening 'opened once: check by two tag manifests' 0 valid check "$made"

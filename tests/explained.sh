@@ -40,6 +40,9 @@ for words in "make examples/first-bag/data DST md5" "export $work/ledger t1 DST"
 done
 long=$work/$(printf 'k%.0s' {1..300})
 explain 'a name that is too long' 3 "bag: $long: $too_long" bag check "$long"
+explain 'fetch: a name that is too long' 3 "bag: $long: $too_long" bag fetch "$work/ledger" t1 "$long"
+ln -s loop "$work/loop"
+explain 'fetch: a link to itself' 3 "bag: $work/loop: Too many levels of symbolic links (os error 40)" bag fetch "$work/ledger" t1 "$work/loop"
 explain 'a full output' 3 "bag: $work/none: $missing" full bag check "$work/none"
 expect 'a wrong name of a transfer has no more to it' 1 'bag: no transfer' bag report "$work/ledger" t2
 
@@ -216,11 +219,14 @@ if unshare -m sh -c "mkdir '$work/disk' && mount -t tmpfs -o size=100k bag '$wor
         unshare -m sh -c 'mount -t tmpfs -o size=100k bag "$1/disk" && "$1/program" make "$1/payload" "$1/disk/bag" md5' sh "$work"
     }
     explain 'a full disk' 3 "bag: $work/disk/bag/data/A: $no_room" on_disk
-    # On a disk that has room for its own folder and that of the bag, and for nothing more.
-    on_two_folders() {
-        unshare -m sh -c 'mount -t tmpfs -o nr_inodes=2 bag "$1/disk" && "$1/program" make "$1/payload" "$1/disk/bag" md5' sh "$work"
+    # On a disk that has room for its own folder and that of the bag, or for data/ too, and for nothing more.
+    on_folders() {
+        unshare -m sh -c 'mount -t tmpfs -o nr_inodes="$2" bag "$1/disk" && "$1/program" make "$1/payload" "$1/disk/bag" "$3"' sh "$work" "$@"
     }
-    explain 'a disk without room for data/' 3 "bag: $work/disk/bag/data: $no_room" on_two_folders
+    explain 'a disk without room for data/' 3 "bag: $work/disk/bag/data: $no_room" on_folders 2 md5
+    for name in md5 sha512; do
+        explain "a disk without room for a file, by $name" 3 "bag: $work/disk/bag/data/A: $no_room" on_folders 3 "$name"
+    done
     # on_full_disk COMMAND..: on a disk that a ledger of one transfer finds no room on, or its payload.
     on_full_disk() {
         unshare -m sh -c 'mount -t tmpfs -o size="$1" bag "$2/disk" && shift && work=$1 && shift && "$work/program" begin "$work/disk/ledger" t1 "$work/bag" >/dev/null && exec "$work/program" "$@"' \

@@ -215,6 +215,17 @@ if strace -o "$work/calls" true 2>"$work/no strace"; then
     }
     explain 'two files that fail' 3 "bag: $work/both/data/a: Input/output error (os error 5)" two_fail
     expect 'two files that fail: they are sound' 0 valid "$program" check "$work/both"
+    two_fail_in_a_new_bag() {
+        injects 'inject=read:error=EIO:when=4' -e 'inject=openat:error=EACCES:when=2' -P "$work/two/a" -P "$work/two/b" \
+            "$program" make "$work/two" "$work/of two" md5
+    }
+    explain 'two files that fail: make' 3 "bag: $work/two/a: Input/output error (os error 5)" two_fail_in_a_new_bag
+    # The second write to the first copy fails, and the other copy could not be begun.
+    two_copies_fail() {
+        injects 'inject=write:error=ENOSPC:when=2' -e 'inject=openat:error=EACCES:when=2' -P "$work/of both/data/a" -P "$work/of both/data/b" \
+            "$program" make "$work/two" "$work/of both" md5
+    }
+    explain 'two copies that fail: make' 3 "bag: $work/of both/data/a: No space left on device (os error 28)" two_copies_fail
     # The system finds no memory for a ledger that is opened: at each of the calls that open its file.
     for number in 1 2 3; do
         expect "no memory in the system for a ledger, $number" 3 'bag: memory' \
@@ -240,6 +251,19 @@ if strace -o "$work/calls" true 2>"$work/no strace"; then
         expect "an empty file that cannot be emptied again, $number of $writes: once more" 0 new "$program" begin "$work/once/empty" t1 "$work/once"
         rm -f "$work/once/new" "$work/once/new-wal" "$work/once/empty"
     done
+    # A delivery that is not on the disk: the log of the ledger cannot be written to it, once it was begun.
+    for number in {1..6}; do
+        rm -f "$work/once/delivered" "$work/once/delivered-wal"
+        expect "a delivery that fails, $number: begin" 0 new "$program" begin "$work/once/delivered" t1 examples/first-bag
+        explain "a delivery that fails, $number" 3 "bag: $work/once/delivered: disk I/O error" \
+            injects "inject=fdatasync:error=EIO:when=$number" "$program" intake "$work/once/delivered" t1 examples/first-bag
+    done
+    # Of a ledger in which no transfer was opened the log is removed first: without its file it would be that of another one.
+    removed() {
+        strace -o "$work/calls" -e trace=/^unlink "$program" begin "$work/once/new" t1 "$work/two" >"$work/printed_by_calls" 2>&1
+        sed -n 's/^unlink[^"]*"\([^"]*\)".*/\1/p' "$work/calls"
+    }
+    expect 'a new ledger that is removed again' 0 "$work/once/new-wal"$'\n'"$work/once/new" removed
     # meanwhile CHANGE LEDGER WORD..: runs this command on a ledger, and does this to it when it was opened for the first time.
     meanwhile() {
         local pid status=0

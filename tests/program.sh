@@ -60,6 +60,9 @@ expect 'the version, by its letter' 0 'bag 1.4.1' bag -V check examples/first-ba
 expect 'help, whatever else is there' 0 "$help" bag --help examples/first-bag
 expect 'help by its command' 0 "$help" bag help
 expect 'help of a command' 0 "$help_of_check" bag check --help
+for words in --hel --h --vers 'check --hel'; do
+    refuse "a part of an option: $words" "error: unexpected argument '${words#check }' found" bag $words
+done
 expect 'help of a command, by its letter' 0 "$help_of_check" bag check examples/first-bag -h
 
 # The operands of each command, as at the head of the manual page.

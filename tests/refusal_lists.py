@@ -332,16 +332,19 @@ def lists():
 def stores():
     """A map that once gives something else than it holds: no octets of a payload file (`piece`), or tag files of which no plan can be made
     (`tags`). That answer ends in a mark. No other may differ."""
-    begun = [(("start",), "started"), BEGUN, (with_files("run", b"t1", [A, E]), "taken | taken | done")]
     reopened = (("reopen",), "opened")
     exported = " | ".join(["exported 4", *shown(True, F)])
     in_part = " | ".join(["refused: store", *shown(True, dict(TAGS))])
-    for name, device, number, *steps in [
-            ("a payload file without its octets: export", "piece", 1, (("export", b"t1"), in_part + " !"),
+    for name, items, device, number, *steps in [
+            ("a payload file without its octets: export", [A, E], "piece", 1, (("export", b"t1"), in_part + " !"),
              (("export", b"t1"), "refused: store"), reopened, (("export", b"t1"), exported)),
-            ("a payload file without its octets: audit", "piece", 1, (("audit", b"t1"), f"{MISSING_A} | not complete !"),
+            ("a payload file without its octets: audit", [A, E], "piece", 1, (("audit", b"t1"), f"{MISSING_A} | not complete !"),
              (("audit", b"t1"), "valid")),
-            ("tag files without a plan", "tags", 2, reopened, (("report", b"t1"), "refused: store !"), (("report", b"t1"), "refused: store"),
+            ("the only payload file without its octets: audit", [A], "piece", 1,
+             (("audit", b"t1"), f"{MISSING_A} | {MISSING_E} | not complete !"), (("audit", b"t1"), f"{MISSING_E} | not complete")),
+            ("tag files without a plan", [A, E], "tags", 2, reopened, (("report", b"t1"), "refused: store !"), (("report", b"t1"), "refused: store"),
              reopened, (("report", b"t1"), "valid"))]:
+        taken = " | ".join([*["taken"] * len(items), "done"])
+        begun = [(("start",), "started"), BEGUN, (with_files("run", b"t1", items), taken)]
         events, wanted = zip(*begun, *steps)
         yield Calls(name, events, 0, 0, wanted, ["breaking"], (device, number))
