@@ -1,4 +1,4 @@
-//! Payload files that are put where no receiver puts one, and what the faults of a put say.
+//! Payload files that are put or read where no receiver does so, and what the faults of a put say.
 use bag_digest::Alg;
 use bag_ledger::{KeepFault, Keeper, PutFault, StoreFault};
 use bag_path::BagPath;
@@ -8,21 +8,17 @@ use sqlite::{Connection, MemStore};
 use std::alloc::Global;
 use std::test::Fail;
 
-/// A transfer with one payload file without octets. The digest is that of `md5sum`.
-const TAG_FILES: [(&str, &str); 2] = [
-    (
-        "bagit.txt",
-        "BagIt-Version: 1.0\nTag-File-Character-Encoding: UTF-8\n",
-    ),
-    (
-        "manifest-md5.txt",
-        "d41d8cd98f00b204e9800998ecf8427e  data/e.txt\n",
-    ),
-];
+const DECLARATION: &str = "BagIt-Version: 1.0\nTag-File-Character-Encoding: UTF-8\n";
 
-fn tag_files(alloc: Global) -> Result<TagSet, Fail> {
+/// A payload file without octets, and one with the octets `abc`. The digests are those of `md5sum`.
+const OF_NOTHING: &str = "d41d8cd98f00b204e9800998ecf8427e  data/e.txt\n";
+
+const OF_ABC: &str = "900150983cd24fb0d6963f7d28e17f72  data/a.txt\n";
+
+/// The tag files of a transfer with this manifest.
+fn tag_files(alloc: Global, manifest: &str) -> Result<TagSet, Fail> {
     let mut tags = TagSet::new(alloc);
-    for (path, text) in TAG_FILES {
+    for (path, text) in [("bagit.txt", DECLARATION), ("manifest-md5.txt", manifest)] {
         tags.add(path, Vec::from_slice(alloc, text.as_bytes())?)?;
     }
     Ok(tags)
@@ -44,7 +40,7 @@ fn made(connection: Connection<MemStore>) -> Result<SqlKeeper<MemStore>, KeepFau
 #[test]
 fn a_put_without_its_transfer_is_a_failure_of_the_store(rt: HostRuntime) -> Result<(), Fail> {
     let alloc = rt.alloc();
-    let plan = Plan::from_tags(alloc, &tag_files(alloc)?)?;
+    let plan = Plan::from_tags(alloc, &tag_files(alloc, OF_NOTHING)?)?;
     let path = BagPath::parse(alloc, "data/e.txt")?;
     let want = plan.want(&path).ok_or("it isn't listed")?;
     let mut keeper = made(Connection::open_in_memory(alloc)?)?;
@@ -52,6 +48,25 @@ fn a_put_without_its_transfer_is_a_failure_of_the_store(rt: HostRuntime) -> Resu
         let put = keeper.put(alloc, "t1", &want, b"");
         assert_eq!(rt; put, Err(PutFault::Keep(KeepFault::Store(fault))));
     }
+    Ok(())
+}
+
+#[test]
+fn nothing_is_read_past_the_end_of_what_is_held(rt: HostRuntime) -> Result<(), Fail> {
+    let alloc = rt.alloc();
+    let tags = tag_files(alloc, OF_ABC)?;
+    let plan = Plan::from_tags(alloc, &tags)?;
+    let path = BagPath::parse(alloc, "data/a.txt")?;
+    let want = plan.want(&path).ok_or("it isn't listed")?;
+    let mut keeper = made(Connection::open_in_memory(alloc)?)?;
+    keeper.begin(alloc, "t1", &tags)?;
+    keeper.put(alloc, "t1", &want, b"abc")?;
+    let mut octets = [0; 4];
+    for (name, offset, count) in [("t1", 3, 0), ("t1", 65_536, 0), ("t2", 0, 0), ("t1", 1, 2)] {
+        let read = keeper.read_piece(alloc, name, &path, offset, &mut octets);
+        assert_eq!(rt; read, Ok(count));
+    }
+    assert_eq!(rt; &octets[..2], b"bc".as_slice());
     Ok(())
 }
 

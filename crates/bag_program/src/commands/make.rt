@@ -49,9 +49,8 @@ pub fn make_folder<R: Files + Eprint, D: Directories, W: Write + Drop>(
         Ok(tree) => {
             let meter = Meter::new(system.progress, Activity::Copying);
             meter.expect_files(tree.count());
-            let mut tree = Watched::new(tree, &meter);
-            let Made { ended, large } = make_into(alloc, making, &mut tree, made, out);
-            ended.or(why_unmade(tree.into_inside(), large))
+            let (answer, tree) = make_watched(alloc, making, tree, &meter, made, out);
+            answer.ended.or(why_unmade(tree, answer.large))
         }
         Err(fault) => no_result_for_folder(fault, out),
     }
@@ -63,6 +62,26 @@ struct Made {
     ended: Ended,
     // what is too large, if something is
     large: Option<Large>,
+}
+
+/// Makes the folder for the bag, and in it the bag of a tree's files, of which the meter counts what is read. Returns the tree,
+/// too.
+fn make_watched<T: CopiedTree, R: Files + Eprint, W: Write + Drop>(
+    alloc: Global,
+    making: &Making<'_>,
+    tree: T,
+    meter: &Meter<'_, R>,
+    made: &mut Destination<'_, R>,
+    out: &mut Output<W>,
+) -> (Made, T)
+    ensures { MakesInto W.contents (MakesFolder W.contents T.shown T.failures T.sure
+        tree result.1 (words_given making.now).names out.old out.new (make_end result.0))
+        ((result.1 ≡ tree) × (result.0.large ≡ None)) making.now.destination.now
+        made.old made.new out.old out.new result.0.ended }
+{
+    let mut watched = Watched::new(tree, meter);
+    let answer = make_into(alloc, making, &mut watched, made, out);
+    (answer, watched.into_inside())
 }
 
 /// Makes the folder for the bag, and in it the bag of a tree's files.

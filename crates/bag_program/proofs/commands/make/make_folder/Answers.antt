@@ -24,9 +24,8 @@ not_opened contents known words made old new result open_fault.Memory refused pr
 
 pub returns-in-Ok : goal.returns-in-Ok
 returns-in-Ok g c =
-    let why = c.why_unmade.ensures ∙ ap (λ tree. why_unmade tree c.make_into-ended.result.large) c.into_inside.ensures in
-    Opened c.new-tree.result c.make_into-ended.new.tree c.make_into-ended.result (rw c.new-tree.ensures c.in-Ok.ensures.opened) c.make_into-ended.ensures
-    (c.or.ensures ∙ ap (or_why c.make_into-ended.result.ended) why)
+    Opened c.in-Ok.tree c.make_watched-answer.result.1 c.make_watched-answer.result.0 c.in-Ok.ensures.opened c.make_watched-answer.ensures
+    (c.or.ensures ∙ ap (or_why c.make_watched-answer.result.0.ended) c.why_unmade.ensures)
 
 pub returns-in-Err : goal.returns-in-Err
 returns-in-Err g c =
