@@ -5,5 +5,6 @@ pub mod MemNameLemmas
 pub mod NameLemmas
 pub mod OpenFileLemmas
 pub mod PayloadFolders
+pub mod SinkFileLemmas
 pub mod WalkLemmas
 pub mod WayLemmas

@@ -5,6 +5,7 @@ pub mod Folders
 pub mod MemNames
 pub mod Names
 pub mod OpenFiles
+pub mod SinkFiles
 pub mod SinkFolders
 pub mod Supplying
 pub mod Unfits

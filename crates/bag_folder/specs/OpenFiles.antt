@@ -1,5 +1,5 @@
 -- Open files of a folder, which are values.
-use Rattle.std.specs.Prelude.{◌≡◌, ℕ, List, Option, None, Some, Result, Ok, Err, IfErr, IfSome, IsErr, IsSomeAnd, MatchResult, is_some, option_map, slice_get}
+use Rattle.std.specs.Prelude.{◌≡◌, ℕ, List, Option, None, Result, Ok, Err, IfErr, IfSome, IsErr, IsSomeAnd, MatchResult, is_some, option_map, slice_get}
 use Rattle.std.specs.Io.KnownBytes.{ReadConsumes}
 use Rattle.std.specs.declared.io.Error.{Error}
 use Rattle.bag_digest.specs.Failures.{one_more}

@@ -1,5 +1,5 @@
 //! A folder on disk that a bag is written to.
-ghost use Rattle.std.specs.Prelude.{◌≡◌, ◌||◌, IfErr, IfOk, IfSome, IsErr, IsSomeAnd, MatchOption, None, OnErr, OnOk, Some, [], codes, false, is_ok, is_some, true};
+ghost use Rattle.std.specs.Prelude.{◌≡◌, ◌||◌, IfErr, IfOk, IfSome, IsErr, IsSomeAnd, MatchOption, MatchResult, None, OnErr, OnOk, Some, [], codes, false, is_ok, is_some, true};
 ghost use Rattle.std.specs.Option.{option_map};
 ghost use Rattle.bag_folder.specs.Directories.{name_below};
 ghost use Rattle.bag_folder.specs.Faults.{IfUnfit, no_name};
@@ -200,6 +200,10 @@ impl<R: Names> Sink for FolderSink<R> {
 }
 
 impl<R: Names> OpenSink for FolderSink<R> {
+    ghost use Rattle.std.specs.Prelude.{◌-◌};
+    ghost use Rattle.bag_digest.specs.Failures.{CountsIf, IsRaised};
+    ghost use Rattle.bag_folder.specs.SinkFiles.{BeginsBelow, EndsBegun, IsGivenBegun, LeavesFolder, trouble_in};
+
     type File = FolderSinkFile<R>;
 
     /// Creates the file, which must not exist yet, and its parent directories. Memory is needed for its name alone.
@@ -208,7 +212,16 @@ impl<R: Names> OpenSink for FolderSink<R> {
         alloc: Global,
         place: usize,
         path: &BagPath,
-    ) -> Result<FolderSinkFile<R>, AllocError> {
+    ) -> Result<FolderSinkFile<R>, AllocError>
+        ensures begun { IfOk result (IsGivenBegun self.old place path.now) }
+        ensures counted { MatchResult result
+            (λ file. IsRaised self.old.failures self.new.failures)
+            (λ error. self.new.failures ≡ self.old.failures) }
+        ensures rest { LeavesFolder self.old self.new }
+        ensures exactly { MatchResult result
+            (BeginsBelow self.old self.new path.now place)
+            (λ error. self.new ≡ self.old) }
+    {
         let mut name = String::with_capacity(alloc, self.name.capacity())?;
         self.troubles.raise()?;
         if self.file.is_some() {
@@ -221,7 +234,12 @@ impl<R: Names> OpenSink for FolderSink<R> {
     }
 
     /// Closes the file on the disk, without waiting until its content is there.
-    fn end_file(&mut self, file: &mut FolderSinkFile<R>) -> Result<(), Failed> {
+    fn end_file(&mut self, file: &mut FolderSinkFile<R>) -> Result<(), Failed>
+        ensures counted { CountsIf (IsErr result) file.old.failures file.new.failures }
+        ensures place { file.new.place ≡ file.old.place }
+        ensures exactly { EndsBegun file.old file.new result }
+        ensures same { self.new ≡ self.old }
+    {
         match self.file {
             Some(_) => file.refuse(),
             None => file.end(),
@@ -229,27 +247,30 @@ impl<R: Names> OpenSink for FolderSink<R> {
     }
 
     /// Closes the file. One that wasn't ended stays in the folder as far as it was written.
-    fn close(&mut self, _file: FolderSinkFile<R>) {
+    fn close(&mut self, _file: FolderSinkFile<R>)
+        ensures { self.new ≡ record self.old { failures = self.old.failures - 1 } }
+    {
         self.troubles.lower();
     }
 
     /// Closes the file, and keeps its name and why it failed the last time as what couldn't be used. Allocates no memory.
-    fn fail(&mut self, file: FolderSinkFile<R>) {
+    fn fail(&mut self, file: FolderSinkFile<R>)
+        ensures { self.new ≡ record self.old { trouble = trouble_in file } }
+    {
         self.troubles.tell(file.into_trouble());
     }
 
     /// Closes the file, and tells nothing of it. It stays in the folder as far as it was written.
-    fn give_up(&mut self, _file: FolderSinkFile<R>, _first: &FolderSinkFile<R>) {
+    fn give_up(&mut self, _file: FolderSinkFile<R>, _first: &FolderSinkFile<R>)
+        ensures { self.new ≡ record self.old { failures = self.old.failures - 1 } }
+    {
         self.troubles.lower();
     }
 
     /// Does the same.
-    fn give_up_unread<T: OpenTree>(
-        &mut self,
-        _file: FolderSinkFile<R>,
-        _tree: &T,
-        _first: &T::File,
-    ) {
+    fn give_up_unread<T: OpenTree>(&mut self, _file: FolderSinkFile<R>, _tree: &T, _first: &T::File)
+        ensures { self.new ≡ record self.old { failures = self.old.failures - 1 } }
+    {
         self.troubles.lower();
     }
 }

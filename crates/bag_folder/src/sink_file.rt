@@ -1,12 +1,14 @@
 //! Files that were begun in a folder that a bag is written to.
-ghost use Rattle.std.specs.Prelude.{◌≡◌, IsErr, IsOk, MatchResult};
-ghost use Rattle.bag_digest.specs.Failures.{CountsIf};
+ghost use Rattle.std.specs.Prelude.{◌≡◌, IsErr, IsOk, MatchResult, None, Some, string_bytes};
+ghost use Rattle.bag_digest.specs.Failures.{one_more};
+ghost use Rattle.bag_folder.specs.SinkFiles.{EndsBegun, WritesFile, trouble_in};
 
 use crate::names::Names;
 use crate::unfit::{Cause, Unfit, with_cause};
 use bag_digest::{Failed, Failures};
 use bag_writer::SinkFile;
 use std::io::Write;
+use std::marker::Model;
 
 /// A file that was begun in a folder, or one that couldn't be begun. Nothing is claimed about its content.
 #[derive(Drop)]
@@ -19,6 +21,21 @@ pub struct FolderSinkFile<R: Names> {
     cause: Option<Cause>,
 }
 
+impl<R: Names> Model for FolderSinkFile<R> {
+    ghost use Rattle.std.specs.Prelude.{option_map, string_bytes};
+    ghost use Rattle.bag_folder.specs.SinkFiles.{SinkFileShown};
+
+    ghost Value = { SinkFileShown };
+
+    ghost view = { λ file. record {
+      place = file.place;
+      name = string_bytes file.name;
+      written = option_map R.Writer.contents file.begun;
+      failures = file.failures;
+      cause = file.cause;
+    } };
+}
+
 impl<R: Names> FolderSinkFile<R> {
     /// The file with this name, by what beginning it gave.
     pub(crate) fn new(
@@ -26,8 +43,21 @@ impl<R: Names> FolderSinkFile<R> {
         name: String,
         begun: Result<R::Writer, Option<Cause>>,
     ) -> FolderSinkFile<R>
-        ensures placed { result.place ≡ place }
-        ensures failures { MatchResult begun (λ _. result.failures ≡ 0) (λ _. result.failures ≡ 1) }
+        ensures { MatchResult begun
+            (λ file. result ≡ record {
+              place = place;
+              name = string_bytes name;
+              written = Some (R.Writer.contents file);
+              failures = 0;
+              cause = None;
+            })
+            (λ cause. result ≡ record {
+              place = place;
+              name = string_bytes name;
+              written = None;
+              failures = 1;
+              cause = cause;
+            }) }
     {
         let mut file = FolderSinkFile {
             place,
@@ -36,14 +66,18 @@ impl<R: Names> FolderSinkFile<R> {
             failures: Failures::none(),
             cause: None,
         };
-        file.begun = file.counted(begun).ok();
+        match begun {
+            Ok(writer) => file.begun = Some(writer),
+            Err(cause) => {
+                let _ = file.counted(Err(cause));
+            }
+        }
         file
     }
 
     /// Closes the file without waiting until its content is on the disk.
     pub(crate) fn end(&mut self) -> Result<(), Failed>
-        ensures counted { CountsIf (IsErr result) self.old.failures self.new.failures }
-        ensures place { self.new.place ≡ self.old.place }
+        ensures { EndsBegun self.old self.new result }
     {
         let answer = match self.begun.take() {
             Some(mut file) => with_cause(file.flush()),
@@ -54,15 +88,16 @@ impl<R: Names> FolderSinkFile<R> {
 
     /// Counts that it can't be ended.
     pub(crate) fn refuse(&mut self) -> Result<(), Failed>
-        ensures counted { CountsIf (IsErr result) self.old.failures self.new.failures }
-        ensures place { self.new.place ≡ self.old.place }
+        ensures { IsErr result × EndsBegun self.old self.new result }
     {
         self.counted(Err(None))
     }
 
     /// Closes the file, and gives what couldn't be used: its name, and why it failed the last time. `None` if it hasn't failed,
     /// or for another reason.
-    pub(crate) fn into_trouble(self) -> Option<Unfit> {
+    pub(crate) fn into_trouble(self) -> Option<Unfit>
+        ensures { result ≡ trouble_in self }
+    {
         match self.cause {
             Some(cause) => Some(Unfit {
                 path: self.name,
@@ -73,13 +108,16 @@ impl<R: Names> FolderSinkFile<R> {
     }
 
     /// Counts the result of a call on it if it is an error, and keeps the cause.
-    fn counted<A>(&mut self, answer: Result<A, Option<Cause>>) -> Result<A, Failed>
+    fn counted(&mut self, answer: Result<(), Option<Cause>>) -> Result<(), Failed>
         ensures answer { MatchResult answer (λ _. IsOk result) (λ _. IsErr result) }
-        ensures counted { CountsIf (IsErr result) self.old.failures self.new.failures }
-        ensures place { self.new.place ≡ self.old.place }
+        ensures counted { MatchResult answer (λ _. self.new ≡ self.old)
+            (λ cause. self.new ≡ record self.old {
+              failures = one_more self.old.failures;
+              cause = cause;
+            }) }
     {
         match answer {
-            Ok(value) => Ok(value),
+            Ok(()) => Ok(()),
             Err(cause) => {
                 self.cause = cause;
                 self.failures.counted(Err(Failed))
@@ -89,6 +127,9 @@ impl<R: Names> FolderSinkFile<R> {
 }
 
 impl<R: Names> SinkFile for FolderSinkFile<R> {
+    ghost use Rattle.std.specs.Prelude.{IsErr};
+    ghost use Rattle.bag_digest.specs.Failures.{CountsIf};
+
     ghost place = { λ file. file.place };
 
     ghost holds = { λ _ _ _. Unit {0} };
@@ -98,7 +139,11 @@ impl<R: Names> SinkFile for FolderSinkFile<R> {
     ghost sure = { λ _. ⊥ };
 
     /// Passes the octets to the operating system.
-    fn write(&mut self, octets: &[u8]) -> Result<(), Failed> {
+    fn write(&mut self, octets: &[u8]) -> Result<(), Failed>
+        ensures place { self.new.place ≡ self.old.place }
+        ensures counted { CountsIf (IsErr result) self.old.failures self.new.failures }
+        ensures exactly { WritesFile self.old self.new result octets.now }
+    {
         let answer = match &mut self.begun {
             Some(file) => with_cause(file.write_all(octets)),
             None => Err(None),

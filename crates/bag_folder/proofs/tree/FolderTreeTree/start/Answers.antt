@@ -1,4 +1,4 @@
-use Rattle.std.proofs.Common.{◌≡◌, ◌<◌, ◌∙◌, ℕ, List, Option, Some, Result, Ok, Err, false, true, ap, length, refl, sym, subst, rules, string_bytes}
+use Rattle.std.proofs.Common.{◌≡◌, ◌<◌, ℕ, List, Option, Result, Ok, Err, false, true, ap, length, refl, sym, subst, rules, string_bytes}
 use Rattle.std.specs.Prelude.{IfErr, IsErr, IsSomeAnd, OnOk, OnSome}
 use Rattle.std.proofs.lemmas.Option.{slice_get_read}
 use Rattle.bag_rules.specs.Trees.{paths_in}
