@@ -21,7 +21,7 @@ known_by g db format tags item path size octets content want is has same within 
 
 -- BATCHES
 
-covers_by : (set wanted new : AlgSet) (want : Want) → ((alg : Alg) → has new alg ≡ (has set alg || has wanted alg)) → Covers set want ⊎ Covers wanted want → Covers new want
+pub covers_by : (set wanted new : AlgSet) (want : Want) → ((alg : Alg) → has new alg ≡ (has set alg || has wanted alg)) → Covers set want ⊎ Covers wanted want → Covers new want
 covers_by set wanted new want joined (inl old) alg listed = joined alg ∙ ap (λ b. b || has wanted alg) (old alg listed)
 covers_by set wanted new want joined (inr own) alg listed = joined alg ∙ ap (λ b. has set alg || b) (own alg listed) ∙ or-true (has set alg)
 

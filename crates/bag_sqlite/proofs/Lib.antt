@@ -2,6 +2,7 @@ pub mod AdoptedLemmas
 pub mod AdoptingLemmas
 pub mod AdoptingMeanings
 pub mod BatchLemmas
+pub mod BesideLemmas
 pub mod BodyLemmas
 pub mod CommitLemmas
 pub mod ContentLemmas

@@ -2,20 +2,20 @@
 use Rattle.std.proofs.Common.{◌≡◌, ◌<◌, ◌≤◌, ◌+◌, ℕ, zero, suc, ℤ, pos, List, [], ◌∷◌, ◌++◌, Option, Some, None, append-nil, ap, arith, length, length-append, refl, slice_get, subst, sym, ◌∙◌, append_assoc}
 use Rattle.bag_sqlite.proofs.Words.{AlgSet, AreCut, AreFull, Blob, concat, Content, Database, Ghosts, Int, PIECE, piece_text, same_Some, TakesAlso, TellsOne, Took}
 
-concat_last : (pieces : List (List ℕ)) (piece : List ℕ) → concat (pieces ++ piece ∷ []) ≡ concat pieces ++ piece
+pub concat_last : (pieces : List (List ℕ)) (piece : List ℕ) → concat (pieces ++ piece ∷ []) ≡ concat pieces ++ piece
 concat_last [] piece = append-nil piece
 concat_last (first ∷ pieces) piece = ap (λ rest. first ++ rest) (concat_last pieces piece) ∙ sym (append_assoc first (concat pieces) piece)
 
-full_last : (pieces : List (List ℕ)) (piece : List ℕ) → AreFull pieces → length piece ≡ PIECE → AreFull (pieces ++ piece ∷ [])
+pub full_last : (pieces : List (List ℕ)) (piece : List ℕ) → AreFull pieces → length piece ≡ PIECE → AreFull (pieces ++ piece ∷ [])
 full_last [] piece full is = (is, tt)
 full_last (first ∷ pieces) piece full is = (full.0, full_last pieces piece full.1 is)
 
-cut_last : (pieces : List (List ℕ)) (piece : List ℕ) → AreFull pieces → 0 < length piece → length piece ≤ PIECE → AreCut (pieces ++ piece ∷ [])
+pub cut_last : (pieces : List (List ℕ)) (piece : List ℕ) → AreFull pieces → 0 < length piece → length piece ≤ PIECE → AreCut (pieces ++ piece ∷ [])
 cut_last [] piece full some most = (some, most)
 cut_last (first ∷ []) piece full some most = (full.0, (some, most))
 cut_last (first ∷ next ∷ more) piece full some most = (full.0, cut_last (next ∷ more) piece full.1 some most)
 
-at_last : (pieces : List (List ℕ)) (last : List ℕ) (P : ℕ → List ℕ → Type 0) → ((n : ℕ) (piece : List ℕ) → slice_get pieces n ≡ Some piece → P n piece) → P (length pieces) last
+pub at_last : (pieces : List (List ℕ)) (last : List ℕ) (P : ℕ → List ℕ → Type 0) → ((n : ℕ) (piece : List ℕ) → slice_get pieces n ≡ Some piece → P n piece) → P (length pieces) last
     → (n : ℕ) (piece : List ℕ) → slice_get (pieces ++ last ∷ []) n ≡ Some piece → P n piece
 at_last [] last P each here zero piece is = subst (P 0) (same_Some last piece is) here
 at_last [] last P each here (suc n) piece is = absurd (let e : ◌≡◌ {A = Option (List ℕ)} None (Some piece) = is in cc)

@@ -1,6 +1,7 @@
 pub mod Adopted
 pub mod Adopting
 pub mod Batches
+pub mod Beside
 pub mod Contents
 pub mod Databases
 pub mod Items

@@ -4,12 +4,14 @@
 mod adopting;
 mod batch;
 mod beginning;
+mod beside;
 mod content;
 mod format;
 mod health;
 mod items;
 mod keeper;
 pub mod laws;
+mod long_item;
 mod making;
 mod migrating;
 mod octets;

@@ -17,6 +17,7 @@ ghost use Rattle.sqlite.specs.declared.types.Value.TheVariants.{Blob, Int};
 
 use crate::adopting::{AdoptFault, rows_of};
 use crate::batch::Batch;
+use crate::beside::{LANES, valid_beside};
 use crate::content::Content;
 use crate::format::Format;
 use crate::transfers::{path_in, tag_set_in};
@@ -226,7 +227,10 @@ fn damaged_in<S: Alter, W: Watch>(
     ensures reads { OnlyReads S.Store connection.old connection.new }
 {
     let mut batch = Batch::none(alloc);
-    for row in rows {
+    let mut at = 0;
+    let mut alone = 0;
+    while at < rows.len() {
+        let row = &rows[at];
         let item = row.get(0)?;
         let path: String = row.get(1)?;
         let size = row.get(2)?;
@@ -235,6 +239,16 @@ fn damaged_in<S: Alter, W: Watch>(
                 return Ok(Some(first));
             }
             batch = Batch::none(alloc);
+        }
+        let valid = valid_beside(
+            alloc, connection, watch, format, plan, rows, at, alone,
+        );
+        if valid > 0 {
+            at += valid;
+            if valid < LANES {
+                alone = at + 1;
+            }
+            continue;
         }
         let finding = read_item(
             alloc,
@@ -251,6 +265,7 @@ fn damaged_in<S: Alter, W: Watch>(
             Finding::Damaged => return Ok(Some(batch.first_damaged(alloc)?.unwrap_or(path))),
             Finding::Untested(want, content) => batch = batch.add(want, content)?,
         }
+        at += 1;
     }
     Ok(batch.first_damaged(alloc)?)
 }
@@ -308,7 +323,7 @@ fn read_item<'a, S: Alter, W: Watch>(
 }
 
 /// The size of a payload file, if it is within the limits.
-fn size_in(size: i64) -> Option<u64>
+pub(crate) fn size_in(size: i64) -> Option<u64>
     ensures { MatchOption result (¬ IsSize size)
         (λ octets. (size ≡ pos octets) × (octets ≤ LARGEST)) }
 {
@@ -433,7 +448,7 @@ fn content_in_pieces<S: Alter, W: Watch>(
 }
 
 /// Takes the piece of a payload file with this number, if it exists and has this many octets. Returns whether it does.
-fn take_piece<S: Alter>(
+pub(crate) fn take_piece<S: Alter>(
     connection: &mut Connection<S>,
     item: i64,
     n: i64,
@@ -485,7 +500,7 @@ fn blob_in(row: &Row) -> Option<&[u8]>
 }
 
 /// The number of pieces of a payload file.
-fn count_of<S: Alter>(connection: &mut Connection<S>, item: i64) -> Result<i64, AdoptFault>
+pub(crate) fn count_of<S: Alter>(connection: &mut Connection<S>, item: i64) -> Result<i64, AdoptFault>
     requires idle { connection.old.in_transaction ≡ false }
     ensures count { HasCleanDisk (state S.Store connection.new) → (db : Database)
         → Stands (state S.Store connection.old) db
