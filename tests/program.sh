@@ -55,8 +55,8 @@ refuse 'a command with two folders' "error: unexpected argument 'two' found" bag
 refuse 'an option that is not there' "error: unexpected argument '-x' found" bag check -x examples/first-bag
 refuse 'an argument that is not UTF-8' 'error: an argument is not UTF-8' bag check $'\377'
 expect 'help' 0 "$help" bag --help
-expect 'the version' 0 'bag 1.4.1' bag --version
-expect 'the version, by its letter' 0 'bag 1.4.1' bag -V check examples/first-bag
+expect 'the version' 0 'bag 1.5.0' bag --version
+expect 'the version, by its letter' 0 'bag 1.5.0' bag -V check examples/first-bag
 expect 'help, whatever else is there' 0 "$help" bag --help examples/first-bag
 expect 'help by its command' 0 "$help" bag help
 expect 'help of a command' 0 "$help_of_check" bag check --help
