@@ -85,13 +85,16 @@ module _ {S : Type 0} (g : Ghosts S) (db : Database) where
       let number : n + 1 ≡ length pieces = omega (arith, so_far.count, length-append so_far.pieces (rest ∷ [])) in
       let size : long.size ≡ length (concat pieces) = omega (arith, ap length joined, length-append (concat so_far.pieces) rest, full_length so_far.pieces so_far.full, so_far.count, total) in
       let within = long.within in
-      (known_by g db form.Second tags long.item long.want.path.now (pos long.size) long.size (concat pieces) long.want is
-      (pieces, record {
-        each = at_last so_far.pieces rest (λ k body. TellsOne g db piece_text (Int long.item ∷ Int (pos k) ∷ []) (Blob body)) so_far.each
-            (subst (λ k. TellsOne g db piece_text (Int long.item ∷ Int (pos k) ∷ []) (Blob rest)) so_far.count told);
-        count = subst (λ k. TellsOne g db count_text (Int long.item ∷ []) (Int (pos k))) number count;
-        cut = cut_last so_far.pieces rest so_far.full some most;
-      }, refl)
+      (known_by g db form.Second tags long.item long.want.path.now (pos long.size) long.size (concat pieces) long.want is (
+        pieces,
+        record {
+          each = at_last so_far.pieces rest (λ k body. TellsOne g db piece_text (Int long.item ∷ Int (pos k) ∷ []) (Blob body)) so_far.each
+              (subst (λ k. TellsOne g db piece_text (Int long.item ∷ Int (pos k) ∷ []) (Blob rest)) so_far.count told);
+          count = subst (λ k. TellsOne g db count_text (Int long.item ∷ []) (Int (pos k))) number count;
+          cut = cut_last so_far.pieces rest so_far.full some most;
+        },
+        refl,
+      )
       refl within size).0
       (wanted (concat pieces) (record {
         set = set;

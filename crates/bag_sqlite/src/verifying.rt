@@ -240,9 +240,7 @@ fn damaged_in<S: Alter, W: Watch>(
             }
             batch = Batch::none(alloc);
         }
-        let valid = valid_beside(
-            alloc, connection, watch, format, plan, rows, at, alone,
-        );
+        let valid = valid_beside(alloc, connection, watch, format, plan, rows, at, alone);
         if valid > 0 {
             at += valid;
             if valid < LANES {
@@ -500,7 +498,10 @@ fn blob_in(row: &Row) -> Option<&[u8]>
 }
 
 /// The number of pieces of a payload file.
-pub(crate) fn count_of<S: Alter>(connection: &mut Connection<S>, item: i64) -> Result<i64, AdoptFault>
+pub(crate) fn count_of<S: Alter>(
+    connection: &mut Connection<S>,
+    item: i64,
+) -> Result<i64, AdoptFault>
     requires idle { connection.old.in_transaction ≡ false }
     ensures count { HasCleanDisk (state S.Store connection.new) → (db : Database)
         → Stands (state S.Store connection.old) db
