@@ -9,6 +9,4 @@ tried='11 that are not ledgers, 21 damaged, 95 changed, 98 orders, 7 files read 
 tried+=' 100000 payload files in one ledger, 82 full disks'
 expect 'ledgers of every kind' 0 "$tried" \
     env TMPDIR="$work" python3 -B tests/command_ledgers.py crates/bag_program/out/bag_program
-expect 'ledgers with long payload files' 0 '60 opened, 60 damaged' \
-    env TMPDIR="$work" python3 -B tests/long_items.py crates/bag_program/out/bag_program
 finish
