@@ -68,6 +68,9 @@ expect 'a new ledger: its owner alone may write to it' 0 $'new\n644' new_mode
 
 # A transfer that arrives in one folder.
 expect 'begin' 0 new bag begin "$ledger" t1 "$work/tags"
+printf 'an old log' >"$work/gone-wal"
+expect 'begin beside a log whose ledger is gone' 0 new bag begin "$work/gone" t1 "$work/tags"
+expect 'begin beside a log whose ledger is gone: so is the log' 0 '' nothing "$work/gone-wal"
 expect 'a transfer of which nothing came' 1 "$both_missing" bag report "$ledger" t1
 expect 'a transfer of which nothing came, audited' 1 "$both_missing" bag audit "$ledger" t1
 expect 'intake' 0 $'taken data/a.txt\ntaken data/e.txt' bag intake "$ledger" t1 "$work/whole"

@@ -70,6 +70,9 @@ explain 'a text for a ledger' 3 "bag: $work/text: it is not a database" bag list
 explain 'begin: a text for a ledger' 3 "bag: $work/text: it is not a database" bag begin "$work/text" t1 examples/first-bag
 python3 -c 'import sqlite3, sys; sqlite3.connect(sys.argv[1]).executescript("CREATE TABLE visits (page TEXT)")' "$work/other"
 explain 'another database' 3 "bag: $work/other: it is a database, but not a ledger" bag list "$work/other"
+PYTHONPATH=tests python3 -B -c 'import sys; from first_format import write_first; write_first(sys.argv[1], {"t1": {"data/b": b"b"}})' "$work/taken"
+python3 -c 'import sqlite3, sys; sqlite3.connect(sys.argv[1]).executescript("CREATE TABLE held (id INTEGER PRIMARY KEY)")' "$work/taken"
+explain 'a ledger of format 1 beside a table of another program' 3 "bag: $work/taken: the name is taken" bag list "$work/taken"
 explain 'begin: no folder for a ledger' 3 "bag: $work/none/ledger: $missing" bag begin "$work/none/ledger" t1 examples/first-bag
 explain 'list: no folder for a ledger' 3 "bag: $work/none/ledger: it does not exist" bag list "$work/none/ledger"
 explain 'a name of a ledger that is too long' 3 "bag: $long: $too_long" bag begin "$long" t1 examples/first-bag

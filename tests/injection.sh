@@ -264,11 +264,12 @@ if strace -o "$work/calls" true 2>"$work/no strace"; then
         sed -n 's/^unlink[^"]*"\([^"]*\)".*/\1/p' "$work/calls"
     }
     expect 'a new ledger that is removed again' 0 "$work/once/new-wal"$'\n'"$work/once/new" removed
-    # meanwhile CHANGE LEDGER WORD..: runs this command on a ledger, and does this to it when it was opened for the first time.
+    # meanwhile CHANGE LEDGER WORD..: runs this command on a ledger, and does this to it after the first of these calls on it, that which
+    # opens it if nothing else is said.
     meanwhile() {
-        local pid status=0
+        local pid status=0 call=${call-openat}
         rm -f "$work/calls"
-        strace -f -o "$work/calls" -P "$2" -e trace=openat -e inject=openat:signal=SIGSTOP:when=1 "$program" "${@:3}" &
+        strace -f -o "$work/calls" -P "$2" -e "trace=$call" -e "inject=$call:signal=SIGSTOP:when=1" "$program" "${@:3}" &
         for _ in {1..3000}; do
             pid=$(sed -n 's/^\([0-9]*\) *--- stopped by SIGSTOP ---$/\1/p' "$work/calls" 2>"$work/gone")
             [ -z "$pid" ] || break
@@ -279,6 +280,11 @@ if strace -o "$work/calls" true 2>"$work/no strace"; then
         wait $! || status=$?
         return "$status"
     }
+    come() {
+        call=statx meanwhile ': >"$2"' "$work/once/come" begin "$work/once/come" t1 examples/first-bag
+    }
+    explain 'a file that comes where a ledger is made' 3 "bag: $work/once/come: File exists (os error 17)" come
+    expect 'a file that comes where a ledger is made: it stays' 0 '' [ -f "$work/once/come" ]
     cp "$work/once/ledger" "$work/once/emptied"
     explain 'a ledger that is emptied while it is opened' 3 "bag: $work/once/emptied: it is empty" \
         meanwhile ': >"$2"' "$work/once/emptied" list "$work/once/emptied"
