@@ -160,7 +160,9 @@ impl<'a, S: Start> LedgerFiles<'a, S> {
 
 impl<'a, S: Start> Ledgers for LedgerFiles<'a, S> {
     ghost use Rattle.std.proofs.Common.{inl};
+    ghost use Rattle.std.specs.Prelude.{IfSome};
     ghost use Rattle.bag_program.specs.LedgerFiles.{HoldsLedgerIn, IsAdoptedFrom, IsLeftBy, IsMadeIn, IsUnmadeFile, IsUnopenedFile};
+    ghost use Rattle.bag_program.specs.Unopened.{cause_of_store};
 
     type Kept = FileKeeper<S>;
 
@@ -195,7 +197,8 @@ impl<'a, S: Start> Ledgers for LedgerFiles<'a, S> {
     }
 
     fn trouble(kept: &FileKeeper<S>) -> Option<LedgerCause>
-        ensures { (result ≡ None) ↔ (⟦<FileKeeper<S> as Keeper>⟧.failures kept.now ≡ 0) }
+        ensures some { (result ≡ None) ↔ (⟦<FileKeeper<S> as Keeper>⟧.failures kept.now ≡ 0) }
+        ensures told { IfSome result (λ cause. cause ≡ cause_of_store kept.now.health.trouble) }
     {
         match kept.failures() {
             0 => None,

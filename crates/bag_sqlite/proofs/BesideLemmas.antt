@@ -2,12 +2,12 @@
 use Rattle.std.proofs.Common.{zero, suc, ◌∷◌, ◌≡◌, ◌≢◌, ◌∙◌, ◌+◌, ◌-◌, ◌*◌, ◌≤◌, ◌<◌, ◌++◌, ℕ, ℤ, List, Vec, [], Option, Some, None, IfSome, ap, arith, inl, inr, length, length-append, pos, refl, set, slice_get, subst, sym, take, true, false}
 use Rattle.std.specs.Prelude.{MatchOption, is_none}
 use Rattle.std.proofs.lemmas.Bool.{cases_lt}
-use Rattle.std.proofs.lemmas.Option.{get_or_from_slice_get, same_Some, slice_get_within}
+use Rattle.std.proofs.lemmas.Option.{get_or_from_slice_get, same_Some}
 use Rattle.bag_rules.proofs.HasLemmas.{stands}
 use Rattle.bag_digest.specs.Lanes.{HoldsAt}
 use Rattle.bag_digest.specs.Streams.{OtherLanesStay}
 use Rattle.bag_digest.specs.declared.lanes.MultiLanes.{MultiLanes}
-use Rattle.bag_sqlite.proofs.Words.{AlgSet, AllByRecursion, AreCut, AreDigests, AreFull, AreSumsFor, Batch, Blob, column, concat, count_text, Covers, Database, Digests, Files, Format, Ghosts, Global, Int, IsPlanOf, IsWanted, IsWantOf, LARGEST_ITEM, PIECE, piece_text, Plan, Row, RowPasses, TellsOne, Text, Value, Want}
+use Rattle.bag_sqlite.proofs.Words.{AlgSet, AllByRecursion, AreDigests, AreFull, AreSumsFor, Batch, Blob, concat, count_text, Covers, Database, Digests, Files, Format, Ghosts, Global, Int, IsPlanOf, IsWanted, IsWantOf, LARGEST_ITEM, PIECE, piece_text, Plan, Row, RowPasses, TellsOne, Text, Value, Want}
 use Rattle.bag_sqlite.proofs.PiecesRead.{at_last, concat_last, cut_last, full_last}
 use Rattle.bag_sqlite.proofs.AdoptingLemmas.{all_more}
 use Rattle.bag_sqlite.proofs.BatchLemmas.{SoFar, known_by}

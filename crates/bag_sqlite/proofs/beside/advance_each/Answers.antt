@@ -1,7 +1,6 @@
-use Rattle.std.proofs.Common.{◌≡◌, ◌≢◌, ◌∙◌, ◌+◌, ◌*◌, ◌<◌, ◌≤◌, ℕ, Some, ap, arith, length, refl, slice_get, sym}
+use Rattle.std.proofs.Common.{◌≡◌, ◌≢◌, ◌∙◌, ◌*◌, ◌<◌, ◌≤◌, ℕ, Some, ap, arith, length, refl, slice_get, sym}
 use Rattle.std.proofs.lemmas.Option.{same_Some, slice_get_read}
 use Rattle.bag_sqlite.proofs.Words.{HasCleanDisk, PIECE, state}
-use Rattle.bag_sqlite.specs.Beside.{GoesOn}
 use Rattle.bag_sqlite.proofs.AdoptingLemmas.{reads_same, reads_then, stands_still}
 use Rattle.bag_sqlite.proofs.BesideLemmas.{full_before, full_here, full_next, goes_here, hashed_after, read_before, read_ended, read_here, read_next, set_here, set_length, set_there}
 use Rattle.bag_sqlite.proofs.beside.advance_each.Goals as goal

@@ -1,6 +1,6 @@
-use Rattle.std.proofs.Common.{◌≡◌, ◌≤◌, ◌<◌, ◌+◌, ◌*◌, arith, length, refl, rules}
+use Rattle.std.proofs.Common.{◌+◌, arith}
 use Rattle.bag_rules.proofs.HasLemmas.{stands}
-use Rattle.bag_sqlite.proofs.Words.{HasCleanDisk, LARGEST_ITEM, PIECE, state}
+use Rattle.bag_sqlite.proofs.Words.{HasCleanDisk, state}
 use Rattle.bag_sqlite.proofs.AdoptingLemmas.{reads_same, reads_then, stands_still}
 use Rattle.bag_sqlite.proofs.BesideLemmas.{by_no_other, hashed_each, nothing_hashed, small_next, valid_each}
 use Rattle.bag_sqlite.specs.Beside.{AreDone}

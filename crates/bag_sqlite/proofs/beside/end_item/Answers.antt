@@ -1,4 +1,4 @@
-use Rattle.std.proofs.Common.{◌≡◌, ◌≤◌, ◌<◌, ◌+◌, ◌∙◌, ◌^◌, [], ◌∷◌, ap, arith, pos, rules, sym, subst, to_z, w64, FitsSigned}
+use Rattle.std.proofs.Common.{◌≡◌, ◌<◌, ◌+◌, ◌∙◌, ◌^◌, [], ◌∷◌, ap, arith, pos, rules, sym, subst, to_z, w64, FitsSigned}
 use Rattle.bag_sqlite.proofs.Words.{count_text, Int, TellsOne, to_z-of_z, to_z_pos}
 use Rattle.bag_sqlite.proofs.BesideLemmas.{ended_valid}
 use Rattle.bag_sqlite.proofs.beside.end_item.Goals as goal
