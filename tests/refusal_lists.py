@@ -258,6 +258,11 @@ def writing():
     yield on_values("make", *tree, (with_files("make", b"", [(b"sha256", b""), (b"md5", b"")]), " | ".join(
         [told(0, ["made 2 files, 3 octets"]), *made.parts()[1:]])),
                     (with_files("make", b"", [(b"sha224", b"")]), told(64, ["unknown algorithm sha224"])))
+    # Of these two are read, written and hashed side by side, and the third one is whole in its first piece.
+    long = {b"data/e.txt": b"", b"data/m": LARGE[1], b"data/n": LARGE[1] * 2}
+    side = new_bags.Order({path.decode(): octets for path, octets in long.items()}, ["md5", "sha256"])
+    yield on_values("make, with files of several pieces", *tree_of(long), (with_files("make", b"", [(b"sha256", b""), (b"md5", b"")]), " | ".join(
+        [told(0, [f"made 3 files, {3 * len(LARGE[1])} octets"]), *side.parts()[1:]])))
     clash = tree_of({b"data/a": b"", b"data/a/b": b""})
     yield on_values("no bag can be made", *clash, (with_files("make", b"", [(b"sha256", b"")]), told(1, ["bag: clash"])),
                     (("make",), told(1, ["bag: no algorithm"])))
