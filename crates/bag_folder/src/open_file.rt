@@ -149,7 +149,8 @@ impl<R: Names> OpenFile for FolderFile<R> {
     ghost reads_keep_place = { λ a b same. same };
 }
 
-/// Reads from what was opened. If it couldn't be opened, the read fails for the same cause.
+/// Reads from what was opened, without a call of the system if no octet is asked for. If it couldn't be opened, the read fails for
+/// the same cause.
 fn read_opened<F: Read>(opened: &mut Result<F, Cause>, buf: &mut [u8]) -> Result<usize, Cause>
     ensures bound { IfOk result (λ n. n ≤ length buf.new) }
     ensures reads { ReadsOpened (left_in F.remaining opened.old) (left_in F.remaining opened.new)
@@ -157,6 +158,7 @@ fn read_opened<F: Read>(opened: &mut Result<F, Cause>, buf: &mut [u8]) -> Result
     ensures cause { IfErr result (λ cause. IfErr opened.old (λ why. cause ≡ why)) }
 {
     match opened {
+        Ok(_) if buf.is_empty() => Ok(0),
         Ok(file) => match file.read(buf) {
             Ok(n) => Ok(n),
             Err(error) => Err(Cause::of(error)),
