@@ -503,7 +503,7 @@ def read_back(make):
 
 
 def many_items(make):
-    """A ledger with as many payload files as one manifest can list is opened. Returns how many."""
+    """A ledger with as many payload files as one manifest can list is opened, and audited. Returns how many."""
     place = make({})
     paths = [f"data/{number}" for number in range(100_000)]
     empty = hashlib.sha256(b"").hexdigest()
@@ -513,7 +513,8 @@ def many_items(make):
     database.executemany("INSERT INTO held (transfer, path, size) VALUES (1, ?, 0)", ((path,) for path in paths))
     database.commit()
     database.close()
-    assert place.run(*place.words("report")) == (0, ["valid"])
+    for command in ("report", "audit"):
+        assert place.run(*place.words(command)) == (0, ["valid"]), command
     return len(paths)
 
 

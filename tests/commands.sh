@@ -69,6 +69,13 @@ expect 'a new ledger: its owner alone may write to it' 0 $'new\n644' new_mode
 # A transfer that arrives in one folder.
 expect 'begin' 0 new bag begin "$ledger" t1 "$work/tags"
 printf 'an old log' >"$work/gone-wal"
+for words in 'list GONE' 'report GONE t1' 'audit GONE t1' "intake GONE t1 $work/whole" "fetch GONE t1 $work/whole" \
+    "export GONE t1 $work/new"; do
+    # shellcheck disable=SC2086
+    expect "${words%% *} beside a log whose ledger is gone" 3 'bag: not a ledger' bag ${words/GONE/"$work/gone"}
+done
+expect 'a log whose ledger is gone: it stays as it is' 0 '' cmp "$work/gone-wal" <(printf 'an old log')
+expect 'a log whose ledger is gone: no ledger is made' 0 '' nothing "$work/gone"
 expect 'begin beside a log whose ledger is gone' 0 new bag begin "$work/gone" t1 "$work/tags"
 expect 'begin beside a log whose ledger is gone: so is the log' 0 '' nothing "$work/gone-wal"
 expect 'a transfer of which nothing came' 1 "$both_missing" bag report "$ledger" t1
@@ -162,6 +169,13 @@ expect 'no payload: report' 0 valid bag report "$work/no payload" t1
 expect 'no payload: export' 0 'exported 2 files' bag export "$work/no payload" t1 "$work/empty bag"
 expect 'no payload: the files' 0 $'bagit.txt\ndata\nmanifest-sha256.txt' below "$work/empty bag"
 expect 'no payload: intake of nothing' 0 '' bag intake "$work/no payload" t1 "$work/empty" "$work/tags"
+
+# Many folders, of which the last alone has files.
+expect 'many folders: begin' 0 new bag begin "$work/folders" t1 "$work/tags"
+mkdir "$work/bare"
+# shellcheck disable=SC2046
+expect 'many folders' 0 $'taken data/a.txt\ntaken data/e.txt' \
+    env -C "$work" "$PWD/bag" intake folders t1 $(yes bare | head -n 70000) whole
 
 # A bag with two algorithms and a hole that a supplier fills.
 mkdir -p "$work/hole/data" "$work/supplier"
@@ -535,16 +549,16 @@ not complete
 1
 exported 6 files
 0' on_disk
-    # on_small_disk: an empty file, on a disk that has no room for a ledger. It stays empty.
+    # on_small_disk: an empty file, on a disk that has no room for a ledger. It stays empty, and no log is left.
     on_small_disk() {
         unshare -m sh -c 'mount -t tmpfs -o size=16k bag "$1/disk" && cd "$1" && : >disk/ledger || exit
             "$1/program" begin disk/ledger one tags 2>&1; echo "$?"
-            stat -c %s disk/ledger' sh "$work"
+            stat -c "%n %s" disk/*' sh "$work"
     }
     expect 'a full disk, and an empty file for a ledger' 0 'bag: store
 bag: disk/ledger: database or disk is full
 3
-0' on_small_disk
+disk/ledger 0' on_small_disk
 else
     lacking 'a full disk (no permission to mount one)'
 fi

@@ -49,12 +49,13 @@ explain() {
 }
 
 # refuse NAME START COMMAND..: the command ends with status 64, prints nothing on standard output, and its output on
-# standard error begins with START.
+# standard error begins with START and ends with one LF.
 refuse() {
     local name=$1 start=$2 status=0
     shift 2
     "$@" </dev/null >"$work/printed" 2>"$work/said" || status=$?
-    if diff -u /dev/null "$work/printed" && [[ $(<"$work/said") == "$start"* ]] && [ "$status" -eq 64 ]; then
+    if diff -u /dev/null "$work/printed" && [[ $(<"$work/said") == "$start"* ]] && [ "$status" -eq 64 ] \
+        && cmp <(printf '%s\n' "$(<"$work/said")") "$work/said"; then
         passed=$((passed + 1))
     else
         failed=$((failed + 1))

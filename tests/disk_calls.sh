@@ -34,20 +34,19 @@ bag_folder/sink.rt write write_all
 bag_folder/sink_file.rt write write_all
 bag_program/abandoned_ledger.rt remove_new_log remove_file self.rt, self.seen.log()
 bag_program/abandoned_ledger.rt remove_new_file remove_file self.rt, self.seen.name()
-bag_program/barred.rt open_locked sqlite_std_file::open
-bag_program/clearing.rt write .write
-bag_program/clearing.rt write_all write_all
-bag_program/handle.rt open OpenOptions::new
-bag_program/handle.rt open .write
-bag_program/handle.rt open create_new
-bag_program/handle.rt empty set_len
+bag_program/clearing_output.rt write .write
+bag_program/clearing_output.rt write_all write_all
+bag_program/ledger_handle.rt open OpenOptions::new
+bag_program/ledger_handle.rt open .write
+bag_program/ledger_handle.rt open create_new
+bag_program/ledger_handle.rt empty set_len
 bag_program/locked_file.rt remove_copied_log remove_file self.rt, self.seen.log()
+bag_program/locking.rt open_locked sqlite_std_file::open
 bag_program/main.rt main Unknown
 bag_program/watched.rt write .write
-bag_program/watched.rt write write
 bag_receiver/export.rt write_content .write
 bag_writer/copying.rt copy_piece .write
-bag_writer/payload.rt write_piece .write
+bag_writer/payload_in_turn.rt write_piece .write
 bag_writer/sink.rt add_file .write
 KNOWN
 expect 'what is removed, emptied, written and made' 0 '' diff "$work/known" "$work/calls"

@@ -179,9 +179,21 @@ for kind in "${odd[@]}"; do
 done
 touch "$place/"$'\377' "$place/data/k/"$'\377'
 ln -s "$place" "$work/link to the supplier"
+cp "$holes" "$work/holes before"
 keeps 'fetch from a link to a folder with all kinds of things' 0 'taken data/k/f' \
     bag fetch "$holes" t1 "$work/link to the supplier"
 expect 'fetch from a link to a folder with all kinds of things: it is held' 0 valid bag audit "$holes" t1
+# The same folder by other names, and the root, which has none of it.
+for name in "$place/" "$work/link to the supplier/" "$place/../place/." "$place//"; do
+    cp "$work/holes before" "$work/other holes"
+    keeps "fetch from a folder as $name" 0 'taken data/k/f' bag fetch "$work/other holes" t1 "$name"
+done
+for name in / //; do
+    cp "$work/holes before" "$work/other holes"
+    keeps "fetch from the root as $name" 1 'refused data/k/f: not supplied' bag fetch "$work/other holes" t1 "$name"
+done
+cp "$work/holes before" "$work/other holes"
+keeps 'fetch from the folder itself' 0 'taken data/k/f' env -C "$place" timeout 20 "$work/program" fetch "$work/other holes" t1 .
 
 # opening NAME STATUS LINES COMMAND..: as `expect`; what the command opens is in the file `calls`.
 opening() {

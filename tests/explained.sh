@@ -31,12 +31,24 @@ for words in check "begin $work/ledger t2" "intake $work/ledger t1"; do
     explain "${words%% *}: a plain file" 3 "bag: $work/file: $no_directory" bag $words "$work/file"
 done
 explain 'fetch: a plain file' 3 "bag: $work/file: not a directory" bag fetch "$work/ledger" t1 "$work/file"
+explain 'make: no name of the payload' 3 'bag: : the name is empty' bag make '' "$work/made" md5
+explain 'make: no name for the bag' 3 'bag: : the name is empty' bag make examples/first-bag/data '' md5
+explain 'export: no name' 3 'bag: : the name is empty' bag export "$work/ledger" t1 ''
 explain 'make: no payload is there' 3 "bag: $work/none: $missing" bag make "$work/none" "$work/made" md5
 explain 'intake: the second folder is not there' 3 "bag: $work/none: $missing" bag intake "$work/ledger" t1 examples/first-bag "$work/none"
+explain 'intake: the first of two that cannot be opened' 3 "bag: $work/none: $missing" \
+    bag intake "$work/ledger" t1 "$work/none" "$work/file"
+explain 'intake: the first of two the other way round' 3 "bag: $work/file: $no_directory" \
+    bag intake "$work/ledger" t1 "$work/there" "$work/file" "$work/none"
 for words in "make examples/first-bag/data DST md5" "export $work/ledger t1 DST"; do
     explain "${words%% *}: it exists" 3 "bag: $work/there: $exists" bag ${words/DST/"$work/there"}
     explain "${words%% *}: no folder for it" 3 "bag: $work/none/made: $missing" bag ${words/DST/"$work/none/made"}
     explain "${words%% *}: in a plain file" 3 "bag: $work/file/made: $no_directory" bag ${words/DST/"$work/file/made"}
+done
+# The root, and the folder in which the program runs, are there already.
+for there in / . ..; do
+    explain "make: $there" 3 "bag: $there: $exists" bag make examples/first-bag/data "$there" md5
+    explain "export: $there" 3 "bag: $there: $exists" bag export "$work/ledger" t1 "$there"
 done
 long=$work/$(printf 'k%.0s' {1..300})
 explain 'a name that is too long' 3 "bag: $long: $too_long" bag check "$long"
@@ -44,6 +56,7 @@ explain 'fetch: a name that is too long' 3 "bag: $long: $too_long" bag fetch "$w
 ln -s loop "$work/loop"
 explain 'fetch: a link to itself' 3 "bag: $work/loop: Too many levels of symbolic links (os error 40)" bag fetch "$work/ledger" t1 "$work/loop"
 explain 'a full output' 3 "bag: $work/none: $missing" full bag check "$work/none"
+explain 'a closed output' 3 "bag: $work/none: $missing" closed bag check "$work/none"
 expect 'a wrong name of a transfer has no more to it' 1 'bag: no transfer' bag report "$work/ledger" t2
 
 # A ledger that can't be used. The texts of a database are those of the kit's sqlite.
@@ -56,6 +69,10 @@ for command in list "report t1" "intake t1 examples/first-bag"; do
     explain "$command: an empty file" 3 "bag: $work/file: it is empty" used "$work/file"
 done
 explain 'a folder for a ledger' 3 "bag: $work/there: it is not a file that can be a database" bag list "$work/there"
+for words in 'list /' 'begin / t1 examples/first-bag'; do
+    explain "${words%% *}: the root of the system for a ledger" 3 'bag: /: it is not a file that can be a database' bag $words
+done
+explain 'a slash after the name of a ledger' 3 "bag: $work/ledger/: it does not exist" bag list "$work/ledger/"
 explain 'begin: a folder for a ledger' 3 "bag: $work/there: it is not a file that can be a database" bag begin "$work/there" t1 examples/first-bag
 mkfifo "$work/pipe"
 explain 'a fifo for a ledger' 3 "bag: $work/pipe: it is not a file that can be a database" bag list "$work/pipe"
@@ -70,10 +87,32 @@ explain 'a text for a ledger' 3 "bag: $work/text: it is not a database" bag list
 explain 'begin: a text for a ledger' 3 "bag: $work/text: it is not a database" bag begin "$work/text" t1 examples/first-bag
 python3 -c 'import sqlite3, sys; sqlite3.connect(sys.argv[1]).executescript("CREATE TABLE visits (page TEXT)")' "$work/other"
 explain 'another database' 3 "bag: $work/other: it is a database, but not a ledger" bag list "$work/other"
+# A ledger that was cut short, wherever more than its header is left: SQLite finds less than that says.
+for length in 512 4095 4096 "$(($(stat -c %s "$work/ledger") / 2))" "$(($(stat -c %s "$work/ledger") - 1))"; do
+    head -c "$length" "$work/ledger" >"$work/short ledger"
+    explain "a ledger of $length octets" 3 "bag: $work/short ledger: database disk image is malformed" bag list "$work/short ledger"
+done
+for words in "begin LEDGER t1 examples/first-bag" "intake LEDGER t1 examples/first-bag" "report LEDGER t1" "audit LEDGER t1" \
+    "fetch LEDGER t1 examples/first-bag" "export LEDGER t1 $work/made"; do
+    head -c 20000 "$work/ledger" >"$work/short"
+    explain "${words%% *}: a ledger that was cut short" 3 "bag: $work/short: database disk image is malformed" \
+        bag ${words/LEDGER/"$work/short"}
+    expect "${words%% *}: a ledger that was cut short stays" 0 '' cmp "$work/short" <(head -c 20000 "$work/ledger")
+done
 PYTHONPATH=tests python3 -B -c 'import sys; from first_format import write_first; write_first(sys.argv[1], {"t1": {"data/b": b"b"}})' "$work/taken"
 python3 -c 'import sqlite3, sys; sqlite3.connect(sys.argv[1]).executescript("CREATE TABLE held (id INTEGER PRIMARY KEY)")' "$work/taken"
 explain 'a ledger of format 1 beside a table of another program' 3 "bag: $work/taken: the name is taken" bag list "$work/taken"
+ln -s nowhere "$work/leads nowhere"
+explain 'list: a link that leads to nothing' 3 "bag: $work/leads nowhere: it does not exist" bag list "$work/leads nowhere"
+explain 'begin: a link that leads to nothing' 3 "bag: $work/leads nowhere: $exists" bag begin "$work/leads nowhere" t1 examples/first-bag
+expect 'begin: a link that leads to nothing: nothing is made' 0 '' nothing "$work/nowhere"
 explain 'begin: no folder for a ledger' 3 "bag: $work/none/ledger: $missing" bag begin "$work/none/ledger" t1 examples/first-bag
+explain 'begin: a plain file for the folder of a ledger' 3 "bag: $work/file/ledger: $no_directory" \
+    bag begin "$work/file/ledger" t1 examples/first-bag
+explain 'list: a plain file for the folder of a ledger' 3 "bag: $work/file/ledger: it does not exist" bag list "$work/file/ledger"
+for words in "list $work/loop" "begin $work/loop t1 examples/first-bag"; do
+    explain "${words%% *}: a link to itself for a ledger" 3 "bag: $work/loop: Too many levels of symbolic links (os error 40)" bag $words
+done
 explain 'list: no folder for a ledger' 3 "bag: $work/none/ledger: it does not exist" bag list "$work/none/ledger"
 explain 'a name of a ledger that is too long' 3 "bag: $long: $too_long" bag begin "$long" t1 examples/first-bag
 ln "$work/ledger" "$work/second name"
@@ -81,14 +120,29 @@ ln "$work/ledger" "$work/second name"
 name_252=$work/$(printf 'k%.0s' {1..252})
 explain 'a name of a ledger that is too long with its log' 3 "bag: $name_252: $too_long" bag begin "$name_252" t1 examples/first-bag
 expect 'a name of a ledger that is too long with its log: nothing is made' 0 '' nothing "$name_252"
+mkdir "$work/odd"$'\377'
+explain 'a ledger in a folder whose name is not UTF-8' 3 'bag: ledger: invalid filename' \
+    env -C "$work/odd"$'\377' "$PWD/bag" begin ledger t1 "$PWD/examples/first-bag"
+explain 'list: a name of a ledger that is too long with its log' 3 "bag: $name_252: $too_long" bag list "$name_252"
 explain 'a ledger with two names' 3 "bag: $work/ledger: it has several names, or is not a plain file" bag list "$work/ledger"
 rm "$work/second name"
 printf 'a journal' >"$work/ledger-journal"
 explain 'a journal' 3 "bag: $work/ledger: there is a rollback journal beside it" bag list "$work/ledger"
 rm "$work/ledger-journal"
+mkdir "$work/ledger-journal"
+explain 'a folder for a journal' 3 "bag: $work/ledger: there is a rollback journal beside it" bag list "$work/ledger"
+rmdir "$work/ledger-journal"
+: >"$work/ledger-journal"
+expect 'a journal without octets' 0 t1 bag list "$work/ledger"
+rm "$work/ledger-journal"
 mkdir "$work/ledger-wal"
 explain 'a folder for a log' 3 "bag: $work/ledger: it has several names, or is not a plain file" bag list "$work/ledger"
 rmdir "$work/ledger-wal"
+printf 'a log' >"$work/ledger-wal"
+ln "$work/ledger-wal" "$work/log"
+explain 'a log with two names' 3 "bag: $work/ledger: it has several names, or is not a plain file" bag list "$work/ledger"
+expect 'a log with two names: it stays' 0 '' cmp "$work/ledger-wal" <(printf 'a log')
+rm "$work/ledger-wal" "$work/log"
 # locked COMMAND..: runs it while another program holds the locks of SQLite on the ledger.
 locked() {
     python3 -c 'import fcntl, os, subprocess, sys
@@ -99,6 +153,7 @@ explain 'a ledger that is open' 3 "bag: $work/ledger: it is in use" locked ./bag
 ln -s ledger "$work/linked"
 explain 'a ledger that is open, by a link' 3 "bag: $work/linked: it is in use" locked ./bag list "$work/linked"
 explain 'a name with control characters for a ledger' 3 "bag: $work/a%25%0Ab: it does not exist" bag list "$work/a%"$'\n'b
+explain 'a ledger that is open, and a closed output' 3 "bag: $work/ledger: it is in use" closed locked ./bag list "$work/ledger"
 explain 'a ledger, and a full output' 3 "bag: $work/none: it does not exist" full bag list "$work/none"
 
 # A folder without a payload.
@@ -107,6 +162,8 @@ explain 'intake: the payload in place of the bag' 0 "bag: examples/first-bag/dat
     bag intake "$work/ledger" t1 examples/first-bag/data
 explain 'intake: an empty folder after another' 0 "bag: $work/there: $nothing_below" \
     bag intake "$work/ledger" t1 examples/first-bag "$work/there" examples/first-bag/data
+explain 'intake: an empty folder, and a slash after its name' 0 "bag: $work/there/: $nothing_below" \
+    bag intake "$work/ledger" t1 "$work/there/"
 mkdir "$work/there"$'\t\033'
 explain 'intake: an empty folder whose name has control characters' 0 "bag: $work/there%09%1B: $nothing_below" \
     bag intake "$work/ledger" t1 "$work/there"$'\t\033'
@@ -157,11 +214,28 @@ explain 'make: a file that may not be read' 3 "bag: $work/locked/data/a.txt: $de
 chmod 000 "$work/locked/bagit.txt"
 explain 'begin: a file that may not be read' 3 "bag: $work/locked/bagit.txt: $denied" \
     nobody "$work/program" begin "$work/open/ledger" t1 "$work/locked"
+# Tag files are read by path, and the first that may not be read, or is too large, is told.
+chmod 000 "$work/locked/manifest-sha256.txt"
+begin_locked() {
+    nobody "$work/program" begin "$work/open/ledger" t1 "$work/locked"
+}
+explain 'begin: two files that may not be read' 3 "bag: $work/locked/bagit.txt: $denied" begin_locked
+truncate -s 16777217 "$work/locked/z.bin"
+chmod 644 "$work/locked/z.bin"
+explain 'begin: two files that may not be read, and one past the limit behind them' 3 "bag: $work/locked/bagit.txt: $denied" begin_locked
+mv "$work/locked/z.bin" "$work/locked/a.bin"
+expect 'begin: a file past the limit, and two behind it that may not be read' 1 'refused: tag too large' begin_locked
+rm "$work/locked/a.bin"
 chmod 000 "$work/locked/data"
 explain 'a directory that may not be read' 3 "bag: $work/locked/data/: $denied" nobody "$work/program" check "$work/locked"
 chmod 000 "$work/locked"
 explain 'a folder that may not be read' 3 "bag: $work/locked: $denied" nobody "$work/program" check "$work/locked"
 chmod -R 755 "$work/locked"
+expect 'a ledger as nobody' 0 new nobody "$work/program" begin "$work/open/its own" t1 "$work/locked"
+printf 'a log' >"$work/open/its own-wal"
+chmod 000 "$work/open/its own-wal"
+explain 'a log that may not be read' 3 "bag: $work/open/its own: $denied" nobody "$work/program" list "$work/open/its own"
+expect 'a log that may not be read: it stays' 0 '' cmp "$work/open/its own-wal" <(printf 'a log')
 chmod 600 "$work/ledger"
 explain 'a ledger that may not be read' 3 "bag: $work/ledger: $denied" nobody "$work/program" list "$work/ledger"
 explain 'a folder that takes no ledger' 3 "bag: $work/there/ledger: $denied" nobody "$work/program" begin "$work/there/ledger" t1 "$work/locked"
@@ -175,6 +249,8 @@ explain 'a tag file past the limit' 3 "bag: $work/large/bagit.txt: it has more t
 mv "$work/large" "$work/large%"$'\n'
 explain 'a tag file past the limit, in a folder with control characters' 3 "bag: $work/large%25%0A/bagit.txt: it has more than 16,777,216 octets" \
     bag check "$work/large%"$'\n'
+explain 'a tag file past the limit, and a slash after the name' 3 "bag: $work/large%25%0A//bagit.txt: it has more than 16,777,216 octets" \
+    bag check "$work/large%"$'\n/'
 cp -r examples/empty-payload "$work/lines"
 mkdir -p "$work/lines/data"
 yes '' | head -n 100001 >"$work/lines/manifest-sha256.txt"
@@ -230,12 +306,42 @@ if unshare -m sh -c "mkdir '$work/disk' && mount -t tmpfs -o size=100k bag '$wor
     for name in md5 sha512; do
         explain "a disk without room for a file, by $name" 3 "bag: $work/disk/bag/data/A: $no_room" on_folders 3 "$name"
     done
+    # The same where the file is in a folder, which finds no room, or takes the last. What an export makes before are two tag files.
+    mkdir -p "$work/below/k"
+    echo x >"$work/below/k/x"
+    expect 'a file in a folder: its bag' 0 'made 1 files, 2 octets' bag make "$work/below" "$work/bag of below" md5
+    rm "$work/bag of below/bag-info.txt" "$work/bag of below/tagmanifest-md5.txt"
+    expect 'a file in a folder: begin' 0 new bag begin "$work/ledger of below" t1 "$work/bag of below"
+    expect 'a file in a folder: intake' 0 'taken data/k/x' bag intake "$work/ledger of below" t1 "$work/bag of below"
+    on_few() {
+        unshare -m sh -c 'mount -t tmpfs -o nr_inodes="$2" bag "$1/disk" && work=$1 && shift 2 && exec "$work/program" "$@"' sh "$work" "$@"
+    }
+    for number in 3 4; do
+        for name in md5 sha512; do
+            explain "a disk without room for a folder or its file, $number, by $name" 3 "bag: $work/disk/bag/data/k/x: $no_room" \
+                on_few "$number" make "$work/below" "$work/disk/bag" "$name"
+        done
+        explain "export: a disk without room for a folder or its file, $number" 3 "bag: $work/disk/bag/data/k/x: $no_room" \
+            on_few "$((number + 2))" export "$work/ledger of below" t1 "$work/disk/bag"
+    done
+    explain 'export: a disk without room for the folder' 3 "bag: $work/disk/bag: $no_room" \
+        on_few 1 export "$work/ledger of below" t1 "$work/disk/bag"
+    explain 'export: a disk without room for data/' 3 "bag: $work/disk/bag/data: $no_room" \
+        on_few 2 export "$work/ledger of below" t1 "$work/disk/bag"
+    explain 'export: a disk without room for a tag file' 3 "bag: $work/disk/bag/manifest-md5.txt: $no_room" \
+        on_few 4 export "$work/ledger of below" t1 "$work/disk/bag"
     # on_full_disk COMMAND..: on a disk that a ledger of one transfer finds no room on, or its payload.
     on_full_disk() {
         unshare -m sh -c 'mount -t tmpfs -o size="$1" bag "$2/disk" && shift && work=$1 && shift && "$work/program" begin "$work/disk/ledger" t1 "$work/bag" >/dev/null && exec "$work/program" "$@"' \
             sh 100k "$work" "$@"
     }
     explain 'a ledger on a full disk' 3 "bag: $work/disk/ledger: database or disk is full" on_full_disk intake "$work/disk/ledger" t1 "$work/bag"
+    # That comes before a folder that has nothing to deliver.
+    for folders in 'there bag' 'bag there'; do
+        # shellcheck disable=SC2086
+        explain "a ledger on a full disk, and an empty folder: $folders" 3 "bag: $work/disk/ledger: database or disk is full" \
+            on_full_disk intake "$work/disk/ledger" t1 $(printf "$work/%s " $folders)
+    done
     # A transfer that can't be committed, and a ledger of format 1 that can't be moved.
     cp -r examples/first-bag "$work/noted"
     yes 'Contact-Name: Ada' | head -n 2000 >"$work/noted/bag-info.txt"

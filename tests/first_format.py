@@ -138,7 +138,7 @@ def is_moved(program):
     """A small ledger, and one with payload files of many sizes. Returns how many payload files there were."""
     small = {"t1": THREE, "t5": {"data/b": bytes(PIECE + 1)}}
     rng = random.Random(7)
-    sizes = [0, 1, PIECE - 1, PIECE, PIECE + 1, 2 * PIECE, 2 * PIECE + 1, LARGEST]
+    sizes = [0, 1, PIECE - 1, PIECE, PIECE + 1, 2 * PIECE, 2 * PIECE + 1, LARGEST, LARGEST + 1]
     many = {"sizes": {f"data/{size}": rng.randbytes(size) for size in sizes}, "t": {"data/%25 é": b"x"}, "none": {}}
     for transfers in (small, many):
         file = program.place() / "ledger"

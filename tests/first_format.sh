@@ -6,7 +6,7 @@ cd "$(dirname -- "$0")/.." || exit 1
 
 build_first
 program=crates/bag_program/out/bag_program
-tried='12 payload files moved, 7 first commands, 44 changed, 81 full disks'
+tried='13 payload files moved, 7 first commands, 44 changed, 81 full disks'
 expect 'ledgers of format 1' 0 "$tried" env TMPDIR="$work" python3 -B tests/first_format.py "$program"
 
 # write_first FILE: makes a ledger of format 1 with one transfer, t1.

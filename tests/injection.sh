@@ -226,6 +226,108 @@ if strace -o "$work/calls" true 2>"$work/no strace"; then
             "$program" make "$work/two" "$work/of both" md5
     }
     explain 'two copies that fail: make' 3 "bag: $work/of both/data/a: No space left on device (os error 28)" two_copies_fail
+    # No octets are asked of the system where none are left to be read: of short files, and of files as long as a piece, or nearly.
+    mkdir "$work/pieces"
+    for length in 0 1 65536 131071 131072 131073 262144 300000; do
+        head -c "$length" /dev/zero >"$work/pieces/$length"
+    done
+    no_empty_reads() {
+        strace -o "$work/calls" -e trace=read "$program" "$@"
+        grep -E ', 0\) += ' "$work/calls"
+    }
+    for names in md5 'md5 sha512'; do
+        # shellcheck disable=SC2086
+        expect "no read of no octets: make by $names" 1 'made 8 files, 1020897 octets' \
+            no_empty_reads make "$work/pieces" "$work/of pieces by $names" $names
+        expect "no read of no octets: check by $names" 1 valid no_empty_reads check "$work/of pieces by $names"
+    done
+    # fails_at CALL ERROR NAME COMMAND..: the first of these calls on this name fails. Another try would not, and none is made: what is
+    # told is the error of that one.
+    fails_at() {
+        injects "inject=$1:error=$2:when=1" -P "$3" "$program" "${@:4}"
+    }
+    mkdir -p "$work/few/k" "$work/few again"
+    printf abc | tee "$work/few/a" >"$work/few/k/x"
+    made="$work/few again/made"
+    no_handle='Too many open files in system (os error 23)'
+    no_link='Too many links (os error 31)'
+    for name in '' /data /data/k; do
+        told=$made$name
+        [ "$name" != /data/k ] || told+=/x
+        explain "make: a folder that is not made at first: $name" 3 "bag: $told: $no_link" \
+            fails_at mkdir EMLINK "$made$name" make "$work/few" "$made" md5
+        rm -rf "$made"
+    done
+    for name in data/a data/k/x bag-info.txt bagit.txt manifest-md5.txt tagmanifest-md5.txt; do
+        explain "make: a file that is not made at first: $name" 3 "bag: $made/$name: $no_handle" \
+            fails_at openat ENFILE "$made/$name" make "$work/few" "$made" md5
+        expect "make: a file that is not made at first: $name is not there" 0 '' nothing "$made/$name"
+        rm -r "$made"
+        explain "make: a file that is not written at first: $name" 3 "bag: $made/$name: Disk quota exceeded (os error 122)" \
+            fails_at write EDQUOT "$made/$name" make "$work/few" "$made" md5
+        expect "make: a file that is not written at first: $name is empty" 0 0 stat -c %s "$made/$name"
+        rm -r "$made"
+    done
+    explain 'make: a file that is not opened at first' 3 "bag: $work/few/k/x: $no_handle" \
+        fails_at openat ENFILE "$work/few/k/x" make "$work/few" "$made" md5
+    expect 'make: a file that is not opened at first: no copy of it is begun' 0 '' nothing "$made/data/k/x"
+    rm -r "$made"
+    expect 'calls that fail once: a bag' 0 'made 2 files, 6 octets' "$program" make "$work/few" "$made" md5
+    echo 'http://example.org/x - data/k/x' >"$made/fetch.txt"
+    rm "$made/tagmanifest-md5.txt"
+    explain 'check: a file that is not opened at first' 3 "bag: $made/data/k/x: $no_handle" \
+        fails_at openat ENFILE "$made/data/k/x" check "$made"
+    ledger="$work/few again/ledger"
+    for name in bag-info.txt bagit.txt fetch.txt manifest-md5.txt; do
+        explain "begin: a file that is not opened at first: $name" 3 "bag: $made/$name: $no_handle" \
+            fails_at openat ENFILE "$made/$name" begin "$ledger" t1 "$made"
+        expect "begin: a file that is not opened at first: $name: no ledger" 0 '' nothing "$ledger"
+    done
+    expect 'calls that fail once: begin' 0 new "$program" begin "$ledger" t1 "$made"
+    expect 'intake: a file that is not opened at first' 3 $'refused data/a: reader\ntaken data/k/x' \
+        fails_at openat ENFILE "$made/data/a" intake "$ledger" t1 "$made"
+    expect 'calls that fail once: begin again' 0 new "$program" begin "$ledger" t2 "$made"
+    for failure in 'statx EIO data' 'statx EIO data/k' 'statx EIO data/k/x' 'openat ENFILE data/k/x' 'read EIO data/k/x'; do
+        read -r failing error name <<<"$failure"
+        cause=supplier
+        [ "$failing" != read ] || cause=reader
+        expect "fetch: $failing of $name that fails at first" 3 "refused data/k/x: $cause" \
+            fails_at "$failing" "$error" "$made/$name" fetch "$ledger" t2 "$made"
+    done
+    expect 'fetch: nothing is there at first' 1 'refused data/k/x: not supplied' \
+        fails_at statx ENOENT "$made/data/k" fetch "$ledger" t2 "$made"
+    explain 'fetch: a folder that is not looked up at first' 3 "bag: $made: Input/output error (os error 5)" \
+        fails_at statx EIO "$made" fetch "$ledger" t2 "$made"
+    exported="$work/few again/exported"
+    for name in '' /data /data/k; do
+        told=$exported$name
+        [ "$name" != /data/k ] || told+=/x
+        explain "export: a folder that is not made at first: $name" 3 "bag: $told: $no_link" \
+            fails_at mkdir EMLINK "$exported$name" export "$ledger" t1 "$exported"
+        rm -rf "$exported"
+    done
+    for name in bag-info.txt bagit.txt fetch.txt manifest-md5.txt data/k/x; do
+        explain "export: a file that is not made at first: $name" 3 "bag: $exported/$name: $no_handle" \
+            fails_at openat ENFILE "$exported/$name" export "$ledger" t1 "$exported"
+        expect "export: a file that is not made at first: $name is not there" 0 '' nothing "$exported/$name"
+        rm -r "$exported"
+        explain "export: a file that is not written at first: $name" 3 "bag: $exported/$name: Disk quota exceeded (os error 122)" \
+            fails_at write EDQUOT "$exported/$name" export "$ledger" t1 "$exported"
+        expect "export: a file that is not written at first: $name is empty" 0 0 stat -c %s "$exported/$name"
+        rm -r "$exported"
+    done
+    # The system finds no memory for a folder that is looked through, looked up or made.
+    start=$(calls openat "$program")
+    for number in 1 2 3; do
+        expect "no memory in the system for a folder, $number: check" 3 'bag: memory' \
+            injects "inject=openat:error=ENOMEM:when=$((start + number))" "$program" check "$made"
+    done
+    expect 'no memory in the system for a folder: fetch' 3 'bag: memory' fails_at statx ENOMEM "$made" fetch "$ledger" t2 "$made"
+    expect 'no memory in the system for a folder: export' 3 'bag: memory' \
+        fails_at mkdir ENOMEM "$exported" export "$ledger" t1 "$exported"
+    expect 'no memory in the system for a folder: make' 3 'bag: memory' \
+        fails_at mkdir ENOMEM "$exported" make "$work/few" "$exported" md5
+    expect 'no memory in the system for a folder: none is made' 0 '' nothing "$exported"
     # The system finds no memory for a ledger that is opened: at each of the calls that open its file.
     for number in 1 2 3; do
         expect "no memory in the system for a ledger, $number" 3 'bag: memory' \
@@ -233,6 +335,25 @@ if strace -o "$work/calls" true 2>"$work/no strace"; then
     done
     explain 'a ledger that cannot be looked at' 3 "bag: $work/once/ledger: Input/output error (os error 5)" \
         injects inject=statx:error=EIO -P "$work/once/ledger" "$program" list "$work/once/ledger"
+    # Each call on a ledger, from the first that looks at its name to the last before the store reads it: the system's error is told as
+    # it is, and that it finds no memory as that.
+    strace -o "$work/calls" "$program" list "$work/once/ledger" >"$work/printed_by_calls"
+    last=$(sed '/^fdatasync(/q' "$work/calls" | grep -nF "\"$work/once/ledger\"" | tail -n 1 | cut -d : -f 1)
+    awk -F '(' -v last="$last" '{ number[$1]++ } NR > last { exit } /^readlink\(/ { is_begun = 1 } is_begun { print $1, number[$1] }' \
+        "$work/calls" | grep -E '^(readlink|statx|openat|fcntl|getrandom|fchown|fchmod|fsync) ' >"$work/numbered"
+    expect 'calls on a ledger that is opened' 0 '' [ "$(wc -l <"$work/numbered")" -gt 25 ]
+    while read -r name number; do
+        # An empty log that such a command leaves is not made again.
+        rm -f "$work/once/ledger-wal"
+        explain "a ledger that cannot be opened: $name $number" 3 "bag: $work/once/ledger: Input/output error (os error 5)" \
+            injects "inject=$name:error=EIO:when=$number" "$program" list "$work/once/ledger"
+        rm -f "$work/once/ledger-wal"
+        expect "a ledger that cannot be opened: $name $number, without memory" 3 'bag: memory' \
+            injects "inject=$name:error=ENOMEM:when=$number" "$program" list "$work/once/ledger"
+    done <"$work/numbered"
+    # From there on it is the store that fails.
+    explain 'a ledger whose first page cannot be read' 3 "bag: $work/once/ledger: disk I/O error" \
+        injects 'inject=pread64:error=EIO:when=1' -P "$work/once/ledger" "$program" list "$work/once/ledger"
     # A new ledger, of which each write in turn and all after it fail until it is made: nothing is left of it. In a file that was empty
     # and cannot be emptied again its log stays too, without which part of a first page would be no database: so a ledger is made next.
     is_gone() {
@@ -251,6 +372,31 @@ if strace -o "$work/calls" true 2>"$work/no strace"; then
         expect "an empty file that cannot be emptied again, $number of $writes: once more" 0 new "$program" begin "$work/once/empty" t1 "$work/once"
         rm -f "$work/once/new" "$work/once/new-wal" "$work/once/empty"
     done
+    # The same where a single call fails: once the new file and its log are locked, from the last look at its name on.
+    strace -o "$work/calls" "$program" begin "$work/once/made again" t1 "$work/once" >"$work/printed_by_calls"
+    first=$(sed '/^fdatasync(/q' "$work/calls" | grep -nF "\"$work/once/made again\"" | tail -n 1 | cut -d : -f 1)
+    awk -F '(' -v first="$first" '{ number[$1]++ } /once\/", O_RDONLY/ { exit } NR > first { print $1, number[$1] }' "$work/calls" \
+        | grep -E '^(statx|pread64|pwrite64|fdatasync) ' >"$work/numbered"
+    expect 'calls on a new ledger that is locked' 0 '' [ "$(wc -l <"$work/numbered")" -gt 25 ]
+    while read -r name number; do
+        explain "a new ledger in which one call fails: $name $number" 3 "bag: $work/once/new: disk I/O error" \
+            injects "inject=$name:error=EIO:when=$number" "$program" begin "$work/once/new" t1 "$work/once"
+        expect "a new ledger in which one call fails: $name $number: nothing is left" 0 '' is_gone "$work/once/new"
+        rm -f "$work/once/new" "$work/once/new-wal"
+    done <"$work/numbered"
+    # If the new file or its log cannot be opened and locked, the file stays and is empty, since another command may be about to use it.
+    made=$(grep -nE '^openat\(.*O_CREAT.* = [0-9]' "$work/calls" | head -n 1 | cut -d : -f 1)
+    locked=$(sed '/^fdatasync(/q' "$work/calls" | grep -n '^fcntl(' | tail -n 1 | cut -d : -f 1)
+    awk -F '(' -v made="$made" -v locked="$locked" '{ number[$1]++ } NR > locked { exit } NR > made { print $1, number[$1] }' \
+        "$work/calls" | grep -E '^(readlink|statx|openat|fcntl) ' >"$work/numbered"
+    expect 'calls that lock a new ledger' 0 '' [ "$(wc -l <"$work/numbered")" -gt 10 ]
+    while read -r name number; do
+        explain "a new ledger that cannot be locked: $name $number" 3 "bag: $work/once/new: Input/output error (os error 5)" \
+            injects "inject=$name:error=EIO:when=$number" "$program" begin "$work/once/new" t1 "$work/once"
+        expect "a new ledger that cannot be locked: $name $number: it is empty" 0 0 stat -c %s "$work/once/new"
+        expect "a new ledger that cannot be locked: $name $number: once more" 0 new "$program" begin "$work/once/new" t1 "$work/once"
+        rm -f "$work/once/new"
+    done <"$work/numbered"
     # A delivery that is not on the disk: the log of the ledger cannot be written to it, once it was begun.
     for number in {1..6}; do
         rm -f "$work/once/delivered" "$work/once/delivered-wal"
@@ -288,9 +434,20 @@ if strace -o "$work/calls" true 2>"$work/no strace"; then
     cp "$work/once/ledger" "$work/once/emptied"
     explain 'a ledger that is emptied while it is opened' 3 "bag: $work/once/emptied: it is empty" \
         meanwhile ': >"$2"' "$work/once/emptied" list "$work/once/emptied"
+    expect 'a ledger that is emptied while it is opened: no log is left' 0 '' nothing "$work/once/emptied-wal"
     explain 'a new ledger that another program writes to while it is opened' 3 "bag: $work/once/octet: it is not a file that can be a database" \
         meanwhile 'printf x >"$2"' "$work/once/octet" begin "$work/once/octet" t1 "$work/once"
     expect 'a new ledger that another program writes to while it is opened: its octet stays' 0 '' cmp "$work/once/octet" <(printf x)
+    expect 'a new ledger that another program writes to while it is opened: no log is left' 0 '' nothing "$work/once/octet-wal"
+    # gone COMMAND..: a ledger that is removed after it was looked at and before it is opened.
+    gone() {
+        cp "$work/once/ledger" "$work/once/gone"
+        call=statx meanwhile 'rm "$2"' "$work/once/gone" "$1" "$work/once/gone" "${@:2}"
+    }
+    expect 'a ledger that is removed before it is opened' 3 'bag: store' gone list
+    expect 'a ledger that is removed before it is opened: none is made' 0 '' is_gone "$work/once/gone"
+    expect 'a ledger that is removed before it is opened: begin' 3 'bag: store' gone begin t1 examples/first-bag
+    expect 'a ledger that is removed before it is opened: begin makes none' 0 '' is_gone "$work/once/gone"
     explain 'a ledger that is removed when it was made' 3 "bag: $work/once/new: it is in use" \
         meanwhile 'rm "$2"' "$work/once/new" begin "$work/once/new" t1 "$work/once"
     expect 'a ledger that is removed when it was made: nothing is written' 0 '' test ! -s "$work/once/new" -a ! -s "$work/once/new-wal"
@@ -316,6 +473,29 @@ if strace -o "$work/calls" true 2>"$work/no strace"; then
     reads=$(calls pread64 "$program" list "$work/long ledger")
     explain 'a ledger that cannot be read while it is verified' 3 "bag: $work/long ledger: disk I/O error" \
         injects "inject=pread64:error=EIO:when=$((reads - 100))" "$program" list "$work/long ledger"
+    # So are two long payload files, side by side. A read that fails is told, though it would not fail again.
+    mkdir -p "$work/two/data"
+    head -c 6M /dev/urandom >"$work/two/data/f"
+    head -c 6M /dev/urandom >"$work/two/data/g"
+    cp examples/first-bag/bagit.txt "$work/two"
+    (cd "$work/two" && sha256sum data/f data/g >manifest-sha256.txt)
+    expect 'two long payload files' 0 new "$program" begin "$work/two ledger" t1 "$work/two"
+    expect 'two long payload files: intake' 0 'taken data/f'$'\n''taken data/g' "$program" intake "$work/two ledger" t1 "$work/two"
+    reads=$(calls pread64 "$program" list "$work/two ledger")
+    expect 'two long payload files: a ledger that is read again' 0 '' [ "$reads" -gt 3000 ]
+    for number in $(seq "$((reads - 2000))" 285 "$reads"); do
+        explain "a read that fails once among two long payload files, $number of $reads" 3 "bag: $work/two ledger: disk I/O error" \
+            injects "inject=pread64:error=EIO:when=$number" "$program" list "$work/two ledger"
+    done
+    # If the first of them is damaged, that is told, since it comes first, unless one of its own reads fails.
+    python3 -c "import sqlite3, sys
+db = sqlite3.connect(sys.argv[1])
+db.execute('UPDATE piece SET body = zeroblob(65536) WHERE n = 95 AND item = (SELECT id FROM held WHERE path = ?)', ('data/f',))
+db.commit()" "$work/two ledger"
+    for number in $(seq "$((reads - 1800))" 67 "$((reads - 800))"); do
+        injects "inject=pread64:error=EIO:when=$number" "$program" list "$work/two ledger" 2>/dev/null
+    done | sort -u >"$work/told"
+    expect 'a read that fails once beside a damaged payload file' 0 $'bag: damaged t1 data/f\nbag: store' cat "$work/told"
     # The last reads of a command come after that: of names, of tag files and of pieces. A store that fails then is told as that too.
     expect 'a long ledger: what begin would read' 0 again "$program" begin "$work/long ledger" t1 "$work/long"
     for command in list report audit begin intake export; do
@@ -333,6 +513,82 @@ if strace -o "$work/calls" true 2>"$work/no strace"; then
             expect "a ledger that cannot be read after it was verified, $number of $reads: $command" 3 "$line" \
                 injects "inject=pread64:error=EIO:when=$number" "$program" "$command" "${words[@]}"
         done
+    done
+    # The error of such a read is told, and so is that of a read while a payload file is put in a ledger.
+    for command in list report audit begin intake fetch export; do
+        words=("$work/long ledger" t1)
+        case $command in
+        list) words=("$work/long ledger") ;;
+        begin | intake | fetch) words+=("$work/long") ;;
+        export) words+=("$work/exported") ;;
+        esac
+        rm -rf "$work/exported"
+        reads=$(calls pread64 "$program" "$command" "${words[@]}")
+        rm -rf "$work/exported"
+        explain "the last read of a ledger fails: $command" 3 "bag: $work/long ledger: disk I/O error" \
+            injects "inject=pread64:error=EIO:when=$reads" "$program" "$command" "${words[@]}"
+    done
+    mkdir -p "$work/another/data"
+    head -c 200000 /dev/urandom >"$work/another/data/g"
+    cp -r "$work/long" "$work/longer"
+    cp "$work/another/data/g" "$work/longer/data"
+    (cd "$work/longer" && md5sum data/* >manifest-md5.txt)
+    expect 'a long ledger, and another file: begin' 0 new "$program" begin "$work/longer ledger" t1 "$work/longer"
+    expect 'a long ledger, and another file: the long one' 0 'taken data/f' "$program" intake "$work/longer ledger" t1 "$work/long"
+    cp "$work/longer ledger" "$work/longer before"
+    # before_answer CALL: how often the command that was traced last made this call before its answer.
+    before_answer() {
+        sed '/^write(1, /q' "$work/calls" | grep -c "^$1("
+    }
+    strace -o "$work/calls" "$program" intake "$work/longer ledger" t1 "$work/another" >"$work/printed_by_calls"
+    reads=$(before_answer pread64)
+    for number in $(seq "$((reads - 4))" "$reads"); do
+        cp "$work/longer before" "$work/longer ledger"
+        expect "a ledger that cannot be read where a file is put in it, $number of $reads" 0 "refused data/g: store
+bag: $work/longer ledger: disk I/O error
+3" sh -c '"$@" 2>&1; echo "$?"' sh strace -o "$work/calls" -e "inject=pread64:error=EIO:when=$number" \
+            "$program" intake "$work/longer ledger" t1 "$work/another"
+        expect "a ledger that cannot be read where a file is put in it, $number of $reads: it fails once" 0 1 grep -c INJECTED "$work/calls"
+        expect "a ledger that cannot be read where a file is put in it, $number of $reads: what is held" 1 \
+            $'manifest-md5.txt: missing: data/g\nnot complete' "$program" report "$work/longer ledger" t1
+    done
+    # each_of FOUND CALL ERROR TEXT WORD..: runs the command on a copy of this ledger, or where there is none, once for each of these calls
+    # before its answer, which fails. That error is told, and the file of a ledger stays as it was.
+    each_of() {
+        local number of start answered
+        start=$(calls "$2" "$program")
+        found_again "$1"
+        strace -o "$work/calls" "$program" "${@:5}" >"$work/printed_by_calls"
+        of=$(before_answer "$2")
+        [ "$of" -gt "$((start + 9))" ] || echo "only $of calls"
+        for number in $(seq "$((start + 1))" "$of"); do
+            found_again "$1"
+            answered=$(injects "inject=$2:error=$3:when=$number" "$program" "${@:5}" 2>&1) && echo "call $number of $of: status 0"
+            [ "$answered" = $'bag: store\n'"bag: $work/committed: $4" ] || echo "call $number of $of: $answered"
+            [ "$1" = none ] || cmp "$work/$1" "$work/committed"
+        done
+    }
+    found_again() {
+        rm -f "$work/committed" "$work/committed-wal"
+        [ "$1" = none ] || cp "$work/$1" "$work/committed"
+    }
+    expect 'calls on a ledger that fail: begin' 0 new "$program" begin "$work/begun" t1 examples/first-bag
+    expect 'calls on a ledger that fail: intake' 0 $'taken data/a.txt\ntaken data/e.txt' \
+        "$program" intake "$work/begun" t1 examples/first-bag
+    expect 'calls on a ledger that fail: one of format 1' 0 '' env PYTHONPATH=tests python3 -B -c \
+        'import sys; from first_format import THREE, write_first; write_first(sys.argv[1], {"t1": THREE})' "$work/older"
+    for found in begun older; do
+        expect "each read of a ledger that fails: list, $found" 0 '' \
+            each_of "$found" pread64 EIO 'disk I/O error' list "$work/committed"
+    done
+    for failure in 'pwrite64 ENOSPC database or disk is full' 'pwrite64 EIO disk I/O error' 'fdatasync EIO disk I/O error'; do
+        read -r failing error text <<<"$failure"
+        expect "each $failing that fails with $error: a new ledger" 0 '' \
+            each_of none "$failing" "$error" "$text" begin "$work/committed" t1 examples/first-bag
+        expect "each $failing that fails with $error: another transfer" 0 '' \
+            each_of begun "$failing" "$error" "$text" begin "$work/committed" t2 examples/first-bag
+        expect "each $failing that fails with $error: a ledger of format 1" 0 '' \
+            each_of older "$failing" "$error" "$text" list "$work/committed"
     done
     for error in ENOSPC EPIPE EIO EDQUOT; do
         expect "writes that fail with $error" 3 '' \

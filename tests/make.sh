@@ -61,6 +61,9 @@ data/k/x
 data/k0
 manifest-md5.txt
 tagmanifest-md5.txt' below "$work/twice"
+# shellcheck disable=SC2046
+expect 'an algorithm 70,000 times' 0 'made 3 files, 8 octets' bag make "$work/letters" "$work/often" $(yes md5 | head -n 70000)
+expect 'an algorithm 70,000 times: it is the same bag' 0 '' diff -r "$work/twice" "$work/often"
 expect 'slashes at the ends' 0 'made 3 files, 8 octets' bag make "$work/letters/" "$work/slash/" md5
 expect 'slashes at the ends: it is valid' 0 valid valid_bag "$work/letters" "$work/slash"
 ln -s letters "$work/link"

@@ -124,21 +124,27 @@ each_growth_of_fetch() {
     done
 }
 
-# each_growth_of_locked FOLDER: checks a bag with a file that may not be read, once for each allocation, which fails. Where the answer
-# is that files can't be used, the file is named, even if no memory is left by then.
-each_growth_of_locked() {
+# each_growth_of_failed START TOLD WORD..: runs a command that fails on a folder, as the user nobody and after this start of a shell, once
+# for each allocation, which fails. Where the answer is that files can't be used, that is told of this one, even if no memory is left by
+# then.
+each_growth_of_failed() {
     local asked number printed status words
     asked=0
     chmod 711 "$work"
+    rm -rf "$work/open"
     mkdir -m 777 "$work/open"
     cp "$program" "$work/open/program"
+    install -m 666 /dev/null "$work/open/asked"
+    install -m 666 /dev/null "$work/open/refused"
     for ((number = 0; number <= asked; number++)); do
         status=0
         words=(LD_PRELOAD="$work/no_memory.so" REFUSE="$number" ASKED="$work/open/asked" REFUSED="$work/open/refused")
-        printed=$(nobody env "${words[@]}" "$work/open/program" check "$1" 2>"$work/told") || status=$?
+        rm -rf "$work/open/made"
+        printed=$(nobody sh -c "$1"'; exec env "$@"' sh "${words[@]}" "$work/open/program" "${@:3}" 2>"$work/told") || status=$?
         [ "$number" -gt 0 ] || read -r asked <"$work/open/asked"
         case "$status $printed: $(<"$work/told")" in
-        '3 bag: memory: ' | "3 bag: files: bag: $1/data/a.txt: Permission denied (os error 13)") ;;
+        '3 bag: memory: ') ;;
+        "3 bag: files: bag: $2") [ "$number" -gt 0 ] || echo told ;;
         *) echo "allocation $number of $asked: status $status: $printed: $(<"$work/told")" ;;
         esac
     done
@@ -262,7 +268,24 @@ if cc -shared -fPIC -O1 -o "$work/no_memory.so" tests/no_memory.c 2>"$work/no cc
     cp -r examples/first-bag "$work/locked"
     chmod -R a+rX "$work/locked" "$work/no_memory.so"
     chmod 000 "$work/locked/data/a.txt"
-    expect 'no memory for a file that may not be read' 0 '' each_growth_of_locked "$work/locked"
+    denied='Permission denied (os error 13)'
+    expect 'no memory for a file that may not be read' 0 told \
+        each_growth_of_failed : "$work/locked/data/a.txt: $denied" check "$work/locked"
+    chmod 000 "$work/locked/manifest-sha256.txt"
+    expect 'no memory for a tag file that may not be read' 0 told \
+        each_growth_of_failed : "$work/locked/manifest-sha256.txt: $denied" check "$work/locked"
+    # A folder that can be made, and in which nothing can; and files that take a part.
+    mkdir -p "$work/ten"
+    touch "$work/ten"/{0..9}
+    expect 'no memory for a folder that is not made' 0 told \
+        each_growth_of_failed 'umask 777' "$work/open/made/data: $denied" make "$work/ten" "$work/open/made" md5
+    expect 'no memory for a tag file that takes a part' 0 told \
+        each_growth_of_failed 'trap "" XFSZ; ulimit -f 1' "$work/open/made/manifest-sha512.txt: File too large (os error 27)" \
+        make "$work/ten" "$work/open/made" sha512
+    head -c 20000 /dev/zero >"$work/ten/9"
+    expect 'no memory for a file that takes a part' 0 told \
+        each_growth_of_failed 'trap "" XFSZ; ulimit -f 1' "$work/open/made/data/9: File too large (os error 27)" \
+        make "$work/ten" "$work/open/made" md5
     expect 'no memory for a new bag' 3 'bag: memory' each_growth_of_make "$work/long path" sha256 md5
     for words in check help 'help make' --version 'list one more' 'make a' 'intake --no'; do
         # shellcheck disable=SC2086

@@ -48,18 +48,31 @@ refuse 'a word that is no command' "error: unrecognized subcommand 'verify'" bag
 refuse 'a command in other letters' "error: unrecognized subcommand 'Check'" bag Check examples/first-bag
 refuse 'an empty word' "error: " bag ''
 refuse 'an option in place of a command' "error: unexpected argument '--verify' found" bag --verify
+refuse 'the version of a command, by its letter' "error: unexpected argument '-V' found" bag check -V examples/first-bag
 refuse 'the version of a command' "error: unexpected argument '--version' found" bag check --version examples/first-bag
 refuse 'a command after the mark' "error: " bag -- check examples/first-bag
+refuse 'the mark alone' "error: " bag --
+refuse 'the beginning of a command' "error: unrecognized subcommand 'chec'" bag chec examples/first-bag
+refuse 'the beginning of a command, and help' "error: unrecognized subcommand 'chec'" bag chec --help
+refuse 'help after a wrong word' "error: unexpected argument 'two' found" bag check examples/first-bag two --help
 refuse 'a command without its folder' 'error: the following required arguments were not provided:' bag check
 refuse 'a command with two folders' "error: unexpected argument 'two' found" bag check examples/first-bag two
 refuse 'an option that is not there' "error: unexpected argument '-x' found" bag check -x examples/first-bag
 refuse 'an argument that is not UTF-8' 'error: an argument is not UTF-8' bag check $'\377'
+# unheard COMMAND..: the command with a full standard error. What can't be said changes no status.
+unheard() {
+    "$@" 2>/dev/full
+}
+expect 'an argument that is not UTF-8, and a full standard error' 64 '' unheard bag check $'\377'
+expect 'a word that is no command, and a full standard error' 64 '' unheard bag verify
 expect 'help' 0 "$help" bag --help
-expect 'the version' 0 'bag 1.5.0' bag --version
-expect 'the version, by its letter' 0 'bag 1.5.0' bag -V check examples/first-bag
+expect 'the version' 0 'bag 1.5.1' bag --version
+expect 'the version, by its letter' 0 'bag 1.5.1' bag -V check examples/first-bag
 expect 'help, whatever else is there' 0 "$help" bag --help examples/first-bag
 expect 'help by its command' 0 "$help" bag help
 expect 'help of a command' 0 "$help_of_check" bag check --help
+refuse 'help of no command' "error: unrecognized subcommand 'verify'" bag help verify
+expect 'help of a command, by the command for it' 0 "$help_of_check" bag help check
 for words in --hel --h --vers 'check --hel'; do
     refuse "a part of an option: $words" "error: unexpected argument '${words#check }' found" bag $words
 done
@@ -93,6 +106,10 @@ begin: The folder with the tag files
 intake: The folders with the files, each at its path in the bag
 fetch: The folder with the files, each at its path in the bag
 export: The folder for the bag, which must not exist yet' folders
+algorithms() {
+    bag make --help | sed -n 's/^  <ALG>[. ]*//p'
+}
+expect 'the algorithms of make' 0 'The algorithms of its manifests: md5, sha1, sha256, sha512' algorithms
 # What LEDGER and NAME are, which each command on ledgers says alike.
 ledgers_and_names() {
     for command in begin intake report audit fetch export list; do
@@ -200,6 +217,13 @@ expect 'a file more' 3 'bag: too many' bag check "$work/files"
 expect 'a closed output' 3 '' closed bag check examples/first-bag
 expect 'a closed output, and no words' 3 '' closed bag
 expect 'a full output' 3 '' full bag check examples/first-bag
+# unexplained COMMAND..: the same for a command that says why it can't be done; a line more ends what is printed.
+unexplained() {
+    local status=0
+    unheard "$@" || status=$?
+    echo "status $status"
+}
+expect 'a full standard error, and a folder that is not there' 0 $'bag: files\nstatus 3' unexplained bag check "$work/none"
 explain 'a full output, and a folder that is not there' 3 "bag: $work/none: No such file or directory (os error 2)" \
     full bag check "$work/none"
 finish

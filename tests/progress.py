@@ -73,10 +73,11 @@ def screen(text):
 
 class Work:
     """Work of which lines tell: how it is called, how many files are expected, if that is told; the octets read before the first file that
-    counts, and the lengths of the files that count, in order; and how many octets are expected, if that is told."""
+    counts, and the lengths of the files that count, in order; how many octets are expected, if that is told; and how many files are read
+    side by side at most."""
 
-    def __init__(self, told, files, lengths, before=0, octets=None):
-        self.told, self.files, self.lengths, self.before, self.octets = told, files, lengths, before, octets
+    def __init__(self, told, files, lengths, before=0, octets=None, beside=1):
+        self.told, self.files, self.lengths, self.before, self.octets, self.beside = told, files, lengths, before, octets, beside
 
 
 class Place:
@@ -111,6 +112,22 @@ class Place:
             status = child.wait(timeout=300)
             printed.seek(0)
             return Ended(status, printed.read(), said)
+
+    def print_there(self, *words):
+        """The command with standard output on a terminal, and standard error elsewhere."""
+        self.count += 1
+        ours, theirs = pty.openpty()
+        tty.setraw(theirs)
+        with open(self.work / "said", "w+b") as said:
+            child = subprocess.Popen([self.program, *words], stdin=subprocess.DEVNULL, stdout=theirs, stderr=said)
+            os.close(theirs)
+            printed = b""
+            while piece := read(ours):
+                printed += piece
+            os.close(ours)
+            status = child.wait(timeout=300)
+            said.seek(0)
+            return Ended(status, printed, said.read())
 
     def first_line(self, *words):
         """The first line of progress of the command, which is killed then."""
@@ -180,7 +197,7 @@ def follow(lines, work):
         assert total == (None if work.octets is None else size(work.octets)), line
         assert (unit == "KiB") == ("." not in shown) and float(shown) < 1024, line
         octets, rounded = float(shown) * UNITS[unit], UNITS[unit] / (1 if unit == "KiB" else 10)
-        assert ends[max(files - 1, 0)] - rounded < octets <= ends[files], (line, ends[files - 1], ends[files])
+        assert ends[max(files - work.beside, 0)] - rounded < octets <= ends[files], (line, ends[files - 1], ends[files])
         weight = files * PER_FILE + octets
         assert weight >= last and files <= len(work.lengths), line
         last = weight
@@ -226,6 +243,8 @@ def many_files(place):
     lengths = [LENGTH] * FILES
     tag_files = [len(DECLARATION), tags - len(DECLARATION)]
     both(place, [Work("checking", FILES + 2, [*tag_files, *lengths])], "check", str(base))
+    elsewhere = place.print_there("check", str(base))
+    assert (elsewhere.status, elsewhere.printed, elsewhere.said) == (0, b"valid\n", b""), elsewhere.said
     remove = lambda: shutil.rmtree(made)
     both(place, [Work("copying", FILES, lengths)], "make", str(base / "data"), str(made), "md5", again=remove)
     remove()
@@ -243,6 +262,16 @@ def many_files(place):
     fetch = lambda: anew(listed)
     fetch()
     both(place, [Work("fetching", None, lengths)], "fetch", str(ledger), "t", str(base), again=fetch)
+    # A file that is not there, or can't be one of a bag, was not begun.
+    fetch()
+    lacking, odd = place.work / "lacking", place.work / "odd"
+    lacking.mkdir()
+    odd.mkdir()
+    (odd / "data").symlink_to(base / "data")
+    for folder, status, cause in ((lacking, 1, "not supplied"), (odd, 3, "supplier")):
+        ended = place.watch("fetch", str(ledger), "t", str(folder))
+        assert (ended.status, ended.said) == (status, b""), (folder, ended.status, ended.said)
+        assert ended.printed.decode() == "".join(f"refused {path}: {cause}\n" for path in reversed(paths)), folder
     anew()
     both(place, [Work("taking in", FILES, lengths)], "intake", str(ledger), "t", str(base), again=anew)
     # The same with files of one octet, whose paths have more: these are not read.
@@ -260,6 +289,7 @@ def many_files(place):
     reading = Work("reading the ledger,", None, lengths, octets=ledger.stat().st_size)
     both(place, [reading], "list", str(ledger))
     both(place, [reading], "report", str(ledger), "t")
+    both(place, [reading], "begin", str(ledger), "t", str(base))
     both(place, [reading, Work("auditing", None, lengths, octets=sum(lengths))], "audit", str(ledger), "t")
     both(place, [reading, Work("exporting", None, [*tag_files, *lengths])], "export", str(ledger), "t", str(made), again=remove)
     remove()
@@ -275,6 +305,9 @@ def many_files(place):
     files = {f"data/{number:03}": bytes(MEBIBYTE) for number in range(150)}
     older()
     both(place, [Work("reading the ledger,", None, [MEBIBYTE] * 150, octets=ledger.stat().st_size)], "list", str(ledger), again=older)
+    # Once they are moved, they are in pieces, and up to four are read side by side.
+    assert place.run("list", str(ledger)).printed == b"t\n"
+    both(place, [Work("reading the ledger,", None, [MEBIBYTE] * 150, octets=ledger.stat().st_size, beside=4)], "list", str(ledger))
 
 
 def millions(place):
@@ -352,6 +385,10 @@ def failures(place):
     empty.mkdir()
     ended = place.watch("intake", str(place.work / "large ledger"), "t", str(empty), output="terminal")
     assert ended.lines() and ended.screen() == [f"bag: {empty}: it has no payload file below data/"] and ended.status == 0, ended.said
+    # Nothing is printed, and nothing said.
+    for output in (None, "terminal"):
+        ended = place.watch("fetch", str(place.work / "large ledger"), "t", str(empty), output=output)
+        assert ended.lines() and ended.screen() == [] and (ended.status, ended.printed) == (0, b""), ended.said
     missing = place.work / "missing"
     ended = place.watch("check", str(missing))
     assert ended.said.decode() == f"bag: {missing}: No such file or directory (os error 2)\n" and ended.status == 3, ended.said

@@ -415,6 +415,24 @@ expect '10,002 tag files: export' 0 'exported 10003 files' bag export lnotes not
 expect '10,002 tag files: the bag' 0 '' diff -r "$work/notes" "$work/noted"
 rm -r "$work/notes" "$work/noted"
 
+# More payload files, and more tag files, than can be numbered in 16 bits, by each command on a ledger. They are made in memory.
+in_memory() {
+    unshare -m sh -c 'mount -t tmpfs bag "$1/memory" && program=$2 && cp -r "$1/small" "$1/memory/b" && cd "$1/memory" || exit
+        rm b/manifest-sha256.txt b/data/* && mkdir b/notes
+        for folder in b/data b/notes; do (cd "$folder" && seq -w 65540 | xargs touch); done
+        seq -w 65540 | sed "s|^|d41d8cd98f00b204e9800998ecf8427e  data/|" >b/manifest-md5.txt
+        "$program" begin l t1 b && "$program" intake l t1 b | uniq -c -w 5 | sed "s/^ *//" && "$program" audit l t1 \
+            && "$program" export l t1 x && diff -r b x' sh "$work" "$program"
+}
+if unshare -m sh -c "mkdir '$work/memory' && mount -t tmpfs bag '$work/memory'" 2>"$work/no mount"; then
+    expect '65,540 payload files, and as many tag files' 0 'new
+65540 taken data/00001
+valid
+exported 131082 files' in_memory
+else
+    lacking '65,540 payload files and as many tag files (no permission to mount a file system in memory)'
+fi
+
 # A new bag whose manifest has 16,777,216 octets: 4,162 lines of 4,031, with paths of 3,900, and one of 194.
 folders=$(printf "$letters/%.0s" {1..19})
 folders+=${letters:0:3888-${#folders}}
@@ -435,6 +453,10 @@ taken=$(echo 'taken data/e' && yes 'repeated data/e' | head -n 2999)
 expect '3,000 folders: begin' 0 new bag begin lwords words small
 expect '3,000 folders: intake' 0 "$taken" bag intake lwords words "${words[@]}"
 expect '3,000 folders, and one that is not there: intake' 3 'bag: files' bag intake lwords words "${words[@]}" none
+# Of each folder's files none is open any more when those of the next are read.
+taken=$(echo 'taken data/e' && yes 'repeated data/e' | head -n 99)
+expect '100 folders, with few handles: begin' 0 new few_handles 64 begin lhandles words small
+expect '100 folders, with few handles: intake' 0 "$taken" few_handles 64 intake lhandles words "${words[@]:0:100}"
 expect '3,000 algorithms: make' 0 'made 1 files, 0 octets' bag make small/data worded "${algorithms[@]}"
 expect '3,000 algorithms, and another: make' 64 'unknown algorithm md4' bag make small/data unmade "${algorithms[@]}" md4
 expect '3,000 algorithms, and another: no bag is made' 0 '' nothing "$work/unmade"

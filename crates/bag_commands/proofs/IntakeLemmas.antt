@@ -45,6 +45,14 @@ appends_on (Some xs) None new first second h k = absurd h
 appends_on (Some xs) (Some ys) None first second h k = absurd k
 appends_on (Some xs) (Some ys) (Some zs) first second h k = k ∙ ap (λ octets. octets ++ second) h ∙ append_assoc xs first second
 
+appends_nothing : (held : Option (List ℕ)) → Appends held held []
+appends_nothing None = tt
+appends_nothing (Some octets) = sym (append-nil octets)
+
+-- no line was written
+pub wrote_nothing : {W : Type 0} (contents : W → Option (List ℕ)) (out : Output W) → WroteLines contents out out []
+wrote_nothing contents out = record { octets = appends_nothing (writer_contents contents out.writer); failures = refl }
+
 -- more lines were written
 pub wrote_more : {W : Type 0} (contents : W → Option (List ℕ)) (old now new : Output W) (lines more : List (List ℕ)) → WroteLines contents old now lines → WroteLines contents now new more
     → WroteLines contents old new (lines ++ more)

@@ -3,7 +3,7 @@ use Rattle.std.proofs.Common.{◌≡◌, ◌≢◌, ◌∷◌, [], ℕ, List, ap
 use Rattle.std.specs.List.{list_all}
 use Rattle.std.proofs.lemmas.Bool.{and_parts, ne_eqb}
 use Rattle.bag_path.specs.Spellings.{written_spelling}
-use Rattle.bag_receiver.specs.Names.{is_of_names}
+use Rattle.bag_receiver.specs.TransferNames.{is_of_names}
 
 other_than : (octet none : ℕ) → is_of_names none ≡ false → is_of_names octet ≡ true → octet ≢ none
 other_than octet none outside inside = λ e. cc (inside, outside, e)

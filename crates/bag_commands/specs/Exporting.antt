@@ -8,7 +8,7 @@ use Rattle.bag_receiver.specs.declared.export.ExportFault.{ExportFault}
 use Rattle.bag_receiver.specs.declared.export.ExportFault.TheVariants.{Keeper, NoTransfer, Sink}
 use Rattle.bag_receiver.specs.declared.receiver.Receiver.{Receiver}
 use Rattle.bag_receiver.specs.Exports.{Exports}
-use Rattle.bag_receiver.specs.Names.{IsTransferName}
+use Rattle.bag_receiver.specs.TransferNames.{IsTransferName}
 use Rattle.bag_receiver.specs.Receivers.{Does, IsInState}
 use Rattle.bag_receiver.specs.ReceiversInside.{Same}
 use Rattle.bag_receiver.specs.Receiving.{LedgerState}

@@ -11,7 +11,7 @@ use Rattle.bag_receiver.specs.declared.fetch.FetchOutcome.{FetchOutcome}
 use Rattle.bag_receiver.specs.declared.receiver.Receiver.{Receiver}
 use Rattle.bag_receiver.specs.declared.report.ViewFault.{ViewFault}
 use Rattle.bag_receiver.specs.declared.report.ViewFault.TheVariants.{NoTransfer, Keeper}
-use Rattle.bag_receiver.specs.Names.{IsNamed, IsTransferName}
+use Rattle.bag_receiver.specs.TransferNames.{IsNamed, IsTransferName}
 use Rattle.bag_receiver.specs.Receivers.{Does, IsInState}
 use Rattle.bag_receiver.specs.ReceiversInside.{Same}
 use Rattle.bag_receiver.specs.Receiving.{LedgerState}

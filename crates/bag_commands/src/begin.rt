@@ -4,10 +4,10 @@ ghost use Rattle.bag_receiver.specs.BeginningFrom.{BeginsFrom};
 ghost use Rattle.bag_commands.specs.BeginTexts.{begin_line, begin_status};
 ghost use Rattle.bag_commands.specs.Outputs.{Printed, PrintedOne};
 
+use crate::fault_line::{FaultLine, OutsideLine};
 use crate::no_result::NoResult;
 use crate::output::Output;
 use crate::status::{DONE, FAILED, OUTSIDE, REFUSED};
-use crate::text::{FaultLine, OutsideLine};
 use bag_ledger::Keeper;
 use bag_path::Spelling;
 use bag_receiver::{BeginFault, Begun, Receiver};

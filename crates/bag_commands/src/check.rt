@@ -8,10 +8,10 @@ ghost use Rattle.bag_commands.specs.Outputs.{Printed, WroteLines};
 ghost use Rattle.bag_commands.specs.Checking.{IsAnswer, PrintedOf};
 ghost use Rattle.bag_commands.specs.CheckTexts.{check_lines, check_status};
 
+use crate::fault_line::OutsideLine;
 use crate::no_result::NoResult;
 use crate::output::Output;
 use crate::status::{FAILED, OUTSIDE, VALID};
-use crate::text::OutsideLine;
 use crate::verdict::{report_status, write_report};
 use bag_digest::Failed;
 use bag_rules::{CheckFault, OpenTree, Outcome, check};

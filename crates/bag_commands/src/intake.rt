@@ -25,16 +25,18 @@ use std::io::Write;
 /// A refusal ends nothing. A run that ends before everything was delivered is the last one, and a line gives the
 /// reason. What is taken in doesn't depend on the output: after a failed write nothing more is written, but the runs
 /// continue.
-pub fn intake_to<K: Keeper, C: Courier, W: Write + Drop>(
+///
+/// Each courier is dropped when its run has ended, so that what it keeps open is closed before the next run begins.
+pub fn intake_to<K: Keeper, C: Courier + Drop, W: Write + Drop>(
     alloc: Global,
     receiver: &mut Receiver<K>,
     name: &str,
-    couriers: &mut [C],
+    couriers: Vec<C>,
     out: &mut Output<W>,
 ) -> u8
-    ensures { (told : List Told)
+    ensures { (told : List Told) × (laters : List C)
         × TakesIn (IsRun K.holds K.may_leave K.clean K.failures C.coming C.failures C.nexts
-        C.steady name.now) couriers.old couriers.new told receiver.old receiver.new
+        C.steady name.now) couriers.items laters told receiver.old receiver.new
         × Printed W.contents out.old out.new result (intake_lines told) (intake_status told) }
 {
     match run_all(alloc, receiver, name, couriers, out) {
@@ -44,24 +46,24 @@ pub fn intake_to<K: Keeper, C: Courier, W: Write + Drop>(
 }
 
 /// Takes in what the couriers deliver, and writes the lines of each run. Returns the status.
-fn run_all<K: Keeper, C: Courier, W: Write + Drop>(
+fn run_all<K: Keeper, C: Courier + Drop, W: Write + Drop>(
     alloc: Global,
     receiver: &mut Receiver<K>,
     name: &str,
-    couriers: &mut [C],
+    couriers: Vec<C>,
     out: &mut Output<W>,
 ) -> Result<u8, Failed>
-    ensures { (told : List Told)
+    ensures { (told : List Told) × (laters : List C)
         × TakesIn (IsRun K.holds K.may_leave K.clean K.failures C.coming C.failures C.nexts
-        C.steady name.now) couriers.old couriers.new told receiver.old receiver.new
+        C.steady name.now) couriers.items laters told receiver.old receiver.new
         × IfOk result (λ status. status ≡ intake_status told)
         × OnOk result (WroteLines W.contents out.old out.new (intake_lines told))
         × OnErr result (Rises out.old.failures out.new.failures) }
 {
     let mut status = DONE;
     let mut written = Ok(());
-    for courier in couriers.iter_mut() {
-        let (run, paths) = receiver.run_from(alloc, name, courier);
+    for mut courier in couriers {
+        let (run, paths) = receiver.run_from(alloc, name, &mut courier);
         status = status.max(run_status(&run));
         if written.is_ok() {
             written = write_run(&run, &paths, out);

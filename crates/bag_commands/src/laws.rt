@@ -2,7 +2,7 @@
 //! empty.
 ghost use Rattle.std.specs.Prelude.{◌≡◌, ℕ, List};
 ghost use Rattle.bag_path.specs.Spellings.{written_spelling};
-ghost use Rattle.bag_receiver.specs.Names.{IsTransferName};
+ghost use Rattle.bag_receiver.specs.TransferNames.{IsTransferName};
 
 use crate::status::{DONE, FAILED, NOT_VALID, OUTSIDE, REFUSED, USAGE, VALID};
 

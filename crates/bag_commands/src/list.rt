@@ -8,8 +8,8 @@ ghost use Rattle.bag_commands.specs.Outputs.{PrintedBy, WroteLines};
 
 use crate::no_result::NoResult;
 use crate::output::Output;
-use crate::spelling::TextSpelling;
 use crate::status::{DONE, FAILED};
+use crate::text_spelling::TextSpelling;
 use bag_digest::Failed;
 use bag_ledger::{KeepFault, Keeper};
 use bag_receiver::Receiver;

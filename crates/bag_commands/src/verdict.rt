@@ -4,9 +4,9 @@ ghost use Rattle.bag_digest.specs.Failures.{Rises};
 ghost use Rattle.bag_commands.specs.Outputs.{WroteLines};
 ghost use Rattle.bag_commands.specs.VerdictTexts.{report_lines, report_status, verdict_text};
 
+use crate::fault_line::FaultLine;
 use crate::output::Output;
 use crate::status::{NOT_VALID, VALID};
-use crate::text::FaultLine;
 use bag_digest::Failed;
 use bag_rules::Report;
 use std::io::Write;

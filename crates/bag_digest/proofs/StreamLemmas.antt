@@ -8,7 +8,7 @@ use Rattle.std.proofs.lemmas.List.{append_assoc, length-take-le, take_all}
 use Rattle.std.proofs.Math.ListN.{drop_of_length-le}
 use Rattle.std.proofs.lemmas.Option.{same_Some, slice_get_within}
 use Rattle.bag_digest.specs.declared.algorithm.AlgSet.{AlgSet}
-use Rattle.bag_digest.specs.declared.lanes.MultiLanes.{MultiLanes}
+use Rattle.bag_digest.specs.declared.multi_lanes.MultiLanes.{MultiLanes}
 use Rattle.bag_digest.specs.declared.multi.Digests.{Digests}
 use Rattle.bag_digest.specs.declared.reading.SourceFault.{SourceFault}
 use Rattle.bag_digest.specs.declared.reading.SourceFault.TheVariants.{Read}
@@ -17,9 +17,9 @@ use Rattle.bag_digest.specs.declared.streams.StreamFault.{StreamFault}
 use Rattle.bag_digest.specs.declared.streams.TheConstants.{FRONT}
 use Rattle.bag_digest.specs.Failures.{UsesSource}
 use Rattle.bag_digest.specs.Hash.{AreDigests}
-use Rattle.bag_digest.specs.Lanes.{HoldsAt}
+use Rattle.bag_digest.specs.Lanes.{HoldsAt, OtherLanesStay}
 use Rattle.bag_digest.specs.Reading.{GaveBefore, GavePiece, read_fault}
-use Rattle.bag_digest.specs.Streams.{AreDone, AreFresh, AreFreshIn, AreFull, AreHashed, AreUnder, HasEnded, HasStopped, HaveEndedIn, HaveKeptIn, HaveTaken, IsAt, IsFirstOpen, IsFirstStopped, IsFresh, IsGoing, IsUnder, OtherLanesStay, OthersStay}
+use Rattle.bag_digest.specs.Streams.{AreDone, AreFresh, AreFreshIn, AreFull, AreHashed, AreUnder, HasEnded, HasStopped, HaveEndedIn, HaveKeptIn, HaveTaken, IsAt, IsFirstOpen, IsFirstStopped, IsFresh, IsGoing, IsUnder, OthersStay}
 use Rattle.bag_digest.proofs.Progress.{HasGiven, given_before, uses_as, uses_none, uses_on}
 use Rattle.bag_digest.proofs.Filling.{filled_whole, given_more}
 

@@ -2,7 +2,7 @@
 use Rattle.std.specs.Prelude.{◌≡◌, ◌≢◌, ◌⊎◌, ◌+◌, ◌-◌, ◌<◌, ◌≤◌, ◌++◌, ℕ, List, [], Option, Some, None, IsSomeAnd, length, slice_get}
 use Rattle.std.specs.Io.KnownBytes.{Consumes}
 use Rattle.bag_digest.specs.declared.algorithm.AlgSet.{AlgSet}
-use Rattle.bag_digest.specs.declared.lanes.MultiLanes.{MultiLanes}
+use Rattle.bag_digest.specs.declared.multi_lanes.MultiLanes.{MultiLanes}
 use Rattle.bag_digest.specs.declared.multi.Digests.{Digests}
 use Rattle.bag_digest.specs.declared.reading.SourceFault.{SourceFault}
 use Rattle.bag_digest.specs.declared.reading.SourceFault.TheVariants.{Read}
@@ -175,11 +175,6 @@ HaveTaken {S} streams first end old new = (k : ℕ) (stream : Stream S) → firs
     → slice_get streams k ≡ Some stream → stream.sums ≡ None
     → (set : AlgSet) (octets : List ℕ) → HoldsAt old set (k - first) octets
     → HoldsAt new set (k - first) (octets ++ stream.piece.items)
-
--- what the lane at another place holds stays
-abbrev pub OtherLanesStay : ℕ → MultiLanes → MultiLanes → Type 0
-OtherLanesStay i old new = (j : ℕ) → j ≢ i → (set : AlgSet) (octets : List ℕ)
-    → HoldsAt old set j octets → HoldsAt new set j octets
 
 -- the streams at other places stay
 abbrev pub OthersStay : {S : Type 0} → ℕ → ℕ → List (Stream S) → List (Stream S) → Type 0

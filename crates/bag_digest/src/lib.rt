@@ -7,8 +7,8 @@ pub use counted::Counted;
 pub use digest::Digest;
 pub use each::digest_each;
 pub use failures::Failures;
-pub use lanes::MultiLanes;
 pub use multi::{Digests, Multi};
+pub use multi_lanes::MultiLanes;
 pub use reading::{
     PIECE, ReadFault, SourceFault, SourceRead, buffer_of, digest_reader, digest_through, fill,
     piece_buffer, read_or_digest, read_piece, read_to_end_within,
@@ -22,9 +22,9 @@ mod digest;
 mod each;
 pub mod examples;
 mod failures;
-mod lanes;
 pub mod laws;
 mod multi;
+mod multi_lanes;
 mod reading;
 mod source;
 mod streams;

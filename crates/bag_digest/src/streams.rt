@@ -1,15 +1,14 @@
 //! The digests of several sources, which are read and hashed side by side.
 ghost use Rattle.std.specs.Prelude.{◌≡◌, ◌+◌, ◌-◌, ◌<◌, ◌≤◌, ◌++◌, ℕ, List, [], None, IfErr, MatchOption, MatchResult, OnOk, Some, length, min, slice_get};
 ghost use Rattle.bag_digest.specs.Failures.{UsesSource};
-ghost use Rattle.bag_digest.specs.Hash.{AreDigests};
-ghost use Rattle.bag_digest.specs.Lanes.{HoldsAt};
-ghost use Rattle.bag_digest.specs.Streams.{AreDone, AreFresh, AreFreshFew, AreFull, AreHashed, AreUnder, HasEnded, HasStopped, HaveEnded, HaveEndedIn, HaveStoppedAt, HaveTaken, IsAt, IsFirstOpen, IsFirstStopped, IsFresh, IsUnder, OtherLanesStay, OthersStay};
+ghost use Rattle.bag_digest.specs.Lanes.{OtherLanesStay};
+ghost use Rattle.bag_digest.specs.Streams.{AreDone, AreFresh, AreFreshFew, AreFull, AreHashed, AreUnder, HasEnded, HasStopped, HaveEnded, HaveEndedIn, HaveStoppedAt, HaveTaken, IsAt, IsFirstOpen, IsFirstStopped, IsFresh, IsUnder, OthersStay};
 ghost use Rattle.bag_digest.specs.declared.algorithm.AlgSet.{AlgSet};
 ghost use Rattle.bag_digest.specs.declared.streams.Stream.{Stream};
 
 use crate::algorithm::{Alg, AlgSet};
-use crate::lanes::MultiLanes;
 use crate::multi::{Digests, Multi};
+use crate::multi_lanes::MultiLanes;
 use crate::reading::{PIECE, SourceFault, digest_on, fill};
 use crate::source::Source;
 
@@ -152,7 +151,7 @@ fn digest_beside<S: Source>(
         first streams.old streams.new) }
     ensures others { OthersStay first end streams.old streams.new }
 {
-    let mut multi = begun(set);
+    let mut multi = MultiLanes::new(set);
     let mut hashed = 0u64;
     let mut end = end;
     let mut told = None;
@@ -170,18 +169,6 @@ fn digest_beside<S: Source>(
             end = stopped.place;
         }
     }
-}
-
-/// Lanes of which each has begun a stream.
-fn begun(set: AlgSet) -> MultiLanes
-    ensures { (i : ℕ) → i < 4 → HoldsAt result set i [] }
-{
-    let mut multi = MultiLanes::new(set);
-    multi.begin(0);
-    multi.begin(1);
-    multi.begin(2);
-    multi.begin(3);
-    multi
 }
 
 /// The first stream that hasn't ended, from the place `first` to before the place `end`.
@@ -296,20 +283,8 @@ fn advance<S: Source>(
         limit - hashed,
     )?;
     if n < stream.piece.len() {
-        let digests = end_lane(multi, i, &stream.piece[..n]);
+        let digests = multi.finish(i, &stream.piece[..n]);
         stream.sums = Some((hashed + n as u64, digests));
     }
     Ok(())
-}
-
-/// The digests of lane `i`'s stream, which ends with these octets.
-fn end_lane(multi: &mut MultiLanes, i: usize, rest: &[u8]) -> Digests
-    requires { i < 4 }
-    ensures digests { (set : AlgSet) (octets : List ℕ) → HoldsAt multi.old set i octets
-        → AreDigests result set (octets ++ rest.now) }
-    ensures others { OtherLanesStay i multi.old multi.new }
-{
-    let whole = rest.len() - rest.len() % 64;
-    multi.take_alone(i, &rest[..whole]);
-    multi.finish(i, &rest[whole..])
 }

@@ -7,7 +7,8 @@ use crate::event::Event;
 use crate::lines::bad_line;
 use crate::shown::{write_files, write_hex};
 use bag_commands::{
-    Output, audit_to, begin_to, export_to, fetch_to, intake_to, list_to, report_to,
+    NoResult, Output, audit_to, begin_to, export_to, fetch_to, intake_to, list_to, print_no_result,
+    report_to,
 };
 use bag_ledger::Keeper;
 use bag_receiver::Receiver;
@@ -56,8 +57,11 @@ pub fn command_on<K: Keeper + Drop, W: Write + Drop>(
             status
         }
         "intake-to" => {
-            let mut couriers = [Items::new(load, Breaks::Counted(breaker))];
-            intake_to(alloc, receiver, name, &mut couriers, &mut told)
+            let mut couriers = Vec::new(alloc);
+            match couriers.push(Items::new(load, Breaks::Counted(breaker))) {
+                Ok(()) => intake_to(alloc, receiver, name, couriers, &mut told),
+                Err(_) => print_no_result(NoResult::Memory, &mut told),
+            }
         }
         "report-to" => report_to(alloc, receiver, name, &mut told),
         "audit-to" => audit_to(alloc, receiver, name, &mut told),

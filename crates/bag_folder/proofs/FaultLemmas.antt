@@ -4,7 +4,7 @@ use Rattle.std.specs.Prelude.{IfErr, IfSome, IsErr, MatchResult, OnSome}
 use Rattle.bag_folder.specs.declared.open_fault.OpenFault.{OpenFault}
 use Rattle.bag_folder.specs.declared.open_fault.OpenFault.TheVariants.{Files, Memory}
 use Rattle.bag_folder.specs.declared.place.Place.{Place}
-use Rattle.bag_folder.specs.declared.unfit.Cause.{Cause}
+use Rattle.bag_folder.specs.declared.cause.Cause.{Cause}
 use Rattle.bag_folder.specs.Directories.{IsUnfit, Listing, name_below}
 use Rattle.bag_folder.specs.Faults.{IfUnfit, TellsBelow}
 use Rattle.bag_folder.specs.Folders.{IsRefused}

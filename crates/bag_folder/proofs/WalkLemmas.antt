@@ -8,7 +8,7 @@ use Rattle.std.proofs.lemmas.Slice.Eq.{bytes_eq-Decides}
 use Rattle.std.specs.declared.io.Error.{Error}
 use Rattle.bag_folder.specs.declared.directory.EntryKind.{EntryKind}
 use Rattle.bag_folder.specs.declared.directory.EntryKind.TheVariants.{File, Directory, Link, Special}
-use Rattle.bag_folder.specs.declared.unfit.Cause.{Cause}
+use Rattle.bag_folder.specs.declared.cause.Cause.{Cause}
 use Rattle.bag_folder.specs.Directories.{EntryShown, Listing, HasEntry, IsFront, AtFolder, Inside, IsBelow, IsUnfit, Unlisted, NotAllowed, Stands, name_below}
 use Rattle.bag_folder.specs.Walks.{EntryFits, FitsBag, LooksInto, RefusesFront, Walked, with_entry, with_path}
 

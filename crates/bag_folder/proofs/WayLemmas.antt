@@ -9,8 +9,8 @@ use Rattle.std.specs.declared.io.Error.{Error}
 use Rattle.std.specs.declared.io.ErrorKind.TheVariants.{IsADirectory}
 use Rattle.bag_folder.specs.declared.directory.EntryKind.{EntryKind}
 use Rattle.bag_folder.specs.declared.directory.EntryKind.TheVariants.{File, Directory, Link, Special}
-use Rattle.bag_folder.specs.declared.unfit.Cause.{Cause}
-use Rattle.bag_folder.specs.declared.unfit.Cause.TheVariants as why
+use Rattle.bag_folder.specs.declared.cause.Cause.{Cause}
+use Rattle.bag_folder.specs.declared.cause.Cause.TheVariants as why
 use Rattle.bag_folder.specs.Directories.{name_below}
 use Rattle.bag_folder.specs.Names.{LeadsTo, Standing, content, itself}
 use Rattle.bag_folder.specs.Supplying.{Absent, Finds, Hidden, InFile, IsBarred, IsDirectory, IsGiven, IsLink, IsMet, IsReached, IsSpecial, Meets, Says, Shut}

@@ -12,8 +12,8 @@ use Rattle.bag_path.specs.Paths.{is_payload, path_fault}
 use Rattle.bag_tags.specs.Words.{without}
 use Rattle.bag_folder.specs.declared.directory.EntryKind.{EntryKind}
 use Rattle.bag_folder.specs.declared.directory.EntryKind.TheVariants.{File, Directory, Link, Special}
-use Rattle.bag_folder.specs.declared.unfit.Cause.{Cause}
-use Rattle.bag_folder.specs.declared.unfit.Cause.TheVariants as why
+use Rattle.bag_folder.specs.declared.cause.Cause.{Cause}
+use Rattle.bag_folder.specs.declared.cause.Cause.TheVariants as why
 use Rattle.bag_folder.specs.Unfits.{IsCauseOf}
 
 -- the name of a path below a folder

@@ -4,7 +4,7 @@ use Rattle.std.specs.Str.{bytes_eq}
 use Rattle.std.specs.declared.io.Error.{Error}
 use Rattle.bag_folder.specs.declared.directory.EntryKind.{EntryKind}
 use Rattle.bag_folder.specs.declared.directory.EntryKind.TheVariants.{File, Directory}
-use Rattle.bag_folder.specs.declared.unfit.Cause.{Cause}
+use Rattle.bag_folder.specs.declared.cause.Cause.{Cause}
 use Rattle.bag_folder.specs.Directories.{name_below}
 use Rattle.bag_folder.specs.Unfits.{IsCauseOf}
 

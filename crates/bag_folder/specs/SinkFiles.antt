@@ -2,7 +2,7 @@
 use Rattle.std.specs.Prelude.{◌≡◌, ◌<◌, ⊤, ℕ, List, Option, None, Result, IfSome, IsErr, IsSomeAnd, MatchResult, OnSome, is_some, option_map}
 use Rattle.bag_digest.specs.Failures.{one_more}
 use Rattle.bag_writer.specs.OpenSinks.{IsBegun, LeavesSink}
-use Rattle.bag_folder.specs.declared.unfit.Cause.{Cause}
+use Rattle.bag_folder.specs.declared.cause.Cause.{Cause}
 use Rattle.bag_folder.specs.Directories.{name_below}
 use Rattle.bag_folder.specs.Names.{Changes, Grows, HoldsNothing, IsFileMade, IsWay, Standing}
 use Rattle.bag_folder.specs.SinkFolders.{SinkShown, WritesBegun}
@@ -70,9 +70,9 @@ pub record EndsBegun {E : Type 0} (old new : SinkFileShown) (result : Result (Un
 
 -- what a sink says of a file that it gives out
 abbrev pub IsGivenBegun : SinkShown → ℕ → List ℕ → SinkFileShown → Type 0
-IsGivenBegun sink place path file = IsBegun (λ (file : SinkFileShown). file.place) (λ _ _ _. Unit {0})
-    (λ (file : SinkFileShown). file.failures) (λ (file : SinkFileShown). ⊥) ⊥ (is_some sink.written) None
-    place path file
+IsGivenBegun sink place path file = IsBegun (λ (file : SinkFileShown). file.place)
+    (λ _ _ _. Unit {0}) (λ (file : SinkFileShown). file.failures) (λ (file : SinkFileShown). ⊥)
+    ⊥ (is_some sink.written) None place path file
 
 -- what it says of itself then, and when it takes a file back
 abbrev pub LeavesFolder : SinkShown → SinkShown → Type 0

@@ -8,8 +8,8 @@ use Rattle.bag_digest.specs.Failures.{one_more}
 use Rattle.bag_receiver.specs.Suppliers.{Supply}
 use Rattle.bag_folder.specs.declared.directory.EntryKind.{EntryKind}
 use Rattle.bag_folder.specs.declared.directory.EntryKind.TheVariants.{File, Directory, Link, Special}
-use Rattle.bag_folder.specs.declared.unfit.Cause.{Cause}
-use Rattle.bag_folder.specs.declared.unfit.Cause.TheVariants as why
+use Rattle.bag_folder.specs.declared.cause.Cause.{Cause}
+use Rattle.bag_folder.specs.declared.cause.Cause.TheVariants as why
 use Rattle.bag_folder.specs.Directories.{name_below}
 use Rattle.bag_folder.specs.Names.{IsOnTheWay, LeadsTo, Standing, content, itself}
 use Rattle.bag_folder.specs.Unfits.{IsCauseOf, UnfitShown}

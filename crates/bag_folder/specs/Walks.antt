@@ -5,7 +5,7 @@ use Rattle.std.specs.declared.io.Error.{Error}
 use Rattle.bag_path.specs.Paths.{IsPath}
 use Rattle.bag_folder.specs.declared.directory.EntryKind.{EntryKind}
 use Rattle.bag_folder.specs.declared.directory.EntryKind.TheVariants.{File, Directory, Link, Special}
-use Rattle.bag_folder.specs.declared.unfit.Cause.{Cause}
+use Rattle.bag_folder.specs.declared.cause.Cause.{Cause}
 use Rattle.bag_folder.specs.Directories.{EntryShown, Forbids, Listing, name_below}
 use Rattle.bag_folder.specs.Unfits.{IsCauseOf}
 

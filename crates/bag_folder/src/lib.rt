@@ -2,6 +2,7 @@
 //! files, and as a supplier that is asked for them.
 #![tactic(auto)]
 
+pub use cause::{Cause, Unfit};
 pub use courier::TreeCourier;
 pub use destination::Destination;
 pub use directory::{Directories, Disk, Entry, EntryKind};
@@ -14,8 +15,8 @@ pub use sink::FolderSink;
 pub use sink_file::FolderSinkFile;
 pub use supplier::FolderSupplier;
 pub use tree::FolderTree;
-pub use unfit::{Cause, Unfit};
 
+mod cause;
 mod courier;
 mod destination;
 mod directory;
@@ -31,5 +32,4 @@ mod sink_file;
 mod supplier;
 mod tree;
 mod troubles;
-mod unfit;
 mod walk;

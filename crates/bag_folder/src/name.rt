@@ -3,8 +3,8 @@ ghost use Rattle.std.specs.Prelude.{◌≡◌, ◌++◌, ℕ, IfOk, IfSome, List
 ghost use Rattle.bag_folder.specs.Directories.{name_below};
 ghost use Rattle.bag_folder.specs.Names.{Changes, HoldsNothing, IsDirectoryOf, IsFolderIn, LeadsTo, MakesFile, MakesParents, MakesWay, Opens};
 
+use crate::cause::Cause;
 use crate::names::Names;
-use crate::unfit::Cause;
 use std::alloc::AllocError;
 use std::io;
 

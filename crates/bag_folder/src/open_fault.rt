@@ -3,9 +3,9 @@ ghost use Rattle.std.specs.Prelude.{◌≡◌, IfOk, string_bytes};
 ghost use Rattle.bag_folder.specs.Faults.{IfUnfit, TellsBelow, TellsPath, TellsSystem, no_name};
 ghost use Rattle.bag_folder.specs.Folders.{told_name};
 
+use crate::cause::{Cause, Unfit};
 use crate::name::spell;
 use crate::place::Place;
-use crate::unfit::{Cause, Unfit};
 use bag_path::PathFault;
 use std::alloc::{AllocError, AllocFailed, Global};
 use std::io::{self, ErrorKind};

@@ -3,9 +3,9 @@ ghost use Rattle.std.specs.Prelude.{◌≡◌, ◌≤◌, IfErr, IfOk, IsErr, No
 ghost use Rattle.bag_folder.specs.Directories.{name_below};
 ghost use Rattle.bag_folder.specs.OpenFiles.{IsFileAt, ReadsOpened, left_in, trouble_of};
 
+use crate::cause::{Cause, Unfit};
 use crate::name::opened;
 use crate::names::Names;
-use crate::unfit::{Cause, Unfit};
 use bag_digest::{Failed, Failures, Source};
 use bag_rules::OpenFile;
 use std::alloc::AllocError;

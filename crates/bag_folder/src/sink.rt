@@ -6,13 +6,13 @@ ghost use Rattle.bag_folder.specs.Faults.{IfUnfit, no_name};
 ghost use Rattle.bag_folder.specs.Names.{Changes, IsMade};
 ghost use Rattle.bag_folder.specs.SinkFolders.{IsCreated};
 
+use crate::cause::{Unfit, with_cause};
 use crate::directory::EntryKind;
 use crate::name::{created, created_directory};
 use crate::names::Names;
 use crate::open_fault::OpenFault;
 use crate::sink_file::FolderSinkFile;
 use crate::troubles::Troubles;
-use crate::unfit::{Unfit, with_cause};
 use bag_digest::Failed;
 use bag_path::{BagPath, LONGEST_PATH};
 use bag_rules::OpenTree;

@@ -3,8 +3,8 @@ ghost use Rattle.std.specs.Prelude.{◌≡◌, IsErr, IsOk, MatchResult, None, S
 ghost use Rattle.bag_digest.specs.Failures.{one_more};
 ghost use Rattle.bag_folder.specs.SinkFiles.{EndsBegun, WritesFile, trouble_in};
 
+use crate::cause::{Cause, Unfit, with_cause};
 use crate::names::Names;
-use crate::unfit::{Cause, Unfit, with_cause};
 use bag_digest::{Failed, Failures};
 use bag_writer::SinkFile;
 use std::io::Write;

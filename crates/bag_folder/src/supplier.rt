@@ -6,12 +6,12 @@ ghost use Rattle.bag_folder.specs.Names.{LeadsTo, behind, itself};
 ghost use Rattle.bag_folder.specs.Supplying.{Finds, IsBarred, IsNameTo, IsNoFolder, IsReadyFolder, LooksUp, Meets, Says};
 ghost use Rattle.bag_folder.specs.Unfits.{IsCauseOf, IsToldAt};
 
+use crate::cause::{Cause, Unfit, with_cause};
 use crate::directory::EntryKind;
 use crate::name::{opened, spell};
 use crate::names::Names;
 use crate::open_fault::OpenFault;
 use crate::troubles::Troubles;
-use crate::unfit::{Cause, Unfit, with_cause};
 use bag_digest::{Failed, Source};
 use bag_path::LONGEST_PATH;
 use bag_receiver::Supplier;

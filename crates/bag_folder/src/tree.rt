@@ -8,6 +8,7 @@ ghost use Rattle.bag_folder.specs.Faults.{IfUnfit, no_name};
 ghost use Rattle.bag_folder.specs.Folders.{IsOpened, IsRefused};
 ghost use Rattle.bag_folder.specs.OpenFiles.{OpensFile};
 
+use crate::cause::{Unfit, with_cause};
 use crate::directory::Directories;
 use crate::name::opened;
 use crate::names::Names;
@@ -16,7 +17,6 @@ use crate::open_file::FolderFile;
 use crate::payload::InPayload;
 use crate::place::Place;
 use crate::troubles::Troubles;
-use crate::unfit::{Unfit, with_cause};
 use crate::walk::{Below, walk};
 use bag_digest::{Failed, Source};
 use bag_path::{BagPath, LONGEST_PATH};

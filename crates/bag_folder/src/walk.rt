@@ -4,10 +4,10 @@ ghost use Rattle.bag_folder.specs.Directories.{IsBelow, IsUnfit, Listing};
 ghost use Rattle.bag_folder.specs.Faults.{IfUnfit};
 ghost use Rattle.bag_folder.specs.Walks.{LooksInto, RefusesFront, Walked};
 
+use crate::cause::{Cause, Unfit};
 use crate::directory::{Directories, EntryKind};
 use crate::name::spell;
 use crate::open_fault::OpenFault;
-use crate::unfit::{Cause, Unfit};
 use bag_path::BagPath;
 use std::alloc::Global;
 use std::marker::Model;

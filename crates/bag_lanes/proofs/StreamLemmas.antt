@@ -1,7 +1,6 @@
 -- Streams that lanes take piece by piece.
-use Rattle.std.proofs.Common.{slice_index, slice_index_or, slice_set, ◌≡◌, ◌≢◌, inl, inr, ℕ, zero, suc, ◌+◌, ◌-◌, ◌*◌, ◌/◌, ◌%◌, ◌^◌, ◌<◌, ◌≤◌, List, [], ◌∷◌, ◌++◌, length, take, drop, replicate, refl, sym, ap, ◌∙◌, arith, length-append, length-drop}
-use Rattle.std.proofs.lemmas.Bool.{cases_lt}
-use Rattle.std.proofs.lemmas.List.{append_assoc, append-nil, drop-append-le, drop-take, get_or-set_other, get_or-set_same, get_or_past, length-take-le, set_past, take-append-drop, take-append-le, take-take, take_all}
+use Rattle.std.proofs.Common.{slice_index, slice_index_or, slice_set, ◌≡◌, ◌≢◌, ℕ, zero, suc, ◌+◌, ◌-◌, ◌*◌, ◌/◌, ◌%◌, ◌^◌, ◌<◌, ◌≤◌, List, [], ◌∷◌, ◌++◌, length, take, drop, replicate, refl, sym, ap, ◌∙◌, arith, length-append, length-drop}
+use Rattle.std.proofs.lemmas.List.{append_assoc, append-nil, drop-append-le, drop-take, get_or-set_other, length-take-le, take-append-drop, take-append-le, take-take, take_all}
 use Rattle.std.proofs.Math.Seq.{drop-append_seam}
 use Rattle.std.specs.Borrow.{Bor}
 use Rattle.std.specs.Int.{w64}
@@ -87,17 +86,6 @@ value_of_all f pieces octets value i n are low count held =
     let first : length (piece_at pieces 0) ≡ length (read_at pieces 0) = ap (λ (xs : List ℕ). length xs) (message_at_read pieces 0) in
     let all : length (piece_at pieces i) ≤ n * 64 = omega (arith, are.same i low, are.whole) in
     rw (take_all (n * 64) (piece_at pieces i) all) at held
-
--- a lane that begins a stream
-pub held_of_begun : (f : HashFunction) (state same : List (List ℕ)) (counts : List ℕ) (i : ℕ) → state ≡ same → lane i same ≡ f.initial → Holds f state (slice_set counts i 0) i []
-held_of_begun f state same counts i e own = record {
-  value = value_of_none f (lane i state) (ap (lane i) e ∙ own);
-  count =
-      elim (cases_lt i (length counts)) [
-        | inl low ↦ get_or-set_same counts i 0 0 low
-        | inr high ↦ ap (λ (xs : List ℕ). slice_index xs i) (set_past counts i 0 high) ∙ get_or_past counts i 0 high
-      ];
-}
 
 -- what the other lanes hold
 pub held_beside : (f : HashFunction) (old state same : List (List ℕ)) (was counts : List ℕ) (i j count : ℕ) (octets : List ℕ) → state ≡ same → lane j same ≡ lane j old → counts ≡ was

@@ -1,9 +1,9 @@
 -- The streams that lanes hold: each comes in pieces of whole blocks, and ends with what is left of it.
 use Rattle.std.specs.Prelude.{◌≡◌, ◌/◌, ◌%◌, ◌^◌, ◌<◌, ℕ, List, [], ◌∷◌, length, slice_index}
 use Rattle.std.specs.Borrow.{Bor}
-use Rattle.bag_lanes.specs.declared.streams.Md5Lanes.{Md5Lanes}
-use Rattle.bag_lanes.specs.declared.streams.Sha1Lanes.{Sha1Lanes}
-use Rattle.bag_lanes.specs.declared.streams.Sha256Lanes.{Sha256Lanes}
+use Rattle.bag_lanes.specs.declared.hashers.Md5Lanes.{Md5Lanes}
+use Rattle.bag_lanes.specs.declared.hashers.Sha1Lanes.{Sha1Lanes}
+use Rattle.bag_lanes.specs.declared.hashers.Sha256Lanes.{Sha256Lanes}
 use Rattle.bag_lanes.specs.Lanes.{lane}
 use Rattle.bag_lanes.specs.Standard.{HashFunction, hash_value, md5_function, sha1_function, sha256_function}
 use Rattle.bag_lanes.specs.Tasks.{message_at}

@@ -12,10 +12,11 @@
 #![tactic(auto)]
 
 pub use digests::{md5_digests, sha1_digests, sha256_digests};
-pub use streams::{Md5Lanes, Sha1Lanes, Sha256Lanes};
+pub use hashers::{Md5Lanes, Sha1Lanes, Sha256Lanes};
 
 mod algorithm;
 mod digests;
+mod hashers;
 mod lanes;
 mod md5_alone;
 mod md5_rounds;
@@ -26,6 +27,5 @@ mod sha1_alone;
 mod sha1_rounds;
 mod sha256_alone;
 mod sha256_rounds;
-mod streams;
 mod tasks;
 mod words;

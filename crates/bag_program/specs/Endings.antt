@@ -18,19 +18,27 @@ use Rattle.bag_writer.specs.Writing.{payload_paths}
 use Rattle.bag_writer.specs.declared.write_fault.Large.{Large}
 use Rattle.bag_writer.specs.declared.write_fault.Large.TheVariants as large
 use Rattle.bag_program.specs.declared.explanation.Ended.{Ended}
-use Rattle.bag_program.specs.declared.limit.Limit.{Limit}
-use Rattle.bag_program.specs.declared.limit.Limit.TheVariants as limit
+use Rattle.bag_program.specs.declared.told_limit.Limit.{Limit}
+use Rattle.bag_program.specs.declared.told_limit.Limit.TheVariants as limit
 use Rattle.bag_program.specs.declared.explanation.Why.{Why}
 use Rattle.bag_program.specs.declared.explanation.Why.TheVariants.{Empty, Exceeds, Ledger, Unfit}
-use Rattle.bag_program.specs.declared.unopened.LedgerCause.{LedgerCause}
+use Rattle.bag_program.specs.declared.unopened_ledger.LedgerCause.{LedgerCause}
 
 -- a command with this status, of which nothing is told
 abbrev pub plain : ℕ → Ended
 plain status = record { status = status; why = None }
 
--- the same status with the first reason, if there is one, and otherwise the second
+-- the first reason, if there is one, and otherwise the second; that a folder is empty comes last
+abbrev pub first_why : Option Why → Option Why → Option Why
+first_why None why = why
+first_why (Some (Empty folder)) why = option_or why (Some (Empty folder))
+first_why (Some (Unfit unfit)) why = Some (Unfit unfit)
+first_why (Some (Exceeds limit)) why = Some (Exceeds limit)
+first_why (Some (Ledger cause)) why = Some (Ledger cause)
+
+-- the same status, with the reason that comes first
 abbrev pub or_why : Ended → Option Why → Ended
-or_why ended why = record { status = ended.status; why = option_or ended.why why }
+or_why ended why = record { status = ended.status; why = first_why ended.why why }
 
 -- why a folder wasn't opened or made: what can't be used, unless memory ran out
 abbrev pub why_unopened : OpenFault → Option Why

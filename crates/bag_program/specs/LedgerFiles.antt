@@ -3,7 +3,7 @@
 use Rattle.std.specs.Prelude.{◌≡◌, ◌≢◌, ◌⊎◌, [], Bool, IsTrue, Some, false, true, ⊤}
 use Rattle.bag_ledger.specs.Ledgers.{Ledger}
 use Rattle.bag_sqlite.specs.Adopting.{IsVerified}
-use Rattle.bag_sqlite.specs.Databases.{IsLedgerDatabase}
+use Rattle.bag_sqlite.specs.LedgersInTables.{IsLedgerDatabase}
 use Rattle.bag_sqlite.specs.Making.{IsLeft, MakesLedger}
 use Rattle.bag_sqlite.specs.Migrating.{MigratesLedger}
 use Rattle.bag_sqlite.specs.Refusing.{IsNoAnswer, RefusesToAdopt}
@@ -27,14 +27,14 @@ use Rattle.sqlite_wal.specs.Files.{outcomes}
 use Rattle.sqlite_wal.specs.Reads.{AreClean}
 use Rattle.sqlite_wal.specs.Recovery.{Image}
 use Rattle.bag_program.specs.Unopened.{HasNoAnswer, cause_of_fault, cause_seen}
-use Rattle.bag_program.specs.declared.found.Found.TheVariants.{Empty, File, Nothing, Other}
-use Rattle.bag_program.specs.declared.found.Seen.{Seen}
+use Rattle.bag_program.specs.declared.found_ledger.Found.TheVariants.{Empty, File, Nothing, Other}
+use Rattle.bag_program.specs.declared.found_ledger.Seen.{Seen}
 use Rattle.bag_program.specs.declared.open_ledger.Closed.{Closed}
 use Rattle.bag_program.specs.declared.open_ledger.Closed.TheVariants as closed
-use Rattle.bag_program.specs.declared.unopened.Left.{Left}
-use Rattle.bag_program.specs.declared.unopened.Left.TheVariants as left
-use Rattle.bag_program.specs.declared.unopened.LedgerCause.TheVariants.{NoDatabase as IsNoDatabase}
-use Rattle.bag_program.specs.declared.unopened.Unopened.{Unopened}
+use Rattle.bag_program.specs.declared.unopened_ledger.Left.{Left}
+use Rattle.bag_program.specs.declared.unopened_ledger.Left.TheVariants as left
+use Rattle.bag_program.specs.declared.unopened_ledger.LedgerCause.TheVariants.{NoDatabase as IsNoDatabase}
+use Rattle.bag_program.specs.declared.unopened_ledger.Unopened.{Unopened}
 
 -- WHAT IS SEEN
 

@@ -39,8 +39,8 @@ use Rattle.bag_folder.specs.Directories.{Listing}
 use Rattle.bag_folder.specs.Folders.{FolderShown, IsOpened, IsRefused}
 use Rattle.bag_program.specs.LedgerFiles.{OpensOrMakes}
 use Rattle.bag_program.specs.declared.ledger.Ledgers.{Ghosts as Ledgers}
-use Rattle.bag_program.specs.declared.unopened.LedgerCause.{LedgerCause}
-use Rattle.bag_program.specs.declared.unopened.Unopened.{Unopened}
+use Rattle.bag_program.specs.declared.unopened_ledger.LedgerCause.{LedgerCause}
+use Rattle.bag_program.specs.declared.unopened_ledger.Unopened.{Unopened}
 use Rattle.bag_program.specs.Endings.{IsWhyOf, or_why, why_failed, why_undelivered_of, why_unopened}
 use Rattle.bag_program.specs.NoResults.{no_result_of_open}
 use Rattle.bag_program.specs.Making.{IsUnmade, MakesInto}

@@ -2,8 +2,8 @@
 ghost use Rattle.std.specs.Prelude.{◌≡◌, false, is_some, true};
 ghost use Rattle.bag_program.specs.LedgerFiles.{IsNewFile};
 
-use crate::found::{Found, Seen};
-use crate::handle::Handle;
+use crate::found_ledger::{Found, Seen};
+use crate::ledger_handle::Handle;
 use std::fs;
 
 /// The file of a ledger and its log, which are locked, and in which no ledger is opened anymore.

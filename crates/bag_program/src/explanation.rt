@@ -3,10 +3,10 @@ ghost use Rattle.std.specs.Prelude.{◌≡◌, string_bytes};
 ghost use Rattle.std.specs.Option.{option_map};
 ghost use Rattle.bag_program.specs.Endings.{IsWhyOf, or_why, plain, why_exceeds, why_failed};
 
-use crate::limit::{FolderName, Limit};
 use crate::named::Named;
+use crate::told_limit::{FolderName, Limit};
 use crate::told_name::ToldName;
-use crate::unopened::LedgerCause;
+use crate::unopened_ledger::LedgerCause;
 use bag_folder::Unfit;
 use std::alloc::Global;
 use std::fmt::{self, Display, Formatter};
@@ -29,13 +29,17 @@ impl Ended {
         Ended { status, why: None }
     }
 
-    /// The same, with this reason if it has none.
+    /// The same, with this reason if it has none, or only that of a folder without payload files.
     pub fn or(self, why: Option<Why>) -> Ended
         ensures { result ≡ or_why self why }
     {
         Ended {
             status: self.status,
-            why: self.why.or(why),
+            why: match self.why {
+                None => why,
+                Some(Why::Empty(folder)) => why.or(Some(Why::Empty(folder))),
+                told => told,
+            },
         }
     }
 }

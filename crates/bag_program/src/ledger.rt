@@ -4,13 +4,13 @@ ghost use Rattle.bag_program.specs.LedgerFiles.{IsUnused, OpensOrMakes};
 ghost use Rattle.bag_ledger.specs.Ledgers.{Ledger};
 ghost use Rattle.bag_receiver.specs.Receivers.{IsKept};
 ghost use Rattle.bag_receiver.specs.Receiving.{settled};
-ghost use Rattle.bag_program.specs.declared.unopened.Unopened.{Unopened};
+ghost use Rattle.bag_program.specs.declared.unopened_ledger.Unopened.{Unopened};
 ghost use Rattle.sqlite_wal.specs.Files.{image_at};
 
 use crate::ledger_file::{LedgerFile, OpenedFile, UnopenedFile};
 use crate::open_ledger::{Closed, FileKeeper, OpenLedger};
 use crate::progress::Progress;
-use crate::unopened::{LedgerCause, Left, Unopened};
+use crate::unopened_ledger::{LedgerCause, Left, Unopened};
 use bag_ledger::Keeper;
 use sqlite::{FileFrom, Start};
 use sqlite_disk::Disk;

@@ -4,14 +4,14 @@ ghost use Rattle.bag_program.specs.LedgerFiles.{HasTables, IsAdoptedFrom, IsMade
 ghost use Rattle.bag_sqlite.specs.declared.adopting.AdoptFault.{AdoptFault};
 ghost use Rattle.sqlite_wal.specs.Files.{image_at};
 
-use crate::barred::Barred;
-use crate::found::{Found, Seen, is_absence};
+use crate::found_ledger::{Found, Seen, is_absence};
 use crate::ledger::Opened;
 use crate::locked_file::LockedFile;
+use crate::locking::Barred;
 use crate::meter::{Activity, Meter};
 use crate::open_ledger::{FileKeeper, OpenLedger};
 use crate::progress::Progress;
-use crate::unopened::{Left, Unopened};
+use crate::unopened_ledger::{Left, Unopened};
 use bag_sqlite::has_nothing;
 use sqlite::{FileFrom, Start};
 use sqlite_disk::Disk;

@@ -7,14 +7,14 @@ ghost use Rattle.sqlite.specs.Files.{file_state};
 ghost use Rattle.sqlite_wal.specs.Files.{image_at};
 
 use crate::abandoned_ledger::AbandonedLedger;
-use crate::barred::{Barred, open_locked};
-use crate::found::{Found, Seen};
-use crate::handle::Handle;
+use crate::found_ledger::{Found, Seen};
 use crate::ledger::Opened;
 use crate::ledger_file::{OpenedFile, UnopenedFile};
+use crate::ledger_handle::Handle;
+use crate::locking::{Barred, open_locked};
 use crate::meter::Meter;
 use crate::open_ledger::OpenLedger;
-use crate::unopened::{LedgerCause, Left, Unopened};
+use crate::unopened_ledger::{LedgerCause, Left, Unopened};
 use bag_sqlite::{NotAdopted, NotCreated, SqlKeeper};
 use sqlite::{Connection, FileFrom, FileStore, Files, Leftover, Options, Start};
 use sqlite_disk::Disk;

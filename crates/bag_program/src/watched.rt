@@ -9,7 +9,7 @@ use bag_path::BagPath;
 use bag_receiver::{Courier, Supplier};
 use bag_rules::{ItemSize, OpenFile, OpenTree, Paths, TagSet, Tree, Want};
 use bag_sqlite::Watch;
-use bag_writer::{CopiedTree, OpenSink, Sink, SinkFile};
+use bag_writer::{CopiedTree, Sink, SinkFile};
 use std::alloc::{AllocError, Global};
 use std::marker::Model;
 
@@ -312,60 +312,5 @@ impl<S: Sink, R: Eprint> Sink for Watched<'_, S, R> {
 
     fn failures(&self) -> u64 {
         self.inside.failures()
-    }
-}
-
-impl<G: SinkFile, R: Eprint> SinkFile for Watched<'_, G, R> {
-    ghost place = { G.place };
-
-    ghost holds = { G.holds };
-
-    ghost failures = { G.failures };
-
-    ghost sure = { G.sure };
-
-    fn write(&mut self, octets: &[u8]) -> Result<(), Failed> {
-        self.meter.add_octets(octets.len() as u64);
-        G::write(&mut self.inside, octets)
-    }
-
-    fn failures(&self) -> u64 {
-        self.inside.failures()
-    }
-}
-
-/// Counts each file that is given out, and the octets that are written to it.
-impl<'a, S: OpenSink, R: Eprint> OpenSink for Watched<'a, S, R> {
-    type File = Watched<'a, S::File, R>;
-
-    fn begin_file(
-        &mut self,
-        alloc: Global,
-        place: usize,
-        path: &BagPath,
-    ) -> Result<Self::File, AllocError> {
-        let file = self.inside.begin_file(alloc, place, path)?;
-        self.meter.add_file();
-        Ok(Watched::new(file, self.meter))
-    }
-
-    fn end_file(&mut self, file: &mut Self::File) -> Result<(), Failed> {
-        self.inside.end_file(&mut file.inside)
-    }
-
-    fn close(&mut self, file: Self::File) {
-        self.inside.close(file.into_inside());
-    }
-
-    fn fail(&mut self, file: Self::File) {
-        self.inside.fail(file.into_inside());
-    }
-
-    fn give_up(&mut self, file: Self::File, first: &Self::File) {
-        self.inside.give_up(file.into_inside(), &first.inside);
-    }
-
-    fn give_up_unread<T: OpenTree>(&mut self, file: Self::File, tree: &T, first: &T::File) {
-        self.inside.give_up_unread(file.into_inside(), tree, first);
     }
 }

@@ -1,7 +1,7 @@
 -- The transfer with a name.
 use Rattle.std.proofs.Common.{◌≡◌, ℕ, List, Option, None, length, refl, sym, ◌∙◌, inl, inr, arith}
 use Rattle.std.specs.List.{list_all}
-use Rattle.bag_receiver.specs.Names.{is_of_names}
+use Rattle.bag_receiver.specs.TransferNames.{is_of_names}
 use Rattle.bag_receiver.specs.declared.transfer_name.TheConstants.{LONGEST_NAME}
 use Rattle.bag_receiver.proofs.Words.{Decided, decided_at_most, decided_true, IsNamed, IsTransferName, Ledger, Transfer, transfer_of}
 

@@ -46,7 +46,7 @@ pub use Rattle.bag_receiver.specs.declared.receiver.Receiver.{Receiver}
 pub use Rattle.bag_receiver.specs.declared.run.TheConstants.{MOST_DELIVERIES}
 pub use Rattle.bag_receiver.specs.Deliveries.{Accepts, AcceptsPassing, AreAccepted, Content, Delivery, delivery_of, HasOneContent, IsAcceptance, IsAccepted, IsDue, IsDueIn, IsFirstAccepted, IsFirstHeld, IsListedPath, IsMisfitIn, IsTooLong, OneContent, PassesIn, TooLong, Unread, Whole}
 pub use Rattle.bag_receiver.specs.ExampleDeliveries.{abc, abd, both, delivered, only_e}
-pub use Rattle.bag_receiver.specs.Names.{IsNamed, IsTransferName}
+pub use Rattle.bag_receiver.specs.TransferNames.{IsNamed, IsTransferName}
 pub use Rattle.bag_receiver.specs.PutAnswers.{deliver_fault}
 pub use Rattle.bag_receiver.specs.Receivers.{Does, IsInState, plans_in}
 pub use Rattle.bag_receiver.specs.ReceiversInside.{IsPlaceIn, IsPlanned, RefusesAny, Same}

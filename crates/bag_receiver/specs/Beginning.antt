@@ -18,7 +18,7 @@ use Rattle.bag_receiver.specs.declared.begin.Begun.{Begun}
 use Rattle.bag_receiver.specs.declared.begin.Begun.TheVariants.{New, Again}
 use Rattle.bag_receiver.specs.declared.begin.BeginFault.{BeginFault}
 use Rattle.bag_receiver.specs.declared.begin.BeginFault.TheVariants.{BadName, TagPath, TagTooLarge, Outside, Rules, Clash, Differs, Keeper}
-use Rattle.bag_receiver.specs.Names.{IsTransferName}
+use Rattle.bag_receiver.specs.TransferNames.{IsTransferName}
 use Rattle.bag_receiver.specs.Receiving.{Happened, HasTransfer, LeavesOthers, LedgerState, with_doubtful_ledger}
 use Rattle.bag_receiver.specs.Stops.{TransferState}
 

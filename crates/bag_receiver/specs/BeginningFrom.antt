@@ -14,7 +14,7 @@ use Rattle.bag_receiver.specs.declared.begin.BeginFault.TheVariants.{BadName, Ke
 use Rattle.bag_receiver.specs.declared.begin.Begun.{Begun}
 use Rattle.bag_receiver.specs.declared.receiver.Receiver.{Receiver}
 use Rattle.bag_receiver.specs.Beginning.{Begins, IsAnswerTo}
-use Rattle.bag_receiver.specs.Names.{IsTransferName}
+use Rattle.bag_receiver.specs.TransferNames.{IsTransferName}
 use Rattle.bag_receiver.specs.Receivers.{Does}
 
 -- THE TAG FILES OF A TREE

@@ -4,7 +4,7 @@ use Rattle.bag_rules.specs.Bags.{Holds}
 use Rattle.bag_rules.specs.Transfers.{held_bag}
 use Rattle.bag_writer.specs.Sinks.{Begun, Stored, nothing_stored}
 use Rattle.bag_ledger.specs.Ledgers.{Ledger, Transfer}
-use Rattle.bag_receiver.specs.Names.{IsNamed}
+use Rattle.bag_receiver.specs.TransferNames.{IsNamed}
 use Rattle.bag_receiver.specs.declared.export.ExportFault.{ExportFault}
 use Rattle.bag_receiver.specs.declared.export.ExportFault.TheVariants.{NoTransfer}
 

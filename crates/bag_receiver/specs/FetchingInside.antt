@@ -7,7 +7,7 @@ use Rattle.bag_rules.specs.Plans.{AreFetchLines}
 use Rattle.bag_rules.specs.Trees.{AreRising}
 use Rattle.bag_ledger.specs.Ledgers.{Ledger, Transfer}
 use Rattle.bag_receiver.specs.declared.fetch.FetchRequest.{FetchRequest}
-use Rattle.bag_receiver.specs.Names.{IsNamed}
+use Rattle.bag_receiver.specs.TransferNames.{IsNamed}
 use Rattle.bag_receiver.specs.Suppliers.{Reaches, Round}
 
 -- the marks say which of the paths are held

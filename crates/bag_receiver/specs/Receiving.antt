@@ -15,7 +15,7 @@ use Rattle.bag_receiver.specs.declared.answer.Answer.{Answer}
 use Rattle.bag_receiver.specs.declared.answer.Answer.TheVariants.{Taken, Refused}
 use Rattle.bag_receiver.specs.declared.answer.DeliverFault.TheVariants.{NoTransfer, BadPath, NotListed, Reader, TooLarge, Keeper}
 use Rattle.bag_receiver.specs.Deliveries.{Content, Delivery, IsDue, IsFirstHeld, IsListedPath, IsTooLong, TooLong, Unread, Whole}
-use Rattle.bag_receiver.specs.Names.{IsNamed, IsTransferName}
+use Rattle.bag_receiver.specs.TransferNames.{IsNamed, IsTransferName}
 use Rattle.bag_receiver.specs.Stops.{Answered, Event, Steps, StopStep, TransferState, nothing_held}
 
 -- WHAT IS HELD

@@ -10,7 +10,7 @@ use Rattle.bag_rules.specs.Transfers.{held_bag}
 use Rattle.bag_rules.specs.Validity.{Means}
 use Rattle.bag_rules.specs.Verdicts.{IsVerdict}
 use Rattle.bag_ledger.specs.Ledgers.{Ledger, Transfer}
-use Rattle.bag_receiver.specs.Names.{IsNamed}
+use Rattle.bag_receiver.specs.TransferNames.{IsNamed}
 
 -- The report has exactly the faults of the bag with these tag files and payload files; so it says valid or complete
 -- exactly if that bag is (RFC 8493 section 3).

@@ -13,7 +13,7 @@ use Rattle.bag_receiver.specs.declared.fetch.FetchAnswer.TheVariants.{Taken, Not
 use Rattle.bag_receiver.specs.declared.fetch.FetchOutcome.{FetchOutcome}
 use Rattle.bag_receiver.specs.Couriers.{IsOf}
 use Rattle.bag_receiver.specs.Deliveries.{Content, Delivery, delivery_of}
-use Rattle.bag_receiver.specs.Names.{IsNamed}
+use Rattle.bag_receiver.specs.TransferNames.{IsNamed}
 
 -- WHAT A SUPPLIER HAS, if it is known
 

@@ -8,7 +8,7 @@ ghost use Rattle.bag_rules.specs.Plans.{IsPlanOf};
 ghost use Rattle.bag_ledger.specs.declared.keeper_faults.StoreFault.{StoreFault};
 ghost use Rattle.bag_receiver.specs.Beginning.{AreTaken, BeginStep, Begins, IsAnswerTo, IsHeavyAt, NoneMisplaced, given_in};
 ghost use Rattle.bag_receiver.specs.BeginningInside.{IsPlaced, IsRefusal, emptied, light_tags};
-ghost use Rattle.bag_receiver.specs.Names.{IsTransferName};
+ghost use Rattle.bag_receiver.specs.TransferNames.{IsTransferName};
 ghost use Rattle.bag_receiver.specs.Receivers.{Does};
 ghost use Rattle.bag_receiver.specs.Stops.{with_file};
 

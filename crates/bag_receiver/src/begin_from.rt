@@ -4,7 +4,7 @@ ghost use Rattle.bag_rules.specs.Files.{AreTagFiles};
 ghost use Rattle.bag_rules.specs.Trees.{UsesTree, octets_in, paths_in};
 ghost use Rattle.bag_receiver.specs.BeginningFrom.{AreTagFilesIn, BeginsFrom, IsBeginning, IsKnownAs, IsMetReading};
 ghost use Rattle.bag_receiver.specs.BeginningInside.{IsMetAt, IsRefusal, OpenWith};
-ghost use Rattle.bag_receiver.specs.Names.{IsTransferName};
+ghost use Rattle.bag_receiver.specs.TransferNames.{IsTransferName};
 
 use crate::begin::{BeginFault, Begun};
 use crate::receiver::Receiver;

@@ -12,7 +12,7 @@ ghost use Rattle.bag_writer.specs.PayloadSteps.{Writes, WritesFront};
 ghost use Rattle.bag_receiver.specs.Exports.{Exports};
 ghost use Rattle.bag_receiver.specs.ExportsInside.{HasItems, IsMetWriting, IsPartOf, WritesAsMany, from_opened};
 ghost use Rattle.bag_receiver.specs.Holdings.{HasItem, ReadsKeeper};
-ghost use Rattle.bag_receiver.specs.Names.{IsTransferName};
+ghost use Rattle.bag_receiver.specs.TransferNames.{IsTransferName};
 ghost use Rattle.bag_receiver.specs.Receivers.{Does, IsInState};
 ghost use Rattle.bag_receiver.specs.ReceiversInside.{Same};
 ghost use Rattle.bag_receiver.specs.Receiving.{LedgerState};

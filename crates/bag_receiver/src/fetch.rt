@@ -10,7 +10,7 @@ ghost use Rattle.bag_rules.specs.Trees.{AreRising};
 ghost use Rattle.bag_ledger.specs.declared.keeper_faults.KeepFault.TheVariants.{Memory};
 ghost use Rattle.bag_ledger.specs.declared.keeper_faults.StoreFault.{StoreFault};
 ghost use Rattle.bag_receiver.specs.FetchingInside.{AreMarks, AreRequests, IsRequest, IsUnderWay};
-ghost use Rattle.bag_receiver.specs.Names.{IsNamed, IsTransferName};
+ghost use Rattle.bag_receiver.specs.TransferNames.{IsNamed, IsTransferName};
 ghost use Rattle.bag_receiver.specs.Receivers.{Does, IsInState};
 ghost use Rattle.bag_receiver.specs.ReceiversInside.{Same};
 ghost use Rattle.bag_receiver.specs.Receiving.{LedgerState};

@@ -6,7 +6,7 @@ ghost use Rattle.bag_ledger.specs.Ledgers.{Ledger, items_of};
 ghost use Rattle.bag_ledger.specs.declared.keeper_faults.StoreFault.{StoreFault};
 ghost use Rattle.bag_ledger.specs.declared.keeper_faults.KeepFault.TheVariants.{Store};
 ghost use Rattle.bag_receiver.specs.Holdings.{IsPlanFor, ReadsKeeper};
-ghost use Rattle.bag_receiver.specs.Names.{IsNamed, IsTransferName};
+ghost use Rattle.bag_receiver.specs.TransferNames.{IsNamed, IsTransferName};
 ghost use Rattle.bag_receiver.specs.Receivers.{Does, IsInState};
 ghost use Rattle.bag_receiver.specs.ReceiversInside.{Same};
 ghost use Rattle.bag_receiver.specs.Receiving.{LedgerState};

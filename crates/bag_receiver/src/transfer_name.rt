@@ -1,7 +1,7 @@
 //! The names of transfers.
 ghost use Rattle.std.specs.Prelude.{◌≡◌, ◌↔◌, IsTrue};
 ghost use Rattle.std.specs.List.{list_all};
-ghost use Rattle.bag_receiver.specs.Names.{IsTransferName, is_of_names};
+ghost use Rattle.bag_receiver.specs.TransferNames.{IsTransferName, is_of_names};
 
 /// The maximum length of a transfer's name, in octets.
 pub const LONGEST_NAME: usize = 64;

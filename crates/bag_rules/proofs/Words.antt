@@ -39,8 +39,8 @@ pub use Rattle.bag_rules.specs.declared.oxum_faults.PayloadSize.{PayloadSize}
 pub use Rattle.bag_rules.specs.declared.fault.Fault.{Fault}
 pub use Rattle.bag_rules.specs.declared.fault.Fault.TheVariants.{BadDeclaration, BadLine, FetchLength, FetchNotListed, ManifestNotListed, Missing, NoDeclaration, NoManifest, NoPayloadDir, OxumForm, OxumTwice, OxumWrong, Unlisted, WrongDigest}
 pub use Rattle.bag_rules.specs.declared.file.File.{File}
-pub use Rattle.bag_rules.specs.declared.memory.MemTree.TheInside.{Inside}
-pub use Rattle.bag_rules.specs.declared.memory.Reading.{Reading}
+pub use Rattle.bag_rules.specs.declared.mem_tree.MemTree.TheInside.{Inside}
+pub use Rattle.bag_rules.specs.declared.mem_tree.Reading.{Reading}
 pub use Rattle.bag_rules.specs.declared.outcome.CheckFault.{CheckFault}
 pub use Rattle.bag_rules.specs.declared.outcome.CheckFault.TheVariants.{TagTooLarge, TooLarge, TooMany, Tree}
 pub use Rattle.bag_rules.specs.declared.outcome.Outcome.{Outcome}

@@ -4,8 +4,8 @@ use Rattle.std.specs.Option.{ForSome, option_map, option_and_then}
 use Rattle.std.specs.Map.{values_of}
 use Rattle.bag_path.specs.Paths.{is_payload}
 use Rattle.bag_rules.specs.declared.file.File.{File}
-use Rattle.bag_rules.specs.declared.memory.Reading.{Reading}
-use Rattle.bag_rules.specs.declared.memory.MemTree.TheInside.{Inside}
+use Rattle.bag_rules.specs.declared.mem_tree.Reading.{Reading}
+use Rattle.bag_rules.specs.declared.mem_tree.MemTree.TheInside.{Inside}
 use Rattle.bag_rules.specs.Files.{files_of, paths_of}
 use Rattle.bag_rules.specs.Trees.{AreRising}
 use Rattle.bag_rules.specs.Memory.{MemFiles}

@@ -1,12 +1,11 @@
 -- Long payload files that are read side by side, from one piece to the next.
 use Rattle.std.proofs.Common.{zero, suc, ◌∷◌, ◌≡◌, ◌≢◌, ◌∙◌, ◌+◌, ◌-◌, ◌*◌, ◌≤◌, ◌<◌, ◌++◌, ℕ, ℤ, List, Vec, [], Option, Some, None, IfSome, ap, arith, inl, inr, length, length-append, pos, refl, set, slice_get, subst, sym, take, true, false}
-use Rattle.std.specs.Prelude.{MatchOption, is_none}
+use Rattle.std.specs.Prelude.{Bool, Err, IfOk, IsTrue, MatchOption, MatchResult, Ok, Result, is_none, is_ok}
 use Rattle.std.proofs.lemmas.Bool.{cases_lt}
 use Rattle.std.proofs.lemmas.Option.{get_or_from_slice_get, same_Some}
 use Rattle.bag_rules.proofs.HasLemmas.{stands}
-use Rattle.bag_digest.specs.Lanes.{HoldsAt}
-use Rattle.bag_digest.specs.Streams.{OtherLanesStay}
-use Rattle.bag_digest.specs.declared.lanes.MultiLanes.{MultiLanes}
+use Rattle.bag_digest.specs.Lanes.{HoldsAt, OtherLanesStay}
+use Rattle.bag_digest.specs.declared.multi_lanes.MultiLanes.{MultiLanes}
 use Rattle.bag_sqlite.proofs.Words.{AlgSet, AllByRecursion, AreDigests, AreFull, AreSumsFor, Batch, Blob, concat, count_text, Covers, Database, Digests, Files, Format, Ghosts, Global, Int, IsPlanOf, IsWanted, IsWantOf, LARGEST_ITEM, PIECE, piece_text, Plan, Row, RowPasses, TellsOne, Text, Value, Want}
 use Rattle.bag_sqlite.proofs.PiecesRead.{at_last, concat_last, cut_last, full_last}
 use Rattle.bag_sqlite.proofs.AdoptingLemmas.{all_more}
@@ -49,6 +48,25 @@ by_none (Some x) P Q is none = absurd (let e : false ≡ true = none in cc)
 pub by_no_other : {X : Type 0} (o : Option X) (P : Type 0) (Q : X → Type 0) → MatchOption o P Q → ((x : X) → ¬ (o ≡ Some x)) → P
 by_no_other None P Q is not = is
 by_no_other (Some x) P Q is not = absurd (not x refl)
+
+-- a test that was passed
+pub by_ok : {F : Type 0} (result : Result Unit F) (told : Bool) (P : Type 0) (Q : F → Type 0) → told ≡ is_ok result → IsTrue told → MatchResult result (λ done. P) Q → P
+by_ok (Ok done) told P Q same right is = is
+by_ok (Err fault) told P Q same right is = absurd (let e : false ≡ true = sym same ∙ right in cc)
+
+-- what is found at the front
+pub at_front : {E : Type 0} (o : Option E) (r : Result ℕ E) (place : ℕ) (P : ℕ → Type 0) (R : E → Type 0) → MatchOption o (r ≡ Ok place) (λ fault. r ≡ Err fault) → P place → IfSome o R → MatchResult r P R
+at_front None r place P R is valid told = subst (λ r. MatchResult r P R) (sym is) valid
+at_front (Some fault) r place P R is valid told = subst (λ r. MatchResult r P R) (sym is) told
+
+pub low_front : {E : Type 0} (o : Option E) (r : Result ℕ E) (place : ℕ) (P : ℕ → Type 0) → MatchOption o (r ≡ Ok place) (λ fault. r ≡ Err fault) → P place → IfOk r P
+low_front None r place P is low = subst (λ r. IfOk r P) (sym is) low
+low_front (Some fault) r place P is low = subst (λ r. IfOk r P) (sym is) tt
+
+-- what follows from an answer
+pub answer_on : {X E : Type 0} (r : Result X E) (I P Q : X → Type 0) (R : E → Type 0) → IfOk r I → ((x : X) → I x → P x → Q x) → MatchResult r P R → MatchResult r Q R
+answer_on (Ok x) I P Q R low on is = on x low is
+answer_on (Err fault) I P Q R low on is = is
 
 -- the octets of full pieces
 pub full_length : (pieces : List (List ℕ)) → AreFull pieces → length (concat pieces) ≡ length pieces * PIECE

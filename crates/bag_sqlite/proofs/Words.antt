@@ -43,11 +43,11 @@ pub use Rattle.bag_rules.specs.declared.want.WantFault.{WantFault}
 pub use Rattle.bag_sqlite.specs.Adopting.{body_text, count_text, file_in, files_in, format_text, HasContent, HasFormat, HasPieces, IsRead, IsVerified, IsVerifiedAs, ItemPasses, items_text, OnlyReads, piece_text, RowPasses, Stands, stray_item_texts, stray_texts, tag_files_text, Tells, TellsOne, TransferPasses, transfers_text}
 pub use Rattle.bag_sqlite.specs.Batches.{AreCovered, AreWanted, Covers, HasMisfit, HasOneMore, IsEmpty, IsFindingOf, IsHeld, TakesAlso, Took}
 pub use Rattle.bag_sqlite.specs.Contents.{HasContentMore, HasRead, in_pieces}
-pub use Rattle.bag_sqlite.specs.Databases.{AreApart, AreCut, AreMoved, AreTablesOf, format_row, HaveHeldRows, held_rows, HoldTransfers, IsDatabaseOf, IsInOrder, IsLedgerDatabase, item_rows, items_in, ListLedger, NamesFormat, NumberedItem, NumberedTransfer, piece_rows, size_of, tag_rows, transfer_row, without_number, without_rowids}
+pub use Rattle.bag_sqlite.specs.LedgersInTables.{AreApart, AreCut, AreMoved, AreTablesOf, format_row, HaveHeldRows, held_rows, HoldTransfers, IsDatabaseOf, IsInOrder, IsLedgerDatabase, item_rows, items_in, ListLedger, NamesFormat, NumberedItem, NumberedTransfer, piece_rows, size_of, tag_rows, transfer_row, without_number, without_rowids}
 pub use Rattle.bag_sqlite.specs.Items.{HasItem, HasItemRow, HasPieceRow}
 pub use Rattle.bag_sqlite.specs.Making.{IsCreated, IsLeft, IsMade, IsMaking, Makes, MakesLedger, no_rows}
 pub use Rattle.bag_sqlite.specs.Migrating.{Empties, HasBody, IsInBoth, IsMigrated, IsToMove, KeepsHeld, MigratesLedger, MovesLedger, SetsFormat, whole_row}
-pub use Rattle.bag_sqlite.specs.Opening.{AddsTags, AddsTransfer, HasOneTransferMore, KeepsItems, opened_under}
+pub use Rattle.bag_sqlite.specs.Beginning.{AddsTags, AddsTransfer, HasOneTransferMore, KeepsItems, opened_under}
 pub use Rattle.bag_sqlite.specs.Putting.{AddsItem, AddsPiece, AddsPieces, HasOneItemMore, IsFree, IsUnderWay, item_row, KeepsFirst, KeepsTransfers, SetsSize}
 pub use Rattle.bag_sqlite.specs.Reading.{HasTransferRow, OnlyQueries, size_shown, tag_shown}
 pub use Rattle.bag_sqlite.specs.Refusing.{adopt_fault, AreFull, AreNoneFor, AreTags, body_of, count_under, DoNotOpen, HasDamagedItem, HasNoFormat, IsAsked, IsBlob, IsDamaged, IsNoAnswer, IsNoLedger, IsNoneFor, IsNoQuery, IsText, ItemFails, items_under, LacksBody, LacksContent, MayShow, OpensNone, params_of, piece_at, Question, RefusesAs, RefusesToAdopt, RefusesTransfer, RefusesTransfers, SayNoFormat, SaysFormat, ShowsOctets, strays, tags_under, text_of, the_format, the_transfers, TransferFails}

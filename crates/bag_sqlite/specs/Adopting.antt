@@ -12,7 +12,7 @@ use Rattle.sqlite.specs.Store.{Ghosts}
 use Rattle.sqlite.specs.declared.types.Value.{Value}
 use Rattle.sqlite.specs.declared.types.Value.TheVariants.{Blob, Int, Text}
 use Rattle.sqlite_value.specs.Order.{bytes}
-use Rattle.bag_sqlite.specs.Databases.{AreCut}
+use Rattle.bag_sqlite.specs.LedgersInTables.{AreCut}
 use Rattle.bag_sqlite.specs.Reading.{ShowsRows}
 use Rattle.bag_sqlite.specs.Tables.{number_of}
 use Rattle.bag_sqlite.specs.declared.format.Format.{Format}

@@ -4,7 +4,7 @@ use Rattle.std.specs.List.{concat}
 use Rattle.std.specs.declared.alloc.Global.{Global}
 use Rattle.bag_digest.specs.Lanes.{HoldsAt}
 use Rattle.bag_digest.specs.declared.algorithm.AlgSet.{AlgSet}
-use Rattle.bag_digest.specs.declared.lanes.MultiLanes.{MultiLanes}
+use Rattle.bag_digest.specs.declared.multi_lanes.MultiLanes.{MultiLanes}
 use Rattle.bag_digest.specs.declared.reading.TheConstants.{PIECE}
 use Rattle.bag_rules.specs.Files.{Files}
 use Rattle.bag_rules.specs.Plans.{IsPlanOf, IsWantOf}
@@ -29,7 +29,8 @@ pub record IsItemOf (plan : Plan) (row : Row) (long : LongItem) : Type 0 where
       × IsWantOf tags long.want.path.now long.want
 
 -- the rows from this place on name these payload files
-pub record AreItemsOf (plan : Plan) (rows : List Row) (at : ℕ) (items : List LongItem) : Type 0 where
+pub record AreItemsOf (plan : Plan) (rows : List Row) (at : ℕ) (items : List LongItem)
+    : Type 0 where
   pub few : length items ≤ 4
   pub inside : at + length items ≤ length rows
   pub each : (k : ℕ) (long : LongItem) → slice_get items k ≡ Some long
@@ -94,7 +95,8 @@ module _ {S : Type 0} (g : Ghosts S) (db : Database) where
 
   -- the payload file is valid
   abbrev pub IsValid : Files → LongItem → Type 0
-  IsValid tags long = ItemPasses g db form.Second tags long.item long.want.path.now (pos long.size)
+  IsValid tags long = ItemPasses g db form.Second tags long.item long.want.path.now
+      (pos long.size)
 
   -- Its first pieces, so many, were hashed in lane i, if it goes on after them. Otherwise it is valid.
   pub record IsHashed (tags : Files) (multi : MultiLanes) (set : AlgSet) (i n : ℕ)
@@ -105,7 +107,8 @@ module _ {S : Type 0} (g : Ghosts S) (db : Database) where
   -- So were those before this last piece, if it goes on after it. Otherwise it is valid.
   pub record IsRead (tags : Files) (multi : MultiLanes) (set : AlgSet) (i n : ℕ) (piece : List ℕ)
       (long : LongItem) : Type 0 where
-    pub going : GoesOn long (n + 1) → HoldsPieces multi set i long.item n × IsPiece long.item n piece
+    pub going : GoesOn long (n + 1) → HoldsPieces multi set i long.item n
+        × IsPiece long.item n piece
     pub ended : long.size ≤ (n + 1) * PIECE → IsValid tags long
 
   -- each from the place `first` to before the place `end`, in the lane at its place

@@ -14,7 +14,7 @@ use Rattle.sqlite.specs.Tree.{Trees}
 use Rattle.sqlite.specs.declared.error.Error.{Error}
 use Rattle.sqlite.specs.declared.error.Error.TheVariants.{SqliteFailure}
 use Rattle.sqlite.specs.declared.error.ErrorCode.TheVariants.{OutOfMemory}
-use Rattle.bag_sqlite.specs.Databases.{AreCut, NumberedItem}
+use Rattle.bag_sqlite.specs.LedgersInTables.{AreCut, NumberedItem}
 use Rattle.bag_sqlite.specs.Putting.{HasOneItemMore}
 use Rattle.bag_sqlite.specs.Tables.{Origin}
 use Rattle.bag_sqlite.specs.declared.putting.NotPut.{NotPut}

@@ -3,7 +3,7 @@ use Rattle.std.specs.Prelude.{ℕ, ℤ, pos, List, [], ◌∷◌}
 use Rattle.bag_rules.specs.Faults.{Has}
 use Rattle.sqlite.specs.Tree.{Trees}
 use Rattle.sqlite.specs.declared.types.Value.TheVariants.{Blob, Int}
-use Rattle.bag_sqlite.specs.Databases.{without_rowids}
+use Rattle.bag_sqlite.specs.LedgersInTables.{without_rowids}
 use Rattle.bag_sqlite.specs.Putting.{item_row}
 use Rattle.bag_sqlite.specs.Reading.{HasTransferRow}
 use Rattle.bag_sqlite.specs.Tables.{Origin, held_tree, piece_tree}

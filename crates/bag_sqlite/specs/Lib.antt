@@ -1,13 +1,13 @@
 pub mod Adopted
 pub mod Adopting
 pub mod Batches
+pub mod Beginning
 pub mod Beside
 pub mod Contents
-pub mod Databases
 pub mod Items
+pub mod LedgersInTables
 pub mod Making
 pub mod Migrating
-pub mod Opening
 pub mod Putting
 pub mod Reading
 pub mod Refusing

@@ -14,7 +14,7 @@ use Rattle.sqlite.specs.declared.error.Error.{Error}
 use Rattle.sqlite.specs.declared.error.Error.TheVariants.{SqliteFailure}
 use Rattle.sqlite.specs.declared.error.ErrorCode.TheVariants.{NameTaken, TransactionState}
 use Rattle.sqlite.proofs.Callers.{IsPlain, command_of, statement_of}
-use Rattle.bag_sqlite.specs.Databases.{IsDatabaseOf}
+use Rattle.bag_sqlite.specs.LedgersInTables.{IsDatabaseOf}
 use Rattle.bag_sqlite.specs.Tables.{New, Second, no_schema, second_schema}
 
 -- under this schema the statement creates this table

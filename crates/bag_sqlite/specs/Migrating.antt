@@ -7,7 +7,7 @@ use Rattle.sqlite.specs.Store.{Ghosts}
 use Rattle.sqlite.specs.Tree.{Trees}
 use Rattle.sqlite.specs.declared.types.Value.TheVariants.{Blob, Int, Text}
 use Rattle.bag_sqlite.specs.Adopting.{HasFormat}
-use Rattle.bag_sqlite.specs.Databases.{AreTablesOf, HoldTransfers, IsDatabaseOf, NamesFormat}
+use Rattle.bag_sqlite.specs.LedgersInTables.{AreTablesOf, HoldTransfers, IsDatabaseOf, NamesFormat}
 use Rattle.bag_sqlite.specs.Putting.{IsFree, IsUnderWay}
 use Rattle.bag_sqlite.specs.SqlKeepers.{ShowsLedger}
 use Rattle.bag_sqlite.specs.Tables.{First, Migrated, Second, held_tree, item_tree, meta_tree, piece_tree, tag_tree, transfer_tree}

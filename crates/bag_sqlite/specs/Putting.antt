@@ -5,7 +5,7 @@ use Rattle.sqlite.specs.Order.{Row}
 use Rattle.sqlite.specs.State.{State}
 use Rattle.sqlite.specs.Tree.{Trees, has_rowid}
 use Rattle.sqlite.specs.declared.types.Value.TheVariants.{Blob, Int, Null, Text}
-use Rattle.bag_sqlite.specs.Databases.{ListLedger, NumberedItem, piece_rows, without_rowids}
+use Rattle.bag_sqlite.specs.LedgersInTables.{ListLedger, NumberedItem, piece_rows, without_rowids}
 use Rattle.bag_sqlite.specs.Tables.{Migrated, New, Origin, Second, held_tree, item_tree, meta_tree, piece_tree, second_schema, tag_tree, transfer_tree}
 
 -- a transaction is open on the tables of a ledger of format 2

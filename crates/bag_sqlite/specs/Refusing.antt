@@ -26,7 +26,7 @@ use Rattle.sqlite.specs.declared.error.ErrorCode.TheVariants.{OutOfMemory, NotAD
 use Rattle.sqlite.specs.declared.types.Value.{Value}
 use Rattle.sqlite.specs.declared.types.Value.TheVariants.{Blob, Int, Text}
 use Rattle.bag_sqlite.specs.Adopting.{HasContent, HasFormat, RowPasses, Tells, TellsOne, TransferPasses, body_text, count_text, files_in, format_text, items_text, piece_text, stray_texts, tag_files_text, transfers_text}
-use Rattle.bag_sqlite.specs.Databases.{AreCut}
+use Rattle.bag_sqlite.specs.LedgersInTables.{AreCut}
 use Rattle.bag_sqlite.specs.Tables.{number_of}
 use Rattle.bag_sqlite.specs.declared.adopting.AdoptFault.{AdoptFault}
 use Rattle.bag_sqlite.specs.declared.adopting.AdoptFault.TheVariants.{NotALedger, Damaged, Memory, Store}

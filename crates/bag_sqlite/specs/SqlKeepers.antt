@@ -2,7 +2,7 @@
 use Rattle.std.specs.Prelude.{◌≡◌, ◌⊎◌, IsTrue}
 use Rattle.sqlite.specs.State.{IsLive, Opens, State}
 use Rattle.sqlite.specs.Tree.{Trees}
-use Rattle.bag_sqlite.specs.Databases.{IsDatabaseOf, IsLedgerDatabase}
+use Rattle.bag_sqlite.specs.LedgersInTables.{IsDatabaseOf, IsLedgerDatabase}
 use Rattle.bag_ledger.specs.Ledgers.{IsSound, Ledger}
 use Rattle.bag_sqlite.specs.Tables.{Layout, Origin, Second, schema_of}
 

@@ -4,7 +4,7 @@ ghost use Rattle.bag_ledger.specs.Keeping.{IsUnused, Leaves, Writes};
 ghost use Rattle.bag_ledger.specs.Ledgers.{with_transfer};
 ghost use Rattle.bag_rules.specs.Files.{files_of};
 ghost use Rattle.bag_rules.specs.Opening.{Opens};
-ghost use Rattle.bag_sqlite.specs.Opening.{AddsTags, AddsTransfer, HasOneTransferMore, opened_under};
+ghost use Rattle.bag_sqlite.specs.Beginning.{AddsTags, AddsTransfer, HasOneTransferMore, opened_under};
 ghost use Rattle.bag_sqlite.specs.Putting.{IsUnderWay};
 ghost use Rattle.bag_sqlite.specs.SqlKeepers.{HoldsLedger, MayLeaveLedger};
 ghost use Rattle.bag_sqlite.specs.Tables.{Origin};

@@ -4,7 +4,7 @@ ghost use Rattle.std.specs.Prelude.{◌≡◌, ◌≤◌, ◌*◌, ◌↔◌, Is
 ghost use Rattle.bag_digest.specs.declared.reading.TheConstants.{PIECE};
 ghost use Rattle.bag_ledger.specs.Ledgers.{Ledger};
 ghost use Rattle.bag_sqlite.specs.declared.batch.TheConstants.{MOST_FILES};
-ghost use Rattle.bag_sqlite.specs.Databases.{AreTablesOf, IsLedgerDatabase};
+ghost use Rattle.bag_sqlite.specs.LedgersInTables.{AreTablesOf, IsLedgerDatabase};
 ghost use Rattle.bag_sqlite.specs.Migrating.{MigratesLedger};
 ghost use Rattle.bag_sqlite.specs.SqlKeepers.{HoldsLedger, MayLeaveLedger, Offers};
 ghost use Rattle.bag_sqlite.specs.Tables.{Layout};

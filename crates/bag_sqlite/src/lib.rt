@@ -4,7 +4,6 @@
 mod adopting;
 mod batch;
 mod beginning;
-mod beside;
 mod content;
 mod format;
 mod health;
@@ -20,6 +19,7 @@ mod queries;
 mod rows;
 mod transfers;
 mod verifying;
+mod verifying_beside;
 mod watch;
 
 pub use adopting::{AdoptFault, NotAdopted};

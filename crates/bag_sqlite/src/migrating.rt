@@ -3,7 +3,7 @@ ghost use Rattle.std.specs.Prelude.{◌≡◌, ℕ, ℤ, List, IfOk, IsTrue, Mat
 ghost use Rattle.std.specs.List.{AllByRecursion, concat};
 ghost use Rattle.bag_ledger.specs.Ledgers.{Ledger};
 ghost use Rattle.bag_sqlite.specs.Contents.{HasContentMore, in_pieces};
-ghost use Rattle.bag_sqlite.specs.Databases.{AreCut, NamesFormat};
+ghost use Rattle.bag_sqlite.specs.LedgersInTables.{AreCut, NamesFormat};
 ghost use Rattle.bag_sqlite.specs.Making.{IsLeft};
 ghost use Rattle.bag_sqlite.specs.Migrating.{Empties, HasBody, IsInBoth, IsMigrated, IsToMove, MovesLedger, SetsFormat, ShowsMoved};
 ghost use Rattle.bag_sqlite.specs.Putting.{AddsPieces, IsUnderWay};

@@ -17,10 +17,10 @@ ghost use Rattle.sqlite.specs.declared.types.Value.TheVariants.{Blob, Int};
 
 use crate::adopting::{AdoptFault, rows_of};
 use crate::batch::Batch;
-use crate::beside::{LANES, valid_beside};
 use crate::content::Content;
 use crate::format::Format;
 use crate::transfers::{path_in, tag_set_in};
+use crate::verifying_beside::{LANES, valid_beside};
 use crate::watch::Watch;
 use bag_digest::{AlgSet, PIECE};
 use bag_rules::limits::LARGEST_ITEM;
@@ -240,7 +240,7 @@ fn damaged_in<S: Alter, W: Watch>(
             }
             batch = Batch::none(alloc);
         }
-        let valid = valid_beside(alloc, connection, watch, format, plan, rows, at, alone);
+        let valid = valid_beside(alloc, connection, watch, format, plan, rows, at, alone)?;
         if valid > 0 {
             at += valid;
             if valid < LANES {

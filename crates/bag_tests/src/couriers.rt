@@ -1,11 +1,12 @@
 //! Couriers that fail, and one whose items are known.
 use crate::printing::{kept, printed};
-use bag_commands::intake_to;
+use bag_commands::{Output, intake_to};
 use bag_digest::{Failed, Failures, Source};
 use bag_ledger::MapKeeper;
 use bag_path::{BagPath, PathFault};
 use bag_receiver::{Answer, Courier, End, Receiver};
 use std::alloc::{AllocError, Global};
+use std::cell::Cell;
 use std::io::Read;
 use std::test::Fail;
 
@@ -46,21 +47,56 @@ struct Item {
     content: Vec<u8>,
 }
 
+/// What was seen of a courier, which is dropped when its run has ended.
+#[derive(Drop)]
+struct Seen {
+    failures: Cell<u64>,
+    nexts: Cell<u64>,
+}
+
+impl Seen {
+    fn nothing() -> Seen {
+        Seen {
+            failures: Cell::new(0),
+            nexts: Cell::new(0),
+        }
+    }
+
+    fn count_failure(&self) {
+        self.failures.set(self.failures.get().saturating_add(1));
+    }
+
+    fn count_next(&self) {
+        self.nexts.set(self.nexts.get().saturating_add(1));
+    }
+
+    /// The numbers of failures and of calls of `next`.
+    fn counts(&self) -> (u64, u64) {
+        (self.failures.get(), self.nexts.get())
+    }
+}
+
 /// Delivers items, the last one first, and then fails unless it is to end well. The octets of each come from its end,
 /// one per read; reading `!` fails.
 #[derive(Drop)]
-struct Items {
+struct Items<'a> {
     left: Vec<Item>,
     ends_well: bool,
+    seen: &'a Seen,
     path: Option<BagPath>,
     content: Vec<u8>,
     failures: Failures,
     nexts: u64,
 }
 
-impl Items {
+impl<'a> Items<'a> {
     /// Delivers these items, each with its content, in this order.
-    fn new(alloc: Global, items: &[(&str, &str)], ends_well: bool) -> Result<Items, PathFault> {
+    fn new(
+        alloc: Global,
+        items: &[(&str, &str)],
+        ends_well: bool,
+        seen: &'a Seen,
+    ) -> Result<Items<'a>, PathFault> {
         let mut left = Vec::new(alloc);
         for (path, text) in items.iter().rev().copied() {
             let mut content = Vec::from_slice(alloc, text.as_bytes())?;
@@ -73,6 +109,7 @@ impl Items {
         Ok(Items {
             left,
             ends_well,
+            seen,
             path: None,
             content: Vec::new(alloc),
             failures: Failures::none(),
@@ -81,7 +118,7 @@ impl Items {
     }
 }
 
-impl Source for Items {
+impl Source for Items<'_> {
     ghost use Rattle.std.specs.Prelude.{◌≡◌, None, is_some, refl};
     ghost use Rattle.std.proofs.Common.{◌∙◌};
 
@@ -97,12 +134,14 @@ impl Source for Items {
 
     fn read(&mut self, buf: &mut [u8]) -> Result<usize, Failed> {
         if self.path.is_none() {
+            self.seen.count_failure();
             return self.failures.counted(Err(Failed));
         }
         let Some(octet) = self.content.pop() else {
             return Ok(0);
         };
         if octet == b'!' {
+            self.seen.count_failure();
             return self.failures.counted(Err(Failed));
         }
         let Some(first) = buf.first_mut() else {
@@ -121,7 +160,7 @@ impl Source for Items {
     ghost keeps_on = { λ a b c p q. (q.0 ∙ p.0, q.1 ∙ p.1) };
 }
 
-impl Courier for Items {
+impl Courier for Items<'_> {
     ghost use Rattle.std.specs.Prelude.{None, refl};
 
     ghost coming = { λ _. None };
@@ -133,12 +172,14 @@ impl Courier for Items {
     ghost steady = { λ _. ⊥ };
 
     fn next(&mut self) -> Result<bool, Failed> {
+        self.seen.count_next();
         self.nexts = self.nexts.saturating_add(1);
         let Some(item) = self.left.pop() else {
             self.path = None;
             let answer = if self.ends_well {
                 Ok(false)
             } else {
+                self.seen.count_failure();
                 Err(Failed)
             };
             return self.failures.counted(answer);
@@ -162,27 +203,47 @@ impl Courier for Items {
     ghost keeps_item = { λ old new kept. (refl, kept.0, kept.1, λ none. none) };
 }
 
+/// Takes in what three couriers deliver, each of which is seen by one of these. Returns the status.
+fn taken_in<'a>(
+    alloc: Global,
+    receiver: &mut Receiver<MapKeeper>,
+    out: &mut Output<Vec<u8>>,
+    first: &'a Seen,
+    second: &'a Seen,
+    third: &'a Seen,
+) -> Result<u8, Fail> {
+    let mut couriers = Vec::new(alloc);
+    couriers.push(Items::new(alloc, &[("data/100%\n", "")], true, first)?)?;
+    couriers.push(Items::new(
+        alloc,
+        &[("data/a.txt", "abc"), ("data/e.txt", "!")],
+        false,
+        second,
+    )?)?;
+    couriers.push(Items::new(alloc, &[("data/e.txt", "")], true, third)?)?;
+    Ok(intake_to(alloc, receiver, "t1", couriers, out))
+}
+
 #[test]
 fn a_refusal_ends_nothing_and_a_courier_that_fails_is_the_last(
     rt: HostRuntime,
 ) -> Result<(), Fail> {
     let alloc = rt.alloc();
     let mut receiver = opened(alloc)?;
-    let mut couriers = [
-        Items::new(alloc, &[("data/100%\n", "")], true)?,
-        Items::new(alloc, &[("data/a.txt", "abc"), ("data/e.txt", "!")], false)?,
-        Items::new(alloc, &[("data/e.txt", "")], true)?,
-    ];
     let mut out = kept(alloc)?;
-    let status = intake_to(alloc, &mut receiver, "t1", &mut couriers, &mut out);
+    let first = Seen::nothing();
+    let second = Seen::nothing();
+    let third = Seen::nothing();
+    let status = taken_in(alloc, &mut receiver, &mut out, &first, &second, &third)?;
     let expected = "refused data/100%25%0A: not listed
 taken data/a.txt
 refused data/e.txt: reader
 bag: files
 ";
     assert_eq!(rt; (status, printed(&out)), (3, Some(expected)));
-    assert_eq!(rt; couriers[1].failures(), 2);
-    assert_eq!(rt; couriers[2].nexts(), 0);
+    assert_eq!(rt; first.counts(), (0, 2));
+    assert_eq!(rt; second.counts(), (2, 3));
+    assert_eq!(rt; third.counts(), (0, 0));
     Ok(())
 }
 

@@ -11,12 +11,13 @@ use Rattle.bag_writer.specs.Copying.{CopiesPiece, IsCopiedTo, IsFreshBy, IsStopp
 use Rattle.bag_writer.specs.OpenSinks.{IsBegun}
 use Rattle.bag_writer.specs.Pending.{AddsCopy, CanBegin, CanCopy, IsBeginFault, IsHeld, IsOpenFault, IsReadable, copies_with, work_of}
 use Rattle.bag_writer.specs.PayloadSteps.{IsFoundOf}
-use Rattle.bag_writer.specs.declared.beside.BeginFault.{BeginFault}
-use Rattle.bag_writer.specs.declared.beside.BeginFault.TheVariants.{Memory, Stopped, Unopened}
+use Rattle.bag_writer.specs.declared.payload_beside.BeginFault.{BeginFault}
+use Rattle.bag_writer.specs.declared.payload_beside.BeginFault.TheVariants.{Memory, Stopped, Unopened}
 use Rattle.bag_writer.specs.declared.items.TheConstants.{BUFFER}
 use Rattle.bag_writer.specs.Sinks.{Stored}
 use Rattle.bag_writer.specs.declared.copying.Copying.{Copying}
 use Rattle.bag_writer.specs.declared.payload.CopyFault.TheVariants.{Sink, TooLarge, Tree}
+use Rattle.bag_writer.proofs.CopyLemmas.{stands}
 
 -- nothing of no octets
 pub take_none : (n : ℕ) (xs : List ℕ) → length xs ≡ 0 → take n xs ≡ []
@@ -40,6 +41,16 @@ module _ {F G : Type 0} (s : Sides F G) where
     empty = begun.empty;
     sure = λ e. let it = can e in begun.is_sure it.is_sure it.closed (it.free path named);
   }
+
+  -- the same by what is known of a tree and of a sink
+  pub can_copy_next : {shown now : Shown} {sure calm : Type 0} {is_open : Bool} {known : Option Stored} {i : ℕ} {source : F} {each : Copying F G} → i < length (paths_in shown) → now ≡ shown → IsReadable s.place s.remaining s.failures s.ready shown sure i source
+      → (each.source ≡ source) × (each.found ≡ None) × ((path : List ℕ) → slice_get (paths_in now) i ≡ Some path → IsBegun s.copy_place s.holds s.copy_failures s.copy_sure calm is_open known i path each.target)
+      → (tree_sure sink_sure : Bool) → (tree_sure ≡ true → sure) → (sink_sure ≡ true → CanBegin calm is_open known shown i) → CanCopy s (work_of shown tree_sure sink_sure) i each
+  can_copy_next {shown} {now} {sure} {calm} {is_open} {known} {i} {source} {each} inside same opened begun tree_sure sink_sure =
+      let path = stands (paths_in shown) i inside in
+      can_copy shown tree_sure sink_sure sure calm is_open known i path.0 each path.1
+      (subst (λ a. IsReadable s.place s.remaining s.failures s.ready shown sure i a) (sym begun.0) opened)
+      (begun.2 path.0 (ap (λ (all : Shown). slice_get (paths_in all) i) same ∙ path.1))
 
   module _ (work : Work) (i : ℕ) (each : Copying F G) (can : CanCopy s work i each) where
     -- nothing was copied yet

@@ -6,9 +6,8 @@ use Rattle.std.proofs.lemmas.List.{length-take-le, take_all}
 use Rattle.std.proofs.Math.ListN.{drop_of_length-le}
 use Rattle.std.proofs.lemmas.Option.{same_Some, slice_get_within}
 use Rattle.bag_digest.specs.declared.algorithm.AlgSet.{AlgSet}
-use Rattle.bag_digest.specs.declared.lanes.MultiLanes.{MultiLanes}
-use Rattle.bag_digest.specs.Lanes.{HoldsAt}
-use Rattle.bag_digest.specs.Streams.{OtherLanesStay}
+use Rattle.bag_digest.specs.declared.multi_lanes.MultiLanes.{MultiLanes}
+use Rattle.bag_digest.specs.Lanes.{HoldsAt, OtherLanesStay}
 use Rattle.bag_digest.specs.declared.multi.Digests.{Digests}
 use Rattle.bag_digest.specs.declared.reading.SourceRead.{SourceRead}
 use Rattle.bag_digest.specs.declared.reading.SourceRead.TheVariants.{Hashed}

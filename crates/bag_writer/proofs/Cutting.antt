@@ -13,7 +13,7 @@ use Rattle.bag_writer.specs.Copying.{Sides}
 use Rattle.bag_writer.specs.Returned.{AreByPlace, HasStoppedFirst, IsToldOf, LeavesCopies, TakesCopiesBack}
 use Rattle.bag_writer.specs.Sinks.{Stored}
 use Rattle.bag_writer.specs.Steps.{ArePart, AreWhole}
-use Rattle.bag_writer.specs.Writing.{HasLongFile}
+use Rattle.bag_writer.specs.Writing.{HasLongFile, IsMetLater}
 use Rattle.bag_writer.specs.declared.copying.Copying.{Copying}
 use Rattle.bag_writer.specs.declared.copying.CopyStop.{CopyStop}
 use Rattle.bag_writer.specs.declared.payload.CopyFault.{CopyFault}
@@ -39,14 +39,6 @@ module _ {S : Type 0} {stored : S → Option Stored} {is_open : S → Bool} {fai
     as_open = back.as_open ∙ same;
     stays_sure = λ s. back.stays_sure (stays s);
     counted = λ base out. back.counted base (subst (AreOut base n) (sym count) out);
-  }
-
-  pub copies_back_so : {F G : Type 0} (n : ℕ) {a b : S} → TakesCopiesBack stored is_open failures sure n F a b → (F → G) → (G → F) → TakesCopiesBack stored is_open failures sure n G a b
-  copies_back_so n p there back = record {
-    held = p.held;
-    as_open = p.as_open;
-    stays_sure = p.stays_sure;
-    counted = λ base out. let c = p.counted base out in record { rises = λ g. c.rises (back g); stays = λ not. c.stays (λ f. not (there f)) };
   }
 
   pub copies_all : (n m : ℕ) {a b : S} → m ≡ n → ((k : ℕ) → LeavesCopies stored is_open failures sure (k + m) k a b) → LeavesCopies stored is_open failures sure n 0 a b
@@ -75,6 +67,7 @@ module _ {T : Type 0} {shown : T → Shown} {failures : T → ℕ} {sure : T →
 module _ (shown : Shown) (places : List ℕ) (old new : Option Stored) where
   pub cut_told : (place : ℕ) (fault : CopyFault) (told : WriteFault) → IsCutBy shown places place old new fault → IsToldOf shown place fault told → IsCutAt shown places old new told
   cut_told place fault told cut is = record {
+    met = is.met;
     count = cut.count;
     files = cut.files;
     are = cut.are;
@@ -91,6 +84,7 @@ module _ (shown : Shown) (places : List ℕ) (old new : Option Stored) where
   pub cut_more : (more : List ℕ) (told : WriteFault) → IsCutAt shown places old new told → IsCutAt shown (places ++ more) old new told
   cut_more more told cut = elim (cases_lt (length places) cut.count) [
     | inl over ↦ record {
+      met = cut.met;
       count = length places;
       files = cut.files;
       are = subst (λ list. AreFilesAt shown list cut.files) (take_all cut.count places (omega (arith, over)) ∙ sym (take_front more)) cut.are;
@@ -98,6 +92,7 @@ module _ (shown : Shown) (places : List ℕ) (old new : Option Stored) where
       long = cut.long;
     }
     | inr within ↦ record {
+      met = cut.met;
       count = cut.count;
       files = cut.files;
       are = subst (λ list. AreFilesAt shown list cut.files) (sym (take-append-le cut.count places more within)) cut.are;
@@ -108,12 +103,13 @@ module _ (shown : Shown) (places : List ℕ) (old new : Option Stored) where
 
   -- memory ran out
   pub cut_none : IsCutAt shown places old old Memory
-  cut_none = record { count = 0; files = []; are = tt; part = part_none [] old; long = λ what e. absurd (let k : Memory ≡ TooLarge what = e in cc) }
+  cut_none = record { met = tt; count = 0; files = []; are = tt; part = part_none [] old; long = λ what e. absurd (let k : Memory ≡ TooLarge what = e in cc) }
 
   -- all were written whole
   module _ (files : Files) (are : AreFilesAt shown places files) (whole : AreWhole files old new) where
-    pub cut_whole : (told : WriteFault) → ((large : Large) → ¬ (told ≡ TooLarge large)) → IsCutAt shown places old new told
-    cut_whole told other = record {
+    pub cut_whole : (told : WriteFault) → IsMetLater told → ((large : Large) → ¬ (told ≡ TooLarge large)) → IsCutAt shown places old new told
+    cut_whole told met other = record {
+      met = met;
       count = length places;
       files = files;
       are = subst (λ list. AreFilesAt shown list files) (sym (take_all (length places) places (omega arith))) are;
@@ -124,6 +120,7 @@ module _ (shown : Shown) (places : List ℕ) (old new : Option Stored) where
     -- and the next one has stopped
     pub cut_next : (i : ℕ) (file : File) (fault : CopyFault) (told : WriteFault) → IsFileAt shown i file → (fault ≡ copy.TooLarge → LARGEST_FILE < length file.1) → IsToldOf shown i fault told → IsCutAt shown (places ++ i ∷ []) old new told
     cut_next i file fault told at long is = record {
+      met = is.met;
       count = length places + 1;
       files = files ++ file ∷ [];
       are = subst (λ list. AreFilesAt shown list (files ++ file ∷ [])) (sym (take_all (length places + 1) (places ++ i ∷ []) (omega (arith, length-append places (i ∷ [])))))

@@ -41,6 +41,9 @@ module _ {T : Type 0} {shown : T → Shown} {failures : T → ℕ} {sure : T →
   pub tree_same : (n : ℕ) {a : T} → LeavesOut shown failures sure n n a a
   tree_same n = record { kept = keeps_same; counted = λ base out. out }
 
+  pub tree_still : (n : ℕ) {a : T} → LeavesOut shown failures sure (n + 0) n a a
+  tree_still n {a} = subst (λ m. LeavesOut shown failures sure m n a a) (let e : n ≡ n + 0 = omega arith in e) (tree_same n)
+
   pub tree_on : (l m n : ℕ) {a b c : T} → LeavesOut shown failures sure l m a b → LeavesOut shown failures sure m n b c → LeavesOut shown failures sure l n a c
   tree_on l m n p q = record {
     kept = record { same = q.kept.same ∙ p.kept.same; stays_sure = λ s. q.kept.stays_sure (p.kept.stays_sure s) };
@@ -71,6 +74,9 @@ module _ {T : Type 0} {shown : T → Shown} {failures : T → ℕ} {sure : T →
 module _ {S : Type 0} {stored : S → Option Stored} {is_open : S → Bool} {failures : S → ℕ} {sure : S → Type 0} where
   pub sink_same : (n : ℕ) {a : S} → LeavesCopies stored is_open failures sure n n a a
   sink_same n = record { held = refl; as_open = refl; stays_sure = λ s. s; counted = λ base out. out }
+
+  pub sink_still : (n : ℕ) {a : S} → LeavesCopies stored is_open failures sure (n + 0) n a a
+  sink_still n {a} = subst (λ m. LeavesCopies stored is_open failures sure m n a a) (let e : n ≡ n + 0 = omega arith in e) (sink_same n)
 
   pub sink_after : (l m n : ℕ) {a b c : S} → LeavesCopies stored is_open failures sure l m a b → LeavesCopies stored is_open failures sure m n b c → LeavesCopies stored is_open failures sure l n a c
   sink_after l m n p q = record {

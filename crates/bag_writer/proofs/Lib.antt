@@ -52,3 +52,5 @@ pub mod Completing
 pub mod Places
 pub mod Cutting
 pub mod Batches
+pub mod Completed
+pub mod Underway

@@ -1,9 +1,10 @@
 -- Files that are copied side by side: what was read of each, hashed, and written to its copy.
-use Rattle.std.specs.Prelude.{◌≡◌, ◌≢◌, ◌⊎◌, ◌+◌, ◌-◌, ◌<◌, ◌≤◌, ◌++◌, [], ℕ, Bool, true, List, Option, Some, None, IsSomeAnd, length, slice_get, take}
+use Rattle.std.specs.Prelude.{◌≡◌, ◌≢◌, ◌⊎◌, ◌+◌, ◌-◌, ◌<◌, ◌≤◌, ◌++◌, [], ℕ, Bool, true, List, Option, Some, None, Result, IsSomeAnd, MatchResult, length, slice_get, take}
 use Rattle.std.specs.Io.KnownBytes.{Consumes, IsAtEnd}
 use Rattle.bag_digest.specs.declared.algorithm.AlgSet.{AlgSet}
-use Rattle.bag_digest.specs.declared.lanes.MultiLanes.{MultiLanes}
+use Rattle.bag_digest.specs.declared.multi_lanes.MultiLanes.{MultiLanes}
 use Rattle.bag_digest.specs.declared.reading.SourceRead.{SourceRead}
+use Rattle.bag_digest.specs.declared.source.Source.{Ghosts as SourceOf}
 use Rattle.bag_digest.specs.declared.streams.TheConstants.{FRONT}
 use Rattle.bag_digest.specs.Lanes.{HoldsAt}
 use Rattle.bag_rules.specs.Trees.{Shown, octets_in, paths_in}
@@ -11,6 +12,7 @@ use Rattle.bag_rules.specs.declared.limits.TheConstants.{LARGEST_FILE}
 use Rattle.bag_writer.specs.PayloadSteps.{IsFoundOf, IsReadUntil}
 use Rattle.bag_writer.specs.declared.copying.Copying.{Copying}
 use Rattle.bag_writer.specs.declared.copying.CopyStop.{CopyStop}
+use Rattle.bag_writer.specs.declared.open_sink.SinkFile.{Ghosts as CopyOf}
 use Rattle.bag_writer.specs.declared.payload.CopyFault.{CopyFault}
 use Rattle.bag_writer.specs.declared.payload.CopyFault.TheVariants.{Sink, Tree}
 
@@ -25,17 +27,16 @@ pub record Sides (F G : Type 0) : Type 1 where
   pub copy_failures : G → ℕ
   pub copy_sure : G → Type 0
 
-abbrev pub sides : {F G : Type 0} → (F → ℕ) → (F → Option (List ℕ)) → (F → ℕ) → (F → Type 0)
-    → (G → ℕ) → (G → List ℕ → List ℕ → Type 0) → (G → ℕ) → (G → Type 0) → Sides F G
-sides place remaining failures ready copy_place holds copy_failures copy_sure = record {
+abbrev pub sides : {F G : Type 0} → (F → ℕ) → SourceOf F → CopyOf G → Sides F G
+sides place source copy = record {
   place = place;
-  remaining = remaining;
-  failures = failures;
-  ready = ready;
-  copy_place = copy_place;
-  holds = holds;
-  copy_failures = copy_failures;
-  copy_sure = copy_sure;
+  remaining = source.remaining;
+  failures = source.failures;
+  ready = source.ready;
+  copy_place = copy.place;
+  holds = copy.holds;
+  copy_failures = copy.failures;
+  copy_sure = copy.sure;
 }
 
 -- what the tree shows from which is copied, and whether it is sure, and the sink
@@ -125,6 +126,13 @@ pub record IsFirstStopped {F G : Type 0} (s : Sides F G) (work : Work) (set : Al
   pub here : (copy : Copying F G) → slice_get copies stop.place ≡ Some copy
       → IsStopped s work copy.source copy.target stop.fault
 
+-- those from the place `first` to before the place `end` were copied to their ends if they had begun, or until one stopped
+abbrev pub CopiesThem : {F G : Type 0} → Sides F G → AlgSet → ℕ → ℕ → List (Copying F G)
+    → List (Copying F G) → Result (Unit {0}) CopyStop → Type 0
+CopiesThem s set first end old new result = (work : Work) → AreFresh s work set first end old
+    → MatchResult result (λ done. AreEnded s work set first end new)
+    (IsFirstStopped s work set first end new)
+
 -- each file has the place that it had
 pub record KeepPlaces {F G : Type 0} (place : F → ℕ) (copy_place : G → ℕ)
     (old new : List (Copying F G)) : Type 0 where
@@ -208,7 +216,8 @@ pub record IsFirstOpen {F G : Type 0} (copies : List (Copying F G)) (first end k
   pub before : AreDone copies first k
 
 -- the lanes have taken the piece of each that has not ended
-abbrev pub HaveTaken : {F G : Type 0} → List (Copying F G) → ℕ → ℕ → MultiLanes → MultiLanes → Type 0
+abbrev pub HaveTaken : {F G : Type 0} → List (Copying F G) → ℕ → ℕ → MultiLanes → MultiLanes
+    → Type 0
 HaveTaken {F} {G} copies first end old new = (k : ℕ) (copy : Copying F G) → first ≤ k → k < end
     → slice_get copies k ≡ Some copy → copy.found ≡ None
     → (set : AlgSet) (octets : List ℕ) → HoldsAt old set (k - first) octets

@@ -17,7 +17,7 @@ use Rattle.bag_writer.specs.Returned.{AreByPlace, AreUnfailed, IsStoppedAt}
 use Rattle.bag_writer.specs.Sinks.{Stored}
 use Rattle.bag_writer.specs.Steps.{ArePart, AreWhole, NamesLong}
 use Rattle.bag_writer.specs.TagWriting.{AreFree}
-use Rattle.bag_writer.specs.Writing.{HasLongFile}
+use Rattle.bag_writer.specs.Writing.{HasLongFile, IsMetLater}
 use Rattle.bag_writer.specs.declared.copying.Copying.{Copying}
 use Rattle.bag_writer.specs.declared.copying.CopyStop.{CopyStop}
 use Rattle.bag_writer.specs.declared.items.Items.{Items}
@@ -111,9 +111,11 @@ pub record AreFinished (set : AlgSet) (shown : Shown) (places : List ℕ) (items
   pub added : AddsFiles set files items more
   pub whole : AreWhole files old new
 
--- of the files at some of the first of these places part was written, and one of them is named if it is too large
+-- With this fault, of the files at some of the first of these places part was written, and one of them is named if it is too
+-- large.
 pub record IsCutAt (shown : Shown) (places : List ℕ) (old new : Option Stored)
     (fault : WriteFault) : Type 0 where
+  pub met : IsMetLater fault
   pub count : ℕ
   pub files : Files
   pub are : AreFilesAt shown (take count places) files

@@ -15,3 +15,4 @@ pub mod Copying
 pub mod Returned
 pub mod Pending
 pub mod Finishing
+pub mod SideBySide

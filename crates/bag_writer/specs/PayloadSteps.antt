@@ -1,19 +1,25 @@
 -- How the payload is read and written, file by file. Only private functions cite these.
-use Rattle.std.specs.Prelude.{◌≡◌, ◌++◌, ◌∷◌, ◌<◌, ◌≤◌, [], ℕ, Bool, true, false, List, Option, Some, None, length, take}
+use Rattle.std.specs.Prelude.{◌≡◌, ◌++◌, ◌∷◌, ◌<◌, ◌≤◌, [], ℕ, Bool, true, false, List, Option, Some, None, Result, Vec, IfErr, IsErrOf, MatchResult, length, take}
 use Rattle.std.specs.Io.KnownBytes.{Consumes}
 use Rattle.std.specs.Option.{option_map}
+use Rattle.std.specs.declared.alloc.Global.{Global}
 use Rattle.bag_digest.specs.Reading.{GaveAll, IsCountAndDigests}
 use Rattle.bag_digest.specs.declared.algorithm.AlgSet.{AlgSet}
 use Rattle.bag_digest.specs.declared.reading.SourceRead.{SourceRead}
 use Rattle.bag_digest.specs.declared.reading.SourceRead.TheVariants.{Whole, Hashed}
 use Rattle.bag_rules.specs.Files.{Files}
+use Rattle.bag_rules.specs.Trees.{Shown}
 use Rattle.bag_rules.specs.declared.limits.TheConstants.{LARGEST_FILE}
-use Rattle.bag_writer.specs.Sinks.{Stored, with_octets}
-use Rattle.bag_writer.specs.Steps.{ArePart, AreWhole, HasFrontOf}
+use Rattle.bag_writer.specs.Sinks.{Stored, UsesClosedSink, with_octets}
+use Rattle.bag_writer.specs.Steps.{AreItemsOf, ArePart, AreWhole, HasFrontOf, HasNoFile, NamesLong, ReadsPayload, written_payload}
+use Rattle.bag_writer.specs.Writing.{HasLongFile, IsMetLater, IsReadFrom}
+use Rattle.bag_writer.specs.declared.item.Item.{Item}
+use Rattle.bag_writer.specs.declared.sink.Sink.{Ghosts as SinkOf}
+use Rattle.bag_writer.specs.declared.spec.Spec.{Spec}
 use Rattle.bag_writer.specs.declared.write_fault.Large.{Large}
 use Rattle.bag_writer.specs.declared.write_fault.Large.TheVariants.{File}
 use Rattle.bag_writer.specs.declared.write_fault.WriteFault.{WriteFault}
-use Rattle.bag_writer.specs.declared.write_fault.WriteFault.TheVariants.{TooLarge}
+use Rattle.bag_writer.specs.declared.write_fault.WriteFault.TheVariants.{Sink, TooLarge, Tree}
 use Rattle.bag_writer.specs.declared.payload.CopyFault.{CopyFault}
 use Rattle.bag_writer.specs.declared.payload.CopyFault.TheVariants as copy
 
@@ -83,3 +89,26 @@ pub record IsCutShort (is_hole : Bool) (file : List ℕ × List ℕ)
   pub long : (large : Large) → fault ≡ TooLarge large
       → (large ≡ File file.0) × (LARGEST_FILE < length file.1)
   pub written : ArePart (unless_hole is_hole file) old new
+
+-- ALL FILES
+
+-- This was written of some payload, which is that of the tree's bag if that is known: all of it, with these items, or part of it,
+-- with a fault.
+abbrev pub IsWrittenOf : Shown → Spec → Option Stored → Option Stored
+    → Result (Vec Item Global) WriteFault → Type 0
+IsWrittenOf shown spec old new result = (payload : Files) × IsReadFrom shown payload
+    × MatchResult result (λ items. AreItemsOf spec.algs items.items payload
+    × (¬ HasLongFile payload LARGEST_FILE) × AreWhole (written_payload spec payload) old new)
+    (λ fault. NamesLong File payload LARGEST_FILE fault
+    × ArePart (written_payload spec payload) old new)
+
+-- what writing the payload promises
+pub record WritesPayload {T S : Type 0} (shown : T → Shown) (failures : T → ℕ)
+    (sure : T → Type 0) (s : SinkOf S) (spec : Spec) (tree_old tree_new : T)
+    (sink_old sink_new : S) (result : Result (Vec Item Global) WriteFault) : Type 0 where
+  pub written : IsWrittenOf (shown tree_old) spec (s.stored sink_old) (s.stored sink_new) result
+  pub err : IfErr result IsMetLater
+  pub tree : ReadsPayload shown failures sure tree_old tree_new (IsErrOf result Tree)
+  pub sink : UsesClosedSink s.is_open s.failures s.sure sink_old sink_new
+      ((s.is_open sink_old ≡ false) × HasNoFile (s.stored sink_old)) result
+      (IsErrOf result Sink)

@@ -7,8 +7,8 @@ use Rattle.bag_rules.specs.Files.{Files}
 use Rattle.bag_rules.specs.Trees.{Shown, octets_in, paths_in}
 use Rattle.bag_writer.specs.Copying.{IsFresh, IsStopped, Sides, Work}
 use Rattle.bag_writer.specs.Sinks.{IsFree, Stored}
-use Rattle.bag_writer.specs.declared.beside.BeginFault.{BeginFault}
-use Rattle.bag_writer.specs.declared.beside.BeginFault.TheVariants.{Memory, Stopped, Unopened}
+use Rattle.bag_writer.specs.declared.payload_beside.BeginFault.{BeginFault}
+use Rattle.bag_writer.specs.declared.payload_beside.BeginFault.TheVariants.{Memory, Stopped, Unopened}
 use Rattle.bag_writer.specs.declared.copying.Copying.{Copying}
 use Rattle.bag_writer.specs.declared.copying.CopyStop.{CopyStop}
 use Rattle.bag_writer.specs.declared.items.TheConstants.{BUFFER}

@@ -1,19 +1,15 @@
 //! Reads several files, writes each to its copy and takes their digests, side by side.
-ghost use Rattle.std.specs.Prelude.{◌≡◌, ◌+◌, ◌<◌, ◌≤◌, ◌++◌, ℕ, List, [], Err, IfErr, IfOk, IsOk, None, MatchOption, MatchResult, Some, length, slice_get};
-ghost use Rattle.bag_digest.specs.Hash.{AreDigests};
-ghost use Rattle.bag_digest.specs.Lanes.{HoldsAt};
-ghost use Rattle.bag_digest.specs.Streams.{OtherLanesStay};
+ghost use Rattle.std.specs.Prelude.{◌≡◌, ◌+◌, ◌<◌, ◌≤◌, ℕ, List, [], Err, IfErr, IfOk, IsOk, None, MatchOption, MatchResult, Some, length, slice_get};
+ghost use Rattle.bag_digest.specs.Lanes.{OtherLanesStay};
 ghost use Rattle.bag_digest.specs.declared.algorithm.AlgSet.{AlgSet};
 ghost use Rattle.bag_digest.specs.declared.streams.TheConstants.{FRONT};
 ghost use Rattle.bag_rules.specs.declared.limits.TheConstants.{LARGEST_FILE};
-ghost use Rattle.bag_writer.specs.Copying.{AreDone, AreEnded, AreFew, AreFresh, AreFull, AreHashed, AreUnder, CopiesPiece, HasEnded, HaveStoppedAt, HaveTaken, IsCopiedTo, IsFirstOpen, IsFirstStopped, IsStopped, IsUnder, KeepPlaces, KeepsRest, Work, sides};
+ghost use Rattle.bag_writer.specs.Copying.{AreDone, AreEnded, AreFew, AreFresh, AreFull, AreHashed, AreUnder, CopiesPiece, CopiesThem, HasEnded, HaveStoppedAt, HaveTaken, IsCopiedTo, IsFirstOpen, IsFirstStopped, IsStopped, IsUnder, KeepPlaces, KeepsRest, Work, sides};
 ghost use Rattle.bag_writer.specs.declared.copying.Copying.{Copying};
 
 use crate::open_sink::SinkFile;
 use crate::payload::CopyFault;
-use bag_digest::{
-    AlgSet, Digests, FRONT, Failed, Multi, MultiLanes, SourceFault, SourceRead, fill,
-};
+use bag_digest::{AlgSet, FRONT, Failed, Multi, MultiLanes, SourceFault, SourceRead, fill};
 use bag_rules::OpenFile;
 use bag_rules::limits::LARGEST_FILE;
 
@@ -51,13 +47,13 @@ pub(crate) fn copy_each<F: OpenFile, G: SinkFile>(
     copies: &mut [Copying<F, G>],
 ) -> Result<(), CopyStop>
     requires full { AreFull 0 (length copies.old) copies.old }
-    ensures copied { (work : Work) → AreFresh (sides F.place F.remaining F.failures F.ready
-        G.place G.holds G.failures G.sure) work set 0 (length copies.old) copies.old
+    ensures copied { (work : Work) → AreFresh (sides F.place F.Source G.SinkFile) work set
+        0 (length copies.old) copies.old
         → MatchResult result
-        (λ done. AreEnded (sides F.place F.remaining F.failures F.ready
-        G.place G.holds G.failures G.sure) work set 0 (length copies.new) copies.new)
-        (IsFirstStopped (sides F.place F.remaining F.failures F.ready
-        G.place G.holds G.failures G.sure) work set 0 (length copies.new) copies.new) }
+        (λ done. AreEnded (sides F.place F.Source G.SinkFile) work set
+        0 (length copies.new) copies.new)
+        (IsFirstStopped (sides F.place F.Source G.SinkFile) work set
+        0 (length copies.new) copies.new) }
     ensures places { KeepPlaces F.place G.place copies.old copies.new }
 {
     let mut first = 0;
@@ -93,13 +89,8 @@ fn copy_few<F: OpenFile, G: SinkFile>(
     end: usize,
 ) -> Result<(), CopyStop>
     requires { AreFew first end copies.old }
-    ensures copied { (work : Work) → AreFresh (sides F.place F.remaining F.failures F.ready
-        G.place G.holds G.failures G.sure) work set first end copies.old
-        → MatchResult result
-        (λ done. AreEnded (sides F.place F.remaining F.failures F.ready
-        G.place G.holds G.failures G.sure) work set first end copies.new)
-        (IsFirstStopped (sides F.place F.remaining F.failures F.ready
-        G.place G.holds G.failures G.sure) work set first end copies.new) }
+    ensures copied { CopiesThem (sides F.place F.Source G.SinkFile) set first end
+        copies.old copies.new result }
     ensures rest { KeepsRest F.place G.place first end copies.old copies.new }
 {
     let Some(next) = next_open(copies, first, end) else {
@@ -120,14 +111,11 @@ fn copy_alone<F: OpenFile, G: SinkFile>(
     copy: &mut Copying<F, G>,
 ) -> Result<(), CopyFault>
     requires full { (length copy.old.piece.items ≡ FRONT) × (copy.old.found ≡ None) }
-    ensures copied { (work : Work) → IsCopiedTo (sides F.place F.remaining F.failures F.ready
-        G.place G.holds G.failures G.sure) work copy.old.piece.items copy.old.source
-        copy.old.target
+    ensures copied { (work : Work) → IsCopiedTo (sides F.place F.Source G.SinkFile) work
+        copy.old.piece.items copy.old.source copy.old.target
         → MatchResult result
-        (λ done. HasEnded (sides F.place F.remaining F.failures F.ready
-        G.place G.holds G.failures G.sure) work set copy.new)
-        (IsStopped (sides F.place F.remaining F.failures F.ready
-        G.place G.holds G.failures G.sure) work copy.new.source copy.new.target) }
+        (λ done. HasEnded (sides F.place F.Source G.SinkFile) work set copy.new)
+        (IsStopped (sides F.place F.Source G.SinkFile) work copy.new.source copy.new.target) }
     ensures places { (F.place copy.new.source ≡ F.place copy.old.source)
         × (G.place copy.new.target ≡ G.place copy.old.target) }
 {
@@ -158,16 +146,11 @@ fn copy_beside<F: OpenFile, G: SinkFile>(
     end: usize,
 ) -> Result<(), CopyStop>
     requires { AreFew first end copies.old }
-    ensures copied { (work : Work) → AreFresh (sides F.place F.remaining F.failures F.ready
-        G.place G.holds G.failures G.sure) work set first end copies.old
-        → MatchResult result
-        (λ done. AreEnded (sides F.place F.remaining F.failures F.ready
-        G.place G.holds G.failures G.sure) work set first end copies.new)
-        (IsFirstStopped (sides F.place F.remaining F.failures F.ready
-        G.place G.holds G.failures G.sure) work set first end copies.new) }
+    ensures copied { CopiesThem (sides F.place F.Source G.SinkFile) set first end
+        copies.old copies.new result }
     ensures rest { KeepsRest F.place G.place first end copies.old copies.new }
 {
-    let mut multi = begun(set);
+    let mut multi = MultiLanes::new(set);
     let mut hashed = 0u64;
     let mut end = end;
     let mut told = None;
@@ -194,18 +177,6 @@ fn told_at(told: Option<CopyFault>, place: usize) -> Result<(), CopyStop>
         None => Ok(()),
         Some(fault) => Err(CopyStop { place, fault }),
     }
-}
-
-/// Lanes of which each has begun a stream.
-fn begun(set: AlgSet) -> MultiLanes
-    ensures { (i : ℕ) → i < 4 → HoldsAt result set i [] }
-{
-    let mut multi = MultiLanes::new(set);
-    multi.begin(0);
-    multi.begin(1);
-    multi.begin(2);
-    multi.begin(3);
-    multi
 }
 
 /// Takes the piece of each file that hasn't ended. The first of them is that at the place `next`.
@@ -258,13 +229,13 @@ fn advance_each<F: OpenFile, G: SinkFile>(
     requires few { AreFew first end copies.old }
     requires within { hashed ≤ LARGEST_FILE }
     ensures advanced { (work : Work) (set : AlgSet)
-        → AreHashed (sides F.place F.remaining F.failures F.ready
-        G.place G.holds G.failures G.sure) work multi.old set hashed first first end copies.old
+        → AreHashed (sides F.place F.Source G.SinkFile) work
+        multi.old set hashed first first end copies.old
         → MatchResult result
-        (λ done. AreUnder (sides F.place F.remaining F.failures F.ready
-        G.place G.holds G.failures G.sure) work multi.new set hashed first first end copies.new)
-        (HaveStoppedAt (sides F.place F.remaining F.failures F.ready
-        G.place G.holds G.failures G.sure) work multi.new set hashed first end copies.new) }
+        (λ done. AreUnder (sides F.place F.Source G.SinkFile) work
+        multi.new set hashed first first end copies.new)
+        (HaveStoppedAt (sides F.place F.Source G.SinkFile) work
+        multi.new set hashed first end copies.new) }
     ensures inside { AreFull first end copies.new
         × IfErr result (λ stop. (first ≤ stop.place) × (stop.place < end)) }
     ensures rest { KeepsRest F.place G.place first end copies.old copies.new }
@@ -288,17 +259,14 @@ fn advance<F: OpenFile, G: SinkFile>(
     copy: &mut Copying<F, G>,
     hashed: u64,
 ) -> Result<(), CopyFault>
-    requires lane { (i < 4) × (hashed ≤ LARGEST_FILE) }
-    requires full { (length copy.old.piece.items ≡ FRONT) × (copy.old.found ≡ None) }
+    requires { (i < 4) × (hashed ≤ LARGEST_FILE)
+        × (length copy.old.piece.items ≡ FRONT) × (copy.old.found ≡ None) }
     ensures advanced { (work : Work) (set : AlgSet)
-        → IsUnder (sides F.place F.remaining F.failures F.ready
-        G.place G.holds G.failures G.sure) work multi.old set i hashed [] copy.old
+        → IsUnder (sides F.place F.Source G.SinkFile) work multi.old set i hashed [] copy.old
         → MatchResult result
-        (λ done. IsUnder (sides F.place F.remaining F.failures F.ready
-        G.place G.holds G.failures G.sure) work multi.new set i hashed copy.new.piece.items
-        copy.new)
-        (IsStopped (sides F.place F.remaining F.failures F.ready
-        G.place G.holds G.failures G.sure) work copy.new.source copy.new.target) }
+        (λ done. IsUnder (sides F.place F.Source G.SinkFile) work
+        multi.new set i hashed copy.new.piece.items copy.new)
+        (IsStopped (sides F.place F.Source G.SinkFile) work copy.new.source copy.new.target) }
     ensures full { length copy.new.piece.items ≡ FRONT }
     ensures others { OtherLanesStay i multi.old multi.new }
     ensures places { (F.place copy.new.source ≡ F.place copy.old.source)
@@ -311,22 +279,10 @@ fn advance<F: OpenFile, G: SinkFile>(
         hashed,
     )?;
     if n < copy.piece.len() {
-        let digests = end_lane(multi, i, &copy.piece[..n]);
+        let digests = multi.finish(i, &copy.piece[..n]);
         copy.found = Some(SourceRead::Hashed(hashed + n as u64, digests));
     }
     Ok(())
-}
-
-/// The digests of lane `i`'s stream, which ends with these octets.
-fn end_lane(multi: &mut MultiLanes, i: usize, rest: &[u8]) -> Digests
-    requires { i < 4 }
-    ensures digests { (set : AlgSet) (octets : List ℕ) → HoldsAt multi.old set i octets
-        → AreDigests result set (octets ++ rest.now) }
-    ensures others { OtherLanesStay i multi.old multi.new }
-{
-    let whole = rest.len() - rest.len() % 64;
-    multi.take_alone(i, &rest[..whole]);
-    multi.finish(i, &rest[whole..])
 }
 
 /// Reads the next piece of a file into the buffer, after as many octets as were copied, and writes it to the copy. Answers how
@@ -339,14 +295,12 @@ pub(crate) fn copy_piece<F: OpenFile, G: SinkFile>(
 ) -> Result<usize, CopyFault>
     requires room { (0 < length buffer.old) × (copied ≤ LARGEST_FILE) }
     ensures copied { (work : Work) (octets : List ℕ)
-        → IsCopiedTo (sides F.place F.remaining F.failures F.ready
-        G.place G.holds G.failures G.sure) work octets source.old target.old
+        → IsCopiedTo (sides F.place F.Source G.SinkFile) work octets source.old target.old
         → copied ≡ length octets
         → MatchResult result
-        (CopiesPiece (sides F.place F.remaining F.failures F.ready
-        G.place G.holds G.failures G.sure) work octets buffer.new source.new target.new)
-        (IsStopped (sides F.place F.remaining F.failures F.ready
-        G.place G.holds G.failures G.sure) work source.new target.new) }
+        (CopiesPiece (sides F.place F.Source G.SinkFile) work octets
+        buffer.new source.new target.new)
+        (IsStopped (sides F.place F.Source G.SinkFile) work source.new target.new) }
     ensures bound { IfOk result (λ n. (n ≤ length buffer.new) × (copied + n ≤ LARGEST_FILE)) }
     ensures room { length buffer.new ≡ length buffer.old }
     ensures places { (F.place source.new ≡ F.place source.old)

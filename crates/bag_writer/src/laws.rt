@@ -18,7 +18,7 @@ ghost use Rattle.bag_tags.specs.declared.listing.Kind.TheVariants.{Payload};
 ghost use Rattle.bag_writer.specs.FilledBags.{IsFilled, IsPayloadFor};
 ghost use Rattle.bag_writer.specs.WrittenBags.{IsWritten, manifest_of, tag_files};
 ghost use Rattle.bag_writer.specs.Writing.{empty_files};
-ghost use Rattle.bag_writer.specs.declared.beside.TheConstants.{MOST_COPIED};
+ghost use Rattle.bag_writer.specs.declared.payload_beside.TheConstants.{MOST_COPIED};
 ghost use Rattle.bag_writer.specs.declared.items.TheConstants.{BUFFER, MOST_HELD};
 ghost use Rattle.bag_writer.specs.declared.spec.Spec.{Spec};
 

@@ -10,7 +10,6 @@ pub use write_fault::{Large, WriteFault};
 pub use writing::{payload_count, write_bag};
 
 mod accepting;
-mod beside;
 mod copying;
 pub mod examples;
 pub mod fitting;
@@ -22,6 +21,8 @@ mod mem_sink;
 mod mem_sink_file;
 mod open_sink;
 mod payload;
+mod payload_beside;
+mod payload_in_turn;
 mod returning;
 mod sink;
 mod spec;

@@ -8,10 +8,10 @@ ghost use Rattle.bag_writer.specs.Writing.{IsAccepted, IsDone, IsMetLater, IsOfD
 ghost use Rattle.bag_writer.specs.declared.write_fault.WriteFault.{WriteFault};
 
 use crate::accepting::accepted_holes;
-use crate::beside::write_payload;
 use crate::items::BUFFER;
 use crate::measuring::large_if_empty;
 use crate::open_sink::{CopiedTree, OpenSink};
+use crate::payload::write_payload;
 use crate::spec::Spec;
 use crate::tags::write_tag_files;
 use crate::write_fault::WriteFault;

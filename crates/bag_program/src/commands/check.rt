@@ -6,9 +6,9 @@ ghost use Rattle.bag_program.specs.Endings.{why_too_many, why_unchecked};
 
 use super::no_result_for_folder;
 use crate::explanation::{Ended, Why};
-use crate::limit::Limit;
 use crate::meter::{Activity, Meter};
 use crate::system::System;
+use crate::told_limit::Limit;
 use crate::watched::Watched;
 use bag_commands::{Output, print_outcome};
 use bag_folder::{Directories, FolderTree};

@@ -9,9 +9,9 @@ ghost use Rattle.bag_program.specs.Working.{AreOpened, SomeIsRefused, TakesInFro
 
 use super::no_result_for_folder;
 use crate::explanation::{Ended, Why};
-use crate::limit::{FolderName, Limit};
 use crate::meter::{Activity, Meter};
 use crate::system::System;
+use crate::told_limit::{FolderName, Limit};
 use crate::watched::Watched;
 use bag_commands::{Output, intake_to};
 use bag_folder::{Directories, FolderTree, OpenFault, TreeCourier};
@@ -38,8 +38,8 @@ pub fn intake_folders<K: Keeper, R: Files + Eprint, D: Directories, W: Write + D
     let alloc = system.alloc;
     let meter = Meter::new(system.progress, Activity::TakingIn);
     match open_all(system.rt, &meter, system.disk, alloc, folders) {
-        Ok(mut opened) => Ended {
-            status: intake_to(alloc, receiver, name, opened.couriers.as_mut_slice(), out),
+        Ok(opened) => Ended {
+            status: intake_to(alloc, receiver, name, opened.couriers, out),
             why: why_undelivered(opened.crowded, opened.empty),
         },
         Err(fault) => no_result_for_folder(fault, out),

@@ -17,7 +17,7 @@ use crate::ledger::{Ledgers, Opened};
 use crate::meter::{Activity, Meter};
 use crate::request::Work;
 use crate::system::System;
-use crate::unopened::Unopened;
+use crate::unopened_ledger::Unopened;
 use crate::watched::Watched;
 use bag_commands::status::FAILED;
 use bag_commands::{NoResult, Output, TextSpelling, audit_to, list_to, report_to};

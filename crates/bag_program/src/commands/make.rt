@@ -5,9 +5,9 @@ ghost use Rattle.bag_program.specs.Making.{MakesFolder, MakesInto, PrintsMake, m
 
 use super::no_result_for_folder;
 use crate::explanation::{Ended, Why};
-use crate::limit::Limit;
 use crate::meter::{Activity, Meter};
 use crate::system::System;
+use crate::told_limit::Limit;
 use crate::watched::Watched;
 use bag_commands::status::DONE;
 use bag_commands::{MakeEnd, Output, make_to};

@@ -21,9 +21,9 @@ returns-then-n-len-clause-advanced g c = λ set start under.
     let old = c.args.stream.now in
     let same : length c.fill.new.buffer ≡ length old.piece.items = search rules in
     advance_ended s.remaining s.failures s.ready s.keeps start old _ c.fill.new.buffer (g.met.S.Source.keeps_on start.source old.source c.fill.new.reader) under c.requires.stream.1
-    (refilled old.piece.len old.piece.items c.fill.new.buffer old.piece.ok.0 same) (same ∙ c.requires.stream.0) c.end_lane-digests.new.multi c.in_ok-n.n c.end_lane-digests.result c.in_ok-n.ensures.piece
+    (refilled old.piece.len old.piece.items c.fill.new.buffer old.piece.ok.0 same) (same ∙ c.requires.stream.0) c.finish-digests.new.self c.in_ok-n.n c.finish-digests.result c.in_ok-n.ensures.piece
     (c.in_ok-n.ensures.short (omega (arith, c.if-n-len.true, same))) refl
-    (λ octets holds. subst (λ xs. AreDigests c.end_lane-digests.result set (octets ++ take c.in_ok-n.n xs)) (c.deref.ensures.value ∙ refilled old.piece.len old.piece.items c.fill.new.buffer old.piece.ok.0 same) (c.end_lane-digests.ensures.digests set octets holds))
+    (λ octets holds. subst (λ xs. AreDigests c.finish-digests.result set (octets ++ take c.in_ok-n.n xs)) (c.deref.ensures.value ∙ refilled old.piece.len old.piece.items c.fill.new.buffer old.piece.ok.0 same) (c.finish-digests.ensures.digests set octets holds))
     (uses_ok s.failures s.ready s.keeps old.source c.fill.new.reader c.in_ok-n.n c.in_ok-n.ensures.uses)
 
 pub returns-else-n-len-clause-advanced : goal.returns-else-n-len-clause-advanced

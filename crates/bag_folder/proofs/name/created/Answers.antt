@@ -1,6 +1,6 @@
 use Rattle.std.proofs.Common.{◌≡◌, Option, rules}
 use Rattle.std.specs.declared.io.Error.{Error}
-use Rattle.bag_folder.specs.declared.unfit.Cause.{Cause}
+use Rattle.bag_folder.specs.declared.cause.Cause.{Cause}
 use Rattle.bag_folder.specs.Directories.{name_below}
 use Rattle.bag_folder.proofs.NameLemmas.{file_done_at}
 use Rattle.bag_folder.proofs.name.created.Goals as goal

@@ -4,7 +4,7 @@ use Rattle.sqlite.specs.Effect.{Database}
 use Rattle.sqlite.specs.State.{HasCleanDisk}
 use Rattle.sqlite.specs.Tree.{Trees}
 use Rattle.sqlite_wal.specs.Files.{image_at}
-use Rattle.bag_sqlite.specs.Databases.{IsLedgerDatabase}
+use Rattle.bag_sqlite.specs.LedgersInTables.{IsLedgerDatabase}
 use Rattle.bag_sqlite.specs.Tables.{schema_of}
 use Rattle.bag_sqlite.proofs.OneDatabase.{listed_schema}
 use Rattle.bag_program.proofs.FileLemmas.{has_tables, opened_on}

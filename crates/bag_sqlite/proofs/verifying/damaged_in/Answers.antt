@@ -9,13 +9,13 @@ use Rattle.bag_sqlite.proofs.verifying.damaged_in.Goals.{then-is_full+in_ok-firs
 
 pub loop-at-preserved : goal.loop-at-preserved
 loop-at-preserved g c = record {
-  reads = reads_then (reads_then c.loop-at.invariant.reads c.valid_beside-valid.ensures.reads) c.read_item.ensures.reads;
+  reads = reads_then (reads_then c.loop-at.invariant.reads c.valid_beside.ensures.reads) c.read_item.ensures.reads;
   so_far = λ clean db stands tags plan.
       let old = state g.S.Store c.args.connection.now in
       let mid = state g.S.Store c.loop-at.connection in
-      let late : HasCleanDisk (state g.S.Store c.valid_beside-valid.new.connection) = omega (arith, clean, c.read_item.ensures.reads.survives.clean) in
-      let early : HasCleanDisk mid = omega (arith, late, c.valid_beside-valid.ensures.reads.survives.clean) in
-      let still = stands_still old _ db ((reads_then c.loop-at.invariant.reads c.valid_beside-valid.ensures.reads).read late) stands in
+      let late : HasCleanDisk (state g.S.Store c.valid_beside.new.connection) = omega (arith, clean, c.read_item.ensures.reads.survives.clean) in
+      let early : HasCleanDisk mid = omega (arith, late, c.valid_beside.ensures.reads.survives.clean) in
+      let still = stands_still old _ db ((reads_then c.loop-at.invariant.reads c.valid_beside.ensures.reads).read late) stands in
       let so_far = c.loop-at.invariant.so_far early db stands tags plan in
       let tested : SoFar g.S.Store db c.args.format tags c.args.rows.now c.if-is_full.batch c.loop-at.at = elim c.if-is_full.branch [
         | then-is_full+in_ok-first+in_default w ↦ rw w.batch-is (none_left g.S.Store db c.args.format tags c.args.rows.now w.none-batch-then-is_full.result c.loop-at.at w.none-batch-then-is_full.ensures (so_far.passing (rw w.in_default.is at (w.in_ok-first.ensures so_far.covered))))
@@ -56,13 +56,22 @@ returns-in-Some-clause-refused g c clean db stands tags plan transfer told =
     let so_far = c.loop-at.invariant.so_far clean db stands tags plan in
     so_far.damaged _ (rw c.in-Some.is at (c.in_ok-first.ensures so_far.covered)) transfer told
 
+pub returns-in_err-valid-clause-refused : goal.returns-in_err-valid-clause-refused
+returns-in_err-valid-clause-refused g c clean db stands tags plan transfer told =
+    let old = state g.S.Store c.args.connection.now in
+    let mid = state g.S.Store c.loop-at.connection in
+    let early : HasCleanDisk mid = omega (arith, clean, c.valid_beside.ensures.reads.survives.clean) in
+    let still = stands_still old mid db (c.loop-at.invariant.reads.read early) stands in
+    let p = err_from_is_err_and c.from_residual-in_err-valid.result c.from_residual-in_err-valid.ensures.1 in
+    rw (p.1, p.2) (c.in_err-valid.ensures.valid clean db still)
+
 pub returns-in_err-finding-clause-refused : goal.returns-in_err-finding-clause-refused
 returns-in_err-finding-clause-refused g c clean db stands tags plan transfer told =
     let old = state g.S.Store c.args.connection.now in
     let mid = state g.S.Store c.loop-at.connection in
-    let late : HasCleanDisk (state g.S.Store c.valid_beside-valid.new.connection) = omega (arith, clean, c.read_item.ensures.reads.survives.clean) in
-    let early : HasCleanDisk mid = omega (arith, late, c.valid_beside-valid.ensures.reads.survives.clean) in
-    let still = stands_still old _ db ((reads_then c.loop-at.invariant.reads c.valid_beside-valid.ensures.reads).read late) stands in
+    let late : HasCleanDisk (state g.S.Store c.valid_beside.new.connection) = omega (arith, clean, c.read_item.ensures.reads.survives.clean) in
+    let early : HasCleanDisk mid = omega (arith, late, c.valid_beside.ensures.reads.survives.clean) in
+    let still = stands_still old _ db ((reads_then c.loop-at.invariant.reads c.valid_beside.ensures.reads).read late) stands in
     let p = err_from_is_err_and c.from_residual-in_err-finding.result c.from_residual-in_err-finding.ensures.1 in
     rw (p.1, p.2) (c.in_err-finding.ensures.found clean db still tags plan)
 
@@ -70,9 +79,9 @@ pub returns-in-Damaged-clause-refused : goal.returns-in-Damaged-clause-refused
 returns-in-Damaged-clause-refused g c clean db stands tags plan transfer told =
     let old = state g.S.Store c.args.connection.now in
     let mid = state g.S.Store c.loop-at.connection in
-    let late : HasCleanDisk (state g.S.Store c.valid_beside-valid.new.connection) = omega (arith, clean, c.read_item.ensures.reads.survives.clean) in
-    let early : HasCleanDisk mid = omega (arith, late, c.valid_beside-valid.ensures.reads.survives.clean) in
-    let still = stands_still old _ db ((reads_then c.loop-at.invariant.reads c.valid_beside-valid.ensures.reads).read late) stands in
+    let late : HasCleanDisk (state g.S.Store c.valid_beside.new.connection) = omega (arith, clean, c.read_item.ensures.reads.survives.clean) in
+    let early : HasCleanDisk mid = omega (arith, late, c.valid_beside.ensures.reads.survives.clean) in
+    let still = stands_still old _ db ((reads_then c.loop-at.invariant.reads c.valid_beside.ensures.reads).read late) stands in
     let so_far = c.loop-at.invariant.so_far early db stands tags plan in
     let tested : SoFar g.S.Store db c.args.format tags c.args.rows.now c.if-is_full.batch c.loop-at.at = elim c.if-is_full.branch [
       | then-is_full+in_ok-first+in_default w ↦ rw w.batch-is (none_left g.S.Store db c.args.format tags c.args.rows.now w.none-batch-then-is_full.result c.loop-at.at w.none-batch-then-is_full.ensures (so_far.passing (rw w.in_default.is at (w.in_ok-first.ensures so_far.covered))))
@@ -103,16 +112,16 @@ returns-clause-refused g c clean db stands tags plan transfer told =
 
 pub loop-at-preserved-then-valid-gt0 : goal.loop-at-preserved-then-valid-gt0
 loop-at-preserved-then-valid-gt0 g c = record {
-  reads = reads_then c.loop-at.invariant.reads c.valid_beside-valid.ensures.reads;
+  reads = reads_then c.loop-at.invariant.reads c.valid_beside.ensures.reads;
   so_far = λ clean db stands tags plan.
       let old = state g.S.Store c.args.connection.now in
       let mid = state g.S.Store c.loop-at.connection in
-      let early : HasCleanDisk mid = omega (arith, clean, c.valid_beside-valid.ensures.reads.survives.clean) in
+      let early : HasCleanDisk mid = omega (arith, clean, c.valid_beside.ensures.reads.survives.clean) in
       let still = stands_still old mid db (c.loop-at.invariant.reads.read early) stands in
       let so_far = c.loop-at.invariant.so_far early db stands tags plan in
       let tested : SoFar g.S.Store db c.args.format tags c.args.rows.now c.if-is_full.batch c.loop-at.at = elim c.if-is_full.branch [
         | then-is_full+in_ok-first+in_default w ↦ rw w.batch-is (none_left g.S.Store db c.args.format tags c.args.rows.now w.none-batch-then-is_full.result c.loop-at.at w.none-batch-then-is_full.ensures (so_far.passing (rw w.in_default.is at (w.in_ok-first.ensures so_far.covered))))
         | else-is_full+else-size w ↦ rw w.batch-is so_far
       ] in
-      so_far_on g.S.Store db c.args.format tags c.args.rows.now c.if-is_full.batch c.loop-at.at c.valid_beside-valid.result c.valid_beside-valid.ensures.inside (c.valid_beside-valid.ensures.valid clean db still tags plan) tested;
+      so_far_on g.S.Store db c.args.format tags c.args.rows.now c.if-is_full.batch c.loop-at.at c.in_ok-valid.valid c.in_ok-valid.ensures.inside (c.in_ok-valid.ensures.valid clean db still tags plan) tested;
 }

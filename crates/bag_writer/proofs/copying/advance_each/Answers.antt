@@ -7,7 +7,7 @@ use Rattle.bag_writer.proofs.copying.advance_each.Goals.{then-is_none+in-Ok, els
 
 pub returns-in-Err-clause-advanced : goal.returns-in-Err-clause-advanced
 returns-in-Err-clause-advanced g c = λ work set hashed.
-    let s = sides g.F.OpenFile.place g.F.Source.remaining g.F.Source.failures g.F.Source.ready g.G.SinkFile.place g.G.SinkFile.holds g.G.SinkFile.failures g.G.SinkFile.sure in
+    let s = sides g.F.OpenFile.place g.F.Source g.G.SinkFile in
     let k = c.loop-k.k in
     let xs = c.loop-k.copies in
     let low = c.loop-k.auto.k in
@@ -65,7 +65,7 @@ loop-k-init g c = record {
 
 pub loop-k-preserved : goal.loop-k-preserved
 loop-k-preserved g c =
-    let s = sides g.F.OpenFile.place g.F.Source.remaining g.F.Source.failures g.F.Source.ready g.G.SinkFile.place g.G.SinkFile.holds g.G.SinkFile.failures g.G.SinkFile.sure in
+    let s = sides g.F.OpenFile.place g.F.Source g.G.SinkFile in
     let k = c.loop-k.k in
     let xs = c.loop-k.copies in
     let low = c.loop-k.auto.k in

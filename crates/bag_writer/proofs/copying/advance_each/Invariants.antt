@@ -5,7 +5,7 @@ use Rattle.bag_writer.proofs.copying.advance_each.Given as goal
 
 abbrev pub invariant-loop-k : goal.invariant-loop-k
 invariant-loop-k g l =
-    let s = sides g.F.OpenFile.place g.F.Source.remaining g.F.Source.failures g.F.Source.ready g.G.SinkFile.place g.G.SinkFile.holds g.G.SinkFile.failures g.G.SinkFile.sure in
+    let s = sides g.F.OpenFile.place g.F.Source g.G.SinkFile in
     record {
       count : length l.copies ≡ length l.fn.copies;
       advanced : (work : Work) (set : AlgSet) → AreHashed s work l.fn.multi set l.hashed l.first l.first l.end l.fn.copies

@@ -52,7 +52,7 @@ pieces-preserved g c =
 
 pub returns-then-n-len-clause-copied : goal.returns-then-n-len-clause-copied
 returns-then-n-len-clause-copied g c = λ work copied.
-    let s = sides g.F.OpenFile.place g.F.Source.remaining g.F.Source.failures g.F.Source.ready g.G.SinkFile.place g.G.SinkFile.holds g.G.SinkFile.failures g.G.SinkFile.sure in
+    let s = sides g.F.OpenFile.place g.F.Source g.G.SinkFile in
     let so_far = c.pieces.invariant.copied work copied in
     let old = c.pieces.copy in
     let buffer = c.copy_piece.new.buffer in

@@ -8,12 +8,12 @@ use Rattle.bag_writer.proofs.copying.copy_beside.Goals as goal
 
 pub pieces-init : goal.pieces-init
 pieces-init g c =
-    let s = sides g.F.OpenFile.place g.F.Source.remaining g.F.Source.failures g.F.Source.ready g.G.SinkFile.place g.G.SinkFile.holds g.G.SinkFile.failures g.G.SinkFile.sure in
+    let s = sides g.F.OpenFile.place g.F.Source g.G.SinkFile in
     record {
       low = c.requires.low;
       high = omega arith;
       count = refl;
-      under = λ work fresh. (fresh_each s work c.begun-multi.result c.args.set c.args.first c.args.end c.args.copies.now c.requires.few fresh c.begun-multi.ensures, refl);
+      under = λ work fresh. (fresh_each s work c.new-multi.result c.args.set c.args.first c.args.end c.args.copies.now c.requires.few fresh c.new-multi.ensures, refl);
       full = c.requires.full;
       others = λ k out. refl;
       places = places_same g.F.OpenFile.place g.G.SinkFile.place _;
@@ -31,7 +31,7 @@ advance_each-requires-clause-few g c =
 
 pub pieces-preserved-in-Err : goal.pieces-preserved-in-Err
 pieces-preserved-in-Err g c =
-    let s = sides g.F.OpenFile.place g.F.Source.remaining g.F.Source.failures g.F.Source.ready g.G.SinkFile.place g.G.SinkFile.holds g.G.SinkFile.failures g.G.SinkFile.sure in
+    let s = sides g.F.OpenFile.place g.F.Source g.G.SinkFile in
     let inv = c.pieces.invariant in
     let inside = c.in-Err.ensures.inside.1 in
     let others = c.in-Err.ensures.rest.others in
@@ -50,7 +50,7 @@ pieces-preserved-in-Err g c =
 
 pub pieces-preserved : goal.pieces-preserved
 pieces-preserved g c =
-    let s = sides g.F.OpenFile.place g.F.Source.remaining g.F.Source.failures g.F.Source.ready g.G.SinkFile.place g.G.SinkFile.holds g.G.SinkFile.failures g.G.SinkFile.sure in
+    let s = sides g.F.OpenFile.place g.F.Source g.G.SinkFile in
     let inv = c.pieces.invariant in
     let after = c.in_default-advance_each.ensures in
     record {
@@ -67,7 +67,7 @@ pieces-preserved g c =
 
 pub returns-in_default-clause-copied : goal.returns-in_default-clause-copied
 returns-in_default-clause-copied g c = λ work fresh.
-    let s = sides g.F.OpenFile.place g.F.Source.remaining g.F.Source.failures g.F.Source.ready g.G.SinkFile.place g.G.SinkFile.holds g.G.SinkFile.failures g.G.SinkFile.sure in
+    let s = sides g.F.OpenFile.place g.F.Source g.G.SinkFile in
     let inv = c.pieces.invariant in
     let done = by_no_other c.next_open.result (AreDone c.pieces.copies c.args.first c.pieces.end) _ c.next_open.ensures c.in_default.not-Some in
     all_told s work c.args.set c.args.first c.pieces.end c.args.end c.pieces.copies c.pieces.told c.told_at.result c.told_at.ensures inv.low (inv.under work fresh).1
@@ -75,7 +75,7 @@ returns-in_default-clause-copied g c = λ work fresh.
 
 pub returns-clause-copied : goal.returns-clause-copied
 returns-clause-copied g c = λ work fresh.
-    let s = sides g.F.OpenFile.place g.F.Source.remaining g.F.Source.failures g.F.Source.ready g.G.SinkFile.place g.G.SinkFile.holds g.G.SinkFile.failures g.G.SinkFile.sure in
+    let s = sides g.F.OpenFile.place g.F.Source g.G.SinkFile in
     let inv = c.pieces.invariant in
     let past : LARGEST_FILE < c.pieces.hashed + FRONT = omega (arith, c.pieces-test.false) in
     let done = done_past s work c.pieces.multi c.args.set c.pieces.hashed c.args.first c.pieces.end c.pieces.copies past inv.full (inv.under work fresh).0 in

@@ -7,7 +7,7 @@ use Rattle.bag_writer.proofs.copying.copy_beside.Given as goal
 
 abbrev pub invariant-pieces : goal.invariant-pieces
 invariant-pieces g l =
-    let s = sides g.F.OpenFile.place g.F.Source.remaining g.F.Source.failures g.F.Source.ready g.G.SinkFile.place g.G.SinkFile.holds g.G.SinkFile.failures g.G.SinkFile.sure in
+    let s = sides g.F.OpenFile.place g.F.Source g.G.SinkFile in
     record {
       low : l.fn.first ≤ l.end;
       high : l.end ≤ l.fn.end;

@@ -16,7 +16,7 @@ fours-init g c = record {
 
 pub returns-in_default-clause-copied : goal.returns-in_default-clause-copied
 returns-in_default-clause-copied g c = λ work fresh.
-    let s = sides g.F.OpenFile.place g.F.Source.remaining g.F.Source.failures g.F.Source.ready g.G.SinkFile.place g.G.SinkFile.holds g.G.SinkFile.failures g.G.SinkFile.sure in
+    let s = sides g.F.OpenFile.place g.F.Source g.G.SinkFile in
     let inv = c.fours.invariant in
     let xs = c.fours.copies in
     let done = by_no_other c.next_open.result (AreDone xs c.fours.first (length xs)) _ c.next_open.ensures c.in_default.not-Some in
@@ -37,7 +37,7 @@ copy_few-requires g c =
 
 pub returns-in_err-copy_few-clause-copied : goal.returns-in_err-copy_few-clause-copied
 returns-in_err-copy_few-clause-copied g c = λ work fresh.
-    let s = sides g.F.OpenFile.place g.F.Source.remaining g.F.Source.failures g.F.Source.ready g.G.SinkFile.place g.G.SinkFile.holds g.G.SinkFile.failures g.G.SinkFile.sure in
+    let s = sides g.F.OpenFile.place g.F.Source g.G.SinkFile in
     let p = err_from_is_err_and c.from_residual.result c.from_residual.ensures.1 in
     let inv = c.fours.invariant in
     let is = c.in-Some.ensures in
@@ -53,7 +53,7 @@ returns-in_err-copy_few-clause-copied g c = λ work fresh.
 
 pub fours-preserved : goal.fours-preserved
 fours-preserved g c =
-    let s = sides g.F.OpenFile.place g.F.Source.remaining g.F.Source.failures g.F.Source.ready g.G.SinkFile.place g.G.SinkFile.holds g.G.SinkFile.failures g.G.SinkFile.sure in
+    let s = sides g.F.OpenFile.place g.F.Source g.G.SinkFile in
     let inv = c.fours.invariant in
     let is = c.in-Some.ensures in
     let xs = c.fours.copies in

@@ -4,7 +4,7 @@ use Rattle.bag_writer.proofs.copying.copy_each.Given as goal
 
 abbrev pub invariant-fours : goal.invariant-fours
 invariant-fours g l =
-    let s = sides g.F.OpenFile.place g.F.Source.remaining g.F.Source.failures g.F.Source.ready g.G.SinkFile.place g.G.SinkFile.holds g.G.SinkFile.failures g.G.SinkFile.sure in
+    let s = sides g.F.OpenFile.place g.F.Source g.G.SinkFile in
     record {
       inside : l.first ≤ length l.copies;
       count : length l.copies ≡ length l.fn.copies;

@@ -8,7 +8,7 @@ use Rattle.bag_writer.proofs.copying.copy_few.Goals as goal
 
 pub returns-in_default-clause-copied : goal.returns-in_default-clause-copied
 returns-in_default-clause-copied g c = λ work fresh.
-    let s = sides g.F.OpenFile.place g.F.Source.remaining g.F.Source.failures g.F.Source.ready g.G.SinkFile.place g.G.SinkFile.holds g.G.SinkFile.failures g.G.SinkFile.sure in
+    let s = sides g.F.OpenFile.place g.F.Source g.G.SinkFile in
     let done = by_no_other c.next_open.result (AreDone c.args.copies.now c.args.first c.args.end) _ c.next_open.ensures c.in_default.not-Some in
     fresh_done s work c.args.set c.args.first c.args.end c.args.end c.args.copies.now (omega arith) fresh done
 
@@ -17,7 +17,7 @@ returns-in_default-clause-rest g c = record { others = λ k out. refl; places = 
 
 pub returns-in-Ok-clause-copied : goal.returns-in-Ok-clause-copied
 returns-in-Ok-clause-copied g c = λ work fresh.
-    let s = sides g.F.OpenFile.place g.F.Source.remaining g.F.Source.failures g.F.Source.ready g.G.SinkFile.place g.G.SinkFile.holds g.G.SinkFile.failures g.G.SinkFile.sure in
+    let s = sides g.F.OpenFile.place g.F.Source g.G.SinkFile in
     let xs = c.args.copies.now in
     let next = c.in-Some.next in
     let is = c.in-Some.ensures in
@@ -31,7 +31,7 @@ returns-in-Ok-clause-copied g c = λ work fresh.
 
 pub returns-in-Err-clause-copied : goal.returns-in-Err-clause-copied
 returns-in-Err-clause-copied g c = λ work fresh.
-    let s = sides g.F.OpenFile.place g.F.Source.remaining g.F.Source.failures g.F.Source.ready g.G.SinkFile.place g.G.SinkFile.holds g.G.SinkFile.failures g.G.SinkFile.sure in
+    let s = sides g.F.OpenFile.place g.F.Source g.G.SinkFile in
     let xs = c.args.copies.now in
     let next = c.in-Some.next in
     let is = c.in-Some.ensures in

@@ -5,7 +5,7 @@ use Rattle.bag_folder.specs.Supplying.{IsNameTo}
 use Rattle.bag_folder.specs.Names.{Standing}
 use Rattle.bag_folder.specs.declared.directory.EntryKind.{EntryKind}
 use Rattle.bag_folder.specs.declared.directory.EntryKind.TheVariants.{File, Directory, Link, Special}
-use Rattle.bag_folder.specs.declared.unfit.Cause.TheVariants as why
+use Rattle.bag_folder.specs.declared.cause.Cause.TheVariants as why
 use Rattle.bag_folder.proofs.FaultLemmas.{OnSome-weaker, whole_name}
 use Rattle.bag_folder.proofs.WayLemmas.{MeetsIn, answers_as, answers_directory, answers_hidden, answers_lacking, answers_link, answers_shut_as, answers_special}
 use Rattle.bag_folder.proofs.supplier.FolderSupplier.seek.Goals as goal

@@ -1,7 +1,7 @@
 use Rattle.std.proofs.Common.{List, Option, ℕ, rules, subst}
 use Rattle.std.proofs.lemmas.Result.{IfErr-weaker}
 use Rattle.std.specs.Prelude.{OnSome, string_bytes}
-use Rattle.bag_folder.specs.declared.unfit.Cause.{Cause}
+use Rattle.bag_folder.specs.declared.cause.Cause.{Cause}
 use Rattle.bag_folder.specs.Supplying.{IsNameTo}
 use Rattle.bag_folder.specs.Unfits.{CountsTrouble}
 use Rattle.bag_folder.proofs.FaultLemmas.{OnSome-weaker, answers_told, told_by_name}

@@ -5,7 +5,7 @@ use Rattle.bag_rules.specs.Trees.{paths_in}
 use Rattle.bag_folder.specs.Directories.{name_below}
 use Rattle.std.specs.List.{slice_get}
 use Rattle.bag_folder.specs.Folders.{FolderShown, path_below}
-use Rattle.bag_folder.specs.declared.unfit.Cause.{Cause}
+use Rattle.bag_folder.specs.declared.cause.Cause.{Cause}
 use Rattle.bag_folder.proofs.FaultLemmas.{OnSome-weaker, told_by_name}
 use Rattle.bag_folder.proofs.Listings.{found_at, paths_seen}
 use Rattle.bag_folder.proofs.tree.FolderTreeTree.start.Goals as goal

@@ -8,7 +8,7 @@ pub returns-in-Ok : goal.returns-in-Ok
 returns-in-Ok g c =
     let opened = c.in-Ok.ensures.opened in
     let done = c.intake_to.ensures in
-    AllOpened opened.0 opened.1 (c.intake_to.new.couriers, done.0, taken_from _ _ _ _ _ _ _ (c.as_mut_slice.ensures.value ∙ opened.2) done.1, done.2)
+    AllOpened opened.0 opened.1 (done.1, done.0, taken_from _ _ _ _ _ _ _ opened.2 done.2, done.3)
     (c.why_undelivered.ensures ∙ ap₂ why_undelivered opened.3 opened.4)
 
 pub returns-in-Err : goal.returns-in-Err

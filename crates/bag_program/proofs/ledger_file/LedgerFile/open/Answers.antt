@@ -2,7 +2,7 @@ use Rattle.std.proofs.Common.{◌≡◌, ◌∙◌, ap, false, refl, subst, sym,
 use Rattle.std.proofs.lemmas.Result.{err_from_is_err_and}
 use Rattle.sqlite_wal.specs.Files.{image_at}
 use Rattle.bag_program.specs.LedgerFiles.{IsAsItWas, NoFile}
-use Rattle.bag_program.specs.declared.found.Seen.{Seen}
+use Rattle.bag_program.specs.declared.found_ledger.Seen.{Seen}
 use Rattle.bag_program.proofs.FileLemmas.{adopted, known_less, not_used}
 use Rattle.bag_program.proofs.ledger_file.LedgerFile.open.Goals as goal
 

@@ -3,7 +3,7 @@ use Rattle.std.proofs.lemmas.Result.{err_from_is_err_and}
 use Rattle.sqlite.specs.Held.{Held}
 use Rattle.sqlite_wal.specs.Files.{image_at}
 use Rattle.bag_program.specs.LedgerFiles.{HasTables, IsAsItWas, NoFile}
-use Rattle.bag_program.specs.declared.found.Seen.{Seen}
+use Rattle.bag_program.specs.declared.found_ledger.Seen.{Seen}
 use Rattle.bag_program.proofs.FileLemmas.{known_less, made_or_not, not_used, opened_or_not}
 use Rattle.bag_program.proofs.ledger_file.LedgerFile.open_or_make.Goals as goal
 

@@ -1,6 +1,0 @@
-use Rattle.std.proofs.Common.{◌∙◌, ◌++◌}
-use Rattle.bag_lanes.proofs.SameDigests.{sha256_is}
-use Rattle.bag_lanes.proofs.streams.Sha256Lanes.digest.Goals as goal
-
-pub returns : goal.returns
-returns c = λ octets held. c.digest_at.ensures octets (rw c.state.ensures held.value) held.count ∙ sha256_is (octets ++ c.args.rest.now)
