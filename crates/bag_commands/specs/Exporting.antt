@@ -11,7 +11,7 @@ use Rattle.bag_receiver.specs.Exports.{Exports}
 use Rattle.bag_receiver.specs.TransferNames.{IsTransferName}
 use Rattle.bag_receiver.specs.Receivers.{Does, IsInState}
 use Rattle.bag_receiver.specs.ReceiversInside.{Same}
-use Rattle.bag_receiver.specs.Receiving.{LedgerState}
+use Rattle.bag_receiver.specs.LedgerStates.{LedgerState}
 use Rattle.bag_writer.specs.Sinks.{IsEmptySink, Stored, UsesClosedSink}
 
 -- If the keeper is clean, there are three cases. Either a sink that was empty now holds the whole bag of the transfer

@@ -14,7 +14,7 @@ use Rattle.bag_receiver.specs.declared.report.ViewFault.TheVariants.{NoTransfer,
 use Rattle.bag_receiver.specs.TransferNames.{IsNamed, IsTransferName}
 use Rattle.bag_receiver.specs.Receivers.{Does, IsInState}
 use Rattle.bag_receiver.specs.ReceiversInside.{Same}
-use Rattle.bag_receiver.specs.Receiving.{LedgerState}
+use Rattle.bag_receiver.specs.LedgerStates.{LedgerState}
 use Rattle.bag_receiver.specs.Runs.{CountsEach, Runs}
 use Rattle.bag_receiver.specs.Suppliers.{AreReached, IsGotFrom, Round, Supply, deliveries_by, outcome_of, supplier_failures}
 

@@ -12,7 +12,7 @@ use Rattle.bag_ledger.specs.declared.keeper_faults.StoreFault.{StoreFault}
 use Rattle.bag_receiver.specs.declared.receiver.Receiver.{Receiver}
 use Rattle.bag_receiver.specs.Receivers.{Does, IsInState}
 use Rattle.bag_receiver.specs.ReceiversInside.{Same}
-use Rattle.bag_receiver.specs.Receiving.{LedgerState}
+use Rattle.bag_receiver.specs.LedgerStates.{LedgerState}
 
 -- If the keeper is clean, the answer is the names of the transfers. It is a failure of the store exactly if the keeper
 -- counted one. Nothing changes.

@@ -6,7 +6,7 @@ use Rattle.bag_ledger.specs.Ledgers.{Ledger, Transfer}
 use Rattle.bag_receiver.specs.declared.receiver.Receiver.{Receiver}
 use Rattle.bag_receiver.specs.TransferNames.{IsNamed}
 use Rattle.bag_receiver.specs.Receivers.{IsInState}
-use Rattle.bag_receiver.specs.Receiving.{LedgerState}
+use Rattle.bag_receiver.specs.LedgerStates.{LedgerState}
 use Rattle.bag_commands.specs.declared.status.TheConstants.{VALID}
 
 -- the transfer with this name has a valid bag

@@ -1,5 +1,5 @@
 //! `audit`: reports what is wrong with the bag of a transfer after reading again everything that is held of it.
-ghost use Rattle.bag_receiver.specs.Reporting.{IsReporting};
+ghost use Rattle.bag_receiver.specs.ViewAnswers.{IsReporting};
 ghost use Rattle.bag_commands.specs.Outputs.{PrintedBy};
 ghost use Rattle.bag_commands.specs.Viewing.{IsValidIfZero};
 ghost use Rattle.bag_commands.specs.ViewTexts.{view_lines, view_status};

@@ -2,7 +2,7 @@
 ghost use Rattle.std.specs.Prelude.{◌≡◌, [], OnErr, OnOk};
 ghost use Rattle.std.specs.Io.Buffered.{writer_buffer};
 ghost use Rattle.bag_digest.specs.Failures.{Rises};
-ghost use Rattle.bag_receiver.specs.Reporting.{IsReporting};
+ghost use Rattle.bag_receiver.specs.ViewAnswers.{IsReporting};
 ghost use Rattle.bag_commands.specs.Outputs.{Printed, PrintedBy, WroteLines};
 ghost use Rattle.bag_commands.specs.Viewing.{IsValidIfZero};
 ghost use Rattle.bag_commands.specs.ViewTexts.{view_fault_line, view_fault_status, view_lines, view_status};

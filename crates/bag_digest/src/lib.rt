@@ -3,12 +3,12 @@
 #![tactic(auto)]
 
 pub use algorithm::{Alg, AlgSet};
-pub use counted::Counted;
 pub use digest::Digest;
 pub use each::digest_each;
 pub use failures::Failures;
 pub use multi::{Digests, Multi};
 pub use multi_lanes::MultiLanes;
+pub use reader_source::ReaderSource;
 pub use reading::{
     PIECE, ReadFault, SourceFault, SourceRead, buffer_of, digest_reader, digest_through, fill,
     piece_buffer, read_or_digest, read_piece, read_to_end_within,
@@ -17,7 +17,6 @@ pub use source::{Failed, Source};
 pub use streams::{FRONT, Stream, StreamFault, digest_streams};
 
 mod algorithm;
-mod counted;
 mod digest;
 mod each;
 pub mod examples;
@@ -25,6 +24,7 @@ mod failures;
 pub mod laws;
 mod multi;
 mod multi_lanes;
+mod reader_source;
 mod reading;
 mod source;
 mod streams;

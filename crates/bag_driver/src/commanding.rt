@@ -58,7 +58,7 @@ pub fn command_on<K: Keeper + Drop, W: Write + Drop>(
         }
         "intake-to" => {
             let mut couriers = Vec::new(alloc);
-            match couriers.push(Items::new(load, Breaks::Counted(breaker))) {
+            match couriers.push(Items::new(load, Breaks::ReaderSource(breaker))) {
                 Ok(()) => intake_to(alloc, receiver, name, couriers, &mut told),
                 Err(_) => print_no_result(NoResult::Memory, &mut told),
             }

@@ -9,7 +9,7 @@ use crate::text::{
     AnswerText, FetchedText, UnbegunText, end_text, export_text, keep_text, view_text,
 };
 use bag_commands::{FaultLine, verdict_text};
-use bag_digest::Counted;
+use bag_digest::ReaderSource;
 use bag_ledger::Keeper;
 use bag_path::{BagPath, Spelling};
 use bag_receiver::{Answer, Begun, Receiver, ViewFault};
@@ -43,13 +43,13 @@ pub fn answer<K: Keeper + Drop, W: Write + Drop>(
     match event.word {
         "begin" => begin(alloc, receiver, &event, out),
         "deliver" => deliver(alloc, receiver, &event, out),
-        "read" => read(alloc, receiver, &event, Breaks::Counted(breaker), out),
+        "read" => read(alloc, receiver, &event, Breaks::ReaderSource(breaker), out),
         "break" => read(alloc, receiver, &event, Breaks::First, out),
         "run" => {
             let run = receiver.run(alloc, event.name.as_str(), event.files.as_slice());
             write_run(run.answers.as_slice(), end_text(run.ended), out)
         }
-        "bring" => bring(alloc, receiver, event, Breaks::Counted(breaker), out),
+        "bring" => bring(alloc, receiver, event, Breaks::ReaderSource(breaker), out),
         "bring-first" => bring(alloc, receiver, event, Breaks::First, out),
         "bring-end" => bring(alloc, receiver, event, Breaks::End, out),
         "report" => write_report(receiver.report(alloc, event.name.as_str()), out),
@@ -94,7 +94,7 @@ fn read<K: Keeper + Drop, W: Write + Drop>(
     out: &mut W,
 ) -> io::Result<()> {
     let (path, content) = event.file()?;
-    let mut reader = Counted::new(Reader::new(content, breaks));
+    let mut reader = ReaderSource::new(Reader::new(content, breaks));
     let given = receiver.deliver_from(alloc, event.name.as_str(), path, &mut reader);
     write!(out, "{}", AnswerText(given))
 }

@@ -7,7 +7,7 @@ use crate::listing::{NO_MEMORY, entries, manifest, metadata, write_text};
 use crate::planning::plan;
 use crate::reading::{feed, manifest_name, version_of, whole};
 use crate::shown::write_hex;
-use bag_digest::{Alg, AlgSet, Counted, Digest, Digests, ReadFault, digest_reader};
+use bag_digest::{Alg, AlgSet, Digest, Digests, ReadFault, ReaderSource, digest_reader};
 use bag_path::{BagPath, PathFault, escape, unescape};
 use bag_tags::write_declaration;
 use std::alloc::{AllocError, Global};
@@ -118,7 +118,7 @@ fn digest<W: Write + Drop>(
         set = set.with(alg);
         content = file.1.as_slice();
     }
-    let mut reader = Counted::new(Reader::new(content, Breaks::Counted(breaker)));
+    let mut reader = ReaderSource::new(Reader::new(content, Breaks::ReaderSource(breaker)));
     match digest_reader(alloc, &mut reader, set, limit) {
         Ok((length, digests)) => {
             write!(out, "{length}")?;

@@ -5,7 +5,7 @@ use Rattle.bag_ledger.specs.Ledgers.{Ledger}
 use Rattle.bag_ledger.specs.declared.keeper_faults.KeepFault.{KeepFault}
 use Rattle.bag_ledger.specs.declared.keeper_faults.KeepFault.TheVariants as keep
 use Rattle.bag_receiver.specs.Receivers.{IsKept}
-use Rattle.bag_receiver.specs.Receiving.{LedgerState}
+use Rattle.bag_receiver.specs.LedgerStates.{LedgerState}
 use Rattle.bag_rules.specs.Faults.{Has}
 use Rattle.bag_sqlite.specs.LedgersInTables.{IsDatabaseOf, IsLedgerDatabase}
 use Rattle.bag_sqlite.specs.Refusing.{IsNoAnswer, adopt_fault}

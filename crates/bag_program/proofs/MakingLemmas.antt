@@ -9,7 +9,7 @@ use Rattle.bag_receiver.specs.declared.begin.BeginFault.{BeginFault}
 use Rattle.bag_receiver.specs.declared.begin.Begun.{Begun}
 use Rattle.bag_receiver.specs.BeginningFrom.{Answered, AnswersTree, IsBeginning, NotRead, Unnamed}
 use Rattle.bag_receiver.specs.Receivers.{IsInState}
-use Rattle.bag_receiver.specs.Receiving.{LedgerState}
+use Rattle.bag_receiver.specs.LedgerStates.{LedgerState}
 use Rattle.bag_rules.specs.Trees.{Shown}
 use Rattle.bag_program.specs.declared.explanation.Ended.{Ended}
 use Rattle.bag_program.specs.declared.ledger.Ledgers.{Ghosts as Ledgers}

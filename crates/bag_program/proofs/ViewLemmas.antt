@@ -8,7 +8,7 @@ use Rattle.bag_commands.specs.Viewing.{HoldsValidBag}
 use Rattle.bag_folder.specs.Directories.{Listing}
 use Rattle.bag_receiver.specs.declared.receiver.Receiver.{Receiver}
 use Rattle.bag_receiver.specs.Receivers.{IsInState}
-use Rattle.bag_receiver.specs.Receiving.{LedgerState}
+use Rattle.bag_receiver.specs.LedgerStates.{LedgerState}
 use Rattle.bag_program.specs.declared.explanation.Ended.{Ended}
 use Rattle.bag_program.specs.declared.ledger.Ledgers.{Ghosts as Ledgers}
 use Rattle.bag_program.specs.declared.request.Work.{Work}

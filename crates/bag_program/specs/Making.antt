@@ -8,8 +8,8 @@ use Rattle.bag_commands.specs.declared.no_result.NoResult.TheVariants as no_resu
 use Rattle.bag_commands.specs.Making.{IsWriting, MakesOf}
 use Rattle.bag_commands.specs.Outputs.{Printed}
 use Rattle.bag_commands.specs.NoResultTexts.{no_result_text}
-use Rattle.bag_program.specs.declared.commands.make.Made.{Made}
-use Rattle.bag_program.specs.declared.commands.make.Making.{Making}
+use Rattle.bag_program.specs.declared.on_disk.make.Made.{Made}
+use Rattle.bag_program.specs.declared.on_disk.make.Making.{Making}
 use Rattle.bag_program.specs.declared.explanation.Ended.{Ended}
 use Rattle.bag_program.specs.declared.explanation.Why.TheVariants.{Unfit}
 use Rattle.bag_folder.specs.declared.open_fault.OpenFault.{OpenFault}

@@ -7,8 +7,8 @@ use Rattle.bag_receiver.specs.declared.receiver.Receiver.{Receiver}
 use Rattle.bag_receiver.specs.BeginningFrom.{BeginsFrom}
 use Rattle.bag_receiver.specs.Receivers.{Does, IsInState, IsKept}
 use Rattle.bag_receiver.specs.ReceiversInside.{Same}
-use Rattle.bag_receiver.specs.Receiving.{LedgerState}
-use Rattle.bag_receiver.specs.Reporting.{IsReporting}
+use Rattle.bag_receiver.specs.LedgerStates.{LedgerState}
+use Rattle.bag_receiver.specs.ViewAnswers.{IsReporting}
 use Rattle.bag_sqlite.specs.declared.adopting.AdoptFault.{AdoptFault}
 use Rattle.bag_sqlite.specs.declared.adopting.AdoptFault.TheVariants.{Damaged, Memory, NotALedger, Store}
 use Rattle.bag_commands.specs.declared.output.Output.{Output}

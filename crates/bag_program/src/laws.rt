@@ -4,7 +4,7 @@ ghost use Rattle.std.specs.Prelude.{◌↔◌, ◌≡◌, ◌⊎◌, ◌∷◌, 
 ghost use Rattle.bag_program.specs.LedgerFiles.{HoldsLedgerIn, IsAdoptedFrom, IsConnectedTo, IsMadeIn, IsNumbered, IsLeftBy, IsStopOf, IsUnmadeFile, IsUnopenedFile, MayBeLeft, Migrates};
 ghost use Rattle.bag_ledger.specs.Ledgers.{Ledger};
 ghost use Rattle.bag_receiver.specs.Receivers.{IsKept};
-ghost use Rattle.bag_receiver.specs.Receiving.{Happened, LedgerState, settled};
+ghost use Rattle.bag_receiver.specs.LedgerStates.{Happened, LedgerState, settled};
 ghost use Rattle.bag_receiver.specs.Stops.{Event, Stop};
 ghost use Rattle.bag_rules.specs.Faults.{Has};
 ghost use Rattle.bag_rules.specs.Files.{Files as OctetsByPath};

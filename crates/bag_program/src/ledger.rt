@@ -3,7 +3,7 @@ ghost use Rattle.std.specs.Prelude.{◌≡◌, ◌↔◌, [], ℕ, IfErr, List, 
 ghost use Rattle.bag_program.specs.LedgerFiles.{IsUnused, OpensOrMakes};
 ghost use Rattle.bag_ledger.specs.Ledgers.{Ledger};
 ghost use Rattle.bag_receiver.specs.Receivers.{IsKept};
-ghost use Rattle.bag_receiver.specs.Receiving.{settled};
+ghost use Rattle.bag_receiver.specs.LedgerStates.{settled};
 ghost use Rattle.bag_program.specs.declared.unopened_ledger.Unopened.{Unopened};
 ghost use Rattle.sqlite_wal.specs.Files.{image_at};
 

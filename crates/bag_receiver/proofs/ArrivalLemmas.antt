@@ -15,7 +15,7 @@ use Rattle.bag_receiver.proofs.StepLemmas.{run_offered, run_passes, steps_hold}
 use Rattle.bag_receiver.proofs.Words.{Answered, BringsAt, Delivery, Event, HasOneContent, nothing_held, OneContent, TransferState, Steps}
 use Rattle.bag_receiver.specs.Arrivals.{AreDelivered, AreDeliveredIn, AreWithin}
 use Rattle.bag_receiver.specs.Deliveries.{Offers}
-use Rattle.bag_receiver.specs.Receiving.{Happened, IsHeldIn, LedgerState}
+use Rattle.bag_receiver.specs.LedgerStates.{Happened, IsHeldIn, LedgerState}
 use Rattle.bag_receiver.specs.Stops.{OffersIn}
 
 module _ (spec : Spec) (payload : Files) (fits : IsPayloadFor spec payload) (within : AreWithin payload) where

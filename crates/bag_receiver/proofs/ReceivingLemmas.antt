@@ -1,6 +1,6 @@
 -- How deliveries to one transfer change it and the others.
 use Rattle.std.proofs.Common.{◌≡◌, ◌≢◌, ◌⊎◌, ℕ, List, [], ◌∷◌, ◌++◌, map, Option, Some, None, refl, sym, ap, subst, ◌∙◌, inl, inr}
-use Rattle.bag_receiver.specs.Receiving.{IsHeldIn, LeavesOthers, StepBy}
+use Rattle.bag_receiver.specs.LedgerStates.{IsHeldIn, LeavesOthers, StepBy}
 use Rattle.bag_receiver.proofs.NameLemmas.{name_or_not}
 use Rattle.bag_receiver.proofs.StepLemmas.{answered_held, doubt_stays, steps_joined}
 use Rattle.bag_receiver.proofs.Words.{Adds, Answer, Answered, AnswerStep, AreRising, BadPath, Content, Delivery, DeliverySteps, Digest, Event, Files, Happened, Has, HasTransfer, holding, IsDue, IsDueThere, IsFirstHeld, IsNamed, item_here, item_others, Keeper, keys_of, Ledger, LedgerState, Length, nothing_held, NotListed, NoTransfer, option_map, PassesIn, Reader, Receives, Refused, Repeated, settled, Steps, Stop, StopStep, Taken, TooLarge, TooLong, Transfer, transfer_of, TransferState, Unread, Whole, with_doubtful_file, with_doubtful_ledger, with_file}

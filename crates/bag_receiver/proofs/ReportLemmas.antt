@@ -12,7 +12,7 @@ use Rattle.bag_ledger.specs.Ledgers.{IsSound}
 use Rattle.bag_receiver.specs.declared.report.ViewFault.{ViewFault}
 use Rattle.bag_receiver.specs.declared.report.ViewFault.TheVariants.{Keeper, NoTransfer}
 use Rattle.bag_receiver.specs.Reports.{IsReportOf, Reports}
-use Rattle.bag_receiver.specs.Reporting.{IsReporting}
+use Rattle.bag_receiver.specs.ViewAnswers.{IsReporting}
 use Rattle.bag_receiver.proofs.HeldLemmas.{held_accepted}
 use Rattle.bag_receiver.proofs.PlaceLemmas.{of_plan}
 use Rattle.bag_receiver.proofs.ReceivingLemmas.{named_there}

@@ -50,7 +50,7 @@ pub use Rattle.bag_receiver.specs.TransferNames.{IsNamed, IsTransferName}
 pub use Rattle.bag_receiver.specs.PutAnswers.{deliver_fault}
 pub use Rattle.bag_receiver.specs.Receivers.{Does, IsInState, plans_in}
 pub use Rattle.bag_receiver.specs.ReceiversInside.{IsPlaceIn, IsPlanned, RefusesAny, Same}
-pub use Rattle.bag_receiver.specs.Receiving.{Adds, ArePlansIn, Brought, DeliveryStep, DeliverySteps, Happened, HasTransfer, IsAnswer, IsDueTo as IsDueThere, Judges, LedgerState, Receives, settled, with_doubtful_ledger}
+pub use Rattle.bag_receiver.specs.LedgerStates.{Adds, ArePlansIn, Brought, DeliveryStep, DeliverySteps, Happened, HasTransfer, IsAnswer, IsDueTo as IsDueThere, Judges, LedgerState, Receives, settled, with_doubtful_ledger}
 pub use Rattle.bag_receiver.specs.Runs.{CountsEach, Runs, with_answers}
 pub use Rattle.bag_receiver.specs.Stops.{Answered, AnswerStep, BringsAt, Cut, Event, Gains, nothing_held, OffersIn, Step, Steps, Stop, StopRun, StopStep, transfer_state, TransferState, with_doubtful_file, with_file}
 pub use Rattle.std.proofs.lemmas.Cmp.{nat_list_cmp_total, tied_itself}

@@ -19,7 +19,7 @@ use Rattle.bag_receiver.specs.declared.begin.Begun.TheVariants.{New, Again}
 use Rattle.bag_receiver.specs.declared.begin.BeginFault.{BeginFault}
 use Rattle.bag_receiver.specs.declared.begin.BeginFault.TheVariants.{BadName, TagPath, TagTooLarge, Outside, Rules, Clash, Differs, Keeper}
 use Rattle.bag_receiver.specs.TransferNames.{IsTransferName}
-use Rattle.bag_receiver.specs.Receiving.{Happened, HasTransfer, LeavesOthers, LedgerState, with_doubtful_ledger}
+use Rattle.bag_receiver.specs.LedgerStates.{Happened, HasTransfer, LeavesOthers, LedgerState, with_doubtful_ledger}
 use Rattle.bag_receiver.specs.Stops.{TransferState}
 
 -- THE FILES GIVEN, in any order: each path, as text, with its octets

@@ -7,7 +7,7 @@ use Rattle.bag_rules.specs.declared.plan.Plan.{Plan}
 use Rattle.bag_rules.specs.Faults.{Has}
 use Rattle.bag_ledger.specs.Ledgers.{Ledger}
 use Rattle.bag_receiver.specs.declared.receiver.Receiver.{Receiver}
-use Rattle.bag_receiver.specs.Receiving.{ArePlansIn, LedgerState}
+use Rattle.bag_receiver.specs.LedgerStates.{ArePlansIn, LedgerState}
 
 -- each name with its plan
 abbrev pub plans_in : BTreeMap (String Global) Plan → List (List ℕ × Plan)

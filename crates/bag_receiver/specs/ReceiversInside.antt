@@ -16,7 +16,7 @@ use Rattle.bag_receiver.specs.declared.deliver.Slot.{Slot}
 use Rattle.bag_receiver.specs.declared.receiver.Receiver.{Receiver}
 use Rattle.bag_receiver.specs.Deliveries.{Content, IsListedPath, delivery_of}
 use Rattle.bag_receiver.specs.TransferNames.{IsNamed, IsTransferName}
-use Rattle.bag_receiver.specs.Receiving.{DeliveryStep, LedgerState}
+use Rattle.bag_receiver.specs.LedgerStates.{DeliveryStep, LedgerState}
 use Rattle.bag_receiver.specs.Receivers.{IsInState}
 
 -- nothing changes

@@ -14,7 +14,7 @@ use Rattle.bag_receiver.specs.declared.run.End.TheVariants.{Done, TooMany, Couri
 use Rattle.bag_receiver.specs.declared.run.TheConstants.{MOST_DELIVERIES}
 use Rattle.bag_receiver.specs.Deliveries.{Delivery, Whole, delivery_of}
 use Rattle.bag_receiver.specs.Receivers.{Does}
-use Rattle.bag_receiver.specs.Receiving.{IsAnswer, Receives}
+use Rattle.bag_receiver.specs.LedgerStates.{IsAnswer, Receives}
 
 -- DELIVERIES IN SEQUENCE
 

@@ -11,7 +11,7 @@ ghost use Rattle.bag_writer.specs.WrittenBags.{IsWritten, tag_files};
 ghost use Rattle.bag_writer.specs.declared.spec.Spec.{Spec};
 ghost use Rattle.bag_receiver.specs.Arrivals.{AreDelivered, AreDeliveredIn, AreWithin};
 ghost use Rattle.bag_receiver.specs.Deliveries.{Delivery, HasOneContent, OneContent};
-ghost use Rattle.bag_receiver.specs.Receiving.{Happened, IsHeldIn, LedgerState};
+ghost use Rattle.bag_receiver.specs.LedgerStates.{Happened, IsHeldIn, LedgerState};
 ghost use Rattle.bag_receiver.specs.Reports.{IsReportOf};
 ghost use Rattle.bag_receiver.specs.Stops.{Answered, Event, OffersIn};
 

@@ -8,7 +8,7 @@ ghost use Rattle.bag_rules.specs.Wants.{IsWanted};
 ghost use Rattle.bag_ledger.specs.Ledgers.{Ledger, items_of};
 ghost use Rattle.bag_ledger.specs.declared.keeper_faults.KeepFault.TheVariants.{Store};
 ghost use Rattle.bag_receiver.specs.Holdings.{HasItem, IsPlanFor, ReadsKeeper, SomeAreWanted, SomePass};
-ghost use Rattle.bag_receiver.specs.Reporting.{IsReporting};
+ghost use Rattle.bag_receiver.specs.ViewAnswers.{IsReporting};
 
 use crate::held::next_piece;
 use crate::receiver::Receiver;

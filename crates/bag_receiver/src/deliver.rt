@@ -9,7 +9,7 @@ ghost use Rattle.bag_receiver.specs.declared.answer.Answer.TheVariants.{Refused}
 ghost use Rattle.bag_receiver.specs.declared.answer.DeliverFault.TheVariants.{Keeper as NotKept, NoTransfer, Reader};
 ghost use Rattle.bag_receiver.specs.Deliveries.{Content, IsAcceptance, Whole, delivery_of};
 ghost use Rattle.bag_receiver.specs.TransferNames.{IsTransferName};
-ghost use Rattle.bag_receiver.specs.Receiving.{Brought, DeliveryStep, IsAnswer, IsListedIn, Judges, LedgerState, Receives};
+ghost use Rattle.bag_receiver.specs.LedgerStates.{Brought, DeliveryStep, IsAnswer, IsListedIn, Judges, LedgerState, Receives};
 ghost use Rattle.bag_receiver.specs.Receivers.{Does, IsInState, plans_in};
 ghost use Rattle.bag_receiver.specs.ReceiversInside.{Finds, IsNoPlan, IsOfLists, IsPlaceIn, IsPlanned, RefusesText, Same, answer_of};
 

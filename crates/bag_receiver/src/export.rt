@@ -15,7 +15,7 @@ ghost use Rattle.bag_receiver.specs.Holdings.{HasItem, ReadsKeeper};
 ghost use Rattle.bag_receiver.specs.TransferNames.{IsTransferName};
 ghost use Rattle.bag_receiver.specs.Receivers.{Does, IsInState};
 ghost use Rattle.bag_receiver.specs.ReceiversInside.{Same};
-ghost use Rattle.bag_receiver.specs.Receiving.{LedgerState};
+ghost use Rattle.bag_receiver.specs.LedgerStates.{LedgerState};
 ghost use Rattle.bag_receiver.specs.declared.export.ExportFault.TheVariants.{Keeper as NotKept, NoTransfer, Sink as SinkFailed};
 
 use crate::held::next_piece;

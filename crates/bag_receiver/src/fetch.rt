@@ -13,7 +13,7 @@ ghost use Rattle.bag_receiver.specs.FetchingInside.{AreMarks, AreRequests, IsReq
 ghost use Rattle.bag_receiver.specs.TransferNames.{IsNamed, IsTransferName};
 ghost use Rattle.bag_receiver.specs.Receivers.{Does, IsInState};
 ghost use Rattle.bag_receiver.specs.ReceiversInside.{Same};
-ghost use Rattle.bag_receiver.specs.Receiving.{LedgerState};
+ghost use Rattle.bag_receiver.specs.LedgerStates.{LedgerState};
 ghost use Rattle.bag_receiver.specs.Runs.{CountsEach, Runs};
 ghost use Rattle.bag_receiver.specs.Suppliers.{AreReached, IsGotFrom, IsReply, Reply, Round, deliveries_by, delivery_by, outcome_of, supplier_failure, supplier_failures, told};
 

@@ -17,7 +17,7 @@ ghost use Rattle.bag_receiver.specs.declared.run.TheConstants.{MOST_DELIVERIES};
 ghost use Rattle.bag_receiver.specs.Deliveries.{Accepts, AcceptsPassing, AreAccepted, Content, Delivery, HasOneContent, IsAcceptance, IsAccepted, IsDue, IsFirstHeld, OneContent, PassesIn, Unread, Whole};
 ghost use Rattle.bag_receiver.specs.TransferNames.{IsNamed};
 ghost use Rattle.bag_receiver.specs.Receivers.{IsKept};
-ghost use Rattle.bag_receiver.specs.Receiving.{Happened, LeavesOthers, LedgerState, Receives, settled};
+ghost use Rattle.bag_receiver.specs.LedgerStates.{Happened, LeavesOthers, LedgerState, Receives, settled};
 ghost use Rattle.bag_receiver.specs.Stops.{AnswerStep, Answered, Cut, Event, OffersIn, Steps, Stop, StopRun, TransferState, transfer_state, with_file};
 
 use bag_ledger::{Keeper, MapKeeper};

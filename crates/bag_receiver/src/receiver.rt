@@ -8,7 +8,7 @@ ghost use Rattle.bag_digest.specs.Failures.{CountsIf};
 ghost use Rattle.bag_ledger.specs.declared.keeper_faults.StoreFault.{StoreFault};
 ghost use Rattle.bag_ledger.specs.declared.keeper_faults.KeepFault.TheVariants.{Store};
 ghost use Rattle.bag_receiver.specs.TransferNames.{IsTransferName};
-ghost use Rattle.bag_receiver.specs.Receiving.{LedgerState};
+ghost use Rattle.bag_receiver.specs.LedgerStates.{LedgerState};
 ghost use Rattle.bag_receiver.specs.Receivers.{Does, IsInState, IsKept, plans_in};
 ghost use Rattle.bag_receiver.specs.ReceiversInside.{IsPlanned, Same};
 

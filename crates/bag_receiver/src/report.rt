@@ -9,9 +9,9 @@ ghost use Rattle.bag_receiver.specs.Holdings.{IsPlanFor, ReadsKeeper};
 ghost use Rattle.bag_receiver.specs.TransferNames.{IsNamed, IsTransferName};
 ghost use Rattle.bag_receiver.specs.Receivers.{Does, IsInState};
 ghost use Rattle.bag_receiver.specs.ReceiversInside.{Same};
-ghost use Rattle.bag_receiver.specs.Receiving.{LedgerState};
+ghost use Rattle.bag_receiver.specs.LedgerStates.{LedgerState};
 ghost use Rattle.bag_receiver.specs.Reports.{Reports};
-ghost use Rattle.bag_receiver.specs.Reporting.{IsReporting};
+ghost use Rattle.bag_receiver.specs.ViewAnswers.{IsReporting};
 
 use crate::audit::passing_sizes;
 use crate::receiver::Receiver;

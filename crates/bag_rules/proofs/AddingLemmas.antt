@@ -1,15 +1,15 @@
 -- One file more is gathered.
 use Rattle.std.proofs.Common.{◌≡◌, ◌+◌, ◌≤◌, ◌<◌, ◌∷◌, [], ℕ, List, Option, Some, ap, arith, length, length-append, refl}
 use Rattle.bag_digest.specs.declared.streams.TheConstants.{FRONT}
-use Rattle.bag_rules.specs.declared.batch.Batch.{Batch}
-use Rattle.bag_rules.specs.declared.batch.FileSums.{FileSums}
-use Rattle.bag_rules.specs.declared.batch.FileSums.TheVariants.{Streamed, Taken, Unread, Waiting}
-use Rattle.bag_rules.specs.declared.gathering.FrontFault.{FrontFault}
-use Rattle.bag_rules.specs.declared.gathering.FrontFault.TheVariants.{Memory, Stopped}
-use Rattle.bag_rules.specs.declared.gathering.Gathered.{Gathered}
+use Rattle.bag_rules.specs.declared.file_batch.Batch.{Batch}
+use Rattle.bag_rules.specs.declared.file_batch.FileSums.{FileSums}
+use Rattle.bag_rules.specs.declared.file_batch.FileSums.TheVariants.{Streamed, Taken, Unread, Waiting}
+use Rattle.bag_rules.specs.declared.batch_reading.FrontFault.{FrontFault}
+use Rattle.bag_rules.specs.declared.batch_reading.FrontFault.TheVariants.{Memory, Stopped}
+use Rattle.bag_rules.specs.declared.batch_reading.Gathered.{Gathered}
 use Rattle.bag_rules.specs.declared.limits.TheConstants.{LARGEST_FILE}
-use Rattle.bag_rules.specs.BatchInside.{AddsSums, Holds, IsKnownOf, IsReadFor, IsReadingOf, StreamFact, next_of}
-use Rattle.bag_rules.specs.Gathering.{AddsFile, AddsNone, AreOpen, HasRest, HoldsFront, IfStopped, IsStreamOf}
+use Rattle.bag_rules.specs.FileBatchInside.{AddsSums, Holds, IsKnownOf, IsReadFor, IsReadingOf, StreamFact, next_of}
+use Rattle.bag_rules.specs.BatchReading.{AddsFile, AddsNone, AreOpen, HasRest, HoldsFront, IfStopped, IsStreamOf}
 use Rattle.bag_rules.proofs.BatchLemmas.{adds_grows, held_is, holds_grows}
 use Rattle.bag_rules.proofs.GatheringLemmas.{gathered_front, gathered_next, open_more, open_next, ready_more, ready_same}
 use Rattle.bag_rules.proofs.TreeLemmas.{octets_shown}

@@ -3,12 +3,12 @@ use Rattle.std.proofs.Common.{◌≡◌, ◌∙◌, ◌+◌, ◌-◌, ◌≤◌,
 use Rattle.std.specs.declared.alloc.Global.{Global}
 use Rattle.std.proofs.lemmas.Option.{slice_get_read}
 use Rattle.bag_digest.proofs.EachLemmas.{at_last}
-use Rattle.bag_rules.specs.declared.batch.Batch.{Batch}
-use Rattle.bag_rules.specs.declared.batch.FileSums.{FileSums}
-use Rattle.bag_rules.specs.declared.batch.FileSums.TheVariants.{Streamed, Taken, Unread, Waiting}
+use Rattle.bag_rules.specs.declared.file_batch.Batch.{Batch}
+use Rattle.bag_rules.specs.declared.file_batch.FileSums.{FileSums}
+use Rattle.bag_rules.specs.declared.file_batch.FileSums.TheVariants.{Streamed, Taken, Unread, Waiting}
 use Rattle.bag_rules.specs.declared.limits.TheConstants.{LARGEST_FILE}
 use Rattle.bag_digest.specs.Hash.{AreDigestsOfEach}
-use Rattle.bag_rules.specs.BatchInside.{AddsSums, AreAlgsOf, AreRead, AreReadings, AreSumsFor, Covers, CoversListed, HasSumsAt, Holds, IsMessageFor, IsReadingOf, StreamFact}
+use Rattle.bag_rules.specs.FileBatchInside.{AddsSums, AreAlgsOf, AreRead, AreReadings, AreSumsFor, Covers, CoversListed, HasSumsAt, Holds, IsMessageFor, IsReadingOf, StreamFact}
 use Rattle.bag_rules.proofs.FileReadLemmas.{push_at, push_before}
 use Rattle.bag_rules.proofs.HasLemmas.{stands}
 use Rattle.bag_rules.proofs.Words.{Alg, AlgSet, AreDigests, Digests, CheckFault, has, HasFileAt, IsLongRead, is_payload, IsReadBy, same_Some, Shown, slice_get_within, Requirements}

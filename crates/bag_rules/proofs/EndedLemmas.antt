@@ -11,13 +11,13 @@ use Rattle.bag_digest.specs.Hash.{AreDigests}
 use Rattle.bag_digest.specs.Reading.{IsCountAndDigests}
 use Rattle.bag_digest.specs.Streams.{HaveEnded, HaveEndedIn, IsFirstStopped}
 use Rattle.bag_digest.proofs.Progress.{all_known, more_known}
-use Rattle.bag_rules.specs.declared.gathering.Gathered.{Gathered}
+use Rattle.bag_rules.specs.declared.batch_reading.Gathered.{Gathered}
 use Rattle.bag_rules.specs.declared.limits.TheConstants.{LARGEST_FILE}
-use Rattle.bag_rules.specs.BatchInside.{AreRead, AreSumsFor, HasSumsAt, IsComplete, next_of}
-use Rattle.bag_rules.specs.Gathering.{AreGathered, AreOpen, AreReady, AreSumsIn, AreWithin, HaveSums, IsReadAt, IsStreamOf}
+use Rattle.bag_rules.specs.FileBatchInside.{AreRead, AreSumsFor, HasSumsAt, IsComplete, next_of}
+use Rattle.bag_rules.specs.BatchReading.{AreGathered, AreOpen, AreReady, AreSumsIn, AreWithin, HaveSums, IsReadAt, IsStreamOf}
 use Rattle.bag_rules.specs.OpenTrees.{IsTooLarge}
 use Rattle.bag_rules.specs.Returning.{AreUnfailed, HasStoppedFirst, IsStopped, IsToldOf}
-use Rattle.bag_rules.specs.declared.batch.Batch.{Batch}
+use Rattle.bag_rules.specs.declared.file_batch.Batch.{Batch}
 use Rattle.bag_rules.proofs.BatchLemmas.{readings_same}
 use Rattle.bag_rules.proofs.HasLemmas.{stands}
 use Rattle.bag_rules.proofs.KeptLemmas.{gave_more}

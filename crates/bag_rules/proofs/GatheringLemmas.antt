@@ -8,12 +8,12 @@ use Rattle.bag_digest.specs.declared.streams.TheConstants.{FRONT}
 use Rattle.bag_digest.specs.Reading.{GavePiece}
 use Rattle.bag_digest.proofs.Filling.{filled_whole}
 use Rattle.bag_digest.proofs.Progress.{all_known}
-use Rattle.bag_rules.specs.declared.batch.FileSums.{FileSums}
-use Rattle.bag_rules.specs.declared.batch.FileSums.TheVariants.{Streamed}
-use Rattle.bag_rules.specs.declared.gathering.Gathered.{Gathered}
+use Rattle.bag_rules.specs.declared.file_batch.FileSums.{FileSums}
+use Rattle.bag_rules.specs.declared.file_batch.FileSums.TheVariants.{Streamed}
+use Rattle.bag_rules.specs.declared.batch_reading.Gathered.{Gathered}
 use Rattle.bag_rules.specs.declared.limits.TheConstants.{LARGEST_FILE}
-use Rattle.bag_rules.specs.BatchInside.{IsReadFor, IsReadingOf, next_of}
-use Rattle.bag_rules.specs.Gathering.{AreGathered, AreOpen, AreReady, AreWithin, HasRest, HoldsFront, IsFront, IsOut, IsStreamOf}
+use Rattle.bag_rules.specs.FileBatchInside.{IsReadFor, IsReadingOf, next_of}
+use Rattle.bag_rules.specs.BatchReading.{AreGathered, AreOpen, AreReady, AreWithin, HasRest, HoldsFront, IsFront, IsOut, IsStreamOf}
 use Rattle.bag_rules.proofs.BatchLemmas.{Grows, adds_grows, or_left, or_right, readings_more}
 use Rattle.bag_rules.proofs.FileReadLemmas.{push_at, push_before}
 use Rattle.bag_rules.proofs.HasLemmas.{stands}

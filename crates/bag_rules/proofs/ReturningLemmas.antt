@@ -5,9 +5,9 @@ use Rattle.std.proofs.lemmas.List.{length-take-le, take-append-le, take_all}
 use Rattle.bag_digest.specs.declared.reading.SourceFault.{SourceFault}
 use Rattle.bag_digest.specs.declared.reading.SourceFault.TheVariants.{Read, TooLarge}
 use Rattle.bag_digest.specs.Failures.{IsRaised}
-use Rattle.bag_rules.specs.declared.gathering.FrontFault.{FrontFault}
-use Rattle.bag_rules.specs.declared.gathering.FrontFault.TheVariants.{Memory}
-use Rattle.bag_rules.specs.Gathering.{files_with}
+use Rattle.bag_rules.specs.declared.batch_reading.FrontFault.{FrontFault}
+use Rattle.bag_rules.specs.declared.batch_reading.FrontFault.TheVariants.{Memory}
+use Rattle.bag_rules.specs.BatchReading.{files_with}
 use Rattle.bag_rules.specs.OpenTrees.{IsBehind}
 use Rattle.bag_rules.specs.Returning.{AreOut, IsStopped, LeavesOut, TakesAllBack}
 use Rattle.bag_rules.proofs.FileReadLemmas.{push_at, push_before}

@@ -15,8 +15,8 @@ ghost use Rattle.bag_rules.specs.declared.outcome.CheckFault.{CheckFault};
 ghost use Rattle.bag_rules.specs.declared.outcome.Outcome.TheVariants.{Judged};
 ghost use Rattle.bag_rules.specs.declared.profile.Profile.TheVariants.{Known};
 
-use crate::batch::BUFFER;
 use crate::fault::Fault;
+use crate::file_batch::BUFFER;
 use crate::file_faults::add_file_faults;
 use crate::form_faults::add_form_faults;
 use crate::kept::Kept;

@@ -4,7 +4,7 @@ ghost use Rattle.bag_digest.specs.Algorithm.{has};
 ghost use Rattle.bag_digest.specs.declared.algorithm.Alg.{Alg};
 ghost use Rattle.bag_digest.specs.declared.algorithm.AlgSet.{AlgSet};
 ghost use Rattle.bag_rules.specs.Bags.{Bag, IsBagOf, version_of};
-ghost use Rattle.bag_rules.specs.BatchInside.{AreRead, Covers};
+ghost use Rattle.bag_rules.specs.FileBatchInside.{AreRead, Covers};
 ghost use Rattle.bag_rules.specs.Faults.{kinds_of_files};
 ghost use Rattle.bag_rules.specs.HasFault.{HasFaultOf};
 ghost use Rattle.bag_rules.specs.FilesInside.{IsFaultBy, IsFaultIn, IsFileFault, IsFileUnlisted, IsLongRead, IsOtherDigest, IsOtherLength, IsSizeOf, OfSome, payload_length};
@@ -16,8 +16,8 @@ ghost use Rattle.bag_rules.specs.Wants.{lists_by};
 ghost use Rattle.bag_rules.specs.WantsInside.{GivesPayload};
 ghost use Rattle.bag_rules.specs.declared.outcome.CheckFault.{CheckFault};
 
-use crate::batch::{BUFFER, Batch, batch_at};
 use crate::fault::Fault;
+use crate::file_batch::{BUFFER, Batch, batch_at};
 use crate::kept::Kept;
 use crate::listing_faults::{add_fetch_unlisted, add_missing};
 use crate::open_tree::OpenTree;

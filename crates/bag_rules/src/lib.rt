@@ -15,15 +15,15 @@ pub use tag_set::{TagSet, TagSetFault};
 pub use tree::{Paths, Tree, find};
 pub use want::{GivenLength, Want, WantFault};
 
-mod batch;
+mod batch_reading;
 mod checking;
 mod clash;
 pub mod examples;
 mod fault;
 mod file;
+mod file_batch;
 mod file_faults;
 mod form_faults;
-mod gathering;
 mod kept;
 pub mod laws;
 pub mod limits;

@@ -41,7 +41,7 @@ pub use Rattle.bag_rules.specs.declared.plan.Plan.{Plan}
 pub use Rattle.bag_rules.specs.declared.want.Want.{Want}
 pub use Rattle.bag_rules.specs.declared.want.WantFault.{WantFault}
 pub use Rattle.bag_sqlite.specs.Adopting.{body_text, count_text, file_in, files_in, format_text, HasContent, HasFormat, HasPieces, IsRead, IsVerified, IsVerifiedAs, ItemPasses, items_text, OnlyReads, piece_text, RowPasses, Stands, stray_item_texts, stray_texts, tag_files_text, Tells, TellsOne, TransferPasses, transfers_text}
-pub use Rattle.bag_sqlite.specs.Batches.{AreCovered, AreWanted, Covers, HasMisfit, HasOneMore, IsEmpty, IsFindingOf, IsHeld, TakesAlso, Took}
+pub use Rattle.bag_sqlite.specs.ShortItems.{AreCovered, AreWanted, Covers, HasMisfit, HasOneMore, IsEmpty, IsFindingOf, IsHeld, TakesAlso, Took}
 pub use Rattle.bag_sqlite.specs.Contents.{HasContentMore, HasRead, in_pieces}
 pub use Rattle.bag_sqlite.specs.LedgersInTables.{AreApart, AreCut, AreMoved, AreTablesOf, format_row, HaveHeldRows, held_rows, HoldTransfers, IsDatabaseOf, IsInOrder, IsLedgerDatabase, item_rows, items_in, ListLedger, NamesFormat, NumberedItem, NumberedTransfer, piece_rows, size_of, tag_rows, transfer_row, without_number, without_rowids}
 pub use Rattle.bag_sqlite.specs.Items.{HasItem, HasItemRow, HasPieceRow}
@@ -56,7 +56,7 @@ pub use Rattle.bag_sqlite.specs.Tables.{First, first_schema, format_of, held, he
 pub use Rattle.bag_sqlite.specs.Transactions.{CommitsNothing, CommitsNothingWithin}
 pub use Rattle.bag_sqlite.specs.declared.adopting.AdoptFault.{AdoptFault}
 pub use Rattle.bag_sqlite.specs.declared.adopting.AdoptFault.TheVariants.{Damaged, NotALedger}
-pub use Rattle.bag_sqlite.specs.declared.batch.Batch.{Batch}
+pub use Rattle.bag_sqlite.specs.declared.short_items.Batch.{Batch}
 pub use Rattle.bag_sqlite.specs.declared.content.Content.{Content}
 pub use Rattle.bag_sqlite.specs.declared.format.Format.{Format}
 pub use Rattle.bag_sqlite.specs.declared.health.Health.{Health}

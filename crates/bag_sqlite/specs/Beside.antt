@@ -14,7 +14,7 @@ use Rattle.sqlite.specs.Order.{Row, column}
 use Rattle.sqlite.specs.Store.{Ghosts}
 use Rattle.sqlite.specs.declared.types.Value.TheVariants.{Blob, Int, Text}
 use Rattle.bag_sqlite.specs.Adopting.{ItemPasses, RowPasses, TellsOne, piece_text}
-use Rattle.bag_sqlite.specs.Batches.{Covers}
+use Rattle.bag_sqlite.specs.ShortItems.{Covers}
 use Rattle.bag_sqlite.specs.Refusing.{AreFull, ArePieces}
 use Rattle.bag_sqlite.specs.declared.long_item.LongItem.{LongItem}
 use Rattle.bag_sqlite.specs.declared.format.Format.{Format}

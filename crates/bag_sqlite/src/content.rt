@@ -14,7 +14,7 @@ pub(crate) enum Content {
 }
 
 impl Content {
-    ghost use Rattle.bag_sqlite.specs.Batches.{IsHeld, Took, TakesAlso};
+    ghost use Rattle.bag_sqlite.specs.ShortItems.{IsHeld, Took, TakesAlso};
 
     /// Nothing yet of a payload file of this size, which is to be hashed by the algorithms of the set.
     pub(crate) fn none(alloc: Global, size: u64, set: AlgSet) -> Content

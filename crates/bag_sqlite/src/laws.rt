@@ -3,7 +3,7 @@
 ghost use Rattle.std.specs.Prelude.{◌≡◌, ◌≤◌, ◌*◌, ◌↔◌, IsTrue};
 ghost use Rattle.bag_digest.specs.declared.reading.TheConstants.{PIECE};
 ghost use Rattle.bag_ledger.specs.Ledgers.{Ledger};
-ghost use Rattle.bag_sqlite.specs.declared.batch.TheConstants.{MOST_FILES};
+ghost use Rattle.bag_sqlite.specs.declared.short_items.TheConstants.{MOST_FILES};
 ghost use Rattle.bag_sqlite.specs.LedgersInTables.{AreTablesOf, IsLedgerDatabase};
 ghost use Rattle.bag_sqlite.specs.Migrating.{MigratesLedger};
 ghost use Rattle.bag_sqlite.specs.SqlKeepers.{HoldsLedger, MayLeaveLedger, Offers};

@@ -2,7 +2,6 @@
 #![tactic(auto)]
 
 mod adopting;
-mod batch;
 mod beginning;
 mod content;
 mod format;
@@ -17,6 +16,7 @@ mod octets;
 mod putting;
 mod queries;
 mod rows;
+mod short_items;
 mod transfers;
 mod verifying;
 mod verifying_beside;

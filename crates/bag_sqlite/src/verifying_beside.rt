@@ -12,7 +12,7 @@ ghost use Rattle.bag_rules.specs.Files.{Files};
 ghost use Rattle.bag_rules.specs.Plans.{IsPlanOf, IsWantOf};
 ghost use Rattle.bag_rules.specs.declared.limits.TheConstants.{LARGEST_ITEM as LARGEST};
 ghost use Rattle.bag_sqlite.specs.Adopting.{OnlyReads, Stands, TellsOne, piece_text};
-ghost use Rattle.bag_sqlite.specs.Batches.{Covers};
+ghost use Rattle.bag_sqlite.specs.ShortItems.{Covers};
 ghost use Rattle.bag_sqlite.specs.Beside.{AreCoveredBy, AreDone, AreHashed, AreItemsOf, AreListed, ArePassing, AreRead, AreValid, GoesOn, HaveFullPieces, HaveTaken, HoldsPieces, IsFirstOpen, IsPiece, IsRead, IsValid};
 ghost use Rattle.bag_sqlite.specs.Refusing.{IsNoLedger, IsNoneFor};
 ghost use Rattle.bag_sqlite.specs.declared.long_item.LongItem.{LongItem};
@@ -152,7 +152,7 @@ impl Front {
     }
 }
 
-/// The same, by the algorithms of this set, side by side.
+/// How many of these payload files, from the first on, are valid, all of them read side by side by the algorithms of this set.
 fn count_in_lanes<S: Alter, W: Watch>(
     alloc: Global,
     connection: &mut Connection<S>,

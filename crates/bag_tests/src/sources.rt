@@ -2,7 +2,7 @@
 ghost use Rattle.std.specs.Prelude.{◌≡◌, IfOk, None, true, vec_len};
 
 use bag_digest::{
-    Alg, AlgSet, Counted, Digest, Failed, ReadFault, Source, SourceFault, SourceRead,
+    Alg, AlgSet, Digest, Failed, ReadFault, ReaderSource, Source, SourceFault, SourceRead,
     digest_reader, digest_through, read_or_digest, read_to_end_within,
 };
 use std::alloc::{AllocError, Global};
@@ -74,18 +74,18 @@ fn md5() -> AlgSet {
 #[test]
 fn a_source_is_whole_in_the_buffer_or_hashed(rt: HostRuntime) {
     let mut buffer = [0; 4];
-    let mut fits = Counted::new(b"abc".as_slice());
+    let mut fits = ReaderSource::new(b"abc".as_slice());
     let found = read_or_digest(&mut buffer, &mut fits, md5(), 4);
     assert_eq!(rt; found, Ok(SourceRead::Whole(3)));
     assert_eq!(rt; &buffer[..3], b"abc".as_slice());
     // RFC 1321, A.5.
     let of_abc = Digest::from_hex(Alg::Md5, b"900150983cd24fb0d6963f7d28e17f72");
-    let mut fills = Counted::new(b"abc".as_slice());
+    let mut fills = ReaderSource::new(b"abc".as_slice());
     match read_or_digest(&mut buffer[..3], &mut fills, md5(), 4) {
         Ok(SourceRead::Hashed(3, digests)) => assert_eq!(rt; digests.get(Alg::Md5), of_abc),
         _ => assert!(rt; false),
     }
-    let mut past = Counted::new(b"abcd".as_slice());
+    let mut past = ReaderSource::new(b"abcd".as_slice());
     let found = read_or_digest(&mut buffer[..2], &mut past, md5(), 3);
     assert_eq!(rt; found, Err(SourceFault::TooLarge));
 }
@@ -93,12 +93,12 @@ fn a_source_is_whole_in_the_buffer_or_hashed(rt: HostRuntime) {
 #[test]
 fn one_octet_past_the_limit_is_taken_and_none_after(rt: HostRuntime) -> Result<(), Fail> {
     let mut buffer = [0; 16];
-    let mut reader = Counted::new(b"abcdef".as_slice());
+    let mut reader = ReaderSource::new(b"abcdef".as_slice());
     let past = digest_through(&mut buffer, &mut reader, md5(), 2);
     assert_eq!(rt; past, Err(SourceFault::TooLarge));
     let rest = read_to_end_within(rt.alloc(), &mut buffer, &mut reader, 3)?;
     assert_eq!(rt; rest.as_slice(), b"def".as_slice());
-    let mut other = Counted::new(b"abcdef".as_slice());
+    let mut other = ReaderSource::new(b"abcdef".as_slice());
     let past = read_to_end_within(rt.alloc(), &mut buffer, &mut other, 4);
     assert!(rt; matches!(past, Err(ReadFault::TooLarge)));
     assert_eq!(rt; other.read(&mut buffer), Ok(1));
@@ -108,7 +108,7 @@ fn one_octet_past_the_limit_is_taken_and_none_after(rt: HostRuntime) -> Result<(
 #[test]
 fn a_reader_that_fails_in_mid_stream(rt: HostRuntime) {
     let mut buffer = [0; 16];
-    let mut reader = Counted::new(Breaking { left: 5 });
+    let mut reader = ReaderSource::new(Breaking { left: 5 });
     let fault = digest_through(&mut buffer, &mut reader, md5(), 100);
     assert_eq!(rt; fault, Err(SourceFault::Read));
     assert_eq!(rt; reader.failures(), 1);
@@ -119,7 +119,7 @@ fn a_reader_that_fails_in_mid_stream(rt: HostRuntime) {
     assert_eq!(rt; reader.failures(), 3);
 
     // The octet past the limit comes before the failure.
-    let mut past = Counted::new(Breaking { left: 5 });
+    let mut past = ReaderSource::new(Breaking { left: 5 });
     let fault = digest_through(&mut buffer, &mut past, md5(), 4);
     assert_eq!(rt; fault, Err(SourceFault::TooLarge));
 }

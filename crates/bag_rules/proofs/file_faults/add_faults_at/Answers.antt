@@ -1,6 +1,6 @@
 use Rattle.std.proofs.Common.{◌≡◌, ◌∙◌, ap, false, true, refl, rules, subst, sym}
 use Rattle.std.specs.Bool.{then_some}
-use Rattle.bag_rules.specs.BatchInside.{IsSumsOf}
+use Rattle.bag_rules.specs.FileBatchInside.{IsSumsOf}
 use Rattle.bag_rules.proofs.AddsLemmas.{adds_none}
 use Rattle.bag_rules.proofs.BatchLemmas.{unread_tag}
 use Rattle.bag_rules.proofs.FileFaultLemmas.{no_faults_by}

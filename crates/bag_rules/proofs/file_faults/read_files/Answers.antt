@@ -1,6 +1,6 @@
 use Rattle.std.proofs.Common.{◌≡◌, ◌<◌, ◌+◌, ◌∙◌, Some, None, ℕ, ap, sym, subst, arith, rules, length, take, refl}
 use Rattle.bag_rules.proofs.Words.{err_from_is_err_and, FirstStops, IsFileFault, IsLongRead, IsSizeOf, NoneStopsBefore, paths_in, PayloadSize, same_Some, Stopped, take-length}
-use Rattle.bag_rules.specs.BatchInside.{AreRead}
+use Rattle.bag_rules.specs.FileBatchInside.{AreRead}
 use Rattle.bag_rules.proofs.AddsLemmas.{adds_so}
 use Rattle.bag_rules.proofs.BatchLemmas.{batch_within}
 use Rattle.bag_rules.proofs.HasLemmas.{stands}

@@ -1,5 +1,5 @@
 use Rattle.std.proofs.Common.{◌≡◌, ◌≤◌, ◌*◌, length, take}
-use Rattle.bag_rules.specs.BatchInside.{AreRead}
+use Rattle.bag_rules.specs.FileBatchInside.{AreRead}
 use Rattle.bag_rules.proofs.Words.{Adds, Bag, IsBagOf, IsLongRead, IsSizeOf, NoneStopsBefore, paths_in, UsesTree}
 use Rattle.bag_rules.proofs.FileReadLemmas.{IsFaultBefore}
 use Rattle.bag_rules.proofs.file_faults.read_files.Given as goal

@@ -1,0 +1,31 @@
+use Rattle.std.proofs.Common.{◌≡◌, ◌∙◌, ◌↔◌, None, [], subst, sym}
+use Rattle.bag_program.specs.Working.{NotOpened, Worked}
+use Rattle.bag_program.proofs.on_disk.ledger.work_on_ledger.Goals as goal
+
+pub close-closed-requires : goal.close-closed-requires
+close-closed-requires g c vain clean =
+    let same = c.into_inside-keeper.ensures ∙ c.into_keeper.ensures in
+    let it = c.is_vain-is_vain.ensures.none vain in
+    let was = it.1 (subst g.L.Kept.Keeper.clean same clean) in
+    let state = c.in-Ok.ensures.made it.0 was.0 in
+    subst (λ keeper. g.L.Kept.Keeper.holds keeper []) (sym same) (was.1 state.0 state.1)
+
+pub returns-in-Ok : goal.returns-in-Ok
+returns-in-Ok g c =
+    let same = c.into_inside-keeper.ensures ∙ c.into_keeper.ensures in
+    Worked c.in-Ok.field-0.receiver c.in-Ok.field-0.ended c.in-Ok.ensures.works (record {
+      last = c.is_vain-is_vain.new.receiver;
+      only_read = c.is_vain-is_vain.ensures.reads;
+      left = c.close-closed.result;
+      is_left = subst (λ keeper. g.L.Ledgers.closed keeper c.close-closed.result) same c.close-closed.ensures;
+      cause = c.trouble-cause.result;
+      failed = subst (λ keeper. (c.trouble-cause.result ≡ None) ↔ (g.L.Kept.Keeper.failures keeper ≡ 0)) same c.trouble-cause.ensures;
+      why = c.of_ledger.result;
+      is_why = c.of_ledger.ensures;
+      told = c.or.ensures;
+    })
+
+pub returns : goal.returns
+returns g c =
+    let it = c.in-Err.ensures.unopened in
+    NotOpened _ it.0 it.1 (rw it.2 at c.print.ensures) c.of_ledger-in-Err.ensures

@@ -1,9 +1,0 @@
-use Rattle.std.proofs.Common.{◌≡◌, ◌<◌, ℕ, Some, length, slice_get}
-use Rattle.bag_digest.specs.declared.multi.Digests.{Digests}
-use Rattle.bag_digest.specs.declared.streams.Stream.{Stream}
-use Rattle.bag_rules.specs.Gathering.{HaveSums}
-use Rattle.bag_rules.proofs.gathering.sums_of.Given as goal
-
-abbrev pub invariant-loop-stream : goal.invariant-loop-stream
-invariant-loop-stream g l = HaveSums l.streams → (length l.sums.items ≡ l.stream-index)
-    × ((k : ℕ) (stream : Stream _) (found : ℕ × Digests) → k < l.stream-index → slice_get l.streams k ≡ Some stream → stream.sums ≡ Some found → slice_get l.sums.items k ≡ Some found)

@@ -1,0 +1,280 @@
+//! Files that are read one after another, so that their digests can be taken side by side.
+ghost use Rattle.std.specs.Prelude.{◌≡◌, ◌<◌, ◌↔◌, ℕ, List, [], IfErr, IfOk, IsErrOf, IsTrue, OnOk, length};
+ghost use Rattle.bag_digest.specs.Hash.{AreDigestsOfEach};
+ghost use Rattle.bag_rules.specs.Bags.{Bag, IsBagOf};
+ghost use Rattle.bag_rules.specs.FileBatchInside.{AddsSums, AreAlgsOf, AreRead, CanRead, Covers, HasSumsAt, Holds, IsComplete, IsFindingOf, IsMessageFor, IsSumsOf};
+ghost use Rattle.bag_rules.specs.FilesInside.{IsLongRead};
+ghost use Rattle.bag_rules.specs.KeptInside.{AreKept};
+ghost use Rattle.bag_rules.specs.Limits.{FirstStops, NoneStopsBefore, Stopped};
+ghost use Rattle.bag_rules.specs.Trees.{HasFileAt, Shown, UsesTree, paths_in};
+ghost use Rattle.bag_rules.specs.declared.outcome.CheckFault.{CheckFault};
+ghost use Rattle.bag_rules.specs.declared.requirements.Requirements.{Requirements};
+
+use crate::batch_reading::{FrontFault, Gathered, finish, read_next, stop};
+use crate::kept::Kept;
+use crate::open_tree::OpenTree;
+use crate::outcome::CheckFault;
+use crate::requirements::Requirements;
+use crate::returning::close_all;
+use crate::tree::Paths;
+use bag_digest::{AlgSet, Digests, FRONT, digest_each};
+use std::alloc::{AllocError, Global};
+
+/// The length of the buffer of a check in octets. A file that ends within it is held until the digests of its batch are taken. So is
+/// the front of a longer one, and the file stays open.
+pub(crate) const BUFFER: usize = FRONT;
+
+/// How many files a batch has at most. So no more than 4 MiB are held, and no more files are open.
+const MOST_READ: usize = 32;
+
+/// What was read of files that follow one another by path.
+#[derive(Drop)]
+pub(crate) struct Batch {
+    first: usize,
+    read: Vec<FileSums>,
+    messages: Vec<Vec<u8>>,
+    set: AlgSet,
+    digests: Vec<Digests>,
+    sums: Vec<(u64, Digests)>,
+}
+
+/// What was read of one file.
+#[derive(Drop)]
+pub(crate) enum FileSums {
+    /// Nothing, since it is neither a payload file nor listed.
+    Unread,
+    /// Its length in octets and its digests.
+    Taken(u64, Digests),
+    /// All its octets, which are the message at this place. Their digests are taken with those of the other messages.
+    Waiting(usize),
+    /// Its front. The rest is read, and its digests taken, with those of the other streams: it is the stream at this place.
+    Streamed(usize),
+}
+
+/// What is found of a file before it is opened.
+#[derive(Drop)]
+pub(crate) enum Finding {
+    /// All that is needed.
+    Known(FileSums),
+    /// That its digests by these algorithms are needed.
+    ToRead(AlgSet),
+}
+
+impl Batch {
+    /// No file yet. The first one will be that at this place.
+    pub(crate) fn new(alloc: Global, first: usize) -> Batch
+        ensures first { (result.first ≡ first) × (result.read.items ≡ []) }
+        ensures read { (shown : Shown) (wants : Requirements) → AreRead shown wants result }
+    {
+        Batch {
+            first,
+            read: Vec::new(alloc),
+            messages: Vec::new(alloc),
+            set: AlgSet::empty(),
+            digests: Vec::new(alloc),
+            sums: Vec::new(alloc),
+        }
+    }
+
+    /// How many files it has.
+    pub(crate) fn count(&self) -> usize
+        ensures { result ≡ length self.now.read.items }
+    {
+        self.read.len()
+    }
+
+    /// Whether the file at this place is among those of the batch.
+    pub(crate) fn covers(&self, place: usize) -> bool
+        ensures { IsTrue result ↔ Covers self.now place }
+    {
+        place >= self.first && place - self.first < self.read.len()
+    }
+
+    /// The length in octets and the digests of the file at this place, or nothing if it is neither a payload file nor listed.
+    pub(crate) fn sums(&self, place: usize) -> Option<(u64, Digests)>
+        requires { Covers self.now place }
+        ensures { (shown : Shown) (wants : Requirements) (path octets : List ℕ)
+            → AreRead shown wants self.now → HasFileAt shown place path octets
+            → IsSumsOf wants path octets result }
+    {
+        match &self.read[place - self.first] {
+            FileSums::Unread => None,
+            FileSums::Taken(length, digests) => Some((*length, *digests)),
+            FileSums::Waiting(place) => self.sums_of_message(*place),
+            FileSums::Streamed(place) => self.sums_of_stream(*place),
+        }
+    }
+
+    /// The length and the digests of the message at this place.
+    fn sums_of_message(&self, place: usize) -> Option<(u64, Digests)>
+        ensures { (wants : Requirements) (path octets : List ℕ)
+            → AreDigestsOfEach self.now.set self.now.messages.items self.now.digests.items
+            → IsMessageFor self.now wants path octets place → IsSumsOf wants path octets result }
+    {
+        let message = self.messages.get(place)?;
+        let digests = self.digests.get(place)?;
+        Some((message.len() as u64, *digests))
+    }
+
+    /// The length and the digests of the stream at this place.
+    fn sums_of_stream(&self, place: usize) -> Option<(u64, Digests)>
+        ensures { (wants : Requirements) (path octets : List ℕ)
+            → HasSumsAt wants self.now place path octets → IsSumsOf wants path octets result }
+    {
+        let sums = self.sums.get(place)?;
+        Some(*sums)
+    }
+
+    /// Adds the next file.
+    pub(crate) fn add(&mut self, sums: FileSums) -> Result<(), AllocError>
+        ensures added { OnOk result (AddsSums self.old self.new sums) }
+    {
+        self.read.push(sums)?;
+        Ok(())
+    }
+
+    /// Adds the next file, of which these are all octets. Its digests are wanted by the algorithms of the set.
+    pub(crate) fn hold(
+        &mut self,
+        alloc: Global,
+        set: AlgSet,
+        octets: &[u8],
+    ) -> Result<(), AllocError>
+        ensures held { OnOk result (Holds self.old self.new set octets.now) }
+    {
+        let mut message = Vec::new(alloc);
+        message.extend_from_slice(octets)?;
+        let place = self.messages.len();
+        self.messages.push(message)?;
+        self.set = self.set.union(set);
+        self.add(FileSums::Waiting(place))
+    }
+
+    /// The same files, with the digests of the messages and with these sums of the streams.
+    pub(crate) fn complete(
+        self,
+        alloc: Global,
+        sums: Vec<(u64, Digests)>,
+    ) -> Result<Batch, AllocError>
+        ensures { IfOk result (λ batch. IsComplete self batch sums.items) }
+    {
+        let mut batch = self;
+        batch.digests = digest_each(alloc, batch.set, batch.messages.as_slice())?;
+        batch.sums = sums;
+        Ok(batch)
+    }
+}
+
+/// The batch with the file at this place: the last one, or else a new one that begins with this file.
+///
+/// # Errors
+///
+/// Those of [`read_batch`].
+pub(crate) fn batch_at<T: OpenTree>(
+    alloc: Global,
+    buffer: &mut [u8],
+    tree: &mut T,
+    place: usize,
+    wants: &Requirements<'_>,
+    kept: &Kept,
+    last: Batch,
+) -> Result<Batch, CheckFault>
+    requires can_read { CanRead (T.shown tree.old) place buffer.old kept.now }
+    requires ready { AreRead (T.shown tree.old) wants.now last }
+    ensures read { IfOk result (λ batch. AreRead (T.shown tree.old) wants.now batch
+        × Covers batch place) }
+    ensures limits { (bag : Bag) → IsBagOf (T.shown tree.old) bag
+        → NoneStopsBefore place bag (IsLongRead wants.now.manifests.now)
+        → IfErr result (Stopped (FirstStops bag (IsLongRead wants.now.manifests.now))) }
+    ensures tree { UsesTree T.shown T.failures T.sure tree.old tree.new
+        (IsErrOf result CheckFault.Tree) }
+{
+    if last.covers(place) {
+        return Ok(last);
+    }
+    read_batch(alloc, buffer, tree, place, wants, kept)
+}
+
+/// Reads files from this place on, by path, each that is a payload file or is listed once: first the front of each, and then
+/// the rest of the long ones, side by side.
+///
+/// # Errors
+///
+/// `TooLarge` for the first file that is longer than 2^40 octets; `Tree` if the tree failed; `Memory`. What comes first by
+/// path is told.
+fn read_batch<T: OpenTree>(
+    alloc: Global,
+    buffer: &mut [u8],
+    tree: &mut T,
+    first: usize,
+    wants: &Requirements<'_>,
+    kept: &Kept,
+) -> Result<Batch, CheckFault>
+    requires { CanRead (T.shown tree.old) first buffer.old kept.now }
+    ensures read { IfOk result (λ batch. AreRead (T.shown tree.old) wants.now batch
+        × Covers batch first) }
+    ensures limits { (bag : Bag) → IsBagOf (T.shown tree.old) bag
+        → NoneStopsBefore first bag (IsLongRead wants.now.manifests.now)
+        → IfErr result (Stopped (FirstStops bag (IsLongRead wants.now.manifests.now))) }
+    ensures tree { UsesTree T.shown T.failures T.sure tree.old tree.new
+        (IsErrOf result CheckFault.Tree) }
+{
+    let mut gathered = Gathered::new(alloc, first);
+    let count = tree.count();
+    let mut place = first;
+    'files: loop {
+        match read_next(alloc, buffer, tree, place, wants, kept, &mut gathered) {
+            Ok(()) => {}
+            Err(FrontFault::Memory) => {
+                close_all(tree, gathered.into_streams());
+                return Err(CheckFault::Memory);
+            }
+            Err(FrontFault::Stopped(fault, file)) => {
+                return Err(stop(tree, gathered, fault, file));
+            }
+        }
+        place += 1;
+        if place == count || gathered.count() == MOST_READ {
+            return finish(alloc, tree, gathered);
+        }
+    }
+}
+
+/// What is found of the file at this place before it is opened: whether it is read, and its sums if they were kept.
+pub(crate) fn look_up<T: Paths>(
+    tree: &T,
+    place: usize,
+    wants: &Requirements<'_>,
+    kept: &Kept,
+) -> Result<Finding, AllocError>
+    requires inside { place < length (paths_in (T.shown tree.now)) }
+    requires kept { AreKept (T.shown tree.now) kept.now }
+    ensures { (path octets : List ℕ) → HasFileAt (T.shown tree.now) place path octets
+        → IfOk result (IsFindingOf wants.now path octets) }
+{
+    let Some(set) = algs_at(tree, place, wants)? else {
+        return Ok(Finding::Known(FileSums::Unread));
+    };
+    match kept.find(place, set) {
+        Some((length, digests)) => Ok(Finding::Known(FileSums::Taken(length, digests))),
+        None => Ok(Finding::ToRead(set)),
+    }
+}
+
+/// The algorithms by which the file at this place is listed, or nothing if it is neither a payload file nor listed.
+fn algs_at<T: Paths>(
+    tree: &T,
+    place: usize,
+    wants: &Requirements<'_>,
+) -> Result<Option<AlgSet>, AllocError>
+    requires { place < length (paths_in (T.shown tree.now)) }
+    ensures known { (path octets : List ℕ) → HasFileAt (T.shown tree.now) place path octets
+        → IfOk result (AreAlgsOf wants.now path) }
+{
+    let path = tree.path(place).clone()?;
+    let set = wants.of(&path).algs();
+    if set.is_empty() && !path.is_payload() {
+        return Ok(None);
+    }
+    Ok(Some(set))
+}
