@@ -1,7 +1,9 @@
 //! The commands on a ledger, each with what it prints and its status.
 use crate::breaker::Breaker;
-use crate::breaking::{BreakingSink, Paper, Stock};
-use crate::bringing::{Breaks, Items};
+use crate::breaking_courier::{Breaks, Items};
+use crate::breaking_sink::BreakingSink;
+use crate::breaking_supplier::Stock;
+use crate::breaking_writer::Paper;
 use crate::drafting::Draft;
 use crate::event::Event;
 use crate::lines::bad_line;
@@ -58,7 +60,7 @@ pub fn command_on<K: Keeper + Drop, W: Write + Drop>(
         }
         "intake-to" => {
             let mut couriers = Vec::new(alloc);
-            match couriers.push(Items::new(load, Breaks::ReaderSource(breaker))) {
+            match couriers.push(Items::new(load, Breaks::Counted(breaker))) {
                 Ok(()) => intake_to(alloc, receiver, name, couriers, &mut told),
                 Err(_) => print_no_result(NoResult::Memory, &mut told),
             }

@@ -1,13 +1,14 @@
 //! The calls of a receiver, for `tests/deliveries.py` and `tests/refusals.py`, which describe the input and the output.
+use crate::answer_texts::{
+    AnswerText, FetchedText, UnbegunText, end_text, export_text, keep_text, view_text,
+};
 use crate::breaker::Breaker;
-use crate::breaking::{BreakingSink, Stock};
-use crate::bringing::{Breaks, Items, Reader};
+use crate::breaking_courier::{Breaks, Items, Reader};
+use crate::breaking_sink::BreakingSink;
+use crate::breaking_supplier::Stock;
 use crate::event::{Event, File};
 use crate::lines::{Answers, bad_line};
 use crate::shown::write_files;
-use crate::text::{
-    AnswerText, FetchedText, UnbegunText, end_text, export_text, keep_text, view_text,
-};
 use bag_commands::{FaultLine, verdict_text};
 use bag_digest::ReaderSource;
 use bag_ledger::Keeper;
@@ -43,13 +44,13 @@ pub fn answer<K: Keeper + Drop, W: Write + Drop>(
     match event.word {
         "begin" => begin(alloc, receiver, &event, out),
         "deliver" => deliver(alloc, receiver, &event, out),
-        "read" => read(alloc, receiver, &event, Breaks::ReaderSource(breaker), out),
+        "read" => read(alloc, receiver, &event, Breaks::Counted(breaker), out),
         "break" => read(alloc, receiver, &event, Breaks::First, out),
         "run" => {
             let run = receiver.run(alloc, event.name.as_str(), event.files.as_slice());
             write_run(run.answers.as_slice(), end_text(run.ended), out)
         }
-        "bring" => bring(alloc, receiver, event, Breaks::ReaderSource(breaker), out),
+        "bring" => bring(alloc, receiver, event, Breaks::Counted(breaker), out),
         "bring-first" => bring(alloc, receiver, event, Breaks::First, out),
         "bring-end" => bring(alloc, receiver, event, Breaks::End, out),
         "report" => write_report(receiver.report(alloc, event.name.as_str()), out),

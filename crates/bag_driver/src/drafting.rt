@@ -1,7 +1,8 @@
 //! A tree in memory, which is judged and written as a bag; for `tests/new_bags.py` and `tests/refusals.py`, which describe
 //! the input and the output.
 use crate::breaker::Breaker;
-use crate::breaking::{Breaking, BreakingSink};
+use crate::breaking_sink::BreakingSink;
+use crate::breaking_tree::BreakingTree;
 use crate::commanding::{output_on, write_told};
 use crate::event::{Event, File};
 use crate::lines::{bad_line, parsed};
@@ -73,12 +74,16 @@ impl Draft {
     }
 
     /// Takes the tree out, with one call that fails. An empty one stays.
-    pub fn tree_out<'a>(&mut self, alloc: Global, breaker: &'a Breaker) -> Breaking<'a, MemTree> {
-        Breaking::new(mem::replace(&mut self.tree, MemTree::new(alloc)), breaker)
+    pub fn tree_out<'a>(
+        &mut self,
+        alloc: Global,
+        breaker: &'a Breaker,
+    ) -> BreakingTree<'a, MemTree> {
+        BreakingTree::new(mem::replace(&mut self.tree, MemTree::new(alloc)), breaker)
     }
 
     /// Puts the tree back.
-    pub fn put_back(&mut self, tree: Breaking<'_, MemTree>) {
+    pub fn put_back(&mut self, tree: BreakingTree<'_, MemTree>) {
         self.tree = tree.into_inside();
     }
 

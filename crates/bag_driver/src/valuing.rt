@@ -1,6 +1,6 @@
 //! Calls on texts and values, for `tests/refusals.py`, which describes the input and the output.
 use crate::breaker::Breaker;
-use crate::bringing::{Breaks, Reader};
+use crate::breaking_courier::{Breaks, Reader};
 use crate::event::Event;
 use crate::lines::{bad_line, parsed};
 use crate::listing::{NO_MEMORY, entries, manifest, metadata, write_text};
@@ -118,7 +118,7 @@ fn digest<W: Write + Drop>(
         set = set.with(alg);
         content = file.1.as_slice();
     }
-    let mut reader = ReaderSource::new(Reader::new(content, Breaks::ReaderSource(breaker)));
+    let mut reader = ReaderSource::new(Reader::new(content, Breaks::Counted(breaker)));
     match digest_reader(alloc, &mut reader, set, limit) {
         Ok((length, digests)) => {
             write!(out, "{length}")?;

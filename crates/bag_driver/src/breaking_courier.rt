@@ -11,7 +11,7 @@ use std::io::{self, ErrorKind, Read};
 #[derive(Clone, Copy)]
 pub enum Breaks<'a> {
     /// The call that a breaker counts.
-    ReaderSource(&'a Breaker),
+    Counted(&'a Breaker),
     /// The first file, after its octets.
     First,
     /// The step after the last file.
@@ -22,7 +22,7 @@ impl Breaks<'_> {
     /// Whether the breaker lets this call of a device fail.
     fn breaks(&self, device: Device) -> bool {
         match self {
-            Breaks::ReaderSource(breaker) => breaker.breaks(device),
+            Breaks::Counted(breaker) => breaker.breaks(device),
             Breaks::First | Breaks::End => false,
         }
     }
