@@ -1,6 +1,6 @@
 //! Work on a ledger that stops at a call of one of its two files, for `tests/stops.py`.
+use crate::ledger_opening::{closed_in, opened_in};
 use crate::lines::answer_lines;
-use crate::opening::{closed_in, opened_in};
 use bag_ledger::Keeper;
 use bag_receiver::Receiver;
 use bag_sqlite::SqlKeeper;

@@ -12,7 +12,7 @@ use Rattle.bag_receiver.specs.Receivers.{IsInState}
 use Rattle.bag_receiver.specs.LedgerStates.{LedgerState}
 use Rattle.bag_rules.specs.Trees.{Shown}
 use Rattle.bag_program.specs.declared.explanation.Ended.{Ended}
-use Rattle.bag_program.specs.declared.ledger.Ledgers.{Ghosts as Ledgers}
+use Rattle.bag_program.specs.declared.ledgers.Ledgers.{Ghosts as Ledgers}
 use Rattle.bag_program.specs.declared.request.Work.{Work}
 use Rattle.bag_program.specs.declared.request.Work.TheVariants.{Audit, Begin, Export, Fetch, Intake, List as ListNames, Report}
 use Rattle.bag_program.specs.Working.{DoesWork, IsOpenFor, NoMemory, Opened, Refused, WithFolder}

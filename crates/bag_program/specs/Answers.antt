@@ -14,7 +14,7 @@ use Rattle.bag_folder.specs.Directories.{Listing}
 use Rattle.bag_folder.specs.Folders.{FolderShown, IsOpened, IsRefused}
 use Rattle.bag_folder.specs.Unfits.{UnfitShown}
 use Rattle.bag_program.specs.declared.explanation.Ended.{Ended}
-use Rattle.bag_program.specs.declared.ledger.Ledgers.{Ghosts as Ledgers}
+use Rattle.bag_program.specs.declared.ledgers.Ledgers.{Ghosts as Ledgers}
 use Rattle.bag_program.specs.declared.explanation.Why.TheVariants.{Unfit}
 use Rattle.bag_program.specs.declared.request.Request.{Request}
 use Rattle.bag_program.specs.declared.request.Request.TheVariants.{Check, Ledger, Make}

@@ -4,7 +4,7 @@ use Rattle.std.specs.Prelude.{◌≡◌, ◌≢◌, ◌⊎◌, [], Bool, IsTrue,
 use Rattle.bag_ledger.specs.Ledgers.{Ledger}
 use Rattle.bag_sqlite.specs.Adopting.{IsVerified}
 use Rattle.bag_sqlite.specs.LedgersInTables.{IsLedgerDatabase}
-use Rattle.bag_sqlite.specs.Making.{IsLeft, MakesLedger}
+use Rattle.bag_sqlite.specs.NewTables.{IsLeft, MakesLedger}
 use Rattle.bag_sqlite.specs.Migrating.{MigratesLedger}
 use Rattle.bag_sqlite.specs.Refusing.{IsNoAnswer, RefusesToAdopt}
 use Rattle.bag_sqlite.specs.SqlKeepers.{HoldsLedger, KeepsAlone}

@@ -38,7 +38,7 @@ use Rattle.bag_folder.specs.Bringing.{Bringing, courier_of, to_come}
 use Rattle.bag_folder.specs.Directories.{Listing}
 use Rattle.bag_folder.specs.Folders.{FolderShown, IsOpened, IsRefused}
 use Rattle.bag_program.specs.LedgerFiles.{OpensOrMakes}
-use Rattle.bag_program.specs.declared.ledger.Ledgers.{Ghosts as Ledgers}
+use Rattle.bag_program.specs.declared.ledgers.Ledgers.{Ghosts as Ledgers}
 use Rattle.bag_program.specs.declared.unopened_ledger.LedgerCause.{LedgerCause}
 use Rattle.bag_program.specs.declared.unopened_ledger.Unopened.{Unopened}
 use Rattle.bag_program.specs.Endings.{IsWhyOf, or_why, why_failed, why_undelivered_of, why_unopened}

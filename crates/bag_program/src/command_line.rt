@@ -3,9 +3,9 @@ ghost use Rattle.std.specs.Prelude.{map, string_bytes};
 ghost use Rattle.bag_program.specs.Answers.{Refuses, Runs, RunsCommand};
 
 use crate::explanation::Ended;
-use crate::ledger::Ledgers;
+use crate::ledgers::Ledgers;
 use crate::on_disk::check::check_folder;
-use crate::on_disk::ledger::work_on_ledger;
+use crate::on_disk::ledger_work::work_on_ledger;
 use crate::on_disk::make::{Making, make_folder};
 use crate::request::{Request, operands};
 use crate::system::System;

@@ -13,7 +13,7 @@ ghost use Rattle.sqlite.specs.State.{HasCleanDisk, Survives};
 ghost use Rattle.sqlite_wal.specs.Files.{image_at};
 ghost use Rattle.sqlite_wal.specs.Recovery.{Image};
 
-use crate::ledger::{LedgerFiles, Ledgers};
+use crate::ledgers::{LedgerFiles, Ledgers};
 use crate::open_ledger::FileKeeper;
 use bag_ledger::Keeper;
 use bag_sqlite::laws::a_stopped_opening_leaves_the_ledger;

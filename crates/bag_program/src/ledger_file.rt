@@ -5,7 +5,7 @@ ghost use Rattle.bag_sqlite.specs.declared.adopting.AdoptFault.{AdoptFault};
 ghost use Rattle.sqlite_wal.specs.Files.{image_at};
 
 use crate::found_ledger::{Found, Seen, is_absence};
-use crate::ledger::Opened;
+use crate::ledgers::Opened;
 use crate::locked_file::LockedFile;
 use crate::locking::Barred;
 use crate::meter::{Activity, Meter};

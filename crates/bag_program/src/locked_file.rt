@@ -8,9 +8,9 @@ ghost use Rattle.sqlite_wal.specs.Files.{image_at};
 
 use crate::abandoned_ledger::AbandonedLedger;
 use crate::found_ledger::{Found, Seen};
-use crate::ledger::Opened;
 use crate::ledger_file::{OpenedFile, UnopenedFile};
 use crate::ledger_handle::Handle;
+use crate::ledgers::Opened;
 use crate::locking::{Barred, open_locked};
 use crate::meter::Meter;
 use crate::open_ledger::OpenLedger;

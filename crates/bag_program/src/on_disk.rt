@@ -17,7 +17,7 @@ pub mod check;
 pub mod export;
 pub mod fetch;
 pub mod intake;
-pub mod ledger;
+pub mod ledger_work;
 pub mod make;
 
 /// Prints why a command stops if a folder can't be opened or made.

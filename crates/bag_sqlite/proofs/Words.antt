@@ -45,7 +45,7 @@ pub use Rattle.bag_sqlite.specs.ShortItems.{AreCovered, AreWanted, Covers, HasMi
 pub use Rattle.bag_sqlite.specs.Contents.{HasContentMore, HasRead, in_pieces}
 pub use Rattle.bag_sqlite.specs.LedgersInTables.{AreApart, AreCut, AreMoved, AreTablesOf, format_row, HaveHeldRows, held_rows, HoldTransfers, IsDatabaseOf, IsInOrder, IsLedgerDatabase, item_rows, items_in, ListLedger, NamesFormat, NumberedItem, NumberedTransfer, piece_rows, size_of, tag_rows, transfer_row, without_number, without_rowids}
 pub use Rattle.bag_sqlite.specs.Items.{HasItem, HasItemRow, HasPieceRow}
-pub use Rattle.bag_sqlite.specs.Making.{IsCreated, IsLeft, IsMade, IsMaking, Makes, MakesLedger, no_rows}
+pub use Rattle.bag_sqlite.specs.NewTables.{IsCreated, IsLeft, IsMade, IsMaking, Makes, MakesLedger, no_rows}
 pub use Rattle.bag_sqlite.specs.Migrating.{Empties, HasBody, IsInBoth, IsMigrated, IsToMove, KeepsHeld, MigratesLedger, MovesLedger, SetsFormat, whole_row}
 pub use Rattle.bag_sqlite.specs.Beginning.{AddsTags, AddsTransfer, HasOneTransferMore, KeepsItems, opened_under}
 pub use Rattle.bag_sqlite.specs.Putting.{AddsItem, AddsPiece, AddsPieces, HasOneItemMore, IsFree, IsUnderWay, item_row, KeepsFirst, KeepsTransfers, SetsSize}

@@ -4,7 +4,7 @@ use Rattle.sqlite.specs.Held.{Held, state}
 use Rattle.sqlite.specs.State.{HasCleanDisk, Survives}
 use Rattle.sqlite.specs.Store.{Ghosts}
 use Rattle.bag_sqlite.specs.Adopting.{IsVerified}
-use Rattle.bag_sqlite.specs.Making.{IsLeft}
+use Rattle.bag_sqlite.specs.NewTables.{IsLeft}
 use Rattle.bag_sqlite.specs.Migrating.{MigratesLedger}
 use Rattle.bag_sqlite.specs.Refusing.{IsNoAnswer, RefusesToAdopt}
 use Rattle.bag_sqlite.specs.SqlKeepers.{HoldsLedger, KeepsAlone, Offers}

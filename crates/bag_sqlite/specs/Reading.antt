@@ -8,7 +8,7 @@ use Rattle.sqlite.specs.State.{HasCleanDisk, Shown, Survives}
 use Rattle.sqlite.specs.Store.{Ghosts}
 use Rattle.sqlite.specs.Tree.{Trees}
 use Rattle.sqlite.specs.declared.types.Value.TheVariants.{Blob, Int, Null, Text}
-use Rattle.bag_sqlite.specs.Making.{IsLeft}
+use Rattle.bag_sqlite.specs.NewTables.{IsLeft}
 use Rattle.bag_sqlite.specs.Tables.{transfer_tree}
 
 -- the rows are the ones that the query shows, in a transaction that begins at this connection

@@ -3,7 +3,7 @@ ghost use Rattle.std.specs.Prelude.{◌≡◌, ◌≢◌, ◌↔◌, [], IfErr, 
 ghost use Rattle.std.specs.List.{AllByRecursion};
 ghost use Rattle.bag_sqlite.specs.Adopted.{IsAdopted, IsNotAdopted};
 ghost use Rattle.bag_sqlite.specs.Adopting.{HasFormat, IsVerifiedAs, OnlyReads, Stands, Tells, stray_item_texts, stray_texts};
-ghost use Rattle.bag_sqlite.specs.Making.{IsLeft};
+ghost use Rattle.bag_sqlite.specs.NewTables.{IsLeft};
 ghost use Rattle.bag_sqlite.specs.Refusing.{AreNoneFor, DoesNotShow, HasNoFormat, IsNoAnswer, IsNoLedger, IsNoQuery, IsNoneFor, RefusesToAdopt, SayNoFormat, SaysFormat};
 ghost use Rattle.bag_sqlite.specs.Tables.{number_of};
 ghost use Rattle.sqlite.specs.Effect.{Database};

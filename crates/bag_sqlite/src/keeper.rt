@@ -3,7 +3,7 @@ ghost use Rattle.std.specs.Prelude.{◌≡◌, ◌≢◌, ◌↔◌, [], IfErr, 
 ghost use Rattle.std.specs.Map.{keys_of};
 ghost use Rattle.bag_ledger.specs.Keeping.{Reads, UsesStore};
 ghost use Rattle.bag_ledger.specs.Ledgers.{Ledger};
-ghost use Rattle.bag_sqlite.specs.Making.{IsLeft, MakesLedger, RefusesToMake};
+ghost use Rattle.bag_sqlite.specs.NewTables.{IsLeft, MakesLedger, RefusesToMake};
 ghost use Rattle.bag_sqlite.specs.SqlKeepers.{HoldsLedger, KeepsAlone, MayLeaveLedger};
 ghost use Rattle.bag_sqlite.specs.Tables.{no_schema};
 ghost use Rattle.bag_ledger.specs.declared.keeper_faults.KeepFault.TheVariants.{Memory, Store};
@@ -14,7 +14,7 @@ ghost use Rattle.sqlite.specs.State.{HasCleanDisk, Survives};
 
 use crate::beginning::begin_transfer;
 use crate::health::Health;
-use crate::making::make_ledger;
+use crate::new_tables::make_ledger;
 use crate::octets::Octets;
 use crate::putting::put_content;
 use crate::{items, queries, transfers};

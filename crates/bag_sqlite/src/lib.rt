@@ -10,8 +10,8 @@ mod items;
 mod keeper;
 pub mod laws;
 mod long_item;
-mod making;
 mod migrating;
+mod new_tables;
 mod octets;
 mod putting;
 mod queries;
@@ -24,5 +24,5 @@ mod watch;
 
 pub use adopting::{AdoptFault, NotAdopted};
 pub use keeper::{NotCreated, SqlKeeper};
-pub use making::has_nothing;
+pub use new_tables::has_nothing;
 pub use watch::Watch;

@@ -4,7 +4,7 @@ ghost use Rattle.std.specs.List.{AllByRecursion, concat};
 ghost use Rattle.bag_ledger.specs.Ledgers.{Ledger};
 ghost use Rattle.bag_sqlite.specs.Contents.{HasContentMore, in_pieces};
 ghost use Rattle.bag_sqlite.specs.LedgersInTables.{AreCut, NamesFormat};
-ghost use Rattle.bag_sqlite.specs.Making.{IsLeft};
+ghost use Rattle.bag_sqlite.specs.NewTables.{IsLeft};
 ghost use Rattle.bag_sqlite.specs.Migrating.{Empties, HasBody, IsInBoth, IsMigrated, IsToMove, MovesLedger, SetsFormat, ShowsMoved};
 ghost use Rattle.bag_sqlite.specs.Putting.{AddsPieces, IsUnderWay};
 ghost use Rattle.bag_sqlite.specs.Refusing.{IsBlob};
@@ -16,7 +16,7 @@ ghost use Rattle.sqlite.specs.State.{HasCleanDisk, Survives};
 ghost use Rattle.sqlite.specs.Values.{IsInt};
 ghost use Rattle.sqlite.specs.declared.types.Value.TheVariants.{Blob};
 
-use crate::making::make_item_tables;
+use crate::new_tables::make_item_tables;
 use crate::rows::{insert_item, insert_piece, set_size};
 use bag_digest::PIECE;
 use sqlite::types::ValueRef;

@@ -1,5 +1,5 @@
 use Rattle.std.proofs.Common.{refl}
-use Rattle.bag_program.proofs.on_disk.ledger.do_work.Goals as goal
+use Rattle.bag_program.proofs.on_disk.ledger_work.do_work.Goals as goal
 
 pub returns-in-Begin : goal.returns-in-Begin
 returns-in-Begin g c = rw c.in-Begin.is (refl, c.begin_with_folder.ensures)

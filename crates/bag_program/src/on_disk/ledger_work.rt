@@ -13,7 +13,7 @@ use super::export::export_into_folder;
 use super::fetch::fetch_from_folder;
 use super::intake::intake_folders;
 use crate::explanation::{Ended, Why};
-use crate::ledger::{Ledgers, Opened};
+use crate::ledgers::{Ledgers, Opened};
 use crate::meter::{Activity, Meter};
 use crate::request::Work;
 use crate::system::System;

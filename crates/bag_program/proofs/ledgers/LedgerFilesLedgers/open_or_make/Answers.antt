@@ -1,6 +1,6 @@
 use Rattle.std.proofs.lemmas.Result.{err_from_is_err_and}
 use Rattle.bag_program.proofs.FileLemmas.{adopted, not_used}
-use Rattle.bag_program.proofs.ledger.LedgerFilesLedgers.open_or_make.Goals as goal
+use Rattle.bag_program.proofs.ledgers.LedgerFilesLedgers.open_or_make.Goals as goal
 
 pub returns-in_err-file : goal.returns-in_err-file
 returns-in_err-file g c =

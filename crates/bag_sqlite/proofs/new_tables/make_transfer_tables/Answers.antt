@@ -2,7 +2,7 @@ use Rattle.std.proofs.Common.{arith, refl}
 use Rattle.bag_sqlite.proofs.Words.{HasCleanDisk, no_rows, state}
 use Rattle.bag_sqlite.proofs.MeaningLemmas.{makes_meta, makes_tag, makes_transfer}
 use Rattle.bag_sqlite.proofs.SqlLemmas.{nothing_then, on_ok}
-use Rattle.bag_sqlite.proofs.making.make_transfer_tables.Goals as goal
+use Rattle.bag_sqlite.proofs.new_tables.make_transfer_tables.Goals as goal
 
 pub returns-clause-made : goal.returns-clause-made
 returns-clause-made g c clean =

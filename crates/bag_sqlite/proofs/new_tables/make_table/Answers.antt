@@ -1,6 +1,6 @@
 use Rattle.bag_sqlite.proofs.Words.{state}
 use Rattle.bag_sqlite.proofs.MakingLemmas.{table_made}
-use Rattle.bag_sqlite.proofs.making.make_table.Goals as goal
+use Rattle.bag_sqlite.proofs.new_tables.make_table.Goals as goal
 
 pub returns-clause-made : goal.returns-clause-made
 returns-clause-made g c clean before table rows makes none making =

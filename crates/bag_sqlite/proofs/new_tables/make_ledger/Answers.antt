@@ -2,8 +2,8 @@ use Rattle.std.proofs.Common.{◌≡◌, [], false, OnErr, OnOk, IsTrue, refl, s
 use Rattle.bag_sqlite.proofs.Words.{HasCleanDisk, IsCreated, IsDatabaseOf, IsLeft, IsMade, KeepsCommit, MakesLedger, New, no_rows, no_schema, Second, state, Survives, survives_begin, survives_then, Trees}
 use Rattle.bag_sqlite.proofs.MakingLemmas.{begin_making, created_by, kept_since, left_by_failing}
 use Rattle.bag_sqlite.proofs.SqlLemmas.{kept_then, on_err, on_ok}
-use Rattle.bag_sqlite.proofs.making.make_ledger.Given.{Over}
-use Rattle.bag_sqlite.proofs.making.make_ledger.Goals as goal
+use Rattle.bag_sqlite.proofs.new_tables.make_ledger.Given.{Over}
+use Rattle.bag_sqlite.proofs.new_tables.make_ledger.Goals as goal
 
 blank : (g : Over) (c : goal.After-connection-2-1 g) → (state g.S.Store c.args.connection.now).now.schema ≡ no_schema
 blank g c = search rules

@@ -3,7 +3,7 @@ use Rattle.bag_sqlite.proofs.Words.{HasCleanDisk, state}
 use Rattle.bag_sqlite.proofs.MakingLemmas.{first_empty, next_empty}
 use Rattle.bag_sqlite.proofs.MeaningLemmas.{makes_held, makes_piece}
 use Rattle.bag_sqlite.proofs.SqlLemmas.{nothing_then, on_ok}
-use Rattle.bag_sqlite.proofs.making.make_item_tables.Goals as goal
+use Rattle.bag_sqlite.proofs.new_tables.make_item_tables.Goals as goal
 
 pub returns-clause-made : goal.returns-clause-made
 returns-clause-made g c clean =

@@ -1,6 +1,6 @@
 use Rattle.std.proofs.Common.{◌≡◌, ◌∙◌, ◌↔◌, None, [], subst, sym}
 use Rattle.bag_program.specs.Working.{NotOpened, Worked}
-use Rattle.bag_program.proofs.on_disk.ledger.work_on_ledger.Goals as goal
+use Rattle.bag_program.proofs.on_disk.ledger_work.work_on_ledger.Goals as goal
 
 pub close-closed-requires : goal.close-closed-requires
 close-closed-requires g c vain clean =

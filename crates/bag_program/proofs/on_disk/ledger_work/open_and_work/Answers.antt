@@ -2,7 +2,7 @@ use Rattle.std.proofs.Common.{◌∙◌, [], subst}
 use Rattle.bag_receiver.specs.LedgerStates.{settled}
 use Rattle.bag_program.proofs.MakingLemmas.{goes_on}
 use Rattle.bag_program.proofs.ViewLemmas.{opened_by, valid_by}
-use Rattle.bag_program.proofs.on_disk.ledger.open_and_work.Goals as goal
+use Rattle.bag_program.proofs.on_disk.ledger_work.open_and_work.Goals as goal
 
 pub returns-clause-works : goal.returns-clause-works
 returns-clause-works g c = record {

@@ -1,6 +1,6 @@
 //! Creates the tables of a new ledger.
 ghost use Rattle.std.specs.Prelude.{◌≡◌, ◌↔◌, [], IsErrOf, IsTrue, OnErr, OnOk, false, true};
-ghost use Rattle.bag_sqlite.specs.Making.{IsCreated, IsLeft, IsMade, IsMaking, Makes, MakesLedger, RefusesToMake, no_rows};
+ghost use Rattle.bag_sqlite.specs.NewTables.{IsCreated, IsLeft, IsMade, IsMaking, Makes, MakesLedger, RefusesToMake, no_rows};
 ghost use Rattle.bag_sqlite.specs.Tables.{New, Origin, held_tree, no_schema, piece_tree, schema_before, schema_to_tag, second_schema};
 ghost use Rattle.bag_sqlite.specs.Transactions.{CommitsNothing};
 ghost use Rattle.sqlite.specs.Change.{created, next_tree};
