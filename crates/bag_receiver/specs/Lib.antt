@@ -12,8 +12,8 @@ pub mod Holdings
 pub mod PutAnswers
 pub mod Receivers
 pub mod ReceiversInside
-pub mod Receiving
-pub mod Reporting
+pub mod LedgerStates
+pub mod ViewAnswers
 pub mod Reports
 pub mod Runs
 pub mod Stops

@@ -19,8 +19,8 @@ pub mod Wants
 pub mod WantsInside
 pub mod FilesInside
 pub mod Returning
-pub mod BatchInside
-pub mod Gathering
+pub mod FileBatchInside
+pub mod BatchReading
 pub mod JudgingInside
 pub mod Files
 pub mod TagSets

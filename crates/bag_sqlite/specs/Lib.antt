@@ -1,12 +1,12 @@
 pub mod Adopted
 pub mod Adopting
-pub mod Batches
+pub mod ShortItems
 pub mod Beginning
 pub mod Beside
 pub mod Contents
 pub mod Items
 pub mod LedgersInTables
-pub mod Making
+pub mod NewTables
 pub mod Migrating
 pub mod Putting
 pub mod Reading
