@@ -1,8 +1,6 @@
 -- What happens to folders that aren't opened, and to one that was made for a bag.
-use Rattle.std.proofs.Common.{◌≡◌, ◌≢◌, ◌∙◌, ◌∷◌, ◌++◌, ◌+◌, ◌<◌, ℕ, Bool, Contains, List, [], None, Option, Some, ap, arith, get_or, length, map, nat_lt, not, refl, subst, suc, sym, take, zero}
+use Rattle.std.proofs.Common.{◌≡◌, ◌≢◌, ◌∙◌, ◌∷◌, ◌++◌, ◌+◌, ◌<◌, ℕ, Bool, List, [], None, Option, Some, ap, arith, get_or, inl, inr, length, map, nat_lt, not, refl, subst, suc, sym, take, zero}
 use Rattle.std.proofs.lemmas.List.{map-append}
-use Rattle.std.proofs.lemmas.List.Elements.{Contains-get_or}
-use Rattle.std.proofs.lemmas.Option.{get_or_from_slice_get, slice_get_within}
 use Rattle.std.proofs.lemmas.Grind.{common_steps}
 use Rattle.std.specs.List.{list_any}
 use Rattle.std.specs.Option.{option_or}
@@ -23,12 +21,12 @@ use Rattle.bag_folder.specs.Bringing.{Bringing, courier_of}
 use Rattle.bag_folder.specs.Directories.{Listing}
 use Rattle.bag_folder.specs.Faults.{IfUnfit}
 use Rattle.bag_folder.specs.Folders.{FolderShown, IsOpened, IsRefused}
+use Rattle.bag_folder.specs.Unfits.{UnfitShown}
 use Rattle.bag_program.specs.declared.explanation.Ended.{Ended}
 use Rattle.bag_program.specs.Endings.{first_name, name_if, name_if_crowded, name_if_empty, why_unopened}
 use Rattle.bag_program.specs.NoResults.{no_result_of_open}
 use Rattle.bag_program.specs.Making.{kept_folder}
-use Rattle.bag_program.specs.Working.{AreOpened, NoMemory, OneRefused, OutOfMemory, Refused, SomeIsRefused, WithFolder, WithFolders}
-use Rattle.bag_program.proofs.RequestLemmas.{word_at}
+use Rattle.bag_program.specs.Working.{AreOpened, NoMemory, OneRefused, OutOfMemory, Refused, FirstIsRefused, WithFolder, WithFolders}
 
 module _ {W : Type 0} (contents : W → Option (List ℕ)) (known : Option Listing) (untouched : Type 0) (old new : Output W) (result : Ended) where
   pub not_opened : (folder : List ℕ) (does : FolderShown → FolderShown → Type 0) (fault : OpenFault) → IfUnfit fault (IsRefused known folder Base) → untouched
@@ -36,16 +34,10 @@ module _ {W : Type 0} (contents : W → Option (List ℕ)) (known : Option Listi
   not_opened folder does (open_fault.Files unfit) refused same printed why = Refused unfit refused same printed why
   not_opened folder does open_fault.Memory refused same printed why = NoMemory same printed why
 
-  pub none_opened : (folders : List (List ℕ)) (does : List FolderShown → Type 0) (fault : OpenFault) → IfUnfit fault (SomeIsRefused known folders) → untouched
+  pub none_opened : (folders : List (List ℕ)) (does : List FolderShown → Type 0) (fault : OpenFault) → IfUnfit fault (FirstIsRefused known folders) → untouched
       → Printed contents old new result.status (no_result_text (no_result_of_open fault) ∷ []) FAILED → result.why ≡ why_unopened fault → WithFolders contents known folders untouched does old new result
   none_opened folders does (open_fault.Files unfit) refused same printed why = OneRefused unfit refused same printed why
   none_opened folders does open_fault.Memory refused same printed why = OutOfMemory same printed why
-
--- a folder that can't be used is one of several
-pub one_refused : (known : Option Listing) (folders : List (List ℕ)) (folder : List ℕ) → Contains folders folder → (fault : OpenFault) → IfUnfit fault (IsRefused known folder Base)
-    → IfUnfit fault (SomeIsRefused known folders)
-one_refused known folders folder there (open_fault.Files unfit) refused = (folder, there, refused)
-one_refused known folders folder there open_fault.Memory refused = refused
 
 pub given_up : (folder : List ℕ) (status : ℕ) (now given : Option (List ℕ)) → now ≡ given → given ≡ None → status ≢ DONE → now ≡ kept_folder folder status
 given_up folder status now given is none other = let left : None ≡ kept_folder folder status = grind (arith, common_steps) in is ∙ none ∙ left
@@ -68,11 +60,20 @@ module _ {X : Type 0} (octets : X → List ℕ) (known : Option Listing) where
       let s : suc i + 1 ≡ suc (i + 1) = omega arith in
       rw s (opened.0, opened_more fs i folder text ts tree (omega (arith, inside)) item is opened.1 this)
 
-  pub contained : (folders : List X) (i : ℕ) (folder : X) (text : List ℕ) → i < length folders → folder ≡ get_or folders i folder → text ≡ octets folder → Contains (map octets folders) text
-  contained folders i folder text inside item is =
-      let at = word_at octets folders folders i (length folders) folder text refl refl inside item is in
-      let texts = map octets folders in
-      subst (Contains texts) (get_or_from_slice_get texts i text text at) (Contains-get_or texts i text (slice_get_within texts i text at))
+  -- the folder at this place is refused, and those before it are opened
+  refused_at : (folders : List X) (i : ℕ) (folder : X) (text : List ℕ) (trees : List FolderShown) (unfit : UnfitShown) → i < length folders → folder ≡ get_or folders i folder → text ≡ octets folder
+      → AreOpened known (map octets (take i folders)) trees → IsRefused known text Base unfit → FirstIsRefused known (map octets folders) unfit
+  refused_at [] i folder text trees unfit inside item is opened this = absurd (omega (arith, inside))
+  refused_at (f ∷ fs) zero folder text trees unfit inside item is opened this =
+      let same : text ≡ octets f = is ∙ ap octets item in inl (subst (λ (t : List ℕ). IsRefused known t Base unfit) same this)
+  refused_at (f ∷ fs) (suc i) folder text [] unfit inside item is opened this = absurd opened
+  refused_at (f ∷ fs) (suc i) folder text (t ∷ ts) unfit inside item is opened this =
+      inr (t, opened.0, refused_at fs i folder text ts unfit (omega (arith, inside)) item is opened.1 this)
+
+  pub first_refused : (folders : List X) (i : ℕ) (folder : X) (text : List ℕ) (trees : List FolderShown) (fault : OpenFault) → i < length folders → folder ≡ get_or folders i folder → text ≡ octets folder
+      → AreOpened known (map octets (take i folders)) trees → IfUnfit fault (IsRefused known text Base) → IfUnfit fault (FirstIsRefused known (map octets folders))
+  first_refused folders i folder text trees (open_fault.Files unfit) inside item is opened this = refused_at folders i folder text trees unfit inside item is opened this
+  first_refused folders i folder text trees open_fault.Memory inside item is opened this = this
 
 pub couriers_more : (couriers : List (Bringing FolderShown)) (trees : List FolderShown) (tree : FolderShown) → couriers ≡ map courier_of trees → couriers ++ courier_of tree ∷ [] ≡ map courier_of (trees ++ tree ∷ [])
 couriers_more couriers trees tree is = ap (λ (cs : List (Bringing FolderShown)). cs ++ courier_of tree ∷ []) is ∙ sym (map-append courier_of trees (tree ∷ []))

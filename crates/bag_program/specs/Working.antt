@@ -1,5 +1,5 @@
 -- Work on a ledger: how it is opened, and what is done with it.
-use Rattle.std.specs.Prelude.{◌≡◌, ◌↔◌, ◌∷◌, ◌++◌, [], ℕ, Bool, Contains, List, None, Option, Some, codes, false, is_some, map, string_bytes}
+use Rattle.std.specs.Prelude.{◌≡◌, ◌⊎◌, ◌↔◌, ◌∷◌, ◌++◌, [], ℕ, Bool, List, None, Option, Some, codes, false, is_some, map, string_bytes}
 use Rattle.bag_ledger.specs.Ledgers.{Ledger}
 use Rattle.bag_ledger.specs.declared.keeper.Keeper.{Ghosts}
 use Rattle.bag_path.specs.Spellings.{written_spelling}
@@ -103,9 +103,11 @@ AreOpened known (folder ∷ folders) (tree ∷ trees) =
     IsOpened known folder Base tree × AreOpened known folders trees
 AreOpened known folders trees = ⊥
 
-abbrev pub SomeIsRefused : Option Listing → List (List ℕ) → UnfitShown → Type 0
-SomeIsRefused known folders unfit =
-    (folder : List ℕ) × Contains folders folder × IsRefused known folder Base unfit
+-- the first of the folders that can't be opened, behind those that were
+abbrev pub FirstIsRefused : Option Listing → List (List ℕ) → UnfitShown → Type 0
+FirstIsRefused known [] unfit = ⊥
+FirstIsRefused known (folder ∷ folders) unfit = IsRefused known folder Base unfit
+    ⊎ ((tree : FolderShown) × IsOpened known folder Base tree × FirstIsRefused known folders unfit)
 
 -- the same for several folders, and if they were opened, the first is told that has too many payload files or none
 pub data WithFolders {W : Type 0} (contents : W → Option (List ℕ)) (known : Option Listing)
@@ -114,7 +116,7 @@ pub data WithFolders {W : Type 0} (contents : W → Option (List ℕ)) (known : 
   AllOpened : (trees : List FolderShown) → AreOpened known folders trees → does trees
       → result.why ≡ why_undelivered_of trees
       → WithFolders contents known folders untouched does old new result
-  OneRefused : (unfit : UnfitShown) → SomeIsRefused known folders unfit → untouched
+  OneRefused : (unfit : UnfitShown) → FirstIsRefused known folders unfit → untouched
       → Printed contents old new result.status (no_result_text no_result.Files ∷ []) FAILED
       → result.why ≡ Some (Unfit unfit)
       → WithFolders contents known folders untouched does old new result

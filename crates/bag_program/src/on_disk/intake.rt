@@ -5,7 +5,7 @@ ghost use Rattle.bag_folder.specs.Folders.{FolderShown};
 ghost use Rattle.bag_folder.specs.Bringing.{courier_of};
 ghost use Rattle.std.specs.Option.{option_or};
 ghost use Rattle.bag_program.specs.Endings.{first_name, name_if, name_if_crowded, name_if_empty, why_undelivered};
-ghost use Rattle.bag_program.specs.Working.{AreOpened, SomeIsRefused, TakesInFrom};
+ghost use Rattle.bag_program.specs.Working.{AreOpened, FirstIsRefused, TakesInFrom};
 
 use super::no_result_for_folder;
 use crate::explanation::{Ended, Why};
@@ -80,7 +80,7 @@ fn open_all<'a, R: Files + Eprint, D: Directories>(
         × (opened.crowded ≡ first_name name_if_crowded trees)
         × (opened.empty ≡ first_name name_if_empty trees)) }
     ensures refused { IfErr result (λ fault. IfUnfit fault
-        (SomeIsRefused (D.listing disk.now) (map string_bytes folders.now))) }
+        (FirstIsRefused (D.listing disk.now) (map string_bytes folders.now))) }
 {
     let mut couriers = Vec::new(alloc);
     let mut crowded = None;

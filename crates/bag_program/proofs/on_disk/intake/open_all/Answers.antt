@@ -3,7 +3,7 @@ use Rattle.std.proofs.lemmas.List.{take_all}
 use Rattle.std.proofs.lemmas.Result.{err_from_is_err_and}
 use Rattle.bag_program.specs.Endings.{first_name, name_if_crowded, name_if_empty}
 use Rattle.bag_program.specs.Working.{AreOpened}
-use Rattle.bag_program.proofs.WorkLemmas.{contained, couriers_more, crowded_so, empty_so, one_refused, opened_more}
+use Rattle.bag_program.proofs.WorkLemmas.{couriers_more, crowded_so, empty_so, first_refused, opened_more}
 use Rattle.bag_program.proofs.on_disk.intake.open_all.Goals as goal
 
 pub loop-folder-init : goal.loop-folder-init
@@ -12,8 +12,8 @@ loop-folder-init g c = ([], tt, c.new-couriers.ensures.items, refl, refl)
 pub returns-in_err-tree-clause-refused : goal.returns-in_err-tree-clause-refused
 returns-in_err-tree-clause-refused g c =
     let error = err_from_is_err_and c.from_residual.result c.from_residual.ensures.1 in
-    let there = contained string_bytes (g.D.Directories.listing c.args.disk.now) c.args.folders.now c.loop-folder.folder-index c.folder-item.result c.as_str.result.now c.loop-folder-test.true c.folder-item.is c.as_str.ensures.value in
-    rw (error.1, error.2) (one_refused (g.D.Directories.listing c.args.disk.now) (map string_bytes c.args.folders.now) c.as_str.result.now there c.in_err-tree.field-0.0 c.in_err-tree.ensures.refused)
+    let first = first_refused string_bytes (g.D.Directories.listing c.args.disk.now) c.args.folders.now c.loop-folder.folder-index c.folder-item.result c.as_str.result.now c.loop-folder.invariant.0 c.in_err-tree.field-0.0 c.loop-folder-test.true c.folder-item.is c.as_str.ensures.value c.loop-folder.invariant.1 c.in_err-tree.ensures.refused in
+    rw (error.1, error.2) first
 
 pub loop-folder-preserved : goal.loop-folder-preserved
 loop-folder-preserved g c =
