@@ -27,9 +27,9 @@ xargs awk '
 
 cat >"$work/known" <<'KNOWN'
 bag_folder/destination.rt give_up remove_dir
-bag_folder/names.rt make_folder create_dir
-bag_folder/names.rt make_folders create_dir_all
-bag_folder/names.rt make_file File::create_new
+bag_folder/disk_names.rt make_folder create_dir
+bag_folder/disk_names.rt make_folders create_dir_all
+bag_folder/disk_names.rt make_file File::create_new
 bag_folder/sink.rt write write_all
 bag_folder/sink_file.rt write write_all
 bag_program/abandoned_ledger.rt remove_new_log remove_file self.rt, self.seen.log()

@@ -8,7 +8,7 @@ use Rattle.bag_folder.specs.declared.cause.Cause.{Cause}
 use Rattle.bag_folder.specs.Directories.{IsUnfit, Listing, name_below}
 use Rattle.bag_folder.specs.Faults.{IfUnfit, TellsBelow}
 use Rattle.bag_folder.specs.Folders.{IsRefused}
-use Rattle.bag_folder.specs.Names.{Standing}
+use Rattle.bag_folder.specs.DiskNames.{Standing}
 use Rattle.bag_folder.specs.Supplying.{IsBarred, IsNameTo, Says}
 use Rattle.bag_folder.proofs.NameLemmas.{if_known}
 use Rattle.bag_folder.specs.Unfits.{CountsTrouble, TellsLast, TroublesShown, UnfitShown}

@@ -10,7 +10,7 @@ use Rattle.bag_folder.specs.declared.directory.EntryKind.{EntryKind}
 use Rattle.bag_folder.specs.declared.directory.EntryKind.TheVariants.{File, Directory, Link, Special}
 use Rattle.bag_folder.specs.Directories.{EntryShown}
 use Rattle.bag_folder.specs.MemNames.{behind_of, content_of, named_by, standing_of}
-use Rattle.bag_folder.specs.Names.{Grows, IsMade, IsOnTheWay, IsVacant, MakesOne, MakesWay, Named, Standing, behind, content, itself, told_in}
+use Rattle.bag_folder.specs.DiskNames.{Grows, IsMade, IsOnTheWay, IsVacant, MakesOne, MakesWay, Named, Standing, behind, content, itself, told_in}
 use Rattle.bag_folder.proofs.NameLemmas.{grows_itself, grows_more}
 
 err_is_not_ok : {A : Type 0} (error : Error) (a : A) → Err error ≡ Ok a → ⊥

@@ -11,7 +11,7 @@ use Rattle.std.specs.Str.Pattern.{RFindsChar, SplitsAroundMatch}
 use Rattle.bag_folder.specs.declared.directory.EntryKind.{EntryKind}
 use Rattle.bag_folder.specs.declared.directory.EntryKind.TheVariants.{File, Directory}
 use Rattle.bag_folder.specs.Directories.{name_below}
-use Rattle.bag_folder.specs.Names.{Changes, Grows, IsDirectoryOf, IsFileMade, IsFolder, IsFolderIn, IsMade, IsOnTheWay, IsVacant, IsWay, LeadsTo, MakesFile, MakesOne, MakesParents, MakesWay, Standing}
+use Rattle.bag_folder.specs.DiskNames.{Changes, Grows, IsDirectoryOf, IsFileMade, IsFolder, IsFolderIn, IsMade, IsOnTheWay, IsVacant, IsWay, LeadsTo, MakesFile, MakesOne, MakesParents, MakesWay, Standing}
 
 -- WHAT IS KNOWN
 

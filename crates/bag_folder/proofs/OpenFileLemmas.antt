@@ -5,7 +5,7 @@ use Rattle.std.specs.List.{slice_get}
 use Rattle.bag_rules.specs.Trees.{octets_in, paths_in}
 use Rattle.bag_folder.specs.Directories.{name_below}
 use Rattle.bag_folder.specs.Folders.{FolderShown, path_below}
-use Rattle.bag_folder.specs.Names.{Standing}
+use Rattle.bag_folder.specs.DiskNames.{Standing}
 use Rattle.bag_folder.specs.OpenFiles.{FileShown, IsFileAt, IsGivenOut, OpensFile}
 use Rattle.bag_folder.proofs.Listings.{found_at}
 

@@ -3,7 +3,7 @@ use Rattle.std.proofs.Common.{◌≡◌, ℕ, List, None, Option, Some, Result, 
 use Rattle.std.specs.Prelude.{IfOk, IfSome, IsSomeAnd, MatchResult, OnSome}
 use Rattle.bag_folder.specs.declared.cause.Cause.{Cause}
 use Rattle.bag_folder.specs.Directories.{name_below}
-use Rattle.bag_folder.specs.Names.{Changes, HoldsNothing, MakesFile, Standing}
+use Rattle.bag_folder.specs.DiskNames.{Changes, HoldsNothing, MakesFile, Standing}
 use Rattle.bag_folder.specs.SinkFiles.{BeginsBelow, IsBegunAt, MakesBegun, SinkFileShown}
 use Rattle.bag_folder.specs.SinkFolders.{SinkShown}
 use Rattle.bag_folder.proofs.NameLemmas.{changes_more}

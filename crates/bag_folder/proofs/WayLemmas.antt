@@ -12,7 +12,7 @@ use Rattle.bag_folder.specs.declared.directory.EntryKind.TheVariants.{File, Dire
 use Rattle.bag_folder.specs.declared.cause.Cause.{Cause}
 use Rattle.bag_folder.specs.declared.cause.Cause.TheVariants as why
 use Rattle.bag_folder.specs.Directories.{name_below}
-use Rattle.bag_folder.specs.Names.{LeadsTo, Standing, content, itself}
+use Rattle.bag_folder.specs.DiskNames.{LeadsTo, Standing, content, itself}
 use Rattle.bag_folder.specs.Supplying.{Absent, Finds, Hidden, InFile, IsBarred, IsDirectory, IsGiven, IsLink, IsMet, IsReached, IsSpecial, Meets, Says, Shut}
 use Rattle.bag_folder.specs.Unfits.{IsCauseOf}
 use Rattle.bag_folder.proofs.NameLemmas.{if_always, if_both, if_known, leads_on, longer}

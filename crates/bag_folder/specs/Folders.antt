@@ -10,7 +10,7 @@ use Rattle.bag_tags.specs.Words.{without}
 use Rattle.bag_folder.specs.declared.place.Place.{Place}
 use Rattle.bag_folder.specs.declared.place.Place.TheVariants.{Base, Payload}
 use Rattle.bag_folder.specs.Directories.{IsBelow, IsUnfit, Listing, name_below}
-use Rattle.bag_folder.specs.Names.{Standing, content}
+use Rattle.bag_folder.specs.DiskNames.{Standing, content}
 use Rattle.bag_folder.specs.Unfits.{IsCauseOf, IsToldAt, UnfitShown}
 
 -- what is shown of files with these paths and unknown octets

@@ -3,7 +3,7 @@ pub mod Directories
 pub mod Faults
 pub mod Folders
 pub mod MemNames
-pub mod Names
+pub mod DiskNames
 pub mod OpenFiles
 pub mod SinkFiles
 pub mod SinkFolders

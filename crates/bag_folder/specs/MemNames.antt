@@ -4,7 +4,7 @@ use Rattle.std.specs.declared.io.Error.{Error}
 use Rattle.bag_folder.specs.declared.directory.EntryKind.{EntryKind}
 use Rattle.bag_folder.specs.declared.directory.EntryKind.TheVariants.{File, Link}
 use Rattle.bag_folder.specs.Directories.{EntryShown}
-use Rattle.bag_folder.specs.Names.{Named, Standing}
+use Rattle.bag_folder.specs.DiskNames.{Named, Standing}
 
 -- a link leads nowhere
 abbrev pub behind_of : Error → EntryKind → Result EntryKind Error

@@ -8,7 +8,7 @@ use Rattle.bag_rules.specs.Trees.{Shown, paths_in}
 use Rattle.bag_folder.specs.declared.cause.Cause.{Cause}
 use Rattle.bag_folder.specs.Directories.{name_below}
 use Rattle.bag_folder.specs.Folders.{FolderShown, SameShown, path_below}
-use Rattle.bag_folder.specs.Names.{Standing, content}
+use Rattle.bag_folder.specs.DiskNames.{Standing, content}
 use Rattle.bag_folder.specs.Unfits.{IsCauseOf, UnfitShown}
 
 -- its place in the tree, and its name on disk; what it will still give, if that is known, or why it couldn't be opened; how

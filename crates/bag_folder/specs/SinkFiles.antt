@@ -4,7 +4,7 @@ use Rattle.bag_digest.specs.Failures.{one_more}
 use Rattle.bag_writer.specs.OpenSinks.{IsBegun, LeavesSink}
 use Rattle.bag_folder.specs.declared.cause.Cause.{Cause}
 use Rattle.bag_folder.specs.Directories.{name_below}
-use Rattle.bag_folder.specs.Names.{Changes, Grows, HoldsNothing, IsFileMade, IsWay, Standing}
+use Rattle.bag_folder.specs.DiskNames.{Changes, Grows, HoldsNothing, IsFileMade, IsWay, Standing}
 use Rattle.bag_folder.specs.SinkFolders.{SinkShown, WritesBegun}
 use Rattle.bag_folder.specs.Unfits.{UnfitShown}
 

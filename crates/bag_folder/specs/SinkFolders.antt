@@ -2,7 +2,7 @@
 use Rattle.std.specs.Prelude.{◌≡◌, ℕ, List, Option, Some, None, Result, IsErr, MatchResult, OnOk}
 use Rattle.std.specs.Io.KnownBytes.{Appends}
 use Rattle.bag_folder.specs.Directories.{name_below}
-use Rattle.bag_folder.specs.Names.{Standing}
+use Rattle.bag_folder.specs.DiskNames.{Standing}
 use Rattle.bag_folder.specs.Unfits.{IsToldAt, UnfitShown}
 use Rattle.bag_digest.specs.Failures.{one_more}
 

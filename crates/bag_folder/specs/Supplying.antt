@@ -11,7 +11,7 @@ use Rattle.bag_folder.specs.declared.directory.EntryKind.TheVariants.{File, Dire
 use Rattle.bag_folder.specs.declared.cause.Cause.{Cause}
 use Rattle.bag_folder.specs.declared.cause.Cause.TheVariants as why
 use Rattle.bag_folder.specs.Directories.{name_below}
-use Rattle.bag_folder.specs.Names.{IsOnTheWay, LeadsTo, Standing, content, itself}
+use Rattle.bag_folder.specs.DiskNames.{IsOnTheWay, LeadsTo, Standing, content, itself}
 use Rattle.bag_folder.specs.Unfits.{IsCauseOf, UnfitShown}
 
 -- what stands under names, if that is known; the name of the folder, and of the last file looked up; what the open file

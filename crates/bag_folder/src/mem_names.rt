@@ -1,10 +1,10 @@
 //! Names in memory.
 ghost use Rattle.std.specs.Prelude.{Some};
 ghost use Rattle.bag_folder.specs.MemNames.{standing_of};
-ghost use Rattle.bag_folder.specs.Names.{MakesOne};
+ghost use Rattle.bag_folder.specs.DiskNames.{MakesOne};
 
 use crate::directory::{Entry, EntryKind};
-use crate::names::Names;
+use crate::disk_names::Names;
 use std::alloc::Global;
 use std::io::{self, ErrorKind};
 

@@ -4,7 +4,7 @@ ghost use Rattle.bag_folder.specs.Faults.{IfUnfit, TellsBelow, TellsPath, TellsS
 ghost use Rattle.bag_folder.specs.Folders.{told_name};
 
 use crate::cause::{Cause, Unfit};
-use crate::name::spell;
+use crate::file_name::spell;
 use crate::place::Place;
 use bag_path::PathFault;
 use std::alloc::{AllocError, AllocFailed, Global};

@@ -4,8 +4,8 @@ ghost use Rattle.bag_folder.specs.Directories.{name_below};
 ghost use Rattle.bag_folder.specs.OpenFiles.{IsFileAt, ReadsOpened, left_in, trouble_of};
 
 use crate::cause::{Cause, Unfit};
-use crate::name::opened;
-use crate::names::Names;
+use crate::disk_names::Names;
+use crate::file_name::opened;
 use bag_digest::{Failed, Failures, Source};
 use bag_rules::OpenFile;
 use std::alloc::AllocError;

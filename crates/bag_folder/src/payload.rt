@@ -5,7 +5,7 @@ ghost use Rattle.bag_tags.specs.Words.{without};
 ghost use Rattle.bag_folder.specs.Directories.{data_entry, in_payload, name_below};
 
 use crate::directory::{Directories, Entry, EntryKind};
-use crate::name::spell;
+use crate::file_name::spell;
 use std::alloc::{AllocError, Global};
 use std::io::{self, ErrorKind};
 

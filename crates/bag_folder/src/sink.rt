@@ -3,13 +3,13 @@ ghost use Rattle.std.specs.Prelude.{◌≡◌, ◌||◌, IfErr, IfOk, IfSome, Is
 ghost use Rattle.std.specs.Option.{option_map};
 ghost use Rattle.bag_folder.specs.Directories.{name_below};
 ghost use Rattle.bag_folder.specs.Faults.{IfUnfit, no_name};
-ghost use Rattle.bag_folder.specs.Names.{Changes, IsMade};
+ghost use Rattle.bag_folder.specs.DiskNames.{Changes, IsMade};
 ghost use Rattle.bag_folder.specs.SinkFolders.{IsCreated};
 
 use crate::cause::{Unfit, with_cause};
 use crate::directory::EntryKind;
-use crate::name::{created, created_directory};
-use crate::names::Names;
+use crate::disk_names::Names;
+use crate::file_name::{created, created_directory};
 use crate::open_fault::OpenFault;
 use crate::sink_file::FolderSinkFile;
 use crate::troubles::Troubles;
@@ -36,7 +36,7 @@ pub struct FolderSink<R: Names> {
 
 impl<R: Names> Model for FolderSink<R> {
     ghost use Rattle.std.specs.Prelude.{option_map, string_bytes};
-    ghost use Rattle.bag_folder.specs.Names.{IsFolderIn};
+    ghost use Rattle.bag_folder.specs.DiskNames.{IsFolderIn};
     ghost use Rattle.bag_folder.specs.SinkFolders.{SinkShown};
 
     ghost Value = { SinkShown };
@@ -108,7 +108,7 @@ impl<R: Names + Drop> FolderSink<R> {
 
 impl<R: Names> Sink for FolderSink<R> {
     ghost use Rattle.bag_writer.specs.Sinks.{IsFree, StaysOrIsLost, Stored, UsesSink};
-    ghost use Rattle.bag_folder.specs.Names.{HoldsNothing, MakesFile, MakesWay};
+    ghost use Rattle.bag_folder.specs.DiskNames.{HoldsNothing, MakesFile, MakesWay};
     ghost use Rattle.bag_folder.specs.SinkFolders.{EndsFile, MakesBelow, SinkShown, WritesFolder};
 
     ghost stored = { λ _. None };

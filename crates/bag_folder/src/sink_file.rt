@@ -4,7 +4,7 @@ ghost use Rattle.bag_digest.specs.Failures.{one_more};
 ghost use Rattle.bag_folder.specs.SinkFiles.{EndsBegun, WritesFile, trouble_in};
 
 use crate::cause::{Cause, Unfit, with_cause};
-use crate::names::Names;
+use crate::disk_names::Names;
 use bag_digest::{Failed, Failures};
 use bag_writer::SinkFile;
 use std::io::Write;

@@ -2,14 +2,14 @@
 ghost use Rattle.std.specs.Prelude.{◌≡◌, ◌≢◌, ◌≤◌, [], Err, IfErr, IfOk, IfSome, IsErr, MatchOption, MatchResult, None, Ok, OnSome, Some, is_some, length, string_bytes, take, true};
 ghost use Rattle.bag_folder.specs.Directories.{name_below};
 ghost use Rattle.bag_folder.specs.Faults.{IfUnfit, no_name};
-ghost use Rattle.bag_folder.specs.Names.{LeadsTo, behind, itself};
+ghost use Rattle.bag_folder.specs.DiskNames.{LeadsTo, behind, itself};
 ghost use Rattle.bag_folder.specs.Supplying.{Finds, IsBarred, IsNameTo, IsNoFolder, IsReadyFolder, LooksUp, Meets, Says};
 ghost use Rattle.bag_folder.specs.Unfits.{IsCauseOf, IsToldAt};
 
 use crate::cause::{Cause, Unfit, with_cause};
 use crate::directory::EntryKind;
-use crate::name::{opened, spell};
-use crate::names::Names;
+use crate::disk_names::Names;
+use crate::file_name::{opened, spell};
 use crate::open_fault::OpenFault;
 use crate::troubles::Troubles;
 use bag_digest::{Failed, Source};

@@ -10,8 +10,8 @@ ghost use Rattle.bag_folder.specs.OpenFiles.{OpensFile};
 
 use crate::cause::{Unfit, with_cause};
 use crate::directory::Directories;
-use crate::name::opened;
-use crate::names::Names;
+use crate::disk_names::Names;
+use crate::file_name::opened;
 use crate::open_fault::OpenFault;
 use crate::open_file::FolderFile;
 use crate::payload::InPayload;

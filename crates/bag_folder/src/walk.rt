@@ -6,7 +6,7 @@ ghost use Rattle.bag_folder.specs.Walks.{LooksInto, RefusesFront, Walked};
 
 use crate::cause::{Cause, Unfit};
 use crate::directory::{Directories, EntryKind};
-use crate::name::spell;
+use crate::file_name::spell;
 use crate::open_fault::OpenFault;
 use bag_path::BagPath;
 use std::alloc::Global;

@@ -4,11 +4,11 @@ use Rattle.std.specs.Prelude.{if◌then◌else◌, option_map, slice_get}
 use Rattle.std.specs.Str.{bytes_eq}
 use Rattle.std.proofs.lemmas.Option.{slice_get-map, slice_get_read}
 use Rattle.std.proofs.lemmas.List.{append-nil, drop_all, take_all}
-use Rattle.bag_program.specs.declared.request.Request.{Request}
-use Rattle.bag_program.specs.declared.request.Request.TheVariants.{Check, Ledger, Make}
-use Rattle.bag_program.specs.declared.request.Work.{Work}
-use Rattle.bag_program.specs.declared.request.Work.TheVariants.{Audit, Begin, Export, Fetch, Intake, List as Listing, Report}
-use Rattle.bag_program.specs.Requests.{AsksFor, IsRequest, IsWholeWork, NamesCommand, is_option, operands_in, operands_of, request_name, work_name, work_operands}
+use Rattle.bag_program.specs.declared.command_line.Request.{Request}
+use Rattle.bag_program.specs.declared.command_line.Request.TheVariants.{Check, Ledger, Make}
+use Rattle.bag_program.specs.declared.command_line.Work.{Work}
+use Rattle.bag_program.specs.declared.command_line.Work.TheVariants.{Audit, Begin, Export, Fetch, Intake, List as Listing, Report}
+use Rattle.bag_program.specs.CommandLines.{AsksFor, IsRequest, IsWholeWork, NamesCommand, is_option, operands_in, operands_of, request_name, work_name, work_operands}
 use Rattle.bag_folder.proofs.CourierLemmas.{rest_from}
 
 next_taken : {X : Type 0} (xs : List X) (n : ℕ) (x : X) → slice_get xs n ≡ Some x → take (n + 1) xs ≡ take n xs ++ x ∷ []

@@ -11,8 +11,8 @@ use Rattle.bag_receiver.specs.Receivers.{IsInState}
 use Rattle.bag_receiver.specs.LedgerStates.{LedgerState}
 use Rattle.bag_program.specs.declared.explanation.Ended.{Ended}
 use Rattle.bag_program.specs.declared.ledgers.Ledgers.{Ghosts as Ledgers}
-use Rattle.bag_program.specs.declared.request.Work.{Work}
-use Rattle.bag_program.specs.declared.request.Work.TheVariants.{Audit, Begin, Export, Fetch, Intake, List as ListNames, Report}
+use Rattle.bag_program.specs.declared.command_line.Work.{Work}
+use Rattle.bag_program.specs.declared.command_line.Work.TheVariants.{Audit, Begin, Export, Fetch, Intake, List as ListNames, Report}
 use Rattle.bag_program.specs.Working.{DoesWork, IsOpenFor, Views, viewed}
 
 module _ {K W : Type 0} (k : Ghosts K) (known : Option Listing) (contents : W → Option (List ℕ)) (made now : Option (List ℕ)) (before after : Receiver K) (old new : Output W) (result : Ended) (valid : result.status ≡ VALID)

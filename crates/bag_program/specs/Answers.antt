@@ -16,11 +16,11 @@ use Rattle.bag_folder.specs.Unfits.{UnfitShown}
 use Rattle.bag_program.specs.declared.explanation.Ended.{Ended}
 use Rattle.bag_program.specs.declared.ledgers.Ledgers.{Ghosts as Ledgers}
 use Rattle.bag_program.specs.declared.explanation.Why.TheVariants.{Unfit}
-use Rattle.bag_program.specs.declared.request.Request.{Request}
-use Rattle.bag_program.specs.declared.request.Request.TheVariants.{Check, Ledger, Make}
+use Rattle.bag_program.specs.declared.command_line.Request.{Request}
+use Rattle.bag_program.specs.declared.command_line.Request.TheVariants.{Check, Ledger, Make}
 use Rattle.bag_program.specs.Endings.{why_unchecked}
 use Rattle.bag_program.specs.Making.{PrintsMake}
-use Rattle.bag_program.specs.Requests.{AsksFor, NamesCommand}
+use Rattle.bag_program.specs.CommandLines.{AsksFor, NamesCommand}
 use Rattle.bag_program.specs.Working.{WorksOn}
 
 -- a result of `check` for an open folder, which may fail

@@ -3,7 +3,7 @@ pub mod Endings
 pub mod LedgerFiles
 pub mod Making
 pub mod Named
-pub mod Requests
+pub mod CommandLines
 pub mod NoResults
 pub mod Unopened
 pub mod Working

@@ -32,8 +32,8 @@ use Rattle.bag_folder.specs.declared.place.Place.TheVariants.{Base}
 use Rattle.bag_program.specs.declared.explanation.Ended.{Ended}
 use Rattle.bag_program.specs.declared.explanation.Why.{Why}
 use Rattle.bag_program.specs.declared.explanation.Why.TheVariants.{Unfit}
-use Rattle.bag_program.specs.declared.request.Work.{Work}
-use Rattle.bag_program.specs.declared.request.Work.TheVariants.{Audit, Begin, Export, Fetch, Intake, List as ListNames, Report}
+use Rattle.bag_program.specs.declared.command_line.Work.{Work}
+use Rattle.bag_program.specs.declared.command_line.Work.TheVariants.{Audit, Begin, Export, Fetch, Intake, List as ListNames, Report}
 use Rattle.bag_folder.specs.Bringing.{Bringing, courier_of, to_come}
 use Rattle.bag_folder.specs.Directories.{Listing}
 use Rattle.bag_folder.specs.Folders.{FolderShown, IsOpened, IsRefused}

@@ -1,97 +1,130 @@
-//! Runs the command on the command line.
-ghost use Rattle.std.specs.Prelude.{map, string_bytes};
-ghost use Rattle.bag_program.specs.Answers.{Refuses, Runs, RunsCommand};
+//! The request on the command line.
+ghost use Rattle.std.specs.Prelude.{◌≡◌, IfNone, IfSome, map, option_map, string_bytes};
+ghost use Rattle.bag_program.specs.CommandLines.{AsksForWork, IsRequest, is_option, operands_of};
+ghost use Rattle.bag_program.specs.declared.command_line.Request.{Request};
+ghost use Rattle.bag_program.specs.declared.command_line.Work.{Work};
 
-use crate::explanation::Ended;
-use crate::ledgers::Ledgers;
-use crate::on_disk::check::check_folder;
-use crate::on_disk::ledger_work::work_on_ledger;
-use crate::on_disk::make::{Making, make_folder};
-use crate::request::{Request, operands};
-use crate::system::System;
-use crate::usage::Usage;
-use bag_commands::status::{DONE, USAGE};
-use bag_commands::{NoResult, Output, print_no_result};
-use bag_folder::{Destination, Directories};
-use std::alloc::AllocError;
-use std::io::Write;
-use std::rt::Files;
+/// A command with its operands.
+#[derive(Clone, Copy, Debug, PartialEq, Eq)]
+pub enum Request<'a> {
+    /// `check DIR`
+    Check {
+        /// The name of the folder.
+        folder: &'a str,
+    },
+    /// `make SRC DST ALG..`
+    Make {
+        /// The name of the folder that contains the payload.
+        source: &'a str,
+        /// The name of the folder to make the bag in.
+        destination: &'a str,
+        /// One or more names of algorithms, as given. A name may be unknown, or occur twice.
+        algorithms: &'a [String],
+    },
+    /// A command on a ledger.
+    Ledger {
+        /// The name of the ledger's file.
+        ledger: &'a str,
+        /// What to do with it.
+        work: Work<'a>,
+    },
+}
 
-/// Runs the command that these arguments ask for.
-pub fn command<R: Files + Eprint, D: Directories, L: Ledgers, W: Write + Drop>(
-    system: &System<'_, R, D>,
-    ledgers: L,
-    made: &mut Destination<'_, R>,
-    mut words: Vec<String>,
-    out: &mut Output<W>,
-) -> Ended
-    ensures { RunsCommand L.Kept.Keeper L.Ledgers W.contents (D.listing system.now.disk.now)
-        (map string_bytes words.items) made.old made.new out.old out.new result }
-{
-    if words.is_empty() {
-        return Ended::plain(out.print_line(
-            "bag: check, make, begin, intake, report, audit, fetch, export, list",
-            USAGE,
-        ));
-    }
-    let Ok(given) = words.clone() else {
-        return Ended::plain(print_no_result(NoResult::Memory, out));
-    };
-    let name = words.remove(0);
-    let Some(operands) = operands(words) else {
-        return Ended::plain(refuse(system, &given, out));
-    };
-    match Request::of(name.as_str(), operands.as_slice()) {
-        Some(request) => run_request(system, ledgers, made, &request, out),
-        None => Ended::plain(refuse(system, &given, out)),
+/// What to do with a ledger. `name` is the name of a transfer, or a text that isn't valid as one.
+#[derive(Clone, Copy, Debug, PartialEq, Eq)]
+pub enum Work<'a> {
+    /// `begin LEDGER NAME DIR`: opens a transfer with the tag files in a folder.
+    Begin {
+        name: &'a str,
+        folder: &'a str,
+    },
+    /// `intake LEDGER NAME DIR..`: takes in the payload files of one or more folders.
+    Intake {
+        name: &'a str,
+        folders: &'a [String],
+    },
+    /// `report LEDGER NAME`: judges the bag that is held.
+    Report {
+        name: &'a str,
+    },
+    /// `audit LEDGER NAME`: does the same after reading again everything that is held.
+    Audit {
+        name: &'a str,
+    },
+    /// `fetch LEDGER NAME DIR`: looks in a folder for the files that `fetch.txt` lists and that aren't held.
+    Fetch {
+        name: &'a str,
+        folder: &'a str,
+    },
+    /// `export LEDGER NAME DIR`: writes the bag that is held to a new folder.
+    Export {
+        name: &'a str,
+        folder: &'a str,
+    },
+    /// `list LEDGER`: lists the names of the transfers.
+    List,
+}
+
+impl<'a> Request<'a> {
+    /// The request of a command with these operands. `None` if there is no such command.
+    pub fn of(command: &str, operands: &'a [String]) -> Option<Request<'a>>
+        ensures none { IfNone result ((request : Request)
+            → ¬ IsRequest command.now (map string_bytes operands.now) request) }
+        ensures request { IfSome result
+            (IsRequest command.now (map string_bytes operands.now)) }
+    {
+        match (command, operands) {
+            ("check", [folder]) => Some(Request::Check { folder }),
+            ("make", [source, destination, algorithms @ ..]) if !algorithms.is_empty() => {
+                Some(Request::Make {
+                    source,
+                    destination,
+                    algorithms,
+                })
+            }
+            ("begin", [ledger, name, folder]) => on(ledger, Work::Begin { name, folder }),
+            ("intake", [ledger, name, folders @ ..]) if !folders.is_empty() => {
+                on(ledger, Work::Intake { name, folders })
+            }
+            ("report", [ledger, name]) => on(ledger, Work::Report { name }),
+            ("audit", [ledger, name]) => on(ledger, Work::Audit { name }),
+            ("fetch", [ledger, name, folder]) => on(ledger, Work::Fetch { name, folder }),
+            ("export", [ledger, name, folder]) => on(ledger, Work::Export { name, folder }),
+            ("list", [ledger]) => on(ledger, Work::List),
+            _ => None,
+        }
     }
 }
 
-/// Runs a command.
-fn run_request<R: Files + Eprint, D: Directories, L: Ledgers, W: Write + Drop>(
-    system: &System<'_, R, D>,
-    ledgers: L,
-    made: &mut Destination<'_, R>,
-    request: &Request<'_>,
-    out: &mut Output<W>,
-) -> Ended
-    ensures { Runs L.Kept.Keeper L.Ledgers W.contents (D.listing system.now.disk.now) request.now
-        made.old made.new out.old out.new result }
+/// The request to do this work with a ledger.
+fn on<'a>(ledger: &'a str, work: Work<'a>) -> Option<Request<'a>>
+    ensures { result ≡ Some (Request.Ledger ledger.entry work.entry) }
 {
-    match request {
-        Request::Check { folder } => check_folder(system, folder, out),
-        Request::Make {
-            source,
-            destination,
-            algorithms,
-        } => {
-            let making = Making {
-                source,
-                destination,
-                names: algorithms,
-            };
-            make_folder(system, made, &making, out)
-        }
-        Request::Ledger { ledger, work } => {
-            work_on_ledger(system, ledgers, made, ledger, work, out)
-        }
-    }
+    Some(Request::Ledger { ledger, work })
 }
 
-/// Prints help if the arguments ask for it; otherwise says on standard error why they are no known command.
-fn refuse<R: Eprint, D, W: Write + Drop>(
-    system: &System<'_, R, D>,
-    words: &[String],
-    out: &mut Output<W>,
-) -> u8
-    ensures { Refuses W.contents out.old out.new result }
+/// The operands among the arguments after a command's name, or `None` if one of them is an option.
+///
+/// All arguments after the first `--` are operands.
+pub fn operands(mut words: Vec<String>) -> Option<Vec<String>>
+    ensures { option_map (λ operands. map string_bytes operands.items) result
+        ≡ operands_of (map string_bytes words.items) }
 {
-    match Usage::of(system.alloc, words) {
-        Ok(Usage::Help(text)) => out.print_line(text.as_str().trim_end(), DONE),
-        Ok(Usage::Refused(text)) => {
-            let _ = eprintln!(system.rt; "{}", text.as_str().trim_end());
-            USAGE
+    for i in 0..words.len() {
+        if words[i].as_str() == "--" {
+            let _mark = words.remove(i);
+            return Some(words);
         }
-        Err(AllocError) => print_no_result(NoResult::Memory, out),
+        if is_option(words[i].as_str()) {
+            return None;
+        }
     }
+    Some(words)
+}
+
+/// Whether an argument is an option: a hyphen followed by anything else.
+fn is_option(word: &str) -> bool
+    ensures { result ≡ is_option word.now }
+{
+    word.len() > 1 && word.starts_with("-")
 }

@@ -60,7 +60,7 @@ pub use Rattle.bag_sqlite.specs.declared.short_items.Batch.{Batch}
 pub use Rattle.bag_sqlite.specs.declared.content.Content.{Content}
 pub use Rattle.bag_sqlite.specs.declared.format.Format.{Format}
 pub use Rattle.bag_sqlite.specs.declared.health.Health.{Health}
-pub use Rattle.bag_sqlite.specs.declared.items.HeldFile.{HeldFile}
+pub use Rattle.bag_sqlite.specs.declared.item_queries.HeldFile.{HeldFile}
 pub use Rattle.bag_sqlite.specs.declared.verifying.Finding.TheVariants.{Untested}
 pub use Rattle.sqlite.proofs.Callers.{command_of, IsPlain, one_permutation, one_step, reads_as, runs_as, statement_of, survives_begin}
 pub use Rattle.sqlite.proofs.InsideLemmas.{inside_keeps, unchanged_keeps}

@@ -7,7 +7,7 @@ ghost use Rattle.bag_rules.specs.declared.limits.TheConstants.{LARGEST_ITEM};
 ghost use Rattle.sqlite.specs.Order.{column};
 ghost use Rattle.sqlite.specs.declared.types.Value.TheVariants.{Text};
 
-use crate::transfers::path_in;
+use crate::transfer_queries::path_in;
 use crate::verifying::size_in;
 use bag_digest::{Alg, PIECE};
 use bag_rules::{Plan, Want};

@@ -16,8 +16,8 @@ ghost use Rattle.sqlite.specs.State.{HasCleanDisk, Survives};
 ghost use Rattle.sqlite.specs.Values.{IsInt};
 ghost use Rattle.sqlite.specs.declared.types.Value.TheVariants.{Blob};
 
+use crate::item_statements::{insert_item, insert_piece, set_size};
 use crate::new_tables::make_item_tables;
-use crate::rows::{insert_item, insert_piece, set_size};
 use bag_digest::PIECE;
 use sqlite::types::ValueRef;
 use sqlite::{Alter, Connection, Error, ErrorCode, Row, Transaction, params};

@@ -12,8 +12,8 @@ ghost use Rattle.bag_sqlite.specs.Transactions.{CommitsNothing};
 ghost use Rattle.sqlite.specs.Held.{Held, state};
 ghost use Rattle.sqlite.specs.State.{HasCleanDisk};
 
-use crate::rows::{insert_item, insert_piece, set_size};
-use crate::transfers::transfer_number;
+use crate::item_statements::{insert_item, insert_piece, set_size};
+use crate::transfer_queries::transfer_number;
 use bag_digest::{Digests, Multi, Source, SourceFault, fill};
 use bag_rules::limits::LARGEST_ITEM;
 use bag_rules::{Want, WantFault};

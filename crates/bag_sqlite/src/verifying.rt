@@ -19,7 +19,7 @@ use crate::adopting::{AdoptFault, rows_of};
 use crate::content::Content;
 use crate::format::Format;
 use crate::short_items::Batch;
-use crate::transfers::{path_in, tag_set_in};
+use crate::transfer_queries::{path_in, tag_set_in};
 use crate::verifying_beside::{LANES, valid_beside};
 use crate::watch::Watch;
 use bag_digest::{AlgSet, PIECE};

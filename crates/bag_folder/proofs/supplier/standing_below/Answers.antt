@@ -3,7 +3,7 @@ use Rattle.std.proofs.lemmas.Result.{err_from_is_err_and}
 use Rattle.bag_folder.specs.declared.directory.EntryKind.{EntryKind}
 use Rattle.bag_folder.specs.declared.directory.EntryKind.TheVariants.{File, Directory, Link, Special}
 use Rattle.bag_folder.specs.Directories.{name_below}
-use Rattle.bag_folder.specs.Names.{Standing}
+use Rattle.bag_folder.specs.DiskNames.{Standing}
 use Rattle.bag_folder.proofs.WayLemmas.{FindsIn, file_met, hidden_met, other_met, reached_on, reached_past, whole_met}
 use Rattle.bag_folder.proofs.supplier.standing_below.Goals as goal
 use Rattle.bag_folder.proofs.supplier.standing_below.Goals.{in-Some+in_ok-standing_at+in-Some-Directory, in_default}

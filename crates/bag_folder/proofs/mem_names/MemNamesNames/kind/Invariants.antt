@@ -1,6 +1,6 @@
 use Rattle.std.proofs.Common.{◌≡◌, drop}
 use Rattle.bag_folder.specs.MemNames.{standing_of}
-use Rattle.bag_folder.specs.Names.{itself}
+use Rattle.bag_folder.specs.DiskNames.{itself}
 use Rattle.bag_folder.proofs.MemNameLemmas.{kind_in}
 use Rattle.bag_folder.proofs.mem_names.MemNamesNames.kind.Given as goal
 

@@ -2,7 +2,7 @@ use Rattle.std.proofs.Common.{◌≡◌, ◌∙◌, ℕ, List, Option, None, Som
 use Rattle.std.proofs.lemmas.Result.{err_from_is_err_and}
 use Rattle.bag_folder.specs.Directories.{name_below}
 use Rattle.bag_folder.specs.Supplying.{IsNameTo}
-use Rattle.bag_folder.specs.Names.{Standing}
+use Rattle.bag_folder.specs.DiskNames.{Standing}
 use Rattle.bag_folder.specs.declared.directory.EntryKind.{EntryKind}
 use Rattle.bag_folder.specs.declared.directory.EntryKind.TheVariants.{File, Directory, Link, Special}
 use Rattle.bag_folder.specs.declared.cause.Cause.TheVariants as why
