@@ -17,7 +17,7 @@ use crate::health::Health;
 use crate::new_tables::make_ledger;
 use crate::octets::Octets;
 use crate::putting::put_content;
-use crate::{items, queries, transfers};
+use crate::{item_queries, queries, transfer_queries};
 use bag_digest::{Source, piece_buffer};
 use bag_ledger::{KeepFault, Keeper, PutFault};
 use bag_path::BagPath;
@@ -131,7 +131,7 @@ impl<S: Alter> Keeper for SqlKeeper<S> {
     fn tags(&mut self, alloc: Global, name: &str) -> Result<Option<TagSet>, KeepFault> {
         self.health.test()?;
         self.health
-            .answer(transfers::tags(alloc, &mut self.connection, name))
+            .answer(transfer_queries::tags(alloc, &mut self.connection, name))
     }
 
     fn size_of(
@@ -141,14 +141,13 @@ impl<S: Alter> Keeper for SqlKeeper<S> {
         path: &BagPath,
     ) -> Result<Option<u64>, KeepFault> {
         self.health.test()?;
-        self.health
-            .answer(items::size_of(&mut self.connection, name, path.as_str()))
+        self.health.answer(item_queries::size_of(&mut self.connection, name, path.as_str()))
     }
 
     fn sizes(&mut self, alloc: Global, name: &str) -> Result<Vec<ItemSize>, KeepFault> {
         self.health.test()?;
         self.health
-            .answer(transfers::sizes(alloc, &mut self.connection, name))
+            .answer(transfer_queries::sizes(alloc, &mut self.connection, name))
     }
 
     fn put(
@@ -189,7 +188,7 @@ impl<S: Alter> Keeper for SqlKeeper<S> {
         buf: &mut [u8],
     ) -> Result<usize, KeepFault> {
         self.health.test()?;
-        self.health.answer(items::read_piece(
+        self.health.answer(item_queries::read_piece(
             &mut self.connection,
             name,
             path.as_str(),
