@@ -10,6 +10,8 @@ mod keepers;
 #[cfg(test)]
 mod ledgers;
 #[cfg(test)]
+mod names;
+#[cfg(test)]
 mod paths;
 #[cfg(test)]
 mod printing;
