@@ -1,12 +1,12 @@
 -- Runs of deliveries from a courier.
-use Rattle.std.proofs.Common.{◌≡◌, ◌+◌, ℕ, List, [], ◌∷◌, ◌++◌, Option, Some, None, length, map, true, Ok, Err, Result, get_or, refl, sym, ap, subst, ◌∙◌, arith}
+use Rattle.std.proofs.Common.{◌≡◌, ◌+◌, ℕ, List, [], ◌∷◌, ◌++◌, Option, Some, None, length, true, Ok, Err, Result, get_or, refl, sym, ap, subst, ◌∙◌, arith}
 use Rattle.std.proofs.Math.Seq.{get_or-append_seam}
 use Rattle.bag_digest.proofs.Progress.{all_known, more_known}
 use Rattle.bag_receiver.specs.declared.run.End.{End}
 use Rattle.bag_receiver.specs.declared.run.End.TheVariants as end
 use Rattle.bag_receiver.specs.Couriers.{AreOf, AreTold, IsOf, courier_failures, read_failure}
 use Rattle.bag_receiver.proofs.RunLemmas.{ran_more, ran_nothing}
-use Rattle.bag_receiver.proofs.Words.{Answer, BadPath, Brought, CallsNext, ComesNext, Content, CountsEach, CountsIf, Delivery, delivery_of, Digest, Does, Files, Global, IsAnswer, Keeper, LARGEST_ITEM, Ledger, Length, length-append, length-map, map-append, NotListed, NoTransfer, one_more, option_map, read_failures, Reader, Receiver, Receives, Refused, Repeated, Rises, Runs, slice_get-map, slice_get_read, Store, StoreFault, String, string_bytes, Taken, TooLarge, TooLong, Unread, Whole}
+use Rattle.bag_receiver.proofs.Words.{Answer, BadPath, Brought, CallsNext, ComesNext, Content, CountsEach, CountsIf, Delivery, delivery_of, Digest, Does, Files, IsAnswer, Keeper, LARGEST_ITEM, Ledger, Length, length-map, map-append, NotListed, NoTransfer, one_more, read_failures, Reader, Receiver, Receives, Refused, Repeated, Rises, Runs, Store, StoreFault, Taken, TooLarge, TooLong, Unread, Whole}
 
 -- WHAT IS STILL TO COME
 

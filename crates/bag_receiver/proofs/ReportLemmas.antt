@@ -11,6 +11,8 @@ use Rattle.bag_rules.specs.Verdicts.{IsVerdict}
 use Rattle.bag_ledger.specs.Ledgers.{IsSound}
 use Rattle.bag_receiver.specs.declared.report.ViewFault.{ViewFault}
 use Rattle.bag_receiver.specs.declared.report.ViewFault.TheVariants.{Keeper, NoTransfer}
+use Rattle.bag_receiver.specs.Audits.{IsAuditOf}
+use Rattle.bag_receiver.specs.Holdings.{AllPass}
 use Rattle.bag_receiver.specs.Reports.{IsReportOf, Reports}
 use Rattle.bag_receiver.specs.ViewAnswers.{IsReporting}
 use Rattle.bag_receiver.proofs.HeldLemmas.{held_accepted}
@@ -25,6 +27,17 @@ use Rattle.bag_receiver.proofs.Words.{AcceptsPassing, Answer, Answered, AnswerSt
 abbrev pub Tells : Plan → List ItemSize → Report → (Files → Files → Type 0) → Type 0
 Tells plan sizes report says = (tags items : Files) → IsPlanOf tags plan → AreHeldFor tags items → sizes ≡ sizes_of items → says tags items
 
+report_of : (tags items : Files) (plan : Plan) (sizes : List ItemSize) (report : Report) → IsPlanOf tags plan → AreHeldFor tags items → sizes ≡ sizes_of items
+    → Tells plan sizes report (λ tags items. IsVerdict (held_bag tags items) (Judged report)) → Tells plan sizes report (λ tags items. Means (held_bag tags items) (Judged report))
+    → IsReportOf tags items report
+report_of tags items plan sizes report planned held of_it verdict means =
+    let judged = verdict tags items planned held of_it in
+    record {
+      faults = judged;
+      means = means tags items planned held of_it;
+      mended = λ fault has. may_be_mended tags items planned.tag_files held planned.opens fault ((judged.exact fault).0 has).0;
+    }
+
 pub told : (ledger : Ledger) (name : List ℕ) (plans : List (List ℕ × Plan)) (plan : Plan) (sizes : List ItemSize) (report : Report) → ArePlansIn ledger plans → IsSound ledger → IsTransferName name
     → lookup (bytes_eq name) plans ≡ Some plan → sizes ≡ sizes_of (items_of ledger name)
     → Tells plan sizes report (λ tags items. IsVerdict (held_bag tags items) (Judged report)) → Tells plan sizes report (λ tags items. Means (held_bag tags items) (Judged report))
@@ -34,15 +47,21 @@ told ledger name plans plan sizes report are sound is at sized verdict means =
     let there = named_there ledger name transfer named in
     let held = (sound.each name transfer there).held in
     let of_it : sizes ≡ sizes_of transfer.items = sized ∙ ap (λ (t : Option Transfer). sizes_of (unwrap_or (option_map (λ (transfer : Transfer). transfer.items) t) [])) there in
-    let judged = verdict transfer.tags transfer.items planned held of_it in (
-      transfer,
-      named,
-      record {
-        faults = judged;
-        means = means transfer.tags transfer.items planned held of_it;
-        mended = λ fault has. may_be_mended transfer.tags transfer.items planned.tag_files held planned.opens fault ((judged.exact fault).0 has).0;
-      },
-    )
+    (transfer, named, report_of transfer.tags transfer.items plan sizes report planned held of_it verdict means)
+
+pub audited : (name : List ℕ) (plans : List (List ℕ × Plan)) (own : Plan) (sizes : List ItemSize) (report : Report) → lookup (bytes_eq name) plans ≡ Some own
+    → ((tags : Files) → IsPlanOf tags own → AllPass tags sizes)
+    → Tells own sizes report (λ tags items. IsVerdict (held_bag tags items) (Judged report)) → Tells own sizes report (λ tags items. Means (held_bag tags items) (Judged report))
+    → (tags : Files) (plan : Plan) → lookup (bytes_eq name) plans ≡ Some plan → IsPlanOf tags plan → IsAuditOf tags report
+audited name plans own sizes report at passing verdict means tags plan found planned =
+    let both : Some own ≡ Some plan = sym at ∙ found in
+    let same : own ≡ plan = cc in
+    let of_own = subst (IsPlanOf tags) (sym same) planned in
+    record {
+      sizes = sizes;
+      passing = passing tags of_own;
+      tells = λ items held of_it. report_of tags items own sizes report of_own held of_it verdict means;
+    }
 
 -- WHAT HAPPENED
 

@@ -1,5 +1,5 @@
 -- The tag files of a tree, one at a time, and what is answered to them.
-use Rattle.std.proofs.Common.{◌≡◌, ◌+◌, ◌<◌, ◌++◌, ◌∷◌, ◌∙◌, ℕ, Bool, Err, IsErrOf, List, [], Ok, Option, Result, None, Some, ap, append-nil, arith, cond, false, get_or, inl, inr, length, map, not, refl, slice_get, subst, suc, sym, take, true, zero}
+use Rattle.std.proofs.Common.{◌≡◌, ◌+◌, ◌++◌, ◌∷◌, ◌∙◌, ℕ, Bool, Err, IsErrOf, List, [], Option, Result, None, Some, ap, append-nil, arith, cond, false, get_or, inl, inr, map, not, refl, slice_get, subst, suc, sym, take, true, zero}
 use Rattle.std.proofs.lemmas.List.Elements.{filter_more}
 use Rattle.std.proofs.lemmas.Option.{get_or_from_slice_get, slice_get-map, slice_get_within}
 use Rattle.std.specs.List.Sorted.{IsStrictlySortedBy}
@@ -19,7 +19,7 @@ use Rattle.bag_receiver.specs.BeginningInside.{begin_fault, IsMetAt, OpenWith}
 use Rattle.bag_receiver.proofs.BeginFiles.{all_light}
 use Rattle.bag_receiver.proofs.BeginRefusals.{taken as can_open, told}
 use Rattle.bag_receiver.proofs.BeginSteps.{begins, counts_nothing, does_nothing_so}
-use Rattle.bag_receiver.proofs.Words.{AreRising, BeginFault, BeginStep, Begins, CountsIf, Equal, Files, Greater, Has, insert_entry, IsHeavyAt, IsPlanOf, IsRefusal, IsTransferName, keys_of, LARGEST_TAG_FILE, Ledger, LedgerState, Less, light_tags, match_ordering, Memory, nat_cmp, nat_list_cmp_total, NoneMisplaced, ordering_reverse, Plan, Receiver, Refuses, slice_cmp, Store, StoreFault, tied_itself, with_file, with_files}
+use Rattle.bag_receiver.proofs.Words.{AreRising, BeginFault, BeginStep, Begins, Equal, Files, Greater, Has, IsHeavyAt, IsPlanOf, IsRefusal, IsTransferName, keys_of, Ledger, LedgerState, Less, light_tags, match_ordering, Memory, nat_cmp, nat_list_cmp_total, NoneMisplaced, ordering_reverse, Plan, Receiver, Refuses, slice_cmp, Store, StoreFault, tied_itself, with_file, with_files}
 
 abbrev File : Type 0
 File = List ℕ × Option (List ℕ)

@@ -1,4 +1,5 @@
 pub mod Arrivals
+pub mod Audits
 pub mod Beginning
 pub mod BeginningFrom
 pub mod BeginningInside

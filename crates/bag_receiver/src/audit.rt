@@ -1,13 +1,13 @@
 //! Audits: reports on the bag of a transfer after everything that is held of it was read again.
 ghost use Rattle.std.specs.Prelude.{◌≡◌, ◌↔◌, ◌<◌, ℕ, List, IfOk, IsErrOf, IsTrue, length};
-ghost use Rattle.std.specs.List.{AllByRecursion};
 ghost use Rattle.bag_rules.specs.Files.{Files};
 ghost use Rattle.bag_rules.specs.Plans.{IsPlanOf, sizes_of};
 ghost use Rattle.bag_rules.specs.Transfers.{Passes};
 ghost use Rattle.bag_rules.specs.Wants.{IsWanted};
 ghost use Rattle.bag_ledger.specs.Ledgers.{Ledger, items_of};
 ghost use Rattle.bag_ledger.specs.declared.keeper_faults.KeepFault.TheVariants.{Store};
-ghost use Rattle.bag_receiver.specs.Holdings.{HasItem, IsPlanFor, ReadsKeeper, SomeAreWanted, SomePass};
+ghost use Rattle.bag_receiver.specs.Audits.{Audits};
+ghost use Rattle.bag_receiver.specs.Holdings.{AllPass, HasItem, IsPlanFor, ReadsKeeper, SomeAreWanted, SomePass};
 ghost use Rattle.bag_receiver.specs.ViewAnswers.{IsReporting};
 
 use crate::held::next_piece;
@@ -27,8 +27,9 @@ impl<K: Keeper> Receiver<K> {
     ///
     /// Those of [`report`](Receiver::report).
     pub fn audit(&mut self, alloc: Global, name: &str) -> Result<Report, ViewFault>
-        ensures { IsReporting K.holds K.may_leave K.clean K.failures name.now
+        ensures reporting { IsReporting K.holds K.may_leave K.clean K.failures name.now
             self.old self.new result }
+        ensures read { Audits self.new name.now result }
     {
         self.view(alloc, name, Basis::Octets)
     }
@@ -45,8 +46,8 @@ pub(crate) fn passing_sizes<K: Keeper>(
         → IsPlanFor ledger name.now plan.now
         → IfOk result (λ sizes. sizes.items ≡ sizes_of (items_of ledger name.now)) }
     // Whatever the store gives, each of them was found valid: there are such octets.
-    ensures some { (tags : Files) → IsPlanOf tags plan.now → IfOk result (λ sizes.
-        AllByRecursion (λ size. SomePass tags size.path size.octets) sizes.items) }
+    ensures some { (tags : Files) → IsPlanOf tags plan.now
+        → IfOk result (λ sizes. AllPass tags sizes.items) }
     ensures keeper { ReadsKeeper K.holds K.may_leave K.clean K.failures keeper.old keeper.new
         (λ fault. IsErrOf result (Store fault)) }
 {

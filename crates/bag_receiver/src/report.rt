@@ -1,11 +1,13 @@
 //! Reports: what is wrong with the bag of a transfer as it is held now.
 ghost use Rattle.std.specs.Prelude.{◌≡◌, None, IfOk, IsErrOf, MatchResult};
 ghost use Rattle.bag_digest.specs.Failures.{CountsIf};
-ghost use Rattle.bag_rules.specs.Plans.{sizes_of};
+ghost use Rattle.bag_rules.specs.Files.{Files};
+ghost use Rattle.bag_rules.specs.Plans.{IsPlanOf, sizes_of};
 ghost use Rattle.bag_ledger.specs.Ledgers.{Ledger, items_of};
 ghost use Rattle.bag_ledger.specs.declared.keeper_faults.StoreFault.{StoreFault};
 ghost use Rattle.bag_ledger.specs.declared.keeper_faults.KeepFault.TheVariants.{Store};
-ghost use Rattle.bag_receiver.specs.Holdings.{IsPlanFor, ReadsKeeper};
+ghost use Rattle.bag_receiver.specs.Audits.{Audits};
+ghost use Rattle.bag_receiver.specs.Holdings.{AllPass, IsPlanFor, ReadsKeeper};
 ghost use Rattle.bag_receiver.specs.TransferNames.{IsNamed, IsTransferName};
 ghost use Rattle.bag_receiver.specs.Receivers.{Does, IsInState};
 ghost use Rattle.bag_receiver.specs.ReceiversInside.{Same};
@@ -94,6 +96,7 @@ impl<K: Keeper> Receiver<K> {
         ensures store { CountsIf ((fault : StoreFault)
             × IsErrOf result (ViewFault.Keeper (KeepFault.Store fault)))
             (K.failures self.old.keeper) (K.failures self.new.keeper) }
+        ensures read { basis ≡ Basis.Octets → Audits self.new name.now result }
     {
         if !self.has_plan(alloc, name)? {
             return Err(ViewFault::NoTransfer);
@@ -118,6 +121,8 @@ fn sizes_by<K: Keeper>(
     ensures found { K.clean keeper.new → (ledger : Ledger) → K.holds keeper.old ledger
         → IsPlanFor ledger name.now plan.now
         → IfOk result (λ sizes. sizes.items ≡ sizes_of (items_of ledger name.now)) }
+    ensures some { basis ≡ Basis.Octets → (tags : Files) → IsPlanOf tags plan.now
+        → IfOk result (λ sizes. AllPass tags sizes.items) }
     ensures keeper { ReadsKeeper K.holds K.may_leave K.clean K.failures keeper.old keeper.new
         (λ fault. IsErrOf result (Store fault)) }
 {

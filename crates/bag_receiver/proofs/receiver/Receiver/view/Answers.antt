@@ -3,7 +3,7 @@ use Rattle.bag_receiver.specs.declared.report.ViewFault.TheVariants.{Keeper}
 use Rattle.bag_receiver.proofs.AuditLemmas.{plan_for}
 use Rattle.bag_receiver.proofs.CountLemmas.{counts_after, counts_as, no_fault}
 use Rattle.bag_receiver.proofs.ReceiverLemmas.{does_after, does_read, found_there, plan_at, still}
-use Rattle.bag_receiver.proofs.ReportLemmas.{told}
+use Rattle.bag_receiver.proofs.ReportLemmas.{audited, told}
 use Rattle.bag_receiver.proofs.Words.{err_from_is_err_and, IsPlanned, plans_in, Same}
 use Rattle.bag_receiver.proofs.receiver.Receiver.view.Goals as goal
 
@@ -40,3 +40,10 @@ returns-clause-reported g c = λ clean now in_state.
     (c.in_ok-sizes.ensures.found clean now.held after.kept.held (plan_for now.held c.args.name.now (plans_in c.has_plan.new.self.plans) c.in-Some.plan.now after.plans sound planned.0 at))
     (λ tags items plan held same. c.in_ok-report.ensures.verdict tags items plan held (c.as_slice.ensures.value ∙ same))
     (λ tags items plan held same. c.in_ok-report.ensures.meaning tags items plan held (c.as_slice.ensures.value ∙ same))
+
+pub returns-clause-read : goal.returns-clause-read
+returns-clause-read g c = λ octets tags plan found planned.
+    audited c.args.name.now (plans_in c.has_plan.new.self.plans) c.in-Some.plan.now c.in_ok-sizes.sizes.items c.in_ok-report.report (plan_at c.args.name.now c.has_plan.new.self.plans ∙ sym c.in-Some.ensures.value)
+    (c.in_ok-sizes.ensures.some octets)
+    (λ tags items plan held same. c.in_ok-report.ensures.verdict tags items plan held (c.as_slice.ensures.value ∙ same))
+    (λ tags items plan held same. c.in_ok-report.ensures.meaning tags items plan held (c.as_slice.ensures.value ∙ same)) tags plan found planned
