@@ -17,7 +17,8 @@ use Rattle.bag_receiver.specs.Reports.{IsReportOf}
 -- The report is that of payload files each of which was found valid.
 pub record IsAuditOf (tags : Files) (report : Report) : Type 0 where
   pub sizes : List ItemSize
-  -- Some octets pass for each. A proof has to name them, and has none to name but those that were read and hashed.
+  -- Some octets pass for each. A proof has to name them, and has none to name but those that
+  -- were read and hashed.
   pub passing : AllPass tags sizes
   pub tells : (items : Files) → AreHeldFor tags items → sizes ≡ sizes_of items
       → IsReportOf tags items report
