@@ -1,5 +1,5 @@
 //! `audit`: reports what is wrong with the bag of a transfer after reading again everything that is held of it.
-ghost use Rattle.bag_receiver.specs.ViewAnswers.{IsReporting};
+ghost use Rattle.bag_receiver.specs.Audits.{IsAuditing};
 ghost use Rattle.bag_commands.specs.Outputs.{PrintedBy};
 ghost use Rattle.bag_commands.specs.Viewing.{IsValidIfZero};
 ghost use Rattle.bag_commands.specs.ViewTexts.{view_lines, view_status};
@@ -23,7 +23,7 @@ pub fn audit_to<K: Keeper, W: Write + Drop>(
     ensures valid { IsValidIfZero K.holds K.may_leave K.clean name.now
         receiver.old receiver.new result }
     ensures printed { PrintedBy W.contents view_lines view_status out.old out.new result
-        (IsReporting K.holds K.may_leave K.clean K.failures name.now receiver.old receiver.new) }
+        (IsAuditing K.holds K.may_leave K.clean K.failures name.now receiver.old receiver.new) }
 {
     let answer = receiver.audit(alloc, name);
     print_view(&answer, out)

@@ -1,14 +1,17 @@
 -- A report or an audit that answers that a transfer is valid.
-use Rattle.std.proofs.Common.{◌≡◌, Bool, ℕ, List, Option, Some, subst}
+use Rattle.std.proofs.Common.{◌≡◌, Bool, ℕ, List, Option, Result, Some, subst}
 use Rattle.std.proofs.lemmas.Option.{same_Some}
+use Rattle.bag_rules.specs.declared.report.Report.{Report as BagReport}
 use Rattle.bag_ledger.specs.declared.keeper.Keeper.{Ghosts}
 use Rattle.bag_commands.specs.declared.output.Output.{Output}
 use Rattle.bag_commands.specs.declared.status.TheConstants.{VALID}
 use Rattle.bag_commands.specs.Viewing.{HoldsValidBag}
 use Rattle.bag_folder.specs.Directories.{Listing}
 use Rattle.bag_receiver.specs.declared.receiver.Receiver.{Receiver}
+use Rattle.bag_receiver.specs.declared.report.ViewFault.{ViewFault}
 use Rattle.bag_receiver.specs.Receivers.{IsInState}
 use Rattle.bag_receiver.specs.LedgerStates.{LedgerState}
+use Rattle.bag_receiver.specs.ViewAnswers.{IsReporting}
 use Rattle.bag_program.specs.declared.explanation.Ended.{Ended}
 use Rattle.bag_program.specs.declared.ledgers.Ledgers.{Ghosts as Ledgers}
 use Rattle.bag_program.specs.declared.command_line.Work.{Work}
@@ -21,12 +24,13 @@ module _ {K W : Type 0} (k : Ghosts K) (known : Option Listing) (contents : W �
   abbrev Valid : Type 0
   Valid = k.clean before.keeper × ((state : LedgerState) → IsInState k.holds k.may_leave before state → HoldsValidBag state.held name)
 
-  by_view : (given : List ℕ) → ◌≡◌ {A = Option (List ℕ)} (Some given) (Some name) → Views k contents given before after old new result → Valid
-  by_view given is views = (views.printed.1.looks.was_clean clean, λ state in_state. subst (HoldsValidBag state.held) (same_Some given name is) (views.valid valid clean state in_state))
+  by_view : (given : List ℕ) (answers : Result BagReport ViewFault → Type 0) → ((answer : Result BagReport ViewFault) → answers answer → IsReporting k.holds k.may_leave k.clean k.failures given before after answer)
+      → ◌≡◌ {A = Option (List ℕ)} (Some given) (Some name) → Views k contents given before after old new result answers → Valid
+  by_view given answers reports is views = ((reports _ views.printed.1).looks.was_clean clean, λ state in_state. subst (HoldsValidBag state.held) (same_Some given name is) (views.valid valid clean state in_state))
 
   pub valid_by : (work : Work) → viewed work ≡ Some name → DoesWork k known contents work made now before after old new result → Valid
-  valid_by (Report given) is does = by_view _ is does.1
-  valid_by (Audit given) is does = by_view _ is does.1
+  valid_by (Report given) is does = by_view _ _ (λ answer reports. reports) is does.1
+  valid_by (Audit given) is does = by_view _ _ (λ answer audits. audits.reporting) is does.1
   valid_by (Begin given folder) is does = absurd (cc)
   valid_by (Intake given folders) is does = absurd (cc)
   valid_by (Fetch given folder) is does = absurd (cc)

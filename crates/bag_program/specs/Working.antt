@@ -1,9 +1,12 @@
 -- Work on a ledger: how it is opened, and what is done with it.
-use Rattle.std.specs.Prelude.{◌≡◌, ◌⊎◌, ◌↔◌, ◌∷◌, ◌++◌, [], ℕ, Bool, List, None, Option, Some, codes, false, is_some, map, string_bytes}
+use Rattle.std.specs.Prelude.{◌≡◌, ◌⊎◌, ◌↔◌, ◌∷◌, ◌++◌, [], ℕ, Bool, List, None, Option, Result, Some, codes, false, is_some, map, string_bytes}
+use Rattle.bag_rules.specs.declared.report.Report.{Report as BagReport}
 use Rattle.bag_ledger.specs.Ledgers.{Ledger}
 use Rattle.bag_ledger.specs.declared.keeper.Keeper.{Ghosts}
 use Rattle.bag_path.specs.Spellings.{written_spelling}
 use Rattle.bag_receiver.specs.declared.receiver.Receiver.{Receiver}
+use Rattle.bag_receiver.specs.declared.report.ViewFault.{ViewFault}
+use Rattle.bag_receiver.specs.Audits.{IsAuditing}
 use Rattle.bag_receiver.specs.BeginningFrom.{BeginsFrom}
 use Rattle.bag_receiver.specs.Receivers.{Does, IsInState, IsKept}
 use Rattle.bag_receiver.specs.ReceiversInside.{Same}
@@ -133,12 +136,13 @@ pub record IsOver {K : Type 0} (k : Ghosts K) (kept : K) (receiver : Receiver K)
   pub in_state : (now : LedgerState) → IsKept k.holds k.may_leave kept now
       → IsInState k.holds k.may_leave receiver now
 
--- A report or an audit was printed. The status is 0 only if the transfer holds a valid bag.
+-- Such an answer of a report or an audit was printed. The status is 0 only if the transfer holds a
+-- valid bag.
 pub record Views {K W : Type 0} (k : Ghosts K) (contents : W → Option (List ℕ)) (name : List ℕ)
-    (before after : Receiver K) (old new : Output W) (result : Ended) : Type 0 where
+    (before after : Receiver K) (old new : Output W) (result : Ended)
+    (answers : Result BagReport ViewFault → Type 0) : Type 0 where
   pub valid : IsValidIfZero k.holds k.may_leave k.clean name before after result.status
-  pub printed : PrintedBy contents view_lines view_status old new result.status
-      (IsReporting k.holds k.may_leave k.clean k.failures name before after)
+  pub printed : PrintedBy contents view_lines view_status old new result.status answers
   pub untold : result.why ≡ None
 
 -- Either the folder was searched for what `fetch.txt` lists and isn't held, or it couldn't be opened and that was
@@ -203,10 +207,12 @@ module _ {K W : Type 0} (k : Ghosts K) (known : Option Listing)
       × BeginsWith name.now folder.now before after old new result
   DoesWork (Intake name folders) made now before after old new result = (now ≡ made)
       × TakesInFrom name.now (map string_bytes folders.now) before after old new result
-  DoesWork (Report name) made now before after old new result =
-      (now ≡ made) × Views k contents name.now before after old new result
-  DoesWork (Audit name) made now before after old new result =
-      (now ≡ made) × Views k contents name.now before after old new result
+  DoesWork (Report name) made now before after old new result = (now ≡ made)
+      × Views k contents name.now before after old new result
+      (IsReporting k.holds k.may_leave k.clean k.failures name.now before after)
+  DoesWork (Audit name) made now before after old new result = (now ≡ made)
+      × Views k contents name.now before after old new result
+      (IsAuditing k.holds k.may_leave k.clean k.failures name.now before after)
   DoesWork (Fetch name folder) made now before after old new result = (now ≡ made)
       × FetchesFrom k contents name.now folder.now before after old new
       result

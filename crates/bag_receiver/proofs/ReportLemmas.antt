@@ -49,19 +49,14 @@ told ledger name plans plan sizes report are sound is at sized verdict means =
     let of_it : sizes ≡ sizes_of transfer.items = sized ∙ ap (λ (t : Option Transfer). sizes_of (unwrap_or (option_map (λ (transfer : Transfer). transfer.items) t) [])) there in
     (transfer, named, report_of transfer.tags transfer.items plan sizes report planned held of_it verdict means)
 
-pub audited : (name : List ℕ) (plans : List (List ℕ × Plan)) (own : Plan) (sizes : List ItemSize) (report : Report) → lookup (bytes_eq name) plans ≡ Some own
-    → ((tags : Files) → IsPlanOf tags own → AllPass tags sizes)
-    → Tells own sizes report (λ tags items. IsVerdict (held_bag tags items) (Judged report)) → Tells own sizes report (λ tags items. Means (held_bag tags items) (Judged report))
-    → (tags : Files) (plan : Plan) → lookup (bytes_eq name) plans ≡ Some plan → IsPlanOf tags plan → IsAuditOf tags report
-audited name plans own sizes report at passing verdict means tags plan found planned =
-    let both : Some own ≡ Some plan = sym at ∙ found in
-    let same : own ≡ plan = cc in
-    let of_own = subst (IsPlanOf tags) (sym same) planned in
-    record {
-      sizes = sizes;
-      passing = passing tags of_own;
-      tells = λ items held of_it. report_of tags items own sizes report of_own held of_it verdict means;
-    }
+pub audited : (tags : Files) (plan : Plan) (sizes : List ItemSize) (report : Report) → IsPlanOf tags plan → AllPass tags sizes
+    → Tells plan sizes report (λ tags items. IsVerdict (held_bag tags items) (Judged report)) → Tells plan sizes report (λ tags items. Means (held_bag tags items) (Judged report))
+    → IsAuditOf tags report
+audited tags plan sizes report planned passing verdict means = record {
+  sizes = sizes;
+  passing = passing;
+  tells = λ items held of_it. report_of tags items plan sizes report planned held of_it verdict means;
+}
 
 -- WHAT HAPPENED
 

@@ -1,4 +1,4 @@
--- What an audit says whatever the store gives, clean or not.
+-- What an audit answers.
 use Rattle.std.specs.Prelude.{◌≡◌, ℕ, List, Result, Some, IfOk}
 use Rattle.std.specs.Map.{lookup}
 use Rattle.std.specs.Str.{bytes_eq}
@@ -8,13 +8,16 @@ use Rattle.bag_rules.specs.declared.report.Report.{Report}
 use Rattle.bag_rules.specs.Files.{Files}
 use Rattle.bag_rules.specs.Plans.{IsPlanOf, sizes_of}
 use Rattle.bag_rules.specs.Transfers.{AreHeldFor}
+use Rattle.bag_ledger.specs.Ledgers.{Ledger}
 use Rattle.bag_receiver.specs.declared.receiver.Receiver.{Receiver}
 use Rattle.bag_receiver.specs.declared.report.ViewFault.{ViewFault}
 use Rattle.bag_receiver.specs.Holdings.{AllPass}
 use Rattle.bag_receiver.specs.Receivers.{plans_in}
 use Rattle.bag_receiver.specs.Reports.{IsReportOf}
+use Rattle.bag_receiver.specs.ViewAnswers.{IsReporting}
 
--- The report is that of payload files each of which was found valid.
+-- The report is that of payload files each of which was found valid, whatever the store gave,
+-- clean or not.
 pub record IsAuditOf (tags : Files) (report : Report) : Type 0 where
   pub sizes : List ItemSize
   -- Some octets pass for each. A proof has to name them, and has none to name but those that
@@ -23,8 +26,15 @@ pub record IsAuditOf (tags : Files) (report : Report) : Type 0 where
   pub tells : (items : Files) → AreHeldFor tags items → sizes ≡ sizes_of items
       → IsReportOf tags items report
 
--- the answer is such a report for the tag files of the transfer with this name, by the plan that the receiver has
-abbrev pub Audits : {K : Type 0} → Receiver K → List ℕ → Result Report ViewFault → Type 0
-Audits receiver name answer = (tags : Files) (plan : Plan)
-    → lookup (bytes_eq name) (plans_in receiver.plans) ≡ Some plan → IsPlanOf tags plan
-    → IfOk answer (IsAuditOf tags)
+-- the receiver has a plan of the transfer with this name, and this is such a report for its tag files
+abbrev pub Audits : {K : Type 0} → Receiver K → List ℕ → Report → Type 0
+Audits receiver name report = (plan : Plan)
+    × (lookup (bytes_eq name) (plans_in receiver.plans) ≡ Some plan)
+    × ((tags : Files) → IsPlanOf tags plan → IsAuditOf tags report)
+
+-- What `report` promises holds of it too.
+pub record IsAuditing {K : Type 0} (holds may_leave : K → Ledger → Type 0) (clean : K → Type 0)
+    (failures : K → ℕ) (name : List ℕ) (old new : Receiver K) (answer : Result Report ViewFault)
+    : Type 0 where
+  pub reporting : IsReporting holds may_leave clean failures name old new answer
+  pub read : IfOk answer (Audits new name)

@@ -6,9 +6,8 @@ ghost use Rattle.bag_rules.specs.Transfers.{Passes};
 ghost use Rattle.bag_rules.specs.Wants.{IsWanted};
 ghost use Rattle.bag_ledger.specs.Ledgers.{Ledger, items_of};
 ghost use Rattle.bag_ledger.specs.declared.keeper_faults.KeepFault.TheVariants.{Store};
-ghost use Rattle.bag_receiver.specs.Audits.{Audits};
+ghost use Rattle.bag_receiver.specs.Audits.{IsAuditing};
 ghost use Rattle.bag_receiver.specs.Holdings.{AllPass, HasItem, IsPlanFor, ReadsKeeper, SomeAreWanted, SomePass};
-ghost use Rattle.bag_receiver.specs.ViewAnswers.{IsReporting};
 
 use crate::held::next_piece;
 use crate::receiver::Receiver;
@@ -27,9 +26,8 @@ impl<K: Keeper> Receiver<K> {
     ///
     /// Those of [`report`](Receiver::report).
     pub fn audit(&mut self, alloc: Global, name: &str) -> Result<Report, ViewFault>
-        ensures reporting { IsReporting K.holds K.may_leave K.clean K.failures name.now
+        ensures { IsAuditing K.holds K.may_leave K.clean K.failures name.now
             self.old self.new result }
-        ensures read { Audits self.new name.now result }
     {
         self.view(alloc, name, Basis::Octets)
     }

@@ -96,7 +96,7 @@ impl<K: Keeper> Receiver<K> {
         ensures store { CountsIf ((fault : StoreFault)
             × IsErrOf result (ViewFault.Keeper (KeepFault.Store fault)))
             (K.failures self.old.keeper) (K.failures self.new.keeper) }
-        ensures read { basis ≡ Basis.Octets → Audits self.new name.now result }
+        ensures read { basis ≡ Basis.Octets → IfOk result (Audits self.new name.now) }
     {
         if !self.has_plan(alloc, name)? {
             return Err(ViewFault::NoTransfer);

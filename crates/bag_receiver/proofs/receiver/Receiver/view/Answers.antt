@@ -42,8 +42,10 @@ returns-clause-reported g c = λ clean now in_state.
     (λ tags items plan held same. c.in_ok-report.ensures.meaning tags items plan held (c.as_slice.ensures.value ∙ same))
 
 pub returns-clause-read : goal.returns-clause-read
-returns-clause-read g c = λ octets tags plan found planned.
-    audited c.args.name.now (plans_in c.has_plan.new.self.plans) c.in-Some.plan.now c.in_ok-sizes.sizes.items c.in_ok-report.report (plan_at c.args.name.now c.has_plan.new.self.plans ∙ sym c.in-Some.ensures.value)
-    (c.in_ok-sizes.ensures.some octets)
-    (λ tags items plan held same. c.in_ok-report.ensures.verdict tags items plan held (c.as_slice.ensures.value ∙ same))
-    (λ tags items plan held same. c.in_ok-report.ensures.meaning tags items plan held (c.as_slice.ensures.value ∙ same)) tags plan found planned
+returns-clause-read g c = λ octets. (
+  c.in-Some.plan.now,
+  plan_at c.args.name.now c.has_plan.new.self.plans ∙ sym c.in-Some.ensures.value,
+  λ tags planned. audited tags c.in-Some.plan.now c.in_ok-sizes.sizes.items c.in_ok-report.report planned (c.in_ok-sizes.ensures.some octets tags planned)
+      (λ tags items plan held same. c.in_ok-report.ensures.verdict tags items plan held (c.as_slice.ensures.value ∙ same))
+      (λ tags items plan held same. c.in_ok-report.ensures.meaning tags items plan held (c.as_slice.ensures.value ∙ same)),
+)
