@@ -1,7 +1,6 @@
 -- Work on a ledger: how it is opened, and what is done with it.
 use Rattle.std.specs.Prelude.{◌≡◌, ◌⊎◌, ◌↔◌, ◌∷◌, ◌++◌, [], ℕ, Bool, List, None, Option, Result, Some, codes, false, is_some, map, string_bytes}
 use Rattle.bag_rules.specs.declared.report.Report.{Report as BagReport}
-use Rattle.bag_ledger.specs.Ledgers.{Ledger}
 use Rattle.bag_ledger.specs.declared.keeper.Keeper.{Ghosts}
 use Rattle.bag_path.specs.Spellings.{written_spelling}
 use Rattle.bag_receiver.specs.declared.receiver.Receiver.{Receiver}

@@ -12,7 +12,7 @@ use Rattle.bag_ledger.specs.Ledgers.{IsSound}
 use Rattle.bag_receiver.specs.declared.report.ViewFault.{ViewFault}
 use Rattle.bag_receiver.specs.declared.report.ViewFault.TheVariants.{Keeper, NoTransfer}
 use Rattle.bag_receiver.specs.Audits.{IsAuditOf}
-use Rattle.bag_receiver.specs.Holdings.{AllPass}
+use Rattle.bag_receiver.specs.Holdings.{AreValidSizes}
 use Rattle.bag_receiver.specs.Reports.{IsReportOf, Reports}
 use Rattle.bag_receiver.specs.ViewAnswers.{IsReporting}
 use Rattle.bag_receiver.proofs.HeldLemmas.{held_accepted}
@@ -49,14 +49,10 @@ told ledger name plans plan sizes report are sound is at sized verdict means =
     let of_it : sizes ≡ sizes_of transfer.items = sized ∙ ap (λ (t : Option Transfer). sizes_of (unwrap_or (option_map (λ (transfer : Transfer). transfer.items) t) [])) there in
     (transfer, named, report_of transfer.tags transfer.items plan sizes report planned held of_it verdict means)
 
-pub audited : (tags : Files) (plan : Plan) (sizes : List ItemSize) (report : Report) → IsPlanOf tags plan → AllPass tags sizes
+pub audited : (tags : Files) (plan : Plan) (sizes : List ItemSize) (report : Report) → IsPlanOf tags plan → AreValidSizes tags sizes
     → Tells plan sizes report (λ tags items. IsVerdict (held_bag tags items) (Judged report)) → Tells plan sizes report (λ tags items. Means (held_bag tags items) (Judged report))
     → IsAuditOf tags report
-audited tags plan sizes report planned passing verdict means = record {
-  sizes = sizes;
-  passing = passing;
-  tells = λ items held of_it. report_of tags items plan sizes report planned held of_it verdict means;
-}
+audited tags plan sizes report planned (items, held, same) verdict means = (items, held, report_of tags items plan sizes report planned held same verdict means)
 
 -- WHAT HAPPENED
 

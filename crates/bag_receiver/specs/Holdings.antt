@@ -1,12 +1,11 @@
 -- Held payload files, as the receiver reads them again.
 use Rattle.std.specs.Prelude.{◌≡◌, ℕ, List, Some, length}
-use Rattle.std.specs.List.{AllByRecursion}
 use Rattle.bag_digest.specs.Failures.{CountsIf}
 use Rattle.bag_rules.specs.declared.plan.ItemSize.{ItemSize}
 use Rattle.bag_rules.specs.declared.plan.Plan.{Plan}
 use Rattle.bag_rules.specs.declared.want.Want.{Want}
 use Rattle.bag_rules.specs.Files.{Files}
-use Rattle.bag_rules.specs.Plans.{IsPlanOf}
+use Rattle.bag_rules.specs.Plans.{IsPlanOf, sizes_of}
 use Rattle.bag_rules.specs.Transfers.{AreHeldFor, Passes}
 use Rattle.bag_rules.specs.Wants.{IsWanted}
 use Rattle.bag_ledger.specs.Keeping.{Reads}
@@ -31,9 +30,9 @@ SomeAreWanted want n = (octets : List ℕ) × (n ≡ length octets) × IsWanted 
 abbrev pub SomePass : Files → List ℕ → ℕ → Type 0
 SomePass tags path n = (octets : List ℕ) × (n ≡ length octets) × Passes tags path octets
 
--- each of these files was found valid: some octets of its number are
-abbrev pub AllPass : Files → List ItemSize → Type 0
-AllPass tags sizes = AllByRecursion (λ (size : ItemSize). SomePass tags size.path size.octets) sizes
+-- these are the sizes of payload files that are valid
+abbrev pub AreValidSizes : Files → List ItemSize → Type 0
+AreValidSizes tags sizes = (items : Files) × AreHeldFor tags items × (sizes ≡ sizes_of items)
 
 -- What reading held files does to the keeper: nothing is written, and a failure of the store is counted exactly if one is
 -- the answer.

@@ -1,13 +1,14 @@
 //! Audits: reports on the bag of a transfer after everything that is held of it was read again.
-ghost use Rattle.std.specs.Prelude.{◌≡◌, ◌↔◌, ◌<◌, ℕ, List, IfOk, IsErrOf, IsTrue, length};
+ghost use Rattle.std.specs.Prelude.{◌≡◌, ◌↔◌, ◌<◌, ◌++◌, ◌∷◌, ℕ, List, [], IfOk, IsErrOf, IsTrue, length};
 ghost use Rattle.bag_rules.specs.Files.{Files};
-ghost use Rattle.bag_rules.specs.Plans.{IsPlanOf, sizes_of};
+ghost use Rattle.bag_rules.specs.Plans.{IsPlanOf, item_paths, sizes_of};
 ghost use Rattle.bag_rules.specs.Transfers.{Passes};
+ghost use Rattle.bag_rules.specs.Trees.{AreRising};
 ghost use Rattle.bag_rules.specs.Wants.{IsWanted};
 ghost use Rattle.bag_ledger.specs.Ledgers.{Ledger, items_of};
 ghost use Rattle.bag_ledger.specs.declared.keeper_faults.KeepFault.TheVariants.{Store};
 ghost use Rattle.bag_receiver.specs.Audits.{IsAuditing};
-ghost use Rattle.bag_receiver.specs.Holdings.{AllPass, HasItem, IsPlanFor, ReadsKeeper, SomeAreWanted, SomePass};
+ghost use Rattle.bag_receiver.specs.Holdings.{AreValidSizes, HasItem, IsPlanFor, ReadsKeeper, SomeAreWanted, SomePass};
 
 use crate::held::next_piece;
 use crate::receiver::Receiver;
@@ -43,9 +44,8 @@ pub(crate) fn passing_sizes<K: Keeper>(
     ensures found { K.clean keeper.new → (ledger : Ledger) → K.holds keeper.old ledger
         → IsPlanFor ledger name.now plan.now
         → IfOk result (λ sizes. sizes.items ≡ sizes_of (items_of ledger name.now)) }
-    // Whatever the store gives, each of them was found valid: there are such octets.
-    ensures some { (tags : Files) → IsPlanOf tags plan.now
-        → IfOk result (λ sizes. AllPass tags sizes.items) }
+    ensures valid { (tags : Files) → IsPlanOf tags plan.now
+        → IfOk result (λ sizes. AreValidSizes tags sizes.items) }
     ensures keeper { ReadsKeeper K.holds K.may_leave K.clean K.failures keeper.old keeper.new
         (λ fault. IsErrOf result (Store fault)) }
 {
@@ -53,6 +53,9 @@ pub(crate) fn passing_sizes<K: Keeper>(
     let mut buffer = piece_buffer(alloc)?;
     let mut passing = Vec::new(alloc);
     for size in sizes {
+        if !comes_after(passing.as_slice(), &size) {
+            continue;
+        }
         if !passes(keeper, alloc, name, plan, &size, buffer.as_mut_slice())? {
             continue;
         }
@@ -61,6 +64,19 @@ pub(crate) fn passing_sizes<K: Keeper>(
         }
     }
     Ok(passing)
+}
+
+/// Whether the path of the file comes after those of these files. A store that fails unseen may give a path twice, or out
+/// of order.
+fn comes_after(files: &[ItemSize], file: &ItemSize) -> bool
+    ensures rising { IsTrue result → AreRising (item_paths files.now)
+        → AreRising (item_paths (files.now ++ file.now ∷ [])) }
+    ensures next { AreRising (item_paths (files.now ++ file.now ∷ [])) → IsTrue result }
+{
+    match files.last() {
+        Some(last) => last.path < file.path,
+        None => true,
+    }
 }
 
 /// Whether the payload file held at this path is valid when it is read again.

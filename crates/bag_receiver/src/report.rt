@@ -7,7 +7,7 @@ ghost use Rattle.bag_ledger.specs.Ledgers.{Ledger, items_of};
 ghost use Rattle.bag_ledger.specs.declared.keeper_faults.StoreFault.{StoreFault};
 ghost use Rattle.bag_ledger.specs.declared.keeper_faults.KeepFault.TheVariants.{Store};
 ghost use Rattle.bag_receiver.specs.Audits.{Audits};
-ghost use Rattle.bag_receiver.specs.Holdings.{AllPass, IsPlanFor, ReadsKeeper};
+ghost use Rattle.bag_receiver.specs.Holdings.{AreValidSizes, IsPlanFor, ReadsKeeper};
 ghost use Rattle.bag_receiver.specs.TransferNames.{IsNamed, IsTransferName};
 ghost use Rattle.bag_receiver.specs.Receivers.{Does, IsInState};
 ghost use Rattle.bag_receiver.specs.ReceiversInside.{Same};
@@ -121,8 +121,8 @@ fn sizes_by<K: Keeper>(
     ensures found { K.clean keeper.new → (ledger : Ledger) → K.holds keeper.old ledger
         → IsPlanFor ledger name.now plan.now
         → IfOk result (λ sizes. sizes.items ≡ sizes_of (items_of ledger name.now)) }
-    ensures some { basis ≡ Basis.Octets → (tags : Files) → IsPlanOf tags plan.now
-        → IfOk result (λ sizes. AllPass tags sizes.items) }
+    ensures valid { basis ≡ Basis.Octets → (tags : Files) → IsPlanOf tags plan.now
+        → IfOk result (λ sizes. AreValidSizes tags sizes.items) }
     ensures keeper { ReadsKeeper K.holds K.may_leave K.clean K.failures keeper.old keeper.new
         (λ fault. IsErrOf result (Store fault)) }
 {

@@ -1,7 +1,7 @@
-use Rattle.std.proofs.Common.{◌≡◌, ◌≢◌, ◌<◌, ◌∷◌, ◌∙◌, [], None, Some, ap, length, map, refl, rules, string_bytes, sym}
+use Rattle.std.proofs.Common.{◌≡◌, ◌<◌, ◌∷◌, ◌∙◌, None, Some, ap, length, map, refl, rules, string_bytes, sym}
 use Rattle.bag_program.specs.Answers.{Named, NoCommand, NoWords}
 use Rattle.bag_program.specs.CommandLines.{operands_of}
-use Rattle.bag_program.proofs.RequestLemmas.{asked, first_named, no_operands, no_words, none_named, not_asked}
+use Rattle.bag_program.proofs.RequestLemmas.{asked, first_named, no_operands, no_words, not_asked}
 use Rattle.bag_program.proofs.dispatch.command.Goals as goal
 
 pub returns-then-is_empty : goal.returns-then-is_empty

@@ -1,9 +1,8 @@
 use Rattle.std.proofs.Common.{rules, ◌≡◌, ◌∙◌, ◌++◌, ◌∷◌, [], true, false, length, refl, sym, ap, arith}
 use Rattle.bag_ledger.specs.declared.keeper_faults.KeepFault.TheVariants.{Store}
-use Rattle.bag_rules.specs.declared.plan.ItemSize.{ItemSize}
-use Rattle.bag_receiver.specs.Holdings.{SomePass}
-use Rattle.bag_receiver.proofs.AuditLemmas.{all_more, counts_none, counts_since, kept_one, no_store, none_left, reads_nothing, reads_on, room_after, still_passes}
+use Rattle.bag_receiver.proofs.AuditLemmas.{counts_none, counts_since, kept_one, no_store, none_left, reads_nothing, reads_on, room_after, still_passes}
 use Rattle.bag_receiver.proofs.CountLemmas.{counts_on, no_fault}
+use Rattle.bag_receiver.proofs.ValidSizes.{comes_next, none_valid, valid_more, valid_rising}
 use Rattle.bag_receiver.proofs.Words.{err_from_is_err_and}
 use Rattle.bag_receiver.proofs.audit.passing_sizes.Goals as goal
 
@@ -23,7 +22,7 @@ loop-size-init g c =
       reads = reads_nothing g.K.Keeper.holds g.K.Keeper.may_leave g.K.Keeper.clean c.sizes.new.self;
       stays = refl;
       passing = λ clean ledger held planned all. rw none refl;
-      some = λ tags planned. rw none tt;
+      valid = λ tags planned. rw none (none_valid tags);
     }
 
 pub passes-requires : goal.passes-requires
@@ -37,6 +36,19 @@ returns-in_err-passes-clause-keeper g c =
           (reads_on g.K.Keeper.holds g.K.Keeper.may_leave g.K.Keeper.clean c.sizes.new.self c.loop-size.keeper c.passes.new.keeper c.loop-size.invariant.reads c.passes.ensures.keeper.reads);
       counted = counts_since _ _ _ _ _ (c.in_ok-sizes.ensures.store.counted.stays (no_fault c.in_ok-sizes.sizes Store)) c.loop-size.invariant.stays (counts_on _ Store _ _ c.in_err-passes.ensures.keeper.counted);
     })
+
+pub loop-size-preserved-then-not-comes_after : goal.loop-size-preserved-then-not-comes_after
+loop-size-preserved-then-not-comes_after g c = record {
+  room = c.loop-size.invariant.room;
+  reads = c.loop-size.invariant.reads;
+  stays = c.loop-size.invariant.stays;
+  passing = λ clean ledger held planned all. (
+      let rising = comes_next c.loop-size.passing.items c.in-Some.size ledger c.args.name.now c.args.plan.now c.next.new.self.rest.items planned
+      (sym (ap (λ rest. c.loop-size.passing.items ++ rest) c.in-Some.ensures.steps.0) ∙ c.loop-size.invariant.passing clean ledger held planned all ∙ all) in
+      let after = c.comes_after.ensures.next (rw c.as_slice.ensures.value rising) in
+      absurd (let e : true ≡ false = sym after ∙ c.if-not-comes_after.true in cc));
+  valid = c.loop-size.invariant.valid;
+}
 
 pub loop-size-preserved-then-not-branch : goal.loop-size-preserved-then-not-branch
 loop-size-preserved-then-not-branch g c =
@@ -52,7 +64,7 @@ loop-size-preserved-then-not-branch g c =
           (sym (ap (λ rest. c.loop-size.passing.items ++ rest) c.in-Some.ensures.steps.0) ∙ c.loop-size.invariant.passing before ledger held planned all ∙ all) (c.in_ok-passes.ensures.judged clean) in
           let not : c.in_ok-passes.field-0 ≡ false = search rules in
           absurd (let e : true ≡ false = sym told ∙ not in cc));
-      some = c.loop-size.invariant.some;
+      valid = c.loop-size.invariant.valid;
     }
 
 pub returns-then-is_err-clause-keeper : goal.returns-then-is_err-clause-keeper
@@ -74,10 +86,12 @@ loop-size-preserved g c =
           let pushed : c.push.new.self.items ≡ c.loop-size.passing.items ++ c.in-Some.size ∷ [] = search rules in
           rw pushed (kept_one c.loop-size.passing.items c.in-Some.size c.next.new.self.rest.items c.loop-size.size-iterator.rest.items _ c.in-Some.ensures.steps.0
           (c.loop-size.invariant.passing (c.passes.ensures.keeper.reads.was_clean clean) ledger held planned all)));
-      some = λ tags planned. (
+      valid = λ tags planned. (
           let pushed : c.push.new.self.items ≡ c.loop-size.passing.items ++ c.in-Some.size ∷ [] = search rules in
           let yes : c.in_ok-passes.field-0 ≡ true = search rules in
-          rw pushed (all_more (λ (size : ItemSize). SomePass tags size.path size.octets) c.loop-size.passing.items c.in-Some.size (c.loop-size.invariant.some tags planned) (c.in_ok-passes.ensures.some tags planned yes)));
+          let before = c.loop-size.invariant.valid tags planned in
+          let after = c.comes_after.ensures.rising c.if-not-comes_after.false (rw c.as_slice.ensures.value (valid_rising tags c.loop-size.passing.items before)) in
+          rw pushed (valid_more tags c.loop-size.passing.items c.in-Some.size before (c.in_ok-passes.ensures.some tags planned yes) (rw (sym c.as_slice.ensures.value) after)));
     }
 
 pub returns-clause-found : goal.returns-clause-found
@@ -94,5 +108,5 @@ returns-clause-keeper g c = record {
   counted = counts_none _ _ _ _ _ (no_fault c.loop-size.passing Store) (c.in_ok-sizes.ensures.store.counted.stays (no_fault c.in_ok-sizes.sizes Store)) c.loop-size.invariant.stays refl;
 }
 
-pub returns-clause-some : goal.returns-clause-some
-returns-clause-some g c = c.loop-size.invariant.some
+pub returns-clause-valid : goal.returns-clause-valid
+returns-clause-valid g c = c.loop-size.invariant.valid

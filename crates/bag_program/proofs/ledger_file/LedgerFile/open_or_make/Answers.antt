@@ -1,6 +1,5 @@
 use Rattle.std.proofs.Common.{◌≡◌, ◌∙◌, ap, false, refl, subst, sym, true}
 use Rattle.std.proofs.lemmas.Result.{err_from_is_err_and}
-use Rattle.sqlite.specs.Held.{Held}
 use Rattle.sqlite_wal.specs.Files.{image_at}
 use Rattle.bag_program.specs.LedgerFiles.{HasTables, IsAsItWas, NoFile}
 use Rattle.bag_program.specs.declared.found_ledger.Seen.{Seen}

@@ -1,11 +1,11 @@
-use Rattle.std.proofs.Common.{◌≡◌, ◌∙◌, ◌∷◌, ℕ, List, [], Option, ap}
+use Rattle.std.proofs.Common.{◌≡◌, ◌∷◌, ℕ, List, [], Option}
 use Rattle.bag_folder.specs.declared.open_fault.OpenFault.{OpenFault}
 use Rattle.bag_folder.specs.declared.open_fault.OpenFault.TheVariants as open_fault
 use Rattle.bag_commands.specs.declared.output.Output.{Output}
 use Rattle.bag_commands.specs.declared.status.TheConstants.{FAILED}
 use Rattle.bag_program.specs.declared.explanation.Ended.{Ended}
-use Rattle.bag_program.specs.Answers.{Answered, IsFolderAnswer, NoMemory, PrintsCheck, Refused}
-use Rattle.bag_program.specs.Endings.{why_unchecked, why_unopened}
+use Rattle.bag_program.specs.Answers.{Answered, NoMemory, PrintsCheck, Refused}
+use Rattle.bag_program.specs.Endings.{why_unopened}
 use Rattle.bag_folder.specs.declared.place.Place.TheVariants.{Base}
 use Rattle.bag_folder.specs.Directories.{Listing}
 use Rattle.bag_folder.specs.Faults.{IfUnfit}

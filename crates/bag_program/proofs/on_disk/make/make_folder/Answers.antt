@@ -8,7 +8,7 @@ use Rattle.bag_folder.specs.Directories.{Listing, in_payload}
 use Rattle.bag_folder.specs.Faults.{IfUnfit}
 use Rattle.bag_folder.specs.Folders.{IsRefused}
 use Rattle.bag_program.specs.declared.explanation.Ended.{Ended}
-use Rattle.bag_program.specs.Endings.{or_why, why_unmade, why_unopened}
+use Rattle.bag_program.specs.Endings.{or_why, why_unopened}
 use Rattle.bag_program.specs.NoResults.{no_result_of_open}
 use Rattle.bag_program.specs.Making.{MakingShown, NoMemory, Opened, PrintsMake, Refused, words_given}
 use Rattle.bag_commands.specs.Outputs.{Printed}

@@ -45,7 +45,7 @@ pub returns-clause-read : goal.returns-clause-read
 returns-clause-read g c = λ octets. (
   c.in-Some.plan.now,
   plan_at c.args.name.now c.has_plan.new.self.plans ∙ sym c.in-Some.ensures.value,
-  λ tags planned. audited tags c.in-Some.plan.now c.in_ok-sizes.sizes.items c.in_ok-report.report planned (c.in_ok-sizes.ensures.some octets tags planned)
+  λ tags planned. audited tags c.in-Some.plan.now c.in_ok-sizes.sizes.items c.in_ok-report.report planned (c.in_ok-sizes.ensures.valid octets tags planned)
       (λ tags items plan held same. c.in_ok-report.ensures.verdict tags items plan held (c.as_slice.ensures.value ∙ same))
       (λ tags items plan held same. c.in_ok-report.ensures.meaning tags items plan held (c.as_slice.ensures.value ∙ same)),
 )
