@@ -109,8 +109,7 @@ valid_more tags sizes size (items, held, same) (octets, sized, passes) rising =
     let file : List ℕ × List ℕ = (size.path, octets) in
     let is_size : size ≡ record { path = size.path; octets = length octets } = ap (λ n. record { path = size.path; octets = n }) sized in
     let all : sizes ++ size ∷ [] ≡ sizes_of (items ++ file ∷ []) =
-        (λ t. same t ++ is_size t ∷ []) ∙ sym (map-append (λ (item : List ℕ × List ℕ). record { path = item.0; octets = length item.1 }) items (file ∷ [])) in
-    (
+    (λ t. same t ++ is_size t ∷ []) ∙ sym (map-append (λ (item : List ℕ × List ℕ). record { path = item.0; octets = length item.1 }) items (file ∷ [])) in (
       items ++ file ∷ [],
       record {
         rising = subst AreRising (ap item_paths all ∙ item_keys (items ++ file ∷ [])) rising;
