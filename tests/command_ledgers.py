@@ -9,15 +9,13 @@ import hashlib
 import itertools
 import os
 import pathlib
-import resource
 import shutil
-import signal
 import sqlite3
 import subprocess
 import sys
 import tempfile
 
-from explaining import is_explained
+from explaining import run_limited
 
 PIECE = 65_536
 DECLARATION = b"BagIt-Version: 1.0\nTag-File-Character-Encoding: UTF-8\n"
@@ -50,17 +48,7 @@ class Place:
             (self.bag / path).write_bytes(octets)
 
     def run(self, *words, limit=None):
-        """The status and the lines of a command. Standard error must be empty, but for what explains a line."""
-
-        def limited():
-            if limit is not None:
-                signal.signal(signal.SIGXFSZ, signal.SIG_IGN)
-                resource.setrlimit(resource.RLIMIT_FSIZE, (limit, limit))
-
-        ran = subprocess.run([self.program, *words], preexec_fn=limited, capture_output=True, timeout=60, check=False)
-        lines = ran.stdout.decode().splitlines()
-        assert is_explained(lines, ran.returncode, ran.stderr), (words, ran)
-        return ran.returncode, lines
+        return run_limited([self.program, *words], limit)
 
     def words(self, command):
         """The arguments of a command on the ledger and its transfer t1, with a new folder to export to."""

@@ -368,15 +368,8 @@ expect 'export, with a slash at the end' 0 'exported 4 files' bag export "$ledge
 expect 'export, with a slash at the end: the bag' 0 $'valid\nvalid' same_bag "$work/whole" "$work/slash"
 
 # Names of files.
-mkdir -p "$work/names/two  blanks" "$work/names/k"
-printf 1 >"$work/names/ first blank"
-printf 2 >"$work/names/two  blanks/last blank "
-printf 3 >"$work/names/100%"
-printf 4 >"$work/names/%0A"
-printf 5 >"$work/names/"$'line\nfeed'
-printf 6 >"$work/names/"$'return\r'
-printf 7 >"$work/names/*\\?[é]"
-printf 8 >"$work/names/-"
+make_odd_names "$work/names"
+mkdir "$work/names/k"
 printf 9 >"$work/names/größe"
 printf 10 >"$work/names/manifest-sha256.txt"
 printf 11 >"$work/names/k.txt"

@@ -73,6 +73,19 @@ below() {
     (cd "$1" && find . -mindepth 1 -printf '%P\0' | LC_ALL=C sort -z | tr '\n\0' '?\n')
 }
 
+# make_odd_names FOLDER: makes it, with files whose names want care: blanks, what is escaped, what a shell takes for a pattern.
+make_odd_names() {
+    mkdir -p "$1/two  blanks"
+    printf 1 >"$1/ first blank"
+    printf 2 >"$1/two  blanks/last blank "
+    printf 3 >"$1/100%"
+    printf 4 >"$1/%0A"
+    printf 5 >"$1/"$'line\nfeed'
+    printf 6 >"$1/"$'return\r'
+    printf 7 >"$1/*\\?[é]"
+    printf 8 >"$1/-"
+}
+
 # nothing FILE: nothing with this name exists.
 nothing() {
     [ ! -e "$1" ] && [ ! -L "$1" ]

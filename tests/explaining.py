@@ -1,5 +1,9 @@
 """What the program may say on standard error about a command that it ran (FORMAT.md, section 14)."""
 
+import resource
+import signal
+import subprocess
+
 EXPLAINED = {"bag: files", "bag: tag too large", "bag: too large", "bag: too many", "bag: store", "bag: not a ledger"}
 
 
@@ -10,3 +14,18 @@ def is_explained(lines, status, said):
     if status != 0 and (EXPLAINED & set(lines) or any(line.endswith(": store") for line in lines)):
         return is_line
     return not said or is_line and said.endswith(b": it has no payload file below data/\n")
+
+
+def run_limited(command, limit=None):
+    """The status and the lines of a command, whose files may have so many octets. Standard error must be empty, but for what explains
+    a line."""
+
+    def limited():
+        if limit is not None:
+            signal.signal(signal.SIGXFSZ, signal.SIG_IGN)
+            resource.setrlimit(resource.RLIMIT_FSIZE, (limit, limit))
+
+    ran = subprocess.run(command, preexec_fn=limited, capture_output=True, timeout=120, check=False)
+    lines = ran.stdout.decode().splitlines()
+    assert is_explained(lines, ran.returncode, ran.stderr), (command, ran)
+    return ran.returncode, lines

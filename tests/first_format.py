@@ -9,16 +9,14 @@ import contextlib
 import hashlib
 import pathlib
 import random
-import resource
 import shutil
-import signal
 import sqlite3
 import subprocess
 import sys
 import tempfile
 
 from command_ledgers import LOCK
-from explaining import is_explained
+from explaining import run_limited
 
 PIECE = 65_536
 LARGEST = 16_777_216
@@ -111,17 +109,7 @@ class Program:
         self.program, self.folder, self.places = program, folder, 0
 
     def run(self, *words, limit=None):
-        """The status and the lines of a command. Standard error must be empty, but for what explains a line."""
-
-        def limited():
-            if limit is not None:
-                signal.signal(signal.SIGXFSZ, signal.SIG_IGN)
-                resource.setrlimit(resource.RLIMIT_FSIZE, (limit, limit))
-
-        ran = subprocess.run([self.program, *words], preexec_fn=limited, capture_output=True, timeout=120, check=False)
-        lines = ran.stdout.decode().splitlines()
-        assert is_explained(lines, ran.returncode, ran.stderr), (words, ran)
-        return ran.returncode, lines
+        return run_limited([self.program, *words], limit)
 
     def place(self):
         """A new folder."""

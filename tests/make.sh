@@ -78,15 +78,7 @@ cp -r "$work/letters" "$work/inside"
 expect 'a bag in its payload' 0 'made 3 files, 8 octets' bag make "$work/inside" "$work/inside/bag" md5
 expect 'a bag in its payload: it is valid' 0 valid valid_bag "$work/letters" "$work/inside/bag"
 
-mkdir "$work/names" "$work/names/two  blanks"
-printf 1 >"$work/names/ first blank"
-printf 2 >"$work/names/two  blanks/last blank "
-printf 3 >"$work/names/100%"
-printf 4 >"$work/names/%0A"
-printf 5 >"$work/names/"$'line\nfeed'
-printf 6 >"$work/names/"$'return\r'
-printf 7 >"$work/names/*\\?[é]"
-printf 8 >"$work/names/-"
+make_odd_names "$work/names"
 printf 9 >"$work/names/data"
 printf 10 >"$work/names/manifest-sha256.txt"
 expect 'names' 0 'made 10 files, 11 octets' bag make "$work/names" "$work/named" sha256

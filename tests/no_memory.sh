@@ -37,27 +37,9 @@ count_refusal() {
     fi
 }
 
-# each_growth FOLDER: checks the bag once with no failing allocation, and then once for each allocation, which fails.
+# each_growth WORD..: runs the program with these words once with no failing allocation, and then once for each allocation, which fails.
+# What is on standard error belongs to the answer: there it is said what is wrong with words that are no command.
 each_growth() {
-    local answer status=0 printed number
-    answer=$(refusing 0 "$program" check "$1") || status=$?
-    answer="$status $answer"
-    count_asked || echo "no allocations were counted"
-    [ "$asked" -gt 10 ] || echo "only $asked allocations were counted"
-    for number in $(seq "$asked"); do
-        status=0
-        printed=$(refusing "$number" "$program" check "$1") || status=$?
-        count_refusal "$1" "$number"
-        case "$status $printed" in
-        "$answer" | '3 bag: memory') ;;
-        *) echo "allocation $number of $asked: status $status: $printed" ;;
-        esac
-    done
-    refusing 1 "$program" check "$1"
-}
-
-# each_growth_of_words WORD..: the same for words that are no command. What is wrong with them is on standard error.
-each_growth_of_words() {
     local answer status=0 printed number
     answer=$(refusing 0 "$program" "$@" 2>&1) || status=$?
     answer="$status $answer"
@@ -250,7 +232,7 @@ if cc -shared -fPIC -O1 -o "$work/no_memory.so" tests/no_memory.c 2>"$work/no cc
     bags='whole-format first-bag two-manifests several-faults oxum-wrong oxum-repeated unknown-algorithm listed-twice faulty-lines
         no-declaration no-manifest manifest-not-listed fetch-not-listed fetch-length'
     for bag in $bags; do
-        expect "no memory for a check of $bag" 3 'bag: memory' each_growth "examples/$bag"
+        expect "no memory for a check of $bag" 3 'bag: memory' each_growth check "examples/$bag"
     done
     # A path that is longer than most names, for which there must be room all the same.
     cp -r examples/first-bag "$work/long path"
@@ -258,7 +240,7 @@ if cc -shared -fPIC -O1 -o "$work/no_memory.so" tests/no_memory.c 2>"$work/no cc
     mkdir -p "$work/long path/${long_path%/*}"
     printf abc >"$work/long path/$long_path"
     (cd "$work/long path" && sha256sum "$long_path") >>"$work/long path/manifest-sha256.txt"
-    expect 'no memory for a check of a long path' 3 'bag: memory' each_growth "$work/long path"
+    expect 'no memory for a check of a long path' 3 'bag: memory' each_growth check "$work/long path"
     cp -r "$work/long path" "$work/long hole"
     echo "http://example.org/ - $long_path" >"$work/long hole/fetch.txt"
     rm -r "$work/long hole/data"
@@ -289,7 +271,7 @@ if cc -shared -fPIC -O1 -o "$work/no_memory.so" tests/no_memory.c 2>"$work/no cc
     expect 'no memory for a new bag' 3 'bag: memory' each_growth_of_make "$work/long path" sha256 md5
     for words in check help 'help make' --version 'list one more' 'make a' 'intake --no'; do
         # shellcheck disable=SC2086
-        expect "no memory for the words $words" 3 'bag: memory' each_growth_of_words $words
+        expect "no memory for the words $words" 3 'bag: memory' each_growth $words
     done
     # An audit reads the pieces of what is held once more, which takes memory for each, and a report does not.
     mkdir -p "$work/pieces/data"
