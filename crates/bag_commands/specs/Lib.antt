@@ -3,15 +3,12 @@ pub mod BeginTexts
 pub mod CheckTexts
 pub mod Checking
 pub mod ExportTexts
-pub mod Exporting
 pub mod FaultTexts
 pub mod FetchTexts
-pub mod Fetching
 pub mod IntakeTexts
 pub mod Intakes
 pub mod IntakesInside
 pub mod ListTexts
-pub mod Listing
 pub mod MakeTexts
 pub mod Making
 pub mod NoResultTexts

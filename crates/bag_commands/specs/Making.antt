@@ -7,7 +7,7 @@ use Rattle.bag_rules.specs.Files as rules
 use Rattle.bag_rules.specs.Trees.{Shown, UsesTree}
 use Rattle.bag_tags.specs.declared.oxum.Oxum.{Oxum}
 use Rattle.bag_writer.specs.Sinks.{IsEmptySink, Stored, UsesSink}
-use Rattle.bag_writer.specs.Writing.{IsAccepted, IsDone, IsOfDevice, IsRefusedUnwritten, Refuses, payload_paths}
+use Rattle.bag_writer.specs.Writing.{IsAccepted, IsDone, IsOfDevice, IsRefusedUnwritten, RefusesBag, payload_paths}
 use Rattle.bag_writer.specs.declared.write_fault.WriteFault.{WriteFault}
 use Rattle.bag_writer.specs.declared.write_fault.WriteFault.TheVariants.{Tree, Sink}
 use Rattle.bag_writer.specs.declared.spec.Spec.{Spec}
@@ -41,7 +41,7 @@ unknown_text word = codes "unknown algorithm " ++ word
 -- WHAT IS WRITTEN
 
 -- only these algorithms, without elements or holes
-pub record IsPlain (set : AlgSet) (spec : Spec) : Type 0 where
+pub record IsPlainSpec (set : AlgSet) (spec : Spec) : Type 0 where
   pub algs : spec.algs ≡ set
   pub no_elements : spec.info ≡ []
   pub no_holes : spec.holes.items ≡ []
@@ -54,7 +54,7 @@ pub record IsWriting {T S : Type 0} (shown : T → Shown) (tree_failures : T →
     (sink_failures : S → ℕ) (sink_sure : S → Type 0) (old_tree new_tree : T)
     (old_sink new_sink : S) (spec : Spec) (answer : Result Oxum WriteFault) : Type 0 where
   pub refused : MatchResult answer (λ oxum. IsAccepted (payload_paths (shown old_tree)) spec)
-      (Refuses (payload_paths (shown old_tree)) spec)
+      (RefusesBag (payload_paths (shown old_tree)) spec)
   pub unwritten : IsRefusedUnwritten (payload_paths (shown old_tree)) spec
       → (new_sink ≡ old_sink) × MatchResult answer (λ oxum. ⊥) (λ fault. ¬ IsOfDevice fault)
   pub done : (payload : rules.Files)
@@ -77,7 +77,7 @@ PrintedMaking contents old new result kind =
 pub data MakesOf {W : Type 0} (contents : W → Option (List ℕ))
     (writing : Spec → Result Oxum WriteFault → Type 0) (untouched : Type 0)
     (words : List (List ℕ)) (old new : Output W) (result : MakeEnd) : Type 0 where
-  Made : (set : AlgSet) (spec : Spec) → NamesSet words set → IsPlain set spec
+  Made : (set : AlgSet) (spec : Spec) → NamesSet words set → IsPlainSpec set spec
       → PrintedMaking contents old new result (writing spec)
       → MakesOf contents writing untouched words old new result
   Unknown : (word : List ℕ) → IsFirstUnknown words word → untouched

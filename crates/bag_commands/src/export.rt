@@ -1,6 +1,6 @@
 //! `export`: writes the bag of a transfer, as it is held, to a sink.
 ghost use Rattle.std.specs.Prelude.{◌≡◌, ◌∷◌, []};
-ghost use Rattle.bag_commands.specs.Exporting.{IsExporting};
+ghost use Rattle.bag_receiver.specs.Exporting.{IsExporting};
 ghost use Rattle.bag_commands.specs.ExportTexts.{export_fault_line, export_status, export_text};
 ghost use Rattle.bag_commands.specs.Outputs.{Printed, PrintedOne};
 

@@ -2,7 +2,7 @@
 ghost use Rattle.std.specs.Prelude.{◌≡◌, [], OnErr, OnOk, map};
 ghost use Rattle.std.specs.Io.Buffered.{writer_buffer};
 ghost use Rattle.bag_digest.specs.Failures.{Rises};
-ghost use Rattle.bag_commands.specs.Fetching.{IsFetching};
+ghost use Rattle.bag_receiver.specs.Fetching.{IsFetching};
 ghost use Rattle.bag_commands.specs.FetchTexts.{fetch_lines, fetch_status, fetched_status, outcome_status, outcome_text};
 ghost use Rattle.bag_commands.specs.IntakeTexts.{greatest};
 ghost use Rattle.bag_commands.specs.Outputs.{Printed, PrintedBy, WroteLines};

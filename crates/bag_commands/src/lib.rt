@@ -14,7 +14,6 @@ pub use make::{MakeEnd, make_to, print_making};
 pub use no_result::{NoResult, print_no_result};
 pub use output::Output;
 pub use report::report_to;
-pub use text_spelling::TextSpelling;
 pub use verdict::verdict_text;
 
 mod answer;
@@ -32,5 +31,4 @@ mod no_result;
 mod output;
 mod report;
 pub mod status;
-mod text_spelling;
 mod verdict;

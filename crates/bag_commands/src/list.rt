@@ -2,16 +2,16 @@
 ghost use Rattle.std.specs.Prelude.{◌≡◌, [], OnErr, OnOk, map};
 ghost use Rattle.std.specs.Io.Buffered.{writer_buffer};
 ghost use Rattle.bag_digest.specs.Failures.{Rises};
+ghost use Rattle.bag_receiver.specs.Listing.{IsListing};
 ghost use Rattle.bag_commands.specs.ListTexts.{list_lines, list_status, name_text};
-ghost use Rattle.bag_commands.specs.Listing.{IsListing};
 ghost use Rattle.bag_commands.specs.Outputs.{PrintedBy, WroteLines};
 
 use crate::no_result::NoResult;
 use crate::output::Output;
 use crate::status::{DONE, FAILED};
-use crate::text_spelling::TextSpelling;
 use bag_digest::Failed;
 use bag_ledger::{KeepFault, Keeper};
+use bag_path::TextSpelling;
 use bag_receiver::Receiver;
 use std::alloc::Global;
 use std::io::Write;

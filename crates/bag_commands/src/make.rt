@@ -2,7 +2,7 @@
 ghost use Rattle.std.specs.Prelude.{◌≡◌, ◌∷◌, [], IfErr, IfOk, false, map, string_bytes};
 ghost use Rattle.bag_writer.specs.declared.spec.Spec.{Spec};
 ghost use Rattle.bag_commands.specs.MakeTexts.{fault_line, large_in, make_status, make_text};
-ghost use Rattle.bag_commands.specs.Making.{IsFirstUnknown, IsPlain, IsWriting, MakesOf, NamesSet};
+ghost use Rattle.bag_commands.specs.Making.{IsFirstUnknown, IsPlainSpec, IsWriting, MakesOf, NamesSet};
 ghost use Rattle.bag_commands.specs.Outputs.{Printed};
 
 use crate::no_result::NoResult;
@@ -73,7 +73,7 @@ fn write_plain<T: CopiedTree, S: OpenSink>(
     tree: &mut T,
     sink: &mut S,
 ) -> Result<Oxum, WriteFault>
-    ensures { (spec : Spec) × IsPlain algs spec × IsWriting T.shown T.failures T.sure
+    ensures { (spec : Spec) × IsPlainSpec algs spec × IsWriting T.shown T.failures T.sure
         S.stored (λ (s : S). S.is_open s ≡ false) S.failures S.sure
         tree.old tree.new sink.old sink.new spec result }
 {

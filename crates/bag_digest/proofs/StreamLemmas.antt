@@ -15,6 +15,7 @@ use Rattle.bag_digest.specs.declared.reading.SourceFault.TheVariants.{Read}
 use Rattle.bag_digest.specs.declared.streams.Stream.{Stream}
 use Rattle.bag_digest.specs.declared.streams.StreamFault.{StreamFault}
 use Rattle.bag_digest.specs.declared.streams.TheConstants.{FRONT}
+use Rattle.bag_digest.specs.declared.sums.Sums.{Sums}
 use Rattle.bag_digest.specs.Failures.{UsesSource}
 use Rattle.bag_digest.specs.Hash.{AreDigests}
 use Rattle.bag_digest.specs.Lanes.{HoldsAt, OtherLanesStay}
@@ -65,12 +66,12 @@ consumes_none None = tt
 consumes_none (Some xs) = refl
 
 module _ {S : Type 0} (remaining : S → Option (List ℕ)) where
-  ended_by : (multi : MultiLanes) (set : AlgSet) (i limit hashed : ℕ) (left : List ℕ) (a b : Stream S) (sums : Option (ℕ × Digests))
+  ended_by : (multi : MultiLanes) (set : AlgSet) (i limit hashed : ℕ) (left : List ℕ) (a b : Stream S) (sums : Option Sums)
       → IsGoing remaining multi set i limit hashed left a b sums → sums ≢ None → HasEnded remaining set limit a b
   ended_by multi set i limit hashed left a b None going not = absurd (not refl)
   ended_by multi set i limit hashed left a b (Some found) going not = going
 
-  going_so : (multi other : MultiLanes) (set : AlgSet) (i limit hashed later : ℕ) (left rest : List ℕ) (a b : Stream S) (sums : Option (ℕ × Digests))
+  going_so : (multi other : MultiLanes) (set : AlgSet) (i limit hashed later : ℕ) (left rest : List ℕ) (a b : Stream S) (sums : Option Sums)
       → (sums ≡ None → IsAt remaining multi set i limit hashed left a b → IsAt remaining other set i limit later rest a b)
       → IsGoing remaining multi set i limit hashed left a b sums → IsGoing remaining other set i limit later rest a b sums
   going_so multi other set i limit hashed later left rest a b None so going = so refl going
@@ -105,7 +106,7 @@ module _ {S : Type 0} (remaining : S → Option (List ℕ)) {multi : MultiLanes}
 
   -- the source has ended within its last piece
   pub ended_on : (n : ℕ) (digests : Digests) → GavePiece (remaining b.source) (remaining c.source) (limit - hashed) n c.piece.items → IsAtEnd (remaining c.source)
-      → c.sums ≡ Some (hashed + n, digests) → AreDigests digests set (at.octets ++ take n c.piece.items) → HasEnded remaining set limit a c
+      → c.sums ≡ Some (record { length = hashed + n; digests = digests }) → AreDigests digests set (at.octets ++ take n c.piece.items) → HasEnded remaining set limit a c
   ended_on n digests piece end is digests_are =
       let last = take n c.piece.items in
       let given = given_more _ _ _ _ _ n at.more c.piece.items (given_at remaining a b at).0 (subst (λ m. GavePiece (remaining b.source) (remaining c.source) m n c.piece.items) left_same piece) in
@@ -113,7 +114,7 @@ module _ {S : Type 0} (remaining : S → Option (List ℕ)) {multi : MultiLanes}
       record {
         more = at.more ++ last;
         gave = record { gave = given.gave; none_left = end; within = omega (arith, given.count, given.within) };
-        sums = subst (λ (sums : Option (ℕ × Digests)). IsSomeAnd sums (λ found. (found.0 ≡ length (a.piece.items ++ (at.more ++ last))) × AreDigests found.1 set (a.piece.items ++ (at.more ++ last)))) (sym is) (
+        sums = subst (λ (sums : Option Sums). IsSomeAnd sums (λ found. (found.length ≡ length (a.piece.items ++ (at.more ++ last))) × AreDigests found.digests set (a.piece.items ++ (at.more ++ last)))) (sym is) (
           omega (arith, ap length joined, length-append at.octets last, length-take-le n c.piece.items piece.bound, at.count),
           subst (AreDigests digests set) (sym joined) digests_are,
         );
@@ -213,7 +214,7 @@ module _ {S : Type 0} (remaining : S → Option (List ℕ)) (failures : S → �
   module _ {multi : MultiLanes} {set : AlgSet} {i limit hashed : ℕ} (a b c : Stream S) (buffer : List ℕ) (on : keeps a.source b.source → keeps b.source c.source → keeps a.source c.source)
       (under : IsUnder remaining failures ready keeps multi set i limit hashed [] a b) (none : b.sums ≡ None) (filled : c.piece.items ≡ buffer) (room : length buffer ≡ FRONT) where
     pub advance_ended : (other : MultiLanes) (n : ℕ) (digests : Digests) → GavePiece (remaining b.source) (remaining c.source) (limit - hashed) n buffer → IsAtEnd (remaining c.source)
-        → c.sums ≡ Some (hashed + n, digests) → ((octets : List ℕ) → HoldsAt multi set i octets → AreDigests digests set (octets ++ take n buffer))
+        → c.sums ≡ Some (record { length = hashed + n; digests = digests }) → ((octets : List ℕ) → HoldsAt multi set i octets → AreDigests digests set (octets ++ take n buffer))
         → UsesSource failures ready keeps b.source c.source ⊥
         → IsUnder remaining failures ready keeps other set i limit hashed c.piece.items a c
     advance_ended other n digests piece end is digests_are uses =

@@ -8,6 +8,7 @@ use Rattle.bag_digest.specs.declared.reading.SourceRead.{SourceRead}
 use Rattle.bag_digest.specs.declared.reading.SourceRead.TheVariants.{Whole, Hashed}
 use Rattle.bag_digest.specs.declared.reading.SourceFault.{SourceFault}
 use Rattle.bag_digest.specs.declared.reading.SourceFault.TheVariants as source
+use Rattle.bag_digest.specs.declared.sums.Sums.{Sums}
 use Rattle.bag_digest.specs.declared.reading.ReadFault.{ReadFault}
 use Rattle.bag_digest.specs.declared.reading.ReadFault.TheVariants as read
 use Rattle.bag_digest.specs.Hash.{AreDigests, Holds}
@@ -34,14 +35,14 @@ pub record GavePiece (old new : Option (List ℕ)) (left n : ℕ) (buffer : List
   pub within : n ≤ left
   pub end : n ≡ 0 → IsAtEnd new
 
--- the number of these octets, and their digests by the algorithms of the set
-abbrev pub IsCountAndDigests : ℕ × Digests → AlgSet → List ℕ → Type 0
-IsCountAndDigests found set octets = (found.0 ≡ length octets) × AreDigests found.1 set octets
+-- the length of these octets, and their digests by the algorithms of the set
+abbrev pub AreSums : Sums → AlgSet → List ℕ → Type 0
+AreSums sums set octets = (sums.length ≡ length octets) × AreDigests sums.digests set octets
 
--- the source was read to its end, and this is the number of its octets with their digests
-abbrev pub GaveDigests : Option (List ℕ) → Option (List ℕ) → ℕ → AlgSet → ℕ × Digests → Type 0
-GaveDigests old new limit set found =
-    (octets : List ℕ) × GaveAll old new limit octets × IsCountAndDigests found set octets
+-- the source was read to its end, and these are the sums of what it gave
+abbrev pub GaveDigests : Option (List ℕ) → Option (List ℕ) → ℕ → AlgSet → Sums → Type 0
+GaveDigests old new limit set sums =
+    (octets : List ℕ) × GaveAll old new limit octets × AreSums sums set octets
 
 -- what the hashers had taken before is followed by these octets, and these are the digests of all
 abbrev pub HashesOn : Multi → List ℕ → Digests → Type 0
@@ -52,7 +53,7 @@ HashesOn multi octets digests = (set : AlgSet) (before : List ℕ) → Holds mul
 abbrev pub GaveFound : Option (List ℕ) → Option (List ℕ) → ℕ → AlgSet → List ℕ → SourceRead → Type 0
 GaveFound old new limit set buffer (Whole n) = (n ≤ length buffer)
     × GaveAll old new limit (take n buffer)
-GaveFound old new limit set buffer (Hashed n digests) = GaveDigests old new limit set (n, digests)
+GaveFound old new limit set buffer (Hashed sums) = GaveDigests old new limit set sums
 
 -- What the source gave before reading ended with a fault. If a read failed or memory ran out, this is within the limit.
 -- Otherwise it is one octet more than the limit, and none after that.

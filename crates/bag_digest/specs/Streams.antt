@@ -3,15 +3,15 @@ use Rattle.std.specs.Prelude.{◌≡◌, ◌≢◌, ◌⊎◌, ◌+◌, ◌-◌,
 use Rattle.std.specs.Io.KnownBytes.{Consumes}
 use Rattle.bag_digest.specs.declared.algorithm.AlgSet.{AlgSet}
 use Rattle.bag_digest.specs.declared.multi_lanes.MultiLanes.{MultiLanes}
-use Rattle.bag_digest.specs.declared.multi.Digests.{Digests}
 use Rattle.bag_digest.specs.declared.reading.SourceFault.{SourceFault}
 use Rattle.bag_digest.specs.declared.reading.SourceFault.TheVariants.{Read}
 use Rattle.bag_digest.specs.declared.streams.Stream.{Stream}
 use Rattle.bag_digest.specs.declared.streams.StreamFault.{StreamFault}
 use Rattle.bag_digest.specs.declared.streams.TheConstants.{FRONT}
+use Rattle.bag_digest.specs.declared.sums.Sums.{Sums}
 use Rattle.bag_digest.specs.Failures.{UsesSource}
 use Rattle.bag_digest.specs.Lanes.{HoldsAt}
-use Rattle.bag_digest.specs.Reading.{GaveAll, GaveBefore, IsCountAndDigests, read_fault}
+use Rattle.bag_digest.specs.Reading.{GaveAll, GaveBefore, AreSums, read_fault}
 
 -- it has a first piece, and has not ended
 pub record IsFresh {S : Type 0} (stream : Stream S) : Type 0 where
@@ -40,7 +40,7 @@ pub record HasEnded {S : Type 0} (remaining : S → Option (List ℕ)) (set : Al
   pub more : List ℕ
   pub gave : GaveAll (remaining old.source) (remaining new.source) (limit - FRONT) more
   pub sums : IsSomeAnd new.sums
-      (λ found. IsCountAndDigests found set (old.piece.items ++ more))
+      (λ found. AreSums found set (old.piece.items ++ more))
 
 -- each from the place `first` to before the place `end`, and none has failed
 abbrev pub HaveEndedIn : {S : Type 0} → (S → Option (List ℕ)) → (S → ℕ) → (S → Type 0)
@@ -56,8 +56,8 @@ abbrev pub HaveEnded : {S : Type 0} → (S → Option (List ℕ)) → (S → ℕ
 HaveEnded remaining failures ready keeps set limit old new =
     HaveEndedIn remaining failures ready keeps set limit 0 (length old) old new
 
--- It stopped with this fault: its source failed, or gave more than the limit. It has failed once if it failed, and if it
--- was ready it didn't.
+-- It stopped with this fault: its source failed, or gave more than the limit. It has failed once if it failed, and if
+-- it was ready it didn't.
 pub record HasStopped {S : Type 0} (remaining : S → Option (List ℕ)) (failures : S → ℕ)
     (ready : S → Type 0) (keeps : S → S → Type 0) (limit : ℕ) (fault : SourceFault)
     (old new : Stream S) : Type 0 where
@@ -101,7 +101,7 @@ pub record IsAt {S : Type 0} (remaining : S → Option (List ℕ)) (multi : Mult
 
 -- it goes on, with these octets left; or it has ended
 abbrev pub IsGoing : {S : Type 0} → (S → Option (List ℕ)) → MultiLanes → AlgSet
-    → ℕ → ℕ → ℕ → List ℕ → Stream S → Stream S → Option (ℕ × Digests) → Type 0
+    → ℕ → ℕ → ℕ → List ℕ → Stream S → Stream S → Option Sums → Type 0
 IsGoing remaining multi set i limit hashed left old new None =
     IsAt remaining multi set i limit hashed left old new
 IsGoing remaining multi set i limit hashed left old new (Some found) =
@@ -115,8 +115,8 @@ pub record IsUnder {S : Type 0} (remaining : S → Option (List ℕ)) (failures 
   pub going : IsGoing remaining multi set i limit hashed left old new new.sums
   pub uses : UsesSource failures ready keeps old.source new.source ⊥
 
--- each stream from the place `first` to before the place `end`, in the lane at its place after `base`: its last piece is
--- left
+-- each stream from the place `first` to before the place `end`, in the lane at its place after `base`: its last piece
+-- is left
 abbrev pub AreUnder : {S : Type 0} → (S → Option (List ℕ)) → (S → ℕ) → (S → Type 0)
     → (S → S → Type 0) → MultiLanes → AlgSet → ℕ → ℕ → ℕ → ℕ → ℕ
     → List (Stream S) → List (Stream S) → Type 0

@@ -1,5 +1,5 @@
 //! The digest algorithms, and sets of them.
-ghost use Rattle.std.specs.Prelude.{◌≡◌, ◌||◌, ◌↔◌, IsTrue, IfSome, Some, false};
+ghost use Rattle.std.specs.Prelude.{◌≡◌, ◌||◌, ◌↔◌, IsTrue, IfSome, Some, false, true};
 
 /// A digest algorithm of manifests: MD5 (RFC 1321), or SHA-1, SHA-256 or SHA-512 (FIPS 180-4).
 ///
@@ -119,6 +119,13 @@ impl AlgSet {
             Alg::Sha256 => self.sha256,
             Alg::Sha512 => self.sha512,
         }
+    }
+
+    /// Whether the set has each algorithm of the other.
+    pub fn covers(self, other: AlgSet) -> bool
+        ensures { IsTrue result ↔ ((alg : Alg) → has other alg ≡ true → has self alg ≡ true) }
+    {
+        self.union(other) == self
     }
 
     /// Whether no algorithm is in the set.

@@ -18,8 +18,8 @@ use std::alloc::{AllocError, Global};
 
 /// The digests of each message by each algorithm of the set, in the order of the messages.
 ///
-/// By MD5, SHA-1 and SHA-256 four messages at a time are hashed, in the lanes of the processor's vectors: several messages, of
-/// whatever lengths, take less time so than one after another.
+/// By MD5, SHA-1 and SHA-256 four messages at a time are hashed, in the lanes of the processor's vectors: several
+/// messages, of whatever lengths, take less time so than one after another.
 ///
 /// # Errors
 ///

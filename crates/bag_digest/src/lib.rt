@@ -15,6 +15,7 @@ pub use reading::{
 };
 pub use source::{Failed, Source};
 pub use streams::{FRONT, Stream, StreamFault, digest_streams};
+pub use sums::Sums;
 
 mod algorithm;
 mod digest;
@@ -28,3 +29,4 @@ mod reader_source;
 mod reading;
 mod source;
 mod streams;
+mod sums;

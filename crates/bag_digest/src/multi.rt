@@ -80,26 +80,10 @@ impl Multi {
         ensures { Holds result set [] }
     {
         Multi {
-            md5: if set.has(Alg::Md5) {
-                Some(Md5::new())
-            } else {
-                None
-            },
-            sha1: if set.has(Alg::Sha1) {
-                Some(Sha1::new())
-            } else {
-                None
-            },
-            sha256: if set.has(Alg::Sha256) {
-                Some(Sha256::new())
-            } else {
-                None
-            },
-            sha512: if set.has(Alg::Sha512) {
-                Some(Sha512::new())
-            } else {
-                None
-            },
+            md5: set.has(Alg::Md5).then_some(Md5::new()),
+            sha1: set.has(Alg::Sha1).then_some(Sha1::new()),
+            sha256: set.has(Alg::Sha256).then_some(Sha256::new()),
+            sha512: set.has(Alg::Sha512).then_some(Sha512::new()),
         }
     }
 

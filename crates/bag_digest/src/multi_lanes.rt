@@ -22,8 +22,8 @@ use sha2::{Digest as _, Sha512};
 /// SHA-256 the streams are hashed side by side, in the lanes of the processor's vectors, which takes less time than one
 /// after another if there are several; by SHA-512 each by itself.
 ///
-/// A stream comes in pieces of whole blocks of 64 octets, and ends with what is left of it. Each lane ends its stream by
-/// itself.
+/// A stream comes in pieces of whole blocks of 64 octets, and ends with what is left of it. Each lane ends its stream
+/// by itself.
 #[derive(Drop)]
 pub struct MultiLanes {
     md5: Option<Md5Lanes>,
@@ -39,21 +39,9 @@ impl MultiLanes {
         ensures { (i : ℕ) → i < 4 → HoldsAt result set i [] }
     {
         MultiLanes {
-            md5: if set.has(Alg::Md5) {
-                Some(Md5Lanes::new())
-            } else {
-                None
-            },
-            sha1: if set.has(Alg::Sha1) {
-                Some(Sha1Lanes::new())
-            } else {
-                None
-            },
-            sha256: if set.has(Alg::Sha256) {
-                Some(Sha256Lanes::new())
-            } else {
-                None
-            },
+            md5: set.has(Alg::Md5).then_some(Md5Lanes::new()),
+            sha1: set.has(Alg::Sha1).then_some(Sha1Lanes::new()),
+            sha256: set.has(Alg::Sha256).then_some(Sha256Lanes::new()),
             sha512: [
                 begun_sha512(set),
                 begun_sha512(set),
@@ -63,8 +51,8 @@ impl MultiLanes {
         }
     }
 
-    /// Takes the next piece of each lane's stream. The pieces are whole blocks of 64 octets, and as many for each lane. What is
-    /// given to a lane whose stream has ended doesn't matter.
+    /// Takes the next piece of each lane's stream. The pieces are whole blocks of 64 octets, and as many for each lane.
+    /// What is given to a lane whose stream has ended doesn't matter.
     pub fn take(&mut self, pieces: &[&[u8]; 4])
         requires { AreBlocks pieces.now }
         ensures taken { (i : ℕ) → i < 4 → (set : AlgSet) (octets : List ℕ)
@@ -83,8 +71,8 @@ impl MultiLanes {
         update_each(&mut self.sha512, pieces);
     }
 
-    /// Takes the next piece of lane `i`'s stream alone, whole blocks of 64 octets. If no other lane has a stream, this takes less
-    /// time than [`take`](Self::take).
+    /// Takes the next piece of lane `i`'s stream alone, whole blocks of 64 octets. If no other lane has a stream, this
+    /// takes less time than [`take`](Self::take).
     pub fn take_alone(&mut self, i: usize, piece: &[u8])
         requires lane { i < 4 }
         requires piece { length piece.now % 64 ≡ 0 }
@@ -104,8 +92,8 @@ impl MultiLanes {
         update_at(&mut self.sha512, i, piece);
     }
 
-    /// The digests of lane `i`'s stream, which ends with these octets, however many: by each algorithm of the set and by no
-    /// other. The lane has no stream from then on.
+    /// The digests of lane `i`'s stream, which ends with these octets, however many: by each algorithm of the set and
+    /// by no other. The lane has no stream from then on.
     pub fn finish(&mut self, i: usize, rest: &[u8]) -> Digests
         requires { i < 4 }
         ensures digests { (set : AlgSet) (octets : List ℕ) → HoldsAt self.old set i octets
@@ -179,11 +167,7 @@ fn sha256_at(lanes: &Option<Sha256Lanes>, i: usize, rest: &[u8]) -> Option<[u8; 
 fn begun_sha512(set: AlgSet) -> Option<Sha512>
     ensures { HoldsIf Holds512 (has set alg.Sha512) result [] }
 {
-    if set.has(Alg::Sha512) {
-        Some(Sha512::new())
-    } else {
-        None
-    }
+    set.has(Alg::Sha512).then_some(Sha512::new())
 }
 
 /// Takes a piece for each lane.

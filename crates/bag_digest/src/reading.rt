@@ -6,8 +6,9 @@ ghost use Rattle.bag_digest.specs.Reading.{GaveAll, GaveBefore, GaveDigests, Gav
 ghost use Rattle.bag_digest.specs.declared.reading.ReadFault.TheVariants.{Memory};
 
 use crate::algorithm::AlgSet;
-use crate::multi::{Digests, Multi};
+use crate::multi::Multi;
 use crate::source::{Failed, Source};
+use crate::sums::Sums;
 use std::alloc::{AllocError, Global};
 use thiserror::Error;
 
@@ -95,7 +96,7 @@ pub fn digest_through<S: Source>(
     reader: &mut S,
     set: AlgSet,
     limit: u64,
-) -> Result<(u64, Digests), SourceFault>
+) -> Result<Sums, SourceFault>
     requires { 0 < length buffer.old }
     ensures digests { IfOk result
         (GaveDigests (S.remaining reader.old) (S.remaining reader.new) limit set) }
@@ -107,18 +108,18 @@ pub fn digest_through<S: Source>(
     digest_on(buffer, reader, Multi::new(set), limit)
 }
 
-/// Reads a source to its end, and answers how many octets it gave. Its digests are those of what the hashers had taken before,
-/// followed by these octets.
+/// Reads a source to its end, and answers how many octets it gave. Its digests are those of what the hashers had taken
+/// before, followed by these octets.
 pub(crate) fn digest_on<S: Source>(
     buffer: &mut [u8],
     reader: &mut S,
     multi: Multi,
     limit: u64,
-) -> Result<(u64, Digests), SourceFault>
+) -> Result<Sums, SourceFault>
     requires { 0 < length buffer.old }
     ensures digests { IfOk result (λ found. (octets : List ℕ)
         × GaveAll (S.remaining reader.old) (S.remaining reader.new) limit octets
-        × (found.0 ≡ length octets) × HashesOn multi octets found.1) }
+        × (found.length ≡ length octets) × HashesOn multi octets found.digests) }
     ensures stopped { IfErr result (λ fault.
         GaveBefore (S.remaining reader.old) (S.remaining reader.new) limit (read_fault fault)) }
     ensures uses { UsesSource S.failures S.ready S.keeps reader.old reader.new
@@ -129,7 +130,11 @@ pub(crate) fn digest_on<S: Source>(
     'pieces: loop {
         let n = read_piece(buffer, reader, limit - total)?;
         if n == 0 {
-            return Ok((total, multi.finish()));
+            let digests = multi.finish();
+            return Ok(Sums {
+                length: total,
+                digests,
+            });
         }
         multi.update(&buffer[..n]);
         total += n as u64;
@@ -141,12 +146,12 @@ pub(crate) fn digest_on<S: Source>(
 pub enum SourceRead {
     /// All of it: this many octets, which are at the front of the buffer. Their digests were not taken yet.
     Whole(usize),
-    /// The source did not end within the buffer: its length in octets, and its digests.
-    Hashed(u64, Digests),
+    /// The source did not end within the buffer: its length and its digests.
+    Hashed(Sums),
 }
 
-/// Reads a source to its end. If it ends before the caller's buffer is full, its octets are at the front of the buffer; otherwise
-/// they are counted, and their digests taken by each algorithm of the set. It takes no memory.
+/// Reads a source to its end. If it ends before the caller's buffer is full, its octets are at the front of the buffer;
+/// otherwise they are counted, and their digests taken by each algorithm of the set. It takes no memory.
 ///
 /// A source that has more than `limit` octets is left right after the first one past it.
 ///
@@ -174,8 +179,11 @@ pub fn read_or_digest<S: Source>(
     }
     let mut multi = Multi::new(set);
     multi.update(buffer);
-    let (more, digests) = digest_on(buffer, reader, multi, limit - n as u64)?;
-    Ok(SourceRead::Hashed(n as u64 + more, digests))
+    let rest = digest_on(buffer, reader, multi, limit - n as u64)?;
+    Ok(SourceRead::Hashed(Sums {
+        length: n as u64 + rest.length,
+        digests: rest.digests,
+    }))
 }
 
 /// Reads a source to its end as [`digest_through`] does, through a buffer of [`PIECE`] octets that it allocates.
@@ -188,7 +196,7 @@ pub fn digest_reader<S: Source>(
     reader: &mut S,
     set: AlgSet,
     limit: u64,
-) -> Result<(u64, Digests), ReadFault>
+) -> Result<Sums, ReadFault>
     ensures digests { IfOk result
         (GaveDigests (S.remaining reader.old) (S.remaining reader.new) limit set) }
     ensures stopped { IfErr result

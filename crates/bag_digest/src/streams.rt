@@ -7,10 +7,11 @@ ghost use Rattle.bag_digest.specs.declared.algorithm.AlgSet.{AlgSet};
 ghost use Rattle.bag_digest.specs.declared.streams.Stream.{Stream};
 
 use crate::algorithm::{Alg, AlgSet};
-use crate::multi::{Digests, Multi};
+use crate::multi::Multi;
 use crate::multi_lanes::MultiLanes;
 use crate::reading::{PIECE, SourceFault, digest_on, fill};
 use crate::source::Source;
+use crate::sums::Sums;
 
 /// The number of octets in a piece of a stream.
 pub const FRONT: usize = 2 * PIECE;
@@ -22,8 +23,8 @@ pub struct Stream<S> {
     pub source: S,
     /// The piece that was read last.
     pub piece: Vec<u8>,
-    /// The number of all its octets, and their digests, once it was read to its end.
-    pub sums: Option<(u64, Digests)>,
+    /// The length of all of it, and its digests, once it was read to its end.
+    pub sums: Option<Sums>,
 }
 
 /// Why streams weren't all read to their ends: the first of them that wasn't, by its place, and its fault.
@@ -35,15 +36,16 @@ pub struct StreamFault {
     pub fault: SourceFault,
 }
 
-/// Reads each stream to its end, four at a time, and takes their digests by each algorithm of the set, side by side. One
-/// that is left alone, or was so from the start, is read alone, and so is each if there is a digest by SHA-512. The limit
-/// counts all octets of a stream, those of its first piece too. Allocates no memory. Each source stays in its stream.
+/// Reads each stream to its end, four at a time, and takes their digests by each algorithm of the set, side by side.
+/// One that is left alone, or was so from the start, is read alone, and so is each if there is a digest by SHA-512. The
+/// limit counts all octets of a stream, those of its first piece too. Allocates no memory. Each source stays in its
+/// stream.
 ///
 /// # Errors
 ///
-/// The fault of the first stream, in their order, that has one: it failed once, or is too large and has not failed. Those
-/// before it were read to their ends, and have not failed. Those behind it are given up: they may have been read too, and
-/// may have failed, and what they did is not told.
+/// The fault of the first stream, in their order, that has one: it failed once, or is too large and has not failed.
+/// Those before it were read to their ends, and have not failed. Those behind it are given up: they may have been read
+/// too, and may have failed, and what they did is not told.
 pub fn digest_streams<S: Source>(
     set: AlgSet,
     limit: u64,
@@ -67,8 +69,8 @@ pub fn digest_streams<S: Source>(
     }
 }
 
-/// Where the streams end that are hashed next: after four of them, or after one if there is a digest by SHA-512, which is not taken
-/// side by side.
+/// Where the streams end that are hashed next: after four of them, or after one if there is a digest by SHA-512, which
+/// is not taken side by side.
 fn next_end(set: AlgSet, first: usize, count: usize) -> usize
     requires { first < count }
     ensures { (first < result) × (result ≤ first + 4) × (result ≤ count) }
@@ -125,13 +127,16 @@ fn digest_alone<S: Source>(
 {
     let mut multi = Multi::new(set);
     multi.update(stream.piece.as_slice());
-    let (more, digests) = digest_on(
+    let rest = digest_on(
         stream.piece.as_mut_slice(),
         &mut stream.source,
         multi,
         limit - FRONT as u64,
     )?;
-    stream.sums = Some((FRONT as u64 + more, digests));
+    stream.sums = Some(Sums {
+        length: FRONT as u64 + rest.length,
+        digests: rest.digests,
+    });
     Ok(())
 }
 
@@ -256,8 +261,8 @@ fn advance_each<S: Source>(
     Ok(())
 }
 
-/// Reads the next piece of the stream in lane `i`, after as many octets as were hashed. If the source ends within it, the digests
-/// are taken.
+/// Reads the next piece of the stream in lane `i`, after as many octets as were hashed. If the source ends within it,
+/// the digests are taken.
 fn advance<S: Source>(
     multi: &mut MultiLanes,
     i: usize,
@@ -284,7 +289,10 @@ fn advance<S: Source>(
     )?;
     if n < stream.piece.len() {
         let digests = multi.finish(i, &stream.piece[..n]);
-        stream.sums = Some((hashed + n as u64, digests));
+        stream.sums = Some(Sums {
+            length: hashed + n as u64,
+            digests,
+        });
     }
     Ok(())
 }

@@ -72,8 +72,8 @@ impl<'a> Failing<'a> {
     }
 }
 
-/// A keeper in memory whose store fails, or once gives something else than it holds: no tag files of which a plan can be
-/// made, or no octets of a payload file. Nothing is claimed about what it holds.
+/// A keeper in memory whose store fails, or once gives something else than it holds: no tag files of which a plan can
+/// be made, or no octets of a payload file. Nothing is claimed about what it holds.
 #[derive(Drop)]
 pub struct BreakingKeeper<'a> {
     inside: MapKeeper,

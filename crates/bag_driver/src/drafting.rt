@@ -1,5 +1,5 @@
-//! A tree in memory, which is judged and written as a bag; for `tests/new_bags.py` and `tests/refusals.py`, which describe
-//! the input and the output.
+//! A tree in memory, which is judged and written as a bag; for `tests/new_bags.py` and `tests/refusals.py`, which
+//! describe the input and the output.
 use crate::breaker::Breaker;
 use crate::breaking_sink::BreakingSink;
 use crate::breaking_tree::BreakingTree;

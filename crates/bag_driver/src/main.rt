@@ -4,23 +4,25 @@
 //! or `none` for a manifest that is made but not read. The status is 0 if the text can be read.
 //!
 //! `bag_driver plan LINES` makes the tag files of a transfer, with four manifests of this many lines each, and their
-//! plan. `bag_driver wants LINES` also asks the plan for each path, and `bag_driver tags LINES` makes only the tag files.
-//! The status is 0 if the transfer can be opened.
+//! plan. `bag_driver wants LINES` also asks the plan for each path, and `bag_driver tags LINES` makes only the tag
+//! files. The status is 0 if the transfer can be opened.
 //!
 //! `bag_driver deliver FILES` makes this many payload files of 2,048 octets and a receiver that takes them in one by
-//! one, and `bag_driver run FILES` takes them in in one run. `bag_driver copies FILES` computes their digests and copies
-//! them into a map; `bag_driver items FILES` only makes them. The status is 0 if all were taken.
+//! one, and `bag_driver run FILES` takes them in in one run. `bag_driver copies FILES` computes their digests and
+//! copies them into a map; `bag_driver items FILES` only makes them. The status is 0 if all were taken.
 //!
-//! `bag_driver stop FILE CALLS HOW SEED DATABASE` does the work on standard input in the ledger of a database, and stops
-//! at a call of one of its files; `tests/stops.py` describes it.
+//! `bag_driver stop FILE CALLS HOW SEED DATABASE` does the work on standard input in the ledger of a database, and
+//! stops at a call of one of its files; `tests/stops.py` describes it.
 //!
 //! `bag_driver ALG PIECES` computes the digest of this many pieces of 65,536 octets.
 //!
-//! `bag_driver calls KEEPER` makes the calls on standard input, as described in `tests/deliveries.py`, `tests/new_bags.py` and
-//! `tests/refusals.py`, with the keeper `map` or `sqlite`, both in memory. The status is 0 if each line was answered.
+//! `bag_driver calls KEEPER` makes the calls on standard input, as described in `tests/deliveries.py`,
+//! `tests/new_bags.py` and `tests/refusals.py`, with the keeper `map` or `sqlite`, both in memory. The status is 0 if
+//! each line was answered.
 //!
 //! `bag_driver refusals KEEPER MOST DEVICE NUMBER` makes at most MOST of these calls, with the keeper `map`, `sqlite`,
-//! `files` or `breaking`, and lets one call of all devices of a kind fail, that with this number; `tests/refusals.py` describes it.
+//! `files` or `breaking`, and lets one call of all devices of a kind fail, that with this number; `tests/refusals.py`
+//! describes it.
 //!
 //! `bag_driver feeds` reads the tag files that standard input gives it in pieces, as described in `tests/feeds.py`. The
 //! status is 0 if each line was answered.

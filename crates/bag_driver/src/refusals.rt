@@ -1,5 +1,5 @@
-//! Calls that are refused memory, or in which a call of a device fails, for `tests/refusals.py`, which describes the input
-//! and the output.
+//! Calls that are refused memory, or in which a call of a device fails, for `tests/refusals.py`, which describes the
+//! input and the output.
 use crate::breaker::{Breaker, Device};
 use crate::breaking_keeper::BreakingKeeper;
 use crate::event::Event;

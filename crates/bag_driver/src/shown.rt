@@ -43,8 +43,8 @@ pub fn write_field<W: Write + Drop>(octets: &[u8], out: &mut W) -> io::Result<()
     write_hex(octets, out)
 }
 
-/// Writes octets in hex, but for zeros: of these it writes how many follow each other, in parentheses. Writes `-` if there
-/// are no octets.
+/// Writes octets in hex, but for zeros: of these it writes how many follow each other, in parentheses. Writes `-` if
+/// there are no octets.
 pub fn write_sparse<W: Write + Drop>(octets: &[u8], out: &mut W) -> io::Result<()> {
     if octets.is_empty() {
         return write!(out, "-");

@@ -120,9 +120,9 @@ fn digest<W: Write + Drop>(
     }
     let mut reader = ReaderSource::new(Reader::new(content, Breaks::Counted(breaker)));
     match digest_reader(alloc, &mut reader, set, limit) {
-        Ok((length, digests)) => {
-            write!(out, "{length}")?;
-            write_digests(&digests, out)
+        Ok(sums) => {
+            write!(out, "{}", sums.length)?;
+            write_digests(&sums.digests, out)
         }
         Err(ReadFault::Read) => write!(out, "refused: read"),
         Err(ReadFault::TooLarge) => write!(out, "refused: too large"),

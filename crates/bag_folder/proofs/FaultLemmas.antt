@@ -55,8 +55,8 @@ told_by_name (Err cause) result name old new P same counts looked_up failed = go
   go (Some unfit) None tells here = absurd (none_is_not_some unfit.cause tells.1)
   go (Some unfit) (Some cause) tells here = subst P (sym tells.0) here
 
--- What is told of a failed call has the name that was looked up, and the cause. If the call didn't fail, what holds of its value
--- holds of the result.
+-- What is told of a failed call has the name that was looked up, and the cause. If the call didn't fail, what holds of
+-- its value holds of the result.
 pub told_by_cause : {A E : Type 0} (answer : Result A (Option Cause)) (result : Result A E)
     (name : List ℕ) (old new : TroublesShown) (P : A → Type 0) (Q : List ℕ → Cause → Type 0)
     → MatchResult answer (λ value. result ≡ Ok value) (λ _. IsErr result)

@@ -28,8 +28,8 @@ courier_of tree = record {
   nexts = 0;
 }
 
-abbrev pub IsWithin : Shown → Option ℕ → Type 0
-IsWithin shown came = (i : ℕ) → came ≡ Some i → i < length (paths_in shown)
+abbrev pub IsPlaceIn : Shown → Option ℕ → Type 0
+IsPlaceIn shown came = (i : ℕ) → came ≡ Some i → i < length (paths_in shown)
 
 -- a file of a tree, with its octets if they are known
 abbrev pub TreeFile : Type 0

@@ -8,8 +8,8 @@ use Rattle.bag_folder.specs.declared.cause.Cause.{Cause}
 use Rattle.bag_folder.specs.Directories.{name_below}
 use Rattle.bag_folder.specs.Unfits.{IsCauseOf}
 
--- A name: what it stands for, where a link is a link; what it leads to, where links are followed; and what is read of the
--- file that it leads to, if that is known. In place of each the error, if there is none, or if it can't be told.
+-- A name: what it stands for, where a link is a link; what it leads to, where links are followed; and what is read of
+-- the file that it leads to, if that is known. In place of each the error, if there is none, or if it can't be told.
 pub record Named : Type 0 where
   pub name : List ℕ
   pub itself : Result EntryKind Error

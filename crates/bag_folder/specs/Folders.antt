@@ -32,8 +32,8 @@ told_name folder (octet ∷ path) = name_below folder (octet ∷ path)
 
 -- its files, and whether there is a payload directory; the name of the folder; where its files belong in a bag; the
 -- name of the last file looked up; what the open file will still give (if one is open, and if that is known); how many
--- times the folder has failed, and what couldn't be used the last time, if that is told; what stands under names, if that
--- is known
+-- times the folder has failed, and what couldn't be used the last time, if that is told; what stands under names, if
+-- that is known
 pub record FolderShown : Type 0 where
   pub standing : Option Standing
   pub shown : Shown
@@ -109,8 +109,8 @@ pub record StartsFile {E : Type 0} (old new : FolderShown) (i : ℕ) (result : R
       IsSomeAnd (slice_get (paths_in old.shown) i)
       (λ path. unfit.path ≡ name_below old.folder (path_below old.place path)))
 
--- the file that was opened is the one that the name leads to, and a failure is told with the cause of its error, if it is
--- known what stands there
+-- the file that was opened is the one that the name leads to, and a failure is told with the cause of its error, if it
+-- is known what stands there
 abbrev pub OpensNamed : {A E : Type 0} → FolderShown → FolderShown → Result A E → Type 0
 OpensNamed old new result = IfSome old.standing (λ known. MatchResult result
     (λ _. IsSomeAnd new.to_read (λ left. content known new.name ≡ Ok left))

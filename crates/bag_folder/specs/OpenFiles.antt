@@ -11,8 +11,8 @@ use Rattle.bag_folder.specs.Folders.{FolderShown, SameShown, path_below}
 use Rattle.bag_folder.specs.DiskNames.{Standing, content}
 use Rattle.bag_folder.specs.Unfits.{IsCauseOf, UnfitShown}
 
--- its place in the tree, and its name on disk; what it will still give, if that is known, or why it couldn't be opened; how
--- many times it has failed, and why the last time
+-- its place in the tree, and its name on disk; what it will still give, if that is known, or why it couldn't be opened;
+-- how many times it has failed, and why the last time
 pub record FileShown : Type 0 where
   pub place : ℕ
   pub name : List ℕ
@@ -35,8 +35,8 @@ abbrev pub IsOpenAt : Standing → List ℕ → Result (Option (List ℕ)) Cause
 IsOpenAt standing name opened = MatchResult opened (λ left. content standing name ≡ Ok left)
     (λ why. (error : Error) × (content standing name ≡ Err error) × IsCauseOf error why)
 
--- A file that was opened by this name, and stands at this place of its tree. It has not failed, whether or not it could be
--- opened.
+-- A file that was opened by this name, and stands at this place of its tree. It has not failed, whether or not it could
+-- be opened.
 pub record IsFileAt (known : Option Standing) (name : List ℕ) (place : ℕ) (file : FileShown)
     : Type 0 where
   pub placed : file.place ≡ place
@@ -50,7 +50,8 @@ abbrev pub OpensFile : FolderShown → ℕ → FileShown → Type 0
 OpensFile tree i file = IsSomeAnd (slice_get (paths_in tree.shown) i)
     (λ path. IsFileAt tree.standing (name_below tree.folder (path_below tree.place path)) i file)
 
--- A read consumes what it gives of a file that is open, which stays open. If the file couldn't be opened, the read fails.
+-- A read consumes what it gives of a file that is open, which stays open. If the file couldn't be opened, the read
+-- fails.
 abbrev pub ReadsOpened : {E : Type 0} → Result (Option (List ℕ)) Cause
     → Result (Option (List ℕ)) Cause → Result ℕ E → List ℕ → Type 0
 ReadsOpened (Ok old) (Ok new) result buf = ReadConsumes old new result buf
@@ -58,8 +59,8 @@ ReadsOpened (Ok old) (Err why) result buf = ⊥
 ReadsOpened (Err why) (Ok new) result buf = ⊥
 ReadsOpened (Err why) (Err now) result buf = (now ≡ why) × IsErr result
 
--- A read changes what is left to read. Its failure is counted, and its cause is kept: if the file couldn't be opened, that
--- cause.
+-- A read changes what is left to read. Its failure is counted, and its cause is kept: if the file couldn't be opened,
+-- that cause.
 pub record ReadsFile {E : Type 0} (old new : FileShown) (result : Result ℕ E) (buf : List ℕ)
     : Type 0 where
   pub reads_on : ReadsOpened old.opened new.opened result buf

@@ -8,8 +8,8 @@ use Rattle.bag_folder.specs.DiskNames.{Changes, Grows, HoldsNothing, IsFileMade,
 use Rattle.bag_folder.specs.SinkFolders.{SinkShown, WritesBegun}
 use Rattle.bag_folder.specs.Unfits.{UnfitShown}
 
--- its place among the files that are written, and its name on disk; what it holds, if it is open, and if that is known; how
--- many times it has failed, and why the last time, if that is told
+-- its place among the files that are written, and its name on disk; what it holds, if it is open, and if that is known;
+-- how many times it has failed, and why the last time, if that is told
 pub record SinkFileShown : Type 0 where
   pub place : ℕ
   pub name : List ℕ
@@ -21,8 +21,8 @@ pub record SinkFileShown : Type 0 where
 abbrev pub trouble_in : SinkFileShown → Option UnfitShown
 trouble_in file = option_map (λ cause. record { path = file.name; cause = cause }) file.cause
 
--- A file that has this place and, if it was begun or it is told why it wasn't, this name. It is open and empty, or has failed
--- once.
+-- A file that has this place and, if it was begun or it is told why it wasn't, this name. It is open and empty, or has
+-- failed once.
 pub record IsBegunAt (name : List ℕ) (place : ℕ) (file : SinkFileShown) : Type 0 where
   pub placed : file.place ≡ place
   pub begun : file.failures ≡ 0 → (file.name ≡ name) × IsSomeAnd file.written (λ _. ⊤)

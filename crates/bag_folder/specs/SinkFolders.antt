@@ -7,8 +7,8 @@ use Rattle.bag_folder.specs.Unfits.{IsToldAt, UnfitShown}
 use Rattle.bag_digest.specs.Failures.{one_more}
 
 -- what stands under names, if that is known; the name of the folder, and of what was made in it last; what the current
--- file holds (if there is one, and if that is known); how many times the folder has failed, and what couldn't be used the
--- last time, if that is told
+-- file holds (if there is one, and if that is known); how many times the folder has failed, and what couldn't be used
+-- the last time, if that is told
 pub record SinkShown : Type 0 where
   pub standing : Option Standing
   pub folder : List ℕ

@@ -15,8 +15,8 @@ use Rattle.bag_folder.specs.DiskNames.{IsOnTheWay, LeadsTo, Standing, content, i
 use Rattle.bag_folder.specs.Unfits.{IsCauseOf, UnfitShown}
 
 -- what stands under names, if that is known; the name of the folder, and of the last file looked up; what the open file
--- will still give (if one is open, and if that is known); how many times the folder failed, and what couldn't be used the
--- last time, if that is told; how many times it was asked
+-- will still give (if one is open, and if that is known); how many times the folder failed, and what couldn't be used
+-- the last time, if that is told; how many times it was asked
 pub record SupplierShown : Type 0 where
   pub standing : Option Standing
   pub folder : List ℕ
@@ -121,8 +121,8 @@ LooksUp folder path name result = MatchResult result (λ _. IsNameTo folder path
     (λ cause. OnSome cause (IsNameTo folder path name))
 
 -- The request is counted. Afterwards a file is open exactly if the folder has it, and it is the one with this path
--- below the folder. A failure is told of the file, or of a directory on the way to it. What is answered is right, if it is
--- known what stands there.
+-- below the folder. A failure is told of the file, or of a directory on the way to it. What is answered is right, if it
+-- is known what stands there.
 pub record AsksFolder {E : Type 0} (old new : SupplierShown) (path : List ℕ)
     (result : Result Bool E) : Type 0 where
   pub opened : is_some new.to_read ≡ true

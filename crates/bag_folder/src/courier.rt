@@ -18,7 +18,7 @@ pub struct TreeCourier<T: Tree> {
     tree: T,
     // where the search for the next file begins
     place: usize,
-    // the index of the current file
+    // the place of the current file
     came: Option<usize>,
     is_started: bool,
     failures: Failures,
@@ -26,7 +26,7 @@ pub struct TreeCourier<T: Tree> {
 }
 
 impl<T: Tree> Model for TreeCourier<T> {
-    ghost use Rattle.bag_folder.specs.Bringing.{Bringing, IsWithin};
+    ghost use Rattle.bag_folder.specs.Bringing.{Bringing, IsPlaceIn};
 
     ghost Value = { Bringing T };
 
@@ -39,7 +39,7 @@ impl<T: Tree> Model for TreeCourier<T> {
       nexts = courier.nexts;
     } };
 
-    ghost invariant = { λ courier. IsWithin (T.shown courier.tree) courier.came };
+    ghost invariant = { λ courier. IsPlaceIn (T.shown courier.tree) courier.came };
 }
 
 impl<T: Tree> TreeCourier<T> {
@@ -160,7 +160,7 @@ impl<T: Tree> Courier for TreeCourier<T> {
     ghost keeps_item = { keeps_item T.shown };
 }
 
-/// The index of the first payload file from `place` on.
+/// The place of the first payload file from `place` on.
 fn next_payload<T: Tree>(tree: &T, place: usize) -> Option<usize>
     ensures found { IfSome result (IsFoundAt (T.shown tree.now) place) }
     ensures none { IfNone result (payload_from (T.shown tree.now) place ≡ []) }

@@ -1,5 +1,5 @@
-//! Folders on disk: as a tree of files to be judged, as the place a bag is written to, as a courier that delivers payload
-//! files, and as a supplier that is asked for them.
+//! Folders on disk: as a tree of files to be judged, as the place a bag is written to, as a courier that delivers
+//! payload files, and as a supplier that is asked for them.
 #![tactic(auto)]
 
 pub use cause::{Cause, Unfit};

@@ -149,8 +149,8 @@ impl<R: Names> OpenFile for FolderFile<R> {
     ghost reads_keep_place = { λ a b same. same };
 }
 
-/// Reads from what was opened, without a call of the system if no octet is asked for. If it couldn't be opened, the read fails for
-/// the same cause.
+/// Reads from what was opened, without a call of the system if no octet is asked for. If it couldn't be opened, the
+/// read fails for the same cause.
 fn read_opened<F: Read>(opened: &mut Result<F, Cause>, buf: &mut [u8]) -> Result<usize, Cause>
     ensures bound { IfOk result (λ n. n ≤ length buf.new) }
     ensures reads { ReadsOpened (left_in F.remaining opened.old) (left_in F.remaining opened.new)

@@ -89,8 +89,8 @@ impl<R: Names + Drop> FolderSink<R> {
         })
     }
 
-    /// What couldn't be used at the last failure: the file or directory that couldn't be made or written. `None` if nothing
-    /// has failed, or if the last call failed for another reason.
+    /// What couldn't be used at the last failure: the file or directory that couldn't be made or written. `None` if
+    /// nothing has failed, or if the last call failed for another reason.
     pub fn trouble(&self) -> Option<&Unfit>
         ensures { MatchOption result (self.now.trouble ≡ None)
             (λ unfit. self.now.trouble ≡ Some unfit.now) }
@@ -253,7 +253,8 @@ impl<R: Names> OpenSink for FolderSink<R> {
         self.troubles.lower();
     }
 
-    /// Closes the file, and keeps its name and why it failed the last time as what couldn't be used. Allocates no memory.
+    /// Closes the file, and keeps its name and why it failed the last time as what couldn't be used. Allocates no
+    /// memory.
     fn fail(&mut self, file: FolderSinkFile<R>)
         ensures { self.new ≡ record self.old { trouble = trouble_in file } }
     {

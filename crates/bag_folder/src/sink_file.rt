@@ -93,8 +93,8 @@ impl<R: Names> FolderSinkFile<R> {
         self.counted(Err(None))
     }
 
-    /// Closes the file, and gives what couldn't be used: its name, and why it failed the last time. `None` if it hasn't failed,
-    /// or for another reason.
+    /// Closes the file, and gives what couldn't be used: its name, and why it failed the last time. `None` if it hasn't
+    /// failed, or for another reason.
     pub(crate) fn into_trouble(self) -> Option<Unfit>
         ensures { result ≡ trouble_in self }
     {

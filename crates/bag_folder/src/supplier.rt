@@ -87,9 +87,9 @@ impl<R: Names + Drop> FolderSupplier<R> {
         })
     }
 
-    /// What couldn't be used at the last failure: what stood in place of the file or of a directory that it is to be in,
-    /// or the file that couldn't be opened or read. `None` if nothing has failed, or if the last call failed for another
-    /// reason.
+    /// What couldn't be used at the last failure: what stood in place of the file or of a directory that it is to be
+    /// in, or the file that couldn't be opened or read. `None` if nothing has failed, or if the last call failed for
+    /// another reason.
     pub fn trouble(&self) -> Option<&Unfit>
         ensures { MatchOption result (self.now.trouble ≡ None)
             (λ unfit. self.now.trouble ≡ Some unfit.now) }

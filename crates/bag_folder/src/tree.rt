@@ -114,8 +114,8 @@ impl<R: Names + Drop> FolderTree<R> {
         FolderTree::open_at(rt, &inside, alloc, folder, Place::Payload)
     }
 
-    /// What couldn't be used at the last failure: the file that couldn't be started or read. `None` if nothing has failed,
-    /// or if the last call failed for another reason.
+    /// What couldn't be used at the last failure: the file that couldn't be started or read. `None` if nothing has
+    /// failed, or if the last call failed for another reason.
     pub fn trouble(&self) -> Option<&Unfit>
         ensures { MatchOption result (self.now.trouble ≡ None)
             (λ unfit. self.now.trouble ≡ Some unfit.now) }
@@ -326,8 +326,8 @@ impl<R: Names> OpenTree for FolderTree<R> {
 
     /// Opens this file as a value.
     ///
-    /// As with [`FolderTree::start`], the folder is assumed to be unchanged since it was read: opening a named pipe that has
-    /// replaced a file since then would block.
+    /// As with [`FolderTree::start`], the folder is assumed to be unchanged since it was read: opening a named pipe
+    /// that has replaced a file since then would block.
     ///
     /// # Errors
     ///
@@ -354,7 +354,8 @@ impl<R: Names> OpenTree for FolderTree<R> {
         self.troubles.lower();
     }
 
-    /// Closes the file, and keeps its name and why it failed the last time as what couldn't be used. Allocates no memory.
+    /// Closes the file, and keeps its name and why it failed the last time as what couldn't be used. Allocates no
+    /// memory.
     fn fail(&mut self, file: FolderFile<R>)
         ensures { self.new ≡ record self.old { trouble = trouble_of file } }
     {

@@ -108,8 +108,8 @@ impl Troubles {
         self.failures.count()
     }
 
-    /// What couldn't be used at the last failure, unless that had another cause than the folder: that memory ran out, or
-    /// that a call wasn't allowed then.
+    /// What couldn't be used at the last failure, unless that had another cause than the folder: that memory ran out,
+    /// or that a call wasn't allowed then.
     pub fn last(&self) -> Option<&Unfit>
         ensures { MatchOption result (self.now.last ≡ None)
             (λ unfit. self.now.last ≡ Some unfit.now) }

@@ -210,8 +210,8 @@ all_done f messages digests count done =
     ∙ sym (get_or-map (λ (m : Bor (List ℕ)). digest f m.now) messages k none)
     ∙ sym (get_or_default (map (λ (m : Bor (List ℕ)). digest f m.now) messages) k [] (digest f []) there))
 
--- The messages before the next one, done or in a lane: where lane i has taken all of its blocks, its digest is written, and
--- the lane begins the next message.
+-- The messages before the next one, done or in a lane: where lane i has taken all of its blocks, its digest is written,
+-- and the lane begins the next message.
 pub done_next : (f : HashFunction) (messages : List (Bor (List ℕ))) (digests : List (List ℕ)) (tasks moved new : List (Option Task)) (task : Task) (d : List ℕ)
     (n i next after : ℕ) → length moved ≡ 4 → i < 4 → slice_index_or tasks i None ≡ Some task → task.message < length digests
     → d ≡ digest f (message_at messages task.message)

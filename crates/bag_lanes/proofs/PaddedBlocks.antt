@@ -26,8 +26,8 @@ mark_set rest octets short e =
     rw (e, drop-replicate {X = ℕ} (0 + length rest) 64 0, left, add-one)
     (set_at rest 0 (replicate (63 - length rest) 0) 0x80 (length rest) refl)
 
--- What follows is of a message m with its mark, this number of zeros, and its length in the 8 octets of a field, and of the
--- block from `start` on.
+-- What follows is of a message m with its mark, this number of zeros, and its length in the 8 octets of a field, and of
+-- the block from `start` on.
 abbrev pub ended : List ℕ → ℕ → List ℕ → List ℕ
 ended m zeros field = m ++ (0x80 ∷ replicate zeros 0 ++ field)
 

@@ -99,7 +99,8 @@ held_beside f old state same was counts i j count octets e kept ec other held = 
 pub same_block : (octets : List ℕ) (i : ℕ) → i < 4 → slice_index_or (octets ∷ octets ∷ octets ∷ octets ∷ []) i [] ≡ octets
 same_block octets i low = each_lane (λ k. slice_index_or (octets ∷ octets ∷ octets ∷ octets ∷ []) k [] ≡ octets) refl refl refl refl i low
 
--- What follows is of the end of a stream: these octets, which are whole blocks, and a rest that is shorter than a block.
+-- What follows is of the end of a stream: these octets, which are whole blocks, and a rest that is shorter than a
+-- block.
 module _ (f : HashFunction) (octets rest value : List ℕ) (held : IsValueOf f octets value) (count : ℕ)
     (counted : count ≡ (length octets + length rest) % 2 ^ 64) where
   whole_at : length octets / 64 * 64 ≡ length octets

@@ -1,5 +1,5 @@
--- How far the rounds of a block have come in SHA-1 and SHA-256 (FIPS 180-4, 6.1.2 and 6.2.2), where only 16 words of the
--- schedule are kept: its first 16, or from round 16 on the 16 before the round.
+-- How far the rounds of a block have come in SHA-1 and SHA-256 (FIPS 180-4, 6.1.2 and 6.2.2), where only 16 words of
+-- the schedule are kept: its first 16, or from round 16 on the 16 before the round.
 use Rattle.std.specs.Prelude.{◌≡◌, ℕ, List, max}
 use Rattle.sha1.specs.Sha1 as SHA1
 use Rattle.sha2.specs.Sha256 as SHA256

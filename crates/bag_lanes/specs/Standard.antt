@@ -32,8 +32,8 @@ pub record HashFunction : Type 0 where
   -- the hash value after a block (RFC 1321, 3.4; FIPS 180-4, 6.1.2 and 6.2.2)
   pub compress : List ℕ → List ℕ → List ℕ
 
--- The message, the octet 1000 0000, zeros up to 8 octets short of a block, and the message's length in bits modulo 2 ^ 64
--- (RFC 1321, 3.1 and 3.2; FIPS 180-4, 5.1.1).
+-- The message, the octet 1000 0000, zeros up to 8 octets short of a block, and the message's length in bits modulo 2 ^
+-- 64 (RFC 1321, 3.1 and 3.2; FIPS 180-4, 5.1.1).
 abbrev pub padded : ByteOrder → List ℕ → List ℕ
 padded order m = m
     ++ (0x80 ∷ replicate ((119 - length m % 64) % 64) 0

@@ -15,8 +15,8 @@ message_at messages k = slice_index_or (map (λ m. m.now) messages) k []
 abbrev pub padded_at : HashFunction → List (Bor (List ℕ)) → ℕ → List ℕ
 padded_at f messages k = padded f.order (message_at messages k)
 
--- A lane with this hash value is at the task: it has taken the first blocks of a message of the list, as many as the task
--- says, and has the rest left.
+-- A lane with this hash value is at the task: it has taken the first blocks of a message of the list, as many as the
+-- task says, and has the rest left.
 pub record IsAt (f : HashFunction) (messages : List (Bor (List ℕ))) (value : List ℕ) (task : Task)
     : Type 0 where
   pub place : task.message < length messages
@@ -44,8 +44,8 @@ first_task f messages k =
     then Some (record { message = k; taken = 0; left = block_count (padded_at f messages k) })
     else None
 
--- Each lane has taken n blocks of its message, which takes the hash values to this state: the tasks say so, and the rest of
--- the queue is the same.
+-- Each lane has taken n blocks of its message, which takes the hash values to this state: the tasks say so, and the
+-- rest of the queue is the same.
 pub record TakesBlocks (f : HashFunction) (messages : List (Bor (List ℕ))) (n : ℕ)
     (state : List (List ℕ)) (old new : Queue) : Type 0 where
   pub at : AreAt f messages state new.tasks
@@ -60,7 +60,8 @@ abbrev pub HasLane : List (Option Task) → ℕ → Type 0
 HasLane tasks k = (i : ℕ) × (i < 4)
     × IsSomeAnd (slice_index_or tasks i None) (λ task. task.message ≡ k)
 
--- Lanes with these hash values are each at its task, and of the first n none is idle as long as there is a next message.
+-- Lanes with these hash values are each at its task, and of the first n none is idle as long as there is a next
+-- message.
 pub record AreFilled (f : HashFunction) (messages : List (Bor (List ℕ))) (state : List (List ℕ))
     (tasks : List (Option Task)) (next n : ℕ) : Type 0 where
   pub at : AreAt f messages state tasks

@@ -48,8 +48,8 @@ pub fn test_reader<S: Source>(
     ensures unread { IsErrOf result (Keep Memory) → reader.new ≡ reader.old }
     ensures own { (fault : StoreFault) → ¬ IsErrOf result (Keep (Store fault)) }
 {
-    let (octets, digests) = digest_reader(alloc, reader, want.algs(), LARGEST_ITEM)?;
-    want.test(octets, &digests)?;
+    let sums = digest_reader(alloc, reader, want.algs(), LARGEST_ITEM)?;
+    want.test(sums.length, &sums.digests)?;
     Ok(())
 }
 

@@ -3,7 +3,7 @@ use Rattle.std.proofs.Common.{◌≡◌, ◌⊎◌, ℕ, List, Some, None, Resul
 use Rattle.bag_path.specs.declared.path.PathFault.{PathFault}
 use Rattle.bag_path.specs.declared.path.PathFault.TheVariants.{Empty, TooLong, EmptySegment, DotSegment, Nul, PayloadRoot, Memory, BadEscape}
 use Rattle.bag_path.specs.declared.version.Version.{Version}
-use Rattle.bag_path.specs.Paths.{IsPath, Refuses, path_fault}
+use Rattle.bag_path.specs.Paths.{IsPath, RefusesPath, path_fault}
 use Rattle.bag_path.specs.SpellingReading.{octets_spelled}
 use Rattle.bag_path.specs.Spellings.{Spells, SpellsNothing, RefusesSpelling}
 use Rattle.bag_path.proofs.PathLemmas.{no_fault_if_path, no_bad_escape}
@@ -13,14 +13,14 @@ use Rattle.bag_path.proofs.SpellsLemmas.{spells_if_read, one_path, nothing_if_no
 pub record IsAnswer (octets : List ℕ) (answer : Result (List ℕ) PathFault) : Type 0 where
   pub text : IfOk answer (λ path. path ≡ octets)
   pub path : IfOk answer IsPath
-  pub fault : IfErr answer (λ fault. Refuses fault octets)
+  pub fault : IfErr answer (λ fault. RefusesPath fault octets)
 
 pub answer_path : (version : Version) (text octets : List ℕ) (answer : Result (List ℕ) PathFault) → octets_spelled version text ≡ Some octets → IsAnswer octets answer → IfOk answer (λ path. Spells version path text × IsPath path)
 answer_path version text octets (Ok path) e h = (spells_if_read version path text (e ∙ ap Some (sym h.text)), h.path)
 answer_path version text octets (Err fault) e h = tt
 
 -- a path isn't refused
-refused_path : (fault : PathFault) (octets : List ℕ) → path_fault octets ≡ None → Refuses fault octets → fault ≡ Memory
+refused_path : (fault : PathFault) (octets : List ℕ) → path_fault octets ≡ None → RefusesPath fault octets → fault ≡ Memory
 refused_path Memory octets e h = refl
 refused_path Empty octets e h = absurd (cc)
 refused_path TooLong octets e h = absurd (cc)
@@ -39,7 +39,7 @@ answer_accepted version text octets answer e h path s p =
     let same = one_path version octets path text (spells_if_read version octets text e) s in
     subst (λ path. (answer ≡ Ok path) ⊎ (answer ≡ Err Memory)) same (accepted_octets octets answer (subst IsPath (sym same) p) h)
 
-refused_spelling : (version : Version) (text octets : List ℕ) (fault : PathFault) → Spells version octets text → Refuses fault octets → RefusesSpelling fault version text
+refused_spelling : (version : Version) (text octets : List ℕ) (fault : PathFault) → Spells version octets text → RefusesPath fault octets → RefusesSpelling fault version text
 refused_spelling version text octets Memory s h = tt
 refused_spelling version text octets BadEscape s h = absurd (no_bad_escape octets h)
 refused_spelling version text octets Empty s h = (octets, s, h)

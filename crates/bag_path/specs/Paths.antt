@@ -52,6 +52,6 @@ abbrev pub is_payload : List ℕ → Bool
 is_payload path = starts_with nat_eq path (codes "data/")
 
 -- a fault that is returned for these octets: their first one, or `Memory`
-abbrev pub Refuses : PathFault → List ℕ → Type 0
-Refuses Memory path = Unit {0}
-Refuses fault path = path_fault path ≡ Some fault
+abbrev pub RefusesPath : PathFault → List ℕ → Type 0
+RefusesPath Memory path = Unit {0}
+RefusesPath fault path = path_fault path ≡ Some fault

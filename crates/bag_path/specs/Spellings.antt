@@ -7,7 +7,7 @@ use Rattle.bag_path.specs.declared.path.PathFault.TheVariants.{Memory, BadEscape
 use Rattle.bag_path.specs.declared.version.Version.{Version}
 use Rattle.bag_path.specs.declared.version.Version.TheVariants.{V1, V097}
 use Rattle.bag_path.specs.Octets.{lf, cr, percent}
-use Rattle.bag_path.specs.Paths.{Refuses}
+use Rattle.bag_path.specs.Paths.{RefusesPath}
 
 -- an escape of LF or CR, with its letter in either case
 abbrev pub IsLineEscape : List ℕ → ℕ → Type 0
@@ -59,4 +59,4 @@ written_spelling path = flat_map written_part path
 abbrev pub RefusesSpelling : PathFault → Version → List ℕ → Type 0
 RefusesSpelling Memory version text = Unit {0}
 RefusesSpelling BadEscape version text = SpellsNothing version text
-RefusesSpelling fault version text = (path : List ℕ) × Spells version path text × Refuses fault path
+RefusesSpelling fault version text = (path : List ℕ) × Spells version path text × RefusesPath fault path

@@ -4,7 +4,7 @@
 pub use line_count::LineCount;
 pub use lines::{Ending, Line, Lines};
 pub use path::{BagPath, LONGEST_PATH, PathFault};
-pub use spelling::{Spelling, escape, unescape};
+pub use spelling::{Spelling, TextSpelling, escape, unescape};
 pub use version::Version;
 
 pub mod examples;

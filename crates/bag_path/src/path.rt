@@ -77,7 +77,7 @@ impl Model for BagPath {
 
 impl BagPath {
     ghost use Rattle.std.specs.Prelude.{◌≡◌, ◌⊎◌, IfOk, IfErr, Ok, Err, string_bytes};
-    ghost use Rattle.bag_path.specs.Paths.{IsPath, is_payload, Refuses};
+    ghost use Rattle.bag_path.specs.Paths.{IsPath, is_payload, RefusesPath};
 
     /// The path with these octets.
     ///
@@ -89,7 +89,7 @@ impl BagPath {
         ensures path { IfOk result IsPath }
         ensures accepted { IsPath text.now
             → (result ≡ Ok text.now) ⊎ (result ≡ Err PathFault.Memory) }
-        ensures fault { IfErr result (λ fault. Refuses fault text.now) }
+        ensures fault { IfErr result (λ fault. RefusesPath fault text.now) }
     {
         if let Some(fault) = fault_of(text) {
             return Err(fault);
@@ -102,7 +102,7 @@ impl BagPath {
     pub(crate) fn from_string(text: String) -> Result<BagPath, PathFault>
         ensures text { IfOk result (λ path. path ≡ string_bytes text) }
         ensures path { IfOk result IsPath }
-        ensures fault { IfErr result (λ fault. Refuses fault (string_bytes text)) }
+        ensures fault { IfErr result (λ fault. RefusesPath fault (string_bytes text)) }
     {
         if let Some(fault) = fault_of(text.as_str()) {
             return Err(fault);

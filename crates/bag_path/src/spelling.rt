@@ -39,14 +39,29 @@ impl Display for Spelling<'_> {
     ghost output = { λ spelling. Some (written_spelling spelling.0.now) };
 
     fn fmt<W: Write>(&self, f: &mut Formatter<W>) -> fmt::Result {
-        for c in self.0.as_str().chars() {
+        TextSpelling(self.0.as_str()).fmt(f)
+    }
+}
+
+/// A text that is displayed with the escapes of [`Spelling`], so that it stays on one line. It may be no path.
+#[derive(Clone, Copy)]
+pub struct TextSpelling<'a>(pub &'a str);
+
+impl Display for TextSpelling<'_> {
+    ghost use Rattle.std.specs.Prelude.{Some};
+    ghost use Rattle.bag_path.specs.Spellings.{written_spelling};
+
+    ghost output = { λ spelling. Some (written_spelling spelling.0.now) };
+
+    fn fmt<W: Write>(&self, f: &mut Formatter<W>) -> fmt::Result {
+        for c in self.0.chars() {
             write_part(f, c)?;
         }
         Ok(())
     }
 }
 
-/// Writes the spelling of one character of a path.
+/// Writes the spelling of one character.
 fn write_part<W: Write>(f: &mut Formatter<W>, c: char) -> fmt::Result
     ensures { WritesOnOk W.write_str_gives f.old result (written_spelling (encode_utf8 c)) f.new }
 {

@@ -45,13 +45,13 @@ pub data PrintsCheck {W : Type 0} (contents : W → Option (List ℕ)) (known : 
       → PrintsCheck contents known folder old new result
 
 -- The answer to arguments that are no known command: help, a usage error on standard error, or that memory ran out.
-pub data Refuses {W : Type 0} (contents : W → Option (List ℕ)) (old new : Output W) (result : ℕ)
+pub data RefusesWords {W : Type 0} (contents : W → Option (List ℕ)) (old new : Output W) (result : ℕ)
     : Type 0 where
   Helped : (text : List ℕ) → Printed contents old new result (text ∷ []) DONE
-      → Refuses contents old new result
-  Told : new ≡ old → result ≡ USAGE → Refuses contents old new result
+      → RefusesWords contents old new result
+  Told : new ≡ old → result ≡ USAGE → RefusesWords contents old new result
   Unsaid : Printed contents old new result (no_result_text Memory ∷ []) FAILED
-      → Refuses contents old new result
+      → RefusesWords contents old new result
 
 -- the line for an empty command line
 abbrev pub usage_line : List ℕ
@@ -85,7 +85,7 @@ module _ {L K F U C W : Type 0} (k : Ghosts K) (l : Ledgers L K F U C)
         → Printed contents old new result.status (usage_line ∷ []) USAGE → result.why ≡ None
         → RunsCommand known words before after old new result
     NoCommand : words ≢ [] → ¬ NamesCommand words → after ≡ before
-        → Refuses contents old new result.status → result.why ≡ None
+        → RefusesWords contents old new result.status → result.why ≡ None
         → RunsCommand known words before after old new result
     NoMemory : words ≢ [] → after ≡ before
         → Printed contents old new result.status (no_result_text Memory ∷ []) FAILED

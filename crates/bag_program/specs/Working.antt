@@ -7,6 +7,9 @@ use Rattle.bag_receiver.specs.declared.receiver.Receiver.{Receiver}
 use Rattle.bag_receiver.specs.declared.report.ViewFault.{ViewFault}
 use Rattle.bag_receiver.specs.Audits.{IsAuditing}
 use Rattle.bag_receiver.specs.BeginningFrom.{BeginsFrom}
+use Rattle.bag_receiver.specs.Exporting.{IsExporting}
+use Rattle.bag_receiver.specs.Fetching.{IsFetching}
+use Rattle.bag_receiver.specs.Listing.{IsListing}
 use Rattle.bag_receiver.specs.Receivers.{Does, IsInState, IsKept}
 use Rattle.bag_receiver.specs.ReceiversInside.{Same}
 use Rattle.bag_receiver.specs.LedgerStates.{LedgerState}
@@ -17,13 +20,10 @@ use Rattle.bag_commands.specs.declared.output.Output.{Output}
 use Rattle.bag_commands.specs.declared.status.TheConstants.{FAILED}
 use Rattle.bag_commands.specs.declared.no_result.NoResult.TheVariants as no_result
 use Rattle.bag_commands.specs.BeginTexts.{begin_line, begin_status}
-use Rattle.bag_commands.specs.Exporting.{IsExporting}
 use Rattle.bag_commands.specs.ExportTexts.{export_status, export_text}
-use Rattle.bag_commands.specs.Fetching.{IsFetching}
 use Rattle.bag_commands.specs.FetchTexts.{fetch_lines, fetch_status}
 use Rattle.bag_commands.specs.Intakes.{IsRun, TakesIn}
 use Rattle.bag_commands.specs.IntakeTexts.{Told, intake_lines, intake_status}
-use Rattle.bag_commands.specs.Listing.{IsListing}
 use Rattle.bag_commands.specs.ListTexts.{list_lines, list_status}
 use Rattle.bag_commands.specs.Outputs.{Printed, PrintedBy, PrintedOne}
 use Rattle.bag_commands.specs.NoResultTexts.{no_result_text}
@@ -80,9 +80,9 @@ viewed work = None
 
 -- FOLDERS
 
--- What a command on the bag in a folder did. The entries of directories may be known. Either the folder was opened, this
--- was done with it, and if it failed the last trouble is told; or nothing was done, and `bag: files` was printed because
--- something isn't allowed in a bag, which is told, or that memory ran out.
+-- What a command on the bag in a folder did. The entries of directories may be known. Either the folder was opened,
+-- this was done with it, and if it failed the last trouble is told; or nothing was done, and `bag: files` was printed
+-- because something isn't allowed in a bag, which is told, or that memory ran out.
 pub data WithFolder {W : Type 0} (contents : W → Option (List ℕ)) (known : Option Listing)
     (folder : List ℕ) (untouched : Type 0) (does : FolderShown → FolderShown → Type 0)
     (old new : Output W) (result : Ended) : Type 0 where

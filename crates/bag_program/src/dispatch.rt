@@ -1,6 +1,6 @@
 //! Runs the command on the command line.
 ghost use Rattle.std.specs.Prelude.{map, string_bytes};
-ghost use Rattle.bag_program.specs.Answers.{Refuses, Runs, RunsCommand};
+ghost use Rattle.bag_program.specs.Answers.{RefusesWords, Runs, RunsCommand};
 
 use crate::command_line::{Request, operands};
 use crate::explanation::Ended;
@@ -84,7 +84,7 @@ fn refuse<R: Eprint, D, W: Write + Drop>(
     words: &[String],
     out: &mut Output<W>,
 ) -> u8
-    ensures { Refuses W.contents out.old out.new result }
+    ensures { RefusesWords W.contents out.old out.new result }
 {
     match Usage::of(system.alloc, words) {
         Ok(Usage::Help(text)) => out.print_line(text.as_str().trim_end(), DONE),

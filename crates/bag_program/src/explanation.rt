@@ -16,8 +16,8 @@ use std::fmt::{self, Display, Formatter};
 pub struct Ended {
     /// The exit status.
     pub status: u8,
-    /// Why the command wasn't done, if it printed `bag: ..` and more is known than that line says, or why it had nothing to
-    /// do.
+    /// Why the command wasn't done, if it printed `bag: ..` and more is known than that line says, or why it had
+    /// nothing to do.
     pub why: Option<Why>,
 }
 

@@ -50,8 +50,8 @@ pub fn a_ledger_goes_on_after_a_close<T: Start>(opened: &FileKeeper<T>)
         opened.now (settled ledger) }
 {}
 
-/// A run that stops while it opens a ledger, or that hands it back, leaves files that hold the same ledger, whether it was
-/// moved to format 2 or not.
+/// A run that stops while it opens a ledger, or that hands it back, leaves files that hold the same ledger, whether it
+/// was moved to format 2 or not.
 pub fn a_ledger_stays_after_a_stopped_opening<S: Start>(
     opened: &Connection<FileStore<FileFrom<S>>>,
     stopped: &Connection<FileStore<FileFrom<S>>>,
@@ -74,8 +74,8 @@ pub fn the_disk_leaves_what_a_stop_may_leave<S: Start>(stopped: &FileKeeper<S>)
         → ∥ IsStopOf stopped.now.connection image ∥₁ }
 {}
 
-/// What is stored under a name before a ledger is opened is what the files hold. A ledger that is opened or made under a
-/// name is so from these files.
+/// What is stored under a name before a ledger is opened is what the files hold. A ledger that is opened or made under
+/// a name is so from these files.
 pub fn ledgers_in_files_are_what_the_files_hold<S: Start>(kept: &FileKeeper<S>)
     ensures holds { (name : List ℕ) (ledger : Ledger)
         → ⟦<LedgerFiles<'static, S> as Ledgers>⟧.holds name ledger
@@ -86,8 +86,8 @@ pub fn ledgers_in_files_are_what_the_files_hold<S: Start>(kept: &FileKeeper<S>)
         ↔ IsMadeIn (image_at S.Start) kept.now.connection }
 {}
 
-/// If none is opened or made under a name, this is so from the files, and what is left of a ledger that was closed is what
-/// its keeper leaves of them.
+/// If none is opened or made under a name, this is so from the files, and what is left of a ledger that was closed is
+/// what its keeper leaves of them.
 pub fn what_is_left_of_ledgers_in_files<S: Start>(kept: &FileKeeper<S>)
     ensures unopened { (name : List ℕ) (it : _)
         → ⟦<LedgerFiles<'static, S> as Ledgers>⟧.unopened name it

@@ -61,8 +61,8 @@ impl<'a> LedgerFile<'a> {
     ///
     /// # Errors
     ///
-    /// Those of `adopt`. Also `NotALedger` if there is no file or it is empty, and `Store` if the file can't be opened for
-    /// writing or another program has it open. The file stays as it was, and so does its log, unless this made it.
+    /// Those of `adopt`. Also `NotALedger` if there is no file or it is empty, and `Store` if the file can't be opened
+    /// for writing or another program has it open. The file stays as it was, and so does its log, unless this made it.
     pub fn open<S: Start>(self, start: S) -> Result<OpenedFile<'a, S>, UnopenedFile<S>>
         ensures opened { MatchResult result (λ it. (it.is_made ≡ false)
             × IsAdoptedFrom (image_at S.Start) it.kept.connection)

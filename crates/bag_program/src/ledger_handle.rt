@@ -7,8 +7,8 @@ use std::io;
 use std::os::fd::AsRawFd;
 use std::os::unix::fs::{MetadataExt, OpenOptionsExt};
 
-/// The file of a ledger, open apart from a connection. All that can be done through it is to ask whether the file still has
-/// its name, and to empty it again: so nothing is written to a ledger that is open.
+/// The file of a ledger, open apart from a connection. All that can be done through it is to ask whether the file still
+/// has its name, and to empty it again: so nothing is written to a ledger that is open.
 #[derive(Drop)]
 pub struct Handle {
     file: File,

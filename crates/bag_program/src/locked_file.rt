@@ -28,8 +28,8 @@ use std::marker::PhantomData;
 /// removed is changed by no other run, and no other program can open them. What has to be removed is removed while they
 /// are still open.
 ///
-/// What removes or empties anything is an [`AbandonedLedger`], for which this is given up: so nothing is removed once a ledger
-/// was opened, but for a log that was copied, and files that this run made for a ledger without transfers.
+/// What removes or empties anything is an [`AbandonedLedger`], for which this is given up: so nothing is removed once a
+/// ledger was opened, but for a log that was copied, and files that this run made for a ledger without transfers.
 #[derive(Drop)]
 pub struct LockedFile<'a, S> {
     rt: &'a HostRuntime,
@@ -50,8 +50,8 @@ impl<'a, S: Start> LockedFile<'a, S> {
     /// # Errors
     ///
     /// Memory ran out; the file or the log can't be opened for writing or made; another program has locked one of them;
-    /// or the file was removed, or made, after it was looked for. A file that was made stays then, since another run may
-    /// use it.
+    /// or the file was removed, or made, after it was looked for. A file that was made stays then, since another run
+    /// may use it.
     pub fn lock(
         rt: &'a HostRuntime,
         seen: Seen,

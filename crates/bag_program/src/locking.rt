@@ -63,8 +63,8 @@ impl From<OpenError> for Barred {
     }
 }
 
-/// Why the file of a ledger and its log couldn't be opened and locked. What was said of them is used up, so that nothing
-/// is opened afterwards: only [`open_locked`] makes one of these.
+/// Why the file of a ledger and its log couldn't be opened and locked. What was said of them is used up, so that
+/// nothing is opened afterwards: only [`open_locked`] makes one of these.
 #[derive(Drop)]
 pub struct NotLocked<S> {
     why: Barred,

@@ -71,7 +71,8 @@ impl<'a, S: Start> OpenLedger<'a, S> {
 ///
 /// # Errors
 ///
-/// If that fails: the store that has both. A crash leaves of it what it could leave of the keeper's, so nothing is lost.
+/// If that fails: the store that has both. A crash leaves of it what it could leave of the keeper's, so nothing is
+/// lost.
 fn copy_log<S: Start>(keeper: FileKeeper<S>) -> Result<Files<FileFrom<S>>, FileStore<FileFrom<S>>>
     ensures closed { MatchResult result
         (IsClosed keeper.connection) (HasNoNewOutcome keeper.connection) }

@@ -2,8 +2,8 @@
 use std::cell::Cell;
 use std::fmt::Display;
 
-/// One line on standard error that says how far long work has come. It is overwritten by the next one, and erased before
-/// anything else is written. If standard error is no terminal, no line is shown.
+/// One line on standard error that says how far long work has come. It is overwritten by the next one, and erased
+/// before anything else is written. If standard error is no terminal, no line is shown.
 #[derive(Drop)]
 pub struct Progress<'a, R> {
     rt: &'a R,
@@ -12,8 +12,8 @@ pub struct Progress<'a, R> {
 }
 
 impl<'a, R: Eprint> Progress<'a, R> {
-    /// No line is shown yet. Whether standard error is a terminal has to be found out before a file is opened, which could
-    /// take the place of a closed standard error.
+    /// No line is shown yet. Whether standard error is a terminal has to be found out before a file is opened, which
+    /// could take the place of a closed standard error.
     pub fn new(rt: &'a R, is_terminal: bool) -> Self {
         Progress {
             rt,

@@ -19,8 +19,8 @@ impl Model for FolderName {
     ghost view = { λ name. string_bytes name.text };
 }
 
-/// A limit that a folder or a file exceeds. The name that is told with it is that of this, or for a limit with a path that
-/// of the folder which the path begins in.
+/// A limit that a folder or a file exceeds. The name that is told with it is that of this, or for a limit with a path
+/// that of the folder which the path begins in.
 #[derive(Debug, Drop)]
 pub enum Limit {
     /// The size of the tag file with this path.

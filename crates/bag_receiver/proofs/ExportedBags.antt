@@ -7,7 +7,7 @@ use Rattle.bag_rules.proofs.HeldBags.{holds_item, holds_tag}
 use Rattle.bag_rules.proofs.InPlace.{expected_payload}
 use Rattle.bag_rules.proofs.PutFiles.{AreNew, by_path, rising_new}
 use Rattle.bag_rules.proofs.SameListLemmas.{all_has}
-use Rattle.bag_rules.proofs.Words.{false≢true, Holds, is_payload}
+use Rattle.bag_rules.proofs.Words.{false≢true, HoldsFile, is_payload}
 use Rattle.bag_rules.specs.declared.plan.ItemSize.{ItemSize}
 use Rattle.bag_rules.specs.declared.file.File.{File as FileOf}
 use Rattle.bag_rules.specs.Files.{files_of, IsTagFile}
@@ -147,7 +147,7 @@ module _ (ledger : Ledger) (name : List ℕ) (transfer : Transfer) (named : IsNa
   abbrev front : ℕ → Stored
   front n = with_wholes (take n all) opened
 
-  front_holds : (n : ℕ) (path octets : List ℕ) → Holds (front n).bag path octets → IsFileOf ledger name path octets
+  front_holds : (n : ℕ) (path octets : List ℕ) → HoldsFile (front n).bag path octets → IsFileOf ledger name path octets
   front_holds n path octets holds = is_file path octets (take_has n all (path, octets) ((holds_whole (take n all) (take_new n all all_new) path octets).0 holds))
 
   front_part : (n : ℕ) → HasPart ledger name (front n)

@@ -19,7 +19,7 @@ use Rattle.bag_receiver.specs.BeginningInside.{begin_fault, IsMetAt, OpenWith}
 use Rattle.bag_receiver.proofs.BeginFiles.{all_light}
 use Rattle.bag_receiver.proofs.BeginRefusals.{taken as can_open, told}
 use Rattle.bag_receiver.proofs.BeginSteps.{begins, counts_nothing, does_nothing_so}
-use Rattle.bag_receiver.proofs.Words.{AreRising, BeginFault, BeginStep, Begins, Equal, Files, Greater, Has, IsHeavyAt, IsPlanOf, IsRefusal, IsTransferName, keys_of, Ledger, LedgerState, Less, light_tags, match_ordering, Memory, nat_cmp, nat_list_cmp_total, NoneMisplaced, ordering_reverse, Plan, Receiver, Refuses, slice_cmp, Store, StoreFault, tied_itself, with_file, with_files}
+use Rattle.bag_receiver.proofs.Words.{AreRising, BeginFault, BeginStep, Begins, Equal, Files, Greater, Has, IsHeavyAt, IsPlanOf, IsRefusal, IsTransferName, keys_of, Ledger, LedgerState, Less, light_tags, match_ordering, Memory, nat_cmp, nat_list_cmp_total, NoneMisplaced, ordering_reverse, Plan, Receiver, RefusesTags, slice_cmp, Store, StoreFault, tied_itself, with_file, with_files}
 
 abbrev File : Type 0
 File = List ℕ × Option (List ℕ)
@@ -151,7 +151,7 @@ module _ (tags : Files) (are : AreTagFiles tags) where
   pub opens : (plan : Plan) → IsPlanOf tags plan → OpenWith tags plan
   opens plan is = (can_open tags none_misplaced none_heavy tags plan as_given is, is)
 
-  pub refuses : (fault : PlanFault) → Refuses tags fault → IsRefusal tags (begin_fault fault)
+  pub refuses : (fault : PlanFault) → RefusesTags tags fault → IsRefusal tags (begin_fault fault)
   refuses fault refused = told tags none_misplaced none_heavy tags fault as_given refused
 
 -- THE ANSWER

@@ -8,7 +8,7 @@ use Rattle.bag_rules.specs.declared.plan.PlanFault.{PlanFault}
 use Rattle.bag_rules.specs.declared.plan.PlanFault.TheVariants as plan
 use Rattle.bag_rules.specs.Faults.{Has}
 use Rattle.bag_rules.specs.Files.{Files, IsTagPath}
-use Rattle.bag_rules.specs.Opening.{HasManyLinesAt, IsFirstPath, Opens, Refuses}
+use Rattle.bag_rules.specs.Opening.{HasManyLinesAt, IsFirstPath, Opens, RefusesTags}
 use Rattle.bag_rules.specs.Transfers.{with_files}
 use Rattle.bag_ledger.specs.declared.keeper_faults.KeepFault.{KeepFault}
 use Rattle.bag_ledger.specs.declared.keeper_faults.KeepFault.TheVariants.{Memory, Store}
@@ -60,7 +60,7 @@ pub record AreTaken (given tags : Files) : Type 0 where
 pub record AreRefused (given : Files) (fault : PlanFault) : Type 0 where
   pub placed : NoneMisplaced given
   pub within : NoneLarge given
-  pub refused : Refuses (with_files [] given) fault
+  pub refused : RefusesTags (with_files [] given) fault
 
 -- the first reason why no transfer can be opened, in this order
 abbrev pub RefusesFiles : Files → BeginFault → Type 0

@@ -1,6 +1,6 @@
 -- The bag of a transfer, as a sink holds it after an export.
 use Rattle.std.specs.Prelude.{◌≡◌, ◌+◌, ◌++◌, ℕ, List, Option, Some, None, Result, Ok, Err, length}
-use Rattle.bag_rules.specs.Bags.{Holds}
+use Rattle.bag_rules.specs.Bags.{HoldsFile}
 use Rattle.bag_rules.specs.Transfers.{held_bag}
 use Rattle.bag_writer.specs.Sinks.{Begun, Stored, nothing_stored}
 use Rattle.bag_ledger.specs.Ledgers.{Ledger, Transfer}
@@ -11,7 +11,7 @@ use Rattle.bag_receiver.specs.declared.export.ExportFault.TheVariants.{NoTransfe
 -- the bag of the transfer with this name holds these octets at the path
 abbrev pub IsFileOf : Ledger → List ℕ → List ℕ → List ℕ → Type 0
 IsFileOf ledger name path octets = (transfer : Transfer) × IsNamed ledger name (Some transfer)
-    × Holds (held_bag transfer.tags transfer.items) path octets
+    × HoldsFile (held_bag transfer.tags transfer.items) path octets
 
 -- the whole bag of the transfer is there, and no file is open
 pub record HasBag (transfer : Transfer) (stored : Stored) : Type 0 where
@@ -20,7 +20,7 @@ pub record HasBag (transfer : Transfer) (stored : Stored) : Type 0 where
 
 -- part of the bag is there: some of its files, and the front of one more
 pub record HasPart (ledger : Ledger) (name : List ℕ) (stored : Stored) : Type 0 where
-  pub files : (path octets : List ℕ) → Holds stored.bag path octets
+  pub files : (path octets : List ℕ) → HoldsFile stored.bag path octets
       → IsFileOf ledger name path octets
   pub begun : (file : Begun) → stored.begun ≡ Some file
       → (rest : List ℕ) × IsFileOf ledger name file.path (file.octets ++ rest)

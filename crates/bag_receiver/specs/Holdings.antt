@@ -34,8 +34,8 @@ SomePass tags path n = (octets : List ℕ) × (n ≡ length octets) × Passes ta
 abbrev pub AreValidSizes : Files → List ItemSize → Type 0
 AreValidSizes tags sizes = (items : Files) × AreHeldFor tags items × (sizes ≡ sizes_of items)
 
--- What reading held files does to the keeper: nothing is written, and a failure of the store is counted exactly if one is
--- the answer.
+-- What reading held files does to the keeper: nothing is written, and a failure of the store is counted exactly if one
+-- is the answer.
 pub record ReadsKeeper {K : Type 0} (holds may_leave : K → Ledger → Type 0) (clean : K → Type 0)
     (failures : K → ℕ) (old new : K) (failed : StoreFault → Type 0) : Type 0 where
   pub reads : Reads holds may_leave clean old new

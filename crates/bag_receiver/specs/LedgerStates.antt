@@ -50,9 +50,9 @@ Brought old new TooLong = GaveMoreThan old new LARGEST_ITEM
 Brought old new Unread = GaveWithin old new LARGEST_ITEM
 
 -- the content was received completely and is within the limit
-abbrev pub IsWithin : Content → Type 0
-IsWithin (Whole content) = length content ≤ LARGEST_ITEM
-IsWithin content = ⊥
+abbrev pub IsWithinLimit : Content → Type 0
+IsWithinLimit (Whole content) = length content ≤ LARGEST_ITEM
+IsWithinLimit content = ⊥
 
 -- what an answer says about the text and the content alone
 abbrev pub Judges : Answer → List ℕ → Content → Type 0
@@ -62,7 +62,7 @@ Judges (Refused (BadPath fault)) text content = path_fault text ≡ Some fault
 Judges (Refused NotListed) text content = IsPath text
 Judges (Refused Reader) text content = IsPath text × (content ≡ Unread)
 Judges (Refused TooLarge) text content = IsPath text × IsTooLong content
-Judges answer text content = IsPath text × IsWithin content
+Judges answer text content = IsPath text × IsWithinLimit content
 
 -- What is true of an answer, whatever is held: an invalid name is answered with `NoTransfer`.
 pub record IsAnswer (name : List ℕ) (delivery : Delivery) : Type 0 where

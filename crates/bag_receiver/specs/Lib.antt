@@ -6,10 +6,13 @@ pub mod BeginningInside
 pub mod Couriers
 pub mod Deliveries
 pub mod ExampleDeliveries
+pub mod Exporting
 pub mod Exports
 pub mod ExportsInside
+pub mod Fetching
 pub mod FetchingInside
 pub mod Holdings
+pub mod Listing
 pub mod PutAnswers
 pub mod Receivers
 pub mod ReceiversInside

@@ -66,8 +66,8 @@ pub(crate) fn passing_sizes<K: Keeper>(
     Ok(passing)
 }
 
-/// Whether the path of the file comes after those of these files. A store that fails unseen may give a path twice, or out
-/// of order.
+/// Whether the path of the file comes after those of these files. A store that fails unseen may give a path twice, or
+/// out of order.
 fn comes_after(files: &[ItemSize], file: &ItemSize) -> bool
     ensures rising { IsTrue result → AreRising (item_paths files.now)
         → AreRising (item_paths (files.now ++ file.now ∷ [])) }

@@ -3,7 +3,7 @@ ghost use Rattle.std.specs.Prelude.{◌≡◌, ◌≢◌, ◌⊎◌, ◌↔◌, 
 ghost use Rattle.bag_digest.specs.Failures.{CountsIf};
 ghost use Rattle.bag_rules.specs.declared.limits.TheConstants.{LARGEST_TAG_FILE};
 ghost use Rattle.bag_rules.specs.Files.{Files};
-ghost use Rattle.bag_rules.specs.Opening.{IsFirstPath, Refuses};
+ghost use Rattle.bag_rules.specs.Opening.{IsFirstPath, RefusesTags};
 ghost use Rattle.bag_rules.specs.Plans.{IsPlanOf};
 ghost use Rattle.bag_ledger.specs.declared.keeper_faults.StoreFault.{StoreFault};
 ghost use Rattle.bag_receiver.specs.Beginning.{AreTaken, BeginStep, Begins, IsAnswerTo, IsHeavyAt, NoneMisplaced, given_in};
@@ -37,7 +37,7 @@ pub enum BeginFault {
     /// The text isn't a valid name: 1 to 64 octets, each a lowercase ASCII letter, a digit or `-`.
     #[error("name")]
     BadName,
-    /// The path of the file at this index, counted from 0, is invalid, is a payload path, or is the path of an earlier
+    /// The path of the file at this place, counted from 0, is invalid, is a payload path, or is the path of an earlier
     /// file. This is the first such file.
     #[error("tag path")]
     TagPath(usize),
@@ -131,7 +131,7 @@ pub(crate) fn open(alloc: Global, files: &[(String, Vec<u8>)]) -> Result<(TagSet
 /// files emptied.
 fn first_refusal(alloc: Global, heavy: &str, fault: PlanFault) -> BeginFault
     ensures { (given : Files) → NoneMisplaced given → IsFirstPath (IsHeavyAt given) heavy.now
-        → Refuses (light_tags given) fault → IsRefusal given result }
+        → RefusesTags (light_tags given) fault → IsRefusal given result }
 {
     match fault {
         PlanFault::Memory => BeginFault::Keeper(KeepFault::Memory),
@@ -205,7 +205,7 @@ fn placed(alloc: Global, files: &[(String, Vec<u8>)]) -> Result<TagSet, BeginFau
     Ok(tags)
 }
 
-/// Why the file at this index isn't a tag file.
+/// Why the file at this place isn't a tag file.
 fn fault_at(i: usize, fault: TagSetFault) -> BeginFault
     ensures { ((fault ≡ TagSetFault.Memory) × (result ≡ BeginFault.Keeper KeepFault.Memory))
         ⊎ ((fault ≢ TagSetFault.Memory) × (result ≡ BeginFault.TagPath i)) }

@@ -101,7 +101,7 @@ fn read_each<T: Tree>(alloc: Global, buffer: &mut [u8], tree: &mut T) -> Result<
     Ok(tags)
 }
 
-/// Reads the whole file at this index.
+/// Reads the whole file at this place.
 fn read_tag_file<T: Tree>(
     alloc: Global,
     buffer: &mut [u8],

@@ -1,22 +1,16 @@
 //! Exports: write the bag of a transfer, as it is held, to a sink.
 ghost use Rattle.std.specs.Prelude.{◌≡◌, ◌<◌, ◌∷◌, ◌++◌, [], ℕ, List, IfErr, IsErr, IsErrOf, MatchResult, false, length};
-ghost use Rattle.bag_digest.specs.Failures.{CountsIf};
 ghost use Rattle.bag_rules.specs.Files.{Files};
 ghost use Rattle.bag_rules.specs.Plans.{sizes_of};
-ghost use Rattle.bag_ledger.specs.declared.keeper_faults.StoreFault.{StoreFault};
 ghost use Rattle.bag_ledger.specs.declared.keeper_faults.KeepFault.TheVariants.{Store};
-ghost use Rattle.bag_writer.specs.Sinks.{ClosesSink, IsEmptySink, IsFree, UsesClosedSink, UsesOpenSink};
+ghost use Rattle.bag_writer.specs.Sinks.{ClosesSink, IsFree, UsesClosedSink, UsesOpenSink};
 ghost use Rattle.bag_writer.specs.Steps.{ArePart, AreWhole};
 ghost use Rattle.bag_writer.specs.TagWriting.{AreFree};
 ghost use Rattle.bag_writer.specs.PayloadSteps.{Writes, WritesFront};
-ghost use Rattle.bag_receiver.specs.Exports.{Exports};
+ghost use Rattle.bag_receiver.specs.Exporting.{IsExporting};
 ghost use Rattle.bag_receiver.specs.ExportsInside.{HasItems, IsMetWriting, IsPartOf, WritesAsMany, from_opened};
 ghost use Rattle.bag_receiver.specs.Holdings.{HasItem, ReadsKeeper};
-ghost use Rattle.bag_receiver.specs.TransferNames.{IsTransferName};
-ghost use Rattle.bag_receiver.specs.Receivers.{Does, IsInState};
-ghost use Rattle.bag_receiver.specs.ReceiversInside.{Same};
-ghost use Rattle.bag_receiver.specs.LedgerStates.{LedgerState};
-ghost use Rattle.bag_receiver.specs.declared.export.ExportFault.TheVariants.{Keeper as NotKept, NoTransfer, Sink as SinkFailed};
+ghost use Rattle.bag_receiver.specs.declared.export.ExportFault.TheVariants.{Keeper as NotKept, Sink as SinkFailed};
 
 use crate::held::next_piece;
 use crate::receiver::Receiver;
@@ -95,21 +89,8 @@ impl<K: Keeper> Receiver<K> {
         name: &str,
         sink: &mut S,
     ) -> Result<u64, ExportFault>
-        ensures looks { Does K.holds K.may_leave K.clean self.old self.new Same }
-        ensures exported { K.clean self.new.keeper → (now : LedgerState)
-            → IsInState K.holds K.may_leave self.old now
-            → Exports now.held name.now result (S.stored sink.old) (S.stored sink.new) }
-        // An invalid name names no transfer, whatever the store would answer; and if there is none, the sink isn't
-        // used.
-        ensures judged { (¬ IsTransferName name.now → IsErrOf result NoTransfer)
-            × (IsErrOf result NoTransfer → sink.new ≡ sink.old) }
-        ensures store { CountsIf ((fault : StoreFault) × IsErrOf result (NotKept (Store fault)))
-            (K.failures self.old.keeper) (K.failures self.new.keeper) }
-        ensures sink { UsesClosedSink S.is_open S.failures S.sure sink.old sink.new
-            ((K.clean self.new.keeper
-            × ((now : LedgerState) × IsInState K.holds K.may_leave self.old now))
-            × (S.is_open sink.old ≡ false) × IsEmptySink (S.stored sink.old))
-            result (IsErrOf result SinkFailed) }
+        ensures { IsExporting K.holds K.may_leave K.clean K.failures S.stored S.is_open S.failures
+            S.sure name.now self.old self.new sink.old sink.new result }
     {
         if !is_name(name) {
             return Err(ExportFault::NoTransfer);

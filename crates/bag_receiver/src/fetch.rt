@@ -1,21 +1,20 @@
 //! Fetching: asks a supplier for what the `fetch.txt` of a transfer lists and isn't held.
-ghost use Rattle.std.specs.Prelude.{◌≡◌, ◌≢◌, ◌↔◌, ◌∷◌, [], ℕ, List, Some, None, IfErr, IfOk, IfNone, IfSome, IsErrOf, IsTrue, MatchResult, OnErr, length, map, slice_get, slice_set, string_bytes, true};
-ghost use Rattle.std.specs.List.{AllByRecursion};
-ghost use Rattle.bag_digest.specs.Failures.{CountsIf, RisesBy, one_more};
+ghost use Rattle.std.specs.Prelude.{◌≡◌, ◌≢◌, ◌↔◌, ◌∷◌, [], ℕ, List, Some, None, IfOk, IfNone, IfSome, IsErrOf, IsTrue, MatchResult, slice_get, slice_set, string_bytes, true};
+ghost use Rattle.bag_digest.specs.Failures.{CountsIf, one_more};
 ghost use Rattle.bag_tags.specs.declared.fetch.FetchLine.{FetchLine};
 ghost use Rattle.bag_rules.specs.Faults.{Has};
 ghost use Rattle.bag_rules.specs.Files.{Files};
 ghost use Rattle.bag_rules.specs.Plans.{AreFetchLines, IsPlanOf, item_paths};
 ghost use Rattle.bag_rules.specs.Trees.{AreRising};
-ghost use Rattle.bag_ledger.specs.declared.keeper_faults.KeepFault.TheVariants.{Memory};
 ghost use Rattle.bag_ledger.specs.declared.keeper_faults.StoreFault.{StoreFault};
+ghost use Rattle.bag_receiver.specs.Fetching.{IsFetching};
 ghost use Rattle.bag_receiver.specs.FetchingInside.{AreMarks, AreRequests, IsRequest, IsUnderWay};
 ghost use Rattle.bag_receiver.specs.TransferNames.{IsNamed, IsTransferName};
 ghost use Rattle.bag_receiver.specs.Receivers.{Does, IsInState};
 ghost use Rattle.bag_receiver.specs.ReceiversInside.{Same};
 ghost use Rattle.bag_receiver.specs.LedgerStates.{LedgerState};
 ghost use Rattle.bag_receiver.specs.Runs.{CountsEach, Runs};
-ghost use Rattle.bag_receiver.specs.Suppliers.{AreReached, IsGotFrom, IsReply, Reply, Round, deliveries_by, delivery_by, outcome_of, supplier_failure, supplier_failures, told};
+ghost use Rattle.bag_receiver.specs.Suppliers.{IsReply, Reply, delivery_by, supplier_failure, told};
 
 use crate::answer::DeliverFault;
 use crate::receiver::Receiver;
@@ -52,7 +51,7 @@ pub struct FetchOutcome {
     pub answer: FetchAnswer,
 }
 
-/// A file to ask for, and the index of its path in the plan.
+/// A file to ask for, and the place of its path in the plan.
 #[derive(Drop)]
 struct FetchRequest {
     line: u64,
@@ -82,26 +81,8 @@ impl<K: Keeper> Receiver<K> {
         name: &str,
         supplier: &mut S,
     ) -> Result<Vec<FetchOutcome>, ViewFault>
-        ensures fetched { MatchResult result (λ outcomes. (rounds : List Round)
-            × (outcomes.items ≡ map outcome_of rounds)
-            × AllByRecursion (IsGotFrom (S.supply supplier.old)) rounds
-            × Runs K.holds K.may_leave K.clean K.failures self.old self.new name.now
-            (deliveries_by rounds)
-            × (K.clean self.new.keeper → (now : LedgerState)
-            → IsInState K.holds K.may_leave self.old now → AreReached now.held name.now rounds))
-            (λ fault. Does K.holds K.may_leave K.clean self.old self.new Same
-            × (supplier.new ≡ supplier.old)) }
-        ensures none { K.clean self.new.keeper → (now : LedgerState)
-            → IsInState K.holds K.may_leave self.old now
-            → IfErr result (λ fault. fault ≡ ViewFault.NoTransfer
-            → IsNamed now.held name.now None) }
-        ensures judged { ¬ IsTransferName name.now → IsErrOf result ViewFault.NoTransfer }
-        ensures supplier { IfOk result (λ outcomes. CountsEach (supplier_failures outcomes.items)
-            (S.failures supplier.old) (S.failures supplier.new)
-            × RisesBy (length outcomes.items) (S.asks supplier.old) (S.asks supplier.new)) }
-        ensures store { IfErr result (λ fault. CountsIf ((store : StoreFault)
-            × (fault ≡ ViewFault.Keeper (KeepFault.Store store)))
-            (K.failures self.old.keeper) (K.failures self.new.keeper)) }
+        ensures { IsFetching K.holds K.may_leave K.clean K.failures S.supply S.failures S.asks
+            name.now self.old self.new supplier.old supplier.new result }
     {
         let Requests { list, mut held } = self.requests(alloc, name)?;
         let mut outcomes = Vec::with_capacity(alloc, list.len())?;
@@ -198,7 +179,7 @@ fn mark_path(marks: &mut Vec<bool>, paths: &[BagPath], path: &BagPath)
     mark(marks, place);
 }
 
-/// The entries of `fetch.txt`, each with the index of its path.
+/// The entries of `fetch.txt`, each with the place of its path.
 fn requests_of(
     alloc: Global,
     plan: &Plan,
@@ -235,7 +216,7 @@ fn request_for(
     })
 }
 
-/// The index of the path in paths that are in order.
+/// The place of the path in paths that are in order.
 fn place_in(paths: &[BagPath], path: &BagPath) -> Option<usize>
     ensures found { IfSome result (λ place. slice_get paths.now place ≡ Some path.now) }
     ensures absent { AreRising paths.now → IfNone result (¬ Has paths.now path.now) }
@@ -246,7 +227,7 @@ fn place_in(paths: &[BagPath], path: &BagPath) -> Option<usize>
     }
 }
 
-/// Whether this index is marked.
+/// Whether this place is marked.
 fn is_marked(marks: &Vec<bool>, place: usize) -> bool
     ensures { IsTrue result ↔ (slice_get marks.now.items place ≡ Some true) }
 {
@@ -256,7 +237,7 @@ fn is_marked(marks: &Vec<bool>, place: usize) -> bool
     }
 }
 
-/// Marks this index if the payload file was taken.
+/// Marks this place if the payload file was taken.
 fn mark_taken(marks: &mut Vec<bool>, place: usize, answer: FetchAnswer)
     ensures taken { answer ≡ FetchAnswer.Taken
         → marks.new.items ≡ slice_set marks.old.items place true }
@@ -267,7 +248,7 @@ fn mark_taken(marks: &mut Vec<bool>, place: usize, answer: FetchAnswer)
     }
 }
 
-/// Marks this index.
+/// Marks this place.
 fn mark(marks: &mut Vec<bool>, place: usize)
     ensures { marks.new.items ≡ slice_set marks.old.items place true }
 {

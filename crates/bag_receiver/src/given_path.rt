@@ -1,6 +1,6 @@
 //! Paths as they are given with a delivery.
 ghost use Rattle.std.specs.Prelude.{◌≡◌, ℕ, List, MatchResult};
-ghost use Rattle.bag_path.specs.Paths.{IsPath, Refuses};
+ghost use Rattle.bag_path.specs.Paths.{IsPath, RefusesPath};
 
 use bag_path::{BagPath, PathFault};
 use std::alloc::Global;
@@ -17,7 +17,7 @@ pub trait GivenPath: Drop {
     /// The first fault of a text that is no path, or `Memory` if memory runs out.
     fn into_path(self, alloc: Global) -> Result<BagPath, PathFault>
         ensures { MatchResult result (λ path. (path ≡ text self) × IsPath (text self))
-            (λ fault. Refuses fault (text self)) };
+            (λ fault. RefusesPath fault (text self)) };
 }
 
 impl GivenPath for &str {

@@ -12,7 +12,6 @@ pub use receiver::Receiver;
 pub use report::ViewFault;
 pub use run::{End, MOST_DELIVERIES, Run};
 pub use supplier::Supplier;
-pub use transfer_name::{LONGEST_NAME, is_name};
 
 mod answer;
 pub mod arrival_laws;

@@ -1,12 +1,12 @@
 //! The receiver: a keeper of transfers, and the plan of each transfer that was used.
-ghost use Rattle.std.specs.Prelude.{◌≡◌, [], IfOk, IsErrOf, IsTrue, MatchResult, OnErr, OnOk, map, string_bytes};
+ghost use Rattle.std.specs.Prelude.{◌≡◌, IfOk, IsErrOf, IsTrue, MatchResult, OnErr, OnOk};
 ghost use Rattle.std.specs.BTreeMap.{insert_entry};
 ghost use Rattle.std.specs.Cmp.Lexicographic.{slice_cmp};
-ghost use Rattle.std.specs.Map.{keys_of};
 ghost use Rattle.std.specs.Ordering.{nat_cmp};
 ghost use Rattle.bag_digest.specs.Failures.{CountsIf};
 ghost use Rattle.bag_ledger.specs.declared.keeper_faults.StoreFault.{StoreFault};
 ghost use Rattle.bag_ledger.specs.declared.keeper_faults.KeepFault.TheVariants.{Store};
+ghost use Rattle.bag_receiver.specs.Listing.{IsListing};
 ghost use Rattle.bag_receiver.specs.TransferNames.{IsTransferName};
 ghost use Rattle.bag_receiver.specs.LedgerStates.{LedgerState};
 ghost use Rattle.bag_receiver.specs.Receivers.{Does, IsInState, IsKept, plans_in};
@@ -58,12 +58,7 @@ impl<K: Keeper> Receiver<K> {
     ///
     /// The store failed, or memory ran out.
     pub fn names(&mut self, alloc: Global) -> Result<Vec<String>, KeepFault>
-        ensures looks { Does K.holds K.may_leave K.clean self.old self.new Same }
-        ensures names { K.clean self.new.keeper → (now : LedgerState)
-            → IsInState K.holds K.may_leave self.old now
-            → IfOk result (λ names. map string_bytes names.items ≡ keys_of now.held) }
-        ensures store { CountsIf ((fault : StoreFault) × IsErrOf result (Store fault))
-            (K.failures self.old.keeper) (K.failures self.new.keeper) }
+        ensures { IsListing K.holds K.may_leave K.clean K.failures self.old self.new result }
     {
         self.keeper.names(alloc)
     }

@@ -1,14 +1,14 @@
 -- One file more is gathered.
 use Rattle.std.proofs.Common.{◌≡◌, ◌+◌, ◌≤◌, ◌<◌, ◌∷◌, [], ℕ, List, Option, Some, ap, arith, length, length-append, refl}
 use Rattle.bag_digest.specs.declared.streams.TheConstants.{FRONT}
-use Rattle.bag_rules.specs.declared.file_batch.Batch.{Batch}
+use Rattle.bag_rules.specs.declared.file_batch.FileBatch.{FileBatch}
 use Rattle.bag_rules.specs.declared.file_batch.FileSums.{FileSums}
 use Rattle.bag_rules.specs.declared.file_batch.FileSums.TheVariants.{Streamed, Taken, Unread, Waiting}
 use Rattle.bag_rules.specs.declared.batch_reading.FrontFault.{FrontFault}
 use Rattle.bag_rules.specs.declared.batch_reading.FrontFault.TheVariants.{Memory, Stopped}
-use Rattle.bag_rules.specs.declared.batch_reading.Gathered.{Gathered}
+use Rattle.bag_rules.specs.declared.batch_reading.BatchReading.{BatchReading}
 use Rattle.bag_rules.specs.declared.limits.TheConstants.{LARGEST_FILE}
-use Rattle.bag_rules.specs.FileBatchInside.{AddsSums, Holds, IsKnownOf, IsReadFor, IsReadingOf, StreamFact, next_of}
+use Rattle.bag_rules.specs.FileBatchInside.{AddsSums, AddsMessage, IsKnownOf, IsReadFor, IsReadingOf, StreamFact, next_of}
 use Rattle.bag_rules.specs.BatchReading.{AddsFile, AddsNone, AreOpen, HasRest, HoldsFront, IfStopped, IsStreamOf}
 use Rattle.bag_rules.proofs.BatchLemmas.{adds_grows, held_is, holds_grows}
 use Rattle.bag_rules.proofs.GatheringLemmas.{gathered_front, gathered_next, open_more, open_next, ready_more, ready_same}
@@ -16,7 +16,7 @@ use Rattle.bag_rules.proofs.TreeLemmas.{octets_shown}
 use Rattle.bag_rules.proofs.Words.{AlgSet, CheckFault, HasFileAt, IsLongRead, octets_in, paths_in, Shown, Requirements}
 
 -- nothing was done
-pub adds_nothing : {F : Type 0} (gathered : Gathered F) (fault : FrontFault F) → AddsNone gathered gathered fault
+pub adds_nothing : {F : Type 0} (gathered : BatchReading F) (fault : FrontFault F) → AddsNone gathered gathered fault
 adds_nothing gathered Memory = refl
 adds_nothing gathered (Stopped fault file) = refl
 
@@ -25,14 +25,14 @@ if_stopped Memory fact is = tt
 if_stopped (Stopped reason file) fact is = is
 
 -- what is known of a file before it is opened was read of it, and it is not too long
-known_reading : (batch : Batch) (is_stream : StreamFact) (wants : Requirements) (path octets : List ℕ) (sums : FileSums) → IsKnownOf wants path octets sums
+known_reading : (batch : FileBatch) (is_stream : StreamFact) (wants : Requirements) (path octets : List ℕ) (sums : FileSums) → IsKnownOf wants path octets sums
     → IsReadingOf batch is_stream wants path octets sums × ((fault : CheckFault) → ¬ IsLongRead wants.manifests.now path octets fault)
 known_reading batch is_stream wants path octets Unread is = (is, λ fault long. is long.0)
-known_reading batch is_stream wants path octets (Taken n digests) is = (is, λ fault long. let most = is.sums.within in let past = long.1.0 in omega (arith, most, past))
+known_reading batch is_stream wants path octets (Taken sums) is = (is, λ fault long. let most = is.sums.within in let past = long.1.0 in omega (arith, most, past))
 known_reading batch is_stream wants path octets (Waiting place) is = absurd is
 known_reading batch is_stream wants path octets (Streamed place) is = absurd is
 
-module _ {F : Type 0} (place : F → ℕ) (remaining : F → Option (List ℕ)) (failures : F → ℕ) (ready : F → Type 0) (shown : Shown) (sure : Type 0) (wants : Requirements) (old new : Gathered F)
+module _ {F : Type 0} (place : F → ℕ) (remaining : F → Option (List ℕ)) (failures : F → ℕ) (ready : F → Type 0) (shown : Shown) (sure : Type 0) (wants : Requirements) (old new : BatchReading F)
     (inside : next_of old.batch < length (paths_in shown)) (are_open : AreOpen place remaining failures shown old) where
   -- one that isn't opened
   pub adds_known : (sums : FileSums) → AddsSums old.batch new.batch sums → new.streams ≡ old.streams → new.set ≡ old.set
@@ -50,7 +50,7 @@ module _ {F : Type 0} (place : F → ℕ) (remaining : F → Option (List ℕ)) 
       }
 
   -- one that ends within the buffer
-  pub adds_whole : (wanted : AlgSet) (held : List ℕ) → Holds old.batch new.batch wanted held → new.streams ≡ old.streams → new.set ≡ old.set
+  pub adds_whole : (wanted : AlgSet) (held : List ℕ) → AddsMessage old.batch new.batch wanted held → new.streams ≡ old.streams → new.set ≡ old.set
       → ((path octets : List ℕ) → HasFileAt shown (next_of old.batch) path octets → IsReadFor wants path wanted × (held ≡ octets) × (length octets ≤ LARGEST_FILE))
       → AddsFile place remaining failures ready shown sure wants old new
   adds_whole wanted held holds streams set known =

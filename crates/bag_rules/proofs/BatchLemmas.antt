@@ -3,26 +3,26 @@ use Rattle.std.proofs.Common.{◌≡◌, ◌∙◌, ◌+◌, ◌-◌, ◌≤◌,
 use Rattle.std.specs.declared.alloc.Global.{Global}
 use Rattle.std.proofs.lemmas.Option.{slice_get_read}
 use Rattle.bag_digest.proofs.EachLemmas.{at_last}
-use Rattle.bag_rules.specs.declared.file_batch.Batch.{Batch}
+use Rattle.bag_rules.specs.declared.file_batch.FileBatch.{FileBatch}
 use Rattle.bag_rules.specs.declared.file_batch.FileSums.{FileSums}
 use Rattle.bag_rules.specs.declared.file_batch.FileSums.TheVariants.{Streamed, Taken, Unread, Waiting}
 use Rattle.bag_rules.specs.declared.limits.TheConstants.{LARGEST_FILE}
 use Rattle.bag_digest.specs.Hash.{AreDigestsOfEach}
-use Rattle.bag_rules.specs.FileBatchInside.{AddsSums, AreAlgsOf, AreRead, AreReadings, AreSumsFor, Covers, CoversListed, HasSumsAt, Holds, IsMessageFor, IsReadingOf, StreamFact}
+use Rattle.bag_rules.specs.FileBatchInside.{AddsSums, AreAlgsOf, AreRead, AreReadings, AreSumsFor, Covers, CoversListed, HasSumsAt, AddsMessage, IsMessageFor, IsReadingOf, StreamFact}
 use Rattle.bag_rules.proofs.FileReadLemmas.{push_at, push_before}
 use Rattle.bag_rules.proofs.HasLemmas.{stands}
 use Rattle.bag_rules.proofs.Words.{Alg, AlgSet, AreDigests, Digests, CheckFault, has, HasFileAt, IsLongRead, is_payload, IsReadBy, same_Some, Shown, slice_get_within, Requirements}
 
 -- the messages and the set of a batch grow
-pub record Grows (old new : Batch) : Type 0 where
+pub record Grows (old new : FileBatch) : Type 0 where
   pub first : new.first ≡ old.first
   pub messages : (i : ℕ) (message : Vec ℕ Global) → slice_get old.messages.items i ≡ Some message → slice_get new.messages.items i ≡ Some message
   pub set : (alg : Alg) → has old.set alg ≡ true → has new.set alg ≡ true
 
-still : (old new : Batch) (P Q : StreamFact) (wants : Requirements) (path octets : List ℕ) (reading : FileSums) → Grows old new → ((k : ℕ) (path octets : List ℕ) → P k path octets → Q k path octets)
+still : (old new : FileBatch) (P Q : StreamFact) (wants : Requirements) (path octets : List ℕ) (reading : FileSums) → Grows old new → ((k : ℕ) (path octets : List ℕ) → P k path octets → Q k path octets)
     → IsReadingOf old P wants path octets reading → IsReadingOf new Q wants path octets reading
 still old new P Q wants path octets Unread grows so is = is
-still old new P Q wants path octets (Taken n digests) grows so is = is
+still old new P Q wants path octets (Taken sums) grows so is = is
 still old new P Q wants path octets (Waiting place) grows so is = record {
   read = is.read;
   message = is.message;
@@ -34,7 +34,7 @@ still old new P Q wants path octets (Waiting place) grows so is = record {
 still old new P Q wants path octets (Streamed place) grows so is = so place path octets is
 
 -- one more file
-pub readings_more : (shown : Shown) (wants : Requirements) (old new : Batch) (P Q : StreamFact) (reading : FileSums) → AreReadings shown wants old P → Grows old new
+pub readings_more : (shown : Shown) (wants : Requirements) (old new : FileBatch) (P Q : StreamFact) (reading : FileSums) → AreReadings shown wants old P → Grows old new
     → ((k : ℕ) (path octets : List ℕ) → P k path octets → Q k path octets) → new.read.items ≡ old.read.items ++ reading ∷ []
     → ((path octets : List ℕ) → HasFileAt shown (old.first + length old.read.items) path octets → IsReadingOf new Q wants path octets reading)
     → AreReadings shown wants new Q
@@ -45,7 +45,7 @@ readings_more shown wants old new P Q reading are grows so more here i other the
     here i other (subst (λ rs. slice_get rs i ≡ Some other) more there)
     path octets (subst (λ k. HasFileAt shown (k + i) path octets) grows.first file)
 
-pub adds_grows : (old new : Batch) (sums : FileSums) → AddsSums old new sums → Grows old new
+pub adds_grows : (old new : FileBatch) (sums : FileSums) → AddsSums old new sums → Grows old new
 adds_grows old new sums adds = record {
   first = adds.first;
   messages = λ i message at. ap (λ (ms : Vec (Vec ℕ Global) Global). slice_get ms.items i) adds.messages ∙ at;
@@ -61,14 +61,14 @@ or_right true b h = refl
 or_right false b h = h
 
 -- a file whose octets are held
-pub holds_grows : (old new : Batch) (set : AlgSet) (held : List ℕ) → Holds old new set held → Grows old new
+pub holds_grows : (old new : FileBatch) (set : AlgSet) (held : List ℕ) → AddsMessage old new set held → Grows old new
 holds_grows old new set held holds = record {
   first = holds.first;
   messages = λ i message at. ap (λ ms. slice_get ms i) holds.messages ∙ push_before old.messages.items holds.message i (slice_get_within old.messages.items i message at) ∙ at;
   set = λ alg h. holds.set alg ∙ or_left (has old.set alg) (has set alg) h;
 }
 
-pub held_is : (old new : Batch) (wants : Requirements) (path octets : List ℕ) (set : AlgSet) (held : List ℕ) → Holds old new set held
+pub held_is : (old new : FileBatch) (wants : Requirements) (path octets : List ℕ) (set : AlgSet) (held : List ℕ) → AddsMessage old new set held
     → IsReadBy wants.manifests.now path → CoversListed wants path set → held ≡ octets → length octets ≤ LARGEST_FILE
     → IsMessageFor new wants path octets (length old.messages.items)
 held_is old new wants path octets set held holds read covers same within = record {
@@ -81,15 +81,15 @@ held_is old new wants path octets set held holds read covers same within = recor
 }
 
 -- what was read of a file of the batch
-pub reading_at : (shown : Shown) (wants : Requirements) (batch : Batch) (place : ℕ) (path octets : List ℕ) (reading : FileSums) → AreRead shown wants batch → Covers batch place → HasFileAt shown place path octets
+pub reading_at : (shown : Shown) (wants : Requirements) (batch : FileBatch) (place : ℕ) (path octets : List ℕ) (reading : FileSums) → AreRead shown wants batch → Covers batch place → HasFileAt shown place path octets
     → slice_get batch.read.items (place - batch.first) ≡ Some reading → IsReadingOf batch (HasSumsAt wants batch) wants path octets reading
 reading_at shown wants batch place path octets reading are covers file there =
     are.readings (place - batch.first) reading there path octets (subst (λ k. HasFileAt shown k path octets) (omega (arith, covers.0)) file)
 
 -- the length and the digests of a message
-pub message_sums : (batch : Batch) (wants : Requirements) (path octets : List ℕ) (place : ℕ) (message : Vec ℕ Global) (digests : Digests) → AreDigestsOfEach batch.set batch.messages.items batch.digests.items
+pub message_sums : (batch : FileBatch) (wants : Requirements) (path octets : List ℕ) (place : ℕ) (message : Vec ℕ Global) (digests : Digests) → AreDigestsOfEach batch.set batch.messages.items batch.digests.items
     → IsMessageFor batch wants path octets place → slice_get batch.messages.items place ≡ Some message → slice_get batch.digests.items place ≡ Some digests
-    → AreSumsFor wants path octets (length message.items, digests)
+    → AreSumsFor wants path octets (record { length = length message.items; digests = digests })
 message_sums batch wants path octets place message digests each is there at =
     let same : message.items ≡ octets = ap (λ (m : Vec ℕ Global). m.items) (same_Some message is.message (sym there ∙ is.there)) ∙ is.octets_are in record {
       read = is.read;
@@ -97,8 +97,7 @@ message_sums batch wants path octets place message digests each is there at =
       sums = record {
         sums = record {
           taken = batch.set;
-          count = ap length same;
-          digests = subst (λ o. AreDigests digests batch.set o) same (each.digests place message digests there at);
+          sums = (ap length same, subst (λ o. AreDigests digests batch.set o) same (each.digests place message digests there at));
           covers = λ alg h. h;
         };
         within = is.within;
@@ -121,7 +120,7 @@ none_of wants path None not is = is
 none_of wants path (Some set) not is = absurd (not set refl)
 
 -- the same files and messages, whatever digests were taken
-pub readings_same : (shown : Shown) (wants : Requirements) (old new : Batch) (P Q : StreamFact) → new.first ≡ old.first → new.read ≡ old.read → new.messages ≡ old.messages → new.set ≡ old.set
+pub readings_same : (shown : Shown) (wants : Requirements) (old new : FileBatch) (P Q : StreamFact) → new.first ≡ old.first → new.read ≡ old.read → new.messages ≡ old.messages → new.set ≡ old.set
     → ((k : ℕ) (path octets : List ℕ) → P k path octets → Q k path octets) → AreReadings shown wants old P → AreReadings shown wants new Q
 readings_same shown wants old new P Q first read messages set so are i reading there path octets file =
     still old new P Q wants path octets reading
@@ -140,14 +139,14 @@ unread_tag wants path unread = tag_of (is_payload path) (λ payload. unread (inl
   tag_of true not = absurd (not refl)
   tag_of false not = refl
 
-within_read : (batch : Batch) (wants : Requirements) (path octets : List ℕ) (reading : FileSums) (fault : CheckFault) → IsReadingOf batch (HasSumsAt wants batch) wants path octets reading → ¬ IsLongRead wants.manifests.now path octets fault
+within_read : (batch : FileBatch) (wants : Requirements) (path octets : List ℕ) (reading : FileSums) (fault : CheckFault) → IsReadingOf batch (HasSumsAt wants batch) wants path octets reading → ¬ IsLongRead wants.manifests.now path octets fault
 within_read batch wants path octets Unread fault is long = is long.0
-within_read batch wants path octets (Taken n digests) fault is long = let most = is.sums.within in let past = long.1.0 in omega (arith, most, past)
+within_read batch wants path octets (Taken sums) fault is long = let most = is.sums.within in let past = long.1.0 in omega (arith, most, past)
 within_read batch wants path octets (Waiting place) fault is long = let most = is.within in let past = long.1.0 in omega (arith, most, past)
 within_read batch wants path octets (Streamed place) fault is long = let most = is.2.sums.within in let past = long.1.0 in omega (arith, most, past)
 
 -- no file of the batch is too long
-pub batch_within : (shown : Shown) (wants : Requirements) (batch : Batch) (place : ℕ) (path octets : List ℕ) (fault : CheckFault) → AreRead shown wants batch → Covers batch place → HasFileAt shown place path octets
+pub batch_within : (shown : Shown) (wants : Requirements) (batch : FileBatch) (place : ℕ) (path octets : List ℕ) (fault : CheckFault) → AreRead shown wants batch → Covers batch place → HasFileAt shown place path octets
     → ¬ IsLongRead wants.manifests.now path octets fault
 batch_within shown wants batch place path octets fault are covers file =
     let found = stands batch.read.items (place - batch.first) (omega (arith, covers.0, covers.1)) in

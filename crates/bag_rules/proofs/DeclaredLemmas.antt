@@ -1,6 +1,6 @@
 -- A check from the declaration on.
 use Rattle.std.proofs.Common.{◌≡◌, ◌<◌, ◌≤◌, ◌^◌, ◌∙◌, ℕ, true, false, None, List, [], ◌∷◌, Some, Result, Ok, Err, MatchResult, Global, String, string_bytes, length, slice_get, refl, sym, ap, subst, inl, inr, arith}
-use Rattle.bag_rules.proofs.Words.{Algorithm, AreRising, BadDeclaration, Bag, Broken, CheckFault, Declaration, declaration_file, DeclarationStops, Declares, DeclFault, Encoding, excludes, Fault, FirstStops, HasFault, Holds, IsDeclaration, IsDeclarationFault, IsFirstUnknown, IsFirstUnknownOf, IsInProfile, IsJudged, IsLongTag, IsOutside, IsProfile, IsThere, IsVerdict, Judged, Known, MatchOutside, Means, NoDeclaration, NoneStops, NoneUnknown, one_declaration, one_fault, Outcome, Outside, OutsideCause, ProfileStops, slice_get_within, Stopped, tier_of, Unknown, WorkStops}
+use Rattle.bag_rules.proofs.Words.{Algorithm, AreRising, BadDeclaration, Bag, Broken, CheckFault, Declaration, declaration_file, DeclarationStops, Declares, DeclFault, Encoding, excludes, Fault, FirstStops, HasFault, HoldsFile, IsDeclaration, IsDeclarationFault, IsFirstUnknown, IsFirstUnknownOf, IsInProfile, IsJudged, IsLongTag, IsOutside, IsProfile, IsThere, IsVerdict, Judged, Known, MatchOutside, Means, NoDeclaration, NoneStops, NoneUnknown, one_declaration, one_fault, Outcome, Outside, OutsideCause, ProfileStops, slice_get_within, Stopped, tier_of, Unknown, WorkStops}
 use Rattle.bag_path.specs.declared.version.Version as format
 use Rattle.bag_tags.specs.Declarations.{version_of as known_version}
 use Rattle.bag_tags.proofs.DeclaredVersionLemmas.{begins_with_version}
@@ -26,7 +26,7 @@ only_declaration bag own _ below none bad broken = absurd (omega (arith, below))
 pub none_verdict : (bag : Bag) → ¬ IsThere bag declaration_file → IsJudged bag (NoDeclaration ∷ [])
 none_verdict bag absent = one_fault_is bag NoDeclaration absent refl (λ fault below broken. only_declaration bag NoDeclaration fault below (λ e b. refl) (λ cause b. absurd (absent (b.0, b.1))) broken)
 
-bad_verdict : (bag : Bag) (octets : List ℕ) (cause : DeclFault) → AreRising (paths_of bag) → Holds bag declaration_file octets → IsDeclarationFault octets cause → IsJudged bag (BadDeclaration cause ∷ [])
+bad_verdict : (bag : Bag) (octets : List ℕ) (cause : DeclFault) → AreRising (paths_of bag) → HoldsFile bag declaration_file octets → IsDeclarationFault octets cause → IsJudged bag (BadDeclaration cause ∷ [])
 bad_verdict bag octets cause rising holds bad = one_fault_is bag (BadDeclaration cause) (octets, holds, bad) refl
     (λ fault below broken. only_declaration bag (BadDeclaration cause) fault below (λ e b. absurd (b (octets, holds)))
     (λ other b. ap BadDeclaration (one_fault octets cause other bad (subst (λ o. IsDeclarationFault o other) (one_octets bag declaration_file b.0 octets rising b.1 holds) b.2))) broken)
@@ -48,7 +48,7 @@ first_declaration bag i octets fault rising there long = record {
 pub none_declaration : (bag : Bag) → ¬ IsThere bag declaration_file → NoneStops bag DeclarationStops
 none_declaration bag absent i path octets fault below here stops = absent (octets, (i, here ∙ ap (λ p. Some (p, octets)) stops.0))
 
-pub short_declaration : (bag : Bag) (octets : List ℕ) → AreRising (paths_of bag) → Holds bag declaration_file octets → length octets ≤ 2 ^ 24 → NoneStops bag DeclarationStops
+pub short_declaration : (bag : Bag) (octets : List ℕ) → AreRising (paths_of bag) → HoldsFile bag declaration_file octets → length octets ≤ 2 ^ 24 → NoneStops bag DeclarationStops
 short_declaration bag octets rising holds short i path other fault below here stops =
     let same : other ≡ octets = one_octets bag declaration_file other octets rising (i, here ∙ ap (λ p. Some (p, other)) stops.0) holds in
     omega (arith, short, stops.1.0, ap length same)
@@ -57,10 +57,10 @@ short_declaration bag octets rising holds short i path other fault below here st
 not_declared : (bag : Bag) → ¬ IsThere bag declaration_file → ¬ IsInProfile bag
 not_declared bag absent profile = absent (profile.declared.declares.0, profile.declared.declares.1)
 
-declares_so : (bag : Bag) (octets : List ℕ) → AreRising (paths_of bag) → Holds bag declaration_file octets → (declared : IsDeclared bag) → IsDeclaration octets declared.declaration
+declares_so : (bag : Bag) (octets : List ℕ) → AreRising (paths_of bag) → HoldsFile bag declaration_file octets → (declared : IsDeclared bag) → IsDeclaration octets declared.declaration
 declares_so bag octets rising holds declared = subst (λ o. IsDeclaration o declared.declaration) (one_octets bag declaration_file declared.declares.0 octets rising declared.declares.1 holds) declared.declares.2
 
-bad_out : (bag : Bag) (octets : List ℕ) (cause : DeclFault) → AreRising (paths_of bag) → Holds bag declaration_file octets → IsDeclarationFault octets cause → ¬ IsInProfile bag
+bad_out : (bag : Bag) (octets : List ℕ) (cause : DeclFault) → AreRising (paths_of bag) → HoldsFile bag declaration_file octets → IsDeclarationFault octets cause → ¬ IsInProfile bag
 bad_out bag octets cause rising holds bad profile = excludes octets profile.declared.declaration cause (declares_so bag octets rising holds profile.declared) bad
 
 -- WHAT THE DECLARATION AND THE NAMES OF THE MANIFESTS SAY
@@ -68,7 +68,7 @@ bad_out bag octets cause rising holds bad profile = excludes octets profile.decl
 pub no_declaration : (bag : Bag) → ¬ IsThere bag declaration_file → IsProfile bag (Broken NoDeclaration)
 no_declaration bag absent = (none_verdict bag absent, not_declared bag absent)
 
-pub bad_declaration : (bag : Bag) (octets : List ℕ) (cause : DeclFault) → AreRising (paths_of bag) → Holds bag declaration_file octets → IsDeclarationFault octets cause → IsProfile bag (Broken (BadDeclaration cause))
+pub bad_declaration : (bag : Bag) (octets : List ℕ) (cause : DeclFault) → AreRising (paths_of bag) → HoldsFile bag declaration_file octets → IsDeclarationFault octets cause → IsProfile bag (Broken (BadDeclaration cause))
 bad_declaration bag octets cause rising holds bad = (bad_verdict bag octets cause rising holds bad, bad_out bag octets cause rising holds bad)
 
 -- tag files are read by the version that is declared

@@ -1,23 +1,23 @@
 -- Files of a batch that were read to their ends, or stopped before.
 use Rattle.std.proofs.Common.{◌≡◌, ◌≢◌, ◌∙◌, ◌-◌, ◌<◌, ◌++◌, ℕ, List, Option, Some, None, ap, arith, inl, inr, length, length-append, refl, slice_get, subst, sym}
 use Rattle.std.specs.Prelude.{IsSomeAnd}
-use Rattle.bag_digest.specs.declared.multi.Digests.{Digests}
+use Rattle.bag_digest.specs.declared.sums.Sums.{Sums}
 use Rattle.bag_digest.specs.declared.reading.SourceFault.{SourceFault}
 use Rattle.bag_digest.specs.declared.reading.SourceFault.TheVariants as source
 use Rattle.bag_digest.specs.declared.streams.Stream.{Stream}
 use Rattle.bag_digest.specs.declared.streams.StreamFault.{StreamFault}
 use Rattle.bag_digest.specs.declared.streams.TheConstants.{FRONT}
 use Rattle.bag_digest.specs.Hash.{AreDigests}
-use Rattle.bag_digest.specs.Reading.{IsCountAndDigests}
+use Rattle.bag_digest.specs.Reading.{AreSums}
 use Rattle.bag_digest.specs.Streams.{HaveEnded, HaveEndedIn, IsFirstStopped}
 use Rattle.bag_digest.proofs.Progress.{all_known, more_known}
-use Rattle.bag_rules.specs.declared.batch_reading.Gathered.{Gathered}
+use Rattle.bag_rules.specs.declared.batch_reading.BatchReading.{BatchReading}
 use Rattle.bag_rules.specs.declared.limits.TheConstants.{LARGEST_FILE}
 use Rattle.bag_rules.specs.FileBatchInside.{AreRead, AreSumsFor, HasSumsAt, IsComplete, next_of}
 use Rattle.bag_rules.specs.BatchReading.{AreGathered, AreOpen, AreReady, AreSumsIn, AreWithin, HaveSums, IsReadAt, IsStreamOf}
 use Rattle.bag_rules.specs.OpenTrees.{IsTooLarge}
 use Rattle.bag_rules.specs.Returning.{AreUnfailed, HasStoppedFirst, IsStopped, IsToldOf}
-use Rattle.bag_rules.specs.declared.file_batch.Batch.{Batch}
+use Rattle.bag_rules.specs.declared.file_batch.FileBatch.{FileBatch}
 use Rattle.bag_rules.proofs.BatchLemmas.{readings_same}
 use Rattle.bag_rules.proofs.HasLemmas.{stands}
 use Rattle.bag_rules.proofs.KeptLemmas.{gave_more}
@@ -30,7 +30,7 @@ some_and None P none = absurd none
 some_and (Some x) P is = (x, refl, is)
 
 -- after they were read
-module _ {F : Type 0} (place : F → ℕ) (remaining : F → Option (List ℕ)) (failures : F → ℕ) (ready : F → Type 0) (keeps : F → F → Type 0) (shown : Shown) (gathered : Gathered F) (new : List (Stream F))
+module _ {F : Type 0} (place : F → ℕ) (remaining : F → Option (List ℕ)) (failures : F → ℕ) (ready : F → Type 0) (keeps : F → F → Type 0) (shown : Shown) (gathered : BatchReading F) (new : List (Stream F))
     (same : length new ≡ length gathered.streams.items) (open_are : AreOpen place remaining failures shown gathered) where
   before_at : (k : ℕ) (stream : Stream F) → slice_get new k ≡ Some stream → (was : Stream F) × (slice_get gathered.streams.items k ≡ Some was)
   before_at k stream at = stands gathered.streams.items k (let inside = slice_get_within new k stream at in omega (arith, inside, same))
@@ -59,14 +59,14 @@ module _ {F : Type 0} (place : F → ℕ) (remaining : F → Option (List ℕ)) 
       omega (arith, all.1, room, length-append stream.piece.items rest)
 
   -- the sums of a file whose stream has ended
-  ended_sums : (wants : Requirements) (sums : List (ℕ × Digests)) → HaveEnded remaining failures ready keeps gathered.set LARGEST_FILE gathered.streams.items new → AreSumsIn new sums
-      → (k : ℕ) (path octets : List ℕ) → IsStreamOf remaining wants gathered.set gathered.streams.items k path octets → (found : ℕ × Digests) × (slice_get sums k ≡ Some found) × AreSumsFor wants path octets found
+  ended_sums : (wants : Requirements) (sums : List Sums) → HaveEnded remaining failures ready keeps gathered.set LARGEST_FILE gathered.streams.items new → AreSumsIn new sums
+      → (k : ℕ) (path octets : List ℕ) → IsStreamOf remaining wants gathered.set gathered.streams.items k path octets → (found : Sums) × (slice_get sums k ≡ Some found) × AreSumsFor wants path octets found
   ended_sums wants sums ended are k path octets front =
       let inside = slice_get_within gathered.streams.items k front.stream front.there in
       let after = after_at k front.stream front.there in
       let is = (ended k front.stream after.0 (omega arith) inside front.there after.1).0 in
       let all = all_known front.rest.rest is.more _ _ (LARGEST_FILE - FRONT) front.rest.left is.gave in
-      let found = some_and after.0.sums (λ found. IsCountAndDigests found gathered.set (front.stream.piece.items ++ is.more)) is.sums in
+      let found = some_and after.0.sums (λ found. AreSums found gathered.set (front.stream.piece.items ++ is.more)) is.sums in
       let whole : front.stream.piece.items ++ is.more ≡ octets = ap (λ xs. front.stream.piece.items ++ xs) all.0 ∙ sym front.rest.octets_are in
       let room = (open_are.each k front.stream front.there).fresh.room in (
         found.0,
@@ -77,8 +77,7 @@ module _ {F : Type 0} (place : F → ℕ) (remaining : F → Option (List ℕ)) 
           sums = record {
             sums = record {
               taken = gathered.set;
-              count = found.2.0 ∙ ap length whole;
-              digests = subst (AreDigests found.0.1 gathered.set) whole found.2.1;
+              sums = (found.2.0 ∙ ap length whole, subst (AreDigests found.0.digests gathered.set) whole found.2.1);
               covers = λ alg h. h;
             };
             within = omega (arith, all.1, room, length-append front.stream.piece.items front.rest.rest, ap length front.rest.octets_are);
@@ -93,10 +92,10 @@ module _ {F : Type 0} (place : F → ℕ) (remaining : F → Option (List ℕ)) 
       let inside = slice_get_within new k stream there in
       let was = before_at k stream there in
       let is = (ended k was.0 stream (omega arith) (omega (arith, inside, same)) was.1 there).0 in
-      subst (λ (o : Option (ℕ × Digests)). IsSomeAnd o (λ found. IsCountAndDigests found gathered.set (was.0.piece.items ++ is.more))) none is.sums
+      subst (λ (o : Option Sums). IsSomeAnd o (λ found. AreSums found gathered.set (was.0.piece.items ++ is.more))) none is.sums
 
   -- the batch is complete
-  pub read_ended : (wants : Requirements) (batch : Batch) (sums : List (ℕ × Digests)) → HaveEnded remaining failures ready keeps gathered.set LARGEST_FILE gathered.streams.items new → AreSumsIn new sums
+  pub read_ended : (wants : Requirements) (batch : FileBatch) (sums : List Sums) → HaveEnded remaining failures ready keeps gathered.set LARGEST_FILE gathered.streams.items new → AreSumsIn new sums
       → AreGathered place remaining shown wants gathered → IsComplete gathered.batch batch sums → AreRead shown wants batch
   read_ended wants batch sums ended are gathered_are complete = record {
     readings = readings_same shown wants gathered.batch batch (IsStreamOf remaining wants gathered.set gathered.streams.items) (HasSumsAt wants batch) complete.first complete.read complete.messages complete.set

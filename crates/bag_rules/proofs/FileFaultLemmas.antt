@@ -2,6 +2,7 @@
 use Rattle.std.proofs.Common.{◌≡◌, ◌≢◌, ◌⊎◌, ◌||◌, ◌&&◌, ℕ, Bool, true, false, List, [], ◌∷◌, ◌++◌, Some, None, if◌then◌else◌, refl, sym, ap, ◌∙◌, inl, inr, subst}
 use Rattle.bag_rules.proofs.Words.{Adds, Alg, AlgSet, and_parts, and_right, AreDigests, cases_Bool, Digest, digest_in, Digests, false≢true, Fault, FetchLength, Fits, FitsListing, GivenLength, Has, has, hash, is_alg, is_payload, IsFaultBy, IsFileUnlisted, IsOtherDigest, IsOtherLength, IsReadBy, listed_digest, Listing, lists_by, lists_path, Md5, name_in, OfSome, or_cases, same_Some, Sha1, Sha256, Sha512, Want, WrongDigest}
 use Rattle.bag_path.specs.declared.version.Version.{Version}
+use Rattle.bag_digest.specs.declared.sums.Sums.{Sums}
 use Rattle.bag_rules.specs.KeptInside.{HasSums}
 use Rattle.bag_rules.proofs.AddsLemmas.{adds_none, adds_on, adds_one, adds_so}
 use Rattle.bag_rules.proofs.AlgLemmas.{each_alg, itself}
@@ -119,24 +120,24 @@ none_wrong faults listing path digests fits = adds_none faults (IsOtherDigest pa
 pub taken : (digests : Digests) (set : AlgSet) (listings : List Listing) (listing : Listing) (path octets : List ℕ) → AreDigests digests set octets → ((alg : Alg) → lists_by listings path alg ≡ true → has set alg ≡ true) → Has listings listing → lists_path listing.pairs path ≡ true → digest_in digests listing.alg ≡ Some (hash listing.alg octets)
 taken digests set listings listing path octets are lists has listed = are listing.alg ∙ ap (λ b. if b then Some (hash listing.alg octets) else None) (lists listing.alg (lists_here listings listing path has listed))
 
-module _ (version : Version) (want : Want) (octets : List ℕ) (sums : ℕ × Digests) (set : AlgSet) (are : HasSums sums set octets) (lists : (alg : Alg) → lists_by want.manifests.now want.path.now alg ≡ true → has set alg ≡ true) where
-  own : (listing : Listing) → Has want.manifests.now listing → lists_path listing.pairs want.path.now ≡ true → digest_in sums.1 listing.alg ≡ Some (hash listing.alg octets)
-  own listing has = taken sums.1 are.taken want.manifests.now listing want.path.now octets are.digests (λ alg l. are.covers alg (lists alg l)) has
+module _ (version : Version) (want : Want) (octets : List ℕ) (sums : Sums) (set : AlgSet) (are : HasSums sums set octets) (lists : (alg : Alg) → lists_by want.manifests.now want.path.now alg ≡ true → has set alg ≡ true) where
+  own : (listing : Listing) → Has want.manifests.now listing → lists_path listing.pairs want.path.now ≡ true → digest_in sums.digests listing.alg ≡ Some (hash listing.alg octets)
+  own listing has = taken sums.digests are.taken want.manifests.now listing want.path.now octets are.sums.1 (λ alg l. are.covers alg (lists alg l)) has
 
   -- a file that is the one that is wanted can only be unlisted
-  pub fits_unlisted : (old new : List Fault) → Fits want sums.0 sums.1 → Adds old new (IsFileUnlisted version want.manifests.now want.path.now) → Adds old new (IsFaultBy version want.manifests.now want.lengths.now want.path.now octets)
+  pub fits_unlisted : (old new : List Fault) → Fits want sums.length sums.digests → Adds old new (IsFileUnlisted version want.manifests.now want.path.now) → Adds old new (IsFaultBy version want.manifests.now want.lengths.now want.path.now octets)
   fits_unlisted old new fits = adds_so old new _ _ (λ f unlisted. inl unlisted) (λ f fault. elim fault [
     | inl unlisted ↦ unlisted
     | inr other ↦ absurd (elim other [
-      | inl longer ↦ longer.2.0 (fits.0 longer.0 longer.1 ∙ are.count)
+      | inl longer ↦ longer.2.0 (fits.0 longer.0 longer.1 ∙ are.sums.0)
       | inr wrong ↦ (let some = some_listed wrong.0.pairs want.path.now wrong.2.0 wrong.2.1 in wrong.2.2 (same_Some _ _ (sym (own wrong.0 wrong.1 some) ∙ fits.1 wrong.0 wrong.1 wrong.2.0 wrong.2.1)))
     ])
   ])
 
   -- another has these faults
-  pub faults_by : (old a b new : List Fault) → Adds old a (IsFileUnlisted version want.manifests.now want.path.now) → Adds a b (OfSome want.lengths.now (IsOtherLength want.path.now sums.0)) → Adds b new (OfSome want.manifests.now (IsOtherDigest want.path.now sums.1)) → Adds old new (IsFaultBy version want.manifests.now want.lengths.now want.path.now octets)
+  pub faults_by : (old a b new : List Fault) → Adds old a (IsFileUnlisted version want.manifests.now want.path.now) → Adds a b (OfSome want.lengths.now (IsOtherLength want.path.now sums.length)) → Adds b new (OfSome want.manifests.now (IsOtherDigest want.path.now sums.digests)) → Adds old new (IsFaultBy version want.manifests.now want.lengths.now want.path.now octets)
   faults_by old a b new unlisted longer wrong = adds_on old a new _ _ _ (λ f h. h) (λ f h. inl h) (λ f h. inr h) unlisted (adds_on a b new _ _ _ (λ f h. h) (λ f h. inl h) (λ f h. inr h)
-      (subst (λ n. Adds a b (OfSome want.lengths.now (IsOtherLength want.path.now n))) are.count longer)
+      (subst (λ n. Adds a b (OfSome want.lengths.now (IsOtherLength want.path.now n))) are.sums.0 longer)
       (adds_so b new _ _
       (λ f h. (h.0, h.1, (h.2.0, h.2.1, (λ e. h.2.2 (own h.0 h.1 (some_listed h.0.pairs want.path.now h.2.0 h.2.1) ∙ ap Some e)), h.2.3)))
       (λ f h. (h.0, h.1, (h.2.0, h.2.1, (λ e. h.2.2 (same_Some _ _ (sym (own h.0 h.1 (some_listed h.0.pairs want.path.now h.2.0 h.2.1)) ∙ e))), h.2.3)))

@@ -1,6 +1,6 @@
 -- The first n files of a bag, and one more.
 use Rattle.std.proofs.Common.{◌≡◌, ◌≢◌, ◌⊎◌, ◌↔◌, ◌<◌, ◌+◌, ℕ, zero, suc, List, [], ◌∷◌, Option, Some, None, slice_get, take, sym, ap, ◌∙◌, inl, inr, subst, arith}
-use Rattle.bag_rules.proofs.Words.{AreRising, Bag, cases_lt, front, Holds, IsBagOf, LineFile, paths_in, Shown, some_pair_parts, text_file}
+use Rattle.bag_rules.proofs.Words.{AreRising, Bag, cases_lt, front, HoldsFile, IsBagOf, LineFile, paths_in, Shown, some_pair_parts, text_file}
 use Rattle.bag_rules.proofs.RisingPaths.{one_place}
 use Rattle.bag_rules.proofs.TreeLemmas.{path_at}
 
@@ -9,7 +9,7 @@ File = List ℕ × List ℕ
 
 -- the bag has the tag file, and this holds of its text
 abbrev pub Says : Bag → LineFile → (List ℕ → Type 0) → Type 0
-Says bag file P = (octets : List ℕ) × Holds bag (text_file file) octets × P octets
+Says bag file P = (octets : List ℕ) × HoldsFile bag (text_file file) octets × P octets
 
 -- the first n files are where they were
 pub in_front : {X : Type 0} (xs : List X) (n i : ℕ) (x : X) → slice_get (take n xs) i ≡ Some x → (i < n) × (slice_get xs i ≡ Some x)
@@ -27,10 +27,10 @@ to_front (y ∷ xs) (suc n) (suc i) x h e = to_front xs n i x (omega (arith, h))
 
 module _ (bag : Bag) (n : ℕ) where
   -- the first n files are before place n
-  pub held_before : (path octets : List ℕ) → Holds (front n bag) path octets → (i : ℕ) × (i < n) × (slice_get bag.files i ≡ Some (path, octets))
+  pub held_before : (path octets : List ℕ) → HoldsFile (front n bag) path octets → (i : ℕ) × (i < n) × (slice_get bag.files i ≡ Some (path, octets))
   held_before path octets h = let r = in_front bag.files n h.0 (path, octets) h.1 in (h.0, r.0, r.1)
 
-  pub holds_before : (path octets : List ℕ) (i : ℕ) → i < n → slice_get bag.files i ≡ Some (path, octets) → Holds (front n bag) path octets
+  pub holds_before : (path octets : List ℕ) (i : ℕ) → i < n → slice_get bag.files i ≡ Some (path, octets) → HoldsFile (front n bag) path octets
   holds_before path octets i h e = (i, to_front bag.files n i (path, octets) h e)
 
 -- the bag of a tree has each path once
@@ -39,16 +39,16 @@ once_at {shown} bag is rising n path octets there i other e = one_place (paths_i
 
 -- one more file, whose path no file before it has
 module _ (bag : Bag) (n : ℕ) (path octets : List ℕ) (there : slice_get bag.files n ≡ Some (path, octets)) (once : (i : ℕ) (other : List ℕ) → slice_get bag.files i ≡ Some (path, other) → i ≡ n) where
-  pub held_more : (p o : List ℕ) → Holds (front n bag) p o → Holds (front (n + 1) bag) p o
+  pub held_more : (p o : List ℕ) → HoldsFile (front n bag) p o → HoldsFile (front (n + 1) bag) p o
   held_more p o h = let r = held_before bag n p o h in holds_before bag (n + 1) p o r.0 (omega (arith, r.1)) r.2
 
-  pub held_here : Holds (front (n + 1) bag) path octets
+  pub held_here : HoldsFile (front (n + 1) bag) path octets
   held_here = holds_before bag (n + 1) path octets n (omega arith) there
 
-  pub not_held : (o : List ℕ) → Holds (front n bag) path o → ⊥
+  pub not_held : (o : List ℕ) → HoldsFile (front n bag) path o → ⊥
   not_held o h = let r = held_before bag n path o h in omega (arith, r.1, once r.0 o r.2)
 
-  pub held_split : (p o : List ℕ) → Holds (front (n + 1) bag) p o → Holds (front n bag) p o ⊎ ((path ≡ p) × (octets ≡ o))
+  pub held_split : (p o : List ℕ) → HoldsFile (front (n + 1) bag) p o → HoldsFile (front n bag) p o ⊎ ((path ≡ p) × (octets ≡ o))
   held_split p o h =
       let r = held_before bag (n + 1) p o h in
       elim (cases_lt r.0 n) [
@@ -61,7 +61,7 @@ module _ (bag : Bag) (n : ℕ) (path octets : List ℕ) (there : slice_get bag.f
   says_more file P s = (s.0, held_more (text_file file) s.0 s.1, s.2)
 
   pub says_here : (file : LineFile) (P : List ℕ → Type 0) → path ≡ text_file file → P octets → Says (front (n + 1) bag) file P
-  says_here file P is says = (octets, subst (λ p. Holds (front (n + 1) bag) p octets) is held_here, says)
+  says_here file P is says = (octets, subst (λ p. HoldsFile (front (n + 1) bag) p octets) is held_here, says)
 
   pub says_split : (file : LineFile) (P : List ℕ → Type 0) → Says (front (n + 1) bag) file P → Says (front n bag) file P ⊎ ((path ≡ text_file file) × P octets)
   says_split file P s = elim (held_split (text_file file) s.0 s.1) [
@@ -70,7 +70,7 @@ module _ (bag : Bag) (n : ℕ) (path octets : List ℕ) (there : slice_get bag.f
   ]
 
   pub not_said : (file : LineFile) (P : List ℕ → Type 0) → path ≡ text_file file → Says (front n bag) file P → ⊥
-  not_said file P is s = not_held s.0 (subst (λ p. Holds (front n bag) p s.0) (sym is) s.1)
+  not_said file P is s = not_held s.0 (subst (λ p. HoldsFile (front n bag) p s.0) (sym is) s.1)
 
   -- a value stays if the file is another
   pub value_stays : {V : Type 0} (file : LineFile) (P : V → List ℕ → Type 0) (old new : Option V) → path ≢ text_file file → new ≡ old

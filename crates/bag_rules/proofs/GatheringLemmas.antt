@@ -10,7 +10,7 @@ use Rattle.bag_digest.proofs.Filling.{filled_whole}
 use Rattle.bag_digest.proofs.Progress.{all_known}
 use Rattle.bag_rules.specs.declared.file_batch.FileSums.{FileSums}
 use Rattle.bag_rules.specs.declared.file_batch.FileSums.TheVariants.{Streamed}
-use Rattle.bag_rules.specs.declared.batch_reading.Gathered.{Gathered}
+use Rattle.bag_rules.specs.declared.batch_reading.BatchReading.{BatchReading}
 use Rattle.bag_rules.specs.declared.limits.TheConstants.{LARGEST_FILE}
 use Rattle.bag_rules.specs.FileBatchInside.{IsReadFor, IsReadingOf, next_of}
 use Rattle.bag_rules.specs.BatchReading.{AreGathered, AreOpen, AreReady, AreWithin, HasRest, HoldsFront, IsFront, IsOut, IsStreamOf}
@@ -21,7 +21,7 @@ use Rattle.bag_rules.proofs.LimitLemmas.{none_more}
 use Rattle.bag_rules.proofs.TreeLemmas.{file_at, same_count}
 use Rattle.bag_rules.proofs.Words.{AlgSet, Bag, CheckFault, has, HasFileAt, IsBagOf, IsLongRead, NoneStopsBefore, octets_in, paths_in, Shown, slice_get_within, Requirements}
 
-module _ {F : Type 0} (place : F → ℕ) (remaining : F → Option (List ℕ)) (shown : Shown) (wants : Requirements) (old new : Gathered F) where
+module _ {F : Type 0} (place : F → ℕ) (remaining : F → Option (List ℕ)) (shown : Shown) (wants : Requirements) (old new : BatchReading F) where
   -- one file more, which is no stream
   pub gathered_next : (reading : FileSums) → AreGathered place remaining shown wants old → Grows old.batch new.batch → new.batch.read.items ≡ old.batch.read.items ++ reading ∷ []
       → new.streams ≡ old.streams → new.set ≡ old.set → next_of old.batch < length (paths_in shown)
@@ -109,7 +109,7 @@ module _ {F : Type 0} (place : F → ℕ) (remaining : F → Option (List ℕ)) 
 no_stream : {F : Type 0} (streams : List (Stream F)) (k : ℕ) (stream : Stream F) → streams ≡ [] → slice_get streams k ≡ Some stream → ⊥
 no_stream {F} streams k stream none there = let e : ◌≡◌ {A = Option (Stream F)} None (Some stream) = subst (λ xs. slice_get xs k ≡ Some stream) none there in cc
 
-pub none_gathered : {F : Type 0} (place : F → ℕ) (remaining : F → Option (List ℕ)) (shown : Shown) (wants : Requirements) (gathered : Gathered F) → gathered.batch.read.items ≡ [] → gathered.streams.items ≡ []
+pub none_gathered : {F : Type 0} (place : F → ℕ) (remaining : F → Option (List ℕ)) (shown : Shown) (wants : Requirements) (gathered : BatchReading F) → gathered.batch.read.items ≡ [] → gathered.streams.items ≡ []
     → AreGathered place remaining shown wants gathered
 none_gathered place remaining shown wants gathered read streams = record {
   readings = λ i reading there. absurd (let e : ◌≡◌ {A = Option FileSums} None (Some reading) = subst (λ xs. slice_get xs i ≡ Some reading) read there in cc);
@@ -120,7 +120,7 @@ none_gathered place remaining shown wants gathered read streams = record {
 
 -- OPEN FILES
 
-pub none_open : {F : Type 0} (place : F → ℕ) (remaining : F → Option (List ℕ)) (failures : F → ℕ) (shown : Shown) (gathered : Gathered F) → gathered.streams.items ≡ [] → AreOpen place remaining failures shown gathered
+pub none_open : {F : Type 0} (place : F → ℕ) (remaining : F → Option (List ℕ)) (failures : F → ℕ) (shown : Shown) (gathered : BatchReading F) → gathered.streams.items ≡ [] → AreOpen place remaining failures shown gathered
 none_open place remaining failures shown gathered none = record {
   each = λ k stream there. absurd (no_stream gathered.streams.items k stream none there);
   by_place = λ j k a b less at. absurd (no_stream gathered.streams.items j a none at);
@@ -140,14 +140,14 @@ module _ {F : Type 0} (place : F → ℕ) (remaining : F → Option (List ℕ)) 
   }
 
   -- the same streams, with more files before the next
-  pub open_next : (old new : Gathered F) → new.streams ≡ old.streams → next_of old.batch ≤ next_of new.batch → AreOpen place remaining failures shown old → AreOpen place remaining failures shown new
+  pub open_next : (old new : BatchReading F) → new.streams ≡ old.streams → next_of old.batch ≤ next_of new.batch → AreOpen place remaining failures shown old → AreOpen place remaining failures shown new
   open_next old new streams grows are = record {
     each = λ k stream at. later (next_of old.batch) (next_of new.batch) stream grows (are.each k stream (rw (← streams) at));
     by_place = rw streams are.by_place;
   }
 
   -- one stream more
-  pub open_more : (old new : Gathered F) (wanted : AlgSet) (front : List ℕ) (file : F) → HoldsFront old new wanted front file → place file ≡ next_of old.batch → next_of old.batch < length (paths_in shown)
+  pub open_more : (old new : BatchReading F) (wanted : AlgSet) (front : List ℕ) (file : F) → HoldsFront old new wanted front file → place file ≡ next_of old.batch → next_of old.batch < length (paths_in shown)
       → length front ≡ FRONT → failures file ≡ 0 → ((octets : List ℕ) → octets_in shown (next_of old.batch) ≡ Some octets → HasRest remaining octets front file)
       → AreOpen place remaining failures shown old → AreOpen place remaining failures shown new
   open_more old new wanted front file holds placed inside room unfailed known are =
@@ -181,10 +181,10 @@ module _ {F : Type 0} (place : F → ℕ) (remaining : F → Option (List ℕ)) 
         earlier : (j : ℕ) (a : Stream F) → slice_get new.streams.items j ≡ Some a → j < length old.streams.items → slice_get old.streams.items j ≡ Some a
         earlier j a at below = sym (push_before old.streams.items holds.stream j below) ∙ ap (λ xs. slice_get xs j) (sym holds.streams) ∙ at
 
-pub ready_same : {F : Type 0} (ready : F → Type 0) (old new : Gathered F) → new.streams ≡ old.streams → AreReady ready old.streams.items → AreReady ready new.streams.items
+pub ready_same : {F : Type 0} (ready : F → Type 0) (old new : BatchReading F) → new.streams ≡ old.streams → AreReady ready old.streams.items → AreReady ready new.streams.items
 ready_same ready old new streams are = rw streams are
 
-pub ready_more : {F : Type 0} (ready : F → Type 0) (old new : Gathered F) (wanted : AlgSet) (front : List ℕ) (file : F) → HoldsFront old new wanted front file → ready file
+pub ready_more : {F : Type 0} (ready : F → Type 0) (old new : BatchReading F) (wanted : AlgSet) (front : List ℕ) (file : F) → HoldsFront old new wanted front file → ready file
     → AreReady ready old.streams.items → AreReady ready new.streams.items
 ready_more {F} ready old new wanted front file holds here are k stream at =
     at_last old.streams.items holds.stream (λ n (s : Stream F). ready s.source) are (subst ready (sym holds.source) here)

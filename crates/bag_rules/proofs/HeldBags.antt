@@ -4,7 +4,7 @@ use Rattle.std.specs.List.Sorted.{IsStrictlySortedBy}
 use Rattle.bag_rules.specs.Bags.{IsDeclared, octet_count, paths_of, version_in, version_of}
 use Rattle.bag_rules.specs.Files.{IsTagFile}
 use Rattle.bag_rules.specs.Transfers.{AreHeldFor, held_bag, tag_bag, with_files}
-use Rattle.bag_rules.proofs.Words.{AreRising, AreTagFiles, Bag, declaration_file, Equal, false≢true, Files, Has, Holds, is_payload, keys_of, Less, nat_cmp, nat_list_cmp_total, payload_of, slice_cmp, tied_itself}
+use Rattle.bag_rules.proofs.Words.{AreRising, AreTagFiles, Bag, declaration_file, Equal, false≢true, Files, Has, HoldsFile, is_payload, keys_of, Less, nat_cmp, nat_list_cmp_total, payload_of, slice_cmp, tied_itself}
 use Rattle.bag_rules.proofs.HasLemmas.{has_at, place_of_has}
 use Rattle.bag_rules.proofs.InPlace.{expected_payload}
 use Rattle.bag_rules.proofs.PutFiles.{AreNew, grows_with, has_with, key_has, rising_with}
@@ -29,13 +29,13 @@ none_payload : (tags : Files) → ((path octets : List ℕ) → Has tags (path, 
 none_payload [] plain = refl
 none_payload (tag ∷ tags) plain = rw (plain tag.0 tag.1 (inl refl)) (none_payload tags (λ path octets has. plain path octets (inr has)))
 
-pub holds_has : (bag : Bag) (path octets : List ℕ) → Holds bag path octets → Has bag.files (path, octets)
+pub holds_has : (bag : Bag) (path octets : List ℕ) → HoldsFile bag path octets → Has bag.files (path, octets)
 holds_has bag path octets holds = has_at bag.files holds.0 (path, octets) holds.1
 
-has_holds : (bag : Bag) (path octets : List ℕ) → Has bag.files (path, octets) → Holds bag path octets
+has_holds : (bag : Bag) (path octets : List ℕ) → Has bag.files (path, octets) → HoldsFile bag path octets
 has_holds bag path octets has = place_of_has bag.files (path, octets) has
 
-pub plain_tag : (tags : Files) → AreTagFiles tags → (path octets : List ℕ) → Holds (tag_bag tags) path octets → is_payload path ≡ false
+pub plain_tag : (tags : Files) → AreTagFiles tags → (path octets : List ℕ) → HoldsFile (tag_bag tags) path octets → is_payload path ≡ false
 plain_tag tags are path octets holds = (all_has IsTagFile tags (path, octets) are.each (holds_has (tag_bag tags) path octets holds)).0.1
 
 module _ (tags items : Files) (are : AreTagFiles tags) (held : AreHeldFor tags items) where
@@ -53,23 +53,23 @@ module _ (tags items : Files) (are : AreTagFiles tags) (held : AreHeldFor tags i
 
   -- WHAT IT HOLDS
 
-  pub holds_tag : (path octets : List ℕ) → Holds (tag_bag tags) path octets → Holds (held_bag tags items) path octets
+  pub holds_tag : (path octets : List ℕ) → HoldsFile (tag_bag tags) path octets → HoldsFile (held_bag tags items) path octets
   holds_tag path octets holds = has_holds (held_bag tags items) path octets ((has_with tags items (path, octets) new).1 (inl (holds_has (tag_bag tags) path octets holds)))
 
-  pub holds_item : (path octets : List ℕ) → Has items (path, octets) → Holds (held_bag tags items) path octets
+  pub holds_item : (path octets : List ℕ) → Has items (path, octets) → HoldsFile (held_bag tags items) path octets
   holds_item path octets has = has_holds (held_bag tags items) path octets ((has_with tags items (path, octets) new).1 (inr has))
 
-  of_both : (path octets : List ℕ) → Holds (held_bag tags items) path octets → Has tags (path, octets) ⊎ Has items (path, octets)
+  of_both : (path octets : List ℕ) → HoldsFile (held_bag tags items) path octets → Has tags (path, octets) ⊎ Has items (path, octets)
   of_both path octets holds = (has_with tags items (path, octets) new).0 (holds_has (held_bag tags items) path octets holds)
 
   -- what isn't payload is a tag file, and what is was held
-  pub tag_held : (path octets : List ℕ) → is_payload path ≡ false → Holds (held_bag tags items) path octets → Holds (tag_bag tags) path octets
+  pub tag_held : (path octets : List ℕ) → is_payload path ≡ false → HoldsFile (held_bag tags items) path octets → HoldsFile (tag_bag tags) path octets
   tag_held path octets other holds = elim (of_both path octets holds) [
     | inl tag ↦ has_holds (tag_bag tags) path octets tag
     | inr item ↦ absurd (false≢true (sym other ∙ payload path octets item))
   ]
 
-  pub item_held : (path octets : List ℕ) → is_payload path ≡ true → Holds (held_bag tags items) path octets → Has items (path, octets)
+  pub item_held : (path octets : List ℕ) → is_payload path ≡ true → HoldsFile (held_bag tags items) path octets → Has items (path, octets)
   item_held path octets is holds = elim (of_both path octets holds) [
     | inl tag ↦ absurd (false≢true (sym (plain path octets tag) ∙ is))
     | inr item ↦ item

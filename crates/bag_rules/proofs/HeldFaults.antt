@@ -3,7 +3,7 @@ use Rattle.std.proofs.Common.{◌≡◌, ◌∙◌, ℕ, true, false, List, Some
 use Rattle.bag_rules.specs.Bags.{version_of}
 use Rattle.bag_rules.specs.Opening.{MayBeMended, Opens}
 use Rattle.bag_rules.specs.Transfers.{AreHeldFor, held_bag, tag_bag}
-use Rattle.bag_rules.proofs.Words.{Alg, AreTagFiles, BadDeclaration, BadLine, cases_Bool, declaration_file, Digest, Fault, FetchLength, FetchLine, FetchNotListed, Files, HasEntry, HasFault, hash, Holds, is_payload, IsFaultyText, IsThere, Kind, line_fault, listed_digest, Lists, manifest_file, manifest_name, ManifestName, ManifestNotListed, Missing, NoDeclaration, NoManifest, NoPayloadDir, OxumForm, OxumTwice, OxumWrong, Pair, Payload, Tag, text_file, Unlisted, WrongDigest}
+use Rattle.bag_rules.proofs.Words.{Alg, AreTagFiles, BadDeclaration, BadLine, cases_Bool, declaration_file, Digest, Fault, FetchLength, FetchLine, FetchNotListed, Files, HasEntry, HasFault, hash, HoldsFile, is_payload, IsFaultyText, IsThere, Kind, line_fault, listed_digest, Lists, manifest_file, manifest_name, ManifestName, ManifestNotListed, Missing, NoDeclaration, NoManifest, NoPayloadDir, OxumForm, OxumTwice, OxumWrong, Pair, Payload, Tag, text_file, Unlisted, WrongDigest}
 use Rattle.bag_rules.proofs.HeldBags.{holds_tag, item_held, same_version, tag_held}
 use Rattle.bag_rules.proofs.InPlace.{listed_in_place}
 use Rattle.bag_rules.proofs.ListedLemmas.{some_listed}
@@ -13,10 +13,10 @@ module _ (tags items : Files) (are : AreTagFiles tags) (held : AreHeldFor tags i
   pub same : version_of (held_bag tags items) ≡ version_of (tag_bag tags)
   same = same_version tags items are held opens.in_profile.declared
 
-  pub down : (path octets : List ℕ) → is_payload path ≡ false → Holds (held_bag tags items) path octets → Holds (tag_bag tags) path octets
+  pub down : (path octets : List ℕ) → is_payload path ≡ false → HoldsFile (held_bag tags items) path octets → HoldsFile (tag_bag tags) path octets
   down = tag_held tags items are held
 
-  pub up : (path octets : List ℕ) → is_payload path ≡ false → Holds (tag_bag tags) path octets → Holds (held_bag tags items) path octets
+  pub up : (path octets : List ℕ) → is_payload path ≡ false → HoldsFile (tag_bag tags) path octets → HoldsFile (held_bag tags items) path octets
   up path octets other = holds_tag tags items are held path octets
 
   there_up : (path : List ℕ) → IsThere (tag_bag tags) path → IsThere (held_bag tags items) path
@@ -40,10 +40,10 @@ module _ (tags items : Files) (are : AreTagFiles tags) (held : AreHeldFor tags i
   ))
 
   -- payload files pass
-  right_length : (line : FetchLine) (path octets : List ℕ) (given : ℕ) → HasEntry (held_bag tags items) line → line.entry.path ≡ path → line.entry.octets ≡ Some given → Holds (held_bag tags items) path octets → is_payload path ≡ true → length octets ≡ given
+  right_length : (line : FetchLine) (path octets : List ℕ) (given : ℕ) → HasEntry (held_bag tags items) line → line.entry.path ≡ path → line.entry.octets ≡ Some given → HoldsFile (held_bag tags items) path octets → is_payload path ≡ true → length octets ≡ given
   right_length line path octets given entry named gives holds payload = (held.passing path octets (item_held tags items are held path octets payload holds)).lengths line (entry_down line entry) named given gives
 
-  right_digest : (kind : Kind) (alg : Alg) (path octets : List ℕ) (pairs : List Pair) (digest : Digest) → Lists (tag_bag tags) (manifest_name kind alg) pairs → listed_digest pairs path ≡ Some digest → Holds (held_bag tags items) path octets → is_payload path ≡ true → hash alg octets ≡ digest
+  right_digest : (kind : Kind) (alg : Alg) (path octets : List ℕ) (pairs : List Pair) (digest : Digest) → Lists (tag_bag tags) (manifest_name kind alg) pairs → listed_digest pairs path ≡ Some digest → HoldsFile (held_bag tags items) path octets → is_payload path ≡ true → hash alg octets ≡ digest
   right_digest Payload alg path octets pairs digest lists some holds payload = (held.passing path octets (item_held tags items are held path octets payload holds)).digests alg pairs digest lists some
   right_digest Tag alg path octets pairs digest lists some holds payload = absurd (let k : true ≡ false = sym payload ∙ (listed_in_place (tag_bag tags) (manifest_name Tag alg) pairs path lists (some_listed pairs path digest some)).0 in cc)
 

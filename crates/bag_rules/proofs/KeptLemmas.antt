@@ -43,14 +43,14 @@ kept_push shown old new file are set files here = record {
 
 -- what is kept of a file that was found
 pub kept_found : (shown : Shown) (kept : Kept) (items : List KeptFile) (i place : ℕ) (d : KeptFile) (set : AlgSet) (path octets : List ℕ) → items ≡ kept.files.items → i < length items → (get_or items i d).place ≡ place
-    → ((alg : Alg) → has set alg ≡ true → has kept.set alg ≡ true) → AreKept shown kept → HasFileAt shown place path octets → HasSumsWithin ((get_or items i d).length, (get_or items i d).digests) set octets
+    → ((alg : Alg) → has set alg ≡ true → has kept.set alg ≡ true) → AreKept shown kept → HasFileAt shown place path octets → HasSumsWithin (get_or items i d).sums set octets
 kept_found shown kept items i place d set path octets same below here covers are at =
     let file = get_or items i d in
     let there : slice_get kept.files.items i ≡ Some file = ap (λ fs. slice_get fs i) (sym same) ∙ stands_at items i d below in
     let is = are.each i file there path octets (subst (λ p. HasFileAt shown p path octets) (sym here) at) in
     record {
-      sums = record { taken = kept.set; count = is.0; digests = is.1; covers = covers };
-      within = omega (arith, is.2);
+      sums = record { taken = kept.set; sums = is.0; covers = covers };
+      within = omega (arith, is.1);
     }
 
 -- a source that was too large gave more than the limit

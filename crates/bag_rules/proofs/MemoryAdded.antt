@@ -3,7 +3,7 @@ use Rattle.std.proofs.Common.{◌≡◌, ℕ, ◌+◌, ◌≤◌, ◌||◌, true
 use Rattle.std.proofs.lemmas.Bool.{cond_both}
 use Rattle.std.proofs.lemmas.Map.{lookup-insert, none_passes_from_lookup}
 use Rattle.bag_rules.specs.Memory.{FindsAlso}
-use Rattle.bag_rules.proofs.Words.{All-weaker, AreRising, bytes_eq, bytes_eq-Decides, cond-false, cond-true, false_from_ne_true, File, ForSome, insert, Inside, is_payload, IsGapFor, IsSound, keys_of, length-insert, lookup, moved_up, nat_list_eq_equiv, octets_at, option_map, or_left, or_right, Reading, rest_of, same_Some, files_of, view_of, with_file}
+use Rattle.bag_rules.proofs.Words.{All-weaker, AreRising, bytes_eq, bytes_eq-Decides, cond-false, cond-true, false_from_ne_true, File, ForSome, insert, Inside, is_payload, IsGapFor, IsSoundTree, keys_of, length-insert, lookup, moved_up, nat_list_eq_equiv, octets_at, option_map, or_left, or_right, Reading, rest_of, same_Some, files_of, view_of, with_file}
 use Rattle.bag_rules.specs.Files.{paths_of}
 use Rattle.bag_rules.proofs.MemoryFiles.{All-insert, lookup_in_gap, map-insert, put_in_gap, rising_put}
 use Rattle.bag_rules.proofs.FilesShown.{length_shown, shown_insert}
@@ -24,7 +24,7 @@ moved_within place n (Some old) within r here =
     let same : moved_up place old ≡ r = same_Some (moved_up place old) r here in
     subst (λ (q : Reading). q.place < n + 1) same (cond_both (nat_le place old.place) (old.place + 1) old.place (λ k. k < n + 1) (λ e. omega (arith, there)) (λ e. omega (arith, there)))
 
-module _ (old new : Inside) (place : ℕ) (file : File) (sound : IsSound old) (added : HasAdded old new place file) where
+module _ (old new : Inside) (place : ℕ) (file : File) (sound : IsSoundTree old) (added : HasAdded old new place file) where
   files_are : files_of new.files.items ≡ insert (files_of old.files.items) place (file.path, file.body.items)
   files_are = ap files_of added.files ∙ shown_insert old.files.items place file
 
@@ -60,7 +60,7 @@ module _ (old new : Inside) (place : ℕ) (file : File) (sound : IsSound old) (a
       subst (λ n. ForSome new.reading (λ r. r.place < n)) (sym longer)
       (subst (λ reading. ForSome reading (λ r. r.place < length old.files.items + 1)) (sym added.reading) (moved_within place (length old.files.items) old.reading sound.reading))
 
-  pub sound_added : IsSound new
+  pub sound_added : IsSoundTree new
   sound_added = record {
     rising = subst AreRising (sym paths_are) (rising_put file.path (paths_of old.files.items) place added.gap sound.rising);
     payload = payload_is;

@@ -1,6 +1,6 @@
 -- What the fields of a tree in memory show after a file was inserted, and what a search finds.
 use Rattle.std.proofs.Common.{◌≡◌, ℕ, zero, suc, ◌+◌, ◌<◌, ◌≤◌, ◌++◌, ◌-◌, add-zero, take, take-append-drop, true, List, [], ◌∷◌, Option, Some, None, All, slice_get, drop, is_some, length, refl, sym, ap, subst, ◌∙◌, arith}
-use Rattle.bag_rules.proofs.Words.{All-nil, AreRising, Consumes, drop-drop, File, ForSome, insert, Inside, is_payload, IsAtEnd, IsSound, mem_octets, mem_paths, mem_shown, MemFiles, moved_up, no_files, octets_in, option_map, paths_in, Reading, rest_of, files_of, take-append_seam, values_of, view_of}
+use Rattle.bag_rules.proofs.Words.{All-nil, AreRising, Consumes, drop-drop, File, ForSome, insert, Inside, is_payload, IsAtEnd, IsSoundTree, mem_octets, mem_paths, mem_shown, MemFiles, moved_up, no_files, octets_in, option_map, paths_in, Reading, rest_of, files_of, take-append_seam, values_of, view_of}
 use Rattle.std.specs.List.Sorted.{IsStrictlySortedBy}
 use Rattle.bag_rules.specs.Files.{paths_of}
 use Rattle.bag_rules.proofs.HasLemmas.{stands}
@@ -50,7 +50,7 @@ module _ (files : List File) (place : ℕ) (file : File) (upto : place ≤ lengt
   rest_moved (Some r) within = ap (option_map (drop r.at)) (body_moved r (within r refl))
 
 -- nothing is wrong if there are no files
-pub empty_sound : (inside : Inside) → inside.files.items ≡ [] → inside.reading ≡ None → IsSound inside
+pub empty_sound : (inside : Inside) → inside.files.items ≡ [] → inside.reading ≡ None → IsSoundTree inside
 unfolding IsStrictlySortedBy
 empty_sound inside no_file none = record {
   rising = subst (λ fs. AreRising (paths_of fs)) (sym no_file) tt;

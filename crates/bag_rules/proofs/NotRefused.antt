@@ -8,7 +8,7 @@ use Rattle.bag_rules.specs.declared.plan.PlanFault.TheVariants as plan
 use Rattle.bag_rules.specs.declared.tag_set.TagSetFault.{TagSetFault}
 use Rattle.bag_rules.specs.declared.tag_set.TagSetFault.TheVariants as tag
 use Rattle.bag_rules.specs.Files.{IsTagFile}
-use Rattle.bag_rules.specs.Opening.{Opens, Refuses}
+use Rattle.bag_rules.specs.Opening.{Opens, RefusesTags}
 use Rattle.bag_rules.specs.TagSets.{RefusesFile}
 use Rattle.bag_rules.specs.Transfers.{with_files}
 use Rattle.bag_rules.proofs.HasLemmas.{has_at, has_from_contains}
@@ -61,7 +61,7 @@ inside bag Version rising profile out = not_version bag rising profile.declared 
 inside bag Encoding rising profile out = not_encoding bag rising profile.declared out
 inside bag (Algorithm name) rising profile out = profile.known out.1.path _ out.1.there out.1.unknown
 
-pub refused_by_memory : (tags : Files) (fault : PlanFault) → AreTagFiles tags → Opens tags → Refuses tags fault → fault ≡ plan.Memory
+pub refused_by_memory : (tags : Files) (fault : PlanFault) → AreTagFiles tags → Opens tags → RefusesTags tags fault → fault ≡ plan.Memory
 refused_by_memory tags (plan.TagTooLarge path) files opens r = absurd (opens.few_lines path r.has)
 refused_by_memory tags (plan.Outside cause) files opens r = absurd (inside _ cause files.rising opens.in_profile r.1)
 refused_by_memory tags (plan.Rules fault) files opens r = absurd (opens.no_fault fault r.2.has)

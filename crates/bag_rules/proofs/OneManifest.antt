@@ -1,7 +1,7 @@
 -- What can be wrong with bags that have a declaration, a payload manifest by SHA-256 that lists no file except possibly
 -- `data/a.txt`, and no other payload file.
 use Rattle.std.proofs.Common.{◌≡◌, ◌≢◌, ◌⊎◌, ℕ, true, false, List, [], ◌∷◌, Some, codes, nat_eq, get_or, refl, sym, ap, ◌∙◌, subst, inl, inr}
-use Rattle.bag_rules.proofs.Words.{Alg, BadDeclaration, BadLine, Bag, bytes_eq, current, differ_at, Digest, excludes, Fault, FetchLength, FetchList, FetchNotListed, file_of, Has, HasFault, hash, Holds, Info, is_payload, IsDeclaration, IsInProfile, IsThere, IsUnknownManifest, Kind, line_fault, LineCause, listed_digest, Lists, lists_path, Manifest, manifest_file, manifest_name, ManifestFault, ManifestName, ManifestNotListed, ManifestText, Missing, NoDeclaration, NoManifest, no_pairs, NoPayloadDir, one_file, one_list_of_pairs, other_text, OxumForm, OxumTwice, OxumWrong, Pair, Payload, payload_known, payload_manifest, Sha256, Tag, tag_manifest, Unlisted, V1, written_declaration, written_declares, WrongDigest}
+use Rattle.bag_rules.proofs.Words.{Alg, BadDeclaration, BadLine, Bag, bytes_eq, current, differ_at, Digest, excludes, Fault, FetchLength, FetchList, FetchNotListed, file_of, Has, HasFault, hash, HoldsFile, Info, is_payload, IsDeclaration, IsInProfile, IsThere, IsUnknownManifest, Kind, line_fault, LineCause, listed_digest, Lists, lists_path, Manifest, manifest_file, manifest_name, ManifestFault, ManifestName, ManifestNotListed, ManifestText, Missing, NoDeclaration, NoManifest, no_pairs, NoPayloadDir, one_file, one_list_of_pairs, other_text, OxumForm, OxumTwice, OxumWrong, Pair, Payload, payload_known, payload_manifest, Sha256, Tag, tag_manifest, Unlisted, V1, written_declaration, written_declares, WrongDigest}
 use Rattle.bag_rules.specs.Bags.{version_of}
 use Rattle.bag_rules.specs.Listed.{IsUnlisted}
 use Rattle.bag_rules.proofs.ListedLemmas.{some_listed}
@@ -24,10 +24,10 @@ by_file manifest content P a b c path octets (inr (inr (inl e))) = subst (λ (fi
 by_file manifest content P a b c path octets (inr (inr (inr none))) = absurd none
 
 pub record HasOneManifest (bag : Bag) (manifest content : List ℕ) (pairs : List Pair) : Type 0 where
-  pub held : (path octets : List ℕ) → Holds bag path octets → IsFile manifest content path octets
-  pub declared : Holds bag (codes "bagit.txt") written_declaration
+  pub held : (path octets : List ℕ) → HoldsFile bag path octets → IsFile manifest content path octets
+  pub declared : HoldsFile bag (codes "bagit.txt") written_declaration
   pub version_is : version_of bag ≡ V1
-  pub there : Holds bag (codes "manifest-sha256.txt") manifest
+  pub there : HoldsFile bag (codes "manifest-sha256.txt") manifest
   pub text : ManifestText V1 Sha256 Payload manifest pairs
   pub listed : (path : List ℕ) → lists_path pairs path ≡ true → path ≡ payload_file
 
@@ -51,22 +51,22 @@ named : (kind : Kind) (alg : Alg) → manifest_file kind alg ≡ codes "manifest
 named kind alg e = let same : Manifest (manifest_name kind alg) ≡ Manifest by_sha256 = one_file (codes "manifest-sha256.txt") (Manifest (manifest_name kind alg)) (Manifest by_sha256) (sym e) refl in cc
 
 module _ (bag : Bag) (manifest content : List ℕ) (pairs : List Pair) (h : HasOneManifest bag manifest content pairs) where
-  no_other : (path octets : List ℕ) → bytes_eq (codes "bagit.txt") path ≡ false → bytes_eq payload_file path ≡ false → bytes_eq (codes "manifest-sha256.txt") path ≡ false → ¬ Holds bag path octets
+  no_other : (path octets : List ℕ) → bytes_eq (codes "bagit.txt") path ≡ false → bytes_eq payload_file path ≡ false → bytes_eq (codes "manifest-sha256.txt") path ≡ false → ¬ HoldsFile bag path octets
   no_other path octets a b c held = by_file manifest content (λ p o. p ≢ path) (other_text (codes "bagit.txt") path a) (other_text payload_file path b) (other_text (codes "manifest-sha256.txt") path c) path octets (h.held path octets held) refl
 
-  no_info : (octets : List ℕ) → ¬ Holds bag (codes "bag-info.txt") octets
+  no_info : (octets : List ℕ) → ¬ HoldsFile bag (codes "bag-info.txt") octets
   no_info octets = no_other (codes "bag-info.txt") octets refl refl refl
 
-  no_fetch : (octets : List ℕ) → ¬ Holds bag (codes "fetch.txt") octets
+  no_fetch : (octets : List ℕ) → ¬ HoldsFile bag (codes "fetch.txt") octets
   no_fetch octets = no_other (codes "fetch.txt") octets refl refl refl
 
-  declares_well : (octets : List ℕ) → Holds bag (codes "bagit.txt") octets → IsDeclaration octets current
+  declares_well : (octets : List ℕ) → HoldsFile bag (codes "bagit.txt") octets → IsDeclaration octets current
   declares_well octets held = by_file manifest content (λ p o. p ≡ codes "bagit.txt" → IsDeclaration o current) (λ e. written_declares)
       (λ e. absurd (other_text payload_file (codes "bagit.txt") refl e)) (λ e. absurd (other_text (codes "manifest-sha256.txt") (codes "bagit.txt") refl e))
       (codes "bagit.txt") octets (h.held (codes "bagit.txt") octets held) refl
 
   -- a manifest that is there is the one
-  the_one : (name : ManifestName) (octets : List ℕ) → Holds bag (file_of name) octets → (name ≡ by_sha256) × (octets ≡ manifest)
+  the_one : (name : ManifestName) (octets : List ℕ) → HoldsFile bag (file_of name) octets → (name ≡ by_sha256) × (octets ≡ manifest)
   the_one name octets held = by_file manifest content (λ p o. file_of name ≡ p → (name ≡ by_sha256) × (o ≡ manifest))
       (λ e. absurd (manifest_apart name.kind name.alg (codes "bagit.txt") refl refl e)) (λ e. absurd (manifest_apart name.kind name.alg payload_file refl refl e))
       (λ e. (named name.kind name.alg e, refl))
@@ -77,13 +77,13 @@ module _ (bag : Bag) (manifest content : List ℕ) (pairs : List Pair) (h : HasO
       let one = the_one name l.octets l.there in
       (one.0, one_list_of_pairs V1 Sha256 Payload manifest others pairs (rw (one.0, one.1) at (subst (λ v. ManifestText v name.alg name.kind l.octets others) h.version_is l.text)) h.text)
 
-  no_bad_line : (name : ManifestName) (octets : List ℕ) (line : ℕ) (cause : LineCause) → Holds bag (file_of name) octets → ¬ ManifestFault (version_of bag) name.alg name.kind octets (line_fault line cause)
+  no_bad_line : (name : ManifestName) (octets : List ℕ) (line : ℕ) (cause : LineCause) → HoldsFile bag (file_of name) octets → ¬ ManifestFault (version_of bag) name.alg name.kind octets (line_fault line cause)
   no_bad_line name octets line cause held fault =
       let one = the_one name octets held in
       no_pairs V1 Sha256 Payload manifest pairs (line_fault line cause) h.text (rw (one.0, one.1) at (subst (λ v. ManifestFault v name.alg name.kind octets (line_fault line cause)) h.version_is fault))
 
   -- a payload file that is there is the one
-  payload_only : (path octets : List ℕ) → Holds bag path octets → is_payload path ≡ true → (path ≡ payload_file) × (octets ≡ content)
+  payload_only : (path octets : List ℕ) → HoldsFile bag path octets → is_payload path ≡ true → (path ≡ payload_file) × (octets ≡ content)
   payload_only path octets held = by_file manifest content (λ p o. is_payload p ≡ true → (p ≡ payload_file) × (o ≡ content)) (λ e. absurd (let k : false ≡ true = e in cc)) (λ e. (refl, refl)) (λ e. absurd (let k : false ≡ true = e in cc)) path octets (h.held path octets held)
 
   pub left_fault : (P : Fault → Type 0) → CanBe bag content pairs P → (fault : Fault) → HasFault bag fault → P fault

@@ -1,6 +1,6 @@
 -- A bag has at most one verdict, and its files have one order.
 use Rattle.std.proofs.Common.{◌≡◌, ◌≢◌, ◌↔◌, ◌∙◌, ℕ, true, false, List, [], ◌∷◌, Some, None, is_some, refl, sym, ap, subst, string_bytes}
-use Rattle.bag_rules.proofs.Words.{Algorithm, AreInOrder, AreRising, Bag, Declaration, declaration_file, Declares, Encoding, Equal, exact_bytes, Fault, Greater, Has, Holds, IsDeclaration, IsFirstUnknown, IsInProfile, IsJudged, IsOutside, IsUnknownManifest, IsVerdict, Judged, Less, nat_cmp, nat_list_cmp_total, one_word, Ordering, ordering_reverse, Outcome, Outside, OutsideCause, SameCause, SameVerdict, slice_cmp}
+use Rattle.bag_rules.proofs.Words.{Algorithm, AreInOrder, AreRising, Bag, Declaration, declaration_file, Declares, Encoding, Equal, exact_bytes, Fault, Greater, Has, HoldsFile, IsDeclaration, IsFirstUnknown, IsInProfile, IsJudged, IsOutside, IsUnknownManifest, IsVerdict, Judged, Less, nat_cmp, nat_list_cmp_total, one_word, Ordering, ordering_reverse, Outcome, Outside, OutsideCause, SameCause, SameVerdict, slice_cmp}
 use Rattle.std.specs.List.Sorted.{IsStrictlySortedBy}
 use Rattle.bag_tags.specs.Declarations.{version_of as known_version}
 use Rattle.bag_tags.proofs.DeclarationLemmas as declarations
@@ -15,10 +15,10 @@ use Rattle.bag_rules.proofs.VerdictLemmas.{declared_none}
 
 -- THE ORDER OF FILES
 
-pub same_bag : (a b : Bag) → AreRising (paths_of a) → AreRising (paths_of b) → ((path octets : List ℕ) → Holds a path octets ↔ Holds b path octets) → a.has_payload_dir ≡ b.has_payload_dir → a ≡ b
+pub same_bag : (a b : Bag) → AreRising (paths_of a) → AreRising (paths_of b) → ((path octets : List ℕ) → HoldsFile a path octets ↔ HoldsFile b path octets) → a.has_payload_dir ≡ b.has_payload_dir → a ≡ b
 same_bag a b rising rises same dir =
     let key = λ (file : List ℕ × List ℕ). file.0 in
-    let found : (bag : Bag) (file : List ℕ × List ℕ) → Holds bag file.0 file.1 → Has bag.files file = λ bag file holds. has_at bag.files holds.0 file holds.1 in
+    let found : (bag : Bag) (file : List ℕ × List ℕ) → HoldsFile bag file.0 file.1 → Has bag.files file = λ bag file holds. has_at bag.files holds.0 file holds.1 in
     let files = same_list (λ x y. slice_cmp nat_cmp (key x) (key y)) (λ x y. asymmetric nat_list_cmp_total (key x) (key y)) a.files b.files
     (sorted_by_key key (slice_cmp nat_cmp) a.files rising) (sorted_by_key key (slice_cmp nat_cmp) b.files rises)
     (λ file has. found b file ((same file.0 file.1).0 (place_of_has a.files file has)))

@@ -5,7 +5,7 @@ use Rattle.bag_rules.specs.contracts.fault.FaultOrd.TheImpl as order
 use Rattle.bag_rules.specs.contracts.fault.FaultOrd.TheImpl.Laws as laws
 use Rattle.bag_rules.specs.declared.outcome.OutsideCause.TheVariants.{Version}
 use Rattle.bag_rules.specs.Bags.{paths_of}
-use Rattle.bag_rules.specs.Opening.{FewLines, HasOpeningFault, IsFirst, IsFirstOpeningFault, NotOutside, Refuses}
+use Rattle.bag_rules.specs.Opening.{FewLines, HasOpeningFault, IsFirst, IsFirstOpeningFault, NotOutside, RefusesTags}
 use Rattle.bag_rules.specs.declared.plan.PlanFault.TheVariants.{Rules}
 use Rattle.bag_rules.specs.Transfers.{tag_bag}
 use Rattle.bag_rules.proofs.Words.{Algorithm, AreRising, AreTagFiles, BadDeclaration, Bag, Broken, cases_lt, Encoding, Equal, Fault, Files, Greater, HasFault, IsInProfile, IsJudged, IsOutside, IsProfile, Judged, Less, NoDeclaration, number_of, ordering_reverse, Outside, OutsideCause, tied_itself, tier_of}
@@ -77,7 +77,7 @@ module _ (tags : Files) where
       ];
     }
 
-  pub broken_refused : (fault : Fault) → AreTagFiles tags → IsProfile (tag_bag tags) (Broken fault) → FewLines tags → Refuses tags (Rules fault)
+  pub broken_refused : (fault : Fault) → AreTagFiles tags → IsProfile (tag_bag tags) (Broken fault) → FewLines tags → RefusesTags tags (Rules fault)
   broken_refused fault are (judged, out) few = (
     few,
     λ cause outside. absurd (one_verdict (tag_bag tags) (Judged (fault ∷ [])) (Outside cause) are.rising judged outside),

@@ -3,7 +3,7 @@ use Rattle.std.proofs.Common.{◌≡◌, ℕ, false, List, refl, subst}
 use Rattle.bag_path.specs.declared.version.Version.{Version}
 use Rattle.bag_rules.specs.Bags.{version_of}
 use Rattle.bag_rules.specs.Listed.{IsUnlisted}
-use Rattle.bag_rules.proofs.Words.{Alg, Bag, FetchLine, FetchList, FetchText, file_of, HasEntry, Holds, Info, InfoText, is_payload, IsThere, Kind, LineFile, Lists, ListsFetch, Manifest, manifest_file, manifest_name, ManifestName, ManifestText, Md5, MetadataElement, Pair, Payload, SaysInfo, SaysOxum, Sha1, Sha256, Sha512, Tag, text_file, V097, V1}
+use Rattle.bag_rules.proofs.Words.{Alg, Bag, FetchLine, FetchList, FetchText, file_of, HasEntry, HoldsFile, Info, InfoText, is_payload, IsThere, Kind, LineFile, Lists, ListsFetch, Manifest, manifest_file, manifest_name, ManifestName, ManifestText, Md5, MetadataElement, Pair, Payload, SaysInfo, SaysOxum, Sha1, Sha256, Sha512, Tag, text_file, V097, V1}
 
 -- tag files that are read line by line aren't payload files
 pub plain_manifest : (kind : Kind) (alg : Alg) → is_payload (manifest_file kind alg) ≡ false
@@ -22,7 +22,7 @@ plain_text FetchList = refl
 plain_text (Manifest name) = plain_manifest name.kind name.alg
 
 -- what one bag says is said by another that has its tag files
-module _ (one other : Bag) (same : version_of one ≡ version_of other) (to : (path octets : List ℕ) → is_payload path ≡ false → Holds one path octets → Holds other path octets) where
+module _ (one other : Bag) (same : version_of one ≡ version_of other) (to : (path octets : List ℕ) → is_payload path ≡ false → HoldsFile one path octets → HoldsFile other path octets) where
   pub there_too : (path : List ℕ) → is_payload path ≡ false → IsThere one path → IsThere other path
   there_too path plain there = (there.0, to path there.0 plain there.1)
 

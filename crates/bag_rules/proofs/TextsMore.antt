@@ -1,7 +1,7 @@
 -- What the tag files say, with one more file.
 use Rattle.std.proofs.Common.{◌≡◌, ◌≢◌, ◌⊎◌, ◌↔◌, ◌+◌, ℕ, true, false, List, [], ◌∷◌, Some, length, slice_get, refl, sym, ap, ◌∙◌, inl, inr, subst}
 use Rattle.bag_path.specs.declared.version.Version.{Version}
-use Rattle.bag_rules.proofs.Words.{Adds, AreTextsOf, BadLine, Bag, Fault, FetchLine, FetchList, FetchText, front, GivesListing, Has, HasBadLine, HasFaultOf, Holds, Info, InfoText, IsBadLineOf, IsFirstBadLine, LineFile, Listing, Manifest, ManifestName, ManifestText, MetadataElement, name_in, one_file, ReadsOn, ReadsText, text_file, text_or_not, TagTexts}
+use Rattle.bag_rules.proofs.Words.{Adds, AreTextsOf, BadLine, Bag, Fault, FetchLine, FetchList, FetchText, front, GivesListing, Has, HasBadLine, HasFaultOf, HoldsFile, Info, InfoText, IsBadLineOf, IsFirstBadLine, LineFile, Listing, Manifest, ManifestName, ManifestText, MetadataElement, name_in, one_file, ReadsOn, ReadsText, text_file, text_or_not, TagTexts}
 use Rattle.bag_rules.specs.Bags.{ListsBy, ListsFetchBy, SaysInfoBy, version_of}
 use Rattle.bag_rules.proofs.AddsLemmas.{adds_on}
 use Rattle.bag_rules.proofs.FrontLemmas.{whole_front}
@@ -35,12 +35,12 @@ back f = (f.1, f.0)
 -- all faulty lines of the bag
 pub all_bad_lines : (bag : Bag) (f : Fault) → HasBadLine (length bag.files) bag f ↔ HasFaultOf bag (5 ∷ []) f
 all_bad_lines bag f = (
-  λ h. subst (λ fault. HasFaultOf bag (5 ∷ []) fault) (sym h.bad.1.2) ((h.octets, subst (λ (b : Bag). Holds b (text_file h.file) h.octets) (whole_front bag) h.there, h.bad.1.1), refl),
+  λ h. subst (λ fault. HasFaultOf bag (5 ∷ []) fault) (sym h.bad.1.2) ((h.octets, subst (λ (b : Bag). HoldsFile b (text_file h.file) h.octets) (whole_front bag) h.there, h.bad.1.1), refl),
   bad_line_in f,
 )
   where
     bad_line_in : (f : Fault) → HasFaultOf bag (5 ∷ []) f → HasBadLine (length bag.files) bag f
-    bad_line_in (BadLine file line cause) h = record { file = file; octets = h.0.0; there = subst (λ (b : Bag). Holds b (text_file file) h.0.0) (sym (whole_front bag)) h.0.1; bad = (line, (cause, h.0.2, refl)) }
+    bad_line_in (BadLine file line cause) h = record { file = file; octets = h.0.0; there = subst (λ (b : Bag). HoldsFile b (text_file file) h.0.0) (sym (whole_front bag)) h.0.1; bad = (line, (cause, h.0.2, refl)) }
     bad_line_in _ h = absurd (let k : false ≡ true = h.1 in cc)
 
 -- one more file, whose path no file before it has

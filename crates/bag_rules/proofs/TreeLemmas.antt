@@ -1,6 +1,6 @@
 -- What a tree shows of its bag.
 use Rattle.std.proofs.Common.{◌≡◌, ℕ, List, [], ◌∷◌, Option, Some, None, length, map, slice_get, Contains, refl, sym, ap, ◌∙◌, subst}
-use Rattle.bag_rules.proofs.Words.{AreRising, Bag, bytes_eq, HasFileAt, Holds, is_eq-slice_cmp, IsBagOf, IsDistinct, IsDistinct-from_sorted, IsThere, length-map, lookup, lookup_from_place, nat_cmp, nat_list_eq_equiv, octets_in, option_and_then, option_map, paths_in, same_Some, Shown, slice_cmp, slice_get-map, some_pair_parts}
+use Rattle.bag_rules.proofs.Words.{AreRising, Bag, bytes_eq, HasFileAt, HoldsFile, is_eq-slice_cmp, IsBagOf, IsDistinct, IsDistinct-from_sorted, IsThere, length-map, lookup, lookup_from_place, nat_cmp, nat_list_eq_equiv, octets_in, option_and_then, option_map, paths_in, same_Some, Shown, slice_cmp, slice_get-map, some_pair_parts}
 use Rattle.bag_rules.specs.Bags.{paths_of}
 use Rattle.bag_rules.proofs.RisingPaths.{place_of, contains_at, one_place}
 
@@ -15,11 +15,11 @@ shown_at bag i path octets e = slice_get-map (λ (file : File). file.0) bag.file
 pub one_file : (bag : Bag) (i j : ℕ) (path a b : List ℕ) → AreRising (paths_of bag) → slice_get bag.files i ≡ Some (path, a) → slice_get bag.files j ≡ Some (path, b) → i ≡ j
 one_file bag i j path a b rising p q = one_place (paths_of bag) rising i j path (shown_at bag i path a p) (shown_at bag j path b q)
 
-pub one_octets : (bag : Bag) (path a b : List ℕ) → AreRising (paths_of bag) → Holds bag path a → Holds bag path b → a ≡ b
+pub one_octets : (bag : Bag) (path a b : List ℕ) → AreRising (paths_of bag) → HoldsFile bag path a → HoldsFile bag path b → a ≡ b
 one_octets bag path a b rising p q = (some_pair_parts path path a b (sym p.1 ∙ ap (slice_get bag.files) (one_file bag p.0 q.0 path a b rising p.1 q.1) ∙ q.1)).1
 
 -- a look-up by path finds it
-pub text_of : (bag : Bag) (path octets : List ℕ) → AreRising (paths_of bag) → Holds bag path octets → lookup (bytes_eq path) bag.files ≡ Some octets
+pub text_of : (bag : Bag) (path octets : List ℕ) → AreRising (paths_of bag) → HoldsFile bag path octets → lookup (bytes_eq path) bag.files ≡ Some octets
 text_of bag path octets rising holds =
     lookup_from_place nat_list_eq_equiv bag.files holds.0 path octets
     (subst (λ eq. IsDistinct eq (paths_of bag)) (λ t x y. is_eq-slice_cmp x y t) (IsDistinct-from_sorted (slice_cmp nat_cmp) (paths_of bag) rising)) holds.1

@@ -1,6 +1,6 @@
 -- A bag of version 0.97 with two payload manifests, of which the first lists nothing.
 use Rattle.std.proofs.Common.{◌≡◌, ◌⊎◌, ℕ, false, List, [], codes, refl, sym, ap, subst, inl, inr}
-use Rattle.bag_rules.proofs.Words.{Alg, Bag, bytes_eq, Has, Holds, Lists, manifest_file, manifest_name, ManifestText, Md5, nothing_listed, one_list_of_pairs, other_text, Pair, Payload, Sha1, Sha256, Sha512, text_of, V097}
+use Rattle.bag_rules.proofs.Words.{Alg, Bag, bytes_eq, Has, HoldsFile, Lists, manifest_file, manifest_name, ManifestText, Md5, nothing_listed, one_list_of_pairs, other_text, Pair, Payload, Sha1, Sha256, Sha512, text_of, V097}
 use Rattle.bag_path.specs.Lines.{lines_of}
 use Rattle.bag_rules.specs.ExampleBags.{bag_of_0_97}
 use Rattle.bag_rules.proofs.HasLemmas.{has_at}
@@ -27,7 +27,7 @@ module _ (manifest : List ℕ) where
   of_name name octets (inr (inr (inr (inr (inl e))))) a b d = inr (ap (λ (f : File). f.0) e, ap (λ (f : File). f.1) e)
   of_name name octets (inr (inr (inr (inr (inr none))))) a b d = absurd none
 
-  of_alg : (alg : Alg) (octets : List ℕ) → Holds bag (manifest_file Payload alg) octets → ((alg ≡ Md5) × ([] ≡ octets)) ⊎ ((alg ≡ Sha256) × (manifest ≡ octets))
+  of_alg : (alg : Alg) (octets : List ℕ) → HoldsFile bag (manifest_file Payload alg) octets → ((alg ≡ Md5) × ([] ≡ octets)) ⊎ ((alg ≡ Sha256) × (manifest ≡ octets))
   of_alg Md5 octets h = elim (of_name _ octets (has_at bag.files h.0 (manifest_file Payload Md5, octets) h.1) refl refl refl) [ inl e ↦ inl (refl, e.1) | inr e ↦ absurd (other_text (codes "manifest-sha256.txt") (manifest_file Payload Md5) refl e.0) ]
   of_alg Sha1 octets h = elim (of_name _ octets (has_at bag.files h.0 (manifest_file Payload Sha1, octets) h.1) refl refl refl) [ inl e ↦ absurd (other_text (codes "manifest-md5.txt") (manifest_file Payload Sha1) refl e.0) | inr e ↦ absurd (other_text (codes "manifest-sha256.txt") (manifest_file Payload Sha1) refl e.0) ]
   of_alg Sha256 octets h = elim (of_name _ octets (has_at bag.files h.0 (manifest_file Payload Sha256, octets) h.1) refl refl refl) [ inl e ↦ absurd (other_text (codes "manifest-md5.txt") (manifest_file Payload Sha256) refl e.0) | inr e ↦ inr (refl, e.1) ]

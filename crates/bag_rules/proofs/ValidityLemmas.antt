@@ -1,6 +1,6 @@
 -- A complete bag has no fault but wrong digests, and a bag with no other fault is complete.
 use Rattle.std.proofs.Common.{◌≡◌, ◌⊎◌, ◌↔◌, ◌<◌, ◌≤◌, ℕ, List, [], ◌∷◌, length, zero, suc, refl, sym, ap, subst, inl, inr, arith}
-use Rattle.bag_rules.proofs.Words.{Alg, AreRising, both_ways, decided_at_most, decided_true, false_from_ne_true, BadDeclaration, BadLine, Bag, bytes_eq, bytes_eq-Decides, cases_lt, Conforms, Decided, decided_as, decided_by, decided_equal, Digest, elements_or_fault, entries_or_fault, Fault, FetchLength, FetchList, FetchNotListed, FetchText, file_of, Has, HasFault, hash, Holds, Info, InfoText, IsComplete, IsFaultyText, IsJudged, IsThere, IsValid, line_fault, LineFault, LineFile, Lists, Manifest, manifest_file, ManifestName, ManifestNotListed, ManifestText, MetadataElement, Missing, NoDeclaration, NoManifest, no_elements, no_entries, no_pairs, NoneBelow, NoneUpTo, NoPayloadDir, number_of, octet_count, oxum_one, oxum_or_none, OxumForm, OxumText, OxumTwice, OxumWrong, Pair, pairs_or_fault, Payload, payload_of, SaysOxum, text_file, tier_of, Unlisted, V097, V1, WrongDigest}
+use Rattle.bag_rules.proofs.Words.{Alg, AreRising, both_ways, decided_at_most, decided_true, false_from_ne_true, BadDeclaration, BadLine, Bag, bytes_eq, bytes_eq-Decides, cases_lt, Conforms, Decided, decided_as, decided_by, decided_equal, Digest, elements_or_fault, entries_or_fault, Fault, FetchLength, FetchList, FetchNotListed, FetchText, file_of, Has, HasFault, hash, HoldsFile, Info, InfoText, IsComplete, IsFaultyText, IsJudged, IsThere, IsValid, line_fault, LineFault, LineFile, Lists, Manifest, manifest_file, ManifestName, ManifestNotListed, ManifestText, MetadataElement, Missing, NoDeclaration, NoManifest, no_elements, no_entries, no_pairs, NoneBelow, NoneUpTo, NoPayloadDir, number_of, octet_count, oxum_one, oxum_or_none, OxumForm, OxumText, OxumTwice, OxumWrong, Pair, pairs_or_fault, Payload, payload_of, SaysOxum, text_file, tier_of, Unlisted, V097, V1, WrongDigest}
 use Rattle.bag_digest.specs.declared.digest.Digest.TheVariants as digest_of
 use Rattle.bag_path.specs.declared.version.Version.{Version}
 use Rattle.bag_rules.specs.Bags.{IsDeclared, paths_of, version_of}
@@ -30,7 +30,7 @@ listed_or_not V1 bag alg path listed unlisted = both_ways _ unlisted.2 (listed a
 listed_or_not V097 bag alg path listed unlisted = unlisted.1 listed
 
 -- a text that can be read has no faulty line
-reads_well : (bag : Bag) (file : LineFile) (octets : List ℕ) (fault : LineFault) → AreRising (paths_of bag) → Conforms bag → Holds bag (text_file file) octets → ¬ IsFaultyText (version_of bag) file octets fault
+reads_well : (bag : Bag) (file : LineFile) (octets : List ℕ) (fault : LineFault) → AreRising (paths_of bag) → Conforms bag → HoldsFile bag (text_file file) octets → ¬ IsFaultyText (version_of bag) file octets fault
 reads_well bag Info octets fault rising conforms holds bad =
     let read = conforms.info_reads (octets, holds) in
     no_elements (version_of bag) octets read.0 fault (subst (λ o. InfoText (version_of bag) o read.0) (one_octets bag (text_file Info) read.1.octets octets rising read.1.there holds) read.1.text) bad
@@ -56,7 +56,7 @@ complete_none bag rising complete (Unlisted manifest path) upto broken = listed_
 complete_none bag rising complete (FetchNotListed manifest path) upto (unlisted, (line, has, named)) =
     listed_or_not (version_of bag) bag manifest path (subst (λ p. IsListed (version_of bag) bag p) named (complete.conforms.fetch_listed line has)) unlisted
 complete_none bag rising complete (FetchLength number path) upto (line, has, numbered, named, (given, gives, (octets, holds, other))) =
-    other (complete.conforms.fetch_lengths line octets has (subst (λ p. Holds bag p octets) (sym named) holds) given gives)
+    other (complete.conforms.fetch_lengths line octets has (subst (λ p. HoldsFile bag p octets) (sym named) holds) given gives)
 complete_none bag rising complete OxumWrong upto broken =
     let same = oxum_one _ _ _ _ _ broken.2.1.1 (complete.conforms.oxum_right broken.0 broken.1) in
     elim broken.2.1.2 [ inl other ↦ other same.0 | inr other ↦ other same.1 ]

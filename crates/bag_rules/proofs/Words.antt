@@ -14,7 +14,7 @@ pub use Rattle.bag_path.specs.Lines.{lines_of}
 pub use Rattle.bag_path.specs.LinesLeft.{lines_left, numbered_text}
 pub use Rattle.bag_path.specs.Paths.{is_payload}
 pub use Rattle.bag_path.specs.declared.version.Version.TheVariants.{V1, V097}
-pub use Rattle.bag_rules.specs.Bags.{Bag, declaration_file, Declares, Holds, IsBagOf, IsThere, Lists, ListsFetch, octet_count, payload_of, SaysInfo, shown_of}
+pub use Rattle.bag_rules.specs.Bags.{Bag, declaration_file, Declares, HoldsFile, IsBagOf, IsThere, Lists, ListsFetch, octet_count, payload_of, SaysInfo, shown_of}
 pub use Rattle.bag_rules.specs.Faults.{AreInOrder, Has, kind_of_lines, kinds_beside_lines, kinds_of_files, kinds_of_form, NoneUpTo, number_of}
 pub use Rattle.bag_rules.specs.FilesInside.{IsEntryUnlisted, IsFaultBy, IsFaultIn, IsFileFault, IsFileUnlisted, IsLongRead, IsMissing, IsMissingBy, IsOtherDigest, IsOtherLength, IsOtherOxum, IsPairMissing, IsReadBy, IsSizeOf, IsUnlistedIn, IsWrongIn, OfSome, payload_length}
 pub use Rattle.bag_rules.specs.FormInside.{IsBadOxum, IsOxumFault, IsUnlistedBy, IsUnlistedManifest}
@@ -23,7 +23,7 @@ pub use Rattle.bag_rules.specs.JudgingInside.{IsFirstUnknownOf, MatchOutside, No
 pub use Rattle.bag_rules.specs.Limits.{DeclarationStops, FileStops, FirstStops, HasCountedLines, IsChecked, IsLongFile, IsLongTag, NoneStops, NoneStopsBefore, ProfileStops, Stopped, Stops, TextStops, WorkStops}
 pub use Rattle.bag_rules.specs.Memory.{mem_octets, mem_paths, mem_shown, MemFiles, no_files, octets_at, with_file}
 pub use Rattle.bag_rules.specs.Files.{AreTagFiles, Files, files_of, IsGapFor}
-pub use Rattle.bag_rules.specs.MemoryInside.{IsSound, moved_up, rest_of, view_of}
+pub use Rattle.bag_rules.specs.MemoryInside.{IsSoundTree, moved_up, rest_of, view_of}
 pub use Rattle.bag_rules.specs.Profiles.{IsProfile}
 pub use Rattle.bag_rules.specs.ReadingInside.{Adds, AreLinesOf, AreTextsOf, front, GivesListing, HasBadLine, IsBadLineOf, IsFirstBadLine, name_in, ReadsOn, ReadsText, ValueOf}
 pub use Rattle.bag_rules.specs.SameVerdicts.{SameCause, SameVerdict}

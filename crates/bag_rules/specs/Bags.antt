@@ -29,12 +29,12 @@ abbrev pub paths_of : Bag → List (List ℕ)
 paths_of bag = map (λ (file : List ℕ × List ℕ). file.0) bag.files
 
 -- the bag holds these octets at the path
-abbrev pub Holds : Bag → List ℕ → List ℕ → Type 0
-Holds bag path octets = (i : ℕ) × (slice_get bag.files i ≡ Some (path, octets))
+abbrev pub HoldsFile : Bag → List ℕ → List ℕ → Type 0
+HoldsFile bag path octets = (i : ℕ) × (slice_get bag.files i ≡ Some (path, octets))
 
 -- some file has the path
 abbrev pub IsThere : Bag → List ℕ → Type 0
-IsThere bag path = (octets : List ℕ) × Holds bag path octets
+IsThere bag path = (octets : List ℕ) × HoldsFile bag path octets
 
 -- what a tree of these files shows if all octets are known
 abbrev pub shown_of : Bag → Shown
@@ -55,7 +55,7 @@ declaration_file = codes "bagit.txt"
 
 -- the bag has the declaration, and it declares this
 abbrev pub Declares : Bag → Declaration → Type 0
-Declares bag declaration = (octets : List ℕ) × Holds bag declaration_file octets
+Declares bag declaration = (octets : List ℕ) × HoldsFile bag declaration_file octets
     × IsDeclaration octets declaration
 
 -- the version that the text of `bagit.txt` declares (without this file no tag file is read, so the version doesn't
@@ -79,20 +79,20 @@ pub record IsDeclared (bag : Bag) : Type 0 where
 pub record ListsBy (version : Version) (bag : Bag) (name : ManifestName) (pairs : List Pair)
     : Type 0 where
   pub octets : List ℕ
-  pub there : Holds bag (file_of name) octets
+  pub there : HoldsFile bag (file_of name) octets
   pub text : ManifestText version name.alg name.kind octets pairs
 
 -- the bag has `bag-info.txt`, which says these elements if read by this version
 pub record SaysInfoBy (version : Version) (bag : Bag) (elements : List MetadataElement)
     : Type 0 where
   pub octets : List ℕ
-  pub there : Holds bag (text_file Info) octets
+  pub there : HoldsFile bag (text_file Info) octets
   pub text : InfoText version octets elements
 
 -- the bag has `fetch.txt`; these are its entries if read by this version, each with its line number
 pub record ListsFetchBy (version : Version) (bag : Bag) (lines : List FetchLine) : Type 0 where
   pub octets : List ℕ
-  pub there : Holds bag (text_file FetchList) octets
+  pub there : HoldsFile bag (text_file FetchList) octets
   pub text : FetchText version octets lines
 
 -- the same by the version of the bag

@@ -2,7 +2,7 @@
 use Rattle.std.specs.Prelude.{◌≡◌, ◌≢◌, ◌<◌, ◌≤◌, ◌+◌, ◌++◌, ◌∷◌, ◌||◌, [], ℕ, List, Option, Some, None, length, slice_get, take}
 use Rattle.bag_digest.specs.declared.algorithm.Alg.{Alg}
 use Rattle.bag_digest.specs.declared.algorithm.AlgSet.{AlgSet}
-use Rattle.bag_digest.specs.declared.multi.Digests.{Digests}
+use Rattle.bag_digest.specs.declared.sums.Sums.{Sums}
 use Rattle.bag_digest.specs.declared.reading.SourceFault.TheVariants.{Read}
 use Rattle.bag_digest.specs.declared.streams.Stream.{Stream}
 use Rattle.bag_digest.specs.Algorithm.{has}
@@ -16,7 +16,7 @@ use Rattle.bag_rules.specs.Trees.{HasFileAt, Shown, octets_in, paths_in}
 use Rattle.bag_rules.specs.declared.file_batch.FileSums.TheVariants.{Streamed}
 use Rattle.bag_rules.specs.declared.batch_reading.FrontFault.{FrontFault}
 use Rattle.bag_rules.specs.declared.batch_reading.FrontFault.TheVariants.{Memory, Stopped}
-use Rattle.bag_rules.specs.declared.batch_reading.Gathered.{Gathered}
+use Rattle.bag_rules.specs.declared.batch_reading.BatchReading.{BatchReading}
 use Rattle.bag_rules.specs.declared.limits.TheConstants.{LARGEST_FILE}
 use Rattle.bag_rules.specs.declared.requirements.Requirements.{Requirements}
 
@@ -72,7 +72,7 @@ pub record IsOut {F : Type 0} (place : F → ℕ) (remaining : F → Option (Lis
 
 -- each stream, in the order of their places
 pub record AreOpen {F : Type 0} (place : F → ℕ) (remaining : F → Option (List ℕ))
-    (failures : F → ℕ) (shown : Shown) (gathered : Gathered F) : Type 0 where
+    (failures : F → ℕ) (shown : Shown) (gathered : BatchReading F) : Type 0 where
   pub each : (k : ℕ) (stream : Stream F) → slice_get gathered.streams.items k ≡ Some stream
       → IsOut place remaining failures shown (next_of gathered.batch) stream
   pub by_place : AreByPlace place gathered.streams.items
@@ -101,7 +101,7 @@ AreWithin {F} remaining streams n = (k : ℕ) (stream : Stream F) (rest : List �
 -- What was read of each file, and which files stop the work: those before the place of a stream don't, if the streams
 -- before it don't.
 pub record AreGathered {F : Type 0} (place : F → ℕ) (remaining : F → Option (List ℕ))
-    (shown : Shown) (wants : Requirements) (gathered : Gathered F) : Type 0 where
+    (shown : Shown) (wants : Requirements) (gathered : BatchReading F) : Type 0 where
   pub readings : AreReadings shown wants gathered.batch
       (IsStreamOf remaining wants gathered.set gathered.streams.items)
   pub files : (k : ℕ) (stream : Stream F) → slice_get gathered.streams.items k ≡ Some stream
@@ -118,7 +118,7 @@ pub record AreGathered {F : Type 0} (place : F → ℕ) (remaining : F → Optio
       → NoneStopsBefore (next_of gathered.batch) bag (IsLongRead wants.manifests.now)
 
 -- one file more, of which this is the front
-pub record HoldsFront {F : Type 0} (old new : Gathered F) (wanted : AlgSet) (front : List ℕ)
+pub record HoldsFront {F : Type 0} (old new : BatchReading F) (wanted : AlgSet) (front : List ℕ)
     (file : F) : Type 0 where
   pub batch : AddsSums old.batch new.batch (Streamed (length old.streams.items))
   pub stream : Stream F
@@ -131,7 +131,7 @@ pub record HoldsFront {F : Type 0} (old new : Gathered F) (wanted : AlgSet) (fro
 -- What was read of the next file was added, and what was gathered of the files is still right.
 pub record AddsFile {F : Type 0} (place : F → ℕ) (remaining : F → Option (List ℕ))
     (failures : F → ℕ) (ready : F → Type 0) (shown : Shown) (sure : Type 0) (wants : Requirements)
-    (old new : Gathered F) : Type 0 where
+    (old new : BatchReading F) : Type 0 where
   pub first : new.batch.first ≡ old.batch.first
   pub next : next_of new.batch ≡ next_of old.batch + 1
   pub are_open : AreOpen place remaining failures shown new
@@ -140,7 +140,7 @@ pub record AddsFile {F : Type 0} (place : F → ℕ) (remaining : F → Option (
       → AreGathered place remaining shown wants new
 
 -- nothing was added to the streams; and if the next file has stopped, nothing was changed
-abbrev pub AddsNone : {F : Type 0} → Gathered F → Gathered F → FrontFault F → Type 0
+abbrev pub AddsNone : {F : Type 0} → BatchReading F → BatchReading F → FrontFault F → Type 0
 AddsNone old new Memory = new.streams.items ≡ old.streams.items
 AddsNone old new (Stopped fault file) = new ≡ old
 
@@ -161,8 +161,7 @@ abbrev pub HaveSums : {F : Type 0} → List (Stream F) → Type 0
 HaveSums {F} streams = (k : ℕ) (stream : Stream F) → slice_get streams k ≡ Some stream
     → stream.sums ≢ None
 
-pub record AreSumsIn {F : Type 0} (streams : List (Stream F)) (sums : List (ℕ × Digests))
-    : Type 0 where
+pub record AreSumsIn {F : Type 0} (streams : List (Stream F)) (sums : List Sums) : Type 0 where
   pub count : length sums ≡ length streams
-  pub each : (k : ℕ) (stream : Stream F) (found : ℕ × Digests) → slice_get streams k ≡ Some stream
+  pub each : (k : ℕ) (stream : Stream F) (found : Sums) → slice_get streams k ≡ Some stream
       → stream.sums ≡ Some found → slice_get sums k ≡ Some found

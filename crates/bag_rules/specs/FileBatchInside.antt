@@ -3,15 +3,15 @@ use Rattle.std.specs.Prelude.{◌≡◌, ◌<◌, ◌≤◌, ◌+◌, ◌++◌, 
 use Rattle.std.specs.declared.alloc.Global.{Global}
 use Rattle.bag_digest.specs.declared.algorithm.Alg.{Alg}
 use Rattle.bag_digest.specs.declared.algorithm.AlgSet.{AlgSet}
-use Rattle.bag_digest.specs.declared.multi.Digests.{Digests}
+use Rattle.bag_digest.specs.declared.sums.Sums.{Sums}
 use Rattle.bag_digest.specs.Algorithm.{has}
 use Rattle.bag_digest.specs.Hash.{AreDigestsOfEach}
-use Rattle.bag_rules.specs.declared.file_batch.TheConstants.{BUFFER}
-use Rattle.bag_rules.specs.declared.file_batch.Batch.{Batch}
+use Rattle.bag_digest.specs.declared.streams.TheConstants.{FRONT}
+use Rattle.bag_rules.specs.declared.file_batch.FileBatch.{FileBatch}
 use Rattle.bag_rules.specs.declared.file_batch.FileSums.{FileSums}
 use Rattle.bag_rules.specs.declared.file_batch.FileSums.TheVariants.{Streamed, Taken, Unread, Waiting}
-use Rattle.bag_rules.specs.declared.file_batch.Finding.{Finding}
-use Rattle.bag_rules.specs.declared.file_batch.Finding.TheVariants.{Known, ToRead}
+use Rattle.bag_rules.specs.declared.file_batch.LookedUp.{LookedUp}
+use Rattle.bag_rules.specs.declared.file_batch.LookedUp.TheVariants.{Known, ToRead}
 use Rattle.bag_rules.specs.declared.kept.Kept.{Kept}
 use Rattle.bag_rules.specs.declared.limits.TheConstants.{LARGEST_FILE}
 use Rattle.bag_rules.specs.declared.requirements.Requirements.{Requirements}
@@ -23,7 +23,7 @@ use Rattle.bag_rules.specs.Wants.{lists_by}
 -- A file can be read at this place of a tree: it is one of the tree's, the buffer is as long as a first piece, and what
 -- was kept is of the tree.
 pub record CanRead (shown : Shown) (place : ℕ) (buffer : List ℕ) (kept : Kept) : Type 0 where
-  pub room : length buffer ≡ BUFFER
+  pub room : length buffer ≡ FRONT
   pub inside : place < length (paths_in shown)
   pub are_kept : AreKept shown kept
 
@@ -42,31 +42,30 @@ AreAlgsOf wants path None = ¬ IsReadBy wants.manifests.now path
 AreAlgsOf wants path (Some set) = IsReadFor wants path set
 
 -- the file is read, and these are its length and its digests
-pub record AreSumsFor (wants : Requirements) (path octets : List ℕ) (found : ℕ × Digests)
-    : Type 0 where
+pub record AreSumsFor (wants : Requirements) (path octets : List ℕ) (found : Sums) : Type 0 where
   pub read : IsReadBy wants.manifests.now path
   pub set : AlgSet
   pub sums : HasSumsWithin found set octets
   pub covers : CoversListed wants path set
 
 -- the same of a file that is read, and nothing of another
-abbrev pub IsSumsOf : Requirements → List ℕ → List ℕ → Option (ℕ × Digests) → Type 0
+abbrev pub IsSumsOf : Requirements → List ℕ → List ℕ → Option Sums → Type 0
 IsSumsOf wants path octets None = ¬ IsReadBy wants.manifests.now path
 IsSumsOf wants path octets (Some found) = AreSumsFor wants path octets found
 
 -- what is known of a file before it is opened: that it isn't read, or its sums
 abbrev pub IsKnownOf : Requirements → List ℕ → List ℕ → FileSums → Type 0
 IsKnownOf wants path octets Unread = ¬ IsReadBy wants.manifests.now path
-IsKnownOf wants path octets (Taken n digests) = AreSumsFor wants path octets (n, digests)
+IsKnownOf wants path octets (Taken sums) = AreSumsFor wants path octets sums
 IsKnownOf wants path octets other = ⊥
 
 -- the same, or else that it is to be read
-abbrev pub IsFindingOf : Requirements → List ℕ → List ℕ → Finding → Type 0
+abbrev pub IsFindingOf : Requirements → List ℕ → List ℕ → LookedUp → Type 0
 IsFindingOf wants path octets (Known sums) = IsKnownOf wants path octets sums
 IsFindingOf wants path octets (ToRead set) = IsReadFor wants path set
 
 -- the file is read, and its octets are the message at this place
-pub record IsMessageFor (batch : Batch) (wants : Requirements) (path octets : List ℕ) (place : ℕ)
+pub record IsMessageFor (batch : FileBatch) (wants : Requirements) (path octets : List ℕ) (place : ℕ)
     : Type 0 where
   pub read : IsReadBy wants.manifests.now path
   pub message : Vec ℕ Global
@@ -80,48 +79,48 @@ abbrev pub StreamFact : Type 1
 StreamFact = ℕ → List ℕ → List ℕ → Type 0
 
 -- what was read of a file with these octets
-abbrev pub IsReadingOf : Batch → StreamFact → Requirements → List ℕ → List ℕ → FileSums → Type 0
+abbrev pub IsReadingOf : FileBatch → StreamFact → Requirements → List ℕ → List ℕ → FileSums → Type 0
 IsReadingOf batch is_stream wants path octets Unread = ¬ IsReadBy wants.manifests.now path
-IsReadingOf batch is_stream wants path octets (Taken n digests) =
-    AreSumsFor wants path octets (n, digests)
+IsReadingOf batch is_stream wants path octets (Taken sums) =
+    AreSumsFor wants path octets sums
 IsReadingOf batch is_stream wants path octets (Waiting place) =
     IsMessageFor batch wants path octets place
 IsReadingOf batch is_stream wants path octets (Streamed place) = is_stream place path octets
 
 -- what was read of each file, whose octets are known
-abbrev pub AreReadings : Shown → Requirements → Batch → StreamFact → Type 0
+abbrev pub AreReadings : Shown → Requirements → FileBatch → StreamFact → Type 0
 AreReadings shown wants batch is_stream = (i : ℕ) (reading : FileSums)
     → slice_get batch.read.items i ≡ Some reading
     → (path octets : List ℕ) → HasFileAt shown (batch.first + i) path octets
     → IsReadingOf batch is_stream wants path octets reading
 
 -- these are the length and the digests of the file
-abbrev pub HasSumsAt : Requirements → Batch → StreamFact
-HasSumsAt wants batch place path octets = (found : ℕ × Digests)
+abbrev pub HasSumsAt : Requirements → FileBatch → StreamFact
+HasSumsAt wants batch place path octets = (found : Sums)
     × (slice_get batch.sums.items place ≡ Some found) × AreSumsFor wants path octets found
 
 -- the same, with the digests of the messages and of the streams
-pub record AreRead (shown : Shown) (wants : Requirements) (batch : Batch) : Type 0 where
+pub record AreRead (shown : Shown) (wants : Requirements) (batch : FileBatch) : Type 0 where
   pub readings : AreReadings shown wants batch (HasSumsAt wants batch)
   pub digests : AreDigestsOfEach batch.set batch.messages.items batch.digests.items
 
 -- the file at this place is among those of the batch
-abbrev pub Covers : Batch → ℕ → Type 0
+abbrev pub Covers : FileBatch → ℕ → Type 0
 Covers batch place = (batch.first ≤ place) × (place < batch.first + length batch.read.items)
 
 -- the place of the next file of the batch
-abbrev pub next_of : Batch → ℕ
+abbrev pub next_of : FileBatch → ℕ
 next_of batch = batch.first + length batch.read.items
 
 -- one file more
-pub record AddsSums (old new : Batch) (sums : FileSums) : Type 0 where
+pub record AddsSums (old new : FileBatch) (sums : FileSums) : Type 0 where
   pub first : new.first ≡ old.first
   pub read : new.read.items ≡ old.read.items ++ sums ∷ []
   pub messages : new.messages ≡ old.messages
   pub set : new.set ≡ old.set
 
 -- one file more, whose octets are one message more
-pub record Holds (old new : Batch) (wanted : AlgSet) (octets : List ℕ) : Type 0 where
+pub record AddsMessage (old new : FileBatch) (wanted : AlgSet) (octets : List ℕ) : Type 0 where
   pub first : new.first ≡ old.first
   pub read : new.read.items ≡ old.read.items ++ Waiting (length old.messages.items) ∷ []
   pub message : Vec ℕ Global
@@ -130,7 +129,7 @@ pub record Holds (old new : Batch) (wanted : AlgSet) (octets : List ℕ) : Type 
   pub set : (alg : Alg) → has new.set alg ≡ (has old.set alg || has wanted alg)
 
 -- the same files, with the digests of the messages and these sums of the streams
-pub record IsComplete (old new : Batch) (sums : List (ℕ × Digests)) : Type 0 where
+pub record IsComplete (old new : FileBatch) (sums : List Sums) : Type 0 where
   pub first : new.first ≡ old.first
   pub read : new.read ≡ old.read
   pub messages : new.messages ≡ old.messages

@@ -22,7 +22,7 @@ use Rattle.bag_rules.specs.declared.fault.Fault.{Fault}
 use Rattle.bag_rules.specs.declared.fault.Fault.TheVariants.{NoDeclaration, BadDeclaration, NoPayloadDir, NoManifest, BadLine, ManifestNotListed, OxumForm, OxumTwice, Missing, Unlisted, FetchNotListed, FetchLength, OxumWrong, WrongDigest}
 use Rattle.bag_tags.specs.declared.name.LineFile.{LineFile}
 use Rattle.bag_tags.specs.declared.name.LineFile.TheVariants.{Info, FetchList, Manifest}
-use Rattle.bag_rules.specs.Bags.{Bag, version_of, Holds, IsThere, Lists, SaysInfo, ListsFetch, declaration_file, payload_of, octet_count}
+use Rattle.bag_rules.specs.Bags.{Bag, version_of, HoldsFile, IsThere, Lists, SaysInfo, ListsFetch, declaration_file, payload_of, octet_count}
 use Rattle.bag_tags.specs.Names.{manifest_file, manifest_name, text_file}
 use Rattle.bag_rules.specs.Listed.{IsUnlisted}
 use Rattle.bag_rules.specs.Faults.{Has, number_of}
@@ -58,11 +58,11 @@ IsOtherPayload bag octets streams = (octets ≢ octet_count (payload_of bag.file
 -- the bag has the fault
 abbrev pub HasFault : Bag → Fault → Type 0
 HasFault bag NoDeclaration = ¬ IsThere bag declaration_file  -- section 2.1.1
-HasFault bag (BadDeclaration cause) = (octets : List ℕ) × Holds bag declaration_file octets
+HasFault bag (BadDeclaration cause) = (octets : List ℕ) × HoldsFile bag declaration_file octets
     × IsDeclarationFault octets cause  -- section 2.1.1
 HasFault bag NoPayloadDir = bag.has_payload_dir ≡ false  -- section 2.1.2
 HasFault bag NoManifest = (alg : Alg) → ¬ IsThere bag (manifest_file Payload alg)  -- section 2.1.3
-HasFault bag (BadLine file line cause) = (octets : List ℕ) × Holds bag (text_file file) octets
+HasFault bag (BadLine file line cause) = (octets : List ℕ) × HoldsFile bag (text_file file) octets
     × IsFaultyText (version_of bag) file octets
     (line_fault line cause)  -- sections 2.1.3, 2.2.1 to 2.2.3
 HasFault bag (ManifestNotListed tag_manifest manifest) =
@@ -82,14 +82,14 @@ HasFault bag (FetchNotListed manifest path) = IsUnlisted (version_of bag) bag ma
 HasFault bag (FetchLength number path) = (line : FetchLine) × HasEntry bag line
     × (line.line ≡ number) × (line.entry.path ≡ path)
     × ((length_given : ℕ) × (line.entry.octets ≡ Some length_given)
-    × ((octets : List ℕ) × Holds bag path octets
+    × ((octets : List ℕ) × HoldsFile bag path octets
     × (length octets ≢ length_given)))  -- section 2.2.3
 HasFault bag OxumWrong = (element : MetadataElement) × SaysOxum bag element
     × ((octets : ℕ) × ((streams : ℕ) × OxumText element.value octets streams
     × IsOtherPayload bag octets streams))  -- section 2.2.2
 HasFault bag (WrongDigest manifest path) = (pairs : List Pair) × Lists bag manifest pairs
     × ((digest : Digest) × (listed_digest pairs path ≡ Some digest)
-    × ((octets : List ℕ) × Holds bag path octets
+    × ((octets : List ℕ) × HoldsFile bag path octets
     × (hash manifest.alg octets ≢ digest)))  -- section 3
 
 -- the bag has the fault, and its kind is one of these

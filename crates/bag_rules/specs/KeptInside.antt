@@ -2,9 +2,9 @@
 use Rattle.std.specs.Prelude.{◌≡◌, ◌≤◌, ℕ, true, IsErrOf, List, OnOk, Result, Some, length, slice_get}
 use Rattle.bag_digest.specs.declared.algorithm.Alg.{Alg}
 use Rattle.bag_digest.specs.declared.algorithm.AlgSet.{AlgSet}
-use Rattle.bag_digest.specs.declared.multi.Digests.{Digests}
+use Rattle.bag_digest.specs.declared.sums.Sums.{Sums}
 use Rattle.bag_digest.specs.Algorithm.{has}
-use Rattle.bag_digest.specs.Hash.{AreDigests}
+use Rattle.bag_digest.specs.Reading.{AreSums}
 use Rattle.bag_rules.specs.declared.kept.Kept.{Kept}
 use Rattle.bag_rules.specs.declared.kept.KeptFile.{KeptFile}
 use Rattle.bag_rules.specs.declared.limits.TheConstants.{LARGEST_FILE, LARGEST_TAG_FILE}
@@ -13,14 +13,13 @@ use Rattle.bag_rules.specs.declared.outcome.CheckFault.TheVariants.{Tree}
 use Rattle.bag_rules.specs.Trees.{HasFileAt, Shown, UsesTree}
 
 -- the length of these octets, and their digests by all algorithms of the set and possibly by others
-pub record HasSums (found : ℕ × Digests) (set : AlgSet) (octets : List ℕ) : Type 0 where
+pub record HasSums (found : Sums) (set : AlgSet) (octets : List ℕ) : Type 0 where
   pub taken : AlgSet
-  pub count : found.0 ≡ length octets
-  pub digests : AreDigests found.1 taken octets
+  pub sums : AreSums found taken octets
   pub covers : (alg : Alg) → has set alg ≡ true → has taken alg ≡ true
 
 -- the same for a file within the limit
-pub record HasSumsWithin (found : ℕ × Digests) (set : AlgSet) (octets : List ℕ) : Type 0 where
+pub record HasSumsWithin (found : Sums) (set : AlgSet) (octets : List ℕ) : Type 0 where
   pub sums : HasSums found set octets
   pub within : length octets ≤ LARGEST_FILE
 
@@ -29,15 +28,13 @@ abbrev pub IsTextAt : Shown → ℕ → List ℕ → Type 0
 IsTextAt shown place text = (path octets : List ℕ) → HasFileAt shown place path octets
     → (text ≡ octets) × (length octets ≤ LARGEST_TAG_FILE)
 
-abbrev pub kept_file : ℕ → ℕ → Digests → KeptFile
-kept_file place length digests =
-    record { place = place; length = length; digests = digests }
+abbrev pub kept_file : ℕ → Sums → KeptFile
+kept_file place sums = record { place = place; sums = sums }
 
 -- what is kept of a file belongs to its octets, if they are known
 abbrev pub IsKeptOf : Shown → AlgSet → KeptFile → Type 0
 IsKeptOf shown set file = (path octets : List ℕ) → HasFileAt shown file.place path octets
-    → (file.length ≡ length octets) × AreDigests file.digests set octets
-    × (length octets ≤ LARGEST_TAG_FILE)
+    → AreSums file.sums set octets × (length octets ≤ LARGEST_TAG_FILE)
 
 pub record AreKept (shown : Shown) (kept : Kept) : Type 0 where
   pub each : (i : ℕ) (file : KeptFile) → slice_get kept.files.items i ≡ Some file

@@ -32,7 +32,7 @@ moved_up place reading = record reading {
 
 -- the paths are in ascending order, the payload directory is there if a payload file is, and what is read is one of the
 -- files
-pub record IsSound (tree : Inside) : Type 0 where
+pub record IsSoundTree (tree : Inside) : Type 0 where
   pub rising : AreRising (paths_of tree.files.items)
   pub payload : All (λ path. is_payload path ≡ true → tree.has_payload_dir ≡ true)
       (paths_of tree.files.items)

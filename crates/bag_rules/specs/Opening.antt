@@ -16,7 +16,7 @@ use Rattle.bag_rules.specs.declared.limits.TheConstants.{MOST_LINES}
 use Rattle.bag_rules.specs.declared.outcome.OutsideCause.{OutsideCause}
 use Rattle.bag_rules.specs.declared.plan.PlanFault.{PlanFault}
 use Rattle.bag_rules.specs.declared.plan.PlanFault.TheVariants.{TagTooLarge, Outside, Rules, Clash, Memory}
-use Rattle.bag_rules.specs.Bags.{Holds, IsThere, version_of}
+use Rattle.bag_rules.specs.Bags.{HoldsFile, IsThere, version_of}
 use Rattle.bag_rules.specs.Files.{Files}
 use Rattle.bag_rules.specs.HasFault.{HasFault}
 use Rattle.bag_rules.specs.Limits.{HasCountedLines}
@@ -39,7 +39,7 @@ IsFirstPath some path = IsFirst (slice_cmp nat_cmp) some path
 -- a manifest or `fetch.txt` with more than 100,000 lines
 abbrev pub HasManyLinesAt : Files → List ℕ → Type 0
 HasManyLinesAt tags path = (file : LineFile) × ((octets : List ℕ) × (path ≡ text_file file)
-    × Holds (tag_bag tags) path octets × HasCountedLines file
+    × HoldsFile (tag_bag tags) path octets × HasCountedLines file
     × (MOST_LINES < length (lines_of octets)))
 
 -- FAULTS THAT NO PAYLOAD FILE CAN MEND
@@ -103,10 +103,10 @@ pub record Opens (tags : Files) : Type 0 where
   pub no_clash : (path : List ℕ) → ¬ IsClash tags path
 
 -- the first reason in this order why it can't; `Memory` says nothing
-abbrev pub Refuses : Files → PlanFault → Type 0
-Refuses tags (TagTooLarge path) = IsFirstPath (HasManyLinesAt tags) path
-Refuses tags (Outside cause) = FewLines tags × IsOutside (tag_bag tags) cause
-Refuses tags (Rules fault) = FewLines tags × NotOutside tags × IsFirstOpeningFault tags fault
-Refuses tags (Clash path) = FewLines tags × NotOutside tags × NoOpeningFault tags
+abbrev pub RefusesTags : Files → PlanFault → Type 0
+RefusesTags tags (TagTooLarge path) = IsFirstPath (HasManyLinesAt tags) path
+RefusesTags tags (Outside cause) = FewLines tags × IsOutside (tag_bag tags) cause
+RefusesTags tags (Rules fault) = FewLines tags × NotOutside tags × IsFirstOpeningFault tags fault
+RefusesTags tags (Clash path) = FewLines tags × NotOutside tags × NoOpeningFault tags
     × IsFirstPath (IsClash tags) path
-Refuses tags Memory = Unit {0}
+RefusesTags tags Memory = Unit {0}

@@ -22,7 +22,7 @@ use Rattle.bag_tags.specs.declared.name.LineFile.{LineFile}
 use Rattle.bag_tags.specs.declared.name.LineFile.TheVariants.{Info, FetchList, Manifest}
 use Rattle.bag_tags.specs.declared.name.ManifestName.{ManifestName}
 use Rattle.bag_rules.specs.declared.tag_texts.TagTexts.{TagTexts}
-use Rattle.bag_rules.specs.Bags.{Bag, Holds, ListsBy, SaysInfoBy, ListsFetchBy, version_of}
+use Rattle.bag_rules.specs.Bags.{Bag, HoldsFile, ListsBy, SaysInfoBy, ListsFetchBy, version_of}
 use Rattle.bag_tags.specs.Names.{manifest_name, text_file}
 use Rattle.bag_rules.specs.HasFault.{IsFaultyText, line_fault}
 use Rattle.bag_rules.specs.Faults.{Has}
@@ -85,7 +85,7 @@ IsFirstBadLine version file octets fault = (line : ℕ)
 pub record HasBadLine (n : ℕ) (bag : Bag) (fault : Fault) : Type 0 where
   pub file : LineFile
   pub octets : List ℕ
-  pub there : Holds (front n bag) (text_file file) octets
+  pub there : HoldsFile (front n bag) (text_file file) octets
   pub bad : IsFirstBadLine (version_of bag) file octets fault
 
 abbrev pub IsBadLineOf : Version → List ℕ → List ℕ → Fault → Type 0

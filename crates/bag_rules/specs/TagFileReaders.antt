@@ -1,7 +1,8 @@
 -- Tag files that are read line by line while they come from a tree. Only private functions cite these.
-use Rattle.std.specs.Prelude.{◌≡◌, ◌<◌, ◌++◌, ◌↔◌, ℕ, List, length, IsTrue}
+use Rattle.std.specs.Prelude.{◌<◌, ◌++◌, ◌↔◌, ℕ, List, length, IsTrue}
 use Rattle.bag_digest.specs.declared.algorithm.AlgSet.{AlgSet}
-use Rattle.bag_digest.specs.Hash.{AreDigests, Holds}
+use Rattle.bag_digest.specs.Hash.{Holds}
+use Rattle.bag_digest.specs.Reading.{AreSums}
 use Rattle.bag_path.specs.declared.version.Version.{Version}
 use Rattle.bag_path.specs.LineCounts.{HasCounted}
 use Rattle.bag_path.specs.Lines.{lines_of}
@@ -32,7 +33,6 @@ TakesOn old octets new = (version : Version) (set : AlgSet) (before : List ℕ)
 -- what a whole text was found to be
 pub record IsFoundOf (version : Version) (file : LineFile) (set : AlgSet) (octets : List ℕ)
     (found : TagFileRead) : Type 0 where
-  pub count : found.length ≡ length octets
-  pub digests : AreDigests found.digests set octets
+  pub sums : AreSums found.sums set octets
   pub too_many : IsTrue found.has_too_many_lines ↔ HasExcessLines file octets
   pub read : ¬ HasExcessLines file octets → IsReadOf version file octets found.read

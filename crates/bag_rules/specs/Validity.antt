@@ -16,7 +16,7 @@ use Rattle.bag_tags.specs.declared.name.LineFile.TheVariants.{Info, FetchList}
 use Rattle.bag_tags.specs.declared.name.ManifestName.{ManifestName}
 use Rattle.bag_rules.specs.declared.outcome.Outcome.{Outcome}
 use Rattle.bag_rules.specs.declared.outcome.Outcome.TheVariants.{Judged, Outside}
-use Rattle.bag_rules.specs.Bags.{Bag, Holds, IsThere, IsDeclared, Lists, SaysInfo, ListsFetch, payload_of, octet_count, version_of}
+use Rattle.bag_rules.specs.Bags.{Bag, HoldsFile, IsThere, IsDeclared, Lists, SaysInfo, ListsFetch, payload_of, octet_count, version_of}
 use Rattle.bag_tags.specs.Names.{file_of, manifest_file, manifest_name, text_file}
 use Rattle.bag_rules.specs.HasFault.{SaysOxum, HasEntry}
 use Rattle.bag_rules.specs.Listed.{IsListed}
@@ -48,7 +48,7 @@ pub record Conforms (bag : Bag) : Type 0 where
   pub fetch_listed : (line : FetchLine) → HasEntry bag line
       → IsListed (version_of bag) bag line.entry.path
   pub fetch_lengths : (line : FetchLine) (octets : List ℕ) → HasEntry bag line
-      → Holds bag line.entry.path octets
+      → HoldsFile bag line.entry.path octets
       → ForSome line.entry.octets (λ given. length octets ≡ given)
 
 -- Section 3: every required element is there; every file listed in every tag manifest and in every payload manifest is
@@ -66,7 +66,7 @@ pub record IsValid (bag : Bag) : Type 0 where
   pub complete : IsComplete bag
   pub verified : (name : ManifestName) (pairs : List Pair) (path : List ℕ) (digest : Digest)
       (octets : List ℕ)
-      → Lists bag name pairs → listed_digest pairs path ≡ Some digest → Holds bag path octets
+      → Lists bag name pairs → listed_digest pairs path ≡ Some digest → HoldsFile bag path octets
       → hash name.alg octets ≡ digest
 
 -- If a judged bag has no faults, it is valid. If it has no faults but wrong digests, it is complete.

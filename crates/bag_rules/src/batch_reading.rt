@@ -9,25 +9,26 @@ ghost use Rattle.bag_rules.specs.BatchReading.{AddsFile, AddsNone, AreGathered, 
 ghost use Rattle.bag_rules.specs.Limits.{FirstStops, NoneStopsBefore, Stopped};
 ghost use Rattle.bag_rules.specs.Returning.{IsStopped, LeavesOut, TakesAllBack};
 ghost use Rattle.bag_rules.specs.Trees.{HasFileAt, paths_in};
-ghost use Rattle.bag_rules.specs.declared.file_batch.TheConstants.{BUFFER};
+ghost use Rattle.bag_digest.specs.declared.streams.TheConstants.{FRONT};
 ghost use Rattle.bag_rules.specs.declared.limits.TheConstants.{LARGEST_FILE};
 ghost use Rattle.bag_rules.specs.declared.outcome.CheckFault.{CheckFault};
 ghost use Rattle.bag_rules.specs.declared.requirements.Requirements.{Requirements};
 
-use crate::file_batch::{Batch, FileSums, Finding, look_up};
+use crate::file_batch::{FileBatch, FileSums, LookedUp, look_up};
 use crate::kept::Kept;
 use crate::limits::LARGEST_FILE;
 use crate::open_tree::OpenTree;
 use crate::outcome::CheckFault;
 use crate::requirements::Requirements;
 use crate::returning::{close_all, stopped_at, told};
-use bag_digest::{AlgSet, Digests, Source, SourceFault, Stream, StreamFault, digest_streams, fill};
+use bag_digest::{AlgSet, Source, SourceFault, Stream, StreamFault, Sums, digest_streams, fill};
 use std::alloc::{AllocError, Global};
 
-/// What was read so far of the files of a batch, and the files that didn't end within the buffer: each is out, and is a stream.
+/// What was read so far of the files of a batch, and the files that didn't end within the buffer: each is out, and is a
+/// stream.
 #[derive(Drop)]
-pub(crate) struct Gathered<F> {
-    batch: Batch,
+pub(crate) struct BatchReading<F> {
+    batch: FileBatch,
     streams: Vec<Stream<F>>,
     // the algorithms by which digests of the streams are wanted
     set: AlgSet,
@@ -53,14 +54,14 @@ impl<F> From<AllocError> for FrontFault<F> {
     }
 }
 
-impl<F: Drop> Gathered<F> {
+impl<F: Drop> BatchReading<F> {
     /// No file yet. The first one will be that at this place.
-    pub(crate) fn new(alloc: Global, first: usize) -> Gathered<F>
+    pub(crate) fn new(alloc: Global, first: usize) -> BatchReading<F>
         ensures streams { result.streams.items ≡ [] }
         ensures batch { (result.batch.first ≡ first) × (result.batch.read.items ≡ []) }
     {
-        Gathered {
-            batch: Batch::new(alloc, first),
+        BatchReading {
+            batch: FileBatch::new(alloc, first),
             streams: Vec::new(alloc),
             set: AlgSet::empty(),
         }
@@ -80,8 +81,8 @@ impl<F: Drop> Gathered<F> {
         self.streams
     }
 
-    /// Adds the next file, which is out, of which these are the first octets, and whose digests are wanted by the algorithms of
-    /// the set.
+    /// Adds the next file, which is out, of which these are the first octets, and whose digests are wanted by the
+    /// algorithms of the set.
     ///
     /// # Errors
     ///
@@ -113,7 +114,7 @@ impl<F: Drop> Gathered<F> {
     }
 }
 
-impl<F: Source + Drop> Gathered<F> {
+impl<F: Source + Drop> BatchReading<F> {
     /// Reads the files that are out to their ends, side by side, and takes their digests.
     ///
     /// # Errors
@@ -132,7 +133,8 @@ impl<F: Source + Drop> Gathered<F> {
     }
 }
 
-/// Reads the file at this place, if it is a payload file or is listed: all of it, or its front. Adds what was read of it.
+/// Reads the file at this place, if it is a payload file or is listed: all of it, or its front. Adds what was read of
+/// it.
 pub(crate) fn read_next<T: OpenTree>(
     alloc: Global,
     buffer: &mut [u8],
@@ -140,7 +142,7 @@ pub(crate) fn read_next<T: OpenTree>(
     place: usize,
     wants: &Requirements<'_>,
     kept: &Kept,
-    gathered: &mut Gathered<T::File>,
+    gathered: &mut BatchReading<T::File>,
 ) -> Result<(), FrontFault<T::File>>
     requires can_read { CanRead (T.shown tree.old) place buffer.old kept.now }
     requires streams { AreOpen T.File.place T.File.remaining T.File.failures (T.shown tree.old)
@@ -157,22 +159,22 @@ pub(crate) fn read_next<T: OpenTree>(
         (length gathered.old.streams.items + files_with fault) tree.old tree.new) }
 {
     match look_up(tree, place, wants, kept)? {
-        Finding::Known(sums) => Ok(gathered.batch.add(sums)?),
-        Finding::ToRead(set) => hold_next(alloc, buffer, tree, place, set, gathered),
+        LookedUp::Known(sums) => Ok(gathered.batch.add(sums)?),
+        LookedUp::ToRead(set) => hold_next(alloc, buffer, tree, place, set, gathered),
     }
 }
 
-/// Opens the file at this place, which is to be read, and reads its front. If that is all of it, it is held, and the file taken
-/// back. Otherwise the file stays out.
+/// Opens the file at this place, which is to be read, and reads its front. If that is all of it, it is held, and the
+/// file taken back. Otherwise the file stays out.
 fn hold_next<T: OpenTree>(
     alloc: Global,
     buffer: &mut [u8],
     tree: &mut T,
     place: usize,
     set: AlgSet,
-    gathered: &mut Gathered<T::File>,
+    gathered: &mut BatchReading<T::File>,
 ) -> Result<(), FrontFault<T::File>>
-    requires room { (length buffer.old ≡ BUFFER)
+    requires room { (length buffer.old ≡ FRONT)
         × (place < length (paths_in (T.shown tree.old))) }
     requires streams { AreOpen T.File.place T.File.remaining T.File.failures (T.shown tree.old)
         gathered.old × (place ≡ next_of gathered.old.batch) }
@@ -203,8 +205,8 @@ fn hold_next<T: OpenTree>(
     }
 }
 
-/// Opens the file at this place, and reads its first octets into the buffer. Answers how many there are: less than fit if the file
-/// ends with them.
+/// Opens the file at this place, and reads its first octets into the buffer. Answers how many there are: less than fit
+/// if the file ends with them.
 fn read_front<T: OpenTree>(
     alloc: Global,
     buffer: &mut [u8],
@@ -228,8 +230,8 @@ fn read_front<T: OpenTree>(
     }
 }
 
-/// Reads the files that are out to their ends, side by side, and takes them back. Answers the batch with their sums and with the
-/// digests of the files that are held.
+/// Reads the files that are out to their ends, side by side, and takes them back. Answers the batch with their sums and
+/// with the digests of the files that are held.
 ///
 /// # Errors
 ///
@@ -237,8 +239,8 @@ fn read_front<T: OpenTree>(
 pub(crate) fn finish<T: OpenTree>(
     alloc: Global,
     tree: &mut T,
-    gathered: Gathered<T::File>,
-) -> Result<Batch, CheckFault>
+    gathered: BatchReading<T::File>,
+) -> Result<FileBatch, CheckFault>
     requires { AreOpen T.File.place T.File.remaining T.File.failures (T.shown tree.old) gathered }
     ensures read { (wants : Requirements)
         → AreGathered T.File.place T.File.remaining (T.shown tree.old) wants gathered
@@ -265,11 +267,11 @@ pub(crate) fn finish<T: OpenTree>(
     }
 }
 
-/// Reads the files that are out to their ends, since what stops one of them comes before what stops the next file, and takes all
-/// back. Answers what is told.
+/// Reads the files that are out to their ends, since what stops one of them comes before what stops the next file, and
+/// takes all back. Answers what is told.
 pub(crate) fn stop<T: OpenTree>(
     tree: &mut T,
-    gathered: Gathered<T::File>,
+    gathered: BatchReading<T::File>,
     fault: SourceFault,
     file: T::File,
 ) -> CheckFault
@@ -301,7 +303,7 @@ pub(crate) fn stop<T: OpenTree>(
 }
 
 /// The lengths and the digests of streams that have ended.
-fn sums_of<F>(alloc: Global, streams: &[Stream<F>]) -> Result<Vec<(u64, Digests)>, AllocError>
+fn sums_of<F>(alloc: Global, streams: &[Stream<F>]) -> Result<Vec<Sums>, AllocError>
     ensures { HaveSums streams.now → IfOk result (λ sums. AreSumsIn streams.now sums.items) }
 {
     let mut sums = Vec::new(alloc);

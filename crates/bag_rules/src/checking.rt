@@ -16,7 +16,6 @@ ghost use Rattle.bag_rules.specs.declared.outcome.Outcome.TheVariants.{Judged};
 ghost use Rattle.bag_rules.specs.declared.profile.Profile.TheVariants.{Known};
 
 use crate::fault::Fault;
-use crate::file_batch::BUFFER;
 use crate::file_faults::add_file_faults;
 use crate::form_faults::add_form_faults;
 use crate::kept::Kept;
@@ -27,7 +26,7 @@ use crate::profile::{Profile, read_profile};
 use crate::report::Report;
 use crate::tag_texts::read_texts;
 use crate::tree::Paths;
-use bag_digest::{AlgSet, buffer_of};
+use bag_digest::{AlgSet, FRONT, buffer_of};
 use bag_path::Version;
 use bag_tags::TagName;
 use std::alloc::Global;
@@ -61,7 +60,7 @@ pub fn check<T: OpenTree>(alloc: Global, tree: &mut T) -> Result<Outcome, CheckF
     if tree.count() > MOST_FILES {
         return Err(CheckFault::TooMany);
     }
-    let mut buffer = buffer_of(alloc, BUFFER)?;
+    let mut buffer = buffer_of(alloc, FRONT)?;
     let mut kept = Kept::new(alloc, tag_algorithms(tree));
     match read_profile(alloc, buffer.as_mut_slice(), tree, &mut kept)? {
         Profile::Known(version) => {
@@ -90,7 +89,7 @@ fn check_in_profile<T: OpenTree>(
     version: Version,
     kept: &mut Kept,
 ) -> Result<Outcome, CheckFault>
-    requires ready { (length buffer.old ≡ BUFFER) × AreRising (paths_in (T.shown tree.old)) }
+    requires ready { (length buffer.old ≡ FRONT) × AreRising (paths_in (T.shown tree.old)) }
     requires kept { AreKept (T.shown tree.old) kept.old }
     ensures verdict { (bag : Bag) → IsBagOf (T.shown tree.old) bag → IsProfile bag (Known version)
         → IfOk result (IsVerdict bag) }

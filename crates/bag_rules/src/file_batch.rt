@@ -2,7 +2,7 @@
 ghost use Rattle.std.specs.Prelude.{◌≡◌, ◌<◌, ◌↔◌, ℕ, List, [], IfErr, IfOk, IsErrOf, IsTrue, OnOk, length};
 ghost use Rattle.bag_digest.specs.Hash.{AreDigestsOfEach};
 ghost use Rattle.bag_rules.specs.Bags.{Bag, IsBagOf};
-ghost use Rattle.bag_rules.specs.FileBatchInside.{AddsSums, AreAlgsOf, AreRead, CanRead, Covers, HasSumsAt, Holds, IsComplete, IsFindingOf, IsMessageFor, IsSumsOf};
+ghost use Rattle.bag_rules.specs.FileBatchInside.{AddsSums, AreAlgsOf, AreRead, CanRead, Covers, HasSumsAt, AddsMessage, IsComplete, IsFindingOf, IsMessageFor, IsSumsOf};
 ghost use Rattle.bag_rules.specs.FilesInside.{IsLongRead};
 ghost use Rattle.bag_rules.specs.KeptInside.{AreKept};
 ghost use Rattle.bag_rules.specs.Limits.{FirstStops, NoneStopsBefore, Stopped};
@@ -10,32 +10,30 @@ ghost use Rattle.bag_rules.specs.Trees.{HasFileAt, Shown, UsesTree, paths_in};
 ghost use Rattle.bag_rules.specs.declared.outcome.CheckFault.{CheckFault};
 ghost use Rattle.bag_rules.specs.declared.requirements.Requirements.{Requirements};
 
-use crate::batch_reading::{FrontFault, Gathered, finish, read_next, stop};
+use crate::batch_reading::{BatchReading, FrontFault, finish, read_next, stop};
 use crate::kept::Kept;
 use crate::open_tree::OpenTree;
 use crate::outcome::CheckFault;
 use crate::requirements::Requirements;
 use crate::returning::close_all;
 use crate::tree::Paths;
-use bag_digest::{AlgSet, Digests, FRONT, digest_each};
+use bag_digest::{AlgSet, Digests, FRONT, Sums, digest_each};
 use std::alloc::{AllocError, Global};
 
-/// The length of the buffer of a check in octets. A file that ends within it is held until the digests of its batch are taken. So is
-/// the front of a longer one, and the file stays open.
-pub(crate) const BUFFER: usize = FRONT;
-
-/// How many files a batch has at most. So no more than 4 MiB are held, and no more files are open.
+/// How many files a batch has at most. A file that ends within a front ([`FRONT`] octets) is held until the digests of
+/// its batch are taken, and so is the front of a longer one, which stays open. So no more than 4 MiB are held, and no
+/// more files are open.
 const MOST_READ: usize = 32;
 
 /// What was read of files that follow one another by path.
 #[derive(Drop)]
-pub(crate) struct Batch {
+pub(crate) struct FileBatch {
     first: usize,
     read: Vec<FileSums>,
     messages: Vec<Vec<u8>>,
     set: AlgSet,
     digests: Vec<Digests>,
-    sums: Vec<(u64, Digests)>,
+    sums: Vec<Sums>,
 }
 
 /// What was read of one file.
@@ -44,29 +42,30 @@ pub(crate) enum FileSums {
     /// Nothing, since it is neither a payload file nor listed.
     Unread,
     /// Its length in octets and its digests.
-    Taken(u64, Digests),
+    Taken(Sums),
     /// All its octets, which are the message at this place. Their digests are taken with those of the other messages.
     Waiting(usize),
-    /// Its front. The rest is read, and its digests taken, with those of the other streams: it is the stream at this place.
+    /// Its front. The rest is read, and its digests taken, with those of the other streams: it is the stream at this
+    /// place.
     Streamed(usize),
 }
 
 /// What is found of a file before it is opened.
 #[derive(Drop)]
-pub(crate) enum Finding {
+pub(crate) enum LookedUp {
     /// All that is needed.
     Known(FileSums),
     /// That its digests by these algorithms are needed.
     ToRead(AlgSet),
 }
 
-impl Batch {
+impl FileBatch {
     /// No file yet. The first one will be that at this place.
-    pub(crate) fn new(alloc: Global, first: usize) -> Batch
+    pub(crate) fn new(alloc: Global, first: usize) -> FileBatch
         ensures first { (result.first ≡ first) × (result.read.items ≡ []) }
         ensures read { (shown : Shown) (wants : Requirements) → AreRead shown wants result }
     {
-        Batch {
+        FileBatch {
             first,
             read: Vec::new(alloc),
             messages: Vec::new(alloc),
@@ -90,8 +89,9 @@ impl Batch {
         place >= self.first && place - self.first < self.read.len()
     }
 
-    /// The length in octets and the digests of the file at this place, or nothing if it is neither a payload file nor listed.
-    pub(crate) fn sums(&self, place: usize) -> Option<(u64, Digests)>
+    /// The length in octets and the digests of the file at this place, or nothing if it is neither a payload file nor
+    /// listed.
+    pub(crate) fn sums(&self, place: usize) -> Option<Sums>
         requires { Covers self.now place }
         ensures { (shown : Shown) (wants : Requirements) (path octets : List ℕ)
             → AreRead shown wants self.now → HasFileAt shown place path octets
@@ -99,25 +99,28 @@ impl Batch {
     {
         match &self.read[place - self.first] {
             FileSums::Unread => None,
-            FileSums::Taken(length, digests) => Some((*length, *digests)),
+            FileSums::Taken(sums) => Some(*sums),
             FileSums::Waiting(place) => self.sums_of_message(*place),
             FileSums::Streamed(place) => self.sums_of_stream(*place),
         }
     }
 
     /// The length and the digests of the message at this place.
-    fn sums_of_message(&self, place: usize) -> Option<(u64, Digests)>
+    fn sums_of_message(&self, place: usize) -> Option<Sums>
         ensures { (wants : Requirements) (path octets : List ℕ)
             → AreDigestsOfEach self.now.set self.now.messages.items self.now.digests.items
             → IsMessageFor self.now wants path octets place → IsSumsOf wants path octets result }
     {
         let message = self.messages.get(place)?;
         let digests = self.digests.get(place)?;
-        Some((message.len() as u64, *digests))
+        Some(Sums {
+            length: message.len() as u64,
+            digests: *digests,
+        })
     }
 
     /// The length and the digests of the stream at this place.
-    fn sums_of_stream(&self, place: usize) -> Option<(u64, Digests)>
+    fn sums_of_stream(&self, place: usize) -> Option<Sums>
         ensures { (wants : Requirements) (path octets : List ℕ)
             → HasSumsAt wants self.now place path octets → IsSumsOf wants path octets result }
     {
@@ -140,7 +143,7 @@ impl Batch {
         set: AlgSet,
         octets: &[u8],
     ) -> Result<(), AllocError>
-        ensures held { OnOk result (Holds self.old self.new set octets.now) }
+        ensures held { OnOk result (AddsMessage self.old self.new set octets.now) }
     {
         let mut message = Vec::new(alloc);
         message.extend_from_slice(octets)?;
@@ -151,11 +154,7 @@ impl Batch {
     }
 
     /// The same files, with the digests of the messages and with these sums of the streams.
-    pub(crate) fn complete(
-        self,
-        alloc: Global,
-        sums: Vec<(u64, Digests)>,
-    ) -> Result<Batch, AllocError>
+    pub(crate) fn complete(self, alloc: Global, sums: Vec<Sums>) -> Result<FileBatch, AllocError>
         ensures { IfOk result (λ batch. IsComplete self batch sums.items) }
     {
         let mut batch = self;
@@ -177,8 +176,8 @@ pub(crate) fn batch_at<T: OpenTree>(
     place: usize,
     wants: &Requirements<'_>,
     kept: &Kept,
-    last: Batch,
-) -> Result<Batch, CheckFault>
+    last: FileBatch,
+) -> Result<FileBatch, CheckFault>
     requires can_read { CanRead (T.shown tree.old) place buffer.old kept.now }
     requires ready { AreRead (T.shown tree.old) wants.now last }
     ensures read { IfOk result (λ batch. AreRead (T.shown tree.old) wants.now batch
@@ -195,13 +194,13 @@ pub(crate) fn batch_at<T: OpenTree>(
     read_batch(alloc, buffer, tree, place, wants, kept)
 }
 
-/// Reads files from this place on, by path, each that is a payload file or is listed once: first the front of each, and then
-/// the rest of the long ones, side by side.
+/// Reads files from this place on, by path, each that is a payload file or is listed once: first the front of each, and
+/// then the rest of the long ones, side by side.
 ///
 /// # Errors
 ///
-/// `TooLarge` for the first file that is longer than 2^40 octets; `Tree` if the tree failed; `Memory`. What comes first by
-/// path is told.
+/// `TooLarge` for the first file that is longer than 2^40 octets; `Tree` if the tree failed; `Memory`. What comes first
+/// by path is told.
 fn read_batch<T: OpenTree>(
     alloc: Global,
     buffer: &mut [u8],
@@ -209,7 +208,7 @@ fn read_batch<T: OpenTree>(
     first: usize,
     wants: &Requirements<'_>,
     kept: &Kept,
-) -> Result<Batch, CheckFault>
+) -> Result<FileBatch, CheckFault>
     requires { CanRead (T.shown tree.old) first buffer.old kept.now }
     ensures read { IfOk result (λ batch. AreRead (T.shown tree.old) wants.now batch
         × Covers batch first) }
@@ -219,7 +218,7 @@ fn read_batch<T: OpenTree>(
     ensures tree { UsesTree T.shown T.failures T.sure tree.old tree.new
         (IsErrOf result CheckFault.Tree) }
 {
-    let mut gathered = Gathered::new(alloc, first);
+    let mut gathered = BatchReading::new(alloc, first);
     let count = tree.count();
     let mut place = first;
     'files: loop {
@@ -246,18 +245,18 @@ pub(crate) fn look_up<T: Paths>(
     place: usize,
     wants: &Requirements<'_>,
     kept: &Kept,
-) -> Result<Finding, AllocError>
+) -> Result<LookedUp, AllocError>
     requires inside { place < length (paths_in (T.shown tree.now)) }
     requires kept { AreKept (T.shown tree.now) kept.now }
     ensures { (path octets : List ℕ) → HasFileAt (T.shown tree.now) place path octets
         → IfOk result (IsFindingOf wants.now path octets) }
 {
     let Some(set) = algs_at(tree, place, wants)? else {
-        return Ok(Finding::Known(FileSums::Unread));
+        return Ok(LookedUp::Known(FileSums::Unread));
     };
     match kept.find(place, set) {
-        Some((length, digests)) => Ok(Finding::Known(FileSums::Taken(length, digests))),
-        None => Ok(Finding::ToRead(set)),
+        Some(sums) => Ok(LookedUp::Known(FileSums::Taken(sums))),
+        None => Ok(LookedUp::ToRead(set)),
     }
 }
 

@@ -3,6 +3,7 @@ ghost use Rattle.std.specs.Prelude.{true, ◌≡◌, ◌<◌, ℕ, List, IfOk, I
 ghost use Rattle.bag_digest.specs.Algorithm.{has};
 ghost use Rattle.bag_digest.specs.declared.algorithm.Alg.{Alg};
 ghost use Rattle.bag_digest.specs.declared.algorithm.AlgSet.{AlgSet};
+ghost use Rattle.bag_digest.specs.declared.streams.TheConstants.{FRONT};
 ghost use Rattle.bag_rules.specs.Bags.{Bag, IsBagOf, version_of};
 ghost use Rattle.bag_rules.specs.FileBatchInside.{AreRead, Covers};
 ghost use Rattle.bag_rules.specs.Faults.{kinds_of_files};
@@ -17,7 +18,7 @@ ghost use Rattle.bag_rules.specs.WantsInside.{GivesPayload};
 ghost use Rattle.bag_rules.specs.declared.outcome.CheckFault.{CheckFault};
 
 use crate::fault::Fault;
-use crate::file_batch::{BUFFER, Batch, batch_at};
+use crate::file_batch::{FileBatch, batch_at};
 use crate::kept::Kept;
 use crate::listing_faults::{add_fetch_unlisted, add_missing};
 use crate::open_tree::OpenTree;
@@ -28,7 +29,7 @@ use crate::tag_texts::TagTexts;
 use crate::tree::Tree;
 use crate::unlisted::unlisted_in;
 use crate::want::Want;
-use bag_digest::{Alg, Digests};
+use bag_digest::{Alg, Digests, Sums};
 use bag_path::{BagPath, Version};
 use bag_tags::Manifest;
 use std::alloc::{AllocError, Global};
@@ -43,7 +44,7 @@ pub(crate) fn add_file_faults<T: OpenTree>(
     kept: &Kept,
     faults: &mut Vec<Fault>,
 ) -> Result<(), CheckFault>
-    requires room { length buffer.old ≡ BUFFER }
+    requires room { length buffer.old ≡ FRONT }
     requires kept { AreKept (T.shown tree.old) kept.now }
     ensures added { (bag : Bag) → IsBagOf (T.shown tree.old) bag → version_of bag ≡ version
         → AreTextsOf (length bag.files) bag texts.now
@@ -73,7 +74,7 @@ fn read_files<T: OpenTree>(
     kept: &Kept,
     faults: &mut Vec<Fault>,
 ) -> Result<PayloadSize, CheckFault>
-    requires room { length buffer.old ≡ BUFFER }
+    requires room { length buffer.old ≡ FRONT }
     requires ready { AreKept (T.shown tree.old) kept.now × GivesPayload wants.now }
     ensures read { (bag : Bag) → IsBagOf (T.shown tree.old) bag
         → IfOk result (λ size. IsSizeOf bag.files size
@@ -88,7 +89,7 @@ fn read_files<T: OpenTree>(
         octets: 0,
         streams: 0,
     };
-    let mut batch = Batch::new(alloc, 0);
+    let mut batch = FileBatch::new(alloc, 0);
     for i in 0..tree.count() {
         batch = batch_at(alloc, buffer, tree, i, wants, kept, batch)?;
         if let Some(length) = add_faults_at(tree, i, wants, &batch, faults)? {
@@ -99,13 +100,13 @@ fn read_files<T: OpenTree>(
     Ok(size)
 }
 
-/// Adds what is wrong with one file of the batch, if it is a payload file or is listed. Answers the length of a payload file
-/// in octets.
+/// Adds what is wrong with one file of the batch, if it is a payload file or is listed. Answers the length of a payload
+/// file in octets.
 fn add_faults_at<T: Tree>(
     tree: &T,
     i: usize,
     wants: &Requirements<'_>,
-    batch: &Batch,
+    batch: &FileBatch,
     faults: &mut Vec<Fault>,
 ) -> Result<Option<u64>, AllocError>
     requires inside { i < length (paths_in (T.shown tree.now)) }
@@ -120,7 +121,7 @@ fn add_faults_at<T: Tree>(
         None => Ok(None),
         Some(sums) => {
             add_faults_of(wants.version, &wants.of(&path), &sums, faults)?;
-            Ok(path.is_payload().then_some(sums.0))
+            Ok(path.is_payload().then_some(sums.length))
         }
     }
 }
@@ -129,7 +130,7 @@ fn add_faults_at<T: Tree>(
 fn add_faults_of(
     version: Version,
     want: &Want<'_>,
-    sums: &(u64, Digests),
+    sums: &Sums,
     faults: &mut Vec<Fault>,
 ) -> Result<(), AllocError>
     ensures { (set : AlgSet) (octets : List ℕ) → HasSums sums.now set octets
@@ -140,12 +141,11 @@ fn add_faults_of(
         want.now.path.now octets)) }
 {
     add_unlisted(version, want.manifests, want.path, faults)?;
-    let (length, digests) = sums;
-    if want.test(*length, digests).is_ok() {
+    if want.test(sums.length, &sums.digests).is_ok() {
         return Ok(());
     }
-    add_other_lengths(want, *length, faults)?;
-    add_other_digests(want, digests, faults)
+    add_other_lengths(want, sums.length, faults)?;
+    add_other_digests(want, &sums.digests, faults)
 }
 
 /// Adds a fault for each payload manifest that is reported because it doesn't list this file, if it is a payload file.

@@ -6,21 +6,22 @@ ghost use Rattle.std.specs.Cmp.Lexicographic.{slice_cmp};
 ghost use Rattle.std.specs.declared.cmp.Ordering.TheVariants.{Less, Greater};
 ghost use Rattle.bag_path.specs.Paths.{IsPath, is_payload};
 ghost use Rattle.bag_rules.specs.contracts.fault.FaultOrd.TheImpl as order;
-ghost use Rattle.bag_rules.specs.declared.file_batch.TheConstants.{BUFFER, MOST_READ};
+ghost use Rattle.bag_digest.specs.declared.streams.TheConstants.{FRONT};
+ghost use Rattle.bag_rules.specs.declared.file_batch.TheConstants.{MOST_READ};
 ghost use Rattle.bag_rules.specs.declared.fault.Fault.{Fault};
 ghost use Rattle.bag_rules.specs.declared.limits.TheConstants.{LARGEST_FILE, LARGEST_ITEM, LARGEST_TAG_FILE, MOST_FILES, MOST_LINES};
 ghost use Rattle.bag_rules.specs.declared.outcome.CheckFault.{CheckFault};
 ghost use Rattle.bag_rules.specs.declared.outcome.Outcome.{Outcome};
 ghost use Rattle.bag_rules.specs.declared.want.Want.{Want};
 ghost use Rattle.bag_rules.specs.declared.want.WantFault.{WantFault};
-ghost use Rattle.bag_rules.specs.Bags.{Bag, Holds, IsBagOf, paths_of};
+ghost use Rattle.bag_rules.specs.Bags.{Bag, HoldsFile, IsBagOf, paths_of};
 ghost use Rattle.bag_rules.specs.Files.{AreTagFiles, Files};
 ghost use Rattle.bag_rules.specs.Faults.{NoneUpTo, key_of, last_of_completeness};
 ghost use Rattle.bag_rules.specs.declared.plan.PlanFault.{PlanFault};
 ghost use Rattle.bag_rules.specs.declared.plan.PlanFault.TheVariants.{Memory};
 ghost use Rattle.bag_rules.specs.Memory.{MemFiles, bag_in, mem_shown};
 ghost use Rattle.bag_rules.specs.Limits.{Stops};
-ghost use Rattle.bag_rules.specs.Opening.{Opens, Refuses};
+ghost use Rattle.bag_rules.specs.Opening.{Opens, RefusesTags};
 ghost use Rattle.bag_rules.specs.Plans.{IsWantOf};
 ghost use Rattle.bag_rules.specs.SameVerdicts.{SameVerdict};
 ghost use Rattle.bag_rules.specs.Transfers.{IsExpected, IsMisfit, Passes};
@@ -31,7 +32,7 @@ ghost use Rattle.bag_rules.specs.Wants.{IsFirstMisfitOf, IsWanted};
 
 /// A check holds at most 4 MiB of the files that it has begun, and has at most 32 of them open.
 pub fn a_check_holds_at_most_4_mebibytes_and_32_files()
-    ensures octets { MOST_READ * BUFFER ≤ 4 * 1048576 }
+    ensures octets { MOST_READ * FRONT ≤ 4 * 1048576 }
     ensures files { MOST_READ ≤ 32 }
 {}
 
@@ -57,7 +58,7 @@ pub fn a_bag_has_one_verdict_at_most()
 /// were given.
 pub fn the_same_files_are_the_same_bag()
     ensures { (a b : Bag) → AreRising (paths_of a) → AreRising (paths_of b)
-        → ((path octets : List ℕ) → Holds a path octets ↔ Holds b path octets)
+        → ((path octets : List ℕ) → HoldsFile a path octets ↔ HoldsFile b path octets)
         → a.has_payload_dir ≡ b.has_payload_dir → a ≡ b }
 {}
 
@@ -106,5 +107,5 @@ pub fn the_limits_are_these()
 /// If a transfer can be opened with these tag files, they are refused for no other reason than that memory runs out.
 pub fn tag_files_that_open_are_not_refused()
     ensures { (tags : Files) (fault : PlanFault) → AreTagFiles tags → Opens tags
-        → Refuses tags fault → fault ≡ Memory }
+        → RefusesTags tags fault → fault ≡ Memory }
 {}

@@ -41,10 +41,7 @@ pub(crate) fn add_missing_by<T: Paths>(
     ensures { OnOk result (Adds faults.old.items faults.new.items
         (IsMissingBy (paths_in (T.shown tree.now)) manifest.now)) }
 {
-    let name = ManifestName {
-        kind: manifest.kind(),
-        alg: manifest.alg(),
-    };
+    let name = manifest.name();
     for pair in manifest.pairs() {
         add_missing_pair(tree, name, pair, faults)?;
     }

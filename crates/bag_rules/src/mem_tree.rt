@@ -51,11 +51,11 @@ impl Model for MemTree {
 
     ghost Value = { MemFiles };
 
-    ghost use Rattle.bag_rules.specs.MemoryInside.{view_of, IsSound};
+    ghost use Rattle.bag_rules.specs.MemoryInside.{view_of, IsSoundTree};
 
     ghost view = { view_of };
 
-    ghost invariant = { IsSound };
+    ghost invariant = { IsSoundTree };
 }
 
 impl MemTree {

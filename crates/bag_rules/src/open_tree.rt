@@ -28,18 +28,19 @@ pub trait OpenFile: Source {
 ///
 /// **A file that is out counts as a failure of the tree until it is taken back**: `open_file` raises the count of
 /// failures by one, and the count is lowered again by `close`, for a file that hasn't failed, and by `give_up`, for a
-/// file behind one that has failed or is too large. `fail` takes back a file that has failed and leaves the count: this is
-/// the failure of the tree. So a file that is dropped is a failure, and of files that failed side by side one is told,
-/// the first by its place.
+/// file behind one that has failed or is too large. `fail` takes back a file that has failed and leaves the count: this
+/// is the failure of the tree. So a file that is dropped is a failure, and of files that failed side by side one is
+/// told, the first by its place.
 ///
 /// Files that are out and the file that was started don't disturb each other: `start` and `read` do nothing to a file
-/// that is out, and leave the count as high as the files that are out have raised it; and the methods of this trait leave
-/// the paths, the octets and the file that was started as they were, so that `read` goes on in it.
+/// that is out, and leave the count as high as the files that are out have raised it; and the methods of this trait
+/// leave the paths, the octets and the file that was started as they were, so that `read` goes on in it.
 pub trait OpenTree: Tree {
     /// An open file.
     type File: OpenFile + Drop;
 
-    /// Opens a file at its beginning and gives it out. If it can't be opened, that is told by its first read, and not here.
+    /// Opens a file at its beginning and gives it out. If it can't be opened, that is told by its first read, and not
+    /// here.
     ///
     /// # Errors
     ///
@@ -62,16 +63,16 @@ pub trait OpenTree: Tree {
         ensures rest { LeavesRest Self.keeps Self.remaining Self.is_open Self.ready
             self.old self.new };
 
-    /// Takes back a file that has failed, as the failure of the tree. However often it has failed, this is one failure. Nothing
-    /// is known of the count for one that hasn't.
+    /// Takes back a file that has failed, as the failure of the tree. However often it has failed, this is one failure.
+    /// Nothing is known of the count for one that hasn't.
     fn fail(&mut self, file: Self::File)
         ensures counted { 0 < Self.File.failures file
             → Self.failures self.new ≡ Self.failures self.old }
         ensures rest { LeavesRest Self.keeps Self.remaining Self.is_open Self.ready
             self.old self.new };
 
-    /// Takes back a file, whether or not it has failed, behind the file `first`, whose place is before it, and which has
-    /// failed or is too large.
+    /// Takes back a file, whether or not it has failed, behind the file `first`, whose place is before it, and which
+    /// has failed or is too large.
     fn give_up(&mut self, file: Self::File, first: &Self::File)
         requires { IsBehind Self.File.place Self.File.failures (Self.shown self.old)
             first.now file }

@@ -8,7 +8,7 @@ ghost use Rattle.bag_rules.specs.Faults.{Has, kind_of_lines, kinds_of_files};
 ghost use Rattle.bag_rules.specs.FilesInside.{IsFileUnlisted, IsWrongIn, OfSome};
 ghost use Rattle.bag_rules.specs.Files.{AreTagFiles};
 ghost use Rattle.bag_rules.specs.HasFault.{HasFaultOf};
-ghost use Rattle.bag_rules.specs.Opening.{FewLines, HasManyLinesAt, HasOpeningFault, IsFirst, IsFirstPath, NoOpeningFault, Refuses};
+ghost use Rattle.bag_rules.specs.Opening.{FewLines, HasManyLinesAt, HasOpeningFault, IsFirst, IsFirstPath, NoOpeningFault, RefusesTags};
 ghost use Rattle.bag_rules.specs.OpeningInside.{AreReadBy, HasTooManyLines, HasOpeningFaultOf, IsListedIn, IsTagMissing, IsWrongFile};
 ghost use Rattle.bag_rules.specs.Profiles.{IsProfile};
 ghost use Rattle.bag_rules.specs.ReadingInside.{Adds, AreTextsOf, IsBadLineOf, ReadsOn};
@@ -58,7 +58,7 @@ fn is_large(file: &File) -> bool
 /// The version by whose rules the tag files are read.
 pub(crate) fn open_version(alloc: Global, tags: &TagSet) -> Result<Version, PlanFault>
     ensures known { IfOk result (λ version. AreReadBy version tags.now) }
-    ensures refused { FewLines tags.now → IfErr result (Refuses tags.now) }
+    ensures refused { FewLines tags.now → IfErr result (RefusesTags tags.now) }
 {
     match profile_of_tags(alloc, tags)? {
         Profile::Known(version) => Ok(version),
@@ -89,7 +89,7 @@ pub(crate) fn open_texts(
     ensures read { IfOk result (λ opened.
         AreTextsOf (length tags.now) (tag_bag tags.now) opened.0
         × AreExpected tags.now opened.1.items × NoOpeningFault tags.now) }
-    ensures refused { FewLines tags.now → IfErr result (Refuses tags.now) }
+    ensures refused { FewLines tags.now → IfErr result (RefusesTags tags.now) }
 {
     let mut faults = Vec::new(alloc);
     let opened = find_faults(alloc, tags, version, &mut faults)?;

@@ -71,7 +71,7 @@ pub struct Plan {
 impl Plan {
     ghost use Rattle.std.specs.Prelude.{IfErr, IfOk, MatchOption};
     ghost use Rattle.bag_rules.specs.Files.{Files};
-    ghost use Rattle.bag_rules.specs.Opening.{Refuses};
+    ghost use Rattle.bag_rules.specs.Opening.{RefusesTags};
     ghost use Rattle.bag_rules.specs.Plans.{AreFetchLines, IsPlanOf, IsWantOf, sizes_of};
     ghost use Rattle.bag_rules.specs.Transfers.{AreExpected, AreHeldFor, IsExpected, held_bag};
     ghost use Rattle.bag_rules.specs.Validity.{Means};
@@ -85,7 +85,7 @@ impl Plan {
     /// The first cause, in the order of [`PlanFault`], for which no transfer can be opened with them.
     pub fn from_tags(alloc: Global, tags: &TagSet) -> Result<Plan, PlanFault>
         ensures opened { IfOk result (IsPlanOf tags.now) }
-        ensures refused { IfErr result (Refuses tags.now) }
+        ensures refused { IfErr result (RefusesTags tags.now) }
     {
         if let Some(file) = first_large(tags) {
             return Err(PlanFault::TagTooLarge(file.path().clone()?));

@@ -1,7 +1,7 @@
 //! Finds out whether a bag can be judged by more than its declaration (RFC 8493 section 2.1.1).
 ghost use Rattle.std.specs.Prelude.{◌≡◌, ◌<◌, Contains, IfErr, IfOk, MatchOption, MatchResult, Ok, Some, length, slice_get, string_bytes, true};
 ghost use Rattle.bag_tags.specs.Declarations.{version_of};
-ghost use Rattle.bag_rules.specs.Bags.{Bag, Holds, IsBagOf, declaration_file};
+ghost use Rattle.bag_rules.specs.Bags.{Bag, HoldsFile, IsBagOf, declaration_file};
 ghost use Rattle.bag_rules.specs.JudgingInside.{IsFirstUnknownOf, MatchOutside, NoneUnknown};
 ghost use Rattle.bag_rules.specs.KeptInside.{ReadsAndKeeps};
 ghost use Rattle.bag_rules.specs.Limits.{DeclarationStops, FirstStops, NoneStops, Stopped};
@@ -84,7 +84,7 @@ pub(crate) fn profile_of<T: Paths>(
 ) -> Result<Profile, AllocError>
     requires { AreRising (paths_in (T.shown tree.now)) }
     ensures { (bag : Bag) → IsBagOf (T.shown tree.now) bag
-        → Holds bag declaration_file text.now → IfOk result (IsProfile bag) }
+        → HoldsFile bag declaration_file text.now → IfOk result (IsProfile bag) }
 {
     let declaration = match read_declaration(text) {
         Ok(declaration) => declaration,

@@ -23,8 +23,8 @@ pub(crate) fn close_all<T: OpenTree>(tree: &mut T, streams: Vec<Stream<T::File>>
     }
 }
 
-/// Takes back all files, of which this is the first that has stopped, and answers how that is told: those behind it are given
-/// up.
+/// Takes back all files, of which this is the first that has stopped, and answers how that is told: those behind it are
+/// given up.
 pub(crate) fn stopped_at<T: OpenTree>(
     tree: &mut T,
     streams: Vec<Stream<T::File>>,
@@ -40,7 +40,7 @@ pub(crate) fn stopped_at<T: OpenTree>(
     let mut streams = streams;
     give_up_behind(tree, &mut streams, stopped);
     let Some(stream) = streams.pop() else {
-        return CheckFault::Memory;
+        unreachable!()
     };
     close_all(tree, streams);
     told(tree, stopped.fault, stream.source)

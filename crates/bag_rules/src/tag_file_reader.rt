@@ -15,7 +15,7 @@ ghost use Rattle.bag_tags.specs.Feeds.{Fed};
 use crate::limits::{LARGEST_TAG_FILE, MOST_LINES};
 use crate::outcome::CheckFault;
 use crate::tree::Tree;
-use bag_digest::{AlgSet, Digests, Multi, PIECE, ReadFault, Source, read_piece};
+use bag_digest::{AlgSet, Multi, PIECE, ReadFault, Source, Sums, read_piece};
 use bag_path::{LineCount, Version};
 use bag_tags::{LineFile, TagFault, TagFeed, TagValue};
 use std::alloc::Global;
@@ -32,10 +32,8 @@ pub(crate) struct TagFileReader {
 /// What a whole tag file was found to be.
 #[derive(Drop)]
 pub(crate) struct TagFileRead {
-    /// The number of its octets.
-    pub length: u64,
-    /// Its digests by the algorithms of the reader.
-    pub digests: Digests,
+    /// Its length, and its digests by the algorithms of the reader.
+    pub sums: Sums,
     /// Whether it has more lines than the limit. Then it is not known what it says.
     pub has_too_many_lines: bool,
     /// What it says, or its first fault.
@@ -92,8 +90,10 @@ impl TagFileReader {
             multi,
         } = self;
         TagFileRead {
-            length: total,
-            digests: multi.finish(),
+            sums: Sums {
+                length: total,
+                digests: multi.finish(),
+            },
             has_too_many_lines: are_too_many(file, lines),
             read: feed.finish(),
         }

@@ -127,7 +127,7 @@ fn read_text<T: Tree>(
     let mut reader = TagFileReader::new(alloc, file, version, kept.set());
     let total = take_file(buffer, tree, i, &mut reader)?;
     let found = reader.finish(total);
-    kept.add(i, found.length, found.digests)?;
+    kept.add(i, found.sums)?;
     if found.has_too_many_lines {
         return Err(CheckFault::TooMany);
     }

@@ -1,6 +1,6 @@
 -- Payload files that are tested together, and what is known of the rows that were read before they are tested.
 use Rattle.std.proofs.Common.{IfNone, IfSome, MatchOption, None, Option, Some, string_bytes, ◌≡◌, ◌||◌, ◌∙◌, ◌++◌, ◌∷◌, ◌+◌, ◌<◌, ◌≤◌, ◌⊎◌, [], ℕ, ℤ, List, Vec, ap, arith, drop, get_or, inl, inr, length, pos, refl, suc, subst, sym, take, unwrap_or}
-use Rattle.bag_sqlite.proofs.Words.{Alg, AlgSet, AllByRecursion, AreCovered, AreDigestsOfEach, AreSumsFor, AreWanted, Batch, column, Covers, Database, Digests, drop-cons, Files, Format, Ghosts, Global, has, HasContent, HasDamagedItem, HasMisfit, HasOneMore, Int, IsEmpty, IsFindingOf, IsFirstMisfitOf, IsWanted, IsWantOf, ItemFails, ItemPasses, items_text, LARGEST_ITEM, or-true, passes_wanted, Row, RowPasses, slice_get_read, String, Tells, Text, Untested, Want, wanted_passes, WantFault}
+use Rattle.bag_sqlite.proofs.Words.{Alg, AlgSet, AllByRecursion, AreCovered, AreDigestsOfEach, AreSumsFor, AreWanted, ShortItems, column, Covers, Database, Digests, drop-cons, Files, Format, Ghosts, Global, has, HasContent, HasDamagedItem, HasMisfit, HasOneMore, Int, IsEmpty, IsFindingOf, IsFirstMisfitOf, IsWanted, IsWantOf, ItemFails, ItemPasses, items_text, LARGEST_ITEM, or-true, passes_wanted, Row, RowPasses, slice_get_read, String, Tells, Text, Untested, Want, wanted_passes, WantFault}
 use Rattle.bag_rules.specs.declared.want.WantFault.TheVariants.{Digest as WrongDigest, Length}
 use Rattle.bag_sqlite.proofs.AdoptingLemmas.{all_more}
 use Rattle.bag_sqlite.proofs.RefusingLemmas.{all_at}
@@ -35,7 +35,7 @@ drop_next xs i x low is =
     drop-cons xs i x low ∙ ap (λ y. y ∷ drop (suc i) xs) (sym is) ∙ ap (λ n. x ∷ drop n xs) next
 
 -- the file at a place, with the digests that were taken of it
-module _ (batch : Batch) (each : List Digests) (i : ℕ) (want : Want) (content : Vec ℕ Global) (digests : Digests) (low : i < length batch.wants.items) (want_is : want ≡ get_or batch.wants.items i want)
+module _ (batch : ShortItems) (each : List Digests) (i : ℕ) (want : Want) (content : Vec ℕ Global) (digests : Digests) (low : i < length batch.wants.items) (want_is : want ≡ get_or batch.wants.items i want)
     (content_is : content ≡ get_or batch.contents.items i content) where
   contents_low : i < length batch.contents.items
   contents_low = omega (arith, low, batch.paired, batch.wants.ok.0, batch.contents.ok.0)
@@ -96,13 +96,13 @@ module _ {S : Type 0} (g : Ghosts S) (db : Database) (format : Format) (tags : F
   IsFirst path = (transfer : ℤ) → Tells g db (items_text format) (Int transfer ∷ []) rows → HasDamagedItem g db format tags transfer path
 
   -- once the files of the batch are tested, so are the rows before this place
-  pub record SoFar (batch : Batch) (place : ℕ) : Type 0 where
+  pub record SoFar (batch : ShortItems) (place : ℕ) : Type 0 where
     pub covered : AreCovered batch
     pub passing : AreWanted batch.wants.items batch.contents.items → AllByRecursion (RowPasses g db format tags) (take place rows)
     pub damaged : (path : List ℕ) → HasMisfit batch.wants.items batch.contents.items path → IsFirst path
 
   -- the batch is empty
-  pub none_left : (batch : Batch) (place : ℕ) → IsEmpty batch → AllByRecursion (RowPasses g db format tags) (take place rows) → SoFar batch place
+  pub none_left : (batch : ShortItems) (place : ℕ) → IsEmpty batch → AllByRecursion (RowPasses g db format tags) (take place rows) → SoFar batch place
   none_left batch place empty all = record {
     covered = rw empty.0 tt;
     passing = λ _. all;
@@ -127,10 +127,10 @@ module _ {S : Type 0} (g : Ghosts S) (db : Database) (format : Format) (tags : F
       fails = fails;
     }
 
-    pub one_passes : (batch : Batch) → SoFar batch place → ItemPasses g db format tags item path size → SoFar batch (place + 1)
+    pub one_passes : (batch : ShortItems) → SoFar batch place → ItemPasses g db format tags item path size → SoFar batch (place + 1)
     one_passes batch so_far passes = record { covered = so_far.covered; passing = λ all. passes_more (so_far.passing all) passes; damaged = so_far.damaged }
 
-    pub one_added : (want : Want) (content : Vec ℕ Global) (old new : Batch) → SoFar old place → HasOneMore want content old new → IsFindingOf g db format tags item path size (Untested want content) → SoFar new (place + 1)
+    pub one_added : (want : Want) (content : Vec ℕ Global) (old new : ShortItems) → SoFar old place → HasOneMore want content old new → IsFindingOf g db format tags item path size (Untested want content) → SoFar new (place + 1)
     one_added want content old new so_far adds found =
         let same : length old.wants.items ≡ length old.contents.items = omega (arith, old.paired, old.wants.ok.0, old.contents.ok.0) in
         record {

@@ -6,7 +6,7 @@ use Rattle.std.proofs.lemmas.Option.{get_or_from_slice_get, same_Some}
 use Rattle.bag_rules.proofs.HasLemmas.{stands}
 use Rattle.bag_digest.specs.Lanes.{HoldsAt, OtherLanesStay}
 use Rattle.bag_digest.specs.declared.multi_lanes.MultiLanes.{MultiLanes}
-use Rattle.bag_sqlite.proofs.Words.{AlgSet, AllByRecursion, AreDigests, AreFull, AreSumsFor, Batch, Blob, concat, count_text, Covers, Database, Digests, Files, Format, Ghosts, Global, Int, IsPlanOf, IsWanted, IsWantOf, LARGEST_ITEM, PIECE, piece_text, Plan, Row, RowPasses, TellsOne, Text, Value, Want}
+use Rattle.bag_sqlite.proofs.Words.{AlgSet, AllByRecursion, AreDigests, AreFull, AreSumsFor, ShortItems, Blob, concat, count_text, Covers, Database, Digests, Files, Format, Ghosts, Global, Int, IsPlanOf, IsWanted, IsWantOf, LARGEST_ITEM, PIECE, piece_text, Plan, Row, RowPasses, TellsOne, Text, Value, Want}
 use Rattle.bag_sqlite.proofs.PiecesRead.{at_last, concat_last, cut_last, full_last}
 use Rattle.bag_sqlite.proofs.AdoptingLemmas.{all_more}
 use Rattle.bag_sqlite.proofs.BatchLemmas.{SoFar, known_by}
@@ -289,7 +289,7 @@ module _ {S : Type 0} (g : Ghosts S) (db : Database) (format : Format) (tags : F
       (passing (place + n) row.0 (omega arith) (omega arith) row.1))
 
   -- these rows too are tested
-  pub so_far_on : (batch : Batch) (place n : ℕ) → place + n ≤ length rows → ArePassing g db format tags rows place (place + n) → SoFar g db format tags rows batch place → SoFar g db format tags rows batch (place + n)
+  pub so_far_on : (batch : ShortItems) (place n : ℕ) → place + n ≤ length rows → ArePassing g db format tags rows place (place + n) → SoFar g db format tags rows batch place → SoFar g db format tags rows batch (place + n)
   so_far_on batch place n inside passing so_far = record {
     covered = so_far.covered;
     passing = λ wanted. all_passing place n inside passing (so_far.passing wanted);

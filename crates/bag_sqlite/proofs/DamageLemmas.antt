@@ -10,7 +10,7 @@ use Rattle.bag_rules.proofs.NotRefused.{front_by_path, refused_by_memory, tag_fi
 use Rattle.bag_rules.specs.declared.tag_set.TagSetFault.{TagSetFault}
 use Rattle.bag_rules.specs.declared.tag_set.TagSetFault.TheVariants as tag
 use Rattle.bag_sqlite.specs.Refusing.{HasBadTag}
-use Rattle.bag_sqlite.proofs.Words.{Blob, column, concat, Database, file_in, Files, files_in, format_of, Ghosts, Has, has_map, HasDamagedItem, HoldTransfers, Int, IsDamaged, IsSound, ItemFails, Layout, Ledger, NumberedItem, NumberedTransfer, OpensNone, option_map, Refuses, RefusesFile, Row, schema_of, size_of, State, state, tag_files_text, tag_shown, Tells, Text, Transfer, transfer_of, transfer_row, TransferFails, with_files, without_number}
+use Rattle.bag_sqlite.proofs.Words.{Blob, column, concat, Database, file_in, Files, files_in, format_of, Ghosts, Has, has_map, HasDamagedItem, HoldTransfers, Int, IsDamaged, IsSound, ItemFails, Layout, Ledger, NumberedItem, NumberedTransfer, OpensNone, option_map, RefusesTags, RefusesFile, Row, schema_of, size_of, State, state, tag_files_text, tag_shown, Tells, Text, Transfer, transfer_of, transfer_row, TransferFails, with_files, without_number}
 use Rattle.bag_sqlite.proofs.OneLedger.{has_flat, one_of, read}
 use Rattle.bag_sqlite.proofs.PassingItems.{item_stands}
 use Rattle.bag_sqlite.proofs.ToldLemmas.{item_told, transfer_told}
@@ -84,7 +84,7 @@ module _ {S : Type 0} {l : Layout} (g : Ghosts S) (db : Database) (ledger : Ledg
       let are = tags_told g db ledger has tables t there rows none.tags_told in
       elim none.none [
         | inl bad ↦ no_bad_tag rows t.tags are (λ n. front_by_path t.tags n it.tag_files.rising) (λ n path octets at. tag_file_not_refused t.tags n path octets it.tag_files at) bad
-        | inr other ↦ other.1 (refused_by_memory t.tags other.0 it.tag_files it.opens (subst (λ files. Refuses files other.0) (tags_read t there rows none.tags_told) other.2))
+        | inr other ↦ other.1 (refused_by_memory t.tags other.0 it.tag_files it.opens (subst (λ files. RefusesTags files other.0) (tags_read t there rows none.tags_told) other.2))
       ]
 
   -- a payload file that is told is one that it holds

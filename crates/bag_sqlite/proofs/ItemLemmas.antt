@@ -1,7 +1,7 @@
 -- What the queries for one payload file show.
 use Rattle.std.proofs.Common.{◌≡◌, ◌&&◌, inl, ℕ, ℤ, List, [], ◌∷◌, Bool, true, false, Option, Some, None, drop, pos, refl, sym, ap, subst, ◌∙◌, slice_index_or, MatchOption, Vec}
-use Rattle.bag_sqlite.proofs.Words.{Blob, bytes_eq-Decides, column, Decides-int_eq, enumerate_from, flat_map, Global, Has, has_from_map, has_map, HasItemRow, HasPieceRow, held_rows, held_tree, HeldFile, HoldTransfers, Int, IsPermutation-sym, item_row, items_in, Ledger, Null, NumberedItem, Origin, piece_rows, piece_tree, reads_as, Row, Second, second_schema, Shown, size_of, State, Text, Value, without_rowids}
-use Rattle.bag_sqlite.proofs.ItemMeanings.{item_columns, item_command, item_is, item_plain, item_terms, item_text, item_unlisted, piece_columns, piece_command, piece_is, piece_plain, piece_terms, piece_text, piece_unlisted}
+use Rattle.bag_sqlite.proofs.Words.{Blob, bytes_eq-Decides, column, Decides-int_eq, enumerate_from, flat_map, Global, Has, has_from_map, has_map, HasItemRow, HasPieceRow, held_rows, held_tree, HeldFile, HoldTransfers, Int, IsPermutation-sym, item_row, items_in, Ledger, Null, NumberedItem, Origin, piece_rows, piece_text, piece_tree, reads_as, Row, Second, second_schema, Shown, size_of, State, Text, Value, without_rowids}
+use Rattle.bag_sqlite.proofs.ItemMeanings.{item_columns, item_command, item_is, item_plain, item_terms, item_text, item_unlisted, piece_columns, piece_command, piece_is, piece_plain, piece_terms, piece_unlisted}
 use Rattle.bag_sqlite.proofs.LayoutLemmas.{held_seen, piece_seen}
 use Rattle.bag_sqlite.proofs.NamesLemmas.{drop_zero}
 use Rattle.bag_sqlite.proofs.OneLedger.{has_from_flat, has_moved}

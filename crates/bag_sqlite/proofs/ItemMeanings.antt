@@ -1,6 +1,6 @@
 -- The meanings of the queries for a payload file.
 use Rattle.std.proofs.Common.{◌≡◌, ℕ, List, [], ◌∷◌, codes, false, refl}
-use Rattle.bag_sqlite.proofs.Words.{col, Command, command_of, everything, held_tree, IsPlain, Migrated, New, Origin, piece_tree, reads_listing, second_schema, Select, Term, understood}
+use Rattle.bag_sqlite.proofs.Words.{col, Command, command_of, everything, held_tree, IsPlain, Migrated, New, Origin, piece_text, piece_tree, reads_listing, second_schema, Select, Term, understood}
 use Rattle.bag_sqlite.proofs.WhereLemmas.{equals, over}
 
 abbrev pub item_text : List ℕ
@@ -30,9 +30,6 @@ pub item_unlisted : (o : Origin) → reads_listing (second_schema o) item_text �
 unfolding everything
 item_unlisted New = refl
 item_unlisted Migrated = refl
-
-abbrev pub piece_text : List ℕ
-piece_text = codes "SELECT body FROM piece WHERE item = ?1 AND n = ?2"
 
 -- the piece of the payload file with the given number
 abbrev pub piece_terms : List Term

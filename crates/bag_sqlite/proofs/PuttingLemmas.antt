@@ -57,7 +57,7 @@ module _ (old mid new : Option (List ℕ)) (want : Want) (multi : Multi) (total 
   more = given_more old mid new total LARGEST_ITEM n (concat pieces) buffer read.given piece
 
   -- no octet was read, which is the end
-  pub read_to_end : (digests : Digests) → n ≡ 0 → ((set : AlgSet) (octets : List ℕ) → Holds multi set octets → AreDigests digests set octets) → HasRead old new want (total, digests) pieces
+  pub read_to_end : (digests : Digests) → n ≡ 0 → ((set : AlgSet) (octets : List ℕ) → Holds multi set octets → AreDigests digests set octets) → HasRead old new want (record { length = total; digests = digests }) pieces
   read_to_end digests none finished =
       let same : concat pieces ++ take n buffer ≡ concat pieces = ap (λ k. concat pieces ++ take k buffer) none ∙ append-nil (concat pieces) in
       let given : HasGiven old new (total + n) LARGEST_ITEM (concat pieces) = subst (HasGiven old new (total + n) LARGEST_ITEM) same more in
@@ -76,7 +76,7 @@ module _ (old mid new : Option (List ℕ)) (want : Want) (multi : Multi) (total 
 
     -- the last piece
     pub read_last : (digests : Digests) → 0 < n → n < PIECE → IsAtEnd new → ((set : AlgSet) (octets : List ℕ) → Holds after set octets → AreDigests digests set octets)
-        → HasRead old new want (total + n, digests) (pieces ++ take n buffer ∷ [])
+        → HasRead old new want (record { length = total + n; digests = digests }) (pieces ++ take n buffer ∷ [])
     read_last digests some short end finished =
         let size = length-take-le n buffer piece.bound in
         record {

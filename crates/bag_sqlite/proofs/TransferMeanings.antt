@@ -1,6 +1,6 @@
 -- The meanings of the queries for a transfer.
 use Rattle.std.proofs.Common.{◌≡◌, ℕ, List, [], ◌∷◌, codes, false, refl}
-use Rattle.bag_sqlite.proofs.Words.{ascending, Binary, col, Command, command_of, everything, First, held_tree, IsPlain, Layout, Migrated, New, Origin, Query, reads_listing, schema_of, Second, second_schema, Select, understood}
+use Rattle.bag_sqlite.proofs.Words.{ascending, Binary, col, Command, command_of, everything, First, held_tree, IsPlain, Layout, Migrated, New, Origin, Query, reads_listing, schema_of, Second, second_schema, Select, tag_files_text, understood}
 use Rattle.bag_sqlite.proofs.WhereLemmas.{equals, over}
 
 abbrev pub number_text : List ℕ
@@ -31,9 +31,6 @@ number_unlisted First = refl
 number_unlisted (Second New) = refl
 number_unlisted (Second Migrated) = refl
 
-abbrev pub tags_text : List ℕ
-tags_text = codes "SELECT path, body FROM tag WHERE transfer = ?1 ORDER BY path"
-
 -- the tag files of the transfer with the given number
 abbrev pub tags_query : Query
 tags_query = over 4 (equals (col 1 1) (col 0 0) ∷ []) (col 1 2 ∷ col 1 3 ∷ []) ((col 1 2, ascending Binary) ∷ [])
@@ -41,19 +38,19 @@ tags_query = over 4 (equals (col 1 1) (col 0 0) ∷ []) (col 1 2 ∷ col 1 3 ∷
 abbrev pub tags_command : Command
 tags_command = Select (record { lets = []; body = tags_query }) (codes "path" ∷ codes "body" ∷ [])
 
-pub tags_is : (l : Layout) → command_of (understood (schema_of l) tags_text) ≡ tags_command
+pub tags_is : (l : Layout) → command_of (understood (schema_of l) tag_files_text) ≡ tags_command
 unfolding understood everything
 tags_is First = refl
 tags_is (Second New) = refl
 tags_is (Second Migrated) = refl
 
-pub tags_plain : (l : Layout) → IsPlain (understood (schema_of l) tags_text)
+pub tags_plain : (l : Layout) → IsPlain (understood (schema_of l) tag_files_text)
 unfolding understood everything
 tags_plain First = (refl, refl)
 tags_plain (Second New) = (refl, refl)
 tags_plain (Second Migrated) = (refl, refl)
 
-pub tags_unlisted : (l : Layout) → reads_listing (schema_of l) tags_text ≡ false
+pub tags_unlisted : (l : Layout) → reads_listing (schema_of l) tag_files_text ≡ false
 unfolding everything
 tags_unlisted First = refl
 tags_unlisted (Second New) = refl

@@ -1,13 +1,13 @@
 -- The rows of a transfer's tag files and payload files, as they are shown and as they are read in sequence.
 use Rattle.std.proofs.Common.{◌≡◌, ◌≢◌, ◌<◌, ◌+◌, ◌&&◌, ℕ, suc, List, [], ◌∷◌, ◌++◌, Bool, true, false, Some, Less, Greater, append-nil, drop, get_or, inl, inr, length, map, take, pos, refl, sym, ap, ap₂, subst, ◌∙◌, arith, ℤ, unwrap_or}
-use Rattle.bag_sqlite.proofs.Words.{all_has, all_map, all_weaker, AllByRecursion, AreApart, AreRising, ascending, binary, Binary, Blob, bytes, col, column, Compare, concat, Eq, Files, filter, filter-append, filter-map, filter_all, filter_none, filter_same, flat_map, Has, has_map, HasTransferRow, held_rows, held_tree, HoldTransfers, insert_entry, Int, int_eq, is_true, IsPermutation-filter, IsPermutation-map, IsStrictlySortedBy, items_of, ItemSize, keys_of, Layout, Ledger, map_same, map_twice, match_ordering, nat_cmp, nat_list_cmp_total, Null, NumberedItem, NumberedTransfer, option_map, ordering_reverse, Origin, Output, reads_as, Row, schema_of, Second, second_schema, Shown, size_of, size_shown, sizes_of, slice_cmp, State, tag_rows, tag_shown, tags_of, take-suc, Term, Text, Transfer, Value, without_rowids}
+use Rattle.bag_sqlite.proofs.Words.{all_has, all_map, all_weaker, AllByRecursion, AreApart, AreRising, ascending, binary, Binary, Blob, bytes, col, column, Compare, concat, Eq, Files, filter, filter-append, filter-map, filter_all, filter_none, filter_same, flat_map, Has, has_map, HasTransferRow, held_rows, held_tree, HoldTransfers, insert_entry, Int, int_eq, is_true, IsPermutation-filter, IsPermutation-map, IsStrictlySortedBy, items_of, ItemSize, keys_of, Layout, Ledger, map_same, map_twice, match_ordering, nat_cmp, nat_list_cmp_total, Null, NumberedItem, NumberedTransfer, option_map, ordering_reverse, Origin, Output, reads_as, Row, schema_of, Second, second_schema, Shown, size_of, size_shown, sizes_of, slice_cmp, State, tag_files_text, tag_rows, tag_shown, tags_of, take-suc, Term, Text, Transfer, Value, without_rowids}
 use Rattle.std.specs.Prelude.{IsPermutation}
 use Rattle.bag_sqlite.proofs.CutLemmas.{length_concat}
 use Rattle.bag_sqlite.proofs.LayoutLemmas.{held_seen}
 use Rattle.bag_sqlite.proofs.NamesLemmas.{drop_zero}
 use Rattle.bag_sqlite.proofs.OneLedger.{has_right, items_rise, tags_rise}
 use Rattle.bag_sqlite.proofs.TransferLemmas.{alone, transfer_at}
-use Rattle.bag_sqlite.proofs.TransferMeanings.{sizes_command, sizes_is, sizes_plain, sizes_text, sizes_unlisted, tags_command, tags_is, tags_plain, tags_text, tags_unlisted}
+use Rattle.bag_sqlite.proofs.TransferMeanings.{sizes_command, sizes_is, sizes_plain, sizes_text, sizes_unlisted, tags_command, tags_is, tags_plain, tags_unlisted}
 use Rattle.bag_sqlite.proofs.WhereLemmas.{answer_lists, by_text, equal_numbers, equals, made, other_number, passes, same_number}
 
 -- READING ROWS IN SEQUENCE
@@ -142,13 +142,13 @@ module _ {l : Layout} (s new : State) (rows : List Row) (ledger : Ledger) (name 
       ∙ sym (map_twice (drop 1) tag_made (filter (λ row. test (drop 1 row)) table))
       ∙ ap (map tag_made) (sym (filter-map test (drop 1) table))
 
-  pub tags_shown : Shown tags_text (Int n ∷ []) s new rows → (files : Files) × (tags_of ledger name ≡ Some files) × AreRising (keys_of files) × (rows ≡ map tag_shown files)
+  pub tags_shown : Shown tag_files_text (Int n ∷ []) s new rows → (files : Files) × (tags_of ledger name ≡ Some files) × AreRising (keys_of files) × (rows ≡ map tag_shown files)
   tags_shown shown =
       let it = transfer_at s.now.trees ledger tables name n there in
       let t = it.0 in
       let test = passes tag_where (Int n ∷ []) in
       let table = s.now.trees 4 in
-      let got = reads_as tags_text (Int n ∷ []) s new (schema_of l) has tags_command (tags_is l) (tags_plain l) (tags_unlisted l) rows shown in
+      let got = reads_as tag_files_text (Int n ∷ []) s new (schema_of l) has tags_command (tags_is l) (tags_plain l) (tags_unlisted l) rows shown in
       let lists = answer_lists 4 tags_where tags_shown_of ((col 1 2, ascending Binary) ∷ []) (Int n ∷ []) s.now.trees rows (got.answer Null) refl in
       let kept : filter test (flat_map tag_rows tables.transfers) ≡ tag_rows t =
       one_kept (λ (u : NumberedTransfer). u.number) tag_rows test n (λ u other. tag_kept u false (other_number u.number n other)) tables.transfers t tables.numbers it.1 it.2

@@ -28,7 +28,7 @@ pub use Rattle.bag_rules.proofs.PassingLemmas.{passes_wanted, wanted_passes}
 pub use Rattle.bag_rules.proofs.SameListLemmas.{all_has, asymmetric, same_list, sorted_by_key}
 pub use Rattle.bag_rules.specs.Faults.{Has}
 pub use Rattle.bag_rules.specs.Files.{AreTagFiles, Files, files_of}
-pub use Rattle.bag_rules.specs.Opening.{Opens, Refuses}
+pub use Rattle.bag_rules.specs.Opening.{Opens, RefusesTags}
 pub use Rattle.bag_rules.specs.Plans.{IsPlanOf, IsWantOf, sizes_of}
 pub use Rattle.bag_rules.specs.TagSets.{RefusesFile}
 pub use Rattle.bag_rules.specs.Transfers.{with_files}
@@ -56,7 +56,7 @@ pub use Rattle.bag_sqlite.specs.Tables.{First, first_schema, format_of, held, he
 pub use Rattle.bag_sqlite.specs.Transactions.{CommitsNothing, CommitsNothingWithin}
 pub use Rattle.bag_sqlite.specs.declared.adopting.AdoptFault.{AdoptFault}
 pub use Rattle.bag_sqlite.specs.declared.adopting.AdoptFault.TheVariants.{Damaged, NotALedger}
-pub use Rattle.bag_sqlite.specs.declared.short_items.Batch.{Batch}
+pub use Rattle.bag_sqlite.specs.declared.short_items.ShortItems.{ShortItems}
 pub use Rattle.bag_sqlite.specs.declared.content.Content.{Content}
 pub use Rattle.bag_sqlite.specs.declared.format.Format.{Format}
 pub use Rattle.bag_sqlite.specs.declared.health.Health.{Health}

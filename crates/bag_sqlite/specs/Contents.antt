@@ -2,7 +2,7 @@
 use Rattle.std.specs.Prelude.{◌≡◌, ◌≢◌, ℕ, ℤ, List, Option, Some, Ok, Err, Result}
 use Rattle.std.specs.List.{concat}
 use Rattle.bag_digest.specs.Reading.{GaveAll, read_fault}
-use Rattle.bag_digest.specs.declared.multi.Digests.{Digests}
+use Rattle.bag_digest.specs.declared.sums.Sums.{Sums}
 use Rattle.bag_ledger.specs.PutFaults.{misfit_fault, put_fault}
 use Rattle.bag_ledger.specs.declared.keeper_faults.KeepFault.{KeepFault}
 use Rattle.bag_ledger.specs.declared.keeper_faults.PutFault.{PutFault}
@@ -21,11 +21,11 @@ use Rattle.bag_sqlite.specs.declared.putting.NotPut.{NotPut}
 use Rattle.bag_sqlite.specs.declared.putting.NotPut.TheVariants.{Source, Misfit, Store}
 
 -- a source was read to its end: the pieces that it gave, their total length and their digests
-pub record HasRead (old new : Option (List ℕ)) (want : Want) (found : ℕ × Digests)
+pub record HasRead (old new : Option (List ℕ)) (want : Want) (found : Sums)
     (pieces : List (List ℕ)) : Type 0 where
   pub gave : GaveAll old new LARGEST_ITEM (concat pieces)
   pub cut : AreCut pieces
-  pub sums : AreSumsFor want (concat pieces) found.0 found.1
+  pub sums : AreSumsFor want (concat pieces) found.length found.digests
 
 -- a payload file by its parts
 abbrev pub in_pieces : ℤ → List ℕ → List (List ℕ) → NumberedItem
@@ -50,8 +50,8 @@ abbrev pub answer_of : KeepFault → Result Unit NotPut → Result Unit PutFault
 answer_of told (Ok done) = Ok done
 answer_of told (Err refusal) = Err (put_fault_of told refusal)
 
--- The error that a keeper remembers of its store, before and after this came of a payload file: that of the store, if it
--- had one and memory was not wanting.
+-- The error that a keeper remembers of its store, before and after this came of a payload file: that of the store, if
+-- it had one and memory was not wanting.
 abbrev pub IsRemembered : Option Error → Option Error → NotPut → Type 0
 IsRemembered old new (Source fault) = new ≡ old
 IsRemembered old new (Misfit fault) = new ≡ old

@@ -5,7 +5,7 @@ use Rattle.bag_digest.specs.declared.reading.TheConstants.{PIECE}
 use Rattle.bag_path.specs.Paths.{IsPath}
 use Rattle.bag_rules.specs.Faults.{Has}
 use Rattle.bag_rules.specs.Files.{AreTagFiles, Files}
-use Rattle.bag_rules.specs.Opening.{Opens, Refuses}
+use Rattle.bag_rules.specs.Opening.{Opens, RefusesTags}
 use Rattle.bag_rules.specs.TagSets.{RefusesFile}
 use Rattle.bag_rules.specs.Transfers.{IsExpected, Passes}
 use Rattle.bag_rules.specs.declared.limits.TheConstants.{LARGEST_ITEM}
@@ -176,7 +176,7 @@ pub record HasBadTag (rows : List Row) : Type 0 where
 -- the tag files in these rows can't open a transfer
 abbrev pub DoNotOpen : List Row → Type 0
 DoNotOpen rows = HasBadTag rows
-    ⊎ ((fault : PlanFault) × (fault ≢ NoMemory) × Refuses (files_in rows) fault)
+    ⊎ ((fault : PlanFault) × (fault ≢ NoMemory) × RefusesTags (files_in rows) fault)
 
 -- a size that is within the limits of a payload file
 abbrev pub IsSize : ℤ → Type 0

@@ -1,4 +1,5 @@
--- Payload files that are read, and tested later, when the digests of several are taken together. Only private functions cite these.
+-- Payload files that are read, and tested later, when the digests of several are taken together. Only private functions
+-- cite these.
 use Rattle.std.specs.Prelude.{◌≡◌, ◌++◌, ◌∷◌, ◌⊎◌, ◌<◌, ◌≤◌, [], ℕ, ℤ, true, List, Vec, length}
 use Rattle.std.specs.List.{AllByRecursion}
 use Rattle.std.specs.declared.alloc.Global.{Global}
@@ -16,7 +17,7 @@ use Rattle.bag_sqlite.specs.Adopting.{ItemPasses}
 use Rattle.bag_sqlite.specs.Refusing.{ItemFails}
 use Rattle.bag_sqlite.specs.declared.content.Content.{Content}
 use Rattle.bag_sqlite.specs.declared.content.Content.TheVariants.{Hashed, Whole}
-use Rattle.bag_sqlite.specs.declared.short_items.Batch.{Batch}
+use Rattle.bag_sqlite.specs.declared.short_items.ShortItems.{ShortItems}
 use Rattle.bag_sqlite.specs.declared.format.Format.{Format}
 use Rattle.bag_sqlite.specs.declared.verifying.Finding.{Finding}
 use Rattle.bag_sqlite.specs.declared.verifying.Finding.TheVariants.{Valid, Damaged, Untested}
@@ -37,7 +38,7 @@ TakesAlso old new octets = (set : AlgSet) (before : List ℕ) → Took old set b
     → Took new set (before ++ octets)
 
 -- it has no file
-abbrev pub IsEmpty : Batch → Type 0
+abbrev pub IsEmpty : ShortItems → Type 0
 IsEmpty batch = (batch.wants.items ≡ []) × (batch.contents.items ≡ [])
 
 -- the algorithms by which the path is listed are in the set
@@ -46,11 +47,11 @@ Covers set want = (alg : Alg) → lists_by want.manifests.now want.path.now alg 
     → has set alg ≡ true
 
 -- those of all paths
-abbrev pub AreCovered : Batch → Type 0
+abbrev pub AreCovered : ShortItems → Type 0
 AreCovered batch = AllByRecursion (Covers batch.set) batch.wants.items
 
 -- one file more
-pub record HasOneMore (want : Want) (content : Vec ℕ Global) (old new : Batch) : Type 0 where
+pub record HasOneMore (want : Want) (content : Vec ℕ Global) (old new : ShortItems) : Type 0 where
   pub wants : new.wants.items ≡ old.wants.items ++ want ∷ []
   pub contents : new.contents.items ≡ old.contents.items ++ content ∷ []
   pub covered : AreCovered old → AreCovered new

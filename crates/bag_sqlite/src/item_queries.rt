@@ -17,6 +17,9 @@ use crate::transfer_queries::transfer_number;
 use bag_digest::PIECE;
 use sqlite::{Alter, Connection, Error, Row, params};
 
+/// The query for the octets of a piece of a payload file, by their numbers.
+pub(crate) const PIECE_BODY: &str = "SELECT body FROM piece WHERE item = ?1 AND n = ?2";
+
 /// A payload file in a database: its number and its size in octets.
 #[derive(Clone, Copy)]
 pub(crate) struct HeldFile {
@@ -151,7 +154,7 @@ fn piece_at<S: Alter>(
 {
     let rows = query(
         connection,
-        "SELECT body FROM piece WHERE item = ?1 AND n = ?2",
+        PIECE_BODY,
         params![item, (offset / PIECE as u64) as i64],
     )?;
     first_octets(rows.as_slice())

@@ -17,7 +17,7 @@ use crate::health::Health;
 use crate::new_tables::make_ledger;
 use crate::octets::Octets;
 use crate::putting::put_content;
-use crate::{item_queries, queries, transfer_queries};
+use crate::{item_queries, transfer_queries};
 use bag_digest::{Source, piece_buffer};
 use bag_ledger::{KeepFault, Keeper, PutFault};
 use bag_path::BagPath;
@@ -49,8 +49,8 @@ pub struct NotCreated<S: Alter> {
 }
 
 impl<S: Alter> SqlKeeper<S> {
-    /// Makes a ledger without transfers in a database without tables, indexes and views. The ledger is made completely or
-    /// not at all, even if a crash ends the call.
+    /// Makes a ledger without transfers in a database without tables, indexes and views. The ledger is made completely
+    /// or not at all, even if a crash ends the call.
     ///
     /// # Errors
     ///
@@ -200,7 +200,7 @@ impl<S: Alter> Keeper for SqlKeeper<S> {
     fn names(&mut self, alloc: Global) -> Result<Vec<String>, KeepFault> {
         self.health.test()?;
         self.health
-            .answer(queries::names(alloc, &mut self.connection))
+            .answer(transfer_queries::names(alloc, &mut self.connection))
     }
 
     /// Counts as any other failure of the store.

@@ -3,7 +3,7 @@
 ghost use Rattle.std.specs.Prelude.{◌≡◌, ◌≤◌, ◌*◌, ◌↔◌, IsTrue};
 ghost use Rattle.bag_digest.specs.declared.reading.TheConstants.{PIECE};
 ghost use Rattle.bag_ledger.specs.Ledgers.{Ledger};
-ghost use Rattle.bag_sqlite.specs.declared.short_items.TheConstants.{MOST_FILES};
+ghost use Rattle.bag_sqlite.specs.declared.short_items.TheConstants.{MOST_SHORT};
 ghost use Rattle.bag_sqlite.specs.LedgersInTables.{AreTablesOf, IsLedgerDatabase};
 ghost use Rattle.bag_sqlite.specs.Migrating.{MigratesLedger};
 ghost use Rattle.bag_sqlite.specs.SqlKeepers.{HoldsLedger, MayLeaveLedger, Offers};
@@ -16,16 +16,17 @@ use crate::keeper::SqlKeeper;
 use bag_ledger::Keeper;
 use sqlite::{Alter, Connection};
 
-/// A piece of a payload file in a ledger has at most 65,536 octets, and all but the last have as many. A ledger that was
-/// written with pieces of another length is none, so what is read at a time can change only together with the format.
+/// A piece of a payload file in a ledger has at most 65,536 octets, and all but the last have as many. A ledger that
+/// was written with pieces of another length is none, so what is read at a time can change only together with the
+/// format.
 pub fn pieces_have_65536_octets()
     ensures { PIECE ≡ 65536 }
 {}
 
-/// The payload files that were read and not tested yet, while a ledger is opened, have at most 4 MiB, however many there
-/// are.
+/// The payload files that were read and not tested yet, while a ledger is opened, have at most 4 MiB, however many
+/// there are.
 pub fn a_batch_has_at_most_4_mebibytes()
-    ensures { MOST_FILES * PIECE ≤ 4 * 1048576 }
+    ensures { MOST_SHORT * PIECE ≤ 4 * 1048576 }
 {}
 
 /// The tables of a database hold at most one ledger, and so does a database, whichever of them it has.
@@ -36,8 +37,8 @@ pub fn tables_hold_one_ledger()
         → IsLedgerDatabase trees other → ledger ≡ other }
 {}
 
-/// Whatever a stop leaves while a ledger is opened, moved to format 2 or handed back, is the database of the same ledger,
-/// in the one format or in the other.
+/// Whatever a stop leaves while a ledger is opened, moved to format 2 or handed back, is the database of the same
+/// ledger, in the one format or in the other.
 pub fn a_stopped_opening_leaves_the_ledger<S: Alter>(
     offered: &Connection<S>,
     stopped: &Connection<S>,

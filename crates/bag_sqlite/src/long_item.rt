@@ -33,8 +33,8 @@ impl<'a> LongItem<'a> {
     ghost use Rattle.bag_rules.specs.declared.limits.TheConstants.{LARGEST_ITEM};
     ghost use Rattle.bag_sqlite.specs.Beside.{GoesOn, IsItemOf};
 
-    /// The payload file in this row, if it has more than one piece, its size is within the limits, and it is listed, but not
-    /// by SHA-512, which isn't hashed side by side. `None` too if the row can't be read.
+    /// The payload file in this row, if it has more than one piece, its size is within the limits, and it is listed,
+    /// but not by SHA-512, which isn't hashed side by side. `None` too if the row can't be read.
     pub(crate) fn in_row(alloc: Global, plan: &'a Plan, row: &Row) -> Option<LongItem<'a>>
         ensures { IfSome result (IsItemOf plan.now row.now) }
     {

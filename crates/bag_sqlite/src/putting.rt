@@ -14,7 +14,7 @@ ghost use Rattle.sqlite.specs.State.{HasCleanDisk};
 
 use crate::item_statements::{insert_item, insert_piece, set_size};
 use crate::transfer_queries::transfer_number;
-use bag_digest::{Digests, Multi, Source, SourceFault, fill};
+use bag_digest::{Multi, Source, SourceFault, Sums, fill};
 use bag_rules::limits::LARGEST_ITEM;
 use bag_rules::{Want, WantFault};
 use sqlite::{Alter, Connection, Error, Transaction};
@@ -125,20 +125,20 @@ fn put_item<S: Alter, R: Source>(
     ensures kept { CommitsNothing S.Store tx.old.conn tx.new.conn }
 {
     let item = insert_item(tx, transfer, want.path().as_str())?;
-    let (size, digests) = put_pieces(tx, item, want, buffer, reader)?;
-    want.test(size, &digests)?;
-    set_size(tx, item, size)?;
+    let sums = put_pieces(tx, item, want, buffer, reader)?;
+    want.test(sums.length, &sums.digests)?;
+    set_size(tx, item, sums.length)?;
     Ok(())
 }
 
-/// Reads to the end and inserts each piece. Returns the number of octets and their digests.
+/// Reads to the end and inserts each piece. Returns the length of all and its digests.
 fn put_pieces<S: Alter, R: Source>(
     tx: &mut Transaction<'_, S>,
     item: i64,
     want: &Want<'_>,
     buffer: &mut [u8],
     reader: &mut R,
-) -> Result<(u64, Digests), NotPut>
+) -> Result<Sums, NotPut>
     requires room { length buffer.old ≡ PIECE }
     ensures read { MatchResult result (λ found. (pieces : List (List ℕ))
         × HasRead (R.remaining reader.old) (R.remaining reader.new) want.now found pieces
@@ -159,13 +159,19 @@ fn put_pieces<S: Alter, R: Source>(
     'pieces: loop {
         let n = fill(buffer, reader, LARGEST_ITEM - total)?;
         if n == 0 {
-            return Ok((total, multi.finish()));
+            return Ok(Sums {
+                length: total,
+                digests: multi.finish(),
+            });
         }
         multi.update(&buffer[..n]);
         insert_piece(tx, item, total, &buffer[..n])?;
         total += n as u64;
         if n < buffer.len() {
-            return Ok((total, multi.finish()));
+            return Ok(Sums {
+                length: total,
+                digests: multi.finish(),
+            });
         }
     }
 }

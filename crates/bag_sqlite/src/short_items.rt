@@ -1,18 +1,18 @@
 //! Payload files that are read one after another, so that their digests can be taken side by side.
 ghost use Rattle.std.specs.Prelude.{◌≡◌, ◌<◌, ◌≤◌, ◌++◌, ◌∷◌, [], All, IfOk, MatchOption, OnOk, false, length, string_bytes, vec_len};
 ghost use Rattle.bag_digest.specs.declared.reading.TheConstants.{PIECE};
-ghost use Rattle.bag_sqlite.specs.declared.short_items.TheConstants.{MOST_FILES};
+ghost use Rattle.bag_sqlite.specs.declared.short_items.TheConstants.{MOST_SHORT};
 
 use bag_digest::{AlgSet, digest_each};
 use bag_rules::Want;
 use std::alloc::{AllocError, Global};
 
 /// How many files a batch has at most. Each has at most one piece, so no more than 4 MiB are held.
-const MOST_FILES: usize = 64;
+const MOST_SHORT: usize = 64;
 
 /// Payload files that were read, in order, and have not been tested yet.
 #[derive(Drop)]
-pub(crate) struct Batch<'a> {
+pub(crate) struct ShortItems<'a> {
     /// What each file has to be.
     wants: Vec<Want<'a>>,
     /// The content of each file.
@@ -20,18 +20,18 @@ pub(crate) struct Batch<'a> {
     /// The algorithms by which their paths are listed.
     set: AlgSet,
     ghost paired: { vec_len wants ≡ vec_len contents },
-    ghost few: { vec_len contents ≤ MOST_FILES },
+    ghost few: { vec_len contents ≤ MOST_SHORT },
     ghost small: { All (λ content. length content.items ≤ PIECE) contents.items },
 }
 
-impl<'a> Batch<'a> {
+impl<'a> ShortItems<'a> {
     ghost use Rattle.bag_sqlite.specs.ShortItems.{AreCovered, AreWanted, HasMisfit, HasOneMore, IsEmpty};
 
     /// No file.
-    pub(crate) fn none(alloc: Global) -> Batch<'a>
+    pub(crate) fn none(alloc: Global) -> ShortItems<'a>
         ensures { IsEmpty result }
     {
-        Batch {
+        ShortItems {
             wants: Vec::new(alloc),
             contents: Vec::new(alloc),
             set: AlgSet::empty(),
@@ -40,25 +40,25 @@ impl<'a> Batch<'a> {
 
     /// Whether it has as many files as it may have.
     pub(crate) fn is_full(&self) -> bool
-        ensures { result ≡ false → vec_len self.now.contents < MOST_FILES }
+        ensures { result ≡ false → vec_len self.now.contents < MOST_SHORT }
     {
-        self.wants.len() >= MOST_FILES
+        self.wants.len() >= MOST_SHORT
     }
 
     /// The same files and one more.
-    pub(crate) fn add(self, want: Want<'a>, content: Vec<u8>) -> Result<Batch<'a>, AllocError>
-        requires room { vec_len self.contents < MOST_FILES }
+    pub(crate) fn add(self, want: Want<'a>, content: Vec<u8>) -> Result<ShortItems<'a>, AllocError>
+        requires room { vec_len self.contents < MOST_SHORT }
         requires small { length content.items ≤ PIECE }
         ensures { IfOk result (HasOneMore want.entry content self.entry) }
     {
-        let Batch {
+        let ShortItems {
             mut wants,
             mut contents,
             set,
         } = self;
         wants.push(want)?;
         contents.push(content)?;
-        Ok(Batch {
+        Ok(ShortItems {
             wants,
             contents,
             set: set.union(want.algs()),

@@ -1,5 +1,5 @@
-//! Queries for one transfer.
-ghost use Rattle.std.specs.Prelude.{◌≡◌, ◌⊎◌, ◌↔◌, ◌∷◌, ℕ, List, [], false, IfErr, IfOk, IsTrue, MatchOption, None, OnOk, Some, map, slice_index_or};
+//! Queries for transfers.
+ghost use Rattle.std.specs.Prelude.{◌≡◌, ◌⊎◌, ◌↔◌, ◌∷◌, ℕ, List, [], false, IfErr, IfOk, IsTrue, MatchOption, None, OnOk, Some, map, slice_index_or, string_bytes};
 ghost use Rattle.std.specs.Map.{keys_of};
 ghost use Rattle.bag_ledger.specs.Ledgers.{Ledger, items_of, tags_of, transfer_of};
 ghost use Rattle.bag_path.specs.Paths.{IsPath};
@@ -13,13 +13,44 @@ ghost use Rattle.bag_sqlite.specs.SqlKeepers.{HoldsLedger};
 ghost use Rattle.sqlite.specs.Held.{state};
 ghost use Rattle.sqlite.specs.Order.{column};
 ghost use Rattle.sqlite.specs.State.{HasCleanDisk};
-ghost use Rattle.sqlite.specs.declared.types.Value.TheVariants.{Int};
+ghost use Rattle.sqlite.specs.declared.types.Value.TheVariants.{Int, Text};
 
 use crate::queries::query;
 use bag_path::{BagPath, PathFault};
 use bag_rules::{ItemSize, TagSet, TagSetFault};
 use sqlite::{Alter, Connection, Error, ErrorCode, Row, params};
 use std::alloc::Global;
+
+/// The query for the tag files of a transfer: the path and the octets of each, by path.
+pub(crate) const TAG_FILES: &str = "SELECT path, body FROM tag WHERE transfer = ?1 ORDER BY path";
+
+/// The names of the transfers, in order.
+pub(crate) fn names<S: Alter>(
+    alloc: Global,
+    connection: &mut Connection<S>,
+) -> Result<Vec<String>, Error>
+    requires { connection.old.in_transaction ≡ false }
+    ensures names { HasCleanDisk (state S.Store connection.new) → (ledger : Ledger)
+        → HoldsLedger (state S.Store connection.old) ledger
+        → IfOk result (λ names. map string_bytes names.items ≡ keys_of ledger) }
+    ensures queries { OnlyQueries S.Store connection.old connection.new }
+{
+    let rows = query(connection, "SELECT name FROM transfer ORDER BY name", &[])?;
+    texts_in(alloc, rows.as_slice())
+}
+
+/// The texts in the first column of the rows.
+fn texts_in(alloc: Global, rows: &[Row]) -> Result<Vec<String>, Error>
+    ensures { IfOk result (λ texts. map (λ text. Text (string_bytes text)) texts.items
+        ≡ map (λ row. column row 0) rows.now) }
+{
+    let mut texts = Vec::new(alloc);
+    for row in rows {
+        let text: String = row.get(0)?;
+        texts.push(text)?;
+    }
+    Ok(texts)
+}
 
 /// The tag files of the transfer with this name, if there is one.
 pub(crate) fn tags<S: Alter>(
@@ -105,11 +136,7 @@ fn tags_under<S: Alter>(
         → OnOk result (IsTrue (state S.Store connection.old).is_open) }
     ensures queries { OnlyQueries S.Store connection.old connection.new }
 {
-    let rows = query(
-        connection,
-        "SELECT path, body FROM tag WHERE transfer = ?1 ORDER BY path",
-        params![transfer],
-    )?;
+    let rows = query(connection, TAG_FILES, params![transfer])?;
     tag_set_in(alloc, rows.as_slice())
 }
 

@@ -18,8 +18,9 @@ ghost use Rattle.sqlite.specs.declared.types.Value.TheVariants.{Blob, Int};
 use crate::adopting::{AdoptFault, rows_of};
 use crate::content::Content;
 use crate::format::Format;
-use crate::short_items::Batch;
-use crate::transfer_queries::{path_in, tag_set_in};
+use crate::item_queries::PIECE_BODY;
+use crate::short_items::ShortItems;
+use crate::transfer_queries::{TAG_FILES, path_in, tag_set_in};
 use crate::verifying_beside::{LANES, valid_beside};
 use crate::watch::Watch;
 use bag_digest::{AlgSet, PIECE};
@@ -128,11 +129,7 @@ fn plan_of<S: Alter>(
         (IsNoneFor ((format : Format) → IsNoLedger S.Store db format)) }
     ensures reads { OnlyReads S.Store connection.old connection.new }
 {
-    let rows = rows_of(
-        connection,
-        "SELECT path, body FROM tag WHERE transfer = ?1 ORDER BY path",
-        params![transfer],
-    )?;
+    let rows = rows_of(connection, TAG_FILES, params![transfer])?;
     plan_in(alloc, rows.as_slice())
 }
 
@@ -226,7 +223,7 @@ fn damaged_in<S: Alter, W: Watch>(
         (IsNoneFor (IsNoLedger S.Store db format)) }
     ensures reads { OnlyReads S.Store connection.old connection.new }
 {
-    let mut batch = Batch::none(alloc);
+    let mut batch = ShortItems::none(alloc);
     let mut at = 0;
     let mut alone = 0;
     while at < rows.len() {
@@ -238,7 +235,7 @@ fn damaged_in<S: Alter, W: Watch>(
             if let Some(first) = batch.first_damaged(alloc)? {
                 return Ok(Some(first));
             }
-            batch = Batch::none(alloc);
+            batch = ShortItems::none(alloc);
         }
         let valid = valid_beside(alloc, connection, watch, format, plan, rows, at, alone)?;
         if valid > 0 {
@@ -468,11 +465,7 @@ pub(crate) fn take_piece<S: Alter>(
         → IsHeld content.old size before → IsHeld content.new size (before + octets)) }
     ensures reads { OnlyReads S.Store connection.old connection.new }
 {
-    let rows = rows_of(
-        connection,
-        "SELECT body FROM piece WHERE item = ?1 AND n = ?2",
-        params![item, n],
-    )?;
+    let rows = rows_of(connection, PIECE_BODY, params![item, n])?;
     if rows.len() != 1 {
         return Ok(false);
     }

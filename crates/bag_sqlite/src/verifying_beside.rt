@@ -1,8 +1,9 @@
-//! Reads long payload files of a ledger of format 2 side by side, up to four at a time, to find out whether they are valid.
+//! Reads long payload files of a ledger of format 2 side by side, up to four at a time, to find out whether they are
+//! valid.
 //!
-//! The first of them that isn't valid is left to be read alone, as any other, so that it is told as damaged. A fault of the store is
-//! told only if all files before it are valid. So what is told is what would be if all were read one after another, and only a file
-//! that isn't valid is read twice.
+//! The first of them that isn't valid is left to be read alone, as any other, so that it is told as damaged. A fault of
+//! the store is told only if all files before it are valid. So what is told is what would be if all were read one after
+//! another, and only a file that isn't valid is read twice.
 ghost use Rattle.std.specs.Prelude.{◌≡◌, ◌*◌, ◌+◌, ◌<◌, ◌≤◌, ◌∷◌, ℕ, Vec, [], IfOk, IfSome, IsTrue, MatchOption, MatchResult, Some, false, length, slice_get};
 ghost use Rattle.std.specs.declared.alloc.Global.{Global};
 ghost use Rattle.bag_digest.specs.Lanes.{OtherLanesStay};
@@ -36,8 +37,8 @@ use std::alloc::{AllocError, Global};
 /// How many payload files are read side by side at most.
 pub(crate) const LANES: usize = 4;
 
-/// How many payload files in these rows from this place on are known to be valid, since they were read side by side: at most
-/// four, and none unless two long ones stand there. A row before the place `alone` isn't read here.
+/// How many payload files in these rows from this place on are known to be valid, since they were read side by side: at
+/// most four, and none unless two long ones stand there. A row before the place `alone` isn't read here.
 ///
 /// # Errors
 ///
@@ -105,8 +106,8 @@ fn algs_of(items: &[LongItem<'_>]) -> AlgSet
     set
 }
 
-/// How many of these payload files, from the first on, are valid: up to the first one that isn't. None if there is only one, which
-/// is not read.
+/// How many of these payload files, from the first on, are valid: up to the first one that isn't. None if there is only
+/// one, which is not read.
 fn count_valid<S: Alter, W: Watch>(
     alloc: Global,
     connection: &mut Connection<S>,
@@ -152,7 +153,8 @@ impl Front {
     }
 }
 
-/// How many of these payload files, from the first on, are valid, all of them read side by side by the algorithms of this set.
+/// How many of these payload files, from the first on, are valid, all of them read side by side by the algorithms of
+/// this set.
 fn count_in_lanes<S: Alter, W: Watch>(
     alloc: Global,
     connection: &mut Connection<S>,
@@ -267,8 +269,8 @@ fn piece_of<'a>(
     }
 }
 
-/// Reads the next piece of each payload file before the front that goes on after `n` pieces, in their order. The first one that
-/// isn't valid, or that can't be read, is the new front: those behind it are not read on.
+/// Reads the next piece of each payload file before the front that goes on after `n` pieces, in their order. The first
+/// one that isn't valid, or that can't be read, is the new front: those behind it are not read on.
 fn advance_each<S: Alter, W: Watch>(
     alloc: Global,
     connection: &mut Connection<S>,
@@ -310,8 +312,8 @@ fn advance_each<S: Alter, W: Watch>(
     }
 }
 
-/// The next piece of a payload file after `n` full ones, which lane `i` has taken, if it exists. If the file ends with it, it has
-/// to be valid.
+/// The next piece of a payload file after `n` full ones, which lane `i` has taken, if it exists. If the file ends with
+/// it, it has to be valid.
 fn advance<S: Alter, W: Watch>(
     alloc: Global,
     connection: &mut Connection<S>,

@@ -1,4 +1,5 @@
-//! Tests of what no line of output shows: misuse, devices that fail inside a call, and values that are read but not printed.
+//! Tests of what no line of output shows: misuse, devices that fail inside a call, and values that are read but not
+//! printed.
 #![tactic(auto)]
 
 #[cfg(test)]

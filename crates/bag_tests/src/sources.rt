@@ -82,7 +82,10 @@ fn a_source_is_whole_in_the_buffer_or_hashed(rt: HostRuntime) {
     let of_abc = Digest::from_hex(Alg::Md5, b"900150983cd24fb0d6963f7d28e17f72");
     let mut fills = ReaderSource::new(b"abc".as_slice());
     match read_or_digest(&mut buffer[..3], &mut fills, md5(), 4) {
-        Ok(SourceRead::Hashed(3, digests)) => assert_eq!(rt; digests.get(Alg::Md5), of_abc),
+        Ok(SourceRead::Hashed(sums)) => {
+            assert_eq!(rt; sums.length, 3);
+            assert_eq!(rt; sums.digests.get(Alg::Md5), of_abc);
+        }
         _ => assert!(rt; false),
     }
     let mut past = ReaderSource::new(b"abcd".as_slice());
@@ -131,8 +134,8 @@ fn two_to_the_fortieth_octets_are_within_that_limit_and_one_more_is_not(
     let limit = 1 << 40;
     let mut buffer = zeros(rt.alloc(), 1 << 26)?;
     let mut within = Blank { left: limit };
-    let (length, _) = digest_through(buffer.as_mut_slice(), &mut within, AlgSet::empty(), limit)?;
-    assert_eq!(rt; length, 1_099_511_627_776);
+    let sums = digest_through(buffer.as_mut_slice(), &mut within, AlgSet::empty(), limit)?;
+    assert_eq!(rt; sums.length, 1_099_511_627_776);
     let mut past = Blank { left: limit + 1 };
     let fault = digest_through(buffer.as_mut_slice(), &mut past, AlgSet::empty(), limit);
     assert_eq!(rt; fault, Err(SourceFault::TooLarge));

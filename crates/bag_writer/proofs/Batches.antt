@@ -157,7 +157,8 @@ module _ {T : Type 0} {shown : T → Shown} {failures : T → ℕ} {sure : T →
 
 -- WHAT IS IN HAND
 
--- What was read and written up to this place: the files before some place are done, and those behind it are under way, or done.
+-- What was read and written up to this place: the files before some place are done, and those behind it are under way,
+-- or done.
 pub record InHand {F G : Type 0} (s : Sides F G) (spec : Spec) (shown : Shown) (sure calm : Type 0) (old new : Option Stored) (i : ℕ) (items : Items) (copies : List (Copying F G)) : Type 0 where
   pub n : ℕ
   pub low : n ≤ i

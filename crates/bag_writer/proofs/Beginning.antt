@@ -11,9 +11,9 @@ use Rattle.bag_writer.specs.Copying.{CopiesPiece, IsCopiedTo, IsFreshBy, IsStopp
 use Rattle.bag_writer.specs.OpenSinks.{IsBegun}
 use Rattle.bag_writer.specs.Pending.{AddsCopy, CanBegin, CanCopy, IsBeginFault, IsHeld, IsOpenFault, IsReadable, copies_with, work_of}
 use Rattle.bag_writer.specs.PayloadSteps.{IsFoundOf}
-use Rattle.bag_writer.specs.declared.payload_beside.BeginFault.{BeginFault}
-use Rattle.bag_writer.specs.declared.payload_beside.BeginFault.TheVariants.{Memory, Stopped, Unopened}
-use Rattle.bag_writer.specs.declared.items.TheConstants.{BUFFER}
+use Rattle.bag_writer.specs.declared.payload_beside.NotBegun.{NotBegun}
+use Rattle.bag_writer.specs.declared.payload_beside.NotBegun.TheVariants.{Memory, Stopped, Unopened}
+use Rattle.bag_digest.specs.declared.streams.TheConstants.{FRONT}
 use Rattle.bag_writer.specs.Sinks.{Stored}
 use Rattle.bag_writer.specs.declared.copying.Copying.{Copying}
 use Rattle.bag_writer.specs.declared.payload.CopyFault.TheVariants.{Sink, TooLarge, Tree}
@@ -82,7 +82,7 @@ module _ {F G : Type 0} (s : Sides F G) where
     }
 
   -- a front of it was copied, and is held
-  pub adds_copy : (work : Work) (i n : ℕ) (old new : List (Copying F G)) (each : Copying F G) (buffer : List ℕ) → length buffer ≡ BUFFER → s.place each.source ≡ i → CopiesPiece s work [] buffer each.source each.target n
+  pub adds_copy : (work : Work) (i n : ℕ) (old new : List (Copying F G)) (each : Copying F G) (buffer : List ℕ) → length buffer ≡ FRONT → s.place each.source ≡ i → CopiesPiece s work [] buffer each.source each.target n
       → IsHeld old new each (take n buffer) → AddsCopy s work i old new
   adds_copy work i n old new each buffer room placed piece held =
       let long : length (take n buffer) ≡ n = length-take-le n buffer piece.bound in
@@ -96,7 +96,7 @@ module _ {F G : Type 0} (s : Sides F G) where
         last = held.last;
         all = held.all;
         placed = ap s.place source ∙ placed;
-        fresh = λ set. elim (cases_lt (length (take n buffer)) BUFFER) [
+        fresh = λ set. elim (cases_lt (length (take n buffer)) FRONT) [
           | inl short ↦ subst (IsFreshBy s work set held.last) (sym (held.whole short)) (record {
             octets = held.last.piece.items;
             copied = copied;
@@ -107,19 +107,19 @@ module _ {F G : Type 0} (s : Sides F G) where
           })
           | inr full ↦ subst (IsFreshBy s work set held.last) (sym (held.more full)) copied
         ];
-        full = λ none. elim (cases_lt (length (take n buffer)) BUFFER) [
+        full = λ none. elim (cases_lt (length (take n buffer)) FRONT) [
           | inl short ↦ absurd (let e : Some (Whole (length (take n buffer))) ≡ None = sym (held.whole short) ∙ none in cc)
           | inr full ↦ (let same = ap length held.piece_is in omega (arith, same, full, long, bound, room))
         ];
       }
 
   -- what is told of a file that couldn't be opened
-  pub begin_fault : (shown : Shown) (tree_sure sink_sure : Bool) (sure : Type 0) (i : ℕ) (fault : BeginFault F G) → IsOpenFault s.place s.failures sure i fault → (tree_sure ≡ true → sure) → IsBeginFault s (work_of shown tree_sure sink_sure) i fault
+  pub begin_fault : (shown : Shown) (tree_sure sink_sure : Bool) (sure : Type 0) (i : ℕ) (fault : NotBegun F G) → IsOpenFault s.place s.failures sure i fault → (tree_sure ≡ true → sure) → IsBeginFault s (work_of shown tree_sure sink_sure) i fault
   begin_fault shown tree_sure sink_sure sure i Memory is ready = tt
   begin_fault shown tree_sure sink_sure sure i (Unopened file) is ready = (is.0, λ e. is.1 (ready e))
   begin_fault shown tree_sure sink_sure sure i (Stopped fault each) is ready = absurd is
 
-  pub no_copy : (sure : Type 0) (i : ℕ) (fault : BeginFault F G) → IsOpenFault s.place s.failures sure i fault → copies_with fault ≡ 0
+  pub no_copy : (sure : Type 0) (i : ℕ) (fault : NotBegun F G) → IsOpenFault s.place s.failures sure i fault → copies_with fault ≡ 0
   no_copy sure i Memory is = refl
   no_copy sure i (Unopened file) is = refl
   no_copy sure i (Stopped fault each) is = absurd is

@@ -17,7 +17,7 @@ use Rattle.bag_writer.specs.Sinks.{Stored}
 use Rattle.bag_writer.specs.Steps.{ArePart, AreWhole}
 use Rattle.bag_writer.specs.declared.copying.Copying.{Copying}
 use Rattle.bag_writer.specs.declared.copying.CopyStop.{CopyStop}
-use Rattle.bag_writer.specs.declared.items.TheConstants.{BUFFER}
+use Rattle.bag_digest.specs.declared.streams.TheConstants.{FRONT}
 use Rattle.bag_writer.specs.declared.payload.CopyFault.{CopyFault}
 use Rattle.bag_writer.specs.declared.payload.CopyFault.TheVariants.{Sink, TooLarge, Tree}
 use Rattle.bag_writer.proofs.CopyLemmas.{places_on, stands}
@@ -109,7 +109,7 @@ module _ {F G : Type 0} (s : Sides F G) (work : Work) (set : AlgSet) where
   taken_stays a b file source piece found is = record {
     at = subst (λ f. IsFileAt work.shown (s.place f) file) (sym source) is.at;
     within = is.within;
-    short = subst (λ p. length p.items ≤ BUFFER) (sym piece) is.short;
+    short = subst (λ p. length p.items ≤ FRONT) (sym piece) is.short;
     found_is = subst (λ o. IsSomeAnd o (λ f. IsFoundOf set b.piece.items f file.1)) (sym found) (subst (λ p. IsSomeAnd a.found (λ f. IsFoundOf set p.items f file.1)) (sym piece) is.found_is);
   }
 

@@ -122,7 +122,7 @@ module _ {F G : Type 0} (s : Sides F G) (work : Work) where
 
   -- the file has ended within its last piece, after these octets
   pub ended_on : (set : AlgSet) (taken : List ℕ) (hashed n : ℕ) (digests : Digests) (copy : Copying F G) → hashed ≡ length taken → CopiesPiece s work taken copy.piece.items copy.source copy.target n → n < length copy.piece.items → length copy.piece.items ≤ FRONT
-      → copy.found ≡ Some (Hashed (hashed + n) digests) → AreDigests digests set (taken ++ take n copy.piece.items) → HasEnded s work set copy
+      → copy.found ≡ Some (Hashed (record { length = hashed + n; digests = digests })) → AreDigests digests set (taken ++ take n copy.piece.items) → HasEnded s work set copy
   ended_on set taken hashed n digests copy count piece short room is are =
       let octets = taken ++ take n copy.piece.items in
       record {
@@ -143,10 +143,10 @@ module _ {F G : Type 0} (s : Sides F G) (work : Work) where
     piece : CopiesPiece s work going.taken new.piece.items new.source new.target n
     piece = subst (λ xs. CopiesPiece s work going.taken xs new.source new.target n) (sym filled) (copies going.taken (plain old going) going.count)
 
-    pub advance_ended : (other : MultiLanes) (digests : Digests) → n < length buffer → length buffer ≤ FRONT → new.found ≡ Some (Hashed (hashed + n) digests) → ((octets : List ℕ) → HoldsAt multi set i octets → AreDigests digests set (octets ++ take n buffer))
+    pub advance_ended : (other : MultiLanes) (digests : Digests) → n < length buffer → length buffer ≤ FRONT → new.found ≡ Some (Hashed (record { length = hashed + n; digests = digests })) → ((octets : List ℕ) → HoldsAt multi set i octets → AreDigests digests set (octets ++ take n buffer))
         → IsUnder s work other set i hashed new.piece.items new
     advance_ended other digests short room is are =
-        under_by_some other set i hashed new.piece.items new (Hashed (hashed + n) digests) is
+        under_by_some other set i hashed new.piece.items new (Hashed (record { length = hashed + n; digests = digests })) is
         (ended_on set going.taken hashed n digests new going.count piece (omega (arith, short, ap length filled)) (omega (arith, room, ap length filled)) is
         (subst (λ xs. AreDigests digests set (going.taken ++ take n xs)) (sym filled) (are going.taken going.holds)))
 

@@ -5,7 +5,7 @@ use Rattle.std.specs.Option.{option_map}
 use Rattle.std.proofs.lemmas.List.{take-append-drop}
 use Rattle.std.proofs.lemmas.List.Kept.{IsStrictlySortedBy-filter}
 use Rattle.bag_rules.specs.declared.limits.TheConstants.{LARGEST_FILE, LARGEST_TAG_FILE, MOST_LINES}
-use Rattle.bag_rules.proofs.Words.{AreRising, Files, Holds, Oxum, Shown, cases_Bool, is_payload, keys_of, length-map, nat_cmp, paths_in, slice_cmp}
+use Rattle.bag_rules.proofs.Words.{AreRising, Files, HoldsFile, Oxum, Shown, cases_Bool, is_payload, keys_of, length-map, nat_cmp, paths_in, slice_cmp}
 use Rattle.bag_rules.proofs.HasLemmas.{has_at}
 use Rattle.bag_writer.specs.Sinks.{Begun, Stored, nothing_stored, with_begun, with_octets, with_payload_dir, without_begun}
 use Rattle.bag_writer.specs.Steps.{ArePart, AreWhole, HasFrontOf, HasNoFile, HasPayloadAlone, IsWritable, NamesLong, with_wholes, written_payload}
@@ -49,7 +49,7 @@ module _ (spec : Spec) (payload : Files) where
     }
 
     -- what is there after some whole ones
-    front_holds : (n : ℕ) (path octets : List ℕ) → Holds (with_wholes (take n all) opened).bag path octets → IsFileOf spec payload path octets
+    front_holds : (n : ℕ) (path octets : List ℕ) → HoldsFile (with_wholes (take n all) opened).bag path octets → IsFileOf spec payload path octets
     front_holds n path octets holds = (has_all spec payload rising are path octets).0 (take_has n all (path, octets)
         ((holds_whole (take n all) (take_new n all (all_new spec payload rising are)) path octets).0 holds))
 

@@ -11,7 +11,7 @@ use Rattle.bag_rules.specs.Opening.{IsFolderAmong}
 use Rattle.bag_tags.specs.FetchEntries.{IsUrl}
 use Rattle.bag_tags.specs.Infos.{element, IsElement}
 use Rattle.bag_writer.proofs.ExampleTags.{lengths_none, lengths_two}
-use Rattle.bag_writer.specs.ExampleBags.{file_a, file_e, IsPlain, IsWithHole, payload_of_two}
+use Rattle.bag_writer.specs.ExampleBags.{file_a, file_e, IsPlainExample, IsWithHole, payload_of_two}
 use Rattle.bag_writer.specs.FilledBags.{IsPayloadFor, IsPayloadPath}
 use Rattle.bag_writer.specs.WrittenBags.{tag_files}
 use Rattle.bag_writer.specs.Writing.{GivesOxum, HasLongFile, IsBadHole, IsTooLarge}
@@ -115,7 +115,7 @@ module _ (spec : Spec) (is : IsWithHole spec) where
 
 -- NO FILES
 
-module _ (spec : Spec) (is : IsPlain spec) where
+module _ (spec : Spec) (is : IsPlainExample spec) where
   small : ¬ IsTooLarge spec []
   small (large.Payload, many) = omega (arith, many)
   small (large.File path, (octets, h, long)) = h

@@ -7,7 +7,7 @@ use Rattle.bag_rules.specs.Bags.{octet_count}
 use Rattle.bag_tags.specs.FetchEntries.{fetch_item, written_entry}
 use Rattle.bag_tags.specs.Infos.{element, written_info}
 use Rattle.bag_writer.proofs.ExampleLengths.{manifest_length}
-use Rattle.bag_writer.specs.ExampleBags.{file_e, IsPlain, IsWithHole, lengths_of, payload_of_two}
+use Rattle.bag_writer.specs.ExampleBags.{file_e, IsPlainExample, IsWithHole, lengths_of, payload_of_two}
 use Rattle.bag_writer.specs.WrittenBags.{algs_in, bagit_file, fetch_files, info_file, manifest_of, oxum_element, tag_files}
 use Rattle.bag_writer.specs.declared.spec.Hole.{Hole}
 use Rattle.bag_writer.specs.declared.spec.Spec.{Spec}
@@ -86,7 +86,7 @@ listed_none info = (text_file Info, info) ∷ bagit_file ∷ manifest_of Payload
 abbrev tags_none : List ℕ → Files
 tags_none info = listed_none info ++ manifest_of Tag (listed_none info) Sha256 ∷ []
 
-pub lengths_none : (spec : Spec) → IsPlain spec → lengths_of (tag_files spec []) ≡ (codes "bag-info.txt", 18) ∷ (codes "bagit.txt", 54) ∷ (codes "manifest-sha256.txt", 0) ∷ (codes "tagmanifest-sha256.txt", 241) ∷ []
+pub lengths_none : (spec : Spec) → IsPlainExample spec → lengths_of (tag_files spec []) ≡ (codes "bag-info.txt", 18) ∷ (codes "bagit.txt", 54) ∷ (codes "manifest-sha256.txt", 0) ∷ (codes "tagmanifest-sha256.txt", 241) ∷ []
 lengths_none spec is =
     let info = codes "Payload-Oxum: 0.0" ++ lf ∷ [] in
     ap lengths_of (parted spec [] ∙ (λ t. tags_by (is.algs t) (is.info t) (is.holes t) []) ∙ (λ t. tags_none (info_none t)))

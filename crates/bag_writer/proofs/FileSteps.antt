@@ -9,7 +9,7 @@ use Rattle.bag_rules.specs.declared.limits.TheConstants.{LARGEST_FILE}
 use Rattle.bag_digest.specs.declared.algorithm.AlgSet.{AlgSet}
 use Rattle.bag_digest.specs.declared.reading.SourceRead.{SourceRead}
 use Rattle.bag_digest.specs.declared.reading.SourceRead.TheVariants.{Whole, Hashed}
-use Rattle.bag_writer.specs.PayloadSteps.{AreOctetsOf, HasFrontFrom, IsCutShort, IsFoundOf, IsReadAs, IsTaken, IsReadUntil, IsReadWhole, IsWithin, unless_hole, Writes, WritesFront}
+use Rattle.bag_writer.specs.PayloadSteps.{AreOctetsOf, HasFrontFrom, IsCutShort, IsFoundOf, IsReadAs, IsTaken, IsReadUntil, IsReadWhole, IsInBuffer, unless_hole, Writes, WritesFront}
 use Rattle.bag_writer.specs.Sinks.{StaysOrIsLost, Stored, with_begun}
 use Rattle.bag_writer.specs.Steps.{ArePart, AreWhole, HasFrontOf}
 use Rattle.bag_writer.specs.declared.write_fault.Large.{Large}
@@ -104,9 +104,9 @@ module _ (is_hole : Bool) (set : AlgSet) (shown : List ℕ × Option (List ℕ))
   )
 
 -- what was found of octets is within the buffer, if it is there
-pub within_of : (set : AlgSet) (buffer : List ℕ) (found : SourceRead) (octets : List ℕ) → IsFoundOf set buffer found octets → IsWithin buffer found
+pub within_of : (set : AlgSet) (buffer : List ℕ) (found : SourceRead) (octets : List ℕ) → IsFoundOf set buffer found octets → IsInBuffer buffer found
 within_of set buffer (Whole n) octets is = is.0
-within_of set buffer (Hashed n digests) octets is = tt
+within_of set buffer (Hashed sums) octets is = tt
 
 -- a file that was written, after which there was another fault than that it is too large
 pub cut_after : (set : AlgSet) (is_hole : Bool) (file : List ℕ × List ℕ) (old new : Option Stored) (buffer : List ℕ) (found : List ℕ × SourceRead) (fault : WriteFault) → IsTaken set is_hole file old new buffer found → ((large : Large) → ¬ (fault ≡ TooLarge large)) → IsCutShort is_hole file old new fault

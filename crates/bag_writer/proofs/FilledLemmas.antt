@@ -6,7 +6,7 @@ use Rattle.std.specs.List.Sorted.{IsStrictlySortedBy}
 use Rattle.bag_rules.proofs.HasLemmas.{has_at, place_of_has}
 use Rattle.bag_rules.proofs.SameListLemmas.{asymmetric, same_list, sorted_by_key}
 use Rattle.bag_rules.proofs.TreeLemmas.{one_octets}
-use Rattle.bag_rules.proofs.Words.{Alg, AlgSet, AreRising, Bag, cases_Bool, false≢true, Files, Has, has, hash, Holds, is_oxum, is_payload, IsComplete, IsThere, IsValid, keys_of, Kind, listed_digest, Lists, lists_path, manifest_file, manifest_name, Md5, MetadataElement, nat_cmp, nat_list_cmp_total, OxumText, Pair, Payload, payload_of, SaysOxum, Sha1, Sha256, Sha512, slice_cmp, Tag}
+use Rattle.bag_rules.proofs.Words.{Alg, AlgSet, AreRising, Bag, cases_Bool, false≢true, Files, Has, has, hash, HoldsFile, is_oxum, is_payload, IsComplete, IsThere, IsValid, keys_of, Kind, listed_digest, Lists, lists_path, manifest_file, manifest_name, Md5, MetadataElement, nat_cmp, nat_list_cmp_total, OxumText, Pair, Payload, payload_of, SaysOxum, Sha1, Sha256, Sha512, slice_cmp, Tag}
 use Rattle.bag_rules.specs.Bags.{octet_count, version_of}
 use Rattle.bag_rules.specs.Listed.{IsListed}
 use Rattle.bag_writer.proofs.ListedPairs.{digest_has, has_listed, listed_has}
@@ -87,7 +87,7 @@ module _ (spec : Spec) (payload : Files) (fits : IsPayloadFor spec payload) wher
     }
 
     -- a payload file
-    item_of : (path octets : List ℕ) → is_payload path ≡ true → Holds bag path octets → Has payload (path, octets)
+    item_of : (path octets : List ℕ) → is_payload path ≡ true → HoldsFile bag path octets → Has payload (path, octets)
     item_of path octets is holds = elim ((filled.exact path octets).0 holds) [
       | inl item ↦ item
       | inr tag ↦ absurd (false≢true (sym (tag_plain spec payload path octets (tag_case spec payload path octets tag)) ∙ is))
@@ -99,7 +99,7 @@ module _ (spec : Spec) (payload : Files) (fits : IsPayloadFor spec payload) wher
         (λ file h. (let there = (filled.exact file.0 file.1).1 (inl h) in (has_at bag.files there.0 file there.1, (payload_path spec payload fits file.0 file.1 h).1)))
 
     -- the files that a manifest lists
-    listed_there : (kind : Kind) (path octets : List ℕ) → Has (files_in spec payload kind) (path, octets) → Holds bag path octets
+    listed_there : (kind : Kind) (path octets : List ℕ) → Has (files_in spec payload kind) (path, octets) → HoldsFile bag path octets
     listed_there Payload path octets h = (filled.exact path octets).1 (inl h)
     listed_there Tag path octets h = (filled.exact path octets).1 (inr (listed_tag spec payload path octets h))
 

@@ -32,7 +32,7 @@ at_place f (file ∷ files) (suc n) x e = at_place f files n x e
 -- the item of the next file that is held
 pub item_next : (set : AlgSet) (old : Items) (files : Files) (so_far : AreItemsSoFar set old files) (each : List Digests) (place : ℕ) (items : List Item) (item : Item) (message : Vec ℕ Global)
     → AreDigestsOfEach old.set old.messages.items each → AreItemsOf set items (so_far.first ++ take place so_far.held) → slice_get old.paths.items place ≡ Some item.path → slice_get old.messages.items place ≡ Some message
-    → item.octets ≡ length message.items → slice_get each place ≡ Some item.digests → AreItemsOf set (items ++ item ∷ []) (so_far.first ++ take (place + 1) so_far.held)
+    → item.sums.length ≡ length message.items → slice_get each place ≡ Some item.sums.digests → AreItemsOf set (items ++ item ∷ []) (so_far.first ++ take (place + 1) so_far.held)
 item_next set old files so_far each place items item message digested are path_at message_at count digests_at =
     let held = so_far.held_are in
     let (file, here, named) = at_place (λ (f : File). f.0) so_far.held place item.path (ap (λ list. slice_get list place) (sym held.paths_are) ∙ path_at) in
@@ -43,8 +43,7 @@ item_next set old files so_far each place items item message digested are path_a
     subst (AreItemsOf set (items ++ item ∷ [])) (append_assoc so_far.first (take place so_far.held) (file ∷ []) ∙ ap (λ list. so_far.first ++ list) (sym (next_taken so_far.held place file here)))
     (items_on set items (so_far.first ++ take place so_far.held) item file are record {
       path_is = sym named;
-      length_is = count ∙ ap length own;
-      digests_are = subst (λ s. AreDigests item.digests s file.1) so_far.set_is (subst (AreDigests item.digests old.set) own (digested.digests place message item.digests message_at digests_at));
+      sums = (count ∙ ap length own, subst (λ s. AreDigests item.sums.digests s file.1) so_far.set_is (subst (AreDigests item.sums.digests old.set) own (digested.digests place message item.sums.digests message_at digests_at)));
     })
 
 -- the items of all files

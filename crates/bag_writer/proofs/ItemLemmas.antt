@@ -41,12 +41,12 @@ items_join set _ more _ others are rest = absurd are
 -- HOW MANY OCTETS
 
 abbrev pub octets_of : Item → ℕ
-octets_of item = item.octets
+octets_of item = item.sums.length
 
 pub items_octets : (set : AlgSet) (items : List Item) (files : Files) → AreItemsOf set items files → sum_by octets_of items ≡ octet_count files
 unfolding octet_count
 items_octets set [] [] are = refl
-items_octets set (item ∷ items) (file ∷ files) are = sum_by-cons octets_of item items ∙ (λ t. are.0.length_is t + items_octets set items files are.1 t)
+items_octets set (item ∷ items) (file ∷ files) are = sum_by-cons octets_of item items ∙ (λ t. are.0.sums.0 t + items_octets set items files are.1 t)
 items_octets set _ _ are = absurd are
 
 count_bound : (files : Files) → (HasLongFile files LARGEST_FILE → ⊥) → octet_count files ≤ length files * LARGEST_FILE
@@ -72,8 +72,8 @@ alg_of_hash Sha1 octets = refl
 alg_of_hash Sha256 octets = refl
 alg_of_hash Sha512 octets = refl
 
-pub item_digest : (set : AlgSet) (item : Item) (file : File) (alg : Alg) → IsItemOf set item file.0 file.1 → has set alg ≡ true → digest_in item.digests alg ≡ Some (hash alg file.1)
-item_digest set item file alg is wanted = rw wanted at (is.digests_are alg)
+pub item_digest : (set : AlgSet) (item : Item) (file : File) (alg : Alg) → IsItemOf set item file.0 file.1 → has set alg ≡ true → digest_in item.sums.digests alg ≡ Some (hash alg file.1)
+item_digest set item file alg is wanted = rw wanted at (is.sums.1 alg)
 
 -- what holds for each path holds for the one at a place
 pub each_at : (P : List ℕ → Type 0) (files : Files) (i : ℕ) (file : File) → AllByRecursion P (keys_of files) → slice_get files i ≡ Some file → P file.0

@@ -1,7 +1,7 @@
 -- No limit stops a check of a written bag whose holes are filled.
 use Rattle.std.proofs.Common.{◌≡◌, ◌∙◌, ◌≤◌, ℕ, false, not, List, [], ◌∷◌, length, map, inl, inr, refl, sym, ap, subst, arith, length-append}
 use Rattle.std.proofs.lemmas.List.Filters.{length-filter_both}
-use Rattle.bag_rules.proofs.Words.{Bag, false≢true, Files, Has, has, Holds, is_payload, length-map, Md5, Sha1, Sha256, Sha512, payload_of, Stops, Tag, TextStops, WorkStops}
+use Rattle.bag_rules.proofs.Words.{Bag, false≢true, Files, Has, has, HoldsFile, is_payload, length-map, Md5, Sha1, Sha256, Sha512, payload_of, Stops, Tag, TextStops, WorkStops}
 use Rattle.bag_rules.proofs.SameTexts.{plain_text}
 use Rattle.bag_rules.specs.declared.limits.TheConstants.{LARGEST_FILE, LARGEST_TAG_FILE}
 use Rattle.bag_rules.specs.declared.outcome.CheckFault.{CheckFault}
@@ -40,21 +40,21 @@ module _ (spec : Spec) (payload : Files) (fits : IsPayloadFor spec payload) (bag
   tag_short : (path octets : List ℕ) → Has (tag_files spec payload) (path, octets) → length octets ≤ LARGEST_TAG_FILE
   tag_short path octets h = short (tag_files spec payload) LARGEST_TAG_FILE (λ long. fits.not_too_large (large.TagFile long.0, long.1)) path octets h
 
-  all_short : (path octets : List ℕ) → Holds bag path octets → length octets ≤ LARGEST_FILE
+  all_short : (path octets : List ℕ) → HoldsFile bag path octets → length octets ≤ LARGEST_FILE
   all_short path octets holds = elim ((filled.exact path octets).0 holds) [
     | inl item ↦ short payload LARGEST_FILE (λ long. fits.not_too_large (large.File long.0, long.1)) path octets item
     | inr tag ↦ omega (arith, tag_short path octets tag)
   ]
 
-  other_short : (path octets : List ℕ) → is_payload path ≡ false → Holds bag path octets → length octets ≤ LARGEST_TAG_FILE
+  other_short : (path octets : List ℕ) → is_payload path ≡ false → HoldsFile bag path octets → length octets ≤ LARGEST_TAG_FILE
   other_short path octets plain holds = elim ((filled.exact path octets).0 holds) [
     | inl item ↦ absurd (false≢true (sym plain ∙ (payload_path spec payload fits path octets item).1))
     | inr tag ↦ tag_short path octets tag
   ]
 
-  text_stops : (path octets : List ℕ) (fault : CheckFault) → Holds bag path octets → ¬ TextStops path octets fault
+  text_stops : (path octets : List ℕ) (fault : CheckFault) → HoldsFile bag path octets → ¬ TextStops path octets fault
   text_stops path octets fault holds (file, is, inl long) = omega (arith, long.0, other_short path octets (ap is_payload is ∙ plain_text file) holds)
-  text_stops path octets fault holds (file, is, inr (within, many)) = few_in_text spec payload fits bag (tags spec payload fits bag filled) file octets (subst (λ p. Holds bag p octets) is holds) many.0 many.1
+  text_stops path octets fault holds (file, is, inr (within, many)) = few_in_text spec payload fits bag (tags spec payload fits bag filled) file octets (subst (λ p. HoldsFile bag p octets) is holds) many.0 many.1
 
   work_stops : (fault : CheckFault) → ¬ WorkStops bag fault
   work_stops fault (inl stops) = omega (arith, stops.reason.1.0, other_short stops.path stops.octets (ap is_payload stops.reason.0) (stops.place, stops.there))

@@ -100,7 +100,7 @@ module _ {set : AlgSet} {source left : Option (List ℕ)} {old new : Option Stor
       record { gave = given.gave; none_left = end; within = omega (arith, given.count, given.within) }
 
   pub found_hashed : {after : Option (List ℕ)} {n : ℕ} {buffer : List ℕ} {end : Option Stored} {digests : Digests} → GavePiece left after (LARGEST_FILE - total) n buffer → IsAtEnd after → AreDigests digests set (octets ++ take n buffer)
-      → Writes (take n buffer) new end → (all : List ℕ) × (IsReadWhole set source after buffer (Hashed (total + n) digests) all × Writes all old end)
+      → Writes (take n buffer) new end → (all : List ℕ) × (IsReadWhole set source after buffer (Hashed (record { length = total + n; digests = digests })) all × Writes all old end)
   found_hashed {after} {n} {buffer} {end} {digests} piece at_end digested written = (
     octets ++ take n buffer,
     (

@@ -10,7 +10,7 @@ use Rattle.bag_tags.specs.declared.name.TagName.TheVariants as tag
 use Rattle.bag_rules.proofs.HasLemmas.{has_at, has_map, place_of_has}
 use Rattle.bag_rules.proofs.TreeLemmas.{one_octets}
 use Rattle.bag_rules.proofs.VerdictLemmas.{declared_none}
-use Rattle.bag_rules.proofs.Words.{Alg, AllByRecursion, AreTagFiles, Bag, cases_Bool, Digest, false≢true, FetchList, FetchText, file_of, Files, Has, has, hash, Holds, Info, InfoText, is_payload, IsFaultyText, IsInProfile, IsThere, IsUnknownManifest, keys_of, Kind, length-map, line_fault, LineFault, LineFile, listed_digest, Lists, lists_path, Manifest, manifest_file, manifest_name, ManifestText, Md5, MetadataElement, octet_count, is_oxum, OxumText, Pair, pair, Payload, Sha1, Sha256, Sha512, Tag, text_file}
+use Rattle.bag_rules.proofs.Words.{Alg, AllByRecursion, AreTagFiles, Bag, cases_Bool, Digest, false≢true, FetchList, FetchText, file_of, Files, Has, has, hash, HoldsFile, Info, InfoText, is_payload, IsFaultyText, IsInProfile, IsThere, IsUnknownManifest, keys_of, Kind, length-map, line_fault, LineFault, LineFile, listed_digest, Lists, lists_path, Manifest, manifest_file, manifest_name, ManifestText, Md5, MetadataElement, octet_count, is_oxum, OxumText, Pair, pair, Payload, Sha1, Sha256, Sha512, Tag, text_file}
 use Rattle.bag_rules.specs.declared.fault.Fault.TheVariants.{BadDeclaration, BadLine, FetchLength, FetchNotListed, ManifestNotListed, Missing, NoDeclaration, NoManifest, NoPayloadDir, OxumForm, OxumTwice, OxumWrong, Unlisted, WrongDigest}
 use Rattle.bag_rules.specs.Bags.{version_of}
 use Rattle.bag_rules.specs.Files.{IsTagFile}
@@ -130,7 +130,7 @@ module _ (spec : Spec) (payload : Files) (fits : IsPayloadFor spec payload) wher
       omega (arith, fewer, keys, few)
 
   -- a manifest or `fetch.txt` has few lines
-  pub few_in_text : (bag : Bag) (tags : HasTags spec payload bag) (file : LineFile) (octets : List ℕ) → Holds bag (text_file file) octets → HasCountedLines file → ¬ (MOST_LINES < length (lines_of octets))
+  pub few_in_text : (bag : Bag) (tags : HasTags spec payload bag) (file : LineFile) (octets : List ℕ) → HoldsFile bag (text_file file) octets → HasCountedLines file → ¬ (MOST_LINES < length (lines_of octets))
   few_in_text bag tags Info octets holds counted many = counted
   few_in_text bag tags FetchList octets holds counted many =
       let e = (fetch_is_written spec payload fits bag tags octets holds).0 in
@@ -152,7 +152,7 @@ module _ (spec : Spec) (payload : Files) (fits : IsPayloadFor spec payload) wher
   abbrev alone : Bag
   alone = tag_bag (tag_files spec payload)
 
-  here : (path octets : List ℕ) → Holds alone path octets → Has (tag_files spec payload) (path, octets)
+  here : (path octets : List ℕ) → HoldsFile alone path octets → Has (tag_files spec payload) (path, octets)
   here path octets holds = has_at (tag_files spec payload) holds.0 (path, octets) holds.1
 
   tags : HasTags spec payload alone
@@ -162,11 +162,11 @@ module _ (spec : Spec) (payload : Files) (fits : IsPayloadFor spec payload) wher
     only = λ path octets holds. inr (here path octets holds);
   }
 
-  case_here : (path octets : List ℕ) → Holds alone path octets → TagCase spec payload path octets
+  case_here : (path octets : List ℕ) → HoldsFile alone path octets → TagCase spec payload path octets
   case_here path octets holds = tag_case spec payload path octets (here path octets holds)
 
   -- no payload file is there
-  no_item : (path octets other : List ℕ) → Has payload (path, octets) → ¬ Holds alone path other
+  no_item : (path octets other : List ℕ) → Has payload (path, octets) → ¬ HoldsFile alone path other
   no_item path octets other h holds = false≢true (sym (tag_plain spec payload path other (case_here path other holds)) ∙ (payload_path spec payload fits path octets h).1)
 
   pub are_tag_files : AreTagFiles (tag_files spec payload)
@@ -181,7 +181,7 @@ module _ (spec : Spec) (payload : Files) (fits : IsPayloadFor spec payload) wher
   -- LINES
 
   few_lines : FewLines (tag_files spec payload)
-  few_lines path (file, (octets, is, holds, counted, many)) = few_in_text alone tags file octets (subst (λ p. Holds alone p octets) is holds) counted many
+  few_lines path (file, (octets, is, holds, counted, many)) = few_in_text alone tags file octets (subst (λ p. HoldsFile alone p octets) is holds) counted many
 
   -- WHAT IS EXPECTED
 
@@ -228,7 +228,7 @@ module _ (spec : Spec) (payload : Files) (fits : IsPayloadFor spec payload) wher
       false≢true (sym no.2 ∙ all alg no.0 no.1)
 
   -- a text that is written has no faulty line
-  reads_well : (file : LineFile) (octets : List ℕ) (fault : LineFault) → Holds alone (text_file file) octets → ¬ IsFaultyText (version_of alone) file octets fault
+  reads_well : (file : LineFile) (octets : List ℕ) (fault : LineFault) → HoldsFile alone (text_file file) octets → ¬ IsFaultyText (version_of alone) file octets fault
   reads_well Info octets fault holds bad =
       let says = says_so spec payload fits alone tags in
       no_elements (version_of alone) octets (elements spec payload fits) fault
@@ -251,7 +251,7 @@ module _ (spec : Spec) (payload : Files) (fits : IsPayloadFor spec payload) wher
       absurd (absent (file.0, tags.there path file.0 (listed_tag spec payload path file.0 file.1)))
 
   -- these files have their listed digests
-  none_wrong : (kind : Kind) (alg : Alg) (path octets : List ℕ) (pairs : List Pair) (digest : Digest) → Lists alone (manifest_name kind alg) pairs → listed_digest pairs path ≡ Some digest → Holds alone path octets → hash alg octets ≡ digest
+  none_wrong : (kind : Kind) (alg : Alg) (path octets : List ℕ) (pairs : List Pair) (digest : Digest) → Lists alone (manifest_name kind alg) pairs → listed_digest pairs path ≡ Some digest → HoldsFile alone path octets → hash alg octets ≡ digest
   none_wrong Payload alg path octets pairs digest lists some holds =
       let file = digest_has alg payload path digest (subst (λ ps. listed_digest ps path ≡ Some digest) (lists_only spec payload fits alone tags (manifest_name Payload alg) pairs lists).1 some) in
       absurd (no_item path file.0 octets file.1 holds)

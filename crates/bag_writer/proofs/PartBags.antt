@@ -14,7 +14,7 @@ use Rattle.bag_rules.proofs.HasLemmas.{has_map}
 use Rattle.bag_rules.proofs.SameListLemmas.{all_has}
 use Rattle.bag_rules.proofs.SameTexts.{plain_text}
 use Rattle.bag_rules.proofs.TreeLemmas.{text_of}
-use Rattle.bag_rules.proofs.Words.{Alg, AllByRecursion, AreRising, Bag, current, declaration_file, false≢true, FetchList, file_of, Files, Has, has, Holds, Info, is_payload, keys_of, Kind, LineFile, Lists, Manifest, manifest_file, manifest_name, ManifestName, ManifestText, Pair, Payload, Tag, text_file, V1, written_declaration, written_declares}
+use Rattle.bag_rules.proofs.Words.{Alg, AllByRecursion, AreRising, Bag, current, declaration_file, false≢true, FetchList, file_of, Files, Has, has, HoldsFile, Info, is_payload, keys_of, Kind, LineFile, Lists, Manifest, manifest_file, manifest_name, ManifestName, ManifestText, Pair, Payload, Tag, text_file, V1, written_declaration, written_declares}
 use Rattle.bag_rules.specs.Bags.{IsDeclared, paths_of, version_in, version_of}
 use Rattle.bag_writer.proofs.ListedPairs.{manifest_text, MayBeListed}
 use Rattle.bag_writer.proofs.TagCases.{a_manifest, fetch_octets, files_in, has_declaration, has_manifest, listed_tag, tag_case, TagCase, the_declaration, the_fetch, the_info}
@@ -28,8 +28,8 @@ use Rattle.bag_writer.specs.declared.spec.Spec.{Spec}
 -- the bag has each tag file and, apart from these, only payload files
 pub record HasTags (spec : Spec) (payload : Files) (bag : Bag) : Type 0 where
   pub rising : AreRising (paths_of bag)
-  pub there : (path octets : List ℕ) → Has (tag_files spec payload) (path, octets) → Holds bag path octets
-  pub only : (path octets : List ℕ) → Holds bag path octets → Has payload (path, octets) ⊎ Has (tag_files spec payload) (path, octets)
+  pub there : (path octets : List ℕ) → Has (tag_files spec payload) (path, octets) → HoldsFile bag path octets
+  pub only : (path octets : List ℕ) → HoldsFile bag path octets → Has payload (path, octets) ⊎ Has (tag_files spec payload) (path, octets)
 
 -- NAMES
 
@@ -119,7 +119,7 @@ module _ (spec : Spec) (payload : Files) (fits : IsPayloadFor spec payload) wher
 
   module _ (bag : Bag) (tags : HasTags spec payload bag) where
     -- a file that isn't payload
-    pub other_case : (path octets : List ℕ) → is_payload path ≡ false → Holds bag path octets → TagCase spec payload path octets
+    pub other_case : (path octets : List ℕ) → is_payload path ≡ false → HoldsFile bag path octets → TagCase spec payload path octets
     other_case path octets plain holds = elim (tags.only path octets holds) [
       | inl item ↦ absurd (false≢true (sym plain ∙ (payload_path path octets item).1))
       | inr other ↦ tag_case spec payload path octets other
@@ -127,7 +127,7 @@ module _ (spec : Spec) (payload : Files) (fits : IsPayloadFor spec payload) wher
 
     -- THE DECLARATION
 
-    pub declaration_there : Holds bag declaration_file written_declaration
+    pub declaration_there : HoldsFile bag declaration_file written_declaration
     declaration_there = tags.there declaration_file written_declaration (listed_tag spec payload declaration_file written_declaration (has_declaration spec payload))
 
     pub declared : IsDeclared bag
@@ -138,7 +138,7 @@ module _ (spec : Spec) (payload : Files) (fits : IsPayloadFor spec payload) wher
 
     -- MANIFESTS
 
-    pub manifest_octets : (name : ManifestName) (octets : List ℕ) → Holds bag (file_of name) octets → IsManifest spec payload name octets
+    pub manifest_octets : (name : ManifestName) (octets : List ℕ) → HoldsFile bag (file_of name) octets → IsManifest spec payload name octets
     manifest_octets name octets holds = manifest_case spec payload name (file_of name) octets refl (other_case (file_of name) octets (plain_text (Manifest name)) holds)
 
     pub lists_so : (name : ManifestName) → has spec.algs name.alg ≡ true → Lists bag name (pairs_by name.alg (files_in spec payload name.kind))

@@ -5,7 +5,7 @@ use Rattle.std.specs.List.{list_any}
 use Rattle.bag_rules.specs.Faults.{Has}
 use Rattle.bag_tags.specs.Infos.{MetadataElement, is_oxum}
 use Rattle.bag_writer.specs.Accepting.{RefusesHoles}
-use Rattle.bag_writer.specs.Writing.{GivesOxum, HasAlgorithm, IsMetBefore, Refuses}
+use Rattle.bag_writer.specs.Writing.{GivesOxum, HasAlgorithm, IsMetBefore, RefusesBag}
 use Rattle.bag_writer.specs.declared.write_fault.WriteFault.{WriteFault}
 use Rattle.bag_writer.specs.declared.write_fault.WriteFault.TheVariants.{BadHole, Clash, Memory, NoAlgorithm, OxumGiven, Sink, TooLarge, Tree}
 use Rattle.bag_writer.specs.declared.spec.Spec.{Spec}
@@ -27,7 +27,7 @@ pub no_oxum : (elements : List MetadataElement) → list_any is_oxum elements �
 no_oxum elements none found = false≢true (sym none ∙ has_some elements found.0 found.1 found.2)
 
 -- what marking the holes refuses is the first reason, if none comes before it
-pub refused_holes : (payload : List (List ℕ)) (spec : Spec) → HasAlgorithm spec → ¬ GivesOxum spec → (fault : WriteFault) → RefusesHoles payload spec.holes.items fault → Refuses payload spec fault × IsMetBefore fault
+pub refused_holes : (payload : List (List ℕ)) (spec : Spec) → HasAlgorithm spec → ¬ GivesOxum spec → (fault : WriteFault) → RefusesHoles payload spec.holes.items fault → RefusesBag payload spec fault × IsMetBefore fault
 refused_holes payload spec some none NoAlgorithm refused = absurd refused
 refused_holes payload spec some none OxumGiven refused = absurd refused
 refused_holes payload spec some none (BadHole i) refused = ((some, none, refused), λ x. x)

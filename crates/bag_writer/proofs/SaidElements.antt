@@ -15,7 +15,7 @@ use Rattle.bag_tags.proofs.OxumLemmas.{decimal_numeral, written_says}
 use Rattle.bag_tags.proofs.WritingLemmas.{each_append}
 use Rattle.bag_tags.specs.Infos.{IsElement, IsLabel, IsValue, written_info}
 use Rattle.bag_tags.specs.Oxums.{written_oxum}
-use Rattle.bag_rules.proofs.Words.{AllByRecursion, append-nil, Bag, cases_Bool, cases_lt, Files, Has, Holds, Info, InfoText, is_oxum, MetadataElement, OxumText, SaysInfo, SaysOxum, text_file, V1}
+use Rattle.bag_rules.proofs.Words.{AllByRecursion, append-nil, Bag, cases_Bool, cases_lt, Files, Has, HoldsFile, Info, InfoText, is_oxum, MetadataElement, OxumText, SaysInfo, SaysOxum, text_file, V1}
 use Rattle.bag_rules.specs.Bags.{octet_count, version_of}
 use Rattle.bag_rules.specs.declared.limits.TheConstants.{LARGEST_FILE}
 use Rattle.bag_writer.proofs.PartBags.{HasTags, info_case, other_case, version_is}
@@ -133,7 +133,7 @@ module _ (spec : Spec) (payload : Files) (fits : IsPayloadFor spec payload) wher
       text = subst (λ v. InfoText v (written_info elements) elements) (sym (version_is spec payload fits bag tags)) info_text;
     }
 
-    info_octets : (octets : List ℕ) → Holds bag (text_file Info) octets → octets ≡ written_info elements
+    info_octets : (octets : List ℕ) → HoldsFile bag (text_file Info) octets → octets ≡ written_info elements
     info_octets octets holds = info_case spec payload (text_file Info) octets refl (other_case spec payload fits bag tags (text_file Info) octets refl holds)
 
     pub says_only : (said : List MetadataElement) → SaysInfo bag said → said ≡ elements

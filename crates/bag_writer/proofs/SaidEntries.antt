@@ -10,7 +10,7 @@ use Rattle.bag_tags.specs.Fetches.{CanBeFetched, fetch_line, numbered_from, writ
 use Rattle.bag_rules.proofs.FirstManifest.{decided_there}
 use Rattle.bag_rules.proofs.HasLemmas.{contains_from_has, has_at, has_from_contains, has_from_map, has_map, place_of_has}
 use Rattle.bag_rules.proofs.TreeLemmas.{text_of}
-use Rattle.bag_rules.proofs.Words.{AllByRecursion, Bag, FetchLine, FetchList, FetchText, Files, Has, HasEntry, Holds, IsThere, keys_of, ListsFetch, option_map, same_Some, text_file, V1}
+use Rattle.bag_rules.proofs.Words.{AllByRecursion, Bag, FetchLine, FetchList, FetchText, Files, Has, HasEntry, HoldsFile, IsThere, keys_of, ListsFetch, option_map, same_Some, text_file, V1}
 use Rattle.bag_rules.specs.Bags.{version_of}
 use Rattle.bag_rules.specs.declared.limits.TheConstants.{LARGEST_FILE}
 use Rattle.bag_writer.proofs.PartBags.{fetch_case, HasTags, other_case, payload_path, version_is}
@@ -96,13 +96,13 @@ module _ (spec : Spec) (payload : Files) (fits : IsPayloadFor spec payload) wher
   fetch_text = fetch_reads (fetch_octets payload spec.holes.items) (map (line_of payload) spec.holes.items) (fetch_is payload spec.holes.items) (all_fetched spec.holes.items (λ hole h. h))
 
   module _ (bag : Bag) (tags : HasTags spec payload bag) where
-    pub fetch_is_written : (octets : List ℕ) → Holds bag (text_file FetchList) octets → (octets ≡ fetch_octets payload spec.holes.items) × (spec.holes.items ≢ [])
+    pub fetch_is_written : (octets : List ℕ) → HoldsFile bag (text_file FetchList) octets → (octets ≡ fetch_octets payload spec.holes.items) × (spec.holes.items ≢ [])
     fetch_is_written octets holds = fetch_case spec payload (text_file FetchList) octets refl (other_case spec payload fits bag tags (text_file FetchList) octets refl holds)
 
     pub fetches_so : IsThere bag (text_file FetchList) → ListsFetch bag lines
     fetches_so there = record {
       octets = fetch_octets payload spec.holes.items;
-      there = subst (λ o. Holds bag (text_file FetchList) o) (fetch_is_written there.0 there.1).0 there.1;
+      there = subst (λ o. HoldsFile bag (text_file FetchList) o) (fetch_is_written there.0 there.1).0 there.1;
       text = subst (λ v. FetchText v (fetch_octets payload spec.holes.items) lines) (sym (version_is spec payload fits bag tags)) fetch_text;
     }
 

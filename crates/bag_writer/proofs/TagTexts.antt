@@ -40,7 +40,7 @@ module _ (set : AlgSet) (items : List Item) (payload : Files) (are : AreItemsOf 
       false≢true (found.1 (subst (λ (paths : List (List ℕ)). Contains paths path) (sym (items_paths set items payload are)) contains))
 
   -- the entry of a hole
-  pub entry_is : (hole : Hole) (i : ℕ) (item : Item) → AreRising (keys_of payload) → slice_get items i ≡ Some item → item.path ≡ hole.path → fetch_item (string_bytes hole.url) (Some item.octets) hole.path ≡ entry_of payload hole
+  pub entry_is : (hole : Hole) (i : ℕ) (item : Item) → AreRising (keys_of payload) → slice_get items i ≡ Some item → item.path ≡ hole.path → fetch_item (string_bytes hole.url) (Some item.sums.length) hole.path ≡ entry_of payload hole
   entry_is hole i item rising there same =
       let at = item_at set items payload i item are there in
       let file = at.0 in
@@ -48,15 +48,15 @@ module _ (set : AlgSet) (items : List Item) (payload : Files) (are : AreItemsOf 
       let bag : Bag = record { files = payload; has_payload_dir = true } in
       let place : slice_get payload i ≡ Some (hole.path, file.1) = at.1 ∙ ap (λ (p : List ℕ). Some (p, file.1)) path_is in
       let found : lookup (bytes_eq hole.path) payload ≡ Some file.1 = text_of bag hole.path file.1 rising (i, place) in
-      let octets_are : item.octets ≡ length file.1 = at.2.length_is in
+      let octets_are : item.sums.length ≡ length file.1 = at.2.sums.0 in
       ap (λ (n : ℕ). fetch_item (string_bytes hole.url) (Some n) hole.path) octets_are
       ∙ ap (λ (octets : Option (List ℕ)). fetch_item (string_bytes hole.url) (option_map length octets) hole.path) (sym found)
 
   -- the entry of a hole as it is made from what a search found
-  pub entry_found : (hole : Hole) (i : ℕ) (item d : Item) (entry : FetchItem) (url path : List ℕ) → AreRising (keys_of payload) → slice_get items i ≡ Some item → item.path ≡ hole.path → url ≡ string_bytes hole.url → path ≡ hole.path → entry ≡ fetch_item url (Some (get_or items i d).octets) path → entry ≡ entry_of payload hole
+  pub entry_found : (hole : Hole) (i : ℕ) (item d : Item) (entry : FetchItem) (url path : List ℕ) → AreRising (keys_of payload) → slice_get items i ≡ Some item → item.path ≡ hole.path → url ≡ string_bytes hole.url → path ≡ hole.path → entry ≡ fetch_item url (Some (get_or items i d).sums.length) path → entry ≡ entry_of payload hole
   entry_found hole i item d entry url path rising there same url_is path_is made =
       let here : get_or items i d ≡ item = get_or_from_slice_get items i item d there in
-      made ∙ (λ t. fetch_item (url_is t) (Some (here t).octets) (path_is t)) ∙ entry_is hole i item rising there same
+      made ∙ (λ t. fetch_item (url_is t) (Some (here t).sums.length) (path_is t)) ∙ entry_is hole i item rising there same
 
 all_at : (P : List ℕ → Type 0) (paths : List (List ℕ)) (i : ℕ) (path : List ℕ) → AllByRecursion P paths → slice_get paths i ≡ Some path → P path
 all_at P [] i path all at = (let no : None ≡ Some path = at in cc)
@@ -113,7 +113,7 @@ module _ (set : AlgSet) (items : List Item) (files : Files) (are : AreItemsOf se
   at = item_at set items files i item are there
 
   -- the next item can be listed
-  pub next_admitted : (listing : Listing) → listing ≡ listing_by alg kind (take i files) → (digest : Digest) × (digest_in item.digests listing.alg ≡ Some digest) × Admits listing item.path digest
+  pub next_admitted : (listing : Listing) → listing ≡ listing_by alg kind (take i files) → (digest : Digest) × (digest_in item.sums.digests listing.alg ≡ Some digest) × Admits listing item.path digest
   next_admitted listing is =
       let file = at.0 in
       let path_is : item.path ≡ file.0 = at.2.path_is in
@@ -123,15 +123,15 @@ module _ (set : AlgSet) (items : List Item) (files : Files) (are : AreItemsOf se
         not_listed = not_before alg files i file can.rising at.1;
       } in (
         hash alg file.1,
-        subst (λ (l : Listing). digest_in item.digests l.alg ≡ Some (hash alg file.1)) (sym is) (item_digest set item file alg at.2 wanted),
+        subst (λ (l : Listing). digest_in item.sums.digests l.alg ≡ Some (hash alg file.1)) (sym is) (item_digest set item file alg at.2 wanted),
         subst (λ (l : Listing). Admits l item.path (hash alg file.1)) (sym is) (subst (λ (p : List ℕ). Admits (listing_by alg kind (take i files)) p (hash alg file.1)) (sym path_is) admitted),
       )
 
   -- the next item is listed
-  pub next_listed : (old new : Listing) → old ≡ listing_by alg kind (take i files) → ((digest : Digest) → digest_in item.digests old.alg ≡ Some digest → new ≡ with_pair old (pair item.path digest)) → i < length files → new ≡ listing_by alg kind (take (i + 1) files)
+  pub next_listed : (old new : Listing) → old ≡ listing_by alg kind (take i files) → ((digest : Digest) → digest_in item.sums.digests old.alg ≡ Some digest → new ≡ with_pair old (pair item.path digest)) → i < length files → new ≡ listing_by alg kind (take (i + 1) files)
   next_listed old new is adds within =
       let file = at.0 in
-      let digest : digest_in item.digests old.alg ≡ Some (hash alg file.1) = ap (λ (l : Listing). digest_in item.digests l.alg) is ∙ item_digest set item file alg at.2 wanted in
+      let digest : digest_in item.sums.digests old.alg ≡ Some (hash alg file.1) = ap (λ (l : Listing). digest_in item.sums.digests l.alg) is ∙ item_digest set item file alg at.2 wanted in
       let path_is : item.path ≡ file.0 = at.2.path_is in
       let here : get_or files i file ≡ file = (let both : Some (get_or files i file) ≡ Some file = sym (stands_at files i file within) ∙ at.1 in cc) in
       adds (hash alg file.1) digest

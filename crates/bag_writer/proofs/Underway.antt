@@ -16,7 +16,7 @@ use Rattle.bag_writer.specs.Writing.{payload_paths}
 use Rattle.bag_writer.specs.declared.copying.Copying.{Copying}
 use Rattle.bag_writer.specs.declared.item.Item.{Item}
 use Rattle.bag_writer.specs.declared.items.Items.{Items}
-use Rattle.bag_writer.specs.declared.payload_beside.BeginFault.{BeginFault}
+use Rattle.bag_writer.specs.declared.payload_beside.NotBegun.{NotBegun}
 use Rattle.bag_writer.specs.declared.spec.Spec.{Spec}
 use Rattle.bag_writer.specs.declared.write_fault.WriteFault.{WriteFault}
 use Rattle.bag_writer.specs.declared.write_fault.WriteFault.TheVariants.{Memory}
@@ -88,7 +88,7 @@ module _ {T S F G : Type 0} {d : Devices T S F G} {spec : Spec} {first tree : T}
         }
 
     -- IT WASN'T BEGUN
-    module _ {fault : BeginFault F G} (begins : BeginsNext d i copies more tree tree_new sink sink_new (Err fault)) where
+    module _ {fault : NotBegun F G} (begins : BeginsNext d i copies more tree tree_new sink sink_new (Err fault)) where
       moved : d.shown tree_new ≡ d.shown first
       moved = (begins.tree 0).kept.same ∙ at.out.kept.same
 

@@ -2,7 +2,7 @@
 use Rattle.std.proofs.Common.{◌≡◌, ◌↔◌, ◌∷◌, [], ℕ, true, List, None, refl, sym, subst, inl, inr}
 use Rattle.std.specs.List.Sorted.{IsStrictlySortedBy}
 use Rattle.bag_rules.specs.Transfers.{with_files}
-use Rattle.bag_rules.proofs.Words.{AreRising, Files, Has, Holds, keys_of}
+use Rattle.bag_rules.proofs.Words.{AreRising, Files, Has, HoldsFile, keys_of}
 use Rattle.bag_rules.proofs.HasLemmas.{has_at, place_of_has}
 use Rattle.bag_rules.proofs.PutFiles.{AreNew, has_with, rising_with}
 use Rattle.bag_writer.specs.Sinks.{Stored, nothing_stored, with_payload_dir}
@@ -26,7 +26,7 @@ opened = with_payload_dir nothing_stored
 
 -- the sink then holds these files, if no two have the same path
 module _ (files : Files) (new : AreNew [] files) where
-  pub holds_whole : (path octets : List ℕ) → Holds (with_wholes files opened).bag path octets ↔ Has files (path, octets)
+  pub holds_whole : (path octets : List ℕ) → HoldsFile (with_wholes files opened).bag path octets ↔ Has files (path, octets)
   holds_whole path octets =
       let all = with_wholes files opened in
       let with = has_with [] files (path, octets) new in (

@@ -47,8 +47,8 @@ pub record Work : Type 0 where
 
 -- ONE FILE
 
--- The file gave these octets so far, within the limit, and they were written to its copy, which has its path. Neither has
--- failed.
+-- The file gave these octets so far, within the limit, and they were written to its copy, which has its path. Neither
+-- has failed.
 pub record IsCopiedTo {F G : Type 0} (s : Sides F G) (work : Work) (octets : List ℕ) (source : F)
     (target : G) : Type 0 where
   pub path : List ℕ
@@ -126,7 +126,8 @@ pub record IsFirstStopped {F G : Type 0} (s : Sides F G) (work : Work) (set : Al
   pub here : (copy : Copying F G) → slice_get copies stop.place ≡ Some copy
       → IsStopped s work copy.source copy.target stop.fault
 
--- those from the place `first` to before the place `end` were copied to their ends if they had begun, or until one stopped
+-- those from the place `first` to before the place `end` were copied to their ends if they had begun, or until one
+-- stopped
 abbrev pub CopiesThem : {F G : Type 0} → Sides F G → AlgSet → ℕ → ℕ → List (Copying F G)
     → List (Copying F G) → Result (Unit {0}) CopyStop → Type 0
 CopiesThem s set first end old new result = (work : Work) → AreFresh s work set first end old
@@ -179,8 +180,8 @@ abbrev pub IsUnder : {F G : Type 0} → Sides F G → Work → MultiLanes → Al
 IsUnder s work multi set i hashed left copy =
     IsUnderBy s work multi set i hashed left copy copy.found
 
--- each from the place `first` to before the place `end`, in the lane at its place after `base`: its last piece is left, or
--- nothing is
+-- each from the place `first` to before the place `end`, in the lane at its place after `base`: its last piece is left,
+-- or nothing is
 abbrev pub AreUnder : {F G : Type 0} → Sides F G → Work → MultiLanes → AlgSet → ℕ → ℕ → ℕ → ℕ
     → List (Copying F G) → Type 0
 AreUnder {F} {G} s work multi set hashed base first end copies = (k : ℕ) (copy : Copying F G)

@@ -29,7 +29,7 @@ pub record IsWithHole (spec : Spec) : Type 0 where
   pub url : string_bytes hole.url ≡ codes "http://example.org/e"
 
 -- It is written with a manifest by SHA-256 and without elements and holes.
-pub record IsPlain (spec : Spec) : Type 0 where
+pub record IsPlainExample (spec : Spec) : Type 0 where
   pub algs : spec.algs ≡ record { md5 = false; sha1 = false; sha256 = true; sha512 = false }
   pub info : spec.info ≡ []
   pub holes : spec.holes.items ≡ []

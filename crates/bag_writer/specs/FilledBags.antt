@@ -5,7 +5,7 @@ use Rattle.std.specs.List.{AllByRecursion}
 use Rattle.std.specs.Map.{keys_of}
 use Rattle.bag_path.specs.Paths.{IsPath, is_payload}
 use Rattle.bag_tags.specs.Infos.{IsElement}
-use Rattle.bag_rules.specs.Bags.{Bag, Holds, paths_of}
+use Rattle.bag_rules.specs.Bags.{Bag, HoldsFile, paths_of}
 use Rattle.bag_rules.specs.Faults.{Has}
 use Rattle.bag_rules.specs.Files.{Files}
 use Rattle.bag_rules.specs.Trees.{AreRising}
@@ -29,5 +29,5 @@ pub record IsPayloadFor (spec : Spec) (payload : Files) : Type 0 where
 pub record IsFilled (spec : Spec) (payload : Files) (bag : Bag) : Type 0 where
   pub rising : AreRising (paths_of bag)
   pub has_payload_dir : bag.has_payload_dir ≡ true
-  pub exact : (path octets : List ℕ) → Holds bag path octets
+  pub exact : (path octets : List ℕ) → HoldsFile bag path octets
       ↔ (Has payload (path, octets) ⊎ Has (tag_files spec payload) (path, octets))

@@ -1,5 +1,5 @@
--- Several files that were copied side by side, and what is there once they were ended or one of them stopped. Private functions alone
--- cite these.
+-- Several files that were copied side by side, and what is there once they were ended or one of them stopped. Private
+-- functions alone cite these.
 use Rattle.std.specs.Prelude.{◌≡◌, ◌<◌, ◌≤◌, ◌++◌, ℕ, Bool, false, List, Option, Some, IsSomeAnd, length, map, slice_get, take}
 use Rattle.std.specs.List.{AllZip}
 use Rattle.bag_digest.specs.Failures.{CountsIf}
@@ -21,7 +21,7 @@ use Rattle.bag_writer.specs.Writing.{HasLongFile, IsMetLater}
 use Rattle.bag_writer.specs.declared.copying.Copying.{Copying}
 use Rattle.bag_writer.specs.declared.copying.CopyStop.{CopyStop}
 use Rattle.bag_writer.specs.declared.items.Items.{Items}
-use Rattle.bag_writer.specs.declared.items.TheConstants.{BUFFER}
+use Rattle.bag_digest.specs.declared.streams.TheConstants.{FRONT}
 use Rattle.bag_writer.specs.declared.payload.CopyFault.{CopyFault}
 use Rattle.bag_writer.specs.declared.payload.CopyFault.TheVariants as copy
 use Rattle.bag_writer.specs.declared.write_fault.Large.TheVariants.{File}
@@ -59,7 +59,7 @@ pub record IsTakenOf {F G : Type 0} (place : F → ℕ) (shown : Shown) (set : A
     (each : Copying F G) (file : List ℕ × List ℕ) : Type 0 where
   pub at : IsFileAt shown (place each.source) file
   pub within : length file.1 ≤ LARGEST_FILE
-  pub short : length each.piece.items ≤ BUFFER
+  pub short : length each.piece.items ≤ FRONT
   pub found_is : IsSomeAnd each.found (λ found. IsFoundOf set each.piece.items found file.1)
 
 abbrev pub AreTakenOf : {F G : Type 0} → (F → ℕ) → Shown → AlgSet → List (Copying F G) → Files
@@ -81,8 +81,8 @@ pub record AreCompleted {F G : Type 0} (s : Sides F G) (shown : Shown) (set : Al
   pub unfailed : AreUnfailed s.failures s.copy_failures copies
   pub whole : AreWhole files old new
 
--- Of the files at some of the first of these places part was written. One of them is at this place, and is too large if that is
--- the fault.
+-- Of the files at some of the first of these places part was written. One of them is at this place, and is too large if
+-- that is the fault.
 pub record IsCutBy (shown : Shown) (places : List ℕ) (place : ℕ) (old new : Option Stored)
     (fault : CopyFault) : Type 0 where
   pub count : ℕ
@@ -111,8 +111,8 @@ pub record AreFinished (set : AlgSet) (shown : Shown) (places : List ℕ) (items
   pub added : AddsFiles set files items more
   pub whole : AreWhole files old new
 
--- With this fault, of the files at some of the first of these places part was written, and one of them is named if it is too
--- large.
+-- With this fault, of the files at some of the first of these places part was written, and one of them is named if it
+-- is too large.
 pub record IsCutAt (shown : Shown) (places : List ℕ) (old new : Option Stored)
     (fault : WriteFault) : Type 0 where
   pub met : IsMetLater fault

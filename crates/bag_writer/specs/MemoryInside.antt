@@ -18,7 +18,7 @@ view_of sink = record {
 }
 
 -- no file of the tree was started, and no read has failed
-pub record IsSound (sink : Inside) : Type 0 where
+pub record IsSoundSink (sink : Inside) : Type 0 where
   pub tree : sink.ended ≡ tree_of (bag_in sink.ended)
 
 -- the file has this path and these octets

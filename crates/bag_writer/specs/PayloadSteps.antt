@@ -3,7 +3,7 @@ use Rattle.std.specs.Prelude.{◌≡◌, ◌++◌, ◌∷◌, ◌<◌, ◌≤◌
 use Rattle.std.specs.Io.KnownBytes.{Consumes}
 use Rattle.std.specs.Option.{option_map}
 use Rattle.std.specs.declared.alloc.Global.{Global}
-use Rattle.bag_digest.specs.Reading.{GaveAll, IsCountAndDigests}
+use Rattle.bag_digest.specs.Reading.{AreSums, GaveAll}
 use Rattle.bag_digest.specs.declared.algorithm.AlgSet.{AlgSet}
 use Rattle.bag_digest.specs.declared.reading.SourceRead.{SourceRead}
 use Rattle.bag_digest.specs.declared.reading.SourceRead.TheVariants.{Whole, Hashed}
@@ -25,15 +25,15 @@ use Rattle.bag_writer.specs.declared.payload.CopyFault.TheVariants as copy
 
 -- OCTETS FROM A SOURCE TO A SINK
 
--- these octets were found: they are at the front of the buffer, or this is their number with their digests
+-- these octets were found: they are at the front of the buffer, or these are their sums
 abbrev pub IsFoundOf : AlgSet → List ℕ → SourceRead → List ℕ → Type 0
 IsFoundOf set buffer (Whole n) octets = (n ≤ length buffer) × (take n buffer ≡ octets)
-IsFoundOf set buffer (Hashed n digests) octets = IsCountAndDigests (n, digests) set octets
+IsFoundOf set buffer (Hashed sums) octets = AreSums sums set octets
 
 -- what was found is within the buffer, if it is there
-abbrev pub IsWithin : List ℕ → SourceRead → Type 0
-IsWithin buffer (Whole n) = n ≤ length buffer
-IsWithin buffer (Hashed n digests) = Unit {0}
+abbrev pub IsInBuffer : List ℕ → SourceRead → Type 0
+IsInBuffer buffer (Whole n) = n ≤ length buffer
+IsInBuffer buffer (Hashed sums) = Unit {0}
 
 -- the source was read to its end, within the limit of a file, and these octets were found
 pub record IsReadWhole (set : AlgSet) (source left : Option (List ℕ)) (buffer : List ℕ)
@@ -92,8 +92,8 @@ pub record IsCutShort (is_hole : Bool) (file : List ℕ × List ℕ)
 
 -- ALL FILES
 
--- This was written of some payload, which is that of the tree's bag if that is known: all of it, with these items, or part of it,
--- with a fault.
+-- This was written of some payload, which is that of the tree's bag if that is known: all of it, with these items, or
+-- part of it, with a fault.
 abbrev pub IsWrittenOf : Shown → Spec → Option Stored → Option Stored
     → Result (Vec Item Global) WriteFault → Type 0
 IsWrittenOf shown spec old new result = (payload : Files) × IsReadFrom shown payload

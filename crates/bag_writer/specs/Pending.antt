@@ -7,11 +7,11 @@ use Rattle.bag_rules.specs.Files.{Files}
 use Rattle.bag_rules.specs.Trees.{Shown, octets_in, paths_in}
 use Rattle.bag_writer.specs.Copying.{IsFresh, IsStopped, Sides, Work}
 use Rattle.bag_writer.specs.Sinks.{IsFree, Stored}
-use Rattle.bag_writer.specs.declared.payload_beside.BeginFault.{BeginFault}
-use Rattle.bag_writer.specs.declared.payload_beside.BeginFault.TheVariants.{Memory, Stopped, Unopened}
+use Rattle.bag_writer.specs.declared.payload_beside.NotBegun.{NotBegun}
+use Rattle.bag_writer.specs.declared.payload_beside.NotBegun.TheVariants.{Memory, Stopped, Unopened}
 use Rattle.bag_writer.specs.declared.copying.Copying.{Copying}
 use Rattle.bag_writer.specs.declared.copying.CopyStop.{CopyStop}
-use Rattle.bag_writer.specs.declared.items.TheConstants.{BUFFER}
+use Rattle.bag_digest.specs.declared.streams.TheConstants.{FRONT}
 use Rattle.bag_writer.specs.declared.payload.CopyFault.TheVariants.{Sink}
 
 abbrev pub work_of : Shown → Bool → Bool → Work
@@ -37,8 +37,8 @@ pub record IsReadable {F : Type 0} (place : F → ℕ) (remaining : F → Option
   pub unfailed : failures file ≡ 0
   pub is_ready : sure → ready file
 
--- A file was opened, and a copy of it begun. Nothing was read, and nothing written. If the copy couldn't be begun, it has
--- failed.
+-- A file was opened, and a copy of it begun. Nothing was read, and nothing written. If the copy couldn't be begun, it
+-- has failed.
 pub record CanCopy {F G : Type 0} (s : Sides F G) (work : Work) (i : ℕ) (each : Copying F G)
     : Type 0 where
   pub placed : s.place each.source ≡ i
@@ -60,8 +60,8 @@ pub record IsHeld {F G : Type 0} (old new : List (Copying F G)) (each : Copying 
   pub source_is : last.source ≡ each.source
   pub target_is : last.target ≡ each.target
   pub piece_is : last.piece.items ≡ front
-  pub whole : length front < BUFFER → last.found ≡ Some (Whole (length front))
-  pub more : BUFFER ≤ length front → last.found ≡ None
+  pub whole : length front < FRONT → last.found ≡ Some (Whole (length front))
+  pub more : FRONT ≤ length front → last.found ≡ None
 
 -- one file more, that at this place, of which a first piece was copied, or all
 pub record AddsCopy {F G : Type 0} (s : Sides F G) (work : Work) (i : ℕ)
@@ -70,15 +70,15 @@ pub record AddsCopy {F G : Type 0} (s : Sides F G) (work : Work) (i : ℕ)
   pub all : new ≡ old ++ last ∷ []
   pub placed : s.place last.source ≡ i
   pub fresh : (set : AlgSet) → IsFresh s work set last
-  pub full : last.found ≡ None → length last.piece.items ≡ BUFFER
+  pub full : last.found ≡ None → length last.piece.items ≡ FRONT
 
 -- how many files come with a fault, and how many copies; what it says of the file at this place
-abbrev pub files_with : {F G : Type 0} → BeginFault F G → ℕ
+abbrev pub files_with : {F G : Type 0} → NotBegun F G → ℕ
 files_with Memory = 0
 files_with (Unopened file) = 1
 files_with (Stopped fault each) = 1
 
-abbrev pub copies_with : {F G : Type 0} → BeginFault F G → ℕ
+abbrev pub copies_with : {F G : Type 0} → NotBegun F G → ℕ
 copies_with Memory = 0
 copies_with (Unopened file) = 0
 copies_with (Stopped fault each) = 1
@@ -87,12 +87,12 @@ copies_with (Stopped fault each) = 1
 abbrev pub IsUnopened : {F : Type 0} → (F → ℕ) → (F → ℕ) → ℕ → F → Type 0
 IsUnopened place failures i file = (place file ≡ i) × (0 < failures file)
 
-abbrev pub IsOpenFault : {F G : Type 0} → (F → ℕ) → (F → ℕ) → Type 0 → ℕ → BeginFault F G → Type 0
+abbrev pub IsOpenFault : {F G : Type 0} → (F → ℕ) → (F → ℕ) → Type 0 → ℕ → NotBegun F G → Type 0
 IsOpenFault place failures sure i Memory = Unit {0}
 IsOpenFault place failures sure i (Unopened file) = IsUnopened place failures i file × ¬ sure
 IsOpenFault place failures sure i (Stopped fault each) = ⊥
 
-abbrev pub IsBeginFault : {F G : Type 0} → Sides F G → Work → ℕ → BeginFault F G → Type 0
+abbrev pub IsBeginFault : {F G : Type 0} → Sides F G → Work → ℕ → NotBegun F G → Type 0
 IsBeginFault s work i Memory = Unit {0}
 IsBeginFault s work i (Unopened file) = IsUnopened s.place s.failures i file
     × (work.tree_sure ≢ true)

@@ -73,8 +73,8 @@ pub record HasStoppedFirst {F G : Type 0} (place : F → ℕ) (failures : F → 
   pub here : (each : Copying F G) → slice_get copies stop.place ≡ Some each
       → IsStoppedAt place failures copy_place copy_failures shown stop.fault each
 
--- The fault of the writer for that of the file at this place. It is said that the tree failed, or the sink, exactly if that is so;
--- and if something is too large, it is this file.
+-- The fault of the writer for that of the file at this place. It is said that the tree failed, or the sink, exactly if
+-- that is so; and if something is too large, it is this file.
 pub record IsToldOf (shown : Shown) (place : ℕ) (fault : CopyFault) (told : WriteFault)
     : Type 0 where
   pub met : IsMetLater told

@@ -11,7 +11,7 @@ use Rattle.bag_writer.specs.declared.copying.Copying.{Copying}
 use Rattle.bag_writer.specs.declared.copying.CopyStop.{CopyStop}
 use Rattle.bag_writer.specs.declared.items.Items.{Items}
 use Rattle.bag_writer.specs.declared.payload.CopyFault.TheVariants as copy
-use Rattle.bag_writer.specs.declared.payload_beside.BeginFault.{BeginFault}
+use Rattle.bag_writer.specs.declared.payload_beside.NotBegun.{NotBegun}
 use Rattle.bag_writer.specs.declared.sink.Sink.{Ghosts as SinkOf}
 use Rattle.bag_writer.specs.declared.write_fault.WriteFault.{WriteFault}
 use Rattle.bag_writer.specs.declared.write_fault.WriteFault.TheVariants.{Sink, Tree}
@@ -37,7 +37,7 @@ devices shown failures sure sink files = record {
 -- the next file was begun and is out with its copy, or what comes with the fault is
 pub record BeginsNext {T S F G : Type 0} (d : Devices T S F G) (i : ℕ)
     (old new : List (Copying F G)) (tree_old tree_new : T) (sink_old sink_new : S)
-    (result : Result (Unit {0}) (BeginFault F G)) : Type 0 where
+    (result : Result (Unit {0}) (NotBegun F G)) : Type 0 where
   pub begun : (tree_sure sink_sure : Bool) → (tree_sure ≡ true → d.sure tree_old)
       → (sink_sure ≡ true → CanBegin (d.sink.sure sink_old) (d.sink.is_open sink_old)
       (d.sink.stored sink_old) (d.shown tree_old) i)
@@ -70,8 +70,8 @@ pub record Completes {S F G : Type 0} (s : Sides F G) (sink : SinkOf S) (set : A
   pub as_open : sink.is_open after ≡ sink.is_open before
   pub stays_sure : sink.sure before → sink.sure after
 
--- Where this holds of the files too: that the tree failed isn't told if it is sure, and that the sink did isn't if it is sure
--- and can end the files.
+-- Where this holds of the files too: that the tree failed isn't told if it is sure, and that the sink did isn't if it
+-- is sure and can end the files.
 abbrev pub TellsTruly : {T S F G : Type 0} → Devices T S F G → AlgSet → List (Copying F G) → T → S
     → (Work → Type 0) → Type 0 → Type 0 → Type 0
 TellsTruly d set copies tree sink Too tree_failed sink_failed = (tree_sure sink_sure : Bool)
@@ -97,8 +97,8 @@ pub record Finishes {T S F G : Type 0} (d : Devices T S F G) (set : AlgSet)
   pub sink : EndsCopies d.sink.is_open d.sink.failures d.sink.sure (length copies)
       (IsErrOf result Sink) sink_old sink_new
 
--- Files that are under way were ended, or one has stopped, before what stopped the next one is told. Of that so many files and
--- copies are out too, and this holds. Part of the files at these places was written, and all are taken back.
+-- Files that are under way were ended, or one has stopped, before what stopped the next one is told. Of that so many
+-- files and copies are out too, and this holds. Part of the files at these places was written, and all are taken back.
 pub record Stops {T S F G : Type 0} (d : Devices T S F G) (set : AlgSet)
     (copies : List (Copying F G)) (Next : Work → Type 0) (places : List ℕ) (files out : ℕ)
     (tree_old tree_new : T) (sink_old sink_new : S) (told : WriteFault) : Type 0 where
@@ -112,7 +112,7 @@ pub record Stops {T S F G : Type 0} (d : Devices T S F G) (set : AlgSet)
 
 -- the same where what stopped is how the next file, that at some place, was to be begun
 abbrev pub StopsBegun : {T S F G : Type 0} → Devices T S F G → AlgSet → List (Copying F G)
-    → BeginFault F G → T → T → S → S → WriteFault → Type 0
+    → NotBegun F G → T → T → S → S → WriteFault → Type 0
 StopsBegun d set copies fault tree_old tree_new sink_old sink_new told = (i : ℕ)
     → IsBeginFault d.files (work_of (d.shown tree_old) false false) i fault
     → Stops d set copies (λ work. IsBeginFault d.files work i fault)

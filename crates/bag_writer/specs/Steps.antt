@@ -4,7 +4,7 @@ use Rattle.std.specs.List.{AllByRecursion, filter, fold, list_any}
 use Rattle.std.specs.Map.{keys_of}
 use Rattle.std.specs.Option.{option_map}
 use Rattle.std.specs.Str.{bytes_eq}
-use Rattle.bag_digest.specs.Hash.{AreDigests}
+use Rattle.bag_digest.specs.Reading.{AreSums}
 use Rattle.bag_digest.specs.declared.algorithm.AlgSet.{AlgSet}
 use Rattle.bag_path.specs.Paths.{is_payload}
 use Rattle.bag_rules.specs.Bags.{paths_of}
@@ -77,11 +77,10 @@ NamesLong named files limit fault = (large : Large) → fault ≡ TooLarge large
 
 -- WHAT WAS READ
 
--- the path of the file, the number of its octets, and their digests
+-- the path of the file, and its sums
 pub record IsItemOf (set : AlgSet) (item : Item) (path octets : List ℕ) : Type 0 where
   pub path_is : item.path ≡ path
-  pub length_is : item.octets ≡ length octets
-  pub digests_are : AreDigests item.digests set octets
+  pub sums : AreSums item.sums set octets
 
 -- each item is that of the file at its place
 abbrev pub AreItemsOf : AlgSet → List Item → Files → Type 0

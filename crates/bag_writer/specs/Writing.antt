@@ -8,7 +8,7 @@ use Rattle.bag_digest.specs.declared.algorithm.Alg.{Alg}
 use Rattle.bag_tags.specs.FetchEntries.{IsUrl}
 use Rattle.bag_tags.specs.Infos.{MetadataElement, is_oxum}
 use Rattle.bag_tags.specs.declared.oxum.Oxum.{Oxum}
-use Rattle.bag_rules.specs.Bags.{Bag, Holds, IsBagOf, octet_count, payload_of}
+use Rattle.bag_rules.specs.Bags.{Bag, HoldsFile, IsBagOf, octet_count, payload_of}
 use Rattle.bag_rules.specs.Faults.{Has}
 use Rattle.bag_rules.specs.Files.{Files}
 use Rattle.bag_rules.specs.Opening.{IsFirstPath, IsFolderAmong}
@@ -79,15 +79,15 @@ pub record IsAccepted (paths : List (List ℕ)) (spec : Spec) : Type 0 where
   pub no_clash : (path : List ℕ) → ¬ IsFolderAmong paths path
 
 -- the first reason in this order why it can't; `Memory` says nothing, and other faults come later
-abbrev pub Refuses : List (List ℕ) → Spec → WriteFault → Type 0
-Refuses paths spec NoAlgorithm = (alg : Alg) → has spec.algs alg ≡ false
-Refuses paths spec OxumGiven = HasAlgorithm spec × GivesOxum spec
-Refuses paths spec (BadHole i) = HasAlgorithm spec × (¬ GivesOxum spec)
+abbrev pub RefusesBag : List (List ℕ) → Spec → WriteFault → Type 0
+RefusesBag paths spec NoAlgorithm = (alg : Alg) → has spec.algs alg ≡ false
+RefusesBag paths spec OxumGiven = HasAlgorithm spec × GivesOxum spec
+RefusesBag paths spec (BadHole i) = HasAlgorithm spec × (¬ GivesOxum spec)
     × IsFirstBadHole paths spec.holes.items i
-Refuses paths spec (Clash path) = HasAlgorithm spec × (¬ GivesOxum spec)
+RefusesBag paths spec (Clash path) = HasAlgorithm spec × (¬ GivesOxum spec)
     × ((i : ℕ) → ¬ IsBadHole paths spec.holes.items i) × IsFirstPath (IsFolderAmong paths) path
-Refuses paths spec Memory = Unit {0}
-Refuses paths spec fault = IsAccepted paths spec
+RefusesBag paths spec Memory = Unit {0}
+RefusesBag paths spec fault = IsAccepted paths spec
 
 -- It isn't accepted, or something would be too large even if every payload file were empty. Nothing is written.
 abbrev pub IsRefusedUnwritten : List (List ℕ) → Spec → Type 0
@@ -127,7 +127,7 @@ pub record HasWhole (spec : Spec) (payload : Files) (stored : Stored) : Type 0 w
 
 -- part of the bag is there: some of its files, and a front of one more
 pub record HasPart (spec : Spec) (payload : Files) (stored : Stored) : Type 0 where
-  pub files : (path octets : List ℕ) → Holds stored.bag path octets
+  pub files : (path octets : List ℕ) → HoldsFile stored.bag path octets
       → IsFileOf spec payload path octets
   pub begun : (file : Begun) → stored.begun ≡ Some file
       → (rest : List ℕ) × IsFileOf spec payload file.path (file.octets ++ rest)

@@ -20,7 +20,7 @@ use Rattle.bag_tags.specs.declared.listing.Kind.{Kind}
 use Rattle.bag_tags.specs.declared.listing.Kind.TheVariants.{Payload, Tag}
 use Rattle.bag_tags.specs.declared.listing.Pair.{Pair}
 use Rattle.bag_tags.specs.declared.name.LineFile.TheVariants.{Info, FetchList}
-use Rattle.bag_rules.specs.Bags.{Bag, Holds, declaration_file, octet_count, paths_of}
+use Rattle.bag_rules.specs.Bags.{Bag, HoldsFile, declaration_file, octet_count, paths_of}
 use Rattle.bag_rules.specs.Faults.{Has}
 use Rattle.bag_rules.specs.Files.{Files}
 use Rattle.bag_rules.specs.Trees.{AreRising}
@@ -88,4 +88,4 @@ IsFileOf spec payload path octets = (Has payload (path, octets) × ¬ IsHole spe
 pub record IsWritten (spec : Spec) (payload : Files) (bag : Bag) : Type 0 where
   pub rising : AreRising (paths_of bag)
   pub has_payload_dir : bag.has_payload_dir ≡ true
-  pub exact : (path octets : List ℕ) → Holds bag path octets ↔ IsFileOf spec payload path octets
+  pub exact : (path octets : List ℕ) → HoldsFile bag path octets ↔ IsFileOf spec payload path octets

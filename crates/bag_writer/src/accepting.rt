@@ -5,7 +5,7 @@ ghost use Rattle.bag_rules.specs.Trees.{paths_in};
 ghost use Rattle.bag_tags.specs.Infos.{is_oxum};
 ghost use Rattle.bag_writer.specs.Accepting.{AreMarks, Marks, RefusesHoles};
 ghost use Rattle.bag_writer.specs.Steps.{AreHoleMarks};
-ghost use Rattle.bag_writer.specs.Writing.{IsAccepted, IsBadHole, IsMetBefore, Refuses, payload_paths};
+ghost use Rattle.bag_writer.specs.Writing.{IsAccepted, IsBadHole, IsMetBefore, RefusesBag, payload_paths};
 ghost use Rattle.bag_writer.specs.declared.spec.Hole.{Hole};
 
 use crate::spec::{Hole, Spec};
@@ -27,7 +27,7 @@ pub(crate) fn accepted_holes<P: Paths>(
 ) -> Result<Vec<bool>, WriteFault>
     ensures accepted { MatchResult result
         (λ marks. IsAccepted (payload_paths (P.shown tree.now)) spec.now)
-        (λ fault. Refuses (payload_paths (P.shown tree.now)) spec.now fault
+        (λ fault. RefusesBag (payload_paths (P.shown tree.now)) spec.now fault
         × IsMetBefore fault) }
     ensures marks { IfOk result (λ marks.
         AreHoleMarks (paths_in (P.shown tree.now)) spec.now marks.items) }

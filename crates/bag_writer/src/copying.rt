@@ -9,7 +9,7 @@ ghost use Rattle.bag_writer.specs.declared.copying.Copying.{Copying};
 
 use crate::open_sink::SinkFile;
 use crate::payload::CopyFault;
-use bag_digest::{AlgSet, FRONT, Failed, Multi, MultiLanes, SourceFault, SourceRead, fill};
+use bag_digest::{AlgSet, FRONT, Failed, Multi, MultiLanes, SourceFault, SourceRead, Sums, fill};
 use bag_rules::OpenFile;
 use bag_rules::limits::LARGEST_FILE;
 
@@ -35,13 +35,13 @@ pub(crate) struct CopyStop {
     pub(crate) fault: CopyFault,
 }
 
-/// Copies each file to its end, four at a time, and takes their digests by each algorithm of the set, side by side. One that
-/// is left alone is copied alone. Allocates no memory.
+/// Copies each file to its end, four at a time, and takes their digests by each algorithm of the set, side by side. One
+/// that is left alone is copied alone. Allocates no memory.
 ///
 /// # Errors
 ///
-/// The first file, in their order, that stopped. Those before it were copied to their ends. Those behind it are given up:
-/// they may have failed too, and that is not told.
+/// The first file, in their order, that stopped. Those before it were copied to their ends. Those behind it are given
+/// up: they may have failed too, and that is not told.
 pub(crate) fn copy_each<F: OpenFile, G: SinkFile>(
     set: AlgSet,
     copies: &mut [Copying<F, G>],
@@ -132,7 +132,10 @@ fn copy_alone<F: OpenFile, G: SinkFile>(
         multi.update(&copy.piece[..n]);
         total += n as u64;
         if n < copy.piece.len() {
-            copy.found = Some(SourceRead::Hashed(total, multi.finish()));
+            copy.found = Some(SourceRead::Hashed(Sums {
+                length: total,
+                digests: multi.finish(),
+            }));
             return Ok(());
         }
     }
@@ -251,8 +254,8 @@ fn advance_each<F: OpenFile, G: SinkFile>(
     Ok(())
 }
 
-/// Copies the next piece of the file whose stream is in lane `i`, after as many octets as were hashed. If the file ends within it,
-/// the digests are taken.
+/// Copies the next piece of the file whose stream is in lane `i`, after as many octets as were hashed. If the file ends
+/// within it, the digests are taken.
 fn advance<F: OpenFile, G: SinkFile>(
     multi: &mut MultiLanes,
     i: usize,
@@ -280,13 +283,16 @@ fn advance<F: OpenFile, G: SinkFile>(
     )?;
     if n < copy.piece.len() {
         let digests = multi.finish(i, &copy.piece[..n]);
-        copy.found = Some(SourceRead::Hashed(hashed + n as u64, digests));
+        copy.found = Some(SourceRead::Hashed(Sums {
+            length: hashed + n as u64,
+            digests,
+        }));
     }
     Ok(())
 }
 
-/// Reads the next piece of a file into the buffer, after as many octets as were copied, and writes it to the copy. Answers how
-/// many octets it has: less than the buffer if the file ends with them.
+/// Reads the next piece of a file into the buffer, after as many octets as were copied, and writes it to the copy.
+/// Answers how many octets it has: less than the buffer if the file ends with them.
 pub(crate) fn copy_piece<F: OpenFile, G: SinkFile>(
     buffer: &mut [u8],
     source: &mut F,

@@ -1,7 +1,7 @@
 //! Worked examples of the definitions. The contract of each function states one, and its body is empty.
 ghost use Rattle.std.specs.Prelude.{◌≡◌, ◌++◌, ◌∷◌, [], codes};
 ghost use Rattle.bag_path.specs.Octets.{lf};
-ghost use Rattle.bag_writer.specs.ExampleBags.{IsPlain, IsWithHole, lengths_of, payload_of_two};
+ghost use Rattle.bag_writer.specs.ExampleBags.{IsPlainExample, IsWithHole, lengths_of, payload_of_two};
 ghost use Rattle.bag_writer.specs.FilledBags.{IsPayloadFor};
 ghost use Rattle.bag_writer.specs.WrittenBags.{fetch_files, info_file, tag_files};
 ghost use Rattle.bag_writer.specs.declared.spec.Spec.{Spec};
@@ -23,7 +23,7 @@ pub fn a_bag_with_a_hole_has_these_tag_files()
 
 /// Without payload files the Oxum says no octets in no files, and the manifest lists nothing.
 pub fn an_empty_bag_has_these_tag_files()
-    ensures { (spec : Spec) → IsPlain spec
+    ensures { (spec : Spec) → IsPlainExample spec
         → lengths_of (tag_files spec [])
         ≡ (codes "bag-info.txt", 18) ∷ (codes "bagit.txt", 54) ∷ (codes "manifest-sha256.txt", 0)
         ∷ (codes "tagmanifest-sha256.txt", 241) ∷ [] }
@@ -32,5 +32,5 @@ pub fn an_empty_bag_has_these_tag_files()
 /// Bags can be written of these payloads.
 pub fn such_bags_are_written()
     ensures hole { (spec : Spec) → IsWithHole spec → IsPayloadFor spec payload_of_two }
-    ensures plain { (spec : Spec) → IsPlain spec → IsPayloadFor spec [] }
+    ensures plain { (spec : Spec) → IsPlainExample spec → IsPayloadFor spec [] }
 {}

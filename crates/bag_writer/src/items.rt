@@ -3,19 +3,16 @@ ghost use Rattle.std.specs.Prelude.{◌≡◌, ◌<◌, ◌≤◌, ◌++◌, ◌
 ghost use Rattle.bag_digest.specs.declared.algorithm.AlgSet.{AlgSet};
 ghost use Rattle.bag_rules.specs.Files.{Files};
 ghost use Rattle.bag_writer.specs.declared.write_fault.WriteFault.{WriteFault};
-ghost use Rattle.bag_writer.specs.declared.items.TheConstants.{BUFFER, MOST_HELD};
+ghost use Rattle.bag_digest.specs.declared.streams.TheConstants.{FRONT};
+ghost use Rattle.bag_writer.specs.declared.items.TheConstants.{MOST_HELD};
 
 use crate::item::Item;
 use crate::write_fault::WriteFault;
-use bag_digest::{AlgSet, PIECE, SourceRead, digest_each};
+use bag_digest::{AlgSet, FRONT, SourceRead, Sums, digest_each};
 use bag_path::BagPath;
 use std::alloc::Global;
 
-/// The length in octets of the buffer that files are read through. One that ends within it is held until its digests are
-/// taken.
-pub(crate) const BUFFER: usize = 2 * PIECE;
-
-/// How many files are held at most. None is longer than the buffer, so no more than 4 MiB are held.
+/// How many files are held at most. None is longer than a front ([`FRONT`] octets), so no more than 4 MiB are held.
 const MOST_HELD: usize = 32;
 
 /// The items of files, in order. The last files may be held: their digests have not been taken yet.
@@ -31,12 +28,12 @@ pub(crate) struct Items {
     messages: Vec<Vec<u8>>,
     ghost paired: { vec_len paths ≡ vec_len messages },
     ghost few: { vec_len messages ≤ MOST_HELD },
-    ghost small: { All (λ message. length message.items ≤ BUFFER) messages.items },
+    ghost small: { All (λ message. length message.items ≤ FRONT) messages.items },
 }
 
 impl Items {
     ghost use Rattle.bag_writer.specs.HeldFiles.{AddsFile, AreItemsSoFar};
-    ghost use Rattle.bag_writer.specs.PayloadSteps.{IsFoundOf, IsWithin};
+    ghost use Rattle.bag_writer.specs.PayloadSteps.{IsFoundOf, IsInBuffer};
     ghost use Rattle.bag_writer.specs.Steps.{AreItemsOf, IsItemOf};
 
     /// No file yet. Digests are taken by the algorithms of the set.
@@ -72,22 +69,15 @@ impl Items {
         found: SourceRead,
         buffer: &[u8],
     ) -> Result<Items, WriteFault>
-        requires room { length buffer.now ≤ BUFFER }
-        requires within { IsWithin buffer.now found }
+        requires room { length buffer.now ≤ FRONT }
+        requires within { IsInBuffer buffer.now found }
         ensures added { (set : AlgSet) (octets : List ℕ) → IsFoundOf set buffer.now found octets
             → IfOk result (AddsFile set (path, octets) self) }
         ensures err { IfErr result (λ fault. fault ≡ WriteFault.Memory) }
     {
         match found {
             SourceRead::Whole(n) => self.hold(alloc, path, &buffer[..n]),
-            SourceRead::Hashed(octets, digests) => self.add_hashed(
-                alloc,
-                Item {
-                    path,
-                    octets,
-                    digests,
-                },
-            ),
+            SourceRead::Hashed(sums) => self.add_hashed(alloc, Item { path, sums }),
         }
     }
 
@@ -105,7 +95,7 @@ impl Items {
 
     /// Adds a file with these octets, which is held.
     fn hold(self, alloc: Global, path: BagPath, octets: &[u8]) -> Result<Items, WriteFault>
-        requires { length octets.now ≤ BUFFER }
+        requires { length octets.now ≤ FRONT }
         ensures held { (set : AlgSet) → IfOk result (AddsFile set (path, octets.now) self) }
         ensures err { IfErr result (λ fault. fault ≡ WriteFault.Memory) }
     {
@@ -130,7 +120,7 @@ impl Items {
     /// Holds one more file, with these octets.
     fn with_held(self, alloc: Global, path: BagPath, octets: &[u8]) -> Result<Items, WriteFault>
         requires room { vec_len self.messages < MOST_HELD }
-        requires small { length octets.now ≤ BUFFER }
+        requires small { length octets.now ≤ FRONT }
         ensures held { (set : AlgSet) → IfOk result (AddsFile set (path, octets.now) self) }
         ensures err { IfErr result (λ fault. fault ≡ WriteFault.Memory) }
     {
@@ -168,11 +158,11 @@ impl Items {
         let mut items = ready;
         let mut place = 0;
         for path in paths {
-            items.push(Item {
-                path,
-                octets: messages[place].len() as u64,
+            let sums = Sums {
+                length: messages[place].len() as u64,
                 digests: digests[place],
-            })?;
+            };
+            items.push(Item { path, sums })?;
             place += 1;
         }
         Ok(items)

@@ -19,14 +19,15 @@ ghost use Rattle.bag_writer.specs.FilledBags.{IsFilled, IsPayloadFor};
 ghost use Rattle.bag_writer.specs.WrittenBags.{IsWritten, manifest_of, tag_files};
 ghost use Rattle.bag_writer.specs.Writing.{empty_files};
 ghost use Rattle.bag_writer.specs.declared.payload_beside.TheConstants.{MOST_COPIED};
-ghost use Rattle.bag_writer.specs.declared.items.TheConstants.{BUFFER, MOST_HELD};
+ghost use Rattle.bag_digest.specs.declared.streams.TheConstants.{FRONT};
+ghost use Rattle.bag_writer.specs.declared.items.TheConstants.{MOST_HELD};
 ghost use Rattle.bag_writer.specs.declared.spec.Spec.{Spec};
 
-/// The payload files that are held until their digests are taken have at most 4 MiB, however many there are; and so have the
-/// pieces of those that are copied side by side, of which at most 32 are open.
+/// The payload files that are held until their digests are taken have at most 4 MiB, however many there are; and so
+/// have the pieces of those that are copied side by side, of which at most 32 are open.
 pub fn a_new_bag_holds_at_most_twice_4_mebibytes()
-    ensures held { MOST_HELD * BUFFER ≤ 4 * 1048576 }
-    ensures pieces { MOST_COPIED * BUFFER ≤ 4 * 1048576 }
+    ensures held { MOST_HELD * FRONT ≤ 4 * 1048576 }
+    ensures pieces { MOST_COPIED * FRONT ≤ 4 * 1048576 }
     ensures files { MOST_COPIED ≤ 32 }
 {}
 
@@ -48,7 +49,8 @@ pub fn no_limit_stops_a_check_of_a_written_bag()
         → IsPayloadFor spec payload → IsFilled spec payload bag → ¬ Stops bag fault }
 {}
 
-/// The length of a payload manifest doesn't depend on what the files contain. So it is known before anything is written.
+/// The length of a payload manifest doesn't depend on what the files contain. So it is known before anything is
+/// written.
 pub fn a_manifest_is_as_long_as_with_empty_files()
     ensures { (alg : Alg) (payload : Files) → length (manifest_of Payload payload alg).1
         ≡ length (manifest_of Payload (empty_files (keys_of payload)) alg).1 }

@@ -28,11 +28,11 @@ impl Model for MemSink {
 
     ghost Value = { MemStored };
 
-    ghost use Rattle.bag_writer.specs.MemoryInside.{IsSound, view_of};
+    ghost use Rattle.bag_writer.specs.MemoryInside.{IsSoundSink, view_of};
 
     ghost view = { view_of };
 
-    ghost invariant = { IsSound };
+    ghost invariant = { IsSoundSink };
 }
 
 impl MemSink {
@@ -159,8 +159,8 @@ impl Sink for MemSink {
 impl OpenSink for MemSink {
     type File = MemSinkFile;
 
-    /// Begins a file. It fails if a file is begun by [`Sink::file`], one with this path was ended, or memory runs out for
-    /// the path.
+    /// Begins a file. It fails if a file is begun by [`Sink::file`], one with this path was ended, or memory runs out
+    /// for the path.
     fn begin_file(
         &mut self,
         _alloc: Global,
@@ -181,8 +181,8 @@ impl OpenSink for MemSink {
         Ok(MemSinkFile::new(place, Ok(begun)))
     }
 
-    /// Ends a file. It fails if a file is begun by [`Sink::file`], if one with the same path was ended since this one was
-    /// begun, or if memory runs out. The file is then lost.
+    /// Ends a file. It fails if a file is begun by [`Sink::file`], if one with the same path was ended since this one
+    /// was begun, or if memory runs out. The file is then lost.
     fn end_file(&mut self, file: &mut MemSinkFile) -> Result<(), Failed> {
         let added = match file.take() {
             Some(begun) if self.begun.is_none() => self.ended.add(begun.path, begun.octets),

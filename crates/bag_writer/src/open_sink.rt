@@ -11,8 +11,8 @@ use bag_path::BagPath;
 use bag_rules::OpenTree;
 use std::alloc::{AllocError, Global};
 
-/// A file that was begun, as a value of its own, with a count of its own failures. It is no part of the bag before it is
-/// ended.
+/// A file that was begun, as a value of its own, with a count of its own failures. It is no part of the bag before it
+/// is ended.
 ///
 /// A file that couldn't be begun is such a value too: it has failed already. Of a file in memory it is known what it
 /// holds. Nothing is claimed of one on a disk: it `holds` whatever it is asked for.
@@ -50,13 +50,13 @@ pub trait SinkFile {
 /// A sink that gives out files that were begun as values: any number at a time, each of its own path.
 ///
 /// **A file that is out counts as a failure of the sink until it is taken back**, as with the open files of an
-/// [`OpenTree`]: `begin_file` raises the count of failures by one, and the count is lowered again by `close`, for a file
-/// that hasn't failed, and by the two ways of giving a file up, for one behind another that has failed or is too large.
-/// `fail` takes back a file that has failed and leaves the count: this is the failure of the sink. So a file that is
-/// dropped is a failure, and of files that failed side by side one is told, the first by its place.
+/// [`OpenTree`]: `begin_file` raises the count of failures by one, and the count is lowered again by `close`, for a
+/// file that hasn't failed, and by the two ways of giving a file up, for one behind another that has failed or is too
+/// large. `fail` takes back a file that has failed and leaves the count: this is the failure of the sink. So a file
+/// that is dropped is a failure, and of files that failed side by side one is told, the first by its place.
 ///
-/// What the sink holds changes only where a file is ended. A file that is taken back before it was ended is lost, as far
-/// as is known: a folder may still have a front of it.
+/// What the sink holds changes only where a file is ended. A file that is taken back before it was ended is lost, as
+/// far as is known: a folder may still have a front of it.
 pub trait OpenSink: Sink {
     /// A file that was begun.
     type File: SinkFile + Drop;
@@ -122,8 +122,8 @@ pub trait OpenSink: Sink {
         ensures counted { Self.failures self.new ≡ Self.failures self.old - 1 }
         ensures rest { LeavesSink Self.stored Self.is_open Self.sure self.old self.new };
 
-    /// Takes back a file, whether or not it has failed, at the place of an open file of this tree that has failed or is too
-    /// large, or behind it.
+    /// Takes back a file, whether or not it has failed, at the place of an open file of this tree that has failed or is
+    /// too large, or behind it.
     fn give_up_unread<T: OpenTree>(&mut self, file: Self::File, tree: &T, first: &T::File)
         requires { IsStoppedBefore T.File.place T.File.failures (T.shown tree.now) first.now
             (Self.File.place file) }

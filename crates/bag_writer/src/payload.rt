@@ -3,7 +3,7 @@ ghost use Rattle.std.specs.Prelude.{◌≡◌, length};
 ghost use Rattle.bag_rules.specs.Trees.{paths_in};
 ghost use Rattle.bag_writer.specs.PayloadSteps.{WritesPayload};
 ghost use Rattle.bag_writer.specs.Steps.{AreHoleMarks};
-ghost use Rattle.bag_writer.specs.declared.items.TheConstants.{BUFFER};
+ghost use Rattle.bag_digest.specs.declared.streams.TheConstants.{FRONT};
 
 use crate::item::Item;
 use crate::open_sink::{CopiedTree, OpenSink};
@@ -25,8 +25,9 @@ pub(crate) enum CopyFault {
     TooLarge,
 }
 
-/// Reads the payload files by path, writes each that isn't a hole, and returns what manifests need to know about each. Several are
-/// read and written side by side, unless there is a hole, or a digest by SHA-512, which is not taken side by side.
+/// Reads the payload files by path, writes each that isn't a hole, and returns what manifests need to know about each.
+/// Several are read and written side by side, unless there is a hole, or a digest by SHA-512, which is not taken side
+/// by side.
 ///
 /// # Errors
 ///
@@ -40,7 +41,7 @@ pub(crate) fn write_payload<T: CopiedTree, S: OpenSink>(
     marks: &[bool],
     sink: &mut S,
 ) -> Result<Vec<Item>, WriteFault>
-    requires { (length buffer.old ≡ BUFFER)
+    requires { (length buffer.old ≡ FRONT)
         × AreHoleMarks (paths_in (T.shown tree.old)) spec.now marks.now }
     ensures { WritesPayload T.shown T.failures T.sure S.Sink spec.now tree.old tree.new
         sink.old sink.new result }

@@ -14,19 +14,19 @@ ghost use Rattle.bag_writer.specs.Returned.{LeavesCopies};
 ghost use Rattle.bag_writer.specs.SideBySide.{BeginsNext, Completes, Finishes, Stops, StopsBegun, devices};
 ghost use Rattle.bag_writer.specs.PayloadSteps.{WritesPayload};
 ghost use Rattle.bag_writer.specs.Steps.{AreWhole};
-ghost use Rattle.bag_writer.specs.declared.items.TheConstants.{BUFFER};
+ghost use Rattle.bag_digest.specs.declared.streams.TheConstants.{FRONT};
 ghost use Rattle.bag_writer.specs.declared.payload.CopyFault.{CopyFault};
 ghost use Rattle.bag_writer.specs.declared.write_fault.WriteFault.{WriteFault};
 
 use crate::copying::{CopyStop, Copying, copy_each, copy_piece};
 use crate::item::Item;
-use crate::items::{BUFFER, Items};
+use crate::items::Items;
 use crate::open_sink::{CopiedTree, OpenSink, SinkFile};
 use crate::payload::CopyFault;
 use crate::returning::{close_all, give_up, give_up_file, stopped_at, told};
 use crate::spec::Spec;
 use crate::write_fault::WriteFault;
-use bag_digest::{AlgSet, Failed, Source, SourceRead};
+use bag_digest::{AlgSet, FRONT, Failed, Source, SourceRead};
 use bag_rules::{OpenFile, OpenTree, Paths};
 use std::alloc::{AllocError, Global};
 
@@ -35,7 +35,7 @@ const MOST_COPIED: usize = 32;
 
 /// Why a file wasn't begun.
 #[derive(Drop)]
-pub(crate) enum BeginFault<F, G> {
+pub(crate) enum NotBegun<F, G> {
     /// Memory ran out. The file isn't out.
     Memory,
     /// The file, which is out, can't be opened. No copy was begun.
@@ -44,18 +44,19 @@ pub(crate) enum BeginFault<F, G> {
     Stopped(CopyFault, Copying<F, G>),
 }
 
-impl<F, G> From<AllocError> for BeginFault<F, G> {
+impl<F, G> From<AllocError> for NotBegun<F, G> {
     ghost use Rattle.std.specs.Prelude.{◌≡◌};
-    ghost use Rattle.bag_writer.specs.declared.payload_beside.BeginFault.TheVariants.{Memory};
+    ghost use Rattle.bag_writer.specs.declared.payload_beside.NotBegun.TheVariants.{Memory};
 
     ghost from_gives = { λ _ fault. fault ≡ Memory };
 
-    fn from(_: AllocError) -> BeginFault<F, G> {
-        BeginFault::Memory
+    fn from(_: AllocError) -> NotBegun<F, G> {
+        NotBegun::Memory
     }
 }
 
-/// Reads the payload files by path, writes each, and returns what manifests need to know about each. None of them is a hole.
+/// Reads the payload files by path, writes each, and returns what manifests need to know about each. None of them is a
+/// hole.
 ///
 /// # Errors
 ///
@@ -67,7 +68,7 @@ pub(crate) fn write_beside<T: CopiedTree, S: OpenSink>(
     spec: &Spec,
     sink: &mut S,
 ) -> Result<Vec<Item>, WriteFault>
-    requires { (length buffer.old ≡ BUFFER) × (spec.now.holes.items ≡ []) }
+    requires { (length buffer.old ≡ FRONT) × (spec.now.holes.items ≡ []) }
     ensures { WritesPayload T.shown T.failures T.sure S.Sink spec.now tree.old tree.new
         sink.old sink.new result }
 {
@@ -103,8 +104,8 @@ fn begin_next<T: CopiedTree, S: OpenSink>(
     sink: &mut S,
     i: usize,
     copies: &mut Vec<Copying<T::File, S::File>>,
-) -> Result<(), BeginFault<T::File, S::File>>
-    requires { (length buffer.old ≡ BUFFER) × (i < length (paths_in (T.shown tree.old))) }
+) -> Result<(), NotBegun<T::File, S::File>>
+    requires { (length buffer.old ≡ FRONT) × (i < length (paths_in (T.shown tree.old))) }
     ensures { BeginsNext (devices T.shown T.failures T.sure S.Sink
         (sides T.File.place T.File.Source S.File.SinkFile))
         i copies.old.items copies.new.items tree.old tree.new sink.old sink.new result }
@@ -117,10 +118,10 @@ fn begin_next<T: CopiedTree, S: OpenSink>(
             Err(copy) => {
                 tree.close(copy.source);
                 sink.close(copy.target);
-                Err(BeginFault::Memory)
+                Err(NotBegun::Memory)
             }
         },
-        Err(fault) => Err(BeginFault::Stopped(fault, copy)),
+        Err(fault) => Err(NotBegun::Stopped(fault, copy)),
     }
 }
 
@@ -130,7 +131,7 @@ fn open_next<T: OpenTree, G>(
     buffer: &mut [u8],
     tree: &mut T,
     i: usize,
-) -> Result<T::File, BeginFault<T::File, G>>
+) -> Result<T::File, NotBegun<T::File, G>>
     requires { i < length (paths_in (T.shown tree.old)) }
     ensures opened { MatchResult result
         (IsReadable T.File.place T.File.remaining T.File.failures T.File.ready (T.shown tree.old)
@@ -145,7 +146,7 @@ fn open_next<T: OpenTree, G>(
     let mut source = tree.open_file(alloc, i)?;
     match source.read(&mut buffer[..0]) {
         Ok(_) => Ok(source),
-        Err(Failed) => Err(BeginFault::Unopened(source)),
+        Err(Failed) => Err(NotBegun::Unopened(source)),
     }
 }
 
@@ -184,8 +185,8 @@ fn begin_copy<T: CopiedTree, S: OpenSink>(
     }
 }
 
-/// Copies the first octets of a file, and answers how many: less than the buffer has room for if the file ends with them. That its
-/// copy couldn't be begun is told before anything is read.
+/// Copies the first octets of a file, and answers how many: less than the buffer has room for if the file ends with
+/// them. That its copy couldn't be begun is told before anything is read.
 fn copy_front<F: OpenFile, G: SinkFile>(
     buffer: &mut [u8],
     copy: &mut Copying<F, G>,
@@ -239,18 +240,18 @@ fn hold<F, G>(
 
 /// What is found of a file by this front of it: all of it, if that is shorter than the buffer.
 fn found_in(front: &[u8]) -> Option<SourceRead>
-    ensures whole { length front.now < BUFFER
+    ensures whole { length front.now < FRONT
         → result ≡ Some (SourceRead.Whole (length front.now)) }
-    ensures more { BUFFER ≤ length front.now → result ≡ None }
+    ensures more { FRONT ≤ length front.now → result ≡ None }
 {
-    if front.len() < BUFFER {
+    if front.len() < FRONT {
         return Some(SourceRead::Whole(front.len()));
     }
     None
 }
 
-/// Copies files to their ends, side by side, ends their copies, and takes all back. Returns the items of these files too, after
-/// those of the files before them.
+/// Copies files to their ends, side by side, ends their copies, and takes all back. Returns the items of these files
+/// too, after those of the files before them.
 ///
 /// # Errors
 ///
@@ -286,7 +287,7 @@ fn stop_begun<T: CopiedTree, S: OpenSink>(
     sink: &mut S,
     set: AlgSet,
     copies: Vec<Copying<T::File, S::File>>,
-    fault: BeginFault<T::File, S::File>,
+    fault: NotBegun<T::File, S::File>,
 ) -> WriteFault
     requires { AreUnderWay (sides T.File.place T.File.Source S.File.SinkFile)
         (T.shown tree.old) set copies.items
@@ -298,17 +299,17 @@ fn stop_begun<T: CopiedTree, S: OpenSink>(
         set copies.items fault tree.old tree.new sink.old sink.new result }
 {
     match fault {
-        BeginFault::Memory => {
+        NotBegun::Memory => {
             close_all(tree, sink, copies);
             WriteFault::Memory
         }
-        BeginFault::Unopened(file) => stop_unopened(tree, sink, set, copies, file),
-        BeginFault::Stopped(fault, copy) => stop(tree, sink, set, copies, fault, copy),
+        NotBegun::Unopened(file) => stop_unopened(tree, sink, set, copies, file),
+        NotBegun::Stopped(fault, copy) => stop(tree, sink, set, copies, fault, copy),
     }
 }
 
-/// Copies files to their ends and ends their copies, since what stops one of them comes before what stops the next file, and takes all
-/// back. Answers what is told.
+/// Copies files to their ends and ends their copies, since what stops one of them comes before what stops the next
+/// file, and takes all back. Answers what is told.
 fn stop<T: CopiedTree, S: OpenSink>(
     tree: &mut T,
     sink: &mut S,

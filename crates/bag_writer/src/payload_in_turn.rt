@@ -9,7 +9,7 @@ ghost use Rattle.bag_writer.specs.Steps.{AreHoleMarks, ArePart, AreWhole};
 ghost use Rattle.bag_writer.specs.Writing.{IsMetLater};
 ghost use Rattle.bag_writer.specs.declared.write_fault.Large.{Large};
 ghost use Rattle.bag_writer.specs.declared.write_fault.WriteFault.{WriteFault};
-ghost use Rattle.bag_writer.specs.declared.items.TheConstants.{BUFFER};
+ghost use Rattle.bag_digest.specs.declared.streams.TheConstants.{FRONT};
 ghost use Rattle.bag_writer.specs.declared.payload.CopyFault.{CopyFault};
 
 use crate::item::Item;
@@ -18,13 +18,16 @@ use crate::payload::CopyFault;
 use crate::sink::Sink;
 use crate::spec::Spec;
 use crate::write_fault::{Large, WriteFault};
-use bag_digest::{AlgSet, Failed, Multi, Source, SourceFault, SourceRead, fill, read_or_digest};
+use bag_digest::{
+    AlgSet, Failed, Multi, Source, SourceFault, SourceRead, Sums, fill, read_or_digest,
+};
 use bag_path::BagPath;
 use bag_rules::Tree;
 use bag_rules::limits::LARGEST_FILE;
 use std::alloc::Global;
 
-/// Reads the payload files by path, one after another, writes each that isn't a hole, and returns what manifests need to know about each.
+/// Reads the payload files by path, one after another, writes each that isn't a hole, and returns what manifests need
+/// to know about each.
 ///
 /// # Errors
 ///
@@ -38,7 +41,7 @@ pub(crate) fn write_in_turn<T: Tree, S: Sink>(
     marks: &[bool],
     sink: &mut S,
 ) -> Result<Vec<Item>, WriteFault>
-    requires { (length buffer.old ≡ BUFFER)
+    requires { (length buffer.old ≡ FRONT)
         × AreHoleMarks (paths_in (T.shown tree.old)) spec.now marks.now }
     ensures { WritesPayload T.shown T.failures T.sure S.Sink spec.now tree.old tree.new
         sink.old sink.new result }
@@ -220,7 +223,10 @@ fn copy_octets<R: Source, S: Sink>(
         multi.update(&buffer[..n]);
         total += n as u64;
         if is_last {
-            return Ok(SourceRead::Hashed(total, multi.finish()));
+            return Ok(SourceRead::Hashed(Sums {
+                length: total,
+                digests: multi.finish(),
+            }));
         }
     }
 }

@@ -34,8 +34,8 @@ pub(crate) fn close_all<T: CopiedTree, S: OpenSink>(
     }
 }
 
-/// Takes back all files and copies, of which this is the first that stopped, and answers how that is told: those behind it are
-/// given up.
+/// Takes back all files and copies, of which this is the first that stopped, and answers how that is told: those behind
+/// it are given up.
 pub(crate) fn stopped_at<T: CopiedTree, S: OpenSink>(
     tree: &mut T,
     sink: &mut S,
@@ -54,7 +54,7 @@ pub(crate) fn stopped_at<T: CopiedTree, S: OpenSink>(
     let mut copies = copies;
     give_up_behind(tree, sink, &mut copies, stop);
     let Some(copy) = copies.pop() else {
-        return WriteFault::Memory;
+        unreachable!()
     };
     close_all(tree, sink, copies);
     told(tree, sink, stop.fault, copy)
@@ -125,8 +125,8 @@ pub(crate) fn give_up_file<T: CopiedTree, G: SinkFile>(
     }
 }
 
-/// Takes back a file that has stopped, and its copy, and answers how that is told: `Tree`, `Sink`, `TooLarge` with its path, or
-/// `Memory` if there is none for the path.
+/// Takes back a file that has stopped, and its copy, and answers how that is told: `Tree`, `Sink`, `TooLarge` with its
+/// path, or `Memory` if there is none for the path.
 pub(crate) fn told<T: CopiedTree, S: OpenSink>(
     tree: &mut T,
     sink: &mut S,

@@ -4,18 +4,17 @@ ghost use Rattle.bag_rules.specs.Files.{Files};
 ghost use Rattle.bag_rules.specs.Trees.{AreRising, UsesTree, paths_in};
 ghost use Rattle.bag_writer.specs.Sinks.{IsEmptySink, UsesClosedSink};
 ghost use Rattle.bag_writer.specs.Steps.{IsAcceptedWith, ReadsPayload};
-ghost use Rattle.bag_writer.specs.Writing.{IsAccepted, IsDone, IsMetLater, IsOfDevice, IsRefusedUnwritten, Refuses, payload_paths};
+ghost use Rattle.bag_writer.specs.Writing.{IsAccepted, IsDone, IsMetLater, IsOfDevice, IsRefusedUnwritten, RefusesBag, payload_paths};
 ghost use Rattle.bag_writer.specs.declared.write_fault.WriteFault.{WriteFault};
 
 use crate::accepting::accepted_holes;
-use crate::items::BUFFER;
 use crate::measuring::large_if_empty;
 use crate::open_sink::{CopiedTree, OpenSink};
 use crate::payload::write_payload;
 use crate::spec::Spec;
 use crate::tags::write_tag_files;
 use crate::write_fault::WriteFault;
-use bag_digest::buffer_of;
+use bag_digest::{FRONT, buffer_of};
 use bag_rules::Paths;
 use bag_tags::Oxum;
 use std::alloc::Global;
@@ -27,8 +26,9 @@ use std::alloc::Global;
 /// `bag-info.txt` with the given elements and then the `Payload-Oxum` of the whole payload, including holes;
 /// `bagit.txt`; if there are holes, `fetch.txt` with the length of each; for each algorithm `manifest-ALG.txt`, by
 /// path, for the whole payload; for each algorithm `tagmanifest-ALG.txt`, by path, for all tag files except tag
-/// manifests. Other files of the tree are ignored. Each payload file is read once. Without holes, and without SHA-512, several
-/// payload files are read and written side by side, up to 32 at a time; each belongs to the bag once those before it do.
+/// manifests. Other files of the tree are ignored. Each payload file is read once. Without holes, and without SHA-512,
+/// several payload files are read and written side by side, up to 32 at a time; each belongs to the bag once those
+/// before it do.
 ///
 /// The sink should be new. If it already holds a file or the payload directory, nothing is claimed about what it holds
 /// afterwards.
@@ -49,7 +49,7 @@ pub fn write_bag<T: CopiedTree, S: OpenSink>(
 ) -> Result<Oxum, WriteFault>
     ensures refused { MatchResult result
         (λ oxum. IsAccepted (payload_paths (T.shown tree.old)) spec.now)
-        (Refuses (payload_paths (T.shown tree.old)) spec.now) }
+        (RefusesBag (payload_paths (T.shown tree.old)) spec.now) }
     ensures unwritten { IsRefusedUnwritten (payload_paths (T.shown tree.old)) spec.now
         → (sink.new ≡ sink.old) × MatchResult result (λ oxum. ⊥) (λ fault. ¬ IsOfDevice fault) }
     // This holds of some payload, which is that of the tree's bag if that is known: its Oxum is returned, and a sink
@@ -88,7 +88,7 @@ fn write_accepted<T: CopiedTree, S: OpenSink>(
         ((S.is_open sink.old ≡ false) × IsEmptySink (S.stored sink.old))
         result (IsErrOf result WriteFault.Sink) }
 {
-    let mut buffer = buffer_of(alloc, BUFFER)?;
+    let mut buffer = buffer_of(alloc, FRONT)?;
     let Ok(()) = sink.payload_dir() else {
         return Err(WriteFault::Sink);
     };

@@ -30,8 +30,8 @@ pub struct Making<'a> {
     pub names: &'a [String],
 }
 
-/// Writes a bag of the files in a folder to a new folder and prints the result, as [`make_to`] does. If the source can't
-/// be opened or the destination can't be made, prints that.
+/// Writes a bag of the files in a folder to a new folder and prints the result, as [`make_to`] does. If the source
+/// can't be opened or the destination can't be made, prints that.
 ///
 /// The source is opened first, then the destination is made, and then the names of the algorithms are checked. If the
 /// status isn't 0, the destination is given up, that is, removed if it is empty.
@@ -64,8 +64,8 @@ struct Made {
     large: Option<Large>,
 }
 
-/// Makes the folder for the bag, and in it the bag of a tree's files, of which the meter counts what is read. Returns the tree,
-/// too.
+/// Makes the folder for the bag, and in it the bag of a tree's files, of which the meter counts what is read. Returns
+/// the tree, too.
 fn make_watched<T: CopiedTree, R: Files + Eprint, W: Write + Drop>(
     alloc: Global,
     making: &Making<'_>,

@@ -27,10 +27,10 @@ use std::alloc::{AllocError, Global};
 
 /// How many octets these files have in total.
 pub(crate) fn total_octets(items: &[Item]) -> u64
-    requires { sum_by (λ (item : Item). item.octets) items.now < 2 ^ 64 }
-    ensures { result ≡ sum_by (λ (item : Item). item.octets) items.now }
+    requires { sum_by (λ (item : Item). item.sums.length) items.now < 2 ^ 64 }
+    ensures { result ≡ sum_by (λ (item : Item). item.sums.length) items.now }
 {
-    items.iter().map(|item| item.octets).sum()
+    items.iter().map(|item| item.sums.length).sum()
 }
 
 /// The text of `bag-info.txt`: the elements that were given, and then the `Payload-Oxum`.
@@ -91,7 +91,7 @@ fn fetch_entry(alloc: Global, hole: &Hole, items: &[Item]) -> Result<FetchEntry,
         unreachable!();
     };
     let path = hole.path.clone()?;
-    let length = Some(items[place].octets);
+    let length = Some(items[place].sums.length);
     match FetchEntry::new(alloc, hole.url.as_str(), length, path) {
         Ok(entry) => Ok(entry),
         Err(FetchEntryFault::BadUrl) => unreachable!(),
@@ -122,13 +122,13 @@ pub(crate) fn manifest_text(
 
 /// Adds one more file to the list of a manifest.
 fn list_item(manifest: &mut Manifest, item: &Item) -> Result<(), AllocError>
-    requires { (digest : Digest) × (digest_in item.now.digests manifest.old.alg ≡ Some digest)
+    requires { (digest : Digest) × (digest_in item.now.sums.digests manifest.old.alg ≡ Some digest)
         × Admits manifest.old item.now.path digest }
     ensures { OnOk result ((digest : Digest)
-        → digest_in item.now.digests manifest.old.alg ≡ Some digest
+        → digest_in item.now.sums.digests manifest.old.alg ≡ Some digest
         → manifest.new ≡ with_pair manifest.old (pair item.now.path digest)) }
 {
-    let Some(digest) = item.digests.get(manifest.alg()) else {
+    let Some(digest) = item.sums.digests.get(manifest.alg()) else {
         unreachable!();
     };
     let path = item.path.clone()?;

@@ -6,16 +6,16 @@ use Rattle.bag_digest.proofs.Filling.{filled_whole}
 use Rattle.bag_digest.proofs.Progress.{given_before}
 use Rattle.bag_digest.proofs.reading.read_or_digest.Goals as goal
 
-pub returns-in_err-more-clause-stopped : goal.returns-in_err-more-clause-stopped
-returns-in_err-more-clause-stopped g c =
-    let p = err_from_is_err_and c.from_residual-in_err-more.result c.from_residual-in_err-more.ensures.1 in
+pub returns-in_err-rest-clause-stopped : goal.returns-in_err-rest-clause-stopped
+returns-in_err-rest-clause-stopped g c =
+    let p = err_from_is_err_and c.from_residual-in_err-rest.result c.from_residual-in_err-rest.ensures.1 in
     let whole = filled_whole _ _ _ _ _ c.in_ok-n.ensures.piece (omega (arith, c.if-n-buffer.false)) in
-    rw (p.1, p.2) (given_before _ _ _ _ _ _ (read_fault c.in_err-more.field-0.0) whole c.in_err-more.ensures.stopped)
+    rw (p.1, p.2) (given_before _ _ _ _ _ _ (read_fault c.in_err-rest.field-0.0) whole c.in_err-rest.ensures.stopped)
 
 pub returns-clause-found : goal.returns-clause-found
 returns-clause-found g c =
     let whole = filled_whole _ _ _ _ _ c.in_ok-n.ensures.piece (omega (arith, c.if-n-buffer.false)) in
-    let rest = c.in_ok-more.ensures.digests in
+    let rest = c.in_ok-rest.ensures.digests in
     let front = c.fill.new.buffer in (
       front ++ rest.0,
       record {

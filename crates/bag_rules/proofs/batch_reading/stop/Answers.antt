@@ -1,6 +1,6 @@
-use Rattle.std.proofs.Common.{◌≡◌, ◌∙◌, ◌+◌, ◌<◌, Some, ap, arith, length, refl, slice_get, subst, sym}
+use Rattle.std.proofs.Common.{◌≡◌, ◌∙◌, ◌<◌, Some, arith, refl, slice_get, subst, sym}
 use Rattle.std.proofs.lemmas.Option.{slice_get_read}
-use Rattle.bag_rules.specs.Returning.{HasStoppedFirst, IsStopped, IsToldOf, LeavesOut}
+use Rattle.bag_rules.specs.Returning.{HasStoppedFirst, IsStopped, IsToldOf}
 use Rattle.bag_rules.proofs.EndedLemmas.{first_stopped, front_stops, own_place, ready_stopped, stream_stops, unfailed_ended}
 use Rattle.bag_rules.proofs.ReturningLemmas.{back_on, behind_stopped, leaves_less, more_back}
 use Rattle.bag_rules.proofs.Words.{same_Some}

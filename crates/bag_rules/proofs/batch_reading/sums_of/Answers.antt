@@ -1,7 +1,7 @@
 use Rattle.std.proofs.Common.{◌≡◌, ◌∙◌, ◌+◌, ◌<◌, ◌++◌, ◌∷◌, [], ℕ, List, Some, Vec, ap, arith, inl, inr, length, length-append, refl, slice_get, sym}
 use Rattle.std.specs.declared.alloc.Global.{Global}
 use Rattle.std.proofs.lemmas.Option.{slice_get_read}
-use Rattle.bag_digest.specs.declared.multi.Digests.{Digests}
+use Rattle.bag_digest.specs.declared.sums.Sums.{Sums}
 use Rattle.bag_digest.specs.declared.streams.Stream.{Stream}
 use Rattle.bag_rules.proofs.FileReadLemmas.{push_at, push_before}
 use Rattle.bag_rules.proofs.Words.{cases_lt, same_Some, slice_get_within}
@@ -9,10 +9,10 @@ use Rattle.bag_rules.proofs.batch_reading.sums_of.Goals as goal
 use Rattle.bag_rules.proofs.batch_reading.sums_of.Goals.{in-Some+in_ok-push, in_default}
 
 -- the sums of the first n streams
-abbrev AreFirst : {F : Type 0} → List (Stream F) → List (ℕ × Digests) → ℕ → Type 0
-AreFirst {F} streams sums n = (k : ℕ) (stream : Stream F) (found : ℕ × Digests) → k < n → slice_get streams k ≡ Some stream → stream.sums ≡ Some found → slice_get sums k ≡ Some found
+abbrev AreFirst : {F : Type 0} → List (Stream F) → List Sums → ℕ → Type 0
+AreFirst {F} streams sums n = (k : ℕ) (stream : Stream F) (found : Sums) → k < n → slice_get streams k ≡ Some stream → stream.sums ≡ Some found → slice_get sums k ≡ Some found
 
-first_more : {F : Type 0} (streams : List (Stream F)) (old new : List (ℕ × Digests)) (n : ℕ) (here : Stream F) (sums : ℕ × Digests) → slice_get streams n ≡ Some here → here.sums ≡ Some sums
+first_more : {F : Type 0} (streams : List (Stream F)) (old new : List Sums) (n : ℕ) (here : Stream F) (sums : Sums) → slice_get streams n ≡ Some here → here.sums ≡ Some sums
     → length old ≡ n → new ≡ old ++ sums ∷ [] → AreFirst streams old n → AreFirst streams new (n + 1)
 first_more {F} streams old new n here sums at is count more before k stream found below there has = elim (cases_lt k n) [
   | inl less ↦ ap (λ xs. slice_get xs k) more ∙ push_before old sums k (omega (arith, less, count)) ∙ before k stream found less there has
@@ -32,7 +32,7 @@ loop-stream-preserved g c = λ have.
     let inv = c.loop-stream.invariant have in
     elim c.match-stream.branch [
       | in-Some+in_ok-push w ↦
-          let more : c.match-stream.sums.items ≡ c.loop-stream.sums.items ++ w.in-Some.found ∷ [] = ap (λ (v : Vec (ℕ × Digests) Global). v.items) w.sums-is ∙ w.in_ok-push.ensures.items in (
+          let more : c.match-stream.sums.items ≡ c.loop-stream.sums.items ++ w.in-Some.found ∷ [] = ap (λ (v : Vec Sums Global). v.items) w.sums-is ∙ w.in_ok-push.ensures.items in (
             omega (arith, ap length more, length-append c.loop-stream.sums.items (w.in-Some.found ∷ []), inv.0),
             first_more xs c.loop-stream.sums.items c.match-stream.sums.items n here w.in-Some.found there w.in-Some.is inv.0 more inv.1,
           )

@@ -5,7 +5,7 @@ use Rattle.bag_rules.specs.FileBatchInside.{AreRead, next_of}
 use Rattle.bag_rules.specs.BatchReading.{AddsNone, AreGathered, AreOpen, AreReady, IfStopped, IsFrontFault, IsReadAt, files_with}
 use Rattle.bag_rules.specs.KeptInside.{AreKept}
 use Rattle.bag_rules.specs.Returning.{IsStopped, LeavesOut, TakesAllBack}
-use Rattle.bag_rules.specs.declared.batch_reading.Gathered.{Gathered}
+use Rattle.bag_rules.specs.declared.batch_reading.BatchReading.{BatchReading}
 use Rattle.bag_rules.proofs.GatheringLemmas.{none_gathered, none_open, none_ready}
 use Rattle.bag_rules.proofs.ReturningLemmas.{back_none, back_on, back_so, keeps_same, leaves_on, leaves_same, used_by}
 use Rattle.bag_rules.proofs.Words.{CheckFault, IfOk-weaker, IsLongRead, NoneStopsBefore, paths_in, Shown, UsesTree}
@@ -105,7 +105,7 @@ stop-requires g c =
       streams = (
         subst (λ s. AreOpen file.OpenFile.place file.Source.remaining file.Source.failures s new) (sym (moved ∙ inv.out.kept.same))
             (subst (AreOpen file.OpenFile.place file.Source.remaining file.Source.failures (g.T.Paths.shown c.args.tree.now)) (sym none) inv.are_open),
-        rw bad.field-0-is (front.0 ∙ inv.next ∙ ap (λ (gathered : Gathered _). next_of gathered.batch) (sym none)),
+        rw bad.field-0-is (front.0 ∙ inv.next ∙ ap (λ (gathered : BatchReading _). next_of gathered.batch) (sym none)),
       );
       stopped = rw bad.field-0-is (subst (λ s. IsStopped file.OpenFile.place file.Source.failures s bad.fault bad.file) (sym moved) front.1);
     }
@@ -122,7 +122,7 @@ returns-in-Err-Stopped-clause-limits g c = λ bag is none_stops.
     let read : IsReadAt (g.T.Paths.shown c.files.tree) wants c.files.place = subst (λ f. IfStopped f (IsReadAt (g.T.Paths.shown c.files.tree) wants c.files.place)) bad.field-0-is bad.ensures.stopped.2 in
     let moved = bad.ensures.tree.kept.same in
     let all = moved ∙ inv.out.kept.same in
-    let first : new.batch.first ≡ c.args.first = ap (λ (gathered : Gathered _). gathered.batch.first) none ∙ inv.first in
+    let first : new.batch.first ≡ c.args.first = ap (λ (gathered : BatchReading _). gathered.batch.first) none ∙ inv.first in
     let here : IsReadAt (g.T.Paths.shown c.read_next.new.tree) wants (file.OpenFile.place bad.file) =
     subst (λ s. IsReadAt s wants (file.OpenFile.place bad.file)) (sym moved) (subst (IsReadAt (g.T.Paths.shown c.files.tree) wants) (sym front.0) read) in
     c.stop.ensures.limits wants
@@ -139,9 +139,9 @@ returns-in-Err-Stopped-clause-tree g c =
     let none : new ≡ c.files.gathered = subst (AddsNone c.files.gathered new) bad.field-0-is bad.ensures.stopped.0 in
     let front = subst (IsFrontFault file.OpenFile.place file.Source.failures (g.T.Paths.shown c.files.tree) (g.T.Tree.sure c.files.tree) c.files.place) bad.field-0-is bad.ensures.stopped.1 in
     let one : files_with bad.field-0 ≡ 1 = ap files_with bad.field-0-is in
-    let count : length new.streams.items ≡ many = ap (λ (gathered : Gathered _). length gathered.streams.items) none in
+    let count : length new.streams.items ≡ many = ap (λ (gathered : BatchReading _). length gathered.streams.items) none in
     told_back many (many + files_with bad.field-0) (length new.streams.items + 1) inv.out bad.ensures.tree c.stop.ensures.tree (omega (arith, one, count)) (λ e. ap Err e) same_told
-    (λ sure. c.stop.ensures.ready (subst (λ (gathered : Gathered _). AreReady file.Source.ready gathered.streams.items) (sym none) (inv.ready sure)) (rw bad.field-0-is (front.2 (inv.out.kept.stays_sure sure))))
+    (λ sure. c.stop.ensures.ready (subst (λ (gathered : BatchReading _). AreReady file.Source.ready gathered.streams.items) (sym none) (inv.ready sure)) (rw bad.field-0-is (front.2 (inv.out.kept.stays_sure sure))))
 
 pub returns-then-place-count-clause-read : goal.returns-then-place-count-clause-read
 returns-then-place-count-clause-read g c =

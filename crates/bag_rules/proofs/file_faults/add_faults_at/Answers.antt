@@ -26,7 +26,7 @@ returns g c = λ are path octets at.
     let sums = found.sums.sums in
     let added = c.in_ok-add_faults_of-in-Some.ensures found.set octets sums
     (λ alg listed. found.covers alg (subst (λ p. lists_by wants.manifests.now p alg ≡ true) (c.of.ensures.path_is ∙ here) (subst (λ ms. lists_by ms c.of.result.path.now alg ≡ true) c.of.ensures.manifests listed))) in (
-      c.then_some.ensures ∙ ap (λ b. then_some b c.in-Some.sums.0) c.is_payload.ensures ∙ ap (then_some (is_payload own)) sums.count ∙ ap (λ p. payload_length p octets) here,
+      c.then_some.ensures ∙ ap (λ b. then_some b c.in-Some.sums.length) c.is_payload.ensures ∙ ap (then_some (is_payload own)) sums.sums.0 ∙ ap (λ p. payload_length p octets) here,
       subst (λ p. Adds c.args.faults.now.items c.add_faults_of.new.faults.items (IsFaultIn wants p octets)) here
           (rw (← c.of.ensures.manifests, ← c.of.ensures.given, ← c.of.ensures.path_is) added),
     )

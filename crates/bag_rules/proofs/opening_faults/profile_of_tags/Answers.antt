@@ -1,5 +1,5 @@
 use Rattle.std.proofs.Common.{◌≡◌, ◌<◌, ◌∙◌, Some, length, ap, arith, refl, slice_get, subst, sym}
-use Rattle.bag_rules.proofs.Words.{AreRising, declaration_file, Holds, length-map, slice_get_within}
+use Rattle.bag_rules.proofs.Words.{AreRising, declaration_file, HoldsFile, length-map, slice_get_within}
 use Rattle.bag_rules.specs.Transfers.{tag_bag}
 use Rattle.bag_rules.proofs.DeclaredLemmas.{no_declaration}
 use Rattle.bag_rules.proofs.EachLemmas.{stands_at}
@@ -23,7 +23,7 @@ returns-in-Some-clause-profile c =
     let inside : i < length items = omega (arith, n, slice_get_within tags i _ held.1) in
     let at = tag_at items tags i file c.files-files.ensures.files (stands_at items i file inside ∙ ap Some (sym c.index-files-i.is)) in
     let same = same_file (slice_get tags i) file.path file.body.items declaration_file held.0 at held.1 in
-    c.profile_of.ensures bag refl (subst (Holds bag declaration_file) (sym (c.body.ensures ∙ same.1)) (i, held.1))
+    c.profile_of.ensures bag refl (subst (HoldsFile bag declaration_file) (sym (c.body.ensures ∙ same.1)) (i, held.1))
 
 pub returns-in-None-clause-profile : goal.returns-in-None-clause-profile
 returns-in-None-clause-profile c =

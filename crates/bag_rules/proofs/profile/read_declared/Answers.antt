@@ -1,5 +1,5 @@
 use Rattle.std.proofs.Common.{◌∙◌, subst, sym}
-use Rattle.bag_rules.proofs.Words.{declaration_file, DeclarationStops, err_from_is_err_and, FirstStops, Holds, IsLongTag, slice_get_within}
+use Rattle.bag_rules.proofs.Words.{declaration_file, DeclarationStops, err_from_is_err_and, FirstStops, HoldsFile, IsLongTag, slice_get_within}
 use Rattle.bag_rules.proofs.DeclaredLemmas.{first_declaration, short_declaration}
 use Rattle.bag_rules.proofs.LimitLemmas.{stopped_so}
 use Rattle.bag_rules.proofs.TreeLemmas.{file_at, rises, there_at}
@@ -21,7 +21,7 @@ pub returns-clause-profile : goal.returns-clause-profile
 returns-clause-profile g c = λ bag is.
     let file = there_at bag is c.args.i declaration_file c.requires.there in
     let read = c.in_ok-text.ensures.known declaration_file file.0 (file_at bag is c.args.i declaration_file file.0 file.1) in
-    c.in_ok-profile_of.ensures bag (c.in_ok-text.ensures.tree.same ∙ is) (subst (Holds bag declaration_file) (sym (c.deref-2.ensures.value ∙ read.0)) (c.args.i, file.1))
+    c.in_ok-profile_of.ensures bag (c.in_ok-text.ensures.tree.same ∙ is) (subst (HoldsFile bag declaration_file) (sym (c.deref-2.ensures.value ∙ read.0)) (c.args.i, file.1))
 
 pub returns-clause-limits : goal.returns-clause-limits
 returns-clause-limits g c = λ bag is.

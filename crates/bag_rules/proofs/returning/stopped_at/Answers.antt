@@ -4,11 +4,8 @@ use Rattle.bag_rules.proofs.ReturningLemmas.{back_on, last_there, rest_count, re
 use Rattle.bag_rules.proofs.Words.{same_Some}
 use Rattle.bag_rules.proofs.returning.stopped_at.Goals as goal
 
-pub returns-in_default-clause-told : goal.returns-in_default-clause-told
-returns-in_default-clause-told g c = absurd (some_left c.args.streams.items c.give_up_behind.new.streams.items c.pop.new.self.items c.args.stopped.place c.pop.result c.requires.inside c.give_up_behind.ensures.left c.pop.ensures.items c.give_up_behind.new.streams.len c.give_up_behind.new.streams.ok.0 c.in_default.ensures.cases.0)
-
-pub returns-in_default-clause-tree : goal.returns-in_default-clause-tree
-returns-in_default-clause-tree g c = absurd (some_left c.args.streams.items c.give_up_behind.new.streams.items c.pop.new.self.items c.args.stopped.place c.pop.result c.requires.inside c.give_up_behind.ensures.left c.pop.ensures.items c.give_up_behind.new.streams.len c.give_up_behind.new.streams.ok.0 c.in_default.ensures.cases.0)
+pub unreachable-requires : goal.unreachable-requires
+unreachable-requires g c = some_left c.args.streams.items c.give_up_behind.new.streams.items c.pop.new.self.items c.args.stopped.place c.pop.result c.requires.inside c.give_up_behind.ensures.left c.pop.ensures.items c.give_up_behind.new.streams.len c.give_up_behind.new.streams.ok.0 c.in_default.ensures.cases.0
 
 pub close_all-requires : goal.close_all-requires
 close_all-requires g c = λ k y at.

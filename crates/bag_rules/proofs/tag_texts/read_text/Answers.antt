@@ -1,6 +1,7 @@
 use Rattle.std.proofs.Common.{◌≡◌, false, ◌∙◌, inr, refl, subst, sym, true}
+use Rattle.bag_digest.specs.Reading.{AreSums}
 use Rattle.bag_rules.specs.TagFileReaders.{HasExcessLines, IsFoundOf}
-use Rattle.bag_rules.proofs.Words.{AreDigests, err_from_is_err_and, IsBadLineOf, IsFirstBadLine, IsLongTag, one_file, ReadsText, Stopped, text_file, TextStops}
+use Rattle.bag_rules.proofs.Words.{err_from_is_err_and, IsBadLineOf, IsFirstBadLine, IsLongTag, one_file, ReadsText, Stopped, text_file, TextStops}
 use Rattle.bag_rules.proofs.AddsLemmas.{adds_so}
 use Rattle.bag_rules.proofs.LimitLemmas.{stopped_so}
 use Rattle.bag_rules.proofs.TextStops.{long_stops, none_stops}
@@ -56,5 +57,5 @@ returns-clause-reads g c = record {
   kept = λ are. (c.in_ok-add.ensures (g.T.Paths.shown c.args.tree.now) are (λ path octets at.
       let known = c.in_ok-total.ensures.known c.args.version c.set.result path octets c.new-reader.ensures.taken at in
       let is = c.finish-found.ensures c.args.version c.set.result octets known.1 known.0 in
-      (is.count, subst (λ s. AreDigests c.finish-found.result.digests s octets) c.set.ensures is.digests, known.2)));
+      (subst (λ s. AreSums c.finish-found.result.sums s octets) c.set.ensures is.sums, known.2)));
 }

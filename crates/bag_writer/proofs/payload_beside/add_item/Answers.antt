@@ -5,7 +5,7 @@ use Rattle.std.proofs.lemmas.Result.{err_from_is_err_and}
 use Rattle.bag_rules.proofs.Words.{paths_in}
 use Rattle.bag_writer.specs.HeldFiles.{AddsFile}
 use Rattle.bag_writer.specs.PayloadSteps.{IsFoundOf}
-use Rattle.bag_writer.specs.declared.items.TheConstants.{BUFFER}
+use Rattle.bag_digest.specs.declared.streams.TheConstants.{FRONT}
 use Rattle.bag_writer.proofs.FileSteps.{within_of}
 use Rattle.bag_writer.proofs.payload_beside.add_item.Goals as goal
 
@@ -28,7 +28,7 @@ returns-in_err-path-clause-err g c =
     rw p.1 p.2
 
 pub add-requires-clause-room : goal.add-requires-clause-room
-add-requires-clause-room g c = subst (λ xs. length xs ≤ BUFFER) (sym c.as_slice.ensures.value) c.requires.2.short
+add-requires-clause-room g c = subst (λ xs. length xs ≤ FRONT) (sym c.as_slice.ensures.value) c.requires.2.short
 
 pub add-requires-clause-within : goal.add-requires-clause-within
 add-requires-clause-within g c =

@@ -5,14 +5,8 @@ use Rattle.bag_writer.specs.Returned.{IsStoppedAt, IsToldOf, LeavesCopies}
 use Rattle.bag_writer.proofs.FilesOut.{last_there, rest_count, rest_there, sink_back, some_left, tree_back}
 use Rattle.bag_writer.proofs.returning.stopped_at.Goals as goal
 
-pub returns-in_default-clause-told : goal.returns-in_default-clause-told
-returns-in_default-clause-told g c = absurd (some_left c.args.copies.items c.give_up_behind.new.copies.items c.pop.new.self.items c.args.stop.place c.pop.result c.requires.inside c.give_up_behind.ensures.left c.pop.ensures.items c.give_up_behind.new.copies.len c.give_up_behind.new.copies.ok.0 c.in_default.ensures.cases.0)
-
-pub returns-in_default-clause-tree : goal.returns-in_default-clause-tree
-returns-in_default-clause-tree g c = absurd (some_left c.args.copies.items c.give_up_behind.new.copies.items c.pop.new.self.items c.args.stop.place c.pop.result c.requires.inside c.give_up_behind.ensures.left c.pop.ensures.items c.give_up_behind.new.copies.len c.give_up_behind.new.copies.ok.0 c.in_default.ensures.cases.0)
-
-pub returns-in_default-clause-sink : goal.returns-in_default-clause-sink
-returns-in_default-clause-sink g c = absurd (some_left c.args.copies.items c.give_up_behind.new.copies.items c.pop.new.self.items c.args.stop.place c.pop.result c.requires.inside c.give_up_behind.ensures.left c.pop.ensures.items c.give_up_behind.new.copies.len c.give_up_behind.new.copies.ok.0 c.in_default.ensures.cases.0)
+pub unreachable-requires : goal.unreachable-requires
+unreachable-requires g c = some_left c.args.copies.items c.give_up_behind.new.copies.items c.pop.new.self.items c.args.stop.place c.pop.result c.requires.inside c.give_up_behind.ensures.left c.pop.ensures.items c.give_up_behind.new.copies.len c.give_up_behind.new.copies.ok.0 c.in_default.ensures.cases.0
 
 pub close_all-requires : goal.close_all-requires
 close_all-requires g c = λ k y at.

@@ -9,10 +9,16 @@ use Rattle.bag_receiver.proofs.FetchLemmas.{all_reached, failures_counted, got_m
 use Rattle.bag_receiver.proofs.Words.{CountsEach, err_from_is_err_and, length-append, Store, string_bytes}
 use Rattle.bag_receiver.proofs.receiver.Receiver.fetch.Goals as goal
 
-pub returns-in_err-list-clause-store : goal.returns-in_err-list-clause-store
-returns-in_err-list-clause-store g c =
+pub returns-in_err-list : goal.returns-in_err-list
+returns-in_err-list g c =
     let error = err_from_is_err_and c.from_residual.result c.from_residual.ensures.1 in
-    rw (error.1, error.2) (counts_err _ (λ store. Keeper (Store store)) _ _ c.in_err-list.ensures.store)
+    record {
+      fetched = search rules;
+      none = search rules;
+      judged = search rules;
+      supplier = search rules;
+      store = rw (error.1, error.2) (counts_err _ (λ store. Keeper (Store store)) _ _ c.in_err-list.ensures.store);
+    }
 
 pub loop-request-init : goal.loop-request-init
 loop-request-init g c =
@@ -87,14 +93,21 @@ loop-request-preserved g c =
       asks = omega (arith, more, c.fetch_one-answer.ensures.asks, invariant.asks);
     }
 
-pub returns-clause-fetched : goal.returns-clause-fetched
-returns-clause-fetched g c =
+pub returns : goal.returns
+returns g c =
     let invariant = c.loop-request.invariant in
-    let zero : length c.loop-request.request-iterator.rest.items ≡ 0 = search rules in (
-      invariant.ran.0,
-      invariant.ran.1,
-      invariant.ran.2,
-      invariant.ran.3,
-      λ clean now in_state. all_reached now.held c.args.name.now c.loop-request.held.items c.loop-request.request-iterator.rest.items invariant.ran.0 (none_left [] c.loop-request.request-iterator.rest.items zero)
-          (invariant.ran.4 clean now in_state),
-    )
+    let zero : length c.loop-request.request-iterator.rest.items ≡ 0 = search rules in
+    record {
+      fetched = (
+        invariant.ran.0,
+        invariant.ran.1,
+        invariant.ran.2,
+        invariant.ran.3,
+        λ clean now in_state. all_reached now.held c.args.name.now c.loop-request.held.items c.loop-request.request-iterator.rest.items invariant.ran.0 (none_left [] c.loop-request.request-iterator.rest.items zero)
+            (invariant.ran.4 clean now in_state),
+      );
+      none = search rules;
+      judged = search rules;
+      supplier = search rules;
+      store = search rules;
+    }

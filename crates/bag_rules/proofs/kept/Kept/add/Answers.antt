@@ -5,4 +5,4 @@ use Rattle.bag_rules.proofs.kept.Kept.add.Goals as goal
 
 pub returns : goal.returns
 returns c = λ shown are of.
-    kept_push shown c.args.self.now _ (kept_file c.args.place c.args.length c.args.digests) are refl c.in_ok-push.ensures.items of
+    kept_push shown c.args.self.now _ (kept_file c.args.place c.args.sums) are refl c.in_ok-push.ensures.items of

@@ -8,4 +8,4 @@ returns c = λ shown are text.
     c.add.ensures shown are (λ path octets at.
     let is = text path octets at in
     let taken = c.finish.ensures set _ (c.update.ensures set [] c.new-multi.ensures) in
-    (ap length is.0, subst (λ o. AreDigests c.finish.result set o) is.0 taken, is.1))
+    ((ap length is.0, subst (λ o. AreDigests c.finish.result set o) is.0 taken), is.1))
