@@ -1,6 +1,5 @@
 -- The digests of octets, and what the hashers of several algorithms hold.
-use Rattle.std.specs.Prelude.{◌≡◌, ℕ, List, Bool, true, false, Option, Some, None, Vec, length, slice_get, if◌then◌else◌}
-use Rattle.std.specs.declared.alloc.Global.{Global}
+use Rattle.std.specs.Prelude.{◌≡◌, ℕ, List, Bool, true, false, Option, Some, None, if◌then◌else◌}
 use Rattle.std.specs.Option.{option_map}
 use Rattle.md5.specs.Md5.{md5}
 use Rattle.md5.specs.Md5 as MD5
@@ -43,14 +42,6 @@ digest_in digests Sha512 = option_map (λ d. digest.Sha512 d) digests.sha512
 abbrev pub AreDigests : Digests → AlgSet → List ℕ → Type 0
 AreDigests digests set octets = (alg : Alg)
     → digest_in digests alg ≡ (if has set alg then Some (hash alg octets) else None)
-
--- the digests of each of these messages by the algorithms of the set, in their order
-pub record AreDigestsOfEach (set : AlgSet) (messages : List (Vec ℕ Global)) (each : List Digests)
-    : Type 0 where
-  pub count : length each ≡ length messages
-  pub digests : (i : ℕ) (message : Vec ℕ Global) (digests : Digests)
-      → slice_get messages i ≡ Some message → slice_get each i ≡ Some digests
-      → AreDigests digests set message.items
 
 -- a hasher exists exactly if it is wanted, and then it holds the octets
 abbrev pub HoldsIf : {H : Type 0} → (H → List ℕ → Type 0) → Bool → Option H → List ℕ → Type 0

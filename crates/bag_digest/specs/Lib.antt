@@ -4,5 +4,6 @@ pub mod Lanes
 pub mod Each
 pub mod Failures
 pub mod Reading
+pub mod ShortContents
 pub mod Spelling
 pub mod Streams

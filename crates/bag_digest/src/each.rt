@@ -7,16 +7,17 @@ ghost use Rattle.sha2.specs.Sha256.{sha256};
 ghost use Rattle.sha2.specs.Sha512.{sha512};
 ghost use Rattle.bag_digest.specs.Algorithm.{has};
 ghost use Rattle.bag_digest.specs.Each.{AreDigestsBy, AreSlicesOf, digest_if};
-ghost use Rattle.bag_digest.specs.Hash.{AreDigestsOfEach};
+ghost use Rattle.bag_digest.specs.ShortContents.{AreSumsOfEach};
 ghost use Rattle.bag_digest.specs.declared.algorithm.Alg.TheVariants as alg;
 
 use crate::algorithm::{Alg, AlgSet};
 use crate::multi::Digests;
+use crate::sums::Sums;
 use bag_lanes::{md5_digests, sha1_digests, sha256_digests};
 use sha2::{Digest as _, Sha512};
 use std::alloc::{AllocError, Global};
 
-/// The digests of each message by each algorithm of the set, in the order of the messages.
+/// The length of each message, and its digests by each algorithm of the set, in the order of the messages.
 ///
 /// By MD5, SHA-1 and SHA-256 four messages at a time are hashed, in the lanes of the processor's vectors: several
 /// messages, of whatever lengths, take less time so than one after another.
@@ -24,12 +25,12 @@ use std::alloc::{AllocError, Global};
 /// # Errors
 ///
 /// `AllocError` if memory for the digests runs out.
-pub fn digest_each(
+pub(crate) fn sums_of_each(
     alloc: Global,
     set: AlgSet,
     messages: &[Vec<u8>],
-) -> Result<Vec<Digests>, AllocError>
-    ensures { IfOk result (λ each. AreDigestsOfEach set messages.now each.items) }
+) -> Result<Vec<Sums>, AllocError>
+    ensures { IfOk result (λ each. AreSumsOfEach set messages.now each.items) }
 {
     let slices = slices_of(alloc, messages)?;
     let md5 = &md5_of_each(alloc, set, slices.as_slice())?;
@@ -38,11 +39,15 @@ pub fn digest_each(
     let mut each = Vec::new(alloc);
     for i in 0..messages.len() {
         let sha512 = sha512_of(set, messages[i].as_slice());
-        each.push(Digests {
+        let digests = Digests {
             md5: digest_at(md5, i),
             sha1: digest_at(sha1, i),
             sha256: digest_at(sha256, i),
             sha512,
+        };
+        each.push(Sums {
+            length: messages[i].len() as u64,
+            digests,
         })?;
     }
     Ok(each)

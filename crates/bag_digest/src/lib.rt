@@ -3,8 +3,8 @@
 #![tactic(auto)]
 
 pub use algorithm::{Alg, AlgSet};
+pub use content::Content;
 pub use digest::Digest;
-pub use each::digest_each;
 pub use failures::Failures;
 pub use multi::{Digests, Multi};
 pub use multi_lanes::MultiLanes;
@@ -13,11 +13,13 @@ pub use reading::{
     PIECE, ReadFault, SourceFault, SourceRead, buffer_of, digest_reader, digest_through, fill,
     piece_buffer, read_or_digest, read_piece, read_to_end_within,
 };
+pub use short_contents::ShortContents;
 pub use source::{Failed, Source};
 pub use streams::{FRONT, Stream, StreamFault, digest_streams};
 pub use sums::Sums;
 
 mod algorithm;
+mod content;
 mod digest;
 mod each;
 pub mod examples;
@@ -27,6 +29,7 @@ mod multi;
 mod multi_lanes;
 mod reader_source;
 mod reading;
+mod short_contents;
 mod source;
 mod streams;
 mod sums;

@@ -59,4 +59,5 @@ written_spelling path = flat_map written_part path
 abbrev pub RefusesSpelling : PathFault → Version → List ℕ → Type 0
 RefusesSpelling Memory version text = Unit {0}
 RefusesSpelling BadEscape version text = SpellsNothing version text
-RefusesSpelling fault version text = (path : List ℕ) × Spells version path text × RefusesPath fault path
+RefusesSpelling fault version text = (path : List ℕ) × Spells version path text
+    × RefusesPath fault path

@@ -8,7 +8,7 @@ use Rattle.bag_rules.specs.declared.batch_reading.FrontFault.{FrontFault}
 use Rattle.bag_rules.specs.declared.batch_reading.FrontFault.TheVariants.{Memory, Stopped}
 use Rattle.bag_rules.specs.declared.batch_reading.BatchReading.{BatchReading}
 use Rattle.bag_rules.specs.declared.limits.TheConstants.{LARGEST_FILE}
-use Rattle.bag_rules.specs.FileBatchInside.{AddsSums, AddsMessage, IsKnownOf, IsReadFor, IsReadingOf, StreamFact, next_of}
+use Rattle.bag_rules.specs.FileBatchInside.{AddsSums, AddsHeld, IsKnownOf, IsReadFor, IsReadingOf, StreamFact, next_of}
 use Rattle.bag_rules.specs.BatchReading.{AddsFile, AddsNone, AreOpen, HasRest, HoldsFront, IfStopped, IsStreamOf}
 use Rattle.bag_rules.proofs.BatchLemmas.{adds_grows, held_is, holds_grows}
 use Rattle.bag_rules.proofs.GatheringLemmas.{gathered_front, gathered_next, open_more, open_next, ready_more, ready_same}
@@ -50,11 +50,11 @@ module _ {F : Type 0} (place : F → ℕ) (remaining : F → Option (List ℕ)) 
       }
 
   -- one that ends within the buffer
-  pub adds_whole : (wanted : AlgSet) (held : List ℕ) → AddsMessage old.batch new.batch wanted held → new.streams ≡ old.streams → new.set ≡ old.set
+  pub adds_whole : (wanted : AlgSet) (held : List ℕ) → AddsHeld old.batch new.batch wanted held → new.streams ≡ old.streams → new.set ≡ old.set
       → ((path octets : List ℕ) → HasFileAt shown (next_of old.batch) path octets → IsReadFor wants path wanted × (held ≡ octets) × (length octets ≤ LARGEST_FILE))
       → AddsFile place remaining failures ready shown sure wants old new
   adds_whole wanted held holds streams set known =
-      let reading = Waiting (length old.batch.messages.items) in
+      let reading = Waiting (length old.batch.held.contents.items) in
       let more : next_of new.batch ≡ next_of old.batch + 1 = omega (arith, holds.first, ap length holds.read, length-append old.batch.read.items (reading ∷ [])) in
       record {
         first = holds.first;

@@ -1,23 +1,25 @@
 -- What is read of the files of a batch.
-use Rattle.std.proofs.Common.{◌≡◌, ◌∙◌, ◌+◌, ◌-◌, ◌≤◌, ◌<◌, ◌++◌, ◌∷◌, ◌||◌, [], ℕ, Bool, true, false, List, IfSome, OnOk, Option, Some, None, Result, Ok, Err, Vec, ap, arith, inl, get_or, length, refl, slice_get, subst, sym}
+use Rattle.std.proofs.Common.{◌≡◌, ◌∙◌, ◌+◌, ◌-◌, ◌≤◌, ◌++◌, ◌∷◌, ◌||◌, [], ℕ, Bool, true, false, List, OnOk, Option, Some, None, Result, Ok, Err, MatchOption, Vec, ap, arith, inl, length, refl, slice_get, subst, sym}
 use Rattle.std.specs.declared.alloc.Global.{Global}
-use Rattle.std.proofs.lemmas.Option.{slice_get_read}
 use Rattle.bag_digest.proofs.EachLemmas.{at_last}
+use Rattle.bag_digest.specs.declared.short_contents.ShortContents.{ShortContents}
+use Rattle.bag_digest.specs.declared.sums.Sums.{Sums}
 use Rattle.bag_rules.specs.declared.file_batch.FileBatch.{FileBatch}
 use Rattle.bag_rules.specs.declared.file_batch.FileSums.{FileSums}
 use Rattle.bag_rules.specs.declared.file_batch.FileSums.TheVariants.{Streamed, Taken, Unread, Waiting}
 use Rattle.bag_rules.specs.declared.limits.TheConstants.{LARGEST_FILE}
-use Rattle.bag_digest.specs.Hash.{AreDigestsOfEach}
-use Rattle.bag_rules.specs.FileBatchInside.{AddsSums, AreAlgsOf, AreRead, AreReadings, AreSumsFor, Covers, CoversListed, HasSumsAt, AddsMessage, IsMessageFor, IsReadingOf, StreamFact}
+use Rattle.bag_digest.specs.Reading.{AreSums}
+use Rattle.bag_digest.specs.ShortContents.{AreSumsOfEach}
+use Rattle.bag_rules.specs.FileBatchInside.{AddsSums, AreAlgsOf, AreRead, AreReadings, AreSumsFor, IsSumsOf, Covers, CoversListed, HasSumsAt, AddsHeld, IsHeldFor, IsReadingOf, StreamFact}
 use Rattle.bag_rules.proofs.FileReadLemmas.{push_at, push_before}
 use Rattle.bag_rules.proofs.HasLemmas.{stands}
-use Rattle.bag_rules.proofs.Words.{Alg, AlgSet, AreDigests, Digests, CheckFault, has, HasFileAt, IsLongRead, is_payload, IsReadBy, same_Some, Shown, slice_get_within, Requirements}
+use Rattle.bag_rules.proofs.Words.{Alg, AlgSet, CheckFault, has, HasFileAt, IsLongRead, is_payload, IsReadBy, same_Some, Shown, slice_get_within, Requirements}
 
--- the messages and the set of a batch grow
+-- what is held of a batch grows
 pub record Grows (old new : FileBatch) : Type 0 where
   pub first : new.first ≡ old.first
-  pub messages : (i : ℕ) (message : Vec ℕ Global) → slice_get old.messages.items i ≡ Some message → slice_get new.messages.items i ≡ Some message
-  pub set : (alg : Alg) → has old.set alg ≡ true → has new.set alg ≡ true
+  pub contents : (i : ℕ) (content : Vec ℕ Global) → slice_get old.held.contents.items i ≡ Some content → slice_get new.held.contents.items i ≡ Some content
+  pub set : (alg : Alg) → has old.held.set alg ≡ true → has new.held.set alg ≡ true
 
 still : (old new : FileBatch) (P Q : StreamFact) (wants : Requirements) (path octets : List ℕ) (reading : FileSums) → Grows old new → ((k : ℕ) (path octets : List ℕ) → P k path octets → Q k path octets)
     → IsReadingOf old P wants path octets reading → IsReadingOf new Q wants path octets reading
@@ -25,8 +27,8 @@ still old new P Q wants path octets Unread grows so is = is
 still old new P Q wants path octets (Taken sums) grows so is = is
 still old new P Q wants path octets (Waiting place) grows so is = record {
   read = is.read;
-  message = is.message;
-  there = grows.messages place is.message is.there;
+  content = is.content;
+  there = grows.contents place is.content is.there;
   octets_are = is.octets_are;
   within = is.within;
   covers = λ alg listed. grows.set alg (is.covers alg listed);
@@ -48,8 +50,8 @@ readings_more shown wants old new P Q reading are grows so more here i other the
 pub adds_grows : (old new : FileBatch) (sums : FileSums) → AddsSums old new sums → Grows old new
 adds_grows old new sums adds = record {
   first = adds.first;
-  messages = λ i message at. ap (λ (ms : Vec (Vec ℕ Global) Global). slice_get ms.items i) adds.messages ∙ at;
-  set = λ alg h. ap (λ s. has s alg) adds.set ∙ h;
+  contents = λ i content at. ap (λ (held : ShortContents Unit). slice_get held.contents.items i) adds.held ∙ at;
+  set = λ alg h. ap (λ (held : ShortContents Unit). has held.set alg) adds.held ∙ h;
 }
 
 pub or_left : (a b : Bool) → a ≡ true → (a || b) ≡ true
@@ -61,23 +63,23 @@ or_right true b h = refl
 or_right false b h = h
 
 -- a file whose octets are held
-pub holds_grows : (old new : FileBatch) (set : AlgSet) (held : List ℕ) → AddsMessage old new set held → Grows old new
+pub holds_grows : (old new : FileBatch) (set : AlgSet) (held : List ℕ) → AddsHeld old new set held → Grows old new
 holds_grows old new set held holds = record {
   first = holds.first;
-  messages = λ i message at. ap (λ ms. slice_get ms i) holds.messages ∙ push_before old.messages.items holds.message i (slice_get_within old.messages.items i message at) ∙ at;
-  set = λ alg h. holds.set alg ∙ or_left (has old.set alg) (has set alg) h;
+  contents = λ i content at. ap (λ cs. slice_get cs i) holds.contents ∙ push_before old.held.contents.items holds.content i (slice_get_within old.held.contents.items i content at) ∙ at;
+  set = λ alg h. holds.algs alg ∙ or_left (has old.held.set alg) (has set alg) h;
 }
 
-pub held_is : (old new : FileBatch) (wants : Requirements) (path octets : List ℕ) (set : AlgSet) (held : List ℕ) → AddsMessage old new set held
+pub held_is : (old new : FileBatch) (wants : Requirements) (path octets : List ℕ) (set : AlgSet) (held : List ℕ) → AddsHeld old new set held
     → IsReadBy wants.manifests.now path → CoversListed wants path set → held ≡ octets → length octets ≤ LARGEST_FILE
-    → IsMessageFor new wants path octets (length old.messages.items)
+    → IsHeldFor new wants path octets (length old.held.contents.items)
 held_is old new wants path octets set held holds read covers same within = record {
   read = read;
-  message = holds.message;
-  there = ap (λ ms. slice_get ms (length old.messages.items)) holds.messages ∙ push_at old.messages.items holds.message;
+  content = holds.content;
+  there = ap (λ cs. slice_get cs (length old.held.contents.items)) holds.contents ∙ push_at old.held.contents.items holds.content;
   octets_are = holds.octets_are ∙ same;
   within = within;
-  covers = λ alg listed. holds.set alg ∙ or_right (has old.set alg) (has set alg) (covers alg listed);
+  covers = λ alg listed. holds.algs alg ∙ or_right (has old.held.set alg) (has set alg) (covers alg listed);
 }
 
 -- what was read of a file of the batch
@@ -86,29 +88,37 @@ pub reading_at : (shown : Shown) (wants : Requirements) (batch : FileBatch) (pla
 reading_at shown wants batch place path octets reading are covers file there =
     are.readings (place - batch.first) reading there path octets (subst (λ k. HasFileAt shown k path octets) (omega (arith, covers.0)) file)
 
--- the length and the digests of a message
-pub message_sums : (batch : FileBatch) (wants : Requirements) (path octets : List ℕ) (place : ℕ) (message : Vec ℕ Global) (digests : Digests) → AreDigestsOfEach batch.set batch.messages.items batch.digests.items
-    → IsMessageFor batch wants path octets place → slice_get batch.messages.items place ≡ Some message → slice_get batch.digests.items place ≡ Some digests
-    → AreSumsFor wants path octets (record { length = length message.items; digests = digests })
-message_sums batch wants path octets place message digests each is there at =
-    let same : message.items ≡ octets = ap (λ (m : Vec ℕ Global). m.items) (same_Some message is.message (sym there ∙ is.there)) ∙ is.octets_are in record {
-      read = is.read;
-      set = batch.set;
-      sums = record {
-        sums = record {
-          taken = batch.set;
-          sums = (ap length same, subst (λ o. AreDigests digests batch.set o) same (each.digests place message digests there at));
-          covers = λ alg h. h;
-        };
-        within = is.within;
-      };
-      covers = is.covers;
-    }
+-- the length and the digests of what is held
+held_sums : (batch : FileBatch) (wants : Requirements) (path octets : List ℕ) (place : ℕ) (sums : Sums) → AreSumsOfEach batch.held.set batch.held.contents.items batch.waiting.items
+    → IsHeldFor batch wants path octets place → slice_get batch.waiting.items place ≡ Some sums → AreSumsFor wants path octets sums
+held_sums batch wants path octets place sums each is at = record {
+  read = is.read;
+  set = batch.held.set;
+  sums = record {
+    sums = record {
+      taken = batch.held.set;
+      sums = subst (λ o. AreSums sums batch.held.set o) is.octets_are (each.sums place is.content sums is.there at);
+      covers = λ alg h. h;
+    };
+    within = is.within;
+  };
+  covers = is.covers;
+}
 
--- what `get` found
-pub got : {R X : Type 0} (r : Option R) (now : R → X) (xs : List X) (place : ℕ) (found : R) → r ≡ Some found → IfSome r (λ x. now x ≡ get_or xs place (now x)) → place < length xs
-    → slice_get xs place ≡ Some (now found)
-got {R} r now xs place found is some below = slice_get_read xs (length xs) place (now found) refl below (subst (λ (o : Option R). IfSome o (λ x. now x ≡ get_or xs place (now x))) is some)
+pub held_at : (batch : FileBatch) (wants : Requirements) (path octets : List ℕ) (place : ℕ) (found : Option Sums) → AreSumsOfEach batch.held.set batch.held.contents.items batch.waiting.items
+    → IsHeldFor batch wants path octets place → MatchOption found (length batch.waiting.items ≤ place) (λ sums. slice_get batch.waiting.items place ≡ Some sums) → IsSumsOf wants path octets found
+held_at batch wants path octets place None each is past =
+    let inside = slice_get_within batch.held.contents.items place is.content is.there in
+    absurd (omega (arith, inside, each.count, past))
+held_at batch wants path octets place (Some sums) each is at = held_sums batch wants path octets place sums each is at
+
+-- those of a stream
+pub streamed_at : (batch : FileBatch) (wants : Requirements) (path octets : List ℕ) (place : ℕ) (found : Option Sums) → HasSumsAt wants batch place path octets
+    → MatchOption found (length batch.streamed.items ≤ place) (λ sums. slice_get batch.streamed.items place ≡ Some sums) → IsSumsOf wants path octets found
+streamed_at batch wants path octets place None is past =
+    let inside = slice_get_within batch.streamed.items place is.0 is.1 in
+    absurd (omega (arith, inside, past))
+streamed_at batch wants path octets place (Some sums) is at = subst (AreSumsFor wants path octets) (same_Some is.0 sums (sym is.1 ∙ at)) is.2
 
 pub on_ok_so : {A E P Q : Type 0} (r : Result A E) → OnOk r P → (P → Q) → OnOk r Q
 on_ok_so (Ok a) h so = so h
@@ -119,15 +129,15 @@ pub none_of : (wants : Requirements) (path : List ℕ) (set : Option AlgSet) →
 none_of wants path None not is = is
 none_of wants path (Some set) not is = absurd (not set refl)
 
--- the same files and messages, whatever digests were taken
-pub readings_same : (shown : Shown) (wants : Requirements) (old new : FileBatch) (P Q : StreamFact) → new.first ≡ old.first → new.read ≡ old.read → new.messages ≡ old.messages → new.set ≡ old.set
+-- the same files, whatever digests were taken
+pub readings_same : (shown : Shown) (wants : Requirements) (old new : FileBatch) (P Q : StreamFact) → new.first ≡ old.first → new.read ≡ old.read → new.held ≡ old.held
     → ((k : ℕ) (path octets : List ℕ) → P k path octets → Q k path octets) → AreReadings shown wants old P → AreReadings shown wants new Q
-readings_same shown wants old new P Q first read messages set so are i reading there path octets file =
+readings_same shown wants old new P Q first read held so are i reading there path octets file =
     still old new P Q wants path octets reading
     record {
       first = first;
-      messages = λ k message at. ap (λ (ms : Vec (Vec ℕ Global) Global). slice_get ms.items k) messages ∙ at;
-      set = λ alg h. ap (λ s. has s alg) set ∙ h;
+      contents = λ k content at. ap (λ (held : ShortContents Unit). slice_get held.contents.items k) held ∙ at;
+      set = λ alg h. ap (λ (held : ShortContents Unit). has held.set alg) held ∙ h;
     }
     so
     (are i reading (ap (λ (rs : Vec FileSums Global). slice_get rs.items i) (sym read) ∙ there) path octets (subst (λ k. HasFileAt shown (k + i) path octets) first file))

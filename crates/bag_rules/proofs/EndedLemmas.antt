@@ -98,10 +98,10 @@ module _ {F : Type 0} (place : F → ℕ) (remaining : F → Option (List ℕ)) 
   pub read_ended : (wants : Requirements) (batch : FileBatch) (sums : List Sums) → HaveEnded remaining failures ready keeps gathered.set LARGEST_FILE gathered.streams.items new → AreSumsIn new sums
       → AreGathered place remaining shown wants gathered → IsComplete gathered.batch batch sums → AreRead shown wants batch
   read_ended wants batch sums ended are gathered_are complete = record {
-    readings = readings_same shown wants gathered.batch batch (IsStreamOf remaining wants gathered.set gathered.streams.items) (HasSumsAt wants batch) complete.first complete.read complete.messages complete.set
-        (λ k path octets is. let found = ended_sums wants sums ended are k path octets is in (found.0, ap (λ xs. slice_get xs k) complete.sums_are ∙ found.1, found.2))
+    readings = readings_same shown wants gathered.batch batch (IsStreamOf remaining wants gathered.set gathered.streams.items) (HasSumsAt wants batch) complete.first complete.read complete.held
+        (λ k path octets is. let found = ended_sums wants sums ended are k path octets is in (found.0, ap (λ xs. slice_get xs k) complete.streamed ∙ found.1, found.2))
         gathered_are.readings;
-    digests = complete.digests;
+    sums = complete.waiting;
   }
 
   -- none of the files stops the work, and the next one does

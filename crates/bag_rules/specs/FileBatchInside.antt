@@ -5,7 +5,7 @@ use Rattle.bag_digest.specs.declared.algorithm.Alg.{Alg}
 use Rattle.bag_digest.specs.declared.algorithm.AlgSet.{AlgSet}
 use Rattle.bag_digest.specs.declared.sums.Sums.{Sums}
 use Rattle.bag_digest.specs.Algorithm.{has}
-use Rattle.bag_digest.specs.Hash.{AreDigestsOfEach}
+use Rattle.bag_digest.specs.ShortContents.{AreSumsOfEach}
 use Rattle.bag_digest.specs.declared.streams.TheConstants.{FRONT}
 use Rattle.bag_rules.specs.declared.file_batch.FileBatch.{FileBatch}
 use Rattle.bag_rules.specs.declared.file_batch.FileSums.{FileSums}
@@ -64,15 +64,15 @@ abbrev pub IsFindingOf : Requirements → List ℕ → List ℕ → LookedUp →
 IsFindingOf wants path octets (Known sums) = IsKnownOf wants path octets sums
 IsFindingOf wants path octets (ToRead set) = IsReadFor wants path set
 
--- the file is read, and its octets are the message at this place
-pub record IsMessageFor (batch : FileBatch) (wants : Requirements) (path octets : List ℕ) (place : ℕ)
-    : Type 0 where
+-- the file is read, and its octets are held at this place
+pub record IsHeldFor (batch : FileBatch) (wants : Requirements) (path octets : List ℕ)
+    (place : ℕ) : Type 0 where
   pub read : IsReadBy wants.manifests.now path
-  pub message : Vec ℕ Global
-  pub there : slice_get batch.messages.items place ≡ Some message
-  pub octets_are : message.items ≡ octets
+  pub content : Vec ℕ Global
+  pub there : slice_get batch.held.contents.items place ≡ Some content
+  pub octets_are : content.items ≡ octets
   pub within : length octets ≤ LARGEST_FILE
-  pub covers : CoversListed wants path batch.set
+  pub covers : CoversListed wants path batch.held.set
 
 -- what is known of a stream, by its place, as that of a file
 abbrev pub StreamFact : Type 1
@@ -84,7 +84,7 @@ IsReadingOf batch is_stream wants path octets Unread = ¬ IsReadBy wants.manifes
 IsReadingOf batch is_stream wants path octets (Taken sums) =
     AreSumsFor wants path octets sums
 IsReadingOf batch is_stream wants path octets (Waiting place) =
-    IsMessageFor batch wants path octets place
+    IsHeldFor batch wants path octets place
 IsReadingOf batch is_stream wants path octets (Streamed place) = is_stream place path octets
 
 -- what was read of each file, whose octets are known
@@ -97,12 +97,12 @@ AreReadings shown wants batch is_stream = (i : ℕ) (reading : FileSums)
 -- these are the length and the digests of the file
 abbrev pub HasSumsAt : Requirements → FileBatch → StreamFact
 HasSumsAt wants batch place path octets = (found : Sums)
-    × (slice_get batch.sums.items place ≡ Some found) × AreSumsFor wants path octets found
+    × (slice_get batch.streamed.items place ≡ Some found) × AreSumsFor wants path octets found
 
--- the same, with the digests of the messages and of the streams
+-- the same, with the sums of what is held and of the streams
 pub record AreRead (shown : Shown) (wants : Requirements) (batch : FileBatch) : Type 0 where
   pub readings : AreReadings shown wants batch (HasSumsAt wants batch)
-  pub digests : AreDigestsOfEach batch.set batch.messages.items batch.digests.items
+  pub sums : AreSumsOfEach batch.held.set batch.held.contents.items batch.waiting.items
 
 -- the file at this place is among those of the batch
 abbrev pub Covers : FileBatch → ℕ → Type 0
@@ -116,23 +116,21 @@ next_of batch = batch.first + length batch.read.items
 pub record AddsSums (old new : FileBatch) (sums : FileSums) : Type 0 where
   pub first : new.first ≡ old.first
   pub read : new.read.items ≡ old.read.items ++ sums ∷ []
-  pub messages : new.messages ≡ old.messages
-  pub set : new.set ≡ old.set
+  pub held : new.held ≡ old.held
 
--- one file more, whose octets are one message more
-pub record AddsMessage (old new : FileBatch) (wanted : AlgSet) (octets : List ℕ) : Type 0 where
+-- one file more, whose octets are held
+pub record AddsHeld (old new : FileBatch) (wanted : AlgSet) (octets : List ℕ) : Type 0 where
   pub first : new.first ≡ old.first
-  pub read : new.read.items ≡ old.read.items ++ Waiting (length old.messages.items) ∷ []
-  pub message : Vec ℕ Global
-  pub octets_are : message.items ≡ octets
-  pub messages : new.messages.items ≡ old.messages.items ++ message ∷ []
-  pub set : (alg : Alg) → has new.set alg ≡ (has old.set alg || has wanted alg)
+  pub read : new.read.items ≡ old.read.items ++ Waiting (length old.held.contents.items) ∷ []
+  pub content : Vec ℕ Global
+  pub octets_are : content.items ≡ octets
+  pub contents : new.held.contents.items ≡ old.held.contents.items ++ content ∷ []
+  pub algs : (alg : Alg) → has new.held.set alg ≡ (has old.held.set alg || has wanted alg)
 
--- the same files, with the digests of the messages and these sums of the streams
+-- the same files, with the sums of what is held and these of the streams
 pub record IsComplete (old new : FileBatch) (sums : List Sums) : Type 0 where
   pub first : new.first ≡ old.first
   pub read : new.read ≡ old.read
-  pub messages : new.messages ≡ old.messages
-  pub set : new.set ≡ old.set
-  pub digests : AreDigestsOfEach new.set new.messages.items new.digests.items
-  pub sums_are : new.sums.items ≡ sums
+  pub held : new.held ≡ old.held
+  pub waiting : AreSumsOfEach new.held.set new.held.contents.items new.waiting.items
+  pub streamed : new.streamed.items ≡ sums

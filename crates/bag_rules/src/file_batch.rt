@@ -1,8 +1,7 @@
 //! Files that are read one after another, so that their digests can be taken side by side.
-ghost use Rattle.std.specs.Prelude.{◌≡◌, ◌<◌, ◌↔◌, ℕ, List, [], IfErr, IfOk, IsErrOf, IsTrue, OnOk, length};
-ghost use Rattle.bag_digest.specs.Hash.{AreDigestsOfEach};
+ghost use Rattle.std.specs.Prelude.{◌≡◌, ◌<◌, ◌≤◌, ◌↔◌, ℕ, List, [], IfErr, IfOk, IsErrOf, IsTrue, MatchOption, OnOk, Some, length, slice_get};
 ghost use Rattle.bag_rules.specs.Bags.{Bag, IsBagOf};
-ghost use Rattle.bag_rules.specs.FileBatchInside.{AddsSums, AreAlgsOf, AreRead, CanRead, Covers, HasSumsAt, AddsMessage, IsComplete, IsFindingOf, IsMessageFor, IsSumsOf};
+ghost use Rattle.bag_rules.specs.FileBatchInside.{AddsSums, AreAlgsOf, AreRead, CanRead, Covers, AddsHeld, IsComplete, IsFindingOf, IsSumsOf};
 ghost use Rattle.bag_rules.specs.FilesInside.{IsLongRead};
 ghost use Rattle.bag_rules.specs.KeptInside.{AreKept};
 ghost use Rattle.bag_rules.specs.Limits.{FirstStops, NoneStopsBefore, Stopped};
@@ -17,7 +16,7 @@ use crate::outcome::CheckFault;
 use crate::requirements::Requirements;
 use crate::returning::close_all;
 use crate::tree::Paths;
-use bag_digest::{AlgSet, Digests, FRONT, Sums, digest_each};
+use bag_digest::{AlgSet, FRONT, ShortContents, Sums};
 use std::alloc::{AllocError, Global};
 
 /// How many files a batch has at most. A file that ends within a front ([`FRONT`] octets) is held until the digests of
@@ -30,10 +29,9 @@ const MOST_READ: usize = 32;
 pub(crate) struct FileBatch {
     first: usize,
     read: Vec<FileSums>,
-    messages: Vec<Vec<u8>>,
-    set: AlgSet,
-    digests: Vec<Digests>,
-    sums: Vec<Sums>,
+    held: ShortContents<()>,
+    waiting: Vec<Sums>,
+    streamed: Vec<Sums>,
 }
 
 /// What was read of one file.
@@ -43,7 +41,7 @@ pub(crate) enum FileSums {
     Unread,
     /// Its length in octets and its digests.
     Taken(Sums),
-    /// All its octets, which are the message at this place. Their digests are taken with those of the other messages.
+    /// All its octets, which are held at this place. Their digests are taken with those of the others that are held.
     Waiting(usize),
     /// Its front. The rest is read, and its digests taken, with those of the other streams: it is the stream at this
     /// place.
@@ -68,10 +66,9 @@ impl FileBatch {
         FileBatch {
             first,
             read: Vec::new(alloc),
-            messages: Vec::new(alloc),
-            set: AlgSet::empty(),
-            digests: Vec::new(alloc),
-            sums: Vec::new(alloc),
+            held: ShortContents::new(alloc, AlgSet::empty()),
+            waiting: Vec::new(alloc),
+            streamed: Vec::new(alloc),
         }
     }
 
@@ -100,32 +97,9 @@ impl FileBatch {
         match &self.read[place - self.first] {
             FileSums::Unread => None,
             FileSums::Taken(sums) => Some(*sums),
-            FileSums::Waiting(place) => self.sums_of_message(*place),
-            FileSums::Streamed(place) => self.sums_of_stream(*place),
+            FileSums::Waiting(place) => sums_at(&self.waiting, *place),
+            FileSums::Streamed(place) => sums_at(&self.streamed, *place),
         }
-    }
-
-    /// The length and the digests of the message at this place.
-    fn sums_of_message(&self, place: usize) -> Option<Sums>
-        ensures { (wants : Requirements) (path octets : List ℕ)
-            → AreDigestsOfEach self.now.set self.now.messages.items self.now.digests.items
-            → IsMessageFor self.now wants path octets place → IsSumsOf wants path octets result }
-    {
-        let message = self.messages.get(place)?;
-        let digests = self.digests.get(place)?;
-        Some(Sums {
-            length: message.len() as u64,
-            digests: *digests,
-        })
-    }
-
-    /// The length and the digests of the stream at this place.
-    fn sums_of_stream(&self, place: usize) -> Option<Sums>
-        ensures { (wants : Requirements) (path octets : List ℕ)
-            → HasSumsAt wants self.now place path octets → IsSumsOf wants path octets result }
-    {
-        let sums = self.sums.get(place)?;
-        Some(*sums)
     }
 
     /// Adds the next file.
@@ -143,25 +117,37 @@ impl FileBatch {
         set: AlgSet,
         octets: &[u8],
     ) -> Result<(), AllocError>
-        ensures held { OnOk result (AddsMessage self.old self.new set octets.now) }
+        ensures held { OnOk result (AddsHeld self.old self.new set octets.now) }
     {
-        let mut message = Vec::new(alloc);
-        message.extend_from_slice(octets)?;
-        let place = self.messages.len();
-        self.messages.push(message)?;
-        self.set = self.set.union(set);
+        let mut content = Vec::new(alloc);
+        content.extend_from_slice(octets)?;
+        let place = self.held.count();
+        self.held.want(set);
+        self.held.add((), content)?;
         self.add(FileSums::Waiting(place))
     }
 
-    /// The same files, with the digests of the messages and with these sums of the streams.
-    pub(crate) fn complete(self, alloc: Global, sums: Vec<Sums>) -> Result<FileBatch, AllocError>
-        ensures { IfOk result (λ batch. IsComplete self batch sums.items) }
+    /// The same files, with the sums of those that are held and with these of the streams.
+    pub(crate) fn complete(
+        self,
+        alloc: Global,
+        streamed: Vec<Sums>,
+    ) -> Result<FileBatch, AllocError>
+        ensures { IfOk result (λ batch. IsComplete self batch streamed.items) }
     {
         let mut batch = self;
-        batch.digests = digest_each(alloc, batch.set, batch.messages.as_slice())?;
-        batch.sums = sums;
+        batch.waiting = batch.held.sums(alloc)?;
+        batch.streamed = streamed;
         Ok(batch)
     }
+}
+
+/// The length and the digests at this place.
+fn sums_at(each: &[Sums], place: usize) -> Option<Sums>
+    ensures { MatchOption result (length each.now ≤ place)
+        (λ sums. slice_get each.now place ≡ Some sums) }
+{
+    each.get(place).copied()
 }
 
 /// The batch with the file at this place: the last one, or else a new one that begins with this file.

@@ -1,7 +1,9 @@
 -- Payload files that are tested together, and what is known of the rows that were read before they are tested.
 use Rattle.std.proofs.Common.{IfNone, IfSome, MatchOption, None, Option, Some, string_bytes, ◌≡◌, ◌||◌, ◌∙◌, ◌++◌, ◌∷◌, ◌+◌, ◌<◌, ◌≤◌, ◌⊎◌, [], ℕ, ℤ, List, Vec, ap, arith, drop, get_or, inl, inr, length, pos, refl, suc, subst, sym, take, unwrap_or}
-use Rattle.bag_sqlite.proofs.Words.{Alg, AlgSet, AllByRecursion, AreCovered, AreDigestsOfEach, AreSumsFor, AreWanted, ShortItems, column, Covers, Database, Digests, drop-cons, Files, Format, Ghosts, Global, has, HasContent, HasDamagedItem, HasMisfit, HasOneMore, Int, IsEmpty, IsFindingOf, IsFirstMisfitOf, IsWanted, IsWantOf, ItemFails, ItemPasses, items_text, LARGEST_ITEM, or-true, passes_wanted, Row, RowPasses, slice_get_read, String, Tells, Text, Untested, Want, wanted_passes, WantFault}
+use Rattle.bag_sqlite.proofs.Words.{Alg, AlgSet, AllByRecursion, AreCovered, AreSumsFor, AreSumsOfEach, AreWanted, ShortItems, column, Covers, Database, drop-cons, Files, Format, Ghosts, Global, has, HasContent, HasDamagedItem, HasMisfit, HasOneMore, Int, IsEmpty, IsFindingOf, IsFirstMisfitOf, IsWanted, IsWantOf, ItemFails, ItemPasses, items_text, LARGEST_ITEM, or-true, passes_wanted, Row, RowPasses, slice_get_read, String, Sums, Tells, Text, Untested, Want, wanted_passes, WantFault}
 use Rattle.bag_rules.specs.declared.want.WantFault.TheVariants.{Digest as WrongDigest, Length}
+use Rattle.std.proofs.lemmas.Option.{get_or_from_slice_get}
+use Rattle.bag_rules.proofs.HasLemmas.{stands}
 use Rattle.bag_sqlite.proofs.AdoptingLemmas.{all_more}
 use Rattle.bag_sqlite.proofs.RefusingLemmas.{all_at}
 
@@ -34,23 +36,31 @@ drop_next xs i x low is =
     let next : suc i ≡ i + 1 = omega arith in
     drop-cons xs i x low ∙ ap (λ y. y ∷ drop (suc i) xs) (sym is) ∙ ap (λ n. x ∷ drop n xs) next
 
+-- the content of a file of the batch
+pub content_at : (batch : ShortItems) (i : ℕ) → i < length batch.held.known.items → (content : Vec ℕ Global) × (content ≡ get_or batch.held.contents.items i content)
+content_at batch i low =
+    let there = stands batch.held.contents.items i (omega (arith, low, batch.held.paired, batch.held.known.ok.0, batch.held.contents.ok.0)) in
+    (there.0, sym (get_or_from_slice_get batch.held.contents.items i there.0 there.0 there.1))
+
 -- the file at a place, with the digests that were taken of it
-module _ (batch : ShortItems) (each : List Digests) (i : ℕ) (want : Want) (content : Vec ℕ Global) (digests : Digests) (low : i < length batch.wants.items) (want_is : want ≡ get_or batch.wants.items i want)
-    (content_is : content ≡ get_or batch.contents.items i content) where
-  contents_low : i < length batch.contents.items
-  contents_low = omega (arith, low, batch.paired, batch.wants.ok.0, batch.contents.ok.0)
+module _ (batch : ShortItems) (each : List Sums) (i : ℕ) (want : Want) (content : Vec ℕ Global) (sums : Sums) (low : i < length batch.held.known.items) (want_is : want ≡ get_or batch.held.known.items i want)
+    (content_is : content ≡ get_or batch.held.contents.items i content) where
+  contents_low : i < length batch.held.contents.items
+  contents_low = omega (arith, low, batch.held.paired, batch.held.known.ok.0, batch.held.contents.ok.0)
 
-  pub drop_both : (drop i batch.wants.items ≡ want ∷ drop (i + 1) batch.wants.items) × (drop i batch.contents.items ≡ content ∷ drop (i + 1) batch.contents.items)
-  drop_both = (drop_next batch.wants.items i want low want_is, drop_next batch.contents.items i content contents_low content_is)
+  pub drop_both : (drop i batch.held.known.items ≡ want ∷ drop (i + 1) batch.held.known.items) × (drop i batch.held.contents.items ≡ content ∷ drop (i + 1) batch.held.contents.items)
+  drop_both = (drop_next batch.held.known.items i want low want_is, drop_next batch.held.contents.items i content contents_low content_is)
 
-  pub sums_at : AreDigestsOfEach batch.set batch.contents.items each → digests ≡ get_or each i digests → (n : ℕ) → n ≡ length content.items → AreCovered batch → AreSumsFor want content.items n digests
-  sums_at taken is n count covered = record {
-    set = batch.set;
-    length_is = count;
-    digests_are = taken.digests i content digests (slice_get_read batch.contents.items (length batch.contents.items) i content refl contents_low content_is)
-        (slice_get_read each (length each) i digests refl (omega (arith, contents_low, taken.count)) is);
-    covers = all_at _ batch.wants.items i want covered low want_is;
-  }
+  pub sums_at : AreSumsOfEach batch.held.set batch.held.contents.items each → sums ≡ get_or each i sums → AreCovered batch → AreSumsFor want content.items sums.length sums.digests
+  sums_at taken is covered =
+      let are = taken.sums i content sums (slice_get_read batch.held.contents.items (length batch.held.contents.items) i content refl contents_low content_is)
+      (slice_get_read each (length each) i sums refl (omega (arith, contents_low, taken.count)) is) in
+      record {
+        set = batch.held.set;
+        length_is = are.0;
+        digests_are = are.1;
+        covers = all_at _ batch.held.known.items i want covered low want_is;
+      }
 
 pub wanted_split : (wants : List Want) (contents : List (Vec ℕ Global)) (want : Want) (content : Vec ℕ Global) → length wants ≡ length contents → AreWanted (wants ++ want ∷ []) (contents ++ content ∷ [])
     → AreWanted wants contents × IsWanted want content.items
@@ -98,8 +108,8 @@ module _ {S : Type 0} (g : Ghosts S) (db : Database) (format : Format) (tags : F
   -- once the files of the batch are tested, so are the rows before this place
   pub record SoFar (batch : ShortItems) (place : ℕ) : Type 0 where
     pub covered : AreCovered batch
-    pub passing : AreWanted batch.wants.items batch.contents.items → AllByRecursion (RowPasses g db format tags) (take place rows)
-    pub damaged : (path : List ℕ) → HasMisfit batch.wants.items batch.contents.items path → IsFirst path
+    pub passing : AreWanted batch.held.known.items batch.held.contents.items → AllByRecursion (RowPasses g db format tags) (take place rows)
+    pub damaged : (path : List ℕ) → HasMisfit batch.held.known.items batch.held.contents.items path → IsFirst path
 
   -- the batch is empty
   pub none_left : (batch : ShortItems) (place : ℕ) → IsEmpty batch → AllByRecursion (RowPasses g db format tags) (take place rows) → SoFar batch place
@@ -132,11 +142,11 @@ module _ {S : Type 0} (g : Ghosts S) (db : Database) (format : Format) (tags : F
 
     pub one_added : (want : Want) (content : Vec ℕ Global) (old new : ShortItems) → SoFar old place → HasOneMore want content old new → IsFindingOf g db format tags item path size (Untested want content) → SoFar new (place + 1)
     one_added want content old new so_far adds found =
-        let same : length old.wants.items ≡ length old.contents.items = omega (arith, old.paired, old.wants.ok.0, old.contents.ok.0) in
+        let same : length old.held.known.items ≡ length old.held.contents.items = omega (arith, old.held.paired, old.held.known.ok.0, old.held.contents.ok.0) in
         record {
           covered = adds.covered so_far.covered;
-          passing = λ all. (let both = wanted_split old.wants.items old.contents.items want content same (rw (adds.wants, adds.contents) at all) in passes_more (so_far.passing both.0) (found.1 both.1));
-          damaged = λ named misfit. elim (misfit_split old.wants.items old.contents.items want content named same (rw (adds.wants, adds.contents) at misfit)) [
+          passing = λ all. (let both = wanted_split old.held.known.items old.held.contents.items want content same (rw (adds.wants, adds.contents) at all) in passes_more (so_far.passing both.0) (found.1 both.1));
+          damaged = λ named misfit. elim (misfit_split old.held.known.items old.held.contents.items want content named same (rw (adds.wants, adds.contents) at misfit)) [
             | inl before ↦ so_far.damaged named before
             | inr last ↦ subst IsFirst (sym found.0 ∙ last.2) (first_at (so_far.passing last.0) (found.2 last.1))
           ];

@@ -3,11 +3,12 @@ pub use Rattle.bag_digest.proofs.Filling.{given_more}
 pub use Rattle.bag_digest.proofs.Progress.{all_known, given_before, given_piece, HasGiven, more_known, uses_as, uses_on}
 pub use Rattle.bag_digest.specs.Algorithm.{has}
 pub use Rattle.bag_digest.specs.Failures.{UsesSource}
-pub use Rattle.bag_digest.specs.Hash.{AreDigests, AreDigestsOfEach, Holds}
+pub use Rattle.bag_digest.specs.Hash.{AreDigests, Holds}
 pub use Rattle.bag_digest.specs.Reading.{GaveAll, GaveBefore, GavePiece, read_fault}
 pub use Rattle.bag_digest.specs.declared.algorithm.Alg.{Alg}
 pub use Rattle.bag_digest.specs.declared.algorithm.AlgSet.{AlgSet}
 pub use Rattle.bag_digest.specs.declared.multi.Digests.{Digests}
+pub use Rattle.bag_digest.specs.declared.sums.Sums.{Sums}
 pub use Rattle.bag_digest.specs.declared.multi.Multi.{Multi}
 pub use Rattle.bag_digest.specs.declared.reading.SourceFault.{SourceFault}
 pub use Rattle.bag_digest.specs.declared.reading.TheConstants.{PIECE}
@@ -41,7 +42,8 @@ pub use Rattle.bag_rules.specs.declared.plan.Plan.{Plan}
 pub use Rattle.bag_rules.specs.declared.want.Want.{Want}
 pub use Rattle.bag_rules.specs.declared.want.WantFault.{WantFault}
 pub use Rattle.bag_sqlite.specs.Adopting.{body_text, count_text, file_in, files_in, format_text, HasContent, HasFormat, HasPieces, IsRead, IsVerified, IsVerifiedAs, ItemPasses, items_text, OnlyReads, piece_text, RowPasses, Stands, stray_item_texts, stray_texts, tag_files_text, Tells, TellsOne, TransferPasses, transfers_text}
-pub use Rattle.bag_sqlite.specs.ShortItems.{AreCovered, AreWanted, Covers, HasMisfit, HasOneMore, IsEmpty, IsFindingOf, IsHeld, TakesAlso, Took}
+pub use Rattle.bag_sqlite.specs.ShortItems.{AreCovered, AreWanted, Covers, HasMisfit, HasOneMore, IsEmpty, IsFindingOf}
+pub use Rattle.bag_digest.specs.ShortContents.{AreSumsOfEach, IsHeld, TakesAlso, Took}
 pub use Rattle.bag_sqlite.specs.Contents.{HasContentMore, HasRead, in_pieces}
 pub use Rattle.bag_sqlite.specs.LedgersInTables.{AreApart, AreCut, AreMoved, AreTablesOf, format_row, HaveHeldRows, held_rows, HoldTransfers, IsDatabaseOf, IsInOrder, IsLedgerDatabase, item_rows, items_in, ListLedger, NamesFormat, NumberedItem, NumberedTransfer, piece_rows, size_of, tag_rows, transfer_row, without_number, without_rowids}
 pub use Rattle.bag_sqlite.specs.Items.{HasItem, HasItemRow, HasPieceRow}
@@ -57,7 +59,7 @@ pub use Rattle.bag_sqlite.specs.Transactions.{CommitsNothing, CommitsNothingWith
 pub use Rattle.bag_sqlite.specs.declared.adopting.AdoptFault.{AdoptFault}
 pub use Rattle.bag_sqlite.specs.declared.adopting.AdoptFault.TheVariants.{Damaged, NotALedger}
 pub use Rattle.bag_sqlite.specs.declared.short_items.ShortItems.{ShortItems}
-pub use Rattle.bag_sqlite.specs.declared.content.Content.{Content}
+pub use Rattle.bag_digest.specs.declared.content.Content.{Content}
 pub use Rattle.bag_sqlite.specs.declared.format.Format.{Format}
 pub use Rattle.bag_sqlite.specs.declared.health.Health.{Health}
 pub use Rattle.bag_sqlite.specs.declared.item_queries.HeldFile.{HeldFile}

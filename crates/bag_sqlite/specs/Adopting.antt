@@ -41,6 +41,10 @@ pub record OnlyReads {S : Type 0} (g : Ghosts S) (old new : Held S) : Type 0 whe
 abbrev pub Stands : State → Database → Type 0
 Stands s db = IsTrue s.is_open → (s.now ≡ db) × (s.committed ≡ db)
 
+-- this is so of the database that stood before the call, if the disk is clean after it
+abbrev pub SaysOf : {S : Type 0} → Ghosts S → Held S → Held S → (Database → Type 0) → Type 0
+SaysOf g old new so = HasCleanDisk (state g new) → (db : Database) → Stands (state g old) db → so db
+
 -- THE QUERIES
 
 abbrev pub format_text : List ℕ

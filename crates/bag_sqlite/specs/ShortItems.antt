@@ -1,10 +1,9 @@
 -- Payload files that are read, and tested later, when the digests of several are taken together. Only private functions
 -- cite these.
-use Rattle.std.specs.Prelude.{◌≡◌, ◌++◌, ◌∷◌, ◌⊎◌, ◌<◌, ◌≤◌, [], ℕ, ℤ, true, List, Vec, length}
+use Rattle.std.specs.Prelude.{◌≡◌, ◌++◌, ◌∷◌, ◌⊎◌, ◌≤◌, [], ℕ, ℤ, true, List, Vec, length}
 use Rattle.std.specs.List.{AllByRecursion}
 use Rattle.std.specs.declared.alloc.Global.{Global}
 use Rattle.bag_digest.specs.Algorithm.{has}
-use Rattle.bag_digest.specs.Hash.{Holds}
 use Rattle.bag_digest.specs.declared.algorithm.Alg.{Alg}
 use Rattle.bag_digest.specs.declared.algorithm.AlgSet.{AlgSet}
 use Rattle.bag_digest.specs.declared.reading.TheConstants.{PIECE}
@@ -15,31 +14,14 @@ use Rattle.sqlite.specs.Effect.{Database}
 use Rattle.sqlite.specs.Store.{Ghosts}
 use Rattle.bag_sqlite.specs.Adopting.{ItemPasses}
 use Rattle.bag_sqlite.specs.Refusing.{ItemFails}
-use Rattle.bag_sqlite.specs.declared.content.Content.{Content}
-use Rattle.bag_sqlite.specs.declared.content.Content.TheVariants.{Hashed, Whole}
 use Rattle.bag_sqlite.specs.declared.short_items.ShortItems.{ShortItems}
 use Rattle.bag_sqlite.specs.declared.format.Format.{Format}
 use Rattle.bag_sqlite.specs.declared.verifying.Finding.{Finding}
 use Rattle.bag_sqlite.specs.declared.verifying.Finding.TheVariants.{Valid, Damaged, Untested}
 
--- these octets were taken, to be hashed by the algorithms of the set
-abbrev pub Took : Content → AlgSet → List ℕ → Type 0
-Took (Whole whole) set octets = whole.items ≡ octets
-Took (Hashed multi) set octets = Holds multi set octets
-
--- It is held whole exactly if it has at most one piece: then all octets that were taken are held, and otherwise none.
-abbrev pub IsHeld : Content → ℕ → ℕ → Type 0
-IsHeld (Whole whole) size taken = (size ≤ PIECE) × (length whole.items ≡ taken)
-IsHeld (Hashed multi) size taken = PIECE < size
-
--- these octets are taken after those that were taken before
-abbrev pub TakesAlso : Content → Content → List ℕ → Type 0
-TakesAlso old new octets = (set : AlgSet) (before : List ℕ) → Took old set before
-    → Took new set (before ++ octets)
-
 -- it has no file
 abbrev pub IsEmpty : ShortItems → Type 0
-IsEmpty batch = (batch.wants.items ≡ []) × (batch.contents.items ≡ [])
+IsEmpty batch = (batch.held.known.items ≡ []) × (batch.held.contents.items ≡ [])
 
 -- the algorithms by which the path is listed are in the set
 abbrev pub Covers : AlgSet → Want → Type 0
@@ -48,12 +30,12 @@ Covers set want = (alg : Alg) → lists_by want.manifests.now want.path.now alg 
 
 -- those of all paths
 abbrev pub AreCovered : ShortItems → Type 0
-AreCovered batch = AllByRecursion (Covers batch.set) batch.wants.items
+AreCovered batch = AllByRecursion (Covers batch.held.set) batch.held.known.items
 
 -- one file more
 pub record HasOneMore (want : Want) (content : Vec ℕ Global) (old new : ShortItems) : Type 0 where
-  pub wants : new.wants.items ≡ old.wants.items ++ want ∷ []
-  pub contents : new.contents.items ≡ old.contents.items ++ content ∷ []
+  pub wants : new.held.known.items ≡ old.held.known.items ++ want ∷ []
+  pub contents : new.held.contents.items ≡ old.held.contents.items ++ content ∷ []
   pub covered : AreCovered old → AreCovered new
 
 -- each content is the one that is wanted

@@ -2,11 +2,10 @@
 ghost use Rattle.std.specs.Prelude.{◌≡◌, ◌≢◌, ◌↔◌, [], IfErr, IfOk, IsTrue, MatchResult, OnOk, false};
 ghost use Rattle.std.specs.List.{AllByRecursion};
 ghost use Rattle.bag_sqlite.specs.Adopted.{IsAdopted, IsNotAdopted};
-ghost use Rattle.bag_sqlite.specs.Adopting.{HasFormat, IsVerifiedAs, OnlyReads, Stands, Tells, stray_item_texts, stray_texts};
+ghost use Rattle.bag_sqlite.specs.Adopting.{HasFormat, IsVerifiedAs, OnlyReads, SaysOf, Tells, stray_item_texts, stray_texts};
 ghost use Rattle.bag_sqlite.specs.NewTables.{IsLeft};
 ghost use Rattle.bag_sqlite.specs.Refusing.{AreNoneFor, DoesNotShow, HasNoFormat, IsNoAnswer, IsNoLedger, IsNoQuery, IsNoneFor, RefusesToAdopt, SayNoFormat, SaysFormat};
 ghost use Rattle.bag_sqlite.specs.Tables.{number_of};
-ghost use Rattle.sqlite.specs.Effect.{Database};
 ghost use Rattle.sqlite.specs.Held.{state};
 ghost use Rattle.sqlite.specs.State.{HasCleanDisk, Survives};
 ghost use Rattle.sqlite.specs.Values.{bound};
@@ -200,12 +199,10 @@ fn verify_ledger<S: Alter, W: Watch>(
 /// The format that the database names.
 fn format_of<S: Alter>(connection: &mut Connection<S>) -> Result<Format, AdoptFault>
     requires idle { connection.old.in_transaction ≡ false }
-    ensures format { HasCleanDisk (state S.Store connection.new) → (db : Database)
-        → Stands (state S.Store connection.old) db
-        → IfOk result (λ format. HasFormat S.Store db (number_of format)) }
-    ensures refused { HasCleanDisk (state S.Store connection.new) → (db : Database)
-        → Stands (state S.Store connection.old) db
-        → IfErr result (IsNoneFor (HasNoFormat S.Store db)) }
+    ensures format { SaysOf S.Store connection.old connection.new (λ db.
+        IfOk result (λ format. HasFormat S.Store db (number_of format))) }
+    ensures refused { SaysOf S.Store connection.old connection.new (λ db.
+        IfErr result (IsNoneFor (HasNoFormat S.Store db))) }
     ensures opened { HasCleanDisk (state S.Store connection.new)
         → OnOk result (IsTrue (state S.Store connection.old).is_open) }
     ensures reads { OnlyReads S.Store connection.old connection.new }
@@ -236,13 +233,11 @@ fn format_in(rows: &[Row]) -> Result<i64, AdoptFault>
 /// transfer, and pieces a payload file.
 fn test_rows<S: Alter>(connection: &mut Connection<S>, format: Format) -> Result<(), AdoptFault>
     requires idle { connection.old.in_transaction ≡ false }
-    ensures none { HasCleanDisk (state S.Store connection.new) → (db : Database)
-        → Stands (state S.Store connection.old) db
-        → OnOk result (AllByRecursion (λ text. Tells S.Store db text [] [])
-        (stray_texts format)) }
-    ensures refused { HasCleanDisk (state S.Store connection.new) → (db : Database)
-        → Stands (state S.Store connection.old) db
-        → IfErr result (IsNoneFor (IsNoLedger S.Store db format)) }
+    ensures none { SaysOf S.Store connection.old connection.new (λ db.
+        OnOk result (AllByRecursion (λ text. Tells S.Store db text [] [])
+        (stray_texts format))) }
+    ensures refused { SaysOf S.Store connection.old connection.new (λ db.
+        IfErr result (IsNoneFor (IsNoLedger S.Store db format))) }
     ensures reads { OnlyReads S.Store connection.old connection.new }
 {
     test_none(
@@ -259,13 +254,11 @@ fn test_rows<S: Alter>(connection: &mut Connection<S>, format: Format) -> Result
 /// The same for the rows of payload files.
 fn test_items<S: Alter>(connection: &mut Connection<S>, format: Format) -> Result<(), AdoptFault>
     requires idle { connection.old.in_transaction ≡ false }
-    ensures none { HasCleanDisk (state S.Store connection.new) → (db : Database)
-        → Stands (state S.Store connection.old) db
-        → OnOk result (AllByRecursion (λ text. Tells S.Store db text [] [])
-        (stray_item_texts format)) }
-    ensures refused { HasCleanDisk (state S.Store connection.new) → (db : Database)
-        → Stands (state S.Store connection.old) db
-        → IfErr result (IsNoneFor (IsNoLedger S.Store db format)) }
+    ensures none { SaysOf S.Store connection.old connection.new (λ db.
+        OnOk result (AllByRecursion (λ text. Tells S.Store db text [] [])
+        (stray_item_texts format))) }
+    ensures refused { SaysOf S.Store connection.old connection.new (λ db.
+        IfErr result (IsNoneFor (IsNoLedger S.Store db format))) }
     ensures reads { OnlyReads S.Store connection.old connection.new }
 {
     match format {
@@ -280,13 +273,11 @@ fn test_items<S: Alter>(connection: &mut Connection<S>, format: Format) -> Resul
 /// The same in format 2.
 fn test_pieces<S: Alter>(connection: &mut Connection<S>) -> Result<(), AdoptFault>
     requires idle { connection.old.in_transaction ≡ false }
-    ensures none { HasCleanDisk (state S.Store connection.new) → (db : Database)
-        → Stands (state S.Store connection.old) db
-        → OnOk result (AllByRecursion (λ text. Tells S.Store db text [] [])
-        (stray_item_texts Format.Second)) }
-    ensures refused { HasCleanDisk (state S.Store connection.new) → (db : Database)
-        → Stands (state S.Store connection.old) db
-        → IfErr result (IsNoneFor (IsNoLedger S.Store db Format.Second)) }
+    ensures none { SaysOf S.Store connection.old connection.new (λ db.
+        OnOk result (AllByRecursion (λ text. Tells S.Store db text [] [])
+        (stray_item_texts Format.Second))) }
+    ensures refused { SaysOf S.Store connection.old connection.new (λ db.
+        IfErr result (IsNoneFor (IsNoLedger S.Store db Format.Second))) }
     ensures reads { OnlyReads S.Store connection.old connection.new }
 {
     test_none(
@@ -302,12 +293,10 @@ fn test_pieces<S: Alter>(connection: &mut Connection<S>) -> Result<(), AdoptFaul
 /// Checks that a query shows no rows.
 fn test_none<S: Alter>(connection: &mut Connection<S>, sql: &str) -> Result<(), AdoptFault>
     requires idle { connection.old.in_transaction ≡ false }
-    ensures none { HasCleanDisk (state S.Store connection.new) → (db : Database)
-        → Stands (state S.Store connection.old) db
-        → OnOk result (Tells S.Store db sql.now [] []) }
-    ensures refused { HasCleanDisk (state S.Store connection.new) → (db : Database)
-        → Stands (state S.Store connection.old) db
-        → IfErr result (IsNoneFor (DoesNotShow S.Store db sql.now [] (λ rows. rows ≡ []))) }
+    ensures none { SaysOf S.Store connection.old connection.new (λ db.
+        OnOk result (Tells S.Store db sql.now [] [])) }
+    ensures refused { SaysOf S.Store connection.old connection.new (λ db.
+        IfErr result (IsNoneFor (DoesNotShow S.Store db sql.now [] (λ rows. rows ≡ [])))) }
     ensures reads { OnlyReads S.Store connection.old connection.new }
 {
     if rows_of(connection, sql, &[])?.is_empty() {
@@ -324,12 +313,10 @@ pub(crate) fn rows_of<S: Alter>(
     params: &[ValueRef<'_>],
 ) -> Result<Vec<Row>, AdoptFault>
     requires idle { connection.old.in_transaction ≡ false }
-    ensures rows { HasCleanDisk (state S.Store connection.new) → (db : Database)
-        → Stands (state S.Store connection.old) db
-        → IfOk result (λ rows. Tells S.Store db sql.now (bound params.now) rows.items) }
-    ensures refused { HasCleanDisk (state S.Store connection.new) → (db : Database)
-        → Stands (state S.Store connection.old) db
-        → IfErr result (IsNoneFor (IsNoQuery db.schema sql.now)) }
+    ensures rows { SaysOf S.Store connection.old connection.new (λ db.
+        IfOk result (λ rows. Tells S.Store db sql.now (bound params.now) rows.items)) }
+    ensures refused { SaysOf S.Store connection.old connection.new (λ db.
+        IfErr result (IsNoneFor (IsNoQuery db.schema sql.now))) }
     ensures opened { HasCleanDisk (state S.Store connection.new)
         → OnOk result (IsTrue (state S.Store connection.old).is_open) }
     ensures reads { OnlyReads S.Store connection.old connection.new }

@@ -3,7 +3,6 @@
 
 mod adopting;
 mod beginning;
-mod content;
 mod format;
 mod health;
 mod item_queries;

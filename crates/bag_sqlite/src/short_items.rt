@@ -1,9 +1,9 @@
 //! Payload files that are read one after another, so that their digests can be taken side by side.
-ghost use Rattle.std.specs.Prelude.{◌≡◌, ◌<◌, ◌≤◌, ◌++◌, ◌∷◌, [], All, IfOk, MatchOption, OnOk, false, length, string_bytes, vec_len};
+ghost use Rattle.std.specs.Prelude.{◌≡◌, ◌<◌, ◌≤◌, ◌++◌, ◌∷◌, [], All, IfOk, MatchOption, OnOk, false, length, string_bytes};
 ghost use Rattle.bag_digest.specs.declared.reading.TheConstants.{PIECE};
 ghost use Rattle.bag_sqlite.specs.declared.short_items.TheConstants.{MOST_SHORT};
 
-use bag_digest::{AlgSet, digest_each};
+use bag_digest::{AlgSet, ShortContents};
 use bag_rules::Want;
 use std::alloc::{AllocError, Global};
 
@@ -13,15 +13,10 @@ const MOST_SHORT: usize = 64;
 /// Payload files that were read, in order, and have not been tested yet.
 #[derive(Drop)]
 pub(crate) struct ShortItems<'a> {
-    /// What each file has to be.
-    wants: Vec<Want<'a>>,
-    /// The content of each file.
-    contents: Vec<Vec<u8>>,
-    /// The algorithms by which their paths are listed.
-    set: AlgSet,
-    ghost paired: { vec_len wants ≡ vec_len contents },
-    ghost few: { vec_len contents ≤ MOST_SHORT },
-    ghost small: { All (λ content. length content.items ≤ PIECE) contents.items },
+    /// The content of each file, and what it has to be. The algorithms are those by which the paths are listed.
+    held: ShortContents<Want<'a>>,
+    ghost few: { length held.contents.items ≤ MOST_SHORT },
+    ghost small: { All (λ content. length content.items ≤ PIECE) held.contents.items },
 }
 
 impl<'a> ShortItems<'a> {
@@ -32,49 +27,41 @@ impl<'a> ShortItems<'a> {
         ensures { IsEmpty result }
     {
         ShortItems {
-            wants: Vec::new(alloc),
-            contents: Vec::new(alloc),
-            set: AlgSet::empty(),
+            held: ShortContents::new(alloc, AlgSet::empty()),
         }
     }
 
     /// Whether it has as many files as it may have.
     pub(crate) fn is_full(&self) -> bool
-        ensures { result ≡ false → vec_len self.now.contents < MOST_SHORT }
+        ensures { result ≡ false → length self.now.held.contents.items < MOST_SHORT }
     {
-        self.wants.len() >= MOST_SHORT
+        self.held.count() >= MOST_SHORT
     }
 
     /// The same files and one more.
     pub(crate) fn add(self, want: Want<'a>, content: Vec<u8>) -> Result<ShortItems<'a>, AllocError>
-        requires room { vec_len self.contents < MOST_SHORT }
+        requires room { length self.held.contents.items < MOST_SHORT }
         requires small { length content.items ≤ PIECE }
         ensures { IfOk result (HasOneMore want.entry content self.entry) }
     {
-        let ShortItems {
-            mut wants,
-            mut contents,
-            set,
-        } = self;
-        wants.push(want)?;
-        contents.push(content)?;
-        Ok(ShortItems {
-            wants,
-            contents,
-            set: set.union(want.algs()),
-        })
+        let ShortItems { mut held } = self;
+        held.want(want.algs());
+        held.add(want, content)?;
+        Ok(ShortItems { held })
     }
 
     /// The path of the first file whose content isn't the one that is wanted, if there is one.
     pub(crate) fn first_damaged(&self, alloc: Global) -> Result<Option<String>, AllocError>
         ensures { AreCovered self.now → IfOk result (λ path. MatchOption path
-            (AreWanted self.now.wants.items self.now.contents.items) (λ path.
-            HasMisfit self.now.wants.items self.now.contents.items (string_bytes path))) }
+            (AreWanted self.now.held.known.items self.now.held.contents.items) (λ path.
+            HasMisfit self.now.held.known.items self.now.held.contents.items (string_bytes path))) }
     {
-        let digests = digest_each(alloc, self.set, self.contents.as_slice())?;
-        for i in 0..self.wants.len() {
-            let want = self.wants[i];
-            match want.test(self.contents[i].len() as u64, &digests[i]) {
+        let each = self.held.sums(alloc)?;
+        let wants = self.held.known();
+        for i in 0..wants.len() {
+            let want = wants[i];
+            let sums = each[i];
+            match want.test(sums.length, &sums.digests) {
                 Ok(()) => {}
                 Err(_) => return Ok(Some(String::from_str(alloc, want.path().as_str())?)),
             }

@@ -4,26 +4,23 @@ ghost use Rattle.std.specs.List.{AllByRecursion, concat};
 ghost use Rattle.bag_rules.specs.Files.{Files};
 ghost use Rattle.bag_rules.specs.Plans.{IsPlanOf};
 ghost use Rattle.bag_rules.specs.declared.limits.TheConstants.{LARGEST_ITEM as LARGEST};
-ghost use Rattle.bag_sqlite.specs.Adopting.{HasContent, HasPieces, OnlyReads, RowPasses, Stands, Tells, TellsOne, TransferPasses, TransfersPass, body_text, count_text, files_in, items_text, piece_text, tag_files_text, transfers_text};
-ghost use Rattle.bag_sqlite.specs.ShortItems.{HoldsLittle, IsFindingOf, IsHeld, TakesAlso, Took};
+ghost use Rattle.bag_sqlite.specs.Adopting.{HasContent, HasPieces, OnlyReads, RowPasses, SaysOf, Tells, TellsOne, TransferPasses, TransfersPass, body_text, count_text, files_in, items_text, piece_text, tag_files_text, transfers_text};
+ghost use Rattle.bag_digest.specs.ShortContents.{IsHeld, TakesAlso, Took};
+ghost use Rattle.bag_sqlite.specs.ShortItems.{HoldsLittle, IsFindingOf};
 ghost use Rattle.bag_sqlite.specs.declared.format.Format.{Format};
 ghost use Rattle.bag_sqlite.specs.Refusing.{AreTags, DoNotOpen, HasDamagedItem, HasMorePieces, IsBlob, IsNoLedger, IsNoneFor, IsSize, LacksBody, LacksContent, LacksPiece, OpensNone, RefusesTransfer, RefusesTransfers, ShowsOctets, adopt_fault};
-ghost use Rattle.sqlite.specs.Effect.{Database};
-ghost use Rattle.sqlite.specs.Held.{state};
 ghost use Rattle.sqlite.specs.Order.{column, Row};
-ghost use Rattle.sqlite.specs.State.{HasCleanDisk};
 ghost use Rattle.sqlite.specs.declared.error.Error.{Error as SqlError};
 ghost use Rattle.sqlite.specs.declared.types.Value.TheVariants.{Blob, Int};
 
 use crate::adopting::{AdoptFault, rows_of};
-use crate::content::Content;
 use crate::format::Format;
 use crate::item_queries::PIECE_BODY;
 use crate::short_items::ShortItems;
 use crate::transfer_queries::{TAG_FILES, path_in, tag_set_in};
 use crate::verifying_beside::{LANES, valid_beside};
 use crate::watch::Watch;
-use bag_digest::{AlgSet, PIECE};
+use bag_digest::{AlgSet, Content, PIECE};
 use bag_rules::limits::LARGEST_ITEM;
 use bag_rules::{Plan, PlanFault, Want};
 use sqlite::types::ValueRef;
@@ -37,12 +34,10 @@ pub(crate) fn verify_transfers<S: Alter, W: Watch>(
     format: Format,
 ) -> Result<(), AdoptFault>
     requires idle { connection.old.in_transaction ≡ false }
-    ensures verified { HasCleanDisk (state S.Store connection.new) → (db : Database)
-        → Stands (state S.Store connection.old) db
-        → OnOk result (TransfersPass S.Store db format) }
-    ensures refused { HasCleanDisk (state S.Store connection.new) → (db : Database)
-        → Stands (state S.Store connection.old) db
-        → IfErr result (RefusesTransfers S.Store db format) }
+    ensures verified { SaysOf S.Store connection.old connection.new (λ db.
+        OnOk result (TransfersPass S.Store db format)) }
+    ensures refused { SaysOf S.Store connection.old connection.new (λ db.
+        IfErr result (RefusesTransfers S.Store db format)) }
     ensures reads { OnlyReads S.Store connection.old connection.new }
 {
     let rows = rows_of(
@@ -68,13 +63,12 @@ fn verify_rows<S: Alter, W: Watch>(
     rows: &[Row],
 ) -> Result<(), AdoptFault>
     requires idle { connection.old.in_transaction ≡ false }
-    ensures verified { HasCleanDisk (state S.Store connection.new) → (db : Database)
-        → Stands (state S.Store connection.old) db
-        → OnOk result (AllByRecursion (λ row. (transfer : ℤ)
-        × (column row 0 ≡ Int transfer) × TransferPasses S.Store db format transfer) rows.now) }
-    ensures refused { HasCleanDisk (state S.Store connection.new) → (db : Database)
-        → Stands (state S.Store connection.old) db → Tells S.Store db transfers_text [] rows.now
-        → IfErr result (RefusesTransfers S.Store db format) }
+    ensures verified { SaysOf S.Store connection.old connection.new (λ db.
+        OnOk result (AllByRecursion (λ row. (transfer : ℤ)
+        × (column row 0 ≡ Int transfer) × TransferPasses S.Store db format transfer) rows.now)) }
+    ensures refused { SaysOf S.Store connection.old connection.new (λ db.
+        Tells S.Store db transfers_text [] rows.now
+        → IfErr result (RefusesTransfers S.Store db format)) }
     ensures reads { OnlyReads S.Store connection.old connection.new }
 {
     for row in rows {
@@ -93,12 +87,10 @@ fn verify_transfer<S: Alter, W: Watch>(
     name: String,
 ) -> Result<(), AdoptFault>
     requires idle { connection.old.in_transaction ≡ false }
-    ensures verified { HasCleanDisk (state S.Store connection.new) → (db : Database)
-        → Stands (state S.Store connection.old) db
-        → OnOk result (TransferPasses S.Store db format transfer) }
-    ensures refused { HasCleanDisk (state S.Store connection.new) → (db : Database)
-        → Stands (state S.Store connection.old) db
-        → IfErr result (RefusesTransfer S.Store db format transfer (string_bytes name)) }
+    ensures verified { SaysOf S.Store connection.old connection.new (λ db.
+        OnOk result (TransferPasses S.Store db format transfer)) }
+    ensures refused { SaysOf S.Store connection.old connection.new (λ db.
+        IfErr result (RefusesTransfer S.Store db format transfer (string_bytes name))) }
     ensures reads { OnlyReads S.Store connection.old connection.new }
 {
     let Some(plan) = plan_of(alloc, connection, transfer)? else {
@@ -118,15 +110,13 @@ fn plan_of<S: Alter>(
     transfer: i64,
 ) -> Result<Option<Plan>, AdoptFault>
     requires idle { connection.old.in_transaction ≡ false }
-    ensures plan { HasCleanDisk (state S.Store connection.new) → (db : Database)
-        → Stands (state S.Store connection.old) db
-        → IfOk result (λ plan. IfSome plan (λ plan. (rows : List Row)
+    ensures plan { SaysOf S.Store connection.old connection.new (λ db.
+        IfOk result (λ plan. IfSome plan (λ plan. (rows : List Row)
         × Tells S.Store db tag_files_text (Int transfer ∷ []) rows
-        × IsPlanOf (files_in rows) plan)) }
-    ensures refused { HasCleanDisk (state S.Store connection.new) → (db : Database)
-        → Stands (state S.Store connection.old) db
-        → MatchResult result (λ plan. IfNone plan (OpensNone S.Store db transfer))
-        (IsNoneFor ((format : Format) → IsNoLedger S.Store db format)) }
+        × IsPlanOf (files_in rows) plan))) }
+    ensures refused { SaysOf S.Store connection.old connection.new (λ db.
+        MatchResult result (λ plan. IfNone plan (OpensNone S.Store db transfer))
+        (IsNoneFor ((format : Format) → IsNoLedger S.Store db format))) }
     ensures reads { OnlyReads S.Store connection.old connection.new }
 {
     let rows = rows_of(connection, TAG_FILES, params![transfer])?;
@@ -184,17 +174,16 @@ fn first_damaged<S: Alter, W: Watch>(
     plan: &Plan,
 ) -> Result<Option<String>, AdoptFault>
     requires idle { connection.old.in_transaction ≡ false }
-    ensures passing { HasCleanDisk (state S.Store connection.new) → (db : Database)
-        → Stands (state S.Store connection.old) db
-        → (tags : Files) → IsPlanOf tags plan.now
+    ensures passing { SaysOf S.Store connection.old connection.new (λ db.
+        (tags : Files) → IsPlanOf tags plan.now
         → IfOk result (λ path. IfNone path ((rows : List Row)
         × Tells S.Store db (items_text format) (Int transfer ∷ []) rows
-        × AllByRecursion (RowPasses S.Store db format tags) rows)) }
-    ensures refused { HasCleanDisk (state S.Store connection.new) → (db : Database)
-        → Stands (state S.Store connection.old) db → (tags : Files) → IsPlanOf tags plan.now
+        × AllByRecursion (RowPasses S.Store db format tags) rows))) }
+    ensures refused { SaysOf S.Store connection.old connection.new (λ db.
+        (tags : Files) → IsPlanOf tags plan.now
         → MatchResult result (λ path. IfSome path (λ path.
         HasDamagedItem S.Store db format tags transfer (string_bytes path)))
-        (IsNoneFor (IsNoLedger S.Store db format)) }
+        (IsNoneFor (IsNoLedger S.Store db format))) }
     ensures reads { OnlyReads S.Store connection.old connection.new }
 {
     let rows = rows_of(connection, format.items_text(), params![transfer])?;
@@ -211,16 +200,15 @@ fn damaged_in<S: Alter, W: Watch>(
     rows: &[Row],
 ) -> Result<Option<String>, AdoptFault>
     requires idle { connection.old.in_transaction ≡ false }
-    ensures passing { HasCleanDisk (state S.Store connection.new) → (db : Database)
-        → Stands (state S.Store connection.old) db
-        → (tags : Files) → IsPlanOf tags plan.now → IfOk result (λ path. IfNone path
-        (AllByRecursion (RowPasses S.Store db format tags) rows.now)) }
-    ensures refused { HasCleanDisk (state S.Store connection.new) → (db : Database)
-        → Stands (state S.Store connection.old) db → (tags : Files) → IsPlanOf tags plan.now
+    ensures passing { SaysOf S.Store connection.old connection.new (λ db.
+        (tags : Files) → IsPlanOf tags plan.now → IfOk result (λ path. IfNone path
+        (AllByRecursion (RowPasses S.Store db format tags) rows.now))) }
+    ensures refused { SaysOf S.Store connection.old connection.new (λ db.
+        (tags : Files) → IsPlanOf tags plan.now
         → (transfer : ℤ) → Tells S.Store db (items_text format) (Int transfer ∷ []) rows.now
         → MatchResult result (λ path. IfSome path (λ path.
         HasDamagedItem S.Store db format tags transfer (string_bytes path)))
-        (IsNoneFor (IsNoLedger S.Store db format)) }
+        (IsNoneFor (IsNoLedger S.Store db format))) }
     ensures reads { OnlyReads S.Store connection.old connection.new }
 {
     let mut batch = ShortItems::none(alloc);
@@ -288,10 +276,10 @@ fn read_item<'a, S: Alter, W: Watch>(
     size: i64,
 ) -> Result<Finding<'a>, AdoptFault>
     requires idle { connection.old.in_transaction ≡ false }
-    ensures found { HasCleanDisk (state S.Store connection.new) → (db : Database)
-        → Stands (state S.Store connection.old) db → (tags : Files) → IsPlanOf tags plan.now
+    ensures found { SaysOf S.Store connection.old connection.new (λ db.
+        (tags : Files) → IsPlanOf tags plan.now
         → MatchResult result (IsFindingOf S.Store db format tags item path.now size)
-        (IsNoneFor (IsNoLedger S.Store db format)) }
+        (IsNoneFor (IsNoLedger S.Store db format))) }
     ensures little { IfOk result HoldsLittle }
     ensures reads { OnlyReads S.Store connection.old connection.new }
 {
@@ -339,16 +327,14 @@ fn content_of<S: Alter, W: Watch>(
     set: AlgSet,
 ) -> Result<Option<Content>, AdoptFault>
     requires { (connection.old.in_transaction ≡ false) × (size ≤ LARGEST) }
-    ensures content { HasCleanDisk (state S.Store connection.new) → (db : Database)
-        → Stands (state S.Store connection.old) db
-        → IfOk result (λ content. IfSome content (λ content. (octets : List ℕ)
+    ensures content { SaysOf S.Store connection.old connection.new (λ db.
+        IfOk result (λ content. IfSome content (λ content. (octets : List ℕ)
         × HasContent S.Store db format item octets × (size ≡ length octets)
-        × Took content set octets)) }
+        × Took content set octets))) }
     ensures held { IfOk result (λ content. IfSome content (λ content. IsHeld content size size)) }
-    ensures refused { HasCleanDisk (state S.Store connection.new) → (db : Database)
-        → Stands (state S.Store connection.old) db
-        → MatchResult result (λ content. IfNone content (LacksContent S.Store db format item size))
-        (IsNoneFor (IsNoLedger S.Store db format)) }
+    ensures refused { SaysOf S.Store connection.old connection.new (λ db.
+        MatchResult result (λ content. IfNone content (LacksContent S.Store db format item size))
+        (IsNoneFor (IsNoLedger S.Store db format))) }
     ensures reads { OnlyReads S.Store connection.old connection.new }
 {
     match format {
@@ -367,16 +353,14 @@ fn whole_content<S: Alter, W: Watch>(
     set: AlgSet,
 ) -> Result<Option<Content>, AdoptFault>
     requires { connection.old.in_transaction ≡ false }
-    ensures content { HasCleanDisk (state S.Store connection.new) → (db : Database)
-        → Stands (state S.Store connection.old) db
-        → IfOk result (λ content. IfSome content (λ content. (octets : List ℕ)
+    ensures content { SaysOf S.Store connection.old connection.new (λ db.
+        IfOk result (λ content. IfSome content (λ content. (octets : List ℕ)
         × TellsOne S.Store db body_text (Int item ∷ []) (Blob octets) × (size ≡ length octets)
-        × Took content set octets)) }
+        × Took content set octets))) }
     ensures held { IfOk result (λ content. IfSome content (λ content. IsHeld content size size)) }
-    ensures refused { HasCleanDisk (state S.Store connection.new) → (db : Database)
-        → Stands (state S.Store connection.old) db
-        → MatchResult result (λ content. IfNone content (LacksBody S.Store db item size))
-        (IsNoneFor (IsNoLedger S.Store db Format.First)) }
+    ensures refused { SaysOf S.Store connection.old connection.new (λ db.
+        MatchResult result (λ content. IfNone content (LacksBody S.Store db item size))
+        (IsNoneFor (IsNoLedger S.Store db Format.First))) }
     ensures reads { OnlyReads S.Store connection.old connection.new }
 {
     let rows = rows_of(
@@ -410,17 +394,15 @@ fn content_in_pieces<S: Alter, W: Watch>(
     set: AlgSet,
 ) -> Result<Option<Content>, AdoptFault>
     requires { (connection.old.in_transaction ≡ false) × (size ≤ LARGEST) }
-    ensures content { HasCleanDisk (state S.Store connection.new) → (db : Database)
-        → Stands (state S.Store connection.old) db
-        → IfOk result (λ content. IfSome content (λ content. (pieces : List (List ℕ))
+    ensures content { SaysOf S.Store connection.old connection.new (λ db.
+        IfOk result (λ content. IfSome content (λ content. (pieces : List (List ℕ))
         × HasPieces S.Store db item pieces × (size ≡ length (concat pieces))
-        × Took content set (concat pieces))) }
+        × Took content set (concat pieces)))) }
     ensures held { IfOk result (λ content. IfSome content (λ content. IsHeld content size size)) }
-    ensures refused { HasCleanDisk (state S.Store connection.new) → (db : Database)
-        → Stands (state S.Store connection.old) db
-        → MatchResult result (λ content. IfNone content (LacksPiece S.Store db item size
+    ensures refused { SaysOf S.Store connection.old connection.new (λ db.
+        MatchResult result (λ content. IfNone content (LacksPiece S.Store db item size
         ⊎ HasMorePieces S.Store db item size))
-        (IsNoneFor (IsNoLedger S.Store db Format.Second)) }
+        (IsNoneFor (IsNoLedger S.Store db Format.Second))) }
     ensures reads { OnlyReads S.Store connection.old connection.new }
 {
     let mut content = Content::none(alloc, size, set);
@@ -451,16 +433,14 @@ pub(crate) fn take_piece<S: Alter>(
     content: &mut Content,
 ) -> Result<bool, AdoptFault>
     requires idle { connection.old.in_transaction ≡ false }
-    ensures taken { HasCleanDisk (state S.Store connection.new) → (db : Database)
-        → Stands (state S.Store connection.old) db
-        → IfOk result (λ taken. IsTrue taken → (piece : List ℕ)
+    ensures taken { SaysOf S.Store connection.old connection.new (λ db.
+        IfOk result (λ taken. IsTrue taken → (piece : List ℕ)
         × TellsOne S.Store db piece_text (Int item ∷ Int n ∷ []) (Blob piece)
-        × (length piece ≡ octets) × TakesAlso content.old content.new piece) }
-    ensures refused { HasCleanDisk (state S.Store connection.new) → (db : Database)
-        → Stands (state S.Store connection.old) db
-        → MatchResult result (λ taken. taken ≡ false → (rows : List Row)
+        × (length piece ≡ octets) × TakesAlso content.old content.new piece)) }
+    ensures refused { SaysOf S.Store connection.old connection.new (λ db.
+        MatchResult result (λ taken. taken ≡ false → (rows : List Row)
         × Tells S.Store db piece_text (Int item ∷ Int n ∷ []) rows × ¬ ShowsOctets rows octets)
-        (IsNoneFor (IsNoLedger S.Store db Format.Second)) }
+        (IsNoneFor (IsNoLedger S.Store db Format.Second))) }
     ensures held { IfOk result (λ taken. IsTrue taken → (size before : ℕ)
         → IsHeld content.old size before → IsHeld content.new size (before + octets)) }
     ensures reads { OnlyReads S.Store connection.old connection.new }
@@ -496,11 +476,10 @@ pub(crate) fn count_of<S: Alter>(
     item: i64,
 ) -> Result<i64, AdoptFault>
     requires idle { connection.old.in_transaction ≡ false }
-    ensures count { HasCleanDisk (state S.Store connection.new) → (db : Database)
-        → Stands (state S.Store connection.old) db
-        → MatchResult result
+    ensures count { SaysOf S.Store connection.old connection.new (λ db.
+        MatchResult result
         (λ count. TellsOne S.Store db count_text (Int item ∷ []) (Int count))
-        (IsNoneFor (IsNoLedger S.Store db Format.Second)) }
+        (IsNoneFor (IsNoLedger S.Store db Format.Second))) }
     ensures reads { OnlyReads S.Store connection.old connection.new }
 {
     let rows = rows_of(

@@ -12,24 +12,20 @@ ghost use Rattle.bag_digest.specs.declared.reading.TheConstants.{PIECE};
 ghost use Rattle.bag_rules.specs.Files.{Files};
 ghost use Rattle.bag_rules.specs.Plans.{IsPlanOf, IsWantOf};
 ghost use Rattle.bag_rules.specs.declared.limits.TheConstants.{LARGEST_ITEM as LARGEST};
-ghost use Rattle.bag_sqlite.specs.Adopting.{OnlyReads, Stands, TellsOne, piece_text};
+ghost use Rattle.bag_sqlite.specs.Adopting.{OnlyReads, SaysOf, TellsOne, piece_text};
 ghost use Rattle.bag_sqlite.specs.ShortItems.{Covers};
 ghost use Rattle.bag_sqlite.specs.Beside.{AreCoveredBy, AreDone, AreHashed, AreItemsOf, AreListed, ArePassing, AreRead, AreValid, GoesOn, HaveFullPieces, HaveTaken, HoldsPieces, IsFirstOpen, IsPiece, IsRead, IsValid};
 ghost use Rattle.bag_sqlite.specs.Refusing.{IsNoLedger, IsNoneFor};
 ghost use Rattle.bag_sqlite.specs.declared.long_item.LongItem.{LongItem};
 ghost use Rattle.bag_sqlite.specs.declared.format.Format.{Format};
-ghost use Rattle.sqlite.specs.Effect.{Database};
-ghost use Rattle.sqlite.specs.Held.{state};
-ghost use Rattle.sqlite.specs.State.{HasCleanDisk};
 ghost use Rattle.sqlite.specs.declared.types.Value.TheVariants.{Blob, Int};
 
 use crate::adopting::AdoptFault;
-use crate::content::Content;
 use crate::format::Format;
 use crate::long_item::LongItem;
 use crate::verifying::{count_of, take_piece};
 use crate::watch::Watch;
-use bag_digest::{AlgSet, MultiLanes, PIECE};
+use bag_digest::{AlgSet, Content, MultiLanes, PIECE};
 use bag_rules::Plan;
 use sqlite::{Alter, Connection, Row};
 use std::alloc::{AllocError, Global};
@@ -54,11 +50,11 @@ pub(crate) fn valid_beside<S: Alter, W: Watch>(
     alone: usize,
 ) -> Result<usize, AdoptFault>
     requires { (connection.old.in_transaction ≡ false) × (at ≤ length rows.now) }
-    ensures valid { HasCleanDisk (state S.Store connection.new) → (db : Database)
-        → Stands (state S.Store connection.old) db → MatchResult result
+    ensures valid { SaysOf S.Store connection.old connection.new (λ db.
+        MatchResult result
         (λ valid. (tags : Files) → IsPlanOf tags plan.now
         → ArePassing S.Store db format tags rows.now at (at + valid))
-        (IsNoneFor (IsNoLedger S.Store db format)) }
+        (IsNoneFor (IsNoLedger S.Store db format))) }
     ensures inside { IfOk result (λ valid. at + valid ≤ length rows.now) }
     ensures reads { OnlyReads S.Store connection.old connection.new }
 {
@@ -115,12 +111,12 @@ fn count_valid<S: Alter, W: Watch>(
     items: &[LongItem<'_>],
 ) -> Result<usize, AdoptFault>
     requires { (connection.old.in_transaction ≡ false) × (length items.now ≤ 4) }
-    ensures valid { HasCleanDisk (state S.Store connection.new) → (db : Database)
-        → Stands (state S.Store connection.old) db → MatchResult result
+    ensures valid { SaysOf S.Store connection.old connection.new (λ db.
+        MatchResult result
         (λ valid. (tags : Files) → ((k : ℕ) (long : LongItem) → slice_get items.now k ≡ Some long
         → IsWantOf tags long.want.path.now long.want)
         → AreValid S.Store db tags valid items.now)
-        (IsNoneFor (IsNoLedger S.Store db Format.Second)) }
+        (IsNoneFor (IsNoLedger S.Store db Format.Second))) }
     ensures inside { IfOk result (λ valid. valid ≤ length items.now) }
     ensures reads { OnlyReads S.Store connection.old connection.new }
 {
@@ -163,11 +159,11 @@ fn count_in_lanes<S: Alter, W: Watch>(
     set: AlgSet,
 ) -> Result<usize, AdoptFault>
     requires { (connection.old.in_transaction ≡ false) × (length items.now ≤ 4) }
-    ensures valid { HasCleanDisk (state S.Store connection.new) → (db : Database)
-        → Stands (state S.Store connection.old) db → MatchResult result
+    ensures valid { SaysOf S.Store connection.old connection.new (λ db.
+        MatchResult result
         (λ valid. (tags : Files) → AreListed tags set items.now
         → AreValid S.Store db tags valid items.now)
-        (IsNoneFor (IsNoLedger S.Store db Format.Second)) }
+        (IsNoneFor (IsNoLedger S.Store db Format.Second))) }
     ensures inside { IfOk result (λ valid. valid ≤ length items.now) }
     ensures reads { OnlyReads S.Store connection.old connection.new }
 {
@@ -283,15 +279,14 @@ fn advance_each<S: Alter, W: Watch>(
 )
     requires { (connection.old.in_transaction ≡ false) × (n ≤ LARGEST)
         × (front.old.place ≤ length items.now) × (length items.now ≤ 4) }
-    ensures read { HasCleanDisk (state S.Store connection.new) → (db : Database)
-        → Stands (state S.Store connection.old) db → (tags : Files) (set : AlgSet)
+    ensures read { SaysOf S.Store connection.old connection.new (λ db.
+        (tags : Files) (set : AlgSet)
         → AreListed tags set items.now
         → AreHashed S.Store db tags multi.old set n 0 front.old.place items.now
-        → AreRead S.Store db tags multi.new set n front.new.place items.now pieces.new }
-    ensures refused { HasCleanDisk (state S.Store connection.new) → (db : Database)
-        → Stands (state S.Store connection.old) db
-        → IfSome front.old.fault (IsNoneFor (IsNoLedger S.Store db Format.Second))
-        → IfSome front.new.fault (IsNoneFor (IsNoLedger S.Store db Format.Second)) }
+        → AreRead S.Store db tags multi.new set n front.new.place items.now pieces.new) }
+    ensures refused { SaysOf S.Store connection.old connection.new (λ db.
+        IfSome front.old.fault (IsNoneFor (IsNoLedger S.Store db Format.Second))
+        → IfSome front.new.fault (IsNoneFor (IsNoLedger S.Store db Format.Second))) }
     ensures pieces { (front.new.place ≤ front.old.place) × (4 ≤ length pieces.new)
         × HaveFullPieces items.now (n + 1) front.new.place pieces.new }
     ensures reads { OnlyReads S.Store connection.old connection.new }
@@ -324,12 +319,12 @@ fn advance<S: Alter, W: Watch>(
     i: usize,
 ) -> Result<Option<Vec<u8>>, AdoptFault>
     requires { (connection.old.in_transaction ≡ false) × (i < 4) × GoesOn long.now n }
-    ensures read { HasCleanDisk (state S.Store connection.new) → (db : Database)
-        → Stands (state S.Store connection.old) db → MatchResult result
+    ensures read { SaysOf S.Store connection.old connection.new (λ db.
+        MatchResult result
         (λ piece. (tags : Files) (set : AlgSet) → IsWantOf tags long.now.want.path.now long.now.want
         → Covers set long.now.want → HoldsPieces S.Store db multi.old set i long.now.item n
         → IfSome piece (λ piece. IsRead S.Store db tags multi.new set i n piece.items long.now))
-        (IsNoneFor (IsNoLedger S.Store db Format.Second)) }
+        (IsNoneFor (IsNoLedger S.Store db Format.Second))) }
     ensures full { IfOk result (λ piece. IfSome piece (λ piece. GoesOn long.now (n + 1)
         → length piece.items ≡ PIECE)) }
     ensures others { OtherLanesStay i multi.old multi.new }
@@ -362,11 +357,11 @@ fn piece_in<S: Alter>(
     octets: u64,
 ) -> Result<Option<Vec<u8>>, AdoptFault>
     requires { (connection.old.in_transaction ≡ false) × (octets ≤ PIECE) }
-    ensures piece { HasCleanDisk (state S.Store connection.new) → (db : Database)
-        → Stands (state S.Store connection.old) db → MatchResult result
+    ensures piece { SaysOf S.Store connection.old connection.new (λ db.
+        MatchResult result
         (λ piece. IfSome piece
         (λ piece. TellsOne S.Store db piece_text (Int item ∷ Int n ∷ []) (Blob piece.items)))
-        (IsNoneFor (IsNoLedger S.Store db Format.Second)) }
+        (IsNoneFor (IsNoLedger S.Store db Format.Second))) }
     ensures length { IfOk result (λ piece. IfSome piece (λ piece. length piece.items ≡ octets)) }
     ensures reads { OnlyReads S.Store connection.old connection.new }
 {
@@ -392,13 +387,13 @@ fn end_item<S: Alter>(
     requires { (connection.old.in_transaction ≡ false) × (i < 4)
         × (n * PIECE + length rest.now ≡ long.now.size) × (length rest.now ≤ PIECE)
         × (0 < length rest.now) }
-    ensures valid { HasCleanDisk (state S.Store connection.new) → (db : Database)
-        → Stands (state S.Store connection.old) db → MatchResult result
+    ensures valid { SaysOf S.Store connection.old connection.new (λ db.
+        MatchResult result
         (λ valid. (tags : Files) (set : AlgSet) → IsWantOf tags long.now.want.path.now long.now.want
         → Covers set long.now.want → HoldsPieces S.Store db multi.old set i long.now.item n
         → IsPiece S.Store db long.now.item n rest.now → IsTrue valid
         → IsValid S.Store db tags long.now)
-        (IsNoneFor (IsNoLedger S.Store db Format.Second)) }
+        (IsNoneFor (IsNoLedger S.Store db Format.Second))) }
     ensures others { OtherLanesStay i multi.old multi.new }
     ensures reads { OnlyReads S.Store connection.old connection.new }
 {

@@ -3,9 +3,10 @@ use Rattle.std.proofs.Common.{◌≡◌, ◌∙◌, ◌++◌, ◌∷◌, ◌+◌
 use Rattle.std.proofs.lemmas.List.{length-map, take_all}
 use Rattle.std.specs.declared.alloc.Global.{Global}
 use Rattle.std.specs.Option.{option_map}
-use Rattle.bag_digest.specs.Hash.{AreDigests, AreDigestsOfEach}
+use Rattle.bag_digest.specs.Hash.{AreDigests}
+use Rattle.bag_digest.specs.ShortContents.{AreSumsOfEach}
 use Rattle.bag_digest.specs.declared.algorithm.AlgSet.{AlgSet}
-use Rattle.bag_digest.specs.declared.multi.Digests.{Digests}
+use Rattle.bag_digest.specs.declared.sums.Sums.{Sums}
 use Rattle.bag_rules.proofs.Words.{Files, same_Some, slice_get-map}
 use Rattle.bag_writer.specs.HeldFiles.{AddsFile, AreItemsSoFar}
 use Rattle.bag_writer.specs.Steps.{AreItemsOf, IsItemOf}
@@ -14,7 +15,7 @@ use Rattle.bag_writer.specs.declared.items.Items.{Items}
 use Rattle.bag_writer.proofs.PayloadLists.{File, next_taken}
 
 abbrev octets_of : Vec ℕ Global → List ℕ
-octets_of message = message.items
+octets_of content = content.items
 
 -- one more item
 items_on : (set : AlgSet) (items : List Item) (files : Files) (item : Item) (file : File) → AreItemsOf set items files → IsItemOf set item file.0 file.1 → AreItemsOf set (items ++ item ∷ []) (files ++ file ∷ [])
@@ -30,24 +31,25 @@ at_place f (file ∷ files) zero x e = let k : f file ≡ x = cc in (file, refl,
 at_place f (file ∷ files) (suc n) x e = at_place f files n x e
 
 -- the item of the next file that is held
-pub item_next : (set : AlgSet) (old : Items) (files : Files) (so_far : AreItemsSoFar set old files) (each : List Digests) (place : ℕ) (items : List Item) (item : Item) (message : Vec ℕ Global)
-    → AreDigestsOfEach old.set old.messages.items each → AreItemsOf set items (so_far.first ++ take place so_far.held) → slice_get old.paths.items place ≡ Some item.path → slice_get old.messages.items place ≡ Some message
-    → item.sums.length ≡ length message.items → slice_get each place ≡ Some item.sums.digests → AreItemsOf set (items ++ item ∷ []) (so_far.first ++ take (place + 1) so_far.held)
-item_next set old files so_far each place items item message digested are path_at message_at count digests_at =
+pub item_next : (set : AlgSet) (old : Items) (files : Files) (so_far : AreItemsSoFar set old files) (each : List Sums) (place : ℕ) (items : List Item) (item : Item) (content : Vec ℕ Global)
+    → AreSumsOfEach old.held.set old.held.contents.items each → AreItemsOf set items (so_far.first ++ take place so_far.held) → slice_get old.held.known.items place ≡ Some item.path → slice_get old.held.contents.items place ≡ Some content
+    → slice_get each place ≡ Some item.sums → AreItemsOf set (items ++ item ∷ []) (so_far.first ++ take (place + 1) so_far.held)
+item_next set old files so_far each place items item content summed are path_at content_at sums_at =
     let held = so_far.held_are in
     let (file, here, named) = at_place (λ (f : File). f.0) so_far.held place item.path (ap (λ list. slice_get list place) (sym held.paths_are) ∙ path_at) in
-    let octets : slice_get (map (λ (f : File). f.1) so_far.held) place ≡ Some message.items = ap (λ list. slice_get list place) (sym held.octets_are) ∙ slice_get-map octets_of old.messages.items place ∙ ap (option_map octets_of) message_at in
-    let (same, there, is) = at_place (λ (f : File). f.1) so_far.held place message.items octets in
+    let octets : slice_get (map (λ (f : File). f.1) so_far.held) place ≡ Some content.items = ap (λ list. slice_get list place) (sym held.octets_are) ∙ slice_get-map octets_of old.held.contents.items place ∙ ap (option_map octets_of) content_at in
+    let (same, there, is) = at_place (λ (f : File). f.1) so_far.held place content.items octets in
     let one : same ≡ file = same_Some same file (sym there ∙ here) in
-    let own : message.items ≡ file.1 = sym is ∙ ap (λ (f : File). f.1) one in
+    let own : content.items ≡ file.1 = sym is ∙ ap (λ (f : File). f.1) one in
+    let sums = summed.sums place content item.sums content_at sums_at in
     subst (AreItemsOf set (items ++ item ∷ [])) (append_assoc so_far.first (take place so_far.held) (file ∷ []) ∙ ap (λ list. so_far.first ++ list) (sym (next_taken so_far.held place file here)))
     (items_on set items (so_far.first ++ take place so_far.held) item file are record {
       path_is = sym named;
-      sums = (count ∙ ap length own, subst (λ s. AreDigests item.sums.digests s file.1) so_far.set_is (subst (AreDigests item.sums.digests old.set) own (digested.digests place message item.sums.digests message_at digests_at)));
+      sums = (sums.0 ∙ ap length own, subst (λ s. AreDigests item.sums.digests s file.1) so_far.held_set (subst (AreDigests item.sums.digests old.held.set) own sums.1));
     })
 
 -- the items of all files
-pub items_all : (set : AlgSet) (old : Items) (files : Files) (so_far : AreItemsSoFar set old files) (place : ℕ) (items : List Item) → AreItemsOf set items (so_far.first ++ take place so_far.held) → length old.paths.items ≤ place → AreItemsOf set items files
+pub items_all : (set : AlgSet) (old : Items) (files : Files) (so_far : AreItemsSoFar set old files) (place : ℕ) (items : List Item) → AreItemsOf set items (so_far.first ++ take place so_far.held) → length old.held.known.items ≤ place → AreItemsOf set items files
 items_all set old files so_far place items are end =
     let count : length so_far.held ≤ place = omega (arith, end, ap length so_far.held_are.paths_are, length-map {A = File} so_far.held (λ (f : File). f.0)) in
     subst (AreItemsOf set items) (ap (λ list. so_far.first ++ list) (take_all place so_far.held count) ∙ sym so_far.all) are

@@ -7,11 +7,11 @@ use Rattle.bag_rules.specs.Files.{Files}
 use Rattle.bag_writer.specs.Steps.{AreItemsOf}
 use Rattle.bag_writer.specs.declared.items.Items.{Items}
 
--- the files have these paths, and the messages are their octets
-pub record AreHeld (paths : List (List ℕ)) (messages : List (Vec ℕ Global)) (files : Files)
+-- the files have these paths and these contents
+pub record AreHeld (paths : List (List ℕ)) (contents : List (Vec ℕ Global)) (files : Files)
     : Type 0 where
   pub paths_are : paths ≡ keys_of files
-  pub octets_are : map (λ (message : Vec ℕ Global). message.items) messages
+  pub octets_are : map (λ (content : Vec ℕ Global). content.items) contents
       ≡ map (λ (file : List ℕ × List ℕ). file.1) files
 
 -- the first of these files have their items by the algorithms of the set, and the others are held, in their order
@@ -21,7 +21,8 @@ pub record AreItemsSoFar (set : AlgSet) (items : Items) (files : Files) : Type 0
   pub held : Files
   pub all : files ≡ first ++ held
   pub ready_are : AreItemsOf set items.ready.items first
-  pub held_are : AreHeld items.paths.items items.messages.items held
+  pub held_set : items.held.set ≡ set
+  pub held_are : AreHeld items.held.known.items items.held.contents.items held
 
 -- the file comes after those before it
 abbrev pub AddsFile : AlgSet → List ℕ × List ℕ → Items → Items → Type 0

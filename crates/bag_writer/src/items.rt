@@ -1,5 +1,5 @@
 //! The items of files that are read one after another. Short files are held, and their digests are taken side by side.
-ghost use Rattle.std.specs.Prelude.{◌≡◌, ◌<◌, ◌≤◌, ◌++◌, ◌∷◌, [], ℕ, All, List, IfErr, IfOk, length, vec_len};
+ghost use Rattle.std.specs.Prelude.{◌≡◌, ◌<◌, ◌≤◌, ◌++◌, ◌∷◌, [], ℕ, All, List, IfErr, IfOk, length};
 ghost use Rattle.bag_digest.specs.declared.algorithm.AlgSet.{AlgSet};
 ghost use Rattle.bag_rules.specs.Files.{Files};
 ghost use Rattle.bag_writer.specs.declared.write_fault.WriteFault.{WriteFault};
@@ -8,7 +8,7 @@ ghost use Rattle.bag_writer.specs.declared.items.TheConstants.{MOST_HELD};
 
 use crate::item::Item;
 use crate::write_fault::WriteFault;
-use bag_digest::{AlgSet, FRONT, SourceRead, Sums, digest_each};
+use bag_digest::{AlgSet, FRONT, ShortContents, SourceRead};
 use bag_path::BagPath;
 use std::alloc::Global;
 
@@ -22,13 +22,10 @@ pub(crate) struct Items {
     set: AlgSet,
     /// The items of the first files.
     ready: Vec<Item>,
-    /// The path of each file that is held.
-    paths: Vec<BagPath>,
-    /// The octets of each file that is held.
-    messages: Vec<Vec<u8>>,
-    ghost paired: { vec_len paths ≡ vec_len messages },
-    ghost few: { vec_len messages ≤ MOST_HELD },
-    ghost small: { All (λ message. length message.items ≤ FRONT) messages.items },
+    /// The octets of the files that are held, and their paths.
+    held: ShortContents<BagPath>,
+    ghost few: { length held.contents.items ≤ MOST_HELD },
+    ghost small: { All (λ content. length content.items ≤ FRONT) held.contents.items },
 }
 
 impl Items {
@@ -47,13 +44,12 @@ impl Items {
     fn of(alloc: Global, set: AlgSet, ready: Vec<Item>) -> Items
         ensures all { (files : Files) → AreItemsOf set ready.items files
             → AreItemsSoFar set result files }
-        ensures empty { vec_len result.messages ≡ 0 }
+        ensures empty { result.held.contents.items ≡ [] }
     {
         Items {
             set,
             ready,
-            paths: Vec::new(alloc),
-            messages: Vec::new(alloc),
+            held: ShortContents::new(alloc, set),
         }
     }
 
@@ -107,10 +103,10 @@ impl Items {
     fn with_room(self, alloc: Global) -> Result<Items, WriteFault>
         ensures same { (set : AlgSet) (files : Files) → AreItemsSoFar set self files
             → IfOk result (λ items. AreItemsSoFar set items files) }
-        ensures room { IfOk result (λ items. vec_len items.messages < MOST_HELD) }
+        ensures room { IfOk result (λ items. length items.held.contents.items < MOST_HELD) }
         ensures err { IfErr result (λ fault. fault ≡ WriteFault.Memory) }
     {
-        if self.messages.len() < MOST_HELD {
+        if self.held.count() < MOST_HELD {
             return Ok(self);
         }
         let set = self.set;
@@ -119,7 +115,7 @@ impl Items {
 
     /// Holds one more file, with these octets.
     fn with_held(self, alloc: Global, path: BagPath, octets: &[u8]) -> Result<Items, WriteFault>
-        requires room { vec_len self.messages < MOST_HELD }
+        requires room { length self.held.contents.items < MOST_HELD }
         requires small { length octets.now ≤ FRONT }
         ensures held { (set : AlgSet) → IfOk result (AddsFile set (path, octets.now) self) }
         ensures err { IfErr result (λ fault. fault ≡ WriteFault.Memory) }
@@ -127,19 +123,12 @@ impl Items {
         let Items {
             set,
             ready,
-            mut paths,
-            mut messages,
+            mut held,
         } = self;
-        let mut message = Vec::new(alloc);
-        message.extend_from_slice(octets)?;
-        paths.push(path)?;
-        messages.push(message)?;
-        Ok(Items {
-            set,
-            ready,
-            paths,
-            messages,
-        })
+        let mut content = Vec::new(alloc);
+        content.extend_from_slice(octets)?;
+        held.add(path, content)?;
+        Ok(Items { set, ready, held })
     }
 
     /// The items of all files. The digests of those that are held are taken first, side by side.
@@ -149,20 +138,18 @@ impl Items {
         ensures err { IfErr result (λ fault. fault ≡ WriteFault.Memory) }
     {
         let Items {
-            set,
+            set: _,
             ready,
-            paths,
-            messages,
+            held,
         } = self;
-        let digests = digest_each(alloc, set, messages.as_slice())?;
+        let sums = held.sums(alloc)?;
         let mut items = ready;
         let mut place = 0;
-        for path in paths {
-            let sums = Sums {
-                length: messages[place].len() as u64,
-                digests: digests[place],
-            };
-            items.push(Item { path, sums })?;
+        for path in held.into_known() {
+            items.push(Item {
+                path,
+                sums: sums[place],
+            })?;
             place += 1;
         }
         Ok(items)

@@ -1,4 +1,4 @@
-use Rattle.std.proofs.Common.{rules, ◌≡◌, ℕ, [], ◌∙◌, inl, inr, length, slice_index, slice_index_or, sym, arith}
+use Rattle.std.proofs.Common.{rules, ◌≡◌, ℕ, [], ◌∙◌, inl, inr, slice_index, slice_index_or, sym, arith}
 use Rattle.std.proofs.lemmas.Bool.{cases_lt}
 use Rattle.std.proofs.lemmas.List.{ext_get_or, get_or-set_other, get_or-set_same, length-replicate}
 use Rattle.bag_lanes.specs.Lanes.{lane}

@@ -95,7 +95,7 @@ returns-in-Damaged-clause-refused g c clean db stands tags plan transfer told =
     let found = rw (to_z-of_z w64 item item_fits, to_z-of_z w64 size size_fits) at (c.in_ok-finding.ensures.found clean db still tags plan) in
     let fails = rw c.in-Damaged.is at found in
     let batch = c.if-is_full.batch in
-    let named : IsFirst g.S.Store db c.args.format tags c.args.rows.now (string_bytes c.unwrap_or.result) = rw c.unwrap_or.ensures (either_path (HasMisfit batch.wants.items batch.contents.items) (IsFirst g.S.Store db c.args.format tags c.args.rows.now) c.in_ok-first_damaged-in-Damaged.field-0 c.in_ok-path.path (λ path misfit. tested.damaged path misfit)
+    let named : IsFirst g.S.Store db c.args.format tags c.args.rows.now (string_bytes c.unwrap_or.result) = rw c.unwrap_or.ensures (either_path (HasMisfit batch.held.known.items batch.held.contents.items) (IsFirst g.S.Store db c.args.format tags c.args.rows.now) c.in_ok-first_damaged-in-Damaged.field-0 c.in_ok-path.path (λ path misfit. tested.damaged path misfit)
     (λ all. subst (IsFirst g.S.Store db c.args.format tags c.args.rows.now) c.as_str.ensures.value (first_at g.S.Store db c.args.format tags c.args.rows.now c.loop-at.at c.index-rows-at.result c.loop-at-test.true c.index-rows-at.is item c.as_str.result.now size row_is (tested.passing all) fails))
     (c.in_ok-first_damaged-in-Damaged.ensures tested.covered)) in
     named transfer told

@@ -3,7 +3,7 @@ use Rattle.std.proofs.lemmas.Iterator.Adapters.{YieldsList-from_vec}
 use Rattle.std.proofs.lemmas.Iterator.Consumers.{YieldsList-end, YieldsList-turn}
 use Rattle.std.proofs.lemmas.List.{length_push}
 use Rattle.std.proofs.lemmas.Option.{slice_get_read}
-use Rattle.bag_digest.specs.Hash.{AreDigestsOfEach}
+use Rattle.bag_rules.proofs.HasLemmas.{stands}
 use Rattle.bag_writer.specs.Steps.{AreItemsOf}
 use Rattle.bag_writer.proofs.HeldLemmas.{item_next, items_all}
 use Rattle.bag_writer.proofs.items.Items.finish.Goals as goal
@@ -12,27 +12,30 @@ pub loop-path-preserved : goal.loop-path-preserved
 loop-path-preserved c =
     let old = c.args.self in
     let place = c.loop-path.place in
+    let known : c.into_known-path-items.result.items ≡ old.held.known.items = ap (λ v. v.items) c.into_known-path-items.ensures in
+    let paths = c.into_known-path-items.result in
     let gives = c.into_iter-path-iterator.ensures.into_iter_gives in
-    let turn = YieldsList-turn (YieldsList-from_vec {s = c.into_iter-path-iterator.result} old.paths.items gives.0 (gives.1 ∙ old.paths.ok.0)) c.loop-path.yielded _ c.loop-path.yielded_by _ c.next.new.self c.in-Some.path c.in-Some.is c.next.ensures.steps in
+    let turn = YieldsList-turn (YieldsList-from_vec {s = c.into_iter-path-iterator.result} paths.items gives.0 (gives.1 ∙ paths.ok.0)) c.loop-path.yielded _ c.loop-path.yielded_by _ c.next.new.self c.in-Some.path c.in-Some.is c.next.ensures.steps in
     let count = c.loop-path.invariant.count in
-    let below : place < length old.messages.items = omega (arith, turn.0, count, old.paired, old.paths.ok.0, old.messages.ok.0) in
-    let each = subst (λ messages. AreDigestsOfEach old.set messages c.in_ok-digests.digests.items) c.as_slice.ensures.value c.in_ok-digests.ensures in
-    let here : slice_get old.paths.items place ≡ Some c.in-Some.path = slice_get_read old.paths.items (length old.paths.items) place c.in-Some.path refl (omega (arith, turn.0, count)) (turn.1 ∙ ap (λ n. get_or old.paths.items n c.in-Some.path) (sym count)) in
-    let message = slice_get_read old.messages.items (length old.messages.items) place c.index.result.now refl below c.index.ensures in
-    let digests = slice_get_read c.in_ok-digests.digests.items (length c.in_ok-digests.digests.items) place c.index-in-loop-path.result.now refl (omega (arith, below, each.count)) c.index-in-loop-path.ensures in
+    let below : place < length old.held.contents.items = omega (arith, turn.0, count, ap length known, old.held.paired, old.held.known.ok.0, old.held.contents.ok.0) in
+    let here : slice_get old.held.known.items place ≡ Some c.in-Some.path = ap (λ list. slice_get list place) (sym known)
+    ∙ slice_get_read paths.items (length paths.items) place c.in-Some.path refl (omega (arith, turn.0, count)) (turn.1 ∙ ap (λ n. get_or paths.items n c.in-Some.path) (sym count)) in
+    let content = stands old.held.contents.items place below in
+    let each = c.in_ok-sums.ensures in
+    let sums = slice_get_read c.in_ok-sums.sums.items (length c.in_ok-sums.sums.items) place c.index.result.now refl (omega (arith, below, each.count)) c.index.ensures in
     record {
       can_next = tt;
       is_finite = tt;
       count = omega (arith, count, length_push c.loop-path.yielded c.in-Some.path);
       taken = λ set files so_far.
           subst (λ items. AreItemsOf set items (so_far.first ++ take (place + 1) so_far.held)) (sym c.in_ok-push.ensures.items)
-          (item_next set old files so_far c.in_ok-digests.digests.items place c.loop-path.items.items _ c.index.result.now each (c.loop-path.invariant.taken set files so_far) here message
-          (c.len.ensures ∙ c.index.result.now.ok.0) digests);
+          (item_next set old files so_far c.in_ok-sums.sums.items place c.loop-path.items.items _ content.0 each (c.loop-path.invariant.taken set files so_far) here content.1 sums);
     }
 
 pub returns-clause-all : goal.returns-clause-all
 returns-clause-all c = λ set files so_far.
     let old = c.args.self in
+    let paths = c.into_known-path-items.result in
     let gives = c.into_iter-path-iterator.ensures.into_iter_gives in
-    let end = YieldsList-end (YieldsList-from_vec {s = c.into_iter-path-iterator.result} old.paths.items gives.0 (gives.1 ∙ old.paths.ok.0)) c.loop-path.yielded _ c.loop-path.yielded_by _ c.next.new.self c.in-None.is c.next.ensures.steps in
-    items_all set old files so_far c.loop-path.place c.loop-path.items.items (c.loop-path.invariant.taken set files so_far) (omega (arith, end.1, c.loop-path.invariant.count))
+    let end = YieldsList-end (YieldsList-from_vec {s = c.into_iter-path-iterator.result} paths.items gives.0 (gives.1 ∙ paths.ok.0)) c.loop-path.yielded _ c.loop-path.yielded_by _ c.next.new.self c.in-None.is c.next.ensures.steps in
+    items_all set old files so_far c.loop-path.place c.loop-path.items.items (c.loop-path.invariant.taken set files so_far) (omega (arith, end.1, c.loop-path.invariant.count, ap (λ v. length v.items) c.into_known-path-items.ensures))

@@ -1,12 +1,14 @@
-//! The content of a payload file while it is read.
+//! A content while it is read.
 ghost use Rattle.std.specs.Prelude.{◌≡◌, ◌+◌, ℕ, [], OnOk, length};
 
-use bag_digest::{AlgSet, Multi, PIECE};
+use crate::algorithm::AlgSet;
+use crate::multi::Multi;
+use crate::reading::PIECE;
 use std::alloc::{AllocError, Global};
 
-/// What was read of a payload file so far.
+/// What was read of a content so far.
 #[derive(Drop)]
-pub(crate) enum Content {
+pub enum Content {
     /// Its octets, if it has at most one piece.
     Whole(Vec<u8>),
     /// Otherwise the hashers that took them.
@@ -14,10 +16,10 @@ pub(crate) enum Content {
 }
 
 impl Content {
-    ghost use Rattle.bag_sqlite.specs.ShortItems.{IsHeld, Took, TakesAlso};
+    ghost use Rattle.bag_digest.specs.ShortContents.{IsHeld, Took, TakesAlso};
 
-    /// Nothing yet of a payload file of this size, which is to be hashed by the algorithms of the set.
-    pub(crate) fn none(alloc: Global, size: u64, set: AlgSet) -> Content
+    /// Nothing yet of a content of this size in octets, which is to be hashed by the algorithms of the set.
+    pub fn none(alloc: Global, size: u64, set: AlgSet) -> Content
         ensures taken { Took result set [] }
         ensures held { IsHeld result size 0 }
     {
@@ -28,7 +30,11 @@ impl Content {
     }
 
     /// Takes the next piece, which follows the earlier ones.
-    pub(crate) fn take(&mut self, piece: &[u8]) -> Result<(), AllocError>
+    ///
+    /// # Errors
+    ///
+    /// `AllocError` if memory for a short content runs out.
+    pub fn take(&mut self, piece: &[u8]) -> Result<(), AllocError>
         ensures taken { OnOk result (TakesAlso self.old self.new piece.now) }
         ensures held { OnOk result ((size taken : ℕ) → IsHeld self.old size taken
             → IsHeld self.new size (taken + length piece.now)) }
