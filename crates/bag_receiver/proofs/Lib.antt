@@ -21,6 +21,7 @@ pub mod CourierLemmas
 pub mod ReportLemmas
 pub mod ArrivalLemmas
 pub mod AuditLemmas
+pub mod AuditedLemmas
 pub mod ValidSizes
 pub mod FetchLemmas
 pub mod ExportLemmas

@@ -88,13 +88,20 @@ module _ (sizes : List ItemSize) (size : ItemSize) where
         let less = less_before (item_paths sizes) size.path (subst AreRising paths_more rising) in
         is ∙ ap is_lt (all_has (λ other. slice_cmp nat_cmp other size.path ≡ Less) (item_paths sizes) last.path less (has_at (item_paths sizes) (length sizes - 1) last.path path_at))
 
-  -- each size of what is held comes after those before it
-  pub comes_next : (ledger : Ledger) (name : List ℕ) (plan : Plan) (after : List ItemSize) → IsPlanFor ledger name plan → sizes ++ size ∷ after ≡ sizes_of (items_of ledger name)
-      → AreRising (item_paths (sizes ++ size ∷ []))
-  comes_next ledger name plan after (tags, planned, held) all =
+  -- each size comes after those before it
+  pub comes_among : (after all : List ItemSize) → sizes ++ size ∷ after ≡ all → AreRising (item_paths all) → AreRising (item_paths (sizes ++ size ∷ []))
+  comes_among after all is rising =
       let apart = map-append (λ (s : ItemSize). s.path) (sizes ++ size ∷ []) after in
-      let whole = ap item_paths (append_assoc sizes (size ∷ []) after ∙ all) ∙ item_keys (items_of ledger name) in
-      rising_before (item_paths (sizes ++ size ∷ [])) (item_paths after) (subst AreRising (sym whole ∙ apart) held.rising)
+      let whole = ap item_paths (append_assoc sizes (size ∷ []) after ∙ is) in
+      rising_before (item_paths (sizes ++ size ∷ [])) (item_paths after) (subst AreRising (sym whole ∙ apart) rising)
+
+-- what is held of a transfer is in order
+pub held_rising : (ledger : Ledger) (name : List ℕ) (plan : Plan) (sizes : List ItemSize) → IsPlanFor ledger name plan → sizes ≡ sizes_of (items_of ledger name) → AreRising (item_paths sizes)
+held_rising ledger name plan sizes (tags, planned, held) all = subst AreRising (sym (ap item_paths all ∙ item_keys (items_of ledger name))) held.rising
+
+-- those before the last are in order, too
+pub rising_without : (sizes : List ItemSize) (size : ItemSize) → AreRising (item_paths (sizes ++ size ∷ [])) → AreRising (item_paths sizes)
+rising_without sizes size rising = rising_before (item_paths sizes) (size.path ∷ []) (subst AreRising (paths_more sizes size) rising)
 
 pub none_valid : (tags : Files) → AreValidSizes tags []
 unfolding IsStrictlySortedBy

@@ -3,11 +3,9 @@ use Rattle.std.specs.Prelude.{◌≡◌, ℕ, List, Some, length}
 use Rattle.bag_digest.specs.Failures.{CountsIf}
 use Rattle.bag_rules.specs.declared.plan.ItemSize.{ItemSize}
 use Rattle.bag_rules.specs.declared.plan.Plan.{Plan}
-use Rattle.bag_rules.specs.declared.want.Want.{Want}
 use Rattle.bag_rules.specs.Files.{Files}
 use Rattle.bag_rules.specs.Plans.{IsPlanOf, sizes_of}
 use Rattle.bag_rules.specs.Transfers.{AreHeldFor, Passes}
-use Rattle.bag_rules.specs.Wants.{IsWanted}
 use Rattle.bag_ledger.specs.Keeping.{Reads}
 use Rattle.bag_ledger.specs.Ledgers.{Ledger, content_of, items_of}
 use Rattle.bag_ledger.specs.declared.keeper_faults.StoreFault.{StoreFault}
@@ -21,10 +19,6 @@ HasItem holds keeper name path content = (ledger : Ledger) × holds keeper ledge
 abbrev pub IsPlanFor : Ledger → List ℕ → Plan → Type 0
 IsPlanFor ledger name plan = (tags : Files) × IsPlanOf tags plan
     × AreHeldFor tags (items_of ledger name)
-
--- some octets of this number are the ones that are wanted
-abbrev pub SomeAreWanted : Want → ℕ → Type 0
-SomeAreWanted want n = (octets : List ℕ) × (n ≡ length octets) × IsWanted want octets
 
 -- some octets of this number are valid at this path
 abbrev pub SomePass : Files → List ℕ → ℕ → Type 0

@@ -1,5 +1,6 @@
 pub mod Arrivals
 pub mod Audits
+pub mod AuditsInside
 pub mod Beginning
 pub mod BeginningFrom
 pub mod BeginningInside

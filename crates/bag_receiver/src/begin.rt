@@ -6,7 +6,8 @@ ghost use Rattle.bag_rules.specs.Files.{Files};
 ghost use Rattle.bag_rules.specs.Opening.{IsFirstPath, RefusesTags};
 ghost use Rattle.bag_rules.specs.Plans.{IsPlanOf};
 ghost use Rattle.bag_ledger.specs.declared.keeper_faults.StoreFault.{StoreFault};
-ghost use Rattle.bag_receiver.specs.Beginning.{AreTaken, BeginStep, Begins, IsAnswerTo, IsHeavyAt, NoneMisplaced, given_in};
+ghost use Rattle.bag_receiver.specs.Beginning.{AreTaken, BeginStep, IsAnswerTo, IsHeavyAt, NoneMisplaced, given_in};
+ghost use Rattle.bag_receiver.specs.BeginningFrom.{IsBeginning};
 ghost use Rattle.bag_receiver.specs.BeginningInside.{IsPlaced, IsRefusal, emptied, light_tags};
 ghost use Rattle.bag_receiver.specs.TransferNames.{IsTransferName};
 ghost use Rattle.bag_receiver.specs.Receivers.{Does};
@@ -258,12 +259,8 @@ impl<K: Keeper> Receiver<K> {
         name: &str,
         files: &[(String, Vec<u8>)],
     ) -> Result<Begun, BeginFault>
-        ensures judged { IsAnswerTo result name.now (given_in files.now) }
-        ensures begun { Does K.holds K.may_leave K.clean self.old self.new
-            (Begins name.now (given_in files.now) result) }
-        ensures store { CountsIf ((fault : StoreFault)
-            × IsErrOf result (BeginFault.Keeper (KeepFault.Store fault)))
-            (K.failures self.old.keeper) (K.failures self.new.keeper) }
+        ensures { IsBeginning K.holds K.may_leave K.clean K.failures name.now self.old self.new
+            (given_in files.now) result }
     {
         if !is_name(name) {
             return Err(BeginFault::BadName);
