@@ -1,5 +1,5 @@
--- The results of `check` that a tree allows, and how they are printed.
-use Rattle.std.specs.Prelude.{ℕ, List, IfOk, IsErrOf, MatchResult, Option, Result}
+-- The results of `check` that a tree allows.
+use Rattle.std.specs.Prelude.{ℕ, IfOk, IsErrOf, MatchResult, Result}
 use Rattle.bag_rules.specs.Bags.{Bag, IsBagOf}
 use Rattle.bag_rules.specs.Limits.{Stopped, Stops}
 use Rattle.bag_rules.specs.Validity.{Means}
@@ -8,9 +8,6 @@ use Rattle.bag_rules.specs.declared.outcome.Outcome.{Outcome}
 use Rattle.bag_rules.specs.declared.outcome.CheckFault.{CheckFault}
 use Rattle.bag_rules.specs.declared.outcome.CheckFault.TheVariants.{Tree}
 use Rattle.bag_rules.specs.Trees.{Shown, UsesTree, paths_in}
-use Rattle.bag_commands.specs.declared.output.Output.{Output}
-use Rattle.bag_commands.specs.CheckTexts.{check_lines, check_status}
-use Rattle.bag_commands.specs.Outputs.{Printed}
 
 -- A result of `check` for a tree. If the tree's octets are known, it is the verdict on its bag, in which no faults mean
 -- a valid bag and only wrong digests a complete one, or the first limit that is exceeded. If there are too many files
@@ -24,10 +21,3 @@ pub record IsAnswer {T : Type 0} (shown : T → Shown) (failures : T → ℕ) (s
       (λ outcome. (fault : CheckFault) → ¬ Stops bag fault) (Stopped (Stops bag))
   pub tree : UsesTree shown failures sure old new (IsErrOf answer Tree)
   pub unread : AnswersPaths (paths_in (shown old)) answer
-
--- a result of this kind was printed, with its status
-abbrev pub PrintedOf : {W : Type 0} → (W → Option (List ℕ)) → Output W → Output W → ℕ
-    → (Result Outcome CheckFault → Type 0) → Type 0
-PrintedOf contents old new result kind =
-    (answer : Result Outcome CheckFault) × kind answer
-    × Printed contents old new result (check_lines answer) (check_status answer)

@@ -4,8 +4,8 @@ ghost use Rattle.std.specs.Io.Buffered.{writer_buffer};
 ghost use Rattle.bag_digest.specs.Failures.{Rises};
 ghost use Rattle.bag_rules.specs.Bags.{Bag, IsBagOf};
 ghost use Rattle.bag_rules.specs.Validity.{IsValid};
-ghost use Rattle.bag_commands.specs.Outputs.{Printed, WroteLines};
-ghost use Rattle.bag_commands.specs.Checking.{IsAnswer, PrintedOf};
+ghost use Rattle.bag_commands.specs.Outputs.{Printed, PrintedBy, WroteLines};
+ghost use Rattle.bag_commands.specs.Checking.{IsAnswer};
 ghost use Rattle.bag_commands.specs.CheckTexts.{check_lines, check_status};
 
 use crate::fault_line::OutsideLine;
@@ -27,7 +27,7 @@ pub fn check_to<T: OpenTree, W: Write + Drop>(
     // The status is 0 only for a valid bag.
     ensures valid { result ≡ VALID
         → (bag : Bag) → IsBagOf (T.shown tree.old) bag → IsValid bag }
-    ensures printed { PrintedOf W.contents out.old out.new result
+    ensures printed { PrintedBy W.contents check_lines check_status out.old out.new result
         (IsAnswer T.shown T.failures T.sure tree.old tree.new) }
 {
     let answer = check(alloc, tree);

@@ -6,8 +6,9 @@ use Rattle.bag_rules.specs.declared.outcome.CheckFault.{CheckFault}
 use Rattle.bag_commands.specs.declared.status.TheConstants.{DONE, FAILED, USAGE}
 use Rattle.bag_commands.specs.declared.output.Output.{Output}
 use Rattle.bag_commands.specs.declared.no_result.NoResult.TheVariants.{Files, Memory}
-use Rattle.bag_commands.specs.Checking.{IsAnswer, PrintedOf}
-use Rattle.bag_commands.specs.Outputs.{Printed}
+use Rattle.bag_commands.specs.Checking.{IsAnswer}
+use Rattle.bag_commands.specs.CheckTexts.{check_lines, check_status}
+use Rattle.bag_commands.specs.Outputs.{Printed, PrintedBy}
 use Rattle.bag_commands.specs.NoResultTexts.{no_result_text}
 use Rattle.bag_folder.specs.declared.place.Place.TheVariants.{Base}
 use Rattle.bag_folder.specs.Directories.{Listing}
@@ -33,8 +34,8 @@ IsFolderAnswer = IsAnswer (λ tree. tree.shown) (λ tree. tree.failures) (λ tre
 pub data PrintsCheck {W : Type 0} (contents : W → Option (List ℕ)) (known : Option Listing)
     (folder : List ℕ) (old new : Output W) (result : Ended) : Type 0 where
   Answered : (tree later : FolderShown) → IsOpened known folder Base tree
-      → PrintedOf contents old new result.status (λ answer. IsFolderAnswer tree later answer
-      × (result.why ≡ why_unchecked later answer))
+      → PrintedBy contents check_lines check_status old new result.status (λ answer.
+      IsFolderAnswer tree later answer × (result.why ≡ why_unchecked later answer))
       → PrintsCheck contents known folder old new result
   Refused : (unfit : UnfitShown) → IsRefused known folder Base unfit
       → Printed contents old new result.status (no_result_text Files ∷ []) FAILED
@@ -45,8 +46,8 @@ pub data PrintsCheck {W : Type 0} (contents : W → Option (List ℕ)) (known : 
       → PrintsCheck contents known folder old new result
 
 -- The answer to arguments that are no known command: help, a usage error on standard error, or that memory ran out.
-pub data RefusesWords {W : Type 0} (contents : W → Option (List ℕ)) (old new : Output W) (result : ℕ)
-    : Type 0 where
+pub data RefusesWords {W : Type 0} (contents : W → Option (List ℕ)) (old new : Output W)
+    (result : ℕ) : Type 0 where
   Helped : (text : List ℕ) → Printed contents old new result (text ∷ []) DONE
       → RefusesWords contents old new result
   Told : new ≡ old → result ≡ USAGE → RefusesWords contents old new result
