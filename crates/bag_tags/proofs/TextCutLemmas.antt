@@ -8,9 +8,9 @@ use Rattle.std.proofs.lemmas.Bool.{not-false, cases_Bool, and_parts}
 use Rattle.std.proofs.lemmas.Bool.Decides.{nat_tests}
 use Rattle.std.proofs.lemmas.Str.{IsUtf8-take, IsUtf8-from_ascii, IsCharBoundary-before_ascii, IsCharBoundary-start, chars-append, scalars-chars, encodes-append, encodes-chars}
 use Rattle.bag_tags.specs.Words.{is_blank, IsBlank, is_blank_line, begins_blank, without}
-use Rattle.bag_tags.specs.WordsReading.{until, stops, is_not_blank}
-use Rattle.bag_tags.specs.declared.splitting.Stop.{Stop}
-use Rattle.bag_tags.specs.declared.splitting.Stop.TheVariants.{Blank, NoBlank}
+use Rattle.bag_tags.specs.WordsReading.{cuts, until, is_not_blank}
+use Rattle.bag_tags.specs.declared.splitting.Cut.{Cut}
+use Rattle.bag_tags.specs.declared.splitting.Cut.TheVariants.{Blank, NoBlank}
 use Rattle.bag_tags.proofs.WordsLemmas.{each, until_whole, until_front, begins_with, unblank_rest}
 use Rattle.std.proofs.lemmas.Slice.Eq.{bytes_eq-Decides}
 use Rattle.std.proofs.Math.Utf8.{scalars, encodes}
@@ -119,14 +119,14 @@ ascii_rest test below text front (y ∷ ys) e u =
     let b = below y (begins_with test text y ys (ap (λ (u : List ℕ × List ℕ). u.1) e)) in
     IsUtf8-rest front (y ∷ ys) (utf8_before front ys y b whole) whole
 
-stop_below : (stop : Stop) → stop ≢ NoBlank → (x : ℕ) → stops stop x ≡ true → x < 128
-stop_below Blank n x h = blank_below x h
-stop_below NoBlank n x h = absurd (n refl)
-stop_below stop n x h = grind (arith, nat_tests)
+cut_below : (cut : Cut) → cut ≢ NoBlank → (x : ℕ) → cuts cut x ≡ true → x < 128
+cut_below Blank n x h = blank_below x h
+cut_below NoBlank n x h = absurd (n refl)
+cut_below cut n x h = grind (arith, nat_tests)
 
-pub rest_utf8 : (stop : Stop) (text front rest : List ℕ) → until (stops stop) text ≡ (front, rest) → IsUtf8 text → IsUtf8 rest
+pub rest_utf8 : (cut : Cut) (text front rest : List ℕ) → until (cuts cut) text ≡ (front, rest) → IsUtf8 text → IsUtf8 rest
 rest_utf8 NoBlank text front rest e u = utf8_after_blanks front rest (blanks_of text front rest e) (subst IsUtf8 (whole_of is_not_blank text front rest e) u)
-rest_utf8 stop text front rest e u = ascii_rest (stops stop) (stop_below stop (λ n. cc)) text front rest e u
+rest_utf8 cut text front rest e u = ascii_rest (cuts cut) (cut_below cut (λ n. cc)) text front rest e u
 
 pub boundary_of_rest : (text : List ℕ) (n : ℕ) → n ≤ length text → IsUtf8 (drop n text) → IsCharBoundary text n
 boundary_of_rest text n within u = (

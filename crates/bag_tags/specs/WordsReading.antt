@@ -1,8 +1,8 @@
 -- How a line is cut: the list up to the first element that passes a test, and what follows.
 use Rattle.std.specs.Prelude.{◌==◌, ℕ, Bool, not, List, [], ◌∷◌, if◌then◌else◌}
 use Rattle.bag_tags.specs.Octets.{colon, dot}
-use Rattle.bag_tags.specs.declared.splitting.Stop.{Stop}
-use Rattle.bag_tags.specs.declared.splitting.Stop.TheVariants.{Blank, NoBlank, Dot, Colon}
+use Rattle.bag_tags.specs.declared.splitting.Cut.{Cut}
+use Rattle.bag_tags.specs.declared.splitting.Cut.TheVariants.{Blank, NoBlank, Dot, Colon}
 use Rattle.bag_tags.specs.Words.{is_blank}
 
 unfoldable pub until : (ℕ → Bool) → List ℕ → List ℕ × List ℕ
@@ -19,8 +19,8 @@ abbrev pub is_colon : ℕ → Bool
 is_colon octet = octet == colon
 
 -- the octets at which a text is cut
-abbrev pub stops : Stop → ℕ → Bool
-stops Blank = is_blank
-stops NoBlank = is_not_blank
-stops Dot = is_dot
-stops Colon = is_colon
+abbrev pub cuts : Cut → ℕ → Bool
+cuts Blank = is_blank
+cuts NoBlank = is_not_blank
+cuts Dot = is_dot
+cuts Colon = is_colon

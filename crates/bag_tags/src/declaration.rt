@@ -7,7 +7,7 @@ ghost use Rattle.bag_tags.specs.Declarations.{IsDeclaration, IsDeclarationFault,
 ghost use Rattle.bag_tags.specs.declared.declaration.DeclFault.{DeclFault};
 
 use crate::number::read_number;
-use crate::splitting::{MARK, Stop, split_at_first};
+use crate::splitting::{Cut, MARK, split_at_first};
 use bag_path::{Lines, Version};
 use std::alloc::{AllocError, Global};
 use thiserror::Error;
@@ -48,7 +48,7 @@ impl Declaration {
 /// Why `bagit.txt` can't be read. If several causes apply, the first in this order is returned.
 #[derive(Clone, Copy, Debug, PartialEq, Eq, PartialOrd, Ord, Error)]
 pub enum DeclFault {
-    /// The file is not UTF-8.
+    /// The file isn't UTF-8.
     #[error("not UTF-8")]
     NotUtf8,
     /// The file begins with a byte order mark.
@@ -60,10 +60,10 @@ pub enum DeclFault {
     /// The two lines don't begin with `BagIt-Version: ` and `Tag-File-Character-Encoding: `, in this order.
     #[error("label")]
     Label,
-    /// The version is not two numbers of one to nine digits, joined by a dot, without leading zeros.
+    /// The version isn't two numbers of one to nine digits, joined by a dot, without leading zeros.
     #[error("version")]
     Version,
-    /// The name of the encoding is not one or more visible ASCII characters.
+    /// The name of the encoding isn't one or more visible ASCII characters.
     #[error("encoding name")]
     EncodingName,
 }
@@ -174,7 +174,7 @@ fn read_version(text: &[u8]) -> Option<(u32, u32)>
     ensures { MatchOption result ((major minor : ℕ) → IsVersion text.now major minor → ⊥)
         (λ pair. IsVersion text.now pair.0 pair.1) }
 {
-    let (major, rest) = split_at_first(text, Stop::Dot);
+    let (major, rest) = split_at_first(text, Cut::Dot);
     let minor = rest.strip_prefix(b".")?;
     Some((read_part(major)?, read_part(minor)?))
 }

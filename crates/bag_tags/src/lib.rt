@@ -2,14 +2,10 @@
 #![tactic(auto)]
 
 pub use declaration::{DeclFault, Declaration, read_declaration, write_declaration};
-pub use fetch::{Fetch, FetchEntry, FetchEntryFault, FetchLine, is_url};
-pub use fetch_text::{read_fetch, write_fetch};
-pub use info::{Element, ElementFault, Info};
-pub use info_text::{read_info, write_info};
+pub use fetch::{Fetch, FetchEntry, FetchEntryFault, FetchLine, is_url, read_fetch, write_fetch};
+pub use info::{Element, ElementFault, Info, read_info, write_info};
 pub use listing::{Kind, Pair, PushFault};
-pub use manifest::Manifest;
-pub use manifest_text::read_manifest;
-pub use manifest_writing::write_manifest;
+pub use manifest::{Manifest, read_manifest, write_manifest};
 pub use name::{LineFile, ManifestName, TagName, unknown_algorithm};
 pub use oxum::Oxum;
 pub use tag_fault::{LineCause, LineFault, TagFault};
@@ -18,15 +14,11 @@ pub use tag_feed::{TagFeed, TagValue};
 mod declaration;
 pub mod examples;
 mod fetch;
-mod fetch_text;
 mod info;
-mod info_text;
 mod last_line;
 pub mod laws;
 mod listing;
 mod manifest;
-mod manifest_text;
-mod manifest_writing;
 mod name;
 mod number;
 mod oxum;

@@ -1,14 +1,26 @@
-//! Manifests (RFC 8493 sections 2.1.3 and 2.2.1).
-ghost use Rattle.std.specs.Prelude.{◌≡◌, ◌++◌, ◌∷◌, [], false, OnOk, OnErr, slice_get};
+//! Manifests, and their text (RFC 8493 sections 2.1.3 and 2.2.1).
+ghost use Rattle.std.specs.Prelude.{◌≡◌, ◌++◌, ◌∷◌, [], false, OnOk, OnErr, slice_get, List, IfErr, IfOk, IsErrOf, MatchResult};
 ghost use Rattle.std.specs.Option.{option_map};
+ghost use Rattle.bag_path.specs.Paths.{IsPath};
+ghost use Rattle.bag_path.specs.declared.version.Version.TheVariants.{V1};
+ghost use Rattle.bag_digest.specs.Hash.{alg_of};
+ghost use Rattle.bag_digest.specs.Spelling.{SpellsDigest, lower_case_of};
 ghost use Rattle.bag_tags.specs.declared.listing.Pair.{Pair};
 ghost use Rattle.bag_tags.specs.ManifestView.{IsIndexOf};
 ghost use Rattle.bag_tags.specs.Listings.{lists_path, pair};
+ghost use Rattle.bag_tags.specs.declared.tag_fault.LineFault.{LineFault};
+ghost use Rattle.bag_tags.specs.TagLines.{Causes};
+ghost use Rattle.bag_tags.specs.Manifests.{plain_path, Gives, GivesNothing, ManifestText, ManifestFault};
+ghost use Rattle.bag_tags.specs.ManifestWriting.{needs_dot, written_path, written_pair, written_manifest};
 
 use crate::listing::{Kind, Pair, PushFault};
 use crate::name::ManifestName;
+use crate::path_text::read_path;
+use crate::splitting::{Cut, is_blank, split_text};
+use crate::tag_fault::{LineCause, TagCause, TagFault};
+use crate::tag_lines::{TagLines, read_onto};
 use bag_digest::{Alg, Digest};
-use bag_path::BagPath;
+use bag_path::{BagPath, Version, escape};
 use std::alloc::{AllocError, Global};
 use std::collections::BTreeMap;
 use std::marker::Model;
@@ -157,4 +169,134 @@ fn add(
         return Err(AllocError);
     };
     Ok(())
+}
+
+/// Reads the manifest of a text. Each line is the checksum of a file in hex, blanks, and the path of the file.
+///
+/// One byte order mark at the start is dropped. Lines that are empty or only blanks are skipped. One `*` before a path
+/// and then one `./` are dropped, since other tools write them.
+///
+/// # Errors
+///
+/// The first faulty line, counted from 1, with the first cause that applies: it isn't UTF-8; it has no blank after the
+/// checksum; its checksum or its path is bad; this manifest may not list its path; an earlier line lists its path. Or
+/// `Memory`, if memory runs out.
+pub fn read_manifest(
+    alloc: Global,
+    octets: &[u8],
+    alg: Alg,
+    kind: Kind,
+    version: Version,
+) -> Result<Manifest, TagFault>
+    // The result is what the text lists, and every text that lists something is read.
+    ensures listed { IfOk result (λ manifest. (manifest.alg ≡ alg) × (manifest.kind ≡ kind)
+        × ManifestText version alg kind octets.now manifest.pairs) }
+    ensures only { (pairs : List Pair) → ManifestText version alg kind octets.now pairs
+        → MatchResult result (λ manifest. manifest.pairs ≡ pairs)
+        (λ fault. fault ≡ TagFault.Memory) }
+    ensures fault { (fault : LineFault) → IsErrOf result (TagFault.Line fault)
+        → ManifestFault version alg kind octets.now fault }
+{
+    let mut manifest = Manifest::new(alloc, alg, kind);
+    read_onto(alloc, &mut manifest, version, octets)?;
+    Ok(manifest)
+}
+
+impl TagLines for Manifest {
+    ghost use Rattle.bag_tags.specs.Manifests.{AddsPair, RefusesLine};
+
+    ghost leads = { AddsPair };
+
+    ghost refuses = { RefusesLine };
+
+    fn read_line(&mut self, version: Version, _number: u64, text: &str) -> Result<(), TagCause> {
+        let alloc = self.allocator();
+        let Pair { path, digest } = read_pair(alloc, self.alg(), version, text)?;
+        match self.push(path, digest) {
+            Ok(()) => Ok(()),
+            Err(PushFault::WrongPlace) => Err(TagCause::Line(LineCause::WrongPlace)),
+            Err(PushFault::Twice) => Err(TagCause::Line(LineCause::Twice)),
+            Err(PushFault::Memory) => Err(TagCause::Memory),
+            Err(PushFault::WrongAlg) => unreachable!(),
+        }
+    }
+}
+
+/// The path and the digest that a line gives.
+fn read_pair(alloc: Global, alg: Alg, version: Version, text: &str) -> Result<Pair, TagCause>
+    ensures ok { IfOk result (λ pair. Gives version alg text.now pair.path pair.digest) }
+    ensures err { IfErr result (Causes (GivesNothing version alg text.now)) }
+{
+    let (checksum, rest) = split_text(text, Cut::Blank);
+    if rest.is_empty() {
+        return Err(TagCause::Line(LineCause::NoSeparator));
+    }
+    let Some(digest) = Digest::from_hex(alg, checksum.as_bytes()) else {
+        return Err(TagCause::Line(LineCause::BadDigest));
+    };
+    let (_blanks, path_text) = split_text(rest, Cut::NoBlank);
+    let path = read_path(alloc, version, plain_path(path_text))?;
+    Ok(Pair { path, digest })
+}
+
+/// The text of a path without one `*` at its start, and then without one `./`.
+fn plain_path(text: &str) -> &str
+    ensures { result.now ≡ plain_path text.now }
+{
+    let text = text.strip_prefix("*").unwrap_or(text);
+    text.strip_prefix("./").unwrap_or(text)
+}
+
+/// Writes a manifest, its pairs in their order. Each line is a digest in lower case hex, two spaces and the escaped
+/// path, and ends in LF. A path that begins with `*` or a blank is written after `./`. In version 1.0 `read_manifest`
+/// reads the same pairs back.
+///
+/// # Errors
+///
+/// `AllocError` if memory runs out.
+pub fn write_manifest(alloc: Global, manifest: &Manifest) -> Result<Vec<u8>, AllocError>
+    ensures written { IfOk result (λ octets. octets.items ≡ written_manifest manifest.now.pairs) }
+    ensures reads { IfOk result (λ octets.
+        ManifestText V1 manifest.now.alg manifest.now.kind octets.items manifest.now.pairs) }
+{
+    let mut octets = Vec::new(alloc);
+    for pair in manifest.pairs() {
+        write_pair(alloc, &mut octets, pair)?;
+    }
+    Ok(octets)
+}
+
+fn write_pair(alloc: Global, octets: &mut Vec<u8>, pair: &Pair) -> Result<(), AllocError>
+    ensures written { OnOk result (octets.new.items ≡ octets.old.items ++ written_pair pair.now) }
+    ensures path { OnOk result (IsPath pair.now.path) }
+    ensures digest { OnOk result (SpellsDigest (alg_of pair.now.digest)
+        (lower_case_of pair.now.digest) pair.now.digest) }
+{
+    octets.extend_from_slice(pair.digest.to_hex(alloc)?.as_bytes())?;
+    octets.extend_from_slice(b"  ")?;
+    write_path(alloc, octets, &pair.path)?;
+    octets.push(b'\n')?;
+    Ok(())
+}
+
+/// Writes a path so that a reader drops nothing of it.
+fn write_path(alloc: Global, octets: &mut Vec<u8>, path: &BagPath) -> Result<(), AllocError>
+    ensures written { OnOk result (octets.new.items ≡ octets.old.items ++ written_path path.now) }
+    ensures path { IsPath path.now }
+{
+    if needs_dot(path.as_str().as_bytes()) {
+        octets.extend_from_slice(b"./")?;
+    }
+    octets.extend_from_slice(escape(alloc, path)?.as_bytes())?;
+    Ok(())
+}
+
+/// Whether a path begins with `*` or a blank. Without `./` before it a reader would drop that.
+fn needs_dot(path: &[u8]) -> bool
+    ensures { result ≡ needs_dot path.now }
+{
+    match path.first() {
+        Some(octet) => *octet == b'*' || is_blank(*octet),
+        None => false,
+    }
 }

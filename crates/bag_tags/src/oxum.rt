@@ -4,7 +4,7 @@ ghost use Rattle.bag_tags.specs.Oxums.{OxumText, written_oxum};
 ghost use Rattle.bag_tags.specs.declared.oxum.Oxum.{Oxum};
 
 use crate::number::read_number;
-use crate::splitting::{Stop, is_blank_line, split_at_first};
+use crate::splitting::{Cut, is_blank_line, split_at_first};
 use std::alloc::{AllocError, Global};
 
 /// The size of a payload: how many octets it has, in how many files (streams).
@@ -24,10 +24,10 @@ impl Oxum {
         ensures only { (oxum : Oxum) → OxumText text.now oxum.octets oxum.streams → result
             ≡ Some oxum }
     {
-        let (_front, rest) = split_at_first(text.as_bytes(), Stop::NoBlank);
-        let (octets, rest) = split_at_first(rest, Stop::Dot);
+        let (_front, rest) = split_at_first(text.as_bytes(), Cut::NoBlank);
+        let (octets, rest) = split_at_first(rest, Cut::Dot);
         let rest = rest.strip_prefix(b".")?;
-        let (streams, back) = split_at_first(rest, Stop::Blank);
+        let (streams, back) = split_at_first(rest, Cut::Blank);
         if !is_blank_line(back) {
             return None;
         }

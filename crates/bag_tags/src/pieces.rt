@@ -12,7 +12,7 @@ use crate::tag_fault::TagFault;
 use crate::tag_lines::{TagLines, read_numbered};
 use bag_path::{Ending, Lines, Version};
 
-/// Reads the lines that end in the next piece, and keeps the octets of the last one. After an `Err` the value is not
+/// Reads the lines that end in the next piece, and keeps the octets of the last one. After an `Err` the value isn't
 /// used again.
 pub(crate) fn read_piece<V: TagLines>(
     value: &mut V,
@@ -82,7 +82,7 @@ fn end_line<V: TagLines>(
     last.end(is_cr(ending))
 }
 
-/// Reads the last line, which ends after this text where all octets end. After an `Err` the value is not used again.
+/// Reads the last line, which ends after this text where all octets end. After an `Err` the value isn't used again.
 pub(crate) fn read_end<V: TagLines>(
     value: &mut V,
     version: Version,

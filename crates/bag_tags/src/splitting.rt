@@ -1,56 +1,56 @@
 //! Splits lines at blanks and at other octets.
 ghost use Rattle.std.specs.Prelude.{◌≡◌, ◌≤◌, length, take, drop};
 ghost use Rattle.bag_tags.specs.Words.{begins_blank, is_blank, is_blank_line, without};
-ghost use Rattle.bag_tags.specs.WordsReading.{until, stops};
+ghost use Rattle.bag_tags.specs.WordsReading.{cuts, until};
 
 /// The byte order mark of UTF-8.
 pub(crate) const MARK: &[u8] = b"\xEF\xBB\xBF";
 
 /// The octets before which a text is cut.
 #[derive(Clone, Copy, Debug, PartialEq, Eq)]
-pub(crate) enum Stop {
+pub(crate) enum Cut {
     Blank,
     NoBlank,
     Dot,
     Colon,
 }
 
-impl Stop {
+impl Cut {
     ghost use Rattle.std.specs.Prelude.{◌≡◌};
-    ghost use Rattle.bag_tags.specs.WordsReading.{stops};
+    ghost use Rattle.bag_tags.specs.WordsReading.{cuts};
 
     fn is_at(self, octet: u8) -> bool
-        ensures { result ≡ stops self octet }
+        ensures { result ≡ cuts self octet }
     {
         match self {
-            Stop::Blank => is_blank(octet),
-            Stop::NoBlank => !is_blank(octet),
-            Stop::Dot => octet == b'.',
-            Stop::Colon => octet == b':',
+            Cut::Blank => is_blank(octet),
+            Cut::NoBlank => !is_blank(octet),
+            Cut::Dot => octet == b'.',
+            Cut::Colon => octet == b':',
         }
     }
 }
 
 /// The octets before the first one at which the text is cut, and the rest with that one.
-pub(crate) fn split_at_first(text: &[u8], stop: Stop) -> (&[u8], &[u8])
-    ensures { until (stops stop) text.now ≡ (result.0.now, result.1.now) }
+pub(crate) fn split_at_first(text: &[u8], cut: Cut) -> (&[u8], &[u8])
+    ensures { until (cuts cut) text.now ≡ (result.0.now, result.1.now) }
 {
-    text.split_at(front_len(text, stop))
+    text.split_at(front_len(text, cut))
 }
 
 /// Does the same for a `str`.
-pub(crate) fn split_text(text: &str, stop: Stop) -> (&str, &str)
-    ensures { until (stops stop) text.now ≡ (result.0.now, result.1.now) }
+pub(crate) fn split_text(text: &str, cut: Cut) -> (&str, &str)
+    ensures { until (cuts cut) text.now ≡ (result.0.now, result.1.now) }
 {
-    text.split_at(front_len(text.as_bytes(), stop))
+    text.split_at(front_len(text.as_bytes(), cut))
 }
 
-fn front_len(text: &[u8], stop: Stop) -> usize
+fn front_len(text: &[u8], cut: Cut) -> usize
     ensures within { result ≤ length text.now }
-    ensures front { until (stops stop) text.now ≡ (take result text.now, drop result text.now) }
+    ensures front { until (cuts cut) text.now ≡ (take result text.now, drop result text.now) }
 {
     for (i, octet) in text.iter().enumerate() {
-        if stop.is_at(*octet) {
+        if cut.is_at(*octet) {
             return i;
         }
     }
@@ -85,8 +85,5 @@ pub(crate) fn is_blank_line(text: &[u8]) -> bool
 pub(crate) fn without<'a>(front: &[u8], text: &'a [u8]) -> &'a [u8]
     ensures { result.now ≡ without front.now text.now }
 {
-    match text.strip_prefix(front) {
-        Some(rest) => rest,
-        None => text,
-    }
+    text.strip_prefix(front).unwrap_or(text)
 }

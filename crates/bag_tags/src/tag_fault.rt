@@ -7,7 +7,7 @@ use thiserror::Error;
 /// and `read_fetch` say in which order they look for them.
 #[derive(Clone, Copy, Debug, PartialEq, Eq, PartialOrd, Ord, Error)]
 pub enum LineCause {
-    /// The line is not UTF-8, which is the encoding of the tag files (RFC 8493 section 2.1.1).
+    /// The line isn't UTF-8, which is the encoding of the tag files (RFC 8493 section 2.1.1).
     #[error("not UTF-8")]
     NotUtf8,
     /// The line lacks a blank that it needs or, in `bag-info.txt`, a colon.

@@ -35,7 +35,7 @@ pub(crate) trait TagLines {
     /// Why such a line is faulty after this value.
     ghost refuses: { Version → Self → List ℕ → LineCause → Type 0 };
 
-    /// Adds what a line says. After an `Err` the value is not used again.
+    /// Adds what a line says. After an `Err` the value isn't used again.
     fn read_line(&mut self, version: Version, number: u64, text: &str) -> Result<(), TagCause>
         requires plain { AllByRecursion IsPlain text.now }
         requires not_blank { is_blank_line text.now ≡ false }
@@ -43,7 +43,7 @@ pub(crate) trait TagLines {
         ensures err { IfErr result (Causes (refuses version self.old text.now)) };
 }
 
-/// Adds all lines of a text to a value. After an `Err` the value is not used again.
+/// Adds all lines of a text to a value. After an `Err` the value isn't used again.
 pub(crate) fn read_onto<V: TagLines>(
     alloc: Global,
     value: &mut V,
