@@ -1,5 +1,5 @@
 -- The digest algorithms of the format, and sets of them.
-use Rattle.std.specs.Prelude.{ℕ, List, Bool, true, false, codes}
+use Rattle.std.specs.Prelude.{◌≤◌, ℕ, List, Bool, true, false, codes}
 use Rattle.bag_digest.specs.declared.algorithm.Alg.{Alg}
 use Rattle.bag_digest.specs.declared.algorithm.Alg.TheVariants.{Md5, Sha1, Sha256, Sha512}
 use Rattle.bag_digest.specs.declared.algorithm.AlgSet.{AlgSet}
@@ -39,3 +39,7 @@ has set Md5 = set.md5
 has set Sha1 = set.sha1
 has set Sha256 = set.sha256
 has set Sha512 = set.sha512
+
+-- it is one of these algorithms, and none of them comes before it
+abbrev pub IsFirstAmong : (Alg → Type 0) → Alg → Type 0
+IsFirstAmong some alg = some alg × ((other : Alg) → some other → place_of alg ≤ place_of other)

@@ -8,7 +8,7 @@ use Rattle.bag_digest.specs.declared.algorithm.Alg.{Alg}
 use Rattle.bag_digest.specs.declared.algorithm.AlgSet.{AlgSet}
 use Rattle.bag_digest.specs.declared.content.Content.{Content}
 use Rattle.bag_digest.specs.declared.content.Content.TheVariants.{Hashed, Whole}
-use Rattle.bag_digest.specs.declared.reading.TheConstants.{PIECE}
+use Rattle.bag_digest.specs.declared.buffers.TheConstants.{PIECE}
 use Rattle.bag_digest.specs.declared.short_contents.ShortContents.{ShortContents}
 use Rattle.bag_digest.specs.declared.sums.Sums.{Sums}
 
@@ -52,6 +52,12 @@ Took (Hashed multi) set octets = Holds multi set octets
 abbrev pub IsHeld : Content → ℕ → ℕ → Type 0
 IsHeld (Whole whole) size taken = (size ≤ PIECE) × (length whole.items ≡ taken)
 IsHeld (Hashed multi) size taken = PIECE < size
+
+-- nothing more is taken
+abbrev pub TakesNothing : Content → Content → Type 0
+TakesNothing (Whole old) (Whole new) = new.items ≡ old.items
+TakesNothing (Hashed old) (Hashed new) = new ≡ old
+TakesNothing old new = ⊥
 
 -- these octets are taken after those that were taken before
 abbrev pub TakesAlso : Content → Content → List ℕ → Type 0

@@ -1,5 +1,5 @@
 //! The digest algorithms, and sets of them.
-ghost use Rattle.std.specs.Prelude.{◌≡◌, ◌||◌, ◌↔◌, IsTrue, IfSome, Some, false, true};
+ghost use Rattle.std.specs.Prelude.{◌≡◌, ◌||◌, ◌↔◌, IsTrue, IfSome, MatchOption, Some, false, true};
 
 /// A digest algorithm of manifests: MD5 (RFC 1321), or SHA-1, SHA-256 or SHA-512 (FIPS 180-4).
 ///
@@ -69,7 +69,7 @@ pub struct AlgSet {
 }
 
 impl AlgSet {
-    ghost use Rattle.bag_digest.specs.Algorithm.{has, is_alg};
+    ghost use Rattle.bag_digest.specs.Algorithm.{IsFirstAmong, has, is_alg};
 
     /// The empty set.
     pub fn empty() -> AlgSet
@@ -126,6 +126,20 @@ impl AlgSet {
         ensures { IsTrue result ↔ ((alg : Alg) → has other alg ≡ true → has self alg ≡ true) }
     {
         self.union(other) == self
+    }
+
+    /// The first algorithm of the set, if it has any. The order of [`Alg::ALL`] is also that of the file names of the
+    /// manifests.
+    pub fn first(self) -> Option<Alg>
+        ensures { MatchOption result ((alg : Alg) → has self alg ≡ false)
+            (IsFirstAmong (λ alg. has self alg ≡ true)) }
+    {
+        for alg in Alg::ALL {
+            if self.has(alg) {
+                return Some(alg);
+            }
+        }
+        None
     }
 
     /// Whether no algorithm is in the set.

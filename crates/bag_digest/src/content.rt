@@ -1,9 +1,9 @@
 //! A content while it is read.
-ghost use Rattle.std.specs.Prelude.{◌≡◌, ◌+◌, ℕ, [], OnOk, length};
+ghost use Rattle.std.specs.Prelude.{◌≡◌, ◌+◌, ℕ, [], OnErr, OnOk, length};
 
 use crate::algorithm::AlgSet;
+use crate::buffers::PIECE;
 use crate::multi::Multi;
-use crate::reading::PIECE;
 use std::alloc::{AllocError, Global};
 
 /// What was read of a content so far.
@@ -16,7 +16,7 @@ pub enum Content {
 }
 
 impl Content {
-    ghost use Rattle.bag_digest.specs.ShortContents.{IsHeld, Took, TakesAlso};
+    ghost use Rattle.bag_digest.specs.ShortContents.{IsHeld, TakesNothing, Took, TakesAlso};
 
     /// Nothing yet of a content of this size in octets, which is to be hashed by the algorithms of the set.
     pub fn none(alloc: Global, size: u64, set: AlgSet) -> Content
@@ -33,11 +33,12 @@ impl Content {
     ///
     /// # Errors
     ///
-    /// `AllocError` if memory for a short content runs out.
+    /// `AllocError` if memory for a short content runs out. Nothing of the piece is taken then.
     pub fn take(&mut self, piece: &[u8]) -> Result<(), AllocError>
         ensures taken { OnOk result (TakesAlso self.old self.new piece.now) }
         ensures held { OnOk result ((size taken : ℕ) → IsHeld self.old size taken
             → IsHeld self.new size (taken + length piece.now)) }
+        ensures unchanged { OnErr result (TakesNothing self.old self.new) }
     {
         match self {
             Content::Whole(octets) => octets.extend_from_slice(piece)?,

@@ -3,6 +3,7 @@
 #![tactic(auto)]
 
 pub use algorithm::{Alg, AlgSet};
+pub use buffers::{FRONT, PIECE, buffer_of, piece_buffer};
 pub use content::Content;
 pub use digest::Digest;
 pub use failures::Failures;
@@ -10,18 +11,18 @@ pub use multi::{Digests, Multi};
 pub use multi_lanes::MultiLanes;
 pub use reader_source::ReaderSource;
 pub use reading::{
-    PIECE, ReadFault, SourceFault, SourceRead, buffer_of, digest_reader, digest_through, fill,
-    piece_buffer, read_or_digest, read_piece, read_to_end_within,
+    ReadFault, SourceFault, SourceRead, digest_reader, digest_through, fill, read_or_digest,
+    read_piece, read_to_end_within,
 };
 pub use short_contents::ShortContents;
 pub use source::{Failed, Source};
-pub use streams::{FRONT, Stream, StreamFault, digest_streams};
+pub use streams::{Stream, StreamFault, digest_streams};
 pub use sums::Sums;
 
 mod algorithm;
+mod buffers;
 mod content;
 mod digest;
-mod each;
 pub mod examples;
 mod failures;
 pub mod laws;
@@ -30,6 +31,7 @@ mod multi_lanes;
 mod reader_source;
 mod reading;
 mod short_contents;
+mod side_by_side;
 mod source;
 mod streams;
 mod sums;

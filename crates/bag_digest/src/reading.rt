@@ -6,6 +6,7 @@ ghost use Rattle.bag_digest.specs.Reading.{GaveAll, GaveBefore, GaveDigests, Gav
 ghost use Rattle.bag_digest.specs.declared.reading.ReadFault.TheVariants.{Memory};
 
 use crate::algorithm::AlgSet;
+use crate::buffers::piece_buffer;
 use crate::multi::Multi;
 use crate::source::{Failed, Source};
 use crate::sums::Sums;
@@ -56,32 +57,6 @@ impl From<AllocError> for ReadFault {
     }
 }
 
-/// The number of octets in a piece, which is the most that is read at a time.
-pub const PIECE: usize = 65_536;
-
-/// A buffer for one piece. It can be used for any number of sources, one after the other.
-///
-/// # Errors
-///
-/// `AllocError` if memory runs out.
-pub fn piece_buffer(alloc: Global) -> Result<Vec<u8>, AllocError>
-    ensures { IfOk result (λ buffer. vec_len buffer ≡ PIECE) }
-{
-    buffer_of(alloc, PIECE)
-}
-
-/// A buffer of this many octets, which are zero.
-///
-/// # Errors
-///
-/// The only error is that memory ran out.
-// The length is a parameter, so that no proof writes the zeros out.
-pub fn buffer_of(alloc: Global, len: usize) -> Result<Vec<u8>, AllocError>
-    ensures { IfOk result (λ buffer. vec_len buffer ≡ len) }
-{
-    vec![in alloc; 0u8; len]
-}
-
 /// Reads a source to its end through the caller's buffer. Returns how many octets it gave, and their digests by each
 /// algorithm of the set. Allocates no memory.
 ///
@@ -108,7 +83,7 @@ pub fn digest_through<S: Source>(
     digest_on(buffer, reader, Multi::new(set), limit)
 }
 
-/// Reads a source to its end, and answers how many octets it gave. Its digests are those of what the hashers had taken
+/// Reads a source to its end, and returns how many octets it gave. Its digests are those of what the hashers had taken
 /// before, followed by these octets.
 pub(crate) fn digest_on<S: Source>(
     buffer: &mut [u8],
@@ -186,7 +161,7 @@ pub fn read_or_digest<S: Source>(
     }))
 }
 
-/// Reads a source to its end as [`digest_through`] does, through a buffer of [`PIECE`] octets that it allocates.
+/// Reads a source to its end as [`digest_through`] does, through a buffer of one piece that it allocates.
 ///
 /// # Errors
 ///
@@ -271,7 +246,7 @@ pub fn read_piece<S: Source>(
     }
 }
 
-/// Reads until the buffer is full or the source is at its end, and answers how many octets it read.
+/// Reads until the buffer is full or the source is at its end, and returns how many octets it read.
 ///
 /// # Errors
 ///

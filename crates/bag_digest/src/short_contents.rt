@@ -2,7 +2,7 @@
 ghost use Rattle.std.specs.Prelude.{◌≡◌, [], IfOk, IsErr, OnOk, length, vec_len};
 
 use crate::algorithm::AlgSet;
-use crate::each::sums_of_each;
+use crate::side_by_side::sums_of_each;
 use crate::sums::Sums;
 use std::alloc::{AllocError, Global};
 

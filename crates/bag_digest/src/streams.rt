@@ -7,14 +7,12 @@ ghost use Rattle.bag_digest.specs.declared.algorithm.AlgSet.{AlgSet};
 ghost use Rattle.bag_digest.specs.declared.streams.Stream.{Stream};
 
 use crate::algorithm::{Alg, AlgSet};
+use crate::buffers::FRONT;
 use crate::multi::Multi;
 use crate::multi_lanes::MultiLanes;
-use crate::reading::{PIECE, SourceFault, digest_on, fill};
+use crate::reading::{SourceFault, digest_on, fill};
 use crate::source::Source;
 use crate::sums::Sums;
-
-/// The number of octets in a piece of a stream.
-pub const FRONT: usize = 2 * PIECE;
 
 /// A source of which a first piece was read, to be hashed beside others.
 #[derive(Drop)]
@@ -45,7 +43,7 @@ pub struct StreamFault {
 ///
 /// The fault of the first stream, in their order, that has one: it failed once, or is too large and has not failed.
 /// Those before it were read to their ends, and have not failed. Those behind it are given up: they may have been read
-/// too, and may have failed, and what they did is not told.
+/// too, and may have failed, and what they did isn't told.
 pub fn digest_streams<S: Source>(
     set: AlgSet,
     limit: u64,
@@ -70,7 +68,7 @@ pub fn digest_streams<S: Source>(
 }
 
 /// Where the streams end that are hashed next: after four of them, or after one if there is a digest by SHA-512, which
-/// is not taken side by side.
+/// isn't taken side by side.
 fn next_end(set: AlgSet, first: usize, count: usize) -> usize
     requires { first < count }
     ensures { (first < result) × (result ≤ first + 4) × (result ≤ count) }
@@ -215,7 +213,7 @@ fn take_pieces<S>(
     }
 }
 
-/// The piece of the stream at the place `k`, or that of the last one if there are not so many.
+/// The piece of the stream at the place `k`, or that of the last one if there aren't so many.
 fn piece_of<S>(streams: &[Stream<S>], k: usize, end: usize) -> &[u8]
     requires { (0 < end) × (end ≤ length streams.now) }
     ensures { (stream : Stream S) → slice_get streams.now (min k (end - 1)) ≡ Some stream

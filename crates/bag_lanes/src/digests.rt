@@ -65,8 +65,8 @@ fn digests_of<const WORDS: usize, const OCTETS: usize, A: Algorithm<WORDS>>(
     Ok(digests)
 }
 
-// Writes the digest of each message to its place. Whichever message ends first is written and makes way
-// for the next one.
+// Writes the digest of each message to its place. The next message takes the lane of the one that ends
+// first.
 fn hash_all<const WORDS: usize, const OCTETS: usize, A: Algorithm<WORDS>>(
     messages: &[&[u8]],
     digests: &mut [[u8; OCTETS]],

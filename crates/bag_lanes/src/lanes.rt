@@ -151,7 +151,7 @@ pub(crate) fn lane_octets<const WORDS: usize, const OCTETS: usize>(
     octets
 }
 
-// Whichever has fewer blocks left.
+// The lane that has fewer blocks left.
 fn sooner(first: Option<Busy>, other: Busy) -> Busy
     ensures which { (result ≡ other) ⊎ (first ≡ Some result) }
     ensures other { result.task.left ≤ other.task.left }

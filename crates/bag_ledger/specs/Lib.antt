@@ -1,4 +1,5 @@
 pub mod Ledgers
 pub mod Keeping
 pub mod PutFaults
+pub mod Findings
 pub mod Stored

@@ -9,7 +9,7 @@ ghost use Rattle.bag_ledger.specs.declared.keeper_faults.StoreFault.{StoreFault}
 ghost use Rattle.bag_rules.specs.Wants.{IsFirstMisfitOf, IsWanted};
 
 use crate::keeper_faults::PutFault;
-use bag_digest::{Multi, Source, digest_reader};
+use bag_digest::{Source, Sums, digest_reader};
 use bag_rules::limits::LARGEST_ITEM;
 use bag_rules::{Want, WantFault};
 use std::alloc::Global;
@@ -49,7 +49,7 @@ pub fn test_reader<S: Source>(
     ensures own { (fault : StoreFault) → ¬ IsErrOf result (Keep (Store fault)) }
 {
     let sums = digest_reader(alloc, reader, want.algs(), LARGEST_ITEM)?;
-    want.test(sums.length, &sums.digests)?;
+    want.test(&sums)?;
     Ok(())
 }
 
@@ -58,7 +58,5 @@ pub(crate) fn test_octets(want: &Want<'_>, octets: &[u8]) -> Result<(), WantFaul
     ensures { MatchResult result (λ done. IsWanted want.now octets.now)
         (IsFirstMisfitOf want.now octets.now) }
 {
-    let mut multi = Multi::new(want.algs());
-    multi.update(octets);
-    want.test(octets.len() as u64, &multi.finish())
+    want.test(&Sums::of(octets, want.algs()))
 }

@@ -152,3 +152,17 @@ pub trait Keeper {
     ghost sound: { (keeper : Self) (ledger : Ledger) → clean keeper → holds keeper ledger
         → IsSound ledger };
 }
+
+/// For a keeper that has the content, or a piece of it: copies its octets from `offset` on to the front of the buffer,
+/// as many as there are and as fit, and returns the number.
+pub fn copy_piece(content: &[u8], offset: u64, buf: &mut [u8]) -> usize
+    ensures { IsPieceAt content.now offset result buf.new }
+{
+    if offset >= content.len() as u64 {
+        return 0;
+    }
+    let start = offset as usize;
+    let n = buf.len().min(content.len() - start);
+    buf[..n].copy_from_slice(&content[start..start + n]);
+    n
+}

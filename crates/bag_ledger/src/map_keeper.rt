@@ -9,7 +9,7 @@ ghost use Rattle.bag_ledger.specs.declared.keeper_faults.PutFault.TheVariants.{K
 ghost use Rattle.bag_rules.specs.Plans.{sizes_of};
 
 use crate::content_checks::{test_content, test_octets};
-use crate::keeper::Keeper;
+use crate::keeper::{Keeper, copy_piece};
 use crate::keeper_faults::{KeepFault, PutFault};
 use crate::stored::{Transfers, add_item, add_transfer, body_of, names_in, sizes_in};
 use bag_digest::{Source, piece_buffer, read_to_end_within};
@@ -167,7 +167,7 @@ impl Keeper for MapKeeper {
         ensures always { IsOk result }
     {
         match body_of(&self.transfers, name, path) {
-            Some(body) => Ok(copy_from(body, offset, buf)),
+            Some(body) => Ok(copy_piece(body, offset, buf)),
             None => Ok(0),
         }
     }
@@ -185,18 +185,4 @@ impl Keeper for MapKeeper {
     }
 
     ghost sound = { λ keeper ledger clean holds. holds.1 };
-}
-
-/// Copies the octets from `offset` on to the front of the buffer, as many as there are and as fit, and returns the
-/// number.
-fn copy_from(content: &[u8], offset: u64, buf: &mut [u8]) -> usize
-    ensures { IsPieceAt content.now offset result buf.new }
-{
-    if offset >= content.len() as u64 {
-        return 0;
-    }
-    let start = offset as usize;
-    let n = buf.len().min(content.len() - start);
-    buf[..n].copy_from_slice(&content[start..start + n]);
-    n
 }

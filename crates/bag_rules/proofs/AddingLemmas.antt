@@ -1,6 +1,6 @@
 -- One file more is gathered.
 use Rattle.std.proofs.Common.{◌≡◌, ◌+◌, ◌≤◌, ◌<◌, ◌∷◌, [], ℕ, List, Option, Some, ap, arith, length, length-append, refl}
-use Rattle.bag_digest.specs.declared.streams.TheConstants.{FRONT}
+use Rattle.bag_digest.specs.declared.buffers.TheConstants.{FRONT}
 use Rattle.bag_rules.specs.declared.file_batch.FileBatch.{FileBatch}
 use Rattle.bag_rules.specs.declared.file_batch.FileSums.{FileSums}
 use Rattle.bag_rules.specs.declared.file_batch.FileSums.TheVariants.{Streamed, Taken, Unread, Waiting}

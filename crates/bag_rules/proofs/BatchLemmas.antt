@@ -10,7 +10,8 @@ use Rattle.bag_rules.specs.declared.file_batch.FileSums.TheVariants.{Streamed, T
 use Rattle.bag_rules.specs.declared.limits.TheConstants.{LARGEST_FILE}
 use Rattle.bag_digest.specs.Reading.{AreSums}
 use Rattle.bag_digest.specs.ShortContents.{AreSumsOfEach}
-use Rattle.bag_rules.specs.FileBatchInside.{AddsSums, AreAlgsOf, AreRead, AreReadings, AreSumsFor, IsSumsOf, Covers, CoversListed, HasSumsAt, AddsHeld, IsHeldFor, IsReadingOf, StreamFact}
+use Rattle.bag_rules.specs.Wants.{CoversListed}
+use Rattle.bag_rules.specs.FileBatchInside.{AddsSums, AreAlgsOf, AreRead, AreReadings, AreSumsRead, IsSumsOf, Covers, HasSumsAt, AddsHeld, IsHeldFor, IsReadingOf, StreamFact}
 use Rattle.bag_rules.proofs.FileReadLemmas.{push_at, push_before}
 use Rattle.bag_rules.proofs.HasLemmas.{stands}
 use Rattle.bag_rules.proofs.Words.{Alg, AlgSet, CheckFault, has, HasFileAt, IsLongRead, is_payload, IsReadBy, same_Some, Shown, slice_get_within, Requirements}
@@ -71,7 +72,7 @@ holds_grows old new set held holds = record {
 }
 
 pub held_is : (old new : FileBatch) (wants : Requirements) (path octets : List ℕ) (set : AlgSet) (held : List ℕ) → AddsHeld old new set held
-    → IsReadBy wants.manifests.now path → CoversListed wants path set → held ≡ octets → length octets ≤ LARGEST_FILE
+    → IsReadBy wants.manifests.now path → CoversListed wants.manifests.now path set → held ≡ octets → length octets ≤ LARGEST_FILE
     → IsHeldFor new wants path octets (length old.held.contents.items)
 held_is old new wants path octets set held holds read covers same within = record {
   read = read;
@@ -90,7 +91,7 @@ reading_at shown wants batch place path octets reading are covers file there =
 
 -- the length and the digests of what is held
 held_sums : (batch : FileBatch) (wants : Requirements) (path octets : List ℕ) (place : ℕ) (sums : Sums) → AreSumsOfEach batch.held.set batch.held.contents.items batch.waiting.items
-    → IsHeldFor batch wants path octets place → slice_get batch.waiting.items place ≡ Some sums → AreSumsFor wants path octets sums
+    → IsHeldFor batch wants path octets place → slice_get batch.waiting.items place ≡ Some sums → AreSumsRead wants path octets sums
 held_sums batch wants path octets place sums each is at = record {
   read = is.read;
   set = batch.held.set;
@@ -118,7 +119,7 @@ pub streamed_at : (batch : FileBatch) (wants : Requirements) (path octets : List
 streamed_at batch wants path octets place None is past =
     let inside = slice_get_within batch.streamed.items place is.0 is.1 in
     absurd (omega (arith, inside, past))
-streamed_at batch wants path octets place (Some sums) is at = subst (AreSumsFor wants path octets) (same_Some is.0 sums (sym is.1 ∙ at)) is.2
+streamed_at batch wants path octets place (Some sums) is at = subst (AreSumsRead wants path octets) (same_Some is.0 sums (sym is.1 ∙ at)) is.2
 
 pub on_ok_so : {A E P Q : Type 0} (r : Result A E) → OnOk r P → (P → Q) → OnOk r Q
 on_ok_so (Ok a) h so = so h

@@ -6,14 +6,14 @@ use Rattle.bag_digest.specs.declared.reading.SourceFault.{SourceFault}
 use Rattle.bag_digest.specs.declared.reading.SourceFault.TheVariants as source
 use Rattle.bag_digest.specs.declared.streams.Stream.{Stream}
 use Rattle.bag_digest.specs.declared.streams.StreamFault.{StreamFault}
-use Rattle.bag_digest.specs.declared.streams.TheConstants.{FRONT}
+use Rattle.bag_digest.specs.declared.buffers.TheConstants.{FRONT}
 use Rattle.bag_digest.specs.Hash.{AreDigests}
 use Rattle.bag_digest.specs.Reading.{AreSums}
 use Rattle.bag_digest.specs.Streams.{HaveEnded, HaveEndedIn, IsFirstStopped}
 use Rattle.bag_digest.proofs.Progress.{all_known, more_known}
 use Rattle.bag_rules.specs.declared.batch_reading.BatchReading.{BatchReading}
 use Rattle.bag_rules.specs.declared.limits.TheConstants.{LARGEST_FILE}
-use Rattle.bag_rules.specs.FileBatchInside.{AreRead, AreSumsFor, HasSumsAt, IsComplete, next_of}
+use Rattle.bag_rules.specs.FileBatchInside.{AreRead, AreSumsRead, HasSumsAt, IsComplete, next_of}
 use Rattle.bag_rules.specs.BatchReading.{AreGathered, AreOpen, AreReady, AreSumsIn, AreWithin, HaveSums, IsReadAt, IsStreamOf}
 use Rattle.bag_rules.specs.OpenTrees.{IsTooLarge}
 use Rattle.bag_rules.specs.Returning.{AreUnfailed, HasStoppedFirst, IsStopped, IsToldOf}
@@ -60,7 +60,7 @@ module _ {F : Type 0} (place : F → ℕ) (remaining : F → Option (List ℕ)) 
 
   -- the sums of a file whose stream has ended
   ended_sums : (wants : Requirements) (sums : List Sums) → HaveEnded remaining failures ready keeps gathered.set LARGEST_FILE gathered.streams.items new → AreSumsIn new sums
-      → (k : ℕ) (path octets : List ℕ) → IsStreamOf remaining wants gathered.set gathered.streams.items k path octets → (found : Sums) × (slice_get sums k ≡ Some found) × AreSumsFor wants path octets found
+      → (k : ℕ) (path octets : List ℕ) → IsStreamOf remaining wants gathered.set gathered.streams.items k path octets → (found : Sums) × (slice_get sums k ≡ Some found) × AreSumsRead wants path octets found
   ended_sums wants sums ended are k path octets front =
       let inside = slice_get_within gathered.streams.items k front.stream front.there in
       let after = after_at k front.stream front.there in

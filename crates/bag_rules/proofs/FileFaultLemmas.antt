@@ -125,7 +125,7 @@ module _ (version : Version) (want : Want) (octets : List ℕ) (sums : Sums) (se
   own listing has = taken sums.digests are.taken want.manifests.now listing want.path.now octets are.sums.1 (λ alg l. are.covers alg (lists alg l)) has
 
   -- a file that is the one that is wanted can only be unlisted
-  pub fits_unlisted : (old new : List Fault) → Fits want sums.length sums.digests → Adds old new (IsFileUnlisted version want.manifests.now want.path.now) → Adds old new (IsFaultBy version want.manifests.now want.lengths.now want.path.now octets)
+  pub fits_unlisted : (old new : List Fault) → Fits want sums → Adds old new (IsFileUnlisted version want.manifests.now want.path.now) → Adds old new (IsFaultBy version want.manifests.now want.lengths.now want.path.now octets)
   fits_unlisted old new fits = adds_so old new _ _ (λ f unlisted. inl unlisted) (λ f fault. elim fault [
     | inl unlisted ↦ unlisted
     | inr other ↦ absurd (elim other [

@@ -4,7 +4,7 @@ use Rattle.bag_digest.proofs.EachLemmas.{at_last}
 use Rattle.std.specs.Io.KnownBytes.{Consumes, IsAtEnd}
 use Rattle.std.proofs.lemmas.List.{length-take-le}
 use Rattle.bag_digest.specs.declared.streams.Stream.{Stream}
-use Rattle.bag_digest.specs.declared.streams.TheConstants.{FRONT}
+use Rattle.bag_digest.specs.declared.buffers.TheConstants.{FRONT}
 use Rattle.bag_digest.specs.Reading.{GavePiece}
 use Rattle.bag_digest.proofs.Filling.{filled_whole}
 use Rattle.bag_digest.proofs.Progress.{all_known}

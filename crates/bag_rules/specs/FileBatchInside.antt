@@ -1,12 +1,12 @@
 -- What a batch of files holds. Private functions alone cite these.
-use Rattle.std.specs.Prelude.{◌≡◌, ◌<◌, ◌≤◌, ◌+◌, ◌++◌, ◌∷◌, ◌||◌, [], ℕ, true, List, Option, Some, None, Vec, length, slice_get}
+use Rattle.std.specs.Prelude.{◌≡◌, ◌<◌, ◌≤◌, ◌+◌, ◌++◌, ◌∷◌, ◌||◌, [], ℕ, List, Option, Some, None, Vec, length, slice_get}
 use Rattle.std.specs.declared.alloc.Global.{Global}
 use Rattle.bag_digest.specs.declared.algorithm.Alg.{Alg}
 use Rattle.bag_digest.specs.declared.algorithm.AlgSet.{AlgSet}
 use Rattle.bag_digest.specs.declared.sums.Sums.{Sums}
 use Rattle.bag_digest.specs.Algorithm.{has}
 use Rattle.bag_digest.specs.ShortContents.{AreSumsOfEach}
-use Rattle.bag_digest.specs.declared.streams.TheConstants.{FRONT}
+use Rattle.bag_digest.specs.declared.buffers.TheConstants.{FRONT}
 use Rattle.bag_rules.specs.declared.file_batch.FileBatch.{FileBatch}
 use Rattle.bag_rules.specs.declared.file_batch.FileSums.{FileSums}
 use Rattle.bag_rules.specs.declared.file_batch.FileSums.TheVariants.{Streamed, Taken, Unread, Waiting}
@@ -18,7 +18,7 @@ use Rattle.bag_rules.specs.declared.requirements.Requirements.{Requirements}
 use Rattle.bag_rules.specs.FilesInside.{IsReadBy}
 use Rattle.bag_rules.specs.KeptInside.{AreKept, HasSumsWithin}
 use Rattle.bag_rules.specs.Trees.{HasFileAt, Shown, paths_in}
-use Rattle.bag_rules.specs.Wants.{lists_by}
+use Rattle.bag_rules.specs.Wants.{CoversListed}
 
 -- A file can be read at this place of a tree: it is one of the tree's, the buffer is as long as a first piece, and what
 -- was kept is of the tree.
@@ -27,14 +27,10 @@ pub record CanRead (shown : Shown) (place : ℕ) (buffer : List ℕ) (kept : Kep
   pub inside : place < length (paths_in shown)
   pub are_kept : AreKept shown kept
 
--- the algorithms by which the path is listed are in the set
-abbrev pub CoversListed : Requirements → List ℕ → AlgSet → Type 0
-CoversListed wants path set = (alg : Alg) → lists_by wants.manifests.now path alg ≡ true
-    → has set alg ≡ true
-
 -- the file is read, and the algorithms by which it is listed are in the set
 abbrev pub IsReadFor : Requirements → List ℕ → AlgSet → Type 0
-IsReadFor wants path set = IsReadBy wants.manifests.now path × CoversListed wants path set
+IsReadFor wants path set = IsReadBy wants.manifests.now path
+    × CoversListed wants.manifests.now path set
 
 -- the file is read, and these are the algorithms by which it is listed; or it isn't read
 abbrev pub AreAlgsOf : Requirements → List ℕ → Option AlgSet → Type 0
@@ -42,21 +38,21 @@ AreAlgsOf wants path None = ¬ IsReadBy wants.manifests.now path
 AreAlgsOf wants path (Some set) = IsReadFor wants path set
 
 -- the file is read, and these are its length and its digests
-pub record AreSumsFor (wants : Requirements) (path octets : List ℕ) (found : Sums) : Type 0 where
+pub record AreSumsRead (wants : Requirements) (path octets : List ℕ) (found : Sums) : Type 0 where
   pub read : IsReadBy wants.manifests.now path
   pub set : AlgSet
   pub sums : HasSumsWithin found set octets
-  pub covers : CoversListed wants path set
+  pub covers : CoversListed wants.manifests.now path set
 
 -- the same of a file that is read, and nothing of another
 abbrev pub IsSumsOf : Requirements → List ℕ → List ℕ → Option Sums → Type 0
 IsSumsOf wants path octets None = ¬ IsReadBy wants.manifests.now path
-IsSumsOf wants path octets (Some found) = AreSumsFor wants path octets found
+IsSumsOf wants path octets (Some found) = AreSumsRead wants path octets found
 
 -- what is known of a file before it is opened: that it isn't read, or its sums
 abbrev pub IsKnownOf : Requirements → List ℕ → List ℕ → FileSums → Type 0
 IsKnownOf wants path octets Unread = ¬ IsReadBy wants.manifests.now path
-IsKnownOf wants path octets (Taken sums) = AreSumsFor wants path octets sums
+IsKnownOf wants path octets (Taken sums) = AreSumsRead wants path octets sums
 IsKnownOf wants path octets other = ⊥
 
 -- the same, or else that it is to be read
@@ -72,7 +68,7 @@ pub record IsHeldFor (batch : FileBatch) (wants : Requirements) (path octets : L
   pub there : slice_get batch.held.contents.items place ≡ Some content
   pub octets_are : content.items ≡ octets
   pub within : length octets ≤ LARGEST_FILE
-  pub covers : CoversListed wants path batch.held.set
+  pub covers : CoversListed wants.manifests.now path batch.held.set
 
 -- what is known of a stream, by its place, as that of a file
 abbrev pub StreamFact : Type 1
@@ -82,7 +78,7 @@ StreamFact = ℕ → List ℕ → List ℕ → Type 0
 abbrev pub IsReadingOf : FileBatch → StreamFact → Requirements → List ℕ → List ℕ → FileSums → Type 0
 IsReadingOf batch is_stream wants path octets Unread = ¬ IsReadBy wants.manifests.now path
 IsReadingOf batch is_stream wants path octets (Taken sums) =
-    AreSumsFor wants path octets sums
+    AreSumsRead wants path octets sums
 IsReadingOf batch is_stream wants path octets (Waiting place) =
     IsHeldFor batch wants path octets place
 IsReadingOf batch is_stream wants path octets (Streamed place) = is_stream place path octets
@@ -97,7 +93,7 @@ AreReadings shown wants batch is_stream = (i : ℕ) (reading : FileSums)
 -- these are the length and the digests of the file
 abbrev pub HasSumsAt : Requirements → FileBatch → StreamFact
 HasSumsAt wants batch place path octets = (found : Sums)
-    × (slice_get batch.streamed.items place ≡ Some found) × AreSumsFor wants path octets found
+    × (slice_get batch.streamed.items place ≡ Some found) × AreSumsRead wants path octets found
 
 -- the same, with the sums of what is held and of the streams
 pub record AreRead (shown : Shown) (wants : Requirements) (batch : FileBatch) : Type 0 where

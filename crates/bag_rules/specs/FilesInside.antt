@@ -19,7 +19,7 @@ use Rattle.bag_rules.specs.declared.outcome.CheckFault.{CheckFault}
 use Rattle.bag_rules.specs.Bags.{Bag, octet_count, payload_of}
 use Rattle.bag_rules.specs.Faults.{Has}
 use Rattle.bag_rules.specs.Limits.{IsLongFile}
-use Rattle.bag_rules.specs.Listed.{IsFirstAmong}
+use Rattle.bag_digest.specs.Algorithm.{IsFirstAmong}
 use Rattle.bag_rules.specs.ReadingInside.{name_in}
 use Rattle.bag_rules.specs.Wants.{HasSuch}
 use Rattle.bag_rules.specs.WantsInside.{given_at}

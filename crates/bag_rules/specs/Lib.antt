@@ -11,6 +11,7 @@ pub mod Profiles
 pub mod SameVerdicts
 pub mod Validity
 pub mod Limits
+pub mod Checking
 pub mod ReadingInside
 pub mod KeptInside
 pub mod TagFileReaders

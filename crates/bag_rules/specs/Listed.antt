@@ -1,21 +1,16 @@
 -- Which payload manifests have to list a payload file, and a path of `fetch.txt`.
-use Rattle.std.specs.Prelude.{◌≡◌, ◌≢◌, ◌≤◌, ℕ, true, false, List}
+use Rattle.std.specs.Prelude.{◌≡◌, ◌≢◌, ℕ, true, false, List}
 use Rattle.std.specs.Ordering.{nat_cmp}
 use Rattle.std.specs.Cmp.Lexicographic.{slice_cmp}
 use Rattle.std.specs.declared.cmp.Ordering.TheVariants.{Greater}
 use Rattle.bag_path.specs.declared.version.Version.{Version}
 use Rattle.bag_path.specs.declared.version.Version.TheVariants.{V1, V097}
 use Rattle.bag_digest.specs.declared.algorithm.Alg.{Alg}
-use Rattle.bag_digest.specs.Algorithm.{place_of}
 use Rattle.bag_tags.specs.declared.listing.Kind.TheVariants.{Payload}
 use Rattle.bag_tags.specs.declared.listing.Pair.{Pair}
 use Rattle.bag_tags.specs.Listings.{lists_path}
 use Rattle.bag_tags.specs.Names.{manifest_file, manifest_name}
 use Rattle.bag_rules.specs.Bags.{Bag, Lists}
-
--- no algorithm of these comes before it
-abbrev pub IsFirstAmong : (Alg → Type 0) → Alg → Type 0
-IsFirstAmong some alg = some alg × ((other : Alg) → some other → place_of alg ≤ place_of other)
 
 -- The path is listed as required: in version 1.0 by every payload manifest (RFC 8493 sections 2.2.3 and 3), in version
 -- 0.97 by some payload manifest (this project's own).

@@ -22,7 +22,7 @@ use Rattle.bag_rules.specs.Bags.{Bag, Lists}
 use Rattle.bag_rules.specs.Faults.{Has}
 use Rattle.bag_rules.specs.Files.{Files}
 use Rattle.bag_rules.specs.HasFault.{HasEntry}
-use Rattle.bag_rules.specs.Listed.{IsFirstAmong}
+use Rattle.bag_digest.specs.Algorithm.{IsFirstAmong}
 use Rattle.bag_rules.specs.Trees.{AreRising}
 
 -- these files and the others, each at its place in the order of the paths

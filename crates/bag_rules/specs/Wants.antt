@@ -5,15 +5,16 @@ use Rattle.bag_digest.specs.declared.algorithm.Alg.{Alg}
 use Rattle.bag_digest.specs.declared.digest.Digest.{Digest}
 use Rattle.bag_digest.specs.declared.multi.Digests.{Digests}
 use Rattle.bag_digest.specs.declared.algorithm.AlgSet.{AlgSet}
-use Rattle.bag_digest.specs.Algorithm.{has, is_alg}
-use Rattle.bag_digest.specs.Hash.{AreDigests, digest_in, hash}
+use Rattle.bag_digest.specs.declared.sums.Sums.{Sums}
+use Rattle.bag_digest.specs.Algorithm.{IsFirstAmong, has, is_alg}
+use Rattle.bag_digest.specs.Hash.{digest_in, hash}
+use Rattle.bag_digest.specs.Reading.{AreSums}
 use Rattle.bag_tags.specs.Listings.{Listing, lists_path, listed_digest}
 use Rattle.bag_rules.specs.declared.want.GivenLength.{GivenLength}
 use Rattle.bag_rules.specs.declared.want.Want.{Want}
 use Rattle.bag_rules.specs.declared.want.WantFault.{WantFault}
 use Rattle.bag_rules.specs.declared.want.WantFault.TheVariants.{Length, Digest as WrongDigest}
 use Rattle.bag_rules.specs.Faults.{Has}
-use Rattle.bag_rules.specs.Listed.{IsFirstAmong}
 
 -- some manifest by this algorithm is such
 pub record HasSuch (listings : List Listing) (such : Listing → Type 0) (alg : Alg) : Type 0 where
@@ -27,6 +28,14 @@ abbrev pub lists_by : List Listing → List ℕ → Alg → Bool
 lists_by listings path alg =
     list_any (λ
     (listing : Listing). is_alg listing.alg alg && lists_path listing.pairs path) listings
+
+-- the algorithms by which the path is listed are in the set
+abbrev pub CoversListed : List Listing → List ℕ → AlgSet → Type 0
+CoversListed listings path set = (alg : Alg) → lists_by listings path alg ≡ true
+    → has set alg ≡ true
+
+abbrev pub CoversWant : AlgSet → Want → Type 0
+CoversWant set want = CoversListed want.manifests.now want.path.now set
 
 -- every length that is given is this one
 abbrev pub FitsLength : Want → ℕ → Type 0
@@ -46,8 +55,8 @@ abbrev pub FitsDigests : Want → Digests → Type 0
 FitsDigests want digests = FitsListings want.path.now digests want.manifests.now
 
 -- a file of this length and with these digests is the one that is wanted
-abbrev pub Fits : Want → ℕ → Digests → Type 0
-Fits want n digests = FitsLength want n × FitsDigests want digests
+abbrev pub Fits : Want → Sums → Type 0
+Fits want sums = FitsLength want sums.length × FitsDigests want sums.digests
 
 -- some manifest by this algorithm lists another digest for the path
 abbrev pub IsWrongBy : Want → Digests → Alg → Type 0
@@ -55,20 +64,18 @@ IsWrongBy want digests =
     HasSuch want.manifests.now (λ listing. ¬ FitsListing want.path.now digests listing)
 
 -- the first reason why it isn't the one that is wanted
-abbrev pub IsFirstMisfit : Want → ℕ → Digests → WantFault → Type 0
-IsFirstMisfit want n digests Length = ¬ FitsLength want n
-IsFirstMisfit want n digests (WrongDigest alg) = FitsLength want n
-    × IsFirstAmong (IsWrongBy want digests) alg
+abbrev pub IsFirstMisfit : Want → Sums → WantFault → Type 0
+IsFirstMisfit want sums Length = ¬ FitsLength want sums.length
+IsFirstMisfit want sums (WrongDigest alg) = FitsLength want sums.length
+    × IsFirstAmong (IsWrongBy want sums.digests) alg
 
 -- THE SAME FOR OCTETS
 
 -- the length of these octets, and their digests by each algorithm by which the path is listed
-pub record AreSumsFor (want : Want) (octets : List ℕ) (n : ℕ) (digests : Digests) : Type 0 where
+pub record AreSumsFor (want : Want) (octets : List ℕ) (sums : Sums) : Type 0 where
   pub set : AlgSet
-  pub length_is : n ≡ length octets
-  pub digests_are : AreDigests digests set octets
-  pub covers : (alg : Alg) → lists_by want.manifests.now want.path.now alg ≡ true
-      → has set alg ≡ true
+  pub are_sums : AreSums sums set octets
+  pub covers : CoversWant set want
 
 -- a file with these octets is the one that is wanted
 pub record IsWanted (want : Want) (octets : List ℕ) : Type 0 where

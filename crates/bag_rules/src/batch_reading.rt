@@ -9,7 +9,7 @@ ghost use Rattle.bag_rules.specs.BatchReading.{AddsFile, AddsNone, AreGathered, 
 ghost use Rattle.bag_rules.specs.Limits.{FirstStops, NoneStopsBefore, Stopped};
 ghost use Rattle.bag_rules.specs.Returning.{IsStopped, LeavesOut, TakesAllBack};
 ghost use Rattle.bag_rules.specs.Trees.{HasFileAt, paths_in};
-ghost use Rattle.bag_digest.specs.declared.streams.TheConstants.{FRONT};
+ghost use Rattle.bag_digest.specs.declared.buffers.TheConstants.{FRONT};
 ghost use Rattle.bag_rules.specs.declared.limits.TheConstants.{LARGEST_FILE};
 ghost use Rattle.bag_rules.specs.declared.outcome.CheckFault.{CheckFault};
 ghost use Rattle.bag_rules.specs.declared.requirements.Requirements.{Requirements};
@@ -205,7 +205,7 @@ fn hold_next<T: OpenTree>(
     }
 }
 
-/// Opens the file at this place, and reads its first octets into the buffer. Answers how many there are: less than fit
+/// Opens the file at this place, and reads its first octets into the buffer. Returns how many there are: less than fit
 /// if the file ends with them.
 fn read_front<T: OpenTree>(
     alloc: Global,
@@ -230,7 +230,7 @@ fn read_front<T: OpenTree>(
     }
 }
 
-/// Reads the files that are out to their ends, side by side, and takes them back. Answers the batch with their sums and
+/// Reads the files that are out to their ends, side by side, and takes them back. Returns the batch with their sums and
 /// with the digests of the files that are held.
 ///
 /// # Errors
@@ -268,7 +268,7 @@ pub(crate) fn finish<T: OpenTree>(
 }
 
 /// Reads the files that are out to their ends, since what stops one of them comes before what stops the next file, and
-/// takes all back. Answers what is told.
+/// takes all back. Returns what is told.
 pub(crate) fn stop<T: OpenTree>(
     tree: &mut T,
     gathered: BatchReading<T::File>,

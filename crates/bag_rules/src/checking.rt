@@ -5,6 +5,7 @@ ghost use Rattle.bag_digest.specs.declared.algorithm.Alg.{Alg};
 ghost use Rattle.bag_tags.specs.declared.listing.Kind.TheVariants.{Tag};
 ghost use Rattle.bag_tags.specs.Names.{manifest_file};
 ghost use Rattle.bag_rules.specs.Bags.{Bag, IsBagOf};
+ghost use Rattle.bag_rules.specs.Checking.{ChecksTree};
 ghost use Rattle.bag_rules.specs.KeptInside.{AreKept};
 ghost use Rattle.bag_rules.specs.Limits.{ProfileStops, Stopped, Stops};
 ghost use Rattle.bag_rules.specs.Profiles.{IsProfile};
@@ -45,17 +46,7 @@ use std::alloc::Global;
 /// payload file or a listed file has more than 2^40 octets. `Tree`: a call of the tree failed, and the tree has counted
 /// it. `Memory`: memory ran out.
 pub fn check<T: OpenTree>(alloc: Global, tree: &mut T) -> Result<Outcome, CheckFault>
-    // What is returned for a bag is the verdict on it.
-    ensures verdict { (bag : Bag) → IsBagOf (T.shown tree.old) bag → IfOk result (IsVerdict bag) }
-    // A report without faults means a valid bag, and one with no faults but wrong digests a complete bag.
-    ensures meaning { (bag : Bag) → IsBagOf (T.shown tree.old) bag → IfOk result (Means bag) }
-    // A limit is returned exactly if it is the first one that the check meets.
-    ensures limits { (bag : Bag) → IsBagOf (T.shown tree.old) bag → MatchResult result
-        (λ outcome. (fault : CheckFault) → ¬ Stops bag fault) (Stopped (Stops bag)) }
-    ensures tree { UsesTree T.shown T.failures T.sure tree.old tree.new
-        (IsErrOf result CheckFault.Tree) }
-    // Two cases in which the octets need not be known: there are too many files, or there is no declaration.
-    ensures unread { AnswersPaths (paths_in (T.shown tree.old)) result }
+    ensures { ChecksTree T.shown T.failures T.sure tree.old tree.new result }
 {
     if tree.count() > MOST_FILES {
         return Err(CheckFault::TooMany);

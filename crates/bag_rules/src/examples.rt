@@ -97,7 +97,7 @@ pub fn no_files_have_no_declaration()
         IsJudged bag (NoDeclaration ∷ []) }
 {}
 
-/// A bag of another version is not judged, whatever else is wrong with it.
+/// A bag of another version isn't judged, whatever else is wrong with it.
 pub fn an_earlier_version_is_outside()
     ensures { let declaration = codes "BagIt-Version: 0.96" ++ cr ∷ lf
         ∷ codes "Tag-File-Character-Encoding: ISO-8859-1" in
@@ -136,7 +136,7 @@ pub fn what_is_listed_passes()
 {}
 
 /// If the length differs from that in `fetch.txt`, this is reported before a digest that differs. A file that isn't
-/// listed is not expected.
+/// listed isn't expected.
 pub fn what_is_not_listed_does_not_pass()
     ensures { IsMisfit tags_with_fetch file_a (codes "abcd") wanted.Length
         × IsMisfit tags_with_fetch file_a (codes "abd") (wanted.Digest Sha256)

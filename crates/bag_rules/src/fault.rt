@@ -26,22 +26,22 @@ pub enum Fault {
         tag_manifest: Alg,
         manifest: Alg,
     },
-    /// A `Payload-Oxum` is not two numbers joined by a dot (section 2.2.2).
+    /// A `Payload-Oxum` isn't two numbers joined by a dot (section 2.2.2).
     OxumForm,
     /// There is more than one `Payload-Oxum`.
     OxumTwice,
-    /// A file that a manifest lists is not there (section 3).
+    /// A file that a manifest lists isn't there (section 3).
     Missing {
         manifest: ManifestName,
         path: BagPath,
     },
-    /// A payload file is not listed in this payload manifest (section 3). In version 0.97 it is listed in none, and
+    /// A payload file isn't listed in this payload manifest (section 3). In version 0.97 it is listed in none, and
     /// this is the first one by file name.
     Unlisted {
         manifest: Alg,
         path: BagPath,
     },
-    /// A path of `fetch.txt` is not listed in this payload manifest (section 2.2.3). In version 0.97 it is listed in
+    /// A path of `fetch.txt` isn't listed in this payload manifest (section 2.2.3). In version 0.97 it is listed in
     /// none, and this is the first one by file name.
     FetchNotListed {
         manifest: Alg,
@@ -66,7 +66,7 @@ impl Fault {
     ghost use Rattle.bag_rules.specs.Faults.{number_of};
 
     /// The number of the kind of fault, from 1 to 14. Kinds 1 and 2 are faults of the declaration, 3 to 8 of the form
-    /// and 9 to 14 of the files. A bag with a fault of kind 1 to 13 is not complete. Kind 14 is a wrong digest.
+    /// and 9 to 14 of the files. A bag with a fault of kind 1 to 13 isn't complete. Kind 14 is a wrong digest.
     pub fn number(&self) -> u8
         ensures { result ≡ number_of self.now }
     {

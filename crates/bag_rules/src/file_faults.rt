@@ -3,7 +3,7 @@ ghost use Rattle.std.specs.Prelude.{true, ◌≡◌, ◌<◌, ℕ, List, IfOk, I
 ghost use Rattle.bag_digest.specs.Algorithm.{has};
 ghost use Rattle.bag_digest.specs.declared.algorithm.Alg.{Alg};
 ghost use Rattle.bag_digest.specs.declared.algorithm.AlgSet.{AlgSet};
-ghost use Rattle.bag_digest.specs.declared.streams.TheConstants.{FRONT};
+ghost use Rattle.bag_digest.specs.declared.buffers.TheConstants.{FRONT};
 ghost use Rattle.bag_rules.specs.Bags.{Bag, IsBagOf, version_of};
 ghost use Rattle.bag_rules.specs.FileBatchInside.{AreRead, Covers};
 ghost use Rattle.bag_rules.specs.Faults.{kinds_of_files};
@@ -13,7 +13,7 @@ ghost use Rattle.bag_rules.specs.KeptInside.{AreKept, HasSums};
 ghost use Rattle.bag_rules.specs.Limits.{FileStops, FirstStops, NoneStops, Stopped};
 ghost use Rattle.bag_rules.specs.ReadingInside.{Adds, AreTextsOf};
 ghost use Rattle.bag_rules.specs.Trees.{HasFileAt, UsesTree, paths_in};
-ghost use Rattle.bag_rules.specs.Wants.{lists_by};
+ghost use Rattle.bag_rules.specs.Wants.{CoversWant};
 ghost use Rattle.bag_rules.specs.WantsInside.{GivesPayload};
 ghost use Rattle.bag_rules.specs.declared.outcome.CheckFault.{CheckFault};
 
@@ -100,7 +100,7 @@ fn read_files<T: OpenTree>(
     Ok(size)
 }
 
-/// Adds what is wrong with one file of the batch, if it is a payload file or is listed. Answers the length of a payload
+/// Adds what is wrong with one file of the batch, if it is a payload file or is listed. Returns the length of a payload
 /// file in octets.
 fn add_faults_at<T: Tree>(
     tree: &T,
@@ -134,14 +134,12 @@ fn add_faults_of(
     faults: &mut Vec<Fault>,
 ) -> Result<(), AllocError>
     ensures { (set : AlgSet) (octets : List ℕ) → HasSums sums.now set octets
-        → ((alg : Alg) → lists_by want.now.manifests.now want.now.path.now alg ≡ true
-        → has set alg ≡ true)
-        → OnOk result (Adds faults.old.items faults.new.items
+        → CoversWant set want.now → OnOk result (Adds faults.old.items faults.new.items
         (IsFaultBy version want.now.manifests.now want.now.lengths.now
         want.now.path.now octets)) }
 {
     add_unlisted(version, want.manifests, want.path, faults)?;
-    if want.test(sums.length, &sums.digests).is_ok() {
+    if want.test(sums).is_ok() {
         return Ok(());
     }
     add_other_lengths(want, sums.length, faults)?;

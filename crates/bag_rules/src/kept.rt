@@ -3,11 +3,11 @@ ghost use Rattle.std.specs.Prelude.{◌≡◌, ℕ, List, IfErr, IfSome, OnOk};
 ghost use Rattle.bag_rules.specs.KeptInside.{AreKept, HasSumsWithin, IsKeptOf, IsTextAt, kept_file};
 ghost use Rattle.bag_rules.specs.Trees.{HasFileAt, Shown};
 
-use bag_digest::{AlgSet, Multi, Sums};
+use bag_digest::{AlgSet, Sums};
 use std::alloc::{AllocError, Global};
 
 /// The lengths and digests of the tag files that were read as text, by their places. There are at most eleven such
-/// files. They are not read again, so what is verified is what was read as text.
+/// files. They aren't read again, so what is verified is what was read as text.
 #[derive(Drop)]
 pub(crate) struct Kept {
     set: AlgSet,
@@ -37,13 +37,7 @@ impl Kept {
         ensures { (shown : Shown) → AreKept shown self.old → IsTextAt shown place text.now
             → OnOk result (AreKept shown self.new) }
     {
-        let mut multi = Multi::new(self.set);
-        multi.update(text);
-        let sums = Sums {
-            length: text.len() as u64,
-            digests: multi.finish(),
-        };
-        self.add(place, sums)
+        self.add(place, Sums::of(text, self.set))
     }
 
     /// Keeps the length and the digests of the file at this place.

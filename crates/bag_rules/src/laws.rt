@@ -6,7 +6,7 @@ ghost use Rattle.std.specs.Cmp.Lexicographic.{slice_cmp};
 ghost use Rattle.std.specs.declared.cmp.Ordering.TheVariants.{Less, Greater};
 ghost use Rattle.bag_path.specs.Paths.{IsPath, is_payload};
 ghost use Rattle.bag_rules.specs.contracts.fault.FaultOrd.TheImpl as order;
-ghost use Rattle.bag_digest.specs.declared.streams.TheConstants.{FRONT};
+ghost use Rattle.bag_digest.specs.declared.buffers.TheConstants.{FRONT};
 ghost use Rattle.bag_rules.specs.declared.file_batch.TheConstants.{MOST_READ};
 ghost use Rattle.bag_rules.specs.declared.fault.Fault.{Fault};
 ghost use Rattle.bag_rules.specs.declared.limits.TheConstants.{LARGEST_FILE, LARGEST_ITEM, LARGEST_TAG_FILE, MOST_FILES, MOST_LINES};

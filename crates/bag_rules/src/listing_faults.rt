@@ -17,7 +17,7 @@ use bag_path::{BagPath, Version};
 use bag_tags::{Manifest, ManifestName, Pair};
 use std::alloc::AllocError;
 
-/// Adds a fault for each file that a manifest lists and that is not there.
+/// Adds a fault for each file that a manifest lists and that isn't there.
 pub(crate) fn add_missing<T: Paths>(
     tree: &T,
     manifests: &[Manifest],
@@ -32,7 +32,7 @@ pub(crate) fn add_missing<T: Paths>(
     Ok(())
 }
 
-/// Adds a fault for each file that this manifest lists and that is not there.
+/// Adds a fault for each file that this manifest lists and that isn't there.
 pub(crate) fn add_missing_by<T: Paths>(
     tree: &T,
     manifest: &Manifest,
@@ -48,7 +48,7 @@ pub(crate) fn add_missing_by<T: Paths>(
     Ok(())
 }
 
-/// Adds a fault for the file of one pair if it is not there.
+/// Adds a fault for the file of one pair if it isn't there.
 fn add_missing_pair<T: Paths>(
     tree: &T,
     manifest: ManifestName,

@@ -27,7 +27,7 @@ use crate::tag_set::TagSet;
 use crate::tag_texts::{TagTexts, read_lines};
 use crate::tree::{Paths, find};
 use crate::want::Want;
-use bag_digest::Multi;
+use bag_digest::Sums;
 use bag_path::{BagPath, Version};
 use bag_tags::{Kind, LineFile, Manifest, Pair};
 use std::alloc::{AllocError, Global};
@@ -221,7 +221,7 @@ fn add_opening_faults(
     add_wrong_tags(tags, &texts.manifests, faults)
 }
 
-/// Adds a fault for each file that a tag manifest lists and that is not there.
+/// Adds a fault for each file that a tag manifest lists and that isn't there.
 fn add_missing_tags<T: Paths>(
     tags: &T,
     manifests: &[Manifest],
@@ -283,7 +283,6 @@ fn add_wrong_file(
         manifests,
         lengths: &[],
     };
-    let mut multi = Multi::new(want.algs());
-    multi.update(file.body());
-    add_other_digests(&want, &multi.finish(), faults)
+    let sums = Sums::of(file.body(), want.algs());
+    add_other_digests(&want, &sums.digests, faults)
 }

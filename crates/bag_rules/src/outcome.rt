@@ -21,7 +21,7 @@ pub enum OutsideCause {
     Version,
     /// `bagit.txt` declares an encoding of the tag files other than UTF-8.
     Encoding,
-    /// The algorithm of a manifest is not md5, sha1, sha256 or sha512. This is its name in the first such manifest by
+    /// The algorithm of a manifest isn't md5, sha1, sha256 or sha512. This is its name in the first such manifest by
     /// file name.
     Algorithm(String),
 }

@@ -23,7 +23,7 @@ pub(crate) fn close_all<T: OpenTree>(tree: &mut T, streams: Vec<Stream<T::File>>
     }
 }
 
-/// Takes back all files, of which this is the first that has stopped, and answers how that is told: those behind it are
+/// Takes back all files, of which this is the first that has stopped, and returns how that is told: those behind it are
 /// given up.
 pub(crate) fn stopped_at<T: OpenTree>(
     tree: &mut T,
@@ -65,7 +65,7 @@ fn give_up_behind<T: OpenTree>(
     }
 }
 
-/// Takes back a file that has stopped, and answers how that is told: `TooLarge` with its path, `Tree`, or `Memory` if
+/// Takes back a file that has stopped, and returns how that is told: `TooLarge` with its path, `Tree`, or `Memory` if
 /// there is none for the path.
 pub(crate) fn told<T: OpenTree>(tree: &mut T, fault: SourceFault, file: T::File) -> CheckFault
     requires { IsStopped T.File.place T.File.failures (T.shown tree.old) fault file }

@@ -34,7 +34,7 @@ pub(crate) struct TagFileReader {
 pub(crate) struct TagFileRead {
     /// Its length, and its digests by the algorithms of the reader.
     pub sums: Sums,
-    /// Whether it has more lines than the limit. Then it is not known what it says.
+    /// Whether it has more lines than the limit. Then it isn't known what it says.
     pub has_too_many_lines: bool,
     /// What it says, or its first fault.
     pub read: Result<TagValue, TagFault>,
@@ -100,7 +100,7 @@ impl TagFileReader {
     }
 }
 
-/// Has a reader take a tag file from its first octet to its last. Answers the number of its octets.
+/// Has a reader take a tag file from its first octet to its last. Returns the number of its octets.
 pub(crate) fn take_file<T: Tree>(
     buffer: &mut [u8],
     tree: &mut T,
@@ -127,7 +127,7 @@ pub(crate) fn take_file<T: Tree>(
     }
 }
 
-/// Reads a source to its end, piece by piece, and answers how many octets it gave. One that has more octets than a tag
+/// Reads a source to its end, piece by piece, and returns how many octets it gave. One that has more octets than a tag
 /// file may have is left right after the first octet past that limit.
 fn take_all<S: Source>(
     buffer: &mut [u8],

@@ -12,7 +12,7 @@ use thiserror::Error;
 /// returned in place of any other.
 #[derive(Clone, Copy, Debug, PartialEq, Eq, Error)]
 pub enum TagSetFault {
-    /// The text is not a path. If memory ran out, `Memory` below is returned and not this variant.
+    /// The text isn't a path. If memory ran out, `Memory` below is returned and not this variant.
     #[error(transparent)]
     BadPath(PathFault),
     /// The path is that of a payload file.

@@ -36,7 +36,7 @@ pub(crate) fn add_item_faults(
     add_wrong_oxum(texts, payload_size(sizes), faults)
 }
 
-/// Adds a fault for each file that a payload manifest lists and that is not there.
+/// Adds a fault for each file that a payload manifest lists and that isn't there.
 fn add_missing_items(
     manifests: &[Manifest],
     sizes: &[ItemSize],
@@ -53,7 +53,7 @@ fn add_missing_items(
     Ok(())
 }
 
-/// Adds a fault for each file that this manifest lists and that is not there.
+/// Adds a fault for each file that this manifest lists and that isn't there.
 fn add_missing_by(
     manifest: &Manifest,
     sizes: &[ItemSize],
@@ -69,7 +69,7 @@ fn add_missing_by(
     Ok(())
 }
 
-/// Adds a fault for the file of one pair if it is not there.
+/// Adds a fault for the file of one pair if it isn't there.
 fn add_missing_pair(
     manifest: ManifestName,
     pair: &Pair,

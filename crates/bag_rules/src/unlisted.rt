@@ -1,9 +1,9 @@
 //! Which payload manifests have to list a path (RFC 8493 sections 2.2.3 and 3).
-ghost use Rattle.std.specs.Prelude.{◌≡◌, ◌↔◌, true, false, MatchOption};
+ghost use Rattle.std.specs.Prelude.{◌≡◌, ◌↔◌, true};
 ghost use Rattle.bag_digest.specs.Algorithm.{has};
 ghost use Rattle.bag_digest.specs.declared.algorithm.Alg.{Alg};
 ghost use Rattle.bag_rules.specs.FilesInside.{HasPayloadListing, IsUnlistedIn};
-ghost use Rattle.bag_rules.specs.Listed.{IsFirstAmong};
+ghost use Rattle.bag_digest.specs.Algorithm.{IsFirstAmong};
 
 use bag_digest::{Alg, AlgSet};
 use bag_path::{BagPath, Version};
@@ -42,21 +42,8 @@ fn only_first(set: AlgSet) -> AlgSet
     ensures { (alg : Alg)
         → (has result alg ≡ true) ↔ IsFirstAmong (λ other. has set other ≡ true) alg }
 {
-    match first_of(set) {
+    match set.first() {
         Some(alg) => AlgSet::empty().with(alg),
         None => AlgSet::empty(),
     }
-}
-
-/// The first algorithm of a set, if it has any. The order of `Alg::ALL` is that of the file names of the manifests.
-pub(crate) fn first_of(set: AlgSet) -> Option<Alg>
-    ensures { MatchOption result ((alg : Alg) → has set alg ≡ false)
-        (IsFirstAmong (λ alg. has set alg ≡ true)) }
-{
-    for alg in Alg::ALL {
-        if set.has(alg) {
-            return Some(alg);
-        }
-    }
-    None
 }

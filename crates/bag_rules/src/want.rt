@@ -1,6 +1,5 @@
 //! What a file has to be, by what the tag files say about its path (RFC 8493 sections 2.1.3, 2.2.1 and 2.2.3).
-use crate::unlisted::first_of;
-use bag_digest::{Alg, AlgSet, Digests};
+use bag_digest::{Alg, AlgSet, Digests, Sums};
 use bag_path::BagPath;
 use bag_tags::Manifest;
 use thiserror::Error;
@@ -62,23 +61,23 @@ impl Want<'_> {
         set
     }
 
-    /// Tests whether a file of this length in octets and with these digests is the one that is wanted.
+    /// Tests whether a file of this length and with these digests is the one that is wanted.
     ///
     /// # Errors
     ///
     /// The first of `Length` and `Digest` that applies.
-    pub fn test(&self, length: u64, digests: &Digests) -> Result<(), WantFault>
-        ensures fits { MatchResult result (λ done. Fits self.now length digests.now)
-            (IsFirstMisfit self.now length digests.now) }
+    pub fn test(&self, sums: &Sums) -> Result<(), WantFault>
+        ensures fits { MatchResult result (λ done. Fits self.now sums.now)
+            (IsFirstMisfit self.now sums.now) }
         // The same for octets that have this length and these digests.
-        ensures octets { (octets : List ℕ) → AreSumsFor self.now octets length digests.now
+        ensures octets { (octets : List ℕ) → AreSumsFor self.now octets sums.now
             → MatchResult result (λ done. IsWanted self.now octets)
             (IsFirstMisfitOf self.now octets) }
     {
-        if !self.fits_length(length) {
+        if !self.fits_length(sums.length) {
             return Err(WantFault::Length);
         }
-        match first_of(self.wrong(digests)) {
+        match self.wrong(&sums.digests).first() {
             Some(alg) => Err(WantFault::Digest(alg)),
             None => Ok(()),
         }

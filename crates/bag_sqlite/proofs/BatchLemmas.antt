@@ -1,17 +1,15 @@
 -- Payload files that are tested together, and what is known of the rows that were read before they are tested.
 use Rattle.std.proofs.Common.{IfNone, IfSome, MatchOption, None, Option, Some, string_bytes, ◌≡◌, ◌||◌, ◌∙◌, ◌++◌, ◌∷◌, ◌+◌, ◌<◌, ◌≤◌, ◌⊎◌, [], ℕ, ℤ, List, Vec, ap, arith, drop, get_or, inl, inr, length, pos, refl, suc, subst, sym, take, unwrap_or}
-use Rattle.bag_sqlite.proofs.Words.{Alg, AlgSet, AllByRecursion, AreCovered, AreSumsFor, AreSumsOfEach, AreWanted, ShortItems, column, Covers, Database, drop-cons, Files, Format, Ghosts, Global, has, HasContent, HasDamagedItem, HasMisfit, HasOneMore, Int, IsEmpty, IsFindingOf, IsFirstMisfitOf, IsWanted, IsWantOf, ItemFails, ItemPasses, items_text, LARGEST_ITEM, or-true, passes_wanted, Row, RowPasses, slice_get_read, String, Sums, Tells, Text, Untested, Want, wanted_passes, WantFault}
-use Rattle.bag_rules.specs.declared.want.WantFault.TheVariants.{Digest as WrongDigest, Length}
+use Rattle.bag_sqlite.proofs.Words.{Alg, AlgSet, AllByRecursion, AreCovered, AreSumsFor, AreSumsOfEach, AreWanted, ShortItems, column, CoversWant, Database, drop-cons, Files, Format, Ghosts, Global, has, HasContent, HasDamagedItem, HasMisfit, HasOneMore, Int, IsEmpty, FindsItem, IsWanted, IsWantOf, ItemFails, ItemPasses, items_text, LARGEST_ITEM, or-true, passes_wanted, Row, RowPasses, slice_get_read, String, Sums, Tells, Text, Untested, Want, wanted_passes, WantFault}
 use Rattle.std.proofs.lemmas.Option.{get_or_from_slice_get}
 use Rattle.bag_rules.proofs.HasLemmas.{stands}
+use Rattle.bag_ledger.specs.Findings.{FindsContent}
+use Rattle.bag_ledger.specs.declared.finding.Finding.{Finding}
+use Rattle.bag_ledger.specs.declared.finding.Finding.TheVariants.{Damaged, Valid}
 use Rattle.bag_sqlite.proofs.AdoptingLemmas.{all_more}
 use Rattle.bag_sqlite.proofs.RefusingLemmas.{all_at}
 
 -- WHAT IS WANTED
-
-pub misfit_other : (want : Want) (octets : List ℕ) (fault : WantFault) → IsFirstMisfitOf want octets fault → ¬ IsWanted want octets
-misfit_other want octets Length misfit wanted = misfit wanted.lengths
-misfit_other want octets (WrongDigest alg) (fits, (first, least)) wanted = first.is_such.2 (wanted.digests first.listing first.is_such.0 first.has first.is_such.1)
 
 -- a complete payload file is valid if its content is the one that is wanted, and otherwise it isn't
 pub known_by : {S : Type 0} (g : Ghosts S) (db : Database) (format : Format) (tags : Files) (item : ℤ) (path : List ℕ) (size : ℤ) (octets : ℕ) (content : List ℕ) (want : Want) → IsWantOf tags path want → HasContent g db format item content
@@ -21,13 +19,24 @@ known_by g db format tags item path size octets content want is has same within 
   λ other. inr (inr (octets, same, inr (record { content = content; has = has; size_is = count; other = λ passes. other (passes_wanted tags path content want is passes) }))),
 )
 
+-- what is found of the content tells what is found of the payload file
+pub found_item : {S : Type 0} (g : Ghosts S) (db : Database) (format : Format) (tags : Files) (item : ℤ) (path : List ℕ) (size : ℤ) (want : Want) (content : List ℕ) (finding : Finding) → want.path.now ≡ path
+    → (IsWanted want content → ItemPasses g db format tags item path size) × ((¬ IsWanted want content) → ItemFails g db format tags item path size) → FindsContent want content finding → FindsItem g db format tags item path size finding
+found_item g db format tags item path size want content Valid named known wanted = known.0 wanted
+found_item g db format tags item path size want content Damaged named known other = known.1 other
+found_item g db format tags item path size want content (Untested same octets) named known (is, all) = (
+  ap (λ (w : Want). w.path.now) is ∙ named,
+  λ wanted. known.0 (subst (λ w. IsWanted w content) is (subst (IsWanted same) all wanted)),
+  λ other. known.1 (λ wanted. other (subst (IsWanted same) (sym all) (subst (λ w. IsWanted w content) (sym is) wanted))),
+)
+
 -- BATCHES
 
-pub covers_by : (set wanted new : AlgSet) (want : Want) → ((alg : Alg) → has new alg ≡ (has set alg || has wanted alg)) → Covers set want ⊎ Covers wanted want → Covers new want
+pub covers_by : (set wanted new : AlgSet) (want : Want) → ((alg : Alg) → has new alg ≡ (has set alg || has wanted alg)) → CoversWant set want ⊎ CoversWant wanted want → CoversWant new want
 covers_by set wanted new want joined (inl old) alg listed = joined alg ∙ ap (λ b. b || has wanted alg) (old alg listed)
 covers_by set wanted new want joined (inr own) alg listed = joined alg ∙ ap (λ b. has set alg || b) (own alg listed) ∙ or-true (has set alg)
 
-pub covered_more : (set wanted new : AlgSet) (wants : List Want) (want : Want) → ((alg : Alg) → has new alg ≡ (has set alg || has wanted alg)) → AllByRecursion (Covers set) wants → Covers wanted want → AllByRecursion (Covers new) (wants ++ want ∷ [])
+pub covered_more : (set wanted new : AlgSet) (wants : List Want) (want : Want) → ((alg : Alg) → has new alg ≡ (has set alg || has wanted alg)) → AllByRecursion (CoversWant set) wants → CoversWant wanted want → AllByRecursion (CoversWant new) (wants ++ want ∷ [])
 covered_more set wanted new [] want joined all own = (covers_by set wanted new want joined (inr own), tt)
 covered_more set wanted new (first ∷ wants) want joined all own = (covers_by set wanted new first joined (inl all.0), covered_more set wanted new wants want joined all.1 own)
 
@@ -36,31 +45,30 @@ drop_next xs i x low is =
     let next : suc i ≡ i + 1 = omega arith in
     drop-cons xs i x low ∙ ap (λ y. y ∷ drop (suc i) xs) (sym is) ∙ ap (λ n. x ∷ drop n xs) next
 
--- the content of a file of the batch
-pub content_at : (batch : ShortItems) (i : ℕ) → i < length batch.held.known.items → (content : Vec ℕ Global) × (content ≡ get_or batch.held.contents.items i content)
-content_at batch i low =
-    let there = stands batch.held.contents.items i (omega (arith, low, batch.held.paired, batch.held.known.ok.0, batch.held.contents.ok.0)) in
-    (there.0, sym (get_or_from_slice_get batch.held.contents.items i there.0 there.0 there.1))
+-- the file at a place of the batch, whose sums were taken
+pub record IsAt (batch : ShortItems) (i : ℕ) (want : Want) (sums : Sums) : Type 0 where
+  pub content : Vec ℕ Global
+  pub wants : drop i batch.held.known.items ≡ want ∷ drop (i + 1) batch.held.known.items
+  pub contents : drop i batch.held.contents.items ≡ content ∷ drop (i + 1) batch.held.contents.items
+  pub are_for : AreCovered batch → AreSumsFor want content.items sums
 
--- the file at a place, with the digests that were taken of it
-module _ (batch : ShortItems) (each : List Sums) (i : ℕ) (want : Want) (content : Vec ℕ Global) (sums : Sums) (low : i < length batch.held.known.items) (want_is : want ≡ get_or batch.held.known.items i want)
-    (content_is : content ≡ get_or batch.held.contents.items i content) where
-  contents_low : i < length batch.held.contents.items
-  contents_low = omega (arith, low, batch.held.paired, batch.held.known.ok.0, batch.held.contents.ok.0)
-
-  pub drop_both : (drop i batch.held.known.items ≡ want ∷ drop (i + 1) batch.held.known.items) × (drop i batch.held.contents.items ≡ content ∷ drop (i + 1) batch.held.contents.items)
-  drop_both = (drop_next batch.held.known.items i want low want_is, drop_next batch.held.contents.items i content contents_low content_is)
-
-  pub sums_at : AreSumsOfEach batch.held.set batch.held.contents.items each → sums ≡ get_or each i sums → AreCovered batch → AreSumsFor want content.items sums.length sums.digests
-  sums_at taken is covered =
-      let are = taken.sums i content sums (slice_get_read batch.held.contents.items (length batch.held.contents.items) i content refl contents_low content_is)
-      (slice_get_read each (length each) i sums refl (omega (arith, contents_low, taken.count)) is) in
-      record {
+pub is_at : (batch : ShortItems) (each : List Sums) (i : ℕ) (known : List Want) (want : Want) (sums : Sums) → known ≡ batch.held.known.items → i < length known → want ≡ get_or known i want
+    → AreSumsOfEach batch.held.set batch.held.contents.items each → sums ≡ get_or each i sums → IsAt batch i want sums
+is_at batch each i known want sums same below want_is taken is =
+    let low : i < length batch.held.known.items = omega (arith, below, ap length same) in
+    let here = want_is ∙ ap (λ wants. get_or wants i want) same in
+    let contents_low : i < length batch.held.contents.items = omega (arith, low, batch.held.paired, batch.held.known.ok.0, batch.held.contents.ok.0) in
+    let (content, there) = stands batch.held.contents.items i contents_low in
+    record {
+      content = content;
+      wants = drop_next batch.held.known.items i want low here;
+      contents = drop_next batch.held.contents.items i content contents_low (sym (get_or_from_slice_get batch.held.contents.items i content content there));
+      are_for = λ covered. record {
         set = batch.held.set;
-        length_is = are.0;
-        digests_are = are.1;
-        covers = all_at _ batch.held.known.items i want covered low want_is;
-      }
+        are_sums = taken.sums i content sums there (slice_get_read each (length each) i sums refl (omega (arith, contents_low, taken.count)) is);
+        covers = all_at _ batch.held.known.items i want covered low here;
+      };
+    }
 
 pub wanted_split : (wants : List Want) (contents : List (Vec ℕ Global)) (want : Want) (content : Vec ℕ Global) → length wants ≡ length contents → AreWanted (wants ++ want ∷ []) (contents ++ content ∷ [])
     → AreWanted wants contents × IsWanted want content.items
@@ -140,7 +148,7 @@ module _ {S : Type 0} (g : Ghosts S) (db : Database) (format : Format) (tags : F
     pub one_passes : (batch : ShortItems) → SoFar batch place → ItemPasses g db format tags item path size → SoFar batch (place + 1)
     one_passes batch so_far passes = record { covered = so_far.covered; passing = λ all. passes_more (so_far.passing all) passes; damaged = so_far.damaged }
 
-    pub one_added : (want : Want) (content : Vec ℕ Global) (old new : ShortItems) → SoFar old place → HasOneMore want content old new → IsFindingOf g db format tags item path size (Untested want content) → SoFar new (place + 1)
+    pub one_added : (want : Want) (content : Vec ℕ Global) (old new : ShortItems) → SoFar old place → HasOneMore want content old new → FindsItem g db format tags item path size (Untested want content) → SoFar new (place + 1)
     one_added want content old new so_far adds found =
         let same : length old.held.known.items ≡ length old.held.contents.items = omega (arith, old.held.paired, old.held.known.ok.0, old.held.contents.ok.0) in
         record {

@@ -6,7 +6,7 @@ use Rattle.std.proofs.lemmas.Option.{get_or_from_slice_get, same_Some}
 use Rattle.bag_rules.proofs.HasLemmas.{stands}
 use Rattle.bag_digest.specs.Lanes.{HoldsAt, OtherLanesStay}
 use Rattle.bag_digest.specs.declared.multi_lanes.MultiLanes.{MultiLanes}
-use Rattle.bag_sqlite.proofs.Words.{AlgSet, AllByRecursion, AreDigests, AreFull, AreSumsFor, ShortItems, Blob, concat, count_text, Covers, Database, Digests, Files, Format, Ghosts, Global, Int, IsPlanOf, IsWanted, IsWantOf, LARGEST_ITEM, PIECE, piece_text, Plan, Row, RowPasses, TellsOne, Text, Value, Want}
+use Rattle.bag_sqlite.proofs.Words.{AlgSet, AllByRecursion, AreDigests, AreFull, AreSumsFor, ShortItems, Blob, concat, count_text, CoversWant, Database, Digests, Files, Format, Ghosts, Global, Int, IsPlanOf, IsWanted, IsWantOf, LARGEST_ITEM, PIECE, piece_text, Plan, Row, RowPasses, TellsOne, Text, Value, Want}
 use Rattle.bag_sqlite.proofs.PiecesRead.{at_last, concat_last, cut_last, full_last}
 use Rattle.bag_sqlite.proofs.AdoptingLemmas.{all_more}
 use Rattle.bag_sqlite.proofs.BatchLemmas.{SoFar, known_by}
@@ -91,11 +91,11 @@ module _ {S : Type 0} (g : Ghosts S) (db : Database) where
   holds_still multi other set i item n stays held = record { pieces = held.pieces; each = held.each; full = held.full; count = held.count; holds = stays (concat held.pieces) held.holds }
 
   -- the file ends with this piece, and its content is the one that is wanted
-  pub ended_valid : (tags : Files) (multi : MultiLanes) (set : AlgSet) (i n : ℕ) (long : LongItem) (rest : List ℕ) (digests : Digests) → IsWantOf tags long.want.path.now long.want → Covers set long.want
+  pub ended_valid : (tags : Files) (multi : MultiLanes) (set : AlgSet) (i n : ℕ) (long : LongItem) (rest : List ℕ) (digests : Digests) → IsWantOf tags long.want.path.now long.want → CoversWant set long.want
       → HoldsPieces g db multi set i long.item n → IsPiece g db long.item n rest → n * PIECE + length rest ≡ long.size → length rest ≤ PIECE → 0 < length rest
       → ((octets : List ℕ) → HoldsAt multi set i octets → AreDigests digests set (octets ++ rest))
       → TellsOne g db count_text (Int long.item ∷ []) (Int (pos (n + 1)))
-      → ((octets : List ℕ) → AreSumsFor long.want octets long.size digests → IsWanted long.want octets)
+      → ((octets : List ℕ) → AreSumsFor long.want octets (record { length = long.size; digests = digests }) → IsWanted long.want octets)
       → IsValid g db tags long
   ended_valid tags multi set i n long rest digests is covers so_far told total most some are count wanted =
       let pieces = so_far.pieces ++ rest ∷ [] in
@@ -116,8 +116,7 @@ module _ {S : Type 0} (g : Ghosts S) (db : Database) where
       refl within size).0
       (wanted (concat pieces) (record {
         set = set;
-        length_is = size;
-        digests_are = subst (AreDigests digests set) (sym joined) (are (concat so_far.pieces) so_far.holds);
+        are_sums = (size, subst (AreDigests digests set) (sym joined) (are (concat so_far.pieces) so_far.holds));
         covers = covers;
       }))
 

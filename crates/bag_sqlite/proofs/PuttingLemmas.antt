@@ -64,7 +64,7 @@ module _ (old mid new : Option (List ℕ)) (want : Want) (multi : Multi) (total 
       record {
         gave = record { gave = given.gave; none_left = piece.end none; within = omega (arith, given.count, given.within) };
         cut = cut_full pieces read.full;
-        sums = record { set = read.set; length_is = read.given.count; digests_are = finished read.set (concat pieces) read.hashed; covers = read.covers };
+        sums = record { set = read.set; are_sums = (read.given.count, finished read.set (concat pieces) read.hashed); covers = read.covers };
       }
 
   module _ (after : Multi) (updated : (set : AlgSet) (octets : List ℕ) → Holds multi set octets → Holds after set (octets ++ take n buffer)) where
@@ -82,7 +82,7 @@ module _ (old mid new : Option (List ℕ)) (want : Want) (multi : Multi) (total 
         record {
           gave = record { gave = given.gave; none_left = end; within = omega (arith, given.count, given.within) };
           cut = cut_last pieces (take n buffer) read.full (omega (arith, size, some)) (omega (arith, size, short));
-          sums = record { set = read.set; length_is = given.count; digests_are = finished read.set (concat (pieces ++ take n buffer ∷ [])) hashed; covers = read.covers };
+          sums = record { set = read.set; are_sums = (given.count, finished read.set (concat (pieces ++ take n buffer ∷ [])) hashed); covers = read.covers };
         }
 
     -- one more full piece

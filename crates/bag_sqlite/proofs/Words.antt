@@ -11,7 +11,7 @@ pub use Rattle.bag_digest.specs.declared.multi.Digests.{Digests}
 pub use Rattle.bag_digest.specs.declared.sums.Sums.{Sums}
 pub use Rattle.bag_digest.specs.declared.multi.Multi.{Multi}
 pub use Rattle.bag_digest.specs.declared.reading.SourceFault.{SourceFault}
-pub use Rattle.bag_digest.specs.declared.reading.TheConstants.{PIECE}
+pub use Rattle.bag_digest.specs.declared.buffers.TheConstants.{PIECE}
 pub use Rattle.bag_ledger.proofs.EntryLemmas.{map_twice}
 pub use Rattle.bag_ledger.proofs.LedgerLemmas.{entry_rising, item_names}
 pub use Rattle.bag_ledger.proofs.SoundLemmas.{sound_begun, sound_nothing, sound_put}
@@ -34,7 +34,7 @@ pub use Rattle.bag_rules.specs.Plans.{IsPlanOf, IsWantOf, sizes_of}
 pub use Rattle.bag_rules.specs.TagSets.{RefusesFile}
 pub use Rattle.bag_rules.specs.Transfers.{with_files}
 pub use Rattle.bag_rules.specs.Trees.{AreRising}
-pub use Rattle.bag_rules.specs.Wants.{AreSumsFor, IsFirstMisfitOf, IsWanted, lists_by}
+pub use Rattle.bag_rules.specs.Wants.{AreSumsFor, CoversWant, IsFirstMisfitOf, IsWanted, lists_by}
 pub use Rattle.bag_rules.specs.declared.file.File.{File}
 pub use Rattle.bag_rules.specs.declared.limits.TheConstants.{LARGEST_ITEM}
 pub use Rattle.bag_rules.specs.declared.plan.ItemSize.{ItemSize}
@@ -42,7 +42,7 @@ pub use Rattle.bag_rules.specs.declared.plan.Plan.{Plan}
 pub use Rattle.bag_rules.specs.declared.want.Want.{Want}
 pub use Rattle.bag_rules.specs.declared.want.WantFault.{WantFault}
 pub use Rattle.bag_sqlite.specs.Adopting.{body_text, count_text, file_in, files_in, format_text, HasContent, HasFormat, HasPieces, IsRead, IsVerified, IsVerifiedAs, ItemPasses, items_text, OnlyReads, piece_text, RowPasses, Stands, stray_item_texts, stray_texts, tag_files_text, Tells, TellsOne, TransferPasses, transfers_text}
-pub use Rattle.bag_sqlite.specs.ShortItems.{AreCovered, AreWanted, Covers, HasMisfit, HasOneMore, IsEmpty, IsFindingOf}
+pub use Rattle.bag_sqlite.specs.ShortItems.{AreCovered, AreWanted, HasMisfit, HasOneMore, IsEmpty, FindsItem}
 pub use Rattle.bag_digest.specs.ShortContents.{AreSumsOfEach, IsHeld, TakesAlso, Took}
 pub use Rattle.bag_sqlite.specs.Contents.{HasContentMore, HasRead, in_pieces}
 pub use Rattle.bag_sqlite.specs.LedgersInTables.{AreApart, AreCut, AreMoved, AreTablesOf, format_row, HaveHeldRows, held_rows, HoldTransfers, IsDatabaseOf, IsInOrder, IsLedgerDatabase, item_rows, items_in, ListLedger, NamesFormat, NumberedItem, NumberedTransfer, piece_rows, size_of, tag_rows, transfer_row, without_number, without_rowids}
@@ -63,7 +63,7 @@ pub use Rattle.bag_digest.specs.declared.content.Content.{Content}
 pub use Rattle.bag_sqlite.specs.declared.format.Format.{Format}
 pub use Rattle.bag_sqlite.specs.declared.health.Health.{Health}
 pub use Rattle.bag_sqlite.specs.declared.item_queries.HeldFile.{HeldFile}
-pub use Rattle.bag_sqlite.specs.declared.verifying.Finding.TheVariants.{Untested}
+pub use Rattle.bag_ledger.specs.declared.finding.Finding.TheVariants.{Untested}
 pub use Rattle.sqlite.proofs.Callers.{command_of, IsPlain, one_permutation, one_step, reads_as, runs_as, statement_of, survives_begin}
 pub use Rattle.sqlite.proofs.InsideLemmas.{inside_keeps, unchanged_keeps}
 pub use Rattle.sqlite.proofs.StateLemmas.{survives_then}

@@ -5,7 +5,7 @@ use Rattle.std.specs.declared.alloc.Global.{Global}
 use Rattle.bag_digest.specs.Lanes.{HoldsAt}
 use Rattle.bag_digest.specs.declared.algorithm.AlgSet.{AlgSet}
 use Rattle.bag_digest.specs.declared.multi_lanes.MultiLanes.{MultiLanes}
-use Rattle.bag_digest.specs.declared.reading.TheConstants.{PIECE}
+use Rattle.bag_digest.specs.declared.buffers.TheConstants.{PIECE}
 use Rattle.bag_rules.specs.Files.{Files}
 use Rattle.bag_rules.specs.Plans.{IsPlanOf, IsWantOf}
 use Rattle.bag_rules.specs.declared.plan.Plan.{Plan}
@@ -14,7 +14,7 @@ use Rattle.sqlite.specs.Order.{Row, column}
 use Rattle.sqlite.specs.Store.{Ghosts}
 use Rattle.sqlite.specs.declared.types.Value.TheVariants.{Blob, Int, Text}
 use Rattle.bag_sqlite.specs.Adopting.{ItemPasses, RowPasses, TellsOne, piece_text}
-use Rattle.bag_sqlite.specs.ShortItems.{Covers}
+use Rattle.bag_rules.specs.Wants.{CoversWant}
 use Rattle.bag_sqlite.specs.Refusing.{AreFull, ArePieces}
 use Rattle.bag_sqlite.specs.declared.long_item.LongItem.{LongItem}
 use Rattle.bag_sqlite.specs.declared.format.Format.{Format}
@@ -39,7 +39,7 @@ pub record AreItemsOf (plan : Plan) (rows : List Row) (at : ℕ) (items : List L
 -- the algorithms by which their paths are listed are in the set
 abbrev pub AreCoveredBy : AlgSet → List LongItem → Type 0
 AreCoveredBy set items = (k : ℕ) (long : LongItem) → slice_get items k ≡ Some long
-    → Covers set long.want
+    → CoversWant set long.want
 
 -- each is listed in these tag files, and the algorithms by which it is are in the set
 pub record AreListed (tags : Files) (set : AlgSet) (items : List LongItem) : Type 0 where

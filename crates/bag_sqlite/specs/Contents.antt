@@ -25,7 +25,7 @@ pub record HasRead (old new : Option (List ℕ)) (want : Want) (found : Sums)
     (pieces : List (List ℕ)) : Type 0 where
   pub gave : GaveAll old new LARGEST_ITEM (concat pieces)
   pub cut : AreCut pieces
-  pub sums : AreSumsFor want (concat pieces) found.length found.digests
+  pub sums : AreSumsFor want (concat pieces) found
 
 -- a payload file by its parts
 abbrev pub in_pieces : ℤ → List ℕ → List (List ℕ) → NumberedItem

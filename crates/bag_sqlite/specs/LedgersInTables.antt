@@ -2,7 +2,7 @@
 use Rattle.std.specs.Prelude.{◌≡◌, ◌≢◌, ◌<◌, ◌≤◌, ℕ, ℤ, pos, List, [], ◌∷◌, IsPermutation, codes, drop, flat_map, length, map, sum_by, ⊤}
 use Rattle.std.specs.List.{AllByRecursion, concat, enumerate_from}
 use Rattle.std.specs.Map.{keys_of}
-use Rattle.bag_digest.specs.declared.reading.TheConstants.{PIECE}
+use Rattle.bag_digest.specs.declared.buffers.TheConstants.{PIECE}
 use Rattle.bag_rules.specs.Files.{Files}
 use Rattle.bag_rules.specs.Trees.{AreRising}
 use Rattle.sqlite.specs.Effect.{IsDatabase}

@@ -1,7 +1,7 @@
 -- Why a database isn't opened as a ledger: what its queries show that those of a ledger don't.
 use Rattle.std.specs.Prelude.{◌≡◌, ◌≢◌, ◌⊎◌, ◌<◌, ◌≤◌, ◌-◌, ℕ, ℤ, min, pos, List, [], ◌∷◌, Some, IsUtf8, codes, length, slice_get, string_bytes, take}
 use Rattle.std.specs.List.{AllByRecursion, concat}
-use Rattle.bag_digest.specs.declared.reading.TheConstants.{PIECE}
+use Rattle.bag_digest.specs.declared.buffers.TheConstants.{PIECE}
 use Rattle.bag_path.specs.Paths.{IsPath}
 use Rattle.bag_rules.specs.Faults.{Has}
 use Rattle.bag_rules.specs.Files.{AreTagFiles, Files}

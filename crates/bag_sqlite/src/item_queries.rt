@@ -12,9 +12,10 @@ ghost use Rattle.sqlite.specs.Order.{column};
 ghost use Rattle.sqlite.specs.State.{HasCleanDisk};
 ghost use Rattle.sqlite.specs.declared.types.Value.TheVariants.{Blob, Int};
 
+use crate::format::PIECE;
 use crate::queries::query;
 use crate::transfer_queries::transfer_number;
-use bag_digest::PIECE;
+use bag_ledger::copy_piece;
 use sqlite::{Alter, Connection, Error, Row, params};
 
 /// The query for the octets of a piece of a payload file, by their numbers.
@@ -68,7 +69,7 @@ pub(crate) fn read_piece<S: Alter>(
     let Some(piece) = piece_at(connection, item.number, offset)? else {
         return Ok(0);
     };
-    Ok(copy_from(piece.as_slice(), offset % PIECE as u64, buf))
+    Ok(copy_piece(piece.as_slice(), offset % PIECE as u64, buf))
 }
 
 /// The payload file that a transfer holds at this path, if there is one.
@@ -169,18 +170,4 @@ fn first_octets(rows: &[Row]) -> Result<Option<Vec<u8>>, Error>
         Some(row) => Ok(Some(row.get(0)?)),
         None => Ok(None),
     }
-}
-
-/// Copies the octets from `offset` on to the front of the buffer, as many as there are and as fit, and returns the
-/// number.
-fn copy_from(content: &[u8], offset: u64, buf: &mut [u8]) -> usize
-    ensures { IsPieceAt content.now offset result buf.new }
-{
-    if offset >= content.len() as u64 {
-        return 0;
-    }
-    let start = offset as usize;
-    let n = buf.len().min(content.len() - start);
-    buf[..n].copy_from_slice(&content[start..start + n]);
-    n
 }

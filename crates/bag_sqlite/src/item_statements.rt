@@ -6,7 +6,7 @@ ghost use Rattle.bag_sqlite.specs.Transactions.{CommitsNothing};
 ghost use Rattle.sqlite.specs.Held.{state};
 ghost use Rattle.sqlite.specs.State.{HasCleanDisk};
 
-use bag_digest::PIECE;
+use crate::format::PIECE;
 use sqlite::{Alter, Error, Transaction, params};
 
 /// Inserts the row of a payload file with size 0, and returns its number.

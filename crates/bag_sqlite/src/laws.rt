@@ -1,7 +1,7 @@
 //! Laws on the definitions that the contracts of this crate cite. Each function's contract is one law, and its body is
 //! empty.
 ghost use Rattle.std.specs.Prelude.{◌≡◌, ◌≤◌, ◌*◌, ◌↔◌, IsTrue};
-ghost use Rattle.bag_digest.specs.declared.reading.TheConstants.{PIECE};
+ghost use Rattle.bag_digest.specs.declared.buffers.TheConstants.{PIECE};
 ghost use Rattle.bag_ledger.specs.Ledgers.{Ledger};
 ghost use Rattle.bag_sqlite.specs.declared.short_items.TheConstants.{MOST_SHORT};
 ghost use Rattle.bag_sqlite.specs.LedgersInTables.{AreTablesOf, IsLedgerDatabase};

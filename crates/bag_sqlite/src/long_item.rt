@@ -1,15 +1,16 @@
 //! Payload files of more than one piece.
 ghost use Rattle.std.specs.Prelude.{◌≡◌, ◌<◌, ◌≤◌, IfSome};
-ghost use Rattle.bag_digest.specs.declared.reading.TheConstants.{PIECE};
+ghost use Rattle.bag_digest.specs.declared.buffers.TheConstants.{PIECE};
 ghost use Rattle.bag_rules.specs.Files.{Files};
 ghost use Rattle.bag_rules.specs.Plans.{IsPlanOf, IsWantOf};
 ghost use Rattle.bag_rules.specs.declared.limits.TheConstants.{LARGEST_ITEM};
 ghost use Rattle.sqlite.specs.Order.{column};
 ghost use Rattle.sqlite.specs.declared.types.Value.TheVariants.{Text};
 
+use crate::format::PIECE;
 use crate::transfer_queries::path_in;
 use crate::verifying::size_in;
-use bag_digest::{Alg, PIECE};
+use bag_digest::Alg;
 use bag_rules::{Plan, Want};
 use sqlite::Row;
 use std::alloc::Global;
@@ -29,7 +30,7 @@ pub(crate) struct LongItem<'a> {
 
 impl<'a> LongItem<'a> {
     ghost use Rattle.std.specs.Prelude.{◌≡◌, ◌*◌, ◌≤◌, IfSome, IsTrue, false};
-    ghost use Rattle.bag_digest.specs.declared.reading.TheConstants.{PIECE};
+    ghost use Rattle.bag_digest.specs.declared.buffers.TheConstants.{PIECE};
     ghost use Rattle.bag_rules.specs.declared.limits.TheConstants.{LARGEST_ITEM};
     ghost use Rattle.bag_sqlite.specs.Beside.{GoesOn, IsItemOf};
 

@@ -16,9 +16,9 @@ ghost use Rattle.sqlite.specs.State.{HasCleanDisk, Survives};
 ghost use Rattle.sqlite.specs.Values.{IsInt};
 ghost use Rattle.sqlite.specs.declared.types.Value.TheVariants.{Blob};
 
+use crate::format::{ITEM_BODY, PIECE};
 use crate::item_statements::{insert_item, insert_piece, set_size};
 use crate::new_tables::make_item_tables;
-use bag_digest::PIECE;
 use sqlite::types::ValueRef;
 use sqlite::{Alter, Connection, Error, ErrorCode, Row, Transaction, params};
 
@@ -77,7 +77,7 @@ fn move_item<S: Alter>(
         → IsTrue (state S.Store tx.new.conn.now).in_transaction) }
     ensures kept { CommitsNothingWithin S.Store tx.old.conn tx.new.conn }
 {
-    let rows = tx.query_all("SELECT body FROM item WHERE rowid = ?1", params![item])?;
+    let rows = tx.query_all(ITEM_BODY, params![item])?;
     match first_body(rows.as_slice()) {
         Some(body) => store_content(tx, transfer, path, body),
         None => Err(Error::SqliteFailure(ErrorCode::DatabaseCorrupt)),

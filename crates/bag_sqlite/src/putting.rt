@@ -1,7 +1,7 @@
 //! Stores a payload file: its content is read, hashed and written piece by piece.
 ghost use Rattle.std.specs.Prelude.{◌≡◌, List, [], ℕ, false, length, IsErrOf, IsTrue, MatchResult, OnOk};
 ghost use Rattle.bag_digest.specs.Failures.{UsesSource};
-ghost use Rattle.bag_digest.specs.declared.reading.TheConstants.{PIECE};
+ghost use Rattle.bag_digest.specs.declared.buffers.TheConstants.{PIECE};
 ghost use Rattle.bag_ledger.specs.Keeping.{IsGiven, Puts, RefusesGiven, given_by};
 ghost use Rattle.bag_ledger.specs.declared.keeper_faults.KeepFault.{KeepFault};
 ghost use Rattle.bag_sqlite.specs.Contents.{HasContentMore, HasRead, answer_of, in_pieces, put_fault_of};
@@ -126,7 +126,7 @@ fn put_item<S: Alter, R: Source>(
 {
     let item = insert_item(tx, transfer, want.path().as_str())?;
     let sums = put_pieces(tx, item, want, buffer, reader)?;
-    want.test(sums.length, &sums.digests)?;
+    want.test(&sums)?;
     set_size(tx, item, sums.length)?;
     Ok(())
 }

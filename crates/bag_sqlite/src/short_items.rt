@@ -1,6 +1,6 @@
 //! Payload files that are read one after another, so that their digests can be taken side by side.
 ghost use Rattle.std.specs.Prelude.{◌≡◌, ◌<◌, ◌≤◌, ◌++◌, ◌∷◌, [], All, IfOk, MatchOption, OnOk, false, length, string_bytes};
-ghost use Rattle.bag_digest.specs.declared.reading.TheConstants.{PIECE};
+ghost use Rattle.bag_digest.specs.declared.buffers.TheConstants.{PIECE};
 ghost use Rattle.bag_sqlite.specs.declared.short_items.TheConstants.{MOST_SHORT};
 
 use bag_digest::{AlgSet, ShortContents};
@@ -61,7 +61,7 @@ impl<'a> ShortItems<'a> {
         for i in 0..wants.len() {
             let want = wants[i];
             let sums = each[i];
-            match want.test(sums.length, &sums.digests) {
+            match want.test(&sums) {
                 Ok(()) => {}
                 Err(_) => return Ok(Some(String::from_str(alloc, want.path().as_str())?)),
             }

@@ -6,7 +6,8 @@ ghost use Rattle.bag_rules.specs.Plans.{IsPlanOf};
 ghost use Rattle.bag_rules.specs.declared.limits.TheConstants.{LARGEST_ITEM as LARGEST};
 ghost use Rattle.bag_sqlite.specs.Adopting.{HasContent, HasPieces, OnlyReads, RowPasses, SaysOf, Tells, TellsOne, TransferPasses, TransfersPass, body_text, count_text, files_in, items_text, piece_text, tag_files_text, transfers_text};
 ghost use Rattle.bag_digest.specs.ShortContents.{IsHeld, TakesAlso, Took};
-ghost use Rattle.bag_sqlite.specs.ShortItems.{HoldsLittle, IsFindingOf};
+ghost use Rattle.bag_ledger.specs.Findings.{HoldsLittle};
+ghost use Rattle.bag_sqlite.specs.ShortItems.{FindsItem};
 ghost use Rattle.bag_sqlite.specs.declared.format.Format.{Format};
 ghost use Rattle.bag_sqlite.specs.Refusing.{AreTags, DoNotOpen, HasDamagedItem, HasMorePieces, IsBlob, IsNoLedger, IsNoneFor, IsSize, LacksBody, LacksContent, LacksPiece, OpensNone, RefusesTransfer, RefusesTransfers, ShowsOctets, adopt_fault};
 ghost use Rattle.sqlite.specs.Order.{column, Row};
@@ -14,15 +15,16 @@ ghost use Rattle.sqlite.specs.declared.error.Error.{Error as SqlError};
 ghost use Rattle.sqlite.specs.declared.types.Value.TheVariants.{Blob, Int};
 
 use crate::adopting::{AdoptFault, rows_of};
-use crate::format::Format;
+use crate::format::{Format, ITEM_BODY, PIECE};
 use crate::item_queries::PIECE_BODY;
 use crate::short_items::ShortItems;
 use crate::transfer_queries::{TAG_FILES, path_in, tag_set_in};
 use crate::verifying_beside::{LANES, valid_beside};
 use crate::watch::Watch;
-use bag_digest::{AlgSet, Content, PIECE};
+use bag_digest::{AlgSet, Content};
+use bag_ledger::Finding;
 use bag_rules::limits::LARGEST_ITEM;
-use bag_rules::{Plan, PlanFault, Want};
+use bag_rules::{Plan, PlanFault};
 use sqlite::types::ValueRef;
 use sqlite::{Alter, Connection, Error, ErrorCode, Row, params};
 use std::alloc::Global;
@@ -253,17 +255,6 @@ fn damaged_in<S: Alter, W: Watch>(
     Ok(batch.first_damaged(alloc)?)
 }
 
-/// What is known of a payload file that was read.
-#[derive(Drop)]
-enum Finding<'a> {
-    /// It is listed and complete, and has the wanted content.
-    Valid,
-    /// It isn't so.
-    Damaged,
-    /// It is listed and complete, and this is its content, which has to be the one that is wanted.
-    Untested(Want<'a>, Vec<u8>),
-}
-
 /// Reads a payload file. A content of at most one piece isn't tested.
 fn read_item<'a, S: Alter, W: Watch>(
     alloc: Global,
@@ -278,7 +269,7 @@ fn read_item<'a, S: Alter, W: Watch>(
     requires idle { connection.old.in_transaction ≡ false }
     ensures found { SaysOf S.Store connection.old connection.new (λ db.
         (tags : Files) → IsPlanOf tags plan.now
-        → MatchResult result (IsFindingOf S.Store db format tags item path.now size)
+        → MatchResult result (FindsItem S.Store db format tags item path.now size)
         (IsNoneFor (IsNoLedger S.Store db format))) }
     ensures little { IfOk result HoldsLittle }
     ensures reads { OnlyReads S.Store connection.old connection.new }
@@ -292,16 +283,9 @@ fn read_item<'a, S: Alter, W: Watch>(
     let Some(size) = size_in(size) else {
         return Ok(Finding::Damaged);
     };
-    let Some(content) = content_of(alloc, connection, watch, format, item, size, want.algs())?
-    else {
-        return Ok(Finding::Damaged);
-    };
-    match content {
-        Content::Whole(octets) => Ok(Finding::Untested(want, octets)),
-        Content::Hashed(multi) => match want.test(size, &multi.finish()) {
-            Ok(()) => Ok(Finding::Valid),
-            Err(_) => Ok(Finding::Damaged),
-        },
+    match content_of(alloc, connection, watch, format, item, size, want.algs())? {
+        Some(content) => Ok(Finding::of(want, size, content)),
+        None => Ok(Finding::Damaged),
     }
 }
 
@@ -363,11 +347,7 @@ fn whole_content<S: Alter, W: Watch>(
         (IsNoneFor (IsNoLedger S.Store db Format.First))) }
     ensures reads { OnlyReads S.Store connection.old connection.new }
 {
-    let rows = rows_of(
-        connection,
-        "SELECT body FROM item WHERE rowid = ?1",
-        params![item],
-    )?;
+    let rows = rows_of(connection, ITEM_BODY, params![item])?;
     if rows.len() != 1 {
         return Ok(None);
     }

@@ -8,12 +8,12 @@ ghost use Rattle.std.specs.Prelude.{◌≡◌, ◌*◌, ◌+◌, ◌<◌, ◌≤
 ghost use Rattle.std.specs.declared.alloc.Global.{Global};
 ghost use Rattle.bag_digest.specs.Lanes.{OtherLanesStay};
 ghost use Rattle.bag_digest.specs.declared.algorithm.AlgSet.{AlgSet};
-ghost use Rattle.bag_digest.specs.declared.reading.TheConstants.{PIECE};
+ghost use Rattle.bag_digest.specs.declared.buffers.TheConstants.{PIECE};
 ghost use Rattle.bag_rules.specs.Files.{Files};
 ghost use Rattle.bag_rules.specs.Plans.{IsPlanOf, IsWantOf};
 ghost use Rattle.bag_rules.specs.declared.limits.TheConstants.{LARGEST_ITEM as LARGEST};
 ghost use Rattle.bag_sqlite.specs.Adopting.{OnlyReads, SaysOf, TellsOne, piece_text};
-ghost use Rattle.bag_sqlite.specs.ShortItems.{Covers};
+ghost use Rattle.bag_rules.specs.Wants.{CoversWant};
 ghost use Rattle.bag_sqlite.specs.Beside.{AreCoveredBy, AreDone, AreHashed, AreItemsOf, AreListed, ArePassing, AreRead, AreValid, GoesOn, HaveFullPieces, HaveTaken, HoldsPieces, IsFirstOpen, IsPiece, IsRead, IsValid};
 ghost use Rattle.bag_sqlite.specs.Refusing.{IsNoLedger, IsNoneFor};
 ghost use Rattle.bag_sqlite.specs.declared.long_item.LongItem.{LongItem};
@@ -21,11 +21,11 @@ ghost use Rattle.bag_sqlite.specs.declared.format.Format.{Format};
 ghost use Rattle.sqlite.specs.declared.types.Value.TheVariants.{Blob, Int};
 
 use crate::adopting::AdoptFault;
-use crate::format::Format;
+use crate::format::{Format, PIECE};
 use crate::long_item::LongItem;
 use crate::verifying::{count_of, take_piece};
 use crate::watch::Watch;
-use bag_digest::{AlgSet, Content, MultiLanes, PIECE};
+use bag_digest::{AlgSet, Content, MultiLanes, Sums};
 use bag_rules::Plan;
 use sqlite::{Alter, Connection, Row};
 use std::alloc::{AllocError, Global};
@@ -103,7 +103,7 @@ fn algs_of(items: &[LongItem<'_>]) -> AlgSet
 }
 
 /// How many of these payload files, from the first on, are valid: up to the first one that isn't. None if there is only
-/// one, which is not read.
+/// one, which isn't read.
 fn count_valid<S: Alter, W: Watch>(
     alloc: Global,
     connection: &mut Connection<S>,
@@ -266,7 +266,7 @@ fn piece_of<'a>(
 }
 
 /// Reads the next piece of each payload file before the front that goes on after `n` pieces, in their order. The first
-/// one that isn't valid, or that can't be read, is the new front: those behind it are not read on.
+/// one that isn't valid, or that can't be read, is the new front: those behind it aren't read on.
 fn advance_each<S: Alter, W: Watch>(
     alloc: Global,
     connection: &mut Connection<S>,
@@ -322,7 +322,7 @@ fn advance<S: Alter, W: Watch>(
     ensures read { SaysOf S.Store connection.old connection.new (λ db.
         MatchResult result
         (λ piece. (tags : Files) (set : AlgSet) → IsWantOf tags long.now.want.path.now long.now.want
-        → Covers set long.now.want → HoldsPieces S.Store db multi.old set i long.now.item n
+        → CoversWant set long.now.want → HoldsPieces S.Store db multi.old set i long.now.item n
         → IfSome piece (λ piece. IsRead S.Store db tags multi.new set i n piece.items long.now))
         (IsNoneFor (IsNoLedger S.Store db Format.Second))) }
     ensures full { IfOk result (λ piece. IfSome piece (λ piece. GoesOn long.now (n + 1)
@@ -390,17 +390,20 @@ fn end_item<S: Alter>(
     ensures valid { SaysOf S.Store connection.old connection.new (λ db.
         MatchResult result
         (λ valid. (tags : Files) (set : AlgSet) → IsWantOf tags long.now.want.path.now long.now.want
-        → Covers set long.now.want → HoldsPieces S.Store db multi.old set i long.now.item n
+        → CoversWant set long.now.want → HoldsPieces S.Store db multi.old set i long.now.item n
         → IsPiece S.Store db long.now.item n rest.now → IsTrue valid
         → IsValid S.Store db tags long.now)
         (IsNoneFor (IsNoLedger S.Store db Format.Second))) }
     ensures others { OtherLanesStay i multi.old multi.new }
     ensures reads { OnlyReads S.Store connection.old connection.new }
 {
-    let digests = multi.finish(i, rest);
+    let sums = Sums {
+        length: long.size,
+        digests: multi.finish(i, rest),
+    };
     let pieces = n + 1;
     if count_of(connection, long.item)? != pieces as i64 {
         return Ok(false);
     }
-    Ok(long.want.test(long.size, &digests).is_ok())
+    Ok(long.want.test(&sums).is_ok())
 }

@@ -13,7 +13,7 @@ use Rattle.bag_writer.specs.Pending.{AddsCopy, CanBegin, CanCopy, IsBeginFault, 
 use Rattle.bag_writer.specs.PayloadSteps.{IsFoundOf}
 use Rattle.bag_writer.specs.declared.payload_beside.NotBegun.{NotBegun}
 use Rattle.bag_writer.specs.declared.payload_beside.NotBegun.TheVariants.{Memory, Stopped, Unopened}
-use Rattle.bag_digest.specs.declared.streams.TheConstants.{FRONT}
+use Rattle.bag_digest.specs.declared.buffers.TheConstants.{FRONT}
 use Rattle.bag_writer.specs.Sinks.{Stored}
 use Rattle.bag_writer.specs.declared.copying.Copying.{Copying}
 use Rattle.bag_writer.specs.declared.payload.CopyFault.TheVariants.{Sink, TooLarge, Tree}

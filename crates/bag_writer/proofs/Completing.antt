@@ -17,7 +17,7 @@ use Rattle.bag_writer.specs.Sinks.{Stored}
 use Rattle.bag_writer.specs.Steps.{ArePart, AreWhole}
 use Rattle.bag_writer.specs.declared.copying.Copying.{Copying}
 use Rattle.bag_writer.specs.declared.copying.CopyStop.{CopyStop}
-use Rattle.bag_digest.specs.declared.streams.TheConstants.{FRONT}
+use Rattle.bag_digest.specs.declared.buffers.TheConstants.{FRONT}
 use Rattle.bag_writer.specs.declared.payload.CopyFault.{CopyFault}
 use Rattle.bag_writer.specs.declared.payload.CopyFault.TheVariants.{Sink, TooLarge, Tree}
 use Rattle.bag_writer.proofs.CopyLemmas.{places_on, stands}

@@ -16,6 +16,17 @@ pub by_none : {X : Type 0} (o : Option X) (P : Type 0) (Q : X → Type 0) → Ma
 by_none None P Q is none = is
 by_none (Some x) P Q is none = absurd (let e : true ≡ false = none in cc)
 
+-- the only one that hasn't ended
+pub lone : {F G : Type 0} (copies : List (Copying F G)) (first end next k : ℕ) (copy : Copying F G) → IsFirstOpen copies first end next → AreDone copies (next + 1) end → first ≤ k → k < end
+    → slice_get copies k ≡ Some copy → copy.found ≡ None → k ≡ next
+lone copies first end next k copy is done from to at none = elim (cases_lt k next) [
+  | inl below ↦ absurd (is.before k copy from below at none)
+  | inr above ↦ elim (cases_lt next k) [
+    | inl past ↦ absurd (done k copy (omega (arith, past)) to at none)
+    | inr same ↦ omega (arith, above, same)
+  ]
+]
+
 module _ {F G : Type 0} (s : Sides F G) (work : Work) (set : AlgSet) where
   done_by : (copy : Copying F G) (found : Option SourceRead) → found ≢ None → IsFreshBy s work set copy found → HasEnded s work set copy
   done_by copy None not fresh = absurd (not refl)

@@ -12,7 +12,7 @@ use Rattle.bag_digest.specs.declared.multi.Digests.{Digests}
 use Rattle.bag_digest.specs.declared.reading.SourceRead.{SourceRead}
 use Rattle.bag_digest.specs.declared.reading.SourceRead.TheVariants.{Hashed}
 use Rattle.bag_digest.specs.Hash.{AreDigests}
-use Rattle.bag_digest.specs.declared.streams.TheConstants.{FRONT}
+use Rattle.bag_digest.specs.declared.buffers.TheConstants.{FRONT}
 use Rattle.bag_rules.specs.declared.limits.TheConstants.{LARGEST_FILE}
 use Rattle.bag_writer.specs.Copying.{AreDone, AreEnded, CopiesPiece, AreFresh, AreFull, AreHashed, AreUnder, HasEnded, HaveTaken, IsCopiedTo, IsFresh, IsFreshBy, IsGoing, IsStopped, IsUnder, IsUnderBy, KeepPlaces, OthersStay, Sides, Work}
 use Rattle.bag_writer.specs.PayloadSteps.{IsFoundOf}

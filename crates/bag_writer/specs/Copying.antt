@@ -5,7 +5,7 @@ use Rattle.bag_digest.specs.declared.algorithm.AlgSet.{AlgSet}
 use Rattle.bag_digest.specs.declared.multi_lanes.MultiLanes.{MultiLanes}
 use Rattle.bag_digest.specs.declared.reading.SourceRead.{SourceRead}
 use Rattle.bag_digest.specs.declared.source.Source.{Ghosts as SourceOf}
-use Rattle.bag_digest.specs.declared.streams.TheConstants.{FRONT}
+use Rattle.bag_digest.specs.declared.buffers.TheConstants.{FRONT}
 use Rattle.bag_digest.specs.Lanes.{HoldsAt}
 use Rattle.bag_rules.specs.Trees.{Shown, octets_in, paths_in}
 use Rattle.bag_rules.specs.declared.limits.TheConstants.{LARGEST_FILE}

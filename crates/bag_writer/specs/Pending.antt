@@ -11,7 +11,7 @@ use Rattle.bag_writer.specs.declared.payload_beside.NotBegun.{NotBegun}
 use Rattle.bag_writer.specs.declared.payload_beside.NotBegun.TheVariants.{Memory, Stopped, Unopened}
 use Rattle.bag_writer.specs.declared.copying.Copying.{Copying}
 use Rattle.bag_writer.specs.declared.copying.CopyStop.{CopyStop}
-use Rattle.bag_digest.specs.declared.streams.TheConstants.{FRONT}
+use Rattle.bag_digest.specs.declared.buffers.TheConstants.{FRONT}
 use Rattle.bag_writer.specs.declared.payload.CopyFault.TheVariants.{Sink}
 
 abbrev pub work_of : Shown → Bool → Bool → Work

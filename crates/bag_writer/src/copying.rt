@@ -2,7 +2,7 @@
 ghost use Rattle.std.specs.Prelude.{◌≡◌, ◌+◌, ◌<◌, ◌≤◌, ℕ, List, [], Err, IfErr, IfOk, IsOk, None, MatchOption, MatchResult, Some, length, slice_get};
 ghost use Rattle.bag_digest.specs.Lanes.{OtherLanesStay};
 ghost use Rattle.bag_digest.specs.declared.algorithm.AlgSet.{AlgSet};
-ghost use Rattle.bag_digest.specs.declared.streams.TheConstants.{FRONT};
+ghost use Rattle.bag_digest.specs.declared.buffers.TheConstants.{FRONT};
 ghost use Rattle.bag_rules.specs.declared.limits.TheConstants.{LARGEST_FILE};
 ghost use Rattle.bag_writer.specs.Copying.{AreDone, AreEnded, AreFew, AreFresh, AreFull, AreHashed, AreUnder, CopiesPiece, CopiesThem, HasEnded, HaveStoppedAt, HaveTaken, IsCopiedTo, IsFirstOpen, IsFirstStopped, IsStopped, IsUnder, KeepPlaces, KeepsRest, Work, sides};
 ghost use Rattle.bag_writer.specs.declared.copying.Copying.{Copying};
@@ -41,7 +41,7 @@ pub(crate) struct CopyStop {
 /// # Errors
 ///
 /// The first file, in their order, that stopped. Those before it were copied to their ends. Those behind it are given
-/// up: they may have failed too, and that is not told.
+/// up: they may have failed too, and that isn't told.
 pub(crate) fn copy_each<F: OpenFile, G: SinkFile>(
     set: AlgSet,
     copies: &mut [Copying<F, G>],
@@ -194,12 +194,16 @@ fn take_pieces<F, G>(
     requires first { IsFirstOpen copies.now first end next }
     ensures { HaveTaken copies.now first end multi.old multi.new }
 {
-    multi.take(&[
-        piece_of(copies, first, end, next),
-        piece_of(copies, first + 1, end, next),
-        piece_of(copies, first + 2, end, next),
-        piece_of(copies, first + 3, end, next),
-    ]);
+    if next_open(copies, next + 1, end).is_some() {
+        multi.take(&[
+            piece_of(copies, first, end, next),
+            piece_of(copies, first + 1, end, next),
+            piece_of(copies, first + 2, end, next),
+            piece_of(copies, first + 3, end, next),
+        ]);
+    } else {
+        multi.take_alone(next - first, copies[next].piece.as_slice());
+    }
 }
 
 /// The piece of the file at the place `k` if it hasn't ended, or else that of the file at the place `next`.
@@ -292,7 +296,7 @@ fn advance<F: OpenFile, G: SinkFile>(
 }
 
 /// Reads the next piece of a file into the buffer, after as many octets as were copied, and writes it to the copy.
-/// Answers how many octets it has: less than the buffer if the file ends with them.
+/// Returns how many octets it has: less than the buffer if the file ends with them.
 pub(crate) fn copy_piece<F: OpenFile, G: SinkFile>(
     buffer: &mut [u8],
     source: &mut F,

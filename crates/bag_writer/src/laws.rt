@@ -19,7 +19,7 @@ ghost use Rattle.bag_writer.specs.FilledBags.{IsFilled, IsPayloadFor};
 ghost use Rattle.bag_writer.specs.WrittenBags.{IsWritten, manifest_of, tag_files};
 ghost use Rattle.bag_writer.specs.Writing.{empty_files};
 ghost use Rattle.bag_writer.specs.declared.payload_beside.TheConstants.{MOST_COPIED};
-ghost use Rattle.bag_digest.specs.declared.streams.TheConstants.{FRONT};
+ghost use Rattle.bag_digest.specs.declared.buffers.TheConstants.{FRONT};
 ghost use Rattle.bag_writer.specs.declared.items.TheConstants.{MOST_HELD};
 ghost use Rattle.bag_writer.specs.declared.spec.Spec.{Spec};
 

@@ -3,7 +3,7 @@ ghost use Rattle.std.specs.Prelude.{◌≡◌, length};
 ghost use Rattle.bag_rules.specs.Trees.{paths_in};
 ghost use Rattle.bag_writer.specs.PayloadSteps.{WritesPayload};
 ghost use Rattle.bag_writer.specs.Steps.{AreHoleMarks};
-ghost use Rattle.bag_digest.specs.declared.streams.TheConstants.{FRONT};
+ghost use Rattle.bag_digest.specs.declared.buffers.TheConstants.{FRONT};
 
 use crate::item::Item;
 use crate::open_sink::{CopiedTree, OpenSink};
@@ -26,7 +26,7 @@ pub(crate) enum CopyFault {
 }
 
 /// Reads the payload files by path, writes each that isn't a hole, and returns what manifests need to know about each.
-/// Several are read and written side by side, unless there is a hole, or a digest by SHA-512, which is not taken side
+/// Several are read and written side by side, unless there is a hole, or a digest by SHA-512, which isn't taken side
 /// by side.
 ///
 /// # Errors

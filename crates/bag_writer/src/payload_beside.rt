@@ -14,7 +14,7 @@ ghost use Rattle.bag_writer.specs.Returned.{LeavesCopies};
 ghost use Rattle.bag_writer.specs.SideBySide.{BeginsNext, Completes, Finishes, Stops, StopsBegun, devices};
 ghost use Rattle.bag_writer.specs.PayloadSteps.{WritesPayload};
 ghost use Rattle.bag_writer.specs.Steps.{AreWhole};
-ghost use Rattle.bag_digest.specs.declared.streams.TheConstants.{FRONT};
+ghost use Rattle.bag_digest.specs.declared.buffers.TheConstants.{FRONT};
 ghost use Rattle.bag_writer.specs.declared.payload.CopyFault.{CopyFault};
 ghost use Rattle.bag_writer.specs.declared.write_fault.WriteFault.{WriteFault};
 
@@ -185,7 +185,7 @@ fn begin_copy<T: CopiedTree, S: OpenSink>(
     }
 }
 
-/// Copies the first octets of a file, and answers how many: less than the buffer has room for if the file ends with
+/// Copies the first octets of a file, and returns how many: less than the buffer has room for if the file ends with
 /// them. That its copy couldn't be begun is told before anything is read.
 fn copy_front<F: OpenFile, G: SinkFile>(
     buffer: &mut [u8],
@@ -281,7 +281,7 @@ fn finish<T: CopiedTree, S: OpenSink>(
     }
 }
 
-/// Takes all back where the next file wasn't begun, and answers what is told.
+/// Takes all back where the next file wasn't begun, and returns what is told.
 fn stop_begun<T: CopiedTree, S: OpenSink>(
     tree: &mut T,
     sink: &mut S,
@@ -309,7 +309,7 @@ fn stop_begun<T: CopiedTree, S: OpenSink>(
 }
 
 /// Copies files to their ends and ends their copies, since what stops one of them comes before what stops the next
-/// file, and takes all back. Answers what is told.
+/// file, and takes all back. Returns what is told.
 fn stop<T: CopiedTree, S: OpenSink>(
     tree: &mut T,
     sink: &mut S,
@@ -471,7 +471,7 @@ fn add_item<T: Paths, F: OpenFile, G>(
     ensures err { IfErr result (λ fault. fault ≡ WriteFault.Memory) }
 {
     let Some(found) = copy.found else {
-        return Err(WriteFault::Memory);
+        unreachable!();
     };
     let path = tree.path(copy.source.place()).clone()?;
     items.add(alloc, path, found, copy.piece.as_slice())

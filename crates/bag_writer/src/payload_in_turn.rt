@@ -9,7 +9,7 @@ ghost use Rattle.bag_writer.specs.Steps.{AreHoleMarks, ArePart, AreWhole};
 ghost use Rattle.bag_writer.specs.Writing.{IsMetLater};
 ghost use Rattle.bag_writer.specs.declared.write_fault.Large.{Large};
 ghost use Rattle.bag_writer.specs.declared.write_fault.WriteFault.{WriteFault};
-ghost use Rattle.bag_digest.specs.declared.streams.TheConstants.{FRONT};
+ghost use Rattle.bag_digest.specs.declared.buffers.TheConstants.{FRONT};
 ghost use Rattle.bag_writer.specs.declared.payload.CopyFault.{CopyFault};
 
 use crate::item::Item;

@@ -34,7 +34,7 @@ pub(crate) fn close_all<T: CopiedTree, S: OpenSink>(
     }
 }
 
-/// Takes back all files and copies, of which this is the first that stopped, and answers how that is told: those behind
+/// Takes back all files and copies, of which this is the first that stopped, and returns how that is told: those behind
 /// it are given up.
 pub(crate) fn stopped_at<T: CopiedTree, S: OpenSink>(
     tree: &mut T,
@@ -125,7 +125,7 @@ pub(crate) fn give_up_file<T: CopiedTree, G: SinkFile>(
     }
 }
 
-/// Takes back a file that has stopped, and its copy, and answers how that is told: `Tree`, `Sink`, `TooLarge` with its
+/// Takes back a file that has stopped, and its copy, and returns how that is told: `Tree`, `Sink`, `TooLarge` with its
 /// path, or `Memory` if there is none for the path.
 pub(crate) fn told<T: CopiedTree, S: OpenSink>(
     tree: &mut T,

@@ -10,7 +10,7 @@ ghost use Rattle.bag_writer.specs.TagWriting.{AddsItems, WritesFiles};
 use crate::item::Item;
 use crate::sink::{Sink, add_file};
 use crate::write_fault::{Large, WriteFault};
-use bag_digest::{Alg, AlgSet, Multi, Sums};
+use bag_digest::{Alg, AlgSet, Sums};
 use bag_path::{BagPath, PathFault};
 use bag_rules::limits::LARGEST_TAG_FILE;
 use bag_tags::{Kind, ManifestName};
@@ -46,7 +46,7 @@ pub(crate) fn write_listed<S: Sink>(
 /// # Errors
 ///
 /// `Sink` if the sink failed; `TooLarge` if the file has more than 16,777,216 octets, or `Memory` if memory runs out
-/// for its path then. It is not begun in these cases.
+/// for its path then. It isn't begun in these cases.
 pub(crate) fn write_whole<S: Sink>(
     path: &BagPath,
     octets: &[u8],
@@ -68,12 +68,7 @@ pub(crate) fn write_whole<S: Sink>(
 fn item_of(path: BagPath, octets: &[u8], set: AlgSet) -> Item
     ensures { IsItemOf set result path octets.now }
 {
-    let mut hashers = Multi::new(set);
-    hashers.update(octets);
-    let sums = Sums {
-        length: octets.len() as u64,
-        digests: hashers.finish(),
-    };
+    let sums = Sums::of(octets, set);
     Item { path, sums }
 }
 

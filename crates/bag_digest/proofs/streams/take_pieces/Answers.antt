@@ -4,7 +4,7 @@ use Rattle.bag_lanes.specs.Streams.{piece_at}
 use Rattle.bag_lanes.proofs.LaneTasks.{message_at_read}
 use Rattle.bag_lanes.proofs.Vectors.{each_lane}
 use Rattle.bag_digest.specs.declared.streams.Stream.{Stream}
-use Rattle.bag_digest.specs.declared.streams.TheConstants.{FRONT}
+use Rattle.bag_digest.specs.declared.buffers.TheConstants.{FRONT}
 use Rattle.bag_digest.specs.Lanes.{HoldsAt}
 use Rattle.bag_digest.specs.Streams.{AreDone}
 use Rattle.bag_digest.proofs.StreamLemmas.{by_none, lone, piece_full, piece_is}

@@ -11,7 +11,7 @@ pub returns-then-is_ok : goal.returns-then-is_ok
 returns-then-is_ok c = λ set octets are lists.
     let want = c.args.want.now in
     let sums = c.args.sums.now in
-    let fits : Fits want sums.length sums.digests = when_ok c.test.result _ (search rules) c.test.ensures.fits in
+    let fits : Fits want sums = when_ok c.test.result _ (search rules) c.test.ensures.fits in
     fits_unlisted c.args.version want octets sums set are lists _ _ fits c.in_ok-add_unlisted.ensures
 
 pub returns : goal.returns

@@ -1,4 +1,4 @@
-use Rattle.std.proofs.Common.{◌≡◌, ◌∙◌, [], Some, true, ap, sym, subst}
+use Rattle.std.proofs.Common.{◌≡◌, ◌∙◌, Some, true, ap, sym, subst}
 use Rattle.bag_rules.proofs.Words.{AreDigests, digest_in, Has, hash, IsOtherDigest, IsWrongIn, Listing, lists_path, OfSome, on_ok_weaker, same_Some}
 use Rattle.bag_rules.proofs.AddsLemmas.{adds_so}
 use Rattle.bag_rules.proofs.FileFaultLemmas.{taken}
@@ -11,8 +11,8 @@ returns c =
     let octets = c.args.file.now.body.items in
     let listings = c.args.manifests.now in
     let own_path : c.path.result.now ≡ path = c.path.ensures in
-    let digests = c.finish.result in
-    let are : AreDigests digests c.algs.result octets = subst (AreDigests digests c.algs.result) c.body.ensures (c.finish.ensures c.algs.result _ (c.update.ensures c.algs.result [] c.new-multi.ensures)) in
+    let digests = c.of-sums.result.digests in
+    let are : AreDigests digests c.algs.result octets = subst (AreDigests digests c.algs.result) c.body.ensures c.of-sums.ensures.1 in
     let own : (listing : Listing) → Has listings listing → lists_path listing.pairs path ≡ true → digest_in digests listing.alg ≡ Some (hash listing.alg octets) =
     λ listing has listed. taken digests c.algs.result listings listing path octets are (λ alg lists. c.algs.ensures alg ∙ rw own_path lists) has listed in
     on_ok_weaker c.add_other_digests.result

@@ -40,9 +40,9 @@ returns-clause-piece g c clean ledger holds =
     let still = still_shows old mid ledger left c.requires is_open shows in
     let item = rw c.in-Some.is at (c.in_ok-item.ensures.item early ledger holds o shows) in
     let row = rw (c.in-Some-2.is, to_z-of_z w64 c.in-Some.item.number fits) at (c.in_ok-piece.ensures.piece clean ledger o still) in
-    piece_held old.now.trees ledger shows.database.tables.held c.args.name.now c.args.path.now c.in-Some.item.number c.in-Some.item.size c.args.offset c.copy_from.new.buf item c.in-Some-2.piece.items c.copy_from.result
+    piece_held old.now.trees ledger shows.database.tables.held c.args.name.now c.args.path.now c.in-Some.item.number c.in-Some.item.size c.args.offset c.copy_piece.new.buf item c.in-Some-2.piece.items c.copy_piece.result
     (subst (λ (d : Database). HasPieceRow o d.trees c.in-Some.item.number (c.args.offset / PIECE) c.in-Some-2.piece.items) same row)
-    (subst (λ octets. IsPieceAt octets (c.args.offset % PIECE) c.copy_from.result c.copy_from.new.buf) c.as_slice.ensures.value c.copy_from.ensures)
+    (subst (λ octets. IsPieceAt octets (c.args.offset % PIECE) c.copy_piece.result c.copy_piece.new.buf) c.as_slice.ensures.value c.copy_piece.ensures)
 
 pub returns-in_err-piece-clause-queries : goal.returns-in_err-piece-clause-queries
 returns-in_err-piece-clause-queries g c = queries_then c.item_of.ensures.queries c.piece_at.ensures.queries

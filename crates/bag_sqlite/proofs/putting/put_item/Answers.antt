@@ -37,7 +37,7 @@ returns-clause-put g c =
       λ clean o.
           let late : HasCleanDisk third = omega (arith, clean, c.set_size.ensures.kept.survives.clean) in
           let early : HasCleanDisk second = omega (arith, late, c.put_pieces.ensures.kept.survives.clean) in
-          content_then first second third last item c.args.transfer c.args.want.now.path.now it.0 c.in_ok-sums.sums.length it.1.cut it.1.sums.length_is
+          content_then first second third last item c.args.transfer c.args.want.now.path.now it.0 c.in_ok-sums.sums.length it.1.cut it.1.sums.are_sums.0
           (rw (to_z-of_z w64 c.args.transfer c.ranges.transfer, c.as_str.ensures.text, c.path.ensures) at (c.in_ok-item.ensures.added early o)) (rw same at (it.2 late o))
           (rw same at (c.in_ok-set_size.ensures.set clean o)),
     )

@@ -1,6 +1,6 @@
 use Rattle.std.proofs.Common.{◌≡◌, ◌∙◌, Ok, arith, w64, inl, inr}
-use Rattle.bag_sqlite.proofs.Words.{AreSumsFor, err_from_is_err_and, IsWantOf, to_z-of_z}
-use Rattle.bag_sqlite.proofs.BatchLemmas.{known_by, misfit_other}
+use Rattle.bag_sqlite.proofs.Words.{err_from_is_err_and, IsWantOf, to_z-of_z}
+use Rattle.bag_sqlite.proofs.BatchLemmas.{found_item, known_by}
 use Rattle.bag_sqlite.proofs.RefusingLemmas.{bad_path, path_error}
 use Rattle.bag_sqlite.proofs.verifying.read_item.Goals as goal
 
@@ -20,48 +20,22 @@ returns-in_err-content-clause-found g c clean db stands tags plan =
     let p = err_from_is_err_and c.from_residual-in_err-content.result c.from_residual-in_err-content.ensures.1 in
     rw (p.1, p.2) (c.in_err-content.ensures.refused clean db stands)
 
-pub returns-in_default-2-clause-found : goal.returns-in_default-2-clause-found
-returns-in_default-2-clause-found g c clean db stands tags plan =
-    let size = rw (to_z-of_z w64 c.args.size c.ranges.size) at c.in-Some-size_in.ensures.0 in
-    let it = rw (c.in_default-2.is, to_z-of_z w64 c.args.item c.ranges.item) at (c.in_ok-content.ensures.refused clean db stands) in
-    inr (inr (c.in-Some-size_in.size, size, inl it))
-
-pub returns-in-Whole-clause-found : goal.returns-in-Whole-clause-found
-returns-in-Whole-clause-found g c clean db stands tags plan =
-    let read : c.path_in.result ≡ Ok c.in-Some.path = rw c.in-Some.is at c.in_ok-path.ensures in
-    let path : c.in-Some.path ≡ c.args.path.now = rw read at c.path_in.ensures.path in
-    let is : IsWantOf tags c.args.path.now c.in-Some-want.want = rw path at (c.in-Some-want.ensures tags plan) in
-    let size = rw (to_z-of_z w64 c.args.size c.ranges.size) at c.in-Some-size_in.ensures.0 in
-    let it = rw (c.in-Some-2.is, to_z-of_z w64 c.args.item c.ranges.item) at (c.in_ok-content.ensures.content clean db stands) in
-    let known = known_by g.S.Store db c.args.format tags c.args.item c.args.path.now c.args.size c.in-Some-size_in.size it.0 c.in-Some-want.want is it.1 size c.in-Some-size_in.ensures.1 it.2 in
-    let taken = rw c.in-Whole.is at it.3 in
-    rw taken (is.path_is, known.0, known.1)
-
-pub returns-in-Ok-clause-found : goal.returns-in-Ok-clause-found
-returns-in-Ok-clause-found g c clean db stands tags plan =
-    let read : c.path_in.result ≡ Ok c.in-Some.path = rw c.in-Some.is at c.in_ok-path.ensures in
-    let path : c.in-Some.path ≡ c.args.path.now = rw read at c.path_in.ensures.path in
-    let is : IsWantOf tags c.args.path.now c.in-Some-want.want = rw path at (c.in-Some-want.ensures tags plan) in
-    let size = rw (to_z-of_z w64 c.args.size c.ranges.size) at c.in-Some-size_in.ensures.0 in
-    let it = rw (c.in-Some-2.is, to_z-of_z w64 c.args.item c.ranges.item) at (c.in_ok-content.ensures.content clean db stands) in
-    let known = known_by g.S.Store db c.args.format tags c.args.item c.args.path.now c.args.size c.in-Some-size_in.size it.0 c.in-Some-want.want is it.1 size c.in-Some-size_in.ensures.1 it.2 in
-    let taken = rw c.in-Hashed.is at it.3 in
-    let sums : AreSumsFor c.in-Some-want.want it.0 c.in-Some-size_in.size c.finish.result = record { set = c.algs.result; length_is = it.2; digests_are = c.finish.ensures c.algs.result it.0 taken; covers = λ alg listed. c.algs.ensures alg ∙ listed } in
-    known.0 (c.in-Ok.ensures.octets it.0 sums)
-
 pub returns-clause-found : goal.returns-clause-found
 returns-clause-found g c clean db stands tags plan =
+    let size = rw (to_z-of_z w64 c.args.size c.ranges.size) at c.in-Some-size_in.ensures.0 in
+    let it = rw (c.in-None.is, to_z-of_z w64 c.args.item c.ranges.item) at (c.in_ok-content.ensures.refused clean db stands) in
+    inr (inr (c.in-Some-size_in.size, size, inl it))
+
+pub returns-in-Some-2-clause-found : goal.returns-in-Some-2-clause-found
+returns-in-Some-2-clause-found g c clean db stands tags plan =
     let read : c.path_in.result ≡ Ok c.in-Some.path = rw c.in-Some.is at c.in_ok-path.ensures in
     let path : c.in-Some.path ≡ c.args.path.now = rw read at c.path_in.ensures.path in
     let is : IsWantOf tags c.args.path.now c.in-Some-want.want = rw path at (c.in-Some-want.ensures tags plan) in
     let size = rw (to_z-of_z w64 c.args.size c.ranges.size) at c.in-Some-size_in.ensures.0 in
     let it = rw (c.in-Some-2.is, to_z-of_z w64 c.args.item c.ranges.item) at (c.in_ok-content.ensures.content clean db stands) in
     let known = known_by g.S.Store db c.args.format tags c.args.item c.args.path.now c.args.size c.in-Some-size_in.size it.0 c.in-Some-want.want is it.1 size c.in-Some-size_in.ensures.1 it.2 in
-    let taken = rw c.in-Hashed.is at it.3 in
-    let sums : AreSumsFor c.in-Some-want.want it.0 c.in-Some-size_in.size c.finish.result = record { set = c.algs.result; length_is = it.2; digests_are = c.finish.ensures c.algs.result it.0 taken; covers = λ alg listed. c.algs.ensures alg ∙ listed } in
-    known.1 (misfit_other c.in-Some-want.want it.0 _ (c.in-Err.ensures.octets it.0 sums))
+    found_item g.S.Store db c.args.format tags c.args.item c.args.path.now c.args.size c.in-Some-want.want it.0 c.of.result is.path_is known
+    (c.of.ensures.told c.algs.result it.0 (λ alg listed. c.algs.ensures alg ∙ listed) it.2 it.3)
 
-pub returns-in-Whole-clause-little : goal.returns-in-Whole-clause-little
-returns-in-Whole-clause-little g c =
-    let held = rw c.in-Whole.is at (rw c.in-Some-2.is at c.in_ok-content.ensures.held) in
-    omega (arith, held.0, held.1)
+pub returns-in-Some-2-clause-little : goal.returns-in-Some-2-clause-little
+returns-in-Some-2-clause-little g c = c.of.ensures.little (rw c.in-Some-2.is at c.in_ok-content.ensures.held)

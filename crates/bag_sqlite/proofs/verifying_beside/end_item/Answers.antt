@@ -17,7 +17,7 @@ returns-clause-valid g c clean db stands = λ tags set is covers held told right
     let low : c.args.n + 1 < 2 ^ 63 = omega (arith, c.requires.2, within) in
     let same : number ≡ pos (c.args.n + 1) = sym (to_z-of_z w64 number fits) ∙ ap (to_z w64) c.if-branch-pieces.false ∙ to_z_pos w64 low in
     let count = rw (to_z-of_z w64 c.args.long.now.item item_fits) at (c.in_ok-count_of.ensures.count clean db stands) in
-    ended_valid g.S.Store db tags c.args.multi.now set c.args.i c.args.n c.args.long.now c.args.rest.now c.finish-digests.result is covers held told
-    c.requires.2 c.requires.3 c.requires.4 (λ octets holds. c.finish-digests.ensures.digests set octets holds)
+    ended_valid g.S.Store db tags c.args.multi.now set c.args.i c.args.n c.args.long.now c.args.rest.now c.finish.result is covers held told
+    c.requires.2 c.requires.3 c.requires.4 (λ octets holds. c.finish.ensures.digests set octets holds)
     (subst (λ m. TellsOne g.S.Store db count_text (Int c.args.long.now.item ∷ []) (Int m)) same count)
     (λ octets sums. by_ok c.test.result c.is_ok.result _ _ c.is_ok.ensures.value right (c.test.ensures.octets octets sums))

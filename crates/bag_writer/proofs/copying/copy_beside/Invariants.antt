@@ -1,6 +1,6 @@
 use Rattle.std.proofs.Common.{◌≡◌, ◌≤◌, ◌+◌, ◌-◌, length}
 use Rattle.bag_rules.specs.declared.limits.TheConstants.{LARGEST_FILE}
-use Rattle.bag_digest.specs.declared.streams.TheConstants.{FRONT}
+use Rattle.bag_digest.specs.declared.buffers.TheConstants.{FRONT}
 use Rattle.bag_writer.specs.Copying.{AreFresh, AreFull, AreUnder, KeepPlaces, OthersStay, Work, sides}
 use Rattle.bag_writer.proofs.CopyLemmas.{IsTold}
 use Rattle.bag_writer.proofs.copying.copy_beside.Given as goal

@@ -1,16 +1,16 @@
-use Rattle.std.proofs.Common.{◌≡◌, ◌∙◌, ◌≤◌, Some, ap, arith, length, refl, slice_get, subst, sym}
+use Rattle.std.proofs.Common.{◌≡◌, ◌∙◌, ◌≤◌, Some, ap, arith, length, slice_get, subst, sym}
 use Rattle.std.specs.Prelude.{IfOk, IsSomeAnd}
 use Rattle.std.proofs.lemmas.Option.{same_Some, slice_get_within}
 use Rattle.std.proofs.lemmas.Result.{err_from_is_err_and}
 use Rattle.bag_rules.proofs.Words.{paths_in}
 use Rattle.bag_writer.specs.HeldFiles.{AddsFile}
 use Rattle.bag_writer.specs.PayloadSteps.{IsFoundOf}
-use Rattle.bag_digest.specs.declared.streams.TheConstants.{FRONT}
+use Rattle.bag_digest.specs.declared.buffers.TheConstants.{FRONT}
 use Rattle.bag_writer.proofs.FileSteps.{within_of}
 use Rattle.bag_writer.proofs.payload_beside.add_item.Goals as goal
 
-pub returns-in_default-clause-err : goal.returns-in_default-clause-err
-returns-in_default-clause-err g c = refl
+pub unreachable-requires : goal.unreachable-requires
+unreachable-requires g c = rw c.in_default.is at c.requires.2.found_is
 
 pub path-requires : goal.path-requires
 path-requires g c =

@@ -1,5 +1,5 @@
-use Rattle.std.proofs.Common.{[], ap, length, subst}
-use Rattle.bag_rules.proofs.Words.{AreDigests}
+use Rattle.std.proofs.Common.{subst}
+use Rattle.bag_digest.specs.Reading.{AreSums}
 use Rattle.bag_rules.proofs.kept.Kept.keep.Goals as goal
 
 pub returns : goal.returns
@@ -7,5 +7,4 @@ returns c = λ shown are text.
     let set = c.args.self.now.set in
     c.add.ensures shown are (λ path octets at.
     let is = text path octets at in
-    let taken = c.finish.ensures set _ (c.update.ensures set [] c.new-multi.ensures) in
-    ((ap length is.0, subst (λ o. AreDigests c.finish.result set o) is.0 taken), is.1))
+    (subst (AreSums c.of.result set) is.0 c.of.ensures, is.1))

@@ -1,6 +1,6 @@
 use Rattle.std.proofs.Common.{◌≤◌, length, take}
 use Rattle.bag_digest.specs.Each.{AreSlicesOf}
-use Rattle.bag_digest.proofs.each.slices_of.Given as goal
+use Rattle.bag_digest.proofs.side_by_side.slices_of.Given as goal
 
 abbrev pub invariant-loop-message : goal.invariant-loop-message
 invariant-loop-message l = record {

@@ -2,7 +2,7 @@ use Rattle.std.proofs.Common.{◌≡◌, ℕ, Some, Vec, length, slice_get}
 use Rattle.std.specs.declared.alloc.Global.{Global}
 use Rattle.bag_digest.specs.declared.sums.Sums.{Sums}
 use Rattle.bag_digest.specs.Reading.{AreSums}
-use Rattle.bag_digest.proofs.each.sums_of_each.Given as goal
+use Rattle.bag_digest.proofs.side_by_side.sums_of_each.Given as goal
 
 abbrev pub invariant-loop-i : goal.invariant-loop-i
 invariant-loop-i l = record {

@@ -12,7 +12,7 @@ use Rattle.bag_digest.specs.Each.{digest_if}
 use Rattle.bag_digest.specs.Reading.{AreSums}
 use Rattle.bag_digest.specs.declared.sums.Sums.{Sums}
 use Rattle.bag_digest.proofs.EachLemmas.{all_digests, at_last, slice_at}
-use Rattle.bag_digest.proofs.each.sums_of_each.Goals as goal
+use Rattle.bag_digest.proofs.side_by_side.sums_of_each.Goals as goal
 
 pub loop-i-preserved : goal.loop-i-preserved
 loop-i-preserved c =
