@@ -1,15 +1,11 @@
 -- Held payload files, read again and hashed.
-use Rattle.std.proofs.Common.{◌≡◌, ◌↔◌, ◌<◌, ◌≤◌, ◌+◌, ◌-◌, ◌++◌, ◌∷◌, [], ℕ, Bool, true, false, List, Option, Some, Result, Ok, Err, MatchResult, IsTrue, is_ok, rules, drop, length, take, refl, sym, ap, subst, ◌∙◌, inl, inr, arith}
+use Rattle.std.proofs.Common.{◌≡◌, ◌<◌, ◌≤◌, ◌+◌, ◌-◌, ◌++◌, ◌∷◌, [], ℕ, List, Option, Some, rules, drop, length, take, refl, sym, ap, subst, ◌∙◌, inl, inr, arith}
 use Rattle.std.proofs.lemmas.List.{length-take, length-take-le, take-append-drop}
 use Rattle.std.proofs.Math.Seq.{take-append-add}
 use Rattle.bag_digest.specs.ShortContents.{TakesAlso, Took}
 use Rattle.bag_digest.specs.declared.content.Content.{Content}
 use Rattle.bag_digest.specs.declared.algorithm.AlgSet.{AlgSet}
-use Rattle.bag_digest.specs.declared.multi.Multi.{Multi}
-use Rattle.bag_digest.specs.declared.multi.Digests.{Digests}
-use Rattle.bag_digest.specs.Hash.{AreDigests, Holds}
 use Rattle.bag_rules.specs.declared.want.Want.{Want}
-use Rattle.bag_rules.specs.Wants.{AreSumsFor, IsFirstMisfitOf}
 use Rattle.bag_rules.proofs.PassingLemmas.{passes_wanted, wanted_passes}
 use Rattle.bag_rules.proofs.HasLemmas.{has_from_map, place_of_has}
 use Rattle.bag_rules.proofs.TreeLemmas.{text_of}
@@ -17,13 +13,14 @@ use Rattle.bag_rules.specs.declared.plan.ItemSize.{ItemSize}
 use Rattle.bag_rules.specs.Plans.{sizes_of}
 use Rattle.bag_rules.specs.Transfers.{held_bag}
 use Rattle.bag_ledger.specs.Ledgers.{IsSound}
-use Rattle.bag_receiver.specs.AuditsInside.{Covers, IsRereadOf, PassesTest, TellsSome}
+use Rattle.bag_receiver.specs.AuditsInside.{PassesTest, TellsSome}
 use Rattle.bag_receiver.specs.Holdings.{HasItem, IsPlanFor}
-use Rattle.bag_receiver.specs.declared.reread.Reread.{Reread}
-use Rattle.bag_receiver.specs.declared.reread.Reread.TheVariants.{NotValid, Untested, Valid}
+use Rattle.bag_ledger.specs.Findings.{FindsContent}
+use Rattle.bag_ledger.specs.declared.finding.Finding.{Finding}
+use Rattle.bag_ledger.specs.declared.finding.Finding.TheVariants.{Damaged, Untested, Valid}
 use Rattle.bag_receiver.proofs.PlaceLemmas.{of_plan}
 use Rattle.bag_receiver.proofs.ReceivingLemmas.{named_there}
-use Rattle.bag_receiver.proofs.Words.{AllByRecursion, AreHeldFor, ArePlansIn, bytes_eq, CountsIf, Files, Has, IsPlanOf, IsTransferName, IsWanted, IsWantOf, items_of, LARGEST_ITEM, length-append, lookup, option_map, Passes, Plan, Transfer, unwrap_or, Ledger, OtherDigest, OtherLength, Reads, WantFault}
+use Rattle.bag_receiver.proofs.Words.{AllByRecursion, AreHeldFor, ArePlansIn, bytes_eq, CountsIf, Files, Has, IsPlanOf, IsTransferName, IsWanted, IsWantOf, items_of, LARGEST_ITEM, length-append, lookup, option_map, Passes, Plan, Transfer, unwrap_or, Ledger, Reads}
 
 -- WHAT WAS READ
 
@@ -33,16 +30,6 @@ take_next content i n within =
     let count : length (take i content) ≡ i = length-take-le i content within in
     let whole : take i content ++ drop i content ≡ content = take-append-drop i content in
     (λ t. take (sym count t + n) (sym whole t)) ∙ take-append-add (take i content) (drop i content) n
-
--- what doesn't fit isn't wanted
-pub not_wanted : (want : Want) (content : List ℕ) (fault : WantFault) → IsFirstMisfitOf want content fault → ¬ IsWanted want content
-not_wanted want content OtherLength misfit wanted = misfit wanted.lengths
-not_wanted want content (OtherDigest alg) (fits, first) wanted = (let such = first.0 in such.is_such.2 (wanted.digests such.listing such.is_such.0 such.has such.is_such.1))
-
-pub told_wanted : (want : Want) (content : List ℕ) (result : Result Unit WantFault) (told : Bool) → told ≡ is_ok result → MatchResult result (λ done. IsWanted want content) (IsFirstMisfitOf want content)
-    → IsTrue told ↔ IsWanted want content
-told_wanted want content (Ok done) told is test = (λ yes. test, λ wanted. is)
-told_wanted want content (Err fault) told is test = (λ yes. absurd (let e : false ≡ true = sym is ∙ yes in cc), λ wanted. absurd (not_wanted want content fault test wanted))
 
 module _ {K : Type 0} (holds may_leave : K → Ledger → Type 0) (clean : K → Type 0) where
   pub reads_nothing : (keeper : K) → Reads holds may_leave clean keeper keeper
@@ -93,27 +80,22 @@ taken_more old new set read n buffer within so_far takes = record {
   took = takes set so_far.taken so_far.took;
 }
 
--- the digests of the octets that a hasher took
-pub sums_for : (want : Want) (octets : ℕ) (multi : Multi) (digests : Digests) (set : AlgSet) (taken : List ℕ) → Covers set want → octets ≡ length taken → Holds multi set taken
-    → ((set : AlgSet) (taken : List ℕ) → Holds multi set taken → AreDigests digests set taken) → AreSumsFor want taken octets digests
-sums_for want octets multi digests set taken covers sized held finish = record { set = set; length_is = sized; digests_are = finish set taken held; covers = covers }
-
 -- WHAT IS VALID
 
 -- what is found of a file that the transfer wants
-pub told_some : (tags : Files) (size : ItemSize) (want : Want) (octets : List ℕ) (reread : Reread) → IsWantOf tags size.path want → size.octets ≡ length octets → size.octets ≤ LARGEST_ITEM → IsRereadOf want octets reread
-    → TellsSome tags size reread
+pub told_some : (tags : Files) (size : ItemSize) (want : Want) (octets : List ℕ) (finding : Finding) → IsWantOf tags size.path want → size.octets ≡ length octets → size.octets ≤ LARGEST_ITEM → FindsContent want octets finding
+    → TellsSome tags size finding
 told_some tags size want octets Valid is sized within wanted = (octets, sized, wanted_passes tags size.path octets want is (omega (arith, sized, within)) wanted)
-told_some tags size want octets NotValid is sized within told = tt
+told_some tags size want octets Damaged is sized within told = tt
 told_some tags size want octets (Untested same content) is sized within (one, all) = record {
   want_of = subst (IsWantOf tags size.path) (sym one) is;
   sized = sized ∙ ap length (sym all);
   within = (let count = ap length all in omega (arith, sized, within, count));
 }
 
-pub told_valid : (tags : Files) (path : List ℕ) (want : Want) (octets : List ℕ) (reread : Reread) → IsWantOf tags path want → Passes tags path octets → IsRereadOf want octets reread → PassesTest reread
+pub told_valid : (tags : Files) (path : List ℕ) (want : Want) (octets : List ℕ) (finding : Finding) → IsWantOf tags path want → Passes tags path octets → FindsContent want octets finding → PassesTest finding
 told_valid tags path want octets Valid is passes told = tt
-told_valid tags path want octets NotValid is passes other = absurd (other (passes_wanted tags path octets want is passes))
+told_valid tags path want octets Damaged is passes other = absurd (other (passes_wanted tags path octets want is passes))
 told_valid tags path want octets (Untested same content) is passes (one, all) = subst (λ w. IsWanted w content.items) (sym one) (subst (IsWanted want) (sym all) (passes_wanted tags path octets want is passes))
 
 has_middle : {X : Type 0} (before : List X) (x : X) (after : List X) → Has (before ++ x ∷ after) x

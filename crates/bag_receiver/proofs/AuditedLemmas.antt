@@ -1,5 +1,6 @@
 -- Payload files that were read again, while some of them are held.
-use Rattle.std.proofs.Common.{◌≡◌, ◌∙◌, ◌↔◌, ◌||◌, ◌+◌, ◌<◌, ◌++◌, ◌∷◌, [], zero, suc, ℕ, All, Bool, List, Option, None, Some, MatchResult, IsTrue, Result, Vec, ap, append-nil, append_assoc, arith, drop, is_ok, length, map, slice_get, subst, sym}
+use Rattle.std.proofs.Common.{◌≡◌, ◌∙◌, ◌↔◌, ◌||◌, ◌+◌, ◌<◌, ◌++◌, ◌∷◌, [], zero, suc, ℕ, All, Bool, List, Option, None, Some, MatchResult, IsTrue, Result, Vec, ap, append-nil, append_assoc, arith, drop, get_or, is_ok, length, map, refl, slice_get, subst, sym}
+use Rattle.std.proofs.lemmas.Option.{slice_get_read}
 use Rattle.std.specs.declared.alloc.Global.{Global}
 use Rattle.bag_digest.proofs.EachLemmas.{at_last}
 use Rattle.bag_digest.specs.Algorithm.{has}
@@ -10,14 +11,15 @@ use Rattle.bag_digest.specs.declared.sums.Sums.{Sums}
 use Rattle.bag_rules.proofs.BatchLemmas.{or_left, or_right}
 use Rattle.bag_rules.proofs.HasLemmas.{stands}
 use Rattle.bag_rules.proofs.PassingLemmas.{wanted_passes}
+use Rattle.bag_rules.proofs.WantedLemmas.{told_wanted}
 use Rattle.bag_rules.specs.Plans.{item_paths}
-use Rattle.bag_rules.specs.Wants.{AreSumsFor, IsFirstMisfitOf, lists_by}
+use Rattle.bag_rules.specs.Wants.{AreSumsFor, CoversWant, IsFirstMisfitOf, lists_by}
 use Rattle.bag_rules.specs.declared.plan.ItemSize.{ItemSize}
-use Rattle.bag_receiver.specs.AuditsInside.{AreSound, AreWhole, Covers, IsKnownOf}
+use Rattle.bag_receiver.specs.Auditeds.{AreSound, AreWhole}
+use Rattle.bag_receiver.specs.AuditsInside.{IsKnownOf}
 use Rattle.bag_receiver.specs.Holdings.{AreValidSizes, SomePass}
-use Rattle.bag_receiver.specs.declared.audited.Audited.{Audited}
-use Rattle.bag_receiver.specs.declared.audited.Untested.{Untested}
-use Rattle.bag_receiver.proofs.AuditLemmas.{told_wanted}
+use Rattle.bag_receiver.specs.declared.audit.Audited.{Audited}
+use Rattle.bag_receiver.specs.declared.audit.Untested.{Untested}
 use Rattle.bag_receiver.proofs.ValidSizes.{comes_among}
 use Rattle.bag_receiver.proofs.Words.{Alg, AreRising, Files, IsWanted, map-append, WantFault}
 
@@ -55,49 +57,60 @@ held_more old middle new set known content wants adds = adds.held_too ∙ ap (λ
 
 -- A FILE THAT IS HELD
 
-module _ (audited : Audited) (each : List Sums) (place : ℕ) (known : Untested) (rest : List Untested) (sums : Sums) (summed : AreSumsOfEach audited.held.set audited.held.contents.items each)
-    (here : drop place audited.held.known.items ≡ known ∷ rest) (sums_at : slice_get each place ≡ Some sums) where
-  known_at : slice_get audited.held.known.items place ≡ Some known
-  known_at = (next_at audited.held.known.items place known rest here).0
+-- the file at a place among those that are held, whose sums were taken
+pub record IsAt (audited : Audited) (place : ℕ) (known : Untested) (rest : List Untested) (sums : Sums) : Type 0 where
+  pub here : drop place audited.held.known.items ≡ known ∷ rest
+  pub next : drop (place + 1) audited.held.known.items ≡ rest
+  pub low : place < length audited.held.known.items
+  pub known_at : slice_get audited.held.known.items place ≡ Some known
+  pub content : Vec ℕ Global
+  pub content_at : slice_get audited.held.contents.items place ≡ Some content
+  pub are_for : (tags : Files) → AreSound tags audited → AreSumsFor known.want content.items sums
 
-  content : (content : Vec ℕ Global) × (slice_get audited.held.contents.items place ≡ Some content)
-  content =
-      let low = (next_at audited.held.known.items place known rest here).2 in
-      stands audited.held.contents.items place (omega (arith, low, audited.held.paired, audited.held.known.ok.0, audited.held.contents.ok.0))
-
-  are_for : (tags : Files) → AreSound tags audited → AreSumsFor known.want content.0.items sums.length sums.digests
-  are_for tags sound =
-      let are = summed.sums place content.0 sums content.1 sums_at in
-      record {
+pub is_at : (audited : Audited) (each : List Sums) (place : ℕ) (known : Untested) (rest left : List Untested) (sums : Sums) → left ≡ drop place audited.held.known.items → left ≡ known ∷ rest
+    → AreSumsOfEach audited.held.set audited.held.contents.items each → sums ≡ get_or each place sums → IsAt audited place known rest sums
+is_at audited each place known rest left sums left_is steps taken is =
+    let here = sym left_is ∙ steps in
+    let (known_at, next, low) = next_at audited.held.known.items place known rest here in
+    let contents_low : place < length audited.held.contents.items = omega (arith, low, audited.held.paired, audited.held.known.ok.0, audited.held.contents.ok.0) in
+    let (content, content_at) = stands audited.held.contents.items place contents_low in
+    record {
+      here = here;
+      next = next;
+      low = low;
+      known_at = known_at;
+      content = content;
+      content_at = content_at;
+      are_for = λ tags sound. record {
         set = audited.held.set;
-        length_is = are.0;
-        digests_are = are.1;
+        are_sums = taken.sums place content sums content_at (slice_get_read each (length each) place sums refl (omega (arith, contents_low, taken.count)) is);
         covers = sound.covered place known known_at;
-      }
+      };
+    }
 
+module _ (audited : Audited) (place : ℕ) (known : Untested) (rest : List Untested) (sums : Sums) (at : IsAt audited place known rest sums) where
   module _ (result : Result Unit WantFault) (told : Bool) (told_is : told ≡ is_ok result)
-      (test : (octets : List ℕ) → AreSumsFor known.want octets sums.length sums.digests → MatchResult result (λ done. IsWanted known.want octets) (IsFirstMisfitOf known.want octets)) where
-    told_by : (tags : Files) → AreSound tags audited → IsTrue told ↔ IsWanted known.want content.0.items
-    told_by tags sound = told_wanted known.want content.0.items result told told_is (test content.0.items (are_for tags sound))
+      (test : (octets : List ℕ) → AreSumsFor known.want octets sums → MatchResult result (λ done. IsWanted known.want octets) (IsFirstMisfitOf known.want octets)) where
+    told_by : (tags : Files) → AreSound tags audited → IsTrue told ↔ IsWanted known.want at.content.items
+    told_by tags sound = told_wanted known.want at.content.items result told told_is (test at.content.items (at.are_for tags sound))
 
     -- it is valid if it was found so
     pub some_passes : (tags : Files) → AreSound tags audited → IsTrue told → SomePass tags known.size.path known.size.octets
     some_passes tags sound so =
-        let is = sound.known place known content.0 known_at content.1 in
-        (content.0.items, is.sized, wanted_passes tags known.size.path content.0.items known.want is.want_of is.within ((told_by tags sound).0 so))
+        let is = sound.known place known at.content at.known_at at.content_at in
+        (at.content.items, is.sized, wanted_passes tags known.size.path at.content.items known.want is.want_of is.within ((told_by tags sound).0 so))
 
     -- it is found so if it is one of those that are valid
     pub is_told : (tags : Files) (sizes : List ItemSize) → AreSound tags audited → AreWhole sizes audited → IsTrue told
-    is_told tags sizes sound whole = (told_by tags sound).1 (whole.wanted place known content.0 known_at content.1)
+    is_told tags sizes sound whole = (told_by tags sound).1 (whole.wanted place known at.content at.known_at at.content_at)
 
   pub rising_next : (valid sizes : List ItemSize) → valid ++ map size_of (drop place audited.held.known.items) ≡ sizes → AreRising (item_paths sizes) → AreRising (item_paths (valid ++ known.size ∷ []))
-  rising_next valid sizes all rising = comes_among valid known.size (map size_of rest) sizes (ap (λ list. valid ++ map size_of list) (sym here) ∙ all) rising
+  rising_next valid sizes all rising = comes_among valid known.size (map size_of rest) sizes (ap (λ list. valid ++ map size_of list) (sym at.here) ∙ all) rising
 
   pub whole_next : (valid more sizes : List ItemSize) → more ≡ valid ++ known.size ∷ [] → valid ++ map size_of (drop place audited.held.known.items) ≡ sizes
       → more ++ map size_of (drop (place + 1) audited.held.known.items) ≡ sizes
   whole_next valid more sizes pushed all =
-      let after = (next_at audited.held.known.items place known rest here).1 in
-      (λ t. pushed t ++ map size_of (after t)) ∙ append_assoc valid (known.size ∷ []) (map size_of rest) ∙ ap (λ list. valid ++ map size_of list) (sym here) ∙ all
+      (λ t. pushed t ++ map size_of (at.next t)) ∙ append_assoc valid (known.size ∷ []) (map size_of rest) ∙ ap (λ list. valid ++ map size_of list) (sym at.here) ∙ all
 
 -- ONE FILE MORE
 
@@ -133,7 +146,7 @@ module _ (old new : Audited) (known : Untested) (content : Vec ℕ Global) (midd
   sound_more tags sound is = record {
     valid = subst (λ v. AreValidSizes tags v.items) (sym same) sound.valid;
     known = both (λ k c. IsKnownOf tags k c.items) sound.known is;
-    covered = λ i k at. at_last old.held.known.items known (λ n k. Covers new.held.set k.want)
+    covered = λ i k at. at_last old.held.known.items known (λ n k. CoversWant new.held.set k.want)
         (λ n k there alg listed. joined alg ∙ or_left (has old.held.set alg) (has set alg) (sound.covered n k there alg listed))
         (λ alg listed. joined alg ∙ or_right (has old.held.set alg) (has set alg) (algs alg ∙ listed))
         i k (ap (λ xs. slice_get xs i) (sym knowns) ∙ at);

@@ -18,7 +18,7 @@ pub use Rattle.bag_rules.specs.declared.want.WantFault.TheVariants.{Digest as Ot
 pub use Rattle.bag_rules.specs.ExampleBags.{file_a, file_e, tags_of_two}
 pub use Rattle.bag_rules.specs.Faults.{Has}
 pub use Rattle.bag_rules.specs.Files.{Files}
-pub use Rattle.bag_rules.specs.Listed.{IsFirstAmong}
+pub use Rattle.bag_digest.specs.Algorithm.{IsFirstAmong}
 pub use Rattle.bag_rules.specs.Opening.{FewLines, HasManyLinesAt, IsFirstPath, RefusesTags}
 pub use Rattle.bag_rules.specs.Plans.{IsPlanOf, IsWantOf}
 pub use Rattle.bag_rules.specs.Transfers.{AreHeldFor, HasOtherLength, IsExpected, ListsOther, Passes, with_files}

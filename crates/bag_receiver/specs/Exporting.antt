@@ -9,7 +9,7 @@ use Rattle.bag_receiver.specs.declared.export.ExportFault.TheVariants.{Keeper, N
 use Rattle.bag_receiver.specs.declared.receiver.Receiver.{Receiver}
 use Rattle.bag_receiver.specs.Exports.{Exports}
 use Rattle.bag_receiver.specs.TransferNames.{IsTransferName}
-use Rattle.bag_receiver.specs.Receivers.{Does, IsInState}
+use Rattle.bag_receiver.specs.Receivers.{Does, IsInState, SaysOfState}
 use Rattle.bag_receiver.specs.ReceiversInside.{Same}
 use Rattle.bag_receiver.specs.LedgerStates.{LedgerState}
 use Rattle.bag_writer.specs.Sinks.{IsEmptySink, Stored, UsesClosedSink}
@@ -24,8 +24,8 @@ pub record IsExporting {K S : Type 0} (holds may_leave : K → Ledger → Type 0
     (sink_sure : S → Type 0) (name : List ℕ) (old new : Receiver K) (old_sink new_sink : S)
     (answer : Result ℕ ExportFault) : Type 0 where
   pub looks : Does holds may_leave clean old new Same
-  pub exported : clean new.keeper → (now : LedgerState) → IsInState holds may_leave old now
-      → Exports now.held name answer (stored old_sink) (stored new_sink)
+  pub exported : SaysOfState holds may_leave clean old new (λ now.
+      Exports now.held name answer (stored old_sink) (stored new_sink))
   pub judged : (¬ IsTransferName name → IsErrOf answer NoTransfer)
       × (IsErrOf answer NoTransfer → new_sink ≡ old_sink)
   pub store : CountsIf ((fault : StoreFault) × IsErrOf answer (Keeper (Store fault)))

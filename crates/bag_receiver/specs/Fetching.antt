@@ -12,9 +12,8 @@ use Rattle.bag_receiver.specs.declared.receiver.Receiver.{Receiver}
 use Rattle.bag_receiver.specs.declared.report.ViewFault.{ViewFault}
 use Rattle.bag_receiver.specs.declared.report.ViewFault.TheVariants.{NoTransfer, Keeper}
 use Rattle.bag_receiver.specs.TransferNames.{IsNamed, IsTransferName}
-use Rattle.bag_receiver.specs.Receivers.{Does, IsInState}
+use Rattle.bag_receiver.specs.Receivers.{Does, SaysOfState}
 use Rattle.bag_receiver.specs.ReceiversInside.{Same}
-use Rattle.bag_receiver.specs.LedgerStates.{LedgerState}
 use Rattle.bag_receiver.specs.Runs.{CountsEach, Runs}
 use Rattle.bag_receiver.specs.Suppliers.{AreReached, IsGotFrom, Round, Supply, deliveries_by, outcome_of, supplier_failures}
 
@@ -31,11 +30,10 @@ pub record IsFetching {K S : Type 0} (holds may_leave : K → Ledger → Type 0)
       × (outcomes.items ≡ map outcome_of rounds)
       × AllByRecursion (IsGotFrom (supply before)) rounds
       × Runs holds may_leave clean store_failures old new name (deliveries_by rounds)
-      × (clean new.keeper → (now : LedgerState) → IsInState holds may_leave old now
-      → AreReached now.held name rounds))
+      × SaysOfState holds may_leave clean old new (λ now. AreReached now.held name rounds))
       (λ fault. Does holds may_leave clean old new Same × (after ≡ before))
-  pub none : clean new.keeper → (now : LedgerState) → IsInState holds may_leave old now
-      → IfErr answer (λ fault. fault ≡ NoTransfer → IsNamed now.held name None)
+  pub none : SaysOfState holds may_leave clean old new (λ now.
+      IfErr answer (λ fault. fault ≡ NoTransfer → IsNamed now.held name None))
   pub judged : ¬ IsTransferName name → IsErrOf answer NoTransfer
   pub supplier : IfOk answer (λ outcomes.
       CountsEach (supplier_failures outcomes.items) (failures before) (failures after)

@@ -1,6 +1,7 @@
 pub mod Arrivals
 pub mod Audits
 pub mod AuditsInside
+pub mod Auditeds
 pub mod Beginning
 pub mod BeginningFrom
 pub mod BeginningInside

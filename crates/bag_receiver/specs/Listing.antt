@@ -10,9 +10,8 @@ use Rattle.bag_ledger.specs.declared.keeper_faults.KeepFault.{KeepFault}
 use Rattle.bag_ledger.specs.declared.keeper_faults.KeepFault.TheVariants.{Store}
 use Rattle.bag_ledger.specs.declared.keeper_faults.StoreFault.{StoreFault}
 use Rattle.bag_receiver.specs.declared.receiver.Receiver.{Receiver}
-use Rattle.bag_receiver.specs.Receivers.{Does, IsInState}
+use Rattle.bag_receiver.specs.Receivers.{Does, SaysOfState}
 use Rattle.bag_receiver.specs.ReceiversInside.{Same}
-use Rattle.bag_receiver.specs.LedgerStates.{LedgerState}
 
 -- If the keeper is clean, the answer is the names of the transfers. It is a failure of the store exactly if the keeper
 -- counted one. Nothing changes.
@@ -20,7 +19,7 @@ pub record IsListing {K : Type 0} (holds may_leave : K → Ledger → Type 0) (c
     (failures : K → ℕ) (old new : Receiver K)
     (answer : Result (Vec (String Global) Global) KeepFault) : Type 0 where
   pub looks : Does holds may_leave clean old new Same
-  pub names : clean new.keeper → (now : LedgerState) → IsInState holds may_leave old now
-      → IfOk answer (λ names. map string_bytes names.items ≡ keys_of now.held)
+  pub names : SaysOfState holds may_leave clean old new (λ now.
+      IfOk answer (λ names. map string_bytes names.items ≡ keys_of now.held))
   pub store : CountsIf ((fault : StoreFault) × IsErrOf answer (Store fault))
       (failures old.keeper) (failures new.keeper)

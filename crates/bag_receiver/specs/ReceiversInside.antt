@@ -17,7 +17,7 @@ use Rattle.bag_receiver.specs.declared.receiver.Receiver.{Receiver}
 use Rattle.bag_receiver.specs.Deliveries.{Content, IsListedPath, delivery_of}
 use Rattle.bag_receiver.specs.TransferNames.{IsNamed, IsTransferName}
 use Rattle.bag_receiver.specs.LedgerStates.{DeliveryStep, LedgerState}
-use Rattle.bag_receiver.specs.Receivers.{IsInState}
+use Rattle.bag_receiver.specs.Receivers.{SaysOfState}
 
 -- nothing changes
 abbrev pub Same : LedgerState → LedgerState → Type 0
@@ -51,9 +51,8 @@ answer_of (Err fault) = Refused fault
 module _ {K : Type 0} (holds may_leave : K → Ledger → Type 0) (clean : K → Type 0) where
   abbrev pub Finds : {A : Type 0} → Receiver K → Receiver K → List ℕ → List ℕ
       → (LedgerState → A → Type 0) → Result A DeliverFault → Type 0
-  Finds old new name text found result = clean new.keeper → (now : LedgerState)
-      → IsInState holds may_leave old now
-      → MatchResult result (found now) (RefusesAny name text now)
+  Finds old new name text found result = SaysOfState holds may_leave clean old new (λ now.
+      MatchResult result (found now) (RefusesAny name text now))
 
 -- the path or the lists are at fault, which no keeper has to be asked for
 abbrev pub IsOfLists : DeliverFault → Type 0

@@ -11,9 +11,9 @@ use Rattle.bag_receiver.specs.declared.report.ViewFault.{ViewFault}
 use Rattle.bag_receiver.specs.declared.report.ViewFault.TheVariants.{NoTransfer, Keeper}
 use Rattle.bag_receiver.specs.Deliveries.{AreAccepted, Delivery, OneContent}
 use Rattle.bag_receiver.specs.TransferNames.{IsNamed, IsTransferName}
-use Rattle.bag_receiver.specs.Receivers.{Does, IsInState}
+use Rattle.bag_receiver.specs.Receivers.{Does, SaysOfState}
 use Rattle.bag_receiver.specs.ReceiversInside.{Same}
-use Rattle.bag_receiver.specs.LedgerStates.{Happened, LedgerState}
+use Rattle.bag_receiver.specs.LedgerStates.{Happened}
 use Rattle.bag_receiver.specs.Reports.{IsReportOf, Reports}
 use Rattle.bag_receiver.specs.Stops.{Answered, Event, StopRun}
 
@@ -23,24 +23,24 @@ pub record IsReporting {K : Type 0} (holds may_leave : K → Ledger → Type 0) 
     (failures : K → ℕ) (name : List ℕ) (old new : Receiver K) (answer : Result Report ViewFault)
     : Type 0 where
   pub looks : Does holds may_leave clean old new Same
-  pub reported : clean new.keeper → (now : LedgerState) → IsInState holds may_leave old now
-      → MatchResult answer (Reports now.held name)
-      (λ fault. fault ≡ NoTransfer → IsNamed now.held name None)
+  pub reported : SaysOfState holds may_leave clean old new (λ now.
+      MatchResult answer (Reports now.held name)
+      (λ fault. fault ≡ NoTransfer → IsNamed now.held name None))
   -- An invalid name names no transfer, whatever the store would answer.
   pub judged : ¬ IsTransferName name → IsErrOf answer NoTransfer
   -- After a transfer was opened, for any list of deliveries with losses, repeats and reordering,
   -- the report is that of its tag files with each distinct accepted delivery once, provided that
   -- no two different contents offered for one path are valid.
-  pub headline : clean new.keeper → (now : LedgerState) → IsInState holds may_leave old now
-      → (tags : Files) (deliveries : List Delivery)
+  pub headline : SaysOfState holds may_leave clean old new (λ now.
+      (tags : Files) (deliveries : List Delivery)
       → Happened now name tags (map Answered deliveries) → OneContent tags deliveries
       → IfOk answer (λ report. (held : Files) × AreAccepted deliveries held
-      × IsReportOf tags held report)
+      × IsReportOf tags held report))
   -- The same for everything that happened since then, including stops.
-  pub stopped : clean new.keeper → (now : LedgerState) → IsInState holds may_leave old now
-      → (tags : Files) (events : List Event) → Happened now name tags events
+  pub stopped : SaysOfState holds may_leave clean old new (λ now.
+      (tags : Files) (events : List Event) → Happened now name tags events
       → IfOk answer (λ report. (held : Files) × StopRun tags events held
-      × IsReportOf tags held report)
+      × IsReportOf tags held report))
   -- The answer is a failure of the store exactly if the keeper counted one.
   pub store : CountsIf ((fault : StoreFault) × IsErrOf answer (Keeper (Store fault)))
       (failures old.keeper) (failures new.keeper)

@@ -199,7 +199,7 @@ fn placed(alloc: Global, files: &[(String, Vec<u8>)]) -> Result<TagSet, BeginFau
 {
     let mut tags = TagSet::new(alloc);
     for (i, file) in files.iter().enumerate() {
-        if let Err(fault) = place(alloc, &mut tags, file) {
+        if let Err(fault) = add_lightened(alloc, &mut tags, file) {
             return Err(fault_at(i, fault));
         }
     }
@@ -218,7 +218,11 @@ fn fault_at(i: usize, fault: TagSetFault) -> BeginFault
 }
 
 /// Adds the file to the tag files. A file with too many octets is added empty.
-fn place(alloc: Global, tags: &mut TagSet, file: &(String, Vec<u8>)) -> Result<(), TagSetFault>
+fn add_lightened(
+    alloc: Global,
+    tags: &mut TagSet,
+    file: &(String, Vec<u8>),
+) -> Result<(), TagSetFault>
     ensures placed { OnOk result (IsPlaced tags.old (string_bytes file.now.0)
         × (tags.new ≡ with_file tags.old (string_bytes file.now.0) (emptied file.now.1.items))) }
     ensures refused { IfErr result (λ fault. fault ≢ TagSetFault.Memory

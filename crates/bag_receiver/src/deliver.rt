@@ -9,8 +9,8 @@ ghost use Rattle.bag_receiver.specs.declared.answer.Answer.TheVariants.{Refused}
 ghost use Rattle.bag_receiver.specs.declared.answer.DeliverFault.TheVariants.{Keeper as NotKept, NoTransfer, Reader};
 ghost use Rattle.bag_receiver.specs.Deliveries.{Content, IsAcceptance, Whole, delivery_of};
 ghost use Rattle.bag_receiver.specs.TransferNames.{IsTransferName};
-ghost use Rattle.bag_receiver.specs.LedgerStates.{Brought, DeliveryStep, IsAnswer, IsListedIn, Judges, LedgerState, Receives};
-ghost use Rattle.bag_receiver.specs.Receivers.{Does, IsInState, plans_in};
+ghost use Rattle.bag_receiver.specs.LedgerStates.{Brought, DeliveryStep, IsAnswer, IsListedIn, Judges, Receives};
+ghost use Rattle.bag_receiver.specs.Receivers.{Does, SaysOfState, plans_in};
 ghost use Rattle.bag_receiver.specs.ReceiversInside.{Finds, IsNoPlan, IsOfLists, IsPlaceIn, IsPlanned, RefusesText, Same, answer_of};
 
 use crate::answer::{Answer, DeliverFault};
@@ -59,12 +59,12 @@ impl<K: Keeper> Receiver<K> {
             (K.failures self.old.keeper) (K.failures self.new.keeper) }
     {
         self.find_plan(alloc, name)?;
-        let place = place_of(&mut self.keeper, &self.plans, alloc, name, path)?;
-        if place.is_held {
-            test_content(&place.want, content)?;
+        let slot = slot_of(&mut self.keeper, &self.plans, alloc, name, path)?;
+        if slot.is_held {
+            test_content(&slot.want, content)?;
             return Ok(Answer::Repeated);
         }
-        self.keeper.put(alloc, name, &place.want, content)?;
+        self.keeper.put(alloc, name, &slot.want, content)?;
         Ok(Answer::Taken)
     }
 
@@ -85,9 +85,8 @@ impl<K: Keeper> Receiver<K> {
             × IsAnswer name.now (delivery_of (P.text path) content result)
             × Does K.holds K.may_leave K.clean self.old self.new
             (Receives name.now (delivery_of (P.text path) content result ∷ [])) }
-        ensures unread { K.clean self.new.keeper → (now : LedgerState)
-            → IsInState K.holds K.may_leave self.old now
-            → (reader.new ≡ reader.old) ⊎ IsListedIn now.held name.now (P.text path) }
+        ensures unread { SaysOfState K.holds K.may_leave K.clean self.old self.new (λ now.
+            (reader.new ≡ reader.old) ⊎ IsListedIn now.held name.now (P.text path)) }
         ensures reader { UsesSource S.failures S.ready S.keeps reader.old reader.new
             (result ≡ Refused Reader) }
         ensures store { CountsIf ((fault : StoreFault)
@@ -112,9 +111,8 @@ impl<K: Keeper> Receiver<K> {
             × IsAnswer name.now (delivery_of (P.text path) content (answer_of result))
             × Does K.holds K.may_leave K.clean self.old self.new
             (DeliveryStep name.now (delivery_of (P.text path) content (answer_of result))) }
-        ensures unread { K.clean self.new.keeper → (now : LedgerState)
-            → IsInState K.holds K.may_leave self.old now
-            → (reader.new ≡ reader.old) ⊎ IsListedIn now.held name.now (P.text path) }
+        ensures unread { SaysOfState K.holds K.may_leave K.clean self.old self.new (λ now.
+            (reader.new ≡ reader.old) ⊎ IsListedIn now.held name.now (P.text path)) }
         ensures accepted { IfOk result IsAcceptance }
         ensures reader { UsesSource S.failures S.ready S.keeps reader.old reader.new
             (IsErrOf result Reader) }
@@ -122,12 +120,12 @@ impl<K: Keeper> Receiver<K> {
             (K.failures self.old.keeper) (K.failures self.new.keeper) }
     {
         self.find_plan(alloc, name)?;
-        let place = place_of(&mut self.keeper, &self.plans, alloc, name, path)?;
-        if place.is_held {
-            test_reader(alloc, &place.want, reader)?;
+        let slot = slot_of(&mut self.keeper, &self.plans, alloc, name, path)?;
+        if slot.is_held {
+            test_reader(alloc, &slot.want, reader)?;
             return Ok(Answer::Repeated);
         }
-        self.keeper.put_from(alloc, name, &place.want, reader)?;
+        self.keeper.put_from(alloc, name, &slot.want, reader)?;
         Ok(Answer::Taken)
     }
 
@@ -156,7 +154,7 @@ struct Slot<'a> {
 }
 
 /// What the transfer wants at this path, and whether it holds it.
-fn place_of<'a, K: Keeper, P: GivenPath>(
+fn slot_of<'a, K: Keeper, P: GivenPath>(
     keeper: &mut K,
     plans: &'a Plans,
     alloc: Global,
@@ -170,7 +168,7 @@ fn place_of<'a, K: Keeper, P: GivenPath>(
         → Finds K.holds K.may_leave K.clean (record { keeper = keeper.old; plans = plans.now })
         (record { keeper = keeper.new; plans = plans.now }) name.now (P.text path)
         (λ now. IsPlaceIn now.held name.now (P.text path)) result }
-    ensures judged { MatchResult result (λ place. IsPath (P.text path))
+    ensures judged { MatchResult result (λ slot. IsPath (P.text path))
         (λ fault. (content : Content) → Judges (Refused fault) (P.text path) content) }
     ensures unasked { IfErr result (λ fault. IsOfLists fault → keeper.new ≡ keeper.old) }
     ensures store { CountsIf ((fault : StoreFault) × IsErrOf result (NotKept (Store fault)))

@@ -10,9 +10,8 @@ ghost use Rattle.bag_ledger.specs.declared.keeper_faults.StoreFault.{StoreFault}
 ghost use Rattle.bag_receiver.specs.Fetching.{IsFetching};
 ghost use Rattle.bag_receiver.specs.FetchingInside.{AreMarks, AreRequests, IsRequest, IsUnderWay};
 ghost use Rattle.bag_receiver.specs.TransferNames.{IsNamed, IsTransferName};
-ghost use Rattle.bag_receiver.specs.Receivers.{Does, IsInState};
+ghost use Rattle.bag_receiver.specs.Receivers.{Does, SaysOfState};
 ghost use Rattle.bag_receiver.specs.ReceiversInside.{Same};
-ghost use Rattle.bag_receiver.specs.LedgerStates.{LedgerState};
 ghost use Rattle.bag_receiver.specs.Runs.{CountsEach, Runs};
 ghost use Rattle.bag_receiver.specs.Suppliers.{IsReply, Reply, delivery_by, supplier_failure, told};
 
@@ -131,11 +130,10 @@ impl<K: Keeper> Receiver<K> {
     /// What to ask for, and what is held.
     fn requests(&mut self, alloc: Global, name: &str) -> Result<Requests, ViewFault>
         ensures looks { Does K.holds K.may_leave K.clean self.old self.new Same }
-        ensures prepared { K.clean self.new.keeper → (now : LedgerState)
-            → IsInState K.holds K.may_leave self.old now
-            → MatchResult result
+        ensures prepared { SaysOfState K.holds K.may_leave K.clean self.old self.new (λ now.
+            MatchResult result
             (λ requests. IsUnderWay now.held name.now requests.held.items requests.list.items [])
-            (λ fault. fault ≡ ViewFault.NoTransfer → IsNamed now.held name.now None) }
+            (λ fault. fault ≡ ViewFault.NoTransfer → IsNamed now.held name.now None)) }
         ensures judged { ¬ IsTransferName name.now → IsErrOf result ViewFault.NoTransfer }
         ensures store { CountsIf ((fault : StoreFault)
             × IsErrOf result (ViewFault.Keeper (KeepFault.Store fault)))

@@ -27,17 +27,6 @@ pub(crate) fn next_piece<K: Keeper>(
     ensures keeper { ReadsKeeper K.holds K.may_leave K.clean K.failures keeper.old keeper.new
         (λ fault. IsErrOf result (Store fault)) }
 {
-    let room = room_for(buffer.len(), left);
+    let room = left.min(buffer.len() as u64) as usize;
     keeper.read_piece(alloc, name, path, offset, &mut buffer[..room])
-}
-
-/// How much to read at a time if this many octets are left.
-fn room_for(len: usize, left: u64) -> usize
-    ensures { result ≡ min len left }
-{
-    if left < len as u64 {
-        left as usize
-    } else {
-        len
-    }
 }

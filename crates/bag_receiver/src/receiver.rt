@@ -9,7 +9,7 @@ ghost use Rattle.bag_ledger.specs.declared.keeper_faults.KeepFault.TheVariants.{
 ghost use Rattle.bag_receiver.specs.Listing.{IsListing};
 ghost use Rattle.bag_receiver.specs.TransferNames.{IsTransferName};
 ghost use Rattle.bag_receiver.specs.LedgerStates.{LedgerState};
-ghost use Rattle.bag_receiver.specs.Receivers.{Does, IsInState, IsKept, plans_in};
+ghost use Rattle.bag_receiver.specs.Receivers.{Does, IsInState, IsKept, SaysOfState, plans_in};
 ghost use Rattle.bag_receiver.specs.ReceiversInside.{IsPlanned, Same};
 
 use crate::transfer_name::is_name;
@@ -66,9 +66,8 @@ impl<K: Keeper> Receiver<K> {
     /// Makes the plan of a transfer if it isn't there yet. Returns whether it is there now.
     pub(crate) fn has_plan(&mut self, alloc: Global, name: &str) -> Result<bool, KeepFault>
         ensures looks { Does K.holds K.may_leave K.clean self.old self.new Same }
-        ensures found { K.clean self.new.keeper → (now : LedgerState)
-            → IsInState K.holds K.may_leave self.old now
-            → IfOk result (IsPlanned name.now now.held (plans_in self.new.plans)) }
+        ensures found { SaysOfState K.holds K.may_leave K.clean self.old self.new (λ now.
+            IfOk result (IsPlanned name.now now.held (plans_in self.new.plans))) }
         ensures named { MatchResult result (λ is_there. IsTrue is_there → IsTransferName name.now)
             (λ fault. IsTransferName name.now) }
         ensures store { CountsIf ((fault : StoreFault) × IsErrOf result (Store fault))

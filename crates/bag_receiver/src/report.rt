@@ -9,9 +9,8 @@ ghost use Rattle.bag_ledger.specs.declared.keeper_faults.KeepFault.TheVariants.{
 ghost use Rattle.bag_receiver.specs.Audits.{Audits};
 ghost use Rattle.bag_receiver.specs.Holdings.{AreValidSizes, IsPlanFor, ReadsKeeper};
 ghost use Rattle.bag_receiver.specs.TransferNames.{IsNamed, IsTransferName};
-ghost use Rattle.bag_receiver.specs.Receivers.{Does, IsInState};
+ghost use Rattle.bag_receiver.specs.Receivers.{Does, SaysOfState};
 ghost use Rattle.bag_receiver.specs.ReceiversInside.{Same};
-ghost use Rattle.bag_receiver.specs.LedgerStates.{LedgerState};
 ghost use Rattle.bag_receiver.specs.Reports.{Reports};
 ghost use Rattle.bag_receiver.specs.ViewAnswers.{IsReporting};
 
@@ -88,10 +87,9 @@ impl<K: Keeper> Receiver<K> {
         basis: Basis,
     ) -> Result<Report, ViewFault>
         ensures looks { Does K.holds K.may_leave K.clean self.old self.new Same }
-        ensures reported { K.clean self.new.keeper → (now : LedgerState)
-            → IsInState K.holds K.may_leave self.old now
-            → MatchResult result (Reports now.held name.now)
-            (λ fault. fault ≡ ViewFault.NoTransfer → IsNamed now.held name.now None) }
+        ensures reported { SaysOfState K.holds K.may_leave K.clean self.old self.new (λ now.
+            MatchResult result (Reports now.held name.now)
+            (λ fault. fault ≡ ViewFault.NoTransfer → IsNamed now.held name.now None)) }
         ensures judged { ¬ IsTransferName name.now → IsErrOf result ViewFault.NoTransfer }
         ensures store { CountsIf ((fault : StoreFault)
             × IsErrOf result (ViewFault.Keeper (KeepFault.Store fault)))

@@ -1,7 +1,7 @@
 use Rattle.std.proofs.Common.{◌≡◌, ◌<◌, ◌++◌, List, length}
 use Rattle.bag_rules.specs.Plans.{sizes_of}
 use Rattle.bag_rules.specs.declared.plan.ItemSize.{ItemSize}
-use Rattle.bag_receiver.specs.AuditsInside.{AreSound, AreWhole}
+use Rattle.bag_receiver.specs.Auditeds.{AreSound, AreWhole}
 use Rattle.bag_receiver.specs.Holdings.{IsPlanFor}
 use Rattle.bag_receiver.proofs.Words.{Files, IsPlanOf, items_of, Ledger, Reads}
 use Rattle.bag_receiver.proofs.audit.passing_sizes.Given as goal

@@ -13,7 +13,7 @@ loop-i-preserved c =
     let before = c.loop-i.invariant in
     let placed : IsPlaced c.loop-i.tags (string_bytes file.0) = c.in_default.ensures.placed.0 in
     record {
-      tags_are = tags_at files i file c.loop-i.tags c.place.new.tags c.loop-i-test.true c.index-files-i.is before.tags_are c.in_default.ensures.placed.1;
+      tags_are = tags_at files i file c.loop-i.tags c.add_lightened.new.tags c.loop-i-test.true c.index-files-i.is before.tags_are c.in_default.ensures.placed.1;
       none = placed_at files i file c.loop-i-test.true c.index-files-i.is before.none (subst (λ (tags : Files). IsPlaced tags (string_bytes file.0)) before.tags_are placed);
     }
 

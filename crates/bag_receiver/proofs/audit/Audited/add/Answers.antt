@@ -1,9 +1,9 @@
 use Rattle.std.proofs.Common.{◌∙◌, ◌++◌, ◌∷◌, [], ap, subst, sym}
 use Rattle.bag_rules.specs.Plans.{item_paths}
-use Rattle.bag_receiver.specs.AuditsInside.{AreWhole}
+use Rattle.bag_receiver.specs.Auditeds.{AreWhole}
 use Rattle.bag_receiver.proofs.ValidSizes.{rising_without}
 use Rattle.bag_receiver.proofs.Words.{AreRising}
-use Rattle.bag_receiver.proofs.audited.Audited.add.Goals as goal
+use Rattle.bag_receiver.proofs.audit.Audited.add.Goals as goal
 
 pub returns-in_ok-push_next-in-Valid-clause-sound : goal.returns-in_ok-push_next-in-Valid-clause-sound
 returns-in_ok-push_next-in-Valid-clause-sound c = λ tags sound some.

@@ -2,7 +2,7 @@ use Rattle.std.proofs.Common.{◌∙◌, sym, subst, rules}
 use Rattle.bag_receiver.proofs.PlaceLemmas.{held_by, not_listed, of_plan, place_found, text_refused}
 use Rattle.bag_receiver.proofs.ReceiverLemmas.{found_there, plan_at}
 use Rattle.bag_receiver.proofs.Words.{err_from_is_err_and, IsExpected, IsWantOf}
-use Rattle.bag_receiver.proofs.deliver.place_of.Goals as goal
+use Rattle.bag_receiver.proofs.deliver.slot_of.Goals as goal
 
 pub returns-in_err-path-clause-finds : goal.returns-in_err-path-clause-finds
 returns-in_err-path-clause-finds g c =

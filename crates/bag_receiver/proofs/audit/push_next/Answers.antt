@@ -1,6 +1,6 @@
 use Rattle.std.proofs.Common.{◌≡◌, ◌++◌, ◌∷◌, [], rules, sym}
 use Rattle.bag_receiver.proofs.ValidSizes.{valid_more, valid_rising}
-use Rattle.bag_receiver.proofs.audited.push_next.Goals as goal
+use Rattle.bag_receiver.proofs.audit.push_next.Goals as goal
 
 pub returns-clause-sound : goal.returns-clause-sound
 returns-clause-sound c = λ tags valid some.

@@ -1,9 +1,9 @@
 use Rattle.std.proofs.Common.{◌≤◌, ℕ, Vec, arith, ap, length, refl}
 use Rattle.std.specs.declared.alloc.Global.{Global}
-use Rattle.bag_digest.specs.declared.reading.TheConstants.{PIECE}
+use Rattle.bag_digest.specs.declared.buffers.TheConstants.{PIECE}
 use Rattle.std.proofs.lemmas.List.{length_push}
 use Rattle.bag_receiver.proofs.AuditedLemmas.{all_small, held_more, sound_more, whole_more}
-use Rattle.bag_receiver.proofs.audited.Audited.hold.Goals as goal
+use Rattle.bag_receiver.proofs.audit.Audited.hold.Goals as goal
 
 pub invariant_of-result : goal.invariant_of-result
 invariant_of-result c =

@@ -1,11 +1,11 @@
 use Rattle.std.proofs.Common.{◌≡◌, ◌≤◌, ◌++◌, List, drop, length, map}
 use Rattle.bag_rules.specs.Plans.{item_paths}
 use Rattle.bag_rules.specs.declared.plan.ItemSize.{ItemSize}
-use Rattle.bag_receiver.specs.AuditsInside.{AreSound, AreWhole}
+use Rattle.bag_receiver.specs.Auditeds.{AreSound, AreWhole}
 use Rattle.bag_receiver.specs.Holdings.{AreValidSizes}
-use Rattle.bag_receiver.specs.declared.audited.Untested.{Untested}
+use Rattle.bag_receiver.specs.declared.audit.Untested.{Untested}
 use Rattle.bag_receiver.proofs.Words.{AreRising, Files}
-use Rattle.bag_receiver.proofs.audited.Audited.settle.Given as goal
+use Rattle.bag_receiver.proofs.audit.Audited.settle.Given as goal
 
 abbrev pub invariant-loop-known : goal.invariant-loop-known
 invariant-loop-known l =

@@ -1,6 +1,6 @@
 use Rattle.std.proofs.Common.{sym}
 use Rattle.bag_receiver.proofs.ValidSizes.{comes_behind, comes_first, last_before}
-use Rattle.bag_receiver.proofs.audited.comes_after.Goals as goal
+use Rattle.bag_receiver.proofs.audit.comes_after.Goals as goal
 
 pub returns-in-Some-clause-rising : goal.returns-in-Some-clause-rising
 returns-in-Some-clause-rising c = comes_behind c.args.files.now c.args.file.now c.in-Some.last.now c.lt.result (sym c.in-Some.ensures.value) c.lt.ensures

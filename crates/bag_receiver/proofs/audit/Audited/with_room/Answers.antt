@@ -1,6 +1,6 @@
 use Rattle.std.proofs.Common.{subst}
-use Rattle.bag_receiver.specs.AuditsInside.{AreWhole}
-use Rattle.bag_receiver.proofs.audited.Audited.with_room.Goals as goal
+use Rattle.bag_receiver.specs.Auditeds.{AreWhole}
+use Rattle.bag_receiver.proofs.audit.Audited.with_room.Goals as goal
 
 pub returns-clause-sound : goal.returns-clause-sound
 returns-clause-sound c = λ tags sound. c.of.ensures.sound tags (c.in_ok-settle.ensures.sound tags sound)

@@ -4,7 +4,7 @@ use Rattle.bag_digest.specs.ShortContents.{IsHeld}
 use Rattle.bag_ledger.specs.declared.keeper_faults.KeepFault.TheVariants.{Store}
 use Rattle.bag_receiver.proofs.AuditLemmas.{none_is_read, reads_on, taken_more, took_more}
 use Rattle.bag_receiver.proofs.CountLemmas.{no_fault}
-use Rattle.bag_receiver.proofs.reread.read_whole.Goals as goal
+use Rattle.bag_receiver.proofs.audit.read_whole.Goals as goal
 
 pub returns-then-n-eq0-clause-took : goal.returns-then-n-eq0-clause-took
 returns-then-n-eq0-clause-took g c = λ clean content item sized.

@@ -1,7 +1,7 @@
 use Rattle.std.proofs.Common.{◌≡◌, ◌∙◌, ap, subst}
 use Rattle.bag_receiver.proofs.BeginPlaces.{not_placed_by, placed_by}
 use Rattle.bag_receiver.proofs.Words.{emptied, IsUtf8}
-use Rattle.bag_receiver.proofs.begin.place.Goals as goal
+use Rattle.bag_receiver.proofs.begin.add_lightened.Goals as goal
 
 pub returns-clause-placed : goal.returns-clause-placed
 returns-clause-placed c =

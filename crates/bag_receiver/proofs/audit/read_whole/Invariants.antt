@@ -3,7 +3,7 @@ use Rattle.bag_digest.specs.ShortContents.{IsHeld, Took}
 use Rattle.bag_receiver.specs.Holdings.{HasItem}
 use Rattle.bag_receiver.proofs.AuditLemmas.{HasTaken}
 use Rattle.bag_receiver.proofs.Words.{Reads}
-use Rattle.bag_receiver.proofs.reread.read_whole.Given as goal
+use Rattle.bag_receiver.proofs.audit.read_whole.Given as goal
 
 abbrev pub invariant-loop-read : goal.invariant-loop-read
 invariant-loop-read g l =
