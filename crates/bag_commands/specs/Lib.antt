@@ -1,7 +1,6 @@
 pub mod AnswerTexts
 pub mod BeginTexts
 pub mod CheckTexts
-pub mod Checking
 pub mod ExportTexts
 pub mod FaultTexts
 pub mod FetchTexts

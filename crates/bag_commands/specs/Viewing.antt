@@ -5,8 +5,7 @@ use Rattle.bag_rules.specs.Validity.{IsValid}
 use Rattle.bag_ledger.specs.Ledgers.{Ledger, Transfer}
 use Rattle.bag_receiver.specs.declared.receiver.Receiver.{Receiver}
 use Rattle.bag_receiver.specs.TransferNames.{IsNamed}
-use Rattle.bag_receiver.specs.Receivers.{IsInState}
-use Rattle.bag_receiver.specs.LedgerStates.{LedgerState}
+use Rattle.bag_receiver.specs.Receivers.{SaysOfState}
 use Rattle.bag_commands.specs.declared.status.TheConstants.{VALID}
 
 -- the transfer with this name has a valid bag
@@ -17,5 +16,5 @@ HoldsValidBag ledger name = (transfer : Transfer) × IsNamed ledger name (Some t
 -- If it is 0 and the keeper is clean, the transfer held a valid bag.
 abbrev pub IsValidIfZero : {K : Type 0} → (K → Ledger → Type 0) → (K → Ledger → Type 0)
     → (K → Type 0) → List ℕ → Receiver K → Receiver K → ℕ → Type 0
-IsValidIfZero holds may_leave clean name old new status = status ≡ VALID → clean new.keeper
-    → (now : LedgerState) → IsInState holds may_leave old now → HoldsValidBag now.held name
+IsValidIfZero holds may_leave clean name old new status = status ≡ VALID
+    → SaysOfState holds may_leave clean old new (λ now. HoldsValidBag now.held name)

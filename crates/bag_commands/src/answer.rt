@@ -1,11 +1,8 @@
-//! Answers to deliveries, as lines.
-ghost use Rattle.std.specs.Prelude.{◌≡◌};
-ghost use Rattle.bag_commands.specs.AnswerTexts.{answer_status};
+//! Answers to deliveries, and outcomes of what was asked for, as lines.
 
-use crate::status::{DONE, FAILED, REFUSED};
 use bag_ledger::KeepFault;
 use bag_path::{BagPath, Spelling};
-use bag_receiver::{Answer, DeliverFault};
+use bag_receiver::{Answer, DeliverFault, FetchAnswer, FetchOutcome};
 use std::fmt::{Display, Formatter, Result, Write};
 
 /// The answer to a delivery, as a line.
@@ -33,6 +30,27 @@ impl Display for AnswerLine<'_> {
     }
 }
 
+/// The outcome of an entry of `fetch.txt` that was asked for, as a line.
+#[derive(Clone, Copy)]
+pub(crate) struct OutcomeLine<'a>(pub &'a FetchOutcome);
+
+impl Display for OutcomeLine<'_> {
+    ghost use Rattle.std.specs.Prelude.{Some};
+    ghost use Rattle.bag_commands.specs.FetchTexts.{outcome_text};
+
+    ghost output = { λ line. Some (outcome_text line.0.now) };
+
+    fn fmt<W: Write>(&self, f: &mut Formatter<W>) -> Result {
+        let path = Spelling(&self.0.path);
+        match self.0.answer {
+            FetchAnswer::Taken => write!(f, "taken {path}"),
+            FetchAnswer::NotSupplied => write!(f, "refused {path}: not supplied"),
+            FetchAnswer::SupplierFailed => write!(f, "refused {path}: supplier"),
+            FetchAnswer::Refused(fault) => write!(f, "refused {path}: {}", RefusalText(fault)),
+        }
+    }
+}
+
 /// Why a delivery was refused.
 #[derive(Clone, Copy)]
 pub struct RefusalText(pub DeliverFault);
@@ -55,17 +73,5 @@ impl Display for RefusalText {
             DeliverFault::Keeper(KeepFault::Memory) => f.write_str("memory"),
             DeliverFault::Keeper(KeepFault::Store(_)) => f.write_str("store"),
         }
-    }
-}
-
-/// The status for an answer: 0 if the content is held, 3 if a read, the store or memory failed, 1 for any other
-/// refusal.
-pub fn answer_status(answer: Answer) -> u8
-    ensures { result ≡ answer_status answer }
-{
-    match answer {
-        Answer::Taken | Answer::Repeated => DONE,
-        Answer::Refused(DeliverFault::Reader | DeliverFault::Keeper(_)) => FAILED,
-        Answer::Refused(_) => REFUSED,
     }
 }

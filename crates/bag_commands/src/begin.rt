@@ -7,7 +7,7 @@ ghost use Rattle.bag_commands.specs.Outputs.{Printed, PrintedOne};
 use crate::fault_line::{FaultLine, OutsideLine};
 use crate::no_result::NoResult;
 use crate::output::Output;
-use crate::status::{DONE, FAILED, OUTSIDE, REFUSED};
+use crate::status::begin_status;
 use bag_ledger::Keeper;
 use bag_path::Spelling;
 use bag_receiver::{BeginFault, Begun, Receiver};
@@ -42,19 +42,7 @@ pub fn print_beginning<W: Write + Drop>(
     ensures { Printed W.contents out.old out.new result
         (begin_line answer.now ∷ []) (begin_status answer.now) }
 {
-    out.print(BeginLine(answer), status_of(answer))
-}
-
-/// The status for a result.
-fn status_of(answer: &Result<Begun, BeginFault>) -> u8
-    ensures { result ≡ begin_status answer.now }
-{
-    match answer {
-        Ok(_) => DONE,
-        Err(BeginFault::Outside(_)) => OUTSIDE,
-        Err(BeginFault::Tree | BeginFault::Keeper(_)) => FAILED,
-        Err(_) => REFUSED,
-    }
+    out.print(BeginLine(answer), begin_status(answer))
 }
 
 /// A result of `begin` as a line.

@@ -3,16 +3,16 @@ ghost use Rattle.std.specs.Prelude.{◌≡◌, ◌≤◌, [], OnErr, OnOk};
 ghost use Rattle.std.specs.Io.Buffered.{writer_buffer};
 ghost use Rattle.bag_digest.specs.Failures.{Rises};
 ghost use Rattle.bag_rules.specs.Bags.{Bag, IsBagOf};
+ghost use Rattle.bag_rules.specs.Checking.{ChecksTree};
 ghost use Rattle.bag_rules.specs.Validity.{IsValid};
 ghost use Rattle.bag_commands.specs.Outputs.{Printed, PrintedBy, WroteLines};
-ghost use Rattle.bag_commands.specs.Checking.{IsAnswer};
 ghost use Rattle.bag_commands.specs.CheckTexts.{check_lines, check_status};
 
 use crate::fault_line::OutsideLine;
 use crate::no_result::NoResult;
 use crate::output::Output;
-use crate::status::{FAILED, OUTSIDE, VALID};
-use crate::verdict::{report_status, write_report};
+use crate::status::{FAILED, VALID, check_status};
+use crate::verdict::write_report;
 use bag_digest::Failed;
 use bag_rules::{CheckFault, OpenTree, Outcome, check};
 use std::alloc::Global;
@@ -28,7 +28,7 @@ pub fn check_to<T: OpenTree, W: Write + Drop>(
     ensures valid { result ≡ VALID
         → (bag : Bag) → IsBagOf (T.shown tree.old) bag → IsValid bag }
     ensures printed { PrintedBy W.contents check_lines check_status out.old out.new result
-        (IsAnswer T.shown T.failures T.sure tree.old tree.new) }
+        (ChecksTree T.shown T.failures T.sure tree.old tree.new) }
 {
     let answer = check(alloc, tree);
     print_outcome(&answer, out)
@@ -44,7 +44,7 @@ pub fn print_outcome<W: Write + Drop>(
         (check_lines outcome.now) (check_status outcome.now) }
 {
     match write_outcome(outcome, out) {
-        Ok(()) => status_of(outcome),
+        Ok(()) => check_status(outcome),
         Err(Failed) => FAILED,
     }
 }
@@ -64,15 +64,4 @@ fn write_outcome<W: Write + Drop>(
         Err(fault) => out.line(NoResult::from(fault).text())?,
     }
     out.flush()
-}
-
-/// The status for a result.
-fn status_of(outcome: &Result<Outcome, CheckFault>) -> u8
-    ensures { result ≡ check_status outcome.now }
-{
-    match outcome {
-        Ok(Outcome::Judged(report)) => report_status(report),
-        Ok(Outcome::Outside(_)) => OUTSIDE,
-        Err(_) => FAILED,
-    }
 }

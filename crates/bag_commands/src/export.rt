@@ -4,9 +4,9 @@ ghost use Rattle.bag_receiver.specs.Exporting.{IsExporting};
 ghost use Rattle.bag_commands.specs.ExportTexts.{export_fault_line, export_status, export_text};
 ghost use Rattle.bag_commands.specs.Outputs.{Printed, PrintedOne};
 
-use crate::no_result::NoResult;
+use crate::no_result::{NO_TRANSFER, NoResult};
 use crate::output::Output;
-use crate::status::{DONE, FAILED, REFUSED};
+use crate::status::export_status;
 use bag_ledger::Keeper;
 use bag_receiver::{ExportFault, Receiver};
 use bag_writer::Sink;
@@ -39,7 +39,7 @@ fn print_export<W: Write + Drop>(answer: Result<u64, ExportFault>, out: &mut Out
     ensures { Printed W.contents out.old out.new result
         (export_text answer ∷ []) (export_status answer) }
 {
-    out.print(ExportLine(answer), status_of(answer))
+    out.print(ExportLine(answer), export_status(answer))
 }
 
 /// The line that says why no bag, or only part of one, was exported.
@@ -47,20 +47,9 @@ fn fault_line(fault: ExportFault) -> &'static str
     ensures { result.now ≡ export_fault_line fault }
 {
     match fault {
-        ExportFault::NoTransfer => "bag: no transfer",
+        ExportFault::NoTransfer => NO_TRANSFER,
         ExportFault::Sink => NoResult::Files.text(),
         ExportFault::Keeper(why) => NoResult::from(why).text(),
-    }
-}
-
-/// The status for a result.
-fn status_of(answer: Result<u64, ExportFault>) -> u8
-    ensures { result ≡ export_status answer }
-{
-    match answer {
-        Ok(_) => DONE,
-        Err(ExportFault::NoTransfer) => REFUSED,
-        Err(ExportFault::Sink | ExportFault::Keeper(_)) => FAILED,
     }
 }
 

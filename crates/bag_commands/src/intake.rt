@@ -7,10 +7,10 @@ ghost use Rattle.bag_commands.specs.IntakesInside.{told_of};
 ghost use Rattle.bag_commands.specs.IntakeTexts.{Told, answer_lines, end_status, intake_lines, intake_status, run_lines, run_status, no_result_of_end};
 ghost use Rattle.bag_commands.specs.Outputs.{Printed, WroteLines};
 
-use crate::answer::{AnswerLine, answer_status};
+use crate::answer::AnswerLine;
 use crate::no_result::NoResult;
 use crate::output::Output;
-use crate::status::{DONE, FAILED};
+use crate::status::{DONE, FAILED, run_status};
 use bag_digest::Failed;
 use bag_ledger::Keeper;
 use bag_path::BagPath;
@@ -121,26 +121,5 @@ fn no_result_of_end(ended: End) -> Option<NoResult>
         End::TooMany => Some(NoResult::TooMany),
         End::Courier => Some(NoResult::Files),
         End::Memory => Some(NoResult::Memory),
-    }
-}
-
-/// The status for a run: the maximum of those of its answers and its end.
-fn run_status(run: &Run) -> u8
-    ensures { (paths : _) → result ≡ run_status (told_of run.now paths) }
-{
-    let mut status = DONE;
-    for answer in &run.answers {
-        status = status.max(answer_status(*answer));
-    }
-    status.max(end_status(run.ended))
-}
-
-/// The status for the end of a run.
-fn end_status(ended: End) -> u8
-    ensures { result ≡ end_status ended }
-{
-    match ended {
-        End::Done => DONE,
-        End::TooMany | End::Courier | End::Memory => FAILED,
     }
 }

@@ -8,7 +8,7 @@ ghost use Rattle.bag_commands.specs.Outputs.{PrintedBy, WroteLines};
 
 use crate::no_result::NoResult;
 use crate::output::Output;
-use crate::status::{DONE, FAILED};
+use crate::status::{FAILED, list_status};
 use bag_digest::Failed;
 use bag_ledger::{KeepFault, Keeper};
 use bag_path::TextSpelling;
@@ -59,14 +59,4 @@ fn write_each<W: Write + Drop>(names: &[String], out: &mut Output<W>) -> Result<
         out.line(TextSpelling(name.as_str()))?;
     }
     Ok(())
-}
-
-/// The status for the names.
-fn list_status(names: &Result<Vec<String>, KeepFault>) -> u8
-    ensures { result ≡ list_status names.now }
-{
-    match names {
-        Ok(_) => DONE,
-        Err(_) => FAILED,
-    }
 }

@@ -7,7 +7,7 @@ ghost use Rattle.bag_commands.specs.Outputs.{Printed};
 
 use crate::no_result::NoResult;
 use crate::output::Output;
-use crate::status::{DONE, FAILED, REFUSED, USAGE};
+use crate::status::{DONE, USAGE, make_status};
 use bag_digest::{Alg, AlgSet};
 use bag_tags::{Info, Oxum};
 use bag_writer::{CopiedTree, Large, OpenSink, Spec, WriteFault, write_bag};
@@ -110,18 +110,7 @@ pub fn print_making<W: Write + Drop>(answer: &Result<Oxum, WriteFault>, out: &mu
     ensures { Printed W.contents out.old out.new result
         (make_text answer.now ∷ []) (make_status answer.now) }
 {
-    out.print(MakingLine(answer), making_status(answer))
-}
-
-/// The status for a result.
-fn making_status(answer: &Result<Oxum, WriteFault>) -> u8
-    ensures { result ≡ make_status answer.now }
-{
-    match answer {
-        Ok(_) => DONE,
-        Err(WriteFault::Tree | WriteFault::Sink | WriteFault::Memory) => FAILED,
-        Err(_) => REFUSED,
-    }
+    out.print(MakingLine(answer), make_status(answer))
 }
 
 /// The line that says why no bag, or only part of one, was made.

@@ -9,6 +9,9 @@ use bag_ledger::KeepFault;
 use bag_rules::CheckFault;
 use std::io::Write;
 
+/// The line of a command on a transfer that isn't there. Its status is that of a refusal.
+pub(crate) const NO_TRANSFER: &str = "bag: no transfer";
+
 /// Why a command ended without a result.
 #[derive(Clone, Copy, Debug, PartialEq, Eq)]
 pub enum NoResult {

@@ -7,10 +7,10 @@ ghost use Rattle.bag_commands.specs.Outputs.{Printed, PrintedBy, WroteLines};
 ghost use Rattle.bag_commands.specs.Viewing.{IsValidIfZero};
 ghost use Rattle.bag_commands.specs.ViewTexts.{view_fault_line, view_fault_status, view_lines, view_status};
 
-use crate::no_result::NoResult;
+use crate::no_result::{NO_TRANSFER, NoResult};
 use crate::output::Output;
-use crate::status::{FAILED, REFUSED};
-use crate::verdict::{report_status, write_report};
+use crate::status::{FAILED, view_status};
+use crate::verdict::write_report;
 use bag_digest::Failed;
 use bag_ledger::Keeper;
 use bag_receiver::{Receiver, ViewFault};
@@ -46,7 +46,7 @@ pub(crate) fn print_view<W: Write + Drop>(
         (view_lines answer.now) (view_status answer.now) }
 {
     match write_view(answer, out) {
-        Ok(()) => status_of(answer),
+        Ok(()) => view_status(answer),
         Err(Failed) => FAILED,
     }
 }
@@ -72,27 +72,7 @@ pub fn fault_line(fault: ViewFault) -> &'static str
     ensures { result.now ≡ view_fault_line fault }
 {
     match fault {
-        ViewFault::NoTransfer => "bag: no transfer",
+        ViewFault::NoTransfer => NO_TRANSFER,
         ViewFault::Keeper(why) => NoResult::from(why).text(),
-    }
-}
-
-/// The status for this fault.
-pub fn fault_status(fault: ViewFault) -> u8
-    ensures { result ≡ view_fault_status fault }
-{
-    match fault {
-        ViewFault::NoTransfer => REFUSED,
-        ViewFault::Keeper(_) => FAILED,
-    }
-}
-
-/// The status for an answer.
-fn status_of(answer: &Result<Report, ViewFault>) -> u8
-    ensures { result ≡ view_status answer.now }
-{
-    match answer {
-        Ok(report) => report_status(report),
-        Err(fault) => fault_status(*fault),
     }
 }

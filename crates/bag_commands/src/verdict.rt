@@ -2,11 +2,10 @@
 ghost use Rattle.std.specs.Prelude.{◌≡◌, OnErr, OnOk};
 ghost use Rattle.bag_digest.specs.Failures.{Rises};
 ghost use Rattle.bag_commands.specs.Outputs.{WroteLines};
-ghost use Rattle.bag_commands.specs.VerdictTexts.{report_lines, report_status, verdict_text};
+ghost use Rattle.bag_commands.specs.VerdictTexts.{report_lines, verdict_text};
 
 use crate::fault_line::FaultLine;
 use crate::output::Output;
-use crate::status::{NOT_VALID, VALID};
 use bag_digest::Failed;
 use bag_rules::Report;
 use std::io::Write;
@@ -37,11 +36,4 @@ pub fn verdict_text(report: &Report) -> &'static str
     } else {
         "not complete"
     }
-}
-
-/// The status for a report.
-pub fn report_status(report: &Report) -> u8
-    ensures { result ≡ report_status report.now }
-{
-    if report.is_valid() { VALID } else { NOT_VALID }
 }

@@ -1,10 +1,10 @@
 -- What a fault tells, and what a trouble tells.
 use Rattle.std.proofs.Common.{◌≡◌, ℕ, Bool, List, None, Option, Some, Result, Ok, Err, false, inl, true, refl, subst, sym}
 use Rattle.std.specs.Prelude.{IfErr, IfSome, IsErr, MatchResult, OnSome}
-use Rattle.bag_folder.specs.declared.open_fault.OpenFault.{OpenFault}
-use Rattle.bag_folder.specs.declared.open_fault.OpenFault.TheVariants.{Files, Memory}
+use Rattle.bag_folder.specs.declared.fault.OpenFault.{OpenFault}
+use Rattle.bag_folder.specs.declared.fault.OpenFault.TheVariants.{Files, Memory}
 use Rattle.bag_folder.specs.declared.place.Place.{Place}
-use Rattle.bag_folder.specs.declared.cause.Cause.{Cause}
+use Rattle.bag_folder.specs.declared.fault.Cause.{Cause}
 use Rattle.bag_folder.specs.Directories.{IsUnfit, Listing, name_below}
 use Rattle.bag_folder.specs.Faults.{IfUnfit, TellsBelow}
 use Rattle.bag_folder.specs.Folders.{IsRefused}

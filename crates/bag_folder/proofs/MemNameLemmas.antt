@@ -6,8 +6,8 @@ use Rattle.std.proofs.lemmas.Slice.Eq.{bytes_eq-Decides}
 use Rattle.std.specs.Prelude.{if◌then◌else◌}
 use Rattle.std.specs.Str.{bytes_eq}
 use Rattle.std.specs.declared.io.Error.{Error}
-use Rattle.bag_folder.specs.declared.directory.EntryKind.{EntryKind}
-use Rattle.bag_folder.specs.declared.directory.EntryKind.TheVariants.{File, Directory, Link, Special}
+use Rattle.bag_folder.specs.declared.entry_kind.EntryKind.{EntryKind}
+use Rattle.bag_folder.specs.declared.entry_kind.EntryKind.TheVariants.{File, Directory, Link, Special}
 use Rattle.bag_folder.specs.Directories.{EntryShown}
 use Rattle.bag_folder.specs.MemNames.{behind_of, content_of, named_by, standing_of}
 use Rattle.bag_folder.specs.DiskNames.{Grows, IsMade, IsOnTheWay, IsVacant, MakesOne, MakesWay, Named, Standing, behind, content, itself, told_in}

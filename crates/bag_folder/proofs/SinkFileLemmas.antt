@@ -1,7 +1,7 @@
 -- Files that are begun in a folder.
 use Rattle.std.proofs.Common.{◌≡◌, ℕ, List, None, Option, Some, Result, Ok, Err, ap, arith, refl, subst, sym}
 use Rattle.std.specs.Prelude.{IfOk, IfSome, IsSomeAnd, MatchResult, OnSome}
-use Rattle.bag_folder.specs.declared.cause.Cause.{Cause}
+use Rattle.bag_folder.specs.declared.fault.Cause.{Cause}
 use Rattle.bag_folder.specs.Directories.{name_below}
 use Rattle.bag_folder.specs.DiskNames.{Changes, HoldsNothing, MakesFile, Standing}
 use Rattle.bag_folder.specs.SinkFiles.{BeginsBelow, IsBegunAt, MakesBegun, SinkFileShown}

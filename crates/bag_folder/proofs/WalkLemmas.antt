@@ -6,9 +6,9 @@ use Rattle.std.proofs.lemmas.Bool.{or_cases, or_left, or_right}
 use Rattle.std.proofs.lemmas.List.Elements.{All-nil, All-cons, All-head, All-tail, All-push, All-weaker, All-contains, All-contains_itself, Contains-append_left, Contains-append_right, Contains-append_cases, Contains-push, Contains-push_cases}
 use Rattle.std.proofs.lemmas.Slice.Eq.{bytes_eq-Decides}
 use Rattle.std.specs.declared.io.Error.{Error}
-use Rattle.bag_folder.specs.declared.directory.EntryKind.{EntryKind}
-use Rattle.bag_folder.specs.declared.directory.EntryKind.TheVariants.{File, Directory, Link, Special}
-use Rattle.bag_folder.specs.declared.cause.Cause.{Cause}
+use Rattle.bag_folder.specs.declared.entry_kind.EntryKind.{EntryKind}
+use Rattle.bag_folder.specs.declared.entry_kind.EntryKind.TheVariants.{File, Directory, Link, Special}
+use Rattle.bag_folder.specs.declared.fault.Cause.{Cause}
 use Rattle.bag_folder.specs.Directories.{EntryShown, Listing, HasEntry, IsFront, AtFolder, Inside, IsBelow, IsUnfit, Unlisted, NotAllowed, Stands, name_below}
 use Rattle.bag_folder.specs.Walks.{EntryFits, FitsBag, LooksInto, RefusesFront, Walked, with_entry, with_path}
 

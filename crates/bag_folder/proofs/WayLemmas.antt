@@ -7,10 +7,10 @@ use Rattle.std.specs.Prelude.{⊤, IfSome, MatchResult, OnSome}
 use Rattle.std.specs.IoError.{error_kind}
 use Rattle.std.specs.declared.io.Error.{Error}
 use Rattle.std.specs.declared.io.ErrorKind.TheVariants.{IsADirectory}
-use Rattle.bag_folder.specs.declared.directory.EntryKind.{EntryKind}
-use Rattle.bag_folder.specs.declared.directory.EntryKind.TheVariants.{File, Directory, Link, Special}
-use Rattle.bag_folder.specs.declared.cause.Cause.{Cause}
-use Rattle.bag_folder.specs.declared.cause.Cause.TheVariants as why
+use Rattle.bag_folder.specs.declared.entry_kind.EntryKind.{EntryKind}
+use Rattle.bag_folder.specs.declared.entry_kind.EntryKind.TheVariants.{File, Directory, Link, Special}
+use Rattle.bag_folder.specs.declared.fault.Cause.{Cause}
+use Rattle.bag_folder.specs.declared.fault.Cause.TheVariants as why
 use Rattle.bag_folder.specs.Directories.{name_below}
 use Rattle.bag_folder.specs.DiskNames.{LeadsTo, Standing, content, itself}
 use Rattle.bag_folder.specs.Supplying.{Absent, Finds, Hidden, InFile, IsBarred, IsDirectory, IsGiven, IsLink, IsMet, IsReached, IsSpecial, Meets, Says, Shut}

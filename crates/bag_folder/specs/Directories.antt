@@ -10,10 +10,10 @@ use Rattle.std.specs.declared.io.ErrorKind.TheVariants.{OutOfMemory}
 use Rattle.bag_path.specs.declared.path.PathFault.{PathFault}
 use Rattle.bag_path.specs.Paths.{is_payload, path_fault}
 use Rattle.bag_tags.specs.Words.{without}
-use Rattle.bag_folder.specs.declared.directory.EntryKind.{EntryKind}
-use Rattle.bag_folder.specs.declared.directory.EntryKind.TheVariants.{File, Directory, Link, Special}
-use Rattle.bag_folder.specs.declared.cause.Cause.{Cause}
-use Rattle.bag_folder.specs.declared.cause.Cause.TheVariants as why
+use Rattle.bag_folder.specs.declared.entry_kind.EntryKind.{EntryKind}
+use Rattle.bag_folder.specs.declared.entry_kind.EntryKind.TheVariants.{File, Directory, Link, Special}
+use Rattle.bag_folder.specs.declared.fault.Cause.{Cause}
+use Rattle.bag_folder.specs.declared.fault.Cause.TheVariants as why
 use Rattle.bag_folder.specs.Unfits.{IsCauseOf}
 
 -- the name of a path below a folder

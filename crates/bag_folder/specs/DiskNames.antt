@@ -2,9 +2,9 @@
 use Rattle.std.specs.Prelude.{◌≡◌, ◌≢◌, ◌⊎◌, ⊤, ℕ, All, List, [], Option, None, Some, Result, Ok, Err, IfSome, MatchResult, OnOk, ◌∷◌, if◌then◌else◌}
 use Rattle.std.specs.Str.{bytes_eq}
 use Rattle.std.specs.declared.io.Error.{Error}
-use Rattle.bag_folder.specs.declared.directory.EntryKind.{EntryKind}
-use Rattle.bag_folder.specs.declared.directory.EntryKind.TheVariants.{File, Directory}
-use Rattle.bag_folder.specs.declared.cause.Cause.{Cause}
+use Rattle.bag_folder.specs.declared.entry_kind.EntryKind.{EntryKind}
+use Rattle.bag_folder.specs.declared.entry_kind.EntryKind.TheVariants.{File, Directory}
+use Rattle.bag_folder.specs.declared.fault.Cause.{Cause}
 use Rattle.bag_folder.specs.Directories.{name_below}
 use Rattle.bag_folder.specs.Unfits.{IsCauseOf}
 

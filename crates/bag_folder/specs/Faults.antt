@@ -5,10 +5,10 @@ use Rattle.std.specs.declared.io.Error.{Error}
 use Rattle.std.specs.declared.io.ErrorKind.TheVariants.{OutOfMemory}
 use Rattle.bag_path.specs.declared.path.PathFault.{PathFault}
 use Rattle.bag_path.specs.declared.path.PathFault.TheVariants as path_fault
-use Rattle.bag_folder.specs.declared.open_fault.OpenFault.{OpenFault}
-use Rattle.bag_folder.specs.declared.open_fault.OpenFault.TheVariants.{Files, Memory}
+use Rattle.bag_folder.specs.declared.fault.OpenFault.{OpenFault}
+use Rattle.bag_folder.specs.declared.fault.OpenFault.TheVariants.{Files, Memory}
 use Rattle.bag_folder.specs.declared.place.Place.{Place}
-use Rattle.bag_folder.specs.declared.cause.Cause.TheVariants.{NoName, NoPath}
+use Rattle.bag_folder.specs.declared.fault.Cause.TheVariants.{NoName, NoPath}
 use Rattle.bag_folder.specs.Folders.{path_below, told_name}
 use Rattle.bag_folder.specs.Unfits.{IsCauseOf, UnfitShown}
 

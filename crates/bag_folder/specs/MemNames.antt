@@ -1,8 +1,8 @@
 -- What stands under names in memory.
 use Rattle.std.specs.Prelude.{ℕ, List, [], Option, Some, Result, Ok, Err, map}
 use Rattle.std.specs.declared.io.Error.{Error}
-use Rattle.bag_folder.specs.declared.directory.EntryKind.{EntryKind}
-use Rattle.bag_folder.specs.declared.directory.EntryKind.TheVariants.{File, Link}
+use Rattle.bag_folder.specs.declared.entry_kind.EntryKind.{EntryKind}
+use Rattle.bag_folder.specs.declared.entry_kind.EntryKind.TheVariants.{File, Link}
 use Rattle.bag_folder.specs.Directories.{EntryShown}
 use Rattle.bag_folder.specs.DiskNames.{Named, Standing}
 

@@ -5,7 +5,7 @@ use Rattle.std.specs.declared.io.Error.{Error}
 use Rattle.bag_digest.specs.Failures.{one_more}
 use Rattle.bag_rules.specs.OpenTrees.{IsOpened, LeavesRest}
 use Rattle.bag_rules.specs.Trees.{Shown, paths_in}
-use Rattle.bag_folder.specs.declared.cause.Cause.{Cause}
+use Rattle.bag_folder.specs.declared.fault.Cause.{Cause}
 use Rattle.bag_folder.specs.Directories.{name_below}
 use Rattle.bag_folder.specs.Folders.{FolderShown, SameShown, path_below}
 use Rattle.bag_folder.specs.DiskNames.{Standing, content}

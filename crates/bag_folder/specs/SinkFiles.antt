@@ -2,7 +2,7 @@
 use Rattle.std.specs.Prelude.{◌≡◌, ◌<◌, ⊤, ℕ, List, Option, None, Result, IfSome, IsErr, IsSomeAnd, MatchResult, OnSome, is_some, option_map}
 use Rattle.bag_digest.specs.Failures.{one_more}
 use Rattle.bag_writer.specs.OpenSinks.{IsBegun, LeavesSink}
-use Rattle.bag_folder.specs.declared.cause.Cause.{Cause}
+use Rattle.bag_folder.specs.declared.fault.Cause.{Cause}
 use Rattle.bag_folder.specs.Directories.{name_below}
 use Rattle.bag_folder.specs.DiskNames.{Changes, Grows, HoldsNothing, IsFileMade, IsWay, Standing}
 use Rattle.bag_folder.specs.SinkFolders.{SinkShown, WritesBegun}

@@ -6,10 +6,10 @@ use Rattle.std.specs.declared.io.ErrorKind.TheVariants.{IsADirectory, NotADirect
 use Rattle.std.proofs.Common.{◌∙◌}
 use Rattle.bag_digest.specs.Failures.{one_more}
 use Rattle.bag_receiver.specs.Suppliers.{Supply}
-use Rattle.bag_folder.specs.declared.directory.EntryKind.{EntryKind}
-use Rattle.bag_folder.specs.declared.directory.EntryKind.TheVariants.{File, Directory, Link, Special}
-use Rattle.bag_folder.specs.declared.cause.Cause.{Cause}
-use Rattle.bag_folder.specs.declared.cause.Cause.TheVariants as why
+use Rattle.bag_folder.specs.declared.entry_kind.EntryKind.{EntryKind}
+use Rattle.bag_folder.specs.declared.entry_kind.EntryKind.TheVariants.{File, Directory, Link, Special}
+use Rattle.bag_folder.specs.declared.fault.Cause.{Cause}
+use Rattle.bag_folder.specs.declared.fault.Cause.TheVariants as why
 use Rattle.bag_folder.specs.Directories.{name_below}
 use Rattle.bag_folder.specs.DiskNames.{IsOnTheWay, LeadsTo, Standing, content, itself}
 use Rattle.bag_folder.specs.Unfits.{IsCauseOf, UnfitShown}

@@ -4,8 +4,8 @@ use Rattle.std.specs.IoError.{error_kind, raw_os_error}
 use Rattle.std.specs.declared.io.Error.{Error}
 use Rattle.std.specs.declared.io.ErrorKind.TheVariants.{InvalidFilename}
 use Rattle.bag_digest.specs.Failures.{one_more}
-use Rattle.bag_folder.specs.declared.cause.Cause.{Cause}
-use Rattle.bag_folder.specs.declared.cause.Cause.TheVariants.{NotUtf8, System}
+use Rattle.bag_folder.specs.declared.fault.Cause.{Cause}
+use Rattle.bag_folder.specs.declared.fault.Cause.TheVariants.{NotUtf8, System}
 
 -- its path, and why it can't be used
 pub record UnfitShown : Type 0 where

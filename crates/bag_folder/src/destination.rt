@@ -3,8 +3,8 @@ ghost use Rattle.std.specs.Prelude.{◌≡◌, IfErr, IfOk, MatchResult, None, S
 ghost use Rattle.bag_folder.specs.Faults.{IfUnfit};
 ghost use Rattle.bag_folder.specs.SinkFolders.{IsCreated};
 
-use crate::open_fault::OpenFault;
-use crate::sink::FolderSink;
+use crate::fault::OpenFault;
+use crate::folder_sink::FolderSink;
 use std::alloc::Global;
 use std::fs;
 use std::marker::Model;

@@ -2,34 +2,34 @@
 //! payload files, and as a supplier that is asked for them.
 #![tactic(auto)]
 
-pub use cause::{Cause, Unfit};
-pub use courier::TreeCourier;
 pub use destination::Destination;
-pub use directory::{Directories, Disk, Entry, EntryKind};
-pub use disk_names::Names;
+pub use entries::{Directories, Disk, Entry};
+pub use entry_kind::EntryKind;
+pub use fault::{Cause, OpenFault, Unfit};
+pub use file_system::Names;
+pub use folder_file::FolderFile;
+pub use folder_sink::FolderSink;
+pub use folder_sink_file::FolderSinkFile;
+pub use folder_supplier::FolderSupplier;
+pub use folder_tree::FolderTree;
 pub use mem_names::MemNames;
-pub use open_fault::OpenFault;
-pub use open_file::FolderFile;
 pub use place::Place;
-pub use sink::FolderSink;
-pub use sink_file::FolderSinkFile;
-pub use supplier::FolderSupplier;
-pub use tree::FolderTree;
+pub use tree_courier::TreeCourier;
 
-mod cause;
-mod courier;
 mod destination;
-mod directory;
-mod disk_names;
-mod file_name;
+mod entries;
+mod entry_kind;
+mod fault;
+mod file_system;
+mod folder_file;
+mod folder_sink;
+mod folder_sink_file;
+mod folder_supplier;
+mod folder_tree;
+mod in_payload;
 mod mem_names;
-mod open_fault;
-mod open_file;
-mod payload;
+mod name_on_disk;
 mod place;
-mod sink;
-mod sink_file;
-mod supplier;
-mod tree;
+mod tree_courier;
 mod troubles;
 mod walk;

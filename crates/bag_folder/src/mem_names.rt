@@ -3,8 +3,9 @@ ghost use Rattle.std.specs.Prelude.{Some};
 ghost use Rattle.bag_folder.specs.MemNames.{standing_of};
 ghost use Rattle.bag_folder.specs.DiskNames.{MakesOne};
 
-use crate::directory::{Entry, EntryKind};
-use crate::disk_names::Names;
+use crate::entries::Entry;
+use crate::entry_kind::EntryKind;
+use crate::file_system::Names;
 use std::alloc::Global;
 use std::io::{self, ErrorKind};
 
@@ -69,7 +70,7 @@ impl Names for MemNames {
         self.add(name, EntryKind::Directory)
     }
 
-    fn make_folders(&mut self, name: &str) -> io::Result<()> {
+    fn make_directories(&mut self, name: &str) -> io::Result<()> {
         match self.kind(name) {
             Ok(EntryKind::Directory) => Ok(()),
             _ => self.add(name, EntryKind::Directory),

@@ -3,7 +3,7 @@ ghost use Rattle.std.specs.Prelude.{◌≡◌, ◌-◌, IfOk, IsErr, IsTrue, Mat
 ghost use Rattle.bag_digest.specs.Failures.{IsRaised};
 ghost use Rattle.bag_folder.specs.Unfits.{CountsTrouble};
 
-use crate::cause::{Cause, Unfit};
+use crate::fault::{Cause, Unfit};
 use bag_digest::{Failed, Failures};
 use std::alloc::{AllocError, Global};
 use std::marker::Model;

@@ -1,13 +1,14 @@
 //! A walk through the directories below a folder.
-ghost use Rattle.std.specs.Prelude.{◌≡◌, ◌++◌, ◌∷◌, [], Some, IfErr, MatchOption, MatchResult, OnOk, string_bytes};
+ghost use Rattle.std.specs.Prelude.{◌≡◌, ◌↔◌, ◌++◌, ◌∷◌, [], Contains, ℕ, List, Some, IfErr, MatchOption, MatchResult, OnOk, string_bytes};
+ghost use Rattle.bag_rules.specs.Trees.{AreRising};
 ghost use Rattle.bag_folder.specs.Directories.{IsBelow, IsUnfit, Listing};
 ghost use Rattle.bag_folder.specs.Faults.{IfUnfit};
 ghost use Rattle.bag_folder.specs.Walks.{LooksInto, RefusesFront, Walked};
 
-use crate::cause::{Cause, Unfit};
-use crate::directory::{Directories, EntryKind};
-use crate::file_name::spell;
-use crate::open_fault::OpenFault;
+use crate::entries::Directories;
+use crate::entry_kind::EntryKind;
+use crate::fault::{Cause, OpenFault, Unfit};
+use crate::name_on_disk::spell;
 use bag_path::BagPath;
 use std::alloc::Global;
 use std::marker::Model;
@@ -133,6 +134,7 @@ fn look_into<D: Directories>(
         RefusesFront listing folder.now front.now unfit.path unfit.cause)) }
 {
     let mut directory = String::new(alloc);
+    // The name ends in a slash. So a symbolic link in place of the folder itself is followed.
     spell(&mut directory, folder, front)?;
     let entries = match disk.entries(alloc, directory.as_str()) {
         Ok(entries) => entries,
@@ -147,4 +149,14 @@ fn look_into<D: Directories>(
         found.take(alloc, path, entry.kind)?;
     }
     Ok(())
+}
+
+/// The paths in the order of their octets, each once.
+pub(crate) fn in_order(mut paths: Vec<BagPath>) -> Vec<BagPath>
+    ensures rising { AreRising result.items }
+    ensures kept { (path : List ℕ) → Contains result.items path ↔ Contains paths.items path }
+{
+    paths.sort_unstable();
+    paths.dedup();
+    paths
 }

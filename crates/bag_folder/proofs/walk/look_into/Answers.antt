@@ -2,7 +2,7 @@ use Rattle.std.proofs.Common.{◌≡◌, ◌++◌, ◌<◌, ◌+◌, ℕ, List, 
 use Rattle.std.specs.Prelude.{fold}
 use Rattle.std.proofs.lemmas.Grind.{common_steps}
 use Rattle.std.proofs.lemmas.List.Elements.{All-more}
-use Rattle.bag_folder.specs.declared.directory.EntryKind.{EntryKind}
+use Rattle.bag_folder.specs.declared.entry_kind.EntryKind.{EntryKind}
 use Rattle.bag_folder.specs.Directories.{EntryShown}
 use Rattle.bag_folder.specs.Walks.{EntryFits, FitsBag, Walked, with_entry, with_path}
 use Rattle.bag_folder.proofs.walk.look_into.Goals as goal

@@ -1,5 +1,0 @@
-use Rattle.bag_folder.specs.Directories.{AreGiven}
-use Rattle.bag_folder.proofs.directory.gathered.Given as goal
-
-abbrev pub invariant-loop-given : goal.invariant-loop-given
-invariant-loop-given g l = AreGiven l.yielded l.entries.items

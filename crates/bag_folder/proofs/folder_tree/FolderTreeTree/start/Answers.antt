@@ -1,0 +1,50 @@
+use Rattle.std.proofs.Common.{◌≡◌, ◌<◌, ℕ, List, Option, Result, Ok, Err, false, true, ap, length, refl, sym, subst, rules, string_bytes}
+use Rattle.std.specs.Prelude.{IfErr, IsErr, IsSomeAnd, OnOk, OnSome}
+use Rattle.std.proofs.lemmas.Option.{slice_get_read}
+use Rattle.bag_rules.specs.Trees.{paths_in}
+use Rattle.bag_folder.specs.Directories.{name_below}
+use Rattle.std.specs.List.{slice_get}
+use Rattle.bag_folder.specs.Folders.{FolderShown, path_below}
+use Rattle.bag_folder.specs.declared.fault.Cause.{Cause}
+use Rattle.bag_folder.proofs.FaultLemmas.{OnSome-weaker, told_by_name}
+use Rattle.bag_folder.proofs.Listings.{found_at, paths_seen}
+use Rattle.bag_folder.proofs.folder_tree.FolderTreeTree.start.Goals as goal
+use Rattle.bag_folder.proofs.folder_tree.FolderTreeTree.start.Goals.{in-Ok, in-Err}
+
+on_ok : {A E : Type 0} (result : Result A E) (P : Type 0) → P → OnOk result P
+on_ok (Ok value) P here = here
+on_ok (Err error) P here = tt
+
+false_is_not_true : false ≡ true → ⊥
+false_is_not_true h = cc
+
+no_ok : {A E : Type 0} (result : Result A E) (P : Type 0) → IsErr result → OnOk result P
+no_ok (Ok value) P never = absurd (false_is_not_true never)
+no_ok (Err error) P failed = tt
+
+pub returns-clause-exactly : goal.returns-clause-exactly
+returns-clause-exactly g c =
+    let seen = paths_seen c.args.self.now c.self.inside.paths.items c.self.inside.has_dir (ap (λ (tree : FolderShown). tree.shown) c.self.view_is) in
+    let at = slice_get_read c.self.inside.paths.items (length c.self.inside.paths.items) c.args.i c.index.result.now refl (subst (λ (paths : List (List ℕ)). c.args.i < length paths) seen c.requires) c.index.ensures in
+    let IsNamed = λ (name : List ℕ). IsSomeAnd (slice_get (paths_in c.args.self.now.shown) c.args.i) (λ path. name ≡ name_below c.args.self.now.folder (path_below c.args.self.now.place path)) in
+    let spelled = name_below c.args.self.now.folder (path_below c.args.self.now.place c.index.result.now) in
+    let here : IsNamed spelled = found_at c.self.inside.paths.items (paths_in c.args.self.now.shown) c.args.i c.index.result.now seen at (λ path. spelled ≡ name_below c.args.self.now.folder (path_below c.args.self.now.place path)) refl in
+    elim c.match-opened.branch [
+      | in-Ok w ↦
+          let named : string_bytes c.match-opened.self-inside.name ≡ spelled = search rules in
+          record {
+            named = on_ok c.counted.result _ (subst IsNamed (sym named) here);
+            changes = search rules;
+            told = told_by_name c.match-opened.answer c.counted.result c.as_str-3.result.now c.match-opened.self-inside.troubles c.counted.new.self IsNamed c.counted.ensures.answer c.counted.ensures.counted
+                (subst (λ (a : Result (Unit {0}) (Option Cause)). IfErr a (λ cause. OnSome cause (IsNamed c.as_str-3.result.now))) (sym w.answer-is) tt);
+          }
+      | in-Err w ↦
+          let named : (string_bytes c.opened.new.name ≡ name_below c.as_str-2.result.now c.path_below-path.result.now) → c.as_str-3.result.now ≡ spelled = λ opened. (search rules) in
+          record {
+            named = no_ok c.counted.result _ (search rules);
+            changes = search rules;
+            told = told_by_name c.match-opened.answer c.counted.result c.as_str-3.result.now c.match-opened.self-inside.troubles c.counted.new.self IsNamed c.counted.ensures.answer c.counted.ensures.counted
+                (subst (λ (a : Result (Unit {0}) (Option Cause)). IfErr a (λ cause. OnSome cause (IsNamed c.as_str-3.result.now))) (sym w.answer-is)
+                (OnSome-weaker w.in-Err.cause (string_bytes c.opened.new.name ≡ name_below c.as_str-2.result.now c.path_below-path.result.now) (IsNamed c.as_str-3.result.now) (λ opened. subst IsNamed (sym (named opened)) here) w.in-Err.ensures.named));
+          }
+    ]
