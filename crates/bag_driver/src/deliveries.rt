@@ -19,7 +19,7 @@ use bag_writer::MemSink;
 use std::alloc::Global;
 use std::io::{self, Write};
 
-/// Answers calls in a ledger that is not opened again.
+/// Answers calls in a ledger that isn't opened again.
 impl<K: Keeper + Drop> Answers for Receiver<K> {
     fn answer<W: Write + Drop>(
         &mut self,

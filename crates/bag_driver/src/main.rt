@@ -12,7 +12,7 @@
 //! copies them into a map; `bag_driver items FILES` only makes them. The status is 0 if all were taken.
 //!
 //! `bag_driver stop FILE CALLS HOW SEED DATABASE` does the work on standard input in the ledger of a database, and
-//! stops at a call of one of its files; `tests/stops.py` describes it.
+//! stops at a call of one of its files; `tests/crashes.py` describes it.
 //!
 //! `bag_driver ALG PIECES` computes the digest of this many pieces of 65,536 octets.
 //!
@@ -31,6 +31,7 @@
 #![tactic(auto)]
 
 use bag_digest::{Alg, AlgSet, Multi, piece_buffer};
+use crashes::{Calls, stop};
 use feeding::Feeds;
 use lines::answer_lines;
 use refusals::{answer_over, answer_refused};
@@ -38,7 +39,6 @@ use std::alloc::{AllocError, Global};
 use std::env;
 use std::io::{self, BufWriter, Write};
 use std::process::ExitCode;
-use stopped::{Calls, stop};
 use timed_deliveries::receive;
 use timed_tag_files::{plan, read};
 
@@ -52,6 +52,7 @@ mod breaking_supplier;
 mod breaking_tree;
 mod breaking_writer;
 mod commanding;
+mod crashes;
 mod deliveries;
 mod drafting;
 mod event;
@@ -65,7 +66,6 @@ mod planning;
 mod reading;
 mod refusals;
 mod shown;
-mod stopped;
 mod timed_deliveries;
 mod timed_tag_files;
 mod valuing;
@@ -93,15 +93,15 @@ fn work(rt: &HostRuntime) -> io::Result<u8> {
 /// The same, with the lines written to `out`.
 fn work_into<W: Write + Drop>(rt: &HostRuntime, words: &[String], out: &mut W) -> io::Result<u8> {
     let alloc = rt.alloc();
-    match words.len() {
-        1 if words[0].as_str() == "feeds" => {
+    match words {
+        [word] if word.as_str() == "feeds" => {
             answer_lines(rt, &mut Feeds, out)?;
             Ok(0)
         }
-        2 if words[0].as_str() == "calls" => answer_over(rt, words[1].as_str(), out),
-        2 => measure(alloc, words[0].as_str(), words[1].as_str()),
-        5 if words[0].as_str() == "refusals" => answer_refused(rt, words, out),
-        6 if words[0].as_str() == "stop" => stop_at(rt, words, out),
+        [word, keeper] if word.as_str() == "calls" => answer_over(rt, keeper.as_str(), out),
+        [work, number] => measure(alloc, work.as_str(), number.as_str()),
+        [word, _, _, _, _] if word.as_str() == "refusals" => answer_refused(rt, words, out),
+        [word, _, _, _, _, _] if word.as_str() == "stop" => stop_at(rt, words, out),
         _ => Ok(64),
     }
 }

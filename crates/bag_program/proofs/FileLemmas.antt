@@ -39,13 +39,13 @@ use Rattle.sqlite_wal.specs.Files.{outcomes}
 use Rattle.sqlite_wal.specs.Recovery.{Image}
 use Rattle.bag_program.specs.LedgerFiles.{AreOpenOn, HoldsLedgerAlone, HoldsLedgerIn, IsAsItWas, IsHandedBack, IsNumbered, IsRefusal, IsStopOf, IsUnopened, IsUnused, MayBeLeft, Migrates, NoAnswer, NoDatabase, NoFile, OpensOrMakes, Refused as WasRefused}
 use Rattle.bag_program.specs.Unopened.{HasNoAnswer, cause_barred, cause_of_error, cause_of_fault, cause_of_store, cause_unmade, fault_barred, fault_unmade}
-use Rattle.bag_program.specs.declared.locking.Barred.{Barred}
-use Rattle.bag_program.specs.declared.locking.Barred.TheVariants as why
-use Rattle.bag_program.specs.declared.found_ledger.Seen.{Seen}
-use Rattle.bag_program.specs.declared.unopened_ledger.Left.{Left}
-use Rattle.bag_program.specs.declared.unopened_ledger.Left.TheVariants as left
-use Rattle.bag_program.specs.declared.unopened_ledger.LedgerCause.{LedgerCause}
-use Rattle.bag_program.specs.declared.unopened_ledger.Unopened.{Unopened}
+use Rattle.bag_program.specs.declared.ledgers.locking.Barred.{Barred}
+use Rattle.bag_program.specs.declared.ledgers.locking.Barred.TheVariants as why
+use Rattle.bag_program.specs.declared.ledgers.found_ledger.Seen.{Seen}
+use Rattle.bag_program.specs.declared.ledgers.unopened_ledger.Left.{Left}
+use Rattle.bag_program.specs.declared.ledgers.unopened_ledger.Left.TheVariants as left
+use Rattle.bag_program.specs.declared.ledgers.unopened_ledger.LedgerCause.{LedgerCause}
+use Rattle.bag_program.specs.declared.ledgers.unopened_ledger.Unopened.{Unopened}
 
 -- what a connection that was opened found
 pub opened_on : (image : Image) (s : State) (ledger : Ledger) → FindsIn image s → Opens s × IsLive s → HoldsLedgerIn image ledger → IsOpenedOn s ledger

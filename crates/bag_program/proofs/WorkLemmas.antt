@@ -14,8 +14,8 @@ use Rattle.bag_commands.specs.Intakes.{TakesIn}
 use Rattle.bag_commands.specs.IntakeTexts.{Told}
 use Rattle.bag_commands.specs.Outputs.{Printed}
 use Rattle.bag_commands.specs.NoResultTexts.{no_result_text}
-use Rattle.bag_folder.specs.declared.open_fault.OpenFault.{OpenFault}
-use Rattle.bag_folder.specs.declared.open_fault.OpenFault.TheVariants as open_fault
+use Rattle.bag_folder.specs.declared.fault.OpenFault.{OpenFault}
+use Rattle.bag_folder.specs.declared.fault.OpenFault.TheVariants as open_fault
 use Rattle.bag_folder.specs.declared.place.Place.TheVariants.{Base}
 use Rattle.bag_folder.specs.Bringing.{Bringing, courier_of}
 use Rattle.bag_folder.specs.Directories.{Listing}

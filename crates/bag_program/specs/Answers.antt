@@ -6,7 +6,7 @@ use Rattle.bag_rules.specs.declared.outcome.CheckFault.{CheckFault}
 use Rattle.bag_commands.specs.declared.status.TheConstants.{DONE, FAILED, USAGE}
 use Rattle.bag_commands.specs.declared.output.Output.{Output}
 use Rattle.bag_commands.specs.declared.no_result.NoResult.TheVariants.{Files, Memory}
-use Rattle.bag_commands.specs.Checking.{IsAnswer}
+use Rattle.bag_rules.specs.Checking.{ChecksTree}
 use Rattle.bag_commands.specs.CheckTexts.{check_lines, check_status}
 use Rattle.bag_commands.specs.Outputs.{Printed, PrintedBy}
 use Rattle.bag_commands.specs.NoResultTexts.{no_result_text}
@@ -26,7 +26,7 @@ use Rattle.bag_program.specs.Working.{WorksOn}
 
 -- a result of `check` for an open folder, which may fail
 abbrev pub IsFolderAnswer : FolderShown → FolderShown → Result Outcome CheckFault → Type 0
-IsFolderAnswer = IsAnswer (λ tree. tree.shown) (λ tree. tree.failures) (λ tree. ⊥)
+IsFolderAnswer = ChecksTree (λ tree. tree.shown) (λ tree. tree.failures) (λ tree. ⊥)
 
 -- What `check` prints for a folder, and what is told of it besides. The entries of directories may be known. Either a
 -- result for what was opened under this name, with the reason if there is no answer; or `bag: files` because something

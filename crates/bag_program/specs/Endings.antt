@@ -2,8 +2,8 @@
 use Rattle.std.specs.Prelude.{◌≡◌, ℕ, Bool, List, [], ◌∷◌, None, Option, Result, Some, Err, if◌then◌else◌, codes, length, nat_eq, nat_lt, not}
 use Rattle.std.specs.List.{list_any}
 use Rattle.std.specs.Option.{option_map, option_or}
-use Rattle.bag_folder.specs.declared.open_fault.OpenFault.{OpenFault}
-use Rattle.bag_folder.specs.declared.open_fault.OpenFault.TheVariants as open_fault
+use Rattle.bag_folder.specs.declared.fault.OpenFault.{OpenFault}
+use Rattle.bag_folder.specs.declared.fault.OpenFault.TheVariants as open_fault
 use Rattle.bag_folder.specs.Folders.{FolderShown, path_below}
 use Rattle.bag_folder.specs.declared.place.Place.TheVariants.{Payload}
 use Rattle.bag_folder.specs.Unfits.{UnfitShown}
@@ -22,7 +22,7 @@ use Rattle.bag_program.specs.declared.told_limit.Limit.{Limit}
 use Rattle.bag_program.specs.declared.told_limit.Limit.TheVariants as limit
 use Rattle.bag_program.specs.declared.explanation.Why.{Why}
 use Rattle.bag_program.specs.declared.explanation.Why.TheVariants.{Empty, Exceeds, Ledger, Unfit}
-use Rattle.bag_program.specs.declared.unopened_ledger.LedgerCause.{LedgerCause}
+use Rattle.bag_program.specs.declared.ledgers.unopened_ledger.LedgerCause.{LedgerCause}
 
 -- a command with this status, of which nothing is told
 abbrev pub plain : ℕ → Ended

@@ -27,14 +27,14 @@ use Rattle.sqlite_wal.specs.Files.{outcomes}
 use Rattle.sqlite_wal.specs.Reads.{AreClean}
 use Rattle.sqlite_wal.specs.Recovery.{Image}
 use Rattle.bag_program.specs.Unopened.{HasNoAnswer, cause_of_fault, cause_seen}
-use Rattle.bag_program.specs.declared.found_ledger.Found.TheVariants.{Empty, File, Nothing, Other}
-use Rattle.bag_program.specs.declared.found_ledger.Seen.{Seen}
-use Rattle.bag_program.specs.declared.open_ledger.Closed.{Closed}
-use Rattle.bag_program.specs.declared.open_ledger.Closed.TheVariants as closed
-use Rattle.bag_program.specs.declared.unopened_ledger.Left.{Left}
-use Rattle.bag_program.specs.declared.unopened_ledger.Left.TheVariants as left
-use Rattle.bag_program.specs.declared.unopened_ledger.LedgerCause.TheVariants.{NoDatabase as IsNoDatabase}
-use Rattle.bag_program.specs.declared.unopened_ledger.Unopened.{Unopened}
+use Rattle.bag_program.specs.declared.ledgers.found_ledger.Found.TheVariants.{Empty, File, Nothing, Other}
+use Rattle.bag_program.specs.declared.ledgers.found_ledger.Seen.{Seen}
+use Rattle.bag_program.specs.declared.ledgers.open_ledger.Closed.{Closed}
+use Rattle.bag_program.specs.declared.ledgers.open_ledger.Closed.TheVariants as closed
+use Rattle.bag_program.specs.declared.ledgers.unopened_ledger.Left.{Left}
+use Rattle.bag_program.specs.declared.ledgers.unopened_ledger.Left.TheVariants as left
+use Rattle.bag_program.specs.declared.ledgers.unopened_ledger.LedgerCause.TheVariants.{NoDatabase as IsNoDatabase}
+use Rattle.bag_program.specs.declared.ledgers.unopened_ledger.Unopened.{Unopened}
 
 -- WHAT IS SEEN
 

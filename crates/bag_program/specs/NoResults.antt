@@ -1,8 +1,8 @@
 -- Why a command stops before its work.
 use Rattle.bag_commands.specs.declared.no_result.NoResult.{NoResult}
 use Rattle.bag_commands.specs.declared.no_result.NoResult.TheVariants as no_result
-use Rattle.bag_folder.specs.declared.open_fault.OpenFault.{OpenFault}
-use Rattle.bag_folder.specs.declared.open_fault.OpenFault.TheVariants as open_fault
+use Rattle.bag_folder.specs.declared.fault.OpenFault.{OpenFault}
+use Rattle.bag_folder.specs.declared.fault.OpenFault.TheVariants as open_fault
 
 -- why a folder wasn't opened, as the reason why the command stops
 abbrev pub no_result_of_open : OpenFault → NoResult

@@ -13,13 +13,13 @@ use Rattle.sqlite.specs.declared.error.Error.TheVariants.{SqliteFailure}
 use Rattle.sqlite.specs.declared.error.ErrorCode.TheVariants.{CannotOpen, DatabaseCorrupt, NotADatabase, OutOfMemory}
 use Rattle.sqlite_std_file.specs.declared.pair.OpenError.{OpenError}
 use Rattle.sqlite_std_file.specs.declared.pair.OpenError.TheVariants as opening
-use Rattle.bag_program.specs.declared.locking.Barred.{Barred}
-use Rattle.bag_program.specs.declared.locking.Barred.TheVariants as barred
-use Rattle.bag_program.specs.declared.found_ledger.Found.{Found}
-use Rattle.bag_program.specs.declared.found_ledger.Found.TheVariants as found
-use Rattle.bag_program.specs.declared.unopened_ledger.LedgerCause.{LedgerCause}
-use Rattle.bag_program.specs.declared.unopened_ledger.LedgerCause.TheVariants.{Busy, Database, Empty, Journal, Missing, NoDatabase, NoLedger, NotFile, NotPlain, System}
-use Rattle.bag_program.specs.declared.unopened_ledger.Unopened.{Unopened}
+use Rattle.bag_program.specs.declared.ledgers.locking.Barred.{Barred}
+use Rattle.bag_program.specs.declared.ledgers.locking.Barred.TheVariants as barred
+use Rattle.bag_program.specs.declared.ledgers.found_ledger.Found.{Found}
+use Rattle.bag_program.specs.declared.ledgers.found_ledger.Found.TheVariants as found
+use Rattle.bag_program.specs.declared.ledgers.unopened_ledger.LedgerCause.{LedgerCause}
+use Rattle.bag_program.specs.declared.ledgers.unopened_ledger.LedgerCause.TheVariants.{Busy, Database, Empty, Journal, Missing, NoDatabase, NoLedger, NotFile, NotPlain, System}
+use Rattle.bag_program.specs.declared.ledgers.unopened_ledger.Unopened.{Unopened}
 
 -- the system's error: want of memory is told as such, and any other as it is
 abbrev pub TellsSystem : SystemError → Barred → Type 0

@@ -29,7 +29,7 @@ use Rattle.bag_commands.specs.Outputs.{Printed, PrintedBy, PrintedOne}
 use Rattle.bag_commands.specs.NoResultTexts.{no_result_text}
 use Rattle.bag_commands.specs.Viewing.{IsValidIfZero}
 use Rattle.bag_commands.specs.ViewTexts.{view_lines, view_status}
-use Rattle.bag_folder.specs.declared.open_fault.OpenFault.{OpenFault}
+use Rattle.bag_folder.specs.declared.fault.OpenFault.{OpenFault}
 use Rattle.bag_folder.specs.declared.place.Place.TheVariants.{Base}
 use Rattle.bag_program.specs.declared.explanation.Ended.{Ended}
 use Rattle.bag_program.specs.declared.explanation.Why.{Why}
@@ -41,8 +41,8 @@ use Rattle.bag_folder.specs.Directories.{Listing}
 use Rattle.bag_folder.specs.Folders.{FolderShown, IsOpened, IsRefused}
 use Rattle.bag_program.specs.LedgerFiles.{OpensOrMakes}
 use Rattle.bag_program.specs.declared.ledgers.Ledgers.{Ghosts as Ledgers}
-use Rattle.bag_program.specs.declared.unopened_ledger.LedgerCause.{LedgerCause}
-use Rattle.bag_program.specs.declared.unopened_ledger.Unopened.{Unopened}
+use Rattle.bag_program.specs.declared.ledgers.unopened_ledger.LedgerCause.{LedgerCause}
+use Rattle.bag_program.specs.declared.ledgers.unopened_ledger.Unopened.{Unopened}
 use Rattle.bag_program.specs.Endings.{IsWhyOf, or_why, why_failed, why_undelivered_of, why_unopened}
 use Rattle.bag_program.specs.NoResults.{no_result_of_open}
 use Rattle.bag_program.specs.Making.{IsUnmade, MakesInto}

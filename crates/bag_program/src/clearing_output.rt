@@ -1,7 +1,7 @@
 //! Keeps what a command prints apart from the line of progress.
 ghost use Rattle.std.specs.Prelude.{◌≡◌};
 
-use crate::progress::Progress;
+use crate::progress_line::Progress;
 use std::io::{self, Write};
 use std::marker::Model;
 

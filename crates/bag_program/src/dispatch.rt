@@ -21,12 +21,12 @@ use std::rt::Files;
 pub fn command<R: Files + Eprint, D: Directories, L: Ledgers, W: Write + Drop>(
     system: &System<'_, R, D>,
     ledgers: L,
-    made: &mut Destination<'_, R>,
+    destination: &mut Destination<'_, R>,
     mut words: Vec<String>,
     out: &mut Output<W>,
 ) -> Ended
     ensures { RunsCommand L.Kept.Keeper L.Ledgers W.contents (D.listing system.now.disk.now)
-        (map string_bytes words.items) made.old made.new out.old out.new result }
+        (map string_bytes words.items) destination.old destination.new out.old out.new result }
 {
     if words.is_empty() {
         return Ended::plain(out.print_line(
@@ -42,7 +42,7 @@ pub fn command<R: Files + Eprint, D: Directories, L: Ledgers, W: Write + Drop>(
         return Ended::plain(refuse(system, &given, out));
     };
     match Request::of(name.as_str(), operands.as_slice()) {
-        Some(request) => run_request(system, ledgers, made, &request, out),
+        Some(request) => run_request(system, ledgers, destination, &request, out),
         None => Ended::plain(refuse(system, &given, out)),
     }
 }
@@ -51,29 +51,29 @@ pub fn command<R: Files + Eprint, D: Directories, L: Ledgers, W: Write + Drop>(
 fn run_request<R: Files + Eprint, D: Directories, L: Ledgers, W: Write + Drop>(
     system: &System<'_, R, D>,
     ledgers: L,
-    made: &mut Destination<'_, R>,
+    destination: &mut Destination<'_, R>,
     request: &Request<'_>,
     out: &mut Output<W>,
 ) -> Ended
     ensures { Runs L.Kept.Keeper L.Ledgers W.contents (D.listing system.now.disk.now) request.now
-        made.old made.new out.old out.new result }
+        destination.old destination.new out.old out.new result }
 {
     match request {
         Request::Check { folder } => check_folder(system, folder, out),
         Request::Make {
             source,
-            destination,
+            destination: folder,
             algorithms,
         } => {
             let making = Making {
                 source,
-                destination,
+                destination: folder,
                 names: algorithms,
             };
-            make_folder(system, made, &making, out)
+            make_folder(system, destination, &making, out)
         }
         Request::Ledger { ledger, work } => {
-            work_on_ledger(system, ledgers, made, ledger, work, out)
+            work_on_ledger(system, ledgers, destination, ledger, work, out)
         }
     }
 }

@@ -13,8 +13,8 @@ ghost use Rattle.sqlite.specs.State.{HasCleanDisk, Survives};
 ghost use Rattle.sqlite_wal.specs.Files.{image_at};
 ghost use Rattle.sqlite_wal.specs.Recovery.{Image};
 
+use crate::ledgers::open_ledger::FileKeeper;
 use crate::ledgers::{LedgerFiles, Ledgers};
-use crate::open_ledger::FileKeeper;
 use bag_ledger::Keeper;
 use bag_sqlite::laws::a_stopped_opening_leaves_the_ledger;
 use sqlite::{Connection, FileFrom, FileStore, Start};

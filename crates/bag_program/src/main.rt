@@ -20,9 +20,9 @@ use bag_ledger::Keeper;
 use clearing_output::Clearing;
 use dispatch::command;
 use explanation::Ended;
+use ledgers::open_ledger::FileKeeper;
 use ledgers::{LedgerFiles, Ledgers};
-use open_ledger::FileKeeper;
-use progress::Progress;
+use progress_line::Progress;
 use sqlite::{Start, Unknown};
 use std::alloc::{AllocError, Global};
 use std::env::Env;
@@ -32,27 +32,19 @@ use std::rt::Files;
 use std::{env, io};
 use system::System;
 
-mod abandoned_ledger;
 mod clearing_output;
 mod command_line;
 mod dispatch;
 mod explanation;
-mod found_ledger;
 mod laws;
-mod ledger_file;
-mod ledger_handle;
 mod ledgers;
-mod locked_file;
-mod locking;
-mod meter;
 mod named;
 mod on_disk;
-mod open_ledger;
-mod progress;
+mod progress_line;
+mod progress_meter;
 mod system;
 mod told_limit;
 mod told_name;
-mod unopened_ledger;
 mod usage;
 mod watched;
 
@@ -112,8 +104,8 @@ fn run_words<R: Files + Env + Eprint + AllocGlobal, L: Ledgers, W: Write + Drop>
                     progress: &*progress,
                     alloc,
                 };
-                let mut made = Destination::new(rt);
-                let ended = command(&system, ledgers, &mut made, words, out);
+                let mut destination = Destination::new(rt);
+                let ended = command(&system, ledgers, &mut destination, words, out);
                 progress.clear();
                 explain(rt, ended)
             }

@@ -1,5 +1,5 @@
 //! What a command works with, besides its operands.
-use crate::progress::Progress;
+use crate::progress_line::Progress;
 use std::alloc::Global;
 
 /// The system's files and streams, what its folders have, the line of progress, and where memory comes from.

@@ -5,7 +5,7 @@ use clap::{Arg, Command};
 use std::alloc::{AllocError, Global};
 
 /// The version of the program.
-const VERSION: &str = "1.5.4";
+const VERSION: &str = "1.5.5";
 
 /// The answer to a command line that is no known command.
 #[derive(Debug, Drop)]
@@ -23,7 +23,7 @@ impl Usage {
     ///
     /// Memory ran out.
     pub fn of(alloc: Global, words: &[String]) -> Result<Usage, AllocError> {
-        let mut command = command_line(alloc)?;
+        let mut command = all_commands(alloc)?;
         match command.try_get_matches_from_mut(words) {
             Ok(_) => Ok(Usage::Refused(command.render_usage()?)),
             Err(error) => {
@@ -39,7 +39,7 @@ impl Usage {
 }
 
 /// The commands, each with its operands.
-fn command_line<'a>(alloc: Global) -> Result<Command<'a>, AllocError> {
+fn all_commands<'a>(alloc: Global) -> Result<Command<'a>, AllocError> {
     let command = Command::new(alloc, "bag")
         .about("Checks, makes and receives bags of the BagIt File Packaging Format (RFC 8493)")
         .bin_name("bag")?

@@ -2,7 +2,7 @@
 ghost use Rattle.std.specs.Prelude.{◌≡◌, ◌<◌, length};
 ghost use Rattle.bag_rules.specs.Trees.{paths_in};
 
-use crate::meter::Meter;
+use crate::progress_meter::Meter;
 use bag_digest::{Failed, Source};
 use bag_ledger::{KeepFault, Keeper, PutFault};
 use bag_path::BagPath;

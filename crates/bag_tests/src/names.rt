@@ -13,13 +13,13 @@ fn what_is_new_is_made_and_what_stands_is_refused(rt: HostRuntime) -> Result<(),
     };
     names.make_folder("a")?;
     names.make_file("a/b")?;
-    names.make_folders("a/c")?;
-    names.make_folders("a")?;
+    names.make_directories("a/c")?;
+    names.make_directories("a")?;
     for name in ["a", "a/b", "a/c"] {
         assert!(rt; names.make_folder(name).is_err());
         assert!(rt; names.make_file(name).is_err());
     }
-    assert!(rt; names.make_folders("a/b").is_err());
+    assert!(rt; names.make_directories("a/b").is_err());
     assert!(rt; matches!(names.kind("a"), Ok(EntryKind::Directory)));
     assert!(rt; matches!(names.kind("a/b"), Ok(EntryKind::File)));
     assert!(rt; matches!(names.kind("a/c"), Ok(EntryKind::Directory)));

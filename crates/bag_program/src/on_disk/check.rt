@@ -1,12 +1,12 @@
 //! `bag check DIR`: judges the bag in a folder.
 ghost use Rattle.std.specs.Prelude.{◌≡◌};
-ghost use Rattle.bag_commands.specs.Checking.{IsAnswer};
+ghost use Rattle.bag_rules.specs.Checking.{ChecksTree};
 ghost use Rattle.bag_program.specs.Answers.{PrintsCheck};
 ghost use Rattle.bag_program.specs.Endings.{why_too_many, why_unchecked};
 
 use super::no_result_for_folder;
 use crate::explanation::{Ended, Why};
-use crate::meter::{Activity, Meter};
+use crate::progress_meter::{Activity, Meter};
 use crate::system::System;
 use crate::told_limit::Limit;
 use crate::watched::Watched;
@@ -49,7 +49,7 @@ fn check_watched<T: OpenTree, R: Eprint>(
     tree: T,
     meter: &Meter<'_, R>,
 ) -> (Result<Outcome, CheckFault>, T)
-    ensures { IsAnswer T.shown T.failures T.sure tree result.1 result.0 }
+    ensures { ChecksTree T.shown T.failures T.sure tree result.1 result.0 }
 {
     let mut watched = Watched::new(tree, meter);
     let answer = check(alloc, &mut watched);

@@ -3,7 +3,7 @@ ghost use Rattle.bag_program.specs.Working.{ExportsInto};
 
 use super::no_result_for_folder;
 use crate::explanation::{Ended, Why};
-use crate::meter::{Activity, Meter};
+use crate::progress_meter::{Activity, Meter};
 use crate::system::System;
 use crate::watched::Watched;
 use bag_commands::status::DONE;
@@ -21,24 +21,24 @@ use std::rt::Files;
 /// If the status isn't 0, the folder is given up, that is, removed if it is empty.
 pub fn export_into_folder<K: Keeper, R: Files + Eprint, D, W: Write + Drop>(
     system: &System<'_, R, D>,
-    made: &mut Destination<'_, R>,
+    destination: &mut Destination<'_, R>,
     receiver: &mut Receiver<K>,
     name: &str,
     folder: &str,
     out: &mut Output<W>,
 ) -> Ended
-    ensures { ExportsInto K.Keeper W.contents name.now folder.now made.old made.new
+    ensures { ExportsInto K.Keeper W.contents name.now folder.now destination.old destination.new
         receiver.old receiver.new out.old out.new result }
 {
     let alloc = system.alloc;
-    match made.create(alloc, folder) {
+    match destination.create(alloc, folder) {
         Ok(sink) => {
             let meter = Meter::new(system.progress, Activity::Exporting);
             let mut sink = Watched::new(sink, &meter);
             let status = export_to(alloc, receiver, name, &mut sink, out);
             let sink = sink.into_inside();
             if status != DONE {
-                made.give_up();
+                destination.give_up();
             }
             Ended {
                 status,

@@ -3,7 +3,7 @@ ghost use Rattle.bag_program.specs.Working.{FetchesFrom};
 
 use super::no_result_for_folder;
 use crate::explanation::Ended;
-use crate::meter::{Activity, Meter};
+use crate::progress_meter::{Activity, Meter};
 use crate::system::System;
 use crate::watched::Watched;
 use bag_commands::{Output, fetch_to};

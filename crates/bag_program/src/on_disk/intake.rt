@@ -9,7 +9,7 @@ ghost use Rattle.bag_program.specs.Working.{AreOpened, FirstIsRefused, TakesInFr
 
 use super::no_result_for_folder;
 use crate::explanation::{Ended, Why};
-use crate::meter::{Activity, Meter};
+use crate::progress_meter::{Activity, Meter};
 use crate::system::System;
 use crate::told_limit::{FolderName, Limit};
 use crate::watched::Watched;

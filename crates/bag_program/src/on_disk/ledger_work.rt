@@ -14,10 +14,10 @@ use super::fetch::fetch_from_folder;
 use super::intake::intake_folders;
 use crate::command_line::Work;
 use crate::explanation::{Ended, Why};
+use crate::ledgers::unopened_ledger::Unopened;
 use crate::ledgers::{Ledgers, Opened};
-use crate::meter::{Activity, Meter};
+use crate::progress_meter::{Activity, Meter};
 use crate::system::System;
-use crate::unopened_ledger::Unopened;
 use crate::watched::Watched;
 use bag_commands::status::FAILED;
 use bag_commands::{NoResult, Output, audit_to, list_to, report_to};
@@ -37,19 +37,19 @@ use std::rt::Files;
 pub fn work_on_ledger<R: Files + Eprint, D: Directories, L: Ledgers, W: Write + Drop>(
     system: &System<'_, R, D>,
     ledgers: L,
-    made: &mut Destination<'_, R>,
+    destination: &mut Destination<'_, R>,
     ledger: &str,
     work: &Work<'_>,
     out: &mut Output<W>,
 ) -> Ended
     ensures { WorksOn L.Kept.Keeper L.Ledgers (D.listing system.now.disk.now) W.contents ledger.now
-        work.now made.old made.new out.old out.new result }
+        work.now destination.old destination.new out.old out.new result }
 {
     let meter = Meter::new(system.progress, Activity::Auditing);
     if !matches!(work, Work::Audit { .. }) {
         meter.stop();
     }
-    match open_and_work(system, &meter, ledgers, made, ledger, work, out) {
+    match open_and_work(system, &meter, ledgers, destination, ledger, work, out) {
         Ok(
             Worked {
                 mut receiver,
@@ -98,13 +98,13 @@ fn open_and_work<'a, R: Files + Eprint, D: Directories, L: Ledgers, W: Write + D
     system: &System<'_, R, D>,
     meter: &'a Meter<'a, R>,
     ledgers: L,
-    made: &mut Destination<'_, R>,
+    destination: &mut Destination<'_, R>,
     ledger: &str,
     work: &Work<'_>,
     out: &mut Output<W>,
 ) -> Result<Worked<Watched<'a, L::Kept, R>, L::File>, Unopened<L::Left>>
     ensures works { IfOk result (λ done. Works L.Kept.Keeper L.Ledgers
-        (D.listing system.now.disk.now) W.contents ledger.now work.now made.old made.new
+        (D.listing system.now.disk.now) W.contents ledger.now work.now destination.old destination.new
         done.receiver out.old out.new done.ended) }
     // If a report or an audit answers that a transfer is valid, the ledger that is stored holds a valid bag under this
     // name.
@@ -117,11 +117,11 @@ fn open_and_work<'a, R: Files + Eprint, D: Directories, L: Ledgers, W: Write + D
         → L.Kept.Keeper.clean done.receiver.keeper → (now : LedgerState)
         × IsInState L.Kept.Keeper.holds L.Kept.Keeper.may_leave done.receiver now) }
     ensures unopened { IfErr result (λ it. IsUnopenedFor L.Ledgers ledger.now work.now it
-        × (made.new ≡ made.old) × (out.new ≡ out.old)) }
+        × (destination.new ≡ destination.old) × (out.new ≡ out.old)) }
 {
     let opened = open(ledgers, ledger, work)?;
     let mut receiver = Receiver::new(system.alloc, Watched::new(opened.kept, meter));
-    let ended = do_work(system, made, &mut receiver, work, out);
+    let ended = do_work(system, destination, &mut receiver, work, out);
     Ok(Worked {
         receiver,
         file: opened.file,
@@ -178,13 +178,13 @@ fn close<L: Ledgers>(file: L::File, keeper: L::Kept, is_vain: bool) -> L::Closed
 /// Does the work on an open ledger.
 fn do_work<K: Keeper, R: Files + Eprint, D: Directories, W: Write + Drop>(
     system: &System<'_, R, D>,
-    made: &mut Destination<'_, R>,
+    destination: &mut Destination<'_, R>,
     receiver: &mut Receiver<K>,
     work: &Work<'_>,
     out: &mut Output<W>,
 ) -> Ended
-    ensures { DoesWork K.Keeper (D.listing system.now.disk.now) W.contents work.now made.old
-        made.new receiver.old receiver.new out.old out.new result }
+    ensures { DoesWork K.Keeper (D.listing system.now.disk.now) W.contents work.now destination.old
+        destination.new receiver.old receiver.new out.old out.new result }
 {
     let alloc = system.alloc;
     match work {
@@ -194,7 +194,7 @@ fn do_work<K: Keeper, R: Files + Eprint, D: Directories, W: Write + Drop>(
         Work::Audit { name } => Ended::plain(audit_to(alloc, receiver, name, out)),
         Work::Fetch { name, folder } => fetch_from_folder(system, receiver, name, folder, out),
         Work::Export { name, folder } => {
-            export_into_folder(system, made, receiver, name, folder, out)
+            export_into_folder(system, destination, receiver, name, folder, out)
         }
         Work::List => Ended::plain(list_to(alloc, receiver, out)),
     }

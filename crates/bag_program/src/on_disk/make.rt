@@ -5,7 +5,7 @@ ghost use Rattle.bag_program.specs.Making.{MakesFolder, MakesInto, PrintsMake, m
 
 use super::no_result_for_folder;
 use crate::explanation::{Ended, Why};
-use crate::meter::{Activity, Meter};
+use crate::progress_meter::{Activity, Meter};
 use crate::system::System;
 use crate::told_limit::Limit;
 use crate::watched::Watched;
@@ -37,19 +37,19 @@ pub struct Making<'a> {
 /// status isn't 0, the destination is given up, that is, removed if it is empty.
 pub fn make_folder<R: Files + Eprint, D: Directories, W: Write + Drop>(
     system: &System<'_, R, D>,
-    made: &mut Destination<'_, R>,
+    destination: &mut Destination<'_, R>,
     making: &Making<'_>,
     out: &mut Output<W>,
 ) -> Ended
     ensures { PrintsMake W.contents (D.listing system.now.disk.now) (words_given making.now)
-        made.old made.new out.old out.new result }
+        destination.old destination.new out.old out.new result }
 {
     let alloc = system.alloc;
     match FolderTree::open_payload(system.rt, system.disk, alloc, making.source) {
         Ok(tree) => {
             let meter = Meter::new(system.progress, Activity::Copying);
             meter.expect_files(tree.count());
-            let (answer, tree) = make_watched(alloc, making, tree, &meter, made, out);
+            let (answer, tree) = make_watched(alloc, making, tree, &meter, destination, out);
             answer.ended.or(why_unmade(tree, answer.large))
         }
         Err(fault) => no_result_for_folder(fault, out),
@@ -71,16 +71,16 @@ fn make_watched<T: CopiedTree, R: Files + Eprint, W: Write + Drop>(
     making: &Making<'_>,
     tree: T,
     meter: &Meter<'_, R>,
-    made: &mut Destination<'_, R>,
+    destination: &mut Destination<'_, R>,
     out: &mut Output<W>,
 ) -> (Made, T)
     ensures { MakesInto W.contents (MakesFolder W.contents T.shown T.failures T.sure
         tree result.1 (words_given making.now).names out.old out.new (make_end result.0))
         ((result.1 ≡ tree) × (result.0.large ≡ None)) making.now.destination.now
-        made.old made.new out.old out.new result.0.ended }
+        destination.old destination.new out.old out.new result.0.ended }
 {
     let mut watched = Watched::new(tree, meter);
-    let answer = make_into(alloc, making, &mut watched, made, out);
+    let answer = make_into(alloc, making, &mut watched, destination, out);
     (answer, watched.into_inside())
 }
 
@@ -89,19 +89,19 @@ fn make_into<T: CopiedTree, R: Files, W: Write + Drop>(
     alloc: Global,
     making: &Making<'_>,
     tree: &mut T,
-    made: &mut Destination<'_, R>,
+    destination: &mut Destination<'_, R>,
     out: &mut Output<W>,
 ) -> Made
     ensures { MakesInto W.contents (MakesFolder W.contents T.shown T.failures T.sure
         tree.old tree.new (words_given making.now).names out.old out.new (make_end result))
         ((tree.new ≡ tree.old) × (result.large ≡ None)) making.now.destination.now
-        made.old made.new out.old out.new result.ended }
+        destination.old destination.new out.old out.new result.ended }
 {
-    match made.create(alloc, making.destination) {
+    match destination.create(alloc, making.destination) {
         Ok(mut sink) => {
             let MakeEnd { status, large } = make_to(alloc, making.names, tree, &mut sink, out);
             if status != DONE {
-                made.give_up();
+                destination.give_up();
             }
             let why = Why::of_failures(sink.failures(), sink.into_trouble());
             Made {

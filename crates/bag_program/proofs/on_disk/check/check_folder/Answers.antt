@@ -1,6 +1,6 @@
 use Rattle.std.proofs.Common.{◌≡◌, ◌∷◌, ℕ, List, [], Option}
-use Rattle.bag_folder.specs.declared.open_fault.OpenFault.{OpenFault}
-use Rattle.bag_folder.specs.declared.open_fault.OpenFault.TheVariants as open_fault
+use Rattle.bag_folder.specs.declared.fault.OpenFault.{OpenFault}
+use Rattle.bag_folder.specs.declared.fault.OpenFault.TheVariants as open_fault
 use Rattle.bag_commands.specs.declared.output.Output.{Output}
 use Rattle.bag_commands.specs.declared.status.TheConstants.{FAILED}
 use Rattle.bag_program.specs.declared.explanation.Ended.{Ended}

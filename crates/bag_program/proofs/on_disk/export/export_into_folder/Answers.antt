@@ -10,9 +10,9 @@ pub returns-after-status-ne-DONE : goal.returns-after-status-ne-DONE
 returns-after-status-ne-DONE g c =
     let status = c.export_to-status.result in
     let folder = c.args.folder.now in
-    let after : c.if-status-ne-DONE.made ≡ kept_folder folder status = elim c.if-status-ne-DONE.branch [
-      | then-status-ne-DONE w ↦ given_up folder status c.if-status-ne-DONE.made w.give_up.new.self w.made-is w.give_up.ensures w.if-status-ne-DONE.true
-      | else-status-ne-DONE w ↦ kept folder status c.if-status-ne-DONE.made c.create.new.self w.made-is c.in-Ok.ensures.made w.if-status-ne-DONE.false
+    let after : c.if-status-ne-DONE.destination ≡ kept_folder folder status = elim c.if-status-ne-DONE.branch [
+      | then-status-ne-DONE w ↦ given_up folder status c.if-status-ne-DONE.destination w.give_up.new.self w.destination-is w.give_up.ensures w.if-status-ne-DONE.true
+      | else-status-ne-DONE w ↦ kept folder status c.if-status-ne-DONE.destination c.create.new.self w.destination-is c.in-Ok.ensures.made w.if-status-ne-DONE.false
     ] in
     let failures = c.failures.ensures ∙ ap (λ (sink : SinkShown). sink.failures) c.into_inside-sink.ensures in
     let trouble = c.into_trouble.ensures ∙ ap (λ (sink : SinkShown). sink.trouble) c.into_inside-sink.ensures in

@@ -1,6 +1,6 @@
 use Rattle.std.proofs.Common.{◌≡◌, ◌∙◌, ◌∷◌, ℕ, List, [], Option, ap, refl}
-use Rattle.bag_folder.specs.declared.open_fault.OpenFault.{OpenFault}
-use Rattle.bag_folder.specs.declared.open_fault.OpenFault.TheVariants as open_fault
+use Rattle.bag_folder.specs.declared.fault.OpenFault.{OpenFault}
+use Rattle.bag_folder.specs.declared.fault.OpenFault.TheVariants as open_fault
 use Rattle.bag_commands.specs.declared.output.Output.{Output}
 use Rattle.bag_commands.specs.declared.status.TheConstants.{FAILED}
 use Rattle.bag_folder.specs.declared.place.Place.TheVariants.{Payload}
@@ -30,5 +30,5 @@ returns-in-Ok g c =
 pub returns-in-Err : goal.returns-in-Err
 returns-in-Err g c =
     let stopped = c.no_result_for_folder.ensures in
-    not_opened g.W.Write.contents (g.D.Directories.listing c.args.system.now.disk.now) (words_given c.args.making.now) c.args.made.now c.args.out.now c.no_result_for_folder.new.out c.no_result_for_folder.result c.in-Err.fault
+    not_opened g.W.Write.contents (g.D.Directories.listing c.args.system.now.disk.now) (words_given c.args.making.now) c.args.destination.now c.args.out.now c.no_result_for_folder.new.out c.no_result_for_folder.result c.in-Err.fault
     c.in-Err.ensures.refused stopped.printed stopped.why

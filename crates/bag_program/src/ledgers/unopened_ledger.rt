@@ -1,0 +1,203 @@
+//! Why a ledger wasn't opened.
+ghost use Rattle.std.specs.Prelude.{◌≡◌, ◌≢◌, Some};
+ghost use Rattle.bag_program.specs.Unopened.{cause_barred, cause_of_error, cause_of_fault, cause_of_store, cause_seen, cause_unmade, fault_barred, fault_unmade};
+ghost use Rattle.bag_sqlite.specs.Refusing.{adopt_fault};
+ghost use Rattle.bag_sqlite.specs.declared.adopting.AdoptFault.TheVariants.{NotALedger};
+
+use crate::ledgers::found_ledger::{Found, Seen};
+use crate::ledgers::locking::{Barred, NotLocked};
+use bag_ledger::KeepFault;
+use bag_sqlite::AdoptFault;
+use sqlite::{Connection, Error, ErrorCode, FileStore, Leftover};
+use sqlite_disk::Disk;
+use std::fmt::{self, Display, Formatter};
+use std::io;
+
+/// The error of a store that told none: no database was opened.
+const UNTOLD: Error = Error::SqliteFailure(ErrorCode::CannotOpen);
+
+/// The error of a store that gave what no sound database gives, and told none.
+const DAMAGED: Error = Error::SqliteFailure(ErrorCode::DatabaseCorrupt);
+
+/// Why a ledger wasn't opened, and what is left of it.
+#[derive(Drop)]
+pub struct Unopened<L> {
+    /// The fault that is printed.
+    pub fault: AdoptFault,
+    /// The cause, if it is known and the fault doesn't say it.
+    pub cause: Option<LedgerCause>,
+    /// What was seen in place of a database, if it is the cause.
+    pub seen: Option<Seen>,
+    /// What was opened of it.
+    pub left: L,
+}
+
+/// What was opened of a ledger in a file that can't be used. The file is closed, and no longer locked, when this is
+/// dropped. `S` says what the file holds.
+#[derive(Drop)]
+pub enum Left<S, D: Disk> {
+    /// Nothing.
+    Unused(S),
+    /// Nothing, since the file couldn't be opened and locked.
+    NotLocked(NotLocked<S>),
+    /// The file and its log, on which no connection was opened.
+    Files(Leftover<D>),
+    /// A connection. Its database can't be used, or no ledger could be made in it.
+    Database(Connection<FileStore<D>>),
+}
+
+/// Why the file of a ledger can't be used.
+#[derive(Clone, Copy, Debug)]
+pub enum LedgerCause {
+    /// The operating system refused a call.
+    System(io::Error),
+    /// It is a link or no plain file, or has several names.
+    NotPlain,
+    /// It is open, or was removed or made while it was opened.
+    Busy,
+    /// There is a rollback journal beside it.
+    Journal,
+    /// Nothing has its name.
+    Missing,
+    /// It has no octets.
+    Empty,
+    /// It is no file that can be a database.
+    NotFile,
+    /// It isn't a database.
+    NoDatabase,
+    /// It is the database of something else.
+    NoLedger,
+    /// The database has failed with this error.
+    Database(Error),
+}
+
+impl LedgerCause {
+    /// The store of an open ledger has failed, with this error if it told one. Otherwise it gave what no sound database
+    /// gives.
+    pub fn of_store(trouble: Option<Error>) -> LedgerCause
+        ensures { result ≡ cause_of_store trouble }
+    {
+        LedgerCause::Database(trouble.unwrap_or(DAMAGED))
+    }
+}
+
+impl Display for LedgerCause {
+    fn fmt<W: fmt::Write>(&self, f: &mut Formatter<W>) -> fmt::Result {
+        match self {
+            LedgerCause::System(error) => write!(f, "{error}"),
+            LedgerCause::NotPlain => f.write_str("it has several names, or is not a plain file"),
+            LedgerCause::Busy => f.write_str("it is in use"),
+            LedgerCause::Journal => f.write_str("there is a rollback journal beside it"),
+            LedgerCause::Missing => f.write_str("it does not exist"),
+            LedgerCause::Empty => f.write_str("it is empty"),
+            LedgerCause::NotFile => f.write_str("it is not a file that can be a database"),
+            LedgerCause::NoDatabase => f.write_str("it is not a database"),
+            LedgerCause::NoLedger => f.write_str("it is a database, but not a ledger"),
+            LedgerCause::Database(error) => write!(f, "{error}"),
+        }
+    }
+}
+
+impl<S, D: Disk> Unopened<Left<S, D>> {
+    /// This was seen, and no ledger can be opened in it.
+    pub fn saw(seen: Seen, left: Left<S, D>) -> Unopened<Left<S, D>>
+        requires { seen.found ≢ Found.File }
+        ensures left { (result.left ≡ left) × (result.seen ≡ Some seen) }
+        ensures fault { (result.fault ≡ NotALedger)
+            × (result.cause ≡ Some (cause_seen seen.found)) }
+    {
+        let cause = match seen.found() {
+            Found::Nothing => LedgerCause::Missing,
+            Found::Empty => LedgerCause::Empty,
+            Found::File | Found::Other => LedgerCause::NotFile,
+        };
+        Unopened {
+            fault: AdoptFault::NotALedger,
+            cause: Some(cause),
+            seen: Some(seen),
+            left,
+        }
+    }
+
+    /// The file couldn't be opened and locked, or it isn't known what it is.
+    pub fn barred(why: Barred, left: Left<S, D>) -> Unopened<Left<S, D>>
+        ensures left { result.left ≡ left }
+        ensures fault { (result.fault ≡ fault_barred why) × (result.cause ≡ cause_barred why) }
+    {
+        let (fault, cause) = match why {
+            Barred::Memory => (AdoptFault::Memory, None),
+            Barred::For(cause) => (AdoptFault::Store(UNTOLD), Some(cause)),
+        };
+        Unopened {
+            fault,
+            cause,
+            seen: None,
+            left,
+        }
+    }
+
+    /// No connection was opened on the files, because of this error.
+    pub fn unconnected(error: Error, files: Leftover<D>) -> Unopened<Left<S, D>>
+        ensures left { result.left ≡ Left.Files files }
+        ensures fault { (result.fault ≡ adopt_fault error)
+            × (result.cause ≡ cause_of_error error) }
+    {
+        let cause = match error {
+            Error::SqliteFailure(ErrorCode::OutOfMemory) => None,
+            Error::SqliteFailure(ErrorCode::NotADatabase) => Some(LedgerCause::NoDatabase),
+            _ => Some(LedgerCause::Database(error)),
+        };
+        Unopened {
+            fault: AdoptFault::from(error),
+            cause,
+            seen: None,
+            left: Left::Files(files),
+        }
+    }
+
+    /// The database isn't opened as a ledger, because of this fault.
+    pub fn unadopted(
+        fault: AdoptFault,
+        connection: Connection<FileStore<D>>,
+    ) -> Unopened<Left<S, D>>
+        ensures left { result.left ≡ Left.Database connection }
+        ensures fault { (result.fault ≡ fault) × (result.cause ≡ cause_of_fault fault) }
+    {
+        let cause = match &fault {
+            AdoptFault::NotALedger => Some(LedgerCause::NoLedger),
+            AdoptFault::Store(error) => Some(LedgerCause::Database(*error)),
+            AdoptFault::Damaged { .. } | AdoptFault::Memory => None,
+        };
+        Unopened {
+            fault,
+            cause,
+            seen: None,
+            left: Left::Database(connection),
+        }
+    }
+
+    /// No ledger was made in the database, because of this fault, with this error of the store.
+    pub fn unmade(
+        fault: KeepFault,
+        trouble: Option<Error>,
+        connection: Connection<FileStore<D>>,
+    ) -> Unopened<Left<S, D>>
+        ensures left { result.left ≡ Left.Database connection }
+        ensures fault { (result.fault ≡ fault_unmade fault trouble)
+            × (result.cause ≡ cause_unmade fault trouble) }
+    {
+        let (fault, cause) = match fault {
+            KeepFault::Memory => (AdoptFault::Memory, None),
+            KeepFault::Store(_) => {
+                let cause = LedgerCause::of_store(trouble);
+                (AdoptFault::Store(trouble.unwrap_or(UNTOLD)), Some(cause))
+            }
+        };
+        Unopened {
+            fault,
+            cause,
+            seen: None,
+            left: Left::Database(connection),
+        }
+    }
+}
