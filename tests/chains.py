@@ -6,7 +6,7 @@ A bag that is written with holes. The driver writes it (tests/new_bags.py descri
 and its payload files come in some order, repeated, damaged and late. The holes are filled by deliveries, or by `fetch`
 from a folder. Then the bag is valid, it is exported, and the export is compared with what was written, file by file,
 and is judged by `check` and by coreutils. In between the work stops: the driver at every STRIDEth call (17) of each
-file of the database (tests/stops.py describes how), and the program by a kill between two folders.
+file of the database (tests/crashes.py describes how), and the program by a kill between two folders.
 
 A ledger that is released and adopted again, three times in a row, with deliveries to two transfers before, in between
 and after. Each time both transfers are reported, audited and exported.

@@ -27,21 +27,21 @@ xargs awk '
 
 cat >"$work/known" <<'KNOWN'
 bag_folder/destination.rt give_up remove_dir
-bag_folder/disk_names.rt make_folder create_dir
-bag_folder/disk_names.rt make_folders create_dir_all
-bag_folder/disk_names.rt make_file File::create_new
-bag_folder/sink.rt write write_all
-bag_folder/sink_file.rt write write_all
-bag_program/abandoned_ledger.rt remove_new_log remove_file self.rt, self.seen.log()
-bag_program/abandoned_ledger.rt remove_new_file remove_file self.rt, self.seen.name()
+bag_folder/file_system.rt make_folder create_dir
+bag_folder/file_system.rt make_directories create_dir_all
+bag_folder/file_system.rt make_file File::create_new
+bag_folder/folder_sink.rt write write_all
+bag_folder/folder_sink_file.rt write write_all
 bag_program/clearing_output.rt write .write
 bag_program/clearing_output.rt write_all write_all
-bag_program/ledger_handle.rt open OpenOptions::new
-bag_program/ledger_handle.rt open .write
-bag_program/ledger_handle.rt open create_new
-bag_program/ledger_handle.rt empty set_len
-bag_program/locked_file.rt remove_copied_log remove_file self.rt, self.seen.log()
-bag_program/locking.rt open_locked sqlite_std_file::open
+bag_program/ledgers/abandoned_ledger.rt remove_new_log remove_file self.rt, self.seen.log()
+bag_program/ledgers/abandoned_ledger.rt remove_new_file remove_file self.rt, self.seen.name()
+bag_program/ledgers/ledger_handle.rt open OpenOptions::new
+bag_program/ledgers/ledger_handle.rt open .write
+bag_program/ledgers/ledger_handle.rt open create_new
+bag_program/ledgers/ledger_handle.rt empty set_len
+bag_program/ledgers/locked_file.rt remove_copied_log remove_file self.rt, self.seen.log()
+bag_program/ledgers/locking.rt open_locked sqlite_std_file::open
 bag_program/main.rt main Unknown
 bag_program/watched.rt write .write
 bag_receiver/export.rt write_content .write

@@ -5,6 +5,6 @@ cd "$(dirname -- "$0")/.." || exit 1
 . tests/common.bash
 
 build_driver
-expect 'stops, and rows' 0 '' python3 -B tests/stops.py "$driver" "$work/stops"
+expect 'stops, and rows' 0 '' python3 -B tests/crashes.py "$driver" "$work/stops"
 cat "$work/stops"
 finish

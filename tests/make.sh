@@ -19,6 +19,11 @@ info() {
     cat "$1/bag-info.txt"
 }
 
+# names_by ALG: the names in a bag of the files below, with manifests by this algorithm.
+names_by() {
+    printf '%s\n' bag-info.txt bagit.txt data data/a.txt data/k data/k/x data/k0 "manifest-$1.txt" "tagmanifest-$1.txt"
+}
+
 build_first
 
 refuse 'no folders' 'error: the following required arguments were not provided:' bag make
@@ -32,15 +37,7 @@ printf defgh >"$work/letters/k/x"
 touch "$work/letters/k0"
 expect 'one algorithm' 0 'made 3 files, 8 octets' bag make "$work/letters" "$work/one" sha256
 expect 'one algorithm: it is valid' 0 valid valid_bag "$work/letters" "$work/one"
-expect 'one algorithm: the files' 0 'bag-info.txt
-bagit.txt
-data
-data/a.txt
-data/k
-data/k/x
-data/k0
-manifest-sha256.txt
-tagmanifest-sha256.txt' below "$work/one"
+expect 'one algorithm: the files' 0 "$(names_by sha256)" below "$work/one"
 expect 'one algorithm: the manifest' 0 '' sums sha256sum "$work/one" manifest-sha256.txt
 expect 'one algorithm: the tag manifest' 0 '' sums sha256sum "$work/one" tagmanifest-sha256.txt
 expect 'one algorithm: the elements' 0 'Payload-Oxum: 8.3' info "$work/one"
@@ -52,15 +49,7 @@ for alg in md5 sha1 sha256 sha512; do
     expect "$alg: the tag manifest" 0 '' sums "${alg}sum" "$work/all" "tagmanifest-$alg.txt"
 done
 expect 'an algorithm twice' 0 'made 3 files, 8 octets' bag make "$work/letters" "$work/twice" md5 md5
-expect 'an algorithm twice: it counts once' 0 'bag-info.txt
-bagit.txt
-data
-data/a.txt
-data/k
-data/k/x
-data/k0
-manifest-md5.txt
-tagmanifest-md5.txt' below "$work/twice"
+expect 'an algorithm twice: it counts once' 0 "$(names_by md5)" below "$work/twice"
 # shellcheck disable=SC2046
 expect 'an algorithm 70,000 times' 0 'made 3 files, 8 octets' bag make "$work/letters" "$work/often" $(yes md5 | head -n 70000)
 expect 'an algorithm 70,000 times: it is the same bag' 0 '' diff -r "$work/twice" "$work/often"

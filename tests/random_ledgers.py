@@ -10,7 +10,7 @@ ledgers are made.
 A ledger has up to three transfers, and one in 40 has 300. Their names and paths have characters of every kind, and
 their files are empty, have a piece, a part of one, or several. Payload files come in any order, damaged, repeated,
 unlisted, and from readers that fail. Most ledgers are made by the driver, in up to three sittings, some of which are
-stopped at a call of a file of the database (tests/stops.py describes how). The others are made by commands of the
+stopped at a call of a file of the database (tests/crashes.py describes how). The others are made by commands of the
 program, some of which are killed once the log of the ledger has grown. A ledger is opened after each sitting, and after
 some commands.
 """

@@ -1,5 +1,5 @@
 #!/usr/bin/env python3
-"""stops.py DRIVER TRIED: stops work on a ledger before each call of each of the two files of its database, and judges what is left.
+"""crashes.py DRIVER TRIED: stops work on a ledger before each call of each of the two files of its database, and judges what is left.
 What was tried is written to TRIED.
 
 The driver is run as `DRIVER stop FILE CALLS HOW SEED DATABASE`. It opens the ledger in the database or makes one, answers the events
