@@ -27,11 +27,11 @@ import types
 
 import new_bags
 import reference_commands
+from crashes import answered, found, known, ledger_of, run, steps
 from deliveries import answer, line
 from explaining import is_explained
 from left_logs import HeldUp
 from reference_receiver import Receiver
-from stops import answered, found, known, ledger_of, run, steps
 
 PIECE = 65_536
 NAMES = [b"first", b"second"]

@@ -5,8 +5,8 @@ After each kill the next command must work, and must find everything that was an
 a command that had ended), and of the killed command the first of its deliveries. In the end everything is delivered to each
 ledger, and the exported bag is the one that was delivered. Commands are killed after a random time, once the log of the ledger has
 grown by a random number of octets, or after a random number of lines. At least a third of all kills must fall among the deliveries,
-so that some of them are held and some are not. It ends after KILLS kills (150) or some more, and writes the seed and what was tried
-to TRIED, or to standard output. If it fails, it prints the seed as well.
+so that some of them are held and some are not, and of a hundred and more at least one before there is a ledger. It ends after KILLS
+kills (150) or some more, and writes the seed and what was tried to TRIED, or to standard output. If it fails, it prints the seed as well.
 """
 import contextlib
 import hashlib
@@ -312,6 +312,11 @@ class Ledger:
             self.judge_export(out, name, set(bag.contents))
 
 
+def is_enough(tried, kills):
+    """Whether so many kills were tried, among them enough of each kind."""
+    return tried["kills"] >= kills and 3 * tried["part"] >= tried["kills"] and (tried["no ledger"] > 0 or kills < 100)
+
+
 def main(program, kills="150", seed=None, tried_file="/dev/stdout"):
     seed = seed or str(random.SystemRandom().randrange(1 << 32))
     rng, tried = random.Random(seed), dict.fromkeys(["commands", "kills", "ledgers", "part", "no ledger"], 0)
@@ -319,7 +324,7 @@ def main(program, kills="150", seed=None, tried_file="/dev/stdout"):
     try:
         with tempfile.TemporaryDirectory() as folder:
             bags = {name: Bag(rng, pathlib.Path(folder) / name) for name in NAMES}
-            while tried["kills"] < int(kills) or 3 * tried["part"] < tried["kills"]:
+            while not is_enough(tried, int(kills)):
                 assert tried["kills"] < 2 * int(kills), tried
                 tried["ledgers"] += 1
                 home = pathlib.Path(folder) / f"{tried['ledgers']}"
@@ -330,7 +335,7 @@ def main(program, kills="150", seed=None, tried_file="/dev/stdout"):
                         ledger.step(times)
                 ledger.finish()
                 shutil.rmtree(home)
-        assert tried["part"] and (tried["no ledger"] or int(kills) < 100), tried
+        assert tried["part"], tried
     except BaseException:
         print(f"with the seed {seed}:", file=sys.stderr)
         raise

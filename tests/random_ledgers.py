@@ -30,9 +30,9 @@ import time
 import new_bags
 import reference_commands
 from chains import Ledger, damaged
+from crashes import NEVER, answered, found, known, ledger_of, run, steps
 from explaining import is_explained
 from reopened import Transfer
-from stops import NEVER, answered, found, known, ledger_of, run, steps
 
 LEAST, TRANSFERS = 40, 300
 VIEWED, WORKERS = 2, 4

@@ -19,9 +19,9 @@ import feeds
 import new_bags
 import reference
 import reference_receiver
+from crashes import known, ledger_of, rows
 from reference_receiver import Refused, printed
 from small_bags import DECLARATION
-from stops import known, ledger_of, rows
 
 ALGORITHMS = list(map(bytes.decode, reference.ALGORITHMS))
 NO_MEMORY = "refused: memory"
