@@ -5,3 +5,4 @@ pub mod Octets
 pub mod Paths
 pub mod SpellingReading
 pub mod Spellings
+pub mod Versions

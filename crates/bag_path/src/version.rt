@@ -10,3 +10,20 @@ pub enum Version {
     /// `%` stands for itself.
     V097,
 }
+
+impl Version {
+    ghost use Rattle.std.specs.Prelude.{◌≡◌};
+    ghost use Rattle.bag_path.specs.Versions.{version_numbered};
+
+    /// The version with these numbers, of which the first is before the dot and the second after it. `None` if it isn't
+    /// known here.
+    pub fn numbered(major: u32, minor: u32) -> Option<Version>
+        ensures { result ≡ version_numbered major minor }
+    {
+        match (major, minor) {
+            (1, 0) => Some(Version::V1),
+            (0, 97) => Some(Version::V097),
+            _ => None,
+        }
+    }
+}

@@ -2,17 +2,19 @@
 use Rattle.std.proofs.Common.{◌≡◌, ◌==◌, ℕ, true, false, List, [], ◌++◌, sym, ap, ◌∙◌, subst, length}
 use Rattle.std.specs.List.{AllByRecursion}
 use Rattle.bag_path.specs.declared.version.Version.{Version}
-use Rattle.bag_path.specs.Spellings.{Spells}
+use Rattle.bag_path.specs.declared.path.PathFault.{PathFault}
+use Rattle.bag_path.specs.declared.path.PathFault.TheVariants as path
+use Rattle.bag_path.specs.Spellings.{RefusesSpelling, Spells}
 use Rattle.bag_digest.specs.declared.algorithm.Alg.{Alg}
 use Rattle.bag_digest.specs.declared.digest.Digest.{Digest}
 use Rattle.bag_digest.specs.Spelling.{SpellsDigest}
 use Rattle.bag_tags.specs.Words.{is_blank, IsNotBlank, IsCut}
 use Rattle.bag_tags.specs.WordsReading.{until, is_not_blank}
 use Rattle.bag_tags.specs.Listings.{Listing, pair, with_pair}
-use Rattle.bag_tags.specs.Manifests.{plain_path, HasChecksum, Gives, AddsPair, PathCause, GivesNothing}
-use Rattle.bag_tags.specs.declared.tag_fault.TagCause.{TagCause}
-use Rattle.bag_tags.specs.declared.tag_fault.TagCause.TheVariants as tag
-use Rattle.bag_tags.specs.TagLines.{Causes}
+use Rattle.bag_tags.specs.Manifests.{plain_path, HasChecksum, Gives, AddsPair, SpellsNoPath}
+use Rattle.bag_tags.specs.declared.tag_fault.LineCause.{LineCause}
+use Rattle.bag_tags.specs.declared.tag_fault.LineCause.TheVariants.{BadPath}
+use Rattle.bag_tags.specs.TagLines.{Causes, cause_of}
 use Rattle.bag_path.proofs.SpellsLemmas.{one_path}
 use Rattle.bag_digest.proofs.Spelled.{one_digest_spelled}
 use Rattle.bag_tags.proofs.WordsLemmas.{cut_word, cut_blanks, cut_some, cut_at, nothing_left}
@@ -62,7 +64,13 @@ cut_by text word rest blanks more e some f =
 pub checksum_by : (alg : Alg) (text word rest blanks path_text : List ℕ) (digest : Digest) → until is_blank text ≡ (word, rest) → (length rest == 0) ≡ false → until is_not_blank rest ≡ (blanks, path_text) → SpellsDigest alg word digest → HasChecksum alg text digest path_text
 checksum_by alg text word rest blanks path_text digest e some f spells = record { checksum = word; blanks = blanks; cut = cut_by text word rest blanks path_text e some f; spells_digest = spells }
 
--- the cause of a path's text is the cause of its line
-pub path_cause : (version : Version) (alg : Alg) (text path_text : List ℕ) (digest : Digest) (e : TagCause) → HasChecksum alg text digest path_text → Causes (PathCause version (plain_path path_text)) e → Causes (GivesNothing version alg text) e
-path_cause version alg text path_text digest tag.Memory c h = tt
-path_cause version alg text path_text digest (tag.Line cause) c h = subst (GivesNothing version alg text) (sym h.1) (record { digest = digest; path_text = path_text; checksum = c; no_path = h.2 })
+-- what refuses a text that spells no path, refuses it for the cause of its fault
+pub refused_path : (P : LineCause → Type 0) (version : Version) (text : List ℕ) (fault : PathFault) → ((fault : PathFault) → SpellsNoPath fault version text → P (BadPath fault)) → RefusesSpelling fault version text → Causes P (cause_of fault)
+refused_path P version text path.Memory f h = tt
+refused_path P version text path.Empty f h = f path.Empty h
+refused_path P version text path.TooLong f h = f path.TooLong h
+refused_path P version text path.EmptySegment f h = f path.EmptySegment h
+refused_path P version text path.DotSegment f h = f path.DotSegment h
+refused_path P version text path.Nul f h = f path.Nul h
+refused_path P version text path.PayloadRoot f h = f path.PayloadRoot h
+refused_path P version text path.BadEscape f h = f path.BadEscape h

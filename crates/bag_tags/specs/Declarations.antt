@@ -1,5 +1,5 @@
 -- `bagit.txt` (RFC 8493 section 2.1.1).
-use Rattle.std.specs.Prelude.{◌≡◌, ◌≢◌, ◌⊎◌, ◌↔◌, ◌≤◌, ◌++◌, ◌==◌, ◌&&◌, if◌then◌else◌, Option, Some, None, ℕ, true, false, List, [], ◌∷◌, IsTrue, map, length, nat_eq, codes, slice_index}
+use Rattle.std.specs.Prelude.{◌≡◌, ◌≢◌, ◌⊎◌, ◌↔◌, ◌≤◌, ◌++◌, if◌then◌else◌, Option, ℕ, true, false, List, [], ◌∷◌, IsTrue, map, length, nat_eq, codes, slice_index}
 use Rattle.bag_path.specs.Octets.{lf}
 use Rattle.bag_tags.specs.Octets.{first_visible, last_visible, zero_digit}
 use Rattle.std.specs.List.{AllByRecursion, starts_with}
@@ -12,6 +12,7 @@ use Rattle.bag_tags.specs.declared.declaration.DeclFault.TheVariants.{NotUtf8, M
 use Rattle.bag_tags.specs.declared.declaration.DeclFault.TheVariants as fault
 use Rattle.bag_path.specs.declared.version.Version.{Version}
 use Rattle.bag_path.specs.declared.version.Version.TheVariants.{V1, V097}
+use Rattle.bag_path.specs.Versions.{version_numbered}
 use Rattle.bag_tags.specs.TagLines.{mark}
 use Rattle.bag_tags.specs.Numerals.{IsNumeral}
 
@@ -91,10 +92,7 @@ IsDeclarationFault octets EncodingName = (version : List ℕ) × (encoding : Lis
 
 -- the version that is declared, if it is known
 abbrev pub version_of : Declaration → Option Version
-version_of declaration =
-    if declaration.major == 1 && declaration.minor == 0 then Some V1
-    else if declaration.major == 0 && declaration.minor == 97 then Some V097
-    else None
+version_of declaration = version_numbered declaration.major declaration.minor
 
 -- the version by whose rules tag files are read, by how the octets begin; if they declare a known version, it is that
 -- one

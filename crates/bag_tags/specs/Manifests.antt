@@ -59,11 +59,6 @@ abbrev pub SpellsNoPath : PathFault → Version → List ℕ → Type 0
 SpellsNoPath path.Memory version text = ⊥
 SpellsNoPath fault version text = RefusesSpelling fault version text
 
--- the cause for which the text of a path spells no path
-abbrev pub PathCause : Version → List ℕ → LineCause → Type 0
-PathCause version text cause = (fault : PathFault) × (cause ≡ BadPath fault)
-    × SpellsNoPath fault version text
-
 -- The line has a blank, but what comes before it spells no digest.
 pub record HasBadDigest (alg : Alg) (text : List ℕ) : Type 0 where
   pub checksum : List ℕ

@@ -3,9 +3,11 @@
 use Rattle.std.specs.Prelude.{◌≡◌, ◌⊎◌, ℕ, true, false, List, [], ◌∷◌, ◌++◌, map}
 use Rattle.std.specs.List.{enumerate_from}
 use Rattle.std.specs.Str.{IsUtf8}
+use Rattle.bag_path.specs.declared.path.PathFault.{PathFault}
+use Rattle.bag_path.specs.declared.path.PathFault.TheVariants as path
 use Rattle.bag_path.specs.Lines.{Text, HasLines}
 use Rattle.bag_tags.specs.declared.tag_fault.LineCause.{LineCause}
-use Rattle.bag_tags.specs.declared.tag_fault.LineCause.TheVariants.{NotUtf8}
+use Rattle.bag_tags.specs.declared.tag_fault.LineCause.TheVariants.{BadPath, NotUtf8}
 use Rattle.bag_tags.specs.declared.tag_fault.LineFault.{LineFault}
 use Rattle.bag_tags.specs.declared.tag_fault.TagCause.{TagCause}
 use Rattle.bag_tags.specs.declared.tag_fault.TagCause.TheVariants as cause
@@ -95,6 +97,11 @@ pub record AreExact {A : Type 0} (leads : A → ℕ → List ℕ → A → Type 
   pub one_of_both : (before : A) (number : ℕ) (text : List ℕ) → IsUtf8 text
       → ((next : A) × leads before number text next)
       ⊎ ((cause : LineCause) × refuses before text cause)
+
+-- why a line isn't read whose path is refused
+abbrev pub cause_of : PathFault → TagCause
+cause_of path.Memory = cause.Memory
+cause_of fault = cause.Line (BadPath fault)
 
 -- a fact about the cause of a faulty line or about the first faulty line; `Memory` says nothing of the text
 abbrev pub Causes : (LineCause → Type 0) → TagCause → Type 0

@@ -33,15 +33,11 @@ impl Declaration {
     ghost use Rattle.std.specs.Prelude.{◌≡◌};
     ghost use Rattle.bag_tags.specs.Declarations.{version_of};
 
-    /// The version of the format, if it is known: 1.0 or 0.97.
+    /// The version of the format, if it is known here.
     pub fn version(self) -> Option<Version>
         ensures { result ≡ version_of self }
     {
-        match (self.major, self.minor) {
-            (1, 0) => Some(Version::V1),
-            (0, 97) => Some(Version::V097),
-            _ => None,
-        }
+        Version::numbered(self.major, self.minor)
     }
 }
 

@@ -11,11 +11,10 @@ ghost use Rattle.bag_tags.specs.Fetches.{numbered_from, written_fetch};
 ghost use Rattle.bag_tags.specs.FetchText.{AddsEntry, FetchText, FetchFault, AreWords, IsLength, LacksWord, GivesEntry, GivesNoEntry};
 
 use crate::number::read_number;
-use crate::path_text::read_path;
 use crate::splitting::{Cut, split_at_first, split_text};
 use crate::tag_fault::{LineCause, TagCause, TagFault};
 use crate::tag_lines::{TagLines, read_onto};
-use bag_path::{BagPath, Version, escape};
+use bag_path::{BagPath, Version, escape, unescape};
 use std::alloc::{AllocError, Global};
 use std::marker::Model;
 use thiserror::Error;
@@ -294,7 +293,7 @@ fn read_entry(alloc: Global, version: Version, text: &str) -> Result<FetchEntry,
     let Some(length) = read_length(length.as_bytes()) else {
         return Err(TagCause::Line(LineCause::BadLength));
     };
-    let path = read_path(alloc, version, path)?;
+    let path = unescape(alloc, path, version)?;
     match FetchEntry::new(alloc, url, length, path) {
         Ok(entry) => Ok(entry),
         Err(FetchEntryFault::BadUrl) => unreachable!(),

@@ -11,6 +11,7 @@ ghost use Rattle.bag_tags.specs.TagLines.{Causes};
 ghost use Rattle.bag_tags.specs.Words.{begins_blank, is_blank_line};
 ghost use Rattle.bag_tags.specs.InfoText.{Continues, GivesElement, GivesNoElement, HasFirstLine, HasLabel, HasParts, InfoText, InfoFault, LacksSeparator};
 
+use crate::oxum::OXUM_LABEL;
 use crate::splitting::{Cut, MARK, begins_blank, is_blank, split_text};
 use crate::tag_fault::{LineCause, TagCause, TagFault};
 use crate::tag_lines::{TagLines, read_onto};
@@ -110,7 +111,7 @@ impl Element {
     pub fn is_oxum(&self) -> bool
         ensures { result ≡ is_oxum self.now }
     {
-        self.label().eq_ignore_ascii_case("Payload-Oxum")
+        self.label().eq_ignore_ascii_case(OXUM_LABEL)
     }
 
     /// The element with one more line at the end of its value.

@@ -7,7 +7,7 @@ pub use info::{Element, ElementFault, Info, read_info, write_info};
 pub use listing::{Kind, Pair, PushFault};
 pub use manifest::{Manifest, read_manifest, write_manifest};
 pub use name::{LineFile, ManifestName, TagName, unknown_algorithm};
-pub use oxum::Oxum;
+pub use oxum::{OXUM_LABEL, Oxum};
 pub use tag_fault::{LineCause, LineFault, TagFault};
 pub use tag_feed::{TagFeed, TagValue};
 
@@ -22,7 +22,6 @@ mod manifest;
 mod name;
 mod number;
 mod oxum;
-mod path_text;
 mod pieces;
 mod splitting;
 mod tag_fault;

@@ -15,12 +15,11 @@ ghost use Rattle.bag_tags.specs.ManifestWriting.{needs_dot, written_path, writte
 
 use crate::listing::{Kind, Pair, PushFault};
 use crate::name::ManifestName;
-use crate::path_text::read_path;
 use crate::splitting::{Cut, is_blank, split_text};
 use crate::tag_fault::{LineCause, TagCause, TagFault};
 use crate::tag_lines::{TagLines, read_onto};
 use bag_digest::{Alg, Digest};
-use bag_path::{BagPath, Version, escape};
+use bag_path::{BagPath, Version, escape, unescape};
 use std::alloc::{AllocError, Global};
 use std::collections::BTreeMap;
 use std::marker::Model;
@@ -235,7 +234,7 @@ fn read_pair(alloc: Global, alg: Alg, version: Version, text: &str) -> Result<Pa
         return Err(TagCause::Line(LineCause::BadDigest));
     };
     let (_blanks, path_text) = split_text(rest, Cut::NoBlank);
-    let path = read_path(alloc, version, plain_path(path_text))?;
+    let path = unescape(alloc, plain_path(path_text), version)?;
     Ok(Pair { path, digest })
 }
 

@@ -7,6 +7,9 @@ use crate::number::read_number;
 use crate::splitting::{Cut, is_blank_line, split_at_first};
 use std::alloc::{AllocError, Global};
 
+/// The label of the element that gives an Oxum.
+pub const OXUM_LABEL: &str = "Payload-Oxum";
+
 /// The size of a payload: how many octets it has, in how many files (streams).
 #[derive(Clone, Copy, Debug, PartialEq, Eq)]
 pub struct Oxum {

@@ -78,3 +78,17 @@ impl From<AllocError> for TagCause {
         TagCause::Memory
     }
 }
+
+impl From<PathFault> for TagCause {
+    ghost use Rattle.std.specs.Prelude.{◌≡◌};
+    ghost use Rattle.bag_tags.specs.TagLines.{cause_of};
+
+    ghost from_gives = { λ fault cause. cause ≡ cause_of fault };
+
+    fn from(fault: PathFault) -> TagCause {
+        match fault {
+            PathFault::Memory => TagCause::Memory,
+            _ => TagCause::Line(LineCause::BadPath(fault)),
+        }
+    }
+}
