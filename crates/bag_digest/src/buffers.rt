@@ -3,7 +3,8 @@ ghost use Rattle.std.specs.Prelude.{◌≡◌, IfOk, vec_len};
 
 use std::alloc::{AllocError, Global};
 
-/// The number of octets in a piece, which is the most that is read at a time where files are read one by one.
+/// The number of octets in a piece, which is the most that is read at a time where files are read one by one. A ledger
+/// in a database keeps payload files in pieces of this length, so another number would be another format of a ledger.
 pub const PIECE: usize = 65_536;
 
 /// The number of octets in a piece of a stream, which is the most that is read at a time where files are read side by

@@ -1,6 +1,6 @@
 //! Counts of failures.
 ghost use Rattle.std.specs.Prelude.{◌≡◌, ◌-◌, IsErr, MatchResult, Ok};
-ghost use Rattle.bag_digest.specs.Failures.{CountsFailure, IsRaised, greatest_count};
+ghost use Rattle.bag_digest.specs.Failures.{CountsFailure, IsRaised, Rises, greatest_count};
 
 use crate::source::Failed;
 use std::alloc::AllocError;
@@ -47,10 +47,17 @@ impl Failures {
         match answer {
             Ok(value) => Ok(value),
             Err(_) => {
-                self.count = self.count.saturating_add(1);
+                self.add();
                 Err(Failed)
             }
         }
+    }
+
+    /// Counts one more.
+    pub fn add(&mut self)
+        ensures { Rises self.old self.new }
+    {
+        self.count = self.count.saturating_add(1);
     }
 
     /// Counts one more, which [`Failures::lower`] can take back.

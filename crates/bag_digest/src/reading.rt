@@ -119,9 +119,9 @@ pub(crate) fn digest_on<S: Source>(
 /// What was read of a source.
 #[derive(Clone, Copy, Debug, PartialEq, Eq)]
 pub enum SourceRead {
-    /// All of it: this many octets, which are at the front of the buffer. Their digests were not taken yet.
+    /// All of it: this many octets, which are at the front of the buffer. Their digests weren't taken yet.
     Whole(usize),
-    /// The source did not end within the buffer: its length and its digests.
+    /// The source didn't end within the buffer: its length and its digests.
     Hashed(Sums),
 }
 

@@ -41,8 +41,8 @@ pub struct StreamFault {
 ///
 /// # Errors
 ///
-/// The fault of the first stream, in their order, that has one: it failed once, or is too large and has not failed.
-/// Those before it were read to their ends, and have not failed. Those behind it are given up: they may have been read
+/// The fault of the first stream, in their order, that has one: it failed once, or is too large and hasn't failed.
+/// Those before it were read to their ends, and haven't failed. Those behind it are given up: they may have been read
 /// too, and may have failed, and what they did isn't told.
 pub fn digest_streams<S: Source>(
     set: AlgSet,
@@ -226,7 +226,7 @@ fn piece_of<S>(streams: &[Stream<S>], k: usize, end: usize) -> &[u8]
 ///
 /// # Errors
 ///
-/// The first fault. The streams behind it have not been read on.
+/// The first fault. The streams behind it haven't been read on.
 fn advance_each<S: Source>(
     multi: &mut MultiLanes,
     streams: &mut [Stream<S>],
