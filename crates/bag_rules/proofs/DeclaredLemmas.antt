@@ -1,10 +1,10 @@
 -- A check from the declaration on.
 use Rattle.std.proofs.Common.{◌≡◌, ◌<◌, ◌≤◌, ◌^◌, ◌∙◌, ℕ, true, false, None, List, [], ◌∷◌, Some, Result, Ok, Err, MatchResult, Global, String, string_bytes, length, slice_get, refl, sym, ap, subst, inl, inr, arith}
-use Rattle.bag_rules.proofs.Words.{Algorithm, AreRising, BadDeclaration, Bag, Broken, CheckFault, Declaration, declaration_file, DeclarationStops, Declares, DeclFault, Encoding, excludes, Fault, FirstStops, HasFault, HoldsFile, IsDeclaration, IsDeclarationFault, IsFirstUnknown, IsFirstUnknownOf, IsInProfile, IsJudged, IsLongTag, IsOutside, IsProfile, IsThere, IsVerdict, Judged, Known, MatchOutside, Means, NoDeclaration, NoneStops, NoneUnknown, one_declaration, one_fault, Outcome, Outside, OutsideCause, ProfileStops, slice_get_within, Stopped, tier_of, Unknown, WorkStops}
+use Rattle.bag_rules.proofs.Words.{Algorithm, AreRising, BadDeclaration, Bag, Broken, CheckFault, Declaration, declaration_file, DeclarationStops, Declares, DeclFault, Encoding, excludes, Fault, FirstStops, HasFault, HoldsFile, IsDeclaration, IsDeclarationFault, IsFirstUnknown, IsFirstUnknownOf, IsInScope, IsJudged, IsLongTag, IsOutside, HasScope, IsThere, IsVerdict, Judged, Known, MatchOutside, Means, NoDeclaration, NoneStops, NoneUnknown, one_declaration, one_fault, Outcome, Outside, OutsideCause, ScopeStops, slice_get_within, Stopped, tier_of, Unknown, WorkStops}
 use Rattle.bag_path.specs.declared.version.Version as format
 use Rattle.bag_tags.specs.Declarations.{version_of as known_version}
 use Rattle.bag_tags.proofs.DeclaredVersionLemmas.{begins_with_version}
-use Rattle.bag_rules.specs.declared.outcome.OutsideCause.TheVariants.{Version}
+use Rattle.bag_rules.specs.declared.scope.OutsideCause.TheVariants.{Version}
 use Rattle.bag_rules.specs.Bags.{IsDeclared, paths_of, version_in, version_of}
 use Rattle.bag_rules.proofs.LimitLemmas.{none_first, stopped_so}
 use Rattle.bag_rules.proofs.OneVerdictLemmas.{lone}
@@ -53,22 +53,22 @@ short_declaration bag octets rising holds short i path other fault below here st
     let same : other ≡ octets = one_octets bag declaration_file other octets rising (i, here ∙ ap (λ p. Some (p, other)) stops.0) holds in
     omega (arith, short, stops.1.0, ap length same)
 
--- the octets of the declaration decide the profile
-not_declared : (bag : Bag) → ¬ IsThere bag declaration_file → ¬ IsInProfile bag
-not_declared bag absent profile = absent (profile.declared.declares.0, profile.declared.declares.1)
+-- the octets of the declaration decide the scope
+not_declared : (bag : Bag) → ¬ IsThere bag declaration_file → ¬ IsInScope bag
+not_declared bag absent scope = absent (scope.declared.declares.0, scope.declared.declares.1)
 
 declares_so : (bag : Bag) (octets : List ℕ) → AreRising (paths_of bag) → HoldsFile bag declaration_file octets → (declared : IsDeclared bag) → IsDeclaration octets declared.declaration
 declares_so bag octets rising holds declared = subst (λ o. IsDeclaration o declared.declaration) (one_octets bag declaration_file declared.declares.0 octets rising declared.declares.1 holds) declared.declares.2
 
-bad_out : (bag : Bag) (octets : List ℕ) (cause : DeclFault) → AreRising (paths_of bag) → HoldsFile bag declaration_file octets → IsDeclarationFault octets cause → ¬ IsInProfile bag
-bad_out bag octets cause rising holds bad profile = excludes octets profile.declared.declaration cause (declares_so bag octets rising holds profile.declared) bad
+bad_out : (bag : Bag) (octets : List ℕ) (cause : DeclFault) → AreRising (paths_of bag) → HoldsFile bag declaration_file octets → IsDeclarationFault octets cause → ¬ IsInScope bag
+bad_out bag octets cause rising holds bad scope = excludes octets scope.declared.declaration cause (declares_so bag octets rising holds scope.declared) bad
 
 -- WHAT THE DECLARATION AND THE NAMES OF THE MANIFESTS SAY
 
-pub no_declaration : (bag : Bag) → ¬ IsThere bag declaration_file → IsProfile bag (Broken NoDeclaration)
+pub no_declaration : (bag : Bag) → ¬ IsThere bag declaration_file → HasScope bag (Broken NoDeclaration)
 no_declaration bag absent = (none_verdict bag absent, not_declared bag absent)
 
-pub bad_declaration : (bag : Bag) (octets : List ℕ) (cause : DeclFault) → AreRising (paths_of bag) → HoldsFile bag declaration_file octets → IsDeclarationFault octets cause → IsProfile bag (Broken (BadDeclaration cause))
+pub bad_declaration : (bag : Bag) (octets : List ℕ) (cause : DeclFault) → AreRising (paths_of bag) → HoldsFile bag declaration_file octets → IsDeclarationFault octets cause → HasScope bag (Broken (BadDeclaration cause))
 bad_declaration bag octets cause rising holds bad = (bad_verdict bag octets cause rising holds bad, bad_out bag octets cause rising holds bad)
 
 -- tag files are read by the version that is declared
@@ -95,11 +95,11 @@ not_outside bag declaration Version known utf8 other = let clash : Some (version
 not_outside bag declaration Encoding known utf8 other = let clash : true ≡ false = sym utf8 ∙ other.1 in cc
 not_outside bag declaration (Algorithm name) known utf8 other = other
 
-pub other_declaration : (bag : Bag) (declaration : Declaration) (cause : OutsideCause) → AreRising (paths_of bag) → Declares bag declaration → MatchOutside cause declaration → IsProfile bag (Unknown cause)
+pub other_declaration : (bag : Bag) (declaration : Declaration) (cause : OutsideCause) → AreRising (paths_of bag) → Declares bag declaration → MatchOutside cause declaration → HasScope bag (Unknown cause)
 other_declaration bag declaration cause rising declares other = (
   outside_verdict bag declaration cause declares other,
-  λ profile.
-      let declared = profile.declared in
+  λ scope.
+      let declared = scope.declared in
       let same = one_declaration declares.0 declaration declared.declaration declares.2 (declares_so bag declares.0 rising declares.1 declared) in
       not_outside bag declaration cause (ap known_version same ∙ declared.version_is) (ap (λ (d : Declaration). d.utf8) same ∙ declared.in_utf8) other,
 )
@@ -117,13 +117,13 @@ first_unknown bag word rising of =
           of.before there.1.0 other another (higher (paths_of bag) rising of.place there.1.0 of.path other of.there at greater) at unknown);
     }
 
-pub unknown_algorithm : (bag : Bag) (name : String Global) → AreRising (paths_of bag) → IsDeclared bag → IsFirstUnknownOf (paths_of bag) (string_bytes name) → IsProfile bag (Unknown (Algorithm name))
+pub unknown_algorithm : (bag : Bag) (name : String Global) → AreRising (paths_of bag) → IsDeclared bag → IsFirstUnknownOf (paths_of bag) (string_bytes name) → HasScope bag (Unknown (Algorithm name))
 unknown_algorithm bag name rising declared of =
     let first = first_unknown bag (string_bytes name) rising of in
-    ((declared, first), λ profile. profile.known first.path (string_bytes name) first.there first.unknown)
+    ((declared, first), λ scope. scope.known first.path (string_bytes name) first.there first.unknown)
 
 -- a bag that declares a known version and UTF-8, and whose algorithms are known
-pub known_algorithms : (bag : Bag) (declaration : Declaration) (version : format.Version) → AreRising (paths_of bag) → Declares bag declaration → known_version declaration ≡ Some version → declaration.utf8 ≡ true → NoneUnknown (paths_of bag) (length (paths_of bag)) → IsProfile bag (Known version)
+pub known_algorithms : (bag : Bag) (declaration : Declaration) (version : format.Version) → AreRising (paths_of bag) → Declares bag declaration → known_version declaration ≡ Some version → declaration.utf8 ≡ true → NoneUnknown (paths_of bag) (length (paths_of bag)) → HasScope bag (Known version)
 known_algorithms bag declaration version rising declares known utf8 none = (
   record {
     declared = is_declared bag declaration version rising declares known utf8;
@@ -134,15 +134,15 @@ known_algorithms bag declaration version rising declares known utf8 none = (
 
 -- THE WHOLE
 
--- out of the profile only the declaration has a limit, and in it the rest of the work decides
-pub ended_stops : (bag : Bag) → NoneStops bag DeclarationStops → ¬ IsInProfile bag → (fault : CheckFault) → ¬ WorkStops bag fault
+-- out of scope only the declaration has a limit, and in it the rest of the work decides
+pub ended_stops : (bag : Bag) → NoneStops bag DeclarationStops → ¬ IsInScope bag → (fault : CheckFault) → ¬ WorkStops bag fault
 ended_stops bag none out fault (inl first) = none_first bag DeclarationStops fault none first
 ended_stops bag none out fault (inr rest) = out rest.1
 
-pub profile_stopped : (bag : Bag) (r : Result Outcome CheckFault) → NoneStops bag DeclarationStops → IsInProfile bag → MatchResult r (λ outcome. (fault : CheckFault) → ¬ ProfileStops bag fault) (Stopped (ProfileStops bag))
+pub scope_stopped : (bag : Bag) (r : Result Outcome CheckFault) → NoneStops bag DeclarationStops → IsInScope bag → MatchResult r (λ outcome. (fault : CheckFault) → ¬ ScopeStops bag fault) (Stopped (ScopeStops bag))
     → MatchResult r (λ outcome. (fault : CheckFault) → ¬ WorkStops bag fault) (Stopped (WorkStops bag))
-profile_stopped bag (Ok outcome) none profile rest = λ fault stops. elim stops [ inl first ↦ none_first bag DeclarationStops fault none first | inr later ↦ rest fault later.2 ]
-profile_stopped bag (Err fault) none profile rest = stopped_so (ProfileStops bag) (WorkStops bag) fault (λ stops. inr (none, profile, stops)) rest
+scope_stopped bag (Ok outcome) none scope rest = λ fault stops. elim stops [ inl first ↦ none_first bag DeclarationStops fault none first | inr later ↦ rest fault later.2 ]
+scope_stopped bag (Err fault) none scope rest = stopped_so (ScopeStops bag) (WorkStops bag) fault (λ stops. inr (none, scope, stops)) rest
 
 -- what a verdict means
 pub verdict_means : (bag : Bag) (outcome : Outcome) → AreRising (paths_of bag) → IsVerdict bag outcome → Means bag outcome

@@ -13,7 +13,7 @@ use Rattle.bag_digest.specs.Streams.{HaveEnded, HaveEndedIn, IsFirstStopped}
 use Rattle.bag_digest.proofs.Progress.{all_known, more_known}
 use Rattle.bag_rules.specs.declared.batch_reading.BatchReading.{BatchReading}
 use Rattle.bag_rules.specs.declared.limits.TheConstants.{LARGEST_FILE}
-use Rattle.bag_rules.specs.FileBatchInside.{AreRead, AreSumsRead, HasSumsAt, IsComplete, next_of}
+use Rattle.bag_rules.specs.FileBatchInside.{AreRead, AreSumsRead, HasSumsAt, CompletesBatch, next_of}
 use Rattle.bag_rules.specs.BatchReading.{AreGathered, AreOpen, AreReady, AreSumsIn, AreWithin, HaveSums, IsReadAt, IsStreamOf}
 use Rattle.bag_rules.specs.OpenTrees.{IsTooLarge}
 use Rattle.bag_rules.specs.Returning.{AreUnfailed, HasStoppedFirst, IsStopped, IsToldOf}
@@ -96,7 +96,7 @@ module _ {F : Type 0} (place : F → ℕ) (remaining : F → Option (List ℕ)) 
 
   -- the batch is complete
   pub read_ended : (wants : Requirements) (batch : FileBatch) (sums : List Sums) → HaveEnded remaining failures ready keeps gathered.set LARGEST_FILE gathered.streams.items new → AreSumsIn new sums
-      → AreGathered place remaining shown wants gathered → IsComplete gathered.batch batch sums → AreRead shown wants batch
+      → AreGathered place remaining shown wants gathered → CompletesBatch gathered.batch batch sums → AreRead shown wants batch
   read_ended wants batch sums ended are gathered_are complete = record {
     readings = readings_same shown wants gathered.batch batch (IsStreamOf remaining wants gathered.set gathered.streams.items) (HasSumsAt wants batch) complete.first complete.read complete.held
         (λ k path octets is. let found = ended_sums wants sums ended are k path octets is in (found.0, ap (λ xs. slice_get xs k) complete.streamed ∙ found.1, found.2))

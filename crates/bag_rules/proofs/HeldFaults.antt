@@ -11,7 +11,7 @@ use Rattle.bag_rules.proofs.SameTexts.{entry_too, lists_too, oxum_too, plain_man
 
 module _ (tags items : Files) (are : AreTagFiles tags) (held : AreHeldFor tags items) (opens : Opens tags) where
   pub same : version_of (held_bag tags items) ≡ version_of (tag_bag tags)
-  same = same_version tags items are held opens.in_profile.declared
+  same = same_version tags items are held opens.in_scope.declared
 
   pub down : (path octets : List ℕ) → is_payload path ≡ false → HoldsFile (held_bag tags items) path octets → HoldsFile (tag_bag tags) path octets
   down = tag_held tags items are held

@@ -6,8 +6,8 @@ use Rattle.std.proofs.lemmas.Option.{same_Some, slice_get_within}
 use Rattle.bag_digest.specs.declared.reading.SourceFault.{SourceFault}
 use Rattle.bag_digest.specs.declared.reading.SourceFault.TheVariants as source
 use Rattle.bag_digest.specs.Reading.{GaveBefore, GaveMoreThan, read_fault}
-use Rattle.bag_rules.specs.declared.kept.Kept.{Kept}
-use Rattle.bag_rules.specs.declared.kept.KeptFile.{KeptFile}
+use Rattle.bag_rules.specs.declared.tag_sums.TagSums.{TagSums}
+use Rattle.bag_rules.specs.declared.tag_sums.KeptFile.{KeptFile}
 use Rattle.bag_rules.specs.KeptInside.{AreKept, HasSumsWithin, IsKeptOf}
 use Rattle.bag_rules.specs.Trees.{HasFileAt, Shown}
 use Rattle.bag_rules.proofs.Words.{Alg, AlgSet, has}
@@ -24,11 +24,11 @@ on_ok_both (Ok x) P Q p q = (p, q)
 on_ok_both (Err e) P Q p q = tt
 
 -- nothing is kept
-pub none_kept : (shown : Shown) (kept : Kept) → kept.files.items ≡ [] → AreKept shown kept
+pub none_kept : (shown : Shown) (kept : TagSums) → kept.files.items ≡ [] → AreKept shown kept
 none_kept shown kept none = record { each = λ i file here. absurd (let k : None ≡ Some file = subst (λ files. slice_get files i ≡ Some file) none here in cc) }
 
 -- one more file
-pub kept_push : (shown : Shown) (old new : Kept) (file : KeptFile) → AreKept shown old → new.set ≡ old.set → new.files.items ≡ old.files.items ++ file ∷ [] → IsKeptOf shown old.set file → AreKept shown new
+pub kept_push : (shown : Shown) (old new : TagSums) (file : KeptFile) → AreKept shown old → new.set ≡ old.set → new.files.items ≡ old.files.items ++ file ∷ [] → IsKeptOf shown old.set file → AreKept shown new
 kept_push shown old new file are set files here = record {
   each = λ i other there.
       let at : slice_get (old.files.items ++ file ∷ []) i ≡ Some other = ap (λ fs. slice_get fs i) (sym files) ∙ there in
@@ -42,7 +42,7 @@ kept_push shown old new file are set files here = record {
 }
 
 -- what is kept of a file that was found
-pub kept_found : (shown : Shown) (kept : Kept) (items : List KeptFile) (i place : ℕ) (d : KeptFile) (set : AlgSet) (path octets : List ℕ) → items ≡ kept.files.items → i < length items → (get_or items i d).place ≡ place
+pub kept_found : (shown : Shown) (kept : TagSums) (items : List KeptFile) (i place : ℕ) (d : KeptFile) (set : AlgSet) (path octets : List ℕ) → items ≡ kept.files.items → i < length items → (get_or items i d).place ≡ place
     → ((alg : Alg) → has set alg ≡ true → has kept.set alg ≡ true) → AreKept shown kept → HasFileAt shown place path octets → HasSumsWithin (get_or items i d).sums set octets
 kept_found shown kept items i place d set path octets same below here covers are at =
     let file = get_or items i d in

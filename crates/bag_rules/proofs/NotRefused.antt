@@ -2,9 +2,9 @@
 use Rattle.std.proofs.Common.{◌≡◌, ◌≢◌, ◌∙◌, ℕ, zero, suc, List, [], ◌∷◌, Some, slice_get, take, refl, sym, ap, inl, inr}
 use Rattle.std.specs.List.Sorted.{IsStrictlySortedBy}
 use Rattle.bag_rules.specs.Bags.{paths_of}
-use Rattle.bag_rules.specs.declared.outcome.OutsideCause.TheVariants.{Version, Encoding, Algorithm}
-use Rattle.bag_rules.specs.declared.plan.PlanFault.{PlanFault}
-use Rattle.bag_rules.specs.declared.plan.PlanFault.TheVariants as plan
+use Rattle.bag_rules.specs.declared.scope.OutsideCause.TheVariants.{Version, Encoding, Algorithm}
+use Rattle.bag_rules.specs.declared.plan_fault.PlanFault.{PlanFault}
+use Rattle.bag_rules.specs.declared.plan_fault.PlanFault.TheVariants as plan
 use Rattle.bag_rules.specs.declared.tag_set.TagSetFault.{TagSetFault}
 use Rattle.bag_rules.specs.declared.tag_set.TagSetFault.TheVariants as tag
 use Rattle.bag_rules.specs.Files.{IsTagFile}
@@ -16,7 +16,7 @@ use Rattle.bag_rules.proofs.OneVerdictLemmas.{not_encoding, not_version}
 use Rattle.bag_rules.proofs.PutFiles.{by_path, key_has}
 use Rattle.bag_rules.proofs.SameListLemmas.{all_has}
 use Rattle.bag_rules.proofs.TagSetLemmas.{not_refused}
-use Rattle.bag_rules.proofs.Words.{AllByRecursion, AreRising, AreTagFiles, Bag, Equal, Files, Has, IsInProfile, IsOutside, keys_of, Less, nat_cmp, nat_list_cmp_total, OutsideCause, slice_cmp, tied_itself}
+use Rattle.bag_rules.proofs.Words.{AllByRecursion, AreRising, AreTagFiles, Bag, Equal, Files, Has, IsInScope, IsOutside, keys_of, Less, nat_cmp, nat_list_cmp_total, OutsideCause, slice_cmp, tied_itself}
 
 -- A TAG FILE AFTER THOSE BEFORE IT
 
@@ -55,15 +55,15 @@ tag_file_not_refused files n path octets are at =
 
 -- TAG FILES THAT OPEN
 
--- a bag in the profile isn't outside
-inside : (bag : Bag) (cause : OutsideCause) → AreRising (paths_of bag) → IsInProfile bag → IsOutside bag cause → ⊥
-inside bag Version rising profile out = not_version bag rising profile.declared out
-inside bag Encoding rising profile out = not_encoding bag rising profile.declared out
-inside bag (Algorithm name) rising profile out = profile.known out.1.path _ out.1.there out.1.unknown
+-- a bag in scope isn't outside
+inside : (bag : Bag) (cause : OutsideCause) → AreRising (paths_of bag) → IsInScope bag → IsOutside bag cause → ⊥
+inside bag Version rising scope out = not_version bag rising scope.declared out
+inside bag Encoding rising scope out = not_encoding bag rising scope.declared out
+inside bag (Algorithm name) rising scope out = scope.known out.1.path _ out.1.there out.1.unknown
 
 pub refused_by_memory : (tags : Files) (fault : PlanFault) → AreTagFiles tags → Opens tags → RefusesTags tags fault → fault ≡ plan.Memory
 refused_by_memory tags (plan.TagTooLarge path) files opens r = absurd (opens.few_lines path r.has)
-refused_by_memory tags (plan.Outside cause) files opens r = absurd (inside _ cause files.rising opens.in_profile r.1)
+refused_by_memory tags (plan.Outside cause) files opens r = absurd (inside _ cause files.rising opens.in_scope r.1)
 refused_by_memory tags (plan.Rules fault) files opens r = absurd (opens.no_fault fault r.2.has)
 refused_by_memory tags (plan.Clash path) files opens r = absurd (opens.no_clash path r.3.has)
 refused_by_memory tags plan.Memory files opens r = refl

@@ -1,7 +1,7 @@
 -- Bags with one payload manifest and one payload file, or none.
 use Rattle.std.proofs.Common.{◌≡◌, ◌<◌, ℕ, Bool, true, false, List, [], ◌∷◌, codes, refl, sym, ap, subst, inl, inr, arith}
 use Rattle.std.specs.List.Sorted.{IsStrictlySortedBy}
-use Rattle.bag_rules.proofs.Words.{adds_pair, AddsPair, AreRising, ascii_path, Bag, bytes_eq, bytes_eq-Decides, Digest, digits_of_abc, false≢true, Fault, HasFault, IsInProfile, IsJudged, IsThere, leads_on, Listing, lists_path, ManifestText, nothing_listed, or_cases, other_text, Pair, pair, Payload, Sha256, sha256_of_abc, SpellsDigest, text_of, tier_of, V1, with_pair, word_of, written_declaration}
+use Rattle.bag_rules.proofs.Words.{adds_pair, AddsPair, AreRising, ascii_path, Bag, bytes_eq, bytes_eq-Decides, Digest, digits_of_abc, false≢true, Fault, HasFault, IsInScope, IsJudged, IsThere, leads_on, Listing, lists_path, ManifestText, nothing_listed, or_cases, other_text, Pair, pair, Payload, Sha256, sha256_of_abc, SpellsDigest, text_of, tier_of, V1, with_pair, word_of, written_declaration}
 use Rattle.bag_path.specs.Lines.{lines_of}
 use Rattle.bag_path.specs.declared.version.Version.{Version}
 use Rattle.bag_path.specs.Paths.{path_fault}
@@ -17,15 +17,15 @@ use Rattle.bag_rules.proofs.VerdictLemmas.{judged_by_one}
 
 -- VERDICTS
 
-pub judged_none : (bag : Bag) → ((fault : Fault) → ¬ HasFault bag fault) → IsInProfile bag → IsJudged bag []
+pub judged_none : (bag : Bag) → ((fault : Fault) → ¬ HasFault bag fault) → IsInScope bag → IsJudged bag []
 unfolding IsStrictlySortedBy
-judged_none bag none profile = record { in_order = tt; exact = λ fault. (λ h. absurd h, λ h. none fault h.0); in_profile = λ below. profile }
+judged_none bag none scope = record { in_order = tt; exact = λ fault. (λ h. absurd h, λ h. none fault h.0); in_scope = λ below. scope }
 
 -- the one fault that the bag has
-pub judged_one : (bag : Bag) (fault : Fault) → HasFault bag fault → ((other : Fault) → HasFault bag other → fault ≡ other) → IsInProfile bag → IsJudged bag (fault ∷ [])
-judged_one bag fault broken only profile =
+pub judged_one : (bag : Bag) (fault : Fault) → HasFault bag fault → ((other : Fault) → HasFault bag other → fault ≡ other) → IsInScope bag → IsJudged bag (fault ∷ [])
+judged_one bag fault broken only scope =
     judged_by_one bag fault (fault ∷ []) broken (λ other less b. omega (arith, subst (λ f. tier_of f < tier_of fault) (sym (only other b)) less)) (λ other tier. only other)
-    (λ below. profile) (lone fault) (λ other. (λ h. h, λ h. h))
+    (λ below. scope) (lone fault) (λ other. (λ h. h, λ h. h))
 
 -- MANIFESTS
 

@@ -1,6 +1,6 @@
 -- At most one limit is the first that a check meets.
 use Rattle.std.proofs.Common.{◌≡◌, ◌∙◌, ℕ, List, Some, slice_get, sym, ap, subst, inl, inr, arith}
-use Rattle.bag_rules.proofs.Words.{Bag, cases_order, CheckFault, DeclarationStops, FileStops, FirstStops, ProfileStops, Stops, TextStops, WorkStops}
+use Rattle.bag_rules.proofs.Words.{Bag, cases_order, CheckFault, DeclarationStops, FileStops, FirstStops, ScopeStops, Stops, TextStops, WorkStops}
 use Rattle.bag_rules.proofs.LimitLemmas.{none_first}
 
 abbrev File : Type 0
@@ -35,17 +35,17 @@ one_text path octets a b (file, e, inr f) (other, k, inr g) = f.1.2 ∙ sym g.1.
 one_file : (bag : Bag) → IsOneReason (FileStops bag)
 one_file bag path octets a b f g = f.1.1 ∙ sym g.1.1
 
-one_of_profile : (bag : Bag) (a b : CheckFault) → ProfileStops bag a → ProfileStops bag b → a ≡ b
-one_of_profile bag a b (inl f) (inl g) = one_first bag TextStops a b f g one_text
-one_of_profile bag a b (inl f) (inr g) = absurd (none_first bag TextStops a g.0 f)
-one_of_profile bag a b (inr f) (inl g) = absurd (none_first bag TextStops b f.0 g)
-one_of_profile bag a b (inr f) (inr g) = one_first bag (FileStops bag) a b f.2 g.2 (one_file bag)
+one_of_scope : (bag : Bag) (a b : CheckFault) → ScopeStops bag a → ScopeStops bag b → a ≡ b
+one_of_scope bag a b (inl f) (inl g) = one_first bag TextStops a b f g one_text
+one_of_scope bag a b (inl f) (inr g) = absurd (none_first bag TextStops a g.0 f)
+one_of_scope bag a b (inr f) (inl g) = absurd (none_first bag TextStops b f.0 g)
+one_of_scope bag a b (inr f) (inr g) = one_first bag (FileStops bag) a b f.2 g.2 (one_file bag)
 
 one_of_work : (bag : Bag) (a b : CheckFault) → WorkStops bag a → WorkStops bag b → a ≡ b
 one_of_work bag a b (inl f) (inl g) = one_first bag DeclarationStops a b f g one_declaration
 one_of_work bag a b (inl f) (inr g) = absurd (none_first bag DeclarationStops a g.0 f)
 one_of_work bag a b (inr f) (inl g) = absurd (none_first bag DeclarationStops b f.0 g)
-one_of_work bag a b (inr f) (inr g) = one_of_profile bag a b f.2 g.2
+one_of_work bag a b (inr f) (inr g) = one_of_scope bag a b f.2 g.2
 
 pub one_limit : (bag : Bag) (a b : CheckFault) → Stops bag a → Stops bag b → a ≡ b
 one_limit bag a b (inl f) (inl g) = f.1 ∙ sym g.1

@@ -1,7 +1,7 @@
 -- What can be wrong with bags that have a declaration, a payload manifest by SHA-256 that lists no file except possibly
 -- `data/a.txt`, and no other payload file.
 use Rattle.std.proofs.Common.{◌≡◌, ◌≢◌, ◌⊎◌, ℕ, true, false, List, [], ◌∷◌, Some, codes, nat_eq, get_or, refl, sym, ap, ◌∙◌, subst, inl, inr}
-use Rattle.bag_rules.proofs.Words.{Alg, BadDeclaration, BadLine, Bag, bytes_eq, current, differ_at, Digest, excludes, Fault, FetchLength, FetchList, FetchNotListed, file_of, Has, HasFault, hash, HoldsFile, Info, is_payload, IsDeclaration, IsInProfile, IsThere, IsUnknownManifest, Kind, line_fault, LineCause, listed_digest, Lists, lists_path, Manifest, manifest_file, manifest_name, ManifestFault, ManifestName, ManifestNotListed, ManifestText, Missing, NoDeclaration, NoManifest, no_pairs, NoPayloadDir, one_file, one_list_of_pairs, other_text, OxumForm, OxumTwice, OxumWrong, Pair, Payload, payload_known, payload_manifest, Sha256, Tag, tag_manifest, Unlisted, V1, written_declaration, written_declares, WrongDigest}
+use Rattle.bag_rules.proofs.Words.{Alg, BadDeclaration, BadLine, Bag, bytes_eq, current, differ_at, Digest, excludes, Fault, FetchLength, FetchList, FetchNotListed, file_of, Has, HasFault, hash, HoldsFile, Info, is_payload, IsDeclaration, IsInScope, IsThere, IsUnknownManifest, Kind, line_fault, LineCause, listed_digest, Lists, lists_path, Manifest, manifest_file, manifest_name, ManifestFault, ManifestName, ManifestNotListed, ManifestText, Missing, NoDeclaration, NoManifest, no_pairs, NoPayloadDir, one_file, one_list_of_pairs, other_text, OxumForm, OxumTwice, OxumWrong, Pair, Payload, payload_known, payload_manifest, Sha256, Tag, tag_manifest, Unlisted, V1, written_declaration, written_declares, WrongDigest}
 use Rattle.bag_rules.specs.Bags.{version_of}
 use Rattle.bag_rules.specs.Listed.{IsUnlisted}
 use Rattle.bag_rules.proofs.ListedLemmas.{some_listed}
@@ -123,8 +123,8 @@ module _ (bag : Bag) (manifest content : List ℕ) (pairs : List Pair) (h : HasO
   pub lists : Lists bag by_sha256 pairs
   lists = record { octets = manifest; there = h.there; text = subst (λ v. ManifestText v Sha256 Payload manifest pairs) (sym h.version_is) h.text }
 
-  pub profile : IsInProfile bag
-  profile = record {
+  pub scope : IsInScope bag
+  scope = record {
     declared = record { declaration = current; declares = (written_declaration, h.declared, written_declares); version_is = ap Some (sym h.version_is); in_utf8 = refl };
     known = λ path word there. by_file manifest content (λ p o. ¬ IsUnknownManifest p word)
         (λ u. word_apart (codes "bagit.txt") word refl refl u.form) (λ u. word_apart payload_file word refl refl u.form) (λ u. payload_known (codes "manifest-sha256.txt") Sha256 word u refl)

@@ -1,12 +1,12 @@
 -- A bag has at most one verdict, and its files have one order.
 use Rattle.std.proofs.Common.{◌≡◌, ◌≢◌, ◌↔◌, ◌∙◌, ℕ, true, false, List, [], ◌∷◌, Some, None, is_some, refl, sym, ap, subst, string_bytes}
-use Rattle.bag_rules.proofs.Words.{Algorithm, AreInOrder, AreRising, Bag, Declaration, declaration_file, Declares, Encoding, Equal, exact_bytes, Fault, Greater, Has, HoldsFile, IsDeclaration, IsFirstUnknown, IsInProfile, IsJudged, IsOutside, IsUnknownManifest, IsVerdict, Judged, Less, nat_cmp, nat_list_cmp_total, one_word, Ordering, ordering_reverse, Outcome, Outside, OutsideCause, SameCause, SameVerdict, slice_cmp}
+use Rattle.bag_rules.proofs.Words.{Algorithm, AreInOrder, AreRising, Bag, Declaration, declaration_file, Declares, Encoding, Equal, exact_bytes, Fault, Greater, Has, HoldsFile, IsDeclaration, IsFirstUnknown, IsInScope, IsJudged, IsOutside, IsUnknownManifest, IsVerdict, Judged, Less, nat_cmp, nat_list_cmp_total, one_word, Ordering, ordering_reverse, Outcome, Outside, OutsideCause, SameCause, SameVerdict, slice_cmp}
 use Rattle.std.specs.List.Sorted.{IsStrictlySortedBy}
 use Rattle.bag_tags.specs.Declarations.{version_of as known_version}
 use Rattle.bag_tags.proofs.DeclarationLemmas as declarations
 use Rattle.bag_rules.specs.contracts.fault.FaultOrd.TheImpl as order
 use Rattle.bag_rules.specs.contracts.fault.FaultOrd.TheImpl.Laws as laws
-use Rattle.bag_rules.specs.declared.outcome.OutsideCause.TheVariants.{Version}
+use Rattle.bag_rules.specs.declared.scope.OutsideCause.TheVariants.{Version}
 use Rattle.bag_rules.specs.Bags.{IsDeclared, paths_of, version_of}
 use Rattle.bag_rules.proofs.HasLemmas.{has_at, place_of_has}
 use Rattle.bag_rules.proofs.SameListLemmas.{asymmetric, same_list, sorted_by_key}
@@ -46,14 +46,14 @@ not_encoding bag rising declared other = let clash : true ≡ false = sym declar
 not_both : (bag : Bag) → AreRising (paths_of bag) → IsOutside bag Version → IsOutside bag Encoding → ⊥
 not_both bag rising v n = let clash : false ≡ true = ap is_some (sym v.2 ∙ ap known_version (one_declared bag v.0 n.0 rising v.1 n.1)) ∙ n.2 in cc
 
--- a bag that declares something is judged only in the profile
-in_profile : (bag : Bag) (faults : List Fault) (declaration : Declaration) → AreRising (paths_of bag) → IsJudged bag faults → Declares bag declaration → IsInProfile bag
-in_profile bag faults declaration rising judged declares = judged.in_profile (declared_none bag declaration rising declares)
+-- a bag that declares something is judged only in scope
+in_scope : (bag : Bag) (faults : List Fault) (declaration : Declaration) → AreRising (paths_of bag) → IsJudged bag faults → Declares bag declaration → IsInScope bag
+in_scope bag faults declaration rising judged declares = judged.in_scope (declared_none bag declaration rising declares)
 
 not_judged : (bag : Bag) (faults : List Fault) (cause : OutsideCause) → AreRising (paths_of bag) → IsJudged bag faults → IsOutside bag cause → ⊥
-not_judged bag faults Version rising judged out = not_version bag rising (in_profile bag faults out.0 rising judged out.1).declared out
-not_judged bag faults Encoding rising judged out = not_encoding bag rising (in_profile bag faults out.0 rising judged out.1).declared out
-not_judged bag faults (Algorithm name) rising judged out = (in_profile bag faults out.0.declaration rising judged out.0.declares).known out.1.path (string_bytes name) out.1.there out.1.unknown
+not_judged bag faults Version rising judged out = not_version bag rising (in_scope bag faults out.0 rising judged out.1).declared out
+not_judged bag faults Encoding rising judged out = not_encoding bag rising (in_scope bag faults out.0 rising judged out.1).declared out
+not_judged bag faults (Algorithm name) rising judged out = (in_scope bag faults out.0.declaration rising judged out.0.declares).known out.1.path (string_bytes name) out.1.there out.1.unknown
 
 -- neither is greater, so they are the same
 neither : (x y : List ℕ) (o : Ordering) → slice_cmp nat_cmp x y ≡ o → slice_cmp nat_cmp x y ≢ Greater → slice_cmp nat_cmp y x ≢ Greater → x ≡ y

@@ -115,7 +115,7 @@ module _ (tags : Files) (texts : TagTexts) (are : AreTextsOf (length tags) (tag_
 
 pub all_found : (version : Version) (tags : Files) (faults : List Fault) → AreReadBy version tags → Adds [] faults (HasOpeningFaultOf tags (kinds_of_form ++ kinds_of_files)) → (f : Fault) → Has faults f ↔ HasOpeningFault tags f
 all_found version tags faults read adds f =
-    let declared = read.in_profile.declared in (
+    let declared = read.in_scope.declared in (
       λ h. elim ((adds f).0 h) [ inl old ↦ absurd old | inr new ↦ new.0 ],
       λ h. (adds f).1 (inr (h, every_kind tags f (declared_none (tag_bag tags) declared.declaration read.tag_files.rising declared.declares) h)),
     )

@@ -3,12 +3,12 @@ use Rattle.std.proofs.Common.{◌≡◌, ◌≢◌, ◌↔◌, ◌<◌, ◌≤�
 use Rattle.std.specs.declared.cmp.Ordering.{Ordering}
 use Rattle.bag_rules.specs.contracts.fault.FaultOrd.TheImpl as order
 use Rattle.bag_rules.specs.contracts.fault.FaultOrd.TheImpl.Laws as laws
-use Rattle.bag_rules.specs.declared.outcome.OutsideCause.TheVariants.{Version}
+use Rattle.bag_rules.specs.declared.scope.OutsideCause.TheVariants.{Version}
 use Rattle.bag_rules.specs.Bags.{paths_of}
 use Rattle.bag_rules.specs.Opening.{FewLines, HasOpeningFault, IsFirst, IsFirstOpeningFault, NotOutside, RefusesTags}
-use Rattle.bag_rules.specs.declared.plan.PlanFault.TheVariants.{Rules}
+use Rattle.bag_rules.specs.declared.plan_fault.PlanFault.TheVariants.{Rules}
 use Rattle.bag_rules.specs.Transfers.{tag_bag}
-use Rattle.bag_rules.proofs.Words.{Algorithm, AreRising, AreTagFiles, BadDeclaration, Bag, Broken, cases_lt, Encoding, Equal, Fault, Files, Greater, HasFault, IsInProfile, IsJudged, IsOutside, IsProfile, Judged, Less, NoDeclaration, number_of, ordering_reverse, Outside, OutsideCause, tied_itself, tier_of}
+use Rattle.bag_rules.proofs.Words.{Algorithm, AreRising, AreTagFiles, BadDeclaration, Bag, Broken, cases_lt, Encoding, Equal, Fault, Files, Greater, HasFault, IsInScope, IsJudged, IsOutside, HasScope, Judged, Less, NoDeclaration, number_of, ordering_reverse, Outside, OutsideCause, tied_itself, tier_of}
 use Rattle.bag_rules.proofs.OneVerdictLemmas.{not_encoding, not_version, one_verdict}
 use Rattle.bag_rules.proofs.OrderLemmas.{by_number}
 use Rattle.bag_rules.proofs.VerdictLemmas.{number_by_tier}
@@ -53,15 +53,15 @@ module _ (tags : Files) where
   of_bag (BadDeclaration cause) low has = has.0
   of_bag _ low has = absurd (omega (arith, low))
 
-  module _ (fault : Fault) (judged : IsJudged (tag_bag tags) (fault ∷ [])) (out : ¬ IsInProfile (tag_bag tags)) where
+  module _ (fault : Fault) (judged : IsJudged (tag_bag tags) (fault ∷ [])) (out : ¬ IsInScope (tag_bag tags)) where
     own : HasFault (tag_bag tags) fault
     own = ((judged.exact fault).0 (inl refl)).0
 
-    -- the one fault of a bag out of the profile is its declaration's
+    -- the one fault of a bag out of scope is its declaration's
     own_low : number_of fault ≤ 2
     own_low = elim (cases_lt (tier_of fault) 2) [
       | inl below ↦ low_number fault below
-      | inr above ↦ absurd (out (judged.in_profile (λ other below broken. ((judged.exact fault).0 (inl refl)).1 other (omega (arith, above, below)) broken)))
+      | inr above ↦ absurd (out (judged.in_scope (λ other below broken. ((judged.exact fault).0 (inl refl)).1 other (omega (arith, above, below)) broken)))
     ]
 
     first_low : IsFirstOpeningFault tags fault
@@ -77,19 +77,19 @@ module _ (tags : Files) where
       ];
     }
 
-  pub broken_refused : (fault : Fault) → AreTagFiles tags → IsProfile (tag_bag tags) (Broken fault) → FewLines tags → RefusesTags tags (Rules fault)
+  pub broken_refused : (fault : Fault) → AreTagFiles tags → HasScope (tag_bag tags) (Broken fault) → FewLines tags → RefusesTags tags (Rules fault)
   broken_refused fault are (judged, out) few = (
     few,
     λ cause outside. absurd (one_verdict (tag_bag tags) (Judged (fault ∷ [])) (Outside cause) are.rising judged outside),
     first_low fault judged out,
   )
 
--- IN THE PROFILE
+-- IN THE SCOPE
 
-profile_known : (bag : Bag) (cause : OutsideCause) → AreRising (paths_of bag) → IsInProfile bag → ¬ IsOutside bag cause
-profile_known bag Version rising profile out = not_version bag rising profile.declared out
-profile_known bag Encoding rising profile out = not_encoding bag rising profile.declared out
-profile_known bag (Algorithm name) rising profile out = profile.known out.1.path (string_bytes name) out.1.there out.1.unknown
+scope_known : (bag : Bag) (cause : OutsideCause) → AreRising (paths_of bag) → IsInScope bag → ¬ IsOutside bag cause
+scope_known bag Version rising scope out = not_version bag rising scope.declared out
+scope_known bag Encoding rising scope out = not_encoding bag rising scope.declared out
+scope_known bag (Algorithm name) rising scope out = scope.known out.1.path (string_bytes name) out.1.there out.1.unknown
 
-pub not_outside : (tags : Files) → AreTagFiles tags → IsInProfile (tag_bag tags) → NotOutside tags
-not_outside tags are profile cause out = profile_known (tag_bag tags) cause are.rising profile out
+pub not_outside : (tags : Files) → AreTagFiles tags → IsInScope (tag_bag tags) → NotOutside tags
+not_outside tags are scope cause out = scope_known (tag_bag tags) cause are.rising scope out

@@ -1,13 +1,12 @@
 -- What a plan says about the payload.
-use Rattle.std.proofs.Common.{◌≡◌, ◌∙◌, ℕ, List, None, Some, sym, inl, inr}
-use Rattle.bag_rules.proofs.Words.{AreLinesOf, BadLine, entries_or_fault, FetchLine, FetchList, Files, Has, IsThere, IsWantBy, ListsFetch, text_file, Want}
+use Rattle.std.proofs.Common.{Contains, ◌≡◌, ◌∙◌, ℕ, List, None, Some, sym, inl, inr}
+use Rattle.bag_rules.proofs.Words.{AreLinesOf, BadLine, entries_or_fault, FetchLine, FetchList, Files, IsThere, IsWantBy, ListsFetch, text_file, Want}
 use Rattle.bag_rules.specs.declared.plan.Plan.{Plan}
 use Rattle.bag_rules.specs.Bags.{version_of}
 use Rattle.bag_rules.specs.Opening.{Opens}
 use Rattle.bag_rules.specs.Plans.{AreFetchLines, IsPlanOf, IsWantOf}
 use Rattle.bag_rules.specs.Transfers.{tag_bag}
 use Rattle.bag_rules.proofs.FrontLemmas.{fetch_listed, manifest_listed}
-use Rattle.bag_rules.proofs.HasLemmas.{contains_from_has}
 
 -- if tag files open, `fetch.txt` can be read
 pub fetch_reads : (tags : Files) → Opens tags → IsThere (tag_bag tags) (text_file FetchList) → (lines : List FetchLine) × ListsFetch (tag_bag tags) lines
@@ -28,9 +27,9 @@ module _ (tags : Files) (plan : Plan) (is : IsPlanOf tags plan) where
     none.1,
   )
 
-  pub want_is : (path : List ℕ) (want : Want) → Has plan.paths.items path → IsWantBy plan.texts.manifests.items plan.lengths path want → IsWantOf tags path want
-  want_is path want has by = record {
-    expected = (is.paths.exact path).0 (contains_from_has plan.paths.items path has);
+  pub want_is : (path : List ℕ) (want : Want) → Contains plan.paths.items path → IsWantBy plan.texts.manifests.items plan.lengths path want → IsWantOf tags path want
+  want_is path want there by = record {
+    expected = (is.paths.exact path).0 there;
     path_is = by.path_is;
     manifests = λ listing. rw by.manifests (manifest_listed (tag_bag tags) plan.texts is.texts listing);
     lengths = λ given. rw by.given (is.lengths path given);

@@ -8,7 +8,7 @@ use Rattle.bag_rules.specs.Opening.{Opens}
 use Rattle.bag_rules.specs.Plans.{item_paths, sizes_of}
 use Rattle.bag_rules.specs.Transfers.{AreHeldFor, held_bag, tag_bag}
 use Rattle.bag_rules.specs.declared.plan.ItemSize.{ItemSize}
-use Rattle.bag_rules.proofs.Words.{AreTagFiles, AreTextsOf, Bag, cases_Bool, Fault, Files, HasFaultOf, is_payload, IsInProfile, IsSizeOf, IsThere, IsUnknownManifest, keys_of, kinds_of_files, length-map, Listing, manifest_name, Missing, name_in, NoneBelow, OfSome, OxumWrong, PayloadSize, Payload, TagTexts}
+use Rattle.bag_rules.proofs.Words.{AreTagFiles, AreTextsOf, Bag, cases_Bool, Fault, Files, HasFaultOf, is_payload, IsInScope, IsSizeOf, IsThere, IsUnknownManifest, keys_of, kinds_of_files, length-map, Listing, manifest_name, Missing, name_in, NoneBelow, OfSome, OxumWrong, PayloadSize, Payload, TagTexts}
 use Rattle.bag_rules.proofs.FrontLemmas.{fetch_listed, info_said, manifest_listed, whole_front}
 use Rattle.bag_rules.proofs.HasLemmas.{contains_from_has, has_from_contains, has_from_map, has_map}
 use Rattle.bag_rules.proofs.HeldBags.{holds_item, holds_tag, item_held, payload_files, payload_octets}
@@ -53,11 +53,11 @@ module _ (tags items : Files) (are : AreTagFiles tags) (held : AreHeldFor tags i
   is_there : (path : List ℕ) → is_payload path ≡ true → IsThere (held_bag tags items) path → Contains (keys_of items) path
   is_there path payload there = contains_from_has (keys_of items) path (has_map (λ (file : List ℕ × List ℕ). file.0) items (path, there.0) (item_held tags items are held path there.0 payload there.1))
 
-  -- THE PROFILE, AND THE LOWER TIERS
+  -- THE SCOPE, AND THE LOWER TIERS
 
-  pub held_profile : IsInProfile (held_bag tags items)
-  held_profile =
-      let declared = opens.in_profile.declared in
+  pub held_scope : IsInScope (held_bag tags items)
+  held_scope =
+      let declared = opens.in_scope.declared in
       record {
         declared = record {
           declaration = declared.declaration;
@@ -67,7 +67,7 @@ module _ (tags items : Files) (are : AreTagFiles tags) (held : AreHeldFor tags i
         };
         known = λ path word there unknown. elim (cases_Bool (is_payload path)) [
           | inl payload ↦ not_unknown path word payload unknown
-          | inr plain ↦ opens.in_profile.known path word (there.0, down tags items are held opens path there.0 plain there.1) unknown
+          | inr plain ↦ opens.in_scope.known path word (there.0, down tags items are held opens path there.0 plain there.1) unknown
         ];
       }
 

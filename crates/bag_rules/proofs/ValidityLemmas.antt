@@ -143,7 +143,7 @@ module _ (bag : Bag) (faults : List Fault) (judged : IsJudged bag faults) where
     below_3 fault below = only_digests fault (omega (arith, (number_by_tier fault).0 below))
 
     pub complete_of : AreRising (paths_of bag) → IsComplete bag
-    complete_of rising = none_complete bag rising only_digests (judged.in_profile (λ fault below. below_3 fault (omega (arith, below)))).declared
+    complete_of rising = none_complete bag rising only_digests (judged.in_scope (λ fault below. below_3 fault (omega (arith, below)))).declared
 
   pub none_broken : ((fault : Fault) → ¬ HasFault bag fault) → faults ≡ []
   none_broken none = empty faults (λ fault has. none fault ((judged.exact fault).0 has).0)

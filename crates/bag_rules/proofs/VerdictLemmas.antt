@@ -1,6 +1,6 @@
 -- From what a check found to the verdict.
 use Rattle.std.proofs.Common.{◌≡◌, ◌↔◌, ◌<◌, ◌≤◌, ◌==◌, ◌∙◌, ℕ, true, false, List, [], ◌∷◌, ◌++◌, length, refl, sym, ap, subst, inl, inr, arith}
-use Rattle.bag_rules.proofs.Words.{Adds, AreInOrder, AreRising, BadDeclaration, Bag, cases_order, Declaration, declaration_file, Declares, eqb-true, excludes, Fault, Has, HasFault, HasFaultOf, IsDeclarationFault, IsInProfile, IsJudged, kind_of_lines, kinds_beside_lines, kinds_of_files, kinds_of_form, list_any, NoDeclaration, NoneBelow, number_of, tier_of}
+use Rattle.bag_rules.proofs.Words.{Adds, AreInOrder, AreRising, BadDeclaration, Bag, cases_order, Declaration, declaration_file, Declares, eqb-true, excludes, Fault, Has, HasFault, HasFaultOf, IsDeclarationFault, IsInScope, IsJudged, kind_of_lines, kinds_beside_lines, kinds_of_files, kinds_of_form, list_any, NoDeclaration, NoneBelow, number_of, tier_of}
 use Rattle.bag_rules.specs.Bags.{paths_of}
 use Rattle.bag_rules.proofs.AddsLemmas.{adds_kinds, adds_of}
 use Rattle.bag_rules.proofs.TreeLemmas.{one_octets}
@@ -73,10 +73,10 @@ tier_found bag kinds tier faults tells adds fault = (
 )
 
 -- the faults of one tier, if there is no fault of a lower one
-tier_judged : (tier : ℕ) (bag : Bag) (faults report : List Fault) → (NoneBelow 2 bag → IsInProfile bag) → NoneBelow tier bag
+tier_judged : (tier : ℕ) (bag : Bag) (faults report : List Fault) → (NoneBelow 2 bag → IsInScope bag) → NoneBelow tier bag
     → ((fault : Fault) → Has faults fault ↔ (HasFault bag fault × (tier_of fault ≡ tier))) → ((fault : Fault) → tier < tier_of fault → ¬ NoneBelow (tier_of fault) bag)
     → AreInOrder report → ((fault : Fault) → Has report fault ↔ Has faults fault) → IsJudged bag report
-tier_judged tier bag faults report profile none are above in_order same = record {
+tier_judged tier bag faults report scope none are above in_order same = record {
   in_order = in_order;
   exact = λ fault. (
     λ h. (let found = (are fault).0 ((same fault).0 h) in (found.0, subst (λ t. NoneBelow t bag) (sym found.1) none)),
@@ -88,29 +88,29 @@ tier_judged tier bag faults report profile none are above in_order same = record
       ],
     )),
   );
-  in_profile = profile;
+  in_scope = scope;
 }
 
 -- the verdict on a bag with faults of the form
-pub judged_by_form : (bag : Bag) (faults report : List Fault) → IsInProfile bag → NoneBelow 2 bag → Adds [] faults (HasFaultOf bag kinds_of_form) → (length faults == 0) ≡ false
+pub judged_by_form : (bag : Bag) (faults report : List Fault) → IsInScope bag → NoneBelow 2 bag → Adds [] faults (HasFaultOf bag kinds_of_form) → (length faults == 0) ≡ false
     → AreInOrder report → ((fault : Fault) → Has report fault ↔ Has faults fault) → IsJudged bag report
-judged_by_form bag faults report profile none adds some in_order same =
+judged_by_form bag faults report scope none adds some in_order same =
     let are = tier_found bag kinds_of_form 2 faults form_tier adds in
     let first = some_first faults some in
     let found = (are first.0).0 first.1 in
-    tier_judged 2 bag faults report (λ none. profile) none are (λ fault above below. below first.0 (omega (arith, above, found.1)) found.0) in_order same
+    tier_judged 2 bag faults report (λ none. scope) none are (λ fault above below. below first.0 (omega (arith, above, found.1)) found.0) in_order same
 
 -- the verdict on a bag of the right form
-pub judged_by_files : (bag : Bag) (faults report : List Fault) → IsInProfile bag → NoneBelow 3 bag → Adds [] faults (HasFaultOf bag kinds_of_files)
+pub judged_by_files : (bag : Bag) (faults report : List Fault) → IsInScope bag → NoneBelow 3 bag → Adds [] faults (HasFaultOf bag kinds_of_files)
     → AreInOrder report → ((fault : Fault) → Has report fault ↔ Has faults fault) → IsJudged bag report
-judged_by_files bag faults report profile none adds in_order same =
-    tier_judged 3 bag faults report (λ none. profile) none (tier_found bag kinds_of_files 3 faults file_tier adds) (λ fault above below. absurd (omega (arith, above, (number_by_tier fault).2))) in_order same
+judged_by_files bag faults report scope none adds in_order same =
+    tier_judged 3 bag faults report (λ none. scope) none (tier_found bag kinds_of_files 3 faults file_tier adds) (λ fault above below. absurd (omega (arith, above, (number_by_tier fault).2))) in_order same
 
 -- the verdict on a bag with one fault of a tier
 pub judged_by_one : (bag : Bag) (own : Fault) (report : List Fault) → HasFault bag own → NoneBelow (tier_of own) bag → ((fault : Fault) → tier_of fault ≡ tier_of own → HasFault bag fault → own ≡ fault)
-    → (NoneBelow 2 bag → IsInProfile bag) → AreInOrder report → ((fault : Fault) → Has report fault ↔ Has (own ∷ []) fault) → IsJudged bag report
-judged_by_one bag own report broken none only profile in_order same =
-    tier_judged (tier_of own) bag (own ∷ []) report profile none
+    → (NoneBelow 2 bag → IsInScope bag) → AreInOrder report → ((fault : Fault) → Has report fault ↔ Has (own ∷ []) fault) → IsJudged bag report
+judged_by_one bag own report broken none only scope in_order same =
+    tier_judged (tier_of own) bag (own ∷ []) report scope none
     (λ fault. (
       λ h. elim h [ inl is ↦ subst (λ f. HasFault bag f × (tier_of f ≡ tier_of own)) is (broken, refl) | inr none ↦ absurd none ],
       λ h. inl (only fault h.1 h.0),

@@ -20,16 +20,16 @@ pub use Rattle.bag_rules.specs.FilesInside.{IsEntryUnlisted, IsFaultBy, IsFaultI
 pub use Rattle.bag_rules.specs.FormInside.{IsBadOxum, IsOxumFault, IsUnlistedBy, IsUnlistedManifest}
 pub use Rattle.bag_rules.specs.HasFault.{HasEntry, HasFault, HasFaultOf, IsFaultyText, line_fault, SaysOxum}
 pub use Rattle.bag_rules.specs.JudgingInside.{IsFirstUnknownOf, MatchOutside, NoneUnknown}
-pub use Rattle.bag_rules.specs.Limits.{DeclarationStops, FileStops, FirstStops, HasCountedLines, IsChecked, IsLongFile, IsLongTag, NoneStops, NoneStopsBefore, ProfileStops, Stopped, Stops, TextStops, WorkStops}
+pub use Rattle.bag_rules.specs.Limits.{DeclarationStops, FileStops, FirstStops, HasCountedLines, IsChecked, IsLongFile, IsLongTag, NoneStops, NoneStopsBefore, ScopeStops, Stopped, Stops, TextStops, WorkStops}
 pub use Rattle.bag_rules.specs.Memory.{mem_octets, mem_paths, mem_shown, MemFiles, no_files, octets_at, with_file}
 pub use Rattle.bag_rules.specs.Files.{AreTagFiles, Files, files_of, IsGapFor}
 pub use Rattle.bag_rules.specs.MemoryInside.{IsSoundTree, moved_up, rest_of, view_of}
-pub use Rattle.bag_rules.specs.Profiles.{IsProfile}
+pub use Rattle.bag_rules.specs.Scopes.{HasScope}
 pub use Rattle.bag_rules.specs.ReadingInside.{Adds, AreLinesOf, AreTextsOf, front, GivesListing, HasBadLine, IsBadLineOf, IsFirstBadLine, name_in, ReadsOn, ReadsText, ValueOf}
 pub use Rattle.bag_rules.specs.SameVerdicts.{SameCause, SameVerdict}
 pub use Rattle.bag_rules.specs.Trees.{AreRising, HasFileAt, KeepsTree, octets_in, paths_in, Shown, UsesTree}
 pub use Rattle.bag_rules.specs.Validity.{Conforms, IsComplete, IsValid, Means}
-pub use Rattle.bag_rules.specs.Verdicts.{IsFirstUnknown, IsInProfile, IsJudged, IsOutside, IsVerdict, NoneBelow, tier_of}
+pub use Rattle.bag_rules.specs.Verdicts.{IsFirstUnknown, IsInScope, IsJudged, IsOutside, IsVerdict, NoneBelow, tier_of}
 pub use Rattle.bag_rules.specs.Wants.{Fits, FitsDigests, FitsLength, FitsListing, FitsListings, HasSuch, lists_by}
 pub use Rattle.bag_rules.specs.WantsInside.{AddsLength, AreGivenIn, AreByPath, AreRequirementsOf, given_at, GivesLength, GivesPayload, IsWantBy, items_of, Lengths}
 pub use Rattle.bag_rules.specs.declared.want.GivenLength.{GivenLength}
@@ -45,9 +45,9 @@ pub use Rattle.bag_rules.specs.declared.outcome.CheckFault.{CheckFault}
 pub use Rattle.bag_rules.specs.declared.outcome.CheckFault.TheVariants.{TagTooLarge, TooLarge, TooMany, Tree}
 pub use Rattle.bag_rules.specs.declared.outcome.Outcome.{Outcome}
 pub use Rattle.bag_rules.specs.declared.outcome.Outcome.TheVariants.{Judged, Outside}
-pub use Rattle.bag_rules.specs.declared.outcome.OutsideCause.{OutsideCause}
-pub use Rattle.bag_rules.specs.declared.outcome.OutsideCause.TheVariants.{Algorithm, Encoding}
-pub use Rattle.bag_rules.specs.declared.profile.Profile.TheVariants.{Broken, Known, Unknown}
+pub use Rattle.bag_rules.specs.declared.scope.OutsideCause.{OutsideCause}
+pub use Rattle.bag_rules.specs.declared.scope.OutsideCause.TheVariants.{Algorithm, Encoding}
+pub use Rattle.bag_rules.specs.declared.scope.Scope.TheVariants.{Broken, Known, Unknown}
 pub use Rattle.bag_rules.specs.declared.tag_texts.TagTexts.{TagTexts}
 pub use Rattle.bag_tags.proofs.DecisionLemmas.{Decided, decided_as, decided_at_most, decided_by, decided_either, decided_equal, decided_true}
 pub use Rattle.bag_tags.proofs.DeclarationLemmas.{excludes, one_declaration, one_fault, written_declares}

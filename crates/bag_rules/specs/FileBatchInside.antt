@@ -12,7 +12,7 @@ use Rattle.bag_rules.specs.declared.file_batch.FileSums.{FileSums}
 use Rattle.bag_rules.specs.declared.file_batch.FileSums.TheVariants.{Streamed, Taken, Unread, Waiting}
 use Rattle.bag_rules.specs.declared.file_batch.LookedUp.{LookedUp}
 use Rattle.bag_rules.specs.declared.file_batch.LookedUp.TheVariants.{Known, ToRead}
-use Rattle.bag_rules.specs.declared.kept.Kept.{Kept}
+use Rattle.bag_rules.specs.declared.tag_sums.TagSums.{TagSums}
 use Rattle.bag_rules.specs.declared.limits.TheConstants.{LARGEST_FILE}
 use Rattle.bag_rules.specs.declared.requirements.Requirements.{Requirements}
 use Rattle.bag_rules.specs.FilesInside.{IsReadBy}
@@ -22,7 +22,7 @@ use Rattle.bag_rules.specs.Wants.{CoversListed}
 
 -- A file can be read at this place of a tree: it is one of the tree's, the buffer is as long as a first piece, and what
 -- was kept is of the tree.
-pub record CanRead (shown : Shown) (place : ℕ) (buffer : List ℕ) (kept : Kept) : Type 0 where
+pub record CanRead (shown : Shown) (place : ℕ) (buffer : List ℕ) (kept : TagSums) : Type 0 where
   pub room : length buffer ≡ FRONT
   pub inside : place < length (paths_in shown)
   pub are_kept : AreKept shown kept
@@ -124,7 +124,7 @@ pub record AddsHeld (old new : FileBatch) (wanted : AlgSet) (octets : List ℕ) 
   pub algs : (alg : Alg) → has new.held.set alg ≡ (has old.held.set alg || has wanted alg)
 
 -- the same files, with the sums of what is held and these of the streams
-pub record IsComplete (old new : FileBatch) (sums : List Sums) : Type 0 where
+pub record CompletesBatch (old new : FileBatch) (sums : List Sums) : Type 0 where
   pub first : new.first ≡ old.first
   pub read : new.read ≡ old.read
   pub held : new.held ≡ old.held

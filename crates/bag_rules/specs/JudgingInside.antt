@@ -3,8 +3,8 @@ use Rattle.std.specs.Prelude.{◌≡◌, ◌<◌, ℕ, false, List, IsSome, None
 use Rattle.bag_tags.specs.declared.declaration.Declaration.{Declaration}
 use Rattle.bag_tags.specs.Declarations.{version_of}
 use Rattle.bag_tags.specs.Names.{IsUnknownManifest}
-use Rattle.bag_rules.specs.declared.outcome.OutsideCause.{OutsideCause}
-use Rattle.bag_rules.specs.declared.outcome.OutsideCause.TheVariants.{Version, Encoding, Algorithm}
+use Rattle.bag_rules.specs.declared.scope.OutsideCause.{OutsideCause}
+use Rattle.bag_rules.specs.declared.scope.OutsideCause.TheVariants.{Version, Encoding, Algorithm}
 
 -- the declaration is of another version or of another encoding
 abbrev pub MatchOutside : OutsideCause → Declaration → Type 0

@@ -5,8 +5,8 @@ use Rattle.bag_digest.specs.declared.algorithm.AlgSet.{AlgSet}
 use Rattle.bag_digest.specs.declared.sums.Sums.{Sums}
 use Rattle.bag_digest.specs.Algorithm.{has}
 use Rattle.bag_digest.specs.Reading.{AreSums}
-use Rattle.bag_rules.specs.declared.kept.Kept.{Kept}
-use Rattle.bag_rules.specs.declared.kept.KeptFile.{KeptFile}
+use Rattle.bag_rules.specs.declared.tag_sums.TagSums.{TagSums}
+use Rattle.bag_rules.specs.declared.tag_sums.KeptFile.{KeptFile}
 use Rattle.bag_rules.specs.declared.limits.TheConstants.{LARGEST_FILE, LARGEST_TAG_FILE}
 use Rattle.bag_rules.specs.declared.outcome.CheckFault.{CheckFault}
 use Rattle.bag_rules.specs.declared.outcome.CheckFault.TheVariants.{Tree}
@@ -36,13 +36,13 @@ abbrev pub IsKeptOf : Shown → AlgSet → KeptFile → Type 0
 IsKeptOf shown set file = (path octets : List ℕ) → HasFileAt shown file.place path octets
     → AreSums file.sums set octets × (length octets ≤ LARGEST_TAG_FILE)
 
-pub record AreKept (shown : Shown) (kept : Kept) : Type 0 where
+pub record AreKept (shown : Shown) (kept : TagSums) : Type 0 where
   pub each : (i : ℕ) (file : KeptFile) → slice_get kept.files.items i ≡ Some file
       → IsKeptOf shown kept.set file
 
 -- What a call that reads text does to a tree; and if it succeeds, what is kept is still of the tree's files.
 pub record ReadsAndKeeps {T Value : Type 0} (shown : T → Shown) (failures : T → ℕ)
-    (sure : T → Type 0) (old new : T) (before after : Kept) (result : Result Value CheckFault)
+    (sure : T → Type 0) (old new : T) (before after : TagSums) (result : Result Value CheckFault)
     : Type 0 where
   pub tree : UsesTree shown failures sure old new (IsErrOf result Tree)
   pub kept : AreKept (shown old) before → OnOk result (AreKept (shown old) after)

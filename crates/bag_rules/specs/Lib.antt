@@ -7,7 +7,7 @@ pub mod Bags
 pub mod Listed
 pub mod HasFault
 pub mod Verdicts
-pub mod Profiles
+pub mod Scopes
 pub mod SameVerdicts
 pub mod Validity
 pub mod Limits

@@ -13,7 +13,7 @@ use Rattle.bag_rules.specs.declared.outcome.CheckFault.{CheckFault}
 use Rattle.bag_rules.specs.declared.outcome.CheckFault.TheVariants.{Tree, TagTooLarge, TooMany, TooLarge, Memory}
 use Rattle.bag_rules.specs.Bags.{Bag, Lists, declaration_file}
 use Rattle.bag_tags.specs.Names.{text_file}
-use Rattle.bag_rules.specs.Verdicts.{NoneBelow, IsInProfile}
+use Rattle.bag_rules.specs.Verdicts.{NoneBelow, IsInScope}
 
 -- a limit that says something about the bag; a failure of the tree and `Memory` say nothing about it
 abbrev pub Stopped : (CheckFault → Type 0) → CheckFault → Type 0
@@ -76,15 +76,15 @@ pub record FirstStops (bag : Bag) (stops : List ℕ → List ℕ → CheckFault 
   pub reason : stops path octets fault
   pub first : NoneStopsBefore place bag stops
 
--- In the profile: the tag files by name and then, if the form is right, the files by path.
-abbrev pub ProfileStops : Bag → CheckFault → Type 0
-ProfileStops bag fault = FirstStops bag TextStops fault
+-- In scope: the tag files by name and then, if the form is right, the files by path.
+abbrev pub ScopeStops : Bag → CheckFault → Type 0
+ScopeStops bag fault = FirstStops bag TextStops fault
     ⊎ (NoneStops bag TextStops × NoneBelow 3 bag × FirstStops bag (FileStops bag) fault)
 
--- The declaration and then, in the profile, the rest.
+-- The declaration and then, in scope, the rest.
 abbrev pub WorkStops : Bag → CheckFault → Type 0
 WorkStops bag fault = FirstStops bag DeclarationStops fault
-    ⊎ (NoneStops bag DeclarationStops × IsInProfile bag × ProfileStops bag fault)
+    ⊎ (NoneStops bag DeclarationStops × IsInScope bag × ScopeStops bag fault)
 
 -- The number of files, at most 200,000, and then the rest. This is the first limit that a check of the bag meets.
 abbrev pub Stops : Bag → CheckFault → Type 0

@@ -13,16 +13,16 @@ use Rattle.bag_rules.specs.declared.fault.Fault.{Fault}
 use Rattle.bag_rules.specs.declared.fault.Fault.TheVariants.{Missing, Unlisted, OxumWrong}
 use Rattle.bag_rules.specs.contracts.fault.FaultOrd.TheImpl as order
 use Rattle.bag_rules.specs.declared.limits.TheConstants.{MOST_LINES}
-use Rattle.bag_rules.specs.declared.outcome.OutsideCause.{OutsideCause}
-use Rattle.bag_rules.specs.declared.plan.PlanFault.{PlanFault}
-use Rattle.bag_rules.specs.declared.plan.PlanFault.TheVariants.{TagTooLarge, Outside, Rules, Clash, Memory}
+use Rattle.bag_rules.specs.declared.scope.OutsideCause.{OutsideCause}
+use Rattle.bag_rules.specs.declared.plan_fault.PlanFault.{PlanFault}
+use Rattle.bag_rules.specs.declared.plan_fault.PlanFault.TheVariants.{TagTooLarge, Outside, Rules, Clash, Memory}
 use Rattle.bag_rules.specs.Bags.{HoldsFile, IsThere, version_of}
 use Rattle.bag_rules.specs.Files.{Files}
 use Rattle.bag_rules.specs.HasFault.{HasFault}
 use Rattle.bag_rules.specs.Limits.{HasCountedLines}
 use Rattle.bag_rules.specs.Listed.{IsUnlisted}
 use Rattle.bag_rules.specs.Transfers.{IsExpected, tag_bag}
-use Rattle.bag_rules.specs.Verdicts.{IsInProfile, IsOutside}
+use Rattle.bag_rules.specs.Verdicts.{IsInScope, IsOutside}
 
 -- it is such, and nothing before it in the order is
 pub record IsFirst {X : Type 0} (compare : X → X → Ordering) (some : X → Type 0) (x : X)
@@ -98,7 +98,7 @@ NoOpeningFault tags = (fault : Fault) → ¬ HasOpeningFault tags fault
 -- a transfer can be opened with these tag files
 pub record Opens (tags : Files) : Type 0 where
   pub few_lines : FewLines tags
-  pub in_profile : IsInProfile (tag_bag tags)
+  pub in_scope : IsInScope (tag_bag tags)
   pub no_fault : NoOpeningFault tags
   pub no_clash : (path : List ℕ) → ¬ IsClash tags path
 

@@ -17,7 +17,7 @@ use Rattle.bag_rules.specs.FilesInside.{IsMissingBy, IsWrongIn, OfSome}
 use Rattle.bag_rules.specs.Limits.{HasCountedLines}
 use Rattle.bag_rules.specs.Opening.{HasOpeningFault}
 use Rattle.bag_rules.specs.Transfers.{tag_bag}
-use Rattle.bag_rules.specs.Verdicts.{IsInProfile}
+use Rattle.bag_rules.specs.Verdicts.{IsInScope}
 
 -- this is the path of a manifest or of `fetch.txt`, which has more than 100,000 lines
 abbrev pub HasTooManyLines : List ℕ → List ℕ → Type 0
@@ -29,10 +29,10 @@ abbrev pub IsListedIn : List Listing → List ℕ → Type 0
 IsListedIn listings path = (listing : Listing) × Has listings listing × (listing.kind ≡ Payload)
     × (lists_path listing.pairs path ≡ true)
 
--- tag files in the profile, which are read by this version
+-- tag files in scope, which are read by this version
 pub record AreReadBy (version : Version) (tags : Files) : Type 0 where
   pub tag_files : AreTagFiles tags
-  pub in_profile : IsInProfile (tag_bag tags)
+  pub in_scope : IsInScope (tag_bag tags)
   pub version_is : version_of (tag_bag tags) ≡ version
 
 -- a fault of one of these kinds that payload files can't mend

@@ -2,8 +2,8 @@
 use Rattle.std.specs.Prelude.{◌≡◌, string_bytes}
 use Rattle.bag_rules.specs.declared.outcome.Outcome.{Outcome}
 use Rattle.bag_rules.specs.declared.outcome.Outcome.TheVariants.{Judged, Outside}
-use Rattle.bag_rules.specs.declared.outcome.OutsideCause.{OutsideCause}
-use Rattle.bag_rules.specs.declared.outcome.OutsideCause.TheVariants.{Version, Encoding, Algorithm}
+use Rattle.bag_rules.specs.declared.scope.OutsideCause.{OutsideCause}
+use Rattle.bag_rules.specs.declared.scope.OutsideCause.TheVariants.{Version, Encoding, Algorithm}
 
 -- the same cause, and for an algorithm the same octets of its name
 abbrev pub SameCause : OutsideCause → OutsideCause → Type 0

@@ -13,8 +13,8 @@ use Rattle.bag_rules.specs.declared.outcome.CheckFault.{CheckFault}
 use Rattle.bag_rules.specs.declared.outcome.CheckFault.TheVariants.{Memory, TooMany}
 use Rattle.bag_rules.specs.declared.outcome.Outcome.{Outcome}
 use Rattle.bag_rules.specs.declared.outcome.Outcome.TheVariants.{Judged, Outside}
-use Rattle.bag_rules.specs.declared.outcome.OutsideCause.{OutsideCause}
-use Rattle.bag_rules.specs.declared.outcome.OutsideCause.TheVariants.{Version, Encoding, Algorithm}
+use Rattle.bag_rules.specs.declared.scope.OutsideCause.{OutsideCause}
+use Rattle.bag_rules.specs.declared.scope.OutsideCause.TheVariants.{Version, Encoding, Algorithm}
 use Rattle.bag_rules.specs.Bags.{Bag, IsThere, Declares, IsDeclared, declaration_file}
 use Rattle.bag_rules.specs.HasFault.{HasFault}
 use Rattle.bag_rules.specs.Faults.{Has, AreInOrder, last_of_declaration, last_of_form, number_of}
@@ -31,17 +31,17 @@ abbrev pub NoneBelow : ℕ → Bag → Type 0
 NoneBelow tier bag = (fault : Fault) → tier_of fault < tier → ¬ HasFault bag fault
 
 -- the bag declares UTF-8 and a known version, and the algorithm of each manifest is known
-pub record IsInProfile (bag : Bag) : Type 0 where
+pub record IsInScope (bag : Bag) : Type 0 where
   pub declared : IsDeclared bag
   pub known : (path word : List ℕ) → IsThere bag path → ¬ IsUnknownManifest path word
 
--- The faults are those of the first tier in which the bag has any, in order and each once. Only a bag in the profile is
+-- The faults are those of the first tier in which the bag has any, in order and each once. Only a bag in scope is
 -- judged by more than its declaration.
 pub record IsJudged (bag : Bag) (faults : List Fault) : Type 0 where
   pub in_order : AreInOrder faults
   pub exact : (fault : Fault) → Has faults fault
       ↔ (HasFault bag fault × NoneBelow (tier_of fault) bag)
-  pub in_profile : NoneBelow 2 bag → IsInProfile bag
+  pub in_scope : NoneBelow 2 bag → IsInScope bag
 
 -- the algorithm of the first manifest by file name whose algorithm isn't known
 pub record IsFirstUnknown (bag : Bag) (word : List ℕ) : Type 0 where

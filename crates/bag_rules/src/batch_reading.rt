@@ -15,12 +15,12 @@ ghost use Rattle.bag_rules.specs.declared.outcome.CheckFault.{CheckFault};
 ghost use Rattle.bag_rules.specs.declared.requirements.Requirements.{Requirements};
 
 use crate::file_batch::{FileBatch, FileSums, LookedUp, look_up};
-use crate::kept::Kept;
 use crate::limits::LARGEST_FILE;
 use crate::open_tree::OpenTree;
 use crate::outcome::CheckFault;
 use crate::requirements::Requirements;
 use crate::returning::{close_all, stopped_at, told};
+use crate::tag_sums::TagSums;
 use bag_digest::{AlgSet, Source, SourceFault, Stream, StreamFault, Sums, digest_streams, fill};
 use std::alloc::{AllocError, Global};
 
@@ -141,7 +141,7 @@ pub(crate) fn read_next<T: OpenTree>(
     tree: &mut T,
     place: usize,
     wants: &Requirements<'_>,
-    kept: &Kept,
+    kept: &TagSums,
     gathered: &mut BatchReading<T::File>,
 ) -> Result<(), FrontFault<T::File>>
     requires can_read { CanRead (T.shown tree.old) place buffer.old kept.now }

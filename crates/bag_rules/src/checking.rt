@@ -7,24 +7,24 @@ ghost use Rattle.bag_tags.specs.Names.{manifest_file};
 ghost use Rattle.bag_rules.specs.Bags.{Bag, IsBagOf};
 ghost use Rattle.bag_rules.specs.Checking.{ChecksTree};
 ghost use Rattle.bag_rules.specs.KeptInside.{AreKept};
-ghost use Rattle.bag_rules.specs.Limits.{ProfileStops, Stopped, Stops};
-ghost use Rattle.bag_rules.specs.Profiles.{IsProfile};
+ghost use Rattle.bag_rules.specs.Limits.{ScopeStops, Stopped, Stops};
+ghost use Rattle.bag_rules.specs.Scopes.{HasScope};
 ghost use Rattle.bag_rules.specs.Trees.{AreRising, UsesTree, paths_in};
 ghost use Rattle.bag_rules.specs.Validity.{Means};
 ghost use Rattle.bag_rules.specs.Verdicts.{AnswersPaths, IsVerdict};
 ghost use Rattle.bag_rules.specs.declared.outcome.CheckFault.{CheckFault};
 ghost use Rattle.bag_rules.specs.declared.outcome.Outcome.TheVariants.{Judged};
-ghost use Rattle.bag_rules.specs.declared.profile.Profile.TheVariants.{Known};
+ghost use Rattle.bag_rules.specs.declared.scope.Scope.TheVariants.{Known};
 
 use crate::fault::Fault;
 use crate::file_faults::add_file_faults;
 use crate::form_faults::add_form_faults;
-use crate::kept::Kept;
 use crate::limits::MOST_FILES;
 use crate::open_tree::OpenTree;
 use crate::outcome::{CheckFault, Outcome};
-use crate::profile::{Profile, read_profile};
 use crate::report::Report;
+use crate::scope::{Scope, read_scope};
+use crate::tag_sums::TagSums;
 use crate::tag_texts::read_texts;
 use crate::tree::Paths;
 use bag_digest::{AlgSet, FRONT, buffer_of};
@@ -52,13 +52,13 @@ pub fn check<T: OpenTree>(alloc: Global, tree: &mut T) -> Result<Outcome, CheckF
         return Err(CheckFault::TooMany);
     }
     let mut buffer = buffer_of(alloc, FRONT)?;
-    let mut kept = Kept::new(alloc, tag_algorithms(tree));
-    match read_profile(alloc, buffer.as_mut_slice(), tree, &mut kept)? {
-        Profile::Known(version) => {
-            check_in_profile(alloc, buffer.as_mut_slice(), tree, version, &mut kept)
+    let mut kept = TagSums::new(alloc, tag_algorithms(tree));
+    match read_scope(alloc, buffer.as_mut_slice(), tree, &mut kept)? {
+        Scope::Known(version) => {
+            check_in_scope(alloc, buffer.as_mut_slice(), tree, version, &mut kept)
         }
-        Profile::Unknown(cause) => Ok(Outcome::Outside(cause)),
-        Profile::Broken(fault) => judged_by_one(alloc, fault),
+        Scope::Unknown(cause) => Ok(Outcome::Outside(cause)),
+        Scope::Broken(fault) => judged_by_one(alloc, fault),
     }
 }
 
@@ -72,21 +72,21 @@ fn judged_by_one(alloc: Global, fault: Fault) -> Result<Outcome, CheckFault>
     Ok(Outcome::Judged(Report::new(faults)))
 }
 
-/// Checks the form of a bag in the profile and then, if the form is right, its files.
-fn check_in_profile<T: OpenTree>(
+/// Checks the form of a bag in scope and then, if the form is right, its files.
+fn check_in_scope<T: OpenTree>(
     alloc: Global,
     buffer: &mut [u8],
     tree: &mut T,
     version: Version,
-    kept: &mut Kept,
+    kept: &mut TagSums,
 ) -> Result<Outcome, CheckFault>
     requires ready { (length buffer.old ≡ FRONT) × AreRising (paths_in (T.shown tree.old)) }
     requires kept { AreKept (T.shown tree.old) kept.old }
-    ensures verdict { (bag : Bag) → IsBagOf (T.shown tree.old) bag → IsProfile bag (Known version)
+    ensures verdict { (bag : Bag) → IsBagOf (T.shown tree.old) bag → HasScope bag (Known version)
         → IfOk result (IsVerdict bag) }
-    ensures limits { (bag : Bag) → IsBagOf (T.shown tree.old) bag → IsProfile bag (Known version)
-        → MatchResult result (λ outcome. (fault : CheckFault) → ¬ ProfileStops bag fault)
-        (Stopped (ProfileStops bag)) }
+    ensures limits { (bag : Bag) → IsBagOf (T.shown tree.old) bag → HasScope bag (Known version)
+        → MatchResult result (λ outcome. (fault : CheckFault) → ¬ ScopeStops bag fault)
+        (Stopped (ScopeStops bag)) }
     ensures tree { UsesTree T.shown T.failures T.sure tree.old tree.new
         (IsErrOf result CheckFault.Tree) }
 {

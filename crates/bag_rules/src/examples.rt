@@ -7,7 +7,7 @@ ghost use Rattle.bag_digest.specs.declared.algorithm.Alg.TheVariants.{Md5, Sha25
 ghost use Rattle.bag_tags.specs.declared.listing.Kind.TheVariants.{Payload};
 ghost use Rattle.bag_tags.specs.Declarations.{written_declaration};
 ghost use Rattle.bag_rules.specs.declared.fault.Fault.TheVariants.{FetchNotListed, NoDeclaration, NoPayloadDir, Missing, Unlisted, WrongDigest};
-ghost use Rattle.bag_rules.specs.declared.outcome.OutsideCause.TheVariants as outside;
+ghost use Rattle.bag_rules.specs.declared.scope.OutsideCause.TheVariants as outside;
 ghost use Rattle.bag_rules.specs.Bags.{Bag, IsDeclared, version_of};
 ghost use Rattle.bag_rules.specs.declared.want.WantFault.TheVariants as wanted;
 ghost use Rattle.bag_rules.specs.ExampleBags.{bag_of_0_97, file_a, file_e, manifest_of_abc, tags_of_two, tags_with_fetch};

@@ -1,7 +1,7 @@
 //! Files that are read one after another, so that their digests can be taken side by side.
 ghost use Rattle.std.specs.Prelude.{◌≡◌, ◌<◌, ◌≤◌, ◌↔◌, ℕ, List, [], IfErr, IfOk, IsErrOf, IsTrue, MatchOption, OnOk, Some, length, slice_get};
 ghost use Rattle.bag_rules.specs.Bags.{Bag, IsBagOf};
-ghost use Rattle.bag_rules.specs.FileBatchInside.{AddsSums, AreAlgsOf, AreRead, CanRead, Covers, AddsHeld, IsComplete, IsFindingOf, IsSumsOf};
+ghost use Rattle.bag_rules.specs.FileBatchInside.{AddsSums, AreAlgsOf, AreRead, CanRead, Covers, AddsHeld, CompletesBatch, IsFindingOf, IsSumsOf};
 ghost use Rattle.bag_rules.specs.FilesInside.{IsLongRead};
 ghost use Rattle.bag_rules.specs.KeptInside.{AreKept};
 ghost use Rattle.bag_rules.specs.Limits.{FirstStops, NoneStopsBefore, Stopped};
@@ -10,11 +10,11 @@ ghost use Rattle.bag_rules.specs.declared.outcome.CheckFault.{CheckFault};
 ghost use Rattle.bag_rules.specs.declared.requirements.Requirements.{Requirements};
 
 use crate::batch_reading::{BatchReading, FrontFault, finish, read_next, stop};
-use crate::kept::Kept;
 use crate::open_tree::OpenTree;
 use crate::outcome::CheckFault;
 use crate::requirements::Requirements;
 use crate::returning::close_all;
+use crate::tag_sums::TagSums;
 use crate::tree::Paths;
 use bag_digest::{AlgSet, FRONT, ShortContents, Sums};
 use std::alloc::{AllocError, Global};
@@ -133,7 +133,7 @@ impl FileBatch {
         alloc: Global,
         streamed: Vec<Sums>,
     ) -> Result<FileBatch, AllocError>
-        ensures { IfOk result (λ batch. IsComplete self batch streamed.items) }
+        ensures { IfOk result (λ batch. CompletesBatch self batch streamed.items) }
     {
         let mut batch = self;
         batch.waiting = batch.held.sums(alloc)?;
@@ -161,7 +161,7 @@ pub(crate) fn batch_at<T: OpenTree>(
     tree: &mut T,
     place: usize,
     wants: &Requirements<'_>,
-    kept: &Kept,
+    kept: &TagSums,
     last: FileBatch,
 ) -> Result<FileBatch, CheckFault>
     requires can_read { CanRead (T.shown tree.old) place buffer.old kept.now }
@@ -193,7 +193,7 @@ fn read_batch<T: OpenTree>(
     tree: &mut T,
     first: usize,
     wants: &Requirements<'_>,
-    kept: &Kept,
+    kept: &TagSums,
 ) -> Result<FileBatch, CheckFault>
     requires { CanRead (T.shown tree.old) first buffer.old kept.now }
     ensures read { IfOk result (λ batch. AreRead (T.shown tree.old) wants.now batch
@@ -230,7 +230,7 @@ pub(crate) fn look_up<T: Paths>(
     tree: &T,
     place: usize,
     wants: &Requirements<'_>,
-    kept: &Kept,
+    kept: &TagSums,
 ) -> Result<LookedUp, AllocError>
     requires inside { place < length (paths_in (T.shown tree.now)) }
     requires kept { AreKept (T.shown tree.now) kept.now }

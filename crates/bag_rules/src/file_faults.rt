@@ -19,12 +19,12 @@ ghost use Rattle.bag_rules.specs.declared.outcome.CheckFault.{CheckFault};
 
 use crate::fault::Fault;
 use crate::file_batch::{FileBatch, batch_at};
-use crate::kept::Kept;
 use crate::listing_faults::{add_fetch_unlisted, add_missing};
 use crate::open_tree::OpenTree;
 use crate::outcome::CheckFault;
 use crate::oxum_faults::{PayloadSize, add_wrong_oxum};
 use crate::requirements::Requirements;
+use crate::tag_sums::TagSums;
 use crate::tag_texts::TagTexts;
 use crate::tree::Tree;
 use crate::unlisted::unlisted_in;
@@ -41,7 +41,7 @@ pub(crate) fn add_file_faults<T: OpenTree>(
     tree: &mut T,
     version: Version,
     texts: &TagTexts,
-    kept: &Kept,
+    kept: &TagSums,
     faults: &mut Vec<Fault>,
 ) -> Result<(), CheckFault>
     requires room { length buffer.old ≡ FRONT }
@@ -71,7 +71,7 @@ fn read_files<T: OpenTree>(
     buffer: &mut [u8],
     tree: &mut T,
     wants: &Requirements<'_>,
-    kept: &Kept,
+    kept: &TagSums,
     faults: &mut Vec<Fault>,
 ) -> Result<PayloadSize, CheckFault>
     requires room { length buffer.old ≡ FRONT }

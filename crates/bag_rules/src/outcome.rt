@@ -1,5 +1,6 @@
 //! How a check ends.
 use crate::report::Report;
+use crate::scope::OutsideCause;
 use bag_digest::Failed;
 use bag_path::BagPath;
 use std::alloc::{AllocError, AllocFailed};
@@ -12,18 +13,6 @@ pub enum Outcome {
     Judged(Report),
     /// The bag can't be judged here. This doesn't mean that it is invalid.
     Outside(OutsideCause),
-}
-
-/// Why a bag can't be judged here.
-#[derive(Debug, Drop)]
-pub enum OutsideCause {
-    /// `bagit.txt` declares a version that is neither 1.0 nor 0.97.
-    Version,
-    /// `bagit.txt` declares an encoding of the tag files other than UTF-8.
-    Encoding,
-    /// The algorithm of a manifest isn't md5, sha1, sha256 or sha512. This is its name in the first such manifest by
-    /// file name.
-    Algorithm(String),
 }
 
 /// Why a check ended early.

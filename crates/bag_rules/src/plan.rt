@@ -3,53 +3,17 @@ ghost use Rattle.std.specs.Prelude.{◌≡◌, IfNone, IfSome};
 ghost use Rattle.bag_rules.specs.Faults.{Has};
 ghost use Rattle.bag_rules.specs.Trees.{AreRising};
 
-use crate::clash::first_clash;
-use crate::fault::Fault;
-use crate::opening_faults::{first_large, open_texts, open_version};
-use crate::outcome::OutsideCause;
+use crate::plan_fault::{PlanFault, open_tags};
 use crate::report::Report;
 use crate::requirements::{Lengths, lengths_by_path, want_of};
 use crate::tag_set::TagSet;
 use crate::tag_texts::TagTexts;
 use crate::transfer_faults::add_item_faults;
+use crate::tree::place_in;
 use crate::want::Want;
 use bag_path::BagPath;
 use bag_tags::FetchLine;
 use std::alloc::{AllocError, Global};
-use thiserror::Error;
-
-/// Why no transfer can be opened with these tag files. If several causes apply, the first in this order is returned,
-/// but `Memory` may be returned in place of any other.
-#[derive(Debug, Drop, Error)]
-pub enum PlanFault {
-    /// A manifest or `fetch.txt` has more than 100,000 lines. This is the first such file by path.
-    #[error("a tag file is too large")]
-    TagTooLarge(BagPath),
-    /// The bag can't be judged here. This doesn't mean that it is invalid.
-    #[error("outside the profile")]
-    Outside(OutsideCause),
-    /// The tag files have a fault that payload files can't mend. This is the first such fault in the order of a report.
-    #[error("a fault of the tag files")]
-    Rules(Fault),
-    /// The path of a tag file or of a listed payload file is that of a folder in which another of them is. This is the
-    /// first such path.
-    #[error("a file in the place of a folder")]
-    Clash(BagPath),
-    /// Memory ran out.
-    #[error("out of memory")]
-    Memory,
-}
-
-impl From<AllocError> for PlanFault {
-    ghost use Rattle.std.specs.Prelude.{◌≡◌};
-    ghost use Rattle.bag_rules.specs.declared.plan.PlanFault.TheVariants.{Memory};
-
-    ghost from_gives = { λ _ fault. fault ≡ Memory };
-
-    fn from(_: AllocError) -> PlanFault {
-        PlanFault::Memory
-    }
-}
 
 /// The size of a payload file that a transfer holds.
 #[derive(Debug, Drop)]
@@ -87,14 +51,7 @@ impl Plan {
         ensures opened { IfOk result (IsPlanOf tags.now) }
         ensures refused { IfErr result (RefusesTags tags.now) }
     {
-        if let Some(file) = first_large(tags) {
-            return Err(PlanFault::TagTooLarge(file.path().clone()?));
-        }
-        let version = open_version(alloc, tags)?;
-        let (texts, paths) = open_texts(alloc, tags, version)?;
-        if let Some(path) = first_clash(alloc, tags, &paths)? {
-            return Err(PlanFault::Clash(path));
-        }
+        let (texts, paths) = open_tags(alloc, tags)?;
         let lengths = lengths_by_path(alloc, texts.fetch_lines())?;
         Ok(Plan {
             texts,
@@ -115,8 +72,8 @@ impl Plan {
         ensures { (tags : Files) → IsPlanOf tags self.now
             → MatchOption result (¬ IsExpected tags path.now) (IsWantOf tags path.now) }
     {
-        let own = same_in(&self.paths, path)?;
-        Some(want_of(&self.texts.manifests, &self.lengths, own))
+        let place = place_in(&self.paths, path)?;
+        Some(want_of(&self.texts.manifests, &self.lengths, &self.paths[place]))
     }
 
     /// The entries of `fetch.txt`, in its order, each with the number of its line.
@@ -145,16 +102,5 @@ impl Plan {
         let mut faults = Vec::new(alloc);
         add_item_faults(&self.texts, sizes, &mut faults)?;
         Ok(Report::new(faults))
-    }
-}
-
-/// The same path among paths in order, if it is one of them.
-fn same_in<'a>(paths: &'a [BagPath], path: &BagPath) -> Option<&'a BagPath>
-    ensures found { IfSome result (λ own. (own.now ≡ path.now) × Has paths.now path.now) }
-    ensures absent { AreRising paths.now → IfNone result (¬ Has paths.now path.now) }
-{
-    match paths.binary_search_by(|own| own.cmp(path)) {
-        Ok(place) => Some(&paths[place]),
-        Err(_) => None,
     }
 }

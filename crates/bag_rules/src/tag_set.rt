@@ -8,7 +8,7 @@ use std::alloc::{AllocError, Global};
 use std::marker::Model;
 use thiserror::Error;
 
-/// Why a tag file was not added. If several causes apply, the first in this order is returned, but `Memory` may be
+/// Why a tag file wasn't added. If several causes apply, the first in this order is returned, but `Memory` may be
 /// returned in place of any other.
 #[derive(Clone, Copy, Debug, PartialEq, Eq, Error)]
 pub enum TagSetFault {

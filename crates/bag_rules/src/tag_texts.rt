@@ -24,10 +24,10 @@ ghost use Rattle.bag_rules.specs.Trees.{HasFileAt, UsesTree, paths_in};
 ghost use Rattle.bag_rules.specs.declared.outcome.CheckFault.{CheckFault};
 
 use crate::fault::Fault;
-use crate::kept::Kept;
 use crate::limits::LARGEST_TAG_FILE;
 use crate::outcome::CheckFault;
 use crate::tag_file_reader::{TagFileReader, read_whole, take_file};
+use crate::tag_sums::TagSums;
 use crate::tree::Tree;
 use bag_digest::{ReadFault, read_to_end_within};
 use bag_path::Version;
@@ -78,7 +78,7 @@ pub(crate) fn read_texts<T: Tree>(
     buffer: &mut [u8],
     tree: &mut T,
     version: Version,
-    kept: &mut Kept,
+    kept: &mut TagSums,
     faults: &mut Vec<Fault>,
 ) -> Result<TagTexts, CheckFault>
     requires { 0 < length buffer.old }
@@ -107,7 +107,7 @@ fn read_text<T: Tree>(
     i: usize,
     version: Version,
     texts: &mut TagTexts,
-    kept: &mut Kept,
+    kept: &mut TagSums,
     faults: &mut Vec<Fault>,
 ) -> Result<(), CheckFault>
     requires room { 0 < length buffer.old }

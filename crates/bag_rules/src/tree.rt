@@ -77,3 +77,14 @@ pub fn find<P: Paths>(paths: &P, path: &str) -> Option<usize>
     }
     None
 }
+
+/// The place of this path among paths that are in order, each once.
+pub fn place_in(paths: &[BagPath], path: &BagPath) -> Option<usize>
+    ensures found { IfSome result (λ place. slice_get paths.now place ≡ Some path.now) }
+    ensures absent { AreRising paths.now → IfNone result (¬ Contains paths.now path.now) }
+{
+    match paths.binary_search_by(|own| own.cmp(path)) {
+        Ok(place) => Some(place),
+        Err(_) => None,
+    }
+}

@@ -1,5 +1,5 @@
 use Rattle.std.proofs.Common.{◌≡◌, Err, ap, subst, sym}
-use Rattle.bag_rules.specs.FileBatchInside.{IsComplete}
+use Rattle.bag_rules.specs.FileBatchInside.{CompletesBatch}
 use Rattle.bag_rules.specs.BatchReading.{AreSumsIn, HaveSums}
 use Rattle.bag_rules.specs.declared.outcome.CheckFault.TheVariants.{Tree}
 use Rattle.bag_rules.proofs.EndedLemmas.{first_stopped, have_sums, read_ended, ready_stopped, stream_stops, unfailed_ended}
@@ -40,7 +40,7 @@ returns-in_ok-complete-in-Ok-clause-read g c =
     let have = have_sums file.OpenFile.place file.Source.remaining file.Source.failures file.Source.ready file.Source.keeps shown c.args.gathered new same c.requires ended in
     let sums = c.in_ok-sums-in-Ok.field-0.items in
     let are = subst (λ xs. AreSumsIn xs sums) read (c.in_ok-sums-in-Ok.ensures (subst (λ xs. HaveSums xs) (sym read) have)) in
-    let complete = subst (λ batch. IsComplete batch c.in_ok-complete-in-Ok.field-0 sums) c.in-Ok.ensures.rest.1 c.in_ok-complete-in-Ok.ensures in
+    let complete = subst (λ batch. CompletesBatch batch c.in_ok-complete-in-Ok.field-0 sums) c.in-Ok.ensures.rest.1 c.in_ok-complete-in-Ok.ensures in
     λ wants gathered_are. (read_ended file.OpenFile.place file.Source.remaining file.Source.failures file.Source.ready file.Source.keeps shown c.args.gathered new same c.requires wants c.in_ok-complete-in-Ok.field-0 sums ended are gathered_are complete, complete.first, complete.read)
 
 pub stopped_at-requires : goal.stopped_at-requires

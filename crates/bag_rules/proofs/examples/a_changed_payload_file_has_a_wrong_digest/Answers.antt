@@ -2,7 +2,7 @@ use Rattle.std.proofs.Common.{◌≡◌, [], ◌∷◌, codes, true, false, refl
 use Rattle.bag_rules.proofs.Words.{V1, Bag, Fault, HasFault, IsJudged, other_digest_of_abd, WrongDigest}
 use Rattle.bag_rules.specs.ExampleBags.{manifest_of_abc}
 use Rattle.bag_rules.proofs.OneFile.{judged_one, with_file, of_abc, listed, lists_one, one_listed, has_file, rising_with}
-use Rattle.bag_rules.proofs.OneManifest.{HasOneManifest, by_sha256, left_fault, lists, payload_file, profile}
+use Rattle.bag_rules.proofs.OneManifest.{HasOneManifest, by_sha256, left_fault, lists, payload_file, scope}
 use Rattle.bag_rules.proofs.ValidityLemmas.{complete_exactly, valid_none}
 use Rattle.bag_rules.proofs.examples.a_changed_payload_file_has_a_wrong_digest.Goals as goal
 
@@ -24,7 +24,7 @@ judged = judged_one bag wrong broken (left_fault bag manifest_of_abc (codes "abd
   missing = λ lists away. absurd (away (codes "abd", (1, refl)));
   unlisted = λ none there. (let e : true ≡ false = none in cc);
   wrong = λ digest some there other. refl;
-}) (profile bag manifest_of_abc (codes "abd") listed has)
+}) (scope bag manifest_of_abc (codes "abd") listed has)
 
 pub returns : goal.returns
 returns c = (

@@ -2,7 +2,7 @@ use Rattle.std.proofs.Common.{◌≡◌, [], true, false, refl, arith}
 use Rattle.bag_rules.proofs.Words.{V1, Bag, Fault, HasFault, Missing}
 use Rattle.bag_rules.specs.ExampleBags.{manifest_of_abc}
 use Rattle.bag_rules.proofs.OneFile.{judged_one, without_file, listed, lists_one, one_listed, has_no_file, no_file, rising_without}
-use Rattle.bag_rules.proofs.OneManifest.{HasOneManifest, by_sha256, left_fault, lists, payload_file, profile}
+use Rattle.bag_rules.proofs.OneManifest.{HasOneManifest, by_sha256, left_fault, lists, payload_file, scope}
 use Rattle.bag_rules.proofs.ValidityLemmas.{complete_none}
 use Rattle.bag_rules.proofs.examples.a_listed_file_that_is_not_there_is_a_fault.Goals as goal
 
@@ -29,5 +29,5 @@ only = left_fault bag manifest_of_abc [] listed has (λ fault. missing ≡ fault
 pub returns : goal.returns
 returns c = (
   λ complete. complete_none bag (rising_without manifest_of_abc true) complete missing (omega arith) broken,
-  judged_one bag missing broken only (profile bag manifest_of_abc [] listed has),
+  judged_one bag missing broken only (scope bag manifest_of_abc [] listed has),
 )

@@ -1,7 +1,7 @@
 use Rattle.std.proofs.Common.{◌≡◌, [], Some, None, true, false, codes, refl, arith}
 use Rattle.bag_rules.proofs.Words.{Bag, Fault, HasFault, Sha256, Unlisted}
 use Rattle.bag_rules.proofs.OneFile.{judged_one, with_file, lists_none, none_listed, has_file, rising_with}
-use Rattle.bag_rules.proofs.OneManifest.{HasOneManifest, left_fault, lists, payload_file, profile}
+use Rattle.bag_rules.proofs.OneManifest.{HasOneManifest, left_fault, lists, payload_file, scope}
 use Rattle.bag_rules.proofs.ValidityLemmas.{complete_none}
 use Rattle.bag_rules.proofs.examples.a_payload_file_that_is_not_listed_is_a_fault.Goals as goal
 
@@ -28,5 +28,5 @@ only = left_fault bag [] (codes "abc") [] has (λ fault. unlisted ≡ fault) rec
 pub returns : goal.returns
 returns c = (
   λ complete. complete_none bag (rising_with [] (codes "abc")) complete unlisted (omega arith) broken,
-  judged_one bag unlisted broken only (profile bag [] (codes "abc") [] has),
+  judged_one bag unlisted broken only (scope bag [] (codes "abc") [] has),
 )

@@ -1,7 +1,7 @@
 use Rattle.std.proofs.Common.{◌≡◌, Some, None, [], true, false, refl}
 use Rattle.bag_rules.proofs.Words.{Bag, Fault, HasFault, NoPayloadDir}
 use Rattle.bag_rules.proofs.OneFile.{judged_one, least, no_file, without_file}
-use Rattle.bag_rules.proofs.OneManifest.{left_fault, profile}
+use Rattle.bag_rules.proofs.OneManifest.{left_fault, scope}
 use Rattle.bag_rules.proofs.examples.the_least_bag_needs_its_payload_directory.Goals as goal
 
 abbrev bag : Bag
@@ -16,4 +16,4 @@ only = left_fault bag [] [] [] (least false) (λ fault. NoPayloadDir ≡ fault) 
 }
 
 pub returns : goal.returns
-returns c = judged_one bag NoPayloadDir refl only (profile bag [] [] [] (least false))
+returns c = judged_one bag NoPayloadDir refl only (scope bag [] [] [] (least false))

@@ -1,5 +1,0 @@
-use Rattle.bag_rules.proofs.KeptLemmas.{none_kept}
-use Rattle.bag_rules.proofs.kept.Kept.new.Goals as goal
-
-pub returns : goal.returns
-returns c = λ shown. none_kept shown _ c.new.ensures.items
