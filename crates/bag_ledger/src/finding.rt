@@ -25,7 +25,8 @@ impl<'a> Finding<'a> {
     /// tested, since several such contents are hashed side by side.
     pub fn of(want: Want<'a>, octets: u64, content: Content) -> Finding<'a>
         ensures told { (set : AlgSet) (taken : List ℕ) → CoversWant set want.entry
-            → octets ≡ length taken → Took content set taken → FindsContent want.entry taken result }
+            → octets ≡ length taken → Took content set taken
+            → FindsContent want.entry taken result }
         ensures little { IsHeld content octets octets → HoldsLittle result }
     {
         match content {

@@ -8,10 +8,10 @@ ghost use Rattle.bag_ledger.specs.declared.keeper_faults.KeepFault.TheVariants.{
 ghost use Rattle.bag_ledger.specs.declared.keeper_faults.PutFault.TheVariants.{Keep};
 ghost use Rattle.bag_rules.specs.Plans.{sizes_of};
 
-use crate::content_checks::{test_content, test_octets};
 use crate::keeper::{Keeper, copy_piece};
 use crate::keeper_faults::{KeepFault, PutFault};
 use crate::stored::{Transfers, add_item, add_transfer, body_of, names_in, sizes_in};
+use crate::wanted_content::{test_content, test_octets};
 use bag_digest::{Source, piece_buffer, read_to_end_within};
 use bag_path::BagPath;
 use bag_rules::limits::LARGEST_ITEM;

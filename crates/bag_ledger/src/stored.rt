@@ -12,8 +12,8 @@ use bag_rules::{ItemSize, TagSet};
 use std::alloc::{AllocError, Global};
 use std::collections::BTreeMap;
 
-/// Payload files by path.
-pub(crate) type Items = BTreeMap<BagPath, Vec<u8>>;
+/// The octets of payload files, by path.
+pub(crate) type Contents = BTreeMap<BagPath, Vec<u8>>;
 
 /// Transfers by name.
 pub(crate) type Transfers = BTreeMap<String, Stored>;
@@ -22,7 +22,7 @@ pub(crate) type Transfers = BTreeMap<String, Stored>;
 #[derive(Drop)]
 pub(crate) struct Stored {
     pub(crate) tags: TagSet,
-    pub(crate) items: Items,
+    pub(crate) items: Contents,
 }
 
 /// Adds a transfer with these tag files and no payload files.
@@ -77,7 +77,7 @@ pub(crate) fn body_of<'a>(transfers: &'a Transfers, name: &str, path: &BagPath) 
     }
 }
 
-fn body_in<'a>(items: &'a Items, path: &BagPath) -> Option<&'a [u8]>
+fn body_in<'a>(items: &'a Contents, path: &BagPath) -> Option<&'a [u8]>
     ensures { option_copied result ≡ lookup (bytes_eq path.now) (files_in items.now) }
 {
     match items.get(path) {
@@ -87,7 +87,7 @@ fn body_in<'a>(items: &'a Items, path: &BagPath) -> Option<&'a [u8]>
 }
 
 /// The paths and lengths of payload files, by path.
-pub(crate) fn sizes_in(alloc: Global, items: &Items) -> Result<Vec<ItemSize>, AllocError>
+pub(crate) fn sizes_in(alloc: Global, items: &Contents) -> Result<Vec<ItemSize>, AllocError>
     ensures { IfOk result (λ sizes. sizes.items ≡ sizes_of (files_in items.now)) }
 {
     let mut sizes = Vec::new(alloc);

@@ -1,7 +1,7 @@
 use Rattle.std.proofs.Common.{◌∙◌}
 use Rattle.std.proofs.lemmas.Result.{err_from_is_err_and}
 use Rattle.bag_ledger.proofs.TestingLemmas.{read_tested}
-use Rattle.bag_ledger.proofs.content_checks.test_reader.Goals as goal
+use Rattle.bag_ledger.proofs.wanted_content.test_reader.Goals as goal
 
 pub returns-in_err-test-clause-test : goal.returns-in_err-test-clause-test
 returns-in_err-test-clause-test g c =

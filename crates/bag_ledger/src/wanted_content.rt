@@ -1,4 +1,4 @@
-//! Checks of whether a content would be stored, without storing it.
+//! Whether a content is the wanted one, and so would be stored.
 ghost use Rattle.std.specs.Prelude.{◌≡◌, IsErrOf, MatchResult};
 ghost use Rattle.bag_digest.specs.Failures.{UsesSource};
 ghost use Rattle.bag_ledger.specs.Keeping.{Tests, given_by, known};
@@ -14,7 +14,7 @@ use bag_rules::limits::LARGEST_ITEM;
 use bag_rules::{Want, WantFault};
 use std::alloc::Global;
 
-/// Checks whether this content would be stored.
+/// Tests whether this content would be stored.
 ///
 /// # Errors
 ///
@@ -30,7 +30,7 @@ pub fn test_content(want: &Want<'_>, content: &[u8]) -> Result<(), PutFault>
     Ok(())
 }
 
-/// Checks whether the content that the reader gives would be stored. It reads piece by piece, to the end or to the
+/// Tests whether the content that the reader gives would be stored. It reads piece by piece, to the end or to the
 /// first octet beyond the limit.
 ///
 /// # Errors
@@ -53,7 +53,7 @@ pub fn test_reader<S: Source>(
     Ok(())
 }
 
-/// Checks whether these octets are the wanted ones.
+/// Tests whether these octets are the wanted ones.
 pub(crate) fn test_octets(want: &Want<'_>, octets: &[u8]) -> Result<(), WantFault>
     ensures { MatchResult result (λ done. IsWanted want.now octets.now)
         (IsFirstMisfitOf want.now octets.now) }
