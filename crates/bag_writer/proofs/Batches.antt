@@ -21,7 +21,7 @@ use Rattle.bag_writer.specs.Writing.{IsReadFrom, payload_paths}
 use Rattle.bag_writer.specs.declared.copying.Copying.{Copying}
 use Rattle.bag_writer.specs.declared.items.Items.{Items}
 use Rattle.bag_writer.specs.declared.spec.Spec.{Spec}
-use Rattle.bag_writer.specs.declared.write_fault.Large.TheVariants as large
+use Rattle.bag_writer.specs.declared.too_large.Large.TheVariants as large
 use Rattle.bag_writer.specs.declared.write_fault.WriteFault.{WriteFault}
 use Rattle.bag_writer.proofs.PayloadLists.{ShownFile}
 use Rattle.bag_writer.proofs.PayloadSoFar.{HasWritten, none_at, nothing_written}

@@ -11,6 +11,7 @@ use Rattle.bag_digest.specs.declared.reading.SourceFault.TheVariants as cause
 use Rattle.bag_rules.specs.Trees.{octets_in, paths_in}
 use Rattle.bag_rules.specs.declared.limits.TheConstants.{LARGEST_FILE}
 use Rattle.bag_writer.specs.Copying.{CopiesPiece, IsCopiedTo, IsStopped, Sides, Work}
+use Rattle.bag_writer.specs.PayloadSteps.{copy_fault}
 use Rattle.bag_writer.specs.declared.payload.CopyFault.{CopyFault}
 use Rattle.bag_writer.specs.declared.payload.CopyFault.TheVariants.{Sink, TooLarge, Tree}
 
@@ -67,24 +68,18 @@ module _ {F G : Type 0} (s : Sides F G) (work : Work) {octets : List ℕ} {a b :
 
 module _ {F G : Type 0} (s : Sides F G) (keeps : F → F → Type 0) (law : (a b : F) → keeps a b → s.place b ≡ s.place a) (work : Work) (octets : List ℕ) (n : ℕ) (count : n ≡ length octets) {a b : F} {t : G} (copied : IsCopiedTo s work octets a t) where
   -- a read failed, or the file is too large
-  pub read_fails : {A : Type 0} (fault : SourceFault) → fault ≡ cause.Read → GaveBefore (s.remaining a) (s.remaining b) (LARGEST_FILE - n) (read_fault fault)
-      → UsesSource s.failures s.ready keeps a b (IsErrOf {T = A} (Err fault) cause.Read) → IsStopped s work b t Tree
-  read_fails {A} fault e gave uses =
-      let more = subst (λ f. GaveBefore (s.remaining a) (s.remaining b) (LARGEST_FILE - n) (read_fault f)) e gave in
-      let is : IsErrOf {T = A} (Err fault) cause.Read = ap Err e in
+  pub read_stops : {A : Type 0} (fault : SourceFault) → GaveBefore (s.remaining a) (s.remaining b) (LARGEST_FILE - n) (read_fault fault)
+      → UsesSource s.failures s.ready keeps a b (IsErrOf {T = A} (Err fault) cause.Read) → IsStopped s work b t (copy_fault fault)
+  read_stops cause.Read more uses =
       stopped_on s work copied (law a b uses.kept) refl Tree more.0 more.1 (λ no. cc)
       (λ _. (
-        risen (s.failures a) (s.failures b) _ uses.counted is,
-        λ h. (uses.stays_ready h).1 is,
+        risen (s.failures a) (s.failures b) _ uses.counted refl,
+        λ h. (uses.stays_ready h).1 refl,
       ))
       (λ not. absurd (not refl)) (λ no. absurd (let k : Tree ≡ Sink = no in cc))
-
-  pub read_is_too_long : {A : Type 0} (fault : SourceFault) → fault ≡ cause.TooLarge → GaveBefore (s.remaining a) (s.remaining b) (LARGEST_FILE - n) (read_fault fault)
-      → UsesSource s.failures s.ready keeps a b (IsErrOf {T = A} (Err fault) cause.Read) → IsStopped s work b t TooLarge
-  read_is_too_long {A} fault e gave uses =
-      let more = subst (λ f. GaveBefore (s.remaining a) (s.remaining b) (LARGEST_FILE - n) (read_fault f)) e gave in
+  read_stops {A} cause.TooLarge more uses =
       stopped_on s work copied (law a b uses.kept) refl TooLarge more.0 more.1 (λ _. omega (arith, count, copied.within, more.2, length-append octets more.0))
-      (λ no. absurd (let k : TooLarge ≡ Tree = no in cc)) (λ _. uses.counted.stays (λ f. (let k : cause.TooLarge ≡ cause.Read = sym e ∙ err_same {A = A} f in cc))) (λ no. absurd (let k : TooLarge ≡ Sink = no in cc))
+      (λ no. absurd (let k : TooLarge ≡ Tree = no in cc)) (λ _. uses.counted.stays (λ f. (let k : cause.TooLarge ≡ cause.Read = err_same {A = A} f in cc))) (λ no. absurd (let k : TooLarge ≡ Sink = no in cc))
 
 module _ {F G : Type 0} (s : Sides F G) (keeps : F → F → Type 0) (law : (a b : F) → keeps a b → s.place b ≡ s.place a) (work : Work) (octets buffer : List ℕ) (done n : ℕ) (count : done ≡ length octets) {a b : F} {t : G} (copied : IsCopiedTo s work octets a t)
     (piece : GavePiece (s.remaining a) (s.remaining b) (LARGEST_FILE - done) n buffer) (uses : UsesSource s.failures s.ready keeps a b (IsErrOf (Ok n) cause.Read)) where

@@ -11,8 +11,8 @@ use Rattle.bag_writer.specs.Sinks.{Begun, Stored, nothing_stored, with_begun, wi
 use Rattle.bag_writer.specs.Steps.{ArePart, AreWhole, HasFrontOf, HasNoFile, HasPayloadAlone, IsWritable, NamesLong, with_wholes, written_payload}
 use Rattle.bag_writer.specs.WrittenBags.{IsFileOf, tag_files}
 use Rattle.bag_writer.specs.Writing.{HasLongFile, HasPart, HasWhole, IsAccepted, IsDone, IsLarge, IsReadFrom, IsTooLarge, empty_files, oxum_of, payload_paths}
-use Rattle.bag_writer.specs.declared.write_fault.Large.{Large}
-use Rattle.bag_writer.specs.declared.write_fault.Large.TheVariants as large
+use Rattle.bag_writer.specs.declared.too_large.Large.{Large}
+use Rattle.bag_writer.specs.declared.too_large.Large.TheVariants as large
 use Rattle.bag_writer.specs.declared.write_fault.WriteFault.{WriteFault}
 use Rattle.bag_writer.specs.declared.write_fault.WriteFault.TheVariants.{TooLarge}
 use Rattle.bag_writer.specs.declared.spec.Spec.{Spec}

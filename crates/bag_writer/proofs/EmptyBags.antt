@@ -12,8 +12,8 @@ use Rattle.bag_writer.proofs.TagCases.{TagCase, a_manifest, fetch_octets, files_
 use Rattle.bag_writer.proofs.TagNames.{chosen, listed_names, listed_of, which_listed}
 use Rattle.bag_writer.specs.WrittenBags.{fetch_files, info_file, listed_tags, manifest_of, pairs_by, tag_files}
 use Rattle.bag_writer.specs.Writing.{HasLongFile, IsLarge, IsLongIn, IsTooLarge, empty_files}
-use Rattle.bag_writer.specs.declared.write_fault.Large.{Large}
-use Rattle.bag_writer.specs.declared.write_fault.Large.TheVariants as large
+use Rattle.bag_writer.specs.declared.too_large.Large.{Large}
+use Rattle.bag_writer.specs.declared.too_large.Large.TheVariants as large
 use Rattle.bag_writer.specs.declared.spec.Hole.{Hole}
 use Rattle.bag_writer.specs.declared.spec.Spec.{Spec}
 

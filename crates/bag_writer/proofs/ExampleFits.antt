@@ -15,7 +15,7 @@ use Rattle.bag_writer.specs.ExampleBags.{file_a, file_e, IsPlainExample, IsWithH
 use Rattle.bag_writer.specs.FilledBags.{IsPayloadFor, IsPayloadPath}
 use Rattle.bag_writer.specs.WrittenBags.{tag_files}
 use Rattle.bag_writer.specs.Writing.{GivesOxum, HasLongFile, IsBadHole, IsTooLarge}
-use Rattle.bag_writer.specs.declared.write_fault.Large.TheVariants as large
+use Rattle.bag_writer.specs.declared.too_large.Large.TheVariants as large
 use Rattle.bag_writer.specs.declared.spec.Hole.{Hole}
 use Rattle.bag_writer.specs.declared.spec.Spec.{Spec}
 

@@ -13,7 +13,7 @@ use Rattle.bag_writer.proofs.SaidElements.{few_files, short}
 use Rattle.bag_writer.specs.FilledBags.{IsFilled, IsPayloadFor}
 use Rattle.bag_writer.specs.WrittenBags.{algs_in, listed_tags, manifest_of, tag_files}
 use Rattle.bag_writer.specs.declared.spec.Spec.{Spec}
-use Rattle.bag_writer.specs.declared.write_fault.Large.TheVariants as large
+use Rattle.bag_writer.specs.declared.too_large.Large.TheVariants as large
 
 abbrev File : Type 0
 File = List ℕ × List ℕ
@@ -58,8 +58,8 @@ module _ (spec : Spec) (payload : Files) (fits : IsPayloadFor spec payload) (bag
 
   work_stops : (fault : CheckFault) → ¬ WorkStops bag fault
   work_stops fault (inl stops) = omega (arith, stops.reason.1.0, other_short stops.path stops.octets (ap is_payload stops.reason.0) (stops.place, stops.there))
-  work_stops fault (inr (none, profile, inl stops)) = text_stops stops.path stops.octets fault (stops.place, stops.there) stops.reason
-  work_stops fault (inr (none, profile, inr (text, form, stops))) = omega (arith, stops.reason.1.0, all_short stops.path stops.octets (stops.place, stops.there))
+  work_stops fault (inr (none, scope, inl stops)) = text_stops stops.path stops.octets fault (stops.place, stops.there) stops.reason
+  work_stops fault (inr (none, scope, inr (text, form, stops))) = omega (arith, stops.reason.1.0, all_short stops.path stops.octets (stops.place, stops.there))
 
   pub no_limit : (fault : CheckFault) → ¬ Stops bag fault
   no_limit fault (inl many) = omega (arith, many.0, few)

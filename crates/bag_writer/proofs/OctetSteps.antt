@@ -15,7 +15,7 @@ use Rattle.bag_digest.specs.declared.multi.Digests.{Digests}
 use Rattle.bag_digest.specs.declared.multi.Multi.{Multi}
 use Rattle.bag_digest.specs.declared.reading.SourceRead.TheVariants.{Hashed}
 use Rattle.bag_rules.specs.declared.limits.TheConstants.{LARGEST_FILE}
-use Rattle.bag_writer.specs.PayloadSteps.{IsReadUntil, IsReadWhole, Writes, WritesFront}
+use Rattle.bag_writer.specs.PayloadSteps.{copy_fault, IsReadUntil, IsReadWhole, Writes, WritesFront}
 use Rattle.bag_writer.specs.Sinks.{Begun, Stored, with_octets}
 use Rattle.bag_writer.specs.declared.payload.CopyFault.{CopyFault}
 use Rattle.bag_writer.specs.declared.payload.CopyFault.TheVariants.{Sink, TooLarge, Tree}
@@ -110,8 +110,6 @@ module _ {set : AlgSet} {source left : Option (List ℕ)} {old new : Option Stor
   )
 
   -- the same for the result of reading
-  pub read_fails : {after : Option (List ℕ)} (fault : SourceFault) → fault ≡ cause.Read → GaveBefore left after (LARGEST_FILE - total) (read_fault fault) → (all : List ℕ) × (IsReadUntil source after Tree all × WritesFront all old new)
-  read_fails {after} fault e gave = read_failed (subst (λ f. GaveBefore left after (LARGEST_FILE - total) (read_fault f)) e gave)
-
-  pub read_is_too_long : {after : Option (List ℕ)} (fault : SourceFault) → fault ≡ cause.TooLarge → GaveBefore left after (LARGEST_FILE - total) (read_fault fault) → (all : List ℕ) × (IsReadUntil source after TooLarge all × WritesFront all old new)
-  read_is_too_long {after} fault e gave = read_too_long (subst (λ f. GaveBefore left after (LARGEST_FILE - total) (read_fault f)) e gave)
+  pub read_stops : {after : Option (List ℕ)} (fault : SourceFault) → GaveBefore left after (LARGEST_FILE - total) (read_fault fault) → (all : List ℕ) × (IsReadUntil source after (copy_fault fault) all × WritesFront all old new)
+  read_stops cause.Read gave = read_failed gave
+  read_stops cause.TooLarge gave = read_too_long gave

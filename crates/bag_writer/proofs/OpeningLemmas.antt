@@ -10,7 +10,7 @@ use Rattle.bag_tags.specs.declared.name.TagName.TheVariants as tag
 use Rattle.bag_rules.proofs.HasLemmas.{has_at, has_map, place_of_has}
 use Rattle.bag_rules.proofs.TreeLemmas.{one_octets}
 use Rattle.bag_rules.proofs.VerdictLemmas.{declared_none}
-use Rattle.bag_rules.proofs.Words.{Alg, AllByRecursion, AreTagFiles, Bag, cases_Bool, Digest, false≢true, FetchList, FetchText, file_of, Files, Has, has, hash, HoldsFile, Info, InfoText, is_payload, IsFaultyText, IsInProfile, IsThere, IsUnknownManifest, keys_of, Kind, length-map, line_fault, LineFault, LineFile, listed_digest, Lists, lists_path, Manifest, manifest_file, manifest_name, ManifestText, Md5, MetadataElement, octet_count, is_oxum, OxumText, Pair, pair, Payload, Sha1, Sha256, Sha512, Tag, text_file}
+use Rattle.bag_rules.proofs.Words.{Alg, AllByRecursion, AreTagFiles, Bag, cases_Bool, Digest, false≢true, FetchList, FetchText, file_of, Files, Has, has, hash, HoldsFile, Info, InfoText, is_payload, IsFaultyText, IsInScope, IsThere, IsUnknownManifest, keys_of, Kind, length-map, line_fault, LineFault, LineFile, listed_digest, Lists, lists_path, Manifest, manifest_file, manifest_name, ManifestText, Md5, MetadataElement, octet_count, is_oxum, OxumText, Pair, pair, Payload, Sha1, Sha256, Sha512, Tag, text_file}
 use Rattle.bag_rules.specs.declared.fault.Fault.TheVariants.{BadDeclaration, BadLine, FetchLength, FetchNotListed, ManifestNotListed, Missing, NoDeclaration, NoManifest, NoPayloadDir, OxumForm, OxumTwice, OxumWrong, Unlisted, WrongDigest}
 use Rattle.bag_rules.specs.Bags.{version_of}
 use Rattle.bag_rules.specs.Files.{IsTagFile}
@@ -31,7 +31,7 @@ use Rattle.bag_writer.specs.FilledBags.{IsPayloadFor}
 use Rattle.bag_writer.specs.WrittenBags.{algs_in, fetch_files, listed_tags, manifest_of, pairs_by, tag_files}
 use Rattle.bag_writer.specs.declared.spec.Hole.{Hole}
 use Rattle.bag_writer.specs.declared.spec.Spec.{Spec}
-use Rattle.bag_writer.specs.declared.write_fault.Large.TheVariants as large
+use Rattle.bag_writer.specs.declared.too_large.Large.TheVariants as large
 
 abbrev File : Type 0
 File = List ℕ × List ℕ
@@ -286,10 +286,10 @@ module _ (spec : Spec) (payload : Files) (fits : IsPayloadFor spec payload) wher
   no_fault OxumWrong h = h.1 tt
   no_fault (WrongDigest name path) ((pairs, lists, (digest, some, (octets, holds, other))), mended) = other (none_wrong name.kind name.alg path octets pairs digest lists some holds)
 
-  -- THE PROFILE
+  -- THE SCOPE
 
-  in_profile : IsInProfile alone
-  in_profile = record {
+  in_scope : IsInScope alone
+  in_scope = record {
     declared = declared spec payload fits alone tags;
     known = λ path word there u. unknown_case spec payload path word there.0 (case_here path there.0 there.1) u;
   }
@@ -311,4 +311,4 @@ module _ (spec : Spec) (payload : Files) (fits : IsPayloadFor spec payload) wher
       fits.accepted.no_clash path (path_has spec payload fits path folder.0 folder.1, (other, path_has spec payload fits other file.0 file.1, (rest, e)))
 
   pub opens : Opens (tag_files spec payload)
-  opens = record { few_lines = few_lines; in_profile = in_profile; no_fault = no_fault; no_clash = no_clash }
+  opens = record { few_lines = few_lines; in_scope = in_scope; no_fault = no_fault; no_clash = no_clash }

@@ -12,7 +12,7 @@ use Rattle.bag_writer.specs.Sinks.{IsFree, Stored}
 use Rattle.bag_writer.specs.HeldFiles.{AddsFile, AreItemsSoFar}
 use Rattle.bag_writer.specs.Steps.{AreHoleMarks, AreItemsOf, ArePart, AreWhole, HasNoFile, NamesLong, is_hole, written_payload}
 use Rattle.bag_writer.specs.Writing.{HasLongFile, IsReadFrom}
-use Rattle.bag_writer.specs.declared.write_fault.Large.TheVariants as large
+use Rattle.bag_writer.specs.declared.too_large.Large.TheVariants as large
 use Rattle.bag_writer.specs.declared.write_fault.WriteFault.{WriteFault}
 use Rattle.bag_writer.specs.declared.write_fault.WriteFault.TheVariants.{Memory}
 use Rattle.bag_writer.specs.declared.item.Item.{Item}

@@ -18,7 +18,7 @@ use Rattle.bag_writer.specs.TagWriting.{AreFree}
 use Rattle.bag_writer.specs.Writing.{HasLongFile, IsReadFrom}
 use Rattle.bag_writer.specs.declared.items.Items.{Items}
 use Rattle.bag_writer.specs.declared.spec.Spec.{Spec}
-use Rattle.bag_writer.specs.declared.write_fault.Large.TheVariants as large
+use Rattle.bag_writer.specs.declared.too_large.Large.TheVariants as large
 use Rattle.bag_writer.specs.declared.write_fault.WriteFault.{WriteFault}
 use Rattle.bag_writer.proofs.FileSteps.{octets_here}
 use Rattle.bag_writer.proofs.PayloadLists.{absent_written, AreReadAs, File, payload_on, payload_read, read_on, ShownFile, unread, unread_is, written_of, written_on}

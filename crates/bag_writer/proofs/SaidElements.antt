@@ -24,7 +24,7 @@ use Rattle.bag_writer.specs.FilledBags.{IsPayloadFor}
 use Rattle.bag_writer.specs.Writing.{HasLongFile}
 use Rattle.bag_writer.specs.WrittenBags.{oxum_element}
 use Rattle.bag_writer.specs.declared.spec.Spec.{Spec}
-use Rattle.bag_writer.specs.declared.write_fault.Large.TheVariants as large
+use Rattle.bag_writer.specs.declared.too_large.Large.TheVariants as large
 
 -- NUMBERS
 

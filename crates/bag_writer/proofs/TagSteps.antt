@@ -9,8 +9,8 @@ use Rattle.bag_writer.specs.Sinks.{StaysOrIsLost, Stored, with_begun, with_ended
 use Rattle.bag_writer.specs.Steps.{AreItemsOf, ArePart, AreWhole, HasFrontOf, NamesLong, with_whole, with_wholes}
 use Rattle.bag_writer.specs.TagWriting.{AddsItems, AreFree, WritesAll, WritesFiles}
 use Rattle.bag_writer.specs.Writing.{HasLongFile}
-use Rattle.bag_writer.specs.declared.write_fault.Large.{Large}
-use Rattle.bag_writer.specs.declared.write_fault.Large.TheVariants.{TagFile}
+use Rattle.bag_writer.specs.declared.too_large.Large.{Large}
+use Rattle.bag_writer.specs.declared.too_large.Large.TheVariants.{TagFile}
 use Rattle.bag_writer.specs.declared.write_fault.WriteFault.{WriteFault}
 use Rattle.bag_writer.specs.declared.item.Item.{Item}
 use Rattle.bag_writer.specs.declared.write_fault.WriteFault.TheVariants.{Memory, Sink, TooLarge, Tree}

@@ -24,7 +24,7 @@ use Rattle.bag_writer.specs.declared.items.Items.{Items}
 use Rattle.bag_digest.specs.declared.buffers.TheConstants.{FRONT}
 use Rattle.bag_writer.specs.declared.payload.CopyFault.{CopyFault}
 use Rattle.bag_writer.specs.declared.payload.CopyFault.TheVariants as copy
-use Rattle.bag_writer.specs.declared.write_fault.Large.TheVariants.{File}
+use Rattle.bag_writer.specs.declared.too_large.Large.TheVariants.{File}
 use Rattle.bag_writer.specs.declared.write_fault.WriteFault.{WriteFault}
 
 -- FILES BY THEIR PLACES

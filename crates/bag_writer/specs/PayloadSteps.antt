@@ -5,6 +5,8 @@ use Rattle.std.specs.Option.{option_map}
 use Rattle.std.specs.declared.alloc.Global.{Global}
 use Rattle.bag_digest.specs.Reading.{AreSums, GaveAll}
 use Rattle.bag_digest.specs.declared.algorithm.AlgSet.{AlgSet}
+use Rattle.bag_digest.specs.declared.reading.SourceFault.{SourceFault}
+use Rattle.bag_digest.specs.declared.reading.SourceFault.TheVariants as source
 use Rattle.bag_digest.specs.declared.reading.SourceRead.{SourceRead}
 use Rattle.bag_digest.specs.declared.reading.SourceRead.TheVariants.{Whole, Hashed}
 use Rattle.bag_rules.specs.Files.{Files}
@@ -16,8 +18,8 @@ use Rattle.bag_writer.specs.Writing.{HasLongFile, IsMetLater, IsReadFrom}
 use Rattle.bag_writer.specs.declared.item.Item.{Item}
 use Rattle.bag_writer.specs.declared.sink.Sink.{Ghosts as SinkOf}
 use Rattle.bag_writer.specs.declared.spec.Spec.{Spec}
-use Rattle.bag_writer.specs.declared.write_fault.Large.{Large}
-use Rattle.bag_writer.specs.declared.write_fault.Large.TheVariants.{File}
+use Rattle.bag_writer.specs.declared.too_large.Large.{Large}
+use Rattle.bag_writer.specs.declared.too_large.Large.TheVariants.{File}
 use Rattle.bag_writer.specs.declared.write_fault.WriteFault.{WriteFault}
 use Rattle.bag_writer.specs.declared.write_fault.WriteFault.TheVariants.{Sink, TooLarge, Tree}
 use Rattle.bag_writer.specs.declared.payload.CopyFault.{CopyFault}
@@ -40,6 +42,11 @@ pub record IsReadWhole (set : AlgSet) (source left : Option (List ℕ)) (buffer 
     (found : SourceRead) (octets : List ℕ) : Type 0 where
   pub gave : GaveAll source left LARGEST_FILE octets
   pub found_is : IsFoundOf set buffer found octets
+
+-- why a file isn't copied to its end whose source has stopped
+abbrev pub copy_fault : SourceFault → CopyFault
+copy_fault source.Read = copy.Tree
+copy_fault source.TooLarge = copy.TooLarge
 
 -- the source gave these octets before the fault; if the fault is `TooLarge`, they are more than a file may have
 pub record IsReadUntil (source left : Option (List ℕ)) (fault : CopyFault)

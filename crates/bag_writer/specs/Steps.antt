@@ -13,7 +13,7 @@ use Rattle.bag_rules.specs.declared.limits.TheConstants.{LARGEST_FILE, MOST_LINE
 use Rattle.bag_rules.specs.Files.{Files}
 use Rattle.bag_writer.specs.Sinks.{Stored, with_begun, with_ended, with_octets, without_begun}
 use Rattle.bag_writer.specs.Writing.{HasLongFile, IsAccepted, IsLongIn, payload_paths}
-use Rattle.bag_writer.specs.declared.write_fault.Large.{Large}
+use Rattle.bag_writer.specs.declared.too_large.Large.{Large}
 use Rattle.bag_writer.specs.declared.write_fault.WriteFault.{WriteFault}
 use Rattle.bag_writer.specs.declared.write_fault.WriteFault.TheVariants.{TooLarge}
 use Rattle.bag_writer.specs.declared.item.Item.{Item}

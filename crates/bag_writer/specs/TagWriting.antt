@@ -18,7 +18,7 @@ use Rattle.bag_writer.specs.Sinks.{IsFree, Stored, UsesSink}
 use Rattle.bag_writer.specs.Steps.{AreItemsOf, ArePart, AreWhole, NamesLong, with_whole}
 use Rattle.bag_writer.specs.WrittenBags.{manifest_of}
 use Rattle.bag_writer.specs.Writing.{HasLongFile, IsMetLater, empty_files}
-use Rattle.bag_writer.specs.declared.write_fault.Large.TheVariants.{TagFile}
+use Rattle.bag_writer.specs.declared.too_large.Large.TheVariants.{TagFile}
 use Rattle.bag_writer.specs.declared.write_fault.WriteFault.{WriteFault}
 use Rattle.bag_writer.specs.declared.write_fault.WriteFault.TheVariants.{Sink, Tree}
 use Rattle.bag_writer.specs.declared.item.Item.{Item}

@@ -16,8 +16,8 @@ use Rattle.bag_rules.specs.Trees.{Shown, paths_in}
 use Rattle.bag_rules.specs.declared.limits.TheConstants.{LARGEST_FILE, LARGEST_TAG_FILE, MOST_LINES}
 use Rattle.bag_writer.specs.Sinks.{Begun, Stored, nothing_stored}
 use Rattle.bag_writer.specs.WrittenBags.{IsFileOf, IsWritten, tag_files}
-use Rattle.bag_writer.specs.declared.write_fault.Large.{Large}
-use Rattle.bag_writer.specs.declared.write_fault.Large.TheVariants.{File, Payload, TagFile}
+use Rattle.bag_writer.specs.declared.too_large.Large.{Large}
+use Rattle.bag_writer.specs.declared.too_large.Large.TheVariants.{File, Payload, TagFile}
 use Rattle.bag_writer.specs.declared.write_fault.WriteFault.{WriteFault}
 use Rattle.bag_writer.specs.declared.write_fault.WriteFault.TheVariants.{NoAlgorithm, OxumGiven, BadHole, Clash, Tree, Sink, TooLarge, Memory}
 use Rattle.bag_writer.specs.declared.spec.Hole.{Hole}

@@ -9,7 +9,7 @@ ghost use Rattle.bag_writer.specs.declared.copying.Copying.{Copying};
 
 use crate::open_sink::SinkFile;
 use crate::payload::CopyFault;
-use bag_digest::{AlgSet, FRONT, Failed, Multi, MultiLanes, SourceFault, SourceRead, Sums, fill};
+use bag_digest::{AlgSet, FRONT, Multi, MultiLanes, SourceRead, Sums, fill};
 use bag_rules::OpenFile;
 use bag_rules::limits::LARGEST_FILE;
 
@@ -225,7 +225,7 @@ fn piece_of<F, G>(copies: &[Copying<F, G>], k: usize, end: usize, next: usize) -
 ///
 /// # Errors
 ///
-/// The first that stopped. Those behind it have not been read on.
+/// The first that stopped. Those behind it haven't been read on.
 fn advance_each<F: OpenFile, G: SinkFile>(
     multi: &mut MultiLanes,
     copies: &mut [Copying<F, G>],
@@ -316,16 +316,9 @@ pub(crate) fn copy_piece<F: OpenFile, G: SinkFile>(
     ensures places { (F.place source.new ≡ F.place source.old)
         × (G.place target.new ≡ G.place target.old) }
 {
-    let n = match fill(buffer, source, LARGEST_FILE - copied) {
-        Ok(n) => n,
-        Err(SourceFault::Read) => return Err(CopyFault::Tree),
-        Err(SourceFault::TooLarge) => return Err(CopyFault::TooLarge),
-    };
-    if n == 0 {
-        return Ok(0);
+    let n = fill(buffer, source, LARGEST_FILE - copied)?;
+    if n > 0 {
+        target.write(&buffer[..n])?;
     }
-    match target.write(&buffer[..n]) {
-        Ok(()) => Ok(n),
-        Err(Failed) => Err(CopyFault::Sink),
-    }
+    Ok(n)
 }

@@ -15,7 +15,7 @@ use std::alloc::Global;
 /// How many files are held at most. None is longer than a front ([`FRONT`] octets), so no more than 4 MiB are held.
 const MOST_HELD: usize = 32;
 
-/// The items of files, in order. The last files may be held: their digests have not been taken yet.
+/// The items of files, in order. The last files may be held: their digests haven't been taken yet.
 #[derive(Drop)]
 pub(crate) struct Items {
     /// The algorithms of the digests.

@@ -11,7 +11,7 @@ use crate::payload_beside::write_beside;
 use crate::payload_in_turn::write_in_turn;
 use crate::spec::Spec;
 use crate::write_fault::WriteFault;
-use bag_digest::Alg;
+use bag_digest::{Alg, Failed, SourceFault};
 use std::alloc::Global;
 
 /// Why a file wasn't copied to its end.
@@ -23,6 +23,32 @@ pub(crate) enum CopyFault {
     Sink,
     /// The source gave more than 2^40 octets.
     TooLarge,
+}
+
+impl From<SourceFault> for CopyFault {
+    ghost use Rattle.std.specs.Prelude.{◌≡◌};
+    ghost use Rattle.bag_writer.specs.PayloadSteps.{copy_fault};
+
+    ghost from_gives = { λ cause fault. fault ≡ copy_fault cause };
+
+    fn from(cause: SourceFault) -> CopyFault {
+        match cause {
+            SourceFault::Read => CopyFault::Tree,
+            SourceFault::TooLarge => CopyFault::TooLarge,
+        }
+    }
+}
+
+impl From<Failed> for CopyFault {
+    ghost use Rattle.std.specs.Prelude.{◌≡◌};
+    ghost use Rattle.bag_writer.specs.declared.payload.CopyFault.TheVariants.{Sink};
+
+    ghost from_gives = { λ _ fault. fault ≡ Sink };
+
+    /// A sink has failed.
+    fn from(_: Failed) -> CopyFault {
+        CopyFault::Sink
+    }
 }
 
 /// Reads the payload files by path, writes each that isn't a hole, and returns what manifests need to know about each.

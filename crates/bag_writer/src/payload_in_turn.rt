@@ -7,7 +7,7 @@ ghost use Rattle.bag_writer.specs.Sinks.{ClosesSink, IsFree, UsesClosedSink, Use
 ghost use Rattle.bag_writer.specs.PayloadSteps.{HasFrontFrom, IsCutShort, IsReadAs, IsReadUntil, IsReadWhole, IsTaken, Writes, WritesFront, WritesPayload, unless_hole};
 ghost use Rattle.bag_writer.specs.Steps.{AreHoleMarks, ArePart, AreWhole};
 ghost use Rattle.bag_writer.specs.Writing.{IsMetLater};
-ghost use Rattle.bag_writer.specs.declared.write_fault.Large.{Large};
+ghost use Rattle.bag_writer.specs.declared.too_large.Large.{Large};
 ghost use Rattle.bag_writer.specs.declared.write_fault.WriteFault.{WriteFault};
 ghost use Rattle.bag_digest.specs.declared.buffers.TheConstants.{FRONT};
 ghost use Rattle.bag_writer.specs.declared.payload.CopyFault.{CopyFault};
@@ -17,10 +17,9 @@ use crate::items::Items;
 use crate::payload::CopyFault;
 use crate::sink::Sink;
 use crate::spec::Spec;
-use crate::write_fault::{Large, WriteFault};
-use bag_digest::{
-    AlgSet, Failed, Multi, Source, SourceFault, SourceRead, Sums, fill, read_or_digest,
-};
+use crate::too_large::Large;
+use crate::write_fault::WriteFault;
+use bag_digest::{AlgSet, Multi, Source, SourceRead, Sums, fill, read_or_digest};
 use bag_path::BagPath;
 use bag_rules::Tree;
 use bag_rules::limits::LARGEST_FILE;
@@ -145,11 +144,7 @@ fn read_hole<R: Source>(
     ensures source { UsesSource R.failures R.ready R.keeps source.old source.new
         (IsErrOf result CopyFault.Tree) }
 {
-    match read_or_digest(buffer, source, set, LARGEST_FILE) {
-        Ok(found) => Ok(found),
-        Err(SourceFault::Read) => Err(CopyFault::Tree),
-        Err(SourceFault::TooLarge) => Err(CopyFault::TooLarge),
-    }
+    Ok(read_or_digest(buffer, source, set, LARGEST_FILE)?)
 }
 
 /// Writes what a source gives up to its end as a file. Returns what was found.
@@ -173,14 +168,10 @@ fn copy_file<R: Source, S: Sink>(
         ((S.is_open sink.old ≡ false) × IsFree (S.stored sink.old) path.now)
         result (IsErrOf result CopyFault.Sink) }
 {
-    let Ok(()) = sink.file(path) else {
-        return Err(CopyFault::Sink);
-    };
+    sink.file(path)?;
     let found = copy_octets(buffer, source, set, sink)?;
-    match sink.end() {
-        Ok(()) => Ok(found),
-        Err(Failed) => Err(CopyFault::Sink),
-    }
+    sink.end()?;
+    Ok(found)
 }
 
 /// Reads a source to its end, and writes what it gives to the file that was begun. Returns what was found: the octets
@@ -210,11 +201,7 @@ fn copy_octets<R: Source, S: Sink>(
     let mut multi = Multi::new(set);
     let mut total = 0u64;
     'pieces: loop {
-        let n = match fill(buffer, source, LARGEST_FILE - total) {
-            Ok(n) => n,
-            Err(SourceFault::Read) => return Err(CopyFault::Tree),
-            Err(SourceFault::TooLarge) => return Err(CopyFault::TooLarge),
-        };
+        let n = fill(buffer, source, LARGEST_FILE - total)?;
         write_piece(&buffer[..n], sink)?;
         let is_last = n < buffer.len();
         if is_last && total == 0 {
@@ -240,11 +227,8 @@ fn write_piece<S: Sink>(octets: &[u8], sink: &mut S) -> Result<(), CopyFault>
     ensures sink { UsesOpenSink S.is_open S.failures S.sure sink.old sink.new
         (IsErrOf result CopyFault.Sink) }
 {
-    if octets.is_empty() {
-        return Ok(());
+    if !octets.is_empty() {
+        sink.write(octets)?;
     }
-    match sink.write(octets) {
-        Ok(()) => Ok(()),
-        Err(Failed) => Err(CopyFault::Sink),
-    }
+    Ok(())
 }

@@ -1,10 +1,11 @@
 //! Why a bag can't be written.
+use crate::too_large::Large;
 use bag_digest::Failed;
 use bag_path::BagPath;
 use std::alloc::{AllocError, AllocFailed};
 use thiserror::Error;
 
-/// Why a bag was not written, or only a part of it.
+/// Why a bag wasn't written, or only a part of it.
 #[derive(Debug, Drop, Error)]
 pub enum WriteFault {
     /// No algorithm is given.
@@ -31,17 +32,6 @@ pub enum WriteFault {
     /// Memory ran out.
     #[error("out of memory")]
     Memory,
-}
-
-/// What is too large to be written.
-#[derive(Debug, Drop)]
-pub enum Large {
-    /// There are more than 100,000 payload files.
-    Payload,
-    /// The payload file with this path has more than 2^40 octets.
-    File(BagPath),
-    /// The tag file with this path would have more than 16,777,216 octets.
-    TagFile(BagPath),
 }
 
 impl From<AllocError> for WriteFault {

@@ -8,11 +8,11 @@ ghost use Rattle.bag_writer.specs.Writing.{IsAccepted, IsDone, IsMetLater, IsOfD
 ghost use Rattle.bag_writer.specs.declared.write_fault.WriteFault.{WriteFault};
 
 use crate::accepting::accepted_holes;
-use crate::measuring::large_if_empty;
 use crate::open_sink::{CopiedTree, OpenSink};
 use crate::payload::write_payload;
 use crate::spec::Spec;
-use crate::tags::write_tag_files;
+use crate::tag_files::write_tag_files;
+use crate::too_large::large_if_empty;
 use crate::write_fault::WriteFault;
 use bag_digest::{FRONT, buffer_of};
 use bag_rules::Paths;
