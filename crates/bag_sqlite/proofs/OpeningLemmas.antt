@@ -92,7 +92,7 @@ module _ {S : Type 0} (g : Ghosts S) (old : Held S) (mid : State) (name : List �
   abbrev pub opens_it : Ledger → Ledger
   opens_it ledger = with_transfer ledger name tags
 
-  pub prepares : IsUtf8 name → AreTagFiles tags → Opens tags → (HasCleanDisk mid → (o : Origin) → IsUnderWay o begun → IsUnderWay o mid × (number : ℤ) × HasOneTransferMore o begun.now.trees mid.now.trees (opened_under number name tags))
+  pub prepares : IsUtf8 name → AreTagFiles tags → Opens tags → (HasCleanDisk mid → (o : Origin) → IsUnderWay o begun → IsUnderWay o mid × ((number : ℤ) × HasOneTransferMore o begun.now.trees mid.now.trees (opened_under number name tags)))
       → (HasCleanDisk mid → IsTrue begun.in_transaction → IsTrue begun.is_open) → (HasCleanDisk mid → KeepsCommit begun mid) → Survives begun mid (λ _. ⊥) → Prepares g (IsUnused name) opens_it old mid
   prepares text tag_files opens written opened kept survives = record {
     kept = λ clean. kept_since g old mid (kept clean);
@@ -104,7 +104,7 @@ module _ {S : Type 0} (g : Ghosts S) (old : Held S) (mid : State) (name : List �
           it.0,
           record {
             listed = it.0.listed;
-            tables = begun_tables begun.now.trees mid.now.trees ledger it.1 name tags shows.database.tables unused tag_files.rising it.2;
+            tables = begun_tables begun.now.trees mid.now.trees ledger it.1.0 name tags shows.database.tables unused tag_files.rising it.1.1;
             sound = sound_begun ledger name tags holds.sound text tag_files opens;
           },
         );

@@ -1,5 +1,5 @@
 -- Why a database isn't opened, from the results of its reads.
-use Rattle.std.proofs.Common.{◌↔◌, ◌∙◌, Bool, ◌≡◌, ◌≢◌, ◌⊎◌, ◌<◌, ◌≤◌, ℕ, ℤ, zero, suc, List, [], ◌∷◌, Option, None, Some, Err, IfErr, IfNone, MatchResult, Ok, OnOk, false, true, string_bytes, Result, IsTrue, ap, arith, codes, get_or, inl, inr, length, refl, subst, sym, slice_index_or}
+use Rattle.std.proofs.Common.{◌∙◌, ◌≡◌, ◌≢◌, ◌⊎◌, ◌<◌, ◌≤◌, ℕ, ℤ, zero, suc, List, [], ◌∷◌, Option, None, Some, Err, IfErr, IfNone, MatchResult, Ok, OnOk, string_bytes, Result, IsTrue, ap, arith, codes, get_or, inl, inr, length, refl, subst, sym, slice_index_or}
 use Rattle.bag_sqlite.proofs.Words.{adopt_fault, AdoptFault, AllByRecursion, AreNoneFor, Broken, cases_lt, column, Command, Compiled, Corrupt, Damaged, Database, Error, ExecuteReturnedResults, Fails, FailsToQuery, FailsToShow, Format, Full, Ghosts, HasFormat, HasNoFormat, Int, IntegralValueOutOfRange, InvalidColumnIndex, InvalidColumnType, InvalidParameterCount, InvalidQuery, Io, IsAsked, IsBlob, IsDamaged, IsInt, IsNoLedger, IsNoneFor, IsNoQuery, IsNoStatement, IsNotRun, IsReadError, IsText, IsTooLate, IsUnchanged, MayShow, MultipleStatement, NotALedger, Null, number_of, OutOfMemory, params_of, QueryReturnedNoRows, Question, RefusesToAdopt, RefusesToRead, RefusesTransfer, RefusesTransfers, Returning, Row, Rows, SaysFormat, Select, SqlInputError, SqliteFailure, State, store_error, StoreError, stray_texts, Tells, Text, text_of, TransferFails, understood, Unstorable, Utf8Error, Value}
 use Rattle.sqlite.specs.Given.{IsPlain}
 use Rattle.sqlite.specs.declared.error.ErrorCode.TheVariants as code
@@ -242,6 +242,3 @@ says_at rows row format one is says =
 
 pub one_format : (rows : List Row) (a b : ℤ) → SaysFormat rows a → SaysFormat rows b → a ≡ b
 one_format rows a b one two = let rows_are = one.1 in let rows_too = two.1 in let first = one.3 in let second = two.3 in cc
-
-pub told_apart : {P : Type 0} (b : Bool) → (IsTrue b ↔ P) → b ≡ false → ¬ P
-told_apart b both is p = let no : true ≡ false = sym (both.1 p) ∙ is in absurd cc

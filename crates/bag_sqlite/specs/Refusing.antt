@@ -9,8 +9,8 @@ use Rattle.bag_rules.specs.Opening.{Opens, RefusesTags}
 use Rattle.bag_rules.specs.TagSets.{RefusesFile}
 use Rattle.bag_rules.specs.Transfers.{IsExpected, Passes}
 use Rattle.bag_rules.specs.declared.limits.TheConstants.{LARGEST_ITEM}
-use Rattle.bag_rules.specs.declared.plan.PlanFault.{PlanFault}
-use Rattle.bag_rules.specs.declared.plan.PlanFault.TheVariants.{Memory as NoMemory}
+use Rattle.bag_rules.specs.declared.plan_fault.PlanFault.{PlanFault}
+use Rattle.bag_rules.specs.declared.plan_fault.PlanFault.TheVariants.{Memory as NoMemory}
 use Rattle.bag_rules.specs.declared.tag_set.TagSetFault.{TagSetFault}
 use Rattle.bag_rules.specs.declared.tag_set.TagSetFault.TheVariants.{Memory as WantOfMemory}
 use Rattle.sqlite.specs.Effect.{Database}

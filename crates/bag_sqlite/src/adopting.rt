@@ -10,7 +10,7 @@ ghost use Rattle.sqlite.specs.Held.{state};
 ghost use Rattle.sqlite.specs.State.{HasCleanDisk, Survives};
 ghost use Rattle.sqlite.specs.Values.{bound};
 
-use crate::format::Format;
+use crate::format::{Format, format_of};
 use crate::health::Health;
 use crate::keeper::SqlKeeper;
 use crate::migrating::migrate;
@@ -194,39 +194,6 @@ fn verify_ledger<S: Alter, W: Watch>(
     test_rows(connection, format)?;
     verify_transfers(connection, watch, format)?;
     Ok(format)
-}
-
-/// The format that the database names.
-fn format_of<S: Alter>(connection: &mut Connection<S>) -> Result<Format, AdoptFault>
-    requires idle { connection.old.in_transaction ≡ false }
-    ensures format { SaysOf S.Store connection.old connection.new (λ db.
-        IfOk result (λ format. HasFormat S.Store db (number_of format))) }
-    ensures refused { SaysOf S.Store connection.old connection.new (λ db.
-        IfErr result (IsNoneFor (HasNoFormat S.Store db))) }
-    ensures opened { HasCleanDisk (state S.Store connection.new)
-        → OnOk result (IsTrue (state S.Store connection.old).is_open) }
-    ensures reads { OnlyReads S.Store connection.old connection.new }
-{
-    let rows = rows_of(connection, "SELECT k, v FROM meta", &[])?;
-    match format_in(rows.as_slice())? {
-        1 => Ok(Format::First),
-        2 => Ok(Format::Second),
-        _ => Err(AdoptFault::NotALedger),
-    }
-}
-
-/// The number of the format, from the only row.
-fn format_in(rows: &[Row]) -> Result<i64, AdoptFault>
-    ensures { MatchResult result (SaysFormat rows.now) (AreNoneFor (SayNoFormat rows.now)) }
-{
-    if rows.len() != 1 {
-        return Err(AdoptFault::NotALedger);
-    }
-    let name: String = rows[0].get(0)?;
-    if name.as_str() != "bag-ledger" {
-        return Err(AdoptFault::NotALedger);
-    }
-    Ok(rows[0].get(1)?)
 }
 
 /// Checks that the values have the types of a ledger's, and that each row has an owner: tag files and payload files a

@@ -8,7 +8,7 @@ ghost use Rattle.bag_sqlite.specs.Beginning.{AddsTags, AddsTransfer, HasOneTrans
 ghost use Rattle.bag_sqlite.specs.Putting.{IsUnderWay};
 ghost use Rattle.bag_sqlite.specs.SqlKeepers.{HoldsLedger, MayLeaveLedger};
 ghost use Rattle.bag_sqlite.specs.Tables.{Origin};
-ghost use Rattle.bag_sqlite.specs.Transactions.{CommitsNothing};
+ghost use Rattle.bag_sqlite.specs.Transactions.{ChangesRows, CommitsNothing, WasOpen};
 ghost use Rattle.sqlite.specs.Held.{Held, state};
 ghost use Rattle.sqlite.specs.State.{HasCleanDisk};
 
@@ -48,14 +48,10 @@ fn write_transfer<S: Alter>(
     files: &[File],
 ) -> Result<(), Error>
     ensures written { HasCleanDisk (state S.Store tx.new.conn.now)
-        → OnOk result ((origin : Origin) → IsUnderWay origin (state S.Store tx.old.conn.now)
-        → IsUnderWay origin (state S.Store tx.new.conn.now)
-        × (number : ℤ) × HasOneTransferMore origin (state S.Store tx.old.conn.now).now.trees
-        (state S.Store tx.new.conn.now).now.trees
-        (opened_under number name.now (files_of files.now))) }
-    ensures opened { HasCleanDisk (state S.Store tx.new.conn.now)
-        → OnOk result (IsTrue (state S.Store tx.old.conn.now).in_transaction
-        → IsTrue (state S.Store tx.old.conn.now).is_open) }
+        → OnOk result (ChangesRows S.Store tx.old.conn tx.new.conn
+        (λ origin before after. (number : ℤ) × HasOneTransferMore origin before after
+        (opened_under number name.now (files_of files.now)))) }
+    ensures opened { WasOpen S.Store tx.old.conn tx.new.conn result }
     ensures kept { CommitsNothing S.Store tx.old.conn tx.new.conn }
 {
     let transfer = insert_transfer(tx, name)?;
@@ -65,14 +61,9 @@ fn write_transfer<S: Alter>(
 /// Inserts the row of a transfer, and returns its number.
 fn insert_transfer<S: Alter>(tx: &mut Transaction<'_, S>, name: &str) -> Result<i64, Error>
     ensures added { HasCleanDisk (state S.Store tx.new.conn.now)
-        → IfOk result (λ transfer. (origin : Origin)
-        → IsUnderWay origin (state S.Store tx.old.conn.now)
-        → IsUnderWay origin (state S.Store tx.new.conn.now)
-        × AddsTransfer origin (state S.Store tx.old.conn.now).now.trees
-        (state S.Store tx.new.conn.now).now.trees transfer name.now) }
-    ensures opened { HasCleanDisk (state S.Store tx.new.conn.now)
-        → OnOk result (IsTrue (state S.Store tx.old.conn.now).in_transaction
-        → IsTrue (state S.Store tx.old.conn.now).is_open) }
+        → IfOk result (λ transfer. ChangesRows S.Store tx.old.conn tx.new.conn
+        (λ origin before after. AddsTransfer origin before after transfer name.now)) }
+    ensures opened { WasOpen S.Store tx.old.conn tx.new.conn result }
     ensures kept { CommitsNothing S.Store tx.old.conn tx.new.conn }
 {
     tx.execute("INSERT INTO transfer (name) VALUES (?1)", params![name])?;
@@ -86,10 +77,8 @@ fn insert_tags<S: Alter>(
     files: &[File],
 ) -> Result<(), Error>
     ensures added { HasCleanDisk (state S.Store tx.new.conn.now)
-        → OnOk result ((origin : Origin) → IsUnderWay origin (state S.Store tx.old.conn.now)
-        → IsUnderWay origin (state S.Store tx.new.conn.now)
-        × AddsTags origin (state S.Store tx.old.conn.now).now.trees
-        (state S.Store tx.new.conn.now).now.trees transfer (files_of files.now)) }
+        → OnOk result (ChangesRows S.Store tx.old.conn tx.new.conn
+        (λ origin before after. AddsTags origin before after transfer (files_of files.now))) }
     ensures kept { CommitsNothing S.Store tx.old.conn tx.new.conn }
 {
     for file in files {
@@ -106,10 +95,8 @@ fn insert_tag<S: Alter>(
     body: &[u8],
 ) -> Result<(), Error>
     ensures added { HasCleanDisk (state S.Store tx.new.conn.now)
-        → OnOk result ((origin : Origin) → IsUnderWay origin (state S.Store tx.old.conn.now)
-        → IsUnderWay origin (state S.Store tx.new.conn.now)
-        × AddsTags origin (state S.Store tx.old.conn.now).now.trees
-        (state S.Store tx.new.conn.now).now.trees transfer ((path.now, body.now) ∷ [])) }
+        → OnOk result (ChangesRows S.Store tx.old.conn tx.new.conn (λ origin before after.
+        AddsTags origin before after transfer ((path.now, body.now) ∷ []))) }
     ensures kept { CommitsNothing S.Store tx.old.conn tx.new.conn }
 {
     tx.execute(

@@ -11,15 +11,15 @@ ghost use Rattle.bag_sqlite.specs.declared.health.Health.{Health};
 ghost use Rattle.sqlite.specs.declared.error.Error.{Error as SqlError};
 
 use crate::putting::NotPut;
-use bag_digest::ReadFault;
+use bag_digest::{Failures, ReadFault};
 use bag_ledger::{KeepFault, PutFault, StoreFault};
 use sqlite::{Error, ErrorCode};
 
-/// Whether the store has failed, why, and how many failures were reported. The count saturates at 2^64 - 1.
+/// Whether the store has failed, why, and how many failures were reported.
 #[derive(Drop)]
 pub(crate) struct Health {
     is_spent: bool,
-    failures: u64,
+    failures: Failures,
     // the error of the store, if it has failed with one
     trouble: Option<Error>,
 }
@@ -33,7 +33,7 @@ impl Health {
     {
         Health {
             is_spent: false,
-            failures: 0,
+            failures: Failures::none(),
             trouble: None,
         }
     }
@@ -122,7 +122,7 @@ impl Health {
             StoreFault::Refused
         };
         self.is_spent = true;
-        self.failures = self.failures.saturating_add(1);
+        self.failures.add();
         fault
     }
 
@@ -155,6 +155,6 @@ impl Health {
     pub(crate) fn failures(&self) -> u64
         ensures { result ≡ self.now.failures }
     {
-        self.failures
+        self.failures.count()
     }
 }

@@ -2,7 +2,7 @@
 ghost use Rattle.std.specs.Prelude.{◌<◌, ◌/◌, ◌^◌, IfOk, IsTrue, OnOk};
 ghost use Rattle.bag_sqlite.specs.Putting.{AddsItem, AddsPiece, IsUnderWay, SetsSize};
 ghost use Rattle.bag_sqlite.specs.Tables.{Origin};
-ghost use Rattle.bag_sqlite.specs.Transactions.{CommitsNothing};
+ghost use Rattle.bag_sqlite.specs.Transactions.{ChangesRows, CommitsNothing, StaysInside, WasOpen};
 ghost use Rattle.sqlite.specs.Held.{state};
 ghost use Rattle.sqlite.specs.State.{HasCleanDisk};
 
@@ -16,17 +16,10 @@ pub(crate) fn insert_item<S: Alter>(
     path: &str,
 ) -> Result<i64, Error>
     ensures added { HasCleanDisk (state S.Store tx.new.conn.now)
-        → IfOk result (λ item. (origin : Origin)
-        → IsUnderWay origin (state S.Store tx.old.conn.now)
-        → IsUnderWay origin (state S.Store tx.new.conn.now)
-        × AddsItem origin (state S.Store tx.old.conn.now).now.trees
-        (state S.Store tx.new.conn.now).now.trees item transfer path.now 0) }
-    ensures opened { HasCleanDisk (state S.Store tx.new.conn.now)
-        → OnOk result (IsTrue (state S.Store tx.old.conn.now).in_transaction
-        → IsTrue (state S.Store tx.old.conn.now).is_open) }
-    ensures inside { HasCleanDisk (state S.Store tx.new.conn.now)
-        → OnOk result (IsTrue (state S.Store tx.old.conn.now).in_transaction
-        → IsTrue (state S.Store tx.new.conn.now).in_transaction) }
+        → IfOk result (λ item. ChangesRows S.Store tx.old.conn tx.new.conn
+        (λ origin before after. AddsItem origin before after item transfer path.now 0)) }
+    ensures opened { WasOpen S.Store tx.old.conn tx.new.conn result }
+    ensures inside { StaysInside S.Store tx.old.conn tx.new.conn result }
     ensures kept { CommitsNothing S.Store tx.old.conn tx.new.conn }
 {
     tx.execute(
@@ -44,13 +37,9 @@ pub(crate) fn insert_piece<S: Alter>(
     body: &[u8],
 ) -> Result<(), Error>
     ensures added { HasCleanDisk (state S.Store tx.new.conn.now)
-        → OnOk result ((origin : Origin) → IsUnderWay origin (state S.Store tx.old.conn.now)
-        → IsUnderWay origin (state S.Store tx.new.conn.now)
-        × AddsPiece origin (state S.Store tx.old.conn.now).now.trees
-        (state S.Store tx.new.conn.now).now.trees item (offset / PIECE) body.now) }
-    ensures inside { HasCleanDisk (state S.Store tx.new.conn.now)
-        → OnOk result (IsTrue (state S.Store tx.old.conn.now).in_transaction
-        → IsTrue (state S.Store tx.new.conn.now).in_transaction) }
+        → OnOk result (ChangesRows S.Store tx.old.conn tx.new.conn
+        (λ origin before after. AddsPiece origin before after item (offset / PIECE) body.now)) }
+    ensures inside { StaysInside S.Store tx.old.conn tx.new.conn result }
     ensures kept { CommitsNothing S.Store tx.old.conn tx.new.conn }
 {
     tx.execute(
@@ -68,13 +57,9 @@ pub(crate) fn set_size<S: Alter>(
 ) -> Result<(), Error>
     requires { size < 2 ^ 63 }
     ensures set { HasCleanDisk (state S.Store tx.new.conn.now)
-        → OnOk result ((origin : Origin) → IsUnderWay origin (state S.Store tx.old.conn.now)
-        → IsUnderWay origin (state S.Store tx.new.conn.now)
-        × SetsSize origin (state S.Store tx.old.conn.now).now.trees
-        (state S.Store tx.new.conn.now).now.trees item size) }
-    ensures inside { HasCleanDisk (state S.Store tx.new.conn.now)
-        → OnOk result (IsTrue (state S.Store tx.old.conn.now).in_transaction
-        → IsTrue (state S.Store tx.new.conn.now).in_transaction) }
+        → OnOk result (ChangesRows S.Store tx.old.conn tx.new.conn
+        (λ origin before after. SetsSize origin before after item size)) }
+    ensures inside { StaysInside S.Store tx.old.conn tx.new.conn result }
     ensures kept { CommitsNothing S.Store tx.old.conn tx.new.conn }
 {
     tx.execute(

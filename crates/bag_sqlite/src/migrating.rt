@@ -9,14 +9,14 @@ ghost use Rattle.bag_sqlite.specs.Migrating.{Empties, HasBody, IsInBoth, IsMigra
 ghost use Rattle.bag_sqlite.specs.Putting.{AddsPieces, IsUnderWay};
 ghost use Rattle.bag_sqlite.specs.Refusing.{IsBlob};
 ghost use Rattle.bag_sqlite.specs.Tables.{Migrated, Origin, item_tree};
-ghost use Rattle.bag_sqlite.specs.Transactions.{CommitsNothing, CommitsNothingWithin};
+ghost use Rattle.bag_sqlite.specs.Transactions.{ChangesRows, CommitsNothing, CommitsNothingWithin, StaysInside};
 ghost use Rattle.sqlite.specs.Held.{state};
 ghost use Rattle.sqlite.specs.Order.{column};
 ghost use Rattle.sqlite.specs.State.{HasCleanDisk, Survives};
 ghost use Rattle.sqlite.specs.Values.{IsInt};
 ghost use Rattle.sqlite.specs.declared.types.Value.TheVariants.{Blob};
 
-use crate::format::{ITEM_BODY, PIECE};
+use crate::format::{ITEM_BODY, PIECE, set_format};
 use crate::item_statements::{insert_item, insert_piece, set_size};
 use crate::new_tables::make_item_tables;
 use sqlite::types::ValueRef;
@@ -46,9 +46,7 @@ fn move_items<S: Alter>(tx: &mut Transaction<'_, S>) -> Result<(), Error>
     ensures moved { HasCleanDisk (state S.Store tx.new.conn.now) → OnOk result ((ledger : Ledger)
         → IsToMove ledger (state S.Store tx.old.conn.now)
         → IsInBoth ledger (state S.Store tx.new.conn.now)) }
-    ensures inside { HasCleanDisk (state S.Store tx.new.conn.now)
-        → OnOk result (IsTrue (state S.Store tx.old.conn.now).in_transaction
-        → IsTrue (state S.Store tx.new.conn.now).in_transaction) }
+    ensures inside { StaysInside S.Store tx.old.conn tx.new.conn result }
     ensures kept { CommitsNothingWithin S.Store tx.old.conn tx.new.conn }
 {
     let rows = tx.query_all("SELECT rowid, transfer, path FROM item", &[])?;
@@ -72,9 +70,7 @@ fn move_item<S: Alter>(
         → IsUnderWay Migrated (state S.Store tx.new.conn.now)
         × HasContentMore Migrated (state S.Store tx.old.conn.now).now.trees
         (state S.Store tx.new.conn.now).now.trees transfer path.now content) }
-    ensures inside { HasCleanDisk (state S.Store tx.new.conn.now)
-        → OnOk result (IsTrue (state S.Store tx.old.conn.now).in_transaction
-        → IsTrue (state S.Store tx.new.conn.now).in_transaction) }
+    ensures inside { StaysInside S.Store tx.old.conn tx.new.conn result }
     ensures kept { CommitsNothingWithin S.Store tx.old.conn tx.new.conn }
 {
     let rows = tx.query_all(ITEM_BODY, params![item])?;
@@ -103,14 +99,10 @@ fn store_content<S: Alter>(
     path: &str,
     content: &[u8],
 ) -> Result<(), Error>
-    ensures stored { HasCleanDisk (state S.Store tx.new.conn.now) → OnOk result ((origin : Origin)
-        → IsUnderWay origin (state S.Store tx.old.conn.now)
-        → IsUnderWay origin (state S.Store tx.new.conn.now)
-        × HasContentMore origin (state S.Store tx.old.conn.now).now.trees
-        (state S.Store tx.new.conn.now).now.trees transfer path.now content.now) }
-    ensures inside { HasCleanDisk (state S.Store tx.new.conn.now)
-        → OnOk result (IsTrue (state S.Store tx.old.conn.now).in_transaction
-        → IsTrue (state S.Store tx.new.conn.now).in_transaction) }
+    ensures stored { HasCleanDisk (state S.Store tx.new.conn.now)
+        → OnOk result (ChangesRows S.Store tx.old.conn tx.new.conn
+        (λ origin before after. HasContentMore origin before after transfer path.now content.now)) }
+    ensures inside { StaysInside S.Store tx.old.conn tx.new.conn result }
     ensures kept { CommitsNothing S.Store tx.old.conn tx.new.conn }
 {
     let item = insert_item(tx, transfer, path)?;
@@ -126,13 +118,9 @@ fn insert_pieces<S: Alter>(
 ) -> Result<(), Error>
     ensures stored { OnOk result ((pieces : List (List ℕ)) × AreCut pieces
         × (concat pieces ≡ content.now) × (HasCleanDisk (state S.Store tx.new.conn.now)
-        → (origin : Origin) → IsUnderWay origin (state S.Store tx.old.conn.now)
-        → IsUnderWay origin (state S.Store tx.new.conn.now)
-        × AddsPieces origin (state S.Store tx.old.conn.now).now.trees
-        (state S.Store tx.new.conn.now).now.trees (in_pieces item [] pieces))) }
-    ensures inside { HasCleanDisk (state S.Store tx.new.conn.now)
-        → OnOk result (IsTrue (state S.Store tx.old.conn.now).in_transaction
-        → IsTrue (state S.Store tx.new.conn.now).in_transaction) }
+        → ChangesRows S.Store tx.old.conn tx.new.conn
+        (λ origin before after. AddsPieces origin before after (in_pieces item [] pieces)))) }
+    ensures inside { StaysInside S.Store tx.old.conn tx.new.conn result }
     ensures kept { CommitsNothing S.Store tx.old.conn tx.new.conn }
 {
     let mut offset = 0;
@@ -168,29 +156,9 @@ fn empty_items<S: Alter>(tx: &mut Transaction<'_, S>) -> Result<(), Error>
         → IsUnderWay Migrated (state S.Store tx.new.conn.now)
         × Empties (state S.Store tx.old.conn.now).now.trees
         (state S.Store tx.new.conn.now).now.trees) }
-    ensures inside { HasCleanDisk (state S.Store tx.new.conn.now)
-        → OnOk result (IsTrue (state S.Store tx.old.conn.now).in_transaction
-        → IsTrue (state S.Store tx.new.conn.now).in_transaction) }
+    ensures inside { StaysInside S.Store tx.old.conn tx.new.conn result }
     ensures kept { CommitsNothing S.Store tx.old.conn tx.new.conn }
 {
     tx.execute("DELETE FROM item", &[])?;
-    Ok(())
-}
-
-/// Sets the number of the format to 2.
-fn set_format<S: Alter>(tx: &mut Transaction<'_, S>) -> Result<(), Error>
-    ensures set { HasCleanDisk (state S.Store tx.new.conn.now)
-        → OnOk result ((number : ℤ) → IsUnderWay Migrated (state S.Store tx.old.conn.now)
-        → NamesFormat (state S.Store tx.old.conn.now).now.trees number
-        → IsUnderWay Migrated (state S.Store tx.new.conn.now)
-        × SetsFormat (state S.Store tx.old.conn.now).now.trees
-        (state S.Store tx.new.conn.now).now.trees) }
-    ensures inside { HasCleanDisk (state S.Store tx.new.conn.now)
-        → OnOk result (IsTrue (state S.Store tx.old.conn.now).in_transaction
-        → IsTrue (state S.Store tx.new.conn.now).in_transaction
-        × IsTrue (state S.Store tx.new.conn.now).is_open) }
-    ensures kept { CommitsNothing S.Store tx.old.conn tx.new.conn }
-{
-    tx.execute("UPDATE meta SET v = 2", &[])?;
     Ok(())
 }

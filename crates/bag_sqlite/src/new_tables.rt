@@ -2,7 +2,7 @@
 ghost use Rattle.std.specs.Prelude.{◌≡◌, ◌↔◌, [], IsErrOf, IsTrue, OnErr, OnOk, false, true};
 ghost use Rattle.bag_sqlite.specs.NewTables.{IsCreated, IsLeft, IsMade, IsMaking, Makes, MakesLedger, RefusesToMake, no_rows};
 ghost use Rattle.bag_sqlite.specs.Tables.{New, Origin, held_tree, no_schema, piece_tree, schema_before, schema_to_tag, second_schema};
-ghost use Rattle.bag_sqlite.specs.Transactions.{CommitsNothing};
+ghost use Rattle.bag_sqlite.specs.Transactions.{CommitsNothing, StaysInside};
 ghost use Rattle.sqlite.specs.Change.{created, next_tree};
 ghost use Rattle.sqlite.specs.Effect.{IsDatabase};
 ghost use Rattle.sqlite.specs.Held.{state};
@@ -11,6 +11,7 @@ ghost use Rattle.sqlite.specs.State.{HasCleanDisk, Survives};
 ghost use Rattle.sqlite.specs.Table.{Table};
 ghost use Rattle.sqlite.specs.Tree.{Trees};
 
+use crate::format::write_format;
 use sqlite::{Alter, Connection, Error, ErrorCode, Transaction};
 
 /// Creates the tables of a ledger without transfers in a database without tables, in one transaction.
@@ -51,9 +52,7 @@ fn make_transfer_tables<S: Alter>(tx: &mut Transaction<'_, S>) -> Result<(), Err
     ensures made { HasCleanDisk (state S.Store tx.new.conn.now)
         → OnOk result (IsMaking no_schema no_rows (state S.Store tx.old.conn.now)
         → IsMaking schema_to_tag no_rows (state S.Store tx.new.conn.now)) }
-    ensures inside { HasCleanDisk (state S.Store tx.new.conn.now)
-        → OnOk result (IsTrue (state S.Store tx.old.conn.now).in_transaction
-        → IsTrue (state S.Store tx.new.conn.now).in_transaction) }
+    ensures inside { StaysInside S.Store tx.old.conn tx.new.conn result }
     ensures kept { CommitsNothing S.Store tx.old.conn tx.new.conn }
 {
     make_table(
@@ -78,9 +77,7 @@ pub(crate) fn make_item_tables<S: Alter>(tx: &mut Transaction<'_, S>) -> Result<
         → IsMaking (schema_before origin) rows (state S.Store tx.old.conn.now)
         → IsMaking (second_schema origin) rows (state S.Store tx.new.conn.now)
         × IsDatabase (state S.Store tx.new.conn.now).now) }
-    ensures inside { HasCleanDisk (state S.Store tx.new.conn.now)
-        → OnOk result (IsTrue (state S.Store tx.old.conn.now).in_transaction
-        → IsTrue (state S.Store tx.new.conn.now).in_transaction) }
+    ensures inside { StaysInside S.Store tx.old.conn tx.new.conn result }
     ensures kept { CommitsNothing S.Store tx.old.conn tx.new.conn }
 {
     make_table(
@@ -101,25 +98,9 @@ fn make_table<S: Alter>(tx: &mut Transaction<'_, S>, sql: &str) -> Result<(), Er
         → IsMaking before rows (state S.Store tx.old.conn.now)
         → IsMaking (created before table) rows (state S.Store tx.new.conn.now)
         × IsDatabase (state S.Store tx.new.conn.now).now) }
-    ensures inside { HasCleanDisk (state S.Store tx.new.conn.now)
-        → OnOk result (IsTrue (state S.Store tx.old.conn.now).in_transaction
-        → IsTrue (state S.Store tx.new.conn.now).in_transaction) }
+    ensures inside { StaysInside S.Store tx.old.conn tx.new.conn result }
     ensures kept { CommitsNothing S.Store tx.old.conn tx.new.conn }
 {
     tx.execute(sql, &[])?;
-    Ok(())
-}
-
-/// Inserts the row of the format.
-fn write_format<S: Alter>(tx: &mut Transaction<'_, S>) -> Result<(), Error>
-    ensures made { HasCleanDisk (state S.Store tx.new.conn.now)
-        → OnOk result (IsMaking (second_schema New) no_rows (state S.Store tx.old.conn.now)
-        → IsMade (state S.Store tx.new.conn.now)) }
-    ensures inside { HasCleanDisk (state S.Store tx.new.conn.now)
-        → OnOk result (IsTrue (state S.Store tx.old.conn.now).in_transaction
-        → IsTrue (state S.Store tx.new.conn.now).in_transaction) }
-    ensures kept { CommitsNothing S.Store tx.old.conn tx.new.conn }
-{
-    tx.execute("INSERT INTO meta (k, v) VALUES ('bag-ledger', 2)", &[])?;
     Ok(())
 }

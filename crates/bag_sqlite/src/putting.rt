@@ -8,7 +8,7 @@ ghost use Rattle.bag_sqlite.specs.Contents.{HasContentMore, HasRead, answer_of, 
 ghost use Rattle.bag_sqlite.specs.Putting.{AddsPieces, IsUnderWay};
 ghost use Rattle.bag_sqlite.specs.SqlKeepers.{HoldsLedger, MayLeaveLedger};
 ghost use Rattle.bag_sqlite.specs.Tables.{Origin};
-ghost use Rattle.bag_sqlite.specs.Transactions.{CommitsNothing};
+ghost use Rattle.bag_sqlite.specs.Transactions.{ChangesRows, CommitsNothing, WasOpen};
 ghost use Rattle.sqlite.specs.Held.{Held, state};
 ghost use Rattle.sqlite.specs.State.{HasCleanDisk};
 
@@ -109,19 +109,15 @@ fn put_item<S: Alter, R: Source>(
     requires room { length buffer.old ≡ PIECE }
     ensures put { MatchResult result (λ done. (content : List ℕ)
         × IsGiven (given_by (R.remaining reader.old) (R.remaining reader.new)) want.now content
-        × (HasCleanDisk (state S.Store tx.new.conn.now) → (origin : Origin)
-        → IsUnderWay origin (state S.Store tx.old.conn.now)
-        → IsUnderWay origin (state S.Store tx.new.conn.now)
-        × HasContentMore origin (state S.Store tx.old.conn.now).now.trees
-        (state S.Store tx.new.conn.now).now.trees transfer want.now.path.now content))
+        × (HasCleanDisk (state S.Store tx.new.conn.now)
+        → ChangesRows S.Store tx.old.conn tx.new.conn (λ origin before after.
+        HasContentMore origin before after transfer want.now.path.now content)))
         (λ refusal. (told : KeepFault)
         → RefusesGiven (given_by (R.remaining reader.old) (R.remaining reader.new)) want.now
         (put_fault_of told refusal)) }
     ensures uses { UsesSource R.failures R.ready R.keeps reader.old reader.new
         (IsErrOf result (NotPut.Source SourceFault.Read)) }
-    ensures opened { HasCleanDisk (state S.Store tx.new.conn.now)
-        → OnOk result (IsTrue (state S.Store tx.old.conn.now).in_transaction
-        → IsTrue (state S.Store tx.old.conn.now).is_open) }
+    ensures opened { WasOpen S.Store tx.old.conn tx.new.conn result }
     ensures kept { CommitsNothing S.Store tx.old.conn tx.new.conn }
 {
     let item = insert_item(tx, transfer, want.path().as_str())?;
@@ -142,11 +138,9 @@ fn put_pieces<S: Alter, R: Source>(
     requires room { length buffer.old ≡ PIECE }
     ensures read { MatchResult result (λ found. (pieces : List (List ℕ))
         × HasRead (R.remaining reader.old) (R.remaining reader.new) want.now found pieces
-        × (HasCleanDisk (state S.Store tx.new.conn.now) → (origin : Origin)
-        → IsUnderWay origin (state S.Store tx.old.conn.now)
-        → IsUnderWay origin (state S.Store tx.new.conn.now)
-        × AddsPieces origin (state S.Store tx.old.conn.now).now.trees
-        (state S.Store tx.new.conn.now).now.trees (in_pieces item [] pieces)))
+        × (HasCleanDisk (state S.Store tx.new.conn.now)
+        → ChangesRows S.Store tx.old.conn tx.new.conn
+        (λ origin before after. AddsPieces origin before after (in_pieces item [] pieces))))
         (λ refusal. (told : KeepFault)
         → RefusesGiven (given_by (R.remaining reader.old) (R.remaining reader.new)) want.now
         (put_fault_of told refusal)) }

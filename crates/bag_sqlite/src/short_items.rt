@@ -10,7 +10,7 @@ use std::alloc::{AllocError, Global};
 /// How many files a batch has at most. Each has at most one piece, so no more than 4 MiB are held.
 const MOST_SHORT: usize = 64;
 
-/// Payload files that were read, in order, and have not been tested yet.
+/// Payload files that were read, in order, and haven't been tested yet.
 #[derive(Drop)]
 pub(crate) struct ShortItems<'a> {
     /// The content of each file, and what it has to be. The algorithms are those by which the paths are listed.

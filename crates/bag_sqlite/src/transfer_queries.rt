@@ -154,22 +154,13 @@ pub(crate) fn tag_set_in(alloc: Global, rows: &[Row]) -> Result<TagSet, Error>
         let path: String = row.get(0)?;
         match tags.add(path.as_str(), row.get(1)?) {
             Ok(()) => {}
-            Err(fault) => {
-                if is_memory(fault) {
-                    return Err(Error::SqliteFailure(ErrorCode::OutOfMemory));
-                }
-                return Err(Error::SqliteFailure(ErrorCode::DatabaseCorrupt));
+            Err(TagSetFault::Memory) => {
+                return Err(Error::SqliteFailure(ErrorCode::OutOfMemory));
             }
+            Err(_) => return Err(Error::SqliteFailure(ErrorCode::DatabaseCorrupt)),
         }
     }
     Ok(tags)
-}
-
-/// Whether memory ran out.
-fn is_memory(fault: TagSetFault) -> bool
-    ensures { IsTrue result ↔ (fault ≡ TagSetFault.Memory) }
-{
-    matches!(fault, TagSetFault::Memory)
 }
 
 /// The payload files that the transfer with this number holds, by path.

@@ -136,21 +136,9 @@ fn plan_in(alloc: Global, rows: &[Row]) -> Result<Option<Plan>, AdoptFault>
     };
     match Plan::from_tags(alloc, &tags) {
         Ok(plan) => Ok(Some(plan)),
-        Err(fault) => {
-            if is_memory(&fault) {
-                Err(AdoptFault::Memory)
-            } else {
-                Ok(None)
-            }
-        }
+        Err(PlanFault::Memory) => Err(AdoptFault::Memory),
+        Err(_) => Ok(None),
     }
-}
-
-/// Whether memory ran out.
-fn is_memory(fault: &PlanFault) -> bool
-    ensures { IsTrue result ↔ (fault.now ≡ PlanFault.Memory) }
-{
-    matches!(fault, PlanFault::Memory)
 }
 
 /// The value that was read, or `None` if the database is corrupt there.

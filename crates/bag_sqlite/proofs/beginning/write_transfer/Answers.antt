@@ -15,7 +15,7 @@ returns-clause-written g c clean =
     on_ok c.insert_tags.result (λ tags o way.
     let row = c.in_ok-transfer.ensures.added early o way in
     let all = rw (to_z-of_z w64 number fits) at (tags o row.0) in
-    (all.0, number, one_more old.now.trees mid.now.trees new.now.trees number c.args.name.now (files_of c.args.files.now) row.1 all.1)) (c.insert_tags.ensures.added clean)
+    (all.0, (number, one_more old.now.trees mid.now.trees new.now.trees number c.args.name.now (files_of c.args.files.now) row.1 all.1))) (c.insert_tags.ensures.added clean)
 
 pub returns-clause-kept : goal.returns-clause-kept
 returns-clause-kept g c = nothing_then c.insert_transfer.ensures.kept c.insert_tags.ensures.kept

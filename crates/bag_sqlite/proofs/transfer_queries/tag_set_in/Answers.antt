@@ -1,8 +1,8 @@
-use Rattle.std.proofs.Common.{◌∙◌, [], sym, ap, take_all, refl, take, subst}
+use Rattle.std.proofs.Common.{◌∙◌, [], rules, sym, ap, take_all, refl, take, subst}
 use Rattle.bag_sqlite.proofs.Words.{AreTags, column, err_from_is_err_and, IsBlob, IsText, RefusesFile, slice_get_read, Text}
 use Rattle.bag_sqlite.proofs.TransferRows.{files_put, files_read, put_more}
 use Rattle.bag_sqlite.proofs.AdoptingLemmas.{put_as_with}
-use Rattle.bag_sqlite.proofs.RefusingLemmas.{all_at, none_for, not_damage, not_read, null_blob, null_text, told_apart}
+use Rattle.bag_sqlite.proofs.RefusingLemmas.{all_at, none_for, not_damage, not_read, null_blob, null_text}
 use Rattle.bag_sqlite.proofs.transfer_queries.tag_set_in.Goals as goal
 
 pub loop-row-preserved : goal.loop-row-preserved
@@ -42,9 +42,9 @@ returns-in-Err-clause-refused c = (
     path = c.as_str.result.now;
     octets = c.in_ok-get.field-0.items;
     row_is = (c.in_ok-path.ensures.ok.1 ∙ ap Text (sym c.as_str.ensures.value), c.in_ok-get.ensures.ok.1);
-    fault = c.in-Err.fault;
-    no_memory = told_apart c.is_memory.result c.is_memory.ensures c.if-is_memory.false;
-    refuses = subst (λ files. RefusesFile files c.as_str.result.now c.in_ok-get.field-0.items c.in-Err.fault) (c.loop-row.invariant ∙ put_as_with [] (take c.loop-row.row-index c.args.rows.now)) c.in-Err.ensures.fault;
+    fault = c.in-Err.field-0;
+    no_memory = search rules;
+    refuses = subst (λ files. RefusesFile files c.as_str.result.now c.in_ok-get.field-0.items c.in-Err.field-0) (c.loop-row.invariant ∙ put_as_with [] (take c.loop-row.row-index c.args.rows.now)) c.in-Err.ensures.fault;
   },
   tt,
 )

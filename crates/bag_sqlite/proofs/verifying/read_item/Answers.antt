@@ -1,4 +1,4 @@
-use Rattle.std.proofs.Common.{◌≡◌, ◌∙◌, Ok, arith, w64, inl, inr}
+use Rattle.std.proofs.Common.{◌≡◌, ◌∙◌, Ok, w64, inl, inr}
 use Rattle.bag_sqlite.proofs.Words.{err_from_is_err_and, IsWantOf, to_z-of_z}
 use Rattle.bag_sqlite.proofs.BatchLemmas.{found_item, known_by}
 use Rattle.bag_sqlite.proofs.RefusingLemmas.{bad_path, path_error}

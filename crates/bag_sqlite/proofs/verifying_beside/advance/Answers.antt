@@ -1,6 +1,6 @@
 use Rattle.std.proofs.Common.{◌≤◌, ◌<◌, ◌+◌, ◌*◌, ◌^◌, arith, rules, w64, subst, sym, FitsSigned}
 use Rattle.bag_sqlite.proofs.Words.{err_from_is_err_and, HasCleanDisk, PIECE, state, to_z-of_z, to_z_pos}
-use Rattle.bag_sqlite.proofs.AdoptingLemmas.{reads_then, stands_still}
+use Rattle.bag_sqlite.proofs.AdoptingLemmas.{stands_still}
 use Rattle.bag_sqlite.proofs.BesideLemmas.{read_ended, read_going}
 use Rattle.bag_sqlite.specs.Beside.{GoesOn, IsPiece}
 use Rattle.bag_sqlite.proofs.verifying_beside.advance.Goals as goal

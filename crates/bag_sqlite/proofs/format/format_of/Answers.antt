@@ -1,7 +1,7 @@
 use Rattle.std.proofs.Common.{◌≡◌, ◌≢◌, ◌∙◌, [], ap, inl, inr, pos, rules, subst, sym}
 use Rattle.bag_sqlite.proofs.Words.{err_from_is_err_and, format_text, HasNoFormat, Int, MayShow, SayNoFormat, Tells, the_format}
 use Rattle.bag_sqlite.proofs.RefusingLemmas.{by_rows, none_for, one_format}
-use Rattle.bag_sqlite.proofs.adopting.format_of.Goals as goal
+use Rattle.bag_sqlite.proofs.format.format_of.Goals as goal
 
 pub returns-in-1-clause-format : goal.returns-in-1-clause-format
 returns-in-1-clause-format g c clean db stands =

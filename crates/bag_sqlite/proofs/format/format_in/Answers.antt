@@ -2,7 +2,7 @@ use Rattle.std.proofs.Common.{◌≡◌, ◌≢◌, ◌∙◌, [], ◌∷◌, Fi
 use Rattle.bag_sqlite.proofs.Words.{column, err_from_is_err_and, Int, IsInt, IsText, SayNoFormat, Text, to_z-of_z}
 use Rattle.bag_sqlite.proofs.AdoptingLemmas.{only_row, row_at}
 use Rattle.bag_sqlite.proofs.RefusingLemmas.{misread, null_int, null_text, rows_for, says_at}
-use Rattle.bag_sqlite.proofs.adopting.format_in.Goals as goal
+use Rattle.bag_sqlite.proofs.format.format_in.Goals as goal
 
 pub returns : goal.returns
 returns c =

@@ -1,6 +1,6 @@
 use Rattle.bag_sqlite.proofs.Words.{state}
 use Rattle.bag_sqlite.proofs.MigratingLemmas.{format_set}
-use Rattle.bag_sqlite.proofs.migrating.set_format.Goals as goal
+use Rattle.bag_sqlite.proofs.format.set_format.Goals as goal
 
 pub returns-clause-set : goal.returns-clause-set
 returns-clause-set g c clean number way says =

@@ -1,6 +1,6 @@
 use Rattle.bag_sqlite.proofs.Words.{state}
 use Rattle.bag_sqlite.proofs.MakingLemmas.{format_written}
-use Rattle.bag_sqlite.proofs.new_tables.write_format.Goals as goal
+use Rattle.bag_sqlite.proofs.format.write_format.Goals as goal
 
 pub returns-clause-made : goal.returns-clause-made
 returns-clause-made g c clean making =
