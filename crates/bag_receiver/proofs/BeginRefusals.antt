@@ -1,7 +1,7 @@
 -- What is reported for files with which no transfer can be opened.
 use Rattle.std.proofs.Common.{◌≡◌, ◌≢◌, ◌⊎◌, ℕ, List, [], refl, sym, ap, subst, ◌∙◌, inl, inr}
-use Rattle.bag_rules.specs.declared.plan.PlanFault.{PlanFault}
-use Rattle.bag_rules.specs.declared.plan.PlanFault.TheVariants as plan
+use Rattle.bag_rules.specs.declared.plan_fault.PlanFault.{PlanFault}
+use Rattle.bag_rules.specs.declared.plan_fault.PlanFault.TheVariants as plan
 use Rattle.bag_receiver.specs.declared.begin.BeginFault.TheVariants.{Keeper}
 use Rattle.bag_receiver.specs.Beginning.{NoneLarge}
 use Rattle.bag_receiver.specs.BeginningInside.{begin_fault}

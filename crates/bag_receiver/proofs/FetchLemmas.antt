@@ -1,11 +1,11 @@
 -- Fetching, line by line.
-use Rattle.std.proofs.Common.{◌≡◌, ◌≢◌, ◌↔◌, ◌<◌, ◌+◌, ◌++◌, ◌∷◌, [], ℕ, zero, suc, Bool, true, false, List, Option, Some, None, Result, Ok, Err, IsOk, is_ok, if◌then◌else◌, append_assoc, append-nil, get_or, length, map, slice_get, take, refl, sym, ap, subst, ◌∙◌, inl, inr, arith}
+use Rattle.std.proofs.Common.{◌≡◌, ◌≢◌, ◌↔◌, ◌<◌, ◌+◌, ◌++◌, ◌∷◌, [], Contains, ℕ, zero, suc, Bool, true, false, List, Option, Some, None, Result, Ok, Err, IsOk, is_ok, if◌then◌else◌, append_assoc, append-nil, get_or, length, map, slice_get, take, refl, sym, ap, subst, ◌∙◌, inl, inr, arith}
 use Rattle.std.proofs.Math.ListN.{replicate, set}
 use Rattle.std.proofs.lemmas.List.{take_more}
 use Rattle.std.proofs.lemmas.Option.{same_Some, slice_get_within}
 use Rattle.bag_tags.specs.declared.fetch.FetchLine.{FetchLine}
-use Rattle.bag_rules.proofs.HasLemmas.{has_at, has_push}
-use Rattle.bag_rules.proofs.RisingPaths.{one_place}
+use Rattle.bag_rules.proofs.HasLemmas.{has_push}
+use Rattle.bag_rules.proofs.RisingPaths.{contains_at, one_place}
 use Rattle.bag_rules.specs.declared.plan.ItemSize.{ItemSize}
 use Rattle.bag_rules.specs.Plans.{AreFetchLines, item_paths, sizes_of}
 use Rattle.bag_receiver.specs.declared.answer.Answer.TheVariants as own
@@ -142,12 +142,12 @@ marks_next paths marks sizes i size within is are =
     )) are)
 
 -- a path that isn't one of them changes no mark
-pub marked_none : (paths : List (List ℕ)) (marks : List Bool) (held : List (List ℕ)) (path : List ℕ) → ¬ Has paths path → AreMarks paths marks held → AreMarks paths marks (path ∷ held)
+pub marked_none : (paths : List (List ℕ)) (marks : List Bool) (held : List (List ℕ)) (path : List ℕ) → ¬ Contains paths path → AreMarks paths marks held → AreMarks paths marks (path ∷ held)
 marked_none paths marks held path none are = record {
   one_each = are.one_each;
   exact = λ i other at. (
     λ e. inr ((are.exact i other at).0 e),
-    λ has. elim has [ inl e ↦ absurd (none (has_at paths i path (at ∙ ap Some (sym e)))) | inr h ↦ (are.exact i other at).1 h ],
+    λ has. elim has [ inl e ↦ absurd (none (contains_at paths i path (at ∙ ap Some (sym e)))) | inr h ↦ (are.exact i other at).1 h ],
   );
 }
 

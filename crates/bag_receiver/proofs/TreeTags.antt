@@ -8,7 +8,7 @@ use Rattle.bag_path.specs.Paths.{is_payload}
 use Rattle.bag_rules.proofs.HasLemmas.{has_at, has_from_contains, has_map}
 use Rattle.bag_rules.proofs.PutFiles.{by_path}
 use Rattle.bag_rules.proofs.SameListLemmas.{all_has}
-use Rattle.bag_rules.specs.declared.plan.PlanFault.{PlanFault}
+use Rattle.bag_rules.specs.declared.plan_fault.PlanFault.{PlanFault}
 use Rattle.bag_rules.specs.Files.{AreTagFiles, IsTagFile}
 use Rattle.bag_rules.specs.Trees.{Shown, UsesTree, octets_in, paths_in}
 use Rattle.bag_receiver.specs.declared.begin.BeginFault.TheVariants as own

@@ -4,8 +4,8 @@ use Rattle.std.specs.Map.{keys_of}
 use Rattle.std.specs.declared.alloc.Global.{Global}
 use Rattle.std.specs.declared.string.String.{String}
 use Rattle.bag_rules.specs.declared.limits.TheConstants.{LARGEST_TAG_FILE}
-use Rattle.bag_rules.specs.declared.plan.PlanFault.{PlanFault}
-use Rattle.bag_rules.specs.declared.plan.PlanFault.TheVariants as plan
+use Rattle.bag_rules.specs.declared.plan_fault.PlanFault.{PlanFault}
+use Rattle.bag_rules.specs.declared.plan_fault.PlanFault.TheVariants as plan
 use Rattle.bag_rules.specs.Faults.{Has}
 use Rattle.bag_rules.specs.Files.{Files, IsTagPath}
 use Rattle.bag_rules.specs.Opening.{HasManyLinesAt, IsFirstPath, Opens, RefusesTags}

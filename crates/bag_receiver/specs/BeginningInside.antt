@@ -2,8 +2,8 @@
 use Rattle.std.specs.Prelude.{◌≡◌, ◌⊎◌, [], List, ℕ, Contains, Some, length, map, nat_lt, slice_get, if◌then◌else◌}
 use Rattle.std.specs.Map.{keys_of}
 use Rattle.bag_rules.specs.declared.limits.TheConstants.{LARGEST_TAG_FILE}
-use Rattle.bag_rules.specs.declared.plan.PlanFault.{PlanFault}
-use Rattle.bag_rules.specs.declared.plan.PlanFault.TheVariants as plan
+use Rattle.bag_rules.specs.declared.plan_fault.PlanFault.{PlanFault}
+use Rattle.bag_rules.specs.declared.plan_fault.PlanFault.TheVariants as plan
 use Rattle.bag_rules.specs.declared.plan.Plan.{Plan}
 use Rattle.bag_rules.specs.Files.{Files, IsTagPath}
 use Rattle.bag_rules.specs.Plans.{IsPlanOf}

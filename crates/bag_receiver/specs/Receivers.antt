@@ -29,8 +29,8 @@ module _ {K : Type 0} (holds may_leave : K → Ledger → Type 0) where
 module _ {K : Type 0} (holds may_leave : K → Ledger → Type 0) (clean : K → Type 0) where
   -- this is so of what the receiver held before the call, if its keeper is clean after it
   abbrev pub SaysOfState : Receiver K → Receiver K → (LedgerState → Type 0) → Type 0
-  SaysOfState old new so = clean new.keeper → (now : LedgerState) → IsInState holds may_leave old now
-      → so now
+  SaysOfState old new so = clean new.keeper → (now : LedgerState)
+      → IsInState holds may_leave old now → so now
 
   -- If its keeper is clean after the call, the receiver went by such a step from what it held to what it holds.
   pub record Does (old new : Receiver K) (step : LedgerState → LedgerState → Type 0) : Type 0 where

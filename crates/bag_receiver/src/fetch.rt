@@ -22,7 +22,7 @@ use crate::supplier::Supplier;
 use bag_digest::Failed;
 use bag_ledger::{KeepFault, Keeper};
 use bag_path::BagPath;
-use bag_rules::{ItemSize, Plan};
+use bag_rules::{ItemSize, Plan, place_in};
 use bag_tags::FetchLine;
 use std::alloc::{AllocError, Global};
 
@@ -212,17 +212,6 @@ fn request_for(
         path: entry.path().clone()?,
         place,
     })
-}
-
-/// The place of the path in paths that are in order.
-fn place_in(paths: &[BagPath], path: &BagPath) -> Option<usize>
-    ensures found { IfSome result (λ place. slice_get paths.now place ≡ Some path.now) }
-    ensures absent { AreRising paths.now → IfNone result (¬ Has paths.now path.now) }
-{
-    match paths.binary_search_by(|own| own.cmp(path)) {
-        Ok(place) => Some(place),
-        Err(_) => None,
-    }
 }
 
 /// Whether this place is marked.
