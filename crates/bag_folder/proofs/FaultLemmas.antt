@@ -3,7 +3,7 @@ use Rattle.std.proofs.Common.{◌≡◌, ℕ, Bool, List, None, Option, Some, Re
 use Rattle.std.specs.Prelude.{IfErr, IfSome, IsErr, MatchResult, OnSome}
 use Rattle.bag_folder.specs.declared.fault.OpenFault.{OpenFault}
 use Rattle.bag_folder.specs.declared.fault.OpenFault.TheVariants.{Files, Memory}
-use Rattle.bag_folder.specs.declared.place.Place.{Place}
+use Rattle.bag_folder.specs.declared.root.Root.{Root}
 use Rattle.bag_folder.specs.declared.fault.Cause.{Cause}
 use Rattle.bag_folder.specs.Directories.{IsUnfit, Listing, name_below}
 use Rattle.bag_folder.specs.Faults.{IfUnfit, TellsBelow}
@@ -26,11 +26,11 @@ pub whole_name : (folder path name : List ℕ) → name ≡ name_below folder pa
 whole_name folder path name is = (path, inl refl, is)
 
 -- what a walk refuses is told by its name on disk
-pub refused_on_disk : (known : Option Listing) (folder : List ℕ) (place : Place) (fault told : OpenFault)
+pub refused_on_disk : (known : Option Listing) (folder : List ℕ) (root : Root) (fault told : OpenFault)
     → ((listing : Listing) → known ≡ Some listing → IfUnfit fault (λ unfit. IsUnfit listing folder unfit.path unfit.cause))
-    → IfUnfit told (TellsBelow fault folder place) → IfUnfit told (IsRefused known folder place)
-refused_on_disk known folder place fault told refused tells =
-    IfUnfit-weaker told (TellsBelow fault folder place) (IsRefused known folder place) (λ unfit here. record {
+    → IfUnfit told (TellsBelow fault folder root) → IfUnfit told (IsRefused known folder root)
+refused_on_disk known folder root fault told refused tells =
+    IfUnfit-weaker told (TellsBelow fault folder root) (IsRefused known folder root) (λ unfit here. record {
       path = here.below.path;
       named = here.path_is;
       because = λ listing is.

@@ -21,11 +21,11 @@ file_so known now name at i result same is here =
 pub opens_file : {E : Type 0} (tree : FolderShown) (paths : List (List ℕ)) (i : ℕ) (path : List ℕ)
     (result : Result FileShown E) → paths_in tree.shown ≡ paths → slice_get paths i ≡ Some path
     → IfOk result
-    (IsFileAt tree.standing (name_below tree.folder (path_below tree.place path)) i)
+    (IsFileAt tree.standing (name_below tree.folder (path_below tree.root path)) i)
     → IfOk result (OpensFile tree i)
 opens_file tree paths i path (Ok file) seen at here =
     found_at paths (paths_in tree.shown) i path seen at
-    (λ p. IsFileAt tree.standing (name_below tree.folder (path_below tree.place p)) i file) here
+    (λ p. IsFileAt tree.standing (name_below tree.folder (path_below tree.root p)) i file) here
 opens_file tree paths i path (Err error) seen at here = tt
 
 -- and what the tree shows of it isn't known
@@ -33,7 +33,7 @@ pub given_out : (tree : FolderShown) (i : ℕ) (file : FileShown) → None ≡ o
     → OpensFile tree i file → IsGivenOut tree.shown i file
 given_out tree i file unknown opens = go (slice_get (paths_in tree.shown) i) opens where
   go : (found : Option (List ℕ)) → IsSomeAnd found
-      (λ path. IsFileAt tree.standing (name_below tree.folder (path_below tree.place path)) i file)
+      (λ path. IsFileAt tree.standing (name_below tree.folder (path_below tree.root path)) i file)
       → IsGivenOut tree.shown i file
   go None never = absurd never
   go (Some path) here = record {

@@ -7,7 +7,7 @@ use Rattle.bag_path.specs.declared.path.PathFault.{PathFault}
 use Rattle.bag_path.specs.declared.path.PathFault.TheVariants as path_fault
 use Rattle.bag_folder.specs.declared.fault.OpenFault.{OpenFault}
 use Rattle.bag_folder.specs.declared.fault.OpenFault.TheVariants.{Files, Memory}
-use Rattle.bag_folder.specs.declared.place.Place.{Place}
+use Rattle.bag_folder.specs.declared.root.Root.{Root}
 use Rattle.bag_folder.specs.declared.fault.Cause.TheVariants.{NoName, NoPath}
 use Rattle.bag_folder.specs.Folders.{path_below, told_name}
 use Rattle.bag_folder.specs.Unfits.{IsCauseOf, UnfitShown}
@@ -34,9 +34,9 @@ TellsPath fault path (Files unfit) = (unfit.path ≡ path) × (unfit.cause ≡ N
 TellsPath fault path Memory = fault ≡ path_fault.Memory
 
 -- what a fault tells by a path in the bag is told by the name on disk
-pub record TellsBelow (fault : OpenFault) (folder : List ℕ) (place : Place) (unfit : UnfitShown)
+pub record TellsBelow (fault : OpenFault) (folder : List ℕ) (root : Root) (unfit : UnfitShown)
     : Type 0 where
   pub below : UnfitShown
   pub was : fault ≡ Files below
-  pub path_is : unfit.path ≡ told_name folder (path_below place below.path)
+  pub path_is : unfit.path ≡ told_name folder (path_below root below.path)
   pub same_cause : unfit.cause ≡ below.cause

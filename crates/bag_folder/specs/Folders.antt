@@ -7,8 +7,8 @@ use Rattle.bag_path.specs.Paths.{is_payload}
 use Rattle.bag_digest.specs.Failures.{one_more}
 use Rattle.bag_rules.specs.Trees.{AreRising, KeepsTree, Shown, paths_in}
 use Rattle.bag_tags.specs.Words.{without}
-use Rattle.bag_folder.specs.declared.place.Place.{Place}
-use Rattle.bag_folder.specs.declared.place.Place.TheVariants.{Base, Payload}
+use Rattle.bag_folder.specs.declared.root.Root.{Root}
+use Rattle.bag_folder.specs.declared.root.Root.TheVariants.{Base, Payload}
 use Rattle.bag_folder.specs.Directories.{IsBelow, IsUnfit, Listing, name_below}
 use Rattle.bag_folder.specs.DiskNames.{Standing, content}
 use Rattle.bag_folder.specs.Unfits.{IsCauseOf, IsToldAt, UnfitShown}
@@ -21,7 +21,7 @@ shown_by paths has_payload_dir = record {
 }
 
 -- the path in the folder of the file with this path in the bag
-abbrev pub path_below : Place → List ℕ → List ℕ
+abbrev pub path_below : Root → List ℕ → List ℕ
 path_below Base path = path
 path_below Payload path = without (codes "data/") path
 
@@ -38,7 +38,7 @@ pub record FolderShown : Type 0 where
   pub standing : Option Standing
   pub shown : Shown
   pub folder : List ℕ
-  pub place : Place
+  pub root : Root
   pub name : List ℕ
   pub to_read : Option (Option (List ℕ))
   pub failures : ℕ
@@ -51,10 +51,10 @@ pub record IsListing (paths : List (List ℕ)) (has_dir : Bool) : Type 0 where
 
 -- a folder that was opened under this name: it shows what is below it, if the entries of directories are known; no file
 -- is open, and nothing has failed
-pub record IsOpened (known : Option Listing) (folder : List ℕ) (place : Place)
+pub record IsOpened (known : Option Listing) (folder : List ℕ) (root : Root)
     (tree : FolderShown) : Type 0 where
   pub named : tree.folder ≡ folder
-  pub placed : tree.place ≡ place
+  pub placed : tree.root ≡ root
   pub closed : tree.to_read ≡ None
   pub not_failed : tree.failures ≡ 0
   pub no_trouble : tree.trouble ≡ None
@@ -63,10 +63,10 @@ pub record IsOpened (known : Option Listing) (folder : List ℕ) (place : Place)
 
 -- The name is that of the folder or of something below it. If the entries of directories are known, the folder can't be
 -- a bag because of that, and this is the cause.
-pub record IsRefused (known : Option Listing) (folder : List ℕ) (place : Place)
+pub record IsRefused (known : Option Listing) (folder : List ℕ) (root : Root)
     (unfit : UnfitShown) : Type 0 where
   pub path : List ℕ
-  pub named : unfit.path ≡ told_name folder (path_below place path)
+  pub named : unfit.path ≡ told_name folder (path_below root path)
   pub because : (listing : Listing) → known ≡ Some listing
       → IsUnfit listing folder path unfit.cause
 
@@ -96,7 +96,7 @@ pub record ReadsFolder {E : Type 0} (old new : FolderShown) (result : Result ℕ
 pub record StartsFile {E : Type 0} (old new : FolderShown) (i : ℕ) (result : Result (Unit {0}) E)
     : Type 0 where
   pub named : OnOk result (IsSomeAnd (slice_get (paths_in old.shown) i)
-      (λ path. new.name ≡ name_below old.folder (path_below old.place path)))
+      (λ path. new.name ≡ name_below old.folder (path_below old.root path)))
   pub changes : MatchResult result
       (λ _. new ≡ record old { name = new.name; to_read = new.to_read })
       (λ _. new ≡ record old {
@@ -107,7 +107,7 @@ pub record StartsFile {E : Type 0} (old new : FolderShown) (i : ℕ) (result : R
       })
   pub told : IsErr result → IfSome new.trouble (λ unfit.
       IsSomeAnd (slice_get (paths_in old.shown) i)
-      (λ path. unfit.path ≡ name_below old.folder (path_below old.place path)))
+      (λ path. unfit.path ≡ name_below old.folder (path_below old.root path)))
 
 -- the file that was opened is the one that the name leads to, and a failure is told with the cause of its error, if it
 -- is known what stands there

@@ -48,7 +48,7 @@ pub record IsFileAt (known : Option Standing) (name : List ℕ) (place : ℕ) (f
 -- the file at this place of a folder was opened by its name below the folder
 abbrev pub OpensFile : FolderShown → ℕ → FileShown → Type 0
 OpensFile tree i file = IsSomeAnd (slice_get (paths_in tree.shown) i)
-    (λ path. IsFileAt tree.standing (name_below tree.folder (path_below tree.place path)) i file)
+    (λ path. IsFileAt tree.standing (name_below tree.folder (path_below tree.root path)) i file)
 
 -- A read consumes what it gives of a file that is open, which stays open. If the file couldn't be opened, the read
 -- fails.

@@ -5,7 +5,7 @@ ghost use Rattle.bag_folder.specs.Folders.{told_name};
 ghost use Rattle.bag_folder.specs.Unfits.{HasCause, IsCauseOf};
 
 use crate::name_on_disk::spell;
-use crate::place::Place;
+use crate::root::Root;
 use bag_path::PathFault;
 use std::alloc::{AllocError, AllocFailed, Global};
 use std::io::{self, ErrorKind};
@@ -129,12 +129,12 @@ impl OpenFault {
     }
 
     /// The same fault, told by the name on disk in place of a path in the bag that the folder belongs to.
-    pub(crate) fn on_disk(self, alloc: Global, folder: &str, place: Place) -> OpenFault
-        ensures { IfUnfit result (TellsBelow self folder.now place) }
+    pub(crate) fn on_disk(self, alloc: Global, folder: &str, root: Root) -> OpenFault
+        ensures { IfUnfit result (TellsBelow self folder.now root) }
     {
         match self {
             OpenFault::Files(unfit) => {
-                match told_name(alloc, folder, place.path_below(unfit.path.as_str())) {
+                match told_name(alloc, folder, root.path_below(unfit.path.as_str())) {
                     Ok(path) => OpenFault::Files(Unfit {
                         path,
                         cause: unfit.cause,

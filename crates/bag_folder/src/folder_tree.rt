@@ -14,7 +14,7 @@ use crate::file_system::Names;
 use crate::folder_file::FolderFile;
 use crate::in_payload::InPayload;
 use crate::name_on_disk::opened;
-use crate::place::Place;
+use crate::root::Root;
 use crate::troubles::Troubles;
 use crate::walk::{Below, in_order, walk};
 use bag_digest::{Failed, Source};
@@ -30,7 +30,7 @@ use std::marker::Model;
 pub struct FolderTree<R: Names> {
     rt: R,
     folder: String,
-    place: Place,
+    root: Root,
     // the name of the last file looked up; its capacity is enough for all names
     name: String,
     paths: Vec<BagPath>,
@@ -49,7 +49,7 @@ impl<R: Names> Model for FolderTree<R> {
       standing = R.standing tree.rt;
       shown = shown_by tree.paths.items tree.has_dir;
       folder = string_bytes tree.folder;
-      place = tree.place;
+      root = tree.root;
       name = string_bytes tree.name;
       to_read = option_map R.Reader.remaining tree.file;
       failures = tree.troubles.failures;
@@ -80,12 +80,12 @@ impl<R: Names + Drop> FolderTree<R> {
         folder: &str,
     ) -> Result<FolderTree<R>, OpenFault>
         ensures no_name { folder.now ≡ [] → result ≡ Err no_name }
-        ensures opened { IfOk result (IsOpened (D.listing disk.now) folder.now Place.Base) }
+        ensures opened { IfOk result (IsOpened (D.listing disk.now) folder.now Root.Base) }
         ensures stands { IfOk result (λ tree. tree.standing ≡ R.standing rt) }
         ensures refused { IfErr result (λ fault. IfUnfit fault
-            (IsRefused (D.listing disk.now) folder.now Place.Base)) }
+            (IsRefused (D.listing disk.now) folder.now Root.Base)) }
     {
-        FolderTree::open_at(rt, disk, alloc, folder, Place::Base)
+        FolderTree::open_at(rt, disk, alloc, folder, Root::Base)
     }
 
     /// Does the same, with the files in the payload directory: each has the path `data/` followed by its path in the
@@ -104,13 +104,13 @@ impl<R: Names + Drop> FolderTree<R> {
     ) -> Result<FolderTree<R>, OpenFault>
         ensures no_name { folder.now ≡ [] → result ≡ Err no_name }
         ensures opened { IfOk result
-            (IsOpened (in_payload (D.listing disk.now) folder.now) folder.now Place.Payload) }
+            (IsOpened (in_payload (D.listing disk.now) folder.now) folder.now Root.Payload) }
         ensures stands { IfOk result (λ tree. tree.standing ≡ R.standing rt) }
         ensures refused { IfErr result (λ fault. IfUnfit fault
-            (IsRefused (in_payload (D.listing disk.now) folder.now) folder.now Place.Payload)) }
+            (IsRefused (in_payload (D.listing disk.now) folder.now) folder.now Root.Payload)) }
     {
         let inside = InPayload { disk, folder };
-        FolderTree::open_at(rt, &inside, alloc, folder, Place::Payload)
+        FolderTree::open_at(rt, &inside, alloc, folder, Root::Payload)
     }
 
     /// What couldn't be used at the last failure: the file that couldn't be started or read. `None` if nothing has
@@ -156,26 +156,26 @@ impl<R: Names + Drop> FolderTree<R> {
         disk: &D,
         alloc: Global,
         folder: &str,
-        place: Place,
+        root: Root,
     ) -> Result<FolderTree<R>, OpenFault>
         ensures no_name { folder.now ≡ [] → result ≡ Err no_name }
-        ensures opened { IfOk result (IsOpened (D.listing disk.now) folder.now place) }
+        ensures opened { IfOk result (IsOpened (D.listing disk.now) folder.now root) }
         ensures stands { IfOk result (λ tree. tree.standing ≡ R.standing rt) }
         ensures refused { IfErr result (λ fault. IfUnfit fault
-            (IsRefused (D.listing disk.now) folder.now place)) }
+            (IsRefused (D.listing disk.now) folder.now root)) }
     {
         if folder.is_empty() {
             return Err(OpenFault::no_name(alloc));
         }
         let below = match walk(disk, alloc, folder) {
             Ok(below) => below,
-            Err(fault) => return Err(fault.on_disk(alloc, folder, place)),
+            Err(fault) => return Err(fault.on_disk(alloc, folder, root)),
         };
         let folder = String::from_str(alloc, folder)?;
         let longest = folder.len().saturating_add(1 + LONGEST_PATH);
         let name = String::with_capacity(alloc, longest)?;
         let troubles = Troubles::none(alloc, longest)?;
-        Ok(tree_of(rt, folder, place, name, troubles, below))
+        Ok(tree_of(rt, folder, root, name, troubles, below))
     }
 }
 
@@ -183,7 +183,7 @@ impl<R: Names + Drop> FolderTree<R> {
 fn tree_of<R: Names + Drop>(
     rt: R,
     folder: String,
-    place: Place,
+    root: Root,
     name: String,
     troubles: Troubles,
     below: Below,
@@ -196,7 +196,7 @@ fn tree_of<R: Names + Drop>(
       standing = R.standing rt;
       shown = result.shown;
       folder = string_bytes folder;
-      place = place;
+      root = root;
       name = string_bytes name;
       to_read = None;
       failures = troubles.failures;
@@ -207,7 +207,7 @@ fn tree_of<R: Names + Drop>(
     FolderTree {
         rt,
         folder,
-        place,
+        root,
         name,
         paths: in_order(below.paths),
         has_dir,
@@ -292,7 +292,7 @@ impl<R: Names> Tree for FolderTree<R> {
         ensures opens { OpensNamed self.old self.new result }
     {
         self.file = None;
-        let path = self.place.path_below(self.paths[i].as_str());
+        let path = self.root.path_below(self.paths[i].as_str());
         let answer = match opened(&self.rt, &mut self.name, self.folder.as_str(), path) {
             Ok(file) => {
                 self.file = Some(file);
@@ -376,7 +376,7 @@ impl<R: Names> FolderTree<R> {
     {
         let name = String::with_capacity(alloc, self.name.capacity())?;
         let path = self.paths[i].as_str();
-        let below = self.place.path_below(path);
+        let below = self.root.path_below(path);
         FolderFile::open(&self.rt, name, self.folder.as_str(), below, i)
     }
 }

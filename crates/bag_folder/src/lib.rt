@@ -13,7 +13,7 @@ pub use folder_sink_file::FolderSinkFile;
 pub use folder_supplier::FolderSupplier;
 pub use folder_tree::FolderTree;
 pub use mem_names::MemNames;
-pub use place::Place;
+pub use root::Root;
 pub use tree_courier::TreeCourier;
 
 mod destination;
@@ -29,7 +29,7 @@ mod folder_tree;
 mod in_payload;
 mod mem_names;
 mod name_on_disk;
-mod place;
+mod root;
 mod tree_courier;
 mod troubles;
 mod walk;

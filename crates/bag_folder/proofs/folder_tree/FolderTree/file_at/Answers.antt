@@ -18,11 +18,11 @@ returns g c =
     c.index.ensures in
     let folder : c.as_str.result.now ≡ tree.folder =
     c.as_str.ensures.value ∙ ap (λ (shown : FolderShown). shown.folder) c.self.view_is in
-    let below : c.path_below-below.result.now ≡ path_below tree.place path =
+    let below : c.path_below-below.result.now ≡ path_below tree.root path =
     c.path_below-below.ensures
-    ∙ ap₂ path_below (ap (λ (shown : FolderShown). shown.place) c.self.view_is)
+    ∙ ap₂ path_below (ap (λ (shown : FolderShown). shown.root) c.self.view_is)
     c.as_str-path.ensures.text in
     opens_file tree paths c.args.i path c.open.result seen at
-    (file_so _ tree.standing _ (name_below tree.folder (path_below tree.place path)) c.args.i
+    (file_so _ tree.standing _ (name_below tree.folder (path_below tree.root path)) c.args.i
     c.open.result (ap (λ (shown : FolderShown). shown.standing) c.self.view_is)
     (ap₂ name_below folder below) c.open.ensures)

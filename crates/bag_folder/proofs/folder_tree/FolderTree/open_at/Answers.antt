@@ -7,7 +7,7 @@ use Rattle.bag_folder.proofs.Listings.{below_in_order}
 use Rattle.bag_folder.proofs.folder_tree.FolderTree.open_at.Goals as goal
 
 pub returns-in-Err-clause-refused : goal.returns-in-Err-clause-refused
-returns-in-Err-clause-refused g c = refused_on_disk (g.D.Directories.listing c.args.disk.now) c.args.folder.now c.args.place c.in-Err.fault c.on_disk.result c.in-Err.ensures c.on_disk.ensures
+returns-in-Err-clause-refused g c = refused_on_disk (g.D.Directories.listing c.args.disk.now) c.args.folder.now c.args.root c.in-Err.fault c.on_disk.result c.in-Err.ensures c.on_disk.ensures
 
 pub returns-clause-opened : goal.returns-clause-opened
 returns-clause-opened g c =
@@ -15,7 +15,7 @@ returns-clause-opened g c =
     let is = c.tree_of.ensures.rest in
     record {
       named = ap (λ (tree : FolderShown). tree.folder) is ∙ folder;
-      placed = ap (λ (tree : FolderShown). tree.place) is;
+      placed = ap (λ (tree : FolderShown). tree.root) is;
       closed = ap (λ (tree : FolderShown). tree.to_read) is;
       not_failed = ap (λ (tree : FolderShown). tree.failures) is ∙ ap (λ (troubles : TroublesShown). troubles.failures) c.in_ok-troubles.ensures;
       no_trouble = ap (λ (tree : FolderShown). tree.trouble) is ∙ ap (λ (troubles : TroublesShown). troubles.last) c.in_ok-troubles.ensures;

@@ -26,9 +26,9 @@ pub returns-clause-exactly : goal.returns-clause-exactly
 returns-clause-exactly g c =
     let seen = paths_seen c.args.self.now c.self.inside.paths.items c.self.inside.has_dir (ap (λ (tree : FolderShown). tree.shown) c.self.view_is) in
     let at = slice_get_read c.self.inside.paths.items (length c.self.inside.paths.items) c.args.i c.index.result.now refl (subst (λ (paths : List (List ℕ)). c.args.i < length paths) seen c.requires) c.index.ensures in
-    let IsNamed = λ (name : List ℕ). IsSomeAnd (slice_get (paths_in c.args.self.now.shown) c.args.i) (λ path. name ≡ name_below c.args.self.now.folder (path_below c.args.self.now.place path)) in
-    let spelled = name_below c.args.self.now.folder (path_below c.args.self.now.place c.index.result.now) in
-    let here : IsNamed spelled = found_at c.self.inside.paths.items (paths_in c.args.self.now.shown) c.args.i c.index.result.now seen at (λ path. spelled ≡ name_below c.args.self.now.folder (path_below c.args.self.now.place path)) refl in
+    let IsNamed = λ (name : List ℕ). IsSomeAnd (slice_get (paths_in c.args.self.now.shown) c.args.i) (λ path. name ≡ name_below c.args.self.now.folder (path_below c.args.self.now.root path)) in
+    let spelled = name_below c.args.self.now.folder (path_below c.args.self.now.root c.index.result.now) in
+    let here : IsNamed spelled = found_at c.self.inside.paths.items (paths_in c.args.self.now.shown) c.args.i c.index.result.now seen at (λ path. spelled ≡ name_below c.args.self.now.folder (path_below c.args.self.now.root path)) refl in
     elim c.match-opened.branch [
       | in-Ok w ↦
           let named : string_bytes c.match-opened.self-inside.name ≡ spelled = search rules in
