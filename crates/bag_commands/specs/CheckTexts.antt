@@ -2,8 +2,8 @@
 use Rattle.std.specs.Prelude.{ℕ, List, [], ◌∷◌, ◌++◌, Result, Ok, Err, codes, string_bytes}
 use Rattle.bag_rules.specs.declared.outcome.Outcome.{Outcome}
 use Rattle.bag_rules.specs.declared.outcome.Outcome.TheVariants.{Judged, Outside}
-use Rattle.bag_rules.specs.declared.outcome.OutsideCause.{OutsideCause}
-use Rattle.bag_rules.specs.declared.outcome.OutsideCause.TheVariants.{Version, Encoding, Algorithm}
+use Rattle.bag_rules.specs.declared.scope.OutsideCause.{OutsideCause}
+use Rattle.bag_rules.specs.declared.scope.OutsideCause.TheVariants.{Version, Encoding, Algorithm}
 use Rattle.bag_rules.specs.declared.outcome.CheckFault.{CheckFault}
 use Rattle.bag_commands.specs.declared.status.TheConstants.{OUTSIDE, FAILED}
 use Rattle.bag_commands.specs.NoResultTexts.{no_result_text, no_result_of_check}

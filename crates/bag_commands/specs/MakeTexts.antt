@@ -2,7 +2,7 @@
 use Rattle.std.specs.Prelude.{ℕ, List, ◌++◌, None, Option, Result, Ok, Err, Some, codes}
 use Rattle.std.specs.Fmt.{decimal}
 use Rattle.bag_tags.specs.declared.oxum.Oxum.{Oxum}
-use Rattle.bag_writer.specs.declared.write_fault.Large.{Large}
+use Rattle.bag_writer.specs.declared.too_large.Large.{Large}
 use Rattle.bag_writer.specs.declared.write_fault.WriteFault.{WriteFault}
 use Rattle.bag_writer.specs.declared.write_fault.WriteFault.TheVariants as fault
 use Rattle.bag_commands.specs.declared.status.TheConstants.{DONE, FAILED, REFUSED}
