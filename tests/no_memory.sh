@@ -332,7 +332,7 @@ if cc -shared -fPIC -O1 -o "$work/no_memory.so" tests/no_memory.c 2>"$work/no cc
         "$work/tried" "$program" "$allocations" allocations "$work/no_memory.so"
     cat "$work/tried"
     # Left out are tests that say whether an answer was right, and not what it was.
-    left_out='^(couriers|keepers|ledgers|sinks)::'
+    left_out='^(ledgers|sinks)::'
     tests=$PWD/crates/bag_tests/out/bag_tests_tests
     if [ -x "$tests" ]; then
         expect 'no memory for the tests in Rattle' 0 '' more_refusals in_each_test bag_tests "$tests" "$left_out"

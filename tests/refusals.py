@@ -75,6 +75,8 @@ class Runs:
         self.driver, self.library, self.folder, self.is_all = driver, library, folder, is_all
         # The calls that were refused memory, by keeper, and the number of the list.
         self.words, self.turn = collections.Counter(), 0
+        # The calls that read a piece of a payload file which a map holds.
+        self.readers = set()
         self.faults, self.counts, self.told = [], collections.Counter(), 0
 
     def path(self, name):
@@ -180,8 +182,8 @@ class Runs:
             self.counts[device, some.name, keeper] += 1
             try:
                 [met] = marks
-                if device == "reading" and some.events[met][0] not in OF_PIECES:
-                    raise Otherwise("a piece is read")
+                if device == "reading":
+                    self.readers.add(some.events[met][0])
                 if device == "writer" and not octets_in(whole[met]).startswith(octets_in(answers[met])):
                     raise Otherwise(f"{answers[met]!r} has what was not due, or was printed after the write that failed")
                 judge(some, answers, {met: [may_of(device)]})
@@ -221,6 +223,10 @@ class Runs:
                 unexplained = [(*whole[:2], "")] if status == 3 else []
                 if told not in [whole, (3, "bag: memory\n", ""), *unexplained] or not is_refused:
                     self.faults.append(f"{words}: request {number} of {asked} for memory: {told}")
+
+    def misread(self):
+        """The words of calls that read pieces and should not, or the other way round."""
+        return [f"{word}: pieces are read: {word in self.readers}" for word in sorted(self.readers ^ set(OF_PIECES))]
 
     def unrefused(self):
         """The words of calls on ledgers that no run refused memory, by keeper."""
@@ -294,7 +300,7 @@ def main(driver, program, library, is_all=False):
             runs.write(some)
             runs.attempt(some, "breaking", "store", runs.given)
         runs.read_words(os.path.abspath(program))
-    runs.faults += runs.unrefused()
+    runs.faults += runs.unrefused() + runs.misread()
     names = list(dict.fromkeys(names))
     for name in names:
         print(f"{name}: " + ", ".join(f"{count} {what} over {keeper}" for (what, which, keeper), count in runs.counts.items() if which == name))

@@ -74,7 +74,7 @@ fn given(octets: &[u8], place: &mut usize, buf: &mut [u8]) -> usize
 
 /// Brings items one after another. It takes no memory.
 #[derive(Drop)]
-pub struct Items<'a> {
+pub struct BreakingCourier<'a> {
     // the items to come, the last one first
     left: Vec<(BagPath, Vec<u8>)>,
     breaks: Breaks<'a>,
@@ -85,11 +85,11 @@ pub struct Items<'a> {
     nexts: u64,
 }
 
-impl<'a> Items<'a> {
+impl<'a> BreakingCourier<'a> {
     /// `left` are the items, the last one first.
     pub fn new(left: Vec<(BagPath, Vec<u8>)>, breaks: Breaks<'a>) -> Self {
         let alloc = *left.allocator();
-        Items {
+        BreakingCourier {
             left,
             breaks,
             path: None,
@@ -101,7 +101,7 @@ impl<'a> Items<'a> {
     }
 }
 
-impl Source for Items<'_> {
+impl Source for BreakingCourier<'_> {
     ghost use Rattle.std.specs.Prelude.{◌≡◌, None, is_some, refl};
     ghost use Rattle.std.proofs.Common.{◌∙◌};
 
@@ -135,7 +135,7 @@ impl Source for Items<'_> {
     ghost keeps_on = { λ a b c p q. (q.0 ∙ p.0, q.1 ∙ p.1) };
 }
 
-impl Courier for Items<'_> {
+impl Courier for BreakingCourier<'_> {
     ghost use Rattle.std.specs.Prelude.{None, refl};
 
     ghost coming = { λ _. None };

@@ -1,6 +1,6 @@
 //! A keeper in memory of which one call fails, or gives something else than it holds.
 use crate::breaker::{Breaker, Device};
-use bag_digest::Source;
+use bag_digest::{Failures, Source};
 use bag_ledger::{KeepFault, Keeper, MapKeeper, PutFault, StoreFault};
 use bag_path::BagPath;
 use bag_rules::{ItemSize, TagSet, Want};
@@ -11,7 +11,7 @@ use std::alloc::Global;
 pub struct Failing<'a> {
     breaker: &'a Breaker,
     pub is_spent: bool,
-    pub failures: u64,
+    pub failures: Failures,
 }
 
 impl<'a> Failing<'a> {
@@ -19,12 +19,12 @@ impl<'a> Failing<'a> {
     ghost use Rattle.bag_digest.specs.Failures.{Rises};
     ghost use Rattle.bag_ledger.specs.declared.keeper_faults.StoreFault.TheVariants.{Spent};
 
-    /// A store that has not failed.
+    /// A store that hasn't failed.
     pub fn new(breaker: &'a Breaker) -> Failing<'a> {
         Failing {
             breaker,
             is_spent: false,
-            failures: 0,
+            failures: Failures::none(),
         }
     }
 
@@ -67,7 +67,7 @@ impl<'a> Failing<'a> {
             StoreFault::Refused
         };
         self.is_spent = true;
-        self.failures = self.failures.saturating_add(1);
+        self.failures.add();
         fault
     }
 }
@@ -193,7 +193,7 @@ impl Keeper for BreakingKeeper<'_> {
     }
 
     fn failures(&self) -> u64 {
-        self.store.failures
+        self.store.failures.count()
     }
 
     ghost sound = { λ _ _ never _. absurd never };

@@ -122,7 +122,7 @@ impl<'a, S: OpenSink> OpenSink for BreakingSink<'a, S> {
         };
         let mut failures = Failures::none();
         if inside.failures() > 0 || self.breaker.breaks(Device::Sink) {
-            let _ = failures.counted(Err::<(), Failed>(Failed));
+            failures.add();
         }
         Ok(BreakingSinkFile {
             inside,

@@ -9,7 +9,7 @@ use std::io::Read;
 
 /// Has the files of a list, whatever their urls.
 #[derive(Drop)]
-pub struct Stock<'a> {
+pub struct BreakingSupplier<'a> {
     files: &'a [File],
     content: &'a [u8],
     is_open: bool,
@@ -18,9 +18,9 @@ pub struct Stock<'a> {
     asks: u64,
 }
 
-impl<'a> Stock<'a> {
+impl<'a> BreakingSupplier<'a> {
     pub fn new(files: &'a [File], breaker: &'a Breaker) -> Self {
-        Stock {
+        BreakingSupplier {
             files,
             content: &[],
             is_open: false,
@@ -31,7 +31,7 @@ impl<'a> Stock<'a> {
     }
 }
 
-impl Source for Stock<'_> {
+impl Source for BreakingSupplier<'_> {
     ghost use Rattle.std.specs.Prelude.{refl};
     ghost use Rattle.std.proofs.Common.{◌∙◌};
 
@@ -61,7 +61,7 @@ impl Source for Stock<'_> {
     ghost keeps_on = { λ a b c p q. q ∙ p };
 }
 
-impl Supplier for Stock<'_> {
+impl Supplier for BreakingSupplier<'_> {
     ghost use Rattle.std.specs.Prelude.{refl};
 
     ghost supply = { λ _. None };

@@ -5,15 +5,15 @@ use std::io::{self, ErrorKind, Write};
 
 /// Keeps what is written to it, as much as there is room for, and has one call that fails.
 #[derive(Drop)]
-pub struct Paper<'a> {
+pub struct BreakingWriter<'a> {
     written: Vec<u8>,
     breaker: &'a Breaker,
 }
 
-impl<'a> Paper<'a> {
+impl<'a> BreakingWriter<'a> {
     /// `room` is empty.
     pub fn new(room: Vec<u8>, breaker: &'a Breaker) -> Self {
-        Paper {
+        BreakingWriter {
             written: room,
             breaker,
         }
@@ -24,7 +24,7 @@ impl<'a> Paper<'a> {
     }
 }
 
-impl Write for Paper<'_> {
+impl Write for BreakingWriter<'_> {
     fn write(&mut self, buf: &[u8]) -> io::Result<usize> {
         if self.breaker.breaks(Device::Writer) {
             return Err(io::Error::from(ErrorKind::StorageFull));

@@ -1,9 +1,9 @@
 //! The commands on a ledger, each with what it prints and its status.
 use crate::breaker::Breaker;
-use crate::breaking_courier::{Breaks, Items};
+use crate::breaking_courier::{BreakingCourier, Breaks};
 use crate::breaking_sink::BreakingSink;
-use crate::breaking_supplier::Stock;
-use crate::breaking_writer::Paper;
+use crate::breaking_supplier::BreakingSupplier;
+use crate::breaking_writer::BreakingWriter;
 use crate::drafting::Draft;
 use crate::event::Event;
 use crate::lines::bad_line;
@@ -13,20 +13,25 @@ use bag_commands::{
     report_to,
 };
 use bag_ledger::Keeper;
+use bag_path::BagPath;
 use bag_receiver::Receiver;
 use bag_writer::MemSink;
-use std::alloc::Global;
+use std::alloc::{AllocError, Global};
 use std::io::{self, Write};
 
 /// What a command prints, on paper with this much room.
-pub fn output_on<'a>(alloc: Global, room: Vec<u8>, breaker: &'a Breaker) -> Output<Paper<'a>> {
-    Output::unbuffered(alloc, Paper::new(room, breaker))
+pub fn output_on<'a>(
+    alloc: Global,
+    room: Vec<u8>,
+    breaker: &'a Breaker,
+) -> Output<BreakingWriter<'a>> {
+    Output::unbuffered(alloc, BreakingWriter::new(room, breaker))
 }
 
 /// Writes the status, and what was printed in hex.
 pub fn write_told<W: Write + Drop>(
     status: u8,
-    told: &Output<Paper<'_>>,
+    told: &Output<BreakingWriter<'_>>,
     out: &mut W,
 ) -> io::Result<()> {
     write!(out, "{status} ")?;
@@ -59,16 +64,15 @@ pub fn command_on<K: Keeper + Drop, W: Write + Drop>(
             status
         }
         "intake-to" => {
-            let mut couriers = Vec::new(alloc);
-            match couriers.push(Items::new(load, Breaks::Counted(breaker))) {
-                Ok(()) => intake_to(alloc, receiver, name, couriers, &mut told),
+            match couriers_of(alloc, load, breaker) {
+                Ok(couriers) => intake_to(alloc, receiver, name, couriers, &mut told),
                 Err(_) => print_no_result(NoResult::Memory, &mut told),
             }
         }
         "report-to" => report_to(alloc, receiver, name, &mut told),
         "audit-to" => audit_to(alloc, receiver, name, &mut told),
         "fetch-to" => {
-            let mut stock = Stock::new(files.as_slice(), breaker);
+            let mut stock = BreakingSupplier::new(files.as_slice(), breaker);
             fetch_to(alloc, receiver, name, &mut stock, &mut told)
         }
         "export-to" => return export_shown(alloc, receiver, name, breaker, told, out),
@@ -84,11 +88,25 @@ fn export_shown<K: Keeper + Drop, W: Write + Drop>(
     receiver: &mut Receiver<K>,
     name: &str,
     breaker: &Breaker,
-    mut told: Output<Paper<'_>>,
+    mut told: Output<BreakingWriter<'_>>,
     out: &mut W,
 ) -> io::Result<()> {
     let mut sink = BreakingSink::new(MemSink::new(alloc), breaker);
     let status = export_to(alloc, receiver, name, &mut sink, &mut told);
     write_told(status, &told, out)?;
     write_files(&sink.into_inside().into_tree(), out)
+}
+
+/// Two couriers of these items, of which the last one comes first: one of the first half, and one of the others.
+fn couriers_of<'a>(
+    alloc: Global,
+    load: Vec<(BagPath, Vec<u8>)>,
+    breaker: &'a Breaker,
+) -> Result<Vec<BreakingCourier<'a>>, AllocError> {
+    let mut others = load;
+    let first = others.split_off(others.len() / 2)?;
+    let mut couriers = Vec::new(alloc);
+    couriers.push(BreakingCourier::new(first, Breaks::Counted(breaker)))?;
+    couriers.push(BreakingCourier::new(others, Breaks::Counted(breaker)))?;
+    Ok(couriers)
 }

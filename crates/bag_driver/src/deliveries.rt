@@ -3,9 +3,9 @@ use crate::answer_texts::{
     AnswerText, FetchedText, UnbegunText, end_text, export_text, keep_text, view_text,
 };
 use crate::breaker::Breaker;
-use crate::breaking_courier::{Breaks, Items, Reader};
+use crate::breaking_courier::{BreakingCourier, Breaks, Reader};
 use crate::breaking_sink::BreakingSink;
-use crate::breaking_supplier::Stock;
+use crate::breaking_supplier::BreakingSupplier;
 use crate::event::{Event, File};
 use crate::lines::{Answers, bad_line};
 use crate::shown::write_files;
@@ -115,7 +115,7 @@ fn bring<K: Keeper + Drop, W: Write + Drop>(
         load,
         room: _,
     } = event;
-    let mut courier = Items::new(load, breaks);
+    let mut courier = BreakingCourier::new(load, breaks);
     let (run, paths) = receiver.run_from(alloc, name.as_str(), &mut courier);
     write_run(run.answers.as_slice(), end_text(run.ended), out)?;
     if !are_first(paths.as_slice(), files.as_slice()) {
@@ -183,7 +183,7 @@ fn fetch<K: Keeper + Drop, W: Write + Drop>(
     breaker: &Breaker,
     out: &mut W,
 ) -> io::Result<()> {
-    let mut stock = Stock::new(event.files.as_slice(), breaker);
+    let mut stock = BreakingSupplier::new(event.files.as_slice(), breaker);
     match receiver.fetch(alloc, event.name.as_str(), &mut stock) {
         Ok(outcomes) => {
             for outcome in outcomes.iter() {

@@ -172,7 +172,7 @@ impl Keeper for FileKeeper<'_> {
     }
 
     fn failures(&self) -> u64 {
-        self.store.failures
+        self.store.failures.count()
     }
 
     ghost sound = { λ _ _ never _. absurd never };

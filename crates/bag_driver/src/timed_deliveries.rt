@@ -8,7 +8,7 @@ use std::alloc::{AllocError, Global};
 use std::collections::BTreeMap;
 
 /// Files by their paths.
-type Items = Vec<(String, Vec<u8>)>;
+type Files = Vec<(String, Vec<u8>)>;
 
 /// The number of octets of each payload file.
 const OCTETS: usize = 2_048;
@@ -27,7 +27,7 @@ pub(crate) fn receive(alloc: Global, work: &str, number: u32) -> Result<u8, Allo
 
 /// Opens a transfer with these tag files and takes in the payload files, in a run or one by one. The status is 0 if all
 /// were taken.
-fn take_in(alloc: Global, work: &str, tags: &Items, items: &Items) -> u8 {
+fn take_in(alloc: Global, work: &str, tags: &Files, items: &Files) -> u8 {
     let mut receiver = Receiver::new(alloc, MapKeeper::new(alloc));
     if receiver.begin(alloc, "bench", tags.as_slice()).is_err() {
         return 1;
@@ -54,7 +54,7 @@ fn is_taken(answer: &Answer) -> bool {
 }
 
 /// Computes the digest of each payload file and copies it into a map by its path.
-fn copy(alloc: Global, items: &Items) -> Result<u8, AllocError> {
+fn copy(alloc: Global, items: &Files) -> Result<u8, AllocError> {
     let mut copies = BTreeMap::new(alloc);
     for (path, content) in items {
         if sha256(content.as_slice()).is_none() {
@@ -75,7 +75,7 @@ fn sha256(octets: &[u8]) -> Option<Digest> {
 }
 
 /// Payload files of 2,048 octets, each with a different number at its front.
-fn payload(alloc: Global, number: u32) -> Result<Items, AllocError> {
+fn payload(alloc: Global, number: u32) -> Result<Files, AllocError> {
     let mut items = Vec::new(alloc);
     for place in 0..number {
         let path = format!(in alloc; "data/folder/{place}.txt")?;
@@ -90,7 +90,7 @@ fn payload(alloc: Global, number: u32) -> Result<Items, AllocError> {
 }
 
 /// The tag files of a transfer of these payload files.
-fn tag_files(alloc: Global, items: &Items) -> Result<Items, AllocError> {
+fn tag_files(alloc: Global, items: &Files) -> Result<Files, AllocError> {
     let mut manifest = Vec::new(alloc);
     for (path, content) in items {
         if let Some(digest) = sha256(content.as_slice()) {

@@ -3,11 +3,7 @@
 #![tactic(auto)]
 
 #[cfg(test)]
-mod couriers;
-#[cfg(test)]
 mod folders;
-#[cfg(test)]
-mod keepers;
 #[cfg(test)]
 mod ledgers;
 #[cfg(test)]
