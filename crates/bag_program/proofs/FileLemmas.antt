@@ -44,7 +44,7 @@ use Rattle.bag_program.specs.declared.ledgers.locking.Barred.TheVariants as why
 use Rattle.bag_program.specs.declared.ledgers.found_ledger.Seen.{Seen}
 use Rattle.bag_program.specs.declared.ledgers.unopened_ledger.Left.{Left}
 use Rattle.bag_program.specs.declared.ledgers.unopened_ledger.Left.TheVariants as left
-use Rattle.bag_program.specs.declared.ledgers.unopened_ledger.LedgerCause.{LedgerCause}
+use Rattle.bag_program.specs.declared.ledgers.ledger_cause.LedgerCause.{LedgerCause}
 use Rattle.bag_program.specs.declared.ledgers.unopened_ledger.Unopened.{Unopened}
 
 -- what a connection that was opened found

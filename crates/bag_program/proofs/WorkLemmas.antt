@@ -16,7 +16,7 @@ use Rattle.bag_commands.specs.Outputs.{Printed}
 use Rattle.bag_commands.specs.NoResultTexts.{no_result_text}
 use Rattle.bag_folder.specs.declared.fault.OpenFault.{OpenFault}
 use Rattle.bag_folder.specs.declared.fault.OpenFault.TheVariants as open_fault
-use Rattle.bag_folder.specs.declared.place.Place.TheVariants.{Base}
+use Rattle.bag_folder.specs.declared.root.Root.TheVariants.{Base}
 use Rattle.bag_folder.specs.Bringing.{Bringing, courier_of}
 use Rattle.bag_folder.specs.Directories.{Listing}
 use Rattle.bag_folder.specs.Faults.{IfUnfit}

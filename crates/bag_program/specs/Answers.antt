@@ -10,7 +10,7 @@ use Rattle.bag_rules.specs.Checking.{ChecksTree}
 use Rattle.bag_commands.specs.CheckTexts.{check_lines, check_status}
 use Rattle.bag_commands.specs.Outputs.{Printed, PrintedBy}
 use Rattle.bag_commands.specs.NoResultTexts.{no_result_text}
-use Rattle.bag_folder.specs.declared.place.Place.TheVariants.{Base}
+use Rattle.bag_folder.specs.declared.root.Root.TheVariants.{Base}
 use Rattle.bag_folder.specs.Directories.{Listing}
 use Rattle.bag_folder.specs.Folders.{FolderShown, IsOpened, IsRefused}
 use Rattle.bag_folder.specs.Unfits.{UnfitShown}

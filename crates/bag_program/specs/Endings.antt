@@ -5,7 +5,7 @@ use Rattle.std.specs.Option.{option_map, option_or}
 use Rattle.bag_folder.specs.declared.fault.OpenFault.{OpenFault}
 use Rattle.bag_folder.specs.declared.fault.OpenFault.TheVariants as open_fault
 use Rattle.bag_folder.specs.Folders.{FolderShown, path_below}
-use Rattle.bag_folder.specs.declared.place.Place.TheVariants.{Payload}
+use Rattle.bag_folder.specs.declared.root.Root.TheVariants.{Payload}
 use Rattle.bag_folder.specs.Unfits.{UnfitShown}
 use Rattle.bag_rules.specs.declared.limits.TheConstants.{MOST_FILES}
 use Rattle.bag_rules.specs.declared.outcome.Outcome.{Outcome}
@@ -15,14 +15,14 @@ use Rattle.bag_path.specs.Paths.{is_payload}
 use Rattle.bag_rules.specs.Trees.{paths_in}
 use Rattle.bag_receiver.specs.declared.run.TheConstants.{MOST_DELIVERIES}
 use Rattle.bag_writer.specs.Writing.{payload_paths}
-use Rattle.bag_writer.specs.declared.write_fault.Large.{Large}
-use Rattle.bag_writer.specs.declared.write_fault.Large.TheVariants as large
+use Rattle.bag_writer.specs.declared.too_large.Large.{Large}
+use Rattle.bag_writer.specs.declared.too_large.Large.TheVariants as large
 use Rattle.bag_program.specs.declared.explanation.Ended.{Ended}
 use Rattle.bag_program.specs.declared.told_limit.Limit.{Limit}
 use Rattle.bag_program.specs.declared.told_limit.Limit.TheVariants as limit
 use Rattle.bag_program.specs.declared.explanation.Why.{Why}
 use Rattle.bag_program.specs.declared.explanation.Why.TheVariants.{Empty, Exceeds, Ledger, Unfit}
-use Rattle.bag_program.specs.declared.ledgers.unopened_ledger.LedgerCause.{LedgerCause}
+use Rattle.bag_program.specs.declared.ledgers.ledger_cause.LedgerCause.{LedgerCause}
 
 -- a command with this status, of which nothing is told
 abbrev pub plain : ℕ → Ended

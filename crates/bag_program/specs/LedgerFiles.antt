@@ -33,7 +33,7 @@ use Rattle.bag_program.specs.declared.ledgers.open_ledger.Closed.{Closed}
 use Rattle.bag_program.specs.declared.ledgers.open_ledger.Closed.TheVariants as closed
 use Rattle.bag_program.specs.declared.ledgers.unopened_ledger.Left.{Left}
 use Rattle.bag_program.specs.declared.ledgers.unopened_ledger.Left.TheVariants as left
-use Rattle.bag_program.specs.declared.ledgers.unopened_ledger.LedgerCause.TheVariants.{NoDatabase as IsNoDatabase}
+use Rattle.bag_program.specs.declared.ledgers.ledger_cause.LedgerCause.TheVariants.{NoDatabase as IsNoDatabase}
 use Rattle.bag_program.specs.declared.ledgers.unopened_ledger.Unopened.{Unopened}
 
 -- WHAT IS SEEN

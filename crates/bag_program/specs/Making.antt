@@ -13,7 +13,7 @@ use Rattle.bag_program.specs.declared.on_disk.make.Making.{Making}
 use Rattle.bag_program.specs.declared.explanation.Ended.{Ended}
 use Rattle.bag_program.specs.declared.explanation.Why.TheVariants.{Unfit}
 use Rattle.bag_folder.specs.declared.fault.OpenFault.{OpenFault}
-use Rattle.bag_folder.specs.declared.place.Place.TheVariants.{Payload}
+use Rattle.bag_folder.specs.declared.root.Root.TheVariants.{Payload}
 use Rattle.bag_folder.specs.Directories.{Listing, in_payload}
 use Rattle.bag_folder.specs.Faults.{IfUnfit}
 use Rattle.bag_folder.specs.Folders.{FolderShown, IsOpened, IsRefused}

@@ -17,8 +17,8 @@ use Rattle.bag_program.specs.declared.ledgers.locking.Barred.{Barred}
 use Rattle.bag_program.specs.declared.ledgers.locking.Barred.TheVariants as barred
 use Rattle.bag_program.specs.declared.ledgers.found_ledger.Found.{Found}
 use Rattle.bag_program.specs.declared.ledgers.found_ledger.Found.TheVariants as found
-use Rattle.bag_program.specs.declared.ledgers.unopened_ledger.LedgerCause.{LedgerCause}
-use Rattle.bag_program.specs.declared.ledgers.unopened_ledger.LedgerCause.TheVariants.{Busy, Database, Empty, Journal, Missing, NoDatabase, NoLedger, NotFile, NotPlain, System}
+use Rattle.bag_program.specs.declared.ledgers.ledger_cause.LedgerCause.{LedgerCause}
+use Rattle.bag_program.specs.declared.ledgers.ledger_cause.LedgerCause.TheVariants.{Busy, Database, Empty, Journal, Missing, NoDatabase, NoLedger, NotFile, NotPlain, System}
 use Rattle.bag_program.specs.declared.ledgers.unopened_ledger.Unopened.{Unopened}
 
 -- the system's error: want of memory is told as such, and any other as it is

@@ -30,7 +30,7 @@ use Rattle.bag_commands.specs.NoResultTexts.{no_result_text}
 use Rattle.bag_commands.specs.Viewing.{IsValidIfZero}
 use Rattle.bag_commands.specs.ViewTexts.{view_lines, view_status}
 use Rattle.bag_folder.specs.declared.fault.OpenFault.{OpenFault}
-use Rattle.bag_folder.specs.declared.place.Place.TheVariants.{Base}
+use Rattle.bag_folder.specs.declared.root.Root.TheVariants.{Base}
 use Rattle.bag_program.specs.declared.explanation.Ended.{Ended}
 use Rattle.bag_program.specs.declared.explanation.Why.{Why}
 use Rattle.bag_program.specs.declared.explanation.Why.TheVariants.{Unfit}
@@ -41,7 +41,7 @@ use Rattle.bag_folder.specs.Directories.{Listing}
 use Rattle.bag_folder.specs.Folders.{FolderShown, IsOpened, IsRefused}
 use Rattle.bag_program.specs.LedgerFiles.{OpensOrMakes}
 use Rattle.bag_program.specs.declared.ledgers.Ledgers.{Ghosts as Ledgers}
-use Rattle.bag_program.specs.declared.ledgers.unopened_ledger.LedgerCause.{LedgerCause}
+use Rattle.bag_program.specs.declared.ledgers.ledger_cause.LedgerCause.{LedgerCause}
 use Rattle.bag_program.specs.declared.ledgers.unopened_ledger.Unopened.{Unopened}
 use Rattle.bag_program.specs.Endings.{IsWhyOf, or_why, why_failed, why_undelivered_of, why_unopened}
 use Rattle.bag_program.specs.NoResults.{no_result_of_open}

@@ -3,10 +3,10 @@ ghost use Rattle.std.specs.Prelude.{◌≡◌, string_bytes};
 ghost use Rattle.std.specs.Option.{option_map};
 ghost use Rattle.bag_program.specs.Endings.{IsWhyOf, or_why, plain, why_exceeds, why_failed};
 
-use crate::ledgers::unopened_ledger::LedgerCause;
+use crate::ledgers::ledger_cause::LedgerCause;
 use crate::named::Named;
-use crate::told_limit::{FolderName, Limit};
-use crate::told_name::ToldName;
+use crate::told_limit::Limit;
+use crate::told_name::{FolderName, ToldName};
 use bag_folder::Unfit;
 use std::alloc::Global;
 use std::fmt::{self, Display, Formatter};

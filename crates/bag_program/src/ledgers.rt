@@ -7,9 +7,10 @@ ghost use Rattle.bag_receiver.specs.LedgerStates.{settled};
 ghost use Rattle.bag_program.specs.declared.ledgers.unopened_ledger.Unopened.{Unopened};
 ghost use Rattle.sqlite_wal.specs.Files.{image_at};
 
+use crate::ledgers::ledger_cause::LedgerCause;
 use crate::ledgers::ledger_file::{LedgerFile, OpenedFile, UnopenedFile};
 use crate::ledgers::open_ledger::{Closed, FileKeeper, OpenLedger};
-use crate::ledgers::unopened_ledger::{LedgerCause, Left, Unopened};
+use crate::ledgers::unopened_ledger::{Left, Unopened};
 use crate::progress_line::Progress;
 use bag_ledger::Keeper;
 use sqlite::{FileFrom, Start};
@@ -17,12 +18,14 @@ use sqlite_disk::Disk;
 
 pub mod abandoned_ledger;
 pub mod found_ledger;
+pub mod ledger_cause;
 pub mod ledger_file;
 pub mod ledger_handle;
 pub mod locked_file;
 pub mod locking;
 pub mod open_ledger;
 pub mod unopened_ledger;
+pub mod unopened_line;
 
 /// A ledger that was opened or made.
 #[derive(Drop)]

@@ -1,23 +1,8 @@
-//! What exceeds a limit, or is empty.
+//! What exceeds a limit.
 use crate::told_name::ToldName;
-use bag_folder::Place;
+use bag_folder::Root;
 use bag_path::BagPath;
 use std::fmt::{self, Display, Formatter};
-use std::marker::Model;
-
-/// The name of a folder.
-#[derive(Debug, Drop)]
-pub struct FolderName {
-    pub text: String,
-}
-
-impl Model for FolderName {
-    ghost use Rattle.std.specs.Prelude.{ℕ, List, string_bytes};
-
-    ghost Value = { List ℕ };
-
-    ghost view = { λ name. string_bytes name.text };
-}
 
 /// A limit that a folder or a file exceeds. The name that is told with it is that of this, or for a limit with a path
 /// that of the folder which the path begins in.
@@ -51,7 +36,7 @@ impl Limit {
     {
         match self {
             Limit::TagFile(path) | Limit::File(path) => Some(ToldName::of(path.as_str())),
-            Limit::NewFile(path) => Some(ToldName::of(Place::Payload.path_below(path.as_str()))),
+            Limit::NewFile(path) => Some(ToldName::of(Root::Payload.path_below(path.as_str()))),
             Limit::Files
             | Limit::Lines
             | Limit::NewPayload

@@ -49,3 +49,17 @@ fn write_escaped<W: Write>(f: &mut Formatter<W>, c: char) -> fmt::Result {
     }
     Ok(())
 }
+
+/// The name of a folder.
+#[derive(Debug, Drop)]
+pub struct FolderName {
+    pub text: String,
+}
+
+impl Model for FolderName {
+    ghost use Rattle.std.specs.Prelude.{ℕ, List, string_bytes};
+
+    ghost Value = { List ℕ };
+
+    ghost view = { λ name. string_bytes name.text };
+}

@@ -4,7 +4,7 @@ ghost use Rattle.bag_program.specs.LedgerFiles.{AreOpenOn};
 ghost use Rattle.sqlite_wal.specs.Files.{image_at};
 
 use crate::ledgers::found_ledger::Seen;
-use crate::ledgers::unopened_ledger::LedgerCause;
+use crate::ledgers::ledger_cause::LedgerCause;
 use sqlite::{FileFrom, Files, Start};
 use sqlite_disk::Disk;
 use sqlite_std_file::OpenError;

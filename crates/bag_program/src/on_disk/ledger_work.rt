@@ -15,19 +15,17 @@ use super::intake::intake_folders;
 use crate::command_line::Work;
 use crate::explanation::{Ended, Why};
 use crate::ledgers::unopened_ledger::Unopened;
+use crate::ledgers::unopened_line::UnopenedLine;
 use crate::ledgers::{Ledgers, Opened};
 use crate::progress_meter::{Activity, Meter};
 use crate::system::System;
 use crate::watched::Watched;
 use bag_commands::status::FAILED;
-use bag_commands::{NoResult, Output, audit_to, list_to, report_to};
+use bag_commands::{Output, audit_to, list_to, report_to};
 use bag_folder::{Destination, Directories};
 use bag_ledger::Keeper;
-use bag_path::TextSpelling;
 use bag_receiver::Receiver;
-use bag_sqlite::AdoptFault;
 use std::alloc::Global;
-use std::fmt::{self, Display, Formatter};
 use std::io::Write;
 use std::rt::Files;
 
@@ -104,8 +102,8 @@ fn open_and_work<'a, R: Files + Eprint, D: Directories, L: Ledgers, W: Write + D
     out: &mut Output<W>,
 ) -> Result<Worked<Watched<'a, L::Kept, R>, L::File>, Unopened<L::Left>>
     ensures works { IfOk result (λ done. Works L.Kept.Keeper L.Ledgers
-        (D.listing system.now.disk.now) W.contents ledger.now work.now destination.old destination.new
-        done.receiver out.old out.new done.ended) }
+        (D.listing system.now.disk.now) W.contents ledger.now work.now destination.old
+        destination.new done.receiver out.old out.new done.ended) }
     // If a report or an audit answers that a transfer is valid, the ledger that is stored holds a valid bag under this
     // name.
     ensures valid { IfOk result (λ done. done.ended.status ≡ VALID
@@ -197,28 +195,5 @@ fn do_work<K: Keeper, R: Files + Eprint, D: Directories, W: Write + Drop>(
             export_into_folder(system, destination, receiver, name, folder, out)
         }
         Work::List => Ended::plain(list_to(alloc, receiver, out)),
-    }
-}
-
-/// The line that says why a ledger wasn't opened.
-#[derive(Clone, Copy)]
-struct UnopenedLine<'a>(&'a AdoptFault);
-
-impl Display for UnopenedLine<'_> {
-    ghost use Rattle.std.specs.Prelude.{Some};
-    ghost use Rattle.bag_program.specs.Working.{unopened_line};
-
-    ghost output = { λ line. Some (unopened_line line.0.now) };
-
-    fn fmt<W: fmt::Write>(&self, f: &mut Formatter<W>) -> fmt::Result {
-        match self.0 {
-            AdoptFault::NotALedger => f.write_str("bag: not a ledger"),
-            AdoptFault::Damaged { name, path } => {
-                let name = TextSpelling(name.as_str());
-                write!(f, "bag: damaged {name} {}", TextSpelling(path.as_str()))
-            }
-            AdoptFault::Memory => f.write_str(NoResult::Memory.text()),
-            AdoptFault::Store(_) => f.write_str(NoResult::Store.text()),
-        }
     }
 }

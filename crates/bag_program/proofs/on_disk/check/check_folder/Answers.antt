@@ -6,7 +6,7 @@ use Rattle.bag_commands.specs.declared.status.TheConstants.{FAILED}
 use Rattle.bag_program.specs.declared.explanation.Ended.{Ended}
 use Rattle.bag_program.specs.Answers.{Answered, NoMemory, PrintsCheck, Refused}
 use Rattle.bag_program.specs.Endings.{why_unopened}
-use Rattle.bag_folder.specs.declared.place.Place.TheVariants.{Base}
+use Rattle.bag_folder.specs.declared.root.Root.TheVariants.{Base}
 use Rattle.bag_folder.specs.Directories.{Listing}
 use Rattle.bag_folder.specs.Faults.{IfUnfit}
 use Rattle.bag_folder.specs.Folders.{IsRefused}

@@ -3,7 +3,7 @@ use Rattle.bag_folder.specs.declared.fault.OpenFault.{OpenFault}
 use Rattle.bag_folder.specs.declared.fault.OpenFault.TheVariants as open_fault
 use Rattle.bag_commands.specs.declared.output.Output.{Output}
 use Rattle.bag_commands.specs.declared.status.TheConstants.{FAILED}
-use Rattle.bag_folder.specs.declared.place.Place.TheVariants.{Payload}
+use Rattle.bag_folder.specs.declared.root.Root.TheVariants.{Payload}
 use Rattle.bag_folder.specs.Directories.{Listing, in_payload}
 use Rattle.bag_folder.specs.Faults.{IfUnfit}
 use Rattle.bag_folder.specs.Folders.{IsRefused}
