@@ -66,8 +66,8 @@ unheard() {
 expect 'an argument that is not UTF-8, and a full standard error' 64 '' unheard bag check $'\377'
 expect 'a word that is no command, and a full standard error' 64 '' unheard bag verify
 expect 'help' 0 "$help" bag --help
-expect 'the version' 0 'bag 1.5.5' bag --version
-expect 'the version, by its letter' 0 'bag 1.5.5' bag -V check examples/first-bag
+expect 'the version' 0 'bag 1.5.6' bag --version
+expect 'the version, by its letter' 0 'bag 1.5.6' bag -V check examples/first-bag
 expect 'help, whatever else is there' 0 "$help" bag --help examples/first-bag
 expect 'help by its command' 0 "$help" bag help
 expect 'help of a command' 0 "$help_of_check" bag check --help

@@ -5,7 +5,7 @@ use clap::{Arg, Command};
 use std::alloc::{AllocError, Global};
 
 /// The version of the program.
-const VERSION: &str = "1.5.5";
+const VERSION: &str = "1.5.6";
 
 /// The answer to a command line that is no known command.
 #[derive(Debug, Drop)]
