@@ -1,45 +1,15 @@
 -- Texts that name algorithms, one at a time.
-use Rattle.std.proofs.Common.{◌≡◌, ◌<◌, ◌+◌, ◌++◌, ◌∷◌, ◌||◌, ◌∙◌, ℕ, List, [], All, Contains, Some, None, true, false, ap, get_or, inl, inr, length, map, refl, subst, sym, take}
+use Rattle.std.proofs.Common.{◌≡◌, ◌<◌, ◌+◌, ◌++◌, ◌∷◌, ◌||◌, ◌∙◌, ℕ, List, [], All, Contains, Some, None, true, ap, get_or, inl, inr, length, map, subst, sym, take}
 use Rattle.std.proofs.lemmas.Bool.{or_cases, or_left, or_right}
 use Rattle.std.proofs.lemmas.List.{map_more, take-map}
 use Rattle.std.proofs.lemmas.List.Elements.{All-push, Contains-append_left, Contains-push, Contains-push_cases}
-use Rattle.std.proofs.lemmas.Option.{slice_get-get_or, slice_get-map}
+use Rattle.std.proofs.lemmas.Option.{slice_get-get_or, slice_get-map, same_Some}
 use Rattle.std.specs.Option.{option_map}
 use Rattle.bag_digest.specs.Algorithm.{has, is_alg, name_of}
 use Rattle.bag_digest.specs.declared.algorithm.Alg.{Alg}
-use Rattle.bag_digest.specs.declared.algorithm.Alg.TheVariants.{Md5, Sha1, Sha256, Sha512}
 use Rattle.bag_digest.specs.declared.algorithm.AlgSet.{AlgSet}
 use Rattle.bag_commands.specs.Making.{IsFirstUnknown, NamesAlg, NamesSet}
-
-false_is_not_true : false ≡ true → ⊥
-false_is_not_true h = cc
-
-same_alg : (alg other : Alg) → is_alg alg other ≡ true → alg ≡ other
-same_alg Md5 Md5 h = refl
-same_alg Sha1 Sha1 h = refl
-same_alg Sha256 Sha256 h = refl
-same_alg Sha512 Sha512 h = refl
-same_alg Md5 Sha1 h = absurd (false_is_not_true h)
-same_alg Md5 Sha256 h = absurd (false_is_not_true h)
-same_alg Md5 Sha512 h = absurd (false_is_not_true h)
-same_alg Sha1 Md5 h = absurd (false_is_not_true h)
-same_alg Sha1 Sha256 h = absurd (false_is_not_true h)
-same_alg Sha1 Sha512 h = absurd (false_is_not_true h)
-same_alg Sha256 Md5 h = absurd (false_is_not_true h)
-same_alg Sha256 Sha1 h = absurd (false_is_not_true h)
-same_alg Sha256 Sha512 h = absurd (false_is_not_true h)
-same_alg Sha512 Md5 h = absurd (false_is_not_true h)
-same_alg Sha512 Sha1 h = absurd (false_is_not_true h)
-same_alg Sha512 Sha256 h = absurd (false_is_not_true h)
-
-is_itself : (alg : Alg) → is_alg alg alg ≡ true
-is_itself Md5 = refl
-is_itself Sha1 = refl
-is_itself Sha256 = refl
-is_itself Sha512 = refl
-
-of_some : {A : Type 0} (x y : A) → Some x ≡ Some y → x ≡ y
-of_some x y h = cc
+use Rattle.bag_rules.proofs.AlgLemmas.{same_alg, itself}
 
 one_more_alg : (words : List (List ℕ)) (word : List ℕ) (set new : AlgSet) (alg : Alg) → word ≡ name_of alg → ((other : Alg) → word ≡ name_of other → Some alg ≡ Some other)
     → ((other : Alg) → has new other ≡ (is_alg alg other || has set other)) → NamesSet words set → NamesSet (words ++ word ∷ []) new
@@ -52,7 +22,7 @@ one_more_alg words word set new alg named only with_alg before = record {
     ],
     λ here. elim (Contains-push_cases words word (name_of other) here) [
       | inl there ↦ with_alg other ∙ or_right (is_alg alg other) (has set other) ((before.exact other).1 there)
-      | inr last ↦ with_alg other ∙ or_left (is_alg alg other) (has set other) (subst (λ a. is_alg alg a ≡ true) (of_some alg other (only other last)) (is_itself alg))
+      | inr last ↦ with_alg other ∙ or_left (is_alg alg other) (has set other) (subst (λ a. is_alg alg a ≡ true) (same_Some alg other (only other last)) (itself alg))
     ],
   );
 }

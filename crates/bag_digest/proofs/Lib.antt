@@ -5,4 +5,5 @@ pub mod Sets
 pub mod Spelled
 pub mod Published
 pub mod WholeDigests
-mod StreamLemmas
+pub mod StreamLemmas
+pub mod ListLemmas

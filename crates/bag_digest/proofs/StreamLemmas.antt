@@ -1,11 +1,10 @@
 -- Streams in lanes, from one piece to the next.
-use Rattle.std.proofs.Common.{zero, suc, ◌∷◌, ◌≡◌, ◌≢◌, ◌∙◌, ◌+◌, ◌-◌, ◌≤◌, ◌<◌, ◌++◌, ℕ, List, [], Option, Some, None, Ok, Err, ap, append-nil, arith, drop, inl, inr, length, min, length-append, refl, set, slice_get, subst, sym, take, true, false}
-use Rattle.std.specs.Prelude.{IsErrOf, IsSomeAnd, MatchOption, is_none}
+use Rattle.std.proofs.Common.{◌≡◌, ◌≢◌, ◌∙◌, ◌+◌, ◌-◌, ◌≤◌, ◌<◌, ◌++◌, ℕ, List, [], Option, Some, None, Ok, Err, ap, append-nil, arith, inl, inr, length, min, length-append, refl, set, slice_get, subst, sym, take}
+use Rattle.std.specs.Prelude.{IsErrOf, IsSomeAnd}
 use Rattle.std.specs.Io.KnownBytes.{Consumes, IsAtEnd}
 use Rattle.std.proofs.KnownBytes.{Consumes-trans}
 use Rattle.std.proofs.lemmas.Bool.{cases_lt}
-use Rattle.std.proofs.lemmas.List.{append_assoc, length-take-le, take_all}
-use Rattle.std.proofs.Math.ListN.{drop_of_length-le}
+use Rattle.std.proofs.lemmas.List.{append_assoc, length-take-le}
 use Rattle.std.proofs.lemmas.Option.{same_Some, slice_get_within}
 use Rattle.bag_digest.specs.declared.algorithm.AlgSet.{AlgSet}
 use Rattle.bag_digest.specs.declared.multi_lanes.MultiLanes.{MultiLanes}
@@ -23,36 +22,13 @@ use Rattle.bag_digest.specs.Reading.{GaveBefore, GavePiece, read_fault}
 use Rattle.bag_digest.specs.Streams.{AreDone, AreFresh, AreFreshIn, AreFull, AreHashed, AreUnder, HasEnded, HasStopped, HaveEndedIn, HaveKeptIn, HaveTaken, IsAt, IsFirstOpen, IsFirstStopped, IsFresh, IsGoing, IsUnder, OthersStay}
 use Rattle.bag_digest.proofs.Progress.{HasGiven, given_before, uses_as, uses_none, uses_on}
 use Rattle.bag_digest.proofs.Filling.{filled_whole, given_more}
-
--- something stands at each place
-pub stands : {X : Type 0} (xs : List X) (i : ℕ) → i < length xs → (x : X) × (slice_get xs i ≡ Some x)
-stands [] i h = absurd (omega (arith, h))
-stands (x ∷ xs) zero h = (x, refl)
-stands (x ∷ xs) (suc i) h = stands xs i (omega (arith, h))
-
--- an element that was put in the place of another
-pub set_here : {X : Type 0} (xs : List X) (i : ℕ) (x : X) → i < length xs → slice_get (set xs i x) i ≡ Some x
-set_here [] i x h = absurd (omega (arith, h))
-set_here (y ∷ xs) zero x h = refl
-set_here (y ∷ xs) (suc i) x h = set_here xs i x (omega (arith, h))
-
-pub set_there : {X : Type 0} (xs : List X) (i j : ℕ) (x : X) → j ≢ i → slice_get (set xs i x) j ≡ slice_get xs j
-set_there [] i j x h = refl
-set_there (y ∷ xs) zero zero x h = absurd (h refl)
-set_there (y ∷ xs) zero (suc j) x h = refl
-set_there (y ∷ xs) (suc i) zero x h = refl
-set_there (y ∷ xs) (suc i) (suc j) x h = set_there xs i j x (λ e. h (ap suc e))
-
--- a piece that was filled anew
-pub refilled : (n : ℕ) (xs ws : List ℕ) → n ≡ length xs → length ws ≡ length xs → take n (ws ++ drop (length ws) xs) ≡ ws
-refilled n xs ws e same =
-    ap (λ rest. take n (ws ++ rest)) (drop_of_length-le xs (omega (arith, same))) ∙ ap (take n) (append-nil ws) ∙ take_all n ws (omega (arith, e, same))
+use Rattle.bag_digest.proofs.ListLemmas.{stands}
 
 -- what a failure is, in terms of the fault
-err_same : {A : Type 0} {x y : SourceFault} → IsErrOf {T = A} (Err x) y → x ≡ y
+pub err_same : {A : Type 0} {x y : SourceFault} → IsErrOf {T = A} (Err x) y → x ≡ y
 err_same e = cc
 
-ok_not : {A : Type 0} {x : A} {y : SourceFault} → IsErrOf (Ok x) y → ⊥
+pub ok_not : {A : Type 0} {x : A} {y : SourceFault} → IsErrOf (Ok x) y → ⊥
 ok_not e = cc
 
 pub uses_err : {S A : Type 0} (failures : S → ℕ) (ready : S → Type 0) (keeps : S → S → Type 0) (a b : S) (fault : SourceFault) → UsesSource failures ready keeps a b (IsErrOf {T = A} (Err fault) Read) → UsesSource failures ready keeps a b (fault ≡ Read)
@@ -61,7 +37,7 @@ uses_err {S} {A} failures ready keeps a b fault uses = uses_as failures ready ke
 pub uses_ok : {S A : Type 0} (failures : S → ℕ) (ready : S → Type 0) (keeps : S → S → Type 0) (a b : S) (x : A) → UsesSource failures ready keeps a b (IsErrOf (Ok x) Read) → UsesSource failures ready keeps a b ⊥
 uses_ok failures ready keeps a b x uses = uses_as failures ready keeps a b (IsErrOf (Ok x) Read) ⊥ (λ no. absurd no) (λ e. ok_not e) uses
 
-consumes_none : (o : Option (List ℕ)) → Consumes o o []
+pub consumes_none : (o : Option (List ℕ)) → Consumes o o []
 consumes_none None = tt
 consumes_none (Some xs) = refl
 
@@ -418,12 +394,3 @@ piece_full streams first k end piece is low some inside full =
     let place = min k (end - 1) in
     let s = stands streams place (omega (arith, some, inside)) in
     ap length (is s.0 s.1) ∙ full place s.0 (omega (arith, low, some)) (omega (arith, some)) s.1
-
--- a search that found nothing
-pub by_none : {X : Type 0} (o : Option X) (P : Type 0) (Q : X → Type 0) → MatchOption o P Q → is_none o ≡ true → P
-by_none None P Q is none = is
-by_none (Some x) P Q is none = absurd (let e : false ≡ true = none in cc)
-
-pub by_no_other : {X : Type 0} (o : Option X) (P : Type 0) (Q : X → Type 0) → MatchOption o P Q → ((x : X) → ¬ (o ≡ Some x)) → P
-by_no_other None P Q is not = is
-by_no_other (Some x) P Q is not = absurd (not x refl)

@@ -10,6 +10,7 @@ use Rattle.bag_ledger.specs.declared.keeper_faults.StoreFault.{StoreFault}
 use Rattle.bag_ledger.specs.declared.keeper_faults.StoreFault.TheVariants.{Spent}
 use Rattle.bag_rules.specs.declared.want.Want.{Want}
 use Rattle.bag_driver.specs.declared.file_keeper.FileKeeper.{FileKeeper}
+use Rattle.bag_sqlite.proofs.SqlLemmas.{same_fault}
 
 -- what a call does to the store of a keeper
 abbrev pub Uses : FileKeeper → FileKeeper → (StoreFault → Type 0) → Type 0
@@ -27,9 +28,6 @@ after_others old mid new F G same to from uses = record {
   spent_first = λ told. rw same (uses.spent_first (from Spent told));
   spent_now = ((λ now. let it = uses.spent_now.0 now in (it.0, to it.0 it.1)), (λ some. uses.spent_now.1 (some.0, from some.0 some.1)));
 }
-
-same_fault : {A E : Type 0} {a b : E} → ◌≡◌ {A = Result A E} (Err a) (Err b) → a ≡ b
-same_fault e = cc
 
 same_kept : {A : Type 0} {a b : KeepFault} → ◌≡◌ {A = Result A PutFault} (Err (Keep a)) (Err (Keep b)) → a ≡ b
 same_kept e = cc

@@ -1,5 +1,5 @@
 -- The payload files that a courier of a tree delivers.
-use Rattle.std.proofs.Common.{◌≡◌, ◌<◌, ◌≤◌, ◌∷◌, ◌+◌, ◌∙◌, [], ℕ, Bool, Err, List, None, Ok, Option, Result, Some, arith, ap, cond, drop, false, length, map, refl, suc, sym, true, zero}
+use Rattle.std.proofs.Common.{◌≡◌, ◌<◌, ◌≤◌, ◌∷◌, ◌+◌, ◌∙◌, [], ℕ, Bool, Err, List, None, Ok, Option, Result, Some, ap, cond, false, length, map, refl, suc, sym, true, zero}
 use Rattle.std.specs.Prelude.{IfNone, IfSome, filter, if◌then◌else◌, is_some, slice_get, unwrap_or}
 use Rattle.std.specs.List.{list_all}
 use Rattle.std.specs.Option.{option_and_then}
@@ -11,11 +11,7 @@ use Rattle.bag_receiver.specs.Couriers.{ComesNext, HasPath}
 use Rattle.bag_rules.specs.Files.{Files}
 use Rattle.bag_rules.specs.Trees.{Shown, octets_in, paths_in}
 use Rattle.bag_folder.specs.Bringing.{IsFoundAt, TreeFile, all_known, current_path, known_file, left_to_read, payload_from, place_after, to_come}
-
-pub rest_from : {X : Type 0} (xs : List X) (n : ℕ) (x : X) → slice_get xs n ≡ Some x → drop n xs ≡ x ∷ drop (n + 1) xs
-rest_from [] n x e = absurd (cc)
-rest_from (y ∷ xs) zero x e = let k : y ≡ x = cc in ap (λ z. z ∷ xs) k
-rest_from (y ∷ xs) (suc n) x e = let s : suc n + 1 ≡ suc (n + 1) = omega arith in rw s (rest_from xs n x e)
+use Rattle.bag_digest.proofs.ListLemmas.{rest_from}
 
 -- the file at an index has the path there
 pub file_at : (files : List TreeFile) (i : ℕ) (path : List ℕ) → slice_get (map (λ (file : TreeFile). file.0) files) i ≡ Some path

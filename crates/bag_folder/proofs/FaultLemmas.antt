@@ -1,5 +1,5 @@
 -- What a fault tells, and what a trouble tells.
-use Rattle.std.proofs.Common.{◌≡◌, ℕ, Bool, List, None, Option, Some, Result, Ok, Err, false, inl, true, refl, subst, sym}
+use Rattle.std.proofs.Common.{◌≡◌, ℕ, Bool, List, None, Option, Some, Result, Ok, Err, inl, refl, subst, sym}
 use Rattle.std.specs.Prelude.{IfErr, IfSome, IsErr, MatchResult, OnSome}
 use Rattle.bag_folder.specs.declared.fault.OpenFault.{OpenFault}
 use Rattle.bag_folder.specs.declared.fault.OpenFault.TheVariants.{Files, Memory}
@@ -12,6 +12,7 @@ use Rattle.bag_folder.specs.DiskNames.{Standing}
 use Rattle.bag_folder.specs.Supplying.{IsBarred, IsNameTo, Says}
 use Rattle.bag_folder.proofs.NameLemmas.{if_known}
 use Rattle.bag_folder.specs.Unfits.{CountsTrouble, TellsLast, TroublesShown, UnfitShown}
+use Rattle.std.proofs.lemmas.Bool.{false≢true}
 
 pub IfUnfit-weaker : (fault : OpenFault) (P Q : UnfitShown → Type 0) → ((unfit : UnfitShown) → P unfit → Q unfit) → IfUnfit fault P → IfUnfit fault Q
 IfUnfit-weaker (Files unfit) P Q weaker here = weaker unfit here
@@ -38,9 +39,6 @@ refused_on_disk known folder root fault told refused tells =
           subst (λ (cause : Cause). IsUnfit listing folder here.below.path cause) (sym here.same_cause) below;
     }) tells
 
-false_is_not_true : false ≡ true → ⊥
-false_is_not_true h = cc
-
 none_is_not_some : (cause : Cause) → None ≡ Some cause → ⊥
 none_is_not_some cause h = cc
 
@@ -48,7 +46,7 @@ none_is_not_some cause h = cc
 pub told_by_name : {A E : Type 0} (answer : Result A (Option Cause)) (result : Result A E) (name : List ℕ) (old new : TroublesShown) (P : List ℕ → Type 0)
     → MatchResult answer (λ value. result ≡ Ok value) (λ _. IsErr result) → CountsTrouble answer name old new → IfErr answer (λ cause. OnSome cause (P name))
     → IsErr result → IfSome new.last (λ unfit. P unfit.path)
-told_by_name {E = E} (Ok value) result name old new P same counts looked_up failed = absurd (false_is_not_true (subst (λ (r : Result _ E). IsErr r) same failed))
+told_by_name {E = E} (Ok value) result name old new P same counts looked_up failed = absurd (false≢true (subst (λ (r : Result _ E). IsErr r) same failed))
 told_by_name (Err cause) result name old new P same counts looked_up failed = go new.last cause counts.1 looked_up where
   go : (last : Option UnfitShown) (cause : Option Cause) → TellsLast name cause last → OnSome cause (P name) → IfSome last (λ unfit. P unfit.path)
   go None cause tells here = tt
@@ -67,7 +65,7 @@ told_by_cause {E = E} (Ok value) result name old new P Q same counts holds =
     subst (λ (r : Result _ E). MatchResult r P
     (λ _. IfSome new.last (λ unfit. Q unfit.path unfit.cause))) (sym same) holds
 told_by_cause (Err cause) (Ok value) name old new P Q failed counts holds =
-    absurd (false_is_not_true failed)
+    absurd (false≢true failed)
 told_by_cause (Err cause) (Err error) name old new P Q failed counts holds =
     go new.last cause counts.1 holds where
       same_cause : (a b : Cause) → Some a ≡ Some b → a ≡ b

@@ -6,7 +6,7 @@ use Rattle.std.specs.Cmp.Lexicographic.{slice_cmp, pointwise}
 use Rattle.std.specs.List.{list_any, slice_get}
 use Rattle.std.specs.List.Retain.{IsFiltered, DiffersFromLast}
 use Rattle.std.specs.List.Sorted.{IsSorted, IsPermutation}
-use Rattle.std.proofs.lemmas.Bool.{or_cases, or_left, or_right}
+use Rattle.std.proofs.lemmas.Bool.{or_cases, or_left, or_right, false≢true}
 use Rattle.std.proofs.lemmas.Cmp.{nat_list_cmp_total, nat_list_eq_equiv}
 use Rattle.std.proofs.lemmas.List.Elements.{All-nil, All-cons, All-weaker, Contains-append_left, Contains-append_right, Contains-push}
 use Rattle.std.proofs.lemmas.List.Filters.{dedup_is}
@@ -46,11 +46,8 @@ pub has_its_dir : (found has_dir : Bool) (paths : List (List ℕ)) → has_dir �
 has_its_dir found has_dir paths is =
     All-weaker (λ path. is_payload path ≡ true → list_any is_payload paths ≡ true) (λ path. is_payload path ≡ true → has_dir ≡ true) (λ path here payload. is ∙ or_right found (list_any is_payload paths) (here payload)) paths (any_passes is_payload paths)
 
-false_is_not_true : false ≡ true → ⊥
-false_is_not_true h = cc
-
 some_passes : (test : List ℕ → Bool) (paths : List (List ℕ)) → list_any test paths ≡ true → (path : List ℕ) × Contains paths path × (test path ≡ true)
-some_passes test [] h = absurd (false_is_not_true h)
+some_passes test [] h = absurd (false≢true h)
 some_passes test (first ∷ paths) h = elim (or_cases (test first) (list_any test paths) h) [
   | inl passes ↦ (first, Contains-append_left (first ∷ []) paths first (Contains-push [] first), passes)
   | inr later ↦ let found = some_passes test paths later in (found.0, Contains-append_right (first ∷ []) paths found.0 found.1, found.2)

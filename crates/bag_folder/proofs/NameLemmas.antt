@@ -1,5 +1,5 @@
 -- What is made under names, and what is met on the way to them.
-use Rattle.std.proofs.Common.{◌≡◌, ◌∙◌, ◌++◌, ◌≢◌, ◌⊎◌, ◌+◌, ◌<◌, ℕ, List, [], None, Option, Some, Result, Ok, Err, false, inl, inr, true, ap, ap₂, append_assoc, arith, codes, drop, get_or, length, subst, sym, take, take-append-drop}
+use Rattle.std.proofs.Common.{◌≡◌, ◌∙◌, ◌++◌, ◌≢◌, ◌⊎◌, ◌+◌, ◌<◌, ℕ, List, [], None, Option, Some, Result, Ok, Err, inl, inr, ap, ap₂, append_assoc, arith, codes, drop, get_or, length, subst, sym, take, take-append-drop}
 use Rattle.std.proofs.lemmas.List.Elements.{All-from_get_or}
 use Rattle.std.proofs.lemmas.List.{length-append}
 use Rattle.std.proofs.lemmas.Str.{encode_ascii}
@@ -12,6 +12,7 @@ use Rattle.bag_folder.specs.declared.entry_kind.EntryKind.{EntryKind}
 use Rattle.bag_folder.specs.declared.entry_kind.EntryKind.TheVariants.{File, Directory}
 use Rattle.bag_folder.specs.Directories.{name_below}
 use Rattle.bag_folder.specs.DiskNames.{Changes, Grows, IsDirectoryOf, IsFileMade, IsFolder, IsFolderIn, IsMade, IsOnTheWay, IsVacant, IsWay, LeadsTo, MakesFile, MakesOne, MakesParents, MakesWay, Standing}
+use Rattle.std.proofs.lemmas.Bool.{false≢true}
 
 -- WHAT IS KNOWN
 
@@ -283,9 +284,6 @@ way_there F directory name answer None is folder = tt
 way_there F directory name answer (Some s) is folder =
     record { inside = (directory, is, folder); grows = grows_itself (IsWay name) s }
 
-false_is_not_true : false ≡ true → ⊥
-false_is_not_true h = cc
-
 -- the same, of a call whose failure was counted
 pub way_counted : {A E F : Type 0} (name : List ℕ) (answer : Result A E) (result : Result A F)
     (a b : Option Standing)
@@ -295,7 +293,7 @@ way_counted {A = A} {E = E} {F = F} name (Ok value) result a b same makes =
     subst (λ (r : Result A F). Changes (MakesWay name r) a b) (sym same)
     (changes_more (MakesWay {E = E} name (Ok value)) (MakesWay {E = F} name (Ok value)) a b makes
     (λ s t way. record { leads = way.leads; grows = way.grows }))
-way_counted {A = A} name (Err error) (Ok value) a b failed makes = absurd (false_is_not_true failed)
+way_counted {A = A} name (Err error) (Ok value) a b failed makes = absurd (false≢true failed)
 way_counted {A = A} name (Err error) (Err fault) a b failed makes =
     changes_more (MakesWay {A = A} name (Err error)) (MakesWay {A = A} name (Err fault)) a b makes
     (λ s t way. record { leads = tt; grows = way.grows })
@@ -309,7 +307,7 @@ file_counted {A = A} {E = E} {F = F} name (Ok value) result a b same makes =
     (changes_more (MakesFile {E = E} name (Ok value)) (MakesFile {E = F} name (Ok value)) a b makes
     (λ s t done. done))
 file_counted {A = A} name (Err error) (Ok value) a b failed makes =
-    absurd (false_is_not_true failed)
+    absurd (false≢true failed)
 file_counted {A = A} name (Err error) (Err fault) a b failed makes =
     changes_more (MakesFile {A = A} name (Err error)) (MakesFile {A = A} name (Err fault)) a b makes
     (λ s t way. way)

@@ -2,7 +2,7 @@
 use Rattle.std.proofs.Common.{◌≡◌, ◌++◌, ℕ, Bool, true, false, List, [], ◌∷◌, All, Contains, Result, Ok, codes, refl, sym, subst, inl, inr, arith}
 use Rattle.std.specs.Prelude.{fold}
 use Rattle.std.specs.Str.{bytes_eq}
-use Rattle.std.proofs.lemmas.Bool.{or_cases, or_left, or_right}
+use Rattle.std.proofs.lemmas.Bool.{or_cases, or_left, or_right, false≢true}
 use Rattle.std.proofs.lemmas.List.Elements.{All-nil, All-cons, All-head, All-tail, All-push, All-weaker, All-contains, All-contains_itself, Contains-append_left, Contains-append_right, Contains-append_cases, Contains-push, Contains-push_cases}
 use Rattle.std.proofs.lemmas.Slice.Eq.{bytes_eq-Decides}
 use Rattle.std.specs.declared.io.Error.{Error}
@@ -11,9 +11,6 @@ use Rattle.bag_folder.specs.declared.entry_kind.EntryKind.TheVariants.{File, Dir
 use Rattle.bag_folder.specs.declared.fault.Cause.{Cause}
 use Rattle.bag_folder.specs.Directories.{EntryShown, Listing, HasEntry, IsFront, AtFolder, Inside, IsBelow, IsUnfit, Unlisted, NotAllowed, Stands, name_below}
 use Rattle.bag_folder.specs.Walks.{EntryFits, FitsBag, LooksInto, RefusesFront, Walked, with_entry, with_path}
-
-false_is_not_true : false ≡ true → ⊥
-false_is_not_true h = cc
 
 nothing_in_none : (front : List ℕ) → Contains [] front → ⊥
 nothing_in_none front here = omega (arith, here.1)
@@ -166,7 +163,7 @@ module _ (listing : Listing) (folder : List ℕ) where
     sound = record {
       fronts = All-cons (IsFront listing folder) [] [] AtFolder (All-nil (IsFront listing folder));
       files = All-nil (λ path. Stands listing folder path File);
-      payload = λ no. absurd (false_is_not_true no);
+      payload = λ no. absurd (false≢true no);
     };
     covered = All-nil (IsCovered (record { paths = []; has_dir = false; left = [] ∷ [] }) ([] ∷ []));
   })

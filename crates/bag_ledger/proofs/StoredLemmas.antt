@@ -138,3 +138,6 @@ pub items_at : (name : List ℕ) (transfers : Transfers) (found : Option Stored)
     → items_of (ledger_in transfers) name ≡ unwrap_or (option_map (λ (stored : Stored). files_in stored.items) found) []
 items_at name transfers found there =
     ap (λ (t : Option Transfer). unwrap_or (option_map (λ (transfer : Transfer). transfer.items) t) []) (transfer_at name transfers ∙ ap (option_map transfer_in) (sym there)) ∙ items_in found
+
+pub none_is_not_some : (found : Option Transfer) (transfer : Transfer) → found ≡ Some transfer → found ≡ None → ⊥
+none_is_not_some found transfer is absent = cc

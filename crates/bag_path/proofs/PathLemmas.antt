@@ -92,7 +92,7 @@ pub path_exactly : (path : List ℕ) → IsUtf8 path → IsPath path ↔ (path_f
 path_exactly path utf8 = (no_fault_if_path path, path_if_no_fault path utf8)
 
 -- a choice isn't a fault that it doesn't name
-other_fault : (wrong : PathFault) (b : Bool) (fault : PathFault) (rest : Option PathFault) → fault ≢ wrong → rest ≢ Some wrong → (if b then Some fault else rest) ≢ Some wrong
+pub other_fault : (wrong : PathFault) (b : Bool) (fault : PathFault) (rest : Option PathFault) → fault ≢ wrong → rest ≢ Some wrong → (if b then Some fault else rest) ≢ Some wrong
 other_fault wrong true fault rest n m e = n (cc)
 other_fault wrong false fault rest n m e = m e
 

@@ -9,12 +9,7 @@ use Rattle.bag_program.specs.declared.command_line.Request.TheVariants.{Check, L
 use Rattle.bag_program.specs.declared.command_line.Work.{Work}
 use Rattle.bag_program.specs.declared.command_line.Work.TheVariants.{Audit, Begin, Export, Fetch, Intake, List as Listing, Report}
 use Rattle.bag_program.specs.CommandLines.{AsksFor, IsRequest, IsWholeWork, NamesCommand, is_option, operands_in, operands_of, request_name, work_name, work_operands}
-use Rattle.bag_folder.proofs.CourierLemmas.{rest_from}
-
-next_taken : {X : Type 0} (xs : List X) (n : ℕ) (x : X) → slice_get xs n ≡ Some x → take (n + 1) xs ≡ take n xs ++ x ∷ []
-next_taken [] n x e = absurd (cc)
-next_taken (y ∷ xs) zero x e = let k : y ≡ x = cc in ap (λ z. z ∷ []) k
-next_taken (y ∷ xs) (suc n) x e = let s : suc n + 1 ≡ suc (n + 1) = omega arith in rw s (ap (λ list. y ∷ list) (next_taken xs n x e))
+use Rattle.bag_digest.proofs.ListLemmas.{rest_from, next_taken}
 
 -- the first arguments are operands, and what follows decides about the rest
 abbrev pub IsFront : List (List ℕ) → ℕ → Type 0
@@ -86,10 +81,6 @@ first_taken (y ∷ ys) rest x some first others = let head : y ≡ x = sym first
 -- the same of the octets that they have
 pub first_named : {X : Type 0} (octets : X → List ℕ) (xs rest : List X) (x : X) → 0 < length xs → x ≡ get_or xs 0 x → rest ≡ remove xs 0 → map octets xs ≡ octets x ∷ map octets rest
 first_named octets xs rest x some first others = ap (map octets) (first_taken xs rest x some first others)
-
-pub no_words : {X : Type 0} (xs : List X) → length xs ≡ 0 → xs ≡ []
-no_words [] none = refl
-no_words (x ∷ xs) none = absurd (omega (arith, none))
 
 pub none_named : {X : Type 0} (octets : X → List ℕ) (xs : List X) → map octets xs ≡ [] → length xs ≡ 0
 none_named octets [] none = refl

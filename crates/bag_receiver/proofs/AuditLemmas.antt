@@ -20,7 +20,7 @@ use Rattle.bag_ledger.specs.declared.finding.Finding.{Finding}
 use Rattle.bag_ledger.specs.declared.finding.Finding.TheVariants.{Damaged, Untested, Valid}
 use Rattle.bag_receiver.proofs.PlaceLemmas.{of_plan}
 use Rattle.bag_receiver.proofs.ReceivingLemmas.{named_there}
-use Rattle.bag_receiver.proofs.Words.{AllByRecursion, AreHeldFor, ArePlansIn, bytes_eq, CountsIf, Files, Has, IsPlanOf, IsTransferName, IsWanted, IsWantOf, items_of, LARGEST_ITEM, length-append, lookup, option_map, Passes, Plan, Transfer, unwrap_or, Ledger, Reads}
+use Rattle.bag_receiver.proofs.Words.{AreHeldFor, ArePlansIn, bytes_eq, CountsIf, Files, Has, IsPlanOf, IsTransferName, IsWanted, IsWantOf, items_of, LARGEST_ITEM, length-append, lookup, option_map, Passes, Plan, Transfer, unwrap_or, Ledger, Reads}
 
 -- WHAT WAS READ
 
@@ -128,10 +128,6 @@ module _ {K : Type 0} (holds : K → Ledger → Type 0) where
   still_passes keeper ledger name plan before after size Told h (tags, planned, held) all judged =
       let item = held_item tags (items_of ledger name) size held (subst (λ (l : List ItemSize). Has l size) all (has_middle before size after)) in
       judged tags item.content planned (ledger, h, item.found) item.sized item.passes
-
-pub all_more : {X : Type 0} (P : X → Type 0) (xs : List X) (x : X) → AllByRecursion P xs → P x → AllByRecursion P (xs ++ x ∷ [])
-all_more P [] x all is = (is, tt)
-all_more P (y ∷ xs) x all is = (all.0, all_more P xs x all.1 is)
 
 pub none_left : {X : Type 0} (passing rest : List X) → length rest ≡ 0 → passing ++ rest ≡ passing
 none_left passing [] none = search rules

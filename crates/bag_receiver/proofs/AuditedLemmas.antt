@@ -9,7 +9,6 @@ use Rattle.bag_digest.specs.declared.algorithm.AlgSet.{AlgSet}
 use Rattle.bag_digest.specs.declared.short_contents.ShortContents.{ShortContents}
 use Rattle.bag_digest.specs.declared.sums.Sums.{Sums}
 use Rattle.bag_rules.proofs.BatchLemmas.{or_left, or_right}
-use Rattle.bag_rules.proofs.HasLemmas.{stands}
 use Rattle.bag_rules.proofs.PassingLemmas.{wanted_passes}
 use Rattle.bag_rules.proofs.WantedLemmas.{told_wanted}
 use Rattle.bag_rules.specs.Plans.{item_paths}
@@ -22,6 +21,7 @@ use Rattle.bag_receiver.specs.declared.audit.Audited.{Audited}
 use Rattle.bag_receiver.specs.declared.audit.Untested.{Untested}
 use Rattle.bag_receiver.proofs.ValidSizes.{comes_among}
 use Rattle.bag_receiver.proofs.Words.{Alg, AreRising, Files, IsWanted, map-append, WantFault}
+use Rattle.bag_digest.proofs.ListLemmas.{stands}
 
 abbrev size_of : Untested → ItemSize
 size_of known = known.size

@@ -7,9 +7,9 @@ use Rattle.bag_receiver.specs.declared.begin.Begun.{Begun}
 use Rattle.bag_receiver.specs.declared.begin.Begun.TheVariants.{New, Again}
 use Rattle.bag_receiver.specs.declared.begin.BeginFault.TheVariants.{BadName, Outside, Rules, Clash, Differs, Tree, Keeper}
 use Rattle.bag_receiver.specs.Beginning.{IsAnswerTo, MayFail, Opened}
-use Rattle.bag_receiver.proofs.FileLemmas.{same_or_not}
 use Rattle.bag_receiver.proofs.ReceiverLemmas.{plans_grow}
 use Rattle.bag_receiver.proofs.Words.{ArePlansIn, AreTaken, BeginFault, Begins, BeginStep, begun, BTreeMap, CountsIf, Does, entry_here, entry_others, Files, Global, Has, HasTransfer, insert_entry, IsPlanOf, IsTransferName, KeepFault, Ledger, LedgerState, Memory, nat_cmp, nothing_held, option_map, Plan, plans_in, Reads, Receiver, settled, slice_cmp, Store, StoreFault, String, TagPath, tags_of, TagTooLarge, Transfer, transfer_of, TransferState, with_doubtful_ledger, with_files}
+use Rattle.bag_rules.proofs.ValidityLemmas.{decided_octets}
 
 -- A TRANSFER IS OPENED
 
@@ -104,7 +104,7 @@ none_there (Some transfer) e = absurd (let k : ◌≡◌ {A = Option Files} (Som
 plans_after : (ledger : Ledger) (name : List ℕ) (tags : Files) (plans : List (List ℕ × Plan)) → IsUnused name ledger → ArePlansIn ledger plans → ArePlansIn (with_transfer ledger name tags) plans
 plans_after ledger name tags plans unused are other found at =
     let k = are other found at in
-    elim (same_or_not other name) [
+    elim (decided_octets other name) [
       | inl e ↦ (
           let none : tags_of ledger other ≡ None = ap (tags_of ledger) e ∙ ap (option_map (λ (transfer : Transfer). transfer.tags)) unused in
           let some : Some k.0 ≡ None = sym k.1 ∙ none in
@@ -220,9 +220,6 @@ module _ {K : Type 0} (holds may_leave : K → Ledger → Type 0) (clean : K →
 
 pub counts_so : (A B : Type 0) (old new : ℕ) → (A → B) → (B → A) → CountsIf A old new → CountsIf B old new
 counts_so A B old new to from counts = record { rises = λ b. counts.rises (from b); stays = λ none. counts.stays (λ a. none (to a)) }
-
-pub counts_after : (A B : Type 0) (old middle new : ℕ) → ¬ A → CountsIf A old middle → CountsIf B middle new → CountsIf B old new
-counts_after A B old middle new none first second = subst (λ n. CountsIf B n new) (first.stays none) second
 
 pub counts_nothing : (A : Type 0) (n : ℕ) → ¬ A → CountsIf A n n
 counts_nothing A n none = record { rises = λ a. absurd (none a); stays = λ _. refl }

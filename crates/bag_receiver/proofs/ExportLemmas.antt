@@ -9,7 +9,6 @@ use Rattle.bag_rules.specs.Files.{files_of}
 use Rattle.bag_rules.specs.Plans.{sizes_of}
 use Rattle.bag_rules.specs.Transfers.{held_bag}
 use Rattle.bag_writer.proofs.OctetSteps.{front_on, writes_none, writes_on}
-use Rattle.bag_writer.proofs.PayloadLists.{next_taken, rest_from}
 use Rattle.bag_writer.proofs.StepLemmas.{part_after, part_more, whole_on}
 use Rattle.bag_writer.proofs.TagSteps.{free_after}
 use Rattle.bag_writer.specs.PayloadSteps.{Writes, WritesFront}
@@ -20,6 +19,7 @@ use Rattle.bag_receiver.specs.ExportsInside.{HasItems, WritesAsMany}
 use Rattle.bag_receiver.specs.Holdings.{HasItem}
 use Rattle.bag_receiver.proofs.AuditLemmas.{GavePiece, item_stays, take_next}
 use Rattle.bag_receiver.proofs.Words.{bytes_eq, Files, Ledger, length-append, length-map, lookup, option_map, Reads, slice_get-map}
+use Rattle.bag_digest.proofs.ListLemmas.{rest_from, next_taken}
 
 -- THE OCTETS OF A FILE
 

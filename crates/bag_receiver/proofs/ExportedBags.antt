@@ -2,7 +2,7 @@
 use Rattle.std.proofs.Common.{◌≡◌, ◌+◌, ◌++◌, ◌∷◌, [], ℕ, true, false, List, Option, Some, None, Result, Ok, Err, MatchResult, drop, length, slice_get, take, refl, sym, ap, subst, ◌∙◌, inl, inr, arith}
 use Rattle.std.proofs.lemmas.List.{take-append-drop}
 use Rattle.std.proofs.lemmas.List.Sums.{fold-append}
-use Rattle.bag_rules.proofs.HasLemmas.{has_at, has_from_contains, place_of_has}
+use Rattle.bag_rules.proofs.HasLemmas.{has_at, has_from_contains, place_of_has, has_both}
 use Rattle.bag_rules.proofs.HeldBags.{holds_item, holds_tag}
 use Rattle.bag_rules.proofs.InPlace.{expected_payload}
 use Rattle.bag_rules.proofs.PutFiles.{AreNew, by_path, rising_new}
@@ -18,7 +18,7 @@ use Rattle.bag_writer.proofs.SinkUses.{no_file_yet}
 use Rattle.bag_writer.proofs.StepLemmas.{free_at_first, free_still, part_after, part_more, whole_on}
 use Rattle.bag_writer.proofs.TagSteps.{one_whole, step}
 use Rattle.bag_writer.proofs.WholeBags.{holds_whole, opened, wholes_begun, wholes_dir, wholes_files}
-use Rattle.bag_writer.proofs.WrittenFiles.{has_join, take_has, take_new}
+use Rattle.bag_writer.proofs.WrittenFiles.{take_has, take_new}
 use Rattle.bag_writer.specs.Sinks.{Begun, IsEmptySink, IsFree, nothing_stored, Stored, with_begun, with_octets, without_begun}
 use Rattle.bag_writer.specs.Steps.{ArePart, AreWhole, HasFrontOf, with_wholes}
 use Rattle.bag_writer.specs.TagWriting.{AreFree}
@@ -67,7 +67,7 @@ join_new : (tags items : Files) → AreNew [] tags → ((path octets : List ℕ)
 join_new [] items new plain payload others = others
 join_new (tag ∷ tags) items new plain payload others = (
   λ octets none. none,
-  λ octets has. elim ((has_join tags items (tag.0, octets)).0 has) [
+  λ octets has. elim ((has_both tags items (tag.0, octets)).0 has) [
     | inl left ↦ new.1 octets left
     | inr right ↦ false≢true (sym (plain tag.0 tag.1 (inl refl)) ∙ payload tag.0 octets right)
   ],
@@ -138,7 +138,7 @@ module _ (ledger : Ledger) (name : List ℕ) (transfer : Transfer) (named : IsNa
   is_file path octets has = (
     transfer,
     named,
-    elim ((has_join transfer.tags transfer.items (path, octets)).0 has) [
+    elim ((has_both transfer.tags transfer.items (path, octets)).0 has) [
       | inl tag ↦ holds_tag transfer.tags transfer.items sound.tag_files sound.held path octets (place_of_has transfer.tags (path, octets) tag)
       | inr item ↦ holds_item transfer.tags transfer.items sound.tag_files sound.held path octets item
     ],

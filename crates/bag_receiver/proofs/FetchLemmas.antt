@@ -21,6 +21,8 @@ use Rattle.bag_receiver.proofs.ReceiverLemmas.{does_receive}
 use Rattle.bag_receiver.proofs.ReceivingLemmas.{named_there, receives}
 use Rattle.bag_receiver.proofs.RunLemmas.{ran_more, ran_nothing, steps_join}
 use Rattle.bag_receiver.proofs.Words.{AllByRecursion, Answer, AreRising, Brought, Content, CountsEach, CountsIf, decided_equal, Delivery, delivery_of, DeliveryStep, Does, Files, Has, IsAcceptance, IsAnswer, IsNamed, items_of, Keeper, keys_of, Ledger, map-append, option_map, Receiver, Runs, Same, Store, StoreFault, string_bytes, Transfer, unwrap_or}
+use Rattle.bag_tags.proofs.WritingLemmas.{each_append}
+use Rattle.bag_rules.proofs.ReportLemmas.{item_keys}
 
 -- MARKS
 
@@ -151,10 +153,6 @@ marked_none paths marks held path none are = record {
   );
 }
 
-item_keys : (items : Files) → item_paths (sizes_of items) ≡ keys_of items
-item_keys [] = refl
-item_keys (item ∷ items) = ap (λ l. item.0 ∷ l) (item_keys items)
-
 -- BEFORE THE FIRST LINE
 
 pub starts : (ledger : Ledger) (name : List ℕ) (transfer : Transfer) (paths : List (List ℕ)) (marks : List Bool) (lines : List FetchLine) (requests : List FetchRequest) → IsNamed ledger name (Some transfer) → AreRising paths
@@ -252,12 +250,8 @@ all_reached ledger name marks left rounds none way =
 
 -- RUNS
 
-all_join : {A : Type 0} (P : A → Type 0) (xs ys : List A) → AllByRecursion P xs → AllByRecursion P ys → AllByRecursion P (xs ++ ys)
-all_join P [] ys all others = others
-all_join P (x ∷ xs) ys all others = (all.0, all_join P xs ys all.1 others)
-
 pub got_more : (supply : Option Supply) (rounds : List Round) (round : Round) → AllByRecursion (IsGotFrom supply) rounds → IsGotFrom supply round → AllByRecursion (IsGotFrom supply) (rounds ++ round ∷ [])
-got_more supply rounds round all one = all_join (IsGotFrom supply) rounds (round ∷ []) all (one, tt)
+got_more supply rounds round all one = each_append (IsGotFrom supply) rounds (round ∷ []) all (one, tt)
 
 stores_join : (first others : List Delivery) → store_failures (first ++ others) ≡ store_failures first + store_failures others
 stores_join [] others = omega arith
@@ -290,7 +284,7 @@ module _ {K : Type 0} (holds may_leave : K → Ledger → Type 0) (clean : K →
           let two = after.received.leads c one.0 one.1 in
           (two.0, two.1, receives name (first ++ others) before two.0 (steps_join name first others before one.0 two.0 one.2.steps two.2.steps)));
     };
-    judged = all_join (IsAnswer name) first others ran.judged after.judged;
+    judged = each_append (IsAnswer name) first others ran.judged after.judged;
     store = subst (λ n. CountsEach n (failures old.keeper) (failures new.keeper)) (sym (stores_join first others)) (counts_on (store_failures first) (store_failures others) _ _ _ ran.store after.store);
   }
 

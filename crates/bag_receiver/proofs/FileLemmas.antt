@@ -1,13 +1,13 @@
 -- Files by path: what is there after a file was added at a free path, and when two lists of files are the same.
 use Rattle.std.proofs.Common.{◌≡◌, ◌≢◌, ◌⊎◌, ◌↔◌, ℕ, List, [], ◌∷◌, Contains, refl, sym, ap, ◌∙◌, inl, inr}
 use Rattle.std.specs.List.Sorted.{IsStrictlySortedBy}
-use Rattle.bag_receiver.proofs.Words.{AllByRecursion, AreRising, asymmetric, bytes_eq, bytes_eq-Decides, contains_from_has, Decided, decided_by, Equal, Files, Greater, Has, has_from_contains, is_eq, is_eq-slice_cmp, keys_of, Less, match_ordering, nat_cmp, nat_list_cmp_total, Ordering, ordering_reverse, same_list, slice_cmp, sorted_by_key, with_file}
+use Rattle.bag_receiver.proofs.Words.{AllByRecursion, AreRising, asymmetric, bytes_eq-Decides, contains_from_has, Decided, Equal, Files, Greater, Has, has_from_contains, is_eq, is_eq-slice_cmp, keys_of, Less, match_ordering, nat_cmp, nat_list_cmp_total, Ordering, ordering_reverse, same_list, slice_cmp, sorted_by_key, with_file}
+use Rattle.bag_rules.proofs.PutFiles.{key_has}
+use Rattle.bag_rules.proofs.ValidityLemmas.{decided_octets}
+use Rattle.bag_rules.proofs.MemoryFiles.{all_after}
 
 abbrev pub File : Type 0
 File = List ℕ × List ℕ
-
-pub same_or_not : (path other : List ℕ) → Decided (path ≡ other)
-same_or_not path other = decided_by (path ≡ other) (bytes_eq path other) (bytes_eq-Decides path other)
 
 -- A PATH IS HELD
 
@@ -15,11 +15,6 @@ has_key : (files : Files) (path : List ℕ) → Has (keys_of files) path → (co
 has_key [] path h = absurd h
 has_key (file ∷ files) path (inl e) = (file.1, inl (ap (λ (p : List ℕ). (p, file.1)) e))
 has_key (file ∷ files) path (inr h) = let k = has_key files path h in (k.0, inr k.1)
-
-key_has : (files : Files) (path content : List ℕ) → Has files (path, content) → Has (keys_of files) path
-key_has [] path content h = absurd h
-key_has (file ∷ files) path content (inl e) = inl (ap (λ (f : File). f.0) e)
-key_has (file ∷ files) path content (inr h) = inr (key_has files path content h)
 
 pub content_held : (files : Files) (path : List ℕ) → Contains (keys_of files) path → (content : List ℕ) × Has files (path, content)
 content_held files path h = has_key files path (has_from_contains (keys_of files) path h)
@@ -29,7 +24,7 @@ path_held files path content h = contains_from_has (keys_of files) path (key_has
 
 has_or_not : (paths : List (List ℕ)) (path : List ℕ) → Decided (Has paths path)
 has_or_not [] path = inr (λ h. h)
-has_or_not (first ∷ paths) path = elim (same_or_not first path) [
+has_or_not (first ∷ paths) path = elim (decided_octets first path) [
   | inl e ↦ inl (inl e)
   | inr other ↦ elim (has_or_not paths path) [ inl h ↦ inl (inr h) | inr away ↦ inr (λ h. elim h [ inl e ↦ other e | inr k ↦ away k ]) ]
 ]
@@ -65,10 +60,6 @@ module _ (path content : List ℕ) where
   has_with_file (file ∷ files) away other = put_at file files (slice_cmp nat_cmp path file.0) refl (λ e. away (inl (sym e))) other (has_with_file files (λ h. away (inr h)) other)
 
   -- the order of the paths is kept
-  after : (x y : List ℕ) (ys : List (List ℕ)) → slice_cmp nat_cmp x y ≡ Less → AllByRecursion (λ z. slice_cmp nat_cmp y z ≡ Less) ys → AllByRecursion (λ z. slice_cmp nat_cmp x z ≡ Less) ys
-  after x y [] h all = tt
-  after x y (z ∷ zs) h all = (nat_list_cmp_total.trans x y z h all.0, after x y zs h all.1)
-
   below_at : (x : List ℕ) (file : File) (files : Files) (r : Ordering) → slice_cmp nat_cmp x path ≡ Less → AllByRecursion (λ z. slice_cmp nat_cmp x z ≡ Less) (keys_of (file ∷ files))
       → AllByRecursion (λ z. slice_cmp nat_cmp x z ≡ Less) (keys_of (with_file files path content))
       → AllByRecursion (λ z. slice_cmp nat_cmp x z ≡ Less) (keys_of (match_ordering r ((path, content) ∷ file ∷ files) ((file.0, content) ∷ files) (file ∷ with_file files path content)))
@@ -83,7 +74,7 @@ module _ (path content : List ℕ) where
   rising_at : (file : File) (files : Files) (r : Ordering) → slice_cmp nat_cmp path file.0 ≡ r → AreRising (keys_of (file ∷ files)) → AreRising (keys_of (with_file files path content))
       → AreRising (keys_of (match_ordering r ((path, content) ∷ file ∷ files) ((file.0, content) ∷ files) (file ∷ with_file files path content)))
   unfolding IsStrictlySortedBy
-  rising_at file files Less h rising rest = ((h, after path file.0 (keys_of files) h rising.0), rising)
+  rising_at file files Less h rising rest = ((h, all_after path file.0 (keys_of files) h rising.0), rising)
   rising_at file files Equal h rising rest = rising
   rising_at file files Greater h rising rest = (below file.0 files (nat_list_cmp_total.antisymm file.0 path ∙ ap ordering_reverse h) rising.0, rest)
 

@@ -1,18 +1,7 @@
 -- The first delivery accepted for a path.
 use Rattle.std.proofs.Common.{◌∙◌, ◌≡◌, ◌⊎◌, ℕ, List, [], ◌∷◌, ◌++◌, refl, sym, ap, subst, inl, inr}
-use Rattle.bag_receiver.proofs.FileLemmas.{same_or_not}
-use Rattle.bag_receiver.proofs.Words.{Accepts, Answer, Content, Decided, Delivery, Has, IsAcceptance, IsAccepted, IsFirstAccepted, Refused, Repeated, Taken, TooLong, Unread, Whole}
-
--- LISTS OF DELIVERIES JOINED
-
-pub has_left : {X : Type 0} (xs ys : List X) (x : X) → Has xs x → Has (xs ++ ys) x
-has_left [] ys x h = absurd h
-has_left (first ∷ xs) ys x (inl e) = inl e
-has_left (first ∷ xs) ys x (inr h) = inr (has_left xs ys x h)
-
-pub has_right : {X : Type 0} (xs ys : List X) (x : X) → Has ys x → Has (xs ++ ys) x
-has_right [] ys x h = h
-has_right (first ∷ xs) ys x h = inr (has_right xs ys x h)
+use Rattle.bag_receiver.proofs.Words.{Accepts, Answer, Content, Decided, Delivery, IsAcceptance, IsAccepted, IsFirstAccepted, Refused, Repeated, Taken, TooLong, Unread, Whole}
+use Rattle.bag_rules.proofs.ValidityLemmas.{decided_octets}
 
 -- WHETHER A DELIVERY WAS ACCEPTED FOR THE PATH
 
@@ -30,7 +19,7 @@ brought TooLong = inr (λ h. let e : TooLong ≡ Whole h.0 = h.1 in cc)
 brought Unread = inr (λ h. let e : Unread ≡ Whole h.0 = h.1 in cc)
 
 accepted_or_not : (delivery : Delivery) (path : List ℕ) → Decided (IsAcceptedFor delivery path)
-accepted_or_not delivery path = elim (same_or_not delivery.text path) [
+accepted_or_not delivery path = elim (decided_octets delivery.text path) [
   | inr other ↦ inr (λ h. other h.1.brings.0)
   | inl same ↦ elim (brought delivery.content) [
     | inr none ↦ inr (λ h. none (h.0, h.1.brings.1))

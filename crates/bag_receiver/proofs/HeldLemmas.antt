@@ -1,8 +1,9 @@
 -- What is held after deliveries.
 use Rattle.std.proofs.Common.{◌≡◌, ◌⊎◌, ◌↔◌, ℕ, List, [], ◌∷◌, ◌++◌, Contains, sym, subst, ◌∙◌, inl, inr}
 use Rattle.bag_receiver.proofs.FileLemmas.{content_held, File, has_with_file, path_held, rising_with_file, same_files}
-use Rattle.bag_receiver.proofs.FirstLemmas.{accepts_first, FirstIn, first_accepts, first_cases, first_in, first_left, first_right, has_left, has_right, in_first}
+use Rattle.bag_receiver.proofs.FirstLemmas.{accepts_first, FirstIn, first_accepts, first_cases, first_in, first_left, first_right, in_first}
 use Rattle.bag_receiver.proofs.Words.{Accepts, AcceptsPassing, AreAccepted, AreHeldFor, AreRising, contains_from_has, Delivery, Files, Has, IsAccepted, IsFirstHeld, keys_of, OneContent, Whole, with_file}
+use Rattle.bag_rules.proofs.HasLemmas.{has_left, has_right}
 
 -- LISTS JOINED
 
@@ -107,7 +108,7 @@ held_passes tags old deliveries new h before passing = record {
 }
 
 -- without files, no path is held
-none_held : (path : List ℕ) → ¬ Contains (keys_of {X = List ℕ} []) path
+pub none_held : (path : List ℕ) → ¬ Contains (keys_of {X = List ℕ} []) path
 none_held path h = (content_held [] path h).1
 
 pub held_accepted : (tags : Files) (deliveries : List Delivery) (held : Files) → OneContent tags deliveries → AcceptsPassing tags deliveries → IsFirstHeld [] deliveries held → AreAccepted deliveries held

@@ -6,10 +6,10 @@ use Rattle.bag_ledger.specs.declared.keeper_faults.PutFault.TheVariants as put
 use Rattle.bag_ledger.specs.Keeping.{HasPut, MayPut}
 use Rattle.bag_ledger.proofs.EntryLemmas.{lookup_shown}
 use Rattle.bag_ledger.proofs.StoredLemmas.{by_name}
-use Rattle.bag_receiver.proofs.FileLemmas.{same_or_not}
 use Rattle.bag_receiver.proofs.ReceivingLemmas.{receives}
 use Rattle.bag_receiver.proofs.PlaceLemmas.{adds, awaits, content_read, known_refused, read_brought, read_judged, read_refused}
 use Rattle.bag_receiver.proofs.Words.{Adds, Answer, ArePlansIn, Brought, BTreeMap, bytes_eq, Content, deliver_fault, DeliverFault, Delivery, delivery_of, DeliveryStep, Does, entry_here, entry_others, Files, Given, given_by, Global, holding, insert_entry, insert_shown, is_eq-slice_cmp, is_some, IsInState, IsPath, IsPlaceIn, IsPlanned, IsPlanOf, item_here, item_others, Judges, Keeper, known, LARGEST_ITEM, Ledger, LedgerState, lookup, nat_cmp, option_map, Plan, plans_in, PutFault, Reads, Receiver, Receives, Refused, RefusesAny, RefusesGiven, Same, settled, slice_cmp, Slot, String, string_bytes, tags_of, Taken, Transfer, transfer_of, Whole, with_doubtful_ledger, with_item}
+use Rattle.bag_rules.proofs.ValidityLemmas.{decided_octets}
 
 abbrev pub Plans : Type 0
 Plans = BTreeMap (String Global) Plan
@@ -47,7 +47,7 @@ same_plan plans name other plan found e at =
 
 pub plans_grow : (ledger : Ledger) (plans : List (List ℕ × Plan)) (name : List ℕ) (plan : Plan) (tags : Files) → ArePlansIn ledger plans
     → tags_of ledger name ≡ Some tags → IsPlanOf tags plan → ArePlansIn ledger (insert_entry (slice_cmp nat_cmp) plans name plan)
-plans_grow ledger plans name plan tags are there is other found at = elim (same_or_not other name) [
+plans_grow ledger plans name plan tags are there is other found at = elim (decided_octets other name) [
   | inl e ↦ (tags, ap (tags_of ledger) e ∙ there, subst (IsPlanOf tags) (same_plan plans name other plan found e at) is)
   | inr apart ↦ are other found (sym (entry_others name plan other apart plans) ∙ at)
 ]
@@ -62,7 +62,7 @@ tags_by path content None = refl
 tags_by path content (Some t) = refl
 
 tags_stay : (ledger : Ledger) (name path content other : List ℕ) → tags_of (with_item ledger name path content) other ≡ tags_of ledger other
-tags_stay ledger name path content other = elim (same_or_not other name) [
+tags_stay ledger name path content other = elim (decided_octets other name) [
   | inl e ↦ subst (λ n. tags_of (with_item ledger name path content) n ≡ tags_of ledger n) (sym e)
       (ap (option_map (λ (transfer : Transfer). transfer.tags)) (item_here name path content ledger) ∙ tags_by path content (transfer_of ledger name))
   | inr apart ↦ ap (option_map (λ (transfer : Transfer). transfer.tags)) (item_others name path content other apart ledger)

@@ -1,9 +1,9 @@
 -- Deliveries in sequence.
 use Rattle.std.proofs.Common.{◌≡◌, ◌+◌, ℕ, List, [], ◌∷◌, ◌++◌, Some, None, Vec, length, slice_get, refl, sym, ap, subst, ◌∙◌, arith}
 use Rattle.bag_receiver.specs.Runs.{store_failure, store_failures}
-use Rattle.bag_receiver.proofs.AuditLemmas.{all_more}
 use Rattle.bag_receiver.proofs.ReceivingLemmas.{receives}
 use Rattle.bag_receiver.proofs.Words.{Answer, BadPath, CountsEach, CountsIf, Delivery, delivery_of, DeliverySteps, Digest, Does, Files, Global, IsAnswer, Keeper, Ledger, LedgerState, Length, Memory, NotListed, NoTransfer, Reader, Receiver, Receives, Refused, Repeated, Rises, Runs, Store, StoreFault, String, string_bytes, Taken, TooLarge, Whole, with_answers}
+use Rattle.bag_rules.proofs.HasLemmas.{all_last}
 
 pub steps_join : (name : List ℕ) (deliveries others : List Delivery) (old middle new : LedgerState) → DeliverySteps name deliveries old middle → DeliverySteps name others middle new
     → DeliverySteps name (deliveries ++ others) old new
@@ -65,7 +65,7 @@ module _ {K : Type 0} (holds may_leave : K → Ledger → Type 0) (clean : K →
           let then = does.leads c first.0 first.1 in
           (then.0, then.1, receives name (deliveries ++ delivery ∷ []) before then.0 (steps_join name deliveries (delivery ∷ []) before first.0 then.0 first.2.steps then.2.steps)));
     };
-    judged = all_more (IsAnswer name) deliveries delivery runs.judged is;
+    judged = all_last (IsAnswer name) deliveries delivery runs.judged is;
     store = subst (λ n. CountsEach n (failures old.keeper) (failures new.keeper)) (sym (failures_more deliveries delivery)) (counted delivery.answer _ _ _ _ runs.store counts);
   }
 

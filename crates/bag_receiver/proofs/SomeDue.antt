@@ -2,8 +2,9 @@
 use Rattle.std.proofs.Common.{◌≡◌, ◌≢◌, ◌≤◌, ℕ, List, [], ◌∷◌, Option, Some, None, length, cond, nat_eq, refl, sym, ap, ◌∙◌, inl, inr, arith}
 use Rattle.bag_digest.specs.Hash.{hash}
 use Rattle.bag_digest.specs.declared.digest.Digest.TheVariants as digest
-use Rattle.bag_receiver.proofs.FileLemmas.{held_or_not, same_or_not}
+use Rattle.bag_receiver.proofs.FileLemmas.{held_or_not}
 use Rattle.bag_receiver.proofs.Words.{Alg, Answer, BadPath, Content, decided_at_most, decided_equal, Digest, DigestOf, Files, HasOtherLength, IsDue, IsExpected, IsFirstAmong, IsPath, IsUtf8, LARGEST_ITEM, Length, ListsOther, Md5, NotListed, NoTransfer, Passes, path_fault, path_if_no_fault, PathFault, place_of, Refused, Repeated, Sha1, Sha256, Sha512, Taken, TooLarge, TooLong, Transfer, Unread, Whole}
+use Rattle.bag_rules.proofs.ValidityLemmas.{decided_octets}
 
 -- TWO DIGESTS ARE EQUAL OR NOT
 
@@ -25,7 +26,7 @@ read_again (digest.Sha256 octets) = refl
 read_again (digest.Sha512 octets) = refl
 
 digests_same : (a b : DigestOf) → ¬ (a ≢ b) → a ≡ b
-digests_same a b not_other = elim (same_or_not (code_of a) (code_of b)) [
+digests_same a b not_other = elim (decided_octets (code_of a) (code_of b)) [
   | inl same ↦ sym (read_again a) ∙ ap of_code same ∙ read_again b
   | inr other ↦ absurd (not_other (λ e. other (ap code_of e)))
 ]

@@ -9,6 +9,7 @@ use Rattle.bag_receiver.proofs.StepLemmas.{answered_held}
 use Rattle.std.specs.List.Sorted.{IsStrictlySortedBy}
 use Rattle.bag_path.specs.Paths.{path_fault}
 use Rattle.bag_receiver.proofs.Words.{a_passes, abc, abd, Accepts, Answer, Answered, AreAccepted, AreRising, both, contains_from_has, Cut, delivered, DeliverFault, Delivery, Event, file_a, file_e, Files, Has, has_from_contains, IsAccepted, IsFirstHeld, IsPath, keys_of, nothing_held, only_e, Passes, Reader, Refused, Repeated, Step, Steps, Stop, StopStep, tags_of_two, Taken, transfer_state, TransferState, two, Unread, Whole, with_doubtful_file, with_file}
+use Rattle.bag_receiver.proofs.HeldLemmas.{none_held}
 
 -- a path that isn't listed
 pub path_z : IsPath (codes "data/z")
@@ -19,9 +20,6 @@ path_z = ascii_path (codes "data/z") refl refl
 
 pub apart : file_e ≢ file_a
 apart = other_text file_e file_a refl
-
-pub none_held : (path : List ℕ) → ¬ Contains (keys_of {X = List ℕ} []) path
-none_held path h = has_from_contains [] path h
 
 pub a_not_held : ¬ Contains (keys_of only_e) file_a
 a_not_held h = elim (has_from_contains (keys_of only_e) file_a h) [ inl e ↦ apart e | inr none ↦ none ]

@@ -3,13 +3,12 @@ use Rattle.std.proofs.Common.{◌≡◌, ◌∙◌, ◌+◌, ◌-◌, ◌++◌, 
 use Rattle.std.proofs.lemmas.Option.{slice_get-get_or, slice_get_within}
 use Rattle.std.specs.Ordering.{is_lt}
 use Rattle.std.specs.List.Sorted.{IsStrictlySortedBy}
-use Rattle.bag_rules.proofs.HasLemmas.{has_at, has_push}
+use Rattle.bag_rules.proofs.HasLemmas.{has_at, has_push, all_last}
 use Rattle.bag_rules.proofs.ReportLemmas.{item_keys}
 use Rattle.bag_rules.proofs.SameListLemmas.{all_has}
 use Rattle.bag_rules.specs.declared.plan.ItemSize.{ItemSize}
 use Rattle.bag_rules.specs.Plans.{item_paths, sizes_of}
 use Rattle.bag_receiver.specs.Holdings.{AreValidSizes, IsPlanFor, SomePass}
-use Rattle.bag_receiver.proofs.AuditLemmas.{all_more}
 use Rattle.bag_receiver.proofs.Words.{AllByRecursion, AreRising, Equal, Files, Greater, items_of, Ledger, length-map, Less, map-append, nat_cmp, nat_list_cmp_total, option_map, Ordering, Passes, Plan, slice_cmp, slice_get-map}
 
 -- PATHS IN ORDER
@@ -18,9 +17,9 @@ all_before : {X : Type 0} (P : X → Type 0) (xs ys : List X) → AllByRecursion
 all_before P [] ys all = tt
 all_before P (x ∷ xs) ys all = (all.0, all_before P xs ys all.1)
 
-all_last : {X : Type 0} (P : X → Type 0) (xs : List X) (x : X) → AllByRecursion P (xs ++ x ∷ []) → P x
-all_last P [] x all = all.0
-all_last P (y ∷ xs) x all = all_last P xs x all.1
+last_of_all : {X : Type 0} (P : X → Type 0) (xs : List X) (x : X) → AllByRecursion P (xs ++ x ∷ []) → P x
+last_of_all P [] x all = all.0
+last_of_all P (y ∷ xs) x all = last_of_all P xs x all.1
 
 rising_before : (paths others : List (List ℕ)) → AreRising (paths ++ others) → AreRising paths
 unfolding IsStrictlySortedBy
@@ -34,12 +33,12 @@ AreLess paths path = AllByRecursion (λ other. slice_cmp nat_cmp other path ≡ 
 rising_behind : (paths : List (List ℕ)) (path : List ℕ) → AreRising paths → AreLess paths path → AreRising (paths ++ path ∷ [])
 unfolding IsStrictlySortedBy
 rising_behind [] path rising less = (tt, tt)
-rising_behind (first ∷ paths) path rising less = (all_more (λ other. slice_cmp nat_cmp first other ≡ Less) paths path rising.0 less.0, rising_behind paths path rising.1 less.1)
+rising_behind (first ∷ paths) path rising less = (all_last (λ other. slice_cmp nat_cmp first other ≡ Less) paths path rising.0 less.0, rising_behind paths path rising.1 less.1)
 
 less_before : (paths : List (List ℕ)) (path : List ℕ) → AreRising (paths ++ path ∷ []) → AreLess paths path
 unfolding IsStrictlySortedBy
 less_before [] path rising = tt
-less_before (first ∷ paths) path rising = (all_last (λ other. slice_cmp nat_cmp first other ≡ Less) paths path rising.0, less_before paths path rising.1)
+less_before (first ∷ paths) path rising = (last_of_all (λ other. slice_cmp nat_cmp first other ≡ Less) paths path rising.0, less_before paths path rising.1)
 
 -- the last of paths in order is the greatest
 less_from_last : (paths : List (List ℕ)) (i : ℕ) (last path : List ℕ) → AreRising paths → slice_get paths i ≡ Some last → i + 1 ≡ length paths → slice_cmp nat_cmp last path ≡ Less

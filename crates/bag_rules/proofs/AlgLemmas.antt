@@ -2,12 +2,7 @@
 use Rattle.std.proofs.Common.{◌≡◌, true, refl, inl, inr}
 use Rattle.bag_digest.specs.declared.algorithm.TheConstants.Alg.{ALL}
 use Rattle.bag_rules.proofs.Words.{Alg, Has, is_alg, Md5, Sha1, Sha256, Sha512}
-
-pub each_alg : (P : Alg → Type 0) → P Md5 → P Sha1 → P Sha256 → P Sha512 → (alg : Alg) → P alg
-each_alg P a b c d Md5 = a
-each_alg P a b c d Sha1 = b
-each_alg P a b c d Sha256 = c
-each_alg P a b c d Sha512 = d
+use Rattle.bag_tags.proofs.TextFiles.{each_alg}
 
 pub in_all : (alg : Alg) → Has ALL alg
 in_all = each_alg (Has ALL) (inl refl) (inr (inl refl)) (inr (inr (inl refl))) (inr (inr (inr (inl refl))))

@@ -1,7 +1,8 @@
 -- What `any` says about a list.
 use Rattle.std.proofs.Common.{◌≡◌, ◌<◌, ℕ, Bool, true, false, List, length, sym, subst, arith}
 use Rattle.bag_rules.proofs.Words.{AllWithin, get_or_from_slice_get, Has, HoldsAt, MatchBool, slice_get_within}
-use Rattle.bag_rules.proofs.HasLemmas.{has_at, place_of_has, stands}
+use Rattle.bag_rules.proofs.HasLemmas.{has_at, place_of_has}
+use Rattle.bag_digest.proofs.ListLemmas.{stands}
 
 -- some member has P, or none has
 pub some_or_none : {X : Type 0} (P : X → Type 0) (r : Bool) (xs : List X) → MatchBool r ((k : ℕ) × (k < length xs) × HoldsAt P xs k) (AllWithin (λ x. ¬ P x) xs 0 (length xs)) → MatchBool r ((x : X) × Has xs x × P x) ((x : X) → Has xs x → ¬ P x)

@@ -13,8 +13,8 @@ use Rattle.bag_digest.specs.ShortContents.{AreSumsOfEach}
 use Rattle.bag_rules.specs.Wants.{CoversListed}
 use Rattle.bag_rules.specs.FileBatchInside.{AddsSums, AreAlgsOf, AreRead, AreReadings, AreSumsRead, IsSumsOf, Covers, HasSumsAt, AddsHeld, IsHeldFor, IsReadingOf, StreamFact}
 use Rattle.bag_rules.proofs.FileReadLemmas.{push_at, push_before}
-use Rattle.bag_rules.proofs.HasLemmas.{stands}
 use Rattle.bag_rules.proofs.Words.{Alg, AlgSet, CheckFault, has, HasFileAt, IsLongRead, is_payload, IsReadBy, same_Some, Shown, slice_get_within, Requirements}
+use Rattle.bag_digest.proofs.ListLemmas.{stands}
 
 -- what is held of a batch grows
 pub record Grows (old new : FileBatch) : Type 0 where

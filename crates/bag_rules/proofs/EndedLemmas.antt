@@ -19,11 +19,11 @@ use Rattle.bag_rules.specs.OpenTrees.{IsTooLarge}
 use Rattle.bag_rules.specs.Returning.{AreUnfailed, HasStoppedFirst, IsStopped, IsToldOf}
 use Rattle.bag_rules.specs.declared.file_batch.FileBatch.{FileBatch}
 use Rattle.bag_rules.proofs.BatchLemmas.{readings_same}
-use Rattle.bag_rules.proofs.HasLemmas.{stands}
 use Rattle.bag_rules.proofs.KeptLemmas.{gave_more}
 use Rattle.bag_rules.proofs.LimitLemmas.{first_stops, stopped_so}
 use Rattle.bag_rules.proofs.TreeLemmas.{file_at, same_count}
 use Rattle.bag_rules.proofs.Words.{Bag, cases_lt, CheckFault, FirstStops, HasFileAt, IsBagOf, IsLongFile, IsLongRead, NoneStopsBefore, octets_in, paths_in, same_Some, Shown, slice_get_within, Stopped, Requirements}
+use Rattle.bag_digest.proofs.ListLemmas.{stands}
 
 some_and : {X : Type 0} (o : Option X) (P : X → Type 0) → IsSomeAnd o P → (x : X) × (o ≡ Some x) × P x
 some_and None P none = absurd none

@@ -5,14 +5,12 @@ use Rattle.bag_path.specs.declared.version.Version.{Version}
 use Rattle.bag_digest.specs.declared.sums.Sums.{Sums}
 use Rattle.bag_rules.specs.KeptInside.{HasSums}
 use Rattle.bag_rules.proofs.AddsLemmas.{adds_none, adds_on, adds_one, adds_so}
-use Rattle.bag_rules.proofs.AlgLemmas.{each_alg, itself}
+use Rattle.bag_rules.proofs.AlgLemmas.{itself}
 use Rattle.bag_rules.proofs.ListedLemmas.{some_listed}
+use Rattle.bag_tags.proofs.TextFiles.{each_alg}
+use Rattle.std.proofs.Math.Bool.{or-false, and-true}
 
 -- THE ALGORITHMS OF A FILE
-
-or_false : (b : Bool) → (b || false) ≡ b
-or_false true = refl
-or_false false = refl
 
 or_assoc : (a b c : Bool) → (a || (b || c)) ≡ ((a || b) || c)
 or_assoc true b c = refl
@@ -24,12 +22,8 @@ or_turned true false = refl
 or_turned false true = refl
 or_turned false false = refl
 
-and_true : (b : Bool) → (b && true) ≡ b
-and_true true = refl
-and_true false = refl
-
 lists_push : (listings : List Listing) (new : Listing) (path : List ℕ) (alg : Alg) → lists_by (listings ++ new ∷ []) path alg ≡ (lists_by listings path alg || (is_alg new.alg alg && lists_path new.pairs path))
-lists_push [] new path alg = or_false (is_alg new.alg alg && lists_path new.pairs path)
+lists_push [] new path alg = or-false (is_alg new.alg alg && lists_path new.pairs path)
 lists_push (l ∷ listings) new path alg = ap (λ b. (is_alg l.alg alg && lists_path l.pairs path) || b) (lists_push listings new path alg) ∙ or_assoc (is_alg l.alg alg && lists_path l.pairs path) (lists_by listings path alg) (is_alg new.alg alg && lists_path new.pairs path)
 
 -- one more manifest, which lists the path
@@ -38,14 +32,14 @@ one_lists listings new path old set lists before with_alg alg =
     with_alg alg
     ∙ ap (λ b. is_alg new.alg alg || b) (before alg)
     ∙ or_turned (is_alg new.alg alg) (lists_by listings path alg)
-    ∙ ap (λ b. lists_by listings path alg || b) (sym (ap (λ b. is_alg new.alg alg && b) lists ∙ and_true (is_alg new.alg alg)))
+    ∙ ap (λ b. lists_by listings path alg || b) (sym (ap (λ b. is_alg new.alg alg && b) lists ∙ and-true (is_alg new.alg alg)))
     ∙ sym (lists_push listings new path alg)
 
 -- and one that doesn't
 pub none_lists : (listings : List Listing) (new : Listing) (path : List ℕ) (set : AlgSet) → lists_path new.pairs path ≡ false → ((alg : Alg) → has set alg ≡ lists_by listings path alg) → (alg : Alg) → has set alg ≡ lists_by (listings ++ new ∷ []) path alg
 none_lists listings new path set lists before alg =
     before alg
-    ∙ sym (or_false (lists_by listings path alg))
+    ∙ sym (or-false (lists_by listings path alg))
     ∙ ap (λ b. lists_by listings path alg || b) (sym (and_right (is_alg new.alg alg) (lists_path new.pairs path) lists))
     ∙ sym (lists_push listings new path alg)
 

@@ -23,7 +23,7 @@ then_where Less p q same = refl
 then_where Equal p q same = same refl
 then_where Greater p q same = refl
 
-then_end : (o : Ordering) → ordering_then o Equal ≡ o
+pub then_end : (o : Ordering) → ordering_then o Equal ≡ o
 then_end Less = refl
 then_end Equal = refl
 then_end Greater = refl

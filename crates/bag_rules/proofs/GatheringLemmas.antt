@@ -16,10 +16,10 @@ use Rattle.bag_rules.specs.FileBatchInside.{IsReadFor, IsReadingOf, next_of}
 use Rattle.bag_rules.specs.BatchReading.{AreGathered, AreOpen, AreReady, AreWithin, HasRest, HoldsFront, IsFront, IsOut, IsStreamOf}
 use Rattle.bag_rules.proofs.BatchLemmas.{Grows, adds_grows, or_left, or_right, readings_more}
 use Rattle.bag_rules.proofs.FileReadLemmas.{push_at, push_before}
-use Rattle.bag_rules.proofs.HasLemmas.{stands}
 use Rattle.bag_rules.proofs.LimitLemmas.{none_more}
 use Rattle.bag_rules.proofs.TreeLemmas.{file_at, same_count}
 use Rattle.bag_rules.proofs.Words.{AlgSet, Bag, CheckFault, has, HasFileAt, IsBagOf, IsLongRead, NoneStopsBefore, octets_in, paths_in, Shown, slice_get_within, Requirements}
+use Rattle.bag_digest.proofs.ListLemmas.{stands}
 
 module _ {F : Type 0} (place : F → ℕ) (remaining : F → Option (List ℕ)) (shown : Shown) (wants : Requirements) (old new : BatchReading F) where
   -- one file more, which is no stream

@@ -1,7 +1,7 @@
 -- That something is in a list, by recursion and by index.
 use native.Mathlib.Omega.{arith}
-use Rattle.std.proofs.Common.{◌≡◌, ◌⊎◌, ◌↔◌, ◌<◌, ℕ, List, [], ◌∷◌, ◌++◌, Some, length, map, slice_get, inl, inr, zero, suc, refl, ap, subst}
-use Rattle.std.specs.List.{Contains}
+use Rattle.std.proofs.Common.{◌≡◌, ◌⊎◌, ◌↔◌, ℕ, List, [], ◌∷◌, ◌++◌, Some, map, slice_get, inl, inr, zero, suc, refl, ap, subst}
+use Rattle.std.specs.List.{AllByRecursion, Contains}
 use Rattle.std.proofs.lemmas.List.Elements.{Contains-append_left, Contains-push, Contains-push_cases}
 use Rattle.bag_rules.proofs.Words.{Has}
 use Rattle.bag_rules.proofs.RisingPaths.{contains_at, place_of}
@@ -25,6 +25,33 @@ has_push xs new x = (
   λ h. has_from_contains (xs ++ new ∷ []) x (elim h [ inl k ↦ Contains-append_left xs (new ∷ []) x (contains_from_has xs x k) | inr e ↦ subst (Contains (xs ++ new ∷ [])) e (Contains-push xs new) ]),
 )
 
+-- what is in one of two lists, or in both joined
+pub has_left : {X : Type 0} (xs ys : List X) (x : X) → Has xs x → Has (xs ++ ys) x
+has_left [] ys x h = absurd h
+has_left (y ∷ xs) ys x (inl e) = inl e
+has_left (y ∷ xs) ys x (inr h) = inr (has_left xs ys x h)
+
+pub has_right : {X : Type 0} (xs ys : List X) (x : X) → Has ys x → Has (xs ++ ys) x
+has_right [] ys x h = h
+has_right (y ∷ xs) ys x h = inr (has_right xs ys x h)
+
+pub has_either : {X : Type 0} (xs ys : List X) (x : X) → Has (xs ++ ys) x → Has xs x ⊎ Has ys x
+has_either [] ys x h = inr h
+has_either (y ∷ xs) ys x (inl e) = inl (inl e)
+has_either (y ∷ xs) ys x (inr h) = elim (has_either xs ys x h) [ inl k ↦ inl (inr k) | inr k ↦ inr k ]
+
+pub has_both : {X : Type 0} (xs ys : List X) (x : X) → Has (xs ++ ys) x ↔ (Has xs x ⊎ Has ys x)
+has_both xs ys x = (has_either xs ys x, λ either. elim either [ inl h ↦ has_left xs ys x h | inr h ↦ has_right xs ys x h ])
+
+-- what holds of each
+pub all_of : {X : Type 0} (P : X → Type 0) (xs : List X) → ((x : X) → Has xs x → P x) → AllByRecursion P xs
+all_of P [] each = tt
+all_of P (x ∷ xs) each = (each x (inl refl), all_of P xs (λ y has. each y (inr has)))
+
+pub all_last : {X : Type 0} (P : X → Type 0) (xs : List X) (x : X) → AllByRecursion P xs → P x → AllByRecursion P (xs ++ x ∷ [])
+all_last P [] x all here = (here, tt)
+all_last P (y ∷ xs) x all here = (all.0, all_last P xs x all.1 here)
+
 -- what is made of each
 pub has_map : {X Y : Type 0} (f : X → Y) (xs : List X) (x : X) → Has xs x → Has (map f xs) (f x)
 has_map f [] x h = absurd h
@@ -40,9 +67,3 @@ has_at xs i x here = has_from_contains xs x (contains_at xs i x here)
 
 pub place_of_has : {X : Type 0} (xs : List X) (x : X) → Has xs x → (i : ℕ) × (slice_get xs i ≡ Some x)
 place_of_has xs x h = place_of xs x (contains_from_has xs x h)
-
--- something stands at each place
-pub stands : {X : Type 0} (xs : List X) (i : ℕ) → i < length xs → (x : X) × (slice_get xs i ≡ Some x)
-stands [] i h = absurd (omega (arith, h))
-stands (x ∷ xs) zero h = (x, refl)
-stands (x ∷ xs) (suc i) h = stands xs i (omega (arith, h))

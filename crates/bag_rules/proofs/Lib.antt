@@ -28,7 +28,7 @@ pub mod TextsMore
 pub mod FileFaultLemmas
 pub mod FileReadLemmas
 pub mod BatchLemmas
-mod ReturningLemmas
+pub mod ReturningLemmas
 mod GatheringLemmas
 mod AddingLemmas
 mod EndedLemmas

@@ -4,16 +4,8 @@ use Rattle.bag_rules.specs.OpeningInside.{IsListedIn}
 use Rattle.bag_rules.specs.Transfers.{IsExpected, tag_bag}
 use Rattle.bag_rules.proofs.Words.{AreTextsOf, Files, Has, Listing, Lists, lists_path, manifest_name, Pair, Payload, TagTexts}
 use Rattle.bag_rules.proofs.FileKindLemmas.{has_of_lists, lists_of_has}
-use Rattle.bag_rules.proofs.HasLemmas.{has_from_map, has_map, has_push}
+use Rattle.bag_rules.proofs.HasLemmas.{has_from_map, has_map, has_push, has_both}
 use Rattle.bag_rules.proofs.MissingLemmas.{pair_listed, pair_of}
-
-has_both : {X : Type 0} (xs ys : List X) (x : X) → Has (xs ++ ys) x ↔ (Has xs x ⊎ Has ys x)
-has_both [] ys x = (λ h. inr h, λ h. elim h [ inl k ↦ absurd k | inr k ↦ k ])
-has_both (y ∷ xs) ys x =
-    let rest = has_both xs ys x in (
-      λ h. elim h [ inl e ↦ inl (inl e) | inr k ↦ elim (rest.0 k) [ inl m ↦ inl (inr m) | inr m ↦ inr m ] ],
-      λ h. elim h [ inl k ↦ elim k [ inl e ↦ inl e | inr m ↦ inr (rest.1 (inl m)) ] | inr m ↦ inr (rest.1 (inr m)) ],
-    )
 
 -- the paths of the pairs of a manifest
 paths_of_pairs : (pairs : List Pair) (path : List ℕ) → Has (map (λ (pair : Pair). pair.path) pairs) path ↔ (lists_path pairs path ≡ true)

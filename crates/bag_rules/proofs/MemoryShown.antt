@@ -3,10 +3,10 @@ use Rattle.std.proofs.Common.{◌≡◌, ℕ, zero, suc, ◌+◌, ◌<◌, ◌�
 use Rattle.bag_rules.proofs.Words.{All-nil, AreRising, Consumes, drop-drop, File, ForSome, insert, Inside, is_payload, IsAtEnd, IsSoundTree, mem_octets, mem_paths, mem_shown, MemFiles, moved_up, no_files, octets_in, option_map, paths_in, Reading, rest_of, files_of, take-append_seam, values_of, view_of}
 use Rattle.std.specs.List.Sorted.{IsStrictlySortedBy}
 use Rattle.bag_rules.specs.Files.{paths_of}
-use Rattle.bag_rules.proofs.HasLemmas.{stands}
 use Rattle.bag_rules.proofs.FilesShown.{length_shown, length_bodies, shown_insert}
 use Rattle.bag_rules.proofs.TreeLemmas.{all_paths}
 use Rattle.bag_rules.proofs.MemoryFiles.{map-insert, slice_get-insert_moved}
+use Rattle.bag_digest.proofs.ListLemmas.{stands}
 
 -- the paths that the tree shows
 pub shown_is : (tree : MemFiles) (inside : Inside) → view_of inside ≡ tree → paths_in (mem_shown tree) ≡ paths_of inside.files.items

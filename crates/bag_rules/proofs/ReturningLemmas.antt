@@ -1,7 +1,7 @@
 -- Files of a tree that are out, and the count that they have raised.
-use Rattle.std.proofs.Common.{◌≡◌, ◌∙◌, ◌+◌, ◌-◌, ◌<◌, ◌++◌, ◌∷◌, [], ℕ, List, Option, Some, Result, Err, MatchResult, ap, arith, drop, inl, inr, length, length-append, refl, slice_get, subst, sym, take}
+use Rattle.std.proofs.Common.{◌≡◌, ◌∙◌, ◌+◌, ◌-◌, ◌<◌, ◌++◌, ◌∷◌, [], ℕ, List, Option, Some, Result, Err, MatchResult, ap, arith, inl, inr, length, length-append, refl, slice_get, subst, sym, take}
 use Rattle.std.specs.Prelude.{option_to_list}
-use Rattle.std.proofs.lemmas.List.{length-take-le, take-append-le, take_all}
+use Rattle.std.proofs.lemmas.List.{length-take-le}
 use Rattle.bag_digest.specs.declared.reading.SourceFault.{SourceFault}
 use Rattle.bag_digest.specs.declared.reading.SourceFault.TheVariants.{Read, TooLarge}
 use Rattle.bag_digest.specs.Failures.{IsRaised}
@@ -116,10 +116,6 @@ module _ {T : Type 0} {shown : T → Shown} {failures : T → ℕ} {sure : T →
 
   pub none_out : {a : T} → LeavesOut shown failures sure 0 0 a a
   none_out = leaves_same 0 keeps_same refl
-
--- the elements of a vector, after its slice was written
-pub written : {X : Type 0} (xs ys : List X) (n : ℕ) → n ≡ length xs → length ys ≡ length xs → take n (ys ++ drop (length ys) xs) ≡ ys
-written xs ys n count same = take-append-le n ys (drop (length ys) xs) (omega (arith, count, same)) ∙ take_all n ys (omega (arith, count, same))
 
 -- THE LAST OF SOME FILES
 

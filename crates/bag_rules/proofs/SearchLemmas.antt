@@ -2,8 +2,9 @@
 use Rattle.std.proofs.Common.{◌≡◌, ◌≢◌, ◌<◌, ◌+◌, ◌∙◌, ◌↔◌, ℕ, List, Contains, Some, Result, Ok, Err, IsTrue, is_ok, get_or, length, map, slice_get, refl, sym, ap, subst, inl, inr, arith}
 use Rattle.bag_rules.proofs.Words.{AreRising, cases_lt, Equal, exact_bytes, false≢true, get_or_from_slice_get, Greater, Has, HoldsAt, is_lt, IsBinarySearchResult, IsNonDecreasingBy, IsSearchInRange, Less, nat_cmp, nat_list_cmp_total, option_map, Ordering, ordering_index, ordering_reverse, searchable_from_sorted, slice_cmp, slice_get-map, slice_get_within, tied_itself}
 use Rattle.bag_rules.proofs.EachLemmas.{stands_at}
-use Rattle.bag_rules.proofs.HasLemmas.{contains_from_has, has_at, has_from_contains, has_from_map, has_map, place_of_has, stands}
+use Rattle.bag_rules.proofs.HasLemmas.{contains_from_has, has_at, has_from_contains, has_from_map, has_map, place_of_has}
 use Rattle.bag_rules.proofs.RisingPaths.{lesser}
+use Rattle.bag_digest.proofs.ListLemmas.{stands}
 
 module _ {X : Type 0} (path_of : X → List ℕ) (items : List X) (path : List ℕ) where
   -- what a search compares

@@ -6,6 +6,7 @@ use Rattle.bag_rules.specs.Bags.{ListsBy, ListsFetchBy, SaysInfoBy, version_of}
 use Rattle.bag_rules.proofs.AddsLemmas.{adds_on}
 use Rattle.bag_rules.proofs.FrontLemmas.{whole_front}
 use Rattle.bag_rules.proofs.FirstFiles.{Says, says_more, says_here, says_split, value_stays, value_given}
+use Rattle.bag_rules.proofs.TextsRead.{through}
 
 -- the three kinds of tag files, each in the same way
 abbrev InfoSays : Version → List MetadataElement → List ℕ → Type 0
@@ -25,9 +26,6 @@ fetch_as version bag lines = (λ s. (s.octets, s.there, s.text), λ s. record { 
 
 listing_as : (version : Version) (bag : Bag) (listing : Listing) → ListsBy version bag (name_in listing) listing.pairs ↔ Says bag (Manifest (name_in listing)) (ListingSays version listing)
 listing_as version bag listing = (λ s. (s.octets, s.there, s.text), λ s. record { octets = s.0; there = s.1; text = s.2 })
-
-both_ways : {A B C : Type 0} → A ↔ B → B ↔ C → A ↔ C
-both_ways f g = (λ a. g.0 (f.0 a), λ c. f.1 (g.1 c))
 
 back : {A B : Type 0} → A ↔ B → B ↔ A
 back f = (f.1, f.0)
@@ -59,20 +57,20 @@ module _ (bag : Bag) (n : ℕ) (path octets : List ℕ) (there : slice_get bag.f
 
   module _ (old new : TagTexts) (are : AreTextsOf n bag old) where
     info_kept : path ≢ text_file Info → new.info ≡ old.info → (elements : List MetadataElement) → (new.info ≡ Some elements) ↔ SaysInfoBy (version_of bag) (front (n + 1) bag) elements
-    info_kept other same elements = both_ways
-        (value_stays bag n path octets there once Info (InfoSays (version_of bag)) old.info new.info other same (λ e. both_ways (are.info e) (info_as (version_of bag) (front n bag) e)) elements)
+    info_kept other same elements = through
+        (value_stays bag n path octets there once Info (InfoSays (version_of bag)) old.info new.info other same (λ e. through (are.info e) (info_as (version_of bag) (front n bag) e)) elements)
         (back (info_as (version_of bag) (front (n + 1) bag) elements))
 
     info_put : path ≡ text_file Info → ((elements : List MetadataElement) → (new.info ≡ Some elements) ↔ InfoText (version_of bag) octets elements) → (elements : List MetadataElement) → (new.info ≡ Some elements) ↔ SaysInfoBy (version_of bag) (front (n + 1) bag) elements
-    info_put is tells elements = both_ways (value_given bag n path octets there once Info (InfoSays (version_of bag)) new.info is tells elements) (back (info_as (version_of bag) (front (n + 1) bag) elements))
+    info_put is tells elements = through (value_given bag n path octets there once Info (InfoSays (version_of bag)) new.info is tells elements) (back (info_as (version_of bag) (front (n + 1) bag) elements))
 
     fetch_kept : path ≢ text_file FetchList → new.fetch ≡ old.fetch → (lines : List FetchLine) → (new.fetch ≡ Some lines) ↔ ListsFetchBy (version_of bag) (front (n + 1) bag) lines
-    fetch_kept other same lines = both_ways
-        (value_stays bag n path octets there once FetchList (FetchSays (version_of bag)) old.fetch new.fetch other same (λ e. both_ways (are.fetch e) (fetch_as (version_of bag) (front n bag) e)) lines)
+    fetch_kept other same lines = through
+        (value_stays bag n path octets there once FetchList (FetchSays (version_of bag)) old.fetch new.fetch other same (λ e. through (are.fetch e) (fetch_as (version_of bag) (front n bag) e)) lines)
         (back (fetch_as (version_of bag) (front (n + 1) bag) lines))
 
     fetch_put : path ≡ text_file FetchList → ((lines : List FetchLine) → (new.fetch ≡ Some lines) ↔ FetchText (version_of bag) octets lines) → (lines : List FetchLine) → (new.fetch ≡ Some lines) ↔ ListsFetchBy (version_of bag) (front (n + 1) bag) lines
-    fetch_put is tells lines = both_ways (value_given bag n path octets there once FetchList (FetchSays (version_of bag)) new.fetch is tells lines) (back (fetch_as (version_of bag) (front (n + 1) bag) lines))
+    fetch_put is tells lines = through (value_given bag n path octets there once FetchList (FetchSays (version_of bag)) new.fetch is tells lines) (back (fetch_as (version_of bag) (front (n + 1) bag) lines))
 
     listing_stays : (listing : Listing) → Has old.manifests.items listing → ListsBy (version_of bag) (front (n + 1) bag) (name_in listing) listing.pairs
     listing_stays listing has = (listing_as (version_of bag) (front (n + 1) bag) listing).1 (says_more bag n path octets there once (Manifest (name_in listing)) (ListingSays (version_of bag) listing) ((listing_as (version_of bag) (front n bag) listing).0 ((are.manifests listing).0 has)))

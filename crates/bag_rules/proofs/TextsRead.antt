@@ -43,7 +43,7 @@ gives version name octets listing = (
 
 -- THE TEXTS
 
-through : {P Q R : Type 0} → P ↔ Q → Q ↔ R → P ↔ R
+pub through : {P Q R : Type 0} → P ↔ Q → Q ↔ R → P ↔ R
 through a b = (λ p. b.0 (a.0 p), λ r. a.1 (b.1 r))
 
 listings_told : (found : Option Listing) (says : Listing → Type 0) → ((x : Listing) → (found ≡ Some x) ↔ says x) → (listings : List Listing) (x : Listing) → Has (listings_now found listings) x ↔ (Has listings x ⊎ says x)

@@ -12,8 +12,9 @@ use Rattle.bag_rules.specs.Listed.{IsUnlisted}
 use Rattle.bag_rules.proofs.Words.{Adds, Alg, AlgSet, AreTextsOf, Bag, cases_Bool, cases_lt, false≢true, Fault, Greater, has, Listing, Lists, lists_path, manifest_file, manifest_name, Md5, nat_cmp, OfSome, Pair, Payload, Sha1, Sha256, Sha512, slice_cmp, TagTexts, V1, V097}
 use Rattle.bag_rules.proofs.AddsLemmas.{adds_one, adds_same, adds_so}
 use Rattle.bag_rules.proofs.EachLemmas.{each_all, each_at, stands_at}
-use Rattle.bag_rules.proofs.AlgLemmas.{each_alg, in_all}
+use Rattle.bag_rules.proofs.AlgLemmas.{in_all}
 use Rattle.bag_rules.proofs.FrontLemmas.{manifest_listed}
+use Rattle.bag_tags.proofs.TextFiles.{each_alg}
 
 -- THE ORDER OF PAYLOAD MANIFESTS
 

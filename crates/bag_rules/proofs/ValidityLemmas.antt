@@ -12,7 +12,7 @@ use Rattle.bag_rules.proofs.VerdictLemmas.{declared_none, number_by_tier}
 
 -- DECISIONS
 
-decided_octets : (a b : List ℕ) → Decided (a ≡ b)
+pub decided_octets : (a b : List ℕ) → Decided (a ≡ b)
 decided_octets a b = decided_by (a ≡ b) (bytes_eq a b) (bytes_eq-Decides a b)
 
 pub decided_digest : (a b : Digest) → Decided (a ≡ b)

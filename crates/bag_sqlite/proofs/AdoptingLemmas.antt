@@ -5,6 +5,7 @@ use Rattle.bag_sqlite.specs.Reading.{ShowsRows}
 use Rattle.bag_sqlite.proofs.ReadingLemmas.{was_open}
 use Rattle.bag_sqlite.proofs.SqlLemmas.{survives_both, survives_same}
 use Rattle.bag_sqlite.proofs.TransferRows.{files_put}
+use Rattle.bag_rules.proofs.HasLemmas.{all_last}
 
 -- READS
 
@@ -98,10 +99,6 @@ put_as_with files (row ∷ rows) = put_as_with (insert_entry (slice_cmp nat_cmp)
 -- the transfer in this row is valid
 abbrev pub Verifies : {S : Type 0} → Ghosts S → Database → Format → Row → Type 0
 Verifies g db format row = (transfer : ℤ) × (column row 0 ≡ Int transfer) × TransferPasses g db format transfer
-
-all_last : {X : Type 0} (P : X → Type 0) (xs : List X) (x : X) → AllByRecursion P xs → P x → AllByRecursion P (xs ++ x ∷ [])
-all_last P [] x all here = (here, tt)
-all_last P (y ∷ xs) x all here = (all.0, all_last P xs x all.1 here)
 
 -- one more row
 pub all_more : (P : Row → Type 0) (rows : List Row) (i : ℕ) (row : Row) → i < length rows → row ≡ get_or rows i row → AllByRecursion P (take i rows) → P row → AllByRecursion P (take (i + 1) rows)

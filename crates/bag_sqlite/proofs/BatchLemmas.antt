@@ -2,12 +2,12 @@
 use Rattle.std.proofs.Common.{IfNone, IfSome, MatchOption, None, Option, Some, string_bytes, ◌≡◌, ◌||◌, ◌∙◌, ◌++◌, ◌∷◌, ◌+◌, ◌<◌, ◌≤◌, ◌⊎◌, [], ℕ, ℤ, List, Vec, ap, arith, drop, get_or, inl, inr, length, pos, refl, suc, subst, sym, take, unwrap_or}
 use Rattle.bag_sqlite.proofs.Words.{Alg, AlgSet, AllByRecursion, AreCovered, AreSumsFor, AreSumsOfEach, AreWanted, ShortItems, column, CoversWant, Database, drop-cons, Files, Format, Ghosts, Global, has, HasContent, HasDamagedItem, HasMisfit, HasOneMore, Int, IsEmpty, FindsItem, IsWanted, IsWantOf, ItemFails, ItemPasses, items_text, LARGEST_ITEM, or-true, passes_wanted, Row, RowPasses, slice_get_read, String, Sums, Tells, Text, Untested, Want, wanted_passes}
 use Rattle.std.proofs.lemmas.Option.{get_or_from_slice_get}
-use Rattle.bag_rules.proofs.HasLemmas.{stands}
 use Rattle.bag_ledger.specs.Findings.{FindsContent}
 use Rattle.bag_ledger.specs.declared.finding.Finding.{Finding}
 use Rattle.bag_ledger.specs.declared.finding.Finding.TheVariants.{Damaged, Valid}
 use Rattle.bag_sqlite.proofs.AdoptingLemmas.{all_more}
 use Rattle.bag_sqlite.proofs.RefusingLemmas.{all_at}
+use Rattle.bag_digest.proofs.ListLemmas.{stands}
 
 -- WHAT IS WANTED
 

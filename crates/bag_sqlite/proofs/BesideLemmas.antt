@@ -1,9 +1,8 @@
 -- Long payload files that are read side by side, from one piece to the next.
 use Rattle.std.proofs.Common.{zero, suc, ◌∷◌, ◌≡◌, ◌≢◌, ◌∙◌, ◌+◌, ◌-◌, ◌*◌, ◌≤◌, ◌<◌, ◌++◌, ℕ, ℤ, List, Vec, [], Option, Some, None, IfSome, ap, arith, inl, inr, length, length-append, pos, refl, set, slice_get, subst, sym, take, true, false}
-use Rattle.std.specs.Prelude.{Bool, Err, IfOk, IsTrue, MatchOption, MatchResult, Ok, Result, is_none, is_ok}
+use Rattle.std.specs.Prelude.{Bool, Err, IfOk, IsTrue, MatchOption, MatchResult, Ok, Result, is_ok}
 use Rattle.std.proofs.lemmas.Bool.{cases_lt}
 use Rattle.std.proofs.lemmas.Option.{get_or_from_slice_get, same_Some}
-use Rattle.bag_rules.proofs.HasLemmas.{stands}
 use Rattle.bag_digest.specs.Lanes.{HoldsAt, OtherLanesStay}
 use Rattle.bag_digest.specs.declared.multi_lanes.MultiLanes.{MultiLanes}
 use Rattle.bag_sqlite.proofs.Words.{AlgSet, AllByRecursion, AreDigests, AreFull, AreSumsFor, ShortItems, Blob, concat, count_text, CoversWant, Database, Digests, Files, Format, Ghosts, Global, Int, IsPlanOf, IsWanted, IsWantOf, LARGEST_ITEM, PIECE, piece_text, Plan, Row, RowPasses, TellsOne, Text, Value, Want}
@@ -13,6 +12,7 @@ use Rattle.bag_sqlite.proofs.BatchLemmas.{SoFar, known_by}
 use Rattle.bag_sqlite.specs.Beside.{AreDone, AreHashed, AreItemsOf, ArePassing, AreRead, AreValid, GoesOn, HaveFullPieces, HaveTaken, HoldsPieces, IsFirstOpen, IsHashed, IsPiece, IsRead, IsValid}
 use Rattle.bag_sqlite.specs.declared.format.Format.TheVariants as form
 use Rattle.bag_sqlite.specs.declared.long_item.LongItem.{LongItem}
+use Rattle.bag_digest.proofs.ListLemmas.{stands}
 
 -- what holds of each lane
 pub each_lane : (P : ℕ → Type 0) → P 0 → P 1 → P 2 → P 3 → (i : ℕ) → i < 4 → P i
@@ -22,32 +22,10 @@ each_lane P a b c d (suc (suc zero)) h = c
 each_lane P a b c d (suc (suc (suc zero))) h = d
 each_lane P a b c d (suc (suc (suc (suc i)))) h = absurd (omega arith)
 
--- an element that was put in the place of another
-pub set_here : {X : Type 0} (xs : List X) (i : ℕ) (x : X) → i < length xs → slice_get (set xs i x) i ≡ Some x
-set_here [] i x h = absurd (omega (arith, h))
-set_here (y ∷ xs) zero x h = refl
-set_here (y ∷ xs) (suc i) x h = set_here xs i x (omega (arith, h))
-
-pub set_there : {X : Type 0} (xs : List X) (i j : ℕ) (x : X) → j ≢ i → slice_get (set xs i x) j ≡ slice_get xs j
-set_there [] i j x h = refl
-set_there (y ∷ xs) zero zero x h = absurd (h refl)
-set_there (y ∷ xs) zero (suc j) x h = refl
-set_there (y ∷ xs) (suc i) zero x h = refl
-set_there (y ∷ xs) (suc i) (suc j) x h = set_there xs i j x (λ e. h (ap suc e))
-
 pub set_length : {X : Type 0} (xs : List X) (i : ℕ) (x : X) → length (set xs i x) ≡ length xs
 set_length [] i x = refl
 set_length (y ∷ xs) zero x = refl
 set_length (y ∷ xs) (suc i) x = ap suc (set_length xs i x)
-
--- a search that found nothing
-pub by_none : {X : Type 0} (o : Option X) (P : Type 0) (Q : X → Type 0) → MatchOption o P Q → is_none o ≡ true → P
-by_none None P Q is none = is
-by_none (Some x) P Q is none = absurd (let e : false ≡ true = none in cc)
-
-pub by_no_other : {X : Type 0} (o : Option X) (P : Type 0) (Q : X → Type 0) → MatchOption o P Q → ((x : X) → ¬ (o ≡ Some x)) → P
-by_no_other None P Q is not = is
-by_no_other (Some x) P Q is not = absurd (not x refl)
 
 -- a test that was passed
 pub by_ok : {F : Type 0} (result : Result Unit F) (told : Bool) (P : Type 0) (Q : F → Type 0) → told ≡ is_ok result → IsTrue told → MatchResult result (λ done. P) Q → P

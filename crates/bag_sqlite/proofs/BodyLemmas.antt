@@ -4,8 +4,8 @@ use Rattle.bag_sqlite.proofs.Words.{all_weaker, AllByRecursion, AreApart, Blob, 
 use Rattle.bag_sqlite.proofs.AdoptingMeanings.{body_columns, body_where}
 use Rattle.bag_sqlite.proofs.CutLemmas.{length_concat}
 use Rattle.bag_sqlite.proofs.RowLemmas.{untested}
-use Rattle.bag_sqlite.proofs.TransferLemmas.{alone}
 use Rattle.bag_sqlite.proofs.WhereLemmas.{Lists, equal_numbers, made, other_number, passes, same_number}
+use Rattle.std.proofs.Math.Bool.{and-true}
 
 -- THE QUERY FOR A CONTENT
 
@@ -17,9 +17,9 @@ module _ (trees : Trees) (item transfer : ℤ) (path content : List ℕ) (body :
   pub one_body : (rows : List Row) → Lists 6 body_where body_columns [] (Int item ∷ []) (trees 6) rows → rows ≡ (Blob content ∷ []) ∷ []
   one_body rows lists =
       let test = passes body_where (Int item ∷ []) in
-      let here : test was ≡ true = alone _ ∙ equal_numbers item item ∙ same_number item item refl in
+      let here : test was ≡ true = and-true _ ∙ equal_numbers item item ∙ same_number item item refl in
       let apart : AllByRecursion (λ (row : Row). has_rowid item row ≡ false) body.others = none_from_any (has_rowid item) body.others body.free in
-      let none = filter_none test body.others (all_weaker (λ (row : Row). has_rowid item row ≡ false) (λ (row : Row). test row ≡ false) (λ row other. alone _ ∙ untested (column row 0) item other) body.others apart) in
+      let none = filter_none test body.others (all_weaker (λ (row : Row). has_rowid item row ≡ false) (λ (row : Row). test row ≡ false) (λ row other. and-true _ ∙ untested (column row 0) item other) body.others apart) in
       let kept : filter test (was ∷ body.others) ≡ was ∷ [] = rw (here, none) refl in
       let moved = subst (λ l. IsPermutation l (filter test (trees 6))) kept (IsPermutation-filter test (was ∷ body.others) (trees 6) body.rows) in
       let one = one_permutation was (filter test (trees 6)) moved in

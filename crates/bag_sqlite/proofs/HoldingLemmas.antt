@@ -5,8 +5,9 @@ use Rattle.std.specs.Prelude.{IsPermutation}
 use Rattle.bag_sqlite.proofs.GrowthLemmas.{Place, all_middle, apart_middle, place}
 use Rattle.bag_sqlite.proofs.InsertLemmas.{apart_from}
 use Rattle.bag_sqlite.proofs.LayoutLemmas.{still_moved}
-use Rattle.bag_sqlite.proofs.OneLedger.{all_of, has_flat, has_from_flat, has_moved, read}
-use Rattle.bag_sqlite.proofs.TransferLemmas.{found_entry, row_of, same_row}
+use Rattle.bag_sqlite.proofs.OneLedger.{has_flat, has_from_flat, has_moved, read, same_transfer_row}
+use Rattle.bag_sqlite.proofs.TransferLemmas.{found_entry, row_of}
+use Rattle.bag_rules.proofs.HasLemmas.{all_of}
 
 -- ONE ENTRY CHANGED IN THE MIDDLE
 
@@ -133,7 +134,7 @@ pub held_transfers : {o : Origin} (old new : Trees) (ledger : Ledger) (name : Li
 held_transfers {o} old new ledger name number item p named rows cut none =
     let found = row_of old ledger p (Int number ∷ Null ∷ Text name ∷ []) named in
     let t = found.0 in
-    let same = same_row old ledger p t.number number t.name name found.2 in
+    let same = same_transfer_row t.number number t.name name found.2 in
     let entry : Has ledger (without_number t) = subst (λ l. Has l (without_number t)) (sym p.is) (has_map without_number p.transfers t found.1) in
     let there : transfer_of ledger name ≡ Some (without_number t).1 = subst (λ n. transfer_of ledger n ≡ Some (without_number t).1) same.1 (found_entry ledger (without_number t) p.order.names entry) in
     let free : lookup (bytes_eq item.path) (map read t.items) ≡ None = ap (λ o. lookup (bytes_eq item.path) (unwrap_or (option_map (λ (tr : Transfer). tr.items) o) [])) (sym there) ∙ none in

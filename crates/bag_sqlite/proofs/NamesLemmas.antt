@@ -1,8 +1,9 @@
 -- The names that a query shows are those of the ledger, in order.
-use Rattle.std.proofs.Common.{◌≡◌, ◌<◌, ◌+◌, ℕ, List, [], ◌∷◌, Ordering, Less, Equal, Greater, drop, is_lt, length, map, refl, sym, ap, subst, ◌∙◌, arith, slice_index_or}
-use Rattle.bag_sqlite.proofs.Words.{All-from_recursion, All-permutation, AllByRecursion, AreRising, bytes, column, flat_map, get_or-map, HoldTransfers, IsAnswer, IsAscending, IsPermutation-map, IsPermutation-trans, IsSorted, IsStrictlySortedBy, keys_of, Layout, Ledger, length-map, map_twice, nat_cmp, nat_list_cmp_total, Null, NumberedTransfer, ordering_then, output, Output, output_cmp, overlay, reads_as, recursion_from_All, Row, schema_of, Shown, slice_cmp, sorted_unique, State, Text, transfer_row, value_cmp-Text, without_number}
+use Rattle.std.proofs.Common.{◌≡◌, ◌<◌, ◌+◌, ℕ, List, [], ◌∷◌, Less, drop, is_lt, length, map, refl, sym, ap, subst, ◌∙◌, arith, slice_index_or}
+use Rattle.bag_sqlite.proofs.Words.{All-from_recursion, All-permutation, AllByRecursion, AreRising, bytes, column, flat_map, get_or-map, HoldTransfers, IsAnswer, IsAscending, IsPermutation-map, IsPermutation-trans, IsSorted, IsStrictlySortedBy, keys_of, Layout, Ledger, length-map, map_twice, nat_cmp, nat_list_cmp_total, Null, NumberedTransfer, output, Output, output_cmp, overlay, reads_as, recursion_from_All, Row, schema_of, Shown, slice_cmp, sorted_unique, State, Text, transfer_row, value_cmp-Text, without_number}
 use Rattle.std.specs.Prelude.{IsPermutation}
 use Rattle.bag_sqlite.proofs.QueryMeanings.{names_command, names_is, names_plain, names_query, names_text, names_unlisted}
+use Rattle.bag_rules.proofs.FolderLemmas.{then_end}
 
 -- LISTS
 
@@ -40,13 +41,8 @@ outs_back : (os : List Output) → AllByRecursion (λ o. o ≡ out (text o)) os 
 outs_back [] all = refl
 outs_back (o ∷ os) all = ap (λ w. w ∷ os) all.0 ∙ ap (λ rest. out (text o) ∷ rest) (outs_back os all.1)
 
-then_equal : (o : Ordering) → ordering_then o Equal ≡ o
-then_equal Less = refl
-then_equal Equal = refl
-then_equal Greater = refl
-
 by_text : (a b : List ℕ) → output_cmp names_query (out a) (out b) ≡ slice_cmp nat_cmp a b
-by_text a b = then_equal _ ∙ value_cmp-Text a b
+by_text a b = then_end _ ∙ value_cmp-Text a b
 
 sorted_texts : (names : List (List ℕ)) → IsSorted (output_cmp names_query) (map out names) → IsSorted (slice_cmp nat_cmp) names
 sorted_texts names sorted k d low high =

@@ -5,11 +5,11 @@ use Rattle.bag_sqlite.specs.declared.format.Format.TheVariants as form
 use Rattle.bag_sqlite.proofs.Words.{AreTablesOf, body_of, body_text, column, count_text, count_under, Database, First, Format, format_of, format_row, format_text, Ghosts, Has, HasFormat, HasNoFormat, Int, IsAsked, IsBlob, IsInt, IsNoLedger, IsPlain, IsText, items_text, items_under, Layout, Ledger, MayShow, number_of, NumberedItem, NumberedTransfer, params_of, piece_at, piece_text, Question, Row, SaysFormat, schema_of, Second, strays, tag_files_text, tags_under, Tells, text_of, the_format, the_transfers, transfers_text, understood}
 use Rattle.bag_sqlite.proofs.AdoptingMeanings.{body_plain, count_plain, format_plain, items_plain, transfers_plain, whole_plain}
 use Rattle.bag_sqlite.proofs.ItemMeanings.{piece_plain}
-use Rattle.bag_sqlite.proofs.OneLedger.{all_of}
 use Rattle.bag_sqlite.proofs.PieceTold.{count_told}
 use Rattle.bag_sqlite.proofs.StrayLemmas.{stray_told}
 use Rattle.bag_sqlite.proofs.ToldLemmas.{format_told, item_told, tag_told, transfer_told}
 use Rattle.bag_sqlite.proofs.TransferMeanings.{tags_plain}
+use Rattle.bag_rules.proofs.HasLemmas.{all_of}
 
 -- WHAT IS ASKED OF ONE FORMAT ALONE
 

@@ -1,22 +1,9 @@
 -- Tables hold at most one ledger.
-use Rattle.std.proofs.Common.{◌≡◌, ◌≢◌, ◌⊎◌, ◌≤◌, ◌+◌, inl, inr, ℕ, List, [], ◌∷◌, ◌++◌, map, refl, sym, ap, subst, ◌∙◌, arith, pos, ℤ}
+use Rattle.std.proofs.Common.{◌≡◌, ◌≢◌, ◌≤◌, ◌+◌, inl, inr, ℕ, List, [], ◌∷◌, map, refl, sym, ap, subst, ◌∙◌, arith, pos, ℤ}
 use Rattle.bag_sqlite.proofs.Words.{all_has, AllByRecursion, AreApart, AreRising, asymmetric, Blob, concat, Contains-permutation, contains_from_has, enumerate_from, First, flat_map, Has, has_from_contains, has_from_map, has_map, held_rows, held_tree, HoldTransfers, Int, IsPermutation, IsPermutation-sym, item_rows, item_tree, items_in, keys_of, Layout, Ledger, nat_cmp, nat_list_cmp_total, Null, NumberedItem, NumberedTransfer, Origin, piece_rows, piece_tree, Row, same_list, Second, size_of, slice_cmp, sorted_by_key, tag_rows, Text, Transfer, transfer_row, Trees, without_number, without_rowids}
+use Rattle.bag_rules.proofs.HasLemmas.{has_left, has_right, has_either}
 
 -- MEMBERS
-
-has_left : {X : Type 0} (xs ys : List X) (x : X) → Has xs x → Has (xs ++ ys) x
-has_left [] ys x h = absurd h
-has_left (y ∷ xs) ys x (inl e) = inl e
-has_left (y ∷ xs) ys x (inr h) = inr (has_left xs ys x h)
-
-pub has_right : {X : Type 0} (xs ys : List X) (x : X) → Has ys x → Has (xs ++ ys) x
-has_right [] ys x h = h
-has_right (y ∷ xs) ys x h = inr (has_right xs ys x h)
-
-has_either : {X : Type 0} (xs ys : List X) (x : X) → Has (xs ++ ys) x → Has xs x ⊎ Has ys x
-has_either [] ys x h = inr h
-has_either (y ∷ xs) ys x (inl e) = inl (inl e)
-has_either (y ∷ xs) ys x (inr h) = elim (has_either xs ys x h) [ inl k ↦ inl (inr k) | inr k ↦ inr k ]
 
 pub has_flat : {X Y : Type 0} (f : X → List Y) (xs : List X) (x : X) (y : Y) → Has xs x → Has (f x) y → Has (flat_map f xs) y
 has_flat f [] x y h k = absurd h
@@ -32,11 +19,6 @@ has_from_flat f (first ∷ xs) y h = elim (has_either (f first) (flat_map f xs) 
 
 pub has_moved : {X : Type 0} (xs ys : List X) (x : X) → IsPermutation xs ys → Has xs x → Has ys x
 has_moved xs ys x moves h = has_from_contains ys x (Contains-permutation xs ys x moves (contains_from_has xs x h))
-
--- what holds of each
-pub all_of : {X : Type 0} (P : X → Type 0) (xs : List X) → ((x : X) → Has xs x → P x) → AllByRecursion P xs
-all_of P [] each = tt
-all_of P (x ∷ xs) each = (each x (inl refl), all_of P xs (λ y has. each y (inr has)))
 
 -- what is in one list of rows is in a permutation of it
 has_through : {X : Type 0} (xs rows ys : List X) (x : X) → IsPermutation xs rows → IsPermutation ys rows → Has xs x → Has ys x
@@ -86,7 +68,7 @@ same_files {X} a b rising rises to from =
 
 -- THE SAME ROWS
 
-same_transfer_row : (a b : ℤ) (s t : List ℕ) → ◌≡◌ {A = Row} (Int a ∷ Null ∷ Text s ∷ []) (Int b ∷ Null ∷ Text t ∷ []) → (a ≡ b) × (s ≡ t)
+pub same_transfer_row : (a b : ℤ) (s t : List ℕ) → ◌≡◌ {A = Row} (Int a ∷ Null ∷ Text s ∷ []) (Int b ∷ Null ∷ Text t ∷ []) → (a ≡ b) × (s ≡ t)
 same_transfer_row a b s t e = (cc, cc)
 
 same_tag_row : (a b : ℤ) (s t u v : List ℕ) → ◌≡◌ {A = Row} (Int a ∷ Text s ∷ Blob u ∷ []) (Int b ∷ Text t ∷ Blob v ∷ []) → (a ≡ b) × (s ≡ t) × (u ≡ v)

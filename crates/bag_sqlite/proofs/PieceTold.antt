@@ -9,11 +9,12 @@ use Rattle.bag_sqlite.proofs.AdoptingMeanings.{count_is, count_plain, count_quer
 use Rattle.bag_sqlite.proofs.CountLemmas.{counted}
 use Rattle.bag_sqlite.proofs.ItemMeanings.{piece_columns, piece_is, piece_plain, piece_terms, piece_unlisted}
 use Rattle.bag_sqlite.proofs.LayoutLemmas.{piece_seen}
-use Rattle.bag_sqlite.proofs.OneLedger.{all_of, numbered_from}
+use Rattle.bag_sqlite.proofs.OneLedger.{numbered_from}
 use Rattle.bag_sqlite.proofs.ToldLemmas.{told_lists, told_reads}
-use Rattle.bag_sqlite.proofs.TransferLemmas.{alone}
 use Rattle.bag_sqlite.proofs.TransferRows.{later, one_kept}
 use Rattle.bag_sqlite.proofs.WhereLemmas.{equal_numbers, equals, flat_kept, made, other_number, passes, same_number}
+use Rattle.bag_rules.proofs.HasLemmas.{all_of}
+use Rattle.std.proofs.Math.Bool.{and-true}
 
 -- THE ONE WITH A NUMBER
 
@@ -93,7 +94,7 @@ module _ {o : Origin} (trees : Trees) (ledger : Ledger) (tables : HoldTransfers 
         let numbered = enumerate_from 0 item.pieces in
         let zero_on : 0 + n ≡ n = omega arith in
         let test : (piece : ℕ × List ℕ) → passes bare_piece at_piece (piece_row item.number piece) ≡ numbered_as n piece =
-        λ piece. piece_tested item.number piece true (same_number item.number item.number refl) ∙ alone (numbered_as n piece) in
+        λ piece. piece_tested item.number piece true (same_number item.number item.number refl) ∙ and-true (numbered_as n piece) in
         let few : map (λ (e : ℕ × List ℕ). e.1) (filter (numbered_as n) numbered) ≡ as_list (slice_get item.pieces n) =
         subst (λ m. map (λ (e : ℕ × List ℕ). e.1) (filter (numbered_as m) numbered) ≡ as_list (slice_get item.pieces n)) zero_on (one_numbered 0 n item.pieces) in
         ap (map bare_made) (rows_apart bare_piece at_piece (λ number piece apart. piece_tested number piece false (other_number number item.number apart))
@@ -121,7 +122,7 @@ module _ {o : Origin} (trees : Trees) (ledger : Ledger) (tables : HoldTransfers 
   of_item = Int item.number ∷ []
 
   count_tested : (number : ℤ) (piece : ℕ × List ℕ) (b : Bool) → int_eq number item.number ≡ b → passes bare_count of_item (piece_row number piece) ≡ b
-  count_tested number piece b is = alone _ ∙ equal_numbers number item.number ∙ is
+  count_tested number piece b is = and-true _ ∙ equal_numbers number item.number ∙ is
 
   rows_counted : length (filter (passes count_where of_item) (trees (piece_tree o))) ≡ length item.pieces
   rows_counted =

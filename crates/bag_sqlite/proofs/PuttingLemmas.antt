@@ -1,10 +1,11 @@
 -- Reading and writing a payload file piece by piece.
 use Rattle.std.proofs.Common.{◌≡◌, ◌≤◌, ◌<◌, ◌+◌, ◌-◌, ◌*◌, ◌/◌, ℕ, ℤ, List, [], ◌∷◌, ◌++◌, Option, drop, length, length-drop, map, min, take, pos, true, append_assoc, append-nil, arith, refl, sym, ap, subst, ◌∙◌, length-append}
-use Rattle.bag_sqlite.proofs.Words.{AddsItem, AddsPiece, AddsPieces, Alg, AlgSet, AllByRecursion, AreCut, AreDigests, Blob, concat, concat-append, Consumes-nil, Digests, enumerate_from, GaveBefore, GavePiece, given_by, given_more, has, HasContentMore, HasGiven, HasRead, Holds, in_pieces, Int, IsAtEnd, IsPermutation, IsPermutation-cons, IsPermutation-middle, IsPermutation-refl, IsPermutation-trans, IsUnderWay, LARGEST_ITEM, length-take-le, lists_by, map-append, mul-div_cancel_left, Multi, Origin, PIECE, piece_rows, piece_tree, put_fault, read_fault, RefusesGiven, Row, SetsSize, SourceFault, State, Trees, uses_as, uses_on, UsesSource, Want, without_rowids}
+use Rattle.bag_sqlite.proofs.Words.{AddsItem, AddsPiece, AddsPieces, Alg, AlgSet, AllByRecursion, AreCut, AreDigests, Blob, concat, Consumes-nil, Digests, enumerate_from, GaveBefore, GavePiece, given_by, given_more, has, HasContentMore, HasGiven, HasRead, Holds, in_pieces, Int, IsAtEnd, IsPermutation, IsPermutation-cons, IsPermutation-middle, IsPermutation-refl, IsPermutation-trans, IsUnderWay, LARGEST_ITEM, length-take-le, lists_by, map-append, mul-div_cancel_left, Multi, Origin, PIECE, piece_rows, piece_tree, put_fault, read_fault, RefusesGiven, Row, SetsSize, SourceFault, State, Trees, uses_as, uses_on, UsesSource, Want, without_rowids}
 use Rattle.std.proofs.Math.Seq.{take-add}
 use Rattle.bag_digest.specs.declared.reading.SourceFault.TheVariants as source
 use Rattle.bag_sqlite.proofs.LayoutLemmas.{keeps_transfers_same, keeps_transfers_then}
 use Rattle.bag_sqlite.proofs.RowLemmas.{item_written}
+use Rattle.bag_sqlite.proofs.PiecesRead.{concat_last, full_last, cut_last}
 
 -- WHAT WAS READ
 
@@ -28,22 +29,10 @@ read_nothing source want multi set covers hashed = record {
   hashed = hashed;
 }
 
-joined_last : (pieces : List (List ℕ)) (last : List ℕ) → concat (pieces ++ last ∷ []) ≡ concat pieces ++ last
-joined_last pieces last = concat-append pieces (last ∷ []) ∙ ap (λ l. concat pieces ++ l) (append-nil last)
-
-full_last : (pieces : List (List ℕ)) (last : List ℕ) → AllByRecursion (λ piece. length piece ≡ PIECE) pieces → length last ≡ PIECE → AllByRecursion (λ piece. length piece ≡ PIECE) (pieces ++ last ∷ [])
-full_last [] last full is = (is, tt)
-full_last (p ∷ ps) last full is = (full.0, full_last ps last full.1 is)
-
 cut_full : (pieces : List (List ℕ)) → AllByRecursion (λ piece. length piece ≡ PIECE) pieces → AreCut pieces
 cut_full [] full = tt
 cut_full (p ∷ []) full = (omega (arith, full.0), omega (arith, full.0))
 cut_full (p ∷ q ∷ more) full = (full.0, cut_full (q ∷ more) full.1)
-
-cut_last : (pieces : List (List ℕ)) (last : List ℕ) → AllByRecursion (λ piece. length piece ≡ PIECE) pieces → 0 < length last → length last ≤ PIECE → AreCut (pieces ++ last ∷ [])
-cut_last [] last full some fits = (some, fits)
-cut_last (p ∷ []) last full some fits = (full.0, (some, fits))
-cut_last (p ∷ q ∷ more) last full some fits = (full.0, cut_last (q ∷ more) last full.1 some fits)
 
 -- the number of the piece that begins at the next octet
 pub next_number : (old new : Option (List ℕ)) (want : Want) (multi : Multi) (total : ℕ) (pieces : List (List ℕ)) → HasReadOn old new want multi total pieces → total / PIECE ≡ length pieces
@@ -69,10 +58,10 @@ module _ (old mid new : Option (List ℕ)) (want : Want) (multi : Multi) (total 
 
   module _ (after : Multi) (updated : (set : AlgSet) (octets : List ℕ) → Holds multi set octets → Holds after set (octets ++ take n buffer)) where
     hashed : Holds after read.set (concat (pieces ++ take n buffer ∷ []))
-    hashed = subst (Holds after read.set) (sym (joined_last pieces (take n buffer))) (updated read.set (concat pieces) read.hashed)
+    hashed = subst (Holds after read.set) (sym (concat_last pieces (take n buffer))) (updated read.set (concat pieces) read.hashed)
 
     given : HasGiven old new (total + n) LARGEST_ITEM (concat (pieces ++ take n buffer ∷ []))
-    given = subst (HasGiven old new (total + n) LARGEST_ITEM) (sym (joined_last pieces (take n buffer))) more
+    given = subst (HasGiven old new (total + n) LARGEST_ITEM) (sym (concat_last pieces (take n buffer))) more
 
     -- the last piece
     pub read_last : (digests : Digests) → 0 < n → n < PIECE → IsAtEnd new → ((set : AlgSet) (octets : List ℕ) → Holds after set octets → AreDigests digests set octets)
@@ -190,7 +179,7 @@ cut_more content offset end pieces body so_far more is body_is =
     let long : length body ≡ end - offset = ap length body_is ∙ length-take-le (end - offset) (drop offset content) enough in
     let on : offset + (end - offset) ≡ end = omega (arith, some) in
     record {
-      octets = joined_last pieces body ∙ (λ i. so_far.octets i ++ body_is i) ∙ sym (take-add offset (end - offset) content) ∙ ap (λ n. take n content) on;
+      octets = concat_last pieces body ∙ (λ i. so_far.octets i ++ body_is i) ∙ sym (take-add offset (end - offset) content) ∙ ap (λ n. take n content) on;
       cut = cut_last pieces body full.0 (omega (arith, long, some)) (omega (arith, long, is));
       within = within;
       full = λ low. (full_last pieces body full.0 (omega (arith, long, is, low)), omega (arith, full.1, is, low, length-append pieces (body ∷ [])));

@@ -7,8 +7,8 @@ use Rattle.bag_sqlite.proofs.InsertLemmas.{lists_ledger, put_fresh, row_inserted
 use Rattle.bag_sqlite.proofs.LayoutLemmas.{held_found, held_place, held_seen, keeps_transfers_then, kept_by_held, kept_by_piece, piece_found, piece_place, stored_held, stored_piece}
 use Rattle.bag_sqlite.proofs.RowMeanings.{new_item_is, new_item_plain, new_item_terms, new_item_text, new_piece_is, new_piece_plain, new_piece_terms, new_piece_text, size_is, size_plain, size_query, size_terms, size_text, size_where}
 use Rattle.bag_sqlite.proofs.SqlLemmas.{cast_int, cast_null}
-use Rattle.bag_sqlite.proofs.TransferLemmas.{alone}
 use Rattle.bag_sqlite.proofs.WhereLemmas.{Lists, answer_lists, equal_numbers, made, passes, same_number, truth_kept}
+use Rattle.std.proofs.Math.Bool.{and-true}
 
 -- ONE ROW ADDED
 
@@ -84,8 +84,8 @@ module _ (o : Origin) (trees : Trees) (item transfer : ℤ) (path : List ℕ) (b
   one_selected : (rows : List Row) → Lists (held_tree o) size_where size_terms [] size_params (trees (held_tree o)) rows → rows ≡ selected ∷ []
   one_selected rows lists =
       let test = passes size_where size_params in
-      let here : test was ≡ true = alone _ ∙ equal_numbers item item ∙ same_number item item refl in
-      let none = filter_none test others (all_weaker (λ (row : Row). has_rowid item row ≡ false) (λ (row : Row). test row ≡ false) (λ row other. alone _ ∙ untested (column row 0) item other) others apart) in
+      let here : test was ≡ true = and-true _ ∙ equal_numbers item item ∙ same_number item item refl in
+      let none = filter_none test others (all_weaker (λ (row : Row). has_rowid item row ≡ false) (λ (row : Row). test row ≡ false) (λ row other. and-true _ ∙ untested (column row 0) item other) others apart) in
       let kept : filter test (was ∷ others) ≡ was ∷ [] = rw (here, none) refl in
       let moved = subst (λ l. IsPermutation l (filter test (trees (held_tree o)))) kept (IsPermutation-filter test (was ∷ others) (trees (held_tree o)) same) in
       let one = one_permutation was (filter test (trees (held_tree o))) moved in

@@ -7,10 +7,11 @@ use Rattle.bag_sqlite.specs.declared.format.Format.TheVariants as form
 use Rattle.bag_sqlite.proofs.AdoptingMeanings.{whole_columns, whole_is, whole_plain, whole_unlisted, whole_where, format_columns, format_is, format_plain, format_unlisted, items_columns, items_is, items_plain, items_unlisted, items_where, transfers_columns, transfers_is, transfers_plain, transfers_unlisted}
 use Rattle.bag_sqlite.proofs.LayoutLemmas.{held_seen}
 use Rattle.bag_sqlite.proofs.OneLedger.{has_from_flat, has_moved}
-use Rattle.bag_sqlite.proofs.TransferLemmas.{alone, row_of}
+use Rattle.bag_sqlite.proofs.TransferLemmas.{row_of}
 use Rattle.bag_sqlite.proofs.TransferMeanings.{tags_is, tags_plain, tags_unlisted}
 use Rattle.bag_sqlite.proofs.TransferRows.{later}
 use Rattle.bag_sqlite.proofs.WhereLemmas.{Lists, answer_lists, equal_numbers, equals, has_from_shown, over, passes}
+use Rattle.std.proofs.Math.Bool.{and-true}
 
 -- WHAT IS TOLD, BY THE MEANING OF THE QUERY
 
@@ -104,7 +105,7 @@ module _ {S : Type 0} {o : Origin} (g : Ghosts S) (db : Database) (ledger : Ledg
       record {
         transfer = t;
         there = by_transfer.1;
-        number_is = (Decides-int_eq t.number number).0 (sym (alone _ ∙ equal_numbers t.number number) ∙ tested);
+        number_is = (Decides-int_eq t.number number).0 (sym (and-true _ ∙ equal_numbers t.number number) ∙ tested);
         item = by_item.0;
         owned = by_item.1;
         is = sym from.3 ∙ ap (λ r. column r 0 ∷ column r 3 ∷ column r 4 ∷ []) (sym by_item.2);
@@ -125,7 +126,7 @@ module _ {S : Type 0} (g : Ghosts S) (db : Database) (ledger : Ledger) (has : db
       record {
         transfer = t;
         there = by_transfer.1;
-        number_is = (Decides-int_eq t.number number).0 (sym (alone _ ∙ equal_numbers t.number number) ∙ tested);
+        number_is = (Decides-int_eq t.number number).0 (sym (and-true _ ∙ equal_numbers t.number number) ∙ tested);
         item = by_item.0;
         owned = by_item.1;
         is = sym from.3 ∙ ap (λ r. column r 0 ∷ column r 2 ∷ column r 3 ∷ []) (sym by_item.2);

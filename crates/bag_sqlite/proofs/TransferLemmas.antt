@@ -1,9 +1,10 @@
 -- The transfer with a name, in the ledger and among the rows.
-use Rattle.std.proofs.Common.{◌≡◌, ◌&&◌, ℕ, List, [], ◌∷◌, Bool, true, false, Option, Some, None, cond, inl, inr, map, refl, sym, ap, subst, ◌∙◌, slice_index_or, MatchOption, ℤ}
+use Rattle.std.proofs.Common.{◌≡◌, ℕ, List, [], ◌∷◌, Bool, true, false, Option, Some, None, cond, inl, inr, map, refl, sym, ap, subst, ◌∙◌, slice_index_or, MatchOption, ℤ}
 use Rattle.bag_sqlite.proofs.Words.{AreRising, bytes_eq, bytes_eq-Decides, col, column, Has, has_from_map, has_map, HasTransferRow, HoldTransfers, Int, is_eq-slice_cmp, IsDistinct, IsDistinct-from_sorted, IsPermutation-sym, keys_of, Layout, Ledger, lookup, lookup_from_place, nat_cmp, nat_list_eq_equiv, Null, NumberedTransfer, place_of_has, reads_as, Row, same_Some, schema_of, Shown, slice_cmp, State, Term, Text, Transfer, transfer_of, transfer_row, Trees, without_number}
-use Rattle.bag_sqlite.proofs.OneLedger.{has_moved}
+use Rattle.bag_sqlite.proofs.OneLedger.{has_moved, same_transfer_row}
 use Rattle.bag_sqlite.proofs.TransferMeanings.{number_command, number_is, number_plain, number_text, number_unlisted}
 use Rattle.bag_sqlite.proofs.WhereLemmas.{Lists, answer_lists, equal_texts, equals, has_from_shown, has_shown, passes}
+use Rattle.std.proofs.Math.Bool.{and-true}
 
 -- LOOK-UPS
 
@@ -40,16 +41,13 @@ module _ {l : Layout} (trees : Trees) (ledger : Ledger) (tables : HoldTransfers 
       let rows = map transfer_row tables.transfers in
       has_from_map transfer_row tables.transfers row (has_moved (trees 2) rows row (IsPermutation-sym rows (trees 2) tables.rows.transfers) has)
 
-  pub same_row : (a b : ℤ) (s t : List ℕ) → ◌≡◌ {A = Row} (Int a ∷ Null ∷ Text s ∷ []) (Int b ∷ Null ∷ Text t ∷ []) → (a ≡ b) × (s ≡ t)
-  same_row a b s t e = (cc, cc)
-
   -- the transfer whose row has this name and number
   pub transfer_at : (name : List ℕ) (number : ℤ) → HasTransferRow trees name number
       → (t : NumberedTransfer) × Has tables.transfers t × (t.number ≡ number) × (transfer_of ledger name ≡ Some (without_number t).1)
   transfer_at name number has =
       let it = row_of (Int number ∷ Null ∷ Text name ∷ []) has in
       let t = it.0 in
-      let same = same_row t.number number t.name name it.2 in
+      let same = same_transfer_row t.number number t.name name it.2 in
       let entry : Has ledger (without_number t) = subst (λ l. Has l (without_number t)) (sym tables.is) (has_map without_number tables.transfers t it.1) in
       (t, it.1, same.0, subst (λ n. transfer_of ledger n ≡ Some (without_number t).1) same.1 (found_entry ledger (without_number t) tables.order.names entry))
 
@@ -58,12 +56,8 @@ module _ {l : Layout} (trees : Trees) (ledger : Ledger) (tables : HoldTransfers 
 abbrev named : List Term
 named = equals (col 1 2) (col 0 0) ∷ []
 
-pub alone : (b : Bool) → (b && true) ≡ b
-alone true = refl
-alone false = refl
-
 name_tested : (name : List ℕ) (t : NumberedTransfer) → passes named (Text name ∷ []) (transfer_row t) ≡ bytes_eq t.name name
-name_tested name t = alone _ ∙ equal_texts t.name name
+name_tested name t = and-true _ ∙ equal_texts t.name name
 
 module _ {l : Layout} (s new : State) (rows : List Row) (ledger : Ledger) (name : List ℕ) (has : s.now.schema ≡ schema_of l) (tables : HoldTransfers l s.now.trees ledger)
     (shown : Shown number_text (Text name ∷ []) s new rows) where

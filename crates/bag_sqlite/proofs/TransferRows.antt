@@ -5,10 +5,12 @@ use Rattle.std.specs.Prelude.{IsPermutation}
 use Rattle.bag_sqlite.proofs.CutLemmas.{length_concat}
 use Rattle.bag_sqlite.proofs.LayoutLemmas.{held_seen}
 use Rattle.bag_sqlite.proofs.NamesLemmas.{drop_zero}
-use Rattle.bag_sqlite.proofs.OneLedger.{has_right, items_rise, tags_rise}
-use Rattle.bag_sqlite.proofs.TransferLemmas.{alone, transfer_at}
+use Rattle.bag_sqlite.proofs.OneLedger.{items_rise, tags_rise}
+use Rattle.bag_sqlite.proofs.TransferLemmas.{transfer_at}
 use Rattle.bag_sqlite.proofs.TransferMeanings.{sizes_command, sizes_is, sizes_plain, sizes_text, sizes_unlisted, tags_command, tags_is, tags_plain, tags_unlisted}
 use Rattle.bag_sqlite.proofs.WhereLemmas.{answer_lists, by_text, equal_numbers, equals, made, other_number, passes, same_number}
+use Rattle.bag_rules.proofs.HasLemmas.{has_right}
+use Rattle.std.proofs.Math.Bool.{and-true}
 
 -- READING ROWS IN SEQUENCE
 
@@ -118,7 +120,7 @@ abbrev tag_made : Row → Output
 tag_made row = (column row 1 ∷ [], column row 1 ∷ column row 2 ∷ [])
 
 number_tested : (t : NumberedTransfer) (n : ℤ) (path body : List ℕ) (b : Bool) → int_eq t.number n ≡ b → passes tag_where (Int n ∷ []) (Int t.number ∷ Text path ∷ Blob body ∷ []) ≡ b
-number_tested t n path body b is = alone _ ∙ equal_numbers t.number n ∙ is
+number_tested t n path body b is = and-true _ ∙ equal_numbers t.number n ∙ is
 
 abbrev tags_shown_of : List Term
 tags_shown_of = col 1 2 ∷ col 1 3 ∷ []
@@ -184,7 +186,7 @@ module _ {o : Origin} (s new : State) (rows : List Row) (ledger : Ledger) (name 
   size_kept : (t : NumberedTransfer) (b : Bool) → int_eq t.number n ≡ b → AllByRecursion (λ row. passes sizes_where (Int n ∷ []) row ≡ b) (held_rows t)
   size_kept t b is =
       all_map (λ row. passes sizes_where (Int n ∷ []) row ≡ b) (row_of t) t.items
-      (all_each (λ (item : NumberedItem). passes sizes_where (Int n ∷ []) (row_of t item) ≡ b) (λ item. alone _ ∙ equal_numbers t.number n ∙ is) t.items)
+      (all_each (λ (item : NumberedItem). passes sizes_where (Int n ∷ []) (row_of t item) ≡ b) (λ item. and-true _ ∙ equal_numbers t.number n ∙ is) t.items)
 
   pub sizes_shown : Shown sizes_text (Int n ∷ []) s new rows → rows ≡ map size_shown (sizes_of (items_of ledger name))
   sizes_shown shown =

@@ -1,5 +1,5 @@
 -- A text in UTF-8 spells a path, or has one first fault.
-use Rattle.std.proofs.Common.{◌≡◌, ◌≢◌, ◌<◌, ◌==◌, ◌⊎◌, ℕ, Bool, true, false, if◌then◌else◌, nat_lt, length, List, [], ◌∷◌, ◌++◌, codes, Option, Some, None, refl, sym, ap, ◌∙◌, subst, inl, inr, arith, append_assoc}
+use Rattle.std.proofs.Common.{◌≡◌, ◌≢◌, ◌<◌, ◌==◌, ◌⊎◌, ℕ, nat_lt, length, List, [], ◌∷◌, ◌++◌, codes, Option, Some, None, refl, sym, ap, ◌∙◌, subst, inl, inr, arith, append_assoc}
 use Rattle.std.specs.List.{list_any}
 use Rattle.std.specs.Str.{IsUtf8, bytes_eq}
 use Rattle.std.proofs.lemmas.Str.{IsUtf8-append}
@@ -10,7 +10,7 @@ use Rattle.bag_path.specs.declared.version.Version.TheVariants.{V1, V097}
 use Rattle.bag_path.specs.Paths.{IsPath, path_fault, has_segment, is_empty_segment, is_dot_segment}
 use Rattle.bag_path.specs.Spellings.{IsLineEscape, StandsFor, Spells}
 use Rattle.bag_path.specs.SpellingReading.{octets_spelled}
-use Rattle.bag_path.proofs.PathLemmas.{path_if_no_fault, no_fault_if_path, no_bad_escape}
+use Rattle.bag_path.proofs.PathLemmas.{path_if_no_fault, no_fault_if_path, no_bad_escape, other_fault}
 use Rattle.bag_path.proofs.SpellsLemmas.{spells_if_read, read_if_spells, nothing_if_none, none_if_nothing}
 use Rattle.bag_tags.specs.Manifests.{SpellsNoPath}
 use Rattle.bag_tags.proofs.TextCutLemmas.{utf8_before, utf8_after, utf8_one}
@@ -70,10 +70,6 @@ abbrev pub PathOrFault : Version → List ℕ → Type 0
 PathOrFault version text = ((path : List ℕ) × Spells version path text × IsPath path) ⊎ ((fault : PathFault) × SpellsNoPath fault version text)
 
 -- `Memory` is not a fault of octets
-other_fault : (wrong : PathFault) (b : Bool) (fault : PathFault) (rest : Option PathFault) → fault ≢ wrong → rest ≢ Some wrong → (if b then Some fault else rest) ≢ Some wrong
-other_fault wrong true fault rest n m e = n (cc)
-other_fault wrong false fault rest n m e = m e
-
 no_memory : (p : List ℕ) → path_fault p ≢ Some path.Memory
 unfolding path_fault
 no_memory p =

@@ -74,7 +74,7 @@ octets_same xs ys = elim (cases_Bool (bytes_eq xs ys)) [
   | inr e ↦ inr (λ same. let b : true ≡ false = sym ((bytes_eq-Decides xs ys).1 same) ∙ e in cc)
 ]
 
-each_alg : (P : Alg → Type 0) → P Md5 → P Sha1 → P Sha256 → P Sha512 → (alg : Alg) → P alg
+pub each_alg : (P : Alg → Type 0) → P Md5 → P Sha1 → P Sha256 → P Sha512 → (alg : Alg) → P alg
 each_alg P a b c d Md5 = a
 each_alg P a b c d Sha1 = b
 each_alg P a b c d Sha256 = c

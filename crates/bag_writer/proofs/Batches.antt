@@ -25,9 +25,9 @@ use Rattle.bag_writer.specs.declared.too_large.Large.TheVariants as large
 use Rattle.bag_writer.specs.declared.write_fault.WriteFault.{WriteFault}
 use Rattle.bag_writer.proofs.PayloadLists.{ShownFile}
 use Rattle.bag_writer.proofs.PayloadSoFar.{HasWritten, none_at, nothing_written}
-use Rattle.bag_writer.proofs.CopyLemmas.{stands}
 use Rattle.bag_writer.proofs.Places.{IsBetween, between_next, between_none, between_passed, can_end, free_here, group_cut, group_written, rising_below}
 use Rattle.bag_writer.proofs.StepLemmas.{whole_none}
+use Rattle.bag_digest.proofs.ListLemmas.{stands}
 
 -- an element of a list with one more: it is one of the others, or the last
 module _ {X : Type 0} (xs : List X) (last : X) where

@@ -17,7 +17,7 @@ use Rattle.bag_digest.specs.declared.buffers.TheConstants.{FRONT}
 use Rattle.bag_writer.specs.Sinks.{Stored}
 use Rattle.bag_writer.specs.declared.copying.Copying.{Copying}
 use Rattle.bag_writer.specs.declared.payload.CopyFault.TheVariants.{Sink, TooLarge, Tree}
-use Rattle.bag_writer.proofs.CopyLemmas.{stands}
+use Rattle.bag_digest.proofs.ListLemmas.{stands}
 
 -- nothing of no octets
 pub take_none : (n : ℕ) (xs : List ℕ) → length xs ≡ 0 → take n xs ≡ []

@@ -19,10 +19,11 @@ use Rattle.bag_writer.specs.declared.write_fault.WriteFault.{WriteFault}
 use Rattle.bag_writer.specs.declared.write_fault.WriteFault.TheVariants.{Sink, Tree}
 use Rattle.bag_writer.proofs.Batches.{ends_so}
 use Rattle.bag_writer.proofs.Completing.{zip_places}
-use Rattle.bag_writer.proofs.CopyLemmas.{stands}
-use Rattle.bag_writer.proofs.Cutting.{before_kept, ends_back, files_back_so, places_same_of, put_back, stopped_first, stopped_told}
-use Rattle.bag_writer.proofs.FilesOut.{sink_back, tree_back}
+use Rattle.bag_writer.proofs.Cutting.{before_kept, ends_back, places_same_of, stopped_first, stopped_told}
+use Rattle.bag_writer.proofs.FilesOut.{sink_back}
 use Rattle.bag_writer.proofs.SinkKept.{same_told}
+use Rattle.bag_digest.proofs.ListLemmas.{stands, refilled}
+use Rattle.bag_rules.proofs.ReturningLemmas.{back_on, back_so}
 
 -- THE FILES, whose slice was changed in place: what is read of their vector then
 abbrev pub put : {X : Type 0} → ℕ → List X → List X → List X
@@ -41,7 +42,7 @@ module _ {F G : Type 0} {s : Sides F G} {shown : Shown} {set : AlgSet} {xs ws : 
       keep = subst (λ ls. KeepPlaces s.place s.copy_place ls zs) slice completes.places
 
       pub all_back : put n xs zs ≡ zs
-      all_back = put_back n xs zs count_is keep.count
+      all_back = refilled n xs zs count_is keep.count
 
       pub count : length (put n xs zs) ≡ length xs
       count = ap length all_back ∙ keep.count
@@ -115,7 +116,7 @@ module _ {T S F G : Type 0} (d : Devices T S F G) {set : AlgSet} {xs ws zs : Lis
   stops_first begun slice count_is part files out gave gave_out tells back copies_back cuts = record {
     written = cuts (d.sink.stored end) (subst (λ new. IsCutAt (d.shown t0) (places_of d.files.place xs) (d.sink.stored before) new told) (sym (copies_back.held ∙ gave_out.held)) (cut begun slice count_is part gave.kept.same tells));
     calm = λ tree_sure sink_sure fresh too. truly begun slice count_is part gave.kept.same tells tree_sure sink_sure fresh;
-    tree = tree_back _ (length xs) gave (subst (λ m. TakesAllBack d.shown d.failures d.sure m (told ≡ Tree) t1 t2) (count begun slice count_is part) back);
+    tree = back_on _ (length xs) gave (subst (λ m. TakesAllBack d.shown d.failures d.sure m (told ≡ Tree) t1 t2) (count begun slice count_is part) back);
     sink = ends begun slice count_is part (length xs + out) (sink_back (length xs + out) (length xs) gave_out
         (subst (λ m. TakesCopiesBack d.sink.stored d.sink.is_open d.sink.failures d.sink.sure m (told ≡ Sink) mid end) (count begun slice count_is part) copies_back));
   }
@@ -138,6 +139,6 @@ module _ {T S F G : Type 0} (d : Devices T S F G) {set : AlgSet} {xs : List (Cop
       record {
         written = stops.written;
         calm = λ tree_sure sink_sure fresh too. (let calm = stops.calm tree_sure sink_sure fresh too in (λ e failed. calm.0 e (same_told failed), λ e can failed. calm.1 e can (same_told failed)));
-        tree = files_back_so (length xs) (subst (λ m. TakesAllBack d.shown d.failures d.sure m (told ≡ Tree) t0 t2) none stops.tree) (λ e. ap Err e) (λ e. same_told e);
+        tree = back_so (length xs) (subst (λ m. TakesAllBack d.shown d.failures d.sure m (told ≡ Tree) t0 t2) none stops.tree) (λ e. ap Err e) (λ e. same_told e);
         sink = ends_so (length xs) (subst (λ m. EndsCopies d.sink.is_open d.sink.failures d.sink.sure m (told ≡ Sink) before end) none stops.sink) (λ e. ap Err e) (λ e. same_told e);
       }

@@ -20,13 +20,14 @@ use Rattle.bag_writer.specs.declared.copying.CopyStop.{CopyStop}
 use Rattle.bag_digest.specs.declared.buffers.TheConstants.{FRONT}
 use Rattle.bag_writer.specs.declared.payload.CopyFault.{CopyFault}
 use Rattle.bag_writer.specs.declared.payload.CopyFault.TheVariants.{Sink, TooLarge, Tree}
-use Rattle.bag_writer.proofs.CopyLemmas.{places_on, stands}
+use Rattle.bag_writer.proofs.CopyLemmas.{places_on}
 use Rattle.bag_writer.proofs.Ending.{StaysRead, read_same}
 use Rattle.bag_writer.proofs.FileSteps.{all_octets, some_octets}
 use Rattle.bag_writer.proofs.Pairs.{pairs, zip_each, zip_long, zip_moved, zip_on}
-use Rattle.bag_writer.proofs.PayloadLists.{File, next_taken}
+use Rattle.bag_writer.proofs.PayloadLists.{File}
 use Rattle.bag_writer.proofs.StepLemmas.{part_whole}
 use Rattle.bag_writer.proofs.Stopping.{stopped_here}
+use Rattle.bag_digest.proofs.ListLemmas.{stands, next_taken}
 
 pub has_last : (files : Files) (file : File) → Has (files ++ file ∷ []) file
 has_last [] file = inl refl

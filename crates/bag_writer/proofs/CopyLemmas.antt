@@ -1,9 +1,8 @@
 -- Files that are copied, from one piece to the next.
-use Rattle.std.proofs.Common.{zero, suc, ◌∷◌, ◌≡◌, ◌≢◌, ◌∙◌, ◌+◌, ◌-◌, ◌≤◌, ◌<◌, ◌++◌, ℕ, List, [], Option, Some, None, ap, append-nil, arith, drop, inl, inr, length, length-append, refl, set, slice_get, subst, sym, take}
-use Rattle.std.specs.Prelude.{IsSomeAnd, MatchOption}
+use Rattle.std.proofs.Common.{◌≡◌, ◌≢◌, ◌∙◌, ◌+◌, ◌-◌, ◌≤◌, ◌<◌, ◌++◌, ℕ, List, [], Option, Some, None, ap, append-nil, arith, inl, inr, length, length-append, refl, set, slice_get, subst, sym, take}
+use Rattle.std.specs.Prelude.{IsSomeAnd}
 use Rattle.std.proofs.lemmas.Bool.{cases_lt}
 use Rattle.std.proofs.lemmas.List.{length-take-le, take_all}
-use Rattle.std.proofs.Math.ListN.{drop_of_length-le}
 use Rattle.std.proofs.lemmas.Option.{same_Some, slice_get_within}
 use Rattle.bag_digest.specs.declared.algorithm.AlgSet.{AlgSet}
 use Rattle.bag_digest.specs.declared.multi_lanes.MultiLanes.{MultiLanes}
@@ -18,30 +17,7 @@ use Rattle.bag_writer.specs.Copying.{AreDone, AreEnded, CopiesPiece, AreFresh, A
 use Rattle.bag_writer.specs.PayloadSteps.{IsFoundOf}
 use Rattle.bag_writer.specs.declared.copying.Copying.{Copying}
 use Rattle.bag_writer.specs.declared.payload.CopyFault.{CopyFault}
-
--- something stands at each place
-pub stands : {X : Type 0} (xs : List X) (i : ℕ) → i < length xs → (x : X) × (slice_get xs i ≡ Some x)
-stands [] i h = absurd (omega (arith, h))
-stands (x ∷ xs) zero h = (x, refl)
-stands (x ∷ xs) (suc i) h = stands xs i (omega (arith, h))
-
--- an element that was put in the place of another
-pub set_here : {X : Type 0} (xs : List X) (i : ℕ) (x : X) → i < length xs → slice_get (set xs i x) i ≡ Some x
-set_here [] i x h = absurd (omega (arith, h))
-set_here (y ∷ xs) zero x h = refl
-set_here (y ∷ xs) (suc i) x h = set_here xs i x (omega (arith, h))
-
-pub set_there : {X : Type 0} (xs : List X) (i j : ℕ) (x : X) → j ≢ i → slice_get (set xs i x) j ≡ slice_get xs j
-set_there [] i j x h = refl
-set_there (y ∷ xs) zero zero x h = absurd (h refl)
-set_there (y ∷ xs) zero (suc j) x h = refl
-set_there (y ∷ xs) (suc i) zero x h = refl
-set_there (y ∷ xs) (suc i) (suc j) x h = set_there xs i j x (λ e. h (ap suc e))
-
--- a search that found nothing
-pub by_no_other : {X : Type 0} (o : Option X) (P : Type 0) (Q : X → Type 0) → MatchOption o P Q → ((x : X) → ¬ (o ≡ Some x)) → P
-by_no_other None P Q is not = is
-by_no_other (Some x) P Q is not = absurd (not x refl)
+use Rattle.bag_digest.proofs.ListLemmas.{stands}
 
 module _ {F G : Type 0} where
   -- what was found of a file
@@ -262,8 +238,3 @@ module _ {F G : Type 0} (place : F → ℕ) (copy_place : G → ℕ) where
       ]
     ];
   }
-
--- a piece that was filled anew
-pub refilled : (n : ℕ) (xs ws : List ℕ) → n ≡ length xs → length ws ≡ length xs → take n (ws ++ drop (length ws) xs) ≡ ws
-refilled n xs ws e same =
-    ap (λ rest. take n (ws ++ rest)) (drop_of_length-le xs (omega (arith, same))) ∙ ap (take n) (append-nil ws) ∙ take_all n ws (omega (arith, e, same))

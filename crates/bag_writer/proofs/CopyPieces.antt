@@ -14,16 +14,11 @@ use Rattle.bag_writer.specs.Copying.{CopiesPiece, IsCopiedTo, IsStopped, Sides, 
 use Rattle.bag_writer.specs.PayloadSteps.{copy_fault}
 use Rattle.bag_writer.specs.declared.payload.CopyFault.{CopyFault}
 use Rattle.bag_writer.specs.declared.payload.CopyFault.TheVariants.{Sink, TooLarge, Tree}
+use Rattle.bag_digest.proofs.StreamLemmas.{err_same, ok_not}
 
 -- a count that rose from 0
 pub risen : (old new : ℕ) (failed : Type 0) → CountsIf failed old new → failed → 0 < new
 risen old new failed counts is = omega (arith, counts.rises is)
-
-err_same : {A : Type 0} {x y : SourceFault} → IsErrOf {T = A} (Err x) y → x ≡ y
-err_same e = cc
-
-ok_not : {A : Type 0} {x : A} {y : SourceFault} → IsErrOf (Ok x) y → ⊥
-ok_not e = cc
 
 module _ {F G : Type 0} (s : Sides F G) (work : Work) {octets : List ℕ} {a b : F} {t u : G} (copied : IsCopiedTo s work octets a t) (same : s.place b ≡ s.place a) (beside : s.copy_place u ≡ s.copy_place t) where
   named_on : slice_get (paths_in work.shown) (s.place b) ≡ Some copied.path

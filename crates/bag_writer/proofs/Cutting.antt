@@ -1,10 +1,10 @@
 -- Several files that were taken back, and what is told and there afterwards.
-use Rattle.std.proofs.Common.{◌≡◌, ◌∙◌, ◌+◌, ◌<◌, ◌++◌, ◌∷◌, [], ℕ, Bool, List, Option, Some, ap, append-nil, arith, drop, inl, inr, length, length-append, slice_get, subst, sym, take}
+use Rattle.std.proofs.Common.{◌≡◌, ◌∙◌, ◌+◌, ◌<◌, ◌++◌, ◌∷◌, [], ℕ, Bool, List, Option, Some, ap, append-nil, arith, inl, inr, length, length-append, slice_get, subst, sym, take}
 use Rattle.std.proofs.lemmas.Bool.{cases_lt}
 use Rattle.std.proofs.lemmas.List.{take-append-le, take_all}
 use Rattle.std.proofs.lemmas.Option.{slice_get_within}
 use Rattle.bag_digest.specs.declared.algorithm.AlgSet.{AlgSet}
-use Rattle.bag_rules.specs.Returning.{AreOut, LeavesOut, TakesAllBack}
+use Rattle.bag_rules.specs.Returning.{AreOut}
 use Rattle.bag_rules.specs.declared.limits.TheConstants.{LARGEST_FILE}
 use Rattle.bag_rules.proofs.Words.{Files, Shown}
 use Rattle.bag_writer.specs.Copying.{KeepPlaces}
@@ -21,15 +21,11 @@ use Rattle.bag_writer.specs.declared.payload.CopyFault.TheVariants as copy
 use Rattle.bag_writer.specs.declared.too_large.Large.{Large}
 use Rattle.bag_writer.specs.declared.write_fault.WriteFault.{WriteFault}
 use Rattle.bag_writer.specs.declared.write_fault.WriteFault.TheVariants.{Memory, TooLarge}
-use Rattle.bag_writer.proofs.CopyLemmas.{stands}
 use Rattle.bag_writer.proofs.Completing.{has_last, part_of_whole, same_places}
 use Rattle.bag_writer.proofs.Pairs.{zip_on}
 use Rattle.bag_writer.proofs.PayloadLists.{File}
 use Rattle.bag_writer.proofs.StepLemmas.{part_none}
-
--- the elements of a vector, after its slice was written
-pub put_back : {X : Type 0} (n : ℕ) (xs ws : List X) → n ≡ length xs → length ws ≡ length xs → take n (ws ++ drop (length ws) xs) ≡ ws
-put_back n xs ws count same = take-append-le n ws (drop (length ws) xs) (omega (arith, count, same)) ∙ take_all n ws (omega (arith, count, same))
+use Rattle.bag_digest.proofs.ListLemmas.{stands}
 
 -- THE COUNT OF A SINK
 
@@ -46,21 +42,6 @@ module _ {S : Type 0} {stored : S → Option Stored} {is_open : S → Bool} {fai
 
   pub copies_more : (n m : ℕ) {a b : S} → m ≡ n → ((k : ℕ) → LeavesCopies stored is_open failures sure (k + m) k a b) → LeavesCopies stored is_open failures sure (n + 1) 1 a b
   copies_more n m {a} {b} same left = subst (λ l. LeavesCopies stored is_open failures sure l 1 a b) (let e : 1 + m ≡ n + 1 = omega (arith, same) in e) (left 1)
-
--- THE COUNT OF A TREE
-
-module _ {T : Type 0} {shown : T → Shown} {failures : T → ℕ} {sure : T → Type 0} where
-  pub files_back_so : {F G : Type 0} (n : ℕ) {a b : T} → TakesAllBack shown failures sure n F a b → (F → G) → (G → F) → TakesAllBack shown failures sure n G a b
-  files_back_so n p there back = record {
-    kept = p.kept;
-    counted = λ base out. let c = p.counted base out in record { rises = λ g. c.rises (back g); stays = λ not. c.stays (λ f. not (there f)) };
-  }
-
-  pub files_all : (n m : ℕ) {a b : T} → m ≡ n → ((k : ℕ) → LeavesOut shown failures sure (k + m) k a b) → LeavesOut shown failures sure n 0 a b
-  files_all n m {a} {b} same left = subst (λ l. LeavesOut shown failures sure l 0 a b) (let e : 0 + m ≡ n = omega (arith, same) in e) (left 0)
-
-  pub files_more : (n m : ℕ) {a b : T} → m ≡ n → ((k : ℕ) → LeavesOut shown failures sure (k + m) k a b) → LeavesOut shown failures sure (n + 1) 1 a b
-  files_more n m {a} {b} same left = subst (λ l. LeavesOut shown failures sure l 1 a b) (let e : 1 + m ≡ n + 1 = omega (arith, same) in e) (left 1)
 
 -- WHAT IS THERE
 

@@ -2,13 +2,13 @@
 use Rattle.std.proofs.Common.{◌≡◌, ◌∙◌, ◌⊎◌, ◌<◌, ◌≤◌, ℕ, Bool, true, false, List, [], ◌∷◌, length, inl, inr, refl, sym, ap, subst, arith}
 use Rattle.std.proofs.lemmas.List.Sums.{sum_by-cons}
 use Rattle.std.specs.List.{sum_by}
-use Rattle.bag_rules.proofs.HasLemmas.{has_from_map}
+use Rattle.bag_rules.proofs.HasLemmas.{has_from_map, has_left}
 use Rattle.bag_rules.proofs.Words.{Alg, FetchList, Files, Info, Kind, Md5, Payload, Sha1, Sha256, Sha512, Tag, has, keys_of, length-map, manifest_file, text_file, written_declaration}
 use Rattle.bag_rules.specs.Bags.{octet_count}
 use Rattle.bag_rules.specs.declared.limits.TheConstants.{LARGEST_FILE, LARGEST_TAG_FILE, MOST_LINES}
 use Rattle.bag_tags.specs.ManifestWriting.{written_manifest}
 use Rattle.bag_writer.proofs.MeasuredTags.{empty_fetched, empty_keys, fetched_grows, hole_line, info_grows, info_octets, line, lines, measured}
-use Rattle.bag_writer.proofs.TagCases.{TagCase, a_manifest, fetch_octets, files_in, has_declaration, has_fetch, has_info, has_left, has_manifest, listed_tag, tag_case, the_declaration, the_fetch, the_info}
+use Rattle.bag_writer.proofs.TagCases.{TagCase, a_manifest, fetch_octets, files_in, has_declaration, has_fetch, has_info, has_manifest, listed_tag, tag_case, the_declaration, the_fetch, the_info}
 use Rattle.bag_writer.proofs.TagNames.{chosen, listed_names, listed_of, which_listed}
 use Rattle.bag_writer.specs.WrittenBags.{fetch_files, info_file, listed_tags, manifest_of, pairs_by, tag_files}
 use Rattle.bag_writer.specs.Writing.{HasLongFile, IsLarge, IsLongIn, IsTooLarge, empty_files}

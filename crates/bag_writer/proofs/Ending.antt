@@ -8,9 +8,9 @@ use Rattle.bag_writer.specs.Sinks.{IsFree, Stored}
 use Rattle.bag_writer.specs.Steps.{AreWhole}
 use Rattle.bag_writer.specs.TagWriting.{AreFree}
 use Rattle.bag_writer.specs.declared.copying.Copying.{Copying}
-use Rattle.bag_writer.proofs.CopyLemmas.{stands}
-use Rattle.bag_writer.proofs.PayloadLists.{File, next_taken, rest_from}
+use Rattle.bag_writer.proofs.PayloadLists.{File}
 use Rattle.bag_writer.proofs.StepLemmas.{whole_on}
+use Rattle.bag_digest.proofs.ListLemmas.{stands, rest_from, next_taken}
 
 -- FREE PATHS
 

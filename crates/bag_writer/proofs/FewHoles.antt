@@ -11,23 +11,20 @@ abbrev differs : List ℕ → List ℕ → Bool
 differs path other = not (bytes_eq path other)
 
 -- a filter that leaves something out is shorter
-no_longer : {X : Type 0} (p : X → Bool) (xs : List X) → length (filter p xs) ≤ length xs
-no_longer p [] = omega arith
-no_longer p (x ∷ xs) = elim (cases_Bool (p x)) [
-  | inl kept ↦ rw kept (omega (arith, no_longer p xs))
-  | inr out ↦ rw out (omega (arith, no_longer p xs))
+pub at_most : {X : Type 0} (p : X → Bool) (xs : List X) → length (filter p xs) ≤ length xs
+at_most p [] = omega arith
+at_most p (x ∷ xs) = elim (cases_Bool (p x)) [
+  | inl kept ↦ rw kept (omega (arith, at_most p xs))
+  | inr out ↦ rw out (omega (arith, at_most p xs))
 ]
 
 shorter : {X : Type 0} (p : X → Bool) (xs : List X) (x : X) → Has xs x → p x ≡ false → length (filter p xs) < length xs
 shorter p [] x h out = absurd h
-shorter p (y ∷ xs) x (inl e) out = rw (ap p e ∙ out) (omega (arith, no_longer p xs))
+shorter p (y ∷ xs) x (inl e) out = rw (ap p e ∙ out) (omega (arith, at_most p xs))
 shorter p (y ∷ xs) x (inr h) out = elim (cases_Bool (p y)) [
   | inl kept ↦ rw kept (omega (arith, shorter p xs x h out))
-  | inr other ↦ rw other (omega (arith, no_longer p xs))
+  | inr other ↦ rw other (omega (arith, at_most p xs))
 ]
-
-pub at_most : {X : Type 0} (p : X → Bool) (xs : List X) → length (filter p xs) ≤ length xs
-at_most p xs = no_longer p xs
 
 -- no earlier hole has the path of another
 abbrev pub NoneBefore : List Hole → Type 0

@@ -19,6 +19,7 @@ use Rattle.bag_writer.specs.declared.write_fault.WriteFault.TheVariants.{TooLarg
 use Rattle.bag_writer.specs.declared.payload.CopyFault.{CopyFault}
 use Rattle.bag_writer.specs.declared.payload.CopyFault.TheVariants as copy
 use Rattle.bag_writer.proofs.StepLemmas.{begun_empty, begun_front, begun_lost, begun_more, front_part, HasBegun, part_none, part_whole}
+use Rattle.bag_digest.proofs.StreamLemmas.{consumes_none}
 
 -- A FILE THAT IS BEGUN
 
@@ -41,10 +42,6 @@ module _ (path octets : List ℕ) {old mid new : Option Stored} (begun : mid ≡
 -- what was read whole was read until the sink failed
 pub until_sink : {set : AlgSet} {source left : Option (List ℕ)} {buffer : List ℕ} {found : SourceRead} {octets : List ℕ} → IsReadWhole set source left buffer found octets → IsReadUntil source left copy.Sink octets
 until_sink whole = record { gave = whole.gave.gave; long = λ e. cc }
-
-consumes_none : (source : Option (List ℕ)) → Consumes source source []
-consumes_none None = tt
-consumes_none (Some octets) = refl
 
 -- nothing was read until a fault
 pub none_until : (source : Option (List ℕ)) (fault : CopyFault) → ¬ (fault ≡ copy.TooLarge) → IsReadUntil source source fault []

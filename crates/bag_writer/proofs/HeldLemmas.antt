@@ -12,7 +12,8 @@ use Rattle.bag_writer.specs.HeldFiles.{AddsFile, AreItemsSoFar}
 use Rattle.bag_writer.specs.Steps.{AreItemsOf, IsItemOf}
 use Rattle.bag_writer.specs.declared.item.Item.{Item}
 use Rattle.bag_writer.specs.declared.items.Items.{Items}
-use Rattle.bag_writer.proofs.PayloadLists.{File, next_taken}
+use Rattle.bag_writer.proofs.PayloadLists.{File}
+use Rattle.bag_digest.proofs.ListLemmas.{next_taken}
 
 abbrev octets_of : Vec ℕ Global → List ℕ
 octets_of content = content.items

@@ -9,16 +9,13 @@ use Rattle.std.proofs.lemmas.Slice.Eq.{bytes_eq-Decides}
 use Rattle.std.specs.Str.{bytes_eq}
 use Rattle.bag_writer.specs.Steps.{is_hole}
 use Rattle.bag_writer.specs.declared.spec.Hole.{Hole}
-
-or_false : (b : Bool) → (b || false) ≡ b
-or_false true = refl
-or_false false = refl
+use Rattle.std.proofs.Math.Bool.{or-false}
 
 module _ (before : List Hole) (hole : Hole) where
   one_more : (path : List ℕ) → is_hole (before ++ hole ∷ []) path ≡ (is_hole before path || bytes_eq hole.path path)
   one_more path =
       list_any-append (λ (h : Hole). bytes_eq h.path path) before (hole ∷ [])
-      ∙ ap (λ b. is_hole before path || b) (or_false (bytes_eq hole.path path))
+      ∙ ap (λ b. is_hole before path || b) (or-false (bytes_eq hole.path path))
 
   marked_here : (path : List ℕ) → path ≡ hole.path → true ≡ is_hole (before ++ hole ∷ []) path
   marked_here path same = sym (one_more path ∙ or_right (is_hole before path) (bytes_eq hole.path path) ((bytes_eq-Decides hole.path path).1 (sym same)))
@@ -26,7 +23,7 @@ module _ (before : List Hole) (hole : Hole) where
   kept_there : (path : List ℕ) → ¬ (path ≡ hole.path) → is_hole before path ≡ is_hole (before ++ hole ∷ []) path
   kept_there path other =
       let no = false_from_ne_true (bytes_eq hole.path path) (λ e. other (sym ((bytes_eq-Decides hole.path path).0 e))) in
-      sym (one_more path ∙ ap (λ b. is_hole before path || b) no ∙ or_false (is_hole before path))
+      sym (one_more path ∙ ap (λ b. is_hole before path || b) no ∙ or-false (is_hole before path))
 
   kept : (paths : List (List ℕ)) → ((k : ℕ) → ¬ (slice_get paths k ≡ Some hole.path)) → map (is_hole before) paths ≡ map (is_hole (before ++ hole ∷ [])) paths
   kept [] none = refl

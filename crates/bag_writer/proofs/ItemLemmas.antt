@@ -6,7 +6,7 @@ use Rattle.std.specs.Ordering.{is_eq}
 use Rattle.std.proofs.lemmas.List.Sums.{sum_by-cons}
 use Rattle.bag_rules.specs.Bags.{octet_count}
 use Rattle.bag_rules.specs.declared.limits.TheConstants.{LARGEST_FILE, MOST_LINES}
-use Rattle.bag_rules.proofs.Words.{Alg, AlgSet, AreRising, Files, Less, Md5, Sha1, Sha256, Sha512, alg_of, bytes_eq, digest_in, has, hash, is_eq-slice_cmp, keys_of, lists_path, nat_cmp, slice_cmp}
+use Rattle.bag_rules.proofs.Words.{Alg, AlgSet, AreRising, Files, Less, bytes_eq, digest_in, has, hash, is_eq-slice_cmp, keys_of, lists_path, nat_cmp, slice_cmp}
 use Rattle.bag_writer.specs.Steps.{AreItemsOf, IsItemOf}
 use Rattle.bag_rules.proofs.OxumReading.{oxum}
 use Rattle.bag_writer.specs.Writing.{HasLongFile, oxum_of}
@@ -65,12 +65,6 @@ pub oxum_is : (set : AlgSet) (items : List Item) (files : Files) → AreItemsOf 
 oxum_is set items files are total is = λ t. oxum ((is ∙ items_octets set items files are) t) (items_length set items files are t)
 
 -- WHAT A MANIFEST LISTS
-
-pub alg_of_hash : (alg : Alg) (octets : List ℕ) → alg_of (hash alg octets) ≡ alg
-alg_of_hash Md5 octets = refl
-alg_of_hash Sha1 octets = refl
-alg_of_hash Sha256 octets = refl
-alg_of_hash Sha512 octets = refl
 
 pub item_digest : (set : AlgSet) (item : Item) (file : File) (alg : Alg) → IsItemOf set item file.0 file.1 → has set alg ≡ true → digest_in item.sums.digests alg ≡ Some (hash alg file.1)
 item_digest set item file alg is wanted = rw wanted at (is.sums.1 alg)

@@ -7,10 +7,10 @@ use Rattle.bag_tags.proofs.ExactTexts.{no_elements, no_entries, no_pairs}
 use Rattle.bag_tags.proofs.NameLemmas.{one_name}
 use Rattle.bag_tags.proofs.WrittenLines.{fetch_lines, manifest_lines}
 use Rattle.bag_tags.specs.declared.name.TagName.TheVariants as tag
-use Rattle.bag_rules.proofs.HasLemmas.{has_at, has_map, place_of_has}
+use Rattle.bag_rules.proofs.HasLemmas.{has_at, has_map, place_of_has, all_of}
 use Rattle.bag_rules.proofs.TreeLemmas.{one_octets}
 use Rattle.bag_rules.proofs.VerdictLemmas.{declared_none}
-use Rattle.bag_rules.proofs.Words.{Alg, AllByRecursion, AreTagFiles, Bag, cases_Bool, Digest, false≢true, FetchList, FetchText, file_of, Files, Has, has, hash, HoldsFile, Info, InfoText, is_payload, IsFaultyText, IsInScope, IsThere, IsUnknownManifest, keys_of, Kind, length-map, line_fault, LineFault, LineFile, listed_digest, Lists, lists_path, Manifest, manifest_file, manifest_name, ManifestText, Md5, MetadataElement, octet_count, is_oxum, OxumText, Pair, pair, Payload, Sha1, Sha256, Sha512, Tag, text_file}
+use Rattle.bag_rules.proofs.Words.{Alg, AreTagFiles, Bag, cases_Bool, Digest, false≢true, FetchList, FetchText, file_of, Files, Has, has, hash, HoldsFile, Info, InfoText, is_payload, IsFaultyText, IsInScope, IsThere, IsUnknownManifest, keys_of, Kind, length-map, line_fault, LineFault, LineFile, listed_digest, Lists, lists_path, Manifest, manifest_file, manifest_name, ManifestText, Md5, MetadataElement, octet_count, is_oxum, OxumText, Pair, pair, Payload, Sha1, Sha256, Sha512, Tag, text_file}
 use Rattle.bag_rules.specs.declared.fault.Fault.TheVariants.{BadDeclaration, BadLine, FetchLength, FetchNotListed, ManifestNotListed, Missing, NoDeclaration, NoManifest, NoPayloadDir, OxumForm, OxumTwice, OxumWrong, Unlisted, WrongDigest}
 use Rattle.bag_rules.specs.Bags.{version_of}
 use Rattle.bag_rules.specs.Files.{IsTagFile}
@@ -35,10 +35,6 @@ use Rattle.bag_writer.specs.declared.too_large.Large.TheVariants as large
 
 abbrev File : Type 0
 File = List ℕ × List ℕ
-
-all_of : {X : Type 0} (P : X → Type 0) (xs : List X) → ((x : X) → Has xs x → P x) → AllByRecursion P xs
-all_of P [] each = tt
-all_of P (x ∷ xs) each = (each x (inl refl), all_of P xs (λ y h. each y (inr h)))
 
 -- NAMES OF TAG FILES
 

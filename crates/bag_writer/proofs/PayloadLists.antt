@@ -1,5 +1,5 @@
 -- The files of a tree as they were read, and the payload among them.
-use Rattle.std.proofs.Common.{◌≡◌, ◌+◌, ◌∷◌, [], ◌++◌, ℕ, zero, suc, Bool, true, false, List, Option, Some, map, take, drop, slice_get, Contains, refl, sym, ap, ◌∙◌, subst, inl, inr, arith}
+use Rattle.std.proofs.Common.{◌≡◌, ◌+◌, ◌∷◌, [], ◌++◌, ℕ, Bool, true, false, List, Option, Some, map, take, drop, slice_get, Contains, refl, sym, ap, ◌∙◌, subst, inl, inr, arith}
 use Rattle.std.proofs.lemmas.List.{length-take, take-append-drop, take-map}
 use Rattle.std.proofs.lemmas.List.Elements.{All-contains, All-from_recursion, filter-append, recursion_from_All}
 use Rattle.std.specs.List.{AllByRecursion, AllZip, filter}
@@ -91,16 +91,6 @@ written_next spec file rest true e k = rw (e, k) refl
 written_next spec file rest false e k = rw (e, k) refl
 
 -- PLACES
-
-pub next_taken : {X : Type 0} (xs : List X) (n : ℕ) (x : X) → slice_get xs n ≡ Some x → take (n + 1) xs ≡ take n xs ++ x ∷ []
-next_taken [] n x e = absurd (cc)
-next_taken (y ∷ xs) zero x e = let k : y ≡ x = cc in ap (λ z. z ∷ []) k
-next_taken (y ∷ xs) (suc n) x e = let s : suc n + 1 ≡ suc (n + 1) = omega arith in rw s (ap (λ list. y ∷ list) (next_taken xs n x e))
-
-pub rest_from : {X : Type 0} (xs : List X) (n : ℕ) (x : X) → slice_get xs n ≡ Some x → drop n xs ≡ x ∷ drop (n + 1) xs
-rest_from [] n x e = absurd (cc)
-rest_from (y ∷ xs) zero x e = let k : y ≡ x = cc in ap (λ z. z ∷ xs) k
-rest_from (y ∷ xs) (suc n) x e = let s : suc n + 1 ≡ suc (n + 1) = omega arith in rw s (rest_from xs n x e)
 
 -- a path of a list in ascending order isn't among the earlier ones
 absent_before : (paths : List (List ℕ)) → AreRising paths → (i : ℕ) (path : List ℕ) → slice_get paths i ≡ Some path → ¬ Contains (take i paths) path

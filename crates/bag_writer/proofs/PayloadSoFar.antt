@@ -19,8 +19,9 @@ use Rattle.bag_writer.specs.declared.item.Item.{Item}
 use Rattle.bag_writer.specs.declared.items.Items.{Items}
 use Rattle.bag_writer.specs.declared.spec.Spec.{Spec}
 use Rattle.bag_writer.proofs.FileSteps.{octets_unread, path_here}
-use Rattle.bag_writer.proofs.PayloadLists.{absent_written, AreReadAs, File, next_taken, payload_next, payload_on, payload_passed, payload_read, read_on, rest_from, ShownFile, unread, unread_is, written_next, written_of, written_on}
+use Rattle.bag_writer.proofs.PayloadLists.{absent_written, AreReadAs, File, payload_next, payload_on, payload_passed, payload_read, read_on, ShownFile, unread, unread_is, written_next, written_of, written_on}
 use Rattle.bag_writer.proofs.StepLemmas.{free_at_first, free_still, part_after, part_more, part_whole, whole_none, whole_on}
+use Rattle.bag_digest.proofs.ListLemmas.{rest_from, next_taken}
 
 -- these files of a tree were read, the payload among them was written except for the holes, and these are its items
 pub record HasWritten (spec : Spec) (shown : List ShownFile) (old new : Option Stored) (items : Items) (files : Files) : Type 0 where

@@ -1,5 +1,5 @@
 -- Payload files of a tree that are copied side by side, by their places: all those from one place to another.
-use Rattle.std.proofs.Common.{◌≡◌, ◌∙◌, ◌+◌, ◌-◌, ◌<◌, ◌≤◌, ◌⊎◌, ◌++◌, ◌∷◌, [], ℕ, zero, suc, Bool, false, true, List, Option, Some, None, Contains, ap, append_assoc, arith, drop, inl, inr, length, length-append, refl, slice_get, subst, sym, take}
+use Rattle.std.proofs.Common.{◌≡◌, ◌∙◌, ◌+◌, ◌-◌, ◌<◌, ◌≤◌, ◌++◌, ◌∷◌, [], ℕ, zero, suc, Bool, false, true, List, Option, Some, None, Contains, ap, append_assoc, arith, drop, inl, inr, length, length-append, refl, slice_get, subst, sym, take}
 use Rattle.std.proofs.lemmas.Bool.{cases_lt}
 use Rattle.std.proofs.lemmas.List.{take-append-drop, take-take}
 use Rattle.std.proofs.lemmas.List.Elements.{Contains-append_left}
@@ -7,7 +7,7 @@ use Rattle.std.proofs.lemmas.Option.{same_Some, slice_get_within}
 use Rattle.std.specs.Map.{keys_of}
 use Rattle.std.specs.Option.{option_map}
 use Rattle.bag_rules.proofs.FileReadLemmas.{push_at, push_before}
-use Rattle.bag_rules.proofs.Words.{AreRising, Files, Has, is_payload, paths_in, payload_of, Shown}
+use Rattle.bag_rules.proofs.Words.{AreRising, Files, is_payload, paths_in, payload_of, Shown}
 use Rattle.bag_rules.specs.declared.limits.TheConstants.{LARGEST_FILE}
 use Rattle.bag_writer.specs.Finishing.{AreFilesAt, AreFinished, CanEnd, IsCutAt}
 use Rattle.bag_writer.specs.HeldFiles.{AreItemsSoFar}
@@ -25,6 +25,7 @@ use Rattle.bag_writer.proofs.PayloadLists.{absent_written, AreReadAs, File, payl
 use Rattle.bag_writer.proofs.PayloadSoFar.{HasWritten, shown_at}
 use Rattle.bag_writer.proofs.ReadFiles.{AreAllBetween, AreReadEach, AreRisingBetween, all_behind, all_read, no_holes, none_before, one_read, past_others}
 use Rattle.bag_writer.proofs.StepLemmas.{free_at_first, free_still, part_after, part_more, whole_on}
+use Rattle.bag_rules.proofs.HasLemmas.{has_either, has_left, has_right}
 
 abbrev own : ℕ → ℕ
 own n = n
@@ -158,20 +159,6 @@ read_each tree (p ∷ places) (file ∷ files) payload are =
 pub between_read : (tree : Shown) (n i : ℕ) (places : List ℕ) (more files : Files) → IsBetween tree n i places → AreFilesAt tree places more → AreReadAs (take n tree.files) files
     → (all : Files) × AreReadAs (take i tree.files) all × (payload_of all ≡ payload_of files ++ more)
 between_read tree n i places more files between are read = all_read own tree n i places more files between.inside between.rising between.all (read_each tree places more between.payload are) read
-
-has_either : (xs ys : Files) (x : File) → Has (xs ++ ys) x → Has xs x ⊎ Has ys x
-has_either [] ys x has = inr has
-has_either (z ∷ xs) ys x (inl e) = inl (inl e)
-has_either (z ∷ xs) ys x (inr has) = elim (has_either xs ys x has) [ inl first ↦ inl (inr first) | inr other ↦ inr other ]
-
-has_left : (xs ys : Files) (x : File) → Has xs x → Has (xs ++ ys) x
-has_left [] ys x has = absurd has
-has_left (z ∷ xs) ys x (inl e) = inl e
-has_left (z ∷ xs) ys x (inr has) = inr (has_left xs ys x has)
-
-has_right : (xs ys : Files) (x : File) → Has ys x → Has (xs ++ ys) x
-has_right [] ys x has = has
-has_right (z ∷ xs) ys x has = inr (has_right xs ys x has)
 
 short_join : (xs ys : Files) → ¬ HasLongFile xs LARGEST_FILE → ¬ HasLongFile ys LARGEST_FILE → ¬ HasLongFile (xs ++ ys) LARGEST_FILE
 short_join xs ys a b (path, (octets, has, long)) = elim (has_either xs ys (path, octets) has) [

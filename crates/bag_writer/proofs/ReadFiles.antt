@@ -4,9 +4,9 @@ use Rattle.bag_rules.proofs.Words.{cases_Bool, Files, is_payload, payload_of, Sh
 use Rattle.bag_writer.specs.PayloadSteps.{IsReadAs}
 use Rattle.bag_writer.specs.Steps.{is_hole, written_payload}
 use Rattle.bag_writer.specs.declared.spec.Spec.{Spec}
-use Rattle.bag_writer.proofs.CopyLemmas.{stands}
 use Rattle.bag_writer.proofs.FileSteps.{octets_unread}
-use Rattle.bag_writer.proofs.PayloadLists.{AreReadAs, File, ShownFile, next_taken, payload_next, payload_on, payload_passed, read_on}
+use Rattle.bag_writer.proofs.PayloadLists.{AreReadAs, File, ShownFile, payload_next, payload_on, payload_passed, read_on}
+use Rattle.bag_digest.proofs.ListLemmas.{stands, next_taken}
 
 -- files that are no payload
 pub past_others : (tree : Shown) (files : Files) (a d : ℕ) → a + d ≤ length tree.files → ((j : ℕ) (s : ShownFile) → a ≤ j → j < a + d → slice_get tree.files j ≡ Some s → is_payload s.0 ≡ false) → AreReadAs (take a tree.files) files

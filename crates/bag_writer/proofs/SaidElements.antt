@@ -19,12 +19,13 @@ use Rattle.bag_rules.proofs.Words.{AllByRecursion, append-nil, Bag, cases_Bool, 
 use Rattle.bag_rules.specs.Bags.{octet_count, version_of}
 use Rattle.bag_rules.specs.declared.limits.TheConstants.{LARGEST_FILE}
 use Rattle.bag_writer.proofs.PartBags.{HasTags, info_case, other_case, version_is}
-use Rattle.bag_writer.proofs.TagCases.{has_append, has_info, listed_tag}
+use Rattle.bag_writer.proofs.TagCases.{has_info, listed_tag}
 use Rattle.bag_writer.specs.FilledBags.{IsPayloadFor}
 use Rattle.bag_writer.specs.Writing.{HasLongFile}
 use Rattle.bag_writer.specs.WrittenBags.{oxum_element}
 use Rattle.bag_writer.specs.declared.spec.Spec.{Spec}
 use Rattle.bag_writer.specs.declared.too_large.Large.TheVariants as large
+use Rattle.bag_rules.proofs.HasLemmas.{has_either}
 
 -- NUMBERS
 
@@ -120,7 +121,7 @@ module _ (spec : Spec) (payload : Files) (fits : IsPayloadFor spec payload) wher
       omega (arith, ap length f)
 
   pub only_oxum : (element : MetadataElement) → Has elements element → is_oxum element ≡ true → oxum_element payload ≡ element
-  only_oxum element h is = elim (has_append spec.info (oxum_element payload ∷ []) element h) [
+  only_oxum element h is = elim (has_either spec.info (oxum_element payload ∷ []) element h) [
     | inl given ↦ absurd (not_given element given is)
     | inr last ↦ elim last [ inl e ↦ e | inr none ↦ absurd none ]
   ]

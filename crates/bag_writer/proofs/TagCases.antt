@@ -1,7 +1,7 @@
 -- Which tag files are written, by their names.
-use Rattle.std.proofs.Common.{◌≡◌, ◌≢◌, ◌⊎◌, ◌∙◌, ℕ, Bool, true, List, [], ◌∷◌, ◌++◌, map, inl, inr, refl, sym, ap, subst}
+use Rattle.std.proofs.Common.{◌≡◌, ◌≢◌, ◌∙◌, ℕ, Bool, true, List, [], ◌∷◌, map, inl, inr, refl, sym, ap, subst}
 use Rattle.std.specs.List.{filter, flat_map}
-use Rattle.bag_rules.proofs.HasLemmas.{has_from_map, has_map}
+use Rattle.bag_rules.proofs.HasLemmas.{has_from_map, has_map, has_either, has_left, has_right}
 use Rattle.bag_rules.proofs.Words.{Alg, AlgSet, cases_Bool, declaration_file, FetchList, Files, Has, has, Info, Kind, manifest_file, Md5, Payload, Sha1, Sha256, Sha512, Tag, text_file, written_declaration}
 use Rattle.bag_tags.specs.FetchEntries.{written_entry}
 use Rattle.bag_tags.specs.ManifestWriting.{written_manifest}
@@ -10,20 +10,6 @@ use Rattle.bag_writer.specs.declared.spec.Hole.{Hole}
 use Rattle.bag_writer.specs.declared.spec.Spec.{Spec}
 
 -- LISTS
-
-pub has_append : {X : Type 0} (xs ys : List X) (x : X) → Has (xs ++ ys) x → Has xs x ⊎ Has ys x
-has_append [] ys x h = inr h
-has_append (first ∷ xs) ys x (inl e) = inl (inl e)
-has_append (first ∷ xs) ys x (inr h) = elim (has_append xs ys x h) [ inl k ↦ inl (inr k) | inr k ↦ inr k ]
-
-pub has_left : {X : Type 0} (xs ys : List X) (x : X) → Has xs x → Has (xs ++ ys) x
-has_left [] ys x h = absurd h
-has_left (first ∷ xs) ys x (inl e) = inl e
-has_left (first ∷ xs) ys x (inr h) = inr (has_left xs ys x h)
-
-pub has_right : {X : Type 0} (xs ys : List X) (x : X) → Has ys x → Has (xs ++ ys) x
-has_right [] ys x h = h
-has_right (first ∷ xs) ys x h = inr (has_right xs ys x h)
 
 -- what a filter keeps is in the list and passes
 pub has_filtered : {X : Type 0} (p : X → Bool) (xs : List X) (x : X) → Has (filter p xs) x → Has xs x × (p x ≡ true)
@@ -108,13 +94,13 @@ module _ (spec : Spec) (payload : Files) where
   pub listed_case : (path octets : List ℕ) → Has (listed_tags spec payload) (path, octets) → TagCase spec payload path octets
   listed_case path octets (inl e) = let p = parts (info_file spec payload) path octets e in the_info p.0 p.1
   listed_case path octets (inr (inl e)) = let p = parts bagit_file path octets e in the_declaration p.0 p.1
-  listed_case path octets (inr (inr h)) = elim (has_append (fetch_files payload spec.holes.items) (map (manifest_of Payload payload) (algs_in spec.algs)) (path, octets) h) [
+  listed_case path octets (inr (inr h)) = elim (has_either (fetch_files payload spec.holes.items) (map (manifest_of Payload payload) (algs_in spec.algs)) (path, octets) h) [
     | inl k ↦ (let f = fetch_case spec.holes.items path octets k in the_fetch f.0 f.1 f.2)
     | inr k ↦ manifest_case Payload path octets k
   ]
 
   pub tag_case : (path octets : List ℕ) → Has (tag_files spec payload) (path, octets) → TagCase spec payload path octets
-  tag_case path octets h = elim (has_append (listed_tags spec payload) (map (manifest_of Tag (listed_tags spec payload)) (algs_in spec.algs)) (path, octets) h) [
+  tag_case path octets h = elim (has_either (listed_tags spec payload) (map (manifest_of Tag (listed_tags spec payload)) (algs_in spec.algs)) (path, octets) h) [
     | inl k ↦ listed_case path octets k
     | inr k ↦ manifest_case Tag path octets k
   ]

@@ -4,7 +4,7 @@ use Rattle.std.proofs.lemmas.List.{take-append-drop}
 use Rattle.std.specs.Option.{option_map}
 use Rattle.bag_digest.specs.Failures.{Rises}
 use Rattle.bag_rules.specs.declared.limits.TheConstants.{LARGEST_TAG_FILE}
-use Rattle.bag_rules.proofs.Words.{AlgSet, Files, Has}
+use Rattle.bag_rules.proofs.Words.{AlgSet, Files}
 use Rattle.bag_writer.specs.Sinks.{StaysOrIsLost, Stored, with_begun, with_ended, with_octets}
 use Rattle.bag_writer.specs.Steps.{AreItemsOf, ArePart, AreWhole, HasFrontOf, NamesLong, with_whole, with_wholes}
 use Rattle.bag_writer.specs.TagWriting.{AddsItems, AreFree, WritesAll, WritesFiles}
@@ -15,6 +15,7 @@ use Rattle.bag_writer.specs.declared.write_fault.WriteFault.{WriteFault}
 use Rattle.bag_writer.specs.declared.item.Item.{Item}
 use Rattle.bag_writer.specs.declared.write_fault.WriteFault.TheVariants.{Memory, Sink, TooLarge, Tree}
 use Rattle.bag_writer.proofs.StepLemmas.{begun_empty, begun_ended, begun_front, begun_lost, begun_more, front_part, part_after, part_more, part_none, part_whole, whole_none, whole_on}
+use Rattle.bag_rules.proofs.HasLemmas.{has_either, has_left, has_right}
 
 abbrev File : Type 0
 File = List ℕ × List ℕ
@@ -69,30 +70,18 @@ free_after (file ∷ files) more old mid free whole = free_after files more (ste
 
 -- WHICH FILES ARE LONG
 
-has_front : (files more : Files) (file : File) → Has files file → Has (files ++ more) file
-has_front [] more file has = absurd has
-has_front (first ∷ files) more file has = elim has [ inl this ↦ inl this | inr later ↦ inr (has_front files more file later) ]
-
-has_back : (files more : Files) (file : File) → Has more file → Has (files ++ more) file
-has_back [] more file has = has
-has_back (first ∷ files) more file has = inr (has_back files more file has)
-
-has_either : (files more : Files) (file : File) (P : Type 0) → (Has files file → P) → (Has more file → P) → Has (files ++ more) file → P
-has_either [] more file P front back has = back has
-has_either (first ∷ files) more file P front back has = elim has [
-  | inl this ↦ front (inl this)
-  | inr later ↦ has_either files more file P (λ h. front (inr h)) back later
-]
-
 module _ (named : List ℕ → Large) (files more : Files) (limit : ℕ) (fault : WriteFault) where
   pub long_front : NamesLong named files limit fault → NamesLong named (files ++ more) limit fault
-  long_front long = λ what is. let it = long what is in (it.0, it.1, (it.2.0, has_front files more (it.0, it.2.0) it.2.1, it.2.2))
+  long_front long = λ what is. let it = long what is in (it.0, it.1, (it.2.0, has_left files more (it.0, it.2.0) it.2.1, it.2.2))
 
   pub long_back : NamesLong named more limit fault → NamesLong named (files ++ more) limit fault
-  long_back long = λ what is. let it = long what is in (it.0, it.1, (it.2.0, has_back files more (it.0, it.2.0) it.2.1, it.2.2))
+  long_back long = λ what is. let it = long what is in (it.0, it.1, (it.2.0, has_right files more (it.0, it.2.0) it.2.1, it.2.2))
 
 pub none_long : (files more : Files) (limit : ℕ) → (HasLongFile files limit → ⊥) → (HasLongFile more limit → ⊥) → HasLongFile (files ++ more) limit → ⊥
-none_long files more limit front back long = has_either files more (long.0, long.1.0) ⊥ (λ h. front (long.0, (long.1.0, h, long.1.2))) (λ h. back (long.0, (long.1.0, h, long.1.2))) long.1.1
+none_long files more limit front back long = elim (has_either files more (long.0, long.1.0) long.1.1) [
+  | inl h ↦ front (long.0, (long.1.0, h, long.1.2))
+  | inr h ↦ back (long.0, (long.1.0, h, long.1.2))
+]
 
 -- CALLS THAT WRITE FILES, ONE AFTER ANOTHER
 

@@ -1,6 +1,6 @@
 -- The texts of the tag files, made line by line.
 use Rattle.std.proofs.Common.{◌≡◌, ◌∙◌, ◌<◌, ◌+◌, ◌++◌, ◌∷◌, ◌==◌, [], ℕ, Bool, true, false, List, None, Option, Some, Contains, Err, append-nil, cond, drop, get_or, length, map, slice_get, string_bytes, suc, take, zero, refl, sym, ap, subst, inl, inr}
-use Rattle.std.specs.List.{AllByRecursion, filter, flat_map}
+use Rattle.std.specs.List.{AllByRecursion, filter}
 use Rattle.std.specs.List.Sorted.{IsBinarySearchResult, IsSearchInRange}
 use Rattle.std.specs.Option.{option_map}
 use Rattle.std.proofs.lemmas.List.{drop_more, map-append, take-append-drop, take_more}
@@ -22,7 +22,9 @@ use Rattle.bag_writer.specs.TagWriting.{CanBeFetched, CanBeListed}
 use Rattle.bag_writer.specs.WrittenBags.{algs_in, entry_of, fetch_files, manifest_of, pairs_by}
 use Rattle.bag_writer.specs.declared.item.Item.{Item}
 use Rattle.bag_writer.specs.declared.spec.Hole.{Hole}
-use Rattle.bag_writer.proofs.ItemLemmas.{File, alg_of_hash, each_at, item_at, item_digest, items_paths, not_before}
+use Rattle.bag_writer.proofs.ItemLemmas.{File, each_at, item_at, item_digest, items_paths, not_before}
+use Rattle.bag_digest.proofs.WholeDigests.{digest_by}
+use Rattle.bag_writer.proofs.TagCases.{fetch_octets}
 
 -- ENTRIES OF `fetch.txt`
 
@@ -78,26 +80,22 @@ one_fetched payload holes i hole at can = record {
   urls = λ other given. elim given [ inl same ↦ can.urls other (subst (Has holes) same (has_at holes i hole at)) | inr none ↦ absurd none ];
 }
 
--- the lines of these holes
-abbrev pub hole_lines : Files → List Hole → List ℕ
-hole_lines payload holes = flat_map (λ hole. written_entry (entry_of payload hole)) holes
-
-pub fetch_more : (payload : Files) (holes : List Hole) (i : ℕ) (d : Hole) (lines : List FetchLine) (n : ℕ) (entry : FetchItem) → i < length holes → slice_get holes i ≡ Some d → entry ≡ entry_of payload d → written_fetch lines ≡ hole_lines payload (take i holes)
-    → written_fetch (lines ++ fetch_line n entry ∷ []) ≡ hole_lines payload (take (i + 1) holes)
+pub fetch_more : (payload : Files) (holes : List Hole) (i : ℕ) (d : Hole) (lines : List FetchLine) (n : ℕ) (entry : FetchItem) → i < length holes → slice_get holes i ≡ Some d → entry ≡ entry_of payload d → written_fetch lines ≡ fetch_octets payload (take i holes)
+    → written_fetch (lines ++ fetch_line n entry ∷ []) ≡ fetch_octets payload (take (i + 1) holes)
 fetch_more payload holes i d lines n entry within there is so_far =
     let hole = get_or holes i d in
     let here : d ≡ hole = sym (get_or_from_slice_get holes i d d there) in
     flat_map-append written_line lines (fetch_line n entry ∷ [])
     ∙ (λ t. so_far t ++ (written_entry ((is ∙ ap (entry_of payload) here) t) ++ []))
     ∙ sym (flat_map-append (λ h. written_entry (entry_of payload h)) (take i holes) (hole ∷ []))
-    ∙ ap (hole_lines payload) (sym (take_more holes i d within))
+    ∙ ap (fetch_octets payload) (sym (take_more holes i d within))
 
-pub fetch_all : (payload : Files) (holes : List Hole) (i : ℕ) (lines : List FetchLine) → i ≡ length holes → written_fetch lines ≡ hole_lines payload (take i holes) → written_fetch lines ≡ hole_lines payload holes
-fetch_all payload holes i lines all so_far = so_far ∙ ap (hole_lines payload) (ap (λ (n : ℕ). take n holes) all ∙ take-length holes)
+pub fetch_all : (payload : Files) (holes : List Hole) (i : ℕ) (lines : List FetchLine) → i ≡ length holes → written_fetch lines ≡ fetch_octets payload (take i holes) → written_fetch lines ≡ fetch_octets payload holes
+fetch_all payload holes i lines all so_far = so_far ∙ ap (fetch_octets payload) (ap (λ (n : ℕ). take n holes) all ∙ take-length holes)
 
 -- `fetch.txt`, if there are holes
 abbrev pub fetch_file : Files → List Hole → File
-fetch_file payload holes = (text_file FetchList, hole_lines payload holes)
+fetch_file payload holes = (text_file FetchList, fetch_octets payload holes)
 
 pub some_fetched : (payload : Files) (holes : List Hole) → (length holes == 0) ≡ false → fetch_files payload holes ≡ fetch_file payload holes ∷ []
 some_fetched payload [] some = (let no : true ≡ false = some in cc)
@@ -118,7 +116,7 @@ module _ (set : AlgSet) (items : List Item) (files : Files) (are : AreItemsOf se
       let file = at.0 in
       let path_is : item.path ≡ file.0 = at.2.path_is in
       let admitted : Admits (listing_by alg kind (take i files)) file.0 (hash alg file.1) = record {
-        by_alg = alg_of_hash alg file.1;
+        by_alg = digest_by alg file.1;
         in_place = each_at _ files i file can.in_place at.1;
         not_listed = not_before alg files i file can.rising at.1;
       } in (

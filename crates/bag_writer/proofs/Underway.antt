@@ -21,11 +21,11 @@ use Rattle.bag_writer.specs.declared.spec.Spec.{Spec}
 use Rattle.bag_writer.specs.declared.write_fault.WriteFault.{WriteFault}
 use Rattle.bag_writer.specs.declared.write_fault.WriteFault.TheVariants.{Memory}
 use Rattle.bag_writer.proofs.Batches.{HasOut, InHand, adds_count, copies_ends, ends_so, hand_before, hand_can_begin, hand_can_end, hand_cut, hand_cut_next, hand_finished, hand_next, hand_passed, hand_settled, hand_some, hand_under_way, none_left, none_more, out_on, sink_used, tree_used}
-use Rattle.bag_writer.proofs.Cutting.{files_back_so}
-use Rattle.bag_writer.proofs.FilesOut.{sink_same, tree_back, tree_none, tree_on, tree_same}
+use Rattle.bag_writer.proofs.FilesOut.{sink_same, tree_same}
 use Rattle.bag_writer.proofs.PayloadLists.{ShownFile}
 use Rattle.bag_writer.proofs.PayloadSoFar.{all_finished, none_at, shown_at}
 use Rattle.bag_writer.proofs.SinkKept.{err_again, met_memory, not_sink, not_tree, same_told}
+use Rattle.bag_rules.proofs.ReturningLemmas.{back_on, back_none, leaves_on, back_so}
 
 not_ever : {A : Type 0} → (false ≡ true) → A
 not_ever e = let k : false ≡ true = e in cc
@@ -82,7 +82,7 @@ module _ {T S F G : Type 0} {d : Devices T S F G} {spec : Spec} {first tree : T}
         record {
           hand = subst (λ st. InHand d.files spec shown (d.sure first) (Calm d start) (d.sink.stored start) st (i + 1) items more) (sym (begins.sink 0).held)
               (hand_next d.files spec shown (d.sure first) (Calm d start) (d.sink.stored start) (d.sink.stored sink) i items copies at.hand here.0 here.1 here.2 more adds);
-          out = tree_on 0 n (length more) at.out (subst (λ m. LeavesOut d.shown d.failures d.sure n m tree tree_new) one (begins.tree n));
+          out = leaves_on 0 n (length more) at.out (subst (λ m. LeavesOut d.shown d.failures d.sure n m tree tree_new) one (begins.tree n));
           copies_out = out_on n (length more) at.copies_out (subst (λ m. LeavesCopies d.sink.stored d.sink.is_open d.sink.failures d.sink.sure n m sink sink_new) one (begins.sink n));
           unread = λ none. absurd (is_read here none);
         }
@@ -123,7 +123,7 @@ module _ {T S F G : Type 0} {d : Devices T S F G} {spec : Spec} {first tree : T}
                 (subst (λ sh. IsCutAt sh (places_of s.place copies ++ i ∷ []) now (d.sink.stored sink_end) told) moved all.written);
             err = all.written.met;
             tree = record {
-              uses = tree_used n at.out (files_back_so n (tree_back n (n + files_with fault) (begins.tree n) all.tree) (λ f. ap Err f) (λ f. same_told f))
+              uses = tree_used n at.out (back_so n (back_on n (n + files_with fault) (begins.tree n) all.tree) (λ f. ap Err f) (λ f. same_told f))
                   (λ sure f. (all.calm true false (fresh true false (λ t. sure) (λ t. not_ever t)) (fault_is true false (λ t. sure) (λ t. not_ever t)).1).0 refl (same_told f));
               unread = λ empty. absurd (is_read here empty);
             };
@@ -165,7 +165,7 @@ module _ {T S F G : Type 0} {d : Devices T S F G} {spec : Spec} {first tree : T}
               (subst (λ sh. IsCutAt sh (places_of s.place copies) now (d.sink.stored sink_new) fault) at.out.kept.same bad.written);
           err = bad.written.met;
           tree = record {
-            uses = tree_used n at.out (files_back_so n bad.tree (λ f. err_again f) (λ f. err_again f)) (λ sure f. (bad.calm true false (fresh true false (λ t. sure) (λ t. not_ever t)) tt).0 refl (err_again f));
+            uses = tree_used n at.out (back_so n bad.tree (λ f. err_again f) (λ f. err_again f)) (λ sure f. (bad.calm true false (fresh true false (λ t. sure) (λ t. not_ever t)) tt).0 refl (err_again f));
             unread = λ empty. absurd (read empty);
           };
           sink = record {
@@ -188,7 +188,7 @@ module _ {T S F G : Type 0} {d : Devices T S F G} {spec : Spec} {first tree : T}
         written = all_finished spec shown i (d.sink.stored start) (d.sink.stored sink) items all.0 all.1 last result (given (payload_of all.0) all.1.items_are) refused;
         err = met_memory result refused;
         tree = record {
-          uses = tree_used (length copies) at.out (tree_none (length copies) (subst (λ m. LeavesOut d.shown d.failures d.sure m 0 tree tree) (sym n) (tree_same 0)) (not_tree result refused)) (λ sure f. not_tree result refused f);
+          uses = tree_used (length copies) at.out (back_none (length copies) (subst (λ m. LeavesOut d.shown d.failures d.sure m 0 tree tree) (sym n) (tree_same 0)) (not_tree result refused)) (λ sure f. not_tree result refused f);
           unread = at.unread;
         };
         sink = record {

@@ -1,5 +1,5 @@
 -- The files that are written of a payload: none is there twice, and they are exactly those of its bag.
-use Rattle.std.proofs.Common.{◌≡◌, ◌∙◌, ◌⊎◌, ◌↔◌, ◌++◌, ◌∷◌, [], ℕ, Bool, true, false, not, zero, suc, List, take, refl, sym, ap, subst, inl, inr}
+use Rattle.std.proofs.Common.{◌≡◌, ◌∙◌, ◌↔◌, ◌++◌, ◌∷◌, [], ℕ, Bool, true, false, not, zero, suc, List, take, refl, sym, ap, subst, inl, inr}
 use Rattle.std.specs.List.{AllByRecursion, filter}
 use Rattle.std.proofs.lemmas.List.Kept.{IsStrictlySortedBy-filter}
 use Rattle.bag_rules.proofs.Words.{AreRising, Files, Has, cases_Bool, false≢true, is_payload, keys_of, nat_cmp, slice_cmp}
@@ -11,18 +11,10 @@ use Rattle.bag_writer.specs.WrittenBags.{IsFileOf, IsHole, tag_files}
 use Rattle.bag_writer.specs.declared.spec.Hole.{Hole}
 use Rattle.bag_writer.specs.declared.spec.Spec.{Spec}
 use Rattle.bag_writer.proofs.TagNames.{tags_plain, tags_rise}
+use Rattle.bag_rules.proofs.HasLemmas.{has_both}
 
 abbrev File : Type 0
 File = List ℕ × List ℕ
-
--- BOTH LISTS JOINED
-
-pub has_join : {X : Type 0} (xs ys : List X) (x : X) → Has (xs ++ ys) x ↔ (Has xs x ⊎ Has ys x)
-has_join [] ys x = (λ has. inr has, λ either. elim either [ inl none ↦ absurd none | inr has ↦ has ])
-has_join (first ∷ xs) ys x = let rest = has_join xs ys x in (
-  λ has. elim has [ inl is ↦ inl (inl is) | inr further ↦ elim (rest.0 further) [ inl left ↦ inl (inr left) | inr right ↦ inr right ] ],
-  λ either. elim either [ inl left ↦ elim left [ inl is ↦ inl is | inr further ↦ inr (rest.1 (inl further)) ] | inr right ↦ inr (rest.1 (inr right)) ],
-)
 
 -- NONE TWICE
 
@@ -31,7 +23,7 @@ join_new : (payload tags : Files) → AreNew [] payload → AllByRecursion (λ p
 join_new [] tags new are plain others = others
 join_new (file ∷ payload) tags new are plain others = (
   λ octets none. none,
-  λ octets has. elim ((has_join payload tags (file.0, octets)).0 has) [
+  λ octets has. elim ((has_both payload tags (file.0, octets)).0 has) [
     | inl left ↦ new.1 octets left
     | inr right ↦ false≢true (sym (all_has (λ path. is_payload path ≡ false) (keys_of tags) file.0 plain (key_has tags file.0 octets right)) ∙ are.0)
   ],
@@ -39,19 +31,16 @@ join_new (file ∷ payload) tags new are plain others = (
 )
 
 -- a front of them
-has_take : {X : Type 0} (n : ℕ) (xs : List X) (x : X) → Has (take n xs) x → Has xs x
-has_take zero xs x none = absurd none
-has_take (suc n) [] x none = absurd none
-has_take (suc n) (first ∷ xs) x (inl is) = inl is
-has_take (suc n) (first ∷ xs) x (inr further) = inr (has_take n xs x further)
-
 pub take_has : {X : Type 0} (n : ℕ) (xs : List X) (x : X) → Has (take n xs) x → Has xs x
-take_has = has_take
+take_has zero xs x none = absurd none
+take_has (suc n) [] x none = absurd none
+take_has (suc n) (first ∷ xs) x (inl is) = inl is
+take_has (suc n) (first ∷ xs) x (inr further) = inr (take_has n xs x further)
 
 pub take_new : (n : ℕ) (files : Files) → AreNew [] files → AreNew [] (take n files)
 take_new zero files new = tt
 take_new (suc n) [] new = tt
-take_new (suc n) (file ∷ files) new = (new.0, (λ octets has. new.1 octets (has_take n files (file.0, octets) has)), take_new n files new.2)
+take_new (suc n) (file ∷ files) new = (new.0, (λ octets has. new.1 octets (take_has n files (file.0, octets) has)), take_new n files new.2)
 
 -- THOSE OF THE PAYLOAD
 
@@ -122,7 +111,7 @@ module _ (spec : Spec) where
 
     pub has_all : (path octets : List ℕ) → Has all_files (path, octets) ↔ IsFileOf spec payload path octets
     has_all path octets =
-        let join = has_join (written_payload spec payload) (tag_files spec payload) (path, octets) in
+        let join = has_both (written_payload spec payload) (tag_files spec payload) (path, octets) in
         let some = has_written payload path octets in (
           λ has. elim (join.0 has) [ inl left ↦ inl (some.0 left) | inr tag ↦ inr tag ],
           λ file. join.1 (elim file [ inl left ↦ inl (some.1 left) | inr tag ↦ inr tag ]),

@@ -1,8 +1,9 @@
 use Rattle.std.proofs.Common.{◌≡◌, ◌∙◌, ◌++◌, arith, length, refl, rules, subst, take}
 use Rattle.std.proofs.lemmas.Result.{err_from_is_err_and}
 use Rattle.bag_digest.specs.Hash.{AreDigests}
-use Rattle.bag_digest.proofs.StreamLemmas.{advance_ended, advance_going, advance_stopped, refilled, uses_err, uses_ok}
+use Rattle.bag_digest.proofs.StreamLemmas.{advance_ended, advance_going, advance_stopped, uses_err, uses_ok}
 use Rattle.bag_digest.proofs.streams.advance.Goals as goal
+use Rattle.bag_digest.proofs.ListLemmas.{refilled}
 
 pub returns-in_err-n-clause-advanced : goal.returns-in_err-n-clause-advanced
 returns-in_err-n-clause-advanced g c = λ set start under.

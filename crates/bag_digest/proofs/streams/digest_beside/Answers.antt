@@ -1,7 +1,8 @@
 use Rattle.std.proofs.Common.{◌∙◌, arith, inl, inr, refl, rules, subst, sym}
 use Rattle.bag_digest.specs.Streams.{AreDone}
-use Rattle.bag_digest.proofs.StreamLemmas.{IsTold, by_no_other, ended_each, fresh_each, full_each, hashed_each, kept_behind, kept_more, stands, told_stays, within_first}
+use Rattle.bag_digest.proofs.StreamLemmas.{IsTold, ended_each, fresh_each, full_each, hashed_each, kept_behind, kept_more, told_stays, within_first}
 use Rattle.bag_digest.proofs.streams.digest_beside.Goals as goal
+use Rattle.bag_digest.proofs.ListLemmas.{by_no_other, stands}
 
 pub pieces-init : goal.pieces-init
 pieces-init g c =

@@ -1,7 +1,8 @@
 use Rattle.std.proofs.Common.{◌≡◌, ◌∙◌, ◌<◌, Some, ap, arith, get_or, length, refl, slice_get, sym}
 use Rattle.std.proofs.lemmas.Option.{same_Some, slice_get_read}
-use Rattle.bag_digest.proofs.StreamLemmas.{kept_same, set_here, set_there}
+use Rattle.bag_digest.proofs.StreamLemmas.{kept_same}
 use Rattle.bag_digest.proofs.streams.digest_four.Goals as goal
+use Rattle.bag_digest.proofs.ListLemmas.{set_here, set_there}
 
 pub returns-in-Ok-clause-ended : goal.returns-in-Ok-clause-ended
 returns-in-Ok-clause-ended g c = λ k a b from to at now.

@@ -7,8 +7,9 @@ use Rattle.bag_digest.specs.declared.streams.Stream.{Stream}
 use Rattle.bag_digest.specs.declared.buffers.TheConstants.{FRONT}
 use Rattle.bag_digest.specs.Lanes.{HoldsAt}
 use Rattle.bag_digest.specs.Streams.{AreDone}
-use Rattle.bag_digest.proofs.StreamLemmas.{by_none, lone, piece_full, piece_is}
+use Rattle.bag_digest.proofs.StreamLemmas.{lone, piece_full, piece_is}
 use Rattle.bag_digest.proofs.streams.take_pieces.Goals as goal
+use Rattle.bag_digest.proofs.ListLemmas.{by_none}
 
 pub take-requires : goal.take-requires
 take-requires g c =

@@ -1,7 +1,6 @@
-use Rattle.std.proofs.Common.{◌≡◌, ◌∙◌, Option, Some, None, sym, ap}
-use Rattle.bag_ledger.specs.Ledgers.{Transfer}
+use Rattle.std.proofs.Common.{◌∙◌, sym, ap}
 use Rattle.bag_ledger.specs.Stored.{ledger_in}
-use Rattle.bag_ledger.proofs.StoredLemmas.{holds_one_more, holds_the_same, item_added, item_nowhere, same_stored, transfer_there}
+use Rattle.bag_ledger.proofs.StoredLemmas.{holds_one_more, holds_the_same, item_added, item_nowhere, same_stored, transfer_there, none_is_not_some}
 use Rattle.bag_ledger.proofs.stored.add_item.Goals as goal
 
 pub returns-in_default-clause-added : goal.returns-in_default-clause-added
@@ -21,9 +20,6 @@ returns-clause-unchanged c =
     same_stored c.args.transfers.now (c.get_mut.follows.lender (record stored { items = c.insert.new.self })) c.args.name.now stored (record stored { items = c.insert.new.self })
     (c.get_mut.follows.holds (record stored { items = c.insert.new.self })).0 (sym c.in-Some.ensures.value) c.get_mut.ensures.ordered
     (holds_the_same stored.tags stored.items c.insert.new.self c.in-Err.ensures.err)
-
-none_is_not_some : (found : Option Transfer) (transfer : Transfer) → found ≡ Some transfer → found ≡ None → ⊥
-none_is_not_some found transfer is absent = cc
 
 pub returns-clause-none : goal.returns-clause-none
 returns-clause-none c = λ absent.

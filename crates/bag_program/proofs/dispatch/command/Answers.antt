@@ -1,13 +1,14 @@
 use Rattle.std.proofs.Common.{◌≡◌, ◌<◌, ◌∷◌, ◌∙◌, None, Some, ap, length, map, refl, rules, string_bytes, sym}
 use Rattle.bag_program.specs.Answers.{Named, NoCommand, NoWords}
 use Rattle.bag_program.specs.CommandLines.{operands_of}
-use Rattle.bag_program.proofs.RequestLemmas.{asked, first_named, no_operands, no_words, not_asked}
+use Rattle.bag_program.proofs.RequestLemmas.{asked, first_named, no_operands, not_asked}
 use Rattle.bag_program.proofs.dispatch.command.Goals as goal
+use Rattle.std.proofs.lemmas.List.{nil_from_length}
 
 pub returns-then-is_empty : goal.returns-then-is_empty
 returns-then-is_empty g c =
     let empty : length c.args.words.items ≡ 0 = search rules in
-    rw c.plain.ensures (NoWords (ap (map string_bytes) (no_words c.args.words.items empty)) refl c.print_line.ensures refl)
+    rw c.plain.ensures (NoWords (ap (map string_bytes) (nil_from_length c.args.words.items empty)) refl c.print_line.ensures refl)
 
 pub returns-in-None : goal.returns-in-None
 returns-in-None g c =

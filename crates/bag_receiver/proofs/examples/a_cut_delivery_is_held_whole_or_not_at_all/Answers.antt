@@ -1,7 +1,8 @@
 use Rattle.std.proofs.Common.{[], ◌∷◌, refl, ap, inl, inr}
-use Rattle.bag_receiver.proofs.TwoDelivered.{a_not_held, after_cut, none_held, passes_a, passes_e, taken}
+use Rattle.bag_receiver.proofs.TwoDelivered.{a_not_held, after_cut, passes_a, passes_e, taken}
 use Rattle.bag_receiver.proofs.Words.{abc, both, file_a, file_e, only_e, transfer_state, TransferState}
 use Rattle.bag_receiver.proofs.examples.a_cut_delivery_is_held_whole_or_not_at_all.Goals as goal
+use Rattle.bag_receiver.proofs.HeldLemmas.{none_held}
 
 pub returns : goal.returns
 returns c = (

@@ -1,7 +1,8 @@
 use Rattle.std.proofs.Common.{◌≡◌, [], ◌∷◌, refl, ap, subst, ◌∙◌, inl, inr}
-use Rattle.bag_receiver.proofs.TwoDelivered.{after_stop_alone, after_taken, none_held, passes_a}
+use Rattle.bag_receiver.proofs.TwoDelivered.{after_stop_alone, after_taken, passes_a}
 use Rattle.bag_receiver.proofs.Words.{abc, file_a, file_e, nothing_held, only_e, StopStep, tags_of_two, transfer_state, TransferState, with_file}
 use Rattle.bag_receiver.proofs.examples.a_stop_settles_what_had_no_answer.Goals as goal
+use Rattle.bag_receiver.proofs.HeldLemmas.{none_held}
 
 pub returns : goal.returns
 returns c = (

@@ -1,7 +1,6 @@
 use Rattle.std.proofs.Common.{[], ◌∷◌, refl, inl}
 use Rattle.bag_receiver.proofs.FileLemmas.{path_held}
-use Rattle.bag_receiver.proofs.HeldLemmas.{held_joined, held_more, held_still}
-use Rattle.bag_receiver.proofs.TwoDelivered.{none_held}
+use Rattle.bag_receiver.proofs.HeldLemmas.{held_joined, held_more, held_still, none_held}
 use Rattle.std.specs.List.Sorted.{IsStrictlySortedBy}
 use Rattle.bag_receiver.proofs.Words.{delivered, Repeated, Taken}
 use Rattle.bag_receiver.proofs.examples.the_first_accepted_content_is_held.Goals as goal

@@ -1,6 +1,6 @@
-use Rattle.bag_receiver.proofs.FirstLemmas.{has_left, has_right}
 use Rattle.bag_receiver.proofs.HeldLemmas.{accepted_same, held_accepted, one_left, one_right}
 use Rattle.bag_receiver.proofs.laws.lists_of_which_the_same_was_accepted_leave_the_same_files.Goals as goal
+use Rattle.bag_rules.proofs.HasLemmas.{has_left, has_right}
 
 pub returns : goal.returns
 returns c tags deliveries others held other one passing same h k = accepted_same deliveries others held other same

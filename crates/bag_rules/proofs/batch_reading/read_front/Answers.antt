@@ -1,5 +1,3 @@
-use Rattle.bag_digest.specs.declared.reading.SourceFault.{SourceFault}
-use Rattle.std.specs.Prelude.{IsErrOf}
 use Rattle.std.proofs.Common.{Err, Some, ◌≡◌, ◌∙◌, ap, arith, subst, sym}
 use Rattle.bag_digest.specs.declared.reading.SourceFault.TheVariants as source
 use Rattle.bag_digest.proofs.Progress.{more_known}
@@ -8,9 +6,7 @@ use Rattle.bag_rules.proofs.KeptLemmas.{gave_more}
 use Rattle.bag_rules.proofs.ReturningLemmas.{leaves_more}
 use Rattle.bag_rules.proofs.Words.{octets_in}
 use Rattle.bag_rules.proofs.batch_reading.read_front.Goals as goal
-
-same_fault : {A : Type 0} {x y : SourceFault} → IsErrOf {T = A} (Err x) y → x ≡ y
-same_fault e = cc
+use Rattle.bag_digest.proofs.StreamLemmas.{err_same}
 
 pub returns-in-Ok-clause-front : goal.returns-in-Ok-clause-front
 returns-in-Ok-clause-front g c =
@@ -36,7 +32,7 @@ returns-in-Err-clause-stopped g c =
       record {
         inside = omega (arith, placed, c.requires.room.1);
         failed = λ e. omega (arith, uses.counted.rises (ap Err e), opened.unfailed);
-        unfailed = λ e. uses.counted.stays (λ r. (let k : source.Read ≡ source.TooLarge = sym (same_fault r) ∙ e in cc)) ∙ opened.unfailed;
+        unfailed = λ e. uses.counted.stays (λ r. (let k : source.Read ≡ source.TooLarge = sym (err_same r) ∙ e in cc)) ∙ opened.unfailed;
         large = λ e octets is.
             let known = opened.unread ∙ subst (λ n. octets_in (g.T.Paths.shown c.args.tree.now) n ≡ Some octets) placed is in
             more_known octets _ _ 1099511627776 known (gave_more _ _ 1099511627776 c.in-Err.fault e c.in-Err.ensures.stopped);

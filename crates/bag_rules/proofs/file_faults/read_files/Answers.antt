@@ -3,7 +3,6 @@ use Rattle.bag_rules.proofs.Words.{err_from_is_err_and, FirstStops, IsFileFault,
 use Rattle.bag_rules.specs.FileBatchInside.{AreRead}
 use Rattle.bag_rules.proofs.AddsLemmas.{adds_so}
 use Rattle.bag_rules.proofs.BatchLemmas.{batch_within}
-use Rattle.bag_rules.proofs.HasLemmas.{stands}
 use Rattle.bag_rules.proofs.FileReadLemmas.{IsFaultBefore, all_faults, all_faults_back, file_faults_more, no_faults}
 use Rattle.bag_rules.proofs.LimitLemmas.{none_more, stopped_memory}
 use Rattle.bag_rules.proofs.PayloadLemmas.{no_octets, size_by}
@@ -11,6 +10,7 @@ use Rattle.bag_rules.proofs.TreeLemmas.{file_at, same_count}
 use Rattle.bag_rules.proofs.TreeUses.{uses_kept, uses_on}
 use Rattle.bag_rules.proofs.file_faults.read_files.Goals as goal
 use Rattle.bag_rules.proofs.file_faults.read_files.Goals.{in-Some, in_default}
+use Rattle.bag_digest.proofs.ListLemmas.{stands}
 
 pub loop-i-init : goal.loop-i-init
 loop-i-init g c = record {

@@ -1,7 +1,6 @@
 use Rattle.std.proofs.Common.{rules, ◌≡◌, ◌<◌, ◌∷◌, [], length, sym, ◌∙◌, subst, arith}
 use Rattle.bag_rules.specs.KeptInside.{AreKept}
 use Rattle.bag_rules.proofs.Words.{Adds, AreTextsOf, Bag, err_from_is_err_and, HasBadLine, HasFaultOf, IsBadLineOf, IsBagOf, NoneStopsBefore, ReadsOn, TextStops}
-use Rattle.bag_rules.proofs.HasLemmas.{stands}
 use Rattle.bag_rules.proofs.FirstFiles.{once_at}
 use Rattle.bag_rules.proofs.AddsLemmas.{adds_so}
 use Rattle.bag_rules.proofs.LimitLemmas.{first_stops, none_more}
@@ -9,6 +8,7 @@ use Rattle.bag_rules.proofs.TextsMore.{all_bad_lines, faults_more, texts_more}
 use Rattle.bag_rules.proofs.TreeLemmas.{file_at, same_count}
 use Rattle.bag_rules.proofs.TreeUses.{uses_error, uses_kept, uses_on}
 use Rattle.bag_rules.proofs.tag_texts.read_texts.Goals as goal
+use Rattle.bag_digest.proofs.ListLemmas.{stands}
 
 pub returns-in_err-read_text-clause-limits : goal.returns-in_err-read_text-clause-limits
 returns-in_err-read_text-clause-limits g c = λ bag is.

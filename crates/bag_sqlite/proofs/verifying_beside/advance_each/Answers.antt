@@ -2,11 +2,12 @@ use Rattle.std.proofs.Common.{◌≡◌, ◌≢◌, ◌∙◌, ◌*◌, ◌+◌,
 use Rattle.std.proofs.lemmas.Option.{same_Some, slice_get_read}
 use Rattle.bag_sqlite.proofs.Words.{HasCleanDisk, PIECE, state}
 use Rattle.bag_sqlite.proofs.AdoptingLemmas.{reads_then, stands_still}
-use Rattle.bag_sqlite.proofs.BesideLemmas.{full_before, full_here, full_next, goes_here, hashed_after, read_before, read_ended, read_here, read_next, set_here, set_length, set_there}
+use Rattle.bag_sqlite.proofs.BesideLemmas.{full_before, full_here, full_next, goes_here, hashed_after, read_before, read_ended, read_here, read_next, set_length}
 use Rattle.bag_sqlite.specs.Beside.{GoesOn}
 use Rattle.bag_sqlite.specs.declared.verifying_beside.Front.{Front}
 use Rattle.bag_sqlite.proofs.verifying_beside.advance_each.Goals as goal
 use Rattle.bag_sqlite.proofs.verifying_beside.advance_each.Goals.{in-Ok-None, in-Err}
+use Rattle.bag_digest.proofs.ListLemmas.{set_here, set_there}
 
 pub loop-k-preserved-in-Ok-Some : goal.loop-k-preserved-in-Ok-Some
 loop-k-preserved-in-Ok-Some g c =

@@ -1,9 +1,10 @@
 use Rattle.std.proofs.Common.{◌+◌, arith}
 use Rattle.bag_sqlite.proofs.Words.{HasCleanDisk, state}
 use Rattle.bag_sqlite.proofs.AdoptingLemmas.{reads_same, reads_then, stands_still}
-use Rattle.bag_sqlite.proofs.BesideLemmas.{at_front, by_no_other, hashed_each, low_front, nothing_hashed, small_next, valid_each}
+use Rattle.bag_sqlite.proofs.BesideLemmas.{at_front, hashed_each, low_front, nothing_hashed, small_next, valid_each}
 use Rattle.bag_sqlite.specs.Beside.{AreDone}
 use Rattle.bag_sqlite.proofs.verifying_beside.count_in_lanes.Goals as goal
+use Rattle.bag_digest.proofs.ListLemmas.{by_no_other}
 
 pub pieces-init : goal.pieces-init
 pieces-init g c = record {

@@ -3,10 +3,11 @@ use Rattle.std.specs.Prelude.{is_none}
 use Rattle.std.proofs.lemmas.Option.{same_Some, slice_get_read}
 use Rattle.bag_digest.specs.Lanes.{HoldsAt}
 use Rattle.bag_sqlite.proofs.Words.{Global, PIECE}
-use Rattle.bag_sqlite.proofs.BesideLemmas.{by_none, each_lane, first_full, lone}
+use Rattle.bag_sqlite.proofs.BesideLemmas.{each_lane, first_full, lone}
 use Rattle.bag_sqlite.specs.Beside.{AreDone, GoesOn}
 use Rattle.bag_sqlite.specs.declared.long_item.LongItem.{LongItem}
 use Rattle.bag_sqlite.proofs.verifying_beside.take_pieces.Goals as goal
+use Rattle.bag_digest.proofs.ListLemmas.{by_none}
 
 pub take_alone-requires-clause-piece : goal.take_alone-requires-clause-piece
 take_alone-requires-clause-piece c =

@@ -2,8 +2,9 @@ use Rattle.std.proofs.Common.{◌≡◌, ◌∙◌, ◌++◌, arith, length, ref
 use Rattle.std.proofs.lemmas.Result.{err_from_is_err_and}
 use Rattle.bag_digest.specs.Hash.{AreDigests}
 use Rattle.bag_writer.specs.Copying.{sides}
-use Rattle.bag_writer.proofs.CopyLemmas.{advance_ended, advance_going, going_of, plain, refilled}
+use Rattle.bag_writer.proofs.CopyLemmas.{advance_ended, advance_going, going_of, plain}
 use Rattle.bag_writer.proofs.copying.advance.Goals as goal
+use Rattle.bag_digest.proofs.ListLemmas.{refilled}
 
 pub returns-in_err-n-clause-advanced : goal.returns-in_err-n-clause-advanced
 returns-in_err-n-clause-advanced g c = λ work set under.

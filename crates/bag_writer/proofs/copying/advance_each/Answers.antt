@@ -1,9 +1,10 @@
 use Rattle.std.proofs.Common.{◌≡◌, ◌≢◌, ◌∙◌, ◌-◌, ◌<◌, [], None, Some, ap, arith, inl, inr, length, refl, rules, slice_get, sym}
 use Rattle.std.proofs.lemmas.Option.{same_Some, slice_get_read}
 use Rattle.bag_writer.specs.Copying.{sides}
-use Rattle.bag_writer.proofs.CopyLemmas.{full_set, hashed_after, places_on, places_set, places_same, set_here, set_there, under_before, under_ended, under_next}
+use Rattle.bag_writer.proofs.CopyLemmas.{full_set, hashed_after, places_on, places_set, places_same, under_before, under_ended, under_next}
 use Rattle.bag_writer.proofs.copying.advance_each.Goals as goal
 use Rattle.bag_writer.proofs.copying.advance_each.Goals.{then-is_none+in-Ok, else-is_none}
+use Rattle.bag_digest.proofs.ListLemmas.{set_here, set_there}
 
 pub returns-in-Err-clause-advanced : goal.returns-in-Err-clause-advanced
 returns-in-Err-clause-advanced g c = λ work set hashed.

@@ -3,8 +3,9 @@ use Rattle.std.proofs.lemmas.List.{length-take-le}
 use Rattle.std.proofs.lemmas.Result.{err_from_is_err_and}
 use Rattle.bag_digest.specs.Hash.{Holds}
 use Rattle.bag_writer.specs.Copying.{CopiesPiece, sides}
-use Rattle.bag_writer.proofs.CopyLemmas.{ended_on, refilled}
+use Rattle.bag_writer.proofs.CopyLemmas.{ended_on}
 use Rattle.bag_writer.proofs.copying.copy_alone.Goals as goal
+use Rattle.bag_digest.proofs.ListLemmas.{refilled}
 
 pub pieces-init : goal.pieces-init
 pieces-init g c = record {

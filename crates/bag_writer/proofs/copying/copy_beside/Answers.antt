@@ -3,8 +3,9 @@ use Rattle.bag_digest.specs.declared.buffers.TheConstants.{FRONT}
 use Rattle.bag_rules.specs.declared.limits.TheConstants.{LARGEST_FILE}
 use Rattle.bag_writer.specs.Copying.{AreDone, sides}
 use Rattle.bag_writer.proofs.CopyGroups.{all_told, full_stay}
-use Rattle.bag_writer.proofs.CopyLemmas.{by_no_other, done_past, ended_each, fresh_each, hashed_each, places_on, places_same, told_stays}
+use Rattle.bag_writer.proofs.CopyLemmas.{done_past, ended_each, fresh_each, hashed_each, places_on, places_same, told_stays}
 use Rattle.bag_writer.proofs.copying.copy_beside.Goals as goal
+use Rattle.bag_digest.proofs.ListLemmas.{by_no_other}
 
 pub pieces-init : goal.pieces-init
 pieces-init g c =

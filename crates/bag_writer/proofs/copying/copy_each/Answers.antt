@@ -2,8 +2,9 @@ use Rattle.std.proofs.Common.{◌∙◌, arith, inl, inr, length, refl, sym}
 use Rattle.std.proofs.lemmas.Result.{err_from_is_err_and}
 use Rattle.bag_writer.specs.Copying.{AreDone, sides}
 use Rattle.bag_writer.proofs.CopyGroups.{ended_join, ended_stay, fresh_done, full_stay, stopped_behind}
-use Rattle.bag_writer.proofs.CopyLemmas.{by_no_other, places_on, places_same}
+use Rattle.bag_writer.proofs.CopyLemmas.{places_on, places_same}
 use Rattle.bag_writer.proofs.copying.copy_each.Goals as goal
+use Rattle.bag_digest.proofs.ListLemmas.{by_no_other}
 
 pub fours-init : goal.fours-init
 fours-init g c = record {

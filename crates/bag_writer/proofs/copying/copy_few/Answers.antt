@@ -3,8 +3,9 @@ use Rattle.std.specs.Prelude.{is_some}
 use Rattle.std.proofs.lemmas.Option.{slice_get_read}
 use Rattle.bag_writer.specs.Copying.{AreDone, sides}
 use Rattle.bag_writer.proofs.CopyGroups.{by_none, copied_of, ended_alone, fresh_done, stopped_alone}
-use Rattle.bag_writer.proofs.CopyLemmas.{by_no_other, places_same, places_set, set_here, set_there}
+use Rattle.bag_writer.proofs.CopyLemmas.{places_same, places_set}
 use Rattle.bag_writer.proofs.copying.copy_few.Goals as goal
+use Rattle.bag_digest.proofs.ListLemmas.{by_no_other, set_here, set_there}
 
 pub returns-in_default-clause-copied : goal.returns-in_default-clause-copied
 returns-in_default-clause-copied g c = λ work fresh.

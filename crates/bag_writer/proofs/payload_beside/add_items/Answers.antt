@@ -8,8 +8,9 @@ use Rattle.bag_writer.specs.Finishing.{AddsFiles, IsTakenOf}
 use Rattle.bag_writer.specs.HeldFiles.{AddsFile, AreItemsSoFar}
 use Rattle.bag_writer.specs.declared.items.Items.{Items}
 use Rattle.bag_writer.proofs.Pairs.{zip_at, zip_count}
-use Rattle.bag_writer.proofs.PayloadLists.{File, next_taken}
+use Rattle.bag_writer.proofs.PayloadLists.{File}
 use Rattle.bag_writer.proofs.payload_beside.add_items.Goals as goal
+use Rattle.bag_digest.proofs.ListLemmas.{next_taken}
 
 -- one file more
 adds_next : (set : AlgSet) (files : Files) (k : ℕ) (file : File) (old mid new : Items) → slice_get files k ≡ Some file → AddsFiles set (take k files) old mid → AddsFile set file mid new → AddsFiles set (take (k + 1) files) old new

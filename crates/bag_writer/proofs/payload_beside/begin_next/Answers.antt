@@ -7,8 +7,9 @@ use Rattle.bag_writer.specs.Copying.{sides}
 use Rattle.bag_writer.specs.Pending.{work_of}
 use Rattle.bag_writer.specs.Returned.{LeavesCopies}
 use Rattle.bag_writer.proofs.Beginning.{adds_copy, begin_fault, can_copy_next, no_copy}
-use Rattle.bag_writer.proofs.FilesOut.{sink_after, sink_less, sink_same, tree_less, tree_on}
+use Rattle.bag_writer.proofs.FilesOut.{sink_after, sink_less, sink_same}
 use Rattle.bag_writer.proofs.payload_beside.begin_next.Goals as goal
+use Rattle.bag_rules.proofs.ReturningLemmas.{leaves_less, leaves_on}
 
 pub open_next-requires : goal.open_next-requires
 open_next-requires g c = c.requires.1
@@ -38,7 +39,7 @@ returns-in_err-copy g c =
     rw (p.1, p.2) (record {
       begun = λ tree_sure sink_sure ready calm. (refl, tt);
       tree = λ n. subst (λ m. LeavesOut g.T.Paths.shown g.T.Source.failures g.T.Tree.sure n m c.args.tree.now c.begin_copy.new.tree) (let e : n ≡ n + 0 = omega arith in e)
-          (tree_on n (n + 1) n (c.in_ok-source.ensures.tree n) (c.in_err-copy.ensures.tree n));
+          (leaves_on n (n + 1) n (c.in_ok-source.ensures.tree n) (c.in_err-copy.ensures.tree n));
       sink = λ n. subst (λ m. LeavesCopies g.S.Sink.stored g.S.Sink.is_open g.S.Sink.failures g.S.Sink.sure n m c.args.sink.now c.begin_copy.new.sink) (let e : n ≡ n + 0 = omega arith in e) (c.in_err-copy.ensures.sink n);
     })
 
@@ -84,7 +85,7 @@ returns-in-Err-hold g c = record {
   tree = λ n.
       let opened = subst (λ t. LeavesOut g.T.Paths.shown g.T.Source.failures g.T.Tree.sure n (n + 1) c.args.tree.now t) (sym (c.in_ok-copy.ensures.tree 0)) (c.in_ok-source.ensures.tree n) in
       subst (λ m. LeavesOut g.T.Paths.shown g.T.Source.failures g.T.Tree.sure n m c.args.tree.now c.close.new.self) (let e : n ≡ n + 0 = omega arith in e)
-      (tree_on n (n + 1) n opened (tree_less n (g.met.T.Tree.reads_keep _ _ c.close.ensures.rest.kept) c.close.ensures.counted));
+      (leaves_on n (n + 1) n opened (leaves_less n (g.met.T.Tree.reads_keep _ _ c.close.ensures.rest.kept) c.close.ensures.counted));
   sink = λ n. subst (λ m. LeavesCopies g.S.Sink.stored g.S.Sink.is_open g.S.Sink.failures g.S.Sink.sure n m c.args.sink.now c.close-in-Err-hold.new.self) (let e : n ≡ n + 0 = omega arith in e)
       (sink_after n (n + 1) n (c.in_ok-copy.ensures.sink n) (sink_less n c.close-in-Err-hold.ensures.rest c.close-in-Err-hold.ensures.counted));
 }

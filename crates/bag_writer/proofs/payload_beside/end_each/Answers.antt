@@ -3,10 +3,10 @@ use Rattle.std.proofs.lemmas.List.{take_all}
 use Rattle.std.proofs.lemmas.Option.{same_Some, slice_get_read}
 use Rattle.bag_writer.specs.Steps.{AreWhole}
 use Rattle.bag_writer.specs.declared.copying.Copying.{Copying}
-use Rattle.bag_writer.proofs.CopyLemmas.{set_here, set_there}
 use Rattle.bag_writer.proofs.Ending.{file_there, next_free, read_set, unfailed_before, unfailed_next, whole_next, read_same}
 use Rattle.bag_writer.proofs.StepLemmas.{whole_none}
 use Rattle.bag_writer.proofs.payload_beside.end_each.Goals as goal
+use Rattle.bag_digest.proofs.ListLemmas.{set_here, set_there}
 
 pub returns-in_default-clause-calm : goal.returns-in_default-clause-calm
 returns-in_default-clause-calm g c = λ files hold can failed.

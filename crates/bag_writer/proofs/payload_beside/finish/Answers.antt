@@ -13,10 +13,11 @@ use Rattle.bag_writer.specs.declared.items.Items.{Items}
 use Rattle.bag_writer.specs.declared.write_fault.WriteFault.{WriteFault}
 use Rattle.bag_writer.specs.declared.write_fault.WriteFault.TheVariants.{Memory, TooLarge}
 use Rattle.bag_writer.proofs.Completed.{all_back, are, can_complete, completed, count, ends, finishes, first, stops_first, unfailed}
-use Rattle.bag_writer.proofs.Cutting.{copies_all, cut_whole, files_all, short_taken}
-use Rattle.bag_writer.proofs.FilesOut.{sink_none_back, sink_still, tree_none, tree_still}
+use Rattle.bag_writer.proofs.Cutting.{copies_all, cut_whole, short_taken}
+use Rattle.bag_writer.proofs.FilesOut.{sink_none_back, sink_still, tree_still}
 use Rattle.bag_writer.proofs.SinkKept.{not_sink, not_tree}
 use Rattle.bag_writer.proofs.payload_beside.finish.Goals as goal
+use Rattle.bag_rules.proofs.ReturningLemmas.{back_none, all_back as files_all}
 
 -- all were written, and their items were added unless memory ran out
 finished : (set : AlgSet) (shown : Shown) (places : List ℕ) (items : Items) (old new : Option Stored) (r : Result Items WriteFault) (files : Files) → AreFilesAt shown places files → ¬ HasLongFile files LARGEST_FILE → AreWhole files old new
@@ -59,7 +60,7 @@ returns-in-Ok g c =
           (short_taken s.place shown set zs done.files done.taken)
           (subst (λ new. AreWhole done.files (g.S.Sink.stored c.args.sink.now) new) (sym (c.close_all.ensures.sink 0).held) done.whole) (c.add_items-items.ensures.added set done.files taken) refused;
       calm = λ tree_sure sink_sure fresh too. (λ e. not_tree result refused, λ e can. not_sink result refused);
-      tree = tree_none (length xs) (files_all (length xs) _ same c.close_all.ensures.tree) (not_tree result refused);
+      tree = back_none (length xs) (files_all (length xs) _ same c.close_all.ensures.tree) (not_tree result refused);
       sink = ends c.requires slice count_is c.in-Ok.ensures (length xs) (sink_none_back (length xs) (copies_all (length xs) _ same c.close_all.ensures.sink) (not_sink result refused));
     }
 

@@ -5,10 +5,11 @@ use Rattle.bag_writer.specs.Pending.{work_of}
 use Rattle.bag_writer.specs.Returned.{IsStoppedAt, IsToldOf}
 use Rattle.bag_writer.proofs.Completed.{are, can_complete, completed, count, ends, first, has_stopped, inside, is_before, stops_first, unfailed}
 use Rattle.bag_writer.proofs.Completing.{stopped_file}
-use Rattle.bag_writer.proofs.Cutting.{copies_more, cut_more, cut_next, files_more}
-use Rattle.bag_writer.proofs.FilesOut.{sink_back, tree_back}
+use Rattle.bag_writer.proofs.Cutting.{copies_more, cut_more, cut_next}
+use Rattle.bag_writer.proofs.FilesOut.{sink_back}
 use Rattle.bag_writer.proofs.Stopping.{stopped_here}
 use Rattle.bag_writer.proofs.payload_beside.stop.Goals as goal
+use Rattle.bag_rules.proofs.ReturningLemmas.{back_on, more_back}
 
 pub complete-requires : goal.complete-requires
 complete-requires g c = can_complete c.requires.0 c.as_mut_slice.ensures.value
@@ -53,7 +54,7 @@ returns-in-Ok g c =
       written = subst (λ new. IsCutAt shown (places_of s.place xs ++ s.place c.args.copy.source ∷ []) (g.S.Sink.stored c.args.sink.now) new c.told.result) (sym (c.told.ensures.sink.held ∙ (c.close_all.ensures.sink 0).held))
           (cut_next shown (places_of s.place xs) _ _ done.files (are begun slice count_is c.in-Ok.ensures) done.whole (s.place c.args.copy.source) file.0 c.args.fault c.told.result file.1 file.2 told);
       calm = λ tree_sure sink_sure fresh stopped. (λ e same. (stopped.failed (told.tree.0 same)).1 e, λ e can same. (stopped.copy_failed (told.sink.0 same)).1 e);
-      tree = tree_back _ 1 (files_more (length xs) _ same c.close_all.ensures.tree) c.told.ensures.tree;
+      tree = back_on _ 1 (more_back (length xs) _ same c.close_all.ensures.tree) c.told.ensures.tree;
       sink = ends begun slice count_is c.in-Ok.ensures (length xs + 1) (sink_back (length xs + 1) 1 (copies_more (length xs) _ same c.close_all.ensures.sink) c.told.ensures.sink);
     }
 

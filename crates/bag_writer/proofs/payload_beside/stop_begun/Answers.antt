@@ -5,9 +5,9 @@ use Rattle.bag_writer.specs.Pending.{IsBeginFault, work_of}
 use Rattle.bag_writer.specs.declared.write_fault.WriteFault.TheVariants.{Memory, Sink, Tree}
 use Rattle.bag_writer.proofs.Batches.{copies_ends, fresh_unfailed}
 use Rattle.bag_writer.proofs.Completed.{stops_so}
-use Rattle.bag_writer.proofs.Cutting.{copies_all, cut_more, cut_none, files_all}
-use Rattle.bag_writer.proofs.FilesOut.{tree_none}
+use Rattle.bag_writer.proofs.Cutting.{copies_all, cut_more, cut_none}
 use Rattle.bag_writer.proofs.payload_beside.stop_begun.Goals as goal
+use Rattle.bag_rules.proofs.ReturningLemmas.{back_none, all_back}
 
 pub close_all-requires : goal.close_all-requires
 close_all-requires g c =
@@ -23,7 +23,7 @@ returns-in-Memory g c =
     rw c.in-Memory.is (λ i begun. record {
       written = cut_more shown places _ _ (i ∷ []) Memory (subst (λ st. IsCutAt shown places old st Memory) (sym (c.close_all.ensures.sink 0).held) (cut_none shown places old old));
       calm = λ tree_sure sink_sure fresh too. (λ e same. (let k : Memory ≡ Tree = same in cc), λ e can same. (let k : Memory ≡ Sink = same in cc));
-      tree = tree_none (length xs + 0) (files_all (length xs + 0) (length xs) (omega arith) c.close_all.ensures.tree) (λ e. (let k : Memory ≡ Tree = e in cc));
+      tree = back_none (length xs + 0) (all_back (length xs + 0) (length xs) (omega arith) c.close_all.ensures.tree) (λ e. (let k : Memory ≡ Tree = e in cc));
       sink = copies_ends (length xs + 0) (copies_all (length xs + 0) (length xs) (omega arith) c.close_all.ensures.sink) (λ e. (let k : Memory ≡ Sink = e in cc));
     })
 

@@ -3,9 +3,10 @@ use Rattle.bag_writer.specs.Copying.{sides}
 use Rattle.bag_writer.specs.Finishing.{IsCutAt, places_of}
 use Rattle.bag_writer.specs.declared.write_fault.WriteFault.TheVariants.{Sink, TooLarge, Tree}
 use Rattle.bag_writer.proofs.Completed.{are, can_complete, completed, count, ends, first, has_stopped, inside, is_before, stops_first, unfailed}
-use Rattle.bag_writer.proofs.Cutting.{copies_all, cut_whole, files_more}
-use Rattle.bag_writer.proofs.FilesOut.{sink_none_back, sink_still, tree_back, tree_failed}
+use Rattle.bag_writer.proofs.Cutting.{copies_all, cut_whole}
+use Rattle.bag_writer.proofs.FilesOut.{sink_none_back, sink_still}
 use Rattle.bag_writer.proofs.payload_beside.stop_unopened.Goals as goal
+use Rattle.bag_rules.proofs.ReturningLemmas.{back_on, back_failed, more_back}
 
 pub complete-requires : goal.complete-requires
 complete-requires g c = can_complete c.requires.0 c.as_mut_slice.ensures.value
@@ -42,7 +43,7 @@ returns-in-Ok g c =
       written = subst (λ new. IsCutAt shown (places_of s.place xs) (g.S.Sink.stored c.args.sink.now) new Tree) (sym (c.close_all.ensures.sink 0).held)
           (cut_whole shown (places_of s.place xs) _ _ done.files (are begun slice count_is c.in-Ok.ensures) done.whole Tree tt (λ large e. (let k : Tree ≡ TooLarge large = e in cc)));
       calm = λ tree_sure sink_sure fresh other. (λ e same. other e, λ e can same. (let k : Tree ≡ Sink = same in cc));
-      tree = tree_back _ 1 (files_more (length xs) _ same c.close_all.ensures.tree) (tree_failed (g.met.T.Tree.reads_keep _ _ c.fail.ensures.rest.kept) (c.fail.ensures.counted c.requires.2) refl);
+      tree = back_on _ 1 (more_back (length xs) _ same c.close_all.ensures.tree) (back_failed (g.met.T.Tree.reads_keep _ _ c.fail.ensures.rest.kept) (c.fail.ensures.counted c.requires.2) refl);
       sink = ends begun slice count_is c.in-Ok.ensures (length xs + 0)
           (sink_none_back (length xs + 0) (copies_all (length xs + 0) _ (omega (arith, same)) c.close_all.ensures.sink) (λ e. (let k : Tree ≡ Sink = e in cc)));
     }

@@ -1,6 +1,6 @@
-use Rattle.std.proofs.Common.{◌≡◌, ◌∙◌, ◌+◌, ◌<◌, ◌≤◌, [], ◌∷◌, ℕ, List, Option, arith, false, length, refl, rules, subst, sym, true}
+use Rattle.std.proofs.Common.{◌≡◌, ◌∙◌, ◌+◌, ◌<◌, ◌≤◌, ℕ, List, Option, arith, false, length, refl, rules, subst, sym, true}
 use Rattle.std.proofs.lemmas.Bool.{eqb-false, eqb-true}
-use Rattle.std.proofs.lemmas.List.{length-map}
+use Rattle.std.proofs.lemmas.List.{length-map, nil_from_length}
 use Rattle.std.proofs.lemmas.Result.{err_from_is_err_and}
 use Rattle.bag_rules.proofs.Words.{paths_in, Shown}
 use Rattle.bag_writer.specs.Copying.{sides}
@@ -9,10 +9,6 @@ use Rattle.bag_writer.proofs.Batches.{hand_first, none_out}
 use Rattle.bag_writer.proofs.FilesOut.{tree_same}
 use Rattle.bag_writer.proofs.Underway.{Calm, IsAt, all_written, begun, can_stop, failed, file_here, finished, has_stopped, is_read, passed, some_read, under_way}
 use Rattle.bag_writer.proofs.payload_beside.write_beside.Goals as goal
-
-nothing : {X : Type 0} (xs : List X) → length xs ≡ 0 → xs ≡ []
-nothing [] none = refl
-nothing (x ∷ xs) none = absurd (omega (arith, none))
 
 pub loop-i-init : goal.loop-i-init
 loop-i-init g c =
@@ -95,7 +91,7 @@ returns-then-is_empty g c =
     let last : length shown.files ≤ c.loop-i.i = omega (arith, c.count-i-end.ensures.files, c.loop-i-test.false, length-map shown.files (λ (f : List ℕ × Option (List ℕ)). f.0)) in
     let zero : c.loop-i.copies.len ≡ 0 = eqb-true c.loop-i.copies.len 0 (sym c.is_empty.ensures ∙ c.if-is_empty.true) in
     let many : length c.loop-i.copies.items ≡ 0 = omega (arith, zero, c.loop-i.copies.ok.0) in
-    all_written c.loop-i.invariant.at c.requires.1 (nothing c.loop-i.copies.items many) last c.finish-then-is_empty.result (c.finish-then-is_empty.ensures.all c.args.spec.now.algs) c.finish-then-is_empty.ensures.err
+    all_written c.loop-i.invariant.at c.requires.1 (nil_from_length c.loop-i.copies.items many) last c.finish-then-is_empty.result (c.finish-then-is_empty.ensures.all c.args.spec.now.algs) c.finish-then-is_empty.ensures.err
 
 pub finish-requires-2 : goal.finish-requires-2
 finish-requires-2 g c = under_way c.loop-i.invariant.at

@@ -1,8 +1,9 @@
 use Rattle.std.proofs.Common.{◌≡◌, ◌+◌, arith, length, subst, sym}
 use Rattle.bag_rules.specs.Returning.{LeavesOut}
 use Rattle.bag_writer.specs.Returned.{LeavesCopies}
-use Rattle.bag_writer.proofs.FilesOut.{last_at, last_count, rest_at, sink_after, sink_less, tree_less, tree_on}
+use Rattle.bag_writer.proofs.FilesOut.{sink_after, sink_less}
 use Rattle.bag_writer.proofs.returning.close_all.Goals as goal
+use Rattle.bag_rules.proofs.ReturningLemmas.{last_at, last_count, rest_at, leaves_less, leaves_on}
 
 pub files-preserved : goal.files-preserved
 files-preserved g c =
@@ -16,8 +17,8 @@ files-preserved g c =
       unfailed = λ k copy at. inv.unfailed k copy (rest_at xs ys c.pop.result all x c.in-Some.is k copy at);
       out = λ n.
           let e : n + length xs ≡ n + length ys + 1 = omega (arith, count) in
-          tree_on (n + length c.args.copies.items) (n + length xs) (n + length ys) (inv.out n)
-          (subst (λ m. LeavesOut g.T.Paths.shown g.T.Source.failures g.T.Tree.sure m (n + length ys) c.files.tree c.close.new.self) (sym e) (tree_less (n + length ys) (g.met.T.Tree.reads_keep _ _ c.close.ensures.rest.kept) c.close.ensures.counted));
+          leaves_on (n + length c.args.copies.items) (n + length xs) (n + length ys) (inv.out n)
+          (subst (λ m. LeavesOut g.T.Paths.shown g.T.Source.failures g.T.Tree.sure m (n + length ys) c.files.tree c.close.new.self) (sym e) (leaves_less (n + length ys) (g.met.T.Tree.reads_keep _ _ c.close.ensures.rest.kept) c.close.ensures.counted));
       copies_out = λ n.
           let e : n + length xs ≡ n + length ys + 1 = omega (arith, count) in
           sink_after (n + length c.args.copies.items) (n + length xs) (n + length ys) (inv.copies_out n)

@@ -4,8 +4,9 @@ use Rattle.std.proofs.lemmas.Option.{slice_get_read}
 use Rattle.bag_rules.specs.Returning.{LeavesOut}
 use Rattle.bag_rules.proofs.FirstFiles.{in_front}
 use Rattle.bag_writer.specs.Returned.{IsStoppedAt, LeavesCopies}
-use Rattle.bag_writer.proofs.FilesOut.{last_at, last_count, rest_at, sink_after, sink_same, tree_on, tree_same}
+use Rattle.bag_writer.proofs.FilesOut.{sink_after, sink_same, tree_same}
 use Rattle.bag_writer.proofs.returning.give_up_behind.Goals as goal
+use Rattle.bag_rules.proofs.ReturningLemmas.{last_at, last_count, rest_at, leaves_on}
 
 pub files-init : goal.files-init
 files-init g c = record {
@@ -60,6 +61,6 @@ files-preserved-in-Some g c =
       some = omega (arith, c.files-test.true, c.len.ensures, c.files.copies.ok.0, count);
       fewer = omega (arith, inv.fewer, count);
       left = c.pop.ensures.rest ∙ ap (λ n. take n xs) (sym fewer) ∙ ap (take (length ys)) inv.left ∙ take-take (length ys) (length xs) all (omega (arith, count));
-      out = tree_on (length all) (length xs) (length ys) inv.out (subst (λ m. LeavesOut g.T.Paths.shown g.T.Source.failures g.T.Tree.sure m (length ys) c.files.tree c.give_up.new.tree) (sym count) (c.give_up.ensures.tree (length ys)));
+      out = leaves_on (length all) (length xs) (length ys) inv.out (subst (λ m. LeavesOut g.T.Paths.shown g.T.Source.failures g.T.Tree.sure m (length ys) c.files.tree c.give_up.new.tree) (sym count) (c.give_up.ensures.tree (length ys)));
       copies_out = sink_after (length all) (length xs) (length ys) inv.copies_out (subst (λ m. LeavesCopies g.S.Sink.stored g.S.Sink.is_open g.S.Sink.failures g.S.Sink.sure m (length ys) c.files.sink c.give_up.new.sink) (sym count) (c.give_up.ensures.sink (length ys)));
     }

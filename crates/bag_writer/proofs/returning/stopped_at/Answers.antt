@@ -2,8 +2,9 @@ use Rattle.std.proofs.Common.{◌≡◌, ◌∙◌, ◌+◌, arith, length, subs
 use Rattle.bag_rules.specs.Returning.{LeavesOut}
 use Rattle.bag_rules.proofs.Words.{same_Some}
 use Rattle.bag_writer.specs.Returned.{IsStoppedAt, IsToldOf, LeavesCopies}
-use Rattle.bag_writer.proofs.FilesOut.{last_there, rest_count, rest_there, sink_back, some_left, tree_back}
+use Rattle.bag_writer.proofs.FilesOut.{sink_back}
 use Rattle.bag_writer.proofs.returning.stopped_at.Goals as goal
+use Rattle.bag_rules.proofs.ReturningLemmas.{last_there, rest_count, rest_there, some_left, back_on}
 
 pub unreachable-requires : goal.unreachable-requires
 unreachable-requires g c = some_left c.args.copies.items c.give_up_behind.new.copies.items c.pop.new.self.items c.args.stop.place c.pop.result c.requires.inside c.give_up_behind.ensures.left c.pop.ensures.items c.give_up_behind.new.copies.len c.give_up_behind.new.copies.ok.0 c.in_default.ensures.cases.0
@@ -31,7 +32,7 @@ returns-clause-tree g c =
     let place = c.args.stop.place in
     let rest = rest_count c.args.copies.items c.give_up_behind.new.copies.items c.pop.new.self.items place c.pop.result c.requires.inside c.give_up_behind.ensures.left c.pop.ensures.items c.in-Some.copy c.in-Some.is in
     let closed = subst (λ n. LeavesOut g.T.Paths.shown g.T.Source.failures g.T.Tree.sure n 1 c.give_up_behind.new.tree c.close_all.new.tree) (let e : 1 + length c.pop.new.self.items ≡ place + 1 = omega (arith, rest) in e) (c.close_all.ensures.tree 1) in
-    tree_back (length c.args.copies.items) (place + 1) c.give_up_behind.ensures.tree (tree_back (place + 1) 1 closed c.told.ensures.tree)
+    back_on (length c.args.copies.items) (place + 1) c.give_up_behind.ensures.tree (back_on (place + 1) 1 closed c.told.ensures.tree)
 
 pub returns-clause-sink : goal.returns-clause-sink
 returns-clause-sink g c =

@@ -1,4 +1,4 @@
-use Rattle.std.proofs.Common.{◌≡◌, ◌<◌, ℕ, List, Option, Result, Ok, Err, false, true, ap, length, refl, sym, subst, rules, string_bytes}
+use Rattle.std.proofs.Common.{◌≡◌, ◌<◌, ℕ, List, Option, Result, Ok, Err, ap, length, refl, sym, subst, rules, string_bytes}
 use Rattle.std.specs.Prelude.{IfErr, IsErr, IsSomeAnd, OnOk, OnSome}
 use Rattle.std.proofs.lemmas.Option.{slice_get_read}
 use Rattle.bag_rules.specs.Trees.{paths_in}
@@ -10,16 +10,11 @@ use Rattle.bag_folder.proofs.FaultLemmas.{OnSome-weaker, told_by_name}
 use Rattle.bag_folder.proofs.Listings.{found_at, paths_seen}
 use Rattle.bag_folder.proofs.folder_tree.FolderTreeTree.start.Goals as goal
 use Rattle.bag_folder.proofs.folder_tree.FolderTreeTree.start.Goals.{in-Ok, in-Err}
-
-on_ok : {A E : Type 0} (result : Result A E) (P : Type 0) → P → OnOk result P
-on_ok (Ok value) P here = here
-on_ok (Err error) P here = tt
-
-false_is_not_true : false ≡ true → ⊥
-false_is_not_true h = cc
+use Rattle.bag_rules.proofs.KeptLemmas.{on_ok_of}
+use Rattle.std.proofs.lemmas.Bool.{false≢true}
 
 no_ok : {A E : Type 0} (result : Result A E) (P : Type 0) → IsErr result → OnOk result P
-no_ok (Ok value) P never = absurd (false_is_not_true never)
+no_ok (Ok value) P never = absurd (false≢true never)
 no_ok (Err error) P failed = tt
 
 pub returns-clause-exactly : goal.returns-clause-exactly
@@ -33,7 +28,7 @@ returns-clause-exactly g c =
       | in-Ok w ↦
           let named : string_bytes c.match-opened.self-inside.name ≡ spelled = search rules in
           record {
-            named = on_ok c.counted.result _ (subst IsNamed (sym named) here);
+            named = on_ok_of c.counted.result _ (subst IsNamed (sym named) here);
             changes = search rules;
             told = told_by_name c.match-opened.answer c.counted.result c.as_str-3.result.now c.match-opened.self-inside.troubles c.counted.new.self IsNamed c.counted.ensures.answer c.counted.ensures.counted
                 (subst (λ (a : Result (Unit {0}) (Option Cause)). IfErr a (λ cause. OnSome cause (IsNamed c.as_str-3.result.now))) (sym w.answer-is) tt);

@@ -1,7 +1,8 @@
 use Rattle.std.proofs.Common.{◌≢◌, ◌∙◌, rules, sym}
 use Rattle.bag_receiver.specs.declared.begin.BeginFault.TheVariants.{Keeper}
-use Rattle.bag_receiver.proofs.BeginSteps.{counts_after, err_is, failed_answers, found_other, looked_failed, not_failed, one_of, opened_new, opening_failed, store_counted}
+use Rattle.bag_receiver.proofs.BeginSteps.{err_is, failed_answers, found_other, looked_failed, not_failed, one_of, opened_new, opening_failed, store_counted}
 use Rattle.bag_receiver.proofs.receiver.Receiver.open_as.Goals as goal
+use Rattle.bag_receiver.proofs.CountLemmas.{counts_after}
 
 pub returns-in_err-held-clause-begun : goal.returns-in_err-held-clause-begun
 returns-in_err-held-clause-begun g c = λ given named taken.

@@ -3,10 +3,10 @@ use Rattle.std.proofs.lemmas.Iterator.Adapters.{YieldsList-from_vec}
 use Rattle.std.proofs.lemmas.Iterator.Consumers.{YieldsList-end, YieldsList-turn}
 use Rattle.std.proofs.lemmas.List.{length_push}
 use Rattle.std.proofs.lemmas.Option.{slice_get_read}
-use Rattle.bag_rules.proofs.HasLemmas.{stands}
 use Rattle.bag_writer.specs.Steps.{AreItemsOf}
 use Rattle.bag_writer.proofs.HeldLemmas.{item_next, items_all}
 use Rattle.bag_writer.proofs.items.Items.finish.Goals as goal
+use Rattle.bag_digest.proofs.ListLemmas.{stands}
 
 pub loop-path-preserved : goal.loop-path-preserved
 loop-path-preserved c =
