@@ -5,6 +5,9 @@ The kit keeps how many steps its prover took for each goal, in out/incremental. 
 that have no answer (`search`), the dearest answers and lemmas (`answers`), the dearest calls (`calls`: the types that a call is
 made at have to meet what the callee asks for), and the dearest functions. A million steps took about a second of a processor of
 2.5 GHz. Nothing is proved: run `rt check` before. What becomes of dropped values is not counted.
+
+Last it prints which parts of functions took longest, in seconds between the times at which the kit wrote them. These hold if the
+check was made with `--jobs 1`, and had nothing to begin with. `Tie` are the calls, `Lts` is what the kit makes of the code.
 """
 import collections
 import pathlib
@@ -31,8 +34,16 @@ def goals(crate):
                 yield kind, f"{crate}::{place.replace('.', '::')}", name, int(steps)
 
 
+def waits(crate):
+    """The seconds that went by before the kit wrote each part of a function, and the part."""
+    files = [(file.stat().st_mtime, file) for file in (TOP / crate).glob("out/incremental/*/*.oantt")]
+    written = sorted((time, file.stem.removeprefix(f"Rattle-{crate}-proofs.")) for time, file in files)
+    return [(time - before, f"{crate}::{part}") for (before, _), (time, part) in zip(written, written[1:])]
+
+
 def main(*crates):
-    found = [goal for crate in crates or sorted(folder.name for folder in TOP.iterdir()) for goal in goals(crate)]
+    crates = crates or sorted(folder.name for folder in TOP.iterdir())
+    found = [goal for crate in crates for goal in goals(crate)]
     # The kit still keeps how a goal was found that was given an answer later.
     answered = {(place, name) for kind, place, name, _ in found if kind == "answers"}
     found = [goal for goal in found if goal[0] != "search" or goal[1:3] not in answered]
@@ -47,6 +58,9 @@ def main(*crates):
     print("         functions and files of lemmas:")
     for place, steps in functions.most_common(SHOWN):
         print(f"{steps / 1e6:11.1f}  {place}")
+    print("         seconds before a part was written:")
+    for seconds, part in sorted((wait for crate in crates for wait in waits(crate)), reverse=True)[:SHOWN]:
+        print(f"{seconds:11.1f}  {part}")
 
 
 if __name__ == "__main__":
