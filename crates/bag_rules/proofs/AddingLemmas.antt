@@ -25,7 +25,7 @@ if_stopped Memory fact is = tt
 if_stopped (Stopped reason file) fact is = is
 
 -- what is known of a file before it is opened was read of it, and it is not too long
-known_reading : (batch : FileBatch) (is_stream : StreamFact) (wants : Requirements) (path octets : List ℕ) (sums : FileSums) → IsKnownOf wants path octets sums
+pub known_reading : (batch : FileBatch) (is_stream : StreamFact) (wants : Requirements) (path octets : List ℕ) (sums : FileSums) → IsKnownOf wants path octets sums
     → IsReadingOf batch is_stream wants path octets sums × ((fault : CheckFault) → ¬ IsLongRead wants.manifests.now path octets fault)
 known_reading batch is_stream wants path octets Unread is = (is, λ fault long. is long.0)
 known_reading batch is_stream wants path octets (Taken sums) is = (is, λ fault long. let most = is.sums.within in let past = long.1.0 in omega (arith, most, past))

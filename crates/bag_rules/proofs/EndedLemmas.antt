@@ -25,7 +25,7 @@ use Rattle.bag_rules.proofs.TreeLemmas.{file_at, same_count}
 use Rattle.bag_rules.proofs.Words.{Bag, cases_lt, CheckFault, FirstStops, HasFileAt, IsBagOf, IsLongFile, IsLongRead, NoneStopsBefore, octets_in, paths_in, same_Some, Shown, slice_get_within, Stopped, Requirements}
 use Rattle.bag_digest.proofs.ListLemmas.{stands}
 
-some_and : {X : Type 0} (o : Option X) (P : X → Type 0) → IsSomeAnd o P → (x : X) × (o ≡ Some x) × P x
+pub some_and : {X : Type 0} (o : Option X) (P : X → Type 0) → IsSomeAnd o P → (x : X) × (o ≡ Some x) × P x
 some_and None P none = absurd none
 some_and (Some x) P is = (x, refl, is)
 

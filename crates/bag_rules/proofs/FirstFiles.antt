@@ -1,8 +1,9 @@
 -- The first n files of a bag, and one more.
 use Rattle.std.proofs.Common.{◌≡◌, ◌≢◌, ◌⊎◌, ◌↔◌, ◌<◌, ◌+◌, ℕ, zero, suc, List, [], ◌∷◌, Option, Some, None, slice_get, take, sym, ap, ◌∙◌, inl, inr, subst, arith}
 use Rattle.bag_rules.proofs.Words.{AreRising, Bag, cases_lt, front, HoldsFile, IsBagOf, LineFile, paths_in, Shown, some_pair_parts, text_file}
+use Rattle.bag_rules.specs.Bags.{paths_of}
 use Rattle.bag_rules.proofs.RisingPaths.{one_place}
-use Rattle.bag_rules.proofs.TreeLemmas.{path_at}
+use Rattle.bag_rules.proofs.TreeLemmas.{one_file, path_at}
 
 abbrev File : Type 0
 File = List ℕ × List ℕ
@@ -33,7 +34,10 @@ module _ (bag : Bag) (n : ℕ) where
   pub holds_before : (path octets : List ℕ) (i : ℕ) → i < n → slice_get bag.files i ≡ Some (path, octets) → HoldsFile (front n bag) path octets
   holds_before path octets i h e = (i, to_front bag.files n i (path, octets) h e)
 
--- the bag of a tree has each path once
+-- a bag whose paths ascend has each path once, and so has the bag of a tree
+pub once_in : (bag : Bag) → AreRising (paths_of bag) → (n : ℕ) (path octets : List ℕ) → slice_get bag.files n ≡ Some (path, octets) → (i : ℕ) (other : List ℕ) → slice_get bag.files i ≡ Some (path, other) → i ≡ n
+once_in bag rising n path octets there i other e = one_file bag i n path other octets rising e there
+
 pub once_at : {shown : Shown} (bag : Bag) → IsBagOf shown bag → AreRising (paths_in shown) → (n : ℕ) (path octets : List ℕ) → slice_get bag.files n ≡ Some (path, octets) → (i : ℕ) (other : List ℕ) → slice_get bag.files i ≡ Some (path, other) → i ≡ n
 once_at {shown} bag is rising n path octets there i other e = one_place (paths_in shown) rising i n path (path_at bag is i path other e) (path_at bag is n path octets there)
 

@@ -32,7 +32,10 @@ pub mod ReturningLemmas
 mod GatheringLemmas
 mod AddingLemmas
 mod EndedLemmas
+mod KnownFiles
 pub mod KeptLemmas
+pub mod OctetsLemmas
+pub mod KnownTexts
 pub mod WantLemmas
 pub mod FileKindLemmas
 pub mod EachLemmas
@@ -69,5 +72,6 @@ pub mod TagBags
 pub mod FirstFault
 pub mod ListedPaths
 pub mod OpeningFaults
+pub mod ListedKept
 pub mod OpeningVerdicts
 pub mod NotRefused

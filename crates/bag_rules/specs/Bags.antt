@@ -17,7 +17,7 @@ use Rattle.bag_tags.specs.Manifests.{ManifestText}
 use Rattle.bag_tags.specs.Names.{file_of, text_file}
 use Rattle.bag_tags.specs.declared.name.ManifestName.{ManifestName}
 use Rattle.bag_tags.specs.declared.name.LineFile.TheVariants.{Info, FetchList}
-use Rattle.bag_rules.specs.Trees.{Shown}
+use Rattle.bag_rules.specs.Trees.{HasFileAt, Shown, paths_in}
 
 -- The files of a base directory by path, each with its octets, and whether the payload directory is there. The paths in
 -- the bag of a tree are in ascending order, so the list is determined by the files.
@@ -46,6 +46,17 @@ shown_of bag = record {
 -- the files that are shown are those of the bag, and their octets are known
 abbrev pub IsBagOf : Shown → Bag → Type 0
 IsBagOf shown bag = shown ≡ shown_of bag
+
+-- the bag has the files that are shown, whatever octets they have
+pub record HasFilesOf (shown : Shown) (bag : Bag) : Type 0 where
+  pub paths : paths_of bag ≡ paths_in shown
+  pub payload_dir : bag.has_payload_dir ≡ shown.has_payload_dir
+
+-- the same, and each file whose octets are known has these octets
+pub record IsSomeBagOf (shown : Shown) (bag : Bag) : Type 0 where
+  pub files : HasFilesOf shown bag
+  pub octets : (i : ℕ) (path octets : List ℕ) → HasFileAt shown i path octets
+      → slice_get bag.files i ≡ Some (path, octets)
 
 -- TAG FILES
 

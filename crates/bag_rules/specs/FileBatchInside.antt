@@ -1,5 +1,5 @@
 -- What a batch of files holds. Private functions alone cite these.
-use Rattle.std.specs.Prelude.{◌≡◌, ◌<◌, ◌≤◌, ◌+◌, ◌++◌, ◌∷◌, ◌||◌, [], ℕ, List, Option, Some, None, Vec, length, slice_get}
+use Rattle.std.specs.Prelude.{◌≡◌, ◌<◌, ◌≤◌, ◌+◌, ◌++◌, ◌∷◌, ◌||◌, [], ℕ, true, List, Option, Some, None, Vec, length, slice_get}
 use Rattle.std.specs.declared.alloc.Global.{Global}
 use Rattle.bag_digest.specs.declared.algorithm.Alg.{Alg}
 use Rattle.bag_digest.specs.declared.algorithm.AlgSet.{AlgSet}
@@ -18,7 +18,7 @@ use Rattle.bag_rules.specs.declared.requirements.Requirements.{Requirements}
 use Rattle.bag_rules.specs.FilesInside.{IsReadBy}
 use Rattle.bag_rules.specs.KeptInside.{AreKept, HasSumsWithin}
 use Rattle.bag_rules.specs.Trees.{HasFileAt, Shown, paths_in}
-use Rattle.bag_rules.specs.Wants.{CoversListed}
+use Rattle.bag_rules.specs.Wants.{CoversListed, lists_by}
 
 -- A file can be read at this place of a tree: it is one of the tree's, the buffer is as long as a first piece, and what
 -- was kept is of the tree.
@@ -36,6 +36,12 @@ IsReadFor wants path set = IsReadBy wants.manifests.now path
 abbrev pub AreAlgsOf : Requirements → List ℕ → Option AlgSet → Type 0
 AreAlgsOf wants path None = ¬ IsReadBy wants.manifests.now path
 AreAlgsOf wants path (Some set) = IsReadFor wants path set
+
+-- each of these algorithms is one by which the file is listed
+abbrev pub AreListedAlgs : Requirements → List ℕ → Option AlgSet → Type 0
+AreListedAlgs wants path None = Unit {0}
+AreListedAlgs wants path (Some set) = (alg : Alg) → has set alg ≡ true
+    → lists_by wants.manifests.now path alg ≡ true
 
 -- the file is read, and these are its length and its digests
 pub record AreSumsRead (wants : Requirements) (path octets : List ℕ) (found : Sums) : Type 0 where

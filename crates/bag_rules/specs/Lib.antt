@@ -14,6 +14,7 @@ pub mod Limits
 pub mod Checking
 pub mod ReadingInside
 pub mod KeptInside
+pub mod OctetsRead
 pub mod TagFileReaders
 pub mod FormInside
 pub mod Wants

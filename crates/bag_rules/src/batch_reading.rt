@@ -1,18 +1,20 @@
 //! Gathers what is read of the files of a batch. Those that are long are out until the batch is complete.
-ghost use Rattle.std.specs.Prelude.{◌≡◌, ◌≢◌, ◌+◌, ◌<◌, ℕ, List, [], IfErr, IfOk, IsErrOf, MatchResult, OnOk, length};
+ghost use Rattle.std.specs.Prelude.{◌≡◌, ◌≢◌, ◌+◌, ◌<◌, ℕ, List, [], IfErr, IfOk, IsErrOf, MatchResult, OnOk, Some, length, slice_get};
 ghost use Rattle.bag_digest.specs.declared.reading.SourceFault.{SourceFault};
 ghost use Rattle.bag_digest.specs.Streams.{AreFresh, HaveEnded, IsFirstStopped};
-ghost use Rattle.bag_rules.specs.Bags.{Bag, IsBagOf};
+ghost use Rattle.bag_rules.specs.Bags.{Bag, IsBagOf, shown_of};
 ghost use Rattle.bag_rules.specs.FileBatchInside.{AreRead, CanRead, IsReadFor, next_of};
 ghost use Rattle.bag_rules.specs.FilesInside.{IsLongRead};
 ghost use Rattle.bag_rules.specs.BatchReading.{AddsFile, AddsNone, AreGathered, AreOpen, AreReady, AreSumsIn, HasFront, HaveSums, HoldsFront, IfStopped, IsFrontFault, IsReadAt, files_with};
 ghost use Rattle.bag_rules.specs.Limits.{FirstStops, NoneStopsBefore, Stopped};
+ghost use Rattle.bag_rules.specs.OctetsRead.{AreKnown, Extends, IsBagBy, IsKeptAt, KeepsListed, KnownOctets, KnowsFrom};
 ghost use Rattle.bag_rules.specs.Returning.{IsStopped, LeavesOut, TakesAllBack};
 ghost use Rattle.bag_rules.specs.Trees.{HasFileAt, paths_in};
 ghost use Rattle.bag_digest.specs.declared.buffers.TheConstants.{FRONT};
 ghost use Rattle.bag_rules.specs.declared.limits.TheConstants.{LARGEST_FILE};
 ghost use Rattle.bag_rules.specs.declared.outcome.CheckFault.{CheckFault};
 ghost use Rattle.bag_rules.specs.declared.requirements.Requirements.{Requirements};
+ghost use Rattle.bag_rules.specs.declared.tag_sums.TagSums.{TagSums};
 
 use crate::file_batch::{FileBatch, FileSums, LookedUp, look_up};
 use crate::limits::LARGEST_FILE;
@@ -152,6 +154,11 @@ pub(crate) fn read_next<T: OpenTree>(
     ensures stopped { IfErr result (λ fault. AddsNone gathered.old gathered.new fault
         × IsFrontFault T.File.place T.File.failures (T.shown tree.old) (T.sure tree.old) place fault
         × IfStopped fault (IsReadAt (T.shown tree.old) wants.now place)) }
+    ensures some { (known : KnownOctets) → AreKnown T.File.place (T.shown tree.old) kept.now
+        wants.now known gathered.old
+        → KeepsListed (T.shown tree.old) wants.now.manifests.now kept.now
+        → OnOk result ((found : KnownOctets) × Extends known found
+        × AreKnown T.File.place (T.shown tree.old) kept.now wants.now found gathered.new) }
     ensures tree { MatchResult result
         (λ done. LeavesOut T.shown T.failures T.sure (length gathered.old.streams.items)
         (length gathered.new.streams.items) tree.old tree.new)
@@ -185,6 +192,12 @@ fn hold_next<T: OpenTree>(
     ensures stopped { IfErr result (λ fault. AddsNone gathered.old gathered.new fault
         × IsFrontFault T.File.place T.File.failures (T.shown tree.old) (T.sure tree.old) place
         fault) }
+    ensures some { (kept : TagSums) (wants : Requirements) (known : KnownOctets)
+        → AreKnown T.File.place (T.shown tree.old) kept wants known gathered.old
+        → ¬ IsKeptAt kept place → ((path : List ℕ)
+        → slice_get (paths_in (T.shown tree.old)) place ≡ Some path → IsReadFor wants path set)
+        → OnOk result ((found : KnownOctets) × Extends known found
+        × AreKnown T.File.place (T.shown tree.old) kept wants found gathered.new) }
     ensures tree { MatchResult result
         (λ done. LeavesOut T.shown T.failures T.sure (length gathered.old.streams.items)
         (length gathered.new.streams.items) tree.old tree.new)
@@ -246,6 +259,12 @@ pub(crate) fn finish<T: OpenTree>(
         → AreGathered T.File.place T.File.remaining (T.shown tree.old) wants gathered
         → IfOk result (λ batch. AreRead (T.shown tree.old) wants batch
         × (batch.first ≡ gathered.batch.first) × (batch.read ≡ gathered.batch.read)) }
+    ensures some { (kept : TagSums) (wants : Requirements) (known : KnownOctets)
+        → AreKnown T.File.place (T.shown tree.old) kept wants known gathered
+        → IfOk result (λ batch. (found : KnownOctets) × Extends known found
+        × KnowsFrom (next_of batch) (T.shown tree.old) kept found
+        × ((bag : Bag) → IsBagBy (T.shown tree.old) found bag
+        → AreRead (shown_of bag) wants batch)) }
     ensures limits { (wants : Requirements)
         → AreGathered T.File.place T.File.remaining (T.shown tree.old) wants gathered
         → (bag : Bag) → IsBagOf (T.shown tree.old) bag

@@ -4,10 +4,11 @@ ghost use Rattle.bag_digest.specs.Algorithm.{has};
 ghost use Rattle.bag_digest.specs.declared.algorithm.Alg.{Alg};
 ghost use Rattle.bag_tags.specs.declared.listing.Kind.TheVariants.{Tag};
 ghost use Rattle.bag_tags.specs.Names.{manifest_file};
-ghost use Rattle.bag_rules.specs.Bags.{Bag, IsBagOf};
+ghost use Rattle.bag_rules.specs.Bags.{Bag, IsBagOf, declaration_file};
 ghost use Rattle.bag_rules.specs.Checking.{ChecksTree};
 ghost use Rattle.bag_rules.specs.KeptInside.{AreKept};
 ghost use Rattle.bag_rules.specs.Limits.{ScopeStops, Stopped, Stops};
+ghost use Rattle.bag_rules.specs.OctetsRead.{Extends, IsBagBy, KeepsOnly, KeepsTagAlgs, KnownOctets, KnowsFrom};
 ghost use Rattle.bag_rules.specs.Scopes.{HasScope};
 ghost use Rattle.bag_rules.specs.Trees.{AreRising, UsesTree, paths_in};
 ghost use Rattle.bag_rules.specs.Validity.{Means};
@@ -87,6 +88,12 @@ fn check_in_scope<T: OpenTree>(
     ensures limits { (bag : Bag) → IsBagOf (T.shown tree.old) bag → HasScope bag (Known version)
         → MatchResult result (λ outcome. (fault : CheckFault) → ¬ ScopeStops bag fault)
         (Stopped (ScopeStops bag)) }
+    ensures some { (known : KnownOctets) → KnowsFrom 0 (T.shown tree.old) kept.old known
+        → KeepsOnly (T.shown tree.old) kept.old (λ path. path ≡ declaration_file)
+        → KeepsTagAlgs (T.shown tree.old) kept.old
+        → ((bag : Bag) → IsBagBy (T.shown tree.old) known bag → HasScope bag (Known version))
+        → IfOk result (λ outcome. (found : KnownOctets) × Extends known found
+        × ((bag : Bag) → IsBagBy (T.shown tree.old) found bag → IsVerdict bag outcome)) }
     ensures tree { UsesTree T.shown T.failures T.sure tree.old tree.new
         (IsErrOf result CheckFault.Tree) }
 {

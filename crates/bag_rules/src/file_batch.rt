@@ -1,10 +1,11 @@
 //! Files that are read one after another, so that their digests can be taken side by side.
 ghost use Rattle.std.specs.Prelude.{◌≡◌, ◌<◌, ◌≤◌, ◌↔◌, ℕ, List, [], IfErr, IfOk, IsErrOf, IsTrue, MatchOption, OnOk, Some, length, slice_get};
-ghost use Rattle.bag_rules.specs.Bags.{Bag, IsBagOf};
-ghost use Rattle.bag_rules.specs.FileBatchInside.{AddsSums, AreAlgsOf, AreRead, CanRead, Covers, AddsHeld, CompletesBatch, IsFindingOf, IsSumsOf};
+ghost use Rattle.bag_rules.specs.Bags.{Bag, IsBagOf, shown_of};
+ghost use Rattle.bag_rules.specs.FileBatchInside.{AddsSums, AreAlgsOf, AreListedAlgs, AreRead, CanRead, Covers, AddsHeld, CompletesBatch, IsFindingOf, IsSumsOf, next_of};
 ghost use Rattle.bag_rules.specs.FilesInside.{IsLongRead};
 ghost use Rattle.bag_rules.specs.KeptInside.{AreKept};
 ghost use Rattle.bag_rules.specs.Limits.{FirstStops, NoneStopsBefore, Stopped};
+ghost use Rattle.bag_rules.specs.OctetsRead.{Extends, IsBagBy, IsUnkept, KeepsListed, KnownOctets, KnowsFrom};
 ghost use Rattle.bag_rules.specs.Trees.{HasFileAt, Shown, UsesTree, paths_in};
 ghost use Rattle.bag_rules.specs.declared.outcome.CheckFault.{CheckFault};
 ghost use Rattle.bag_rules.specs.declared.requirements.Requirements.{Requirements};
@@ -171,6 +172,15 @@ pub(crate) fn batch_at<T: OpenTree>(
     ensures limits { (bag : Bag) → IsBagOf (T.shown tree.old) bag
         → NoneStopsBefore place bag (IsLongRead wants.now.manifests.now)
         → IfErr result (Stopped (FirstStops bag (IsLongRead wants.now.manifests.now))) }
+    ensures some { (known : KnownOctets) → last.first ≤ place
+        → KnowsFrom (next_of last) (T.shown tree.old) kept.now known
+        → KeepsListed (T.shown tree.old) wants.now.manifests.now kept.now
+        → ((bag : Bag) → IsBagBy (T.shown tree.old) known bag
+        → AreRead (shown_of bag) wants.now last)
+        → IfOk result (λ batch. (found : KnownOctets) × Extends known found
+        × KnowsFrom (next_of batch) (T.shown tree.old) kept.now found
+        × ((bag : Bag) → IsBagBy (T.shown tree.old) found bag
+        → AreRead (shown_of bag) wants.now batch)) }
     ensures tree { UsesTree T.shown T.failures T.sure tree.old tree.new
         (IsErrOf result CheckFault.Tree) }
 {
@@ -201,6 +211,12 @@ fn read_batch<T: OpenTree>(
     ensures limits { (bag : Bag) → IsBagOf (T.shown tree.old) bag
         → NoneStopsBefore first bag (IsLongRead wants.now.manifests.now)
         → IfErr result (Stopped (FirstStops bag (IsLongRead wants.now.manifests.now))) }
+    ensures some { (known : KnownOctets) → KnowsFrom first (T.shown tree.old) kept.now known
+        → KeepsListed (T.shown tree.old) wants.now.manifests.now kept.now
+        → IfOk result (λ batch. (found : KnownOctets) × Extends known found
+        × KnowsFrom (next_of batch) (T.shown tree.old) kept.now found
+        × ((bag : Bag) → IsBagBy (T.shown tree.old) found bag
+        → AreRead (shown_of bag) wants.now batch)) }
     ensures tree { UsesTree T.shown T.failures T.sure tree.old tree.new
         (IsErrOf result CheckFault.Tree) }
 {
@@ -232,10 +248,12 @@ pub(crate) fn look_up<T: Paths>(
     wants: &Requirements<'_>,
     kept: &TagSums,
 ) -> Result<LookedUp, AllocError>
-    requires inside { place < length (paths_in (T.shown tree.now)) }
-    requires kept { AreKept (T.shown tree.now) kept.now }
-    ensures { (path octets : List ℕ) → HasFileAt (T.shown tree.now) place path octets
+    requires { place < length (paths_in (T.shown tree.now)) }
+    ensures found { (shown : Shown) → paths_in shown ≡ paths_in (T.shown tree.now)
+        → AreKept shown kept.now → (path octets : List ℕ) → HasFileAt shown place path octets
         → IfOk result (IsFindingOf wants.now path octets) }
+    ensures unkept { KeepsListed (T.shown tree.now) wants.now.manifests.now kept.now
+        → IfOk result (IsUnkept kept.now place) }
 {
     let Some(set) = algs_at(tree, place, wants)? else {
         return Ok(LookedUp::Known(FileSums::Unread));
@@ -253,8 +271,10 @@ fn algs_at<T: Paths>(
     wants: &Requirements<'_>,
 ) -> Result<Option<AlgSet>, AllocError>
     requires { place < length (paths_in (T.shown tree.now)) }
-    ensures known { (path octets : List ℕ) → HasFileAt (T.shown tree.now) place path octets
+    ensures known { (path : List ℕ) → slice_get (paths_in (T.shown tree.now)) place ≡ Some path
         → IfOk result (AreAlgsOf wants.now path) }
+    ensures only { (path : List ℕ) → slice_get (paths_in (T.shown tree.now)) place ≡ Some path
+        → IfOk result (AreListedAlgs wants.now path) }
 {
     let path = tree.path(place).clone()?;
     let set = wants.of(&path).algs();

@@ -1,5 +1,5 @@
 //! Compares the files of a bag with what its tag files list (RFC 8493 section 3).
-ghost use Rattle.std.specs.Prelude.{true, ◌≡◌, ◌<◌, ℕ, List, IfOk, IfErr, IsErrOf, MatchResult, OnOk, length};
+ghost use Rattle.std.specs.Prelude.{true, false, ◌≡◌, ◌<◌, ℕ, List, IfOk, IfErr, IsErrOf, MatchResult, OnOk, length};
 ghost use Rattle.bag_digest.specs.Algorithm.{has};
 ghost use Rattle.bag_digest.specs.declared.algorithm.Alg.{Alg};
 ghost use Rattle.bag_digest.specs.declared.algorithm.AlgSet.{AlgSet};
@@ -11,8 +11,10 @@ ghost use Rattle.bag_rules.specs.HasFault.{HasFaultOf};
 ghost use Rattle.bag_rules.specs.FilesInside.{IsFaultBy, IsFaultIn, IsFileFault, IsFileUnlisted, IsLongRead, IsOtherDigest, IsOtherLength, IsSizeOf, OfSome, payload_length};
 ghost use Rattle.bag_rules.specs.KeptInside.{AreKept, HasSums};
 ghost use Rattle.bag_rules.specs.Limits.{FileStops, FirstStops, NoneStops, Stopped};
+ghost use Rattle.bag_path.specs.Paths.{is_payload};
+ghost use Rattle.bag_rules.specs.OctetsRead.{Extends, IsBagBy, KeepsListed, KeepsOnly, KeepsTagAlgs, KnownOctets, KnowsFrom};
 ghost use Rattle.bag_rules.specs.ReadingInside.{Adds, AreTextsOf};
-ghost use Rattle.bag_rules.specs.Trees.{HasFileAt, UsesTree, paths_in};
+ghost use Rattle.bag_rules.specs.Trees.{HasFileAt, Shown, UsesTree, paths_in};
 ghost use Rattle.bag_rules.specs.Wants.{CoversWant};
 ghost use Rattle.bag_rules.specs.WantsInside.{GivesPayload};
 ghost use Rattle.bag_rules.specs.declared.outcome.CheckFault.{CheckFault};
@@ -53,6 +55,14 @@ pub(crate) fn add_file_faults<T: OpenTree>(
         → AreTextsOf (length bag.files) bag texts.now
         → MatchResult result (λ done. NoneStops bag (FileStops bag))
         (Stopped (FirstStops bag (FileStops bag))) }
+    ensures some { (known : KnownOctets) → KnowsFrom 0 (T.shown tree.old) kept.now known
+        → KeepsOnly (T.shown tree.old) kept.now (λ path. is_payload path ≡ false)
+        → KeepsTagAlgs (T.shown tree.old) kept.now
+        → ((bag : Bag) → IsBagBy (T.shown tree.old) known bag
+        → (version_of bag ≡ version) × AreTextsOf (length bag.files) bag texts.now)
+        → OnOk result ((found : KnownOctets) × Extends known found
+        × ((bag : Bag) → IsBagBy (T.shown tree.old) found bag
+        → Adds faults.old.items faults.new.items (HasFaultOf bag kinds_of_files))) }
     ensures tree { UsesTree T.shown T.failures T.sure tree.old tree.new
         (IsErrOf result CheckFault.Tree) }
 {
@@ -82,6 +92,11 @@ fn read_files<T: OpenTree>(
     ensures limits { (bag : Bag) → IsBagOf (T.shown tree.old) bag
         → MatchResult result (λ done. NoneStops bag (IsLongRead wants.now.manifests.now))
         (Stopped (FirstStops bag (IsLongRead wants.now.manifests.now))) }
+    ensures some { (known : KnownOctets) → KnowsFrom 0 (T.shown tree.old) kept.now known
+        → KeepsListed (T.shown tree.old) wants.now.manifests.now kept.now
+        → IfOk result (λ size. (found : KnownOctets) × Extends known found
+        × ((bag : Bag) → IsBagBy (T.shown tree.old) found bag → IsSizeOf bag.files size
+        × Adds faults.old.items faults.new.items (IsFileFault bag wants.now))) }
     ensures tree { UsesTree T.shown T.failures T.sure tree.old tree.new
         (IsErrOf result CheckFault.Tree) }
 {
@@ -111,9 +126,9 @@ fn add_faults_at<T: Tree>(
 ) -> Result<Option<u64>, AllocError>
     requires inside { i < length (paths_in (T.shown tree.now)) }
     requires ready { Covers batch.now i × GivesPayload wants.now }
-    ensures { AreRead (T.shown tree.now) wants.now batch.now → (path octets : List ℕ)
-        → HasFileAt (T.shown tree.now) i path octets
-        → IfOk result (λ n. (n ≡ payload_length path octets)
+    ensures { (shown : Shown) → paths_in shown ≡ paths_in (T.shown tree.now)
+        → AreRead shown wants.now batch.now → (path octets : List ℕ)
+        → HasFileAt shown i path octets → IfOk result (λ n. (n ≡ payload_length path octets)
         × Adds faults.old.items faults.new.items (IsFaultIn wants.now path octets)) }
 {
     let path = tree.path(i).clone()?;

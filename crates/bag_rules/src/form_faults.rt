@@ -2,7 +2,7 @@
 ghost use Rattle.std.specs.Prelude.{◌≡◌, ◌<◌, ◌↔◌, ◌∷◌, [], IfErr, IsTrue, OnOk, Contains, length};
 ghost use Rattle.bag_digest.specs.declared.algorithm.Alg.{Alg};
 ghost use Rattle.bag_tags.specs.declared.listing.Kind.TheVariants.{Payload};
-ghost use Rattle.bag_rules.specs.Bags.{Bag, IsBagOf};
+ghost use Rattle.bag_rules.specs.Bags.{Bag, HasFilesOf};
 ghost use Rattle.bag_tags.specs.Names.{manifest_file};
 ghost use Rattle.bag_rules.specs.Faults.{kinds_beside_lines, kinds_of_oxum_form};
 ghost use Rattle.bag_rules.specs.HasFault.{HasFaultOf};
@@ -23,7 +23,7 @@ pub(crate) fn add_form_faults<T: Paths>(
     texts: &TagTexts,
     faults: &mut Vec<Fault>,
 ) -> Result<(), AllocError>
-    ensures { (bag : Bag) → IsBagOf (T.shown tree.now) bag
+    ensures { (bag : Bag) → HasFilesOf (T.shown tree.now) bag
         → AreTextsOf (length bag.files) bag texts.now
         → OnOk result (Adds faults.old.items faults.new.items (HasFaultOf bag kinds_beside_lines)) }
 {

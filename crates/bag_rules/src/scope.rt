@@ -1,12 +1,13 @@
 //! Finds out whether a bag can be judged by more than its declaration (RFC 8493 section 2.1.1).
-ghost use Rattle.std.specs.Prelude.{◌≡◌, ◌<◌, Contains, IfErr, IfOk, MatchOption, MatchResult, Ok, Some, length, slice_get, string_bytes, true};
+ghost use Rattle.std.specs.Prelude.{◌≡◌, ◌<◌, [], Contains, IfErr, IfOk, MatchOption, MatchResult, Ok, Some, length, slice_get, string_bytes, true};
 ghost use Rattle.bag_tags.specs.Declarations.{version_of};
-ghost use Rattle.bag_rules.specs.Bags.{Bag, HoldsFile, IsBagOf, declaration_file};
+ghost use Rattle.bag_rules.specs.Bags.{Bag, HasFilesOf, HoldsFile, IsBagOf, declaration_file};
 ghost use Rattle.bag_rules.specs.JudgingInside.{IsFirstUnknownOf, MatchOutside, NoneUnknown};
 ghost use Rattle.bag_rules.specs.KeptInside.{ReadsAndKeeps};
 ghost use Rattle.bag_rules.specs.Limits.{DeclarationStops, FirstStops, NoneStops, Stopped};
+ghost use Rattle.bag_rules.specs.OctetsRead.{IsBagBy, KnownOctets, ReadsAndKnows};
 ghost use Rattle.bag_rules.specs.Scopes.{HasScope};
-ghost use Rattle.bag_rules.specs.Trees.{AreRising, paths_in};
+ghost use Rattle.bag_rules.specs.Trees.{AreRising, octets_in, paths_in};
 ghost use Rattle.bag_rules.specs.declared.fault.Fault.TheVariants.{NoDeclaration};
 ghost use Rattle.bag_rules.specs.declared.scope.Scope.TheVariants.{Broken};
 
@@ -57,6 +58,10 @@ pub(crate) fn read_scope<T: Tree>(
     // A case in which the octets need not be known: there is no declaration.
     ensures undeclared { ¬ Contains (paths_in (T.shown tree.old)) declaration_file
         → result ≡ Ok (Broken NoDeclaration) }
+    ensures some { kept.old.files.items ≡ [] → IfOk result (λ scope. (found : KnownOctets)
+        × ReadsAndKnows (λ path. path ≡ declaration_file) (T.shown tree.old) kept.old kept.new
+        (octets_in (T.shown tree.old)) found
+        × ((bag : Bag) → IsBagBy (T.shown tree.old) found bag → HasScope bag scope)) }
     ensures reads { ReadsAndKeeps T.shown T.failures T.sure tree.old tree.new kept.old kept.new
         result }
 {
@@ -80,6 +85,10 @@ fn read_declared<T: Tree>(
     ensures limits { (bag : Bag) → IsBagOf (T.shown tree.old) bag
         → MatchResult result (λ scope. NoneStops bag DeclarationStops)
         (Stopped (FirstStops bag DeclarationStops)) }
+    ensures some { kept.old.files.items ≡ [] → IfOk result (λ scope. (found : KnownOctets)
+        × ReadsAndKnows (λ path. path ≡ declaration_file) (T.shown tree.old) kept.old kept.new
+        (octets_in (T.shown tree.old)) found
+        × ((bag : Bag) → IsBagBy (T.shown tree.old) found bag → HasScope bag scope)) }
     ensures reads { ReadsAndKeeps T.shown T.failures T.sure tree.old tree.new kept.old kept.new
         result }
 {
@@ -91,7 +100,7 @@ fn read_declared<T: Tree>(
 /// What the declaration with this text and the names of the manifests say.
 pub(crate) fn scope_of<T: Paths>(alloc: Global, tree: &T, text: &[u8]) -> Result<Scope, AllocError>
     requires { AreRising (paths_in (T.shown tree.now)) }
-    ensures { (bag : Bag) → IsBagOf (T.shown tree.now) bag
+    ensures { (bag : Bag) → HasFilesOf (T.shown tree.now) bag
         → HoldsFile bag declaration_file text.now → IfOk result (HasScope bag) }
 {
     let declaration = match read_declaration(text) {

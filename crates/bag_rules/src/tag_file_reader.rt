@@ -8,7 +8,8 @@ ghost use Rattle.bag_path.specs.declared.version.Version.{Version};
 ghost use Rattle.bag_rules.specs.Limits.{HasCountedLines, IsLongTag, Stopped};
 ghost use Rattle.bag_rules.specs.ReadingInside.{IsReadOf};
 ghost use Rattle.bag_rules.specs.TagFileReaders.{HasTaken, HasExcessLines, TakesOn};
-ghost use Rattle.bag_rules.specs.Trees.{HasFileAt, UsesTree, paths_in};
+ghost use Rattle.bag_rules.specs.OctetsRead.{MayBe};
+ghost use Rattle.bag_rules.specs.Trees.{HasFileAt, UsesTree, octets_in, paths_in};
 ghost use Rattle.bag_rules.specs.declared.outcome.CheckFault.{CheckFault};
 ghost use Rattle.bag_tags.specs.Feeds.{Fed};
 
@@ -114,6 +115,10 @@ pub(crate) fn take_file<T: Tree>(
         → MatchResult result (λ total. (total ≡ length octets)
         × HasTaken version set octets reader.new × (length octets ≤ LARGEST_TAG_FILE))
         (Stopped (IsLongTag path octets)) }
+    ensures some { (version : Version) (set : AlgSet) → HasTaken version set [] reader.old
+        → IfOk result (λ total. (octets : List ℕ) × MayBe (octets_in (T.shown tree.old) i) octets
+        × (total ≡ length octets) × HasTaken version set octets reader.new
+        × (length octets ≤ LARGEST_TAG_FILE)) }
     ensures file { reader.new.file ≡ reader.old.file }
     ensures tree { UsesTree T.shown T.failures T.sure tree.old tree.new
         (IsErrOf result CheckFault.Tree) }

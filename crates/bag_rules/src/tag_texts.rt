@@ -1,11 +1,13 @@
 //! Reads the tag files of a bag that are read line by line (RFC 8493 sections 2.1.3 and 2.2).
-ghost use Rattle.std.specs.Prelude.{◌≡◌, ◌<◌, ◌≤◌, ◌∷◌, [], ℕ, List, IfOk, IfErr, IsErrOf, MatchResult, OnOk, Some, length, slice_get};
+ghost use Rattle.std.specs.Prelude.{◌≡◌, ◌≢◌, ◌<◌, ◌≤◌, ◌∷◌, [], ℕ, List, IfOk, IfErr, IsErrOf, MatchResult, None, OnOk, Option, Some, false, length, slice_get};
+ghost use Rattle.bag_path.specs.Paths.{is_payload};
 ghost use Rattle.bag_path.specs.declared.version.Version.{Version};
-ghost use Rattle.bag_rules.specs.Bags.{Bag, IsBagOf, version_of};
+ghost use Rattle.bag_rules.specs.Bags.{Bag, IsBagOf, declaration_file, version_of};
 ghost use Rattle.bag_rules.specs.Faults.{kind_of_lines};
 ghost use Rattle.bag_rules.specs.HasFault.{HasFaultOf};
 ghost use Rattle.bag_rules.specs.Limits.{IsLongTag, FirstStops, NoneStops, Stopped, TextStops};
 ghost use Rattle.bag_rules.specs.KeptInside.{ReadsAndKeeps};
+ghost use Rattle.bag_rules.specs.OctetsRead.{IsBagBy, IsText, KeepsGiven, KeepsOnly, KnownOctets, KnowsFrom, MayBe, ReadsAndKnows};
 ghost use Rattle.bag_rules.specs.ReadingInside.{
   Adds,
   AreTextsOf,
@@ -20,7 +22,7 @@ ghost use Rattle.bag_rules.specs.ReadingInside.{
   info_in,
   manifest_in,
 };
-ghost use Rattle.bag_rules.specs.Trees.{HasFileAt, UsesTree, paths_in};
+ghost use Rattle.bag_rules.specs.Trees.{HasFileAt, UsesTree, octets_in, paths_in};
 ghost use Rattle.bag_rules.specs.declared.outcome.CheckFault.{CheckFault};
 
 use crate::fault::Fault;
@@ -89,6 +91,13 @@ pub(crate) fn read_texts<T: Tree>(
     ensures limits { (bag : Bag) → IsBagOf (T.shown tree.old) bag
         → MatchResult result (λ texts. NoneStops bag TextStops)
         (Stopped (FirstStops bag TextStops)) }
+    ensures some { (known : KnownOctets) → KnowsFrom 0 (T.shown tree.old) kept.old known
+        → KeepsOnly (T.shown tree.old) kept.old (λ path. path ≡ declaration_file)
+        → IfOk result (λ texts. (found : KnownOctets) × ReadsAndKnows
+        (λ path. is_payload path ≡ false) (T.shown tree.old) kept.old kept.new known found
+        × ((bag : Bag) → IsBagBy (T.shown tree.old) found bag → version_of bag ≡ version
+        → AreTextsOf (length bag.files) bag texts
+        × Adds faults.old.items faults.new.items (HasFaultOf bag kind_of_lines))) }
     ensures reads { ReadsAndKeeps T.shown T.failures T.sure tree.old tree.new kept.old kept.new
         result }
 {
@@ -118,6 +127,12 @@ fn read_text<T: Tree>(
     ensures limits { (path octets : List ℕ) → HasFileAt (T.shown tree.old) i path octets
         → MatchResult result (λ done. (fault : CheckFault) → ¬ TextStops path octets fault)
         (Stopped (TextStops path octets)) }
+    ensures some { (path : List ℕ) → slice_get (paths_in (T.shown tree.old)) i ≡ Some path
+        → OnOk result ((given : Option (List ℕ))
+        × KeepsGiven (T.shown tree.old) i kept.old kept.new given
+        × (given ≢ None → IsText path) × ((octets : List ℕ) → MayBe given octets
+        → ReadsOn version path octets texts.old texts.new
+        × Adds faults.old.items faults.new.items (IsBadLineOf version path octets))) }
     ensures reads { ReadsAndKeeps T.shown T.failures T.sure tree.old tree.new kept.old kept.new
         result }
 {
@@ -147,6 +162,8 @@ pub(crate) fn read_tag_file<T: Tree>(
     ensures known { (path octets : List ℕ) → HasFileAt (T.shown tree.old) i path octets
         → MatchResult result (λ text. (text.items ≡ octets) × (length octets ≤ LARGEST_TAG_FILE))
         (Stopped (IsLongTag path octets)) }
+    ensures some { IfOk result (λ text. MayBe (octets_in (T.shown tree.old) i) text.items
+        × (length text.items ≤ LARGEST_TAG_FILE)) }
     ensures tree { UsesTree T.shown T.failures T.sure tree.old tree.new
         (IsErrOf result CheckFault.Tree) }
 {

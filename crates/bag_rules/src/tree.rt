@@ -33,7 +33,7 @@ pub trait Paths {
 /// The files below one base directory, by path. Reads are from the file that was started last.
 ///
 /// What is proved about results is proved for a tree whose octets are known. For a folder on a disk nothing is claimed
-/// about its octets.
+/// about its octets: its result is proved to be the verdict on one bag with its files, and not on which one.
 pub trait Tree: Paths + Source {
     /// That the tree never fails: a file that was started can be read.
     ghost sure: { Self → Type 0 };

@@ -3,6 +3,7 @@ use Rattle.bag_rules.specs.FileBatchInside.{CompletesBatch}
 use Rattle.bag_rules.specs.BatchReading.{AreSumsIn, HaveSums}
 use Rattle.bag_rules.specs.declared.outcome.CheckFault.TheVariants.{Tree}
 use Rattle.bag_rules.proofs.EndedLemmas.{first_stopped, have_sums, read_ended, ready_stopped, stream_stops, unfailed_ended}
+use Rattle.bag_rules.proofs.KnownFiles.{known_ended}
 use Rattle.bag_rules.proofs.ReturningLemmas.{all_back, back_none, back_so}
 use Rattle.bag_rules.proofs.TreeUses.{not_tree}
 use Rattle.bag_rules.proofs.Words.{err_from_is_err_and}
@@ -42,6 +43,20 @@ returns-in_ok-complete-in-Ok-clause-read g c =
     let are = subst (λ xs. AreSumsIn xs sums) read (c.in_ok-sums-in-Ok.ensures (subst (λ xs. HaveSums xs) (sym read) have)) in
     let complete = subst (λ batch. CompletesBatch batch c.in_ok-complete-in-Ok.field-0 sums) c.in-Ok.ensures.rest.1 c.in_ok-complete-in-Ok.ensures in
     λ wants gathered_are. (read_ended file.OpenFile.place file.Source.remaining file.Source.failures file.Source.ready file.Source.keeps shown c.args.gathered new same c.requires wants c.in_ok-complete-in-Ok.field-0 sums ended are gathered_are complete, complete.first, complete.read)
+
+pub returns-in_ok-complete-in-Ok-clause-some : goal.returns-in_ok-complete-in-Ok-clause-some
+returns-in_ok-complete-in-Ok-clause-some g c =
+    let file = g.T.File in
+    let shown = g.T.Paths.shown c.args.tree.now in
+    let new = c.read_on.new.self.streams.items in
+    let same = c.in-Ok.ensures.rest.0 in
+    let ended = c.in-Ok.ensures.ended in
+    let read = c.as_slice.ensures.value in
+    let have = have_sums file.OpenFile.place file.Source.remaining file.Source.failures file.Source.ready file.Source.keeps shown c.args.gathered new same c.requires ended in
+    let sums = c.in_ok-sums-in-Ok.field-0.items in
+    let are = subst (λ xs. AreSumsIn xs sums) read (c.in_ok-sums-in-Ok.ensures (subst (λ xs. HaveSums xs) (sym read) have)) in
+    let complete = subst (λ batch. CompletesBatch batch c.in_ok-complete-in-Ok.field-0 sums) c.in-Ok.ensures.rest.1 c.in_ok-complete-in-Ok.ensures in
+    λ kept wants known known_are. known_ended file.OpenFile.place file.Source.remaining file.Source.failures file.Source.ready file.Source.keeps shown c.args.gathered new sums same c.requires ended are kept wants known known_are c.in_ok-complete-in-Ok.field-0 complete
 
 pub stopped_at-requires : goal.stopped_at-requires
 stopped_at-requires g c =

@@ -1,9 +1,12 @@
-use Rattle.std.proofs.Common.{◌≡◌, ◌∙◌, ◌+◌, ◌∷◌, [], Some, ap, arith, length, length-append, refl, subst, sym}
+use Rattle.std.proofs.Common.{◌≡◌, ◌∙◌, ◌+◌, ◌∷◌, [], Some, ap, arith, length, length-append, refl, slice_get, subst, sym, take}
+use Rattle.std.proofs.lemmas.List.{length-take-le}
+use Rattle.bag_rules.specs.OctetsRead.{IsKeptAt}
 use Rattle.bag_rules.specs.Returning.{LeavesOut}
+use Rattle.bag_rules.proofs.KnownFiles.{known_front, known_whole}
 use Rattle.bag_rules.proofs.AddingLemmas.{adds_front, adds_whole}
 use Rattle.bag_rules.proofs.ReturningLemmas.{leaves_error, leaves_last, leaves_memory}
 use Rattle.bag_rules.proofs.TreeLemmas.{octets_shown}
-use Rattle.bag_rules.proofs.Words.{err_from_is_err_and, HasFileAt, octets_in}
+use Rattle.bag_rules.proofs.Words.{err_from_is_err_and, HasFileAt, octets_in, paths_in}
 use Rattle.bag_rules.proofs.batch_reading.hold_next.Goals as goal
 
 pub returns-in_err-n-clause-tree : goal.returns-in_err-n-clause-tree
@@ -60,3 +63,27 @@ pub returns-in-Err-clause-tree : goal.returns-in-Err-clause-tree
 returns-in-Err-clause-tree g c =
     let n = length c.args.gathered.now.streams.items in
     leaves_last n (n + 1) (n + 0) (omega arith) (c.in_ok-n.ensures.tree n) (g.met.T.Tree.reads_keep _ _ c.close-in-Err.ensures.rest.kept) c.close-in-Err.ensures.counted
+
+pub returns-then-n-buffer-clause-some : goal.returns-then-n-buffer-clause-some
+returns-then-n-buffer-clause-some g c = λ kept wants known are unkept read.
+    let shown = g.T.Paths.shown c.args.tree.now in
+    let next = c.requires.streams.1 in
+    let front = c.in_ok-n.ensures.front in
+    let content = take c.in_ok-n.n c.read_front.new.buffer in
+    known_whole g.T.File.OpenFile.place shown kept wants known c.args.gathered.now _ are (subst (λ n. ¬ IsKeptAt kept n) next unkept) c.args.set
+    (λ path at. read path (subst (λ n. slice_get (paths_in shown) n ≡ Some path) (sym next) at))
+    content c.in_ok-hold.ensures.held refl refl
+    (λ k stream at. (c.requires.streams.0.each k stream at).before)
+    (λ own is. ((front.known own (subst (λ n. octets_in shown n ≡ Some own) (sym next) is)).whole c.if-n-buffer.true).0)
+    (let room = c.requires.room.0 in let same = c.read_front.auto.buffer in omega (arith, length-take-le c.in_ok-n.n c.read_front.new.buffer front.bound, front.bound, room, same))
+
+pub returns-in-Ok-clause-some : goal.returns-in-Ok-clause-some
+returns-in-Ok-clause-some g c = λ kept wants known are unkept read.
+    let shown = g.T.Paths.shown c.args.tree.now in
+    let next = c.requires.streams.1 in (
+      known,
+      λ i octets is. is,
+      known_front g.T.File.OpenFile.place shown kept wants known c.args.gathered.now c.hold-2.new.self are (subst (λ n. ¬ IsKeptAt kept n) next unkept) c.args.set
+          (λ path at. read path (subst (λ n. slice_get (paths_in shown) n ≡ Some path) (sym next) at))
+          _ c.in_ok-n.file c.in-Ok.ensures.held (c.in_ok-n.ensures.front.placed ∙ next),
+    )

@@ -4,9 +4,12 @@ use Rattle.bag_digest.specs.declared.streams.Stream.{Stream}
 use Rattle.bag_rules.specs.FileBatchInside.{AreRead, next_of}
 use Rattle.bag_rules.specs.BatchReading.{AddsNone, AreGathered, AreOpen, AreReady, IfStopped, IsFrontFault, IsReadAt, files_with}
 use Rattle.bag_rules.specs.KeptInside.{AreKept}
+use Rattle.bag_rules.specs.OctetsRead.{AreKnown, IsBagBy, KeepsListed, KnowsFrom}
 use Rattle.bag_rules.specs.Returning.{IsStopped, LeavesOut, TakesAllBack}
 use Rattle.bag_rules.specs.declared.batch_reading.BatchReading.{BatchReading}
 use Rattle.bag_rules.proofs.GatheringLemmas.{none_gathered, none_open, none_ready}
+use Rattle.bag_rules.proofs.KnownFiles.{none_known}
+use Rattle.bag_rules.proofs.OctetsLemmas.{extends_on}
 use Rattle.bag_rules.proofs.ReturningLemmas.{back_none, back_on, back_so, keeps_same, leaves_on, leaves_same, used_by}
 use Rattle.bag_rules.proofs.Words.{CheckFault, IfOk-weaker, IsLongRead, NoneStopsBefore, paths_in, Shown, UsesTree}
 use Rattle.bag_rules.proofs.file_batch.read_batch.Goals as goal
@@ -37,6 +40,12 @@ files-init g c =
       are_open = none_open file.OpenFile.place file.Source.remaining file.Source.failures _ c.new-gathered.result streams;
       ready = λ sure. none_ready file.Source.ready c.new-gathered.result.streams.items streams;
       gathered = none_gathered file.OpenFile.place file.Source.remaining _ c.args.wants.now c.new-gathered.result batch.1 streams;
+      known = λ known knows listed. (
+        known,
+        λ i octets is. is,
+        none_known file.OpenFile.place (g.T.Paths.shown c.args.tree.now) c.args.kept.now c.args.wants.now known c.new-gathered.result batch.1 streams
+            (subst (λ n. KnowsFrom n (g.T.Paths.shown c.args.tree.now) c.args.kept.now known) (sym batch.0) knows),
+      );
       count = c.count-count.ensures.files;
       inside = c.requires.inside;
       out = subst (λ n. LeavesOut g.T.Paths.shown g.T.Source.failures g.T.Tree.sure 0 n c.args.tree.now c.args.tree.now) (sym (ap length streams)) (leaves_same 0 keeps_same refl);
@@ -72,6 +81,10 @@ files-preserved g c =
       ready = λ sure. done.added.are_ready (inv.out.kept.stays_sure sure) (inv.ready sure);
       gathered = subst (λ s. AreGathered file.OpenFile.place file.Source.remaining s wants next) same
           (done.added.gathered (subst (λ s. AreGathered file.OpenFile.place file.Source.remaining s wants c.files.gathered) (sym same) inv.gathered));
+      known = λ known knows listed.
+          let was = inv.known known knows listed in
+          let on = done.some was.0 (subst (λ s. AreKnown file.OpenFile.place s c.args.kept.now wants was.0 c.files.gathered) (sym same) was.2) (subst (λ s. KeepsListed s wants.manifests.now c.args.kept.now) (sym same) listed) in
+          (on.0, extends_on known was.0 on.0 was.1 on.1, subst (λ s. AreKnown file.OpenFile.place s c.args.kept.now wants on.0 next) same on.2);
       count = inv.count;
       inside = omega (arith, inv.inside, inv.count, c.if-place-count.false);
       out = leaves_on 0 (length c.files.gathered.streams.items) (length next.streams.items) inv.out done.tree;
@@ -161,6 +174,27 @@ returns-then-place-count-clause-read g c =
       ),
     ))
     (c.finish.ensures.read wants gathered)
+
+pub returns-then-place-count-clause-some : goal.returns-then-place-count-clause-some
+returns-then-place-count-clause-some g c = λ known knows listed.
+    let inv = c.files.invariant in
+    let file = g.T.File in
+    let wants = c.args.wants.now in
+    let kept = c.args.kept.now in
+    let done = c.in-Ok.ensures in
+    let next = c.read_next.new.gathered in
+    let same = inv.out.kept.same in
+    let moved = done.tree.kept.same in
+    let all = moved ∙ same in
+    let was = inv.known known knows listed in
+    let on = done.some was.0 (subst (λ s. AreKnown file.OpenFile.place s kept wants was.0 c.files.gathered) (sym same) was.2) (subst (λ s. KeepsListed s wants.manifests.now kept) (sym same) listed) in
+    IfOk-weaker c.finish.result _ _ (λ batch some. (
+      some.0,
+      extends_on known on.0 some.0 (extends_on known was.0 on.0 was.1 on.1) some.1,
+      subst (λ s. KnowsFrom (next_of batch) s kept some.0) all some.2,
+      λ bag is. some.3 bag (subst (λ s. IsBagBy s some.0 bag) (sym all) is),
+    ))
+    (c.finish.ensures.some kept wants on.0 (subst (λ s. AreKnown file.OpenFile.place s kept wants on.0 next) (sym moved) on.2))
 
 pub returns-then-place-count-clause-limits : goal.returns-then-place-count-clause-limits
 returns-then-place-count-clause-limits g c = λ bag is none_stops.

@@ -1,10 +1,12 @@
 use Rattle.std.proofs.Common.{◌≡◌, ◌<◌, ◌+◌, ◌∙◌, Some, None, ℕ, ap, sym, subst, arith, rules, length, take, refl}
-use Rattle.bag_rules.proofs.Words.{err_from_is_err_and, FirstStops, IsFileFault, IsLongRead, IsSizeOf, NoneStopsBefore, paths_in, PayloadSize, same_Some, Stopped, take-length}
-use Rattle.bag_rules.specs.FileBatchInside.{AreRead}
+use Rattle.bag_rules.proofs.Words.{err_from_is_err_and, FirstStops, IsFileFault, IsLongRead, IsSizeOf, NoneStopsBefore, paths_in, PayloadSize, same_Some, shown_of, Stopped, take-length}
+use Rattle.bag_rules.specs.FileBatchInside.{AreRead, next_of}
+use Rattle.bag_rules.specs.OctetsRead.{IsBagBy, KeepsListed, KnowsFrom}
 use Rattle.bag_rules.proofs.AddsLemmas.{adds_so}
 use Rattle.bag_rules.proofs.BatchLemmas.{batch_within}
 use Rattle.bag_rules.proofs.FileReadLemmas.{IsFaultBefore, all_faults, all_faults_back, file_faults_more, no_faults}
 use Rattle.bag_rules.proofs.LimitLemmas.{none_more, stopped_memory}
+use Rattle.bag_rules.proofs.OctetsLemmas.{count_as, extends_on, file_as, knows_later, less_known, own_paths}
 use Rattle.bag_rules.proofs.PayloadLemmas.{no_octets, size_by}
 use Rattle.bag_rules.proofs.TreeLemmas.{file_at, same_count}
 use Rattle.bag_rules.proofs.TreeUses.{uses_kept, uses_on}
@@ -17,6 +19,13 @@ loop-i-init g c = record {
   size = λ bag is. (no_octets, refl);
   added = λ bag is. no_faults bag c.args.wants.now c.args.faults.now.items;
   none = λ bag is i path octets fault below. absurd (omega (arith, below));
+  some = λ known knows listed. (
+    known,
+    λ i octets is. is,
+    knows_later 0 (next_of c.new-batch.result) (omega arith) knows,
+    λ bag is. ((no_octets, refl), no_faults bag c.args.wants.now c.args.faults.now.items, c.new-batch.ensures.read (shown_of bag) c.args.wants.now),
+  );
+  first = omega (arith, c.new-batch.ensures.first.0);
   used = search rules;
   read = c.new-batch.ensures.read (g.T.Paths.shown c.args.tree.now) c.args.wants.now;
   few = omega arith;
@@ -46,15 +55,39 @@ loop-i-preserved g c =
       size = λ bag is.
           let f = stands bag.files c.loop-i.i (subst (λ n. c.loop-i.i < n) (same_count bag is) inside) in
           let at = file_at bag (same ∙ is) c.loop-i.i f.0.0 f.0.1 f.1 in
-          size_by bag.files c.loop-i.i f.0.0 f.0.1 f.1 c.loop-i.size (before.size bag is) c.in_ok-length.field-0 c.match-branch-3.size (c.in_ok-length.ensures read f.0.0 f.0.1 at).0 grows stays;
+          size_by bag.files c.loop-i.i f.0.0 f.0.1 f.1 c.loop-i.size (before.size bag is) c.in_ok-length.field-0 c.match-branch-3.size (c.in_ok-length.ensures (shown c.batch_at.new.tree) refl read f.0.0 f.0.1 at).0 grows stays;
       added = λ bag is.
           let f = stands bag.files c.loop-i.i (subst (λ n. c.loop-i.i < n) (same_count bag is) inside) in
           let at = file_at bag (same ∙ is) c.loop-i.i f.0.0 f.0.1 f.1 in
-          file_faults_more bag wants c.loop-i.i f.0.0 f.0.1 _ _ _ f.1 (before.added bag is) (c.in_ok-length.ensures read f.0.0 f.0.1 at).1;
+          file_faults_more bag wants c.loop-i.i f.0.0 f.0.1 _ _ _ f.1 (before.added bag is) (c.in_ok-length.ensures (shown c.batch_at.new.tree) refl read f.0.0 f.0.1 at).1;
       none = λ bag is.
           let f = stands bag.files c.loop-i.i (subst (λ n. c.loop-i.i < n) (same_count bag is) inside) in
           let at = file_at bag (same ∙ is) c.loop-i.i f.0.0 f.0.1 f.1 in
           none_more bag (IsLongRead wants.manifests.now) c.loop-i.i f.0.0 f.0.1 f.1 (λ fault. batch_within (shown c.batch_at.new.tree) wants c.in_ok-batch.batch c.loop-i.i f.0.0 f.0.1 fault read c.in_ok-batch.ensures.read.1 at) (before.none bag is);
+      some = λ known knows listed.
+          let was = before.some known knows listed in
+          let now = before.used.same in
+          let kept = c.args.kept.now in
+          let on = c.in_ok-batch.ensures.some was.0 before.first
+          (subst (λ s. KnowsFrom (next_of c.loop-i.batch) s kept was.0) (sym now) was.2)
+          (subst (λ s. KeepsListed s wants.manifests.now kept) (sym now) listed)
+          (λ bag is. (was.3 bag (subst (λ s. IsBagBy s was.0 bag) now is)).2) in
+          let here = stands (paths_in (shown c.args.tree.now)) c.loop-i.i inside in (
+            on.0,
+            extends_on known was.0 on.0 was.1 on.1,
+            subst (λ s. KnowsFrom (next_of c.in_ok-batch.batch) s kept on.0) now on.2,
+            λ bag is.
+                let before_here = was.3 bag (less_known on.1 is) in
+                let file = file_as bag is.files c.loop-i.i here.0 here.1 in
+                let batch_read = on.3 bag (subst (λ s. IsBagBy s on.0 bag) (sym now) is) in
+                let reading = c.in_ok-length.ensures (shown_of bag) (own_paths bag is.files ∙ ap paths_in (sym same)) batch_read here.0 file.0
+                (file_at {shown = shown_of bag} bag refl c.loop-i.i here.0 file.0 file.1) in (
+                  size_by bag.files c.loop-i.i here.0 file.0 file.1 c.loop-i.size before_here.0 c.in_ok-length.field-0 c.match-branch-3.size reading.0 grows stays,
+                  file_faults_more bag wants c.loop-i.i here.0 file.0 _ _ _ file.1 before_here.1 reading.1,
+                  batch_read,
+                ),
+          );
+      first = omega (arith, c.in_ok-batch.ensures.read.1.0);
       used = uses_kept (uses_on before.used (λ no. no) c.in_ok-batch.ensures.tree) (λ e. cc e) (λ no. no);
       read = subst (λ s. AreRead s wants c.in_ok-batch.batch) same read;
       few = elim c.match-branch-3.branch [ in-Some w ↦ rw w.size-is (omega (arith, before.few)) | in_default w ↦ rw w.size-is (omega (arith, before.few)) ];
@@ -84,6 +117,23 @@ returns-clause-read g c = λ bag is.
           (λ f h. all_faults bag wants f (subst (λ k. IsFaultBefore k bag wants f) end h))
           (λ f h. subst (λ k. IsFaultBefore k bag wants f) (sym end) (all_faults_back bag wants f h))
           (c.loop-i.invariant.added bag is),
+    )
+
+pub returns-clause-some : goal.returns-clause-some
+returns-clause-some g c = λ known knows listed.
+    let wants = c.args.wants.now in
+    let some = c.loop-i.invariant.some known knows listed in (
+      some.0,
+      some.1,
+      λ bag is.
+          let all = some.3 bag is in
+          let end : c.loop-i.i ≡ length bag.files = omega (arith, c.loop-i.invariant.all, count_as bag is.files) in (
+            subst (λ fs. IsSizeOf fs c.loop-i.size) (ap (λ k. take k bag.files) end ∙ take-length bag.files) all.0,
+            adds_so _ _ (IsFaultBefore c.loop-i.i bag wants) (IsFileFault bag wants)
+                (λ f h. all_faults bag wants f (subst (λ k. IsFaultBefore k bag wants f) end h))
+                (λ f h. subst (λ k. IsFaultBefore k bag wants f) (sym end) (all_faults_back bag wants f h))
+                all.1,
+          ),
     )
 
 pub returns-clause-limits : goal.returns-clause-limits

@@ -7,6 +7,7 @@ use Rattle.bag_rules.proofs.AddsLemmas.{adds_kinds_by, adds_so}
 use Rattle.bag_rules.proofs.ListedPaths.{expected_as}
 use Rattle.bag_rules.proofs.OpeningFaults.{all_found, form_back, form_there}
 use Rattle.bag_rules.proofs.VerdictLemmas.{form_found}
+use Rattle.bag_rules.proofs.OctetsLemmas.{files_of_bag}
 use Rattle.bag_rules.proofs.plan_fault.find_faults.Goals as goal
 use Rattle.bag_rules.proofs.plan_fault.find_faults.Goals.{In_ok-expected}
 
@@ -40,6 +41,6 @@ returns-clause-found c =
     let bag = tag_bag tags in
     let known = c.requires.known in
     let are = c.in_ok-texts.ensures.read known.version_is in
-    let form = form_found bag _ _ _ c.requires.none (c.in_ok-texts.ensures.faulty known.version_is) (c.in_ok-add_form_faults.ensures bag refl are) in
+    let form = form_found bag _ _ _ c.requires.none (c.in_ok-texts.ensures.faulty known.version_is) (c.in_ok-add_form_faults.ensures bag (files_of_bag bag refl) are) in
     all_found c.args.version tags _ known
     (adds_kinds_by (HasOpeningFault tags) kinds_of_form kinds_of_files [] _ _ (adds_so [] _ (HasFaultOf bag kinds_of_form) (HasOpeningFaultOf tags kinds_of_form) (form_there tags) (form_back tags) form) c.in_ok-add_opening_faults.ensures)

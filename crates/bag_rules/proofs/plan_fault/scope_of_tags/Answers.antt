@@ -6,6 +6,7 @@ use Rattle.bag_rules.proofs.EachLemmas.{stands_at}
 use Rattle.bag_rules.proofs.PlaceLemmas.{same_file}
 use Rattle.bag_rules.proofs.TagBags.{tag_at}
 use Rattle.bag_rules.proofs.TreeLemmas.{all_paths, shows, there_at}
+use Rattle.bag_rules.proofs.OctetsLemmas.{files_of_bag}
 use Rattle.bag_rules.proofs.plan_fault.scope_of_tags.Goals as goal
 
 pub scope_of-requires : goal.scope_of-requires
@@ -23,7 +24,7 @@ returns-in-Some-clause-scope c =
     let inside : i < length items = omega (arith, n, slice_get_within tags i _ held.1) in
     let at = tag_at items tags i file c.files-files.ensures.files (stands_at items i file inside ∙ ap Some (sym c.index-files-i.is)) in
     let same = same_file (slice_get tags i) file.path file.body.items declaration_file held.0 at held.1 in
-    c.scope_of.ensures bag refl (subst (HoldsFile bag declaration_file) (sym (c.body.ensures ∙ same.1)) (i, held.1))
+    c.scope_of.ensures bag (files_of_bag bag refl) (subst (HoldsFile bag declaration_file) (sym (c.body.ensures ∙ same.1)) (i, held.1))
 
 pub returns-in-None-clause-scope : goal.returns-in-None-clause-scope
 returns-in-None-clause-scope c =

@@ -25,3 +25,13 @@ returns-in_ok-clone-in-Err-TooLarge-clause-known g c = λ version set path octet
     let fault : c.in-Err-TooLarge.field-0 ≡ read.TooLarge = cc in
     let more = subst (GaveBefore (g.T.Source.remaining c.start.new.self) (g.T.Source.remaining c.take_all.new.source) 16777216) fault c.in-Err-TooLarge.ensures.stopped in
     (more_known octets _ _ 16777216 known more, ap TagTooLarge (own ∙ sym name))
+
+pub returns-in-Ok-clause-some : goal.returns-in-Ok-clause-some
+returns-in-Ok-clause-some g c = λ version set none.
+    let taken = c.in-Ok.ensures.taken in (
+      taken.0,
+      λ own known. (all_known own taken.0 _ _ 16777216 (c.in_ok-start.ensures.started ∙ known) taken.1).0,
+      taken.2,
+      taken.3 version set _ none,
+      taken.1.within,
+    )

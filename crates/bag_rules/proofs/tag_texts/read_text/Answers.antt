@@ -1,8 +1,9 @@
-use Rattle.std.proofs.Common.{◌≡◌, false, ◌∙◌, inr, refl, subst, sym, true}
+use Rattle.std.proofs.Common.{◌≡◌, false, ◌∙◌, None, Some, inr, refl, subst, sym, true}
 use Rattle.bag_digest.specs.Reading.{AreSums}
 use Rattle.bag_rules.specs.TagFileReaders.{HasExcessLines, IsFoundOf}
-use Rattle.bag_rules.proofs.Words.{err_from_is_err_and, IsBadLineOf, IsFirstBadLine, IsLongTag, one_file, ReadsText, Stopped, text_file, TextStops}
-use Rattle.bag_rules.proofs.AddsLemmas.{adds_so}
+use Rattle.bag_rules.proofs.Words.{Adds, err_from_is_err_and, IsBadLineOf, IsLongTag, LineFile, ReadsOn, same_Some, Stopped, text_file, TextStops}
+use Rattle.bag_rules.proofs.AddsLemmas.{adds_none}
+use Rattle.bag_rules.proofs.KnownTexts.{text_on}
 use Rattle.bag_rules.proofs.LimitLemmas.{stopped_so}
 use Rattle.bag_rules.proofs.TextStops.{long_stops, none_stops}
 use Rattle.bag_rules.proofs.TreeLemmas.{named_here}
@@ -32,15 +33,40 @@ returns-clause-read g c = λ path octets at.
     let named : path ≡ text_file file = named_here at c.path.ensures ∙ c.in-Some.ensures in
     let known = c.in_ok-total.ensures.known version c.set.result path octets c.new-reader.ensures.taken at in
     let is = subst (λ f. IsFoundOf version f c.set.result octets c.finish-found.result) (c.in_ok-total.ensures.file ∙ c.new-reader.ensures.file) (c.finish-found.ensures version c.set.result octets known.1 known.0) in
-    let few : ¬ HasExcessLines file octets = λ many. (let k : true ≡ false = sym (is.too_many.1 many) ∙ c.if-found.false in cc) in (
-      record {
-        reads = λ other named_so. subst (λ f. ReadsText version f octets c.args.texts.now c.add_text.new.texts) (one_file path file other named named_so) (c.in_ok-add_text.ensures.read version octets (is.read few));
-        leaves = λ none. absurd (none file named);
-      },
-      adds_so c.args.faults.now.items c.add_text.new.faults.items (IsFirstBadLine version file octets) (IsBadLineOf version path octets)
-          (λ f bad. (file, named, bad))
-          (λ f bad. subst (λ name. IsFirstBadLine version name octets f) (one_file path bad.0 file bad.1 named) bad.2)
-          (c.in_ok-add_text.ensures.faulty version octets (is.read few)),
+    let few : ¬ HasExcessLines file octets = λ many. (let k : true ≡ false = sym (is.too_many.1 many) ∙ c.if-found.false in cc) in
+    text_on version file path octets c.args.texts.now c.add_text.new.texts c.args.faults.now.items c.add_text.new.faults.items named
+    (c.in_ok-add_text.ensures.read version octets (is.read few)) (c.in_ok-add_text.ensures.faulty version octets (is.read few))
+
+pub returns-in_default-clause-some : goal.returns-in_default-clause-some
+returns-in_default-clause-some g c = λ path at.
+    let same : path ≡ c.path.result.now = same_Some path c.path.result.now (sym at ∙ c.path.ensures) in
+    let other : (file : LineFile) → ¬ (path ≡ text_file file) = λ file named. c.in_default.ensures file (sym same ∙ named) in (
+      None,
+      refl,
+      λ some. absurd (some refl),
+      λ octets may. (
+        record { reads = λ file named. absurd (other file named); leaves = λ none. (refl, refl, refl) },
+        adds_none c.args.faults.now.items (IsBadLineOf c.args.version path octets) (λ f bad. other bad.0 bad.1),
+      ),
+    )
+
+pub returns-clause-some : goal.returns-clause-some
+returns-clause-some g c = λ path at.
+    let file = c.in-Some.file in
+    let version = c.args.version in
+    let named : path ≡ text_file file = same_Some path c.path.result.now (sym at ∙ c.path.ensures) ∙ c.in-Some.ensures in
+    let taken = c.in_ok-total.ensures.some version c.set.result c.new-reader.ensures.taken in
+    let octets = taken.0 in
+    let is = subst (λ f. IsFoundOf version f c.set.result octets c.finish-found.result) (c.in_ok-total.ensures.file ∙ c.new-reader.ensures.file) (c.finish-found.ensures version c.set.result octets taken.3 taken.2) in
+    let few : ¬ HasExcessLines file octets = λ many. (let k : true ≡ false = sym (is.too_many.1 many) ∙ c.if-found.false in cc) in
+    let on = text_on version file path octets c.args.texts.now c.add_text.new.texts c.args.faults.now.items c.add_text.new.faults.items named
+    (c.in_ok-add_text.ensures.read version octets (is.read few)) (c.in_ok-add_text.ensures.faulty version octets (is.read few)) in (
+      Some octets,
+      (taken.1, taken.4, (c.finish-found.result.sums, subst (λ s. AreSums c.finish-found.result.sums s octets) c.set.ensures is.sums, c.in_ok-add.ensures.added)),
+      λ some. (file, named),
+      λ other may.
+          let same : other ≡ octets = may octets refl in
+          subst (λ os. ReadsOn version path os c.args.texts.now c.add_text.new.texts × Adds c.args.faults.now.items c.add_text.new.faults.items (IsBadLineOf version path os)) (sym same) on,
     )
 
 pub returns-clause-limits : goal.returns-clause-limits
@@ -54,7 +80,7 @@ returns-clause-limits g c = λ path octets at.
 pub returns-clause-reads : goal.returns-clause-reads
 returns-clause-reads g c = record {
   tree = uses_kept c.in_ok-total.ensures.tree (λ e. cc e) (λ e. cc e);
-  kept = λ are. (c.in_ok-add.ensures (g.T.Paths.shown c.args.tree.now) are (λ path octets at.
+  kept = λ are. (c.in_ok-add.ensures.kept (g.T.Paths.shown c.args.tree.now) are (λ path octets at.
       let known = c.in_ok-total.ensures.known c.args.version c.set.result path octets c.new-reader.ensures.taken at in
       let is = c.finish-found.ensures c.args.version c.set.result octets known.1 known.0 in
       (subst (λ s. AreSums c.finish-found.result.sums s octets) c.set.ensures is.sums, known.2)));

@@ -1,7 +1,10 @@
-use Rattle.std.proofs.Common.{rules, ◌≡◌, ◌<◌, ◌∷◌, [], length, sym, ◌∙◌, subst, arith}
+use Rattle.std.proofs.Common.{rules, ◌≡◌, ◌<◌, ◌∷◌, [], ap, length, slice_get, sym, ◌∙◌, subst, arith}
 use Rattle.bag_rules.specs.KeptInside.{AreKept}
-use Rattle.bag_rules.proofs.Words.{Adds, AreTextsOf, Bag, err_from_is_err_and, HasBadLine, HasFaultOf, IsBadLineOf, IsBagOf, NoneStopsBefore, ReadsOn, TextStops}
-use Rattle.bag_rules.proofs.FirstFiles.{once_at}
+use Rattle.bag_rules.proofs.Words.{Adds, AreTextsOf, Bag, err_from_is_err_and, HasBadLine, HasFaultOf, IsBadLineOf, IsBagOf, NoneStopsBefore, paths_in, ReadsOn, TextStops}
+use Rattle.bag_rules.specs.OctetsRead.{KeepsGiven}
+use Rattle.bag_rules.proofs.FirstFiles.{once_at, once_in}
+use Rattle.bag_rules.proofs.KnownTexts.{only_tags, text_known}
+use Rattle.bag_rules.proofs.OctetsLemmas.{count_as, extends_on, file_as, less_known, rises_as}
 use Rattle.bag_rules.proofs.AddsLemmas.{adds_so}
 use Rattle.bag_rules.proofs.LimitLemmas.{first_stops, none_more}
 use Rattle.bag_rules.proofs.TextsMore.{all_bad_lines, faults_more, texts_more}
@@ -52,6 +55,30 @@ loop-i-preserved g c =
           none_more bag TextStops i here.0.0 here.0.1 here.1
           (c.in_ok-read_text.ensures.limits here.0.0 here.0.1 (file_at bag now i here.0.0 here.0.1 here.1))
           (before.limits bag is);
+      some = λ known knows only.
+          let was = before.some known knows only in
+          let paths = paths_in (shown c.args.tree.now) in
+          let here = stands paths i (omega (arith, before.all, c.loop-i-test.true)) in
+          let path = here.0 in
+          let read = c.in_ok-read_text.ensures.some path (ap (λ s. slice_get (paths_in s) i) before.used.same ∙ here.1) in
+          let next = text_known (shown c.args.tree.now) i path was.0 c.loop-i.kept c.read_text.new.kept read.0 here.1 was.2 was.3
+          (subst (λ s. KeepsGiven s i c.loop-i.kept c.read_text.new.kept read.0) before.used.same read.1) read.2 in (
+            next.0,
+            extends_on known was.0 next.0 was.1 next.1,
+            next.2,
+            next.3,
+            next.4 ∙ was.4,
+            λ bag is by.
+                let file = file_as bag is.files i path here.1 in
+                let on = was.5 bag (less_known next.1 is) by in
+                let reads = read.3 file.0 (λ own given. is.octets i path file.0 file.1 own (next.5 own given)) in
+                let once = once_in bag (rises_as bag is.files c.count-i-end.ensures.rising) i path file.0 file.1 in (
+                  texts_more bag i path file.0 file.1 once c.loop-i.texts c.read_text.new.texts on.0
+                      (subst (λ version. ReadsOn version path file.0 c.loop-i.texts c.read_text.new.texts) (sym by) reads.0),
+                  faults_more bag i path file.0 file.1 once c.args.faults.now.items c.loop-i.faults.items c.read_text.new.faults.items on.1
+                      (subst (λ version. Adds c.loop-i.faults.items c.read_text.new.faults.items (IsBadLineOf version path file.0)) (sym by) reads.1),
+                ),
+          );
       kept = λ are.
           let here = subst (λ s. AreKept s c.loop-i.kept) (sym before.used.same) (before.kept are) in
           subst (λ s. AreKept s c.read_text.new.kept) before.used.same (c.in_ok-read_text.ensures.reads.kept here);
@@ -70,6 +97,21 @@ returns-clause-faulty g c = λ bag is by.
     let n : c.loop-i.i ≡ length bag.files = omega (arith, c.loop-i.invariant.all, same_count bag is) in
     adds_so c.args.faults.now.items c.loop-i.faults.items (HasBadLine (length bag.files) bag) (HasFaultOf bag (5 ∷ [])) (λ f. (all_bad_lines bag f).0) (λ f. (all_bad_lines bag f).1)
     (subst (λ k. Adds c.args.faults.now.items c.loop-i.faults.items (HasBadLine k bag)) n (c.loop-i.invariant.faulty bag is by))
+
+pub returns-clause-some : goal.returns-clause-some
+returns-clause-some g c = λ known knows only.
+    let shown = g.T.Paths.shown c.args.tree.now in
+    let some = c.loop-i.invariant.some known knows only in (
+      some.0,
+      record { more = some.1; knows = some.2; only = only_tags c.loop-i.i shown c.loop-i.kept some.3; set = some.4 },
+      λ bag is by.
+          let n : c.loop-i.i ≡ length bag.files = omega (arith, c.loop-i.invariant.all, count_as bag is.files) in
+          let all = some.5 bag is by in (
+            subst (λ k. AreTextsOf k bag c.loop-i.texts) n all.0,
+            adds_so c.args.faults.now.items c.loop-i.faults.items (HasBadLine (length bag.files) bag) (HasFaultOf bag (5 ∷ [])) (λ f. (all_bad_lines bag f).0) (λ f. (all_bad_lines bag f).1)
+                (subst (λ k. Adds c.args.faults.now.items c.loop-i.faults.items (HasBadLine k bag)) n all.1),
+          ),
+    )
 
 pub returns-clause-limits : goal.returns-clause-limits
 returns-clause-limits g c = λ bag is.
