@@ -14,6 +14,7 @@ pub mod BeginFiles
 pub mod BeginPlaces
 pub mod BeginRefusals
 pub mod BeginSteps
+pub mod OpenedLemmas
 pub mod TreeTags
 pub mod CountLemmas
 pub mod RunLemmas

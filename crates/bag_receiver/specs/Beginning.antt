@@ -1,5 +1,5 @@
 -- How a transfer is opened.
-use Rattle.std.specs.Prelude.{◌≡◌, ◌≢◌, ◌⊎◌, ◌<◌, [], ℕ, List, Some, Result, Ok, Err, Contains, Vec, length, map, slice_get, string_bytes, take}
+use Rattle.std.specs.Prelude.{◌≡◌, ◌≢◌, ◌⊎◌, ◌<◌, ◌∷◌, [], ℕ, List, None, Some, Result, Ok, Err, Contains, Vec, length, map, slice_get, string_bytes, take}
 use Rattle.std.specs.Map.{keys_of}
 use Rattle.std.specs.declared.alloc.Global.{Global}
 use Rattle.std.specs.declared.string.String.{String}
@@ -128,3 +128,9 @@ pub record Begins (name : List ℕ) (given : Files) (result : Result Begun Begin
   pub kept : (tags : Files) (files : TransferState) → HasTransfer old name tags files
       → HasTransfer new name tags files
   pub others : LeavesOthers name old new
+
+-- The transfer with this name may be open: each ledger that a stop may leave has no such transfer, or has it with these
+-- tag files and no payload files.
+abbrev pub MayBeOpen : LedgerState → List ℕ → Files → Type 0
+MayBeOpen state name tags = (ledger : Ledger) → Has (state.held ∷ state.doubtful) ledger
+    → (transfer_of ledger name ≡ None) ⊎ (transfer_of ledger name ≡ Some (begun tags))

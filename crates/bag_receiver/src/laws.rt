@@ -1,19 +1,22 @@
 //! Laws on the definitions that the contracts of this crate cite. Each function's contract is one law, and its body is
 //! empty.
-ghost use Rattle.std.specs.Prelude.{◌≡◌, ◌≢◌, ◌↔◌, ◌∷◌, ◌++◌, [], ℕ, List, Option, Some, Contains, map};
+ghost use Rattle.std.specs.Prelude.{◌≡◌, ◌≢◌, ◌↔◌, ◌∷◌, ◌++◌, [], ℕ, List, None, Option, Result, Some, Contains, map};
 ghost use Rattle.std.specs.Map.{keys_of};
 ghost use Rattle.std.specs.Str.{IsUtf8};
 ghost use Rattle.bag_rules.specs.Faults.{Has};
 ghost use Rattle.bag_rules.specs.Files.{Files};
-ghost use Rattle.bag_rules.specs.Transfers.{AreHeldFor, Passes};
+ghost use Rattle.bag_rules.specs.Transfers.{AreHeldFor, Passes, with_files};
 ghost use Rattle.bag_rules.specs.Trees.{AreRising};
-ghost use Rattle.bag_ledger.specs.Ledgers.{Ledger, Transfer, holding};
+ghost use Rattle.bag_ledger.specs.Ledgers.{Ledger, Transfer, holding, transfer_of};
 ghost use Rattle.bag_ledger.specs.declared.keeper_faults.KeepFault.{KeepFault};
 ghost use Rattle.bag_receiver.specs.declared.answer.Answer.{Answer};
 ghost use Rattle.bag_receiver.specs.declared.answer.Answer.TheVariants.{Refused, Taken};
 ghost use Rattle.bag_receiver.specs.declared.answer.DeliverFault.TheVariants.{Keeper};
+ghost use Rattle.bag_receiver.specs.declared.begin.Begun.{Begun};
+ghost use Rattle.bag_receiver.specs.declared.begin.BeginFault.{BeginFault};
 ghost use Rattle.bag_receiver.specs.declared.transfer_name.TheConstants.{LONGEST_NAME};
 ghost use Rattle.bag_receiver.specs.declared.run.TheConstants.{MOST_DELIVERIES};
+ghost use Rattle.bag_receiver.specs.Beginning.{Begins, MayBeOpen};
 ghost use Rattle.bag_receiver.specs.Deliveries.{Accepts, AcceptsPassing, AreAccepted, Content, Delivery, HasOneContent, IsAcceptance, IsAccepted, IsDue, IsFirstHeld, OneContent, PassesIn, Unread, Whole};
 ghost use Rattle.bag_receiver.specs.TransferNames.{IsNamed};
 ghost use Rattle.bag_receiver.specs.Receivers.{IsKept};
@@ -191,6 +194,24 @@ pub fn deliveries_are_no_event_of_another_transfer()
     ensures { (name other : List ℕ) (old new : LedgerState) (tags : Files) (events : List Event)
         → LeavesOthers name old new → other ≢ name → Happened old other tags events
         → Happened new other tags events }
+{}
+
+/// After a beginning that was cut by a stop, or that the keeper didn't answer, the transfer may be open, and stays so
+/// through further beginnings with these tag files, through all that is done with other transfers, and through stops.
+/// If a stop shows the transfer, it is opened: from then on it is as if its beginning had been answered with `New`.
+pub fn a_beginning_that_a_stop_shows_is_opened()
+    ensures begins { (name : List ℕ) (given : Files) (result : Result Begun BeginFault)
+        (old new : LedgerState) → Begins name given result old new
+        → MayBeOpen old name (with_files [] given) → MayBeOpen new name (with_files [] given) }
+    ensures others { (other name : List ℕ) (old new : LedgerState) (tags : Files)
+        → LeavesOthers other old new → name ≢ other → MayBeOpen old name tags
+        → MayBeOpen new name tags }
+    ensures stopped { (now : LedgerState) (name : List ℕ) (tags : Files) (crashed : Ledger)
+        → MayBeOpen now name tags → Has (now.held ∷ now.doubtful) crashed
+        → MayBeOpen (settled crashed) name tags }
+    ensures opened { (now : LedgerState) (name : List ℕ) (tags : Files) (crashed : Ledger)
+        → MayBeOpen now name tags → Has (now.held ∷ now.doubtful) crashed
+        → transfer_of crashed name ≢ None → Happened (settled crashed) name tags [] }
 {}
 
 /// A stop leaves what was held or what was doubtful, and is one more event of each transfer.

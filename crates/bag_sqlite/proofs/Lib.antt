@@ -2,7 +2,6 @@ pub mod AdoptedLemmas
 pub mod AdoptingLemmas
 pub mod AdoptingMeanings
 pub mod BatchLemmas
-pub mod BesideLemmas
 pub mod BodyLemmas
 pub mod CommitLemmas
 pub mod ContentLemmas
@@ -44,6 +43,8 @@ pub mod SqlLemmas
 pub mod StoringLemmas
 pub mod StrayLemmas
 pub mod StrayMeanings
+pub mod TextLemmas
+pub mod TextMeanings
 pub mod ToldLemmas
 pub mod TransferLemmas
 pub mod TransferMeanings

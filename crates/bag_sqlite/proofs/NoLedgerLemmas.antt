@@ -1,12 +1,12 @@
 -- A database with the tables of a ledger shows to each query what a ledger may show.
 use Rattle.std.proofs.Common.{◌≡◌, ◌∙◌, inl, inr, ℕ, ℤ, List, [], ◌∷◌, refl, ap, subst, sym}
-use Rattle.std.specs.Prelude.{IsUtf8}
 use Rattle.bag_sqlite.specs.declared.format.Format.TheVariants as form
-use Rattle.bag_sqlite.proofs.Words.{AreTablesOf, body_of, body_text, column, count_text, count_under, Database, First, Format, format_of, format_row, format_text, Ghosts, Has, HasFormat, HasNoFormat, Int, IsAsked, IsBlob, IsInt, IsNoLedger, IsPlain, IsText, items_text, items_under, Layout, Ledger, MayShow, number_of, NumberedItem, NumberedTransfer, params_of, piece_at, piece_text, Question, Row, SaysFormat, schema_of, Second, strays, tag_files_text, tags_under, Tells, text_of, the_format, the_transfers, transfers_text, understood}
+use Rattle.bag_sqlite.proofs.Words.{all_texts, AreTablesOf, body_of, body_text, column, count_text, count_under, Database, First, Format, format_of, format_row, format_text, Ghosts, Has, HasFormat, HasNoFormat, Int, IsAsked, IsBlob, IsInt, IsNoLedger, IsPlain, IsText, items_text, items_under, Layout, Ledger, MayShow, number_of, NumberedTransfer, params_of, piece_at, piece_text, Question, Row, SaysFormat, schema_of, Second, strays, tag_files_text, tags_under, Tells, text_of, the_format, the_transfers, transfers_text, understood}
 use Rattle.bag_sqlite.proofs.AdoptingMeanings.{body_plain, count_plain, format_plain, items_plain, transfers_plain, whole_plain}
 use Rattle.bag_sqlite.proofs.ItemMeanings.{piece_plain}
 use Rattle.bag_sqlite.proofs.PieceTold.{count_told}
 use Rattle.bag_sqlite.proofs.StrayLemmas.{stray_told}
+use Rattle.bag_sqlite.proofs.TextLemmas.{IsInText, text_told}
 use Rattle.bag_sqlite.proofs.ToldLemmas.{format_told, item_told, tag_told, transfer_told}
 use Rattle.bag_sqlite.proofs.TransferMeanings.{tags_plain}
 use Rattle.bag_rules.proofs.HasLemmas.{all_of}
@@ -35,12 +35,6 @@ any_count_told First is g db has number rows told = absurd cc
 any_count_told (Second o) is g db has number rows told = count_told o g db has number rows told
 
 -- WHAT IS SHOWN
-
--- the names and paths of a transfer are UTF-8
-pub record IsInText (t : NumberedTransfer) : Type 0 where
-  pub name : IsUtf8 t.name
-  pub tags : (file : List ℕ × List ℕ) → Has t.tags file → IsUtf8 file.0
-  pub items : (item : NumberedItem) → Has t.items item → IsUtf8 item.path
 
 module _ {S : Type 0} {l : Layout} (g : Ghosts S) (db : Database) (ledger : Ledger) (has : db.schema ≡ schema_of l) (tables : AreTablesOf l db.trees ledger) where
   abbrev number : ℤ
@@ -109,9 +103,17 @@ module _ {S : Type 0} {l : Layout} (g : Ghosts S) (db : Database) (ledger : Ledg
     answered (piece_at item n) is = (understood_here piece_text (any_piece_plain l is), λ rows told. tt)
     answered (count_under item) is = (understood_here count_text (any_count_plain l is), λ rows told. any_count_told l is g db has item rows told)
     answered (strays text) one = stray_told g db ledger has tables.held text one
+    answered (all_texts text) one = text_told g db ledger has tables.held in_text text one
 
     pub is_ledger : ¬ IsNoLedger g db (format_of l)
     is_ledger it = elim it.2 [
       | inl unknown ↦ unknown (answered it.0 it.1).0
       | inr other ↦ other.2 ((answered it.0 it.1).1 other.0 other.1)
     ]
+
+-- tables that name format 1 are those of format 1
+pub named_first : {S : Type 0} (g : Ghosts S) (db : Database) (l : Layout) (ledger : Ledger) → db.schema ≡ schema_of l → AreTablesOf l db.trees ledger
+    → HasFormat g db (number_of form.First) → l ≡ First
+named_first g db First ledger has tables named = refl
+named_first g db (Second o) ledger has tables named =
+    absurd (let other : form.First ≡ form.Second = one_format_named g db ledger has tables form.First named in cc)

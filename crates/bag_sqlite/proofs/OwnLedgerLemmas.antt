@@ -4,8 +4,9 @@ use Rattle.bag_rules.proofs.InPlace.{expected_path}
 use Rattle.bag_rules.specs.Files.{IsTagFile}
 use Rattle.bag_sqlite.proofs.Words.{AdoptFault, all_has, AreTablesOf, concat, Damaged, Database, Format, Ghosts, Has, has_map, HasFormat, IsDamaged, IsNoAnswer, IsNoLedger, IsSound, Layout, Ledger, NotALedger, number_of, NumberedTransfer, RefusesToAdopt, schema_of, ShowsLedger, State, without_number}
 use Rattle.bag_sqlite.proofs.DamageLemmas.{in_ledger, is_undamaged, stands}
-use Rattle.bag_sqlite.proofs.NoLedgerLemmas.{format_shown, IsInText, is_ledger, one_format_named}
+use Rattle.bag_sqlite.proofs.NoLedgerLemmas.{format_shown, is_ledger, one_format_named}
 use Rattle.bag_sqlite.proofs.OneLedger.{read}
+use Rattle.bag_sqlite.proofs.TextLemmas.{IsInText}
 use Rattle.bag_sqlite.specs.declared.adopting.AdoptFault.TheVariants.{Memory, Store}
 
 module _ {S : Type 0} {l : Layout} (g : Ghosts S) (db : Database) (ledger : Ledger) (has : db.schema ≡ schema_of l) (tables : AreTablesOf l db.trees ledger) (sound : IsSound ledger) where

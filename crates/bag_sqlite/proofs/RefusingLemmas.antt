@@ -1,6 +1,6 @@
 -- Why a database isn't opened, from the results of its reads.
 use Rattle.std.proofs.Common.{◌∙◌, ◌≡◌, ◌≢◌, ◌⊎◌, ◌<◌, ◌≤◌, ℕ, ℤ, zero, suc, List, [], ◌∷◌, Option, None, Some, Err, IfErr, IfNone, MatchResult, Ok, OnOk, string_bytes, Result, IsTrue, ap, arith, codes, get_or, inl, inr, length, refl, subst, sym, slice_index_or}
-use Rattle.bag_sqlite.proofs.Words.{adopt_fault, AdoptFault, AllByRecursion, AreNoneFor, Broken, cases_lt, column, Command, Compiled, Corrupt, Damaged, Database, Error, ExecuteReturnedResults, Fails, FailsToQuery, FailsToShow, Format, Full, Ghosts, HasFormat, HasNoFormat, Int, IntegralValueOutOfRange, InvalidColumnIndex, InvalidColumnType, InvalidParameterCount, InvalidQuery, Io, IsAsked, IsBlob, IsDamaged, IsInt, IsNoLedger, IsNoneFor, IsNoQuery, IsNoStatement, IsNotRun, IsReadError, IsText, IsTooLate, IsUnchanged, MayShow, MultipleStatement, NotALedger, Null, number_of, OutOfMemory, params_of, QueryReturnedNoRows, Question, RefusesToAdopt, RefusesToRead, RefusesTransfer, RefusesTransfers, Returning, Row, Rows, SaysFormat, Select, SqlInputError, SqliteFailure, State, store_error, StoreError, stray_texts, Tells, Text, text_of, TransferFails, understood, Unstorable, Utf8Error, Value}
+use Rattle.bag_sqlite.proofs.Words.{adopt_fault, AdoptFault, AllByRecursion, AreNoneFor, Broken, cases_lt, column, Command, Compiled, Corrupt, Damaged, Database, Error, ExecuteReturnedResults, Fails, FailsToQuery, FailsToShow, Format, Full, Ghosts, HasFormat, HasLedgerRows, HasNoFormat, Int, IntegralValueOutOfRange, InvalidColumnIndex, InvalidColumnType, InvalidParameterCount, InvalidQuery, Io, IsAsked, IsBlob, IsDamaged, IsInt, IsNoLedger, IsNoneFor, IsNoQuery, IsNoStatement, IsNotRun, IsReadError, IsText, IsTooLate, IsUnchanged, MayShow, MultipleStatement, NotALedger, Null, number_of, OutOfMemory, params_of, QueryReturnedNoRows, Question, RefusesToAdopt, RefusesToRead, RefusesTransfer, RefusesTransfers, Returning, Row, Rows, SaysFormat, Select, SqlInputError, SqliteFailure, State, store_error, StoreError, Tells, Text, text_of, TransferFails, understood, Unstorable, Utf8Error, Value}
 use Rattle.sqlite.specs.Given.{IsPlain}
 use Rattle.sqlite.specs.declared.error.ErrorCode.TheVariants as code
 use Rattle.bag_sqlite.proofs.AdoptingLemmas.{row_at}
@@ -171,12 +171,12 @@ module _ {S : Type 0} (g : Ghosts S) (db : Database) where
     to_adopt Memory h = tt
     to_adopt (Store error) h = tt
 
-    -- once the format and the rows without an owner were checked
-    pub in_order : (fault : AdoptFault) → AllByRecursion (λ text. Tells g db text [] []) (stray_texts format) → RefusesTransfers g db format fault → RefusesToAdopt g db fault
-    in_order NotALedger none h = inr (format, named, h)
-    in_order (Damaged name path) none h = (format, named, (none, h))
-    in_order Memory none h = tt
-    in_order (Store error) none h = tt
+    -- once the format and the rows were checked
+    pub in_order : (fault : AdoptFault) → HasLedgerRows g db format → RefusesTransfers g db format fault → RefusesToAdopt g db fault
+    in_order NotALedger rows h = inr (format, named, h)
+    in_order (Damaged name path) rows h = (format, named, (rows, h))
+    in_order Memory rows h = tt
+    in_order (Store error) rows h = tt
 
 -- what holds of each row holds of the one at an index
 pub all_at : {X : Type 0} (P : X → Type 0) (xs : List X) (i : ℕ) (x : X) → AllByRecursion P xs → i < length xs → x ≡ get_or xs i x → P x

@@ -8,7 +8,7 @@ use Rattle.bag_sqlite.proofs.LayoutLemmas.{held_seen, piece_seen}
 use Rattle.bag_sqlite.proofs.NamesLemmas.{drop_zero}
 use Rattle.bag_sqlite.proofs.OneLedger.{has_flat, has_from_flat, has_moved}
 use Rattle.bag_sqlite.proofs.PieceTold.{none_moved}
-use Rattle.bag_sqlite.proofs.StrayMeanings.{just_one, item_owner, meant, over_owned, piece_owner, stray_items, stray_items_is, stray_items_plain, stray_items_unlisted, stray_pieces, stray_pieces_is, stray_pieces_plain, stray_pieces_unlisted, stray_tag_files, stray_tag_files_is, stray_tag_files_plain, stray_tag_files_unlisted, stray_transfers, stray_transfers_is, stray_transfers_plain, stray_transfers_unlisted, stray_whole_items, stray_whole_items_is, stray_whole_items_plain, stray_whole_items_unlisted, tag_owner, whole_owner, with_owners}
+use Rattle.bag_sqlite.proofs.StrayMeanings.{item_owner, just_one, meant, over_owned, piece_names, piece_owner, piece_shown, stray_items, stray_items_is, stray_items_plain, stray_items_unlisted, stray_pieces, stray_pieces_is, stray_pieces_plain, stray_pieces_unlisted, stray_tag_files, stray_tag_files_is, stray_tag_files_plain, stray_tag_files_unlisted, stray_transfers, stray_transfers_is, stray_transfers_plain, stray_transfers_unlisted, stray_whole_items, stray_whole_items_is, stray_whole_items_plain, stray_whole_items_unlisted, tag_owner, the_one, whole_names, whole_owner, whole_shown, with_owners}
 use Rattle.bag_sqlite.proofs.ToldLemmas.{told_lists, told_reads}
 use Rattle.bag_sqlite.proofs.TransferLemmas.{row_of, row_there}
 use Rattle.bag_sqlite.proofs.TransferRows.{later}
@@ -60,9 +60,9 @@ module _ (trees : Trees) (tree parent : ℕ) (owner stray : List Term) where
   none_stray owned = none_in_flat (λ row. matches trees stray (counted 1 (inner parent end) owner end) ([] ∷ row ∷ [])) (trees tree) (λ row has. not_stray row (owned row has))
 
   -- so the query shows nothing
-  nothing_shown : (rows : List Row) → ((row : Row) → Has (trees tree) row → IsOwned (trees parent) owner stray row) → IsAnswer (over_owned tree parent owner stray) trees [] rows → rows ≡ []
-  nothing_shown rows owned a =
-      let query = over_owned tree parent owner stray in
+  nothing_shown : (shown : List Term) (rows : List Row) → ((row : Row) → Has (trees tree) row → IsOwned (trees parent) owner stray row) → IsAnswer (over_owned tree parent owner shown stray) trees [] rows → rows ≡ []
+  nothing_shown shown rows owned a =
+      let query = over_owned tree parent owner shown stray in
       let kept : a.kept ≡ [] = a.distinct ∙ ap (map (output query)) (a.grouped ∙ none_stray owned) in
       let ordered : a.ordered ≡ [] = none_moved a.ordered (subst (λ k. IsPermutation k a.ordered) kept a.same) in
       a.shown ∙ drop_zero (map (λ (o : Output). o.1) a.ordered) ∙ ap (map (λ (o : Output). o.1)) ordered
@@ -165,11 +165,11 @@ module _ {S : Type 0} {l : Layout} (g : Ghosts S) (db : Database) (ledger : Ledg
       let no : passes stray_transfers [] from.0 ≡ false = ap (passes stray_transfers []) (sym it.2) ∙ transfer_proper it.0 in
       absurd (let e : true ≡ false = sym from.2 ∙ no in cc)
 
-  no_strays : (sql : List ℕ) (tree parent : ℕ) (owner stray : List Term) → command_of (understood (schema_of l) sql) ≡ meant (over_owned tree parent owner stray) → IsPlain (understood (schema_of l) sql)
+  no_strays : (sql : List ℕ) (names : List (List ℕ)) (tree parent : ℕ) (owner shown stray : List Term) → command_of (understood (schema_of l) sql) ≡ meant names (over_owned tree parent owner shown stray) → IsPlain (understood (schema_of l) sql)
       → reads_listing (schema_of l) sql ≡ false → ((row : Row) → Has (overlay db.trees [] tree) row → IsOwned (overlay db.trees [] parent) owner stray row) → (rows : List Row) → Tells g db sql [] rows → rows ≡ []
-  no_strays sql tree parent owner stray is plain unlisted owned rows told =
-      let got = told_reads g (schema_of l) db has sql [] rows (meant (over_owned tree parent owner stray)) is plain unlisted told in
-      nothing_shown (overlay db.trees []) tree parent owner stray rows owned (got.answer Null)
+  no_strays sql names tree parent owner shown stray is plain unlisted owned rows told =
+      let got = told_reads g (schema_of l) db has sql [] rows (meant names (over_owned tree parent owner shown stray)) is plain unlisted told in
+      nothing_shown (overlay db.trees []) tree parent owner stray shown rows owned (got.answer Null)
 
 -- the query can be understood, and shows nothing
 abbrev ShowsNone : {S : Type 0} → Ghosts S → Database → List ℕ → Type 0
@@ -181,13 +181,13 @@ by_schema g schema db sql has plain none = (subst (λ s. IsPlain (understood s s
 -- the queries for the rows of payload files
 items_told : {S : Type 0} {l : Layout} (g : Ghosts S) (db : Database) (ledger : Ledger) (has : db.schema ≡ schema_of l) (tables : HoldTransfers l db.trees ledger) (text : List ℕ) → Has (stray_item_texts (format_of l)) text → ShowsNone g db text
 items_told {S} {l = First} g db ledger has tables text (inl is) = subst (ShowsNone g db) is (by_schema g first_schema db stray_whole_items_text has stray_whole_items_plain
-    (no_strays g db ledger has tables stray_whole_items_text 6 2 whole_owner stray_whole_items stray_whole_items_is stray_whole_items_plain stray_whole_items_unlisted (whole_owned db.trees ledger tables)))
+    (no_strays g db ledger has tables stray_whole_items_text whole_names 6 2 whole_owner whole_shown stray_whole_items stray_whole_items_is stray_whole_items_plain stray_whole_items_unlisted (whole_owned db.trees ledger tables)))
 items_told {S} {l = First} g db ledger has tables text (inr none) = absurd none
 items_told {S} {l = Second o} g db ledger has tables text (inl is) = subst (ShowsNone g db) is (by_schema g (second_schema o) db stray_items_text has (stray_items_plain o)
-    (no_strays g db ledger has tables stray_items_text (held_tree o) 2 item_owner stray_items (stray_items_is o) (stray_items_plain o) (stray_items_unlisted o)
+    (no_strays g db ledger has tables stray_items_text the_one (held_tree o) 2 item_owner just_one stray_items (stray_items_is o) (stray_items_plain o) (stray_items_unlisted o)
     (λ row there. item_owned db.trees ledger tables row (subst (λ rows. Has rows row) (held_seen o db.trees) there))))
 items_told {S} {l = Second o} g db ledger has tables text (inr (inl is)) = subst (ShowsNone g db) is (by_schema g (second_schema o) db stray_pieces_text has (stray_pieces_plain o)
-    (no_strays g db ledger has tables stray_pieces_text (piece_tree o) (held_tree o) piece_owner stray_pieces (stray_pieces_is o) (stray_pieces_plain o) (stray_pieces_unlisted o)
+    (no_strays g db ledger has tables stray_pieces_text piece_names (piece_tree o) (held_tree o) piece_owner piece_shown stray_pieces (stray_pieces_is o) (stray_pieces_plain o) (stray_pieces_unlisted o)
     (λ row there. subst (λ rows. IsOwned rows piece_owner stray_pieces row) (sym (held_seen o db.trees)) (piece_owned db.trees ledger tables row (subst (λ rows. Has rows row) (piece_seen o db.trees) there)))))
 items_told {S} {l = Second o} g db ledger has tables text (inr (inr none)) = absurd none
 
@@ -196,5 +196,5 @@ pub stray_told : {S : Type 0} {l : Layout} (g : Ghosts S) (db : Database) (ledge
 stray_told {S} {l} g db ledger has tables text (inl is) = subst (ShowsNone g db) is (by_schema g (schema_of l) db stray_transfers_text has (stray_transfers_plain l)
     (λ rows told. no_transfer g db ledger has tables rows (told_lists g (schema_of l) db has 2 stray_transfers just_one [] stray_transfers_text [] rows _ (stray_transfers_is l) (stray_transfers_plain l) (stray_transfers_unlisted l) refl told)))
 stray_told {S} {l} g db ledger has tables text (inr (inl is)) = subst (ShowsNone g db) is (by_schema g (schema_of l) db stray_tag_files_text has (stray_tag_files_plain l)
-    (no_strays g db ledger has tables stray_tag_files_text 4 2 tag_owner stray_tag_files (stray_tag_files_is l) (stray_tag_files_plain l) (stray_tag_files_unlisted l) (tag_owned db.trees ledger tables)))
+    (no_strays g db ledger has tables stray_tag_files_text the_one 4 2 tag_owner just_one stray_tag_files (stray_tag_files_is l) (stray_tag_files_plain l) (stray_tag_files_unlisted l) (tag_owned db.trees ledger tables)))
 stray_told {S} {l} g db ledger has tables text (inr (inr one)) = items_told g db ledger has tables text one

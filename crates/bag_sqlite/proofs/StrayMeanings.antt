@@ -23,16 +23,19 @@ unowned = op1 Not (col 2 0)
 abbrev pub just_one : List Term
 just_one = lit (Int (pos 1)) ∷ []
 
+abbrev pub the_one : List (List ℕ)
+the_one = codes "1" ∷ []
+
 -- the rows of a table, each with the number of its owners in another table
 abbrev pub with_owners : ℕ → ℕ → List Term → Join
 with_owners tree parent owner = inner tree (counted 1 (inner parent end) owner end)
 
-abbrev pub over_owned : ℕ → ℕ → List Term → List Term → Query
-over_owned tree parent owner conditions = record {
+abbrev pub over_owned : ℕ → ℕ → List Term → List Term → List Term → Query
+over_owned tree parent owner shown conditions = record {
   from = with_owners tree parent owner;
   filter = conditions;
   group = None;
-  project = just_one;
+  project = shown;
   distinct = false;
   collations = [];
   order = [];
@@ -40,8 +43,8 @@ over_owned tree parent owner conditions = record {
   offset = lit (Int (pos 0));
 }
 
-abbrev pub meant : Query → Command
-meant query = Select (record { lets = []; body = query }) (codes "1" ∷ [])
+abbrev pub meant : List (List ℕ) → Query → Command
+meant names query = Select (record { lets = []; body = query }) names
 
 -- TRANSFERS
 
@@ -51,7 +54,7 @@ stray_transfers = either (is_other (col 1 0) (codes "integer")) (is_other (col 1
 abbrev pub stray_transfers_query : Query
 stray_transfers_query = over 2 stray_transfers just_one []
 
-pub stray_transfers_is : (l : Layout) → command_of (understood (schema_of l) stray_transfers_text) ≡ meant stray_transfers_query
+pub stray_transfers_is : (l : Layout) → command_of (understood (schema_of l) stray_transfers_text) ≡ meant the_one stray_transfers_query
 unfolding understood everything
 stray_transfers_is First = refl
 stray_transfers_is (Second New) = refl
@@ -79,9 +82,9 @@ stray_tag_files =
     either (either (either (is_other (col 1 1) (codes "integer")) (is_other (col 1 2) (codes "text"))) (is_other (col 1 3) (codes "blob"))) unowned ∷ []
 
 abbrev pub stray_tag_files_query : Query
-stray_tag_files_query = over_owned 4 2 tag_owner stray_tag_files
+stray_tag_files_query = over_owned 4 2 tag_owner just_one stray_tag_files
 
-pub stray_tag_files_is : (l : Layout) → command_of (understood (schema_of l) stray_tag_files_text) ≡ meant stray_tag_files_query
+pub stray_tag_files_is : (l : Layout) → command_of (understood (schema_of l) stray_tag_files_text) ≡ meant the_one stray_tag_files_query
 unfolding understood everything
 stray_tag_files_is First = refl
 stray_tag_files_is (Second New) = refl
@@ -109,9 +112,9 @@ stray_items =
     either (either (either (either (is_other (col 1 0) (codes "integer")) (is_other (col 1 2) (codes "integer"))) (is_other (col 1 3) (codes "text"))) (is_other (col 1 4) (codes "integer"))) unowned ∷ []
 
 abbrev pub stray_items_query : Origin → Query
-stray_items_query o = over_owned (held_tree o) 2 item_owner stray_items
+stray_items_query o = over_owned (held_tree o) 2 item_owner just_one stray_items
 
-pub stray_items_is : (o : Origin) → command_of (understood (second_schema o) stray_items_text) ≡ meant (stray_items_query o)
+pub stray_items_is : (o : Origin) → command_of (understood (second_schema o) stray_items_text) ≡ meant the_one (stray_items_query o)
 unfolding understood everything
 stray_items_is New = refl
 stray_items_is Migrated = refl
@@ -131,14 +134,20 @@ stray_items_unlisted Migrated = refl
 abbrev pub whole_owner : List Term
 whole_owner = equals (col 2 0) (col 1 1) ∷ []
 
+abbrev pub whole_shown : List Term
+whole_shown = col 1 0 ∷ col 1 4 ∷ []
+
+abbrev pub whole_names : List (List ℕ)
+whole_names = codes "rowid" ∷ codes "body" ∷ []
+
 abbrev pub stray_whole_items : List Term
 stray_whole_items =
     either (either (either (is_other (col 1 1) (codes "integer")) (is_other (col 1 2) (codes "text"))) (is_other (col 1 3) (codes "integer"))) unowned ∷ []
 
 abbrev pub stray_whole_items_query : Query
-stray_whole_items_query = over_owned 6 2 whole_owner stray_whole_items
+stray_whole_items_query = over_owned 6 2 whole_owner whole_shown stray_whole_items
 
-pub stray_whole_items_is : command_of (understood first_schema stray_whole_items_text) ≡ meant stray_whole_items_query
+pub stray_whole_items_is : command_of (understood first_schema stray_whole_items_text) ≡ meant whole_names stray_whole_items_query
 unfolding understood everything
 stray_whole_items_is = refl
 
@@ -155,13 +164,19 @@ stray_whole_items_unlisted = refl
 abbrev pub piece_owner : List Term
 piece_owner = equals (col 2 0) (col 1 1) ∷ []
 
+abbrev pub piece_shown : List Term
+piece_shown = col 1 3 ∷ []
+
+abbrev pub piece_names : List (List ℕ)
+piece_names = codes "body" ∷ []
+
 abbrev pub stray_pieces : List Term
 stray_pieces = either (either (is_other (col 1 1) (codes "integer")) (is_other (col 1 2) (codes "integer"))) unowned ∷ []
 
 abbrev pub stray_pieces_query : Origin → Query
-stray_pieces_query o = over_owned (piece_tree o) (held_tree o) piece_owner stray_pieces
+stray_pieces_query o = over_owned (piece_tree o) (held_tree o) piece_owner piece_shown stray_pieces
 
-pub stray_pieces_is : (o : Origin) → command_of (understood (second_schema o) stray_pieces_text) ≡ meant (stray_pieces_query o)
+pub stray_pieces_is : (o : Origin) → command_of (understood (second_schema o) stray_pieces_text) ≡ meant piece_names (stray_pieces_query o)
 unfolding understood everything
 stray_pieces_is New = refl
 stray_pieces_is Migrated = refl

@@ -41,7 +41,7 @@ pub use Rattle.bag_rules.specs.declared.plan.ItemSize.{ItemSize}
 pub use Rattle.bag_rules.specs.declared.plan.Plan.{Plan}
 pub use Rattle.bag_rules.specs.declared.want.Want.{Want}
 pub use Rattle.bag_rules.specs.declared.want.WantFault.{WantFault}
-pub use Rattle.bag_sqlite.specs.Adopting.{body_text, count_text, file_in, files_in, format_text, HasContent, HasFormat, HasPieces, IsRead, IsVerified, IsVerifiedAs, ItemPasses, items_text, OnlyReads, piece_text, RowPasses, Stands, stray_item_texts, stray_texts, tag_files_text, Tells, TellsOne, TransferPasses, transfers_text}
+pub use Rattle.bag_sqlite.specs.Adopting.{AreTexts, body_text, count_text, file_in, files_in, format_text, HasContent, HasFormat, HasLedgerRows, HasPieces, IsRead, IsText, IsVerified, IsVerifiedAs, ItemPasses, items_text, OnlyReads, piece_text, RowPasses, Stands, stray_item_texts, stray_texts, tag_files_text, Tells, TellsOne, TransferPasses, transfers_text}
 pub use Rattle.bag_sqlite.specs.ShortItems.{AreCovered, AreWanted, HasMisfit, HasOneMore, IsEmpty, FindsItem}
 pub use Rattle.bag_digest.specs.ShortContents.{AreSumsOfEach, IsHeld, TakesAlso, Took}
 pub use Rattle.bag_sqlite.specs.Contents.{HasContentMore, HasRead, in_pieces}
@@ -52,7 +52,7 @@ pub use Rattle.bag_sqlite.specs.Migrating.{Empties, HasBody, IsInBoth, IsMigrate
 pub use Rattle.bag_sqlite.specs.Beginning.{AddsTags, AddsTransfer, HasOneTransferMore, KeepsItems, opened_under}
 pub use Rattle.bag_sqlite.specs.Putting.{AddsItem, AddsPiece, AddsPieces, HasOneItemMore, IsFree, IsUnderWay, item_row, KeepsFirst, KeepsTransfers, SetsSize}
 pub use Rattle.bag_sqlite.specs.Reading.{HasTransferRow, OnlyQueries, size_shown, tag_shown}
-pub use Rattle.bag_sqlite.specs.Refusing.{adopt_fault, AreFull, AreNoneFor, AreTags, body_of, count_under, DoNotOpen, HasDamagedItem, HasNoFormat, IsAsked, IsBlob, IsDamaged, IsNoAnswer, IsNoLedger, IsNoneFor, IsNoQuery, IsText, ItemFails, items_under, LacksBody, LacksContent, MayShow, OpensNone, params_of, piece_at, Question, RefusesAs, RefusesToAdopt, RefusesTransfer, RefusesTransfers, SayNoFormat, SaysFormat, ShowsOctets, strays, tags_under, text_of, the_format, the_transfers, TransferFails}
+pub use Rattle.bag_sqlite.specs.Refusing.{adopt_fault, all_texts, AreFull, AreNoneFor, AreTags, body_of, count_under, DoNotOpen, HasDamagedItem, HasNoFormat, IsAsked, IsBlob, IsDamaged, IsNoAnswer, IsNoLedger, IsNoneFor, IsNoQuery, ItemFails, items_under, LacksBody, LacksContent, MayShow, OpensNone, params_of, piece_at, Question, RefusesAs, RefusesToAdopt, RefusesTransfer, RefusesTransfers, SayNoFormat, SaysFormat, ShowsOctets, strays, tags_under, text_of, the_format, the_transfers, TransferFails}
 pub use Rattle.bag_sqlite.specs.SqlKeepers.{HoldsLedger, KeepsAlone, MayLeaveLedger, Offers, ShowsLedger}
 pub use Rattle.bag_sqlite.specs.Tables.{First, first_schema, format_of, held, held_tree, item, item_tree, Layout, meta, meta_tree, Migrated, New, no_schema, number_of, Origin, piece, piece_tree, schema_before, schema_of, schema_to_meta, schema_to_tag, schema_to_transfer, Second, second_schema, tag, tag_tree, transfer, transfer_tree}
 pub use Rattle.bag_sqlite.specs.Transactions.{CommitsNothing, CommitsNothingWithin}

@@ -1,5 +1,5 @@
 -- How a database is opened as a ledger: what its queries show. Which ones are asked goes by the format that it names.
-use Rattle.std.specs.Prelude.{◌≡◌, ℕ, ℤ, pos, List, [], ◌∷◌, ◌++◌, Some, IsTrue, codes, false, length, map, slice_get}
+use Rattle.std.specs.Prelude.{◌≡◌, ℕ, ℤ, pos, List, [], ◌∷◌, ◌++◌, Some, IsTrue, IsUtf8, codes, false, length, map, slice_get}
 use Rattle.std.specs.List.{AllByRecursion, concat}
 use Rattle.bag_rules.specs.Files.{AreTagFiles, Files}
 use Rattle.bag_rules.specs.Opening.{Opens}
@@ -45,22 +45,22 @@ Stands s db = IsTrue s.is_open → (s.now ≡ db) × (s.committed ≡ db)
 abbrev pub SaysOf : {S : Type 0} → Ghosts S → Held S → Held S → (Database → Type 0) → Type 0
 SaysOf g old new so = HasCleanDisk (state g new) → (db : Database) → Stands (state g old) db → so db
 
--- THE QUERIES
+-- THE QUERIES. Names and paths are ordered by their octets, whatever the collation of their columns.
 
 abbrev pub format_text : List ℕ
 format_text = codes "SELECT k, v FROM meta"
 
 abbrev pub transfers_text : List ℕ
-transfers_text = codes "SELECT id, name FROM transfer ORDER BY name"
+transfers_text = codes "SELECT id, name FROM transfer ORDER BY name COLLATE BINARY"
 
 abbrev pub tag_files_text : List ℕ
 tag_files_text = codes "SELECT path, body FROM tag WHERE transfer = ?1 ORDER BY path"
 
 abbrev pub items_text : Format → List ℕ
-items_text form.First =
-    codes "SELECT rowid, path, size FROM item WHERE transfer = ?1 ORDER BY path"
-items_text form.Second =
-    codes "SELECT id, path, size FROM held WHERE transfer = ?1 ORDER BY path"
+items_text form.First = codes "SELECT rowid, path, size FROM item WHERE transfer = ?1"
+    ++ codes " ORDER BY path COLLATE BINARY"
+items_text form.Second = codes "SELECT id, path, size FROM held WHERE transfer = ?1"
+    ++ codes " ORDER BY path COLLATE BINARY"
 
 -- in format 1
 abbrev pub body_text : List ℕ
@@ -73,7 +73,8 @@ piece_text = codes "SELECT body FROM piece WHERE item = ?1 AND n = ?2"
 abbrev pub count_text : List ℕ
 count_text = codes "SELECT count(*) FROM piece WHERE item = ?1"
 
--- rows of each table that no ledger has: with values of another type, or without an owner
+-- Rows of each table that no ledger has: with values of another type, or without an owner. Each column is named, since a
+-- ledger has all of them.
 abbrev pub stray_transfers_text : List ℕ
 stray_transfers_text = codes "SELECT 1 FROM transfer WHERE typeof(id) <> 'integer'"
     ++ codes " OR typeof(name) <> 'text'"
@@ -84,7 +85,7 @@ stray_tag_files_text = codes "SELECT 1 FROM tag WHERE typeof(transfer) <> 'integ
     ++ codes " OR NOT EXISTS (SELECT 1 FROM transfer WHERE id = tag.transfer)"
 
 abbrev pub stray_whole_items_text : List ℕ
-stray_whole_items_text = codes "SELECT 1 FROM item WHERE typeof(transfer) <> 'integer'"
+stray_whole_items_text = codes "SELECT rowid, body FROM item WHERE typeof(transfer) <> 'integer'"
     ++ codes " OR typeof(path) <> 'text' OR typeof(size) <> 'integer'"
     ++ codes " OR NOT EXISTS (SELECT 1 FROM transfer WHERE id = item.transfer)"
 
@@ -95,7 +96,7 @@ stray_items_text = codes "SELECT 1 FROM held WHERE typeof(id) <> 'integer'"
     ++ codes " OR NOT EXISTS (SELECT 1 FROM transfer WHERE id = held.transfer)"
 
 abbrev pub stray_pieces_text : List ℕ
-stray_pieces_text = codes "SELECT 1 FROM piece WHERE typeof(item) <> 'integer'"
+stray_pieces_text = codes "SELECT body FROM piece WHERE typeof(item) <> 'integer'"
     ++ codes " OR typeof(n) <> 'integer'"
     ++ codes " OR NOT EXISTS (SELECT 1 FROM held WHERE id = piece.item)"
 
@@ -106,6 +107,20 @@ stray_item_texts form.Second = stray_items_text ∷ stray_pieces_text ∷ []
 abbrev pub stray_texts : Format → List (List ℕ)
 stray_texts format = stray_transfers_text ∷ stray_tag_files_text ∷ stray_item_texts format
 
+-- all names of transfers, all paths of tag files, and all paths of payload files
+abbrev pub all_names_text : List ℕ
+all_names_text = codes "SELECT name FROM transfer"
+
+abbrev pub all_tag_paths_text : List ℕ
+all_tag_paths_text = codes "SELECT path FROM tag"
+
+abbrev pub all_item_paths_text : Format → List ℕ
+all_item_paths_text form.First = codes "SELECT path FROM item"
+all_item_paths_text form.Second = codes "SELECT path FROM held"
+
+abbrev pub names_and_paths : Format → List (List ℕ)
+names_and_paths format = all_names_text ∷ all_tag_paths_text ∷ all_item_paths_text format ∷ []
+
 -- a tag file as a row shows it
 abbrev pub file_in : Row → List ℕ × List ℕ
 file_in row = (bytes (column row 0), bytes (column row 1))
@@ -115,6 +130,14 @@ abbrev pub files_in : List Row → Files
 files_in rows = with_files [] (map file_in rows)
 
 -- WHAT A DATABASE SHOWS
+
+-- a text that is UTF-8
+abbrev pub IsText : Value → Type 0
+IsText value = (text : List ℕ) × (value ≡ Text text) × IsUtf8 text
+
+-- each row begins with one
+abbrev pub AreTexts : List Row → Type 0
+AreTexts = AllByRecursion (λ row. IsText (column row 0))
 
 module _ {S : Type 0} (g : Ghosts S) (db : Database) where
   -- on a connection that shows this database, the query shows these rows
@@ -128,6 +151,17 @@ module _ {S : Type 0} (g : Ghosts S) (db : Database) where
     pub row : Row
     pub told : Tells sql params (row ∷ [])
     pub value_is : column row 0 ≡ value
+
+  -- the query shows texts
+  pub record ShowsTexts (sql : List ℕ) : Type 0 where
+    pub rows : List Row
+    pub told : Tells sql [] rows
+    pub texts : AreTexts rows
+
+  -- No row has a value of another type or lacks an owner, and all names and paths are texts.
+  pub record HasLedgerRows (format : Format) : Type 0 where
+    pub none_stray : AllByRecursion (λ text. Tells text [] []) (stray_texts format)
+    pub in_text : AllByRecursion ShowsTexts (names_and_paths format)
 
   -- these are all pieces of the payload file with this number, in order
   pub record HasPieces (item : ℤ) (pieces : List (List ℕ)) : Type 0 where
@@ -183,11 +217,10 @@ module _ {S : Type 0} (g : Ghosts S) (db : Database) (format : Format) where
     pub each : AllByRecursion (λ row. (transfer : ℤ)
         × (column row 0 ≡ Int transfer) × TransferPasses transfer) rows
 
-  -- it is a ledger of this format without rows that lack an owner, and all of its transfers are
-  -- valid
+  -- it is a ledger of this format, its rows are those of a ledger, and all of its transfers are valid
   pub record IsVerifiedAs : Type 0 where
     pub named : HasFormat g db (number_of format)
-    pub none_stray : AllByRecursion (λ text. Tells g db text [] []) (stray_texts format)
+    pub rows : HasLedgerRows g db format
     pub transfers : TransfersPass
 
 -- the same in one of the formats

@@ -2,7 +2,6 @@ pub mod Adopted
 pub mod Adopting
 pub mod ShortItems
 pub mod Beginning
-pub mod Beside
 pub mod Contents
 pub mod Items
 pub mod LedgersInTables

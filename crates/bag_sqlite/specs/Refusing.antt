@@ -1,5 +1,5 @@
 -- Why a database isn't opened as a ledger: what its queries show that those of a ledger don't.
-use Rattle.std.specs.Prelude.{◌≡◌, ◌≢◌, ◌⊎◌, ◌<◌, ◌≤◌, ◌-◌, ℕ, ℤ, min, pos, List, [], ◌∷◌, Some, IsUtf8, codes, length, slice_get, string_bytes, take}
+use Rattle.std.specs.Prelude.{◌≡◌, ◌≢◌, ◌⊎◌, ◌<◌, ◌≤◌, ◌-◌, ℕ, ℤ, min, pos, List, [], ◌∷◌, Some, codes, length, slice_get, string_bytes, take}
 use Rattle.std.specs.List.{AllByRecursion, concat}
 use Rattle.bag_digest.specs.declared.buffers.TheConstants.{PIECE}
 use Rattle.bag_path.specs.Paths.{IsPath}
@@ -25,7 +25,7 @@ use Rattle.sqlite.specs.declared.error.Error.TheVariants.{SqliteFailure, Invalid
 use Rattle.sqlite.specs.declared.error.ErrorCode.TheVariants.{OutOfMemory, NotADatabase}
 use Rattle.sqlite.specs.declared.types.Value.{Value}
 use Rattle.sqlite.specs.declared.types.Value.TheVariants.{Blob, Int, Text}
-use Rattle.bag_sqlite.specs.Adopting.{HasContent, HasFormat, RowPasses, Tells, TellsOne, TransferPasses, body_text, count_text, files_in, format_text, items_text, piece_text, stray_texts, tag_files_text, transfers_text}
+use Rattle.bag_sqlite.specs.Adopting.{AreTexts, HasContent, HasFormat, HasLedgerRows, IsText, RowPasses, Tells, TellsOne, TransferPasses, body_text, count_text, files_in, format_text, items_text, names_and_paths, piece_text, stray_texts, tag_files_text, transfers_text}
 use Rattle.bag_sqlite.specs.LedgersInTables.{AreCut}
 use Rattle.bag_sqlite.specs.Tables.{number_of}
 use Rattle.bag_sqlite.specs.declared.adopting.AdoptFault.{AdoptFault}
@@ -72,9 +72,6 @@ IsNoQuery schema sql = ¬ IsPlain (understood schema sql)
 
 -- THE QUERIES, AND WHAT A LEDGER SHOWS
 
-abbrev pub IsText : Value → Type 0
-IsText value = (text : List ℕ) × (value ≡ Text text) × IsUtf8 text
-
 abbrev pub IsBlob : Value → Type 0
 IsBlob value = (octets : List ℕ) × (value ≡ Blob octets)
 
@@ -107,6 +104,7 @@ pub data Question : Type 0 where
   piece_at : ℤ → ℤ → Question
   count_under : ℤ → Question
   strays : (text : List ℕ) → Question
+  all_texts : (text : List ℕ) → Question
 
 -- it is asked of a ledger of this format
 abbrev pub IsAsked : Format → Question → Type 0
@@ -118,6 +116,7 @@ IsAsked format (body_of item) = format ≡ form.First
 IsAsked format (piece_at item n) = format ≡ form.Second
 IsAsked format (count_under item) = format ≡ form.Second
 IsAsked format (strays text) = Has (stray_texts format) text
+IsAsked format (all_texts text) = Has (names_and_paths format) text
 
 abbrev pub text_of : Format → Question → List ℕ
 text_of format the_format = format_text
@@ -128,6 +127,7 @@ text_of format (body_of item) = body_text
 text_of format (piece_at item n) = piece_text
 text_of format (count_under item) = count_text
 text_of format (strays text) = text
+text_of format (all_texts text) = text
 
 abbrev pub params_of : Question → Row
 params_of the_format = []
@@ -138,6 +138,7 @@ params_of (body_of item) = Int item ∷ []
 params_of (piece_at item n) = Int item ∷ Int n ∷ []
 params_of (count_under item) = Int item ∷ []
 params_of (strays text) = []
+params_of (all_texts text) = []
 
 -- the rows have the types that a ledger's rows have, and as many rows as a ledger can show
 abbrev pub MayShow : Question → List Row → Type 0
@@ -149,6 +150,7 @@ MayShow (body_of item) rows = Unit {0}
 MayShow (piece_at item n) rows = Unit {0}
 MayShow (count_under item) rows = (row : Row) × (rows ≡ row ∷ []) × IsInt (column row 0)
 MayShow (strays text) rows = rows ≡ []
+MayShow (all_texts text) rows = AreTexts rows
 
 -- WHAT IS DAMAGED
 
@@ -302,11 +304,11 @@ module _ {S : Type 0} (g : Ghosts S) (db : Database) (format : Format) where
   RefusesTransfers Memory = Unit {0}
   RefusesTransfers (Store error) = Unit {0}
 
-  -- why it isn't opened as a ledger of this format; if it is damaged, it has no row without owner
+  -- why it isn't opened as a ledger of this format; if it is damaged, all of its rows are those of a ledger
   abbrev pub RefusesAs : AdoptFault → Type 0
   RefusesAs NotALedger = IsNoLedger g db format
-  RefusesAs (Damaged name path) = AllByRecursion (λ text. Tells g db text [] [])
-      (stray_texts format) × IsDamaged (string_bytes name) (string_bytes path)
+  RefusesAs (Damaged name path) = HasLedgerRows g db format
+      × IsDamaged (string_bytes name) (string_bytes path)
   RefusesAs Memory = Unit {0}
   RefusesAs (Store error) = Unit {0}
 

@@ -2,11 +2,12 @@
 ghost use Rattle.std.specs.Prelude.{◌≡◌, ◌≢◌, ◌↔◌, [], IfErr, IfOk, IsTrue, MatchResult, OnOk, false};
 ghost use Rattle.std.specs.List.{AllByRecursion};
 ghost use Rattle.bag_sqlite.specs.Adopted.{IsAdopted, IsNotAdopted};
-ghost use Rattle.bag_sqlite.specs.Adopting.{HasFormat, IsVerifiedAs, OnlyReads, SaysOf, Tells, stray_item_texts, stray_texts};
+ghost use Rattle.bag_sqlite.specs.Adopting.{AreTexts, HasFormat, HasLedgerRows, IsText, IsVerifiedAs, OnlyReads, SaysOf, ShowsTexts, Tells, names_and_paths, stray_item_texts, stray_texts};
 ghost use Rattle.bag_sqlite.specs.NewTables.{IsLeft};
 ghost use Rattle.bag_sqlite.specs.Refusing.{AreNoneFor, DoesNotShow, HasNoFormat, IsNoAnswer, IsNoLedger, IsNoQuery, IsNoneFor, RefusesToAdopt, SayNoFormat, SaysFormat};
 ghost use Rattle.bag_sqlite.specs.Tables.{number_of};
 ghost use Rattle.sqlite.specs.Held.{state};
+ghost use Rattle.sqlite.specs.Order.{column};
 ghost use Rattle.sqlite.specs.State.{HasCleanDisk, Survives};
 ghost use Rattle.sqlite.specs.Values.{bound};
 
@@ -20,6 +21,7 @@ use crate::watch::{Unwatched, Watch};
 use sqlite::types::ValueRef;
 use sqlite::{Alter, Connection, Error, ErrorCode, Row};
 use std::alloc::AllocError;
+use std::str;
 use thiserror::Error as ErrorText;
 
 /// Why a database isn't opened as a ledger. If several reasons apply, the first in this order is reported; `Memory` and
@@ -27,11 +29,12 @@ use thiserror::Error as ErrorText;
 #[derive(Debug, Drop, ErrorText)]
 pub enum AdoptFault {
     /// It doesn't name the format of a ledger; or it doesn't have the tables of the format that it names, or has rows
-    /// that no ledger has: with values of another type, or without an owner.
+    /// that no ledger has: with values of another type, without an owner, or with a name or path that isn't UTF-8.
     #[error("not a ledger")]
     NotALedger,
     /// The tag files of a transfer can't open a transfer; or a payload file isn't listed, is incomplete or isn't valid.
-    /// The first such transfer by name is reported, and its first such payload file by path.
+    /// The first such transfer by the octets of its name is reported, and its first such payload file by those of its
+    /// path.
     #[error("damaged")]
     Damaged {
         /// The transfer's name.
@@ -196,9 +199,22 @@ fn verify_ledger<S: Alter, W: Watch>(
     Ok(format)
 }
 
+/// Checks that the rows of all tables are as a ledger has them, except for the contents.
+fn test_rows<S: Alter>(connection: &mut Connection<S>, format: Format) -> Result<(), AdoptFault>
+    requires idle { connection.old.in_transaction ≡ false }
+    ensures rows { SaysOf S.Store connection.old connection.new (λ db.
+        OnOk result (HasLedgerRows S.Store db format)) }
+    ensures refused { SaysOf S.Store connection.old connection.new (λ db.
+        IfErr result (IsNoneFor (IsNoLedger S.Store db format))) }
+    ensures reads { OnlyReads S.Store connection.old connection.new }
+{
+    test_strays(connection, format)?;
+    test_texts(connection, format)
+}
+
 /// Checks that the values have the types of a ledger's, and that each row has an owner: tag files and payload files a
 /// transfer, and pieces a payload file.
-fn test_rows<S: Alter>(connection: &mut Connection<S>, format: Format) -> Result<(), AdoptFault>
+fn test_strays<S: Alter>(connection: &mut Connection<S>, format: Format) -> Result<(), AdoptFault>
     requires idle { connection.old.in_transaction ≡ false }
     ensures none { SaysOf S.Store connection.old connection.new (λ db.
         OnOk result (AllByRecursion (λ text. Tells S.Store db text [] [])
@@ -231,7 +247,7 @@ fn test_items<S: Alter>(connection: &mut Connection<S>, format: Format) -> Resul
     match format {
         Format::First => test_none(
             connection,
-            "SELECT 1 FROM item WHERE typeof(transfer) <> 'integer' OR typeof(path) <> 'text' OR typeof(size) <> 'integer' OR NOT EXISTS (SELECT 1 FROM transfer WHERE id = item.transfer)",
+            "SELECT rowid, body FROM item WHERE typeof(transfer) <> 'integer' OR typeof(path) <> 'text' OR typeof(size) <> 'integer' OR NOT EXISTS (SELECT 1 FROM transfer WHERE id = item.transfer)",
         ),
         Format::Second => test_pieces(connection),
     }
@@ -253,7 +269,7 @@ fn test_pieces<S: Alter>(connection: &mut Connection<S>) -> Result<(), AdoptFaul
     )?;
     test_none(
         connection,
-        "SELECT 1 FROM piece WHERE typeof(item) <> 'integer' OR typeof(n) <> 'integer' OR NOT EXISTS (SELECT 1 FROM held WHERE id = piece.item)",
+        "SELECT body FROM piece WHERE typeof(item) <> 'integer' OR typeof(n) <> 'integer' OR NOT EXISTS (SELECT 1 FROM held WHERE id = piece.item)",
     )
 }
 
@@ -270,6 +286,58 @@ fn test_none<S: Alter>(connection: &mut Connection<S>, sql: &str) -> Result<(), 
         Ok(())
     } else {
         Err(AdoptFault::NotALedger)
+    }
+}
+
+/// Checks that the names of all transfers, and the paths of all of their files, are UTF-8.
+fn test_texts<S: Alter>(connection: &mut Connection<S>, format: Format) -> Result<(), AdoptFault>
+    requires idle { connection.old.in_transaction ≡ false }
+    ensures texts { SaysOf S.Store connection.old connection.new (λ db.
+        OnOk result (AllByRecursion (ShowsTexts S.Store db) (names_and_paths format))) }
+    ensures refused { SaysOf S.Store connection.old connection.new (λ db.
+        IfErr result (IsNoneFor (IsNoLedger S.Store db format))) }
+    ensures reads { OnlyReads S.Store connection.old connection.new }
+{
+    test_column(connection, "SELECT name FROM transfer")?;
+    test_column(connection, "SELECT path FROM tag")?;
+    test_column(connection, format.paths_text())
+}
+
+/// Checks that a query shows texts that are UTF-8.
+fn test_column<S: Alter>(connection: &mut Connection<S>, sql: &str) -> Result<(), AdoptFault>
+    requires idle { connection.old.in_transaction ≡ false }
+    ensures texts { SaysOf S.Store connection.old connection.new (λ db.
+        OnOk result (ShowsTexts S.Store db sql.now)) }
+    ensures refused { SaysOf S.Store connection.old connection.new (λ db.
+        IfErr result (IsNoneFor (DoesNotShow S.Store db sql.now [] AreTexts))) }
+    ensures reads { OnlyReads S.Store connection.old connection.new }
+{
+    if are_texts(rows_of(connection, sql, &[])?.as_slice()) {
+        Ok(())
+    } else {
+        Err(AdoptFault::NotALedger)
+    }
+}
+
+/// Whether each of these rows begins with a text that is UTF-8.
+fn are_texts(rows: &[Row]) -> bool
+    ensures { IsTrue result ↔ AreTexts rows.now }
+{
+    for row in rows {
+        if !is_text(row) {
+            return false;
+        }
+    }
+    true
+}
+
+/// Whether the row begins with a text that is UTF-8.
+fn is_text(row: &Row) -> bool
+    ensures { IsTrue result ↔ IsText (column row.now 0) }
+{
+    match row.get_ref(0) {
+        Ok(ValueRef::Text(octets)) => str::from_utf8(octets).is_ok(),
+        _ => false,
     }
 }
 

@@ -1,6 +1,6 @@
 //! The formats of a ledger in a database, and the row that names the format.
 ghost use Rattle.std.specs.Prelude.{◌≡◌, ℤ, IfErr, IfOk, IsTrue, MatchResult, OnOk, false};
-ghost use Rattle.bag_sqlite.specs.Adopting.{HasFormat, OnlyReads, SaysOf, items_text as texts};
+ghost use Rattle.bag_sqlite.specs.Adopting.{HasFormat, OnlyReads, SaysOf, all_item_paths_text, items_text as texts};
 ghost use Rattle.bag_sqlite.specs.LedgersInTables.{NamesFormat};
 ghost use Rattle.bag_sqlite.specs.Migrating.{SetsFormat};
 ghost use Rattle.bag_sqlite.specs.NewTables.{IsMade, IsMaking, no_rows};
@@ -31,13 +31,28 @@ pub(crate) enum Format {
 }
 
 impl Format {
-    /// The query for the payload files of a transfer: the number, path and size of each, by path.
+    /// The query for the payload files of a transfer: the number, path and size of each, ordered by the octets of the
+    /// path.
     pub(crate) fn items_text(self) -> &'static str
         ensures { result.now ≡ texts self }
     {
         match self {
-            Format::First => "SELECT rowid, path, size FROM item WHERE transfer = ?1 ORDER BY path",
-            Format::Second => "SELECT id, path, size FROM held WHERE transfer = ?1 ORDER BY path",
+            Format::First => {
+                "SELECT rowid, path, size FROM item WHERE transfer = ?1 ORDER BY path COLLATE BINARY"
+            }
+            Format::Second => {
+                "SELECT id, path, size FROM held WHERE transfer = ?1 ORDER BY path COLLATE BINARY"
+            }
+        }
+    }
+
+    /// The query for the paths of all payload files.
+    pub(crate) fn paths_text(self) -> &'static str
+        ensures { result.now ≡ all_item_paths_text self }
+    {
+        match self {
+            Format::First => "SELECT path FROM item",
+            Format::Second => "SELECT path FROM held",
         }
     }
 }

@@ -9,7 +9,6 @@ mod item_queries;
 mod item_statements;
 mod keeper;
 pub mod laws;
-mod long_item;
 mod migrating;
 mod new_tables;
 mod octets;
@@ -18,7 +17,6 @@ mod queries;
 mod short_items;
 mod transfer_queries;
 mod verifying;
-mod verifying_beside;
 mod watch;
 
 pub use adopting::{AdoptFault, NotAdopted};

@@ -19,7 +19,6 @@ use crate::format::{Format, ITEM_BODY, PIECE};
 use crate::item_queries::PIECE_BODY;
 use crate::short_items::ShortItems;
 use crate::transfer_queries::{TAG_FILES, path_in, tag_set_in};
-use crate::verifying_beside::{LANES, valid_beside};
 use crate::watch::Watch;
 use bag_digest::{AlgSet, Content};
 use bag_ledger::Finding;
@@ -29,7 +28,7 @@ use sqlite::types::ValueRef;
 use sqlite::{Alter, Connection, Error, ErrorCode, Row, params};
 use std::alloc::Global;
 
-/// Verifies all transfers, by name.
+/// Verifies all transfers, in the order of the octets of their names.
 pub(crate) fn verify_transfers<S: Alter, W: Watch>(
     connection: &mut Connection<S>,
     watch: &W,
@@ -44,7 +43,7 @@ pub(crate) fn verify_transfers<S: Alter, W: Watch>(
 {
     let rows = rows_of(
         connection,
-        "SELECT id, name FROM transfer ORDER BY name",
+        "SELECT id, name FROM transfer ORDER BY name COLLATE BINARY",
         &[],
     )?;
     verify_rows(
@@ -180,7 +179,8 @@ fn first_damaged<S: Alter, W: Watch>(
     damaged_in(alloc, connection, watch, format, plan, rows.as_slice())
 }
 
-/// The path of the first payload file in these rows that isn't valid, if there is one.
+/// The path of the first payload file in these rows that isn't valid, if there is one. Short ones are tested in
+/// batches: one ends where it is full, or where a long file follows.
 fn damaged_in<S: Alter, W: Watch>(
     alloc: Global,
     connection: &mut Connection<S>,
@@ -202,10 +202,7 @@ fn damaged_in<S: Alter, W: Watch>(
     ensures reads { OnlyReads S.Store connection.old connection.new }
 {
     let mut batch = ShortItems::none(alloc);
-    let mut at = 0;
-    let mut alone = 0;
-    while at < rows.len() {
-        let row = &rows[at];
+    for row in rows {
         let item = row.get(0)?;
         let path: String = row.get(1)?;
         let size = row.get(2)?;
@@ -214,14 +211,6 @@ fn damaged_in<S: Alter, W: Watch>(
                 return Ok(Some(first));
             }
             batch = ShortItems::none(alloc);
-        }
-        let valid = valid_beside(alloc, connection, watch, format, plan, rows, at, alone)?;
-        if valid > 0 {
-            at += valid;
-            if valid < LANES {
-                alone = at + 1;
-            }
-            continue;
         }
         let finding = read_item(
             alloc,
@@ -238,7 +227,6 @@ fn damaged_in<S: Alter, W: Watch>(
             Finding::Damaged => return Ok(Some(batch.first_damaged(alloc)?.unwrap_or(path))),
             Finding::Untested(want, content) => batch = batch.add(want, content)?,
         }
-        at += 1;
     }
     Ok(batch.first_damaged(alloc)?)
 }
@@ -278,7 +266,7 @@ fn read_item<'a, S: Alter, W: Watch>(
 }
 
 /// The size of a payload file, if it is within the limits.
-pub(crate) fn size_in(size: i64) -> Option<u64>
+fn size_in(size: i64) -> Option<u64>
     ensures { MatchOption result (¬ IsSize size)
         (λ octets. (size ≡ pos octets) × (octets ≤ LARGEST)) }
 {
@@ -393,7 +381,7 @@ fn content_in_pieces<S: Alter, W: Watch>(
 }
 
 /// Takes the piece of a payload file with this number, if it exists and has this many octets. Returns whether it does.
-pub(crate) fn take_piece<S: Alter>(
+fn take_piece<S: Alter>(
     connection: &mut Connection<S>,
     item: i64,
     n: i64,
@@ -439,10 +427,7 @@ fn blob_in(row: &Row) -> Option<&[u8]>
 }
 
 /// The number of pieces of a payload file.
-pub(crate) fn count_of<S: Alter>(
-    connection: &mut Connection<S>,
-    item: i64,
-) -> Result<i64, AdoptFault>
+fn count_of<S: Alter>(connection: &mut Connection<S>, item: i64) -> Result<i64, AdoptFault>
     requires idle { connection.old.in_transaction ≡ false }
     ensures count { SaysOf S.Store connection.old connection.new (λ db.
         MatchResult result

@@ -16,7 +16,7 @@ returns-clause-verified g c clean =
     let d0 : Stands s0 db = λ is_open. (c.is_autocommit.ensures.settled idle is_open, refl) in
     let d1 = stands_still s0 s1 db (c.format_of.ensures.reads.read c1) d0 in
     let d2 = stands_still s1 s2 db (c.test_rows.ensures.reads.read c2) d1 in
-    record { named = c.in_ok-format.ensures.format c1 db d0; none_stray = c.in_ok-test_rows.ensures.none c2 db d1; transfers = c.in_ok-verify_transfers.ensures.verified clean db d2 }
+    record { named = c.in_ok-format.ensures.format c1 db d0; rows = c.in_ok-test_rows.ensures.rows c2 db d1; transfers = c.in_ok-verify_transfers.ensures.verified clean db d2 }
 
 pub returns-in_err-format-clause-verified : goal.returns-in_err-format-clause-verified
 returns-in_err-format-clause-verified g c clean =
@@ -51,4 +51,4 @@ returns-in_err-verify_transfers-clause-verified g c clean =
     let d1 = stands_still s0 s1 db (c.format_of.ensures.reads.read c1) d0 in
     let d2 = stands_still s1 s2 db (c.test_rows.ensures.reads.read c2) d1 in
     let p = err_from_is_err_and c.from_residual-in_err-verify_transfers.result c.from_residual-in_err-verify_transfers.ensures.1 in
-    rw (p.1, p.2) (in_order g.S.Store db c.in_ok-format.format (c.in_ok-format.ensures.format c1 db d0) _ (c.in_ok-test_rows.ensures.none c2 db d1) (c.in_err-verify_transfers.ensures.refused clean db d2))
+    rw (p.1, p.2) (in_order g.S.Store db c.in_ok-format.format (c.in_ok-format.ensures.format c1 db d0) _ (c.in_ok-test_rows.ensures.rows c2 db d1) (c.in_err-verify_transfers.ensures.refused clean db d2))

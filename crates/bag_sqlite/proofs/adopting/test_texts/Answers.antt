@@ -1,0 +1,48 @@
+use Rattle.std.proofs.Common.{arith, inl, inr, refl}
+use Rattle.bag_sqlite.proofs.Words.{all_texts, err_from_is_err_and, HasCleanDisk, IsNoLedger, IsNoneFor, state}
+use Rattle.bag_sqlite.proofs.AdoptingLemmas.{reads_then, stands_still}
+use Rattle.bag_sqlite.proofs.SqlLemmas.{on_ok}
+use Rattle.bag_sqlite.proofs.RefusingLemmas.{if_err, none_for}
+use Rattle.bag_sqlite.proofs.adopting.test_texts.Goals as goal
+
+pub returns-clause-texts : goal.returns-clause-texts
+returns-clause-texts g c clean db stands =
+    let s0 = state g.S.Store c.args.connection.now in
+    let s1 = state g.S.Store c.test_column.new.connection in
+    let s2 = state g.S.Store c.test_column-2.new.connection in
+    let c2 : HasCleanDisk s2 = omega (arith, clean, c.test_column-3.ensures.reads.survives.clean) in
+    let c1 : HasCleanDisk s1 = omega (arith, c2, c.test_column-2.ensures.reads.survives.clean) in
+    let d1 = stands_still s0 s1 db (c.test_column.ensures.reads.read c1) stands in
+    let d2 = stands_still s1 s2 db (c.test_column-2.ensures.reads.read c2) d1 in
+    let last = rw c.paths_text.ensures at (c.test_column-3.ensures.texts clean db d2) in
+    on_ok c.test_column-3.result (λ paths. (c.in_ok-test_column.ensures.texts c1 db stands, (c.in_ok-test_column-2.ensures.texts c2 db d1, (paths, tt)))) last
+
+pub returns-in_err-test_column-clause-refused : goal.returns-in_err-test_column-clause-refused
+returns-in_err-test_column-clause-refused g c clean db stands =
+    let p = err_from_is_err_and c.from_residual.result c.from_residual.ensures.1 in
+    rw (p.1, p.2) (none_for _ (IsNoLedger g.S.Store db c.args.format) (λ no. (all_texts _, inl refl, no)) _ (c.in_err-test_column.ensures.refused clean db stands))
+
+pub returns-in_err-test_column-2-clause-refused : goal.returns-in_err-test_column-2-clause-refused
+returns-in_err-test_column-2-clause-refused g c clean db stands =
+    let s0 = state g.S.Store c.args.connection.now in
+    let s1 = state g.S.Store c.test_column.new.connection in
+    let c1 : HasCleanDisk s1 = omega (arith, clean, c.test_column-2.ensures.reads.survives.clean) in
+    let p = err_from_is_err_and c.from_residual-in_err-test_column-2.result c.from_residual-in_err-test_column-2.ensures.1 in
+    rw (p.1, p.2) (none_for _ (IsNoLedger g.S.Store db c.args.format) (λ no. (all_texts _, inr (inl refl), no)) _ (c.in_err-test_column-2.ensures.refused clean db (stands_still s0 s1 db (c.test_column.ensures.reads.read c1) stands)))
+
+pub returns-clause-refused : goal.returns-clause-refused
+returns-clause-refused g c clean db stands =
+    let s0 = state g.S.Store c.args.connection.now in
+    let s1 = state g.S.Store c.test_column.new.connection in
+    let s2 = state g.S.Store c.test_column-2.new.connection in
+    let c2 : HasCleanDisk s2 = omega (arith, clean, c.test_column-3.ensures.reads.survives.clean) in
+    let c1 : HasCleanDisk s1 = omega (arith, c2, c.test_column-2.ensures.reads.survives.clean) in
+    let d1 = stands_still s0 s1 db (c.test_column.ensures.reads.read c1) stands in
+    let last = rw c.paths_text.ensures at (c.test_column-3.ensures.refused clean db (stands_still s1 s2 db (c.test_column-2.ensures.reads.read c2) d1)) in
+    if_err c.test_column-3.result _ (IsNoneFor (IsNoLedger g.S.Store db c.args.format)) (λ fault h. none_for _ (IsNoLedger g.S.Store db c.args.format) (λ no. (all_texts _, inr (inr (inl refl)), no)) fault h) last
+
+pub returns-in_err-test_column-2-clause-reads : goal.returns-in_err-test_column-2-clause-reads
+returns-in_err-test_column-2-clause-reads g c = reads_then c.test_column.ensures.reads c.test_column-2.ensures.reads
+
+pub returns-clause-reads : goal.returns-clause-reads
+returns-clause-reads g c = reads_then c.test_column.ensures.reads (reads_then c.test_column-2.ensures.reads c.test_column-3.ensures.reads)
