@@ -10,7 +10,9 @@ use Rattle.bag_rules.specs.Faults.{last_of_completeness, number_of, NoneUpTo}
 use Rattle.bag_rules.specs.declared.outcome.CheckFault.{CheckFault}
 use Rattle.bag_rules.specs.declared.outcome.Outcome.{Outcome}
 use Rattle.bag_rules.specs.declared.outcome.Outcome.TheVariants.{Judged, Outside}
-use Rattle.bag_rules.specs.Bags.{Bag}
+use Rattle.bag_rules.specs.Bags.{Bag, IsSomeBagOf}
+use Rattle.bag_rules.specs.Checking.{IsVerdictOnSome}
+use Rattle.bag_rules.specs.Trees.{Shown}
 use Rattle.bag_rules.specs.Validity.{IsValid, Means}
 use Rattle.bag_commands.specs.CheckTexts.{check_status}
 use Rattle.bag_commands.specs.VerdictTexts.{is_complete, verdict_text}
@@ -42,3 +44,10 @@ valid_if_0 bag (Ok (Outside cause)) status zero (inl failed) means = absurd (ome
 valid_if_0 bag (Ok (Outside cause)) status zero (inr printed) means = absurd (omega (arith, zero, printed.2))
 valid_if_0 bag (Err fault) status zero (inl failed) means = absurd (omega (arith, zero, failed.1))
 valid_if_0 bag (Err fault) status zero (inr printed) means = absurd (omega (arith, zero, printed.2))
+
+-- the same of some bag of a tree
+pub some_valid_if_0 : (shown : Shown) (answer : Result Outcome CheckFault) (status : ℕ) {P Q R : Type 0} → status ≡ 0 → ((P × (status ≡ 3)) ⊎ (Q × R × (status ≡ check_status answer))) → IfOk answer (IsVerdictOnSome shown)
+    → (bag : Bag) × IsSomeBagOf shown bag × IsValid bag
+some_valid_if_0 shown (Ok outcome) status zero printed some = (some.bag, some.is_bag, valid_if_0 some.bag (Ok outcome) status zero printed some.meaning)
+some_valid_if_0 shown (Err fault) status zero (inl failed) some = absurd (omega (arith, zero, failed.1))
+some_valid_if_0 shown (Err fault) status zero (inr printed) some = absurd (omega (arith, zero, printed.2))

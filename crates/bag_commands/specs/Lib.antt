@@ -1,6 +1,8 @@
 pub mod AnswerTexts
 pub mod BeginTexts
+pub mod Beginning
 pub mod CheckTexts
+pub mod Checking
 pub mod ExportTexts
 pub mod FaultTexts
 pub mod FetchTexts

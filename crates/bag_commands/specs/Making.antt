@@ -3,6 +3,7 @@ use Rattle.std.specs.Prelude.{◌≡◌, ◌↔◌, ◌++◌, ◌∷◌, ℕ, Li
 use Rattle.bag_digest.specs.Algorithm.{has, name_of}
 use Rattle.bag_digest.specs.declared.algorithm.Alg.{Alg}
 use Rattle.bag_digest.specs.declared.algorithm.AlgSet.{AlgSet}
+use Rattle.bag_path.specs.Spellings.{written_spelling}
 use Rattle.bag_rules.specs.Files as rules
 use Rattle.bag_rules.specs.Trees.{Shown, UsesTree}
 use Rattle.bag_tags.specs.declared.oxum.Oxum.{Oxum}
@@ -35,8 +36,9 @@ pub record IsFirstUnknown (words : List (List ℕ)) (word : List ℕ) : Type 0 w
   pub named : All NamesAlg (take place words)
   pub unknown : ¬ NamesAlg word
 
+-- the text is spelled as a path is in a manifest, so that any text stays on its line
 abbrev pub unknown_text : List ℕ → List ℕ
-unknown_text word = codes "unknown algorithm " ++ word
+unknown_text word = codes "unknown algorithm " ++ written_spelling word
 
 -- WHAT IS WRITTEN
 

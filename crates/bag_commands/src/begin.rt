@@ -2,7 +2,8 @@
 ghost use Rattle.std.specs.Prelude.{◌≡◌, ◌∷◌, []};
 ghost use Rattle.bag_receiver.specs.BeginningFrom.{BeginsFrom};
 ghost use Rattle.bag_commands.specs.BeginTexts.{begin_line, begin_status};
-ghost use Rattle.bag_commands.specs.Outputs.{Printed, PrintedOne};
+ghost use Rattle.bag_commands.specs.Beginning.{PrintedBeginning};
+ghost use Rattle.bag_commands.specs.Outputs.{Printed};
 
 use crate::fault_line::{FaultLine, OutsideLine};
 use crate::no_result::NoResult;
@@ -16,21 +17,33 @@ use std::alloc::Global;
 use std::fmt::{self, Display, Formatter};
 use std::io::Write;
 
-/// Opens a transfer with the tag files of a tree, prints the result and returns the status, as [`print_beginning`]
-/// does. Payload files aren't read. If the name is invalid, no file is read.
+/// How `begin` ended.
+#[derive(Debug, Drop)]
+pub struct BeginEnd {
+    /// The exit status.
+    pub status: u8,
+    /// Why no transfer was opened, if none was.
+    pub fault: Option<BeginFault>,
+}
+
+/// Opens a transfer with the tag files of a tree and prints the result, with the status of [`print_beginning`]. Payload
+/// files aren't read. If the name is invalid, no file is read.
 pub fn begin_to<K: Keeper, T: Tree, W: Write + Drop>(
     alloc: Global,
     receiver: &mut Receiver<K>,
     name: &str,
     tree: &mut T,
     out: &mut Output<W>,
-) -> u8
-    ensures { PrintedOne W.contents begin_line begin_status out.old out.new result
+) -> BeginEnd
+    ensures { PrintedBeginning W.contents out.old out.new result
         (BeginsFrom K.holds K.may_leave K.clean K.failures T.shown T.failures T.sure
         name.now receiver.old receiver.new tree.old tree.new) }
 {
     let answer = receiver.begin_from(alloc, name, tree);
-    print_beginning(&answer, out)
+    BeginEnd {
+        status: print_beginning(&answer, out),
+        fault: answer.err(),
+    }
 }
 
 /// Prints the result of `begin` and returns the status: 0 if the transfer is open, 1 if it was refused, 2 if the bag

@@ -3,8 +3,8 @@
 
 pub use answer::RefusalText;
 pub use audit::audit_to;
-pub use begin::{begin_to, print_beginning};
-pub use check::{check_to, print_outcome};
+pub use begin::{BeginEnd, begin_to, print_beginning};
+pub use check::{CheckEnd, check_to};
 pub use export::export_to;
 pub use fault_line::{FaultLine, OutsideLine};
 pub use fetch::fetch_to;

@@ -9,6 +9,7 @@ use crate::no_result::NoResult;
 use crate::output::Output;
 use crate::status::{DONE, USAGE, make_status};
 use bag_digest::{Alg, AlgSet};
+use bag_path::TextSpelling;
 use bag_tags::{Info, Oxum};
 use bag_writer::{CopiedTree, Large, OpenSink, Spec, WriteFault, write_bag};
 use std::alloc::Global;
@@ -27,7 +28,8 @@ pub struct MakeEnd {
 /// Writes a bag of a tree's payload files to a sink, with manifests by the algorithms with these names, prints the
 /// result and returns the status, as [`print_making`] does. An algorithm that is named twice counts once.
 ///
-/// If a name is unknown, prints the first such name and returns [`USAGE`]. Neither the tree nor the sink is used then.
+/// If a name is unknown, prints the first such name, with the escapes of a path, and returns [`USAGE`]. Neither the tree
+/// nor the sink is used then.
 pub fn make_to<T: CopiedTree, S: OpenSink, W: Write + Drop>(
     alloc: Global,
     names: &[String],
@@ -157,6 +159,6 @@ impl Display for UnknownLine<'_> {
     ghost output = { λ line. Some (unknown_text line.0.now) };
 
     fn fmt<W: fmt::Write>(&self, f: &mut Formatter<W>) -> fmt::Result {
-        write!(f, "unknown algorithm {}", self.0)
+        write!(f, "unknown algorithm {}", TextSpelling(self.0))
     }
 }

@@ -7,7 +7,7 @@ use Rattle.bag_folder.specs.declared.root.Root.{Root}
 use Rattle.bag_folder.specs.declared.fault.Cause.{Cause}
 use Rattle.bag_folder.specs.Directories.{IsUnfit, Listing, name_below}
 use Rattle.bag_folder.specs.Faults.{IfUnfit, TellsBelow}
-use Rattle.bag_folder.specs.Folders.{IsRefused}
+use Rattle.bag_folder.specs.Folders.{DiskShown, IsRefused}
 use Rattle.bag_folder.specs.DiskNames.{Standing}
 use Rattle.bag_folder.specs.Supplying.{IsBarred, IsNameTo, Says}
 use Rattle.bag_folder.proofs.NameLemmas.{if_known}
@@ -27,11 +27,11 @@ pub whole_name : (folder path name : List ℕ) → name ≡ name_below folder pa
 whole_name folder path name is = (path, inl refl, is)
 
 -- what a walk refuses is told by its name on disk
-pub refused_on_disk : (known : Option Listing) (folder : List ℕ) (root : Root) (fault told : OpenFault)
-    → ((listing : Listing) → known ≡ Some listing → IfUnfit fault (λ unfit. IsUnfit listing folder unfit.path unfit.cause))
-    → IfUnfit told (TellsBelow fault folder root) → IfUnfit told (IsRefused known folder root)
-refused_on_disk known folder root fault told refused tells =
-    IfUnfit-weaker told (TellsBelow fault folder root) (IsRefused known folder root) (λ unfit here. record {
+pub refused_on_disk : (disk : DiskShown) (folder : List ℕ) (root : Root) (fault told : OpenFault)
+    → ((listing : Listing) → disk.listing ≡ Some listing → IfUnfit fault (λ unfit. IsUnfit listing folder unfit.path unfit.cause))
+    → IfUnfit told (TellsBelow fault folder root) → IfUnfit told (IsRefused disk folder root)
+refused_on_disk disk folder root fault told refused tells =
+    IfUnfit-weaker told (TellsBelow fault folder root) (IsRefused disk folder root) (λ unfit here. record {
       path = here.below.path;
       named = here.path_is;
       because = λ listing is.

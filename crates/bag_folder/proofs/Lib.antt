@@ -1,3 +1,4 @@
+pub mod BagLemmas
 pub mod CourierLemmas
 pub mod FaultLemmas
 pub mod Listings
@@ -6,5 +7,6 @@ pub mod NameLemmas
 pub mod OpenFileLemmas
 pub mod PayloadFolders
 pub mod SinkFileLemmas
+pub mod SupplyLemmas
 pub mod WalkLemmas
 pub mod WayLemmas

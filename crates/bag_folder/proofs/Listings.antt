@@ -8,16 +8,16 @@ use Rattle.std.specs.List.Retain.{IsFiltered, DiffersFromLast}
 use Rattle.std.specs.List.Sorted.{IsSorted, IsPermutation}
 use Rattle.std.proofs.lemmas.Bool.{or_cases, or_left, or_right, false≢true}
 use Rattle.std.proofs.lemmas.Cmp.{nat_list_cmp_total, nat_list_eq_equiv}
-use Rattle.std.proofs.lemmas.List.Elements.{All-nil, All-cons, All-weaker, Contains-append_left, Contains-append_right, Contains-push}
+use Rattle.std.proofs.lemmas.List.Elements.{All-contains, All-contains_itself, All-nil, All-cons, All-weaker, Contains-append_left, Contains-append_right, Contains-push}
 use Rattle.std.proofs.lemmas.List.Filters.{dedup_is}
 use Rattle.std.proofs.lemmas.List.Kept.{IsStrictlySortedBy-dedup, Contains-dedup, Contains-from_dedup}
 use Rattle.std.proofs.lemmas.List.Sorted.{Contains-permutation, IsPermutation-sym}
 use Rattle.std.proofs.lemmas.Map.Text.{is_eq-slice_cmp}
 use Rattle.std.proofs.lemmas.Slice.Eq.{bytes_eq-Decides}
 use Rattle.bag_path.specs.Paths.{is_payload}
-use Rattle.bag_rules.specs.Trees.{AreRising, octets_in, paths_in}
+use Rattle.bag_rules.specs.Trees.{AreRising, Shown, octets_in, paths_in}
 use Rattle.bag_folder.specs.Directories.{IsBelow, Listing}
-use Rattle.bag_folder.specs.Folders.{FolderShown, shown_by}
+use Rattle.bag_folder.specs.Folders.{FolderShown, IsListing, file_with, shown_by}
 
 -- sorted paths are in strict order once repeats are dropped
 pub rising_once : (sorted once : List (List ℕ)) → IsSorted (slice_cmp nat_cmp) sorted → IsFiltered (DiffersFromLast (pointwise nat_eq)) [] sorted once → AreRising once
@@ -42,9 +42,23 @@ any_passes test (first ∷ paths) =
     (All-weaker (λ path. test path ≡ true → list_any test paths ≡ true) (λ path. test path ≡ true → (test first || list_any test paths) ≡ true) (λ path here passes. or_right (test first) (list_any test paths) (here passes)) paths (any_passes test paths))
 
 -- a payload file has its directory, if one was found or some path is a payload path
-pub has_its_dir : (found has_dir : Bool) (paths : List (List ℕ)) → has_dir ≡ (found || list_any is_payload paths) → All (λ path. is_payload path ≡ true → has_dir ≡ true) paths
+has_its_dir : (found has_dir : Bool) (paths : List (List ℕ)) → has_dir ≡ (found || list_any is_payload paths) → All (λ path. is_payload path ≡ true → has_dir ≡ true) paths
 has_its_dir found has_dir paths is =
     All-weaker (λ path. is_payload path ≡ true → list_any is_payload paths ≡ true) (λ path. is_payload path ≡ true → has_dir ≡ true) (λ path here payload. is ∙ or_right found (list_any is_payload paths) (here payload)) paths (any_passes is_payload paths)
+
+-- what was found, in order, is a listing
+pub listing_of : (found_dir has_dir : Bool) (found once : List (List ℕ))
+    → has_dir ≡ (found_dir || list_any is_payload found) → AreRising once
+    → ((path : List ℕ) → Contains once path ↔ Contains found path) → IsListing once has_dir
+listing_of found_dir has_dir found once is rising kept =
+    let HasItsDir : List ℕ → Type 0 = λ path. is_payload path ≡ true → has_dir ≡ true in
+    record {
+      rising = rising;
+      payload = All-weaker (Contains once) HasItsDir
+          (λ path here. All-contains HasItsDir found path
+          (has_its_dir found_dir has_dir found is) ((kept path).0 here))
+          once (All-contains_itself once);
+    }
 
 some_passes : (test : List ℕ → Bool) (paths : List (List ℕ)) → list_any test paths ≡ true → (path : List ℕ) × Contains paths path × (test path ≡ true)
 some_passes test [] h = absurd (false≢true h)
@@ -70,18 +84,47 @@ below_in_order listing folder found once found_dir has_dir below kept is = recor
 
 -- WHAT IS SHOWN OF PATHS
 
-pub paths_shown : (paths : List (List ℕ)) (has_dir : Bool) → paths_in (shown_by paths has_dir) ≡ paths
-paths_shown [] has_dir = refl
-paths_shown (path ∷ paths) has_dir = ap (λ (rest : List (List ℕ)). path ∷ rest) (paths_shown paths has_dir)
+module _ (octets : List ℕ → Option (List ℕ)) where
+  pub paths_shown : (paths : List (List ℕ)) (has_dir : Bool)
+      → paths_in (shown_by octets paths has_dir) ≡ paths
+  unfolding file_with
+  paths_shown [] has_dir = refl
+  paths_shown (path ∷ paths) has_dir =
+      ap (λ (rest : List (List ℕ)). path ∷ rest) (paths_shown paths has_dir)
 
-pub octets_shown : (paths : List (List ℕ)) (has_dir : Bool) (i : ℕ) → None ≡ octets_in (shown_by paths has_dir) i
-octets_shown [] has_dir i = refl
-octets_shown (path ∷ paths) has_dir zero = refl
-octets_shown (path ∷ paths) has_dir (suc i) = octets_shown paths has_dir i
+  same_value : (a b : List ℕ) → Some a ≡ Some b → a ≡ b
+  same_value a b h = cc
 
--- the paths that a folder shows are the ones that it holds
-pub paths_seen : (tree : FolderShown) (paths : List (List ℕ)) (has_dir : Bool) → shown_by paths has_dir ≡ tree.shown → paths_in tree.shown ≡ paths
-paths_seen tree paths has_dir is = ap paths_in (sym is) ∙ paths_shown paths has_dir
+  none_is_not_some : (a : List ℕ) → None ≡ Some a → ⊥
+  none_is_not_some a h = cc
+
+  -- the octets that are shown at the place of a path are those of the path
+  pub octets_shown : (paths : List (List ℕ)) (has_dir : Bool) (i : ℕ) (path : List ℕ)
+      → slice_get paths i ≡ Some path → octets_in (shown_by octets paths has_dir) i ≡ octets path
+  unfolding file_with
+  octets_shown [] has_dir i path at = absurd (none_is_not_some path at)
+  octets_shown (first ∷ paths) has_dir zero path at = ap octets (same_value first path at)
+  octets_shown (first ∷ paths) has_dir (suc i) path at = octets_shown paths has_dir i path at
+
+  -- the paths that a folder shows are the ones that it holds
+  pub paths_seen : (tree : FolderShown) (paths : List (List ℕ)) (has_dir : Bool)
+      → shown_by octets paths has_dir ≡ tree.shown → paths_in tree.shown ≡ paths
+  paths_seen tree paths has_dir is = ap paths_in (sym is) ∙ paths_shown paths has_dir
+
+  -- and so are the octets
+  pub octets_seen : (tree : FolderShown) (paths : List (List ℕ)) (has_dir : Bool) (i : ℕ)
+      (path : List ℕ) → shown_by octets paths has_dir ≡ tree.shown
+      → slice_get paths i ≡ Some path → octets_in tree.shown i ≡ octets path
+  octets_seen tree paths has_dir i path is at =
+      ap (λ (shown : Shown). octets_in shown i) (sym is) ∙ octets_shown paths has_dir i path at
+
+  -- what is shown is shown of the paths that are shown
+  pub shown_again : (paths : List (List ℕ)) (has_dir : Bool)
+      → let shown = shown_by octets paths has_dir in
+      shown ≡ shown_by octets (paths_in shown) shown.has_payload_dir
+  shown_again paths has_dir =
+      ap (λ (others : List (List ℕ)). shown_by octets others has_dir)
+      (sym (paths_shown paths has_dir))
 
 -- what holds of the path that was read holds of the one at that place
 pub found_at : (paths shown : List (List ℕ)) (i : ℕ) (path : List ℕ) → shown ≡ paths

@@ -37,6 +37,16 @@ behind standing name = told_in (λ named. named.behind) standing.absent standing
 unfoldable pub content : Standing → List ℕ → Result (Option (List ℕ)) Error
 content standing name = told_in (λ named. named.content) standing.absent standing.names name
 
+-- the octets, if there are some and they are known
+abbrev pub octets_of : {E : Type 0} → Result (Option (List ℕ)) E → Option (List ℕ)
+octets_of (Ok octets) = octets
+octets_of (Err error) = None
+
+-- the octets of the file that this name leads to, if it is known what stands there
+abbrev pub octets_under : Option Standing → List ℕ → Option (List ℕ)
+octets_under None name = None
+octets_under (Some standing) name = octets_of (content standing name)
+
 -- nothing has this name
 abbrev pub IsVacant : Standing → List ℕ → Type 0
 IsVacant standing name = (kind : EntryKind) → itself standing name ≢ Ok kind

@@ -4,6 +4,7 @@ pub mod Faults
 pub mod Folders
 pub mod MemNames
 pub mod DiskNames
+pub mod NewFolders
 pub mod OpenFiles
 pub mod SinkFiles
 pub mod SinkFolders

@@ -7,8 +7,8 @@ use Rattle.bag_rules.specs.OpenTrees.{IsOpened, LeavesRest}
 use Rattle.bag_rules.specs.Trees.{Shown, paths_in}
 use Rattle.bag_folder.specs.declared.fault.Cause.{Cause}
 use Rattle.bag_folder.specs.Directories.{name_below}
-use Rattle.bag_folder.specs.Folders.{FolderShown, SameShown, path_below}
-use Rattle.bag_folder.specs.DiskNames.{Standing, content}
+use Rattle.bag_folder.specs.Folders.{FolderShown, SameShown, left_open, path_below}
+use Rattle.bag_folder.specs.DiskNames.{Standing, content, octets_of, octets_under}
 use Rattle.bag_folder.specs.Unfits.{IsCauseOf, UnfitShown}
 
 -- its place in the tree, and its name on disk; what it will still give, if that is known, or why it couldn't be opened;
@@ -42,6 +42,7 @@ pub record IsFileAt (known : Option Standing) (name : List ℕ) (place : ℕ) (f
   pub placed : file.place ≡ place
   pub named : file.name ≡ name
   pub stands : IfSome known (λ standing. IsOpenAt standing name file.opened)
+  pub unread : octets_of file.opened ≡ octets_under known name
   pub unfailed : file.failures ≡ 0
   pub no_trouble : file.cause ≡ None
 
@@ -78,10 +79,11 @@ SamePlace old new = new.place ≡ old.place
 
 -- what a tree of files says of a file that it gives out
 abbrev pub IsGivenOut : Shown → ℕ → FileShown → Type 0
-IsGivenOut shown i file = IsOpened (λ (file : FileShown). file.place) (λ (file : FileShown). None)
-    (λ (file : FileShown). file.failures) (λ (file : FileShown). ⊥) shown ⊥ i file
+IsGivenOut shown i file = IsOpened (λ (file : FileShown). file.place)
+    (λ (file : FileShown). octets_of file.opened) (λ (file : FileShown). file.failures)
+    (λ (file : FileShown). ⊥) shown ⊥ i file
 
 -- what it says of itself then, and when it takes a file back
 abbrev pub LeavesFolder : FolderShown → FolderShown → Type 0
-LeavesFolder old new = LeavesRest SameShown (λ (tree : FolderShown). None)
+LeavesFolder old new = LeavesRest SameShown (λ (tree : FolderShown). left_open tree.to_read)
     (λ (tree : FolderShown). is_some tree.to_read) (λ (tree : FolderShown). ⊥) old new

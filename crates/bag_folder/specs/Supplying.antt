@@ -1,9 +1,10 @@
--- What is visible of a folder as a supplier, and what it answers. The content of its files isn't known.
-use Rattle.std.specs.Prelude.{◌≡◌, ◌≢◌, ⊤, ℕ, Bool, true, List, Option, None, Some, Ok, Err, Result, IfSome, IsErr, IsSomeAnd, MatchBool, MatchResult, OnSome, is_some, refl}
+-- What is visible of a folder as a supplier, and what it answers.
+use Rattle.std.specs.Prelude.{◌≡◌, ◌≢◌, ◌&&◌, ◌++◌, ◌∷◌, [], ⊤, ℕ, Bool, false, true, List, Option, None, Some, Ok, Err, Result, IfSome, IsErr, IsSomeAnd, MatchBool, MatchResult, OnSome, if◌then◌else◌, is_some, map, nat_eq, refl}
+use Rattle.std.specs.List.{list_all}
 use Rattle.std.specs.IoError.{error_kind}
 use Rattle.std.specs.declared.io.Error.{Error}
 use Rattle.std.specs.declared.io.ErrorKind.TheVariants.{IsADirectory, NotADirectory, NotFound}
-use Rattle.std.proofs.Common.{◌∙◌}
+use Rattle.std.proofs.Common.{◌∙◌, ap₂}
 use Rattle.bag_digest.specs.Failures.{one_more}
 use Rattle.bag_receiver.specs.Suppliers.{Supply}
 use Rattle.bag_folder.specs.declared.entry_kind.EntryKind.{EntryKind}
@@ -11,7 +12,7 @@ use Rattle.bag_folder.specs.declared.entry_kind.EntryKind.TheVariants.{File, Dir
 use Rattle.bag_folder.specs.declared.fault.Cause.{Cause}
 use Rattle.bag_folder.specs.declared.fault.Cause.TheVariants as why
 use Rattle.bag_folder.specs.Directories.{name_below}
-use Rattle.bag_folder.specs.DiskNames.{IsOnTheWay, LeadsTo, Standing, content, itself}
+use Rattle.bag_folder.specs.DiskNames.{IsOnTheWay, LeadsTo, Standing, content, itself, octets_of}
 use Rattle.bag_folder.specs.Unfits.{IsCauseOf, UnfitShown}
 
 -- what stands under names, if that is known; the name of the folder, and of the last file looked up; what the open file
@@ -142,20 +143,66 @@ pub record AsksFolder {E : Type 0} (old new : SupplierShown) (path : List ℕ)
       (λ _. IfSome new.trouble (λ unfit.
       IsBarred known old.folder path unfit.path unfit.cause)))
 
--- asked the same number of times
-abbrev pub AsOftenAsked : SupplierShown → SupplierShown → Type 0
-AsOftenAsked old new = new.asks ≡ old.asks
+-- WHAT IT HAS, if it is known what stands there
 
-pub asked_itself : (a : SupplierShown) → AsOftenAsked a a
-asked_itself a = refl
+-- the paths of the directories on the way to a path
+abbrev pub fronts_of : List ℕ → List (List ℕ)
+fronts_of [] = []
+fronts_of (octet ∷ path) =
+    (if nat_eq octet 47 then [] ∷ [] else []) ++ map (λ front. octet ∷ front) (fronts_of path)
 
-pub asked_on : (a b c : SupplierShown) → AsOftenAsked a b → AsOftenAsked b c → AsOftenAsked a c
-asked_on a b c p q = q ∙ p
+abbrev pub is_directory : Result EntryKind Error → Bool
+is_directory (Ok Directory) = true
+is_directory found = false
 
--- what a folder has isn't known
-abbrev pub unknown : SupplierShown → Option Supply
-unknown supplier = None
+abbrev pub is_file : Result EntryKind Error → Bool
+is_file (Ok File) = true
+is_file found = false
 
-pub keeps_nothing : (a b : SupplierShown) → AsOftenAsked a b
-    → (unknown b ≡ unknown a) × (b.asks ≡ a.asks)
-keeps_nothing a b same = (refl, same)
+-- a file has this path below the folder, and folders alone lead to it
+abbrev pub has_file : Standing → List ℕ → List ℕ → Bool
+has_file known folder path =
+    list_all (λ front. is_directory (itself known (name_below folder front))) (fronts_of path)
+    && is_file (itself known (name_below folder path))
+
+-- the octets of that file
+abbrev pub octets_supplied : Standing → List ℕ → List ℕ → Option (List ℕ)
+octets_supplied known folder path =
+    if has_file known folder path then octets_of (content known (name_below folder path)) else None
+
+-- it is known what is read of each file that can be opened
+abbrev pub is_told : Result (Option (List ℕ)) Error → Bool
+is_told (Ok None) = false
+is_told found = true
+
+abbrev pub are_told : Standing → Bool
+are_told known = list_all (λ named. is_told named.content) known.names
+
+-- what the folder has for each path, whatever the url
+abbrev pub supply_in : Option Standing → List ℕ → Option Supply
+supply_in None folder = None
+supply_in (Some known) folder =
+    if are_told known then Some (λ url path. octets_supplied known folder path) else None
+
+abbrev pub supply_of : SupplierShown → Option Supply
+supply_of supplier = supply_in supplier.standing supplier.folder
+
+-- the same folder, which was asked the same number of times
+pub record SameSupplier (old new : SupplierShown) : Type 0 where
+  pub standing : new.standing ≡ old.standing
+  pub folder : new.folder ≡ old.folder
+  pub asks : new.asks ≡ old.asks
+
+pub supplier_itself : (a : SupplierShown) → SameSupplier a a
+supplier_itself a = record { standing = refl; folder = refl; asks = refl }
+
+pub supplier_on : (a b c : SupplierShown) → SameSupplier a b → SameSupplier b c → SameSupplier a c
+supplier_on a b c p q = record {
+  standing = q.standing ∙ p.standing;
+  folder = q.folder ∙ p.folder;
+  asks = q.asks ∙ p.asks;
+}
+
+pub keeps_supply : (a b : SupplierShown) → SameSupplier a b
+    → (supply_of b ≡ supply_of a) × (b.asks ≡ a.asks)
+keeps_supply a b same = (ap₂ supply_in same.standing same.folder, same.asks)

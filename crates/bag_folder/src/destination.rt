@@ -1,10 +1,9 @@
-//! Makes the folder for a new bag.
-ghost use Rattle.std.specs.Prelude.{◌≡◌, IfErr, IfOk, MatchResult, None, Some};
-ghost use Rattle.bag_folder.specs.Faults.{IfUnfit};
-ghost use Rattle.bag_folder.specs.SinkFolders.{IsCreated};
+//! The folder on disk that is made for a new bag.
+ghost use Rattle.std.specs.Prelude.{◌≡◌, None};
 
-use crate::fault::OpenFault;
+use crate::fault::{OpenFault, Unfit};
 use crate::folder_sink::FolderSink;
+use crate::new_folders::NewFolders;
 use std::alloc::Global;
 use std::fs;
 use std::marker::Model;
@@ -32,31 +31,31 @@ impl<'a, R: Files> Destination<'a, R> {
     {
         Destination { rt, made: None }
     }
+}
 
-    /// Makes a folder, as [`FolderSink::create`] does.
-    ///
-    /// # Errors
-    ///
-    /// Those of [`FolderSink::create`]. No folder is made then.
-    pub fn create(&mut self, alloc: Global, folder: &str) -> Result<FolderSink<&'a R>, OpenFault>
-        ensures created { IfOk result (IsCreated folder.now) }
-        ensures refused { IfErr result (λ fault. IfUnfit fault (λ unfit.
-            unfit.path ≡ folder.now)) }
-        ensures made { MatchResult result
-            (λ _. self.new ≡ Some folder.now) (λ _. self.new ≡ self.old) }
-    {
+impl<'a, R: Files> NewFolders for Destination<'a, R> {
+    type Folder = FolderSink<&'a R>;
+
+    ghost made = { λ destination. destination };
+
+    ghost name = { λ sink. sink.folder };
+
+    ghost trouble = { λ sink. sink.trouble };
+
+    fn create(&mut self, alloc: Global, folder: &str) -> Result<Self::Folder, OpenFault> {
         let name = String::from_str(alloc, folder)?;
         let sink = FolderSink::create(self.rt, alloc, folder)?;
         self.made = Some(name);
         Ok(sink)
     }
 
-    /// Gives up the folder that was made: removes it if it is empty.
-    pub fn give_up(&mut self)
-        ensures { self.new ≡ None }
-    {
+    fn give_up(&mut self) {
         if let Some(name) = self.made.take() {
             let _ = fs::remove_dir(self.rt, name.as_str());
         }
+    }
+
+    fn into_trouble(folder: Self::Folder) -> Option<Unfit> {
+        folder.into_trouble()
     }
 }

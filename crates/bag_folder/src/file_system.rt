@@ -1,5 +1,5 @@
 //! What stands under the names on a disk.
-ghost use Rattle.std.specs.Prelude.{◌≡◌, Err, IfOk, IfSome, MatchResult, Ok};
+ghost use Rattle.std.specs.Prelude.{◌≡◌, Err, IfNone, IfOk, IfSome, MatchResult, None, Ok};
 ghost use Rattle.bag_folder.specs.DiskNames.{Changes, HoldsNothing, MakesOne, MakesWay, Standing, behind, content, itself};
 
 use crate::entry_kind::EntryKind;
@@ -30,11 +30,13 @@ pub trait Names {
     fn kind_behind(&self, name: &str) -> io::Result<EntryKind>
         ensures { IfSome (standing self.now) (λ known. result ≡ behind known name.now) };
 
-    /// Opens the file that this name leads to for reading.
+    /// Opens the file that this name leads to for reading. What it gives isn't known if it isn't known what stands there.
     fn open(&self, name: &str) -> io::Result<Self::Reader>
-        ensures { IfSome (standing self.now) (λ known. MatchResult result
+        ensures opens { IfSome (standing self.now) (λ known. MatchResult result
             (λ file. content known name.now ≡ Ok (Self.Reader.remaining file))
-            (λ error. content known name.now ≡ Err error)) };
+            (λ error. content known name.now ≡ Err error)) }
+        ensures unknown { IfNone (standing self.now)
+            (IfOk result (λ file. Self.Reader.remaining file ≡ None)) };
 
     /// Makes a folder. Nothing may have its name yet, but its parent must exist.
     fn make_folder(&mut self, name: &str) -> io::Result<()>
@@ -53,11 +55,25 @@ pub trait Names {
             (λ _. HoldsNothing (Self.Writer.contents file))) };
 }
 
+/// A file of the file system. What it will give isn't known.
+#[derive(Drop)]
+pub struct UnknownFile<F>(F);
+
+impl<F: Read> Read for UnknownFile<F> {
+    ghost use Rattle.std.specs.Prelude.{None};
+
+    ghost remaining = { λ _. None };
+
+    fn read(&mut self, buf: &mut [u8]) -> io::Result<usize> {
+        self.0.read(buf)
+    }
+}
+
 /// The names of the file system. What stands there isn't known.
 impl<R: Files> Names for R {
     ghost use Rattle.std.specs.Prelude.{None};
 
-    type Reader = R::File;
+    type Reader = UnknownFile<R::File>;
 
     type Writer = R::File;
 
@@ -71,8 +87,8 @@ impl<R: Files> Names for R {
         Ok(EntryKind::of(fs::metadata(self, name)?.file_type()))
     }
 
-    fn open(&self, name: &str) -> io::Result<R::File> {
-        fs::File::open(self, name)
+    fn open(&self, name: &str) -> io::Result<UnknownFile<R::File>> {
+        Ok(UnknownFile(fs::File::open(self, name)?))
     }
 
     fn make_folder(&mut self, name: &str) -> io::Result<()> {

@@ -12,7 +12,7 @@ use std::alloc::AllocError;
 use std::io::Read;
 use std::marker::Model;
 
-/// An open file of a folder, or one that couldn't be opened. Nothing is claimed about its content.
+/// An open file of a folder, or one that couldn't be opened. Its content is known if it is known what stands under names.
 #[derive(Drop)]
 pub struct FolderFile<R: Names> {
     place: usize,
@@ -101,9 +101,10 @@ impl<R: Names> Source for FolderFile<R> {
     ghost use Rattle.std.specs.Prelude.{is_ok, refl};
     ghost use Rattle.std.proofs.Common.{◌∙◌};
     ghost use Rattle.bag_digest.specs.Failures.{UsesSource};
+    ghost use Rattle.bag_folder.specs.DiskNames.{octets_of};
     ghost use Rattle.bag_folder.specs.OpenFiles.{FileShown, ReadsFile, SamePlace};
 
-    ghost remaining = { λ _. None };
+    ghost remaining = { λ file. octets_of file.opened };
 
     ghost failures = { λ file. file.failures };
 
@@ -116,7 +117,8 @@ impl<R: Names> Source for FolderFile<R> {
     /// Reads from the file. Fails if it couldn't be opened.
     fn read(&mut self, buf: &mut [u8]) -> Result<usize, Failed>
         ensures bound { IfOk result (λ n. n ≤ length buf.new) }
-        ensures octets { ReadConsumes None None result buf.new }
+        ensures octets { ReadConsumes (octets_of self.old.opened) (octets_of self.new.opened)
+            result buf.new }
         ensures uses { UsesSource (λ (file : FileShown). file.failures)
             (λ (file : FileShown). ⊥) SamePlace self.old self.new (IsErr result) }
         ensures exactly { ReadsFile self.old self.new result buf.new }

@@ -18,7 +18,8 @@ use std::alloc::Global;
 use std::io::{self, ErrorKind, Read};
 use std::marker::Model;
 
-/// Supplies the files below a folder by their paths, whatever their urls. Nothing is claimed about their content.
+/// Supplies the files below a folder by their paths, whatever their urls. What it has is known if it is known what stands
+/// under names.
 #[derive(Drop)]
 pub struct FolderSupplier<R: Names> {
     rt: R,
@@ -130,10 +131,10 @@ impl<R: Names + Drop> FolderSupplier<R> {
 impl<R: Names> Source for FolderSupplier<R> {
     ghost use Rattle.std.specs.Io.KnownBytes.{ReadConsumes};
     ghost use Rattle.bag_digest.specs.Failures.{UsesSource};
-    ghost use Rattle.bag_folder.specs.Folders.{ReadsOpen};
-    ghost use Rattle.bag_folder.specs.Supplying.{AsOftenAsked, SupplierShown, asked_itself, asked_on};
+    ghost use Rattle.bag_folder.specs.Folders.{ReadsOpen, left_open};
+    ghost use Rattle.bag_folder.specs.Supplying.{SameSupplier, SupplierShown, supplier_itself, supplier_on};
 
-    ghost remaining = { λ _. None };
+    ghost remaining = { λ supplier. left_open supplier.to_read };
 
     ghost failures = { λ supplier. supplier.failures };
 
@@ -141,14 +142,15 @@ impl<R: Names> Source for FolderSupplier<R> {
 
     ghost is_open = { λ supplier. is_some supplier.to_read };
 
-    ghost keeps = { AsOftenAsked };
+    ghost keeps = { SameSupplier };
 
     /// Reads from the open file. Fails if no file is open.
     fn read(&mut self, buf: &mut [u8]) -> Result<usize, Failed>
         ensures bound { IfOk result (λ n. n ≤ length buf.new) }
-        ensures octets { ReadConsumes None None result buf.new }
+        ensures octets { ReadConsumes (left_open self.old.to_read) (left_open self.new.to_read)
+            result buf.new }
         ensures uses { UsesSource (λ (supplier : SupplierShown). supplier.failures)
-            (λ (supplier : SupplierShown). ⊥) AsOftenAsked self.old self.new (IsErr result) }
+            (λ (supplier : SupplierShown). ⊥) SameSupplier self.old self.new (IsErr result) }
         ensures reads_on { ReadsOpen self.old.to_read self.new.to_read result buf.new }
         ensures same { self.new ≡ record self.old {
           to_read = self.new.to_read;
@@ -167,18 +169,19 @@ impl<R: Names> Source for FolderSupplier<R> {
         self.troubles.failures()
     }
 
-    ghost keeps_itself = { asked_itself };
+    ghost keeps_itself = { supplier_itself };
 
-    ghost keeps_on = { asked_on };
+    ghost keeps_on = { supplier_on };
 }
 
 impl<R: Names + Drop> Supplier for FolderSupplier<R> {
     ghost use Rattle.std.specs.Prelude.{Ok, true};
     ghost use Rattle.bag_digest.specs.Failures.{CountsFailure, one_more};
     ghost use Rattle.bag_receiver.specs.Suppliers.{IsSupplied};
-    ghost use Rattle.bag_folder.specs.Supplying.{AsksFolder, keeps_nothing, unknown};
+    ghost use Rattle.bag_folder.specs.Folders.{left_open};
+    ghost use Rattle.bag_folder.specs.Supplying.{AsksFolder, keeps_supply, supply_of};
 
-    ghost supply = { unknown };
+    ghost supply = { supply_of };
 
     ghost asks = { λ supplier. supplier.asks };
 
@@ -191,7 +194,9 @@ impl<R: Names + Drop> Supplier for FolderSupplier<R> {
     /// as a symbolic link, or the file can't be opened. Below the folder no symbolic link is followed and no named pipe
     /// is opened.
     fn ask(&mut self, _url: &str, path: &str) -> Result<bool, Failed>
-        ensures supplied { IfOk result (λ has. IsSupplied None _url.now path.now has None) }
+        ensures supplied { IfOk result (λ has. IsSupplied (supply_of self.old) _url.now path.now has
+            (left_open self.new.to_read)) }
+        ensures same { supply_of self.new ≡ supply_of self.old }
         ensures open { is_some self.new.to_read ≡ true → result ≡ Ok true }
         ensures counted { CountsFailure result self.old.failures self.new.failures }
         ensures asked { self.new.asks ≡ one_more self.old.asks }
@@ -207,7 +212,7 @@ impl<R: Names + Drop> Supplier for FolderSupplier<R> {
         self.asks
     }
 
-    ghost keeps_supply = { keeps_nothing };
+    ghost keeps_supply = { keeps_supply };
 }
 
 /// Fails if this name doesn't refer to a folder.

@@ -3,9 +3,8 @@ ghost use Rattle.std.specs.Prelude.{◌≡◌, ◌-◌, ◌↔◌, ◌||◌, ℕ
 ghost use Rattle.std.specs.List.{list_any};
 ghost use Rattle.bag_path.specs.Paths.{is_payload};
 ghost use Rattle.bag_rules.specs.Trees.{octets_in, paths_in};
-ghost use Rattle.bag_folder.specs.Directories.{in_payload};
 ghost use Rattle.bag_folder.specs.Faults.{IfUnfit, no_name};
-ghost use Rattle.bag_folder.specs.Folders.{IsOpened, IsRefused};
+ghost use Rattle.bag_folder.specs.Folders.{IsListing, IsOpened, IsRefused, disk_in_payload, disk_of, left_open, octets_below, shown_by};
 ghost use Rattle.bag_folder.specs.OpenFiles.{OpensFile};
 
 use crate::entries::Directories;
@@ -25,7 +24,7 @@ use std::alloc::{AllocError, Global};
 use std::io::Read;
 use std::marker::Model;
 
-/// The files below a folder, by their paths in the folder. Nothing is claimed about their content.
+/// The files below a folder, by their paths in the folder. Their content is known if it is known what stands under names.
 #[derive(Drop)]
 pub struct FolderTree<R: Names> {
     rt: R,
@@ -41,13 +40,14 @@ pub struct FolderTree<R: Names> {
 
 impl<R: Names> Model for FolderTree<R> {
     ghost use Rattle.std.specs.Prelude.{option_map, string_bytes};
-    ghost use Rattle.bag_folder.specs.Folders.{FolderShown, IsListing, shown_by};
+    ghost use Rattle.bag_folder.specs.Folders.{FolderShown, IsListing, octets_below, shown_by};
 
     ghost Value = { FolderShown };
 
     ghost view = { λ tree. record {
       standing = R.standing tree.rt;
-      shown = shown_by tree.paths.items tree.has_dir;
+      shown = shown_by (octets_below (R.standing tree.rt) (string_bytes tree.folder) tree.root)
+          tree.paths.items tree.has_dir;
       folder = string_bytes tree.folder;
       root = tree.root;
       name = string_bytes tree.name;
@@ -80,10 +80,10 @@ impl<R: Names + Drop> FolderTree<R> {
         folder: &str,
     ) -> Result<FolderTree<R>, OpenFault>
         ensures no_name { folder.now ≡ [] → result ≡ Err no_name }
-        ensures opened { IfOk result (IsOpened (D.listing disk.now) folder.now Root.Base) }
-        ensures stands { IfOk result (λ tree. tree.standing ≡ R.standing rt) }
+        ensures opened { IfOk result
+            (IsOpened (disk_of (D.listing disk.now) (R.standing rt)) folder.now Root.Base) }
         ensures refused { IfErr result (λ fault. IfUnfit fault
-            (IsRefused (D.listing disk.now) folder.now Root.Base)) }
+            (IsRefused (disk_of (D.listing disk.now) (R.standing rt)) folder.now Root.Base)) }
     {
         FolderTree::open_at(rt, disk, alloc, folder, Root::Base)
     }
@@ -103,11 +103,11 @@ impl<R: Names + Drop> FolderTree<R> {
         folder: &str,
     ) -> Result<FolderTree<R>, OpenFault>
         ensures no_name { folder.now ≡ [] → result ≡ Err no_name }
-        ensures opened { IfOk result
-            (IsOpened (in_payload (D.listing disk.now) folder.now) folder.now Root.Payload) }
-        ensures stands { IfOk result (λ tree. tree.standing ≡ R.standing rt) }
-        ensures refused { IfErr result (λ fault. IfUnfit fault
-            (IsRefused (in_payload (D.listing disk.now) folder.now) folder.now Root.Payload)) }
+        ensures opened { let known = disk_of (D.listing disk.now) (R.standing rt) in
+            IfOk result (IsOpened (disk_in_payload known folder.now) folder.now Root.Payload) }
+        ensures refused { let known = disk_of (D.listing disk.now) (R.standing rt) in
+            IfErr result (λ fault. IfUnfit fault
+            (IsRefused (disk_in_payload known folder.now) folder.now Root.Payload)) }
     {
         let inside = InPayload { disk, folder };
         FolderTree::open_at(rt, &inside, alloc, folder, Root::Payload)
@@ -159,10 +159,10 @@ impl<R: Names + Drop> FolderTree<R> {
         root: Root,
     ) -> Result<FolderTree<R>, OpenFault>
         ensures no_name { folder.now ≡ [] → result ≡ Err no_name }
-        ensures opened { IfOk result (IsOpened (D.listing disk.now) folder.now root) }
-        ensures stands { IfOk result (λ tree. tree.standing ≡ R.standing rt) }
+        ensures opened { IfOk result
+            (IsOpened (disk_of (D.listing disk.now) (R.standing rt)) folder.now root) }
         ensures refused { IfErr result (λ fault. IfUnfit fault
-            (IsRefused (D.listing disk.now) folder.now root)) }
+            (IsRefused (disk_of (D.listing disk.now) (R.standing rt)) folder.now root)) }
     {
         if folder.is_empty() {
             return Err(OpenFault::no_name(alloc));
@@ -192,6 +192,10 @@ fn tree_of<R: Names + Drop>(
         → Contains (paths_in result.shown) path ↔ Contains below.paths.items path }
     ensures payload { result.shown.has_payload_dir
         ≡ (below.has_dir || list_any is_payload below.paths.items) }
+    ensures gives { result.shown ≡ shown_by
+        (octets_below (R.standing rt) (string_bytes folder) root)
+        (paths_in result.shown) result.shown.has_payload_dir }
+    ensures in_order { IsListing (paths_in result.shown) result.shown.has_payload_dir }
     ensures rest { result ≡ record {
       standing = R.standing rt;
       shown = result.shown;
@@ -219,9 +223,9 @@ fn tree_of<R: Names + Drop>(
 impl<R: Names> Source for FolderTree<R> {
     ghost use Rattle.std.specs.Io.KnownBytes.{ReadConsumes};
     ghost use Rattle.bag_digest.specs.Failures.{UsesSource};
-    ghost use Rattle.bag_folder.specs.Folders.{FolderShown, ReadsFolder, SameShown, same_itself, same_on};
+    ghost use Rattle.bag_folder.specs.Folders.{FolderShown, ReadsFolder, SameShown, left_open, same_itself, same_on};
 
-    ghost remaining = { λ _. None };
+    ghost remaining = { λ tree. left_open tree.to_read };
 
     ghost failures = { λ tree. tree.failures };
 
@@ -234,7 +238,8 @@ impl<R: Names> Source for FolderTree<R> {
     /// Reads from the open file. Fails if no file is open.
     fn read(&mut self, buf: &mut [u8]) -> Result<usize, Failed>
         ensures bound { IfOk result (λ n. n ≤ length buf.new) }
-        ensures octets { ReadConsumes None None result buf.new }
+        ensures octets { ReadConsumes (left_open self.old.to_read) (left_open self.new.to_read)
+            result buf.new }
         ensures uses { UsesSource (λ (tree : FolderShown). tree.failures)
             (λ (tree : FolderShown). ⊥) SameShown self.old self.new (IsErr result) }
         ensures exactly { ReadsFolder self.old self.new result buf.new }
@@ -283,7 +288,8 @@ impl<R: Names> Tree for FolderTree<R> {
     /// assumed to be unchanged since it was read: opening a named pipe that has replaced a file since then would block.
     fn start(&mut self, i: usize) -> Result<(), Failed>
         requires { i < length (paths_in self.old.shown) }
-        ensures started { OnOk result (None ≡ octets_in self.old.shown i) }
+        ensures started { OnOk result
+            (left_open self.new.to_read ≡ octets_in self.old.shown i) }
         ensures uses { UsesTree (λ (tree : FolderShown). tree.shown)
             (λ (tree : FolderShown). tree.failures) (λ (tree : FolderShown). ⊥)
             self.old self.new (IsErr result) }

@@ -1,26 +1,63 @@
 //! Names in memory.
-ghost use Rattle.std.specs.Prelude.{Some};
-ghost use Rattle.bag_folder.specs.MemNames.{standing_of};
+ghost use Rattle.std.specs.Prelude.{◌≡◌, MatchOption, None, Some};
+ghost use Rattle.bag_folder.specs.MemNames.{first_in, standing_of};
 ghost use Rattle.bag_folder.specs.DiskNames.{MakesOne};
 
-use crate::entries::Entry;
 use crate::entry_kind::EntryKind;
 use crate::file_system::Names;
 use std::alloc::Global;
 use std::io::{self, ErrorKind};
+use std::marker::Model;
 
-/// Names in memory. Each file is empty, a link leads nowhere, and what is made needs no folder to be in.
+/// What stands under a name in memory.
 #[derive(Drop)]
-pub struct MemNames {
+pub struct MemEntry<'a> {
+    /// The whole name.
+    pub name: String,
+    /// The kind.
+    pub kind: EntryKind,
+    /// What a file holds.
+    pub octets: &'a [u8],
+}
+
+impl<'a> Model for MemEntry<'a> {
+    ghost use Rattle.std.specs.Prelude.{string_bytes};
+    ghost use Rattle.bag_folder.specs.MemNames.{MemEntryShown};
+
+    ghost Value = { MemEntryShown };
+
+    ghost view = { λ entry. record {
+      name = string_bytes entry.name;
+      kind = entry.kind;
+      octets = entry.octets.now;
+    } };
+}
+
+/// Names in memory. A link leads nowhere, and what is made needs no folder to be in.
+#[derive(Drop)]
+pub struct MemNames<'a> {
     /// Where the names of what is made are kept.
     pub alloc: Global,
-    /// What stands there, each thing under its whole name; of two with one name the first.
-    pub entries: Vec<Entry>,
+    /// What stands there; of two with one name the first.
+    pub entries: Vec<MemEntry<'a>>,
     /// What is answered where nothing stands, and of what can't be opened.
     pub absent: io::Error,
 }
 
-impl MemNames {
+impl<'a> MemNames<'a> {
+    /// What has this name.
+    fn find(&self, name: &str) -> Option<&MemEntry<'a>>
+        ensures { MatchOption result (first_in self.now.entries.items name.now ≡ None)
+            (λ entry. first_in self.now.entries.items name.now ≡ Some entry.now) }
+    {
+        for entry in &self.entries {
+            if entry.name.as_str() == name {
+                return Some(entry);
+            }
+        }
+        None
+    }
+
     /// Adds something of this kind. Nothing may have its name yet.
     fn add(&mut self, name: &str, kind: EntryKind) -> io::Result<()>
         ensures { MakesOne kind name.now result
@@ -31,25 +68,27 @@ impl MemNames {
             return Err(io::Error::from(ErrorKind::AlreadyExists));
         }
         let added = String::from_str(self.alloc, name)?;
-        self.entries.push(Entry { name: added, kind })?;
+        self.entries.push(MemEntry {
+            name: added,
+            kind,
+            octets: &[],
+        })?;
         Ok(())
     }
 }
 
-impl Names for MemNames {
-    type Reader = io::Empty;
+impl<'a> Names for MemNames<'a> {
+    type Reader = &'a [u8];
 
     type Writer = Vec<u8>;
 
     ghost standing = { λ names. Some (standing_of names.entries.items names.absent) };
 
     fn kind(&self, name: &str) -> io::Result<EntryKind> {
-        for entry in &self.entries {
-            if entry.name.as_str() == name {
-                return Ok(entry.kind);
-            }
+        match self.find(name) {
+            Some(entry) => Ok(entry.kind),
+            None => Err(self.absent),
         }
-        Err(self.absent)
     }
 
     fn kind_behind(&self, name: &str) -> io::Result<EntryKind> {
@@ -59,10 +98,13 @@ impl Names for MemNames {
         }
     }
 
-    fn open(&self, name: &str) -> io::Result<io::Empty> {
-        match self.kind(name)? {
-            EntryKind::File => Ok(io::empty()),
-            _ => Err(self.absent),
+    fn open(&self, name: &str) -> io::Result<&'a [u8]> {
+        match self.find(name) {
+            Some(entry) => match entry.kind {
+                EntryKind::File => Ok(entry.octets),
+                _ => Err(self.absent),
+            },
+            None => Err(self.absent),
         }
     }
 

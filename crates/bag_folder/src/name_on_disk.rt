@@ -1,7 +1,7 @@
 //! The name on disk of what is below a folder, and the file with that name.
-ghost use Rattle.std.specs.Prelude.{◌≡◌, ◌++◌, IfSome, MatchResult, OnOk, OnSome, string_bytes};
+ghost use Rattle.std.specs.Prelude.{◌≡◌, ◌++◌, IfOk, IfSome, MatchResult, OnOk, OnSome, string_bytes};
 ghost use Rattle.bag_folder.specs.Directories.{name_below};
-ghost use Rattle.bag_folder.specs.DiskNames.{Opens};
+ghost use Rattle.bag_folder.specs.DiskNames.{Opens, octets_under};
 
 use crate::fault::{Cause, with_cause};
 use crate::file_system::Names;
@@ -24,6 +24,8 @@ pub fn opened<R: Names>(
         (λ cause. OnSome cause (string_bytes name.new ≡ name_below folder.now path.now)) }
     ensures opens { IfSome (R.standing rt.now) (λ known.
         Opens R.Reader.remaining known (name_below folder.now path.now) result) }
+    ensures unread { IfOk result (λ file. R.Reader.remaining file
+        ≡ octets_under (R.standing rt.now) (name_below folder.now path.now)) }
 {
     name.clear();
     if spell(name, folder, path).is_err() {

@@ -5,6 +5,7 @@ use Rattle.bag_folder.specs.declared.fault.Cause.{Cause}
 use Rattle.bag_folder.specs.Supplying.{IsNameTo}
 use Rattle.bag_folder.specs.Unfits.{CountsTrouble}
 use Rattle.bag_folder.proofs.FaultLemmas.{OnSome-weaker, answers_told, told_by_name}
+use Rattle.bag_folder.proofs.SupplyLemmas.{supplied_so}
 use Rattle.bag_folder.proofs.folder_supplier.FolderSupplierSupplier.ask.Goals as goal
 
 pub returns-clause-exactly : goal.returns-clause-exactly
@@ -20,3 +21,9 @@ returns-clause-exactly g c =
       answers = answers_told _ _ _ _ c.args.path.now _ (string_bytes c.self-2.inside.name) _ _ c.seek-answer.result c.counted.result c.self-2.inside.troubles c.counted.new.self (search rules) (search rules) (search rules) (search rules)
           c.counted.ensures.answer (subst (λ (name : List ℕ). CountsTrouble c.seek-answer.result name c.self-2.inside.troubles c.counted.new.self) c.as_str.ensures.value c.counted.ensures.counted) c.seek-answer.ensures.answers;
     }
+
+pub returns-clause-supplied : goal.returns-clause-supplied
+returns-clause-supplied g c =
+    let exactly = returns-clause-exactly g c in
+    supplied_so c.args.self.now.standing c.args.self.now.folder c.args._url.now c.args.path.now _ _
+    c.counted.result _ exactly.answers

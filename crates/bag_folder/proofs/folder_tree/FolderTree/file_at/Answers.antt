@@ -11,7 +11,7 @@ returns g c =
     let tree = c.args.self.now in
     let paths = c.self.inside.paths.items in
     let path = c.index.result.now in
-    let seen = paths_seen tree paths c.self.inside.has_dir
+    let seen = paths_seen _ tree paths c.self.inside.has_dir
     (ap (λ (shown : FolderShown). shown.shown) c.self.view_is) in
     let at = slice_get_read paths (length paths) c.args.i path refl
     (subst (λ (others : List (List ℕ)). c.args.i < length others) seen c.requires)

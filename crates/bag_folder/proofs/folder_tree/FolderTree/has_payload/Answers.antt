@@ -7,5 +7,5 @@ use Rattle.bag_folder.proofs.folder_tree.FolderTree.has_payload.Goals as goal
 
 pub returns : goal.returns
 returns g c =
-    let seen = paths_seen c.args.self.now c.self.inside.paths.items c.self.inside.has_dir (ap (λ (tree : FolderShown). tree.shown) c.self.view_is) in
+    let seen = paths_seen _ c.args.self.now c.self.inside.paths.items c.self.inside.has_dir (ap (λ (tree : FolderShown). tree.shown) c.self.view_is) in
     c.has_payload.ensures ∙ ap (list_any is_payload) (c.deref.ensures.value ∙ sym seen)

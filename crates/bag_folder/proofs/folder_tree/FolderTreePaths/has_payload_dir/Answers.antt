@@ -7,5 +7,5 @@ use Rattle.bag_folder.proofs.folder_tree.FolderTreePaths.has_payload_dir.Goals a
 
 pub returns-clause-payload : goal.returns-clause-payload
 returns-clause-payload g c = λ path here.
-    let seen = paths_seen c.args.self.now c.self.inside.paths.items c.self.inside.has_dir (ap (λ (tree : FolderShown). tree.shown) c.self.view_is) in
+    let seen = paths_seen _ c.args.self.now c.self.inside.paths.items c.self.inside.has_dir (ap (λ (tree : FolderShown). tree.shown) c.self.view_is) in
     All-contains (λ (p : List ℕ). is_payload p ≡ true → c.self.inside.has_dir ≡ true) c.self.inside.paths.items path c.self.invariant.payload (subst (λ (paths : List (List ℕ)). Contains paths path) seen here)

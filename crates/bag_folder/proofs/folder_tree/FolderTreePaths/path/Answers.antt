@@ -7,6 +7,6 @@ use Rattle.bag_folder.proofs.folder_tree.FolderTreePaths.path.Goals as goal
 
 pub returns : goal.returns
 returns g c =
-    let seen = paths_seen c.args.self.now c.self.inside.paths.items c.self.inside.has_dir (ap (λ (tree : FolderShown). tree.shown) c.self.view_is) in
+    let seen = paths_seen _ c.args.self.now c.self.inside.paths.items c.self.inside.has_dir (ap (λ (tree : FolderShown). tree.shown) c.self.view_is) in
     subst (λ (paths : List (List ℕ)). slice_get paths c.args.i ≡ Some c.index.result.now) (sym seen)
     (slice_get_read c.self.inside.paths.items (length c.self.inside.paths.items) c.args.i c.index.result.now refl (subst (λ (paths : List (List ℕ)). c.args.i < length paths) seen c.requires) c.index.ensures)
