@@ -18,9 +18,8 @@ use Rattle.bag_folder.specs.declared.fault.OpenFault.{OpenFault}
 use Rattle.bag_folder.specs.declared.fault.OpenFault.TheVariants as open_fault
 use Rattle.bag_folder.specs.declared.root.Root.TheVariants.{Base}
 use Rattle.bag_folder.specs.Bringing.{Bringing, courier_of}
-use Rattle.bag_folder.specs.Directories.{Listing}
 use Rattle.bag_folder.specs.Faults.{IfUnfit}
-use Rattle.bag_folder.specs.Folders.{FolderShown, IsOpened, IsRefused}
+use Rattle.bag_folder.specs.Folders.{DiskShown, FolderShown, IsOpened, IsRefused}
 use Rattle.bag_folder.specs.Unfits.{UnfitShown}
 use Rattle.bag_program.specs.declared.explanation.Ended.{Ended}
 use Rattle.bag_program.specs.Endings.{first_name, name_if, name_if_crowded, name_if_empty, why_unopened}
@@ -28,7 +27,7 @@ use Rattle.bag_program.specs.NoResults.{no_result_of_open}
 use Rattle.bag_program.specs.Making.{kept_folder}
 use Rattle.bag_program.specs.Working.{AreOpened, NoMemory, OneRefused, OutOfMemory, Refused, FirstIsRefused, WithFolder, WithFolders}
 
-module _ {W : Type 0} (contents : W → Option (List ℕ)) (known : Option Listing) (untouched : Type 0) (old new : Output W) (result : Ended) where
+module _ {W : Type 0} (contents : W → Option (List ℕ)) (known : DiskShown) (untouched : Type 0) (old new : Output W) (result : Ended) where
   pub not_opened : (folder : List ℕ) (does : FolderShown → FolderShown → Type 0) (fault : OpenFault) → IfUnfit fault (IsRefused known folder Base) → untouched
       → Printed contents old new result.status (no_result_text (no_result_of_open fault) ∷ []) FAILED → result.why ≡ why_unopened fault → WithFolder contents known folder untouched does old new result
   not_opened folder does (open_fault.Files unfit) refused same printed why = Refused unfit refused same printed why
@@ -47,7 +46,7 @@ kept folder status now made is some done = let left : Some folder ≡ kept_folde
 
 -- FOLDERS OPENED IN SEQUENCE
 
-module _ {X : Type 0} (octets : X → List ℕ) (known : Option Listing) where
+module _ {X : Type 0} (octets : X → List ℕ) (known : DiskShown) where
   pub opened_more : (folders : List X) (i : ℕ) (folder : X) (text : List ℕ) (trees : List FolderShown) (tree : FolderShown) → i < length folders → folder ≡ get_or folders i folder → text ≡ octets folder
       → AreOpened known (map octets (take i folders)) trees → IsOpened known text Base tree → AreOpened known (map octets (take (i + 1) folders)) (trees ++ tree ∷ [])
   opened_more [] i folder text trees tree inside item is opened this = absurd (omega (arith, inside))

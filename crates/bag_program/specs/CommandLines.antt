@@ -1,9 +1,11 @@
 -- The command lines that the program knows.
-use Rattle.std.specs.Prelude.{◌≡◌, ◌≢◌, ◌&&◌, ⊤, ℕ, Bool, List, None, Option, Some, [], ◌∷◌, codes, if◌then◌else◌, length, map, nat_eq, nat_lt, option_map, string_bytes}
+use Rattle.std.specs.Prelude.{◌≡◌, ◌≢◌, ◌&&◌, ◌||◌, ⊤, ℕ, Bool, IsTrue, List, None, Option, Some, [], ◌∷◌, codes, false, if◌then◌else◌, length, map, nat_eq, nat_lt, option_map, string_bytes, true}
 use Rattle.std.specs.List.{starts_with}
 use Rattle.std.specs.Str.{bytes_eq}
 use Rattle.bag_program.specs.declared.command_line.Request.{Request}
 use Rattle.bag_program.specs.declared.command_line.Request.TheVariants.{Check, Make, Ledger}
+use Rattle.bag_program.specs.declared.usage.Usage.{Usage}
+use Rattle.bag_program.specs.declared.usage.Usage.TheVariants.{Help, Refused}
 use Rattle.bag_program.specs.declared.command_line.Work.{Work}
 use Rattle.bag_program.specs.declared.command_line.Work.TheVariants.{Begin, Intake, Report, Audit, Fetch, Export, List as Listing}
 
@@ -19,6 +21,33 @@ operands_of (word ∷ words) =
     if bytes_eq word (codes "--") then Some words
     else if is_option word then None
     else option_map (λ operands. word ∷ operands) (operands_of words)
+
+-- HELP
+
+-- `--help`, `--version`, or one hyphen before letters of which the first is that of one of these
+abbrev pub is_help_option : List ℕ → Bool
+is_help_option word = bytes_eq word (codes "--help") || bytes_eq word (codes "--version")
+    || starts_with nat_eq word (codes "-h") || starts_with nat_eq word (codes "-V")
+
+-- one of the arguments before the first `--` is such an option
+abbrev pub has_help_option : List (List ℕ) → Bool
+has_help_option [] = false
+has_help_option (word ∷ words) = if bytes_eq word (codes "--") then false
+    else if is_help_option word then true
+    else has_help_option words
+
+-- the arguments ask for help, or for the version: by such an option, or by `help` in place of a command
+abbrev pub asks_for_help : List (List ℕ) → Bool
+asks_for_help [] = false
+asks_for_help (word ∷ words) =
+    if bytes_eq word (codes "help") then true else has_help_option (word ∷ words)
+
+-- help is the answer to arguments that ask for it
+abbrev pub IsAnswerTo : List (List ℕ) → Usage → Type 0
+IsAnswerTo words (Help text) = IsTrue (asks_for_help words)
+IsAnswerTo words (Refused text) = ⊤
+
+-- COMMANDS AND THEIR OPERANDS
 
 -- the arguments are this command's name, followed by arguments with these operands
 abbrev pub Names : List ℕ → List (List ℕ) → List (List ℕ) → Type 0

@@ -1,18 +1,19 @@
 -- Ledgers in files: what is known of a keeper from what the files held when they were opened, and what is left in the
 -- files when it is closed or the program stops.
-use Rattle.std.specs.Prelude.{◌≡◌, ◌≢◌, ◌⊎◌, [], Bool, IsTrue, Some, false, true, ⊤}
+use Rattle.std.specs.Prelude.{◌≡◌, ◌≢◌, ◌⊎◌, [], ℕ, Bool, IsTrue, None, Option, Some, false, true, ⊤}
 use Rattle.bag_ledger.specs.Ledgers.{Ledger}
 use Rattle.bag_sqlite.specs.Adopting.{IsVerified}
-use Rattle.bag_sqlite.specs.LedgersInTables.{IsLedgerDatabase}
+use Rattle.bag_sqlite.specs.LedgersInTables.{IsDatabaseOf, IsLedgerDatabase}
 use Rattle.bag_sqlite.specs.NewTables.{IsLeft, MakesLedger}
 use Rattle.bag_sqlite.specs.Migrating.{MigratesLedger}
 use Rattle.bag_sqlite.specs.Refusing.{IsNoAnswer, RefusesToAdopt}
 use Rattle.bag_sqlite.specs.SqlKeepers.{HoldsLedger, KeepsAlone}
-use Rattle.bag_sqlite.specs.Tables.{no_schema}
+use Rattle.bag_sqlite.specs.Tables.{First, Layout, Migrated, Second, no_schema}
 use Rattle.bag_sqlite.specs.declared.adopting.AdoptFault.{AdoptFault}
 use Rattle.bag_sqlite.specs.declared.adopting.AdoptFault.TheVariants.{NotALedger}
 use Rattle.sqlite.specs.Closing.{HoldsAlone}
-use Rattle.sqlite.specs.Files.{HoldsDatabase, IsBlankAs, IsClosed as HasNoNewOutcome, IsCleanLeft, IsOpened, LeavesFiles, file_state, image_of, over_files}
+use Rattle.sqlite.specs.Effect.{IsDatabase}
+use Rattle.sqlite.specs.Files.{FailsToClose, HoldsDatabase, IsBlankAs, IsClosed as HasNoNewOutcome, IsCleanLeft, IsOpened, LeavesFiles, file_state, image_of, over_files}
 use Rattle.sqlite.specs.Held.{Held, IsNew}
 use Rattle.sqlite.specs.Start.{FindsIn}
 use Rattle.sqlite.specs.State.{HasCleanDisk, Survives}
@@ -23,17 +24,21 @@ use Rattle.sqlite_disk.specs.declared.Files.{Files}
 use Rattle.sqlite_disk.specs.Disk.{Only}
 use Rattle.sqlite_store.specs.FileStore as files
 use Rattle.sqlite_store.specs.declared.store.FileStore.{FileStore}
+use Rattle.sqlite_trees.specs.View.{IsClean}
 use Rattle.sqlite_wal.specs.Files.{outcomes}
 use Rattle.sqlite_wal.specs.Reads.{AreClean}
 use Rattle.sqlite_wal.specs.Recovery.{Image}
-use Rattle.bag_program.specs.Unopened.{HasNoAnswer, cause_of_fault, cause_seen}
-use Rattle.bag_program.specs.declared.ledgers.found_ledger.Found.TheVariants.{Empty, File, Nothing, Other}
+use Rattle.bag_program.specs.FoundFiles.{BarsMaking}
+use Rattle.bag_program.specs.Unopened.{HasNoAnswer, cause_of_fault, cause_seen, fault_seen}
+use Rattle.bag_program.specs.declared.ledgers.found_ledger.Found.TheVariants.{Empty, File, Nothing}
 use Rattle.bag_program.specs.declared.ledgers.found_ledger.Seen.{Seen}
 use Rattle.bag_program.specs.declared.ledgers.open_ledger.Closed.{Closed}
 use Rattle.bag_program.specs.declared.ledgers.open_ledger.Closed.TheVariants as closed
+use Rattle.bag_program.specs.declared.ledgers.open_ledger.Uncopied.{Uncopied}
 use Rattle.bag_program.specs.declared.ledgers.unopened_ledger.Left.{Left}
 use Rattle.bag_program.specs.declared.ledgers.unopened_ledger.Left.TheVariants as left
-use Rattle.bag_program.specs.declared.ledgers.ledger_cause.LedgerCause.TheVariants.{NoDatabase as IsNoDatabase}
+use Rattle.bag_program.specs.declared.ledgers.ledger_cause.LedgerCause.{LedgerCause}
+use Rattle.bag_program.specs.declared.ledgers.ledger_cause.LedgerCause.TheVariants.{LogStays, NoDatabase as IsNoDatabase}
 use Rattle.bag_program.specs.declared.ledgers.unopened_ledger.Unopened.{Unopened}
 
 -- WHAT IS SEEN
@@ -45,7 +50,7 @@ WasSeenBefore seen again = (again.name ≡ seen.name) × (again.log ≡ seen.log
 
 -- nothing was there before both were locked, and then a file of zero octets without a log
 abbrev pub IsNewFile : Seen → Type 0
-IsNewFile seen = (seen.before ≡ Some Nothing) × (seen.found ≡ Empty) × (seen.had_log ≡ false)
+IsNewFile seen = (seen.before ≡ Some Nothing) × (seen.found ≡ Empty) × (seen.log_size ≡ 0)
 
 -- OPENING OR MAKING
 
@@ -60,6 +65,20 @@ OpensOrMakes is_made opens makes =
 abbrev pub HoldsLedgerIn : Image → Ledger → Type 0
 HoldsLedgerIn image ledger =
     (db : Trees) × ∥ HoldsDatabase image db ∥₁ × IsLedgerDatabase db ledger
+
+-- they do, with these tables
+abbrev pub HoldsLedgerAs : Image → Layout → Ledger → Type 0
+HoldsLedgerAs image layout ledger =
+    (db : Trees) × ∥ HoldsDatabase image db ∥₁ × IsDatabaseOf layout db ledger
+
+-- the same tables, or those of format 2 that were made beside those of format 1
+abbrev pub IsMovedTo : Layout → Layout → Type 0
+IsMovedTo old new = (new ≡ old) ⊎ ((old ≡ First) × (new ≡ Second Migrated))
+
+-- they hold a database without tables, indexes or views
+abbrev pub HoldsNoTables : Image → Type 0
+HoldsNoTables image = (db : Trees) × ∥ HoldsDatabase image db ∥₁
+    × IsDatabase (record { schema = no_schema; trees = db })
 
 -- they do, and so does the file without its log
 pub record HoldsLedgerAlone (image : Image) (ledger : Ledger) : Type 0 where
@@ -135,10 +154,6 @@ module _ {D : Type 0} {g : Ghosts D} where
   abbrev pub MayBeLeft : Held (FileStore D g) → Image → Type 0
   MayBeLeft kept image = (files.state kept.store).may_leave image
 
-  -- the store keeps its tables as the kit numbers them
-  abbrev pub IsNumbered : Held (FileStore D g) → Type 0
-  IsNumbered kept = IsTrue (files.view kept.store).is_numbered
-
   -- the program stopped with this connection, and the files hold a database that it may have left
   abbrev pub IsStopOf : Held (FileStore D g) → Image → Type 0
   IsStopOf kept image =
@@ -150,11 +165,29 @@ HasCopiedLog g files = AreClean g files.log files.db
     → (db : Trees) × HoldsAlone (image_of g files) db
     × ((image : Image) → outcomes g files.log files.db image → HoldsAlone image db)
 
+-- The log wasn't copied, since memory ran out, or the store failed then or had failed. A crash leaves what it could
+-- leave before.
+pub record IsUncopied {D : Type 0} {g : Ghosts D} (kept : Held (FileStore D g))
+    (left : Uncopied D g) : Type 0 where
+  pub same : HasNoNewOutcome kept left.store
+  pub why : IsClean (files.view left.store) → FailsToClose kept left.store left.error
+
+-- the log stays beside the file, which doesn't hold all of the ledger alone
+abbrev pub IsApart : {D : Type 0} {g : Ghosts D} → Closed D g → Type 0
+IsApart (closed.Copied files) = ⊥
+IsApart (closed.Uncopied left) = ⊤
+IsApart (closed.Removed same) = ⊥
+
+-- what is told of that
+abbrev pub TellsLeft : {D : Type 0} {g : Ghosts D} → Closed D g → Option LedgerCause → Type 0
+TellsLeft (closed.Uncopied left) told = told ≡ Some (LogStays left.error)
+TellsLeft others told = told ≡ None
+
 -- What is left by this keeper: the log was copied; or what a crash leaves is what it could leave; or the files were
 -- removed, and it held no transfer.
 abbrev pub IsLeftBy : {D : Type 0} {g : Ghosts D} → Held (FileStore D g) → Closed D g → Type 0
 IsLeftBy kept (closed.Copied files) = IsClosed kept files
-IsLeftBy kept (closed.Uncopied store) = HasNoNewOutcome kept store
+IsLeftBy kept (closed.Uncopied left) = IsUncopied kept left
 IsLeftBy kept (closed.Removed same) = (same ≡ kept)
     × (HasCleanDisk (file_state kept) → HoldsLedger (file_state kept) [])
 
@@ -194,16 +227,17 @@ module _ {S D : Type 0} (g : Ghosts D) (image : Image) where
   pub data IsUnopened (it : Unopened (Left S D g)) (is_none : Seen → Type 0)
       (may_refuse : Held (FileStore D g) → Type 0) : Type 0 where
     NoAnswer : HasNoAnswer it → IsAsItWas it.left → IsUnopened it is_none may_refuse
-    NoFile : (seen : Seen) → it.seen ≡ Some seen → is_none seen → it.fault ≡ NotALedger
-        → it.cause ≡ Some (cause_seen seen.found) → IsAsItWas it.left
-        → IsUnopened it is_none may_refuse
+    NoFile : (seen : Seen) → it.seen ≡ Some seen → is_none seen
+        → it.fault ≡ fault_seen seen.found → it.cause ≡ Some (cause_seen seen.found)
+        → IsAsItWas it.left → IsUnopened it is_none may_refuse
     NoDatabase : (rest : Leftover D g) → it.left ≡ left.Files rest
         → (IsCleanLeft rest → (db : Trees) → ¬ HoldsDatabase image db) → it.fault ≡ NotALedger
         → it.cause ≡ Some IsNoDatabase → IsAsItWas it.left → IsUnopened it is_none may_refuse
     Refused : (opened refused : Held (FileStore D g)) → it.left ≡ left.Database refused
         → may_refuse opened → IsHandedBack image opened refused (Migrates opened)
         → (HasCleanDisk (file_state refused) → IsRefusal image it.fault opened)
-        → it.cause ≡ cause_of_fault it.fault → IsUnopened it is_none may_refuse
+        → (size : Option ℕ) → it.cause ≡ cause_of_fault size it.fault
+        → IsUnopened it is_none may_refuse
 
   -- no database was opened to be a ledger, nor was it seen that there is none
   abbrev pub IsUnused : Unopened (Left S D g) → Type 0
@@ -215,4 +249,4 @@ module _ {S D : Type 0} (g : Ghosts D) (image : Image) where
 
   -- no ledger was opened or made; a database without tables isn't refused
   abbrev pub IsUnmadeFile : Unopened (Left S D g) → Type 0
-  IsUnmadeFile it = IsUnopened it (λ seen. seen.found ≡ Other) HasTables
+  IsUnmadeFile it = IsUnopened it (λ seen. BarsMaking seen.found) HasTables

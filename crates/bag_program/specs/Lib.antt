@@ -1,9 +1,13 @@
 pub mod Answers
+pub mod Disks
 pub mod Endings
+pub mod FoundFiles
 pub mod LedgerFiles
 pub mod Making
 pub mod Named
 pub mod CommandLines
 pub mod NoResults
+pub mod Screens
+pub mod Terminals
 pub mod Unopened
 pub mod Working

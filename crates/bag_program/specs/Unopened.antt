@@ -1,5 +1,6 @@
 -- Why a ledger wasn't opened: the cause that is told besides its fault.
-use Rattle.std.specs.Prelude.{◌≡◌, ◌≢◌, ◌⊎◌, None, Option, Some, unwrap_or}
+use Rattle.std.specs.Prelude.{◌≡◌, ◌≢◌, ◌⊎◌, ℕ, None, Option, Some, unwrap_or}
+use Rattle.std.specs.Option.{option_map}
 use Rattle.std.specs.IoError.{error_kind}
 use Rattle.std.specs.declared.io.Error.{Error as SystemError}
 use Rattle.std.specs.declared.io.ErrorKind.TheVariants.{OutOfMemory as NoMemory, Unsupported}
@@ -18,7 +19,7 @@ use Rattle.bag_program.specs.declared.ledgers.locking.Barred.TheVariants as barr
 use Rattle.bag_program.specs.declared.ledgers.found_ledger.Found.{Found}
 use Rattle.bag_program.specs.declared.ledgers.found_ledger.Found.TheVariants as found
 use Rattle.bag_program.specs.declared.ledgers.ledger_cause.LedgerCause.{LedgerCause}
-use Rattle.bag_program.specs.declared.ledgers.ledger_cause.LedgerCause.TheVariants.{Busy, Database, Empty, Journal, Missing, NoDatabase, NoLedger, NotFile, NotPlain, System}
+use Rattle.bag_program.specs.declared.ledgers.ledger_cause.LedgerCause.TheVariants.{Busy, Database, Empty, Journal, LogAlone, Missing, NeedsMemory, NoDatabase, NoLedger, NotFile, NotPlain, System}
 use Rattle.bag_program.specs.declared.ledgers.unopened_ledger.Unopened.{Unopened}
 
 -- the system's error: want of memory is told as such, and any other as it is
@@ -39,20 +40,26 @@ TellsOpening opening.HotJournal why = why ≡ barred.For Journal
 abbrev pub cause_seen : Found → LedgerCause
 cause_seen found.Nothing = Missing
 cause_seen found.Empty = Empty
+cause_seen found.LogAlone = LogAlone
 cause_seen _ = NotFile
 
--- why no connection was opened; nothing is told of want of memory
-abbrev pub cause_of_error : Error → Option LedgerCause
-cause_of_error (SqliteFailure OutOfMemory) = None
-cause_of_error (SqliteFailure NotADatabase) = Some NoDatabase
-cause_of_error error = Some (Database error)
+-- A log alone is a store that can't be opened. Anything else is no ledger.
+abbrev pub fault_seen : Found → AdoptFault
+fault_seen found.LogAlone = Store (SqliteFailure CannotOpen)
+fault_seen _ = NotALedger
+
+-- why no connection was opened on files of this size, if it is known; of want of memory the size is told
+abbrev pub cause_of_error : Option ℕ → Error → Option LedgerCause
+cause_of_error size (SqliteFailure OutOfMemory) = option_map NeedsMemory size
+cause_of_error size (SqliteFailure NotADatabase) = Some NoDatabase
+cause_of_error size error = Some (Database error)
 
 -- why the database was refused; damage is told by the fault
-abbrev pub cause_of_fault : AdoptFault → Option LedgerCause
-cause_of_fault NotALedger = Some NoLedger
-cause_of_fault (Damaged name path) = None
-cause_of_fault Memory = None
-cause_of_fault (Store error) = Some (Database error)
+abbrev pub cause_of_fault : Option ℕ → AdoptFault → Option LedgerCause
+cause_of_fault size NotALedger = Some NoLedger
+cause_of_fault size (Damaged name path) = None
+cause_of_fault size Memory = option_map NeedsMemory size
+cause_of_fault size (Store error) = Some (Database error)
 
 -- the store has failed, with this error if it told one; otherwise it gave what no sound database gives
 abbrev pub cause_of_store : Option Error → LedgerCause
@@ -76,9 +83,9 @@ abbrev pub cause_barred : Barred → Option LedgerCause
 cause_barred barred.Memory = None
 cause_barred (barred.For cause) = Some cause
 
--- memory ran out, of which nothing is told, or the store failed, of which a cause is told
+-- memory ran out, of which at most a size is told, or the store failed, of which a cause is told
 pub record HasNoAnswer {L : Type 0} (it : Unopened L) : Type 0 where
   pub no_answer : IsNoAnswer it.fault
-  pub memory : it.fault ≡ Memory → it.cause ≡ None
+  pub memory : it.fault ≡ Memory → (size : Option ℕ) × (it.cause ≡ option_map NeedsMemory size)
   pub store : (error : Error) → it.fault ≡ Store error
       → (cause : LedgerCause) × (it.cause ≡ Some cause)

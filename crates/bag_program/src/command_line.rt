@@ -1,6 +1,6 @@
 //! The request on the command line.
 ghost use Rattle.std.specs.Prelude.{◌≡◌, IfNone, IfSome, map, option_map, string_bytes};
-ghost use Rattle.bag_program.specs.CommandLines.{AsksForWork, IsRequest, is_option, operands_of};
+ghost use Rattle.bag_program.specs.CommandLines.{AsksForWork, IsRequest, asks_for_help, has_help_option, is_help_option, is_option, operands_of};
 ghost use Rattle.bag_program.specs.declared.command_line.Request.{Request};
 ghost use Rattle.bag_program.specs.declared.command_line.Work.{Work};
 
@@ -127,4 +127,36 @@ fn is_option(word: &str) -> bool
     ensures { result ≡ is_option word.now }
 {
     word.len() > 1 && word.starts_with("-")
+}
+
+/// Whether the arguments ask for help, or for the version.
+pub fn asks_for_help(words: &[String]) -> bool
+    ensures { result ≡ asks_for_help (map string_bytes words.now) }
+{
+    if words.is_empty() {
+        return false;
+    }
+    words[0].as_str() == "help" || has_help_option(words)
+}
+
+/// Whether one of the arguments before the first `--` is an option that asks for help, or for the version.
+fn has_help_option(words: &[String]) -> bool
+    ensures { result ≡ has_help_option (map string_bytes words.now) }
+{
+    for word in words {
+        if word.as_str() == "--" {
+            return false;
+        }
+        if is_help_option(word.as_str()) {
+            return true;
+        }
+    }
+    false
+}
+
+/// Whether an argument is an option that asks for help, or for the version.
+fn is_help_option(word: &str) -> bool
+    ensures { result ≡ is_help_option word.now }
+{
+    word == "--help" || word == "--version" || word.starts_with("-h") || word.starts_with("-V")
 }

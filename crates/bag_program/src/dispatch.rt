@@ -1,6 +1,7 @@
 //! Runs the command on the command line.
 ghost use Rattle.std.specs.Prelude.{map, string_bytes};
 ghost use Rattle.bag_program.specs.Answers.{RefusesWords, Runs, RunsCommand};
+ghost use Rattle.bag_program.specs.Disks.{disk_known};
 
 use crate::command_line::{Request, operands};
 use crate::explanation::Ended;
@@ -12,21 +13,28 @@ use crate::system::System;
 use crate::usage::Usage;
 use bag_commands::status::{DONE, USAGE};
 use bag_commands::{NoResult, Output, print_no_result};
-use bag_folder::{Destination, Directories};
+use bag_folder::{Directories, Names, NewFolders};
 use std::alloc::AllocError;
 use std::io::Write;
-use std::rt::Files;
 
 /// Runs the command that these arguments ask for.
-pub fn command<R: Files + Eprint, D: Directories, L: Ledgers, W: Write + Drop>(
-    system: &System<'_, R, D>,
+pub fn command<
+    R: Eprint,
+    N: Names + Copy,
+    D: Directories,
+    L: Ledgers,
+    F: NewFolders,
+    W: Write + Drop,
+>(
+    system: &System<'_, R, N, D>,
     ledgers: L,
-    destination: &mut Destination<'_, R>,
+    folders: &mut F,
     mut words: Vec<String>,
     out: &mut Output<W>,
 ) -> Ended
-    ensures { RunsCommand L.Kept.Keeper L.Ledgers W.contents (D.listing system.now.disk.now)
-        (map string_bytes words.items) destination.old destination.new out.old out.new result }
+    ensures { RunsCommand L.Kept.Keeper L.Ledgers F.Folder.Sink F.NewFolders W.contents
+        (disk_known D.listing N.standing system.now) (map string_bytes words.items)
+        folders.old folders.new out.old out.new result }
 {
     if words.is_empty() {
         return Ended::plain(out.print_line(
@@ -42,49 +50,57 @@ pub fn command<R: Files + Eprint, D: Directories, L: Ledgers, W: Write + Drop>(
         return Ended::plain(refuse(system, &given, out));
     };
     match Request::of(name.as_str(), operands.as_slice()) {
-        Some(request) => run_request(system, ledgers, destination, &request, out),
+        Some(request) => run_request(system, ledgers, folders, &request, out),
         None => Ended::plain(refuse(system, &given, out)),
     }
 }
 
 /// Runs a command.
-fn run_request<R: Files + Eprint, D: Directories, L: Ledgers, W: Write + Drop>(
-    system: &System<'_, R, D>,
+fn run_request<
+    R: Eprint,
+    N: Names + Copy,
+    D: Directories,
+    L: Ledgers,
+    F: NewFolders,
+    W: Write + Drop,
+>(
+    system: &System<'_, R, N, D>,
     ledgers: L,
-    destination: &mut Destination<'_, R>,
+    folders: &mut F,
     request: &Request<'_>,
     out: &mut Output<W>,
 ) -> Ended
-    ensures { Runs L.Kept.Keeper L.Ledgers W.contents (D.listing system.now.disk.now) request.now
-        destination.old destination.new out.old out.new result }
+    ensures { Runs L.Kept.Keeper L.Ledgers F.Folder.Sink F.NewFolders W.contents
+        (disk_known D.listing N.standing system.now) request.now folders.old folders.new
+        out.old out.new result }
 {
     match request {
         Request::Check { folder } => check_folder(system, folder, out),
         Request::Make {
             source,
-            destination: folder,
+            destination,
             algorithms,
         } => {
             let making = Making {
                 source,
-                destination: folder,
+                destination,
                 names: algorithms,
             };
-            make_folder(system, destination, &making, out)
+            make_folder(system, folders, &making, out)
         }
         Request::Ledger { ledger, work } => {
-            work_on_ledger(system, ledgers, destination, ledger, work, out)
+            work_on_ledger(system, ledgers, folders, ledger, work, out)
         }
     }
 }
 
 /// Prints help if the arguments ask for it; otherwise says on standard error why they are no known command.
-fn refuse<R: Eprint, D, W: Write + Drop>(
-    system: &System<'_, R, D>,
+fn refuse<R: Eprint, N, D, W: Write + Drop>(
+    system: &System<'_, R, N, D>,
     words: &[String],
     out: &mut Output<W>,
 ) -> u8
-    ensures { RefusesWords W.contents out.old out.new result }
+    ensures { RefusesWords W.contents (map string_bytes words.now) out.old out.new result }
 {
     match Usage::of(system.alloc, words) {
         Ok(Usage::Help(text)) => out.print_line(text.as_str().trim_end(), DONE),

@@ -1,12 +1,13 @@
 //! How a command has ended, and why it wasn't done or had nothing to do.
 ghost use Rattle.std.specs.Prelude.{◌≡◌, string_bytes};
 ghost use Rattle.std.specs.Option.{option_map};
-ghost use Rattle.bag_program.specs.Endings.{IsWhyOf, or_why, plain, why_exceeds, why_failed};
+ghost use Rattle.bag_program.specs.Endings.{IsToldOf, IsWhyOf, or_why, plain, why_exceeds, why_failed};
 
 use crate::ledgers::ledger_cause::LedgerCause;
 use crate::named::Named;
 use crate::told_limit::Limit;
 use crate::told_name::{FolderName, ToldName};
+use crate::told_refusal::Refusal;
 use bag_folder::Unfit;
 use std::alloc::Global;
 use std::fmt::{self, Display, Formatter};
@@ -29,7 +30,7 @@ impl Ended {
         Ended { status, why: None }
     }
 
-    /// The same, with this reason if it has none, or only that of a folder without payload files.
+    /// The same, with this reason if it has none, or only that of a refusal or of a folder without payload files.
     pub fn or(self, why: Option<Why>) -> Ended
         ensures { result ≡ or_why self why }
     {
@@ -38,6 +39,7 @@ impl Ended {
             why: match self.why {
                 None => why,
                 Some(Why::Empty(folder)) => why.or(Some(Why::Empty(folder))),
+                Some(Why::Refused(refusal)) => why.or(Some(Why::Refused(refusal))),
                 told => told,
             },
         }
@@ -53,8 +55,12 @@ pub enum Why {
     Exceeds(Named<Limit>),
     /// There are no payload files in this folder.
     Empty(FolderName),
+    /// No transfer was opened.
+    Refused(Named<Refusal>),
     /// A ledger can't be used.
     Ledger(Named<LedgerCause>),
+    /// A word is no name of an algorithm.
+    UnknownAlgorithm,
 }
 
 impl Why {
@@ -95,6 +101,17 @@ impl Why {
         Some(Why::Exceeds(Named { name, what: limit }))
     }
 
+    /// No transfer was opened, for what the transfer with this name has to do with it, if memory suffices.
+    pub fn of_refusal(alloc: Global, name: &str, refusal: Refusal) -> Option<Why>
+        ensures { IsToldOf name.now refusal result }
+    {
+        let name = String::from_str(alloc, name).ok()?;
+        Some(Why::Refused(Named {
+            name,
+            what: refusal,
+        }))
+    }
+
     /// The ledger with this name can't be used for this cause, if that is known and memory suffices.
     pub fn of_ledger(alloc: Global, name: &str, cause: Option<LedgerCause>) -> Option<Why>
         ensures { IsWhyOf name.now cause result }
@@ -123,11 +140,17 @@ impl Display for Why {
                 let folder = ToldName::of(folder.text.as_str());
                 write!(f, "{folder}: it has no payload file below data/")
             }
+            Why::Refused(Named { name, what }) => write!(
+                f,
+                "{}{what}",
+                ToldName::of(name.as_str())
+            ),
             Why::Ledger(Named { name, what }) => write!(
                 f,
                 "{}: {what}",
                 ToldName::of(name.as_str())
             ),
+            Why::UnknownAlgorithm => f.write_str("the algorithms are md5, sha1, sha256 and sha512"),
         }
     }
 }

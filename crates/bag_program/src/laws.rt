@@ -1,23 +1,28 @@
 //! Laws on ledgers in files: what one run of the program leaves is what the next one holds. Each function's contract is
 //! one law, and its body is empty, or another law.
-ghost use Rattle.std.specs.Prelude.{◌↔◌, ◌≡◌, ◌⊎◌, ◌∷◌, ◌++◌, [], ℕ, List};
-ghost use Rattle.bag_program.specs.LedgerFiles.{HoldsLedgerIn, IsAdoptedFrom, IsConnectedTo, IsMadeIn, IsNumbered, IsLeftBy, IsStopOf, IsUnmadeFile, IsUnopenedFile, MayBeLeft, Migrates};
+ghost use Rattle.std.specs.Prelude.{◌↔◌, ◌≡◌, ◌⊎◌, ◌∷◌, ◌++◌, [], ℕ, IsTrue, List};
+ghost use Rattle.bag_program.specs.LedgerFiles.{HoldsLedgerAs, HoldsLedgerIn, HoldsNoTables, IsAdoptedFrom, IsApart, IsConnectedTo, IsMadeIn, IsLeftBy, IsMovedTo, IsStopOf, IsUnmadeFile, IsUnopenedFile, MayBeLeft, Migrates};
 ghost use Rattle.bag_ledger.specs.Ledgers.{Ledger};
 ghost use Rattle.bag_receiver.specs.Receivers.{IsKept};
 ghost use Rattle.bag_receiver.specs.LedgerStates.{Happened, LedgerState, settled};
 ghost use Rattle.bag_receiver.specs.Stops.{Event, Stop};
 ghost use Rattle.bag_rules.specs.Faults.{Has};
 ghost use Rattle.bag_rules.specs.Files.{Files as OctetsByPath};
+ghost use Rattle.bag_sqlite.specs.NewTables.{MakesLedger};
+ghost use Rattle.bag_sqlite.specs.Tables.{Layout, no_schema};
 ghost use Rattle.sqlite.specs.Files.{file_state};
+ghost use Rattle.sqlite.specs.Held.{state};
 ghost use Rattle.sqlite.specs.State.{HasCleanDisk, Survives};
+ghost use Rattle.sqlite.specs.Tree.{Trees};
+ghost use Rattle.sqlite_store.specs.FileStore.{view};
+ghost use Rattle.sqlite_trees.specs.View.{IsClean};
 ghost use Rattle.sqlite_wal.specs.Files.{image_at};
 ghost use Rattle.sqlite_wal.specs.Recovery.{Image};
 
 use crate::ledgers::open_ledger::FileKeeper;
 use crate::ledgers::{LedgerFiles, Ledgers};
 use bag_ledger::Keeper;
-use bag_sqlite::laws::a_stopped_opening_leaves_the_ledger;
-use sqlite::{Connection, FileFrom, FileStore, Start};
+use sqlite::{Alter, Connection, FileFrom, FileStore, Start};
 use sqlite_disk::Disk;
 
 /// After a stop the files hold what was held, or a ledger that was doubtful. A run that opens the ledger on them holds
@@ -50,29 +55,56 @@ pub fn a_ledger_goes_on_after_a_close<T: Start>(opened: &FileKeeper<T>)
         opened.now (settled ledger) }
 {}
 
-/// A run that stops while it opens a ledger, or that hands it back, leaves files that hold the same ledger, whether it
-/// was moved to format 2 or not.
+/// A crash leaves the database of an open connection as it was committed last.
+fn a_crash_leaves_the_last_commit<S: Alter>(connection: &Connection<S>)
+    ensures { (trees : Trees) → IsTrue (state S.Store connection.now).is_open
+        → (state S.Store connection.now).may_leave trees
+        → trees ≡ (state S.Store connection.now).committed.trees }
+{}
+
+/// A run that stops while it opens a ledger, or that hands it back, leaves files that hold the same ledger: in the
+/// tables that it had, or moved from format 1 to format 2.
 pub fn a_ledger_stays_after_a_stopped_opening<S: Start>(
     opened: &Connection<FileStore<FileFrom<S>>>,
     stopped: &Connection<FileStore<FileFrom<S>>>,
 )
-    ensures { (ledger : Ledger) (image : Image) → HoldsLedgerIn (image_at S.Start) ledger
+    ensures { (layout : Layout) (ledger : Ledger) (image : Image)
+        → HoldsLedgerAs (image_at S.Start) layout ledger
         → IsConnectedTo (image_at S.Start) opened.now
         → Survives (file_state opened.now) (file_state stopped.now) (Migrates opened.now)
         → HasCleanDisk (file_state stopped.now) → IsStopOf stopped.now image
-        → HoldsLedgerIn image ledger }
+        → (left : Layout) × IsMovedTo layout left × HoldsLedgerAs image left ledger }
 {
-    a_stopped_opening_leaves_the_ledger(opened, stopped);
+    a_crash_leaves_the_last_commit(opened);
 }
 
-/// Whatever the disk may leave of the files is what a stop may leave of them. That the store numbers its tables as the
-/// kit does is an invariant of every connection, which the kit keeps to itself.
-pub fn the_disk_leaves_what_a_stop_may_leave<S: Start>(stopped: &FileKeeper<S>)
-    ensures { (ledger : Ledger) (image : Image)
-        → ⟦<FileKeeper<S> as Keeper>⟧.holds stopped.now ledger
-        → IsNumbered stopped.now.connection → MayBeLeft stopped.now.connection image
-        → ∥ IsStopOf stopped.now.connection image ∥₁ }
-{}
+/// A run that stops while it makes a ledger, or that hands back what it couldn't make, leaves files that hold a
+/// database without tables, or the whole of a ledger without transfers.
+pub fn a_stopped_making_leaves_a_whole_ledger_or_none<S: Start>(
+    opened: &Connection<FileStore<FileFrom<S>>>,
+    stopped: &Connection<FileStore<FileFrom<S>>>,
+)
+    ensures { (image : Image) → IsConnectedTo (image_at S.Start) opened.now
+        → (file_state opened.now).now.schema ≡ no_schema
+        → Survives (file_state opened.now) (file_state stopped.now)
+        (MakesLedger (file_state opened.now))
+        → HasCleanDisk (file_state stopped.now) → IsStopOf stopped.now image
+        → HoldsNoTables image ⊎ HoldsLedgerIn image [] }
+{
+    a_crash_leaves_the_last_commit(opened);
+}
+
+/// Whatever the disk may leave of the files is what a stop may leave of them. The law uses the connection up: only the
+/// store that is left tells that its tables are numbered as the kit numbers them, now and before.
+pub fn the_disk_leaves_what_a_stop_may_leave<S: Start>(
+    stopped: FileKeeper<S>,
+) -> FileStore<FileFrom<S>>
+    ensures { IsClean (view result) → (ledger : Ledger) (image : Image)
+        → ⟦<FileKeeper<S> as Keeper>⟧.holds stopped ledger
+        → MayBeLeft stopped.connection image → ∥ IsStopOf stopped.connection image ∥₁ }
+{
+    stopped.release().into_store()
+}
 
 /// What is stored under a name before a ledger is opened is what the files hold. A ledger that is opened or made under
 /// a name is so from these files.
@@ -97,6 +129,8 @@ pub fn what_is_left_of_ledgers_in_files<S: Start>(kept: &FileKeeper<S>)
         ↔ IsUnmadeFile ⟦<FileFrom<S> as Disk>⟧ (image_at S.Start) it }
     ensures closed { (closed : _) → ⟦<LedgerFiles<'static, S> as Ledgers>⟧.closed kept.now closed
         ↔ IsLeftBy kept.now.connection closed }
+    ensures apart { (closed : _) → ⟦<LedgerFiles<'static, S> as Ledgers>⟧.apart closed
+        ↔ IsApart closed }
 {}
 
 /// No ledger is made where the files hold one.

@@ -94,6 +94,9 @@ pub trait Ledgers: Drop {
     /// What is known of what is left of a ledger that this keeper held.
     ghost closed: { Self.Kept → Self.Closed → Type 0 };
 
+    /// What is known if the log of a ledger that was closed stays beside its file.
+    ghost apart: { Self.Closed → Type 0 };
+
     /// Opens the ledger with this name. If it doesn't exist, it isn't made.
     ///
     /// # Errors
@@ -128,6 +131,10 @@ pub trait Ledgers: Drop {
     fn give_up(file: Self::File, kept: Self::Kept) -> Self::Closed
         requires { Self.Kept.Keeper.clean kept → Self.Kept.Keeper.holds kept [] }
         ensures { closed kept result };
+
+    /// Why the log of a ledger that was closed stays beside its file. `None` if it doesn't.
+    fn why_apart(left: &Self::Closed) -> Option<LedgerCause>
+        ensures { (result ≡ None) ↔ (¬ apart left.now) };
 
     /// A ledger that was opened holds what is stored under its name, and a crash leaves that alone.
     ghost keeps: { (name : List ℕ) (kept : Self.Kept) (ledger : Ledger) → opened name kept
@@ -173,7 +180,7 @@ impl<'a, S: Start> LedgerFiles<'a, S> {
 impl<'a, S: Start> Ledgers for LedgerFiles<'a, S> {
     ghost use Rattle.std.proofs.Common.{inl};
     ghost use Rattle.std.specs.Prelude.{IfSome};
-    ghost use Rattle.bag_program.specs.LedgerFiles.{HoldsLedgerIn, IsAdoptedFrom, IsLeftBy, IsMadeIn, IsUnmadeFile, IsUnopenedFile};
+    ghost use Rattle.bag_program.specs.LedgerFiles.{HoldsLedgerIn, IsAdoptedFrom, IsApart, IsLeftBy, IsMadeIn, IsUnmadeFile, IsUnopenedFile, TellsLeft};
     ghost use Rattle.bag_program.specs.Unopened.{cause_of_store};
 
     type Kept = FileKeeper<S>;
@@ -197,6 +204,8 @@ impl<'a, S: Start> Ledgers for LedgerFiles<'a, S> {
         IsUnmadeFile ⟦<FileFrom<S> as Disk>⟧ (image_at S.Start) it };
 
     ghost closed = { λ kept closed. IsLeftBy kept.connection closed };
+
+    ghost apart = { λ closed. IsApart closed };
 
     fn open(self, ledger: &str) -> Result<OpenedFile<'a, S>, UnopenedFile<S>> {
         let (file, start) = self.find(ledger)?;
@@ -224,6 +233,16 @@ impl<'a, S: Start> Ledgers for LedgerFiles<'a, S> {
 
     fn give_up(file: OpenLedger<'a, S>, kept: FileKeeper<S>) -> Closed<FileFrom<S>> {
         file.give_up(kept)
+    }
+
+    fn why_apart(left: &Closed<FileFrom<S>>) -> Option<LedgerCause>
+        ensures some { (result ≡ None) ↔ (¬ IsApart left.now) }
+        ensures told { TellsLeft left.now result }
+    {
+        match left {
+            Closed::Uncopied(uncopied) => Some(LedgerCause::LogStays(uncopied.error)),
+            Closed::Copied(_) | Closed::Removed(_) => None,
+        }
     }
 
     ghost keeps = { λ name kept ledger opened holds clean.

@@ -10,12 +10,14 @@
 //! command line.
 #![tactic(auto)]
 
-ghost use Rattle.std.specs.Prelude.{◌≡◌, ◌≢◌};
-ghost use Rattle.bag_program.specs.Answers.{Ran};
+ghost use Rattle.std.specs.Prelude.{◌≡◌, ◌≢◌, None, map, string_bytes};
+ghost use Rattle.bag_folder.specs.Folders.{disk_of};
+ghost use Rattle.bag_program.specs.Answers.{Ran, RanWords};
+ghost use Rattle.bag_program.specs.Disks.{disk_known};
 
 use bag_commands::status::{FAILED, USAGE};
 use bag_commands::{NoResult, Output, print_no_result};
-use bag_folder::{Destination, Disk};
+use bag_folder::{Destination, Directories, Disk, Names, NewFolders};
 use bag_ledger::Keeper;
 use clearing_output::Clearing;
 use dispatch::command;
@@ -28,9 +30,9 @@ use std::alloc::{AllocError, Global};
 use std::env::Env;
 use std::io::{BufWriter, ErrorKind, IsTerminal, Printer, Write};
 use std::process::ExitCode;
-use std::rt::Files;
 use std::{env, io};
 use system::System;
+use terminal::Screen;
 
 mod clearing_output;
 mod command_line;
@@ -43,72 +45,94 @@ mod on_disk;
 mod progress_line;
 mod progress_meter;
 mod system;
+mod terminal;
 mod told_limit;
 mod told_name;
+mod told_refusal;
 mod usage;
 mod watched;
 
 fn main(rt: HostRuntime) -> ExitCode {
-    ExitCode::from(run_on_disk(&rt, Unknown))
+    let folders = Destination::new(&rt);
+    ExitCode::from(run_on_disk(&rt, Unknown, folders))
 }
 
-/// Runs the command on the command line, with ledgers in files. `S` says what the opened ledger's file holds.
-fn run_on_disk<S: Start>(rt: &HostRuntime, start: S) -> u8
+/// Runs the command on the command line on the disk, of which nothing is known, with ledgers in files. `S` says what the
+/// opened ledger's file holds.
+fn run_on_disk<S: Start, F: NewFolders + Drop>(rt: &HostRuntime, start: S, folders: F) -> u8
     ensures { result ≢ FAILED → (old : _) × (new : _)
         × Ran ⟦<FileKeeper<S> as Keeper>⟧ ⟦<LedgerFiles<'static, S> as Ledgers>⟧
-        ⟦<Printer<'static, HostRuntime> as Write>⟧.contents old new result }
+        F.Folder.Sink F.NewFolders ⟦<Screen<Printer<'static, HostRuntime>> as Write>⟧.contents
+        (disk_of None None) folders old new result }
 {
     let progress = Progress::new(rt, rt.stderr().is_terminal());
-    run(rt, &progress, LedgerFiles::new(rt, &progress, start))
+    let is_terminal = rt.stdout().is_terminal();
+    let system = System {
+        rt,
+        names: rt,
+        disk: &Disk(rt),
+        progress: &progress,
+        alloc: rt.alloc(),
+    };
+    let ledgers = LedgerFiles::new(rt, &progress, start);
+    run(&system, is_terminal, ledgers, folders)
 }
 
 /// Runs the command on the command line, and returns the exit status. The output is buffered until the command has
-/// ended or the buffer is full.
-fn run<R: Files + Env + Print + Eprint + AllocGlobal, L: Ledgers>(
-    rt: &R,
-    progress: &Progress<'_, R>,
-    ledgers: L,
-) -> u8
+/// ended or the buffer is full. `is_terminal` says whether standard output is a terminal, which is to be found out
+/// before a file is opened, as for [`Progress::new`].
+fn run<
+    R: Env + Print + Eprint + AllocGlobal,
+    N: Names + Copy,
+    D: Directories,
+    L: Ledgers,
+    F: NewFolders + Drop,
+>(system: &System<'_, R, N, D>, is_terminal: bool, ledgers: L, folders: F) -> u8
     // Every status except that of a failure comes from a command.
     ensures { result ≢ FAILED
-        → (old : _) × (new : _) × Ran L.Kept.Keeper L.Ledgers
-        ⟦<Printer<'static, R> as Write>⟧.contents old new result }
+        → (old : _) × (new : _) × Ran L.Kept.Keeper L.Ledgers F.Folder.Sink F.NewFolders
+        ⟦<Screen<Printer<'static, R>> as Write>⟧.contents
+        (disk_known D.listing N.standing system.now) folders old new result }
 {
-    match BufWriter::new(rt.alloc(), Clearing::new(io::writer(rt), progress)) {
-        Ok(writer) => run_words(rt, progress, ledgers, &mut Output::new(writer)),
+    let writer = Clearing::new(io::writer(system.rt), system.progress);
+    match buffered(system.alloc, writer, is_terminal) {
+        Ok(mut out) => run_words(system, ledgers, folders, &mut out),
         Err(_) => {
-            let mut out = Output::unbuffered(rt.alloc(), io::writer(rt));
+            let mut out = Output::unbuffered(system.alloc, io::writer(system.rt));
             print_no_result(NoResult::Memory, &mut out)
         }
     }
 }
 
-/// The same, with the output written to `out`. What else there is to say of a command that wasn't done is told on
-/// standard error.
-fn run_words<R: Files + Env + Eprint + AllocGlobal, L: Ledgers, W: Write + Drop>(
-    rt: &R,
-    progress: &Progress<'_, R>,
-    ledgers: L,
-    out: &mut Output<W>,
-) -> u8
-    ensures { result ≢ FAILED
-        → Ran L.Kept.Keeper L.Ledgers W.contents out.old out.new result }
+/// A buffered output to what this writer leads to.
+///
+/// # Errors
+///
+/// Memory ran out.
+fn buffered<W: Write + Drop>(
+    alloc: Global,
+    writer: W,
+    is_terminal: bool,
+) -> io::Result<Output<Screen<W>>> {
+    let screen = Screen::new(alloc, writer, is_terminal)?;
+    Ok(Output::new(BufWriter::new(alloc, screen)?))
+}
+
+/// The same, with the output written to `out`.
+fn run_words<
+    R: Env + Eprint + AllocGlobal,
+    N: Names + Copy,
+    D: Directories,
+    L: Ledgers,
+    F: NewFolders + Drop,
+    W: Write + Drop,
+>(system: &System<'_, R, N, D>, ledgers: L, folders: F, out: &mut Output<W>) -> u8
+    ensures { result ≢ FAILED → Ran L.Kept.Keeper L.Ledgers F.Folder.Sink F.NewFolders W.contents
+        (disk_known D.listing N.standing system.now) folders out.old out.new result }
 {
-    let alloc = rt.alloc();
-    match env::args(rt) {
-        Ok(words) => match words.skip(1).collect(alloc) {
-            Ok(words) => {
-                let system = System {
-                    rt: &*rt,
-                    disk: &Disk(rt),
-                    progress: &*progress,
-                    alloc,
-                };
-                let mut destination = Destination::new(rt);
-                let ended = command(&system, ledgers, &mut destination, words, out);
-                progress.clear();
-                explain(rt, ended)
-            }
+    match env::args(system.rt) {
+        Ok(words) => match words.skip(1).collect(system.alloc) {
+            Ok(words) => run_command(system, ledgers, folders, words, out),
             Err(AllocError) => print_no_result(NoResult::Memory, out),
         },
         Err(error) if error.kind() == ErrorKind::OutOfMemory => print_no_result(
@@ -116,10 +140,35 @@ fn run_words<R: Files + Env + Eprint + AllocGlobal, L: Ledgers, W: Write + Drop>
             out,
         ),
         Err(_) => {
-            let _ = eprintln!(rt; "error: an argument is not UTF-8");
+            let _ = eprintln!(system.rt; "error: an argument is not UTF-8");
             USAGE
         }
     }
+}
+
+/// Runs the command that these arguments ask for. What else there is to say of a command that wasn't done is told on
+/// standard error.
+fn run_command<
+    R: Eprint,
+    N: Names + Copy,
+    D: Directories,
+    L: Ledgers,
+    F: NewFolders + Drop,
+    W: Write + Drop,
+>(
+    system: &System<'_, R, N, D>,
+    ledgers: L,
+    mut folders: F,
+    words: Vec<String>,
+    out: &mut Output<W>,
+) -> u8
+    ensures { RanWords L.Kept.Keeper L.Ledgers F.Folder.Sink F.NewFolders W.contents
+        (disk_known D.listing N.standing system.now) (map string_bytes words.items) folders
+        out.old out.new result }
+{
+    let ended = command(system, ledgers, &mut folders, words, out);
+    system.progress.clear();
+    explain(system.rt, ended)
 }
 
 /// Says on standard error why a command wasn't done, if it wasn't, and returns the status.

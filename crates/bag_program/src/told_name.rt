@@ -1,9 +1,9 @@
 //! Names on standard error.
+use crate::terminal::{escape_of, is_obeyed};
 use std::fmt::{self, Display, Formatter, Write};
 use std::marker::Model;
 
-/// A name as it is told: on one line, with the escapes of a path, and all control characters escaped like this, since a
-/// terminal would obey them.
+/// A name as it is told: on one line, with the escapes of a path, and all that a terminal would obey escaped like this.
 #[derive(Drop)]
 pub struct ToldName<'a> {
     text: &'a str,
@@ -31,7 +31,7 @@ impl<'a> ToldName<'a> {
 impl Display for ToldName<'_> {
     fn fmt<W: Write>(&self, f: &mut Formatter<W>) -> fmt::Result {
         for c in self.text.chars() {
-            if c == '%' || c.is_control() {
+            if c == '%' || is_obeyed(c) {
                 write_escaped(f, c)?;
             } else {
                 f.write_char(c)?;
@@ -45,7 +45,9 @@ impl Display for ToldName<'_> {
 fn write_escaped<W: Write>(f: &mut Formatter<W>, c: char) -> fmt::Result {
     let mut octets = [0; 4];
     for octet in c.encode_utf8(&mut octets).as_bytes() {
-        write!(f, "%{octet:02X}")?;
+        for part in &escape_of(*octet) {
+            f.write_char(char::from(*part))?;
+        }
     }
     Ok(())
 }

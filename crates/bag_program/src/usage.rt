@@ -1,11 +1,24 @@
 //! The texts for a command line that is no known command: help and usage errors.
+ghost use Rattle.std.specs.Prelude.{IfOk, map, string_bytes};
+ghost use Rattle.bag_program.specs.CommandLines.{IsAnswerTo};
 
+use crate::command_line::asks_for_help;
 use clap::error::ErrorKind;
 use clap::{Arg, Command};
 use std::alloc::{AllocError, Global};
 
 /// The version of the program.
-const VERSION: &str = "1.5.6";
+const VERSION: &str = "1.6.0";
+
+/// What the exit statuses mean, and where all lines are listed.
+const STATUSES: &str = "Exit status:
+  0   the bag is valid, or the command is done
+  1   the bag is not valid, or something was refused
+  2   the bag can't be judged here
+  3   a folder, a file, the ledger, memory or the output couldn't be used, or a limit was exceeded
+  64  an unknown command line
+
+The manual page has every line: man bag, or docs/bag.1";
 
 /// The answer to a command line that is no known command.
 #[derive(Debug, Drop)]
@@ -17,12 +30,15 @@ pub enum Usage {
 }
 
 impl Usage {
-    /// The answer to these arguments, which are no known command.
+    /// The answer to these arguments, which are no known command. It is help only if they ask for it.
     ///
     /// # Errors
     ///
     /// Memory ran out.
-    pub fn of(alloc: Global, words: &[String]) -> Result<Usage, AllocError> {
+    pub fn of(alloc: Global, words: &[String]) -> Result<Usage, AllocError>
+        ensures { IfOk result (IsAnswerTo (map string_bytes words.now)) }
+    {
+        let may_help = asks_for_help(words);
         let mut command = all_commands(alloc)?;
         match command.try_get_matches_from_mut(words) {
             Ok(_) => Ok(Usage::Refused(command.render_usage()?)),
@@ -30,11 +46,39 @@ impl Usage {
                 let text = format!(in alloc; "{error}")?;
                 match error.kind() {
                     ErrorKind::OutOfMemory => Err(AllocError),
-                    ErrorKind::DisplayHelp | ErrorKind::DisplayVersion => Ok(Usage::Help(text)),
+                    ErrorKind::DisplayHelp | ErrorKind::DisplayVersion if may_help => {
+                        Ok(Usage::Help(text))
+                    }
+                    ErrorKind::InvalidSubcommand => {
+                        Ok(Usage::Refused(with_own_name(alloc, words, text)?))
+                    }
                     _ => Ok(Usage::Refused(text)),
                 }
             }
         }
+    }
+}
+
+/// The text for an unknown command, with the name that it has here if other tools know it by the first word.
+fn with_own_name(alloc: Global, words: &[String], text: String) -> Result<String, AllocError> {
+    let Some(word) = words.first() else {
+        return Ok(text);
+    };
+    let Some(command) = own_name(word.as_str()) else {
+        return Ok(text);
+    };
+    format!(in alloc;
+        "error: unrecognized subcommand '{word}'\n\n  tip: here it is '{command}'\n\nUsage: bag <COMMAND>\n\n\
+        For more information, try '--help'.\n"
+    )
+}
+
+/// What is called so by other tools.
+fn own_name(word: &str) -> Option<&'static str> {
+    match word {
+        "validate" | "verify" => Some("check"),
+        "create" => Some("make"),
+        _ => None,
     }
 }
 
@@ -45,7 +89,8 @@ fn all_commands<'a>(alloc: Global) -> Result<Command<'a>, AllocError> {
         .bin_name("bag")?
         .version(VERSION)
         .no_binary_name(true)
-        .subcommand_required(true);
+        .subcommand_required(true)
+        .after_help(STATUSES);
     let command = with_folder_commands(alloc, command)?;
     let command = with_delivery_commands(alloc, command)?;
     with_transfer_commands(alloc, command)

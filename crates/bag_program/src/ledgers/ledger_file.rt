@@ -1,7 +1,8 @@
 //! Finds and opens ledgers in files on disk.
 ghost use Rattle.std.specs.Prelude.{◌≡◌, ◌≢◌, MatchResult, false, ⊤};
 ghost use Rattle.bag_program.specs.LedgerFiles.{HasTables, IsAdoptedFrom, IsMadeIn, IsUnopened, OpensOrMakes};
-ghost use Rattle.bag_sqlite.specs.declared.adopting.AdoptFault.{AdoptFault};
+ghost use Rattle.bag_program.specs.FoundFiles.{BarsMaking};
+ghost use Rattle.bag_program.specs.Unopened.{fault_seen};
 ghost use Rattle.sqlite_wal.specs.Files.{image_at};
 
 use crate::ledgers::Opened;
@@ -61,15 +62,16 @@ impl<'a> LedgerFile<'a> {
     ///
     /// # Errors
     ///
-    /// Those of `adopt`. Also `NotALedger` if there is no file or it is empty, and `Store` if the file can't be opened
-    /// for writing or another program has it open. The file stays as it was, and so does its log, unless this made it.
+    /// Those of `adopt`. Also `NotALedger` if there is no file or it is empty, and `Store` if what is left of a ledger
+    /// is in its log then, or if the file can't be opened for writing or another program has it open. The file stays as
+    /// it was, and so does its log, unless this made it.
     pub fn open<S: Start>(self, start: S) -> Result<OpenedFile<'a, S>, UnopenedFile<S>>
         ensures opened { MatchResult result (λ it. (it.is_made ≡ false)
             × IsAdoptedFrom (image_at S.Start) it.kept.connection)
             (λ it. IsUnopened ⟦<FileFrom<S> as Disk>⟧ (image_at S.Start) it
             (λ seen. (seen.name ≡ self.entry.seen.name) × (seen.found ≢ Found.File)) (λ _. ⊤)) }
-        ensures none { self.entry.seen.found ≢ Found.File
-            → MatchResult result (λ _. ⊥) (λ it. it.fault ≡ AdoptFault.NotALedger) }
+        ensures none { self.entry.seen.found ≢ Found.File → MatchResult result (λ _. ⊥)
+            (λ it. (it.fault ≡ fault_seen self.entry.seen.found) × (it.left ≡ Left.Unused start)) }
     {
         if !self.seen.has_file() {
             return Err(Unopened::saw(self.seen, Left::Unused(start)));
@@ -87,22 +89,23 @@ impl<'a> LedgerFile<'a> {
     ///
     /// # Errors
     ///
-    /// Those of [`LedgerFile::open`], except that the file may be missing or empty. Whatever was created until the
-    /// error is removed, unless another run may use it.
+    /// Those of [`LedgerFile::open`], except that the file may be missing or empty, if its log isn't what is left of a
+    /// ledger. Whatever was created until the error is removed, unless another run may use it.
     pub fn open_or_make<S: Start>(self, start: S) -> Result<OpenedFile<'a, S>, UnopenedFile<S>>
         ensures opened { MatchResult result (λ it. OpensOrMakes it.is_made
             (IsAdoptedFrom (image_at S.Start) it.kept.connection)
             (IsMadeIn (image_at S.Start) it.kept.connection))
             (λ it. IsUnopened ⟦<FileFrom<S> as Disk>⟧ (image_at S.Start) it
-            (λ seen. (seen.name ≡ self.entry.seen.name) × (seen.found ≡ Found.Other)) HasTables) }
-        ensures none { self.entry.seen.found ≡ Found.Other
-            → MatchResult result (λ _. ⊥) (λ it. it.fault ≡ AdoptFault.NotALedger) }
+            (λ seen. (seen.name ≡ self.entry.seen.name) × BarsMaking seen.found) HasTables) }
+        ensures none { BarsMaking self.entry.seen.found → MatchResult result (λ _. ⊥)
+            (λ it. (it.fault ≡ fault_seen self.entry.seen.found) × (it.left ≡ Left.Unused start)) }
     {
-        if self.seen.has_other() {
+        if self.seen.bars_making() {
             return Err(Unopened::saw(self.seen, Left::Unused(start)));
         }
         let (file, files) = LockedFile::lock(self.rt, self.seen, start)?;
-        if file.seen().has_other() {
+        // Its file may have been emptied or removed before it was locked, and a log be alone.
+        if file.seen().bars_making() {
             return Err(file.refuse(files));
         }
         let (file, connection) = file.connect(files)?;

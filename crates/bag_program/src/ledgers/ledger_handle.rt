@@ -7,8 +7,8 @@ use std::io;
 use std::os::fd::AsRawFd;
 use std::os::unix::fs::{MetadataExt, OpenOptionsExt};
 
-/// The file of a ledger, open apart from a connection. All that can be done through it is to ask whether the file still
-/// has its name, and to empty it again: so nothing is written to a ledger that is open.
+/// The file of a ledger, open apart from a connection. All that can be done through it is to ask for its size and
+/// whether it still has its name, and to empty it again: so nothing is written to a ledger that is open.
 #[derive(Drop)]
 pub struct Handle {
     file: File,
@@ -46,7 +46,16 @@ impl Handle {
         Ok(opened.dev() == named.dev() && opened.ino() == named.ino())
     }
 
-    /// Empties the file, which was empty when it was locked.
+    /// How many octets the file has.
+    ///
+    /// # Errors
+    ///
+    /// The operating system doesn't give the information.
+    pub fn size(&self) -> io::Result<u64> {
+        Ok(self.file.metadata()?.len())
+    }
+
+    /// Empties the file, which was empty when it was locked, and brings that to the disk.
     ///
     /// # Errors
     ///
@@ -54,6 +63,7 @@ impl Handle {
     pub fn empty(&self, _seen: &Seen) -> io::Result<()>
         requires { _seen.now.found ≡ Found.Empty }
     {
-        self.file.set_len(0)
+        self.file.set_len(0)?;
+        self.file.sync_data()
     }
 }

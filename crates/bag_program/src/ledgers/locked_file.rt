@@ -1,7 +1,8 @@
 //! The file of a ledger while it is locked and no ledger is open in it: what is made, emptied and removed.
 ghost use Rattle.std.specs.Prelude.{◌≡◌, ◌≢◌, IfOk, MatchResult, false, is_some, true};
 ghost use Rattle.bag_program.specs.LedgerFiles.{AreOpenOn, HasCopiedLog, IsAdoptedFrom, IsConnectedTo, IsMadeIn, IsNewFile, IsUnopened, IsUnused, WasSeenBefore};
-ghost use Rattle.bag_sqlite.specs.declared.adopting.AdoptFault.{AdoptFault};
+ghost use Rattle.bag_program.specs.FoundFiles.{BarsMaking};
+ghost use Rattle.bag_program.specs.Unopened.{fault_seen};
 ghost use Rattle.bag_sqlite.specs.Tables.{no_schema};
 ghost use Rattle.sqlite.specs.Files.{file_state};
 ghost use Rattle.sqlite_wal.specs.Files.{image_at};
@@ -119,18 +120,19 @@ impl<'a, S: Start> LockedFile<'a, S> {
         requires none { self.seen.found ≢ Found.File }
         ensures unopened { IsUnopened ⟦<FileFrom<S> as Disk>⟧ (image_at S.Start) result
             (λ seen. seen ≡ self.entry.seen) (λ _. ⊥) }
-        ensures fault { result.fault ≡ AdoptFault.NotALedger }
+        ensures fault { result.fault ≡ fault_seen self.entry.seen.found }
     {
         let seen = self.abandon().leave_log();
         Unopened::saw(seen, Left::Files(Leftover::Files(files)))
     }
 
-    /// Opens the database in the files.
+    /// Opens the database in the files. If nothing else is there than a log, that is left alone.
     pub fn connect(
         self,
         files: Files<FileFrom<S>>,
     ) -> Result<(LockedFile<'a, S>, Connection<FileStore<FileFrom<S>>>), UnopenedFile<S>>
-        requires { AreOpenOn ⟦<FileFrom<S> as Disk>⟧ (image_at S.Start) files }
+        requires open { AreOpenOn ⟦<FileFrom<S> as Disk>⟧ (image_at S.Start) files }
+        requires may { ¬ BarsMaking self.seen.found }
         ensures connected { MatchResult result (λ it. IsConnectedTo (image_at S.Start) it.1)
             (λ it. IsUnused ⟦<FileFrom<S> as Disk>⟧ (image_at S.Start) it) }
         ensures file { IfOk result (λ it. it.0 ≡ self.entry) }
@@ -139,8 +141,9 @@ impl<'a, S: Start> LockedFile<'a, S> {
         match Connection::open_files_with(self.rt.alloc(), files, options, false) {
             Ok(connection) => Ok((self, connection)),
             Err((error, left)) => {
+                let size = self.size();
                 self.abandon().remove_made();
-                Err(Unopened::unconnected(error, left))
+                Err(Unopened::unconnected(error, size, left))
             }
         }
     }
@@ -161,8 +164,9 @@ impl<'a, S: Start> LockedFile<'a, S> {
         match SqlKeeper::adopt_watched(connection, meter) {
             Ok(keeper) => Ok(Opened::found(keeper, OpenLedger::new(self))),
             Err(NotAdopted { fault, connection }) => {
+                let size = self.size();
                 let _ = self.abandon().leave_log();
-                Err(Unopened::unadopted(fault, connection))
+                Err(Unopened::unadopted(fault, size, connection))
             }
         }
     }
@@ -192,6 +196,15 @@ impl<'a, S: Start> LockedFile<'a, S> {
                 Err(Unopened::unmade(fault, trouble, connection))
             }
         }
+    }
+
+    /// How many octets the file and its log had, if a file was found that may be a database.
+    fn size(&self) -> Option<u64> {
+        if !self.seen.has_file() {
+            return None;
+        }
+        let octets = self.handle.size().ok()?;
+        Some(octets.saturating_add(self.seen.log_size()))
     }
 
     /// No ledger is opened in the file.

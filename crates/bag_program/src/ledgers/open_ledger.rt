@@ -1,13 +1,13 @@
 //! The file of an open ledger, and what a run leaves of it.
 ghost use Rattle.std.specs.Prelude.{◌≡◌, [], IfOk, MatchResult};
-ghost use Rattle.bag_program.specs.LedgerFiles.{HasCopiedLog, IsClosed, IsLeftBy};
+ghost use Rattle.bag_program.specs.LedgerFiles.{HasCopiedLog, IsClosed, IsLeftBy, IsUncopied};
 ghost use Rattle.bag_sqlite.specs.SqlKeepers.{HoldsLedger};
-ghost use Rattle.sqlite.specs.Files.{IsClosed as HasNoNewOutcome, file_state};
+ghost use Rattle.sqlite.specs.Files.{file_state};
 ghost use Rattle.sqlite.specs.State.{HasCleanDisk};
 
 use crate::ledgers::locked_file::LockedFile;
 use bag_sqlite::SqlKeeper;
-use sqlite::{Connection, FileFrom, FileStore, Files, Start};
+use sqlite::{Connection, Error, FileFrom, FileStore, Files, Start};
 use sqlite_disk::Disk;
 
 /// A keeper in a file. `S` says what the file held when it was opened.
@@ -19,9 +19,18 @@ pub enum Closed<D: Disk> {
     /// The log was copied into the file and removed.
     Copied(Files<D>),
     /// The log wasn't copied, and both stay as they are.
-    Uncopied(FileStore<D>),
+    Uncopied(Uncopied<D>),
     /// They were removed, since a ledger without transfers was made in them.
     Removed(Connection<FileStore<D>>),
+}
+
+/// The files of a ledger whose log couldn't be copied.
+#[derive(Drop)]
+pub struct Uncopied<D: Disk> {
+    /// Why.
+    pub error: Error,
+    /// The store that has both.
+    pub store: FileStore<D>,
 }
 
 /// The file of an open ledger. `S` says what it held when it was opened.
@@ -48,7 +57,7 @@ impl<'a, S: Start> OpenLedger<'a, S> {
                 self.locked.remove_copied_log(&files);
                 Closed::Copied(files)
             }
-            Err(store) => Closed::Uncopied(store),
+            Err(left) => Closed::Uncopied(left),
         }
     }
 
@@ -71,15 +80,15 @@ impl<'a, S: Start> OpenLedger<'a, S> {
 ///
 /// # Errors
 ///
-/// If that fails: the store that has both. A crash leaves of it what it could leave of the keeper's, so nothing is
-/// lost.
-fn copy_log<S: Start>(keeper: FileKeeper<S>) -> Result<Files<FileFrom<S>>, FileStore<FileFrom<S>>>
+/// If that fails: why, and the store that has both. A crash leaves of it what it could leave of the keeper's, so
+/// nothing is lost.
+fn copy_log<S: Start>(keeper: FileKeeper<S>) -> Result<Files<FileFrom<S>>, Uncopied<FileFrom<S>>>
     ensures closed { MatchResult result
-        (IsClosed keeper.connection) (HasNoNewOutcome keeper.connection) }
+        (IsClosed keeper.connection) (IsUncopied keeper.connection) }
     ensures copied { IfOk result (HasCopiedLog ⟦<FileFrom<S> as Disk>⟧) }
 {
     match keeper.release().close_files() {
         Ok(files) => Ok(files),
-        Err((_, store)) => Err(store),
+        Err((error, store)) => Err(Uncopied { error, store }),
     }
 }

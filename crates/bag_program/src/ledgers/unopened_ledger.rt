@@ -1,8 +1,7 @@
 //! Why a ledger wasn't opened.
 ghost use Rattle.std.specs.Prelude.{◌≡◌, ◌≢◌, Some};
-ghost use Rattle.bag_program.specs.Unopened.{cause_barred, cause_of_error, cause_of_fault, cause_seen, cause_unmade, fault_barred, fault_unmade};
+ghost use Rattle.bag_program.specs.Unopened.{cause_barred, cause_of_error, cause_of_fault, cause_seen, cause_unmade, fault_barred, fault_seen, fault_unmade};
 ghost use Rattle.bag_sqlite.specs.Refusing.{adopt_fault};
-ghost use Rattle.bag_sqlite.specs.declared.adopting.AdoptFault.TheVariants.{NotALedger};
 
 use crate::ledgers::found_ledger::{Found, Seen};
 use crate::ledgers::ledger_cause::LedgerCause;
@@ -47,16 +46,17 @@ impl<S, D: Disk> Unopened<Left<S, D>> {
     pub fn saw(seen: Seen, left: Left<S, D>) -> Unopened<Left<S, D>>
         requires { seen.found ≢ Found.File }
         ensures left { (result.left ≡ left) × (result.seen ≡ Some seen) }
-        ensures fault { (result.fault ≡ NotALedger)
+        ensures fault { (result.fault ≡ fault_seen seen.found)
             × (result.cause ≡ Some (cause_seen seen.found)) }
     {
-        let cause = match seen.found() {
-            Found::Nothing => LedgerCause::Missing,
-            Found::Empty => LedgerCause::Empty,
-            Found::File | Found::Other => LedgerCause::NotFile,
+        let (fault, cause) = match seen.found() {
+            Found::Nothing => (AdoptFault::NotALedger, LedgerCause::Missing),
+            Found::Empty => (AdoptFault::NotALedger, LedgerCause::Empty),
+            Found::LogAlone => (AdoptFault::Store(UNTOLD), LedgerCause::LogAlone),
+            Found::File | Found::Other => (AdoptFault::NotALedger, LedgerCause::NotFile),
         };
         Unopened {
-            fault: AdoptFault::NotALedger,
+            fault,
             cause: Some(cause),
             seen: Some(seen),
             left,
@@ -80,14 +80,14 @@ impl<S, D: Disk> Unopened<Left<S, D>> {
         }
     }
 
-    /// No connection was opened on the files, because of this error.
-    pub fn unconnected(error: Error, files: Leftover<D>) -> Unopened<Left<S, D>>
+    /// No connection was opened on the files, because of this error. They have this many octets, if that is known.
+    pub fn unconnected(error: Error, size: Option<u64>, files: Leftover<D>) -> Unopened<Left<S, D>>
         ensures left { result.left ≡ Left.Files files }
         ensures fault { (result.fault ≡ adopt_fault error)
-            × (result.cause ≡ cause_of_error error) }
+            × (result.cause ≡ cause_of_error size error) }
     {
         let cause = match error {
-            Error::SqliteFailure(ErrorCode::OutOfMemory) => None,
+            Error::SqliteFailure(ErrorCode::OutOfMemory) => LedgerCause::of_size(size),
             Error::SqliteFailure(ErrorCode::NotADatabase) => Some(LedgerCause::NoDatabase),
             _ => Some(LedgerCause::Database(error)),
         };
@@ -99,18 +99,20 @@ impl<S, D: Disk> Unopened<Left<S, D>> {
         }
     }
 
-    /// The database isn't opened as a ledger, because of this fault.
+    /// The database isn't opened as a ledger, because of this fault. It has this many octets, if that is known.
     pub fn unadopted(
         fault: AdoptFault,
+        size: Option<u64>,
         connection: Connection<FileStore<D>>,
     ) -> Unopened<Left<S, D>>
         ensures left { result.left ≡ Left.Database connection }
-        ensures fault { (result.fault ≡ fault) × (result.cause ≡ cause_of_fault fault) }
+        ensures fault { (result.fault ≡ fault) × (result.cause ≡ cause_of_fault size fault) }
     {
         let cause = match &fault {
             AdoptFault::NotALedger => Some(LedgerCause::NoLedger),
             AdoptFault::Store(error) => Some(LedgerCause::Database(*error)),
-            AdoptFault::Damaged { .. } | AdoptFault::Memory => None,
+            AdoptFault::Memory => LedgerCause::of_size(size),
+            AdoptFault::Damaged { .. } => None,
         };
         Unopened {
             fault,

@@ -1,9 +1,10 @@
 //! `bag intake LEDGER NAME DIR..`: takes in the payload files of folders.
 ghost use Rattle.std.specs.Prelude.{◌≡◌, IfErr, IfOk, List, map, string_bytes};
 ghost use Rattle.bag_folder.specs.Faults.{IfUnfit};
-ghost use Rattle.bag_folder.specs.Folders.{FolderShown};
+ghost use Rattle.bag_folder.specs.Folders.{FolderShown, disk_of};
 ghost use Rattle.bag_folder.specs.Bringing.{courier_of};
 ghost use Rattle.std.specs.Option.{option_or};
+ghost use Rattle.bag_program.specs.Disks.{disk_known};
 ghost use Rattle.bag_program.specs.Endings.{first_name, name_if, name_if_crowded, name_if_empty, why_undelivered};
 ghost use Rattle.bag_program.specs.Working.{AreOpened, FirstIsRefused, TakesInFrom};
 
@@ -15,30 +16,29 @@ use crate::told_limit::Limit;
 use crate::told_name::FolderName;
 use crate::watched::Watched;
 use bag_commands::{Output, intake_to};
-use bag_folder::{Directories, FolderTree, OpenFault, TreeCourier};
+use bag_folder::{Directories, FolderTree, Names, OpenFault, TreeCourier};
 use bag_ledger::Keeper;
 use bag_receiver::{MOST_DELIVERIES, Receiver};
 use bag_writer::payload_count;
 use std::alloc::{AllocError, Global};
 use std::io::Write;
-use std::rt::Files;
 
 /// Takes in the payload files of these folders for a transfer and prints the results, as [`intake_to`] does. If one of
 /// the folders can't be opened, takes in nothing and prints that. The first of them that has more payload files than a
 /// run delivers is told, or if there is none the first without any.
-pub fn intake_folders<K: Keeper, R: Files + Eprint, D: Directories, W: Write + Drop>(
-    system: &System<'_, R, D>,
+pub fn intake_folders<K: Keeper, R: Eprint, N: Names + Copy, D: Directories, W: Write + Drop>(
+    system: &System<'_, R, N, D>,
     receiver: &mut Receiver<K>,
     name: &str,
     folders: &[String],
     out: &mut Output<W>,
 ) -> Ended
-    ensures { TakesInFrom K.Keeper (D.listing system.now.disk.now) W.contents name.now
-        (map string_bytes folders.now) receiver.old receiver.new out.old out.new result }
+    ensures { TakesInFrom K.Keeper (disk_known D.listing N.standing system.now) W.contents
+        name.now (map string_bytes folders.now) receiver.old receiver.new out.old out.new result }
 {
     let alloc = system.alloc;
     let meter = Meter::new(system.progress, Activity::TakingIn);
-    match open_all(system.rt, &meter, system.disk, alloc, folders) {
+    match open_all(system.names, &meter, system.disk, alloc, folders) {
         Ok(opened) => Ended {
             status: intake_to(alloc, receiver, name, opened.couriers, out),
             why: why_undelivered(opened.crowded, opened.empty),
@@ -49,8 +49,8 @@ pub fn intake_folders<K: Keeper, R: Files + Eprint, D: Directories, W: Write + D
 
 /// Folders that were opened.
 #[derive(Drop)]
-struct AllOpened<'a, R: Files> {
-    couriers: Vec<Watched<'a, TreeCourier<FolderTree<&'a R>>, R>>,
+struct AllOpened<'a, R, N: Names> {
+    couriers: Vec<Watched<'a, TreeCourier<FolderTree<N>>, R>>,
     // the first folder with more payload files than a run delivers
     crowded: Option<FolderName>,
     // the first folder without payload files
@@ -68,26 +68,28 @@ fn why_undelivered(crowded: Option<FolderName>, empty: Option<FolderName>) -> Op
 }
 
 /// Opens each folder as a courier of its payload files.
-fn open_all<'a, R: Files + Eprint, D: Directories>(
-    rt: &'a R,
+fn open_all<'a, R: Eprint, N: Names + Copy, D: Directories>(
+    names: N,
     meter: &'a Meter<'a, R>,
     disk: &D,
     alloc: Global,
     folders: &[String],
-) -> Result<AllOpened<'a, R>, OpenFault>
+) -> Result<AllOpened<'a, R, N>, OpenFault>
     ensures opened { IfOk result (λ opened. (trees : List FolderShown)
-        × AreOpened (D.listing disk.now) (map string_bytes folders.now) trees
+        × AreOpened (disk_of (D.listing disk.now) (N.standing names))
+        (map string_bytes folders.now) trees
         × (opened.couriers.items ≡ map courier_of trees)
         × (opened.crowded ≡ first_name name_if_crowded trees)
         × (opened.empty ≡ first_name name_if_empty trees)) }
     ensures refused { IfErr result (λ fault. IfUnfit fault
-        (FirstIsRefused (D.listing disk.now) (map string_bytes folders.now))) }
+        (FirstIsRefused (disk_of (D.listing disk.now) (N.standing names))
+        (map string_bytes folders.now))) }
 {
     let mut couriers = Vec::new(alloc);
     let mut crowded = None;
     let mut empty = None;
     for folder in folders {
-        let tree = FolderTree::open(rt, disk, alloc, folder.as_str())?;
+        let tree = FolderTree::open(names, disk, alloc, folder.as_str())?;
         let count = payload_count(&tree);
         crowded = first_told(alloc, crowded, count > MOST_DELIVERIES, folder.as_str())?;
         empty = first_told(alloc, empty, !tree.has_payload(), folder.as_str())?;

@@ -1,5 +1,6 @@
 //! The commands on a ledger: opens it, does the work and closes it.
 ghost use Rattle.std.specs.Prelude.{◌≡◌, [], ℕ, IfErr, IfOk, List, MatchResult, Some, true};
+ghost use Rattle.bag_program.specs.Disks.{disk_known};
 ghost use Rattle.bag_program.specs.Working.{DoesWork, IsOpenFor, IsUnopenedFor, Works, WorksOn, viewed};
 ghost use Rattle.bag_commands.specs.declared.status.TheConstants.{VALID};
 ghost use Rattle.bag_commands.specs.Viewing.{HoldsValidBag};
@@ -22,32 +23,39 @@ use crate::system::System;
 use crate::watched::Watched;
 use bag_commands::status::FAILED;
 use bag_commands::{Output, audit_to, list_to, report_to};
-use bag_folder::{Destination, Directories};
+use bag_folder::{Directories, Names, NewFolders};
 use bag_ledger::Keeper;
 use bag_receiver::Receiver;
 use std::alloc::Global;
 use std::io::Write;
-use std::rt::Files;
 
 /// Opens a ledger, does the work and prints the result. If the ledger can't be opened, prints why.
 ///
 /// `begin` makes the ledger if there is none. A ledger that it made is removed if no transfer was opened.
-pub fn work_on_ledger<R: Files + Eprint, D: Directories, L: Ledgers, W: Write + Drop>(
-    system: &System<'_, R, D>,
+pub fn work_on_ledger<
+    R: Eprint,
+    N: Names + Copy,
+    D: Directories,
+    L: Ledgers,
+    F: NewFolders,
+    W: Write + Drop,
+>(
+    system: &System<'_, R, N, D>,
     ledgers: L,
-    destination: &mut Destination<'_, R>,
+    folders: &mut F,
     ledger: &str,
     work: &Work<'_>,
     out: &mut Output<W>,
 ) -> Ended
-    ensures { WorksOn L.Kept.Keeper L.Ledgers (D.listing system.now.disk.now) W.contents ledger.now
-        work.now destination.old destination.new out.old out.new result }
+    ensures { WorksOn L.Kept.Keeper L.Ledgers F.Folder.Sink F.NewFolders
+        (disk_known D.listing N.standing system.now) W.contents ledger.now work.now
+        folders.old folders.new out.old out.new result }
 {
     let meter = Meter::new(system.progress, Activity::Auditing);
     if !matches!(work, Work::Audit { .. }) {
         meter.stop();
     }
-    match open_and_work(system, &meter, ledgers, destination, ledger, work, out) {
+    match open_and_work(system, &meter, ledgers, folders, ledger, work, out) {
         Ok(
             Worked {
                 mut receiver,
@@ -58,8 +66,9 @@ pub fn work_on_ledger<R: Files + Eprint, D: Directories, L: Ledgers, W: Write + 
         ) => {
             let is_vain = is_vain(system.alloc, is_made, &mut receiver);
             let keeper = receiver.into_keeper().into_inside();
-            let cause = L::trouble(&keeper);
+            let trouble = L::trouble(&keeper);
             let closed = close::<L>(file, keeper, is_vain);
+            let cause = trouble.or(L::why_apart(&closed));
             drop(closed);
             ended.or(Why::of_ledger(system.alloc, ledger, cause))
         }
@@ -92,18 +101,26 @@ struct Worked<K, F> {
 
 /// Opens a ledger and does the work. The receiver is returned too, so that the ledger can be closed. The meter counts
 /// what is read of the ledger.
-fn open_and_work<'a, R: Files + Eprint, D: Directories, L: Ledgers, W: Write + Drop>(
-    system: &System<'_, R, D>,
+fn open_and_work<
+    'a,
+    R: Eprint,
+    N: Names + Copy,
+    D: Directories,
+    L: Ledgers,
+    F: NewFolders,
+    W: Write + Drop,
+>(
+    system: &System<'_, R, N, D>,
     meter: &'a Meter<'a, R>,
     ledgers: L,
-    destination: &mut Destination<'_, R>,
+    folders: &mut F,
     ledger: &str,
     work: &Work<'_>,
     out: &mut Output<W>,
 ) -> Result<Worked<Watched<'a, L::Kept, R>, L::File>, Unopened<L::Left>>
-    ensures works { IfOk result (λ done. Works L.Kept.Keeper L.Ledgers
-        (D.listing system.now.disk.now) W.contents ledger.now work.now destination.old
-        destination.new done.receiver out.old out.new done.ended) }
+    ensures works { IfOk result (λ done. Works L.Kept.Keeper L.Ledgers F.Folder.Sink F.NewFolders
+        (disk_known D.listing N.standing system.now) W.contents ledger.now work.now folders.old
+        folders.new done.receiver out.old out.new done.ended) }
     // If a report or an audit answers that a transfer is valid, the ledger that is stored holds a valid bag under this
     // name.
     ensures valid { IfOk result (λ done. done.ended.status ≡ VALID
@@ -115,11 +132,11 @@ fn open_and_work<'a, R: Files + Eprint, D: Directories, L: Ledgers, W: Write + D
         → L.Kept.Keeper.clean done.receiver.keeper → (now : LedgerState)
         × IsInState L.Kept.Keeper.holds L.Kept.Keeper.may_leave done.receiver now) }
     ensures unopened { IfErr result (λ it. IsUnopenedFor L.Ledgers ledger.now work.now it
-        × (destination.new ≡ destination.old) × (out.new ≡ out.old)) }
+        × (folders.new ≡ folders.old) × (out.new ≡ out.old)) }
 {
     let opened = open(ledgers, ledger, work)?;
     let mut receiver = Receiver::new(system.alloc, Watched::new(opened.kept, meter));
-    let ended = do_work(system, destination, &mut receiver, work, out);
+    let ended = do_work(system, folders, &mut receiver, work, out);
     Ok(Worked {
         receiver,
         file: opened.file,
@@ -174,15 +191,16 @@ fn close<L: Ledgers>(file: L::File, keeper: L::Kept, is_vain: bool) -> L::Closed
 }
 
 /// Does the work on an open ledger.
-fn do_work<K: Keeper, R: Files + Eprint, D: Directories, W: Write + Drop>(
-    system: &System<'_, R, D>,
-    destination: &mut Destination<'_, R>,
+fn do_work<K: Keeper, R: Eprint, N: Names + Copy, D: Directories, F: NewFolders, W: Write + Drop>(
+    system: &System<'_, R, N, D>,
+    folders: &mut F,
     receiver: &mut Receiver<K>,
     work: &Work<'_>,
     out: &mut Output<W>,
 ) -> Ended
-    ensures { DoesWork K.Keeper (D.listing system.now.disk.now) W.contents work.now destination.old
-        destination.new receiver.old receiver.new out.old out.new result }
+    ensures { DoesWork K.Keeper (disk_known D.listing N.standing system.now) W.contents
+        F.Folder.Sink F.NewFolders work.now folders.old folders.new receiver.old receiver.new
+        out.old out.new result }
 {
     let alloc = system.alloc;
     match work {
@@ -192,7 +210,7 @@ fn do_work<K: Keeper, R: Files + Eprint, D: Directories, W: Write + Drop>(
         Work::Audit { name } => Ended::plain(audit_to(alloc, receiver, name, out)),
         Work::Fetch { name, folder } => fetch_from_folder(system, receiver, name, folder, out),
         Work::Export { name, folder } => {
-            export_into_folder(system, destination, receiver, name, folder, out)
+            export_into_folder(system, folders, receiver, name, folder, out)
         }
         Work::List => Ended::plain(list_to(alloc, receiver, out)),
     }

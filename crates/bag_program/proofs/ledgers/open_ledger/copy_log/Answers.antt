@@ -8,4 +8,5 @@ pub returns-in-Ok-clause-copied : goal.returns-in-Ok-clause-copied
 returns-in-Ok-clause-copied g c = λ clean. let copied = c.in-Ok.ensures.copied clean in (_, copied.seen, copied.left)
 
 pub returns-in-Err-clause-closed : goal.returns-in-Err-clause-closed
-returns-in-Err-clause-closed g c = rw c.release.ensures at c.in-Err.ensures.err.0
+returns-in-Err-clause-closed g c =
+    record { same = rw c.release.ensures at c.in-Err.ensures.err.0; why = rw c.release.ensures at c.in-Err.ensures.err.1 }

@@ -1,4 +1,5 @@
 use Rattle.std.proofs.Common.{◌∙◌, ap₂, map, refl, string_bytes}
+use Rattle.bag_program.specs.Disks.{disk_known}
 use Rattle.bag_program.specs.Endings.{why_undelivered}
 use Rattle.bag_program.specs.Working.{AllOpened}
 use Rattle.bag_program.proofs.WorkLemmas.{none_opened, taken_from}
@@ -14,5 +15,5 @@ returns-in-Ok g c =
 pub returns-in-Err : goal.returns-in-Err
 returns-in-Err g c =
     let stopped = c.no_result_for_folder.ensures in
-    none_opened g.W.Write.contents (g.D.Directories.listing c.args.system.now.disk.now) _ c.args.out.now c.no_result_for_folder.new.out c.no_result_for_folder.result (map string_bytes c.args.folders.now) _ c.in-Err.fault
+    none_opened g.W.Write.contents (disk_known g.D.Directories.listing g.N.Names.standing c.args.system.now) _ c.args.out.now c.no_result_for_folder.new.out c.no_result_for_folder.result (map string_bytes c.args.folders.now) _ c.in-Err.fault
     c.in-Err.ensures.refused refl stopped.printed stopped.why

@@ -16,7 +16,7 @@ returns-clause-works g c = record {
 
 pub returns-clause-valid : goal.returns-clause-valid
 returns-clause-valid g c valid clean name is stored holds =
-    let it = valid_by g.L.Kept.Keeper _ _ _ _ _ _ _ _ _ valid clean name c.args.work.now is c.do_work-ended.ensures in
+    let it = valid_by g.L.Kept.Keeper _ _ _ _ _ _ _ valid clean name _ _ _ _ c.args.work.now is c.do_work-ended.ensures in
     let opened = opened_by g.L.Ledgers c.args.ledger.now name c.in_ok-opened.opened.is_made c.in_ok-opened.opened.kept c.args.work.now is c.in_ok-opened.ensures in
     let before = subst g.L.Kept.Keeper.clean (c.new-receiver.ensures.keeper ∙ c.new.ensures) it.0 in
     let in_state = rw c.new.ensures at c.new-receiver.ensures.in_state in
@@ -24,7 +24,7 @@ returns-clause-valid g c valid clean name is stored holds =
 
 pub returns-clause-made : goal.returns-clause-made
 returns-clause-made g c is clean =
-    let it = goes_on g.L.Kept.Keeper _ _ _ _ _ _ _ _ _ g.L.Ledgers c.args.ledger.now c.in_ok-opened.opened.is_made c.in_ok-opened.opened.kept c.args.work.now is c.in_ok-opened.ensures c.do_work-ended.ensures in
+    let it = goes_on g.L.Kept.Keeper _ _ _ _ _ _ _ g.L.Ledgers _ _ _ _ c.args.ledger.now c.in_ok-opened.opened.is_made c.in_ok-opened.opened.kept c.args.work.now is c.in_ok-opened.ensures c.do_work-ended.ensures in
     let goes = it.1 clean in
     let before = subst g.L.Kept.Keeper.clean (c.new-receiver.ensures.keeper ∙ c.new.ensures) goes.0 in
     let in_state = rw c.new.ensures at c.new-receiver.ensures.in_state in

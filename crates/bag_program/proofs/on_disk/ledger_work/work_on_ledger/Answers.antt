@@ -1,4 +1,5 @@
 use Rattle.std.proofs.Common.{◌≡◌, ◌∙◌, ◌↔◌, None, [], subst, sym}
+use Rattle.bag_program.specs.Endings.{IsWhyOf}
 use Rattle.bag_program.specs.Working.{NotOpened, Worked}
 use Rattle.bag_program.proofs.on_disk.ledger_work.work_on_ledger.Goals as goal
 
@@ -18,10 +19,12 @@ returns-in-Ok g c =
       only_read = c.is_vain-is_vain.ensures.reads;
       left = c.close-closed.result;
       is_left = subst (λ keeper. g.L.Ledgers.closed keeper c.close-closed.result) same c.close-closed.ensures;
-      cause = c.trouble-cause.result;
-      failed = subst (λ keeper. (c.trouble-cause.result ≡ None) ↔ (g.L.Kept.Keeper.failures keeper ≡ 0)) same c.trouble-cause.ensures;
+      trouble = c.trouble-trouble.result;
+      failed = subst (λ keeper. (c.trouble-trouble.result ≡ None) ↔ (g.L.Kept.Keeper.failures keeper ≡ 0)) same c.trouble-trouble.ensures;
+      log = c.why_apart.result;
+      stays = c.why_apart.ensures;
       why = c.of_ledger.result;
-      is_why = c.of_ledger.ensures;
+      is_why = subst (λ cause. IsWhyOf c.args.ledger.now cause c.of_ledger.result) c.or-cause.ensures c.of_ledger.ensures;
       told = c.or.ensures;
     })
 

@@ -28,7 +28,7 @@ pub returns-in-Err-clause-opened : goal.returns-in-Err-clause-opened
 returns-in-Err-clause-opened g c =
     let opened = c.args.connection in
     let refused = c.in-Err.ensures.adopted in
-    not_adopted _ (image_at g.S.Start) c.unadopted.result c.in-Err.field-0.fault opened c.in-Err.field-0.connection c.unadopted.ensures.left c.unadopted.ensures.fault
+    not_adopted _ (image_at g.S.Start) c.unadopted.result c.in-Err.field-0.fault _ opened c.in-Err.field-0.connection c.unadopted.ensures.left c.unadopted.ensures.fault
     (record { connected = c.requires; survives = refused.survives; same = refused.unchanged })
     (λ clean.
     let before : HasCleanDisk (file_state opened) = omega (arith, refused.survives.clean, clean) in
