@@ -50,10 +50,11 @@ impl Device {
     }
 }
 
-/// Counts the calls of all devices of one kind, and lets one of them fail.
+/// Counts the calls of all devices of one kind, and lets one of them fail, or that and each that follows.
 #[derive(Drop)]
 pub struct Breaker {
     device: Option<Device>,
+    is_lasting: bool,
     // how many calls there are up to the one that fails; 0 if none does
     left: Cell<u64>,
     has_broken: Cell<bool>,
@@ -64,8 +65,18 @@ pub struct Breaker {
 impl Breaker {
     /// Lets the call with this number fail, counted from 1; none if it is 0.
     pub fn new(device: Option<Device>, number: u64) -> Breaker {
+        Breaker::of(device, false, number)
+    }
+
+    /// Lets each call after so many fail.
+    pub fn after(device: Option<Device>, calls: u64) -> Breaker {
+        Breaker::of(device, true, calls.saturating_add(1))
+    }
+
+    fn of(device: Option<Device>, is_lasting: bool, number: u64) -> Breaker {
         Breaker {
             device,
+            is_lasting,
             left: Cell::new(number),
             has_broken: Cell::new(false),
             is_stopped: Cell::new(false),
@@ -84,10 +95,11 @@ impl Breaker {
         }
         let left = self.left.get();
         self.left.set(left.saturating_sub(1));
-        if left == 1 {
+        let breaks = left == 1 || (left == 0 && self.is_lasting);
+        if breaks {
             self.has_broken.set(true);
         }
-        left == 1
+        breaks
     }
 
     /// Counts a call of this file of a ledger. Returns whether it fails.

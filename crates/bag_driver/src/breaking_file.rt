@@ -1,5 +1,6 @@
-//! Files in memory of which a call fails.
-ghost use Rattle.std.specs.Prelude.{◌≡◌, ◌+◌, ◌&&◌, not, false};
+//! Files in memory of which calls fail.
+ghost use Rattle.std.specs.Prelude.{◌≡◌, ◌+◌, ◌&&◌, not, false, refl};
+ghost use Rattle.std.proofs.Common.{inl};
 ghost use Rattle.sqlite_disk.specs.Disk.{CountsFault};
 ghost use Rattle.sqlite_disk.specs.Refusal.{finds_no_room};
 
@@ -8,22 +9,20 @@ use sqlite_disk::{Crash, Disk, Memory, Tally};
 use std::alloc::Global;
 use std::io;
 
-/// A file in memory of which a call fails.
-pub type MemoryFile<'a> = BreakingFile<'a, Memory>;
-
-/// A file of which a call fails.
+/// A file in memory of which a call fails. It is a type without a parameter: what a call over its type has to meet is
+/// proved sooner so.
 #[derive(Drop)]
-pub struct BreakingFile<'a, D: Disk> {
-    inside: D,
+pub struct BreakingFile<'a> {
+    inside: Memory,
     breaker: &'a Breaker,
     file: Device,
     refused: u64,
     sync_refused: bool,
 }
 
-impl<'a, D: Disk> BreakingFile<'a, D> {
+impl<'a> BreakingFile<'a> {
     /// `file` says which one it is.
-    pub fn new(inside: D, breaker: &'a Breaker, file: Device) -> Self {
+    fn new(inside: Memory, breaker: &'a Breaker, file: Device) -> Self {
         BreakingFile {
             inside,
             breaker,
@@ -46,30 +45,30 @@ fn spend(breaker: &Breaker, file: Device, refused: &mut u64) -> io::Result<()>
     Ok(())
 }
 
-impl<D: Disk> Disk for BreakingFile<'_, D> {
-    ghost seen = { λ f. D.Disk.seen f.inside };
+impl Disk for BreakingFile<'_> {
+    ghost seen = { λ f. ⟦<Memory as Disk>⟧.seen f.inside };
 
-    ghost may_leave = { λ f. D.Disk.may_leave f.inside };
+    ghost may_leave = { λ f. ⟦<Memory as Disk>⟧.may_leave f.inside };
 
-    ghost is_usable = { λ f. D.Disk.is_usable f.inside && not f.sync_refused };
+    ghost is_usable = { λ f. ⟦<Memory as Disk>⟧.is_usable f.inside && not f.sync_refused };
 
-    ghost faults = { λ f. D.Disk.faults f.inside + f.refused };
+    ghost faults = { λ f. ⟦<Memory as Disk>⟧.faults f.inside + f.refused };
 
-    ghost tally_of = { λ f. D.Disk.tally_of f.inside };
+    ghost tally_of = { λ f. ⟦<Memory as Disk>⟧.tally_of f.inside };
 
-    ghost is_rotten = { λ f. D.Disk.is_rotten f.inside };
+    ghost is_rotten = { λ f. ⟦<Memory as Disk>⟧.is_rotten f.inside };
 
-    ghost key_of = { λ f. D.Disk.key_of f.inside };
+    ghost key_of = { λ f. ⟦<Memory as Disk>⟧.key_of f.inside };
 
-    ghost is_clean = { λ f. D.Disk.is_clean f.inside };
+    ghost is_clean = { λ f. ⟦<Memory as Disk>⟧.is_clean f.inside };
 
-    ghost is_fair = { λ f. D.Disk.is_fair f.inside };
+    ghost is_fair = { λ f. ⟦<Memory as Disk>⟧.is_fair f.inside };
 
-    ghost fair_if_clean = { λ f. D.Disk.fair_if_clean f.inside };
+    ghost fair_if_clean = { λ _ _ _. refl };
 
-    ghost seen_may_stay = { λ f. D.Disk.seen_may_stay f.inside };
+    ghost seen_may_stay = { λ _. inl refl };
 
-    ghost is_mixing = { λ f. D.Disk.is_mixing f.inside };
+    ghost is_mixing = { λ f. ⟦<Memory as Disk>⟧.is_mixing f.inside };
 
     fn mixes(&self) -> bool {
         self.inside.mixes()
@@ -121,9 +120,9 @@ impl<D: Disk> Disk for BreakingFile<'_, D> {
     }
 }
 
-impl<'a> BreakingFile<'a, Memory> {
+impl<'a> BreakingFile<'a> {
     /// A file that holds nothing.
-    pub fn empty(alloc: Global, breaker: &'a Breaker, file: Device) -> MemoryFile<'a> {
+    pub fn empty(alloc: Global, breaker: &'a Breaker, file: Device) -> BreakingFile<'a> {
         BreakingFile::new(Memory::new(alloc), breaker, file)
     }
 
@@ -137,15 +136,17 @@ impl<'a> BreakingFile<'a, Memory> {
         breaker: &'a Breaker,
         file: Device,
         octets: &[u8],
-    ) -> io::Result<MemoryFile<'a>> {
+    ) -> io::Result<BreakingFile<'a>> {
         let mut inside = Memory::new(alloc);
-        inside.write_at(0, octets)?;
-        inside.sync()?;
+        if !octets.is_empty() {
+            inside.write_at(0, octets)?;
+            inside.sync()?;
+        }
         Ok(BreakingFile::new(inside, breaker, file))
     }
 
     /// The file after a stop. If it is cut, or can't be used, what no sync had reached is lost.
-    pub fn restarted(self, is_cut: bool) -> MemoryFile<'a> {
+    pub fn restarted(self, is_cut: bool) -> BreakingFile<'a> {
         let BreakingFile {
             mut inside,
             breaker,

@@ -9,8 +9,8 @@ use crate::event::Event;
 use crate::lines::bad_line;
 use crate::shown::{write_files, write_hex};
 use bag_commands::{
-    NoResult, Output, audit_to, begin_to, export_to, fetch_to, intake_to, list_to, print_no_result,
-    report_to,
+    BeginEnd, NoResult, Output, audit_to, begin_to, export_to, fetch_to, intake_to, list_to,
+    print_no_result, report_to,
 };
 use bag_ledger::Keeper;
 use bag_path::BagPath;
@@ -43,43 +43,61 @@ pub fn command_on<K: Keeper + Drop, W: Write + Drop>(
     alloc: Global,
     receiver: &mut Receiver<K>,
     draft: &mut Draft,
-    event: Event<'_>,
+    event: &mut Event<'_>,
     breaker: &Breaker,
     out: &mut W,
 ) -> io::Result<()> {
-    let Event {
-        word,
-        name,
-        files,
-        load,
-        room,
-    } = event;
-    let name = name.as_str();
-    let mut told = output_on(alloc, room, breaker);
-    let status = match word {
+    let mut told = output_on(alloc, event.take_room(alloc), breaker);
+    let name = event.name.as_str();
+    let status = match event.word {
         "begin-to" => {
             let mut tree = draft.tree_out(alloc, breaker);
-            let status = begin_to(alloc, receiver, name, &mut tree, &mut told);
+            let BeginEnd { status, fault: _ } = begin_to(
+                alloc, receiver, name, &mut tree, &mut told,
+            );
             draft.put_back(tree);
             status
         }
-        "intake-to" => {
-            match couriers_of(alloc, load, breaker) {
-                Ok(couriers) => intake_to(alloc, receiver, name, couriers, &mut told),
-                Err(_) => print_no_result(NoResult::Memory, &mut told),
-            }
-        }
-        "report-to" => report_to(alloc, receiver, name, &mut told),
-        "audit-to" => audit_to(alloc, receiver, name, &mut told),
-        "fetch-to" => {
-            let mut stock = BreakingSupplier::new(files.as_slice(), breaker);
-            fetch_to(alloc, receiver, name, &mut stock, &mut told)
-        }
-        "export-to" => return export_shown(alloc, receiver, name, breaker, told, out),
-        "list-to" => list_to(alloc, receiver, &mut told),
-        _ => return Err(bad_line()),
+        "export-to" => return export_shown(alloc, receiver, name, breaker, &mut told, out),
+        _ => status_of(alloc, receiver, event, breaker, &mut told)?,
     };
     write_told(status, &told, out)
+}
+
+/// The status of a command that needs no tree and no sink.
+fn status_of<K: Keeper + Drop>(
+    alloc: Global,
+    receiver: &mut Receiver<K>,
+    event: &mut Event<'_>,
+    breaker: &Breaker,
+    told: &mut Output<BreakingWriter<'_>>,
+) -> io::Result<u8> {
+    let name = event.name.as_str();
+    match event.word {
+        "report-to" => Ok(report_to(alloc, receiver, name, told)),
+        "audit-to" => Ok(audit_to(alloc, receiver, name, told)),
+        "fetch-to" => {
+            let mut stock = BreakingSupplier::new(event.files.as_slice(), breaker);
+            Ok(fetch_to(alloc, receiver, name, &mut stock, told))
+        }
+        "list-to" => Ok(list_to(alloc, receiver, told)),
+        "intake-to" => Ok(take_in(alloc, receiver, event, breaker, told)),
+        _ => Err(bad_line()),
+    }
+}
+
+/// Takes in what two couriers bring.
+fn take_in<K: Keeper + Drop>(
+    alloc: Global,
+    receiver: &mut Receiver<K>,
+    event: &mut Event<'_>,
+    breaker: &Breaker,
+    told: &mut Output<BreakingWriter<'_>>,
+) -> u8 {
+    match couriers_of(alloc, event.take_load(alloc), breaker) {
+        Ok(couriers) => intake_to(alloc, receiver, event.name.as_str(), couriers, told),
+        Err(_) => print_no_result(NoResult::Memory, told),
+    }
 }
 
 /// Exports, and shows what the sink holds then.
@@ -88,12 +106,12 @@ fn export_shown<K: Keeper + Drop, W: Write + Drop>(
     receiver: &mut Receiver<K>,
     name: &str,
     breaker: &Breaker,
-    mut told: Output<BreakingWriter<'_>>,
+    told: &mut Output<BreakingWriter<'_>>,
     out: &mut W,
 ) -> io::Result<()> {
     let mut sink = BreakingSink::new(MemSink::new(alloc), breaker);
-    let status = export_to(alloc, receiver, name, &mut sink, &mut told);
-    write_told(status, &told, out)?;
+    let status = export_to(alloc, receiver, name, &mut sink, told);
+    write_told(status, told, out)?;
     write_files(&sink.into_inside().into_tree(), out)
 }
 

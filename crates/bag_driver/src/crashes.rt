@@ -1,101 +1,100 @@
 //! Work on a ledger that stops at a call of one of its two files, for `tests/crashes.py`.
-use crate::ledger_opening::{closed_in, opened_in};
+use crate::breaker::{Breaker, Device};
+use crate::breaking_file::BreakingFile;
+use crate::file_keeper::{FileKeeper, LedgerFiles};
 use crate::lines::answer_lines;
 use bag_ledger::Keeper;
 use bag_receiver::Receiver;
-use bag_sqlite::SqlKeeper;
-use sqlite::{Alter, FileStore, Files, Options};
-use sqlite_disk::{Crash, Disk, Fuse, Memory};
+use sqlite::{Files, Options};
 use std::fs;
 use std::io::{self, ErrorKind, Write};
 
-/// The files of a database, which stop working after some calls.
-type Fused = Files<Fuse<Memory>>;
-
-/// The keeper of a ledger in such files.
-type FusedKeeper = SqlKeeper<FileStore<Fuse<Memory>>>;
-
-/// How many calls the log and the database accept before they fail.
-#[derive(Clone, Copy)]
-pub struct Calls {
-    pub log: u64,
-    pub database: u64,
+/// Opens the ledger in a database or makes one, answers the events on standard input, and closes the ledger. All of
+/// that is done with copies of the files in memory. What a stop at their last call would leave is then written back.
+/// The words say which call that is.
+pub fn stop<W: Write + Drop>(rt: &HostRuntime, words: &[String], out: &mut W) -> io::Result<u8> {
+    let [_, file, calls, how, seed, database] = words else {
+        return Ok(64);
+    };
+    let (Ok(calls), Ok(seed)) = (calls.parse::<u64>(), seed.parse::<u64>()) else {
+        return Ok(64);
+    };
+    let breaker = Breaker::after(Device::of(file.as_str()), calls);
+    let is_cut = how.as_str() == "cut";
+    stop_in(rt, database.as_str(), &breaker, is_cut, seed, out)?;
+    Ok(0)
 }
 
-/// Opens the ledger in this database or makes one, answers the events on standard input, and closes the ledger. All of
-/// that is done with copies of the files in memory. What a stop at their last call would leave is then written back:
-/// if `is_cut`, without what no sync had reached.
-pub fn stop<W: Write + Drop>(
+/// The same, in this database. If `is_cut`, what no sync had reached is lost.
+fn stop_in<W: Write + Drop>(
     rt: &HostRuntime,
     database: &str,
-    calls: Calls,
+    breaker: &Breaker,
     is_cut: bool,
     seed: u64,
     out: &mut W,
 ) -> io::Result<()> {
     let log = format!(in rt.alloc(); "{database}-wal")?;
     let files = Files {
-        log: copied(rt, log.as_str(), calls.log)?,
-        db: copied(rt, database, calls.database)?,
+        log: copied(rt, log.as_str(), breaker, Device::Log)?,
+        db: copied(rt, database, breaker, Device::Database)?,
     };
-    let mut left = work(rt, files, seed, out)?;
-    if is_cut {
-        left.log.crash();
-        left.db.crash();
-    }
-    fs::write(rt, log.as_str(), left.log.inner().bytes())?;
-    fs::write(rt, database, left.db.inner().bytes())
+    let (left, printed) = work(rt, files, breaker, Options::new(seed), out);
+    printed?;
+    let Files { log: left_log, db } = left;
+    fs::write(rt, log.as_str(), left_log.restarted(is_cut).octets())?;
+    fs::write(rt, database, db.restarted(is_cut).octets())
 }
 
-/// A copy of the file in memory, which accepts this many calls. If there is no file, the copy is empty.
-fn copied(rt: &HostRuntime, name: &str, calls: u64) -> io::Result<Fuse<Memory>> {
-    let mut copy = Memory::new(rt.alloc());
+/// A copy of the file in memory. If there is no file, the copy is empty.
+fn copied<'a>(
+    rt: &HostRuntime,
+    name: &str,
+    breaker: &'a Breaker,
+    file: Device,
+) -> io::Result<BreakingFile<'a>> {
     match fs::read(rt, name) {
-        Ok(octets) => {
-            copy.write_at(0, octets.as_slice())?;
-            copy.sync()?;
+        Ok(octets) => BreakingFile::holding(rt.alloc(), breaker, file, octets.as_slice()),
+        Err(error) if error.kind() == ErrorKind::NotFound => {
+            Ok(BreakingFile::empty(rt.alloc(), breaker, file))
         }
-        Err(error) if error.kind() == ErrorKind::NotFound => {}
-        Err(error) => return Err(error),
-    }
-    Ok(Fuse::new(copy, calls))
-}
-
-/// Writes a line for the opening, one for each event, and one for the closing. Returns the files.
-fn work<W: Write + Drop>(
-    rt: &HostRuntime,
-    files: Fused,
-    seed: u64,
-    out: &mut W,
-) -> io::Result<Fused> {
-    match opened_in(rt.alloc(), files, Options::new(seed)) {
-        Ok(keeper) => work_in(rt, keeper, out),
-        Err((fault, left)) => {
-            writeln!(out, "{fault}")?;
-            Ok(left)
-        }
+        Err(error) => Err(error),
     }
 }
 
-/// The same, in a ledger that was opened.
-fn work_in<W: Write + Drop>(
+/// Writes a line for the opening, one for each event, and one for the closing. Returns the files, and whether all was
+/// printed.
+fn work<'a, W: Write + Drop>(
     rt: &HostRuntime,
-    keeper: FusedKeeper,
+    files: LedgerFiles<'a>,
+    breaker: &'a Breaker,
+    options: Options,
     out: &mut W,
-) -> io::Result<Fused> {
-    let (keeper, answered) = answer_in(rt, keeper, out);
-    let (left, is_closed) = closed_in(keeper);
-    answered?;
-    writeln!(out, "{}", if is_closed { "closed" } else { "not closed" })?;
-    Ok(left)
+) -> (LedgerFiles<'a>, io::Result<()>) {
+    match FileKeeper::open(rt.alloc(), files, breaker, options) {
+        Ok(keeper) => {
+            let (keeper, answered) = answer_in(rt, keeper, out);
+            let (left, is_closed) = keeper.close();
+            let printed = match answered {
+                Ok(()) => write_end(is_closed, out),
+                Err(error) => Err(error),
+            };
+            (left, printed)
+        }
+        Err((fault, left)) => (left, writeln!(out, "{fault}")),
+    }
+}
+
+fn write_end<W: Write + Drop>(is_closed: bool, out: &mut W) -> io::Result<()> {
+    writeln!(out, "{}", if is_closed { "closed" } else { "not closed" })
 }
 
 /// Says that the ledger was opened, and answers the events. Returns the keeper, and whether all was printed.
-fn answer_in<S: Alter + Drop, W: Write + Drop>(
+fn answer_in<K: Keeper + Drop, W: Write + Drop>(
     rt: &HostRuntime,
-    keeper: SqlKeeper<S>,
+    keeper: K,
     out: &mut W,
-) -> (SqlKeeper<S>, io::Result<()>) {
+) -> (K, io::Result<()>) {
     let mut receiver = Receiver::new(rt.alloc(), keeper);
     let answered = answer_opened(rt, &mut receiver, out);
     (receiver.into_keeper(), answered)

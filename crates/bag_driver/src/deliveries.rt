@@ -28,7 +28,8 @@ impl<K: Keeper + Drop> Answers for Receiver<K> {
         out: &mut W,
     ) -> io::Result<()> {
         let breaker = Breaker::none();
-        answer(alloc, self, Event::parse(alloc, words)?, &breaker, out)?;
+        let mut event = Event::parse(alloc, words)?;
+        answer(alloc, self, &mut event, &breaker, out)?;
         writeln!(out)
     }
 }
@@ -37,15 +38,15 @@ impl<K: Keeper + Drop> Answers for Receiver<K> {
 pub fn answer<K: Keeper + Drop, W: Write + Drop>(
     alloc: Global,
     receiver: &mut Receiver<K>,
-    event: Event<'_>,
+    event: &mut Event<'_>,
     breaker: &Breaker,
     out: &mut W,
 ) -> io::Result<()> {
     match event.word {
-        "begin" => begin(alloc, receiver, &event, out),
-        "deliver" => deliver(alloc, receiver, &event, out),
-        "read" => read(alloc, receiver, &event, Breaks::Counted(breaker), out),
-        "break" => read(alloc, receiver, &event, Breaks::First, out),
+        "begin" => begin(alloc, receiver, event, out),
+        "deliver" => deliver(alloc, receiver, event, out),
+        "read" => read(alloc, receiver, event, Breaks::Counted(breaker), out),
+        "break" => read(alloc, receiver, event, Breaks::First, out),
         "run" => {
             let run = receiver.run(alloc, event.name.as_str(), event.files.as_slice());
             write_run(run.answers.as_slice(), end_text(run.ended), out)
@@ -56,7 +57,7 @@ pub fn answer<K: Keeper + Drop, W: Write + Drop>(
         "report" => write_report(receiver.report(alloc, event.name.as_str()), out),
         "audit" => write_report(receiver.audit(alloc, event.name.as_str()), out),
         "names" => names(alloc, receiver, out),
-        "fetch" => fetch(alloc, receiver, &event, breaker, out),
+        "fetch" => fetch(alloc, receiver, event, breaker, out),
         "export" => export(alloc, receiver, event.name.as_str(), breaker, out),
         _ => Err(bad_line()),
     }
@@ -104,21 +105,14 @@ fn read<K: Keeper + Drop, W: Write + Drop>(
 fn bring<K: Keeper + Drop, W: Write + Drop>(
     alloc: Global,
     receiver: &mut Receiver<K>,
-    event: Event<'_>,
+    event: &mut Event<'_>,
     breaks: Breaks<'_>,
     out: &mut W,
 ) -> io::Result<()> {
-    let Event {
-        word: _,
-        name,
-        files,
-        load,
-        room: _,
-    } = event;
-    let mut courier = BreakingCourier::new(load, breaks);
-    let (run, paths) = receiver.run_from(alloc, name.as_str(), &mut courier);
+    let mut courier = BreakingCourier::new(event.take_load(alloc), breaks);
+    let (run, paths) = receiver.run_from(alloc, event.name.as_str(), &mut courier);
     write_run(run.answers.as_slice(), end_text(run.ended), out)?;
-    if !are_first(paths.as_slice(), files.as_slice()) {
+    if !are_first(paths.as_slice(), event.files.as_slice()) {
         write!(out, " | other paths")?;
     }
     Ok(())

@@ -8,7 +8,7 @@ use crate::event::{Event, File};
 use crate::lines::{bad_line, parsed};
 use crate::listing::{NO_MEMORY, add_element};
 use crate::shown::write_files;
-use bag_commands::{MakeEnd, check_to, make_to};
+use bag_commands::{CheckEnd, MakeEnd, check_to, make_to};
 use bag_digest::{Alg, AlgSet};
 use bag_path::Spelling;
 use bag_rules::{AddFault, MemTree};
@@ -49,7 +49,7 @@ impl Draft {
     pub fn answer<W: Write + Drop>(
         &mut self,
         alloc: Global,
-        event: Event<'_>,
+        event: &mut Event<'_>,
         breaker: &Breaker,
         out: &mut W,
     ) -> io::Result<()> {
@@ -62,12 +62,12 @@ impl Draft {
                 "cleared"
             }
             "by" => self.by(event.name.as_str())?,
-            "file" => self.file(alloc, &event)?,
+            "file" => self.file(alloc, event)?,
             "element" => {
                 let (label, value) = event.texts()?;
                 add_element(alloc, &mut self.spec.info, label, value)
             }
-            "hole" => self.hole(alloc, &event)?,
+            "hole" => self.hole(alloc, event)?,
             _ => return Err(bad_line()),
         };
         write!(out, "{answer}")
@@ -135,10 +135,7 @@ impl Draft {
         let mut sink = BreakingSink::new(MemSink::new(alloc), breaker);
         let written = write_bag(alloc, &mut tree, &self.spec, &mut sink);
         self.put_back(tree);
-        match written {
-            Ok(Oxum { octets, streams }) => write!(out, "written {octets}.{streams}")?,
-            Err(fault) => write_refusal(&fault, out)?,
-        }
+        write_written(&written, out)?;
         write_files(&sink.into_inside().into_tree(), out)
     }
 
@@ -146,13 +143,13 @@ impl Draft {
     fn check<W: Write + Drop>(
         &mut self,
         alloc: Global,
-        event: Event<'_>,
+        event: &mut Event<'_>,
         breaker: &Breaker,
         out: &mut W,
     ) -> io::Result<()> {
+        let mut told = output_on(alloc, event.take_room(alloc), breaker);
         let mut tree = self.tree_out(alloc, breaker);
-        let mut told = output_on(alloc, event.room, breaker);
-        let status = check_to(alloc, &mut tree, &mut told);
+        let CheckEnd { status, fault: _ } = check_to(alloc, &mut tree, &mut told);
         self.put_back(tree);
         write_told(status, &told, out)
     }
@@ -161,26 +158,34 @@ impl Draft {
     fn make<W: Write + Drop>(
         &mut self,
         alloc: Global,
-        event: Event<'_>,
+        event: &mut Event<'_>,
         breaker: &Breaker,
         out: &mut W,
     ) -> io::Result<()> {
         let Ok(names) = paths_of(alloc, event.files.as_slice()) else {
             return write!(out, "{NO_MEMORY}");
         };
-        let mut tree = self.tree_out(alloc, breaker);
+        let room = event.take_room(alloc);
         let mut sink = BreakingSink::new(MemSink::new(alloc), breaker);
-        let mut told = output_on(alloc, event.room, breaker);
-        let MakeEnd { status, large: _ } = make_to(
-            alloc,
-            names.as_slice(),
-            &mut tree,
-            &mut sink,
-            &mut told,
-        );
-        self.put_back(tree);
-        write_told(status, &told, out)?;
+        self.make_told(alloc, names.as_slice(), room, breaker, &mut sink, out)?;
         write_files(&sink.into_inside().into_tree(), out)
+    }
+
+    /// The same, with the room for what is printed, and without the files.
+    fn make_told<W: Write + Drop>(
+        &mut self,
+        alloc: Global,
+        names: &[String],
+        room: Vec<u8>,
+        breaker: &Breaker,
+        sink: &mut BreakingSink<'_, MemSink>,
+        out: &mut W,
+    ) -> io::Result<()> {
+        let mut told = output_on(alloc, room, breaker);
+        let mut tree = self.tree_out(alloc, breaker);
+        let MakeEnd { status, large: _ } = make_to(alloc, names, &mut tree, sink, &mut told);
+        self.put_back(tree);
+        write_told(status, &told, out)
     }
 }
 
@@ -193,16 +198,20 @@ fn paths_of(alloc: Global, files: &[File]) -> Result<Vec<String>, AllocError> {
     Ok(paths)
 }
 
-/// Writes why no bag, or only part of one, was written.
-fn write_refusal<W: Write + Drop>(fault: &WriteFault, out: &mut W) -> io::Result<()> {
-    match fault {
-        WriteFault::NoAlgorithm => write!(out, "refused: no algorithm"),
-        WriteFault::OxumGiven => write!(out, "refused: Oxum given"),
-        WriteFault::BadHole(place) => write!(out, "refused: bad hole {place}"),
-        WriteFault::Clash(path) => write!(out, "refused: clash {}", Spelling(path)),
-        WriteFault::Tree => write!(out, "refused: tree"),
-        WriteFault::Sink => write!(out, "refused: sink"),
-        WriteFault::TooLarge(_) => write!(out, "refused: too large"),
-        WriteFault::Memory => write!(out, "{NO_MEMORY}"),
+/// Writes the Oxum of a bag, or why none, or only part of one, was written.
+fn write_written<W: Write + Drop>(
+    written: &Result<Oxum, WriteFault>,
+    out: &mut W,
+) -> io::Result<()> {
+    match written {
+        Ok(Oxum { octets, streams }) => write!(out, "written {octets}.{streams}"),
+        Err(WriteFault::NoAlgorithm) => write!(out, "refused: no algorithm"),
+        Err(WriteFault::OxumGiven) => write!(out, "refused: Oxum given"),
+        Err(WriteFault::BadHole(place)) => write!(out, "refused: bad hole {place}"),
+        Err(WriteFault::Clash(path)) => write!(out, "refused: clash {}", Spelling(path)),
+        Err(WriteFault::Tree) => write!(out, "refused: tree"),
+        Err(WriteFault::Sink) => write!(out, "refused: sink"),
+        Err(WriteFault::TooLarge(_)) => write!(out, "refused: too large"),
+        Err(WriteFault::Memory) => write!(out, "{NO_MEMORY}"),
     }
 }

@@ -2,7 +2,7 @@
 use crate::lines::{bad_line, octets_of, path_of, text_of};
 use bag_path::BagPath;
 use std::alloc::Global;
-use std::io;
+use std::{io, mem};
 
 /// How many octets a command of a list prints at most.
 const ROOM: usize = 4_096;
@@ -16,10 +16,10 @@ pub struct Event<'a> {
     pub word: &'a str,
     pub name: String,
     pub files: Vec<File>,
-    /// The files again if a courier brings them, the last one first.
-    pub load: Vec<(BagPath, Vec<u8>)>,
-    /// Room for what a command prints.
-    pub room: Vec<u8>,
+    // the files again if a courier brings them, the last one first
+    load: Vec<(BagPath, Vec<u8>)>,
+    // room for what a command prints
+    room: Vec<u8>,
 }
 
 impl<'a> Event<'a> {
@@ -63,6 +63,16 @@ impl<'a> Event<'a> {
             load,
             room,
         })
+    }
+
+    /// Takes out the files that a courier brings.
+    pub fn take_load(&mut self, alloc: Global) -> Vec<(BagPath, Vec<u8>)> {
+        mem::replace(&mut self.load, Vec::new(alloc))
+    }
+
+    /// Takes out the room for what a command prints.
+    pub fn take_room(&mut self, alloc: Global) -> Vec<u8> {
+        mem::replace(&mut self.room, Vec::new(alloc))
     }
 
     /// The path and the octets of its one file.

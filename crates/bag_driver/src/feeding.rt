@@ -55,15 +55,35 @@ fn cut<W: Write + Drop>(alloc: Global, fields: &[&str], out: &mut W) -> io::Resu
     let whole = text_of(alloc, tag_file, &tag_file.whole(alloc, &octets))?;
     writeln!(out, "{lines} {whole}")?;
     for cutting in cuttings {
-        let pieces = pieces_of(alloc, &octets, cutting)?;
-        let fed = fed(alloc, tag_file, pieces.as_slice())?;
-        if fed.as_str() != whole.as_str() {
-            writeln!(out, "cut at {cutting}: {fed}")?;
-        }
-        let counted = lines_of(pieces.as_slice());
-        if counted != lines {
-            writeln!(out, "cut at {cutting}: {counted} lines")?;
-        }
+        let pieces = pieces_of(alloc, octets.as_slice(), cutting)?;
+        compare(
+            alloc,
+            tag_file,
+            pieces.as_slice(),
+            (whole.as_str(), lines),
+            cutting,
+            out,
+        )?;
+    }
+    Ok(())
+}
+
+/// Prints the cutting if a feed reads something else from its pieces than the whole, or other lines are counted.
+fn compare<W: Write + Drop>(
+    alloc: Global,
+    tag_file: TagFile,
+    pieces: &[&[u8]],
+    (whole, lines): (&str, u64),
+    cutting: &str,
+    out: &mut W,
+) -> io::Result<()> {
+    let fed = fed(alloc, tag_file, pieces)?;
+    if fed.as_str() != whole {
+        writeln!(out, "cut at {cutting}: {fed}")?;
+    }
+    let counted = lines_of(pieces);
+    if counted != lines {
+        writeln!(out, "cut at {cutting}: {counted} lines")?;
     }
     Ok(())
 }

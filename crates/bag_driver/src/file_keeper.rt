@@ -1,17 +1,21 @@
 //! A keeper of a ledger in two files in memory, of which calls fail.
 use crate::breaker::Breaker;
-use crate::breaking_file::MemoryFile;
+use crate::breaking_file::BreakingFile;
 use crate::breaking_keeper::Failing;
+use crate::ledger_opening::{abandoned_in, closed_in, opened_in};
 use bag_digest::Source;
 use bag_ledger::{KeepFault, Keeper, PutFault};
 use bag_path::BagPath;
 use bag_rules::{ItemSize, TagSet, Want};
-use bag_sqlite::SqlKeeper;
-use sqlite::FileStore;
+use bag_sqlite::{AdoptFault, SqlKeeper};
+use sqlite::{FileStore, Files, Options};
 use std::alloc::Global;
 
-/// A keeper of a ledger in files.
-type Inside<'a> = SqlKeeper<FileStore<MemoryFile<'a>>>;
+/// The two files of a ledger.
+pub type LedgerFiles<'a> = Files<BreakingFile<'a>>;
+
+/// A keeper of a ledger in them.
+type Inside<'a> = SqlKeeper<FileStore<BreakingFile<'a>>>;
 
 /// A keeper of a ledger in two files in memory. It is a type without a parameter, and nothing is claimed about what it
 /// holds, so that a call over it is proved without a look at what a file is.
@@ -22,15 +26,32 @@ pub struct FileKeeper<'a> {
 }
 
 impl<'a> FileKeeper<'a> {
-    pub fn new(inside: Inside<'a>, breaker: &'a Breaker) -> FileKeeper<'a> {
-        FileKeeper {
+    /// Opens the ledger in these files, or makes one if they have no tables.
+    ///
+    /// # Errors
+    ///
+    /// The fault, with the files.
+    pub fn open(
+        alloc: Global,
+        files: LedgerFiles<'a>,
+        breaker: &'a Breaker,
+        options: Options,
+    ) -> Result<FileKeeper<'a>, (AdoptFault, LedgerFiles<'a>)> {
+        let inside = opened_in(alloc, files, options)?;
+        Ok(FileKeeper {
             inside,
             store: Failing::new(breaker),
-        }
+        })
     }
 
-    pub fn into_inside(self) -> Inside<'a> {
-        self.inside
+    /// Closes the ledger, which copies its log into the database. Returns the files, and whether that succeeded.
+    pub fn close(self) -> (LedgerFiles<'a>, bool) {
+        closed_in(self.inside)
+    }
+
+    /// Gives the ledger up, and copies nothing. Returns the files.
+    pub fn abandon(self) -> LedgerFiles<'a> {
+        abandoned_in(self.inside)
     }
 }
 

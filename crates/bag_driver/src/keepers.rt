@@ -1,9 +1,9 @@
 //! The keepers of ledgers in memory, which can be closed and opened again.
 use crate::breaker::{Breaker, Device};
-use crate::breaking_file::MemoryFile;
+use crate::breaking_file::BreakingFile;
 use crate::breaking_keeper::BreakingKeeper;
-use crate::file_keeper::FileKeeper;
-use crate::ledger_opening::{abandoned_in, closed_in, opened, opened_in};
+use crate::file_keeper::{FileKeeper, LedgerFiles};
+use crate::ledger_opening::opened;
 use crate::lines::bad_line;
 use crate::shown::write_sparse;
 use bag_ledger::{Keeper, MapKeeper};
@@ -50,39 +50,6 @@ pub trait Reopened<'a>: Keeper + Drop {
 
     /// Writes what the files of a ledger hold, if it is in files.
     fn write_left<W: Write + Drop>(closed: &Self::Closed, out: &mut W) -> io::Result<()>;
-}
-
-impl<'a> Reopened<'a> for MapKeeper {
-    type Closed = MapKeeper;
-
-    fn nothing(alloc: Global, _breaker: &'a Breaker) -> MapKeeper {
-        MapKeeper::new(alloc)
-    }
-
-    fn in_file(_alloc: Global, _breaker: &'a Breaker, _database: &[u8]) -> io::Result<MapKeeper> {
-        Err(bad_line())
-    }
-
-    fn opened_from(
-        _alloc: Global,
-        closed: MapKeeper,
-        _breaker: &'a Breaker,
-        _seed: u64,
-    ) -> Result<Self, (AdoptFault, MapKeeper)> {
-        Ok(closed)
-    }
-
-    fn into_closed(self) -> MapKeeper {
-        self
-    }
-
-    fn into_left(self, _breaker: &'a Breaker) -> MapKeeper {
-        self
-    }
-
-    fn write_left<W: Write + Drop>(_closed: &MapKeeper, _out: &mut W) -> io::Result<()> {
-        Ok(())
-    }
 }
 
 impl<'a> Reopened<'a> for BreakingKeeper<'a> {
@@ -170,12 +137,12 @@ impl<'a> Reopened<'a> for SqlKeeper<MemStore> {
 }
 
 impl<'a> Reopened<'a> for FileKeeper<'a> {
-    type Closed = Files<MemoryFile<'a>>;
+    type Closed = LedgerFiles<'a>;
 
-    fn nothing(alloc: Global, breaker: &'a Breaker) -> Files<MemoryFile<'a>> {
+    fn nothing(alloc: Global, breaker: &'a Breaker) -> LedgerFiles<'a> {
         Files {
-            log: MemoryFile::empty(alloc, breaker, Device::Log),
-            db: MemoryFile::empty(alloc, breaker, Device::Database),
+            log: BreakingFile::empty(alloc, breaker, Device::Log),
+            db: BreakingFile::empty(alloc, breaker, Device::Database),
         }
     }
 
@@ -183,36 +150,35 @@ impl<'a> Reopened<'a> for FileKeeper<'a> {
         alloc: Global,
         breaker: &'a Breaker,
         database: &[u8],
-    ) -> io::Result<Files<MemoryFile<'a>>> {
+    ) -> io::Result<LedgerFiles<'a>> {
         Ok(Files {
-            log: MemoryFile::empty(alloc, breaker, Device::Log),
-            db: MemoryFile::holding(alloc, breaker, Device::Database, database)?,
+            log: BreakingFile::empty(alloc, breaker, Device::Log),
+            db: BreakingFile::holding(alloc, breaker, Device::Database, database)?,
         })
     }
 
     fn opened_from(
         alloc: Global,
-        closed: Files<MemoryFile<'a>>,
+        closed: LedgerFiles<'a>,
         breaker: &'a Breaker,
         seed: u64,
-    ) -> Result<Self, (AdoptFault, Files<MemoryFile<'a>>)> {
+    ) -> Result<Self, (AdoptFault, LedgerFiles<'a>)> {
         let mut options = Options::new(seed);
         options.cache_pages = CACHE_PAGES;
-        let keeper = opened_in(alloc, restarted(closed, breaker), options)?;
-        Ok(FileKeeper::new(keeper, breaker))
+        FileKeeper::open(alloc, restarted(closed, breaker), breaker, options)
     }
 
     /// If the log can't be copied into the database, it stays.
-    fn into_closed(self) -> Files<MemoryFile<'a>> {
-        let (files, _) = closed_in(self.into_inside());
+    fn into_closed(self) -> LedgerFiles<'a> {
+        let (files, _) = self.close();
         files
     }
 
-    fn into_left(self, breaker: &'a Breaker) -> Files<MemoryFile<'a>> {
-        restarted(abandoned_in(self.into_inside()), breaker)
+    fn into_left(self, breaker: &'a Breaker) -> LedgerFiles<'a> {
+        restarted(self.abandon(), breaker)
     }
 
-    fn write_left<W: Write + Drop>(closed: &Files<MemoryFile<'a>>, out: &mut W) -> io::Result<()> {
+    fn write_left<W: Write + Drop>(closed: &LedgerFiles<'a>, out: &mut W) -> io::Result<()> {
         write!(out, " ")?;
         write_sparse(closed.log.octets(), out)?;
         write!(out, " ")?;
@@ -221,7 +187,7 @@ impl<'a> Reopened<'a> for FileKeeper<'a> {
 }
 
 /// The files after a stop.
-fn restarted<'a>(files: Files<MemoryFile<'a>>, breaker: &'a Breaker) -> Files<MemoryFile<'a>> {
+fn restarted<'a>(files: LedgerFiles<'a>, breaker: &'a Breaker) -> LedgerFiles<'a> {
     let is_cut = breaker.restart();
     let Files { log, db } = files;
     Files {

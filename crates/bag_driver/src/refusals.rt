@@ -7,7 +7,6 @@ use crate::file_keeper::FileKeeper;
 use crate::keepers::Reopened;
 use crate::lines::{answer_lines, read_lines};
 use crate::world::World;
-use bag_ledger::MapKeeper;
 use bag_sqlite::SqlKeeper;
 use sqlite::MemStore;
 use std::alloc::Global;
@@ -15,18 +14,23 @@ use std::io::{self, Write};
 
 /// Makes the calls on standard input, one after another, over the keeper with this name.
 pub fn answer_over<W: Write + Drop>(rt: &HostRuntime, keeper: &str, out: &mut W) -> io::Result<u8> {
-    let alloc = rt.alloc();
     let breaker = Breaker::none();
     match keeper {
-        "map" => answer_lines(rt, &mut World::<MapKeeper>::new(alloc, &breaker), out)?,
-        "sqlite" => answer_lines(
-            rt,
-            &mut World::<SqlKeeper<MemStore>>::new(alloc, &breaker),
-            out,
-        )?,
+        "map" => answer_each::<BreakingKeeper<'_>, W>(rt, &breaker, out)?,
+        "sqlite" => answer_each::<SqlKeeper<MemStore>, W>(rt, &breaker, out)?,
         _ => return Ok(64),
     }
     Ok(0)
+}
+
+/// Makes the calls on standard input over a keeper of this type.
+fn answer_each<'a, K: Reopened<'a>, W: Write + Drop>(
+    rt: &HostRuntime,
+    breaker: &'a Breaker,
+    out: &mut W,
+) -> io::Result<()> {
+    let mut world = World::<K>::new(rt.alloc(), breaker);
+    answer_lines(rt, &mut world, out)
 }
 
 /// Makes the first of the calls on standard input, as many as the words say, over the keeper that they name, and lets a
@@ -45,12 +49,32 @@ pub fn answer_refused<W: Write + Drop>(
     let alloc = rt.alloc();
     let breaker = Breaker::new(Device::of(device.as_str()), number);
     let lines = read_lines(rt)?;
-    let events = events_of(alloc, lines.as_slice())?;
-    match keeper.as_str() {
-        "map" => answer_all::<MapKeeper, W>(alloc, &breaker, events, most, out)?,
-        "sqlite" => answer_all::<SqlKeeper<MemStore>, W>(alloc, &breaker, events, most, out)?,
-        "files" => answer_all::<FileKeeper<'_>, W>(alloc, &breaker, events, most, out)?,
-        "breaking" => answer_all::<BreakingKeeper<'_>, W>(alloc, &breaker, events, most, out)?,
+    let mut events = events_of(alloc, lines.as_slice())?;
+    answer_by(
+        alloc,
+        keeper.as_str(),
+        &breaker,
+        events.as_mut_slice(),
+        most,
+        out,
+    )
+}
+
+/// Makes the first of these calls over the keeper with this name.
+fn answer_by<W: Write + Drop>(
+    alloc: Global,
+    keeper: &str,
+    breaker: &Breaker,
+    events: &mut [Event<'_>],
+    most: usize,
+    out: &mut W,
+) -> io::Result<u8> {
+    match keeper {
+        "map" | "breaking" => answer_all::<BreakingKeeper<'_>, W>(
+            alloc, breaker, events, most, out,
+        )?,
+        "sqlite" => answer_all::<SqlKeeper<MemStore>, W>(alloc, breaker, events, most, out)?,
+        "files" => answer_all::<FileKeeper<'_>, W>(alloc, breaker, events, most, out)?,
         _ => return Ok(64),
     }
     Ok(0)
@@ -71,15 +95,27 @@ fn events_of<'a>(alloc: Global, lines: &'a [String]) -> io::Result<Vec<Event<'a>
 fn answer_all<'a, K: Reopened<'a>, W: Write + Drop>(
     alloc: Global,
     breaker: &'a Breaker,
-    events: Vec<Event<'_>>,
+    events: &mut [Event<'_>],
     most: usize,
     out: &mut W,
 ) -> io::Result<()> {
     let mut world = World::<K>::new(alloc, breaker);
+    answer_in(alloc, &mut world, breaker, events, most, out)
+}
+
+/// The same, in a world that is new.
+fn answer_in<'a, K: Reopened<'a>, W: Write + Drop>(
+    alloc: Global,
+    world: &mut World<'a, K>,
+    breaker: &Breaker,
+    events: &mut [Event<'_>],
+    most: usize,
+    out: &mut W,
+) -> io::Result<()> {
     for event in events.iter() {
         world.store(alloc, event)?;
     }
-    for event in events.into_iter().take(most) {
+    for event in events.iter_mut().take(most) {
         world.call(alloc, event, out)?;
         writeln!(out, "{}", if breaker.has_broken() { " !" } else { "" })?;
     }

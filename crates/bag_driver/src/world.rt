@@ -9,6 +9,7 @@ use crate::ledger_opening::{adopt_text, adopted};
 use crate::lines::{Answers, bad_line};
 use crate::valuing::answer_value;
 use bag_receiver::Receiver;
+use bag_sqlite::AdoptFault;
 use sqlite::Connection;
 use std::alloc::Global;
 use std::io::{self, Write};
@@ -52,18 +53,17 @@ impl<'a, K: Reopened<'a>> World<'a, K> {
     pub fn call<W: Write + Drop>(
         &mut self,
         alloc: Global,
-        event: Event<'_>,
+        event: &mut Event<'_>,
         out: &mut W,
     ) -> io::Result<()> {
         match event.word {
             "start" => {
-                self.receiver = None;
-                self.closed = Some(K::nothing(alloc, self.breaker));
+                self.replace(Some(K::nothing(alloc, self.breaker)));
                 self.open(alloc, "started", out)
             }
             "load" => {
-                self.receiver = None;
-                self.closed = self.stored.take();
+                let stored = self.stored.take();
+                self.replace(stored);
                 self.open(alloc, "opened", out)
             }
             "reopen" => self.open(alloc, "opened", out),
@@ -71,27 +71,46 @@ impl<'a, K: Reopened<'a>> World<'a, K> {
             "adopt" => adopt_nothing(alloc, out),
             word if Draft::has_word(word) => self.draft.answer(alloc, event, self.breaker, out),
             word if is_on_ledger(word) => self.call_on_ledger(alloc, event, out),
-            _ => answer_value(alloc, &event, self.breaker, out),
+            _ => answer_value(alloc, event, self.breaker, out),
         }
+    }
+
+    /// Drops the ledger, and has another one in its place.
+    fn replace(&mut self, closed: Option<K::Closed>) {
+        self.receiver = None;
+        self.closed = closed;
     }
 
     /// Closes the ledger if it is open, and opens it.
     fn open<W: Write + Drop>(&mut self, alloc: Global, done: &str, out: &mut W) -> io::Result<()> {
-        if let Some(receiver) = self.receiver.take() {
-            self.closed = Some(receiver.into_keeper().into_closed());
-        }
-        let Some(closed) = self.closed.take() else {
+        let Some(closed) = self.close() else {
             return Err(bad_line());
         };
+        match self.open_from(alloc, closed) {
+            Ok(()) => write!(out, "{done}"),
+            Err(fault) => write!(out, "refused: {}", adopt_text(&fault)),
+        }
+    }
+
+    /// Closes the ledger if it is open, and takes out what is left of it.
+    fn close(&mut self) -> Option<K::Closed> {
+        match self.receiver.take() {
+            Some(receiver) => Some(receiver.into_keeper().into_closed()),
+            None => self.closed.take(),
+        }
+    }
+
+    /// Opens the ledger. If it is refused, it stays closed.
+    fn open_from(&mut self, alloc: Global, closed: K::Closed) -> Result<(), AdoptFault> {
         self.openings = self.openings.saturating_add(1);
         match K::opened_from(alloc, closed, self.breaker, self.openings) {
             Ok(keeper) => {
                 self.receiver = Some(Receiver::new(alloc, keeper));
-                write!(out, "{done}")
+                Ok(())
             }
             Err((fault, closed)) => {
                 self.closed = Some(closed);
-                write!(out, "refused: {}", adopt_text(&fault))
+                Err(fault)
             }
         }
     }
@@ -112,7 +131,7 @@ impl<'a, K: Reopened<'a>> World<'a, K> {
     fn call_on_ledger<W: Write + Drop>(
         &mut self,
         alloc: Global,
-        event: Event<'_>,
+        event: &mut Event<'_>,
         out: &mut W,
     ) -> io::Result<()> {
         if self.receiver.is_none() {
@@ -169,9 +188,9 @@ impl<'a, K: Reopened<'a>> Answers for World<'a, K> {
         words: &[&str],
         out: &mut W,
     ) -> io::Result<()> {
-        let event = Event::parse(alloc, words)?;
+        let mut event = Event::parse(alloc, words)?;
         self.store(alloc, &event)?;
-        self.call(alloc, event, out)?;
+        self.call(alloc, &mut event, out)?;
         writeln!(out)
     }
 }

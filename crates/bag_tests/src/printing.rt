@@ -1,9 +1,9 @@
 //! What is printed of results that no run of the program has, and what a failed write gives.
-use bag_commands::{Output, print_beginning, print_making, print_outcome};
+use bag_commands::{NoResult, Output, print_beginning, print_making, print_no_result};
 use bag_ledger::{KeepFault, StoreFault};
 use bag_path::BagPath;
 use bag_receiver::BeginFault;
-use bag_rules::{CheckFault, Fault, Outcome, OutsideCause};
+use bag_rules::{CheckFault, Fault, OutsideCause};
 use bag_writer::{Large, WriteFault};
 use std::alloc::Global;
 use std::io::{self, BufWriter, Write};
@@ -71,7 +71,7 @@ fn each_fault_that_ends_a_check_is_told(rt: HostRuntime) -> Result<(), Fail> {
         (CheckFault::Memory, "bag: memory\n"),
     ] {
         let mut out = kept(alloc)?;
-        let answered = print_outcome(&Err(fault), &mut out);
+        let answered = print_no_result(NoResult::from(&fault), &mut out);
         assert_eq!(rt; (answered, printed(&out)), (3, Some(line)));
     }
     Ok(())
@@ -137,12 +137,16 @@ fn each_fault_of_a_beginning_is_told(rt: HostRuntime) -> Result<(), Fail> {
 #[test]
 fn a_failed_write_or_flush_gives_3(rt: HostRuntime) -> Result<(), Fail> {
     let alloc = rt.alloc();
-    let answer = Ok(Outcome::Outside(OutsideCause::Version));
+    let answer = Err(BeginFault::Outside(OutsideCause::Version));
     for (takes, flushes, status) in [(0, true, 3), (16, true, 3), (17, true, 2), (17, false, 3)] {
         for held_back in [0, 4, 17, 100] {
             let failing = Failing { takes, flushes };
             let mut out = Output::new(BufWriter::with_capacity(alloc, held_back, failing)?);
-            assert_eq!(rt; print_outcome(&answer, &mut out), status, "{takes} octets");
+            assert_eq!(rt;
+                print_beginning(&answer, &mut out),
+                status,
+                "{takes} octets"
+            );
             let failing = Failing { takes, flushes };
             let mut out = Output::new(BufWriter::with_capacity(alloc, held_back, failing)?);
             let told = out.print_line("outside: version", 2);

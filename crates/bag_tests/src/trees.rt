@@ -5,6 +5,11 @@ use bag_rules::{AddFault, MemTree, Paths, Tree, find};
 use std::alloc::Global;
 use std::test::Fail;
 
+/// Fails with this text, which says what is tested, unless it holds.
+fn expect(holds: bool, what: &'static str) -> Result<(), Fail> {
+    if holds { Ok(()) } else { Err(Fail::from(what)) }
+}
+
 fn path(alloc: Global, text: &str) -> Result<BagPath, Fail> {
     Ok(BagPath::parse(alloc, text)?)
 }
@@ -51,19 +56,23 @@ fn a_repeated_path_is_refused_and_the_first_octets_stay(rt: HostRuntime) -> Resu
 fn a_read_before_a_start_fails_and_a_file_added_during_a_read_leaves_it_as_it_was(
     rt: HostRuntime,
 ) -> Result<(), Fail> {
-    let alloc = rt.alloc();
-    let mut tree = MemTree::new(alloc);
-    add(alloc, &mut tree, "m", b"octets")?;
-    assert_eq!(rt; tree.read(&mut [0; 4]), Err(Failed));
-    assert_eq!(rt; tree.failures(), 1);
-    start(&mut tree, 0)?;
-    assert_eq!(rt; tree.read(&mut [0; 3]), Ok(3));
-    add(alloc, &mut tree, "a", b"before")?;
-    add(alloc, &mut tree, "z", b"after")?;
-    let mut rest = [0; 4];
-    assert_eq!(rt; tree.read(&mut rest), Ok(3));
-    assert!(rt; rest.starts_with(b"ets"));
-    assert_eq!(rt; tree.read(&mut rest), Ok(0));
-    assert_eq!(rt; tree.failures(), 1);
+    let mut tree = MemTree::new(rt.alloc());
+    let failures = read_while_adding(rt.alloc(), &mut tree)?;
+    assert_eq!(rt; failures, 1);
     Ok(())
+}
+
+/// Reads a file before it is started, and then in two reads, between which others are added.
+fn read_while_adding(alloc: Global, tree: &mut MemTree) -> Result<u64, Fail> {
+    add(alloc, tree, "m", b"octets")?;
+    expect(tree.read(&mut [0; 4]) == Err(Failed), "no file is started")?;
+    start(tree, 0)?;
+    expect(tree.read(&mut [0; 3]) == Ok(3), "the first octets")?;
+    add(alloc, tree, "a", b"before")?;
+    add(alloc, tree, "z", b"after")?;
+    let mut rest = [0; 4];
+    expect(tree.read(&mut rest) == Ok(3), "the other octets")?;
+    expect(rest.starts_with(b"ets"), "which octets they are")?;
+    expect(tree.read(&mut rest) == Ok(0), "the end")?;
+    Ok(tree.failures())
 }
