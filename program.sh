@@ -58,7 +58,8 @@ released() {
     sed -n "s/^$1: //p" "$release"
 }
 
-# unpack: unpacks the released program, if it is there and the sources are its own. If not, a line says why.
+# unpack: unpacks the released program, if it is there and the sources are its own, and sets `program` to it. If not, a
+# line says why.
 unpack() {
     [ -e "$release" ] || return 1
     # The program gets the time at which the look at the sources started, so that a source edited meanwhile is newer.
@@ -70,22 +71,37 @@ unpack() {
         echo "bag: $name is for $(released system)" >&2
     elif [ "$(sources_digest)" != "$(released sources)" ]; then
         echo "bag: the sources are not those of $name" >&2
+    elif ! command -v gzip >/dev/null; then
+        echo "bag: $name cannot be unpacked: gzip is not on PATH" >&2
     elif [ "$({ gzip -dc "$top/release/bag.gz" 2>/dev/null || echo; } | sha256sum)" != "$(released program)  -" ]; then
         echo "bag: release/bag.gz is missing or damaged" >&2
     elif ! write_unpacked 2>/dev/null; then
-        echo "bag: $name cannot be unpacked into $top/release/out" >&2
+        echo "bag: $name cannot be unpacked into $top/release or ${TMPDIR:-/tmp}" >&2
     elif ! "$new" --version </dev/null >/dev/null 2>&1; then
         echo "bag: $name does not run here: it needs $(released library)" >&2
-    elif printf '%s\n' "$folders" >"$unpacked.folders" && mv -f -- "$new" "$unpacked"; then
+    elif take_unpacked; then
         return
     fi
     rm -f -- "$new"
     return 1
 }
 
+# write_unpacked: unpacks the program into the file `new`. It is kept in release/out, if it is the clone's owner who runs
+# this: a folder that somebody else made there he could not change. Else it is a file for one run.
 write_unpacked() {
-    mkdir -p "$top/release/out" && gzip -dc "$top/release/bag.gz" >"$new" && chmod 755 "$new" &&
-        touch -d "@$started" "$new"
+    { [ -O "$top/release" ] && mkdir -p "$top/release/out" && true >"$new"; } || new=$(mktemp -p "$top/release") ||
+        new=$(mktemp) || return
+    gzip -dc "$top/release/bag.gz" >"$new" && chmod 755 "$new" && touch -d "@$started" "$new"
+}
+
+# take_unpacked: sets `program` to what was unpacked. The file for one run has no name from then on.
+take_unpacked() {
+    program=$unpacked
+    if [ "$new" = "$unpacked.$$" ]; then
+        printf '%s\n' "$folders" >"$unpacked.folders" && mv -f -- "$new" "$unpacked"
+    else
+        exec 9<"$new" && rm -f -- "$new" && program=/proc/self/fd/9
+    fi
 }
 
 # find_program: sets `program` to the one that stands for the sources, which is unpacked or built first if necessary.
@@ -95,9 +111,13 @@ find_program() {
         program=$unpacked
     elif is_built; then
         program=$built
-    elif is_unpacked || unpack; then
+    elif is_unpacked; then
         program=$unpacked
-    else
+    elif ! unpack; then
+        if [ ! -O "$top" ]; then
+            echo "bag: the program has to be built: let the owner of $top run ./build" >&2
+            exit 69
+        fi
         "$top/build" || exit
         program=$built
     fi
